@@ -1,0 +1,15 @@
+pub mod Deletable
+pub mod Entries
+pub mod EntryLaws
+pub mod Flag
+pub mod Keyed
+pub mod Laws
+pub mod Lex
+pub mod Lww
+pub mod Map
+pub mod Max
+pub mod Order
+pub mod OrderLaws
+pub mod Orders
+pub mod Pair
+pub mod Places

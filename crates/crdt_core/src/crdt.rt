@@ -1,0 +1,25 @@
+//! Values that merge.
+ghost use Rattle.std.specs.Prelude.{◌≡◌, IfOk, IfErr, OnOk, OnErr};
+ghost use Rattle.crdt_core.specs.Laws.{JoinLaws};
+ghost use Rattle.crdt_core.specs.declared.memory.Memory.TheVariants.{Want};
+
+use crate::memory::Memory;
+
+/// A value that merges with others of its type, in any order and any number of times: a join
+/// semilattice.
+pub trait Crdt: Drop {
+    ghost join: { Self → Self → Self };
+
+    /// An equal value of its own.
+    fn copy(&self) -> Result<Self, Memory>
+        ensures same { IfOk result (λ x. x ≡ self.now) }
+        ensures want { IfErr result (λ e. e ≡ Want) };
+
+    /// Takes in all that the other value holds.
+    fn merge(&mut self, other: &Self) -> Result<(), Memory>
+        ensures joined { OnOk result (self.new ≡ join self.old other.now) }
+        ensures unchanged { OnErr result (self.new ≡ self.old) }
+        ensures want { IfErr result (λ e. e ≡ Want) };
+
+    ghost join_laws: { JoinLaws join };
+}
