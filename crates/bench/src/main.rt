@@ -1,0 +1,37 @@
+//! Jobs that are timed beside another program. `bench JOB ARGUMENTS..` does the job that its first
+//! word names, and prints what comes out and never a time; the script `bench/compare` takes the
+//! times.
+//!
+//! - `hash BYTES`: the BLAKE2b digest of 32 bytes, in hexadecimal, of a message of that many bytes,
+//!   of which byte i is i modulo 251.
+#![tactic(auto)]
+
+mod hashing;
+
+use hashing::pattern_digest;
+use std::process::ExitCode;
+use std::{env, io};
+
+fn main(rt: HostRuntime) -> io::Result<ExitCode> {
+    let words: Vec<String> = env::args(&rt)?.skip(1).collect(rt.alloc())?;
+    match words.as_slice() {
+        [job, byte_count] if job.as_str() == "hash" => hash(&rt, byte_count.as_str()),
+        _ => usage(&rt),
+    }
+}
+
+fn hash(rt: &(impl Print + Eprint + Alloc), byte_count: &str) -> io::Result<ExitCode> {
+    match byte_count.parse::<u64>() {
+        Ok(byte_count) => {
+            let text = hex::encode(rt.alloc(), &pattern_digest(byte_count).0)?;
+            println!(rt; "{text}")?;
+            Ok(ExitCode::SUCCESS)
+        }
+        Err(_) => usage(rt),
+    }
+}
+
+fn usage(rt: &impl Eprint) -> io::Result<ExitCode> {
+    eprintln!(rt; "usage: bench hash BYTES")?;
+    Ok(ExitCode::from(2))
+}

@@ -1,0 +1,3 @@
+pub mod Digests
+pub mod StandardFacts
+pub mod Taking

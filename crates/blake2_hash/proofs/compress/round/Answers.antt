@@ -1,0 +1,8 @@
+use Rattle.std.proofs.Common.{refl}
+use Rattle.blake2_hash.specs.Blake2b.{round}
+use Rattle.blake2_hash.proofs.compress.round.Goals as goal
+
+pub returns : goal.returns
+unfolding round
+returns c =
+    rw (c.mix-8.ensures, c.mix-7.ensures, c.mix-6.ensures, c.mix-5.ensures, c.mix-4.ensures, c.mix-3.ensures, c.mix-2.ensures, c.mix.ensures) refl
