@@ -1,0 +1,3 @@
+pub mod Rose
+pub mod Bytes
+pub mod Connections

@@ -1,0 +1,11 @@
+pub mod Rose
+pub mod Bytes
+pub mod Connection
+pub mod Times
+pub mod Exit
+pub mod Calls
+pub mod Memory
+pub mod Sure
+pub mod SureConnection
+pub mod SureLink
+pub mod Standard
