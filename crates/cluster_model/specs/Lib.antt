@@ -1,0 +1,5 @@
+pub mod RowKey
+pub mod Order
+pub mod World
+pub mod Step
+pub mod Kept
