@@ -1,0 +1,15 @@
+pub mod Cuts
+pub mod Deliveries
+pub mod Drawing
+pub mod Ending
+pub mod Events
+pub mod Finishing
+pub mod Grown
+pub mod Opening
+pub mod Places
+pub mod Rows
+pub mod Sound
+pub mod Starting
+pub mod Stepping
+pub mod Steps
+pub mod Values
