@@ -1,0 +1,24 @@
+-- The words of a line, and what the first one says.
+use Rattle.std.specs.Prelude.{◌≡◌, ℕ, List, codes, decimal, map}
+use Rattle.std.specs.Borrow.{Bor}
+use Rattle.text_model.specs.Grammar.{IsNode, IsBucketName, IsKey}
+use Rattle.schedule_text.specs.declared.event_line.Kind.{Kind}
+use Rattle.schedule_text.specs.declared.event_line.Kind.TheVariants.{Trio, Bucket, Tick, Put, Get, Deliver, Drain}
+
+-- the bytes of some words
+abbrev pub texts : List (Bor (List ℕ)) → List (List ℕ)
+texts words = map (λ word. word.now) words
+
+abbrev pub kind_text : Kind → List ℕ
+kind_text Trio = codes "trio"
+kind_text Bucket = codes "bucket"
+kind_text Tick = codes "tick"
+kind_text Put = codes "put"
+kind_text Get = codes "get"
+kind_text Deliver = codes "deliver"
+kind_text Drain = codes "drain"
+
+-- a node, a bucket and a key that three words name
+abbrev pub IsPlace : List ℕ → List ℕ → List ℕ → ℕ × List ℕ × List ℕ → Type 0
+IsPlace at bucket key place =
+    (at ≡ decimal place.0) × IsNode place.0 × (place.1 ≡ bucket) × IsBucketName place.1 × (place.2 ≡ key) × IsKey place.2

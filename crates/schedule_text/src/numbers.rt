@@ -1,0 +1,40 @@
+//! Words that are numbers.
+ghost use Rattle.std.specs.Prelude.{◌≡◌, ◌<◌, ◌^◌, decimal};
+ghost use Rattle.text_model.specs.Grammar.{IsFrom, IsNode};
+ghost use Rattle.schedule_text.specs.Reads.{Finds, Reads};
+
+use crate::fault::LineFault;
+use itoa::Buffer;
+use std::str::from_utf8;
+
+/// The number that a word spells in decimal digits, without a leading zero.
+fn decimal_number(word: &[u8]) -> Option<u64>
+    ensures { Finds (λ n. (word.now ≡ decimal n) × (n < 2 ^ 64)) result }
+{
+    let n = from_utf8(word).ok()?.parse::<u64>().ok()?;
+    // A sign and zeros in front are read too, but aren't how the number is spelled.
+    if Buffer::new().format(n).as_bytes() == word {
+        Some(n)
+    } else {
+        None
+    }
+}
+
+/// The number from `low` to `high` that a word spells in decimal digits, without a leading zero.
+pub(crate) fn number(word: &[u8], low: u64, high: u64) -> Result<u64, LineFault>
+    ensures { Reads (λ n. (word.now ≡ decimal n) × IsFrom low high n) result }
+{
+    let n = decimal_number(word).ok_or(LineFault::Outside)?;
+    if low <= n && n <= high {
+        Ok(n)
+    } else {
+        Err(LineFault::Outside)
+    }
+}
+
+/// A node's number.
+pub(crate) fn node(word: &[u8]) -> Result<u8, LineFault>
+    ensures { Reads (λ n. (word.now ≡ decimal n) × IsNode n) result }
+{
+    Ok(number(word, 1, 16)? as u8)
+}

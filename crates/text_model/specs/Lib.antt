@@ -1,0 +1,5 @@
+pub mod Grammar
+pub mod Transcript
+pub mod Words
+pub mod Spelled
+pub mod Unique

@@ -1,0 +1,28 @@
+-- The words of a line, and the words of an event: a line spells an event where they are the same.
+use Rattle.std.specs.Prelude.{◌≡◌, ℕ, Bool, ◌==◌, List, [], ◌∷◌, codes, decimal}
+use Rattle.std.specs.List.{slice_split}
+use Rattle.object_model.specs.declared.event.Event.{Event}
+use Rattle.object_model.specs.declared.event.Event.TheVariants.{Trio, Bucket, Tick, Put, Get, Deliver, Drain}
+use Rattle.text_model.specs.Grammar.{IsAllowed}
+
+abbrev pub is_space : ℕ → Bool
+is_space b = b == 32
+
+-- the parts of a line between its spaces
+abbrev pub words_in : List ℕ → List (List ℕ)
+words_in line = slice_split (λ b. is_space b) line
+
+-- the words of the line that spells an event
+abbrev pub words_of : Event → List (List ℕ)
+words_of Trio = codes "trio" ∷ []
+words_of (Bucket name) = codes "bucket" ∷ name ∷ []
+words_of (Tick ms) = codes "tick" ∷ decimal ms ∷ []
+words_of (Put n bucket key size fill) = codes "put" ∷ decimal n ∷ bucket ∷ key ∷ decimal size ∷ decimal fill ∷ []
+words_of (Get n bucket key) = codes "get" ∷ decimal n ∷ bucket ∷ key ∷ []
+words_of (Deliver m) = codes "deliver" ∷ decimal m ∷ []
+words_of (Drain n) = codes "drain" ∷ decimal n ∷ []
+
+-- these words are those of an event, in their ranges
+pub record IsSpelledBy (words : List (List ℕ)) (event : Event) : Type 0 where
+  pub spelled : words ≡ words_of event
+  pub allowed : IsAllowed event
