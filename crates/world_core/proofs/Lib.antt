@@ -1,0 +1,6 @@
+mod FirstMark
+mod RowsAt
+mod Following
+mod Handling
+mod Sending
+mod Worlds
