@@ -1,0 +1,15 @@
+mod Bounds
+mod Carry
+mod Duality
+mod Fitted
+mod Greatest
+mod Lies
+mod Lightest
+mod Listed
+mod Printed
+mod Spread
+mod Sums
+mod Weights
+mod Whole
+mod Wrapped
+mod Zones

@@ -1,0 +1,6 @@
+use Rattle.std.proofs.Common.{◌≡◌, ◌++◌, take, map}
+use Rattle.layout_flow.specs.declared.vertex.Vertex.TheVariants.{Zone}
+use Rattle.layout_flow.proofs.side.add_partition.Given as goal
+
+abbrev pub invariant-loop-zone : goal.invariant-loop-zone
+invariant-loop-zone l = l.side ≡ l.initial.side ++ map (Zone l.p) (take l.zone-index l.zones)
