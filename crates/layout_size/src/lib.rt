@@ -1,0 +1,13 @@
+//! The greatest partition size that an assignment fits, and the cut that shows that none fits a greater one.
+#![tactic(auto)]
+
+mod answer;
+mod certified;
+mod fault;
+mod search;
+#[cfg(test)]
+mod tests;
+
+pub use answer::compute;
+pub use certified::Certified;
+pub use fault::LayoutFault;
