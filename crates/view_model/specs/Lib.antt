@@ -1,0 +1,5 @@
+pub mod Cleans
+pub mod Gapless
+pub mod Joins
+pub mod Reads
+pub mod View
