@@ -1,0 +1,5 @@
+mod Firsts
+mod Lasts
+mod ObjectFacts
+mod RowFacts
+mod Said

@@ -1,0 +1,14 @@
+pub mod AnyRow
+pub mod Body
+pub mod Each
+pub mod Facts
+pub mod Fields
+pub mod Hash
+pub mod Newest
+pub mod ObjectRow
+pub mod RefRow
+pub mod Settled
+pub mod State
+pub mod Version
+pub mod VersionRow
+pub mod Versions
