@@ -1,0 +1,84 @@
+-- What was written before and after.
+use Rattle.std.specs.Cmp.Lexicographic.{pointwise, told_text}
+use Rattle.std.specs.String.{string_bytes}
+use Rattle.std.proofs.Common.{◌≢◌, Bool, true, false, IsTrue, nat_eq, get_or, map, String, Global, ◌≡◌, ℕ, ◌+◌, ◌<◌, ◌≤◌, Option, Some, None, List, [], ◌∷◌, ◌++◌, refl, sym, ap, ◌∙◌, subst, append_assoc, append-nil, arith, ◌⊎◌, inl, inr, length, take, IfSome}
+use Rattle.std.proofs.lemmas.List.{length-take}
+use Rattle.lab_outside.specs.Bytes.{Wrote, WrotePrefix}
+use Rattle.lab_outside.specs.Rose.{Rose}
+
+pub wrote_nothing : (o : Option (List ℕ)) → Wrote o o []
+wrote_nothing None = tt
+wrote_nothing (Some w) = sym (append-nil w)
+
+pub wrote_more : (old mid new : Option (List ℕ)) (a b : List ℕ) → Wrote old mid a → Wrote mid new b → Wrote old new (a ++ b)
+wrote_more old mid None a b h k = tt
+wrote_more old None (Some n) a b h k = absurd k
+wrote_more None (Some m) (Some n) a b h k = absurd h
+wrote_more (Some o) (Some m) (Some n) a b h k = k ∙ ap (λ t. t ++ b) h ∙ append_assoc o a b
+
+pub prefix_more : (old mid new : Option (List ℕ)) (a b : List ℕ) → Wrote old mid a → WrotePrefix mid new b → WrotePrefix old new (a ++ b)
+prefix_more old mid new a b h k = record {
+  front = a ++ k.front;
+  rest = k.rest;
+  whole = append_assoc a k.front k.rest ∙ ap (λ t. a ++ t) k.whole;
+  wrote = wrote_more old mid new a k.front h k.wrote;
+}
+
+-- a first part of a text, and more of the text after it
+pub prefix_of : (old new : Option (List ℕ)) (a b text : List ℕ) → a ++ b ≡ text → Wrote old new a → WrotePrefix old new text
+prefix_of old new a b text whole h = record { front = a; rest = b; whole = whole; wrote = h }
+
+pub prefix_longer : (old new : Option (List ℕ)) (a b text : List ℕ) → a ++ b ≡ text → WrotePrefix old new a → WrotePrefix old new text
+prefix_longer old new a b text whole h = record {
+  front = h.front;
+  rest = h.rest ++ b;
+  whole = sym (append_assoc h.front h.rest b) ∙ ap (λ t. t ++ b) h.whole ∙ whole;
+  wrote = h.wrote;
+}
+
+pub prefix_all : (old new : Option (List ℕ)) (text : List ℕ) → Wrote old new text → WrotePrefix old new text
+prefix_all old new text h = prefix_of old new text [] text (append-nil text) h
+
+pub prefix_none : (old new : Option (List ℕ)) (text : List ℕ) → Wrote old new [] → WrotePrefix old new text
+prefix_none old new text h = prefix_of old new [] text text refl h
+
+-- nothing more was written after a first part
+pub prefix_kept : (old mid new : Option (List ℕ)) (text : List ℕ) → WrotePrefix old mid text → Wrote mid new [] → WrotePrefix old new text
+prefix_kept old mid new text h k = record {
+  front = h.front ++ [];
+  rest = h.rest;
+  whole = append_assoc h.front [] h.rest ∙ h.whole;
+  wrote = wrote_more old mid new h.front [] h.wrote k;
+}
+
+pub rose_later : (a b c : ℕ) → Rose a b → b ≤ c → Rose a c
+rose_later a b c (inl h) le = inl (omega arith)
+rose_later a b c (inr h) le = inr (omega arith)
+
+pub rose_earlier : (a b c : ℕ) → a ≤ b → Rose b c → Rose a c
+rose_earlier a b c le (inl h) = inl (omega arith)
+rose_earlier a b c le (inr h) = inr h
+
+-- an input that was read to one byte past a limit
+pub longer : (left : Option (List ℕ)) (limit : ℕ) (all : List ℕ) → limit < length all → IfSome left (λ bytes. all ≡ take (limit + 1) bytes) → IfSome left (λ bytes. limit < length bytes)
+longer None limit all more h = tt
+longer (Some bytes) limit all more h = omega (arith, ap length h, length-take (limit + 1) bytes)
+
+module _ (P : List ℕ → Type 0) where
+  pub not_longer : (left : Option (List ℕ)) (limit : ℕ) (all : List ℕ) → length all ≤ limit → IfSome left (λ bytes. all ≡ take (limit + 1) bytes) → IfSome left (λ bytes. length bytes ≤ limit → all ≡ bytes) →
+      P all → IfSome left (λ bytes. (length bytes ≤ limit) × P bytes)
+  not_longer None limit all less h short p = tt
+  not_longer (Some bytes) limit all less h short p =
+      let fits : length bytes ≤ limit = omega (arith, ap length h, length-take (limit + 1) bytes) in (fits, subst P (short fits) p)
+
+-- one word, and whether it is a certain one
+pub one_word : (words : List (String Global)) (word : String Global) (text asked : List ℕ) (b : Bool) → 1 ≤ length words → length words < 2 → word ≡ get_or words 0 word → text ≡ string_bytes word → b ≡ pointwise nat_eq text asked →
+    (IsTrue b → map string_bytes words ≡ asked ∷ []) × (map string_bytes words ≡ asked ∷ [] → IsTrue b)
+one_word [] word text asked b some few is says test = absurd (omega arith)
+one_word (w ∷ v ∷ ws) word text asked b some few is says test = absurd (omega arith)
+one_word (w ∷ []) word text asked true some few is says test =
+    let same : text ≡ asked = told_text text asked true test in
+    (λ _. ap (λ t. t ∷ []) (ap string_bytes (sym is) ∙ sym says ∙ same), λ _. refl)
+one_word (w ∷ []) word text asked false some few is says test =
+    let differ : text ≢ asked = told_text text asked false test in
+    (λ e. cc, λ e. absurd (differ (let first : string_bytes w ≡ asked = cc in says ∙ ap string_bytes is ∙ first)))

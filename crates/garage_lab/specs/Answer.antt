@@ -1,0 +1,59 @@
+-- What the program answers: the status and the text that are stated for its words and its input.
+use Rattle.std.specs.Prelude.{◌≡◌, ℕ, ◌<◌, ◌≤◌, ⊤, List, [], ◌∷◌, ◌++◌, length, codes, decimal, Option}
+use Rattle.lab_outside.specs.declared.exit.Status.{Status}
+use Rattle.lab_outside.specs.declared.exit.Status.TheVariants.{Done, Refused, Usage, ReadFault, WriteFault, LinkFault, Memory, Limit}
+use Rattle.lab_outside.specs.Rose.{Rose}
+use Rattle.lab_outside.specs.Bytes.{Wrote, WrotePrefix}
+use Rattle.object_model.specs.declared.event.Numbered.{Numbered}
+use Rattle.text_model.specs.Grammar.{IsSchedule, IsFirstBadLine}
+use Rattle.garage_lab.specs.Replay.{IsReplay}
+
+abbrev pub replay_words : List (List ℕ)
+replay_words = codes "replay" ∷ []
+
+-- how many bytes the input may have
+abbrev pub input_limit : ℕ
+input_limit = 8388608
+
+abbrev pub usage_line : List ℕ
+usage_line = codes "usage: garage_lab layout | replay [--check] | workload N SEED | serve PORT COUNT" ++ 10 ∷ []
+
+abbrev pub input_line : List ℕ
+input_line = codes "limit input 8388608" ++ 10 ∷ []
+
+abbrev pub bad_line_text : ℕ → List ℕ
+bad_line_text n = codes "bad line " ++ (decimal n ++ 10 ∷ [])
+
+-- the status and the text that are stated for words and an input, in the order in which their causes come
+pub data IsAnswer (words : List (List ℕ)) (input : List ℕ) (status : Status) (text : List ℕ) : Type 0 where
+  usage : (words ≡ replay_words → ⊥) → status ≡ Usage → text ≡ usage_line → IsAnswer words input status text
+  long_input : words ≡ replay_words → input_limit < length input → status ≡ Limit → text ≡ input_line → IsAnswer words input status text
+  bad_line : (n : ℕ) → words ≡ replay_words → length input ≤ input_limit → IsFirstBadLine input n → status ≡ Refused → text ≡ bad_line_text n → IsAnswer words input status text
+  replayed : (events : List Numbered) → words ≡ replay_words → length input ≤ input_limit → IsSchedule input events → IsReplay events status text → IsAnswer words input status text
+
+-- the statuses that come with a whole text
+abbrev pub IsStated : Status → Type 0
+IsStated Done = ⊤
+IsStated Refused = ⊤
+IsStated Usage = ⊤
+IsStated Limit = ⊤
+IsStated ReadFault = ⊥
+IsStated WriteFault = ⊥
+IsStated LinkFault = ⊥
+IsStated Memory = ⊥
+
+-- this status is stated for the words and the input, and the text with it was written
+pub record Answers (words : List (List ℕ)) (input : List ℕ) (status : Status) (old new : Option (List ℕ)) : Type 0 where
+  pub text : List ℕ
+  pub stated : IsAnswer words input status text
+  pub wrote : Wrote old new text
+
+-- a first part of the text that is stated for the words and the input was written, and no more
+abbrev pub AnswersPrefix : List (List ℕ) → List ℕ → Option (List ℕ) → Option (List ℕ) → Type 0
+AnswersPrefix words input old new = (status : Status) (text : List ℕ) → IsAnswer words input status text → WrotePrefix old new text
+
+-- it ends with this status and this text written, unless a write fails or memory is wanting
+pub data Says (status : Status) (text : List ℕ) (result : Status) (old new : Option (List ℕ)) (faults risen : ℕ) : Type 0 where
+  said : result ≡ status → Wrote old new text → Says status text result old new faults risen
+  cut_off : result ≡ WriteFault → Rose faults risen → WrotePrefix old new text → Says status text result old new faults risen
+  unsaid : result ≡ Memory → Wrote old new [] → Says status text result old new faults risen

@@ -1,0 +1,94 @@
+-- Why a replay gave up: the status and the last text that go with it, and what was written before.
+use Rattle.std.specs.Prelude.{◌≡◌, ℕ, ◌<◌, ◌≤◌, ⊤, List, [], ◌∷◌, ◌++◌, Option}
+use Rattle.crdt_core.specs.declared.memory.Memory.{Memory as Why}
+use Rattle.crdt_core.specs.declared.memory.Memory.TheVariants.{Want, Full}
+use Rattle.lab_outside.specs.declared.exit.Status.{Status}
+use Rattle.lab_outside.specs.declared.exit.Status.TheVariants.{Refused, ReadFault, WriteFault, Memory as MemoryStatus, Limit}
+use Rattle.lab_outside.specs.declared.whole.ReadStop.{ReadStop}
+use Rattle.lab_outside.specs.declared.whole.ReadStop.TheVariants.{Failed, Memory as ReadMemory}
+use Rattle.lab_outside.specs.Bytes.{Wrote}
+use Rattle.schedule_text.specs.declared.fault.ScheduleFault.{ScheduleFault}
+use Rattle.schedule_text.specs.declared.fault.ScheduleFault.TheVariants.{BadLine as FaultLine, Memory as FaultMemory}
+use Rattle.garage_lab.specs.declared.stop.Stop.{Stop}
+use Rattle.garage_lab.specs.declared.stop.Stop.TheVariants.{Read, Write, Memory, LongInput, BadLine, Number}
+use Rattle.object_model.specs.declared.event.Numbered.{Numbered}
+use Rattle.object_model.specs.Run.{start}
+use Rattle.text_model.specs.Transcript.{events_text}
+use Rattle.garage_lab.specs.Replay.{number_line, StopsAfter}
+use Rattle.garage_lab.specs.Answer.{replay_words, input_line, bad_line_text, IsAnswer, AnswersPrefix}
+
+abbrev pub stop_of_read : ReadStop → Stop
+stop_of_read Failed = Read
+stop_of_read ReadMemory = Memory
+
+abbrev pub stop_of_fault : ScheduleFault → Stop
+stop_of_fault (FaultLine n) = BadLine n
+stop_of_fault FaultMemory = Memory
+
+abbrev pub stop_of_memory : Why → Stop
+stop_of_memory Want = Memory
+stop_of_memory Full = Number
+
+abbrev pub status_of : Stop → Status
+status_of Read = ReadFault
+status_of Write = WriteFault
+status_of Memory = MemoryStatus
+status_of LongInput = Limit
+status_of (BadLine n) = Refused
+status_of Number = Limit
+
+abbrev pub said_of : Stop → List ℕ
+said_of Read = []
+said_of Write = []
+said_of Memory = []
+said_of LongInput = input_line
+said_of (BadLine n) = bad_line_text n
+said_of Number = number_line
+
+-- what was written so far, with this last text, is what is stated with this status
+pub record IsNearly (input : List ℕ) (status : Status) (last : List ℕ) (old new : Option (List ℕ)) : Type 0 where
+  pub front : List ℕ
+  pub wrote : Wrote old new front
+  pub stated : IsAnswer replay_words input status (front ++ last)
+
+-- what was written when a replay of this input gave up
+abbrev pub Halts : List ℕ → Stop → Option (List ℕ) → Option (List ℕ) → Type 0
+Halts input Read old new = AnswersPrefix replay_words input old new
+Halts input Write old new = AnswersPrefix replay_words input old new
+Halts input Memory old new = AnswersPrefix replay_words input old new
+Halts input LongInput old new = IsNearly input Limit input_line old new
+Halts input (BadLine n) old new = IsNearly input Refused (bad_line_text n) old new
+Halts input Number old new = IsNearly input Limit number_line old new
+
+-- the input was read before this is said
+abbrev pub IsSaid : Stop → Type 0
+IsSaid Read = ⊥
+IsSaid Write = ⊤
+IsSaid Memory = ⊥
+IsSaid LongInput = ⊤
+IsSaid (BadLine n) = ⊤
+IsSaid Number = ⊤
+
+-- the input may be the cause
+abbrev pub IsOfInput : Stop → Type 0
+IsOfInput Read = ⊤
+IsOfInput Write = ⊥
+IsOfInput Memory = ⊤
+IsOfInput LongInput = ⊤
+IsOfInput (BadLine n) = ⊤
+IsOfInput Number = ⊥
+
+-- the events or the output may be the cause
+abbrev pub IsOfOutput : Stop → Type 0
+IsOfOutput Read = ⊥
+IsOfOutput Write = ⊤
+IsOfOutput Memory = ⊤
+IsOfOutput LongInput = ⊥
+IsOfOutput (BadLine n) = ⊥
+IsOfOutput Number = ⊤
+
+-- the transcript was written up to the event before a number doesn't fit
+pub record IsCutShort (events : List Numbered) (old new : Option (List ℕ)) : Type 0 where
+  pub before : List Numbered
+  pub stops : StopsAfter events before
+  pub wrote : Wrote old new (events_text start before)

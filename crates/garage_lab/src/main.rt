@@ -1,0 +1,55 @@
+//! garage_lab: an object store on an in-process cluster, replayed from a schedule of events.
+//!
+//! `run` is the program: it takes the words after the program's name, the outside as a source, a sink, a
+//! link and a clock, and answers the status with which the program ends. Its contract says which text is
+//! written for which input, and why each other answer comes. `schedule` reads the input, `transcript`
+//! writes what the events told, and `stop` is why either gave up.
+#![tactic(auto)]
+
+mod run;
+mod schedule;
+mod stop;
+#[cfg(test)]
+mod tests;
+mod transcript;
+
+use crate::run::run;
+use lab_outside::{MemClock, Status, StdSink, StdSource, SureLink};
+use std::alloc::{AllocError, Global};
+use std::process::ExitCode;
+use std::rt::Env;
+use std::{env, io};
+
+/// A link without connections, and a clock that stands at 0.
+fn unused(alloc: Global) -> Result<(SureLink, MemClock), AllocError> {
+    let link = SureLink::new(alloc, Vec::new(alloc), 0)?;
+    let times = [0].to_vec(alloc)?;
+    Ok((link, MemClock::new(times)))
+}
+
+/// The words after the program's name.
+fn words(rt: &(impl Env + Alloc<A = Global>)) -> io::Result<Vec<String>> {
+    let words = env::args(rt)?.skip(1).collect(rt.alloc())?;
+    Ok(words)
+}
+
+fn main(rt: HostRuntime) -> ExitCode {
+    let alloc = rt.alloc();
+    let mut input = StdSource::new(rt.reader());
+    let mut output = StdSink::new(io::writer(&rt));
+    let Ok(words) = words(&rt) else {
+        return ExitCode::from(Status::Memory.code());
+    };
+    let Ok((mut link, mut clock)) = unused(alloc) else {
+        return ExitCode::from(Status::Memory.code());
+    };
+    let status = run(
+        alloc,
+        &words,
+        &mut input,
+        &mut output,
+        &mut link,
+        &mut clock,
+    );
+    ExitCode::from(status.code())
+}

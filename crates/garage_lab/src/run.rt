@@ -1,0 +1,160 @@
+//! The program as one call.
+ghost use Rattle.std.specs.Prelude.{◌≡◌, ◌⊎◌, ◌+◌, ◌≤◌, ℕ, List, map, drop, Some, IfOk, OnOk, IfErr, IfSome, IsTrue, ◌↔◌};
+ghost use Rattle.std.specs.String.{string_bytes};
+ghost use Rattle.std.specs.Io.KnownBytes.{IsAtEnd};
+ghost use Rattle.lab_outside.specs.Rose.{Rose};
+ghost use Rattle.lab_outside.specs.Bytes.{Wrote, WrotePrefix};
+ghost use Rattle.garage_lab.specs.Replay.{IsTranscribed};
+ghost use Rattle.garage_lab.specs.Answer.{replay_words, input_limit, usage_line, bad_line_text, IsAnswer, IsStated, Answers, AnswersPrefix, Says};
+ghost use Rattle.garage_lab.specs.Stop.{status_of, said_of, Halts, IsSaid};
+
+use crate::schedule::read_schedule;
+use crate::stop::Stop;
+use crate::transcript::write_transcript;
+use crdt_core::{Bytes, Memory};
+use lab_outside::{Clock, Failed, Link, Sink, Source, Status, write_whole};
+use object_laws::fresh_reads;
+use std::alloc::Global;
+
+/// The words ask for a replay.
+fn asks_replay(words: &[String]) -> bool
+    ensures { IsTrue result ↔ (map string_bytes words.now ≡ replay_words) }
+{
+    match words {
+        [word] => word.as_str() == "replay",
+        _ => false,
+    }
+}
+
+/// Writes the last text, and answers the status that goes with it.
+fn ends<O: Sink>(output: &mut O, text: &[u8], status: Status) -> Status
+    ensures says { Says status text.now result (O.written output.old) (O.written output.new) (O.faults output.old) (O.faults output.new) }
+    ensures certain { (result ≡ status) ⊎ (result ≡ Status.WriteFault) }
+    ensures counted { O.faults output.old ≤ O.faults output.new }
+{
+    match write_whole(output, text) {
+        Ok(()) => status,
+        Err(Failed) => Status::WriteFault,
+    }
+}
+
+/// What is said of the first line outside the grammar.
+fn bad_line(alloc: Global, line: u64) -> Result<Bytes, Memory>
+    ensures { IfOk result (λ text. text ≡ bad_line_text line) }
+{
+    let mut text = Bytes::from_slice(alloc, b"bad line ")?;
+    text.extend_from_slice(itoa::Buffer::new().format(line).as_bytes())?;
+    text.push(b'\n')?;
+    Ok(text)
+}
+
+/// Says why a replay gave up, where that is said in the output.
+fn stopped<O: Sink>(alloc: Global, output: &mut O, stop: Stop) -> Status
+    ensures says { Says (status_of stop) (said_of stop) result (O.written output.old) (O.written output.new) (O.faults output.old) (O.faults output.new) }
+    ensures counted { O.faults output.old ≤ O.faults output.new }
+{
+    match stop {
+        Stop::Read => Status::ReadFault,
+        Stop::Write => Status::WriteFault,
+        Stop::Memory => Status::Memory,
+        Stop::LongInput => ends(output, b"limit input 8388608\n", Status::Limit),
+        Stop::Number => ends(output, b"limit number\n", Status::Limit),
+        Stop::BadLine(line) => match bad_line(alloc, line) {
+            Ok(text) => ends(output, text.as_slice(), Status::Refused),
+            Err(_) => Status::Memory,
+        },
+    }
+}
+
+/// Reads a schedule, and writes its transcript.
+fn replay<I: Source, O: Sink>(alloc: Global, input: &mut I, output: &mut O) -> Result<(), Stop>
+    ensures done { OnOk result (IfSome (I.left input.old) (λ bytes. Answers replay_words bytes Status.Done (O.written output.old) (O.written output.new))) }
+    ensures end { OnOk result (IsAtEnd (I.left input.new)) }
+    ensures halts { IfErr result (λ stop. IfSome (I.left input.old) (λ bytes. Halts bytes stop (O.written output.old) (O.written output.new))) }
+    ensures read { IfErr result IsSaid → IfSome (I.left input.old) (λ bytes. I.left input.new ≡ Some (drop (input_limit + 1) bytes)) }
+    ensures read_fault { result ≡ Err Stop.Read → Rose (I.faults input.old) (I.faults input.new) }
+    ensures write_fault { result ≡ Err Stop.Write → Rose (O.faults output.old) (O.faults output.new) }
+    ensures counted { O.faults output.old ≤ O.faults output.new }
+{
+    let events = read_schedule(alloc, input)?;
+    write_transcript(alloc, output, events.as_slice())
+}
+
+/// Replays the schedule that the input spells, and says how that ended.
+fn replayed<I: Source, O: Sink>(alloc: Global, input: &mut I, output: &mut O) -> Status
+    ensures answers { IsStated result → IfSome (I.left input.old) (λ bytes. Answers replay_words bytes result (O.written output.old) (O.written output.new)) }
+    ensures prefix { IfSome (I.left input.old) (λ bytes. AnswersPrefix replay_words bytes (O.written output.old) (O.written output.new)) }
+    ensures end { result ≡ Status.Done → IsAtEnd (I.left input.new) }
+    ensures no_usage { result ≡ Status.Usage → ⊥ }
+    ensures read_fault { result ≡ Status.ReadFault → Rose (I.faults input.old) (I.faults input.new) }
+    ensures write_fault { result ≡ Status.WriteFault → Rose (O.faults output.old) (O.faults output.new) }
+    ensures link_fault { result ≡ Status.LinkFault → ⊥ }
+{
+    match replay(alloc, input, output) {
+        Ok(()) => Status::Done,
+        Err(stop) => stopped(alloc, output, stop),
+    }
+}
+
+/// What the words ask for.
+fn answer<I: Source, O: Sink>(
+    alloc: Global,
+    words: &[String],
+    input: &mut I,
+    output: &mut O,
+) -> Status
+    ensures answers { IsStated result → IfSome (I.left input.old) (λ bytes. Answers (map string_bytes words.now) bytes result (O.written output.old) (O.written output.new)) }
+    ensures prefix { IfSome (I.left input.old) (λ bytes. AnswersPrefix (map string_bytes words.now) bytes (O.written output.old) (O.written output.new)) }
+    ensures end { result ≡ Status.Done → IsAtEnd (I.left input.new) }
+    ensures usage { result ≡ Status.Usage → map string_bytes words.now ≡ replay_words → ⊥ }
+    ensures usage_alone { (map string_bytes words.now ≡ replay_words → ⊥) → (result ≡ Status.Usage) ⊎ (result ≡ Status.WriteFault) }
+    ensures unread { (map string_bytes words.now ≡ replay_words → ⊥) → input.new ≡ input.old }
+    ensures read_fault { result ≡ Status.ReadFault → Rose (I.faults input.old) (I.faults input.new) }
+    ensures write_fault { result ≡ Status.WriteFault → Rose (O.faults output.old) (O.faults output.new) }
+    ensures link_fault { result ≡ Status.LinkFault → ⊥ }
+{
+    if asks_replay(words) {
+        replayed(alloc, input, output)
+    } else {
+        let usage =
+            b"usage: garage_lab layout | replay [--check] | workload N SEED | serve PORT COUNT\n";
+        ends(output, usage, Status::Usage)
+    }
+}
+
+/// Does what the words after the program's name ask for. `link` and `clock` are not used so far.
+pub fn run<I: Source, O: Sink, L: Link, C: Clock>(
+    alloc: Global,
+    words: &[String],
+    input: &mut I,
+    output: &mut O,
+    _link: &mut L,
+    _clock: &mut C,
+) -> Status
+    // After Done the source was read to its end, and what was written is the whole transcript of the events
+    // that all its bytes spell. The answered gets of that very run are fresh.
+    ensures done { result ≡ Status.Done → IfSome (I.left input.old) (λ bytes. IsTranscribed bytes (O.written output.old) (O.written output.new)) }
+    ensures end { result ≡ Status.Done → IsAtEnd (I.left input.new) }
+
+    // Done, Refused, Usage and Limit come with the status and the whole text that are stated for the words and
+    // the input. Whatever the status, what was written is a first part of the text that is stated.
+    ensures answers { IsStated result → IfSome (I.left input.old) (λ bytes. Answers (map string_bytes words.now) bytes result (O.written output.old) (O.written output.new)) }
+    ensures prefix { IfSome (I.left input.old) (λ bytes. AnswersPrefix (map string_bytes words.now) bytes (O.written output.old) (O.written output.new)) }
+
+    // The stated answer comes, or memory was wanting, where no count of faults rises.
+    ensures complete { IfSome (I.left input.old) (λ bytes. (status : Status) (text : List ℕ) → IsAnswer (map string_bytes words.now) bytes status text →
+        (Rose (I.faults input.old) (I.faults input.new) → ⊥) → (Rose (O.faults output.old) (O.faults output.new) → ⊥) → (result ≡ status) ⊎ (result ≡ Status.Memory)) }
+
+    // Words that ask for nothing known bring Usage, with nothing read; no other words do.
+    ensures usage { result ≡ Status.Usage → map string_bytes words.now ≡ replay_words → ⊥ }
+    ensures usage_alone { (map string_bytes words.now ≡ replay_words → ⊥) → (result ≡ Status.Usage) ⊎ (result ≡ Status.WriteFault) }
+    ensures unread { (map string_bytes words.now ≡ replay_words → ⊥) → input.new ≡ input.old }
+
+    // A fault comes only where the count of its object rose in this call.
+    ensures read_fault { result ≡ Status.ReadFault → Rose (I.faults input.old) (I.faults input.new) }
+    ensures write_fault { result ≡ Status.WriteFault → Rose (O.faults output.old) (O.faults output.new) }
+    ensures link_fault { result ≡ Status.LinkFault → ⊥ }
+{
+    fresh_reads();
+    answer(alloc, words, input, output)
+}

@@ -1,0 +1,34 @@
+//! The schedule that the input spells.
+ghost use Rattle.std.specs.Prelude.{◌≡◌, ◌⊎◌, ◌+◌, ◌<◌, ◌≤◌, ℕ, length, drop, Some, Err, IfOk, OnOk, IfErr, IfSome};
+ghost use Rattle.std.specs.Io.KnownBytes.{IsAtEnd};
+ghost use Rattle.lab_outside.specs.Rose.{Rose};
+ghost use Rattle.text_model.specs.Grammar.{IsSchedule, IsFirstBadLine};
+ghost use Rattle.garage_lab.specs.Answer.{input_limit};
+ghost use Rattle.garage_lab.specs.Stop.{IsSaid, IsOfInput};
+
+use crate::stop::Stop;
+use crdt_core::List;
+use lab_outside::{Source, read_up_to};
+use schedule_text::{Numbered, parse};
+use std::alloc::Global;
+
+/// How many bytes the input may have.
+pub const INPUT_LIMIT: usize = 8_388_608;
+
+/// Reads the input to its end, or to the first byte past the limit, and then what it spells.
+pub fn read_schedule<I: Source>(alloc: Global, input: &mut I) -> Result<List<Numbered>, Stop>
+    ensures schedule { IfOk result (λ events. IfSome (I.left input.old) (λ bytes. (length bytes ≤ input_limit) × IsSchedule bytes events)) }
+    ensures end { OnOk result (IsAtEnd (I.left input.new)) }
+    ensures bad_line { (n : ℕ) → result ≡ Err (Stop.BadLine n) → IfSome (I.left input.old) (λ bytes. (length bytes ≤ input_limit) × IsFirstBadLine bytes n) }
+    ensures long_input { result ≡ Err Stop.LongInput → IfSome (I.left input.old) (λ bytes. input_limit < length bytes) }
+    ensures read { IfErr result IsSaid → IfSome (I.left input.old) (λ bytes. I.left input.new ≡ Some (drop (input_limit + 1) bytes)) }
+    ensures causes { IfErr result IsOfInput }
+    ensures fault { result ≡ Err Stop.Read → Rose (I.faults input.old) (I.faults input.new) }
+{
+    let text = read_up_to(alloc, input, INPUT_LIMIT)?;
+    if text.len() > INPUT_LIMIT {
+        return Err(Stop::LongInput);
+    }
+    let events = parse(alloc, &text)?;
+    Ok(events)
+}
