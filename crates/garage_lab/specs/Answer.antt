@@ -42,6 +42,17 @@ IsStated WriteFault = ⊥
 IsStated LinkFault = ⊥
 IsStated Memory = ⊥
 
+-- the statuses that a replay answers only when its input was read
+abbrev pub IsAfterReading : Status → Type 0
+IsAfterReading Done = ⊤
+IsAfterReading Refused = ⊤
+IsAfterReading Usage = ⊥
+IsAfterReading Limit = ⊤
+IsAfterReading ReadFault = ⊥
+IsAfterReading WriteFault = ⊤
+IsAfterReading LinkFault = ⊥
+IsAfterReading Memory = ⊥
+
 -- this status is stated for the words and the input, and the text with it was written
 pub record Answers (words : List (List ℕ)) (input : List ℕ) (status : Status) (old new : Option (List ℕ)) : Type 0 where
   pub text : List ℕ

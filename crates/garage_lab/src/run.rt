@@ -5,7 +5,7 @@ ghost use Rattle.std.specs.Io.KnownBytes.{IsAtEnd};
 ghost use Rattle.lab_outside.specs.Rose.{Rose};
 ghost use Rattle.lab_outside.specs.Bytes.{Wrote, WrotePrefix};
 ghost use Rattle.garage_lab.specs.Replay.{IsTranscribed};
-ghost use Rattle.garage_lab.specs.Answer.{replay_words, input_limit, usage_line, bad_line_text, IsAnswer, IsStated, Answers, AnswersPrefix, Says};
+ghost use Rattle.garage_lab.specs.Answer.{replay_words, input_limit, usage_line, bad_line_text, IsAnswer, IsStated, IsAfterReading, Answers, AnswersPrefix, Says};
 ghost use Rattle.garage_lab.specs.Stop.{status_of, said_of, Halts, IsSaid};
 
 use crate::schedule::read_schedule;
@@ -51,6 +51,7 @@ fn bad_line(alloc: Global, line: u64) -> Result<Bytes, Memory>
 /// Says why a replay gave up, where that is said in the output.
 fn stopped<O: Sink>(alloc: Global, output: &mut O, stop: Stop) -> Status
     ensures says { Says (status_of stop) (said_of stop) result (O.written output.old) (O.written output.new) (O.faults output.old) (O.faults output.new) }
+    ensures read { IsAfterReading result → IsSaid stop }
     ensures counted { O.faults output.old ≤ O.faults output.new }
 {
     match stop {
@@ -85,6 +86,7 @@ fn replayed<I: Source, O: Sink>(alloc: Global, input: &mut I, output: &mut O) ->
     ensures answers { IsStated result → IfSome (I.left input.old) (λ bytes. Answers replay_words bytes result (O.written output.old) (O.written output.new)) }
     ensures prefix { IfSome (I.left input.old) (λ bytes. AnswersPrefix replay_words bytes (O.written output.old) (O.written output.new)) }
     ensures end { result ≡ Status.Done → IsAtEnd (I.left input.new) }
+    ensures read { IsAfterReading result → IfSome (I.left input.old) (λ bytes. I.left input.new ≡ Some (drop (input_limit + 1) bytes)) }
     ensures no_usage { result ≡ Status.Usage → ⊥ }
     ensures read_fault { result ≡ Status.ReadFault → Rose (I.faults input.old) (I.faults input.new) }
     ensures write_fault { result ≡ Status.WriteFault → Rose (O.faults output.old) (O.faults output.new) }
@@ -106,6 +108,7 @@ fn answer<I: Source, O: Sink>(
     ensures answers { IsStated result → IfSome (I.left input.old) (λ bytes. Answers (map string_bytes words.now) bytes result (O.written output.old) (O.written output.new)) }
     ensures prefix { IfSome (I.left input.old) (λ bytes. AnswersPrefix (map string_bytes words.now) bytes (O.written output.old) (O.written output.new)) }
     ensures end { result ≡ Status.Done → IsAtEnd (I.left input.new) }
+    ensures read { map string_bytes words.now ≡ replay_words → IsAfterReading result → IfSome (I.left input.old) (λ bytes. I.left input.new ≡ Some (drop (input_limit + 1) bytes)) }
     ensures usage { result ≡ Status.Usage → map string_bytes words.now ≡ replay_words → ⊥ }
     ensures usage_alone { (map string_bytes words.now ≡ replay_words → ⊥) → (result ≡ Status.Usage) ⊎ (result ≡ Status.WriteFault) }
     ensures unread { (map string_bytes words.now ≡ replay_words → ⊥) → input.new ≡ input.old }
@@ -135,6 +138,10 @@ pub fn run<I: Source, O: Sink, L: Link, C: Clock>(
     // that all its bytes spell. The answered gets of that very run are fresh.
     ensures done { result ≡ Status.Done → IfSome (I.left input.old) (λ bytes. IsTranscribed bytes (O.written output.old) (O.written output.new)) }
     ensures end { result ≡ Status.Done → IsAtEnd (I.left input.new) }
+
+    // A replay reads to the end of the input, or to the first byte past its limit, before it answers anything
+    // but ReadFault and Memory.
+    ensures read { map string_bytes words.now ≡ replay_words → IsAfterReading result → IfSome (I.left input.old) (λ bytes. I.left input.new ≡ Some (drop (input_limit + 1) bytes)) }
 
     // Done, Refused, Usage and Limit come with the status and the whole text that are stated for the words and
     // the input. Whatever the status, what was written is a first part of the text that is stated.
