@@ -1,0 +1,71 @@
+-- The window of a range phase: the part of the table that both answers show whole.
+use Rattle.std.specs.Prelude.{◌≡◌, ℕ, Bool, true, not, if◌then◌else◌, Option, Some, None, option_map, List, [], ◌∷◌, map, drop, filter, IsTrue}
+use Rattle.std.specs.List.{last_or}
+use Rattle.std.specs.Ordering.{nat_cmp, is_lt}
+use Rattle.std.specs.declared.cmp.Ordering.{Ordering}
+use Rattle.std.specs.Cmp.Lexicographic.{slice_cmp}
+use Rattle.crdt_core.specs.Entries.{merged, is_ascending}
+use Rattle.table_schema.specs.Words.{Words}
+use Rattle.quorum_model.specs.Answers.{first_two}
+
+-- what a node answers to a range: rows in ascending order of keys, and whether it has more rows after them
+pub record RangeAnswer (R : Type 0) : Type 0 where
+  pub rows : List R
+  pub more : Bool
+
+-- what a range phase gives: the rows up to the window's end. No end where there are no more rows
+pub record Window (R : Type 0) : Type 0 where
+  pub rows : List R
+  pub end : Option (List ℕ)
+
+-- keys are compared as text, a prefix first
+abbrev pub key_cmp : List ℕ → List ℕ → Ordering
+key_cmp a b = slice_cmp nat_cmp a b
+
+module _ {R : Type 0} (s : Words R) where
+  -- each row beside its key
+  abbrev pub keyed : List R → List (List ℕ × R)
+  keyed rows = map (λ r. (s.key r, r)) rows
+
+  -- each row's key is below the next one's
+  abbrev pub IsAscending : List R → Type 0
+  IsAscending rows = IsTrue (is_ascending key_cmp (keyed rows))
+
+  -- how far an answer that has more rows goes: to its last key. None where it has no more, or no rows
+  abbrev pub shown_to : RangeAnswer R → Option (List ℕ)
+  shown_to a = if a.more then option_map s.key (last_or None a.rows) else None
+
+-- the lesser of two ends, where none is without end
+abbrev pub nearer : Option (List ℕ) → Option (List ℕ) → Option (List ℕ)
+nearer None b = b
+nearer (Some a) None = Some a
+nearer (Some a) (Some b) = if is_lt (key_cmp b a) then Some b else Some a
+
+-- a key is at most the end
+abbrev pub is_within : Option (List ℕ) → List ℕ → Bool
+is_within None key = true
+is_within (Some end) key = not (is_lt (key_cmp end key))
+
+-- a row's key without the 32 bytes of its position
+abbrev pub after_position : List ℕ → List ℕ
+after_position key = drop 32 key
+
+module _ {R : Type 0} (join : R → R → R) (s : Words R) where
+  -- where both answers end: at the least last key of those that have more
+  abbrev pub end_of : RangeAnswer R × RangeAnswer R → Option (List ℕ)
+  end_of two = nearer (shown_to s two.0) (shown_to s two.1)
+
+  -- the rows of both in order of keys, and of two rows under one key their merge, each beside its key
+  abbrev pub both_rows : RangeAnswer R × RangeAnswer R → List (List ℕ × R)
+  both_rows two = merged key_cmp join (keyed s two.0.rows) (keyed s two.1.rows)
+
+  -- the window of two answers
+  abbrev pub window : RangeAnswer R × RangeAnswer R → Window R
+  window two = record {
+    rows = map (λ e. e.1) (filter (λ e. is_within (end_of two) e.0) (both_rows two));
+    end = option_map after_position (end_of two);
+  }
+
+  -- what a range phase gives
+  abbrev pub window_of : List (ℕ × RangeAnswer R) → Option (Window R)
+  window_of answers = option_map window (first_two answers)
