@@ -4,9 +4,8 @@ use Rattle.std.specs.Prelude.{nat_le, count_by, ◌↔◌, IsTrue}
 use Rattle.std.specs.List.{All, AllByRecursion, list_all}
 use Rattle.std.proofs.lemmas.List.{drop-map, take_all, drop_all}
 use Rattle.std.proofs.lemmas.List.Sums.{AllPass-from_list_all, list_all-from_AllPass}
-use Rattle.cluster_model.specs.World.{is_among, two_of}
+use Rattle.quorum_model.specs.Quorum.{is_among, two_of, is_some_set}
 use Rattle.quorum_tally.specs.declared.slot.Slot.{Slot}
-use Rattle.quorum_tally.specs.Quorum.{is_some_set}
 use Rattle.quorum_tally.specs.Slot.{slot_after, nodes_of, has_two, IsRight}
 
 or_assoc : (a b c : Bool) → (a || (b || c)) ≡ ((a || b) || c)

@@ -1,6 +1,6 @@
 -- What a slot shows.
 use Rattle.std.specs.Prelude.{◌≡◌, ℕ, ◌==◌, ◌||◌, ◌&&◌, Bool, false, List, [], ◌∷◌}
-use Rattle.cluster_model.specs.World.{is_among}
+use Rattle.quorum_model.specs.Quorum.{is_among}
 use Rattle.quorum_tally.specs.declared.slot.Mark.{Mark}
 use Rattle.quorum_tally.specs.declared.slot.Slot.{Slot}
 

@@ -2,7 +2,7 @@
 ghost use Rattle.std.specs.Prelude.{◌≡◌, ℕ, List, [], ◌∷◌, ◌++◌, ◌↔◌, IsTrue, IfOk, IfErr};
 ghost use Rattle.std.specs.List.{All};
 ghost use Rattle.crdt_core.specs.declared.memory.Memory.TheVariants.{Want};
-ghost use Rattle.quorum_tally.specs.Quorum.{reached_by};
+ghost use Rattle.quorum_model.specs.Quorum.{reached};
 ghost use Rattle.quorum_tally.specs.Stands.{Tallies};
 ghost use Rattle.quorum_tally.specs.Slot.{has_two};
 
@@ -43,7 +43,7 @@ impl Tally {
     /// Some set has a version of at least `from`, and two nodes of each such set have confirmed.
     pub fn reached(&self, from: u32) -> bool
         ensures { (first : ℕ) (sets : List (List ℕ)) (nodes : List ℕ) →
-            Tallies self.now first sets nodes → result ≡ reached_by first sets nodes from }
+            Tallies self.now first sets nodes → result ≡ reached first sets nodes from }
     {
         let skipped = from.saturating_sub(self.first) as usize;
         if skipped >= self.slots.len() {

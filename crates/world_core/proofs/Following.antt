@@ -1,11 +1,12 @@
 -- What an answer does to a request, in the code and in the model.
-use Rattle.std.proofs.Common.{◌≡◌, ◌≢◌, ℕ, ◌==◌, Bool, true, false, cond, ◌&&◌, Option, Some, None, List, [], ◌∷◌, ◌++◌, refl, sym, ap, ◌∙◌, subst, arith, eq-eqb}
+use Rattle.std.proofs.Common.{◌≡◌, ◌≢◌, ℕ, ◌==◌, Bool, true, false, cond, ◌&&◌, ◌||◌, Option, Some, None, List, [], ◌∷◌, ◌++◌, refl, sym, ap, ◌∙◌, subst, arith, eq-eqb}
 use Rattle.std.proofs.lemmas.Bool.Decides.{nat_tests}
 use Rattle.quorum_tally.specs.declared.tally.Tally.{Tally}
 use Rattle.quorum_tally.specs.Stands.{Tallies}
-use Rattle.quorum_tally.specs.Quorum.{reached_by}
+use Rattle.quorum_model.specs.Quorum.{reached}
+use Rattle.quorum_model.specs.Quorum as quorum
 use Rattle.cluster_model.specs.Order.{merged}
-use Rattle.cluster_model.specs.World.{Present as Phase, resting, asking, storing, Request as Begun, replicas, two_of, is_kept, second_answer, value_of}
+use Rattle.cluster_model.specs.World.{Present as Phase, resting, asking, storing, Request as Begun, replicas, is_among, is_kept, second_answer, value_of}
 use Rattle.cluster_model.specs.Step.{Effects, in_phase, row_came, stored_came}
 use Rattle.world_core.specs.declared.request.Present.{Present}
 use Rattle.world_core.specs.declared.request.Present.TheVariants.{Resting, Asking, Storing}
@@ -14,6 +15,14 @@ use Rattle.world_core.specs.Request.{IsFirstOf, IsPresent, IsRequest, Follows, r
 
 differs : (a b : ℕ) → a ≢ b → (b == a) ≡ false
 differs a b h = grind (arith, nat_tests)
+
+-- the cluster's sentence and the tally's are one
+same_among : (n : ℕ) (ns : List ℕ) → is_among n ns ≡ quorum.is_among n ns
+same_among n [] = refl
+same_among n (m ∷ ms) = ap (λ b. (m == n) || b) (same_among n ms)
+
+same_two : (ns : List ℕ) → is_kept ns ≡ quorum.two_of replicas ns
+same_two ns = rw (same_among 1 ns, same_among 2 ns, same_among 3 ns) refl
 
 module _ {R : Type 0} (join : R → R → R) where
   pub in_its_phase : (p : ℕ) (r : Begun R) (e : Effects R) → r.phases ≡ p → in_phase p r e ≡ e
@@ -81,30 +90,30 @@ module _ {R : Type 0} (join : R → R → R) where
   and_true false = refl
 
   stays : (c : Request R) (r : Begun R) (q node : ℕ) (old new : Tally) (b : Bool) → IsRequest join c r → b ≡ false →
-      ((nodes : List ℕ) → Tallies old 1 (replicas ∷ []) nodes → Tallies new 1 (replicas ∷ []) (nodes ++ node ∷ []) × (b ≡ reached_by 1 (replicas ∷ []) (nodes ++ node ∷ []) 1)) →
+      ((nodes : List ℕ) → Tallies old 1 (replicas ∷ []) nodes → Tallies new 1 (replicas ∷ []) (nodes ++ node ∷ []) × (b ≡ reached 1 (replicas ∷ []) (nodes ++ node ∷ []) 1)) →
       (p : Phase R) → IsPresent join (Storing old) p →
       Follows join (record c { present = Storing new }) (kept_end q b) r (stored_came q node r p)
   stays c r q node old new b s e does resting h = absurd h
   stays c r q node old new b s e does (asking question answers) h = absurd h
   stays c r q node old new b s e does (storing keeping nodes) h =
       let d = does nodes h in
-      let kept : is_kept (nodes ++ node ∷ []) ≡ false = sym (and_true (two_of replicas (nodes ++ node ∷ []))) ∙ sym d.1 ∙ e in
+      let kept : is_kept (nodes ++ node ∷ []) ≡ false = same_two (nodes ++ node ∷ []) ∙ sym (and_true (quorum.two_of replicas (nodes ++ node ∷ []))) ∙ sym d.1 ∙ e in
       rw (kept, e) (record { request = now_in c r (Storing new) (storing keeping (nodes ++ node ∷ [])) s d.0; ended = refl })
 
   keeps : (c : Request R) (r : Begun R) (q node : ℕ) (old new : Tally) (b : Bool) → IsRequest join c r → b ≡ true →
-      ((nodes : List ℕ) → Tallies old 1 (replicas ∷ []) nodes → Tallies new 1 (replicas ∷ []) (nodes ++ node ∷ []) × (b ≡ reached_by 1 (replicas ∷ []) (nodes ++ node ∷ []) 1)) →
+      ((nodes : List ℕ) → Tallies old 1 (replicas ∷ []) nodes → Tallies new 1 (replicas ∷ []) (nodes ++ node ∷ []) × (b ≡ reached 1 (replicas ∷ []) (nodes ++ node ∷ []) 1)) →
       (p : Phase R) → IsPresent join (Storing old) p →
       Follows join (record c { present = Resting }) (kept_end q b) r (stored_came q node r p)
   keeps c r q node old new b s e does resting h = absurd h
   keeps c r q node old new b s e does (asking question answers) h = absurd h
   keeps c r q node old new b s e does (storing keeping nodes) h =
       let d = does nodes h in
-      let kept : is_kept (nodes ++ node ∷ []) ≡ true = sym (and_true (two_of replicas (nodes ++ node ∷ []))) ∙ sym d.1 ∙ e in
+      let kept : is_kept (nodes ++ node ∷ []) ≡ true = same_two (nodes ++ node ∷ []) ∙ sym (and_true (quorum.two_of replicas (nodes ++ node ∷ []))) ∙ sym d.1 ∙ e in
       rw (kept, e) (record { request = now_in c r Resting resting s tt; ended = refl })
 
   -- a node confirms, and the row isn't kept yet
   pub confirms : (c : Request R) (r : Begun R) (q p node : ℕ) (old new : Tally) (b : Bool) → IsRequest join c r → c.phases ≡ p → c.present ≡ Storing old → b ≡ false →
-      ((nodes : List ℕ) → Tallies old 1 (replicas ∷ []) nodes → Tallies new 1 (replicas ∷ []) (nodes ++ node ∷ []) × (b ≡ reached_by 1 (replicas ∷ []) (nodes ++ node ∷ []) 1)) →
+      ((nodes : List ℕ) → Tallies old 1 (replicas ∷ []) nodes → Tallies new 1 (replicas ∷ []) (nodes ++ node ∷ []) × (b ≡ reached 1 (replicas ∷ []) (nodes ++ node ∷ []) 1)) →
       Follows join (record c { present = Storing new }) (kept_end q b) r (in_phase p r (stored_came q node r r.present))
   confirms c r q p node old new b s at is e does =
       rw (in_its_phase p r (stored_came q node r r.present) (sym s.phases ∙ at))
@@ -112,7 +121,7 @@ module _ {R : Type 0} (join : R → R → R) where
 
   -- a node confirms, and the row is kept
   pub confirms_last : (c : Request R) (r : Begun R) (q p node : ℕ) (old new : Tally) (b : Bool) → IsRequest join c r → c.phases ≡ p → c.present ≡ Storing old → b ≡ true →
-      ((nodes : List ℕ) → Tallies old 1 (replicas ∷ []) nodes → Tallies new 1 (replicas ∷ []) (nodes ++ node ∷ []) × (b ≡ reached_by 1 (replicas ∷ []) (nodes ++ node ∷ []) 1)) →
+      ((nodes : List ℕ) → Tallies old 1 (replicas ∷ []) nodes → Tallies new 1 (replicas ∷ []) (nodes ++ node ∷ []) × (b ≡ reached 1 (replicas ∷ []) (nodes ++ node ∷ []) 1)) →
       Follows join (record c { present = Resting }) (kept_end q b) r (in_phase p r (stored_came q node r r.present))
   confirms_last c r q p node old new b s at is e does =
       rw (in_its_phase p r (stored_came q node r r.present) (sym s.phases ∙ at))

@@ -1,0 +1,46 @@
+//! The confirmations of the rows of one store phase.
+ghost use Rattle.std.specs.Prelude.{◌≡◌, ℕ, List};
+ghost use Rattle.quorum_model.specs.Quorum.{StoreSlot, is_kept, with_confirmation};
+ghost use Rattle.write_call.specs.Stands.{Stands, AreTallies};
+
+use quorum_tally::Tally;
+
+/// A store phase: a slot for each of its rows.
+#[derive(Drop)]
+pub struct WriteCall {
+    slots: Vec<Tally>,
+}
+
+impl WriteCall {
+    /// Takes no memory.
+    pub fn new(slots: Vec<Tally>) -> WriteCall
+        ensures { (stored : List StoreSlot) → AreTallies slots.items stored → Stands result stored }
+    {
+        WriteCall { slots }
+    }
+
+    /// A node confirms the slot at a place, counted from 0; whether each slot is now kept, counting the versions of
+    /// at least `from`. An unknown slot changes nothing. Takes no memory.
+    pub fn confirm(&mut self, slot: usize, node: u8, from: u32) -> bool
+        ensures stands { (stored : List StoreSlot) →
+            Stands self.old stored → Stands self.new (with_confirmation stored slot node) }
+        ensures kept { (stored : List StoreSlot) →
+            Stands self.old stored → result ≡ is_kept (with_confirmation stored slot node) from }
+    {
+        if slot < self.slots.len() {
+            self.slots[slot].confirm(node);
+        }
+        all_reached(&self.slots, from)
+    }
+}
+
+fn all_reached(slots: &[Tally], from: u32) -> bool
+    ensures { (stored : List StoreSlot) → AreTallies slots.now stored → result ≡ is_kept stored from }
+{
+    for slot in slots {
+        if !slot.reached(from) {
+            return false;
+        }
+    }
+    true
+}
