@@ -1,17 +1,12 @@
 -- The window of a range phase: the part of the table that both answers show whole.
-use Rattle.std.specs.Prelude.{◌≡◌, ℕ, Bool, true, not, if◌then◌else◌, Option, Some, None, option_map, List, [], ◌∷◌, map, drop, filter, IsTrue}
-use Rattle.std.specs.List.{last_or}
+use Rattle.std.specs.Prelude.{◌≡◌, ℕ, Bool, true, not, if◌then◌else◌, Option, Some, None, option_map, List, ◌-◌, length, slice_get, map, drop, filter, IsTrue}
 use Rattle.std.specs.Ordering.{nat_cmp, is_lt}
 use Rattle.std.specs.declared.cmp.Ordering.{Ordering}
 use Rattle.std.specs.Cmp.Lexicographic.{slice_cmp}
 use Rattle.crdt_core.specs.Entries.{merged, is_ascending}
 use Rattle.table_schema.specs.Words.{Words}
+use Rattle.quorum_model.specs.declared.range.RangeAnswer.{RangeAnswer}
 use Rattle.quorum_model.specs.Answers.{first_two}
-
--- what a node answers to a range: rows in ascending order of keys, and whether it has more rows after them
-pub record RangeAnswer (R : Type 0) : Type 0 where
-  pub rows : List R
-  pub more : Bool
 
 -- what a range phase gives: the rows up to the window's end. No end where there are no more rows
 pub record Window (R : Type 0) : Type 0 where
@@ -21,6 +16,9 @@ pub record Window (R : Type 0) : Type 0 where
 -- keys are compared as text, a prefix first
 abbrev pub key_cmp : List ℕ → List ℕ → Ordering
 key_cmp a b = slice_cmp nat_cmp a b
+
+abbrev pub last_of : {A : Type 0} → List A → Option A
+last_of xs = slice_get xs (length xs - 1)
 
 module _ {R : Type 0} (s : Words R) where
   -- each row beside its key
@@ -33,7 +31,7 @@ module _ {R : Type 0} (s : Words R) where
 
   -- how far an answer that has more rows goes: to its last key. None where it has no more, or no rows
   abbrev pub shown_to : RangeAnswer R → Option (List ℕ)
-  shown_to a = if a.more then option_map s.key (last_or None a.rows) else None
+  shown_to a = if a.more then option_map s.key (last_of a.rows) else None
 
 -- the lesser of two ends, where none is without end
 abbrev pub nearer : Option (List ℕ) → Option (List ℕ) → Option (List ℕ)
@@ -45,6 +43,10 @@ nearer (Some a) (Some b) = if is_lt (key_cmp b a) then Some b else Some a
 abbrev pub is_within : Option (List ℕ) → List ℕ → Bool
 is_within None key = true
 is_within (Some end) key = not (is_lt (key_cmp end key))
+
+-- of rows beside their keys those whose keys are at most the end
+abbrev pub rows_within : {R : Type 0} → Option (List ℕ) → List (List ℕ × R) → List R
+rows_within end entries = map (λ e. e.1) (filter (λ e. is_within end e.0) entries)
 
 -- a row's key without the 32 bytes of its position
 abbrev pub after_position : List ℕ → List ℕ
@@ -62,7 +64,7 @@ module _ {R : Type 0} (join : R → R → R) (s : Words R) where
   -- the window of two answers
   abbrev pub window : RangeAnswer R × RangeAnswer R → Window R
   window two = record {
-    rows = map (λ e. e.1) (filter (λ e. is_within (end_of two) e.0) (both_rows two));
+    rows = rows_within (end_of two) (both_rows two);
     end = option_map after_position (end_of two);
   }
 

@@ -10,5 +10,7 @@
 #![tactic(auto)]
 
 mod laws;
+mod range;
 
 pub use laws::{answers_settle, confirmations_count_once};
+pub use range::RangeAnswer;
