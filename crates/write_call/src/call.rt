@@ -27,10 +27,17 @@ impl WriteCall {
         ensures kept { (stored : List StoreSlot) →
             Stands self.old stored → result ≡ is_kept (with_confirmation stored slot node) from }
     {
-        if slot < self.slots.len() {
-            self.slots[slot].confirm(node);
-        }
+        confirm_at(&mut self.slots, slot, node);
         all_reached(&self.slots, from)
+    }
+}
+
+fn confirm_at(slots: &mut Vec<Tally>, place: usize, node: u8)
+    ensures { (stored : List StoreSlot) →
+        AreTallies slots.old.items stored → AreTallies slots.new.items (with_confirmation stored place node) }
+{
+    if place < slots.len() {
+        slots[place].confirm(node);
     }
 }
 
