@@ -1,9 +1,9 @@
 -- The window of a range phase: the part of the table that both answers show whole.
-use Rattle.std.specs.Prelude.{◌≡◌, ℕ, Bool, true, not, if◌then◌else◌, Option, Some, None, option_map, List, ◌-◌, length, slice_get, map, drop, filter, IsTrue}
+use Rattle.std.specs.Prelude.{◌≡◌, ℕ, ◌-◌, Bool, true, not, if◌then◌else◌, Option, Some, None, option_map, List, length, slice_get, map, drop, filter, All, IsTrue}
 use Rattle.std.specs.Ordering.{nat_cmp, is_lt}
 use Rattle.std.specs.declared.cmp.Ordering.{Ordering}
 use Rattle.std.specs.Cmp.Lexicographic.{slice_cmp}
-use Rattle.crdt_core.specs.Entries.{merged, is_ascending}
+use Rattle.crdt_core.specs.Entries.{merged, is_ascending, value_at}
 use Rattle.table_schema.specs.Words.{Words}
 use Rattle.quorum_model.specs.declared.range.RangeAnswer.{RangeAnswer}
 use Rattle.quorum_model.specs.Answers.{first_two}
@@ -19,19 +19,6 @@ key_cmp a b = slice_cmp nat_cmp a b
 
 abbrev pub last_of : {A : Type 0} → List A → Option A
 last_of xs = slice_get xs (length xs - 1)
-
-module _ {R : Type 0} (s : Words R) where
-  -- each row beside its key
-  abbrev pub keyed : List R → List (List ℕ × R)
-  keyed rows = map (λ r. (s.key r, r)) rows
-
-  -- each row's key is below the next one's
-  abbrev pub IsAscending : List R → Type 0
-  IsAscending rows = IsTrue (is_ascending key_cmp (keyed rows))
-
-  -- how far an answer that has more rows goes: to its last key. None where it has no more, or no rows
-  abbrev pub shown_to : RangeAnswer R → Option (List ℕ)
-  shown_to a = if a.more then option_map s.key (last_of a.rows) else None
 
 -- the lesser of two ends, where none is without end
 abbrev pub nearer : Option (List ℕ) → Option (List ℕ) → Option (List ℕ)
@@ -52,11 +39,34 @@ rows_within end entries = map (λ e. e.1) (filter (λ e. is_within end e.0) entr
 abbrev pub after_position : List ℕ → List ℕ
 after_position key = drop 32 key
 
-module _ {R : Type 0} (join : R → R → R) (s : Words R) where
+module _ {R : Type 0} (s : Words R) where
+  -- each row beside its key
+  abbrev pub keyed : List R → List (List ℕ × R)
+  keyed rows = map (λ r. (s.key r, r)) rows
+
+  -- each row's key is below the next one's
+  abbrev pub IsAscending : List R → Type 0
+  IsAscending rows = IsTrue (is_ascending key_cmp (keyed rows))
+
+  -- of rows that ascend the one under a key
+  abbrev pub row_under : List R → List ℕ → Option R
+  row_under rows key = value_at key_cmp key (keyed rows)
+
+  -- rows of the object table, in ascending order of keys
+  pub record AreObjects (rows : List R) : Type 0 where
+    pub proper : All (λ r. IsTrue (s.is_proper r)) rows
+    pub table : All (λ r. s.table r ≡ 1) rows
+    pub ascending : IsAscending rows
+
+  -- how far an answer that has more rows goes: to its last key. None where it has no more, or no rows
+  abbrev pub shown_to : RangeAnswer R → Option (List ℕ)
+  shown_to a = if a.more then option_map s.key (last_of a.rows) else None
+
   -- where both answers end: at the least last key of those that have more
   abbrev pub end_of : RangeAnswer R × RangeAnswer R → Option (List ℕ)
-  end_of two = nearer (shown_to s two.0) (shown_to s two.1)
+  end_of two = nearer (shown_to two.0) (shown_to two.1)
 
+module _ {R : Type 0} (join : R → R → R) (s : Words R) where
   -- the rows of both in order of keys, and of two rows under one key their merge, each beside its key
   abbrev pub both_rows : RangeAnswer R × RangeAnswer R → List (List ℕ × R)
   both_rows two = merged key_cmp join (keyed s two.0.rows) (keyed s two.1.rows)
@@ -64,8 +74,8 @@ module _ {R : Type 0} (join : R → R → R) (s : Words R) where
   -- the window of two answers
   abbrev pub window : RangeAnswer R × RangeAnswer R → Window R
   window two = record {
-    rows = rows_within (end_of two) (both_rows two);
-    end = option_map after_position (end_of two);
+    rows = rows_within (end_of s two) (both_rows two);
+    end = option_map after_position (end_of s two);
   }
 
   -- what a range phase gives

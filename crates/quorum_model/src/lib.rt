@@ -12,5 +12,5 @@
 mod laws;
 mod range;
 
-pub use laws::{answers_settle, confirmations_count_once};
+pub use laws::{answers_settle, confirmations_count_once, windows_merge};
 pub use range::RangeAnswer;

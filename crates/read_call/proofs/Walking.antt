@@ -51,6 +51,15 @@ module _ {R : Type 0} where
         pub next_below : key_cmp (s.key x) key ≡ Less → merged key_cmp join (keyed s (drop i xs)) ((key, y) ∷ ys) ≡ (s.key x, x) ∷ merged key_cmp join (keyed s (drop (i + 1) xs)) ((key, y) ∷ ys)
         next_below e = rw (add-one i, cut xs i x lt is) (merged_cons x y (drop (suc i) xs) key ys Less e)
 
+        -- a copy of it was added where it is within the end
+        pub next_copied : (end : Option (List ℕ)) (own : List ℕ) (rows more all : List R) → key_cmp (s.key x) key ≡ Less → own ≡ s.key x → more ≡ rows ++ rows_within end ((own, x) ∷ []) →
+            rows ++ rows_within end (merged key_cmp join (keyed s (drop i xs)) ((key, y) ∷ ys)) ≡ all → more ++ rows_within end (merged key_cmp join (keyed s (drop (i + 1) xs)) ((key, y) ∷ ys)) ≡ all
+        next_copied end own rows more all e k m before =
+            let rest = merged key_cmp join (keyed s (drop (i + 1) xs)) ((key, y) ∷ ys) in
+            ap (λ l. l ++ rows_within end rest) (m ∙ ap (λ q. rows ++ rows_within end ((q, x) ∷ [])) k)
+            ∙ (append_assoc rows (rows_within end ((s.key x, x) ∷ [])) (rows_within end rest)
+            ∙ (ap (λ l. rows ++ l) (sym (within_cons end (s.key x, x) rest) ∙ ap (rows_within end) (sym (next_below e))) ∙ before))
+
         pub next_equal : key_cmp (s.key x) key ≡ Equal → merged key_cmp join (keyed s (drop i xs)) ((key, y) ∷ ys) ≡ from_next join s true (drop i xs) key y ys
         next_equal e =
             rw (cut xs i x lt is) (merged_cons x y (drop (suc i) xs) key ys Equal e
@@ -78,6 +87,27 @@ module _ {R : Type 0} where
             rows ++ rows_within end (merged key_cmp join (keyed s (drop (i + 1) xs)) ys) ≡ rows ++ rows_within end (from_next join s true (drop i xs) key y ys)
         met_left rows lt e =
             rw (add-one i, drop-cons xs i y lt, sym e) refl
+
+-- ---- the whole walk
+
+module _ {R : Type 0} (s : Words R) (join : R → R → R) (end : Option (List ℕ)) (xs : List R) where
+  abbrev pub walked : ℕ → List R → List R
+  walked i waiting = rows_within end (merged key_cmp join (keyed s (drop i xs)) (keyed s (reverse waiting)))
+
+  -- one row of the second answer was taken
+  pub walk_step : (i j : ℕ) (b : Bool) (count : ℕ) (before after : List R) (y : R) (key : List ℕ) (rows passed more all : List R) → before ≡ after ++ y ∷ [] → key ≡ s.key y →
+      passed ++ rows_within end (from_next join s b (drop count xs) key y (keyed s (reverse after))) ≡ rows ++ rows_within end (merged key_cmp join (keyed s (drop i xs)) ((key, y) ∷ keyed s (reverse after))) →
+      more ++ rows_within end (merged key_cmp join (keyed s (drop j xs)) (keyed s (reverse after))) ≡ passed ++ rows_within end (from_next join s b (drop count xs) key y (keyed s (reverse after))) →
+      rows ++ walked i before ≡ all → more ++ walked j after ≡ all
+  walk_step i j b count before after y key rows passed more all popped k below next all_before =
+      let front : keyed s (reverse before) ≡ (key, y) ∷ keyed s (reverse after) =
+          ap (λ l. keyed s (reverse l)) popped ∙ (ap (keyed s) (reverse-append after (y ∷ [])) ∙ ap (λ q. (q, y) ∷ keyed s (reverse after)) (sym k)) in
+      next ∙ (below ∙ (ap (λ l. rows ++ rows_within end (merged key_cmp join (keyed s (drop i xs)) l)) (sym front) ∙ all_before))
+
+  -- none is left
+  pub walk_end : (i : ℕ) (waiting rows more all : List R) → waiting ≡ [] → more ≡ rows ++ rows_within end (keyed s (drop i xs)) → rows ++ walked i waiting ≡ all → more ≡ all
+  walk_end i waiting rows more all none m all_before =
+      m ∙ (ap (λ es. rows ++ rows_within end es) (sym (merged_end join (keyed s (drop i xs)))) ∙ (ap (λ l. rows ++ walked i l) (sym none) ∙ all_before))
 
 pub past_32 : (bytes : List ℕ) → drop (min (length bytes) 32) bytes ≡ drop 32 bytes
 past_32 bytes =

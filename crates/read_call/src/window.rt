@@ -133,9 +133,10 @@ fn push_below<S: Schema>(
 {
     let mut count = start;
     while count < first.len() {
-        let own = S::key(alloc, &first[count])?;
+        let row = &first[count];
+        let own = S::key(alloc, row)?;
         match own.cmp(key) {
-            Ordering::Less => push_copy(rows, end, &own, &first[count])?,
+            Ordering::Less => push_copy(rows, end, &own, row)?,
             Ordering::Equal => return Ok(Passed { count, is_met: true }),
             Ordering::Greater => return Ok(Passed { count, is_met: false }),
         }

@@ -17,13 +17,10 @@ module _ (slots : List Tally) (stored : List StoreSlot) (i : ℕ) (d : Tally) (b
     (e : (first : ℕ) (sets : List (List ℕ)) (nodes : List ℕ) → Tallies (get_or slots i d) first sets nodes → b ≡ reached first sets nodes from) (before : is_kept (drop i stored) from ≡ is_kept stored from) where
   pub kept_so_far : b ≡ true → is_kept (drop (i + 1) stored) from ≡ is_kept stored from
   kept_so_far so =
-      let step : is_kept (drop i stored) from ≡ (true && is_kept (drop (suc i) stored) from) = rw (sym so) (kept_step slots stored i d b from h lt e) in
-      rw (add-one i) (sym step ∙ before)
+      rw (add-one i) (sym (kept_step slots stored i d b from h lt e ∙ ap (λ t. t && is_kept (drop (suc i) stored) from) so) ∙ before)
 
   pub not_kept : b ≡ false → false ≡ is_kept stored from
-  not_kept so =
-      let step : is_kept (drop i stored) from ≡ (false && is_kept (drop (suc i) stored) from) = rw (sym so) (kept_step slots stored i d b from h lt e) in
-      sym step ∙ before
+  not_kept so = sym (kept_step slots stored i d b from h lt e ∙ ap (λ t. t && is_kept (drop (suc i) stored) from) so) ∙ before
 
 pub kept_end : (slots : List Tally) (stored : List StoreSlot) (i from : ℕ) → AreTallies slots stored → length slots ≤ i → is_kept (drop i stored) from ≡ true
 kept_end [] [] zero from h le = refl

@@ -2,6 +2,7 @@ use Rattle.std.proofs.Common.{◌≡◌, true, false, Some, ap, sym, subst, ◌�
 use Rattle.std.specs.Prelude.{option_map}
 use Rattle.quorum_model.specs.Quorum.{is_among}
 use Rattle.quorum_model.specs.Window.{window}
+use Rattle.read_call.specs.declared.progress.Progress.TheVariants.{Answered}
 use Rattle.read_call.specs.Stands.{Waits}
 use Rattle.read_call.proofs.Hearing.{first_heard, again_heard, second_heard, later_heard, none_heard}
 use Rattle.read_call.proofs.range.RangeCall.answer.Goals as goal
@@ -23,7 +24,8 @@ pub returns-in-Asked-clause-window : goal.returns-in-Asked-clause-window
 returns-in-Asked-clause-window g c nodes answers s = ap (option_map (window g.S.Row.Crdt.join g.S.Schema.words)) (first_heard c.args.self.now.nodes nodes answers (c.args.node, record { rows = c.args.rows.items; more = c.args.more }) c.args.self.now.progress c.in-Asked.ensures.value s (sym c.is_asked.ensures ∙ c.if-not-is_asked.false)).1
 
 pub returns-in-Asked-clause-stands : goal.returns-in-Asked-clause-stands
-returns-in-Asked-clause-stands g c nodes answers s = (first_heard c.args.self.now.nodes nodes answers (c.args.node, record { rows = c.args.rows.items; more = c.args.more }) c.args.self.now.progress c.in-Asked.ensures.value s (sym c.is_asked.ensures ∙ c.if-not-is_asked.false)).0
+returns-in-Asked-clause-stands g c nodes answers s = 
+    subst (λ r. Waits c.args.self.now.nodes (Answered c.args.node (record { rows = r; more = c.args.more })) nodes (answers ++ (c.args.node, record { rows = c.args.rows.items; more = c.args.more }) ∷ [])) (sym c.from_vec.ensures) (first_heard c.args.self.now.nodes nodes answers (c.args.node, record { rows = c.args.rows.items; more = c.args.more }) c.args.self.now.progress c.in-Asked.ensures.value s (sym c.is_asked.ensures ∙ c.if-not-is_asked.false)).0
 
 pub returns-then-first-node-clause-window : goal.returns-then-first-node-clause-window
 returns-then-first-node-clause-window g c nodes answers s = ap (option_map (window g.S.Row.Crdt.join g.S.Schema.words)) (again_heard c.args.self.now.nodes nodes answers (c.args.node, record { rows = c.args.rows.items; more = c.args.more }) c.args.self.now.progress c.in-Answered.first c.in-Answered.have c.in-Answered.ensures.value c.if-first-node.true s (sym c.is_asked.ensures ∙ c.if-not-is_asked.false)).1
@@ -32,7 +34,7 @@ pub returns-then-first-node-clause-stands : goal.returns-then-first-node-clause-
 returns-then-first-node-clause-stands g c nodes answers s = (again_heard c.args.self.now.nodes nodes answers (c.args.node, record { rows = c.args.rows.items; more = c.args.more }) c.args.self.now.progress c.in-Answered.first c.in-Answered.have c.in-Answered.ensures.value c.if-first-node.true s (sym c.is_asked.ensures ∙ c.if-not-is_asked.false)).0
 
 pub returns-in-Ok-clause-window : goal.returns-in-Ok-clause-window
-returns-in-Ok-clause-window g c nodes answers s = ap Some c.in-Ok.ensures.is ∙ ap (option_map (window g.S.Row.Crdt.join g.S.Schema.words)) (second_heard c.args.self.now.nodes nodes answers (c.args.node, record { rows = c.args.rows.items; more = c.args.more }) c.args.self.now.progress c.in-Answered.first c.in-Answered.have c.in-Answered.ensures.value c.if-first-node.false s (sym c.is_asked.ensures ∙ c.if-not-is_asked.false)).1
+returns-in-Ok-clause-window g c nodes answers s = ap Some (c.in-Ok.ensures.is ∙ ap (λ r. window g.S.Row.Crdt.join g.S.Schema.words (c.in-Answered.have, record { rows = r; more = c.args.more })) c.from_vec.ensures) ∙ ap (option_map (window g.S.Row.Crdt.join g.S.Schema.words)) (second_heard c.args.self.now.nodes nodes answers (c.args.node, record { rows = c.args.rows.items; more = c.args.more }) c.args.self.now.progress c.in-Answered.first c.in-Answered.have c.in-Answered.ensures.value c.if-first-node.false s (sym c.is_asked.ensures ∙ c.if-not-is_asked.false)).1
 
 pub returns-in-Ok-clause-stands : goal.returns-in-Ok-clause-stands
 returns-in-Ok-clause-stands g c nodes answers s =
