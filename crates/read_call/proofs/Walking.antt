@@ -1,8 +1,8 @@
 -- One step of the walk over two answers.
-use Rattle.std.proofs.Common.{◌≡◌, ℕ, zero, suc, ◌+◌, ◌<◌, ◌≤◌, min, Bool, true, false, cond, Option, Some, None, List, [], ◌∷◌, ◌++◌, map, length, get_or, drop, reverse, refl, sym, ap, ◌∙◌, append_assoc, append-nil, add-one, drop-cons, ltb, arith}
+use Rattle.std.proofs.Common.{◌≡◌, ℕ, zero, suc, ◌+◌, ◌<◌, ◌≤◌, min, Bool, true, false, cond, Option, Some, None, List, [], ◌∷◌, ◌++◌, ◌-◌, map, take, length, get_or, drop, reverse, refl, sym, ap, ◌∙◌, append_assoc, append-nil, add-one, drop-cons, ltb, arith}
 use Rattle.std.specs.Prelude.{filter}
 use Rattle.std.proofs.lemmas.Bool.Decides.{nat_tests}
-use Rattle.std.proofs.lemmas.List.{drop_all, reverse-append}
+use Rattle.std.proofs.lemmas.List.{drop_all, take_rest, reverse-append}
 use Rattle.std.specs.Ordering.{nat_cmp}
 use Rattle.std.specs.declared.cmp.Ordering.{Ordering}
 use Rattle.std.specs.declared.cmp.Ordering.TheVariants.{Less, Equal, Greater}
@@ -109,7 +109,7 @@ module _ {R : Type 0} (s : Words R) (join : R → R → R) (end : Option (List �
   walk_end i waiting rows more all none m all_before =
       m ∙ (ap (λ es. rows ++ rows_within end es) (sym (merged_end join (keyed s (drop i xs)))) ∙ (ap (λ l. rows ++ walked i l) (sym none) ∙ all_before))
 
-pub past_32 : (bytes : List ℕ) → drop (min (length bytes) 32) bytes ≡ drop 32 bytes
+past_32 : (bytes : List ℕ) → drop (min (length bytes) 32) bytes ≡ drop 32 bytes
 past_32 bytes =
     elim (ltb 32 (length bytes)) as (λ b. ltb 32 (length bytes) ≡ b → drop (min (length bytes) 32) bytes ≡ drop 32 bytes) [
       | true ↦ λ e. let is : min (length bytes) 32 ≡ 32 = grind (arith, nat_tests) in rw is refl
@@ -118,3 +118,7 @@ past_32 bytes =
         let le : length bytes ≤ 32 = grind (arith, nat_tests) in
         rw (is, drop_all (length bytes) bytes (omega arith), drop_all 32 bytes le) refl
     ] refl
+
+pub without_position : (bytes key rest : List ℕ) (start : ℕ) → bytes ≡ key → start ≡ min (length bytes) 32 → rest ≡ take (length bytes - start) (drop start bytes) → rest ≡ drop 32 key
+without_position bytes key rest start same at cut_off =
+    cut_off ∙ (take_rest bytes start ∙ (ap (λ n. drop n bytes) at ∙ (past_32 bytes ∙ ap (drop 32) same)))
