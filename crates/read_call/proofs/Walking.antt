@@ -90,6 +90,10 @@ module _ {R : Type 0} where
 
 -- ---- the whole walk
 
+pub none_left : {R : Type 0} (xs : List R) → length xs ≤ 0 → xs ≡ []
+none_left [] h = refl
+none_left (x ∷ xs) h = absurd (omega (arith, h))
+
 module _ {R : Type 0} (s : Words R) (join : R → R → R) (end : Option (List ℕ)) (xs : List R) where
   abbrev pub walked : ℕ → List R → List R
   walked i waiting = rows_within end (merged key_cmp join (keyed s (drop i xs)) (keyed s (reverse waiting)))
@@ -104,7 +108,7 @@ module _ {R : Type 0} (s : Words R) (join : R → R → R) (end : Option (List �
           ap (λ l. keyed s (reverse l)) popped ∙ (ap (keyed s) (reverse-append after (y ∷ [])) ∙ ap (λ q. (q, y) ∷ keyed s (reverse after)) (sym k)) in
       next ∙ (below ∙ (ap (λ l. rows ++ rows_within end (merged key_cmp join (keyed s (drop i xs)) l)) (sym front) ∙ all_before))
 
-  -- none is left
+  -- none is waiting
   pub walk_end : (i : ℕ) (waiting rows more all : List R) → waiting ≡ [] → more ≡ rows ++ rows_within end (keyed s (drop i xs)) → rows ++ walked i waiting ≡ all → more ≡ all
   walk_end i waiting rows more all none m all_before =
       m ∙ (ap (λ es. rows ++ rows_within end es) (sym (merged_end join (keyed s (drop i xs)))) ∙ (ap (λ l. rows ++ walked i l) (sym none) ∙ all_before))

@@ -29,11 +29,11 @@ flag_words = record {
   read = read_flag;
 }
 
-spelled_of : Option Bool → Option (List ℕ)
+abbrev spelled_of : Option Bool → Option (List ℕ)
 spelled_of None = None
 spelled_of (Some r) = Some (spelled r.0)
 
-read_of : Option (List ℕ) → Option Bool
+abbrev read_of : Option (List ℕ) → Option Bool
 read_of None = None
 read_of (Some bytes) = read_flag bytes
 
