@@ -1,11 +1,10 @@
 -- What more confirmations, repeated ones and those of other nodes change.
-use Rattle.std.proofs.Common.{◌≡◌, ℕ, zero, suc, ◌<◌, ◌≤◌, ◌+◌, ◌-◌, Bool, true, false, cond, ◌&&◌, ◌||◌, ◌==◌, List, [], ◌∷◌, ◌++◌, drop, refl, sym, ap, ◌∙◌, arith}
+use Rattle.std.proofs.Common.{◌≡◌, ℕ, suc, ◌≤◌, ◌+◌, ◌-◌, Bool, true, false, cond, ◌&&◌, ◌||◌, ◌==◌, List, [], ◌∷◌, ◌++◌, drop, refl, sym, ap, ◌∙◌, arith}
 use Rattle.std.specs.Prelude.{nat_le, count_by, IsTrue, All}
 use Rattle.std.specs.List.{AllByRecursion, list_all}
 use Rattle.std.proofs.lemmas.Bool.Decides.{nat_tests}
 use Rattle.std.proofs.lemmas.List.Sums.{sum_by-cons, AllPass-from_list_all, list_all-from_AllPass}
 use Rattle.std.proofs.lemmas.List.Elements.{All-drop}
-use Rattle.std.proofs.lemmas.Grind.{common_steps}
 use Rattle.quorum_model.specs.Quorum.{is_among, two_of, is_some_set, reached}
 
 or_assoc : (a b c : Bool) → (a || (b || c)) ≡ ((a || b) || c)
@@ -33,10 +32,10 @@ count_more p q h [] = omega arith
 count_more p q h (x ∷ xs) =
     let rest = count_more p q h xs in
     rw (sum_by-cons (λ y. cond (p y) 1 0) x xs, sum_by-cons (λ y. cond (q y) 1 0) x xs)
-      (elim (p x) as (λ b. p x ≡ b → cond b 1 0 + count_by p xs ≤ cond (q x) 1 0 + count_by q xs) [
-        | true ↦ λ e. rw (h x e) (omega (arith, rest))
-        | false ↦ λ e. elim (q x) as (λ b. cond false 1 0 + count_by p xs ≤ cond b 1 0 + count_by q xs) [ true ↦ omega (arith, rest) | false ↦ omega (arith, rest) ]
-      ] refl)
+    (elim (p x) as (λ b. p x ≡ b → cond b 1 0 + count_by p xs ≤ cond (q x) 1 0 + count_by q xs) [
+      | true ↦ λ e. rw (h x e) (omega (arith, rest))
+      | false ↦ λ e. elim (q x) as (λ b. cond false 1 0 + count_by p xs ≤ cond b 1 0 + count_by q xs) [ true ↦ omega (arith, rest) | false ↦ omega (arith, rest) ]
+    ] refl)
 
 -- tests that agree on the elements count the same
 count_same : (p q : ℕ → Bool) (xs : List ℕ) → AllByRecursion (λ x. p x ≡ q x) xs → count_by p xs ≡ count_by q xs
@@ -75,7 +74,7 @@ pub reached_more : (first from : ℕ) (sets : List (List ℕ)) (nodes later : Li
 reached_more first from sets nodes later h =
     let asked = drop (from - first) sets in
     and_right (is_some_set asked) (list_all (λ set. two_of set nodes) asked) (list_all (λ set. two_of set (nodes ++ later)) asked)
-      (all_kept (λ set. two_of set nodes) (λ set. two_of set (nodes ++ later)) (λ set. two_more set nodes later) asked) h
+    (all_kept (λ set. two_of set nodes) (λ set. two_of set (nodes ++ later)) (λ set. two_more set nodes later) asked) h
 
 each_of : {X : Type 0} (P : X → Type 0) → ((x : X) → P x) → (xs : List X) → AllByRecursion P xs
 each_of P h [] = tt
@@ -110,7 +109,7 @@ among_again node m ns h =
 pub reached_again : (first from node : ℕ) (sets : List (List ℕ)) (nodes : List ℕ) → IsTrue (is_among node nodes) → reached first sets (nodes ++ node ∷ []) from ≡ reached first sets nodes from
 reached_again first from node sets nodes h =
     same_reached first from sets (nodes ++ node ∷ []) nodes
-      (each_of _ (λ set. ap (nat_le 2) (count_same _ _ set (each_of _ (λ m. among_again node m nodes h) set))) (drop (from - first) sets))
+    (each_of _ (λ set. ap (nat_le 2) (count_same _ _ set (each_of _ (λ m. among_again node m nodes h) set))) (drop (from - first) sets))
 
 or_sides : (a b : Bool) → (a || b) ≡ false → (a ≡ false) × (b ≡ false)
 or_sides true b e = cc
@@ -130,4 +129,4 @@ pub reached_stranger : (first from node : ℕ) (sets : List (List ℕ)) (nodes :
 reached_stranger first from node sets nodes h =
     let later = each_from (λ set. is_among node set ≡ false) (drop (from - first) sets) (All-drop (λ set. is_among node set ≡ false) (from - first) sets h) in
     same_reached first from sets (nodes ++ node ∷ []) nodes
-      (each_to _ (λ set. two_of set (nodes ++ node ∷ []) ≡ two_of set nodes) (λ set e. ap (nat_le 2) (count_same _ _ set (among_outside node nodes set e))) (drop (from - first) sets) later)
+    (each_to _ (λ set. two_of set (nodes ++ node ∷ []) ≡ two_of set nodes) (λ set e. ap (nat_le 2) (count_same _ _ set (among_outside node nodes set e))) (drop (from - first) sets) later)

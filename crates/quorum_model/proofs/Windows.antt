@@ -1,10 +1,10 @@
 -- The window of two answers whose rows ascend.
-use Rattle.std.proofs.Common.{◌≡◌, ℕ, suc, Bool, true, false, cond, ◌&&◌, Option, Some, None, List, [], ◌∷◌, map, refl, sym, ap, subst, ◌∙◌, arith}
+use Rattle.std.proofs.Common.{◌≡◌, ℕ, suc, Bool, true, false, cond, Option, Some, None, List, [], ◌∷◌, map, refl, sym, ap, subst, ◌∙◌, arith}
 use Rattle.std.specs.Prelude.{filter, IsTrue, All}
 use Rattle.std.specs.List.{AllByRecursion}
 use Rattle.std.specs.Cmp.{IsTotalOrder}
-use Rattle.std.specs.Ordering.{nat_cmp, is_lt}
-use Rattle.std.specs.Cmp.Lexicographic.{slice_cmp, nat_list_cmp_total}
+use Rattle.std.specs.Ordering.{is_lt}
+use Rattle.std.specs.Cmp.Lexicographic.{nat_list_cmp_total}
 use Rattle.std.specs.declared.cmp.Ordering.{Ordering}
 use Rattle.std.specs.declared.cmp.Ordering.TheVariants.{Less, Equal, Greater}
 use Rattle.crdt_core.specs.Lex.{by_order}
@@ -15,7 +15,7 @@ use Rattle.crdt_core.specs.EntryLaws.{less_is, and_parts, and_both, ascending_me
 use Rattle.table_schema.specs.Words.{Words}
 use Rattle.table_schema.specs.Laws.{Laws, Same}
 use Rattle.quorum_model.specs.declared.range.RangeAnswer.{RangeAnswer}
-use Rattle.quorum_model.specs.Window.{key_cmp, keyed, is_within, rows_within, end_of, both_rows, window, row_under, IsAscending, AreObjects}
+use Rattle.quorum_model.specs.Window.{key_cmp, keyed, is_within, end_of, both_rows, window, row_under, IsAscending, AreObjects}
 
 -- ---- entries that a test on their keys lets pass
 
@@ -33,7 +33,6 @@ module _ {K V : Type 0} {R : K → K → Ordering} (o : IsTotalOrder R) where
   none_below q (e ∷ es) h = rw (less_is (R q e.0) h) refl
 
   module _ (p : K → Bool) where
-
     passing_below : (k : K) (es : List (K × V)) → is_below R k es ≡ true → is_ascending R es ≡ true → is_below R k (filter (λ e. p e.0) es) ≡ true
     passing_below k [] h a = refl
     passing_below k (e ∷ es) h a =
@@ -66,10 +65,10 @@ module _ {K V : Type 0} {R : K → K → Ordering} (o : IsTotalOrder R) where
           let parts = and_parts (is_below R e.0 es) (is_ascending R es) a in
           let later : value_at R q (filter (λ x. p x.0) es) ≡ None = none_below q (filter (λ x. p x.0) es) (passing_below q es (level q e.0 es c parts.0) parts.1) in
           subst (λ k. value_at R q (filter (λ x. p x.0) (e ∷ es)) ≡ cond (p k) (Some e.1) None) (sym (same q e.0 c))
-            (elim (p e.0) as (λ t. value_at R q (cond t (e ∷ filter (λ x. p x.0) es) (filter (λ x. p x.0) es)) ≡ cond t (Some e.1) None) [
-              | true ↦ rw c refl
-              | false ↦ later
-            ])
+          (elim (p e.0) as (λ t. value_at R q (cond t (e ∷ filter (λ x. p x.0) es) (filter (λ x. p x.0) es)) ≡ cond t (Some e.1) None) [
+            | true ↦ rw c refl
+            | false ↦ later
+          ])
       value_by q e es a rest Greater c =
           elim (p e.0) as (λ t. value_at R q (cond t (e ∷ filter (λ x. p x.0) es) (filter (λ x. p x.0) es)) ≡ cond (p q) (value_at R q es) None) [
             | true ↦ rw c rest
@@ -117,9 +116,10 @@ module _ {R : Type 0} (join : R → R → R) (s : Words R) (laws : Laws join s) 
 
   keyed_fits : (rows : List R) → All (λ r. IsTrue (s.is_proper r)) rows → All (λ r. s.table r ≡ 1) rows → AllByRecursion Fits (keyed s rows)
   keyed_fits [] p t = tt
-  keyed_fits (r ∷ rs) p t =
-      (record { key = refl; proper = p 0 r (omega arith); table = t 0 r (omega arith) },
-      keyed_fits rs (λ k d lt. p (suc k) d (omega (arith, lt))) (λ k d lt. t (suc k) d (omega (arith, lt))))
+  keyed_fits (r ∷ rs) p t = (
+    record { key = refl; proper = p 0 r (omega arith); table = t 0 r (omega arith) },
+    keyed_fits rs (λ k d lt. p (suc k) d (omega (arith, lt))) (λ k d lt. t (suc k) d (omega (arith, lt))),
+  )
 
   passing_fits : (test : List ℕ → Bool) (es : List (List ℕ × R)) → AllByRecursion Fits es → AllByRecursion Fits (filter (λ e. test e.0) es)
   passing_fits test [] h = tt
@@ -140,7 +140,7 @@ module _ {R : Type 0} (join : R → R → R) (s : Words R) (laws : Laws join s) 
     window_keyed : keyed s (window join s two).rows ≡ filter (λ e. is_within (end_of s two) e.0) (both_rows join s two)
     window_keyed =
         keyed_again _ (passing_fits (is_within (end_of s two)) (both_rows join s two)
-          (merged_fits (keyed s two.0.rows) (keyed s two.1.rows) (keyed_fits two.0.rows a.proper a.table) (keyed_fits two.1.rows b.proper b.table)))
+        (merged_fits (keyed s two.0.rows) (keyed s two.1.rows) (keyed_fits two.0.rows a.proper a.table) (keyed_fits two.1.rows b.proper b.table)))
 
     pub window_ascends : IsAscending s (window join s two).rows
     window_ascends = ap (is_ascending key_cmp) window_keyed ∙ passing_ascends nat_list_cmp_total (is_within (end_of s two)) (both_rows join s two) ascends

@@ -136,7 +136,7 @@ fn push_below<S: Schema>(
         let row = &first[count];
         let own = S::key(alloc, row)?;
         match own.cmp(key) {
-            Ordering::Less => push_copy(rows, end, &own, row)?,
+            Ordering::Less => push_copy::<S>(rows, end, &own, row)?,
             Ordering::Equal => return Ok(Passed { count, is_met: true }),
             Ordering::Greater => return Ok(Passed { count, is_met: false }),
         }
@@ -190,17 +190,17 @@ fn push_rest<S: Schema>(
 {
     for row in rest {
         let key = S::key(alloc, row)?;
-        push_copy(rows, end, &key, row)?;
+        push_copy::<S>(rows, end, &key, row)?;
     }
     Ok(())
 }
 
 // Adds a copy of a row, where its key is within the end.
-fn push_copy<R: Crdt>(
-    rows: &mut Vec<R>,
+fn push_copy<S: Schema>(
+    rows: &mut Vec<S::Row>,
     end: &Option<Bytes>,
     key: &Bytes,
-    row: &R,
+    row: &S::Row,
 ) -> Result<(), Memory>
     ensures copied { OnOk result (rows.new.items ≡ rows.old.items ++ rows_within end.now ((key.now, row.now) ∷ [])) }
     ensures want { IfErr result (λ e. e ≡ Want) }

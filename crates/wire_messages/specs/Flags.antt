@@ -50,6 +50,6 @@ spelled_read (n ∷ m ∷ ms) r e = cc
 
 pub flags_read_back : (r : Bool) (bytes : List ℕ) → (read_flag bytes ≡ Some r) ↔ (Some (spelled r.0) ≡ Some bytes)
 flags_read_back r bytes = (
-    (λ e. sym (ap spelled_of e) ∙ spelled_read bytes r e),
-    (λ e. sym (ap read_of e) ∙ read_spelled r.0)
-  )
+  (λ e. sym (ap spelled_of e) ∙ spelled_read bytes r e),
+  (λ e. sym (ap read_of e) ∙ read_spelled r.0),
+)

@@ -76,5 +76,8 @@ pub enum Message<R> {
         bytes: Bytes,
     },
     /// Answers that the node hasn't the block.
-    NoBlock { request: u64, phase: u32 },
+    NoBlock {
+        request: u64,
+        phase: u32,
+    },
 }

@@ -19,9 +19,13 @@ pub enum Phase<R> {
         after: Bytes,
     },
     /// Asks the nodes of each row's position to store it, with the block that it needs, if any. One row or two.
-    Store { rows: List<(R, Option<Bytes>)> },
+    Store {
+        rows: List<(R, Option<Bytes>)>,
+    },
     /// Asks the three nodes of a hash for its block.
-    Block { hash: Hash32 },
+    Block {
+        hash: Hash32,
+    },
 }
 
 /// How a phase ended.

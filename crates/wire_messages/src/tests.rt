@@ -77,11 +77,50 @@ fn sixty_four_and_what_is_carried(rt: HostRuntime) -> Result<(), Fail> {
     stored.push((key(alloc, 6)?, Some(key(alloc, 20)?)))?;
     let tag = Tag::Item { number: 1 };
     for (message, bytes) in [
-        (Message::Get { request, phase, at, table: 1, key: key(alloc, 33)? }, 97),
-        (Message::Row { request, phase, row: None }, 64),
-        (Message::Row { request, phase, row: Some(Bool(true)) }, 65),
-        (Message::Rows { request, phase, rows, more: true }, 66),
-        (Message::Store { tag, newest: 1, p: 0, rows: stored }, 95),
+        (
+            Message::Get {
+                request,
+                phase,
+                at,
+                table: 1,
+                key: key(alloc, 33)?,
+            },
+            97,
+        ),
+        (
+            Message::Row {
+                request,
+                phase,
+                row: None,
+            },
+            64,
+        ),
+        (
+            Message::Row {
+                request,
+                phase,
+                row: Some(Bool(true)),
+            },
+            65,
+        ),
+        (
+            Message::Rows {
+                request,
+                phase,
+                rows,
+                more: true,
+            },
+            66,
+        ),
+        (
+            Message::Store {
+                tag,
+                newest: 1,
+                p: 0,
+                rows: stored,
+            },
+            95,
+        ),
         (Message::Stored(tag), 64),
     ] {
         assert_eq!(rt; size::<Flags>(alloc, &message)?, bytes);
