@@ -1,6 +1,6 @@
 -- What one more answer does to a call.
 use Rattle.std.proofs.Common.{◌≡◌, ◌≢◌, ℕ, Bool, true, false, cond, ◌||◌, ◌==◌, Option, Some, None, List, [], ◌∷◌, ◌++◌, refl, sym, ap, ◌∙◌, append-nil, subst, arith, eq-eqb}
-use Rattle.std.specs.Prelude.{is_some, option_map, if◌then◌else◌, IsTrue, filter}
+use Rattle.std.specs.Prelude.{is_some, option_map, if◌then◌else◌}
 use Rattle.std.specs.List.{list_any}
 use Rattle.std.specs.Option.{option_or}
 use Rattle.std.proofs.lemmas.List.Elements.{filter-append}
@@ -74,11 +74,13 @@ module _ {A : Type 0} where
     -- one of the nodes answers
     heard_by : (p : Progress A) → Waits asked p nodes answers → is_among a.0 asked ≡ true → After (next p a) (two p a)
     heard_by p s e =
-        let is : is_among a.0 nodes ≡ true = ap (is_among a.0) (sym s.same_nodes) ∙ e in
-        (record {
-          same_nodes = s.same_nodes;
-          so_far = ap (λ q. next q a) s.so_far ∙ sym (ap progress_of (heard_one nodes answers a true is) ∙ progress_snoc (heard nodes answers) a);
-        }, ap (λ q. two q a) s.so_far ∙ sym (ap (λ h. if is_some (first_two (heard nodes answers)) then None else first_two h) (heard_one nodes answers a true is) ∙ two_snoc (heard nodes answers) a))
+        let is : is_among a.0 nodes ≡ true = ap (is_among a.0) (sym s.same_nodes) ∙ e in (
+          record {
+            same_nodes = s.same_nodes;
+            so_far = ap (λ q. next q a) s.so_far ∙ sym (ap progress_of (heard_one nodes answers a true is) ∙ progress_snoc (heard nodes answers) a);
+          },
+          ap (λ q. two q a) s.so_far ∙ sym (ap (λ h. if is_some (first_two (heard nodes answers)) then None else first_two h) (heard_one nodes answers a true is) ∙ two_snoc (heard nodes answers) a),
+        )
 
     pub first_heard : (p : Progress A) → Asked ≡ p → Waits asked p nodes answers → is_among a.0 asked ≡ true → After (Answered a.0 a.1) None
     first_heard p at s e = heard_by Asked (subst (λ q. Waits asked q nodes answers) (sym at) s) e
@@ -101,6 +103,7 @@ module _ {A : Type 0} where
     pub none_heard : (p : Progress A) → Waits asked p nodes answers → is_among a.0 asked ≡ false → After p None
     none_heard p s e =
         let is : is_among a.0 nodes ≡ false = ap (is_among a.0) (sym s.same_nodes) ∙ e in
-        let still = heard_one nodes answers a false is ∙ append-nil (heard nodes answers) in
-        (record { same_nodes = s.same_nodes; so_far = s.so_far ∙ sym (ap progress_of still) },
-        sym (ap (λ h. if is_some (first_two (heard nodes answers)) then None else first_two h) still ∙ nothing_new (first_two (heard nodes answers))))
+        let still = heard_one nodes answers a false is ∙ append-nil (heard nodes answers) in (
+          record { same_nodes = s.same_nodes; so_far = s.so_far ∙ sym (ap progress_of still) },
+          sym (ap (λ h. if is_some (first_two (heard nodes answers)) then None else first_two h) still ∙ nothing_new (first_two (heard nodes answers))),
+        )

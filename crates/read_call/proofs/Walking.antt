@@ -1,9 +1,8 @@
 -- One step of the walk over two answers.
-use Rattle.std.proofs.Common.{◌≡◌, ℕ, zero, suc, ◌+◌, ◌<◌, ◌≤◌, min, Bool, true, false, cond, Option, Some, None, List, [], ◌∷◌, ◌++◌, ◌-◌, map, take, length, get_or, drop, reverse, refl, sym, ap, ◌∙◌, append_assoc, append-nil, add-one, drop-cons, ltb, arith}
+use Rattle.std.proofs.Common.{◌≡◌, ℕ, suc, ◌+◌, ◌<◌, ◌≤◌, min, Bool, true, false, cond, Option, List, [], ◌∷◌, ◌++◌, ◌-◌, map, take, length, get_or, drop, reverse, refl, sym, ap, ◌∙◌, append_assoc, append-nil, add-one, drop-cons, ltb, arith}
 use Rattle.std.specs.Prelude.{filter}
 use Rattle.std.proofs.lemmas.Bool.Decides.{nat_tests}
 use Rattle.std.proofs.lemmas.List.{drop_all, take_rest, reverse-append}
-use Rattle.std.specs.Ordering.{nat_cmp}
 use Rattle.std.specs.declared.cmp.Ordering.{Ordering}
 use Rattle.std.specs.declared.cmp.Ordering.TheVariants.{Less, Equal, Greater}
 use Rattle.crdt_core.specs.Lex.{by_order}
@@ -63,7 +62,7 @@ module _ {R : Type 0} where
         pub next_equal : key_cmp (s.key x) key ≡ Equal → merged key_cmp join (keyed s (drop i xs)) ((key, y) ∷ ys) ≡ from_next join s true (drop i xs) key y ys
         next_equal e =
             rw (cut xs i x lt is) (merged_cons x y (drop (suc i) xs) key ys Equal e
-              ∙ ap (λ k. (k, join x y) ∷ merged key_cmp join (keyed s (drop (suc i) xs)) ys) (slice_identical nat_identical (s.key x) key e))
+            ∙ ap (λ k. (k, join x y) ∷ merged key_cmp join (keyed s (drop (suc i) xs)) ys) (slice_identical nat_identical (s.key x) key e))
 
         pub next_above : key_cmp (s.key x) key ≡ Greater → merged key_cmp join (keyed s (drop i xs)) ((key, y) ∷ ys) ≡ from_next join s false (drop i xs) key y ys
         next_above e = rw (cut xs i x lt is) (merged_cons x y (drop (suc i) xs) key ys Greater e)
@@ -105,7 +104,7 @@ module _ {R : Type 0} (s : Words R) (join : R → R → R) (end : Option (List �
       rows ++ walked i before ≡ all → more ++ walked j after ≡ all
   walk_step i j b count before after y key rows passed more all popped k below next all_before =
       let front : keyed s (reverse before) ≡ (key, y) ∷ keyed s (reverse after) =
-          ap (λ l. keyed s (reverse l)) popped ∙ (ap (keyed s) (reverse-append after (y ∷ [])) ∙ ap (λ q. (q, y) ∷ keyed s (reverse after)) (sym k)) in
+      ap (λ l. keyed s (reverse l)) popped ∙ (ap (keyed s) (reverse-append after (y ∷ [])) ∙ ap (λ q. (q, y) ∷ keyed s (reverse after)) (sym k)) in
       next ∙ (below ∙ (ap (λ l. rows ++ rows_within end (merged key_cmp join (keyed s (drop i xs)) l)) (sym front) ∙ all_before))
 
   -- none is waiting
@@ -118,9 +117,9 @@ past_32 bytes =
     elim (ltb 32 (length bytes)) as (λ b. ltb 32 (length bytes) ≡ b → drop (min (length bytes) 32) bytes ≡ drop 32 bytes) [
       | true ↦ λ e. let is : min (length bytes) 32 ≡ 32 = grind (arith, nat_tests) in rw is refl
       | false ↦ λ e.
-        let is : min (length bytes) 32 ≡ length bytes = grind (arith, nat_tests) in
-        let le : length bytes ≤ 32 = grind (arith, nat_tests) in
-        rw (is, drop_all (length bytes) bytes (omega arith), drop_all 32 bytes le) refl
+          let is : min (length bytes) 32 ≡ length bytes = grind (arith, nat_tests) in
+          let le : length bytes ≤ 32 = grind (arith, nat_tests) in
+          rw (is, drop_all (length bytes) bytes (omega arith), drop_all 32 bytes le) refl
     ] refl
 
 pub without_position : (bytes key rest : List ℕ) (start : ℕ) → bytes ≡ key → start ≡ min (length bytes) 32 → rest ≡ take (length bytes - start) (drop start bytes) → rest ≡ drop 32 key

@@ -1,7 +1,6 @@
 -- What a call stands for: the nodes that it asks, and all answers so far, in order.
 use Rattle.std.specs.Prelude.{◌≡◌, ℕ, Option, List}
 use Rattle.std.specs.declared.vec.Vec.{Vec}
-use Rattle.table_schema.specs.Words.{Words}
 use Rattle.quorum_model.specs.declared.range.RangeAnswer.{RangeAnswer}
 use Rattle.quorum_model.specs.Answers.{heard}
 use Rattle.quorum_model.specs.Window.{Window}

@@ -29,10 +29,7 @@ pub fn window<S: Schema>(
     Ok((rows, end))
 }
 
-fn shown_to<S: Schema>(
-    alloc: Global,
-    answer: &RangeAnswer<S::Row>,
-) -> Result<Option<Bytes>, Memory>
+fn shown_to<S: Schema>(alloc: Global, answer: &RangeAnswer<S::Row>) -> Result<Option<Bytes>, Memory>
     ensures is { IfOk result (λ key. key ≡ shown_to S.words answer.now) }
     ensures want { IfErr result (λ e. e ≡ Want) }
 {
@@ -137,12 +134,21 @@ fn push_below<S: Schema>(
         let own = S::key(alloc, row)?;
         match own.cmp(key) {
             Ordering::Less => push_copy::<S>(rows, end, &own, row)?,
-            Ordering::Equal => return Ok(Passed { count, is_met: true }),
-            Ordering::Greater => return Ok(Passed { count, is_met: false }),
+            Ordering::Equal => return Ok(Passed {
+                count,
+                is_met: true,
+            }),
+            Ordering::Greater => return Ok(Passed {
+                count,
+                is_met: false,
+            }),
         }
         count += 1;
     }
-    Ok(Passed { count, is_met: false })
+    Ok(Passed {
+        count,
+        is_met: false,
+    })
 }
 
 // Adds a row of the second answer, merged with that of the first answer that has its key: how many of the first are

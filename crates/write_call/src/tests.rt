@@ -20,8 +20,16 @@ fn kept_when_both_slots_are(rt: HostRuntime) -> Result<(), Fail> {
         (1, 1, false, true),
         (0, 1, true, true),
     ] {
-        assert_eq!(rt; call.confirm(slot, node, 5), from_5, "from 5 after {node} at {slot}");
-        assert_eq!(rt; call.confirm(slot, node, 6), from_6, "from 6 after {node} at {slot}");
+        assert_eq!(rt;
+            call.confirm(slot, node, 5),
+            from_5,
+            "from 5 after {node} at {slot}"
+        );
+        assert_eq!(rt;
+            call.confirm(slot, node, 6),
+            from_6,
+            "from 6 after {node} at {slot}"
+        );
     }
     Ok(())
 }

@@ -11,4 +11,4 @@ returns-in-true-false-clause-next g c s end key ys e =
     let rows = c.args.rows.now.items in
     let n = c.args.passed.count in
     subst (λ b. rows ++ rows_within end (merged key_cmp g.R.Crdt.join (keyed s (drop (n + 1) xs)) ys) ≡ rows ++ rows_within end (from_next g.R.Crdt.join s b (drop n xs) key c.args.row ys)) (sym c.in-true-false.is-0)
-      (met_left s g.R.Crdt.join end key c.args.row ys xs n rows (c.requires.met c.in-true-false.is-0) (sym c.in-true-false.is-1 ∙ e))
+    (met_left s g.R.Crdt.join end key c.args.row ys xs n rows (c.requires.met c.in-true-false.is-0) (sym c.in-true-false.is-1 ∙ e))

@@ -1,6 +1,3 @@
-use Rattle.std.proofs.Common.{◌≡◌, sym, ◌∙◌, ap, append_assoc, append-nil, ◌++◌, ◌∷◌, []}
-use Rattle.std.proofs.lemmas.List.{drop_all}
-use Rattle.quorum_model.specs.Window.{rows_within, keyed}
 use Rattle.read_call.proofs.Walking.{rest_step, rest_end}
 use Rattle.read_call.proofs.window.push_rest.Goals as goal
 

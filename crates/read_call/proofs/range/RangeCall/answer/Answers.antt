@@ -1,6 +1,5 @@
-use Rattle.std.proofs.Common.{◌≡◌, true, false, Some, ap, sym, subst, ◌∙◌, ◌++◌, [], ◌∷◌}
+use Rattle.std.proofs.Common.{Some, ap, sym, subst, ◌∙◌, ◌++◌, [], ◌∷◌}
 use Rattle.std.specs.Prelude.{option_map}
-use Rattle.quorum_model.specs.Quorum.{is_among}
 use Rattle.quorum_model.specs.Window.{window}
 use Rattle.read_call.specs.declared.progress.Progress.TheVariants.{Answered}
 use Rattle.read_call.specs.Stands.{Waits}
@@ -24,7 +23,7 @@ pub returns-in-Asked-clause-window : goal.returns-in-Asked-clause-window
 returns-in-Asked-clause-window g c nodes answers s = ap (option_map (window g.S.Row.Crdt.join g.S.Schema.words)) (first_heard c.args.self.now.nodes nodes answers (c.args.node, record { rows = c.args.rows.items; more = c.args.more }) c.args.self.now.progress c.in-Asked.ensures.value s (sym c.is_asked.ensures ∙ c.if-not-is_asked.false)).1
 
 pub returns-in-Asked-clause-stands : goal.returns-in-Asked-clause-stands
-returns-in-Asked-clause-stands g c nodes answers s = 
+returns-in-Asked-clause-stands g c nodes answers s =
     subst (λ r. Waits c.args.self.now.nodes (Answered c.args.node (record { rows = r; more = c.args.more })) nodes (answers ++ (c.args.node, record { rows = c.args.rows.items; more = c.args.more }) ∷ [])) (sym c.from_vec.ensures) (first_heard c.args.self.now.nodes nodes answers (c.args.node, record { rows = c.args.rows.items; more = c.args.more }) c.args.self.now.progress c.in-Asked.ensures.value s (sym c.is_asked.ensures ∙ c.if-not-is_asked.false)).0
 
 pub returns-then-first-node-clause-window : goal.returns-then-first-node-clause-window

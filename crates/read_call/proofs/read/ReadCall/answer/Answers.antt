@@ -1,6 +1,5 @@
-use Rattle.std.proofs.Common.{◌≡◌, true, false, Some, ap, sym, subst, ◌∙◌, ◌++◌, [], ◌∷◌}
+use Rattle.std.proofs.Common.{Some, ap, sym, subst, ◌∙◌, ◌++◌, [], ◌∷◌}
 use Rattle.std.specs.Prelude.{option_map}
-use Rattle.quorum_model.specs.Quorum.{is_among}
 use Rattle.quorum_model.specs.Answers.{merged}
 use Rattle.read_call.specs.Stands.{Waits}
 use Rattle.read_call.proofs.Hearing.{first_heard, again_heard, second_heard, later_heard, none_heard}
