@@ -13,7 +13,7 @@ pub record Plan : Type 0 where
 abbrev pub plan_reading : Reading Plan
 plan_reading = record { version = λ l. l.version; members = λ l. l.members; sets = λ l. l.sets }
 
--- two partitions; version 2 has node 4 in place of node 1
+-- two partitions; the second version has node 4 in place of node 1
 abbrev pub first_plan : Plan
 first_plan = record { version = 1; members = 1 ∷ 2 ∷ 3 ∷ []; sets = (1 ∷ 2 ∷ 3 ∷ []) ∷ (1 ∷ 2 ∷ 3 ∷ []) ∷ [] }
 
@@ -27,21 +27,41 @@ is_first n = leb 1 n && leb n 3
 abbrev pub tells : ℕ → ℕ → List (Step Plan)
 tells n k = Step.Gossip n ∷ Step.Deliver 1 k ∷ Step.Deliver 2 k ∷ Step.Deliver 3 k ∷ Step.Deliver 4 k ∷ []
 
+-- a request begins at node 2, and node 1 applies version 2
+abbrev pub applied : List (Step Plan)
+applied = Step.Install is_first first_plan ∷ Step.Begin 2 ∷ Step.Apply 1 second_plan ∷ tells 1 0
+
+-- each node raises its ack and tells it
+abbrev pub acks : List (Step Plan)
+acks = Step.RaiseAck 1 ∷ Step.RaiseAck 2 ∷ Step.RaiseAck 3 ∷ Step.RaiseAck 4 ∷ (tells 1 1 ++ (tells 2 2 ++ (tells 3 3 ++ tells 4 4)))
+
+-- the same once the request has ended
+abbrev pub acknowledged : List (Step Plan)
+acknowledged = Step.End 2 1 ∷ acks
+
+-- three nodes of version 1 begin rounds, and two complete them
+abbrev pub synchronized : List (Step Plan)
+synchronized = Step.BeginRound 1 ∷ Step.BeginRound 2 ∷ Step.BeginRound 3 ∷ Step.Complete 1 ∷ Step.Complete 3 ∷ (tells 1 5 ++ tells 3 6)
+
+-- each node acknowledges that it reads version 2, and node 2 cleans
+abbrev pub cleaned_up : List (Step Plan)
+cleaned_up = Step.RaiseSyncAck 1 ∷ Step.RaiseSyncAck 2 ∷ Step.RaiseSyncAck 3 ∷ Step.RaiseSyncAck 4 ∷ (tells 1 7 ++ (tells 2 8 ++ (tells 3 9 ++ (tells 4 10 ++ (Step.Clean 2 ∷ Step.Begin 4 ∷ [])))))
+
 abbrev pub goes_on : World Plan → List (Step Plan) → World Plan
 goes_on w steps = run plan_reading 2 w steps
 
--- a request begins at node 2, and node 1 applies version 2
-abbrev pub applied : World Plan
-applied = goes_on empty (Step.Install is_first first_plan ∷ Step.Begin 2 ∷ Step.Apply 1 second_plan ∷ tells 1 0)
+abbrev pub after_apply : World Plan
+after_apply = goes_on empty applied
 
--- each node raises its ack and tells it, and node 1 tries a round
+-- the request is still in flight, and node 1 tries a round
 abbrev pub held_back : World Plan
-held_back = goes_on applied (Step.RaiseAck 1 ∷ Step.RaiseAck 2 ∷ Step.RaiseAck 3 ∷ Step.RaiseAck 4 ∷ (tells 1 1 ++ (tells 2 2 ++ (tells 3 3 ++ (tells 4 4 ++ (Step.BeginRound 1 ∷ []))))))
+held_back = goes_on after_apply (acks ++ (Step.BeginRound 1 ∷ []))
 
--- the request ends, and two nodes of version 1 push their rows
-abbrev pub synchronized : World Plan
-synchronized = goes_on held_back (Step.End 2 1 ∷ Step.RaiseAck 2 ∷ (tells 2 5 ++ (Step.BeginRound 1 ∷ Step.BeginRound 3 ∷ Step.Complete 1 ∷ Step.Complete 3 ∷ (tells 1 6 ++ tells 3 7))))
+abbrev pub before_reading : World Plan
+before_reading = goes_on after_apply acknowledged
 
--- each node acknowledges that it reads version 2, and node 2 cleans
-abbrev pub cleaned_up : World Plan
-cleaned_up = goes_on synchronized (Step.RaiseSyncAck 1 ∷ Step.RaiseSyncAck 2 ∷ Step.RaiseSyncAck 3 ∷ Step.RaiseSyncAck 4 ∷ (tells 1 8 ++ (tells 2 9 ++ (tells 3 10 ++ (tells 4 11 ++ (Step.Clean 2 ∷ []))))))
+abbrev pub after_reading : World Plan
+after_reading = goes_on before_reading synchronized
+
+abbrev pub after_cleaning : World Plan
+after_cleaning = goes_on after_reading cleaned_up
