@@ -1,0 +1,4 @@
+pub mod Below
+pub mod Decided
+pub mod Places
+pub mod Tests
