@@ -24,12 +24,12 @@ began_there h i q node kind b bucket k key is eb ek = (node, is ∙ (λ t. Some 
 module _ (h : List Record) (bucket key : List ℕ) where
   abbrev DeletesAs : Version → ℕ → ℕ → Kind → List ℕ → List ℕ → Type 0
   DeletesAs w place q kind b k =
-      (is_delete kind ≡ true) × ((b ≡ bucket) × ((k ≡ key) × ((a : ℕ × Version) → acknowledged h place q ≡ Some a → ¬ Below a.1 w)))
+      (is_delete kind ≡ true) × ((k ≡ key) × ((b ≡ bucket) × ((a : ℕ × Version) → acknowledged h place q ≡ Some a → ¬ Below a.1 w)))
 
   deletes_at-Decides : (w : Version) (place : ℕ) → Decides (deletes_at h bucket key w place) (Begun (slice_get h place) (DeletesAs w place))
   deletes_at-Decides w place =
       begins-Decides _ (DeletesAs w place)
-      (λ q kind b k. Decides-and _ _ (Decides-itself (is_delete kind)) (Decides-and _ _ (bytes_eq-Decides b bucket) (Decides-and _ _ (bytes_eq-Decides k key)
+      (λ q kind b k. Decides-and _ _ (Decides-itself (is_delete kind)) (Decides-and _ _ (bytes_eq-Decides k key) (Decides-and _ _ (bytes_eq-Decides b bucket)
           (is_none_or-Decides _ (λ a. ¬ Below a.1 w) (λ a. Decides-not _ (is_below-Decides a.1 w)) (acknowledged h place q)))))
       (slice_get h place)
 
@@ -41,7 +41,7 @@ module _ (h : List Record) (bucket key : List ℕ) where
         kind = b.kind;
         place = place;
         deletes = b.holds.0;
-        began = began_there h place b.request b.node b.kind b.bucket bucket b.key key b.is b.holds.1.0 b.holds.1.1.0;
+        began = began_there h place b.request b.node b.kind b.bucket bucket b.key key b.is b.holds.1.1.0 b.holds.1.0;
         before = lt;
         not_below = λ end v e. b.holds.1.1.1 (end, v) e;
       })
@@ -58,12 +58,12 @@ module _ (h : List Record) (bucket key : List ℕ) where
 
   abbrev WritesAs : Version → ℕ → ℕ → Kind → List ℕ → List ℕ → Type 0
   WritesAs v place q kind b k =
-      (q ≡ v.id) × ((is_source kind ≡ true) × ((b ≡ bucket) × ((k ≡ key) × ((a : ℕ × Version) → acknowledged h place q ≡ Some a → a.1 ≡ v))))
+      (q ≡ v.id) × ((is_source kind ≡ true) × ((k ≡ key) × ((b ≡ bucket) × ((a : ℕ × Version) → acknowledged h place q ≡ Some a → a.1 ≡ v))))
 
   writes_at-Decides : (v : Version) (place : ℕ) → Decides (writes_at h bucket key v place) (Begun (slice_get h place) (WritesAs v place))
   writes_at-Decides v place =
       begins-Decides _ (WritesAs v place)
-      (λ q kind b k. Decides-and _ _ (Decides-eqb q v.id) (Decides-and _ _ (Decides-itself (is_source kind)) (Decides-and _ _ (bytes_eq-Decides b bucket) (Decides-and _ _ (bytes_eq-Decides k key)
+      (λ q kind b k. Decides-and _ _ (Decides-eqb q v.id) (Decides-and _ _ (Decides-itself (is_source kind)) (Decides-and _ _ (bytes_eq-Decides k key) (Decides-and _ _ (bytes_eq-Decides b bucket)
           (is_none_or-Decides _ (λ a. a.1 ≡ v) (λ a. same_version-Decides a.1 v) (acknowledged h place q))))))
       (slice_get h place)
 
@@ -87,7 +87,7 @@ module _ (h : List Record) (bucket key : List ℕ) where
         kind = b.kind;
         place = place;
         writes = b.holds.1.0;
-        began = (b.node, b.is ∙ (λ t. Some (Began (b.holds.0 t) b.node b.kind (b.holds.1.1.0 t) (b.holds.1.1.1.0 t))));
+        began = (b.node, b.is ∙ (λ t. Some (Began (b.holds.0 t) b.node b.kind (b.holds.1.1.1.0 t) (b.holds.1.1.0 t))));
         before = lt;
         no_other = λ end other e. b.holds.1.1.1.1 (end, other) (ap (acknowledged h place) b.holds.0 ∙ e);
       }
@@ -131,13 +131,13 @@ module _ (h : List Record) (i j : ℕ) (kind : Kind) (bucket own : List ℕ) (an
   -- a write that it doesn't cover
   abbrev UncoveredAs : ℕ → ℕ → Kind → List ℕ → List ℕ → Type 0
   UncoveredAs place q other b key =
-      (is_write other ≡ true) × ((b ≡ bucket) × ((names kind own key ≡ true)
+      (is_write other ≡ true) × ((names kind own key ≡ true) × ((b ≡ bucket)
           × ((a : ℕ × Version) × (acknowledged h place q ≡ Some a) × ((a.0 < i) × ¬ Covers h j bucket own answer key a.1))))
 
   covers_at-Decides : (place : ℕ) → Decides (covers_at h i j kind bucket own answer place) (¬ Begun (slice_get h place) (UncoveredAs place))
   covers_at-Decides place =
       Decides-not _ (begins-Decides _ (UncoveredAs place)
-      (λ q other b key. Decides-and _ _ (Decides-itself (is_write other)) (Decides-and _ _ (bytes_eq-Decides b bucket) (Decides-and _ _ (Decides-itself (names kind own key))
+      (λ q other b key. Decides-and _ _ (Decides-itself (is_write other)) (Decides-and _ _ (Decides-itself (names kind own key)) (Decides-and _ _ (bytes_eq-Decides b bucket)
           (is_some_with-Decides _ (λ a. (a.0 < i) × ¬ Covers h j bucket own answer key a.1)
               (λ a. Decides-and _ _ (Decides-ltb a.0 i) (Decides-not _ (covers-Decides h bucket key own answer j a.1))) (acknowledged h place q)))))
       (slice_get h place))
@@ -146,7 +146,7 @@ module _ (h : List Record) (i j : ℕ) (kind : Kind) (bucket own : List ℕ) (an
   covers_all-Decides =
       Decides-like _
       (λ all key w named a. passes _ (covers-Decides h bucket key own answer j w) (λ not_covered. all a.place (placed a) (uncovered a named not_covered)))
-      (λ owed place lt b. let x = b.holds in x.1.1.1.2.1 (owed b.key x.1.1.1.0.1 x.1.1.0 (acked place b)))
+      (λ owed place lt b. let x = b.holds in x.1.1.1.2.1 (owed b.key x.1.1.1.0.1 x.1.0 (acked place b)))
       (all_below-Decides (covers_at h i j kind bucket own answer) (λ place. ¬ Begun (slice_get h place) (UncoveredAs place)) covers_at-Decides i)
     where
       placed : {key : List ℕ} {w : Version} (a : IsAcknowledged h i bucket key w) → a.place < i
@@ -160,7 +160,7 @@ module _ (h : List Record) (i j : ℕ) (kind : Kind) (bucket own : List ℕ) (an
         bucket = bucket;
         key = key;
         is = a.began.1;
-        holds = (a.writes, (refl, (named, ((a.end, w), a.finished, (a.before, not_covered)))));
+        holds = (a.writes, (named, (refl, ((a.end, w), a.finished, (a.before, not_covered)))));
       }
 
       acked : (place : ℕ) (b : Begun (slice_get h place) (UncoveredAs place)) → IsAcknowledged h i bucket b.key b.holds.1.1.1.0.1
@@ -170,7 +170,7 @@ module _ (h : List Record) (i j : ℕ) (kind : Kind) (bucket own : List ℕ) (an
         place = place;
         end = b.holds.1.1.1.0.0;
         writes = b.holds.0;
-        began = began_there h place b.request b.node b.kind b.bucket bucket b.key b.key b.is b.holds.1.0 refl;
+        began = began_there h place b.request b.node b.kind b.bucket bucket b.key b.key b.is b.holds.1.1.0 refl;
         finished = b.holds.1.1.1.1;
         before = b.holds.1.1.1.2.0;
       }

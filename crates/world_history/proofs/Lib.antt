@@ -1,4 +1,5 @@
 pub mod Below
+pub mod Counts
 pub mod Decided
 pub mod Places
 pub mod Tests

@@ -1,5 +1,6 @@
--- The tests of which `fresh` consists. Each decides the sentence of `Fresh` that it is named for.
-use Rattle.std.specs.Prelude.{ℕ, zero, suc, nat_eq, nat_lt, Bool, true, false, not, ◌&&◌, ◌||◌, Option, Some, None, List, slice_get}
+-- The tests of which `fresh` consists, each of which decides the sentence of `Fresh` that it is named for, and
+-- what `pairs` adds up.
+use Rattle.std.specs.Prelude.{ℕ, zero, suc, nat_eq, nat_lt, Bool, true, false, not, ◌&&◌, ◌||◌, if◌then◌else◌, Option, Some, None, is_some, List, slice_get}
 use Rattle.std.specs.List.{list_any, list_all}
 use Rattle.std.specs.Ordering.{is_lt}
 use Rattle.crdt_rows.specs.declared.version.Version.{Version}
@@ -7,7 +8,9 @@ use Rattle.crdt_rows.specs.Version.{version_cmp}
 use Rattle.world_history.specs.declared.record.Kind.{Kind}
 use Rattle.world_history.specs.declared.record.Answer.{Answer}
 use Rattle.world_history.specs.declared.record.Record.{Record}
+use Rattle.world_history.specs.declared.record.Record.TheVariants.{Began, Finished, Ended}
 use Rattle.world_history.specs.Record.{is_read, is_write, is_delete, is_source, finish, acknowledged, names, shown, is_some_with, begins, same_bytes}
+use Rattle.world_history.specs.Pairs.{is_owed, count_below}
 
 -- some number below n passes
 abbrev pub any_below : (ℕ → Bool) → ℕ → Bool
@@ -29,7 +32,7 @@ is_below v w = is_lt (version_cmp v w)
 
 abbrev pub deletes_at : List Record → List ℕ → List ℕ → Version → ℕ → Bool
 deletes_at h bucket key w place =
-    begins (λ q kind b k. is_delete kind && (same_bytes b bucket && (same_bytes k key && is_none_or (λ a. not (is_below a.1 w)) (acknowledged h place q)))) (slice_get h place)
+    begins (λ q kind b k. is_delete kind && (same_bytes k key && (same_bytes b bucket && is_none_or (λ a. not (is_below a.1 w)) (acknowledged h place q)))) (slice_get h place)
 
 abbrev pub is_deleted : List Record → ℕ → List ℕ → List ℕ → Version → Bool
 is_deleted h j bucket key w = any_below (deletes_at h bucket key w) j
@@ -39,7 +42,7 @@ same_version v w = nat_eq v.ts w.ts && nat_eq v.id w.id
 
 abbrev pub writes_at : List Record → List ℕ → List ℕ → Version → ℕ → Bool
 writes_at h bucket key v place =
-    begins (λ q kind b k. nat_eq q v.id && (is_source kind && (same_bytes b bucket && (same_bytes k key && is_none_or (λ a. same_version a.1 v) (acknowledged h place q))))) (slice_get h place)
+    begins (λ q kind b k. nat_eq q v.id && (is_source kind && (same_bytes k key && (same_bytes b bucket && is_none_or (λ a. same_version a.1 v) (acknowledged h place q))))) (slice_get h place)
 
 abbrev pub is_written : List Record → ℕ → List ℕ → List ℕ → Version → Bool
 is_written h j bucket key v = any_below (writes_at h bucket key v) j
@@ -57,7 +60,7 @@ covers h j bucket own answer key w =
 -- at this place no write of a key that the read names was acknowledged, before place i, with a version that the read doesn't cover
 abbrev pub covers_at : List Record → ℕ → ℕ → Kind → List ℕ → List ℕ → Answer → ℕ → Bool
 covers_at h i j kind bucket own answer place =
-    not (begins (λ q other b key. is_write other && (same_bytes b bucket && (names kind own key
+    not (begins (λ q other b key. is_write other && (names kind own key && (same_bytes b bucket
         && is_some_with (λ a. nat_lt a.0 i && not (covers h j bucket own answer key a.1)) (acknowledged h place q)))) (slice_get h place))
 
 abbrev pub covers_all : List Record → ℕ → ℕ → Kind → List ℕ → List ℕ → Answer → Bool
@@ -76,3 +79,14 @@ abbrev pub fresh_at : List Record → ℕ → Bool
 fresh_at h i =
     not (begins (λ q kind bucket own. is_read kind
         && is_some_with (λ f. not (covers_all h i f.0 kind bucket own f.1 && shows_written h f.0 kind bucket own f.1)) (finish h i q)) (slice_get h i))
+
+-- how many writes it owes something, if the record at place i says that a read began, and it finished
+abbrev pub owed_of : List Record → ℕ → Option Record → ℕ
+owed_of h i None = 0
+owed_of h i (Some (Began q node kind bucket own)) =
+    if is_read kind && is_some (finish h i q) then count_below (is_owed h i kind bucket own) i else 0
+owed_of h i (Some (Finished q answer)) = 0
+owed_of h i (Some (Ended q cause)) = 0
+
+abbrev pub owed : List Record → ℕ → ℕ
+owed h i = owed_of h i (slice_get h i)

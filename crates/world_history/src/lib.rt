@@ -18,6 +18,9 @@ mod read;
 mod reads;
 mod record;
 
+#[cfg(test)]
+mod tests;
+
 pub use pair_count::pairs;
 pub use reads::fresh;
 pub use record::{Answer, Cause, History, Kind, Record};

@@ -1,6 +1,7 @@
 //! How much there is to check in a history.
 ghost use Rattle.std.specs.Prelude.{◌≡◌, ◌<◌, ◌-◌, ◌^◌, ◌≤◌, length, min};
-ghost use Rattle.world_history.specs.Pairs.{is_owed, is_pair, count_below, pair_count};
+ghost use Rattle.world_history.specs.Pairs.{is_owed, count_below, pair_count};
+ghost use Rattle.world_history.specs.Checks.{owed};
 
 use crate::finish::{acknowledged, finish};
 use crate::read::names;
@@ -26,7 +27,7 @@ fn is_owed(
             bucket: place_bucket,
             key,
             ..
-        } if place_kind.is_write() && place_bucket == bucket && names(kind, own, key) => {
+        } if place_kind.is_write() && names(kind, own, key) && place_bucket == bucket => {
             match acknowledged(records, place, *request) {
                 Some((end, _)) => end < i,
                 None => false,
@@ -50,10 +51,10 @@ fn owed_to(records: &[Record], i: usize, kind: Kind, bucket: &Bytes, own: &Bytes
     count
 }
 
-// How many pairs the record at place i makes as that of a read.
+// How many pairs there are whose read began at place i.
 fn pairs_at(records: &[Record], i: usize) -> usize
     requires { i < length records.now }
-    ensures { result ≡ count_below (is_pair records.now i) i }
+    ensures { result ≡ owed records.now i }
 {
     match &records[i] {
         Record::Began {

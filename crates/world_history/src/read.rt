@@ -43,7 +43,7 @@ fn deletes_at(records: &[Record], bucket: &Bytes, key: &Bytes, w: Version, place
             bucket: place_bucket,
             key: place_key,
             ..
-        } if kind.is_delete() && place_bucket == bucket && place_key == key => {
+        } if kind.is_delete() && place_key == key && place_bucket == bucket => {
             match acknowledged(records, place, *request) {
                 Some((_, version)) => !(version < w),
                 None => true,
@@ -58,7 +58,7 @@ fn is_deleted(records: &[Record], j: usize, bucket: &Bytes, key: &Bytes, w: Vers
     requires { j ≤ length records.now }
     ensures { result ≡ is_deleted records.now j bucket.now key.now w }
 {
-    for place in 0..j {
+    for place in (0..j).rev() {
         if deletes_at(records, bucket, key, w, place) {
             return true;
         }
@@ -79,7 +79,7 @@ fn writes_at(records: &[Record], bucket: &Bytes, key: &Bytes, v: Version, place:
             bucket: place_bucket,
             key: place_key,
             ..
-        } if *request == v.id && kind.is_source() && place_bucket == bucket && place_key == key => {
+        } if *request == v.id && kind.is_source() && place_key == key && place_bucket == bucket => {
             match acknowledged(records, place, *request) {
                 Some((_, version)) => version == v,
                 None => true,
@@ -94,7 +94,7 @@ fn is_written(records: &[Record], j: usize, bucket: &Bytes, key: &Bytes, v: Vers
     requires { j ≤ length records.now }
     ensures { result ≡ is_written records.now j bucket.now key.now v }
 {
-    for place in 0..j {
+    for place in (0..j).rev() {
         if writes_at(records, bucket, key, v, place) {
             return true;
         }
@@ -152,7 +152,7 @@ impl Read<'_> {
                 bucket,
                 key,
                 ..
-            } if kind.is_write() && bucket == self.bucket && names(self.kind, self.key, key) => {
+            } if kind.is_write() && names(self.kind, self.key, key) && bucket == self.bucket => {
                 match acknowledged(records, place, *request) {
                     Some((end, version)) if end < self.began => self.covers(records, key, version),
                     _ => true,
