@@ -4,7 +4,7 @@ use Rattle.std.proofs.lemmas.Bool.{cases_lt}
 use Rattle.std.specs.Bool.{Decides}
 use Rattle.std.proofs.lemmas.Bool.Decides.{Decides-below_or, Decides-below_and}
 use Rattle.world_history.specs.Checks.{any_below, all_below}
-use Rattle.world_history.proofs.Tests.{fails}
+use Rattle.world_history.proofs.Parts.{fails}
 
 -- a test that decides each number decides whether some number below n, or each, is so
 module _ (p : ℕ → Bool) (P : ℕ → Type 0) (each : (k : ℕ) → Decides (p k) (P k)) (n : ℕ) where

@@ -1,5 +1,5 @@
 -- Sums and counts of the numbers below one, and what the code counts.
-use Rattle.std.proofs.Common.{◌≡◌, ℕ, zero, suc, ◌<◌, ◌≤◌, Bool, true, false, ◌&&◌, cond, List, Option, Some, None, is_some, nat_lt, length, slice_get, inl, inr, refl, ap, sym, ◌∙◌, subst, arith}
+use Rattle.std.proofs.Common.{◌≡◌, ℕ, zero, suc, ◌<◌, ◌≤◌, Bool, true, false, ◌&&◌, cond, List, Option, Some, None, is_some, nat_lt, length, slice_get, inl, inr, refl, ap, sym, ◌∙◌, arith}
 use Rattle.std.proofs.lemmas.Bool.{cases_lt, le-ltb, and_right}
 use Rattle.crdt_rows.specs.declared.version.Version.{Version}
 use Rattle.world_history.specs.declared.record.Kind.{Kind}
@@ -61,7 +61,7 @@ late i b (Some a) le after = let more = after a refl in let above : i ≤ a.0 = 
 no_late_pair : (h : List Record) (i b : ℕ) → i ≤ b → is_pair h i b ≡ false
 no_late_pair h i b le =
     begins_none _ (λ q kind bucket own. and_right (is_read kind) _ (and_right (is_some (finish h i q)) _
-        (begins_none _ (λ p other place key. and_right (is_write other) _ (and_right (names kind own key) _ (and_right (same_bytes place bucket) _ (late i b (acknowledged h b p) le (acknowledged-later h b p))))) (slice_get h b))))
+    (begins_none _ (λ p other place key. and_right (is_write other) _ (and_right (names kind own key) _ (and_right (same_bytes place bucket) _ (late i b (acknowledged h b p) le (acknowledged-later h b p))))) (slice_get h b))))
     (slice_get h i)
 
 -- the code's sum is the count of pairs

@@ -1,5 +1,5 @@
 -- The tests of which `fresh` consists decide the sentences of `Fresh`.
-use Rattle.std.proofs.Common.{◌≡◌, ℕ, ◌<◌, ◌≤◌, Bool, true, false, not, ◌&&◌, ◌||◌, List, Option, Some, None, length, slice_get, nat_eq, refl, ap, sym, subst, ◌∙◌, arith}
+use Rattle.std.proofs.Common.{◌≡◌, ℕ, ◌<◌, Bool, true, false, not, ◌&&◌, ◌||◌, List, Some, length, slice_get, refl, ap, sym, subst, ◌∙◌, arith}
 use Rattle.std.specs.Bool.{Decides, IsTrue}
 use Rattle.std.specs.List.{Contains}
 use Rattle.std.proofs.lemmas.Bool.Decides.{Decides-like, Decides-eqb, Decides-and, Decides-not, Decides-ltb}
@@ -10,12 +10,12 @@ use Rattle.world_history.specs.declared.record.Kind.{Kind}
 use Rattle.world_history.specs.declared.record.Answer.{Answer}
 use Rattle.world_history.specs.declared.record.Record.{Record}
 use Rattle.world_history.specs.declared.record.Record.TheVariants.{Began}
-use Rattle.world_history.specs.Record.{is_read, is_write, is_delete, is_source, finish, acknowledged, BeganAt, same_bytes, names, shown, Shows}
+use Rattle.world_history.specs.Record.{is_read, is_write, is_delete, is_source, finish, acknowledged, BeganAt, names, shown, Shows}
 use Rattle.world_history.specs.Fresh.{Below, IsRead, IsAcknowledged, IsDeleted, IsWritten, Covers, IsFreshRead, Fresh}
-use Rattle.world_history.specs.Checks.{all_below, is_below, deletes_at, is_deleted, writes_at, is_written, shows, shows_below, covers, covers_at, covers_all, is_written_if_named, shows_written, fresh_at}
+use Rattle.world_history.specs.Checks.{all_below, deletes_at, is_deleted, writes_at, is_written, shows, shows_below, covers, covers_at, covers_all, is_written_if_named, shows_written, fresh_at}
 use Rattle.world_history.proofs.Below.{any_below-Decides, all_below-Decides}
 use Rattle.world_history.proofs.Places.{acknowledged-later}
-use Rattle.world_history.proofs.Tests.{Begun, Decides-itself, passes, fails, begins-Decides, is_none_or-Decides, is_some_with-Decides, is_below-Decides, same_version-Decides, list_any-Decides, list_all-Decides}
+use Rattle.world_history.proofs.Parts.{Begun, Decides-itself, passes, begins-Decides, is_none_or-Decides, is_some_with-Decides, is_below-Decides, same_version-Decides, list_any-Decides, list_all-Decides}
 
 -- what a record says of a request is the same at equal buckets and keys
 began_there : (h : List Record) (i q node : ℕ) (kind : Kind) (b bucket k key : List ℕ) → slice_get h i ≡ Some (Began q node kind b k) → b ≡ bucket → k ≡ key → BeganAt h i q kind bucket key
@@ -30,7 +30,7 @@ module _ (h : List Record) (bucket key : List ℕ) where
   deletes_at-Decides w place =
       begins-Decides _ (DeletesAs w place)
       (λ q kind b k. Decides-and _ _ (Decides-itself (is_delete kind)) (Decides-and _ _ (bytes_eq-Decides k key) (Decides-and _ _ (bytes_eq-Decides b bucket)
-          (is_none_or-Decides _ (λ a. ¬ Below a.1 w) (λ a. Decides-not _ (is_below-Decides a.1 w)) (acknowledged h place q)))))
+      (is_none_or-Decides _ (λ a. ¬ Below a.1 w) (λ a. Decides-not _ (is_below-Decides a.1 w)) (acknowledged h place q)))))
       (slice_get h place)
 
   pub is_deleted-Decides : (j : ℕ) (w : Version) → Decides (is_deleted h j bucket key w) (IsDeleted h j bucket key w)
@@ -45,15 +45,19 @@ module _ (h : List Record) (bucket key : List ℕ) where
         before = lt;
         not_below = λ end v e. b.holds.1.1.1 (end, v) e;
       })
-      (λ d. (d.place, d.before, record {
-        request = d.request;
-        node = d.began.0;
-        kind = d.kind;
-        bucket = bucket;
-        key = key;
-        is = d.began.1;
-        holds = (d.deletes, (refl, (refl, λ a e. d.not_below a.0 a.1 e)));
-      }))
+      (λ d. (
+        d.place,
+        d.before,
+        record {
+          request = d.request;
+          node = d.began.0;
+          kind = d.kind;
+          bucket = bucket;
+          key = key;
+          is = d.began.1;
+          holds = (d.deletes, (refl, (refl, λ a e. d.not_below a.0 a.1 e)));
+        },
+      ))
       (any_below-Decides (deletes_at h bucket key w) (λ place. Begun (slice_get h place) (DeletesAs w place)) (deletes_at-Decides w) j)
 
   abbrev WritesAs : Version → ℕ → ℕ → Kind → List ℕ → List ℕ → Type 0
@@ -64,22 +68,26 @@ module _ (h : List Record) (bucket key : List ℕ) where
   writes_at-Decides v place =
       begins-Decides _ (WritesAs v place)
       (λ q kind b k. Decides-and _ _ (Decides-eqb q v.id) (Decides-and _ _ (Decides-itself (is_source kind)) (Decides-and _ _ (bytes_eq-Decides k key) (Decides-and _ _ (bytes_eq-Decides b bucket)
-          (is_none_or-Decides _ (λ a. a.1 ≡ v) (λ a. same_version-Decides a.1 v) (acknowledged h place q))))))
+      (is_none_or-Decides _ (λ a. a.1 ≡ v) (λ a. same_version-Decides a.1 v) (acknowledged h place q))))))
       (slice_get h place)
 
   pub is_written-Decides : (j : ℕ) (v : Version) → Decides (is_written h j bucket key v) (IsWritten h j bucket key v)
   is_written-Decides j v =
       Decides-like _
       (λ (place, lt, b). written place lt b)
-      (λ d. (d.place, d.before, record {
-        request = v.id;
-        node = d.began.0;
-        kind = d.kind;
-        bucket = bucket;
-        key = key;
-        is = d.began.1;
-        holds = (refl, (d.writes, (refl, (refl, λ a e. d.no_other a.0 a.1 e))));
-      }))
+      (λ d. (
+        d.place,
+        d.before,
+        record {
+          request = v.id;
+          node = d.began.0;
+          kind = d.kind;
+          bucket = bucket;
+          key = key;
+          is = d.began.1;
+          holds = (refl, (d.writes, (refl, (refl, λ a e. d.no_other a.0 a.1 e))));
+        },
+      ))
       (any_below-Decides (writes_at h bucket key v) (λ place. Begun (slice_get h place) (WritesAs v place)) (writes_at-Decides v) j)
     where
       written : (place : ℕ) → place < j → Begun (slice_get h place) (WritesAs v place) → IsWritten h j bucket key v
@@ -108,9 +116,10 @@ module _ (h : List Record) (bucket key : List ℕ) where
       where
         by_case : (b : Bool) → shows own answer key ≡ b → Decides (b || is_deleted h j bucket key w) (((v : Version) → ¬ Shows own answer key v) → IsDeleted h j bucket key w)
         by_case true e = (λ t none. let s = shows-Decides.0 e in absurd (none s.0.1 (shows_there s.0 s.1 s.2)), λ p. refl)
-        by_case false e =
-            (λ d none. (is_deleted-Decides j w).0 d,
-             λ p. (is_deleted-Decides j w).1 (p (λ v there. let t = shows-Decides.1 ((key, v), there, refl) in let no : false ≡ true = sym e ∙ t in cc)))
+        by_case false e = (
+          λ d none. (is_deleted-Decides j w).0 d,
+          λ p. (is_deleted-Decides j w).1 (p (λ v there. let t = shows-Decides.1 ((key, v), there, refl) in let no : false ≡ true = sym e ∙ t in cc)),
+        )
 
     pub covers-Decides : (j : ℕ) (w : Version) → Decides (covers h j bucket own answer key w) (Covers h j bucket own answer key w)
     covers-Decides j w =
@@ -132,14 +141,14 @@ module _ (h : List Record) (i j : ℕ) (kind : Kind) (bucket own : List ℕ) (an
   abbrev UncoveredAs : ℕ → ℕ → Kind → List ℕ → List ℕ → Type 0
   UncoveredAs place q other b key =
       (is_write other ≡ true) × ((names kind own key ≡ true) × ((b ≡ bucket)
-          × ((a : ℕ × Version) × (acknowledged h place q ≡ Some a) × ((a.0 < i) × ¬ Covers h j bucket own answer key a.1))))
+      × ((a : ℕ × Version) × (acknowledged h place q ≡ Some a) × ((a.0 < i) × ¬ Covers h j bucket own answer key a.1))))
 
   covers_at-Decides : (place : ℕ) → Decides (covers_at h i j kind bucket own answer place) (¬ Begun (slice_get h place) (UncoveredAs place))
   covers_at-Decides place =
       Decides-not _ (begins-Decides _ (UncoveredAs place)
       (λ q other b key. Decides-and _ _ (Decides-itself (is_write other)) (Decides-and _ _ (Decides-itself (names kind own key)) (Decides-and _ _ (bytes_eq-Decides b bucket)
-          (is_some_with-Decides _ (λ a. (a.0 < i) × ¬ Covers h j bucket own answer key a.1)
-              (λ a. Decides-and _ _ (Decides-ltb a.0 i) (Decides-not _ (covers-Decides h bucket key own answer j a.1))) (acknowledged h place q)))))
+      (is_some_with-Decides _ (λ a. (a.0 < i) × ¬ Covers h j bucket own answer key a.1)
+      (λ a. Decides-and _ _ (Decides-ltb a.0 i) (Decides-not _ (covers-Decides h bucket key own answer j a.1))) (acknowledged h place q)))))
       (slice_get h place))
 
   pub covers_all-Decides : Decides (covers_all h i j kind bucket own answer) CoversAll
@@ -206,7 +215,7 @@ module _ (h : List Record) where
   fresh_at-Decides i =
       Decides-not _ (begins-Decides _ (StaleAs i)
       (λ q kind bucket own. Decides-and _ _ (Decides-itself (is_read kind))
-          (is_some_with-Decides _ (λ f. ¬ FreshParts h i f.0 kind bucket own f.1) (λ f. parts f i kind bucket own) (finish h i q)))
+      (is_some_with-Decides _ (λ f. ¬ FreshParts h i f.0 kind bucket own f.1) (λ f. parts f i kind bucket own) (finish h i q)))
       (slice_get h i))
     where
       parts : (f : ℕ × Answer) (i : ℕ) (kind : Kind) (bucket own : List ℕ) → Decides (not (covers_all h i f.0 kind bucket own f.1 && shows_written h f.0 kind bucket own f.1)) (¬ FreshParts h i f.0 kind bucket own f.1)

@@ -2,4 +2,4 @@ pub mod Below
 pub mod Counts
 pub mod Decided
 pub mod Places
-pub mod Tests
+pub mod Parts

@@ -61,7 +61,7 @@ covers h j bucket own answer key w =
 abbrev pub covers_at : List Record → ℕ → ℕ → Kind → List ℕ → List ℕ → Answer → ℕ → Bool
 covers_at h i j kind bucket own answer place =
     not (begins (λ q other b key. is_write other && (names kind own key && (same_bytes b bucket
-        && is_some_with (λ a. nat_lt a.0 i && not (covers h j bucket own answer key a.1)) (acknowledged h place q)))) (slice_get h place))
+    && is_some_with (λ a. nat_lt a.0 i && not (covers h j bucket own answer key a.1)) (acknowledged h place q)))) (slice_get h place))
 
 abbrev pub covers_all : List Record → ℕ → ℕ → Kind → List ℕ → List ℕ → Answer → Bool
 covers_all h i j kind bucket own answer = all_below (covers_at h i j kind bucket own answer) i
@@ -78,7 +78,7 @@ shows_written h j kind bucket own answer =
 abbrev pub fresh_at : List Record → ℕ → Bool
 fresh_at h i =
     not (begins (λ q kind bucket own. is_read kind
-        && is_some_with (λ f. not (covers_all h i f.0 kind bucket own f.1 && shows_written h f.0 kind bucket own f.1)) (finish h i q)) (slice_get h i))
+    && is_some_with (λ f. not (covers_all h i f.0 kind bucket own f.1 && shows_written h f.0 kind bucket own f.1)) (finish h i q)) (slice_get h i))
 
 -- how many writes it owes something, if the record at place i says that a read began, and it finished
 abbrev pub owed_of : List Record → ℕ → Option Record → ℕ

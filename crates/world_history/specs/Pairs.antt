@@ -8,7 +8,7 @@ use Rattle.world_history.specs.Record.{is_read, is_write, finish, acknowledged, 
 abbrev pub is_owed : List Record → ℕ → Kind → List ℕ → List ℕ → ℕ → Bool
 is_owed h i kind bucket own b =
     begins (λ q other place key. is_write other && (names kind own key && (same_bytes place bucket
-        && is_some_with (λ a. nat_lt a.0 i) (acknowledged h b q)))) (slice_get h b)
+    && is_some_with (λ a. nat_lt a.0 i) (acknowledged h b q)))) (slice_get h b)
 
 -- at place i a read began that finished, and at place b a write of a key that it names, which was acknowledged before
 abbrev pub is_pair : List Record → ℕ → ℕ → Bool

@@ -1,5 +1,5 @@
 -- What records say: of which request, how it finished, which keys it names and which versions it shows.
-use Rattle.std.specs.Prelude.{◌≡◌, ℕ, ◌+◌, ◌<◌, ◌==◌, nat_eq, Bool, true, false, Option, Some, None, option_map, List, [], ◌∷◌, drop, position, slice_get, Contains}
+use Rattle.std.specs.Prelude.{◌≡◌, ℕ, ◌+◌, ◌==◌, nat_eq, Bool, true, false, Option, Some, None, option_map, List, [], ◌∷◌, drop, position, slice_get, Contains}
 use Rattle.std.specs.List.{starts_with}
 use Rattle.std.specs.Option.{option_and_then}
 use Rattle.std.specs.Cmp.Lexicographic.{pointwise}

@@ -13,14 +13,13 @@
 #![tactic(auto)]
 
 mod finish;
+mod freshness;
 mod pair_count;
 mod read;
-mod reads;
 mod record;
-
 #[cfg(test)]
 mod tests;
 
+pub use freshness::fresh;
 pub use pair_count::pairs;
-pub use reads::fresh;
 pub use record::{Answer, Cause, History, Kind, Record};

@@ -1,4 +1,4 @@
-use Rattle.std.proofs.Common.{◌-◌, ◌<◌, ◌≤◌, sym, ◌∙◌, arith}
+use Rattle.std.proofs.Common.{◌-◌, ◌<◌, sym, ◌∙◌, arith}
 use Rattle.world_history.specs.Checks.{writes_at}
 use Rattle.world_history.proofs.Below.{any_below_at, none_from_end, none_from_more, none_from_start}
 use Rattle.world_history.proofs.read.is_written.Goals as goal

@@ -2,7 +2,7 @@ use Rattle.std.proofs.Common.{ap, ◌∙◌, length}
 use Rattle.std.proofs.lemmas.Bool.Decides.{Decides-at}
 use Rattle.world_history.specs.Checks.{all_below, fresh_at}
 use Rattle.world_history.proofs.Decided.{fresh-Decides}
-use Rattle.world_history.proofs.reads.fresh.Goals as goal
+use Rattle.world_history.proofs.freshness.fresh.Goals as goal
 
 -- the tests of all places decide it
 pub returns : goal.returns

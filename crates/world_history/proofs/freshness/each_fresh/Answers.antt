@@ -1,7 +1,7 @@
 use Rattle.std.proofs.Common.{length, sym, ◌∙◌}
 use Rattle.world_history.specs.Checks.{fresh_at}
 use Rattle.world_history.proofs.Below.{all_below_not}
-use Rattle.world_history.proofs.reads.each_fresh.Goals as goal
+use Rattle.world_history.proofs.freshness.each_fresh.Goals as goal
 
 -- a place that fails
 pub returns-then-not-fresh_at : goal.returns-then-not-fresh_at

@@ -1,8 +1,8 @@
 -- What tests decide, of which the checks of reads consist.
-use Rattle.std.proofs.Common.{◌≡◌, ℕ, ◌+◌, ◌<◌, Bool, true, false, not, List, Option, Some, None, Ordering, refl, ap, sym, ◌∙◌, arith}
+use Rattle.std.proofs.Common.{◌≡◌, ℕ, Bool, true, false, List, Option, Some, None, Ordering, refl, ap, sym, ◌∙◌}
 use Rattle.std.specs.Bool.{Decides}
-use Rattle.std.specs.List.{Contains, list_any, list_all, Any, All}
-use Rattle.std.specs.Ordering.{nat_cmp, is_lt}
+use Rattle.std.specs.List.{Contains, list_any, list_all}
+use Rattle.std.specs.Ordering.{is_lt}
 use Rattle.std.specs.declared.cmp.Ordering.TheVariants.{Less, Equal, Greater}
 use Rattle.std.proofs.lemmas.Bool.Decides.{Decides-by_and, Decides-like, Decides-eqb, Decides-and}
 use Rattle.std.proofs.lemmas.List.Elements.{All-contains, Contains-get_or}
@@ -52,6 +52,7 @@ is_none_or-Decides {A} p P each o = (there o, back o)
   where
     there : (r : Option A) → is_none_or p r ≡ true → (a : A) → r ≡ Some a → P a
     there r e a is = (each a).0 (sym (ap (is_none_or p) is) ∙ e)
+
     back : (r : Option A) → ((a : A) → r ≡ Some a → P a) → is_none_or p r ≡ true
     back None h = refl
     back (Some a) h = (each a).1 (h a refl)
@@ -78,9 +79,10 @@ same_version-Decides v w =
 
 -- some element passes
 pub list_any-Decides : {X : Type 0} (p : X → Bool) (P : X → Type 0) → ((x : X) → Decides (p x) (P x)) → (xs : List X) → Decides (list_any p xs) ((x : X) × Contains xs x × P x)
-list_any-Decides p P each xs =
-    (λ e. let a = Any-from_list_any p xs e in (a.1, (a.0, a.2, a.3), (each a.1).0 a.4),
-     λ (x, (k, lt, at), holds). list_any-from_Any p xs (k, x, lt, at, (each x).1 holds))
+list_any-Decides p P each xs = (
+  λ e. let a = Any-from_list_any p xs e in (a.1, (a.0, a.2, a.3), (each a.1).0 a.4),
+  λ (x, (k, lt, at), holds). list_any-from_Any p xs (k, x, lt, at, (each x).1 holds),
+)
 
 -- each element passes
 pub list_all-Decides : {X : Type 0} (p : X → Bool) (P : X → Type 0) → ((x : X) → Decides (p x) (P x)) → (xs : List X) → Decides (list_all p xs) ((x : X) → Contains xs x → P x)
