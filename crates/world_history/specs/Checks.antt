@@ -1,6 +1,6 @@
 -- The tests of which `fresh` consists, each of which decides the sentence of `Fresh` that it is named for, and
 -- what `pairs` adds up.
-use Rattle.std.specs.Prelude.{ℕ, zero, suc, nat_eq, nat_lt, Bool, true, false, not, ◌&&◌, ◌||◌, if◌then◌else◌, Option, Some, None, is_some, List, slice_get}
+use Rattle.std.specs.Prelude.{◌≡◌, ◌<◌, ℕ, zero, suc, nat_eq, nat_lt, Bool, true, false, not, ◌&&◌, ◌||◌, if◌then◌else◌, Option, Some, None, is_some, List, slice_get}
 use Rattle.std.specs.List.{list_any, list_all}
 use Rattle.std.specs.Ordering.{is_lt}
 use Rattle.crdt_rows.specs.declared.version.Version.{Version}
@@ -26,6 +26,11 @@ all_below p (suc n) = p n && all_below p n
 abbrev pub is_none_or : {A : Type 0} → (A → Bool) → Option A → Bool
 is_none_or p None = true
 is_none_or p (Some a) = p a
+
+-- the version of an acknowledgement that stands before place i
+abbrev pub version_before : ℕ → Option (ℕ × Version) → Option Version
+version_before i None = None
+version_before i (Some a) = if nat_lt a.0 i then Some a.1 else None
 
 abbrev pub is_below : Version → Version → Bool
 is_below v w = is_lt (version_cmp v w)
@@ -62,6 +67,29 @@ abbrev pub covers_at : List Record → ℕ → ℕ → Kind → List ℕ → Lis
 covers_at h i j kind bucket own answer place =
     not (begins (λ q other b key. is_write other && (names kind own key && (same_bytes b bucket
     && is_some_with (λ a. nat_lt a.0 i && not (covers h j bucket own answer key a.1)) (acknowledged h place q)))) (slice_get h place))
+
+-- the version, if any, with which a write of this very key began at this place and was acknowledged before place i
+abbrev pub version_at_of : List Record → ℕ → List ℕ → List ℕ → ℕ → Option Record → Option Version
+version_at_of h i bucket key place None = None
+version_at_of h i bucket key place (Some (Began q node kind b k)) =
+    if is_write kind && (same_bytes k key && same_bytes b bucket) then version_before i (acknowledged h place q) else None
+version_at_of h i bucket key place (Some (Finished q answer)) = None
+version_at_of h i bucket key place (Some (Ended q cause)) = None
+
+abbrev pub version_at : List Record → ℕ → List ℕ → List ℕ → ℕ → Option Version
+version_at h i bucket key place = version_at_of h i bucket key place (slice_get h place)
+
+-- the newer of two versions, of which each may be missing
+abbrev pub newer_of : Option Version → Option Version → Option Version
+newer_of None b = b
+newer_of (Some a) None = Some a
+newer_of (Some a) (Some b) = Some (if is_below a b then b else a)
+
+-- of the versions at the numbers below n, if there are any, none is newer
+pub record IsNewestBelow (p : ℕ → Option Version) (n : ℕ) (newest : Option Version) : Type 0 where
+  pub none : newest ≡ None → (k : ℕ) → k < n → p k ≡ None
+  pub some : (w : Version) → newest ≡ Some w → (k : ℕ) × (k < n) × (p k ≡ Some w)
+  pub above : (w : Version) → newest ≡ Some w → (k : ℕ) (v : Version) → k < n → p k ≡ Some v → is_below w v ≡ false
 
 abbrev pub covers_all : List Record → ℕ → ℕ → Kind → List ℕ → List ℕ → Answer → Bool
 covers_all h i j kind bucket own answer = all_below (covers_at h i j kind bucket own answer) i

@@ -27,6 +27,14 @@ is_write Delete = true
 is_write Copy = true
 is_write Listing = false
 
+abbrev pub is_list : Kind → Bool
+is_list Put = false
+is_list Get = false
+is_list Head = false
+is_list Delete = false
+is_list Copy = false
+is_list Listing = true
+
 abbrev pub is_delete : Kind → Bool
 is_delete Put = false
 is_delete Get = false

@@ -1,7 +1,7 @@
 //! A finished read, and what it owes.
 ghost use Rattle.std.specs.Prelude.{◌≡◌, ◌<◌, ◌≤◌, length};
 ghost use Rattle.world_history.specs.Record.{names};
-ghost use Rattle.world_history.specs.Checks.{deletes_at, is_deleted, writes_at, is_written, shows, shows_below, covers, covers_at, covers_all, is_written_if_named, shows_written};
+ghost use Rattle.world_history.specs.Checks.{deletes_at, is_deleted, writes_at, is_written, shows, shows_below, covers, covers_at, covers_all, version_at, newer_of, IsNewestBelow, is_written_if_named, shows_written};
 ghost use Rattle.std.specs.List.{list_all};
 
 use crate::finish::acknowledged;
@@ -127,6 +127,57 @@ fn shows_below(own: &Bytes, answer: &Answer, key: &Bytes, w: Version) -> bool
     }
 }
 
+// The version, if any, with which a write of the key began at this place and was acknowledged before place i.
+fn version_at(
+    records: &[Record],
+    i: usize,
+    bucket: &Bytes,
+    key: &Bytes,
+    place: usize,
+) -> Option<Version>
+    requires { place < length records.now }
+    ensures { result ≡ version_at records.now i bucket.now key.now place }
+{
+    match &records[place] {
+        Record::Began {
+            request,
+            kind,
+            bucket: place_bucket,
+            key: place_key,
+            ..
+        } if kind.is_write() && place_key == key && place_bucket == bucket => {
+            match acknowledged(records, place, *request) {
+                Some((end, version)) if end < i => Some(version),
+                _ => None,
+            }
+        }
+        _ => None,
+    }
+}
+
+// The newer of two versions, of which each may be missing.
+fn newer(a: Option<Version>, b: Option<Version>) -> Option<Version>
+    ensures { result ≡ newer_of a b }
+{
+    match (a, b) {
+        (Some(a), Some(b)) => Some(if a < b { b } else { a }),
+        (None, b) => b,
+        (a, None) => a,
+    }
+}
+
+// The newest version with which a write of the key was acknowledged before place i.
+fn newest_before(records: &[Record], i: usize, bucket: &Bytes, key: &Bytes) -> Option<Version>
+    requires { i ≤ length records.now }
+    ensures { IsNewestBelow (version_at records.now i bucket.now key.now) i result }
+{
+    let mut newest = None;
+    for place in 0..i {
+        newest = newer(newest, version_at(records, i, bucket, key, place));
+    }
+    newest
+}
+
 impl Read<'_> {
     // Whether what it shows for the key covers w.
     fn covers(&self, records: &[Record], key: &Bytes, w: Version) -> bool
@@ -162,8 +213,8 @@ impl Read<'_> {
         }
     }
 
-    /// Whether it covers each version with which a write of a key that it names was acknowledged before it began.
-    pub fn covers_all(&self, records: &[Record]) -> bool
+    // Whether it covers each version with which a write of a key that it names was acknowledged before it began.
+    fn covers_each(&self, records: &[Record]) -> bool
         requires began { self.now.began ≤ length records.now }
         requires finished { self.now.finished ≤ length records.now }
         ensures { result ≡ covers_all records.now self.now.began self.now.finished self.now.kind self.now.bucket.now self.now.key.now self.now.answer.now }
@@ -174,6 +225,21 @@ impl Read<'_> {
             }
         }
         true
+    }
+
+    /// The same. A read of one key covers each version where it covers the newest.
+    pub fn covers_all(&self, records: &[Record]) -> bool
+        requires began { self.now.began ≤ length records.now }
+        requires finished { self.now.finished ≤ length records.now }
+        ensures { result ≡ covers_all records.now self.now.began self.now.finished self.now.kind self.now.bucket.now self.now.key.now self.now.answer.now }
+    {
+        if self.kind.is_list() {
+            return self.covers_each(records);
+        }
+        match newest_before(records, self.began, self.bucket, self.key) {
+            Some(version) => self.covers(records, self.key, version),
+            None => true,
+        }
     }
 
     // Whether the version that it shows for a key was written there, where it names the key.

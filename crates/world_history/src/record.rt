@@ -1,6 +1,6 @@
 //! What a history consists of.
 ghost use Rattle.std.specs.Prelude.{◌≡◌};
-ghost use Rattle.world_history.specs.Record.{request_of, is_read, is_write, is_delete, is_source};
+ghost use Rattle.world_history.specs.Record.{request_of, is_read, is_write, is_list, is_delete, is_source};
 
 use crdt_core::{Bytes, List};
 use crdt_rows::Version;
@@ -77,6 +77,15 @@ impl Kind {
         match self {
             Kind::Put | Kind::Delete | Kind::Copy => true,
             Kind::Get | Kind::Head | Kind::List => false,
+        }
+    }
+
+    pub(crate) fn is_list(self) -> bool
+        ensures { result ≡ is_list self }
+    {
+        match self {
+            Kind::List => true,
+            Kind::Put | Kind::Get | Kind::Head | Kind::Delete | Kind::Copy => false,
         }
     }
 

@@ -1,10 +1,16 @@
 use Rattle.std.proofs.Common.{sym, ◌∙◌}
-use Rattle.world_history.specs.Checks.{covers_at}
-use Rattle.world_history.proofs.Below.{all_below_not}
+use Rattle.world_history.proofs.Newest.{newest_covers, none_covers}
 use Rattle.world_history.proofs.read.Read.covers_all.Goals as goal
 
--- a place that fails
-pub returns-then-not-covers_at : goal.returns-then-not-covers_at
-returns-then-not-covers_at c =
+-- what covers the newest version covers each
+pub returns-in-Some : goal.returns-in-Some
+returns-in-Some c =
     let read = c.args.self.now in
-    sym (all_below_not (covers_at c.args.records.now read.began read.finished read.kind read.bucket.now read.key.now read.answer.now) c.loop-place.place read.began c.loop-place-test.true (sym c.covers_at.ensures ∙ c.if-not-covers_at.true))
+    let no_list = sym c.is_list.ensures ∙ c.if-is_list.false in
+    c.covers.ensures ∙ newest_covers c.args.records.now read.began read.finished read.kind read.bucket.now read.key.now read.answer.now no_list c.in-Some.version c.in-Some.ensures
+
+pub returns-in-None : goal.returns-in-None
+returns-in-None c =
+    let read = c.args.self.now in
+    let no_list = sym c.is_list.ensures ∙ c.if-is_list.false in
+    none_covers c.args.records.now read.began read.finished read.kind read.bucket.now read.key.now read.answer.now no_list c.in-None.ensures

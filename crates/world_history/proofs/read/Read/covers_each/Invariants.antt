@@ -1,6 +1,6 @@
 use Rattle.std.proofs.Common.{◌≡◌, true}
 use Rattle.world_history.specs.Checks.{all_below, covers_at}
-use Rattle.world_history.proofs.read.Read.covers_all.Given as goal
+use Rattle.world_history.proofs.read.Read.covers_each.Given as goal
 
 abbrev pub invariant-loop-place : goal.invariant-loop-place
 invariant-loop-place l =
