@@ -1,0 +1,249 @@
+-- The tests of which `fresh` consists decide the sentences of `Fresh`.
+use Rattle.std.proofs.Common.{◌≡◌, ℕ, ◌<◌, Bool, true, false, not, ◌&&◌, ◌||◌, List, Some, length, slice_get, refl, ap, sym, subst, ◌∙◌, arith}
+use Rattle.std.specs.Bool.{Decides, IsTrue}
+use Rattle.std.specs.List.{Contains}
+use Rattle.std.proofs.lemmas.Bool.Decides.{Decides-like, Decides-eqb, Decides-and, Decides-not, Decides-ltb}
+use Rattle.std.proofs.lemmas.Option.{slice_get_within}
+use Rattle.std.proofs.lemmas.Slice.Eq.{bytes_eq-Decides}
+use Rattle.crdt_rows.specs.declared.version.Version.{Version}
+use Rattle.world_history.specs.declared.record.Kind.{Kind}
+use Rattle.world_history.specs.declared.record.Answer.{Answer}
+use Rattle.world_history.specs.declared.record.Record.{Record}
+use Rattle.world_history.specs.declared.record.Record.TheVariants.{Began}
+use Rattle.world_history.specs.Record.{is_read, is_write, is_delete, is_source, finish, acknowledged, BeganAt, names, shown, Shows}
+use Rattle.world_history.specs.Fresh.{Below, IsRead, IsAcknowledged, IsDeleted, IsWritten, Covers, IsFreshRead, Fresh}
+use Rattle.world_history.specs.Checks.{all_below, deletes_at, is_deleted, writes_at, is_written, shows, shows_below, covers, covers_at, covers_all, is_written_if_named, shows_written, fresh_at}
+use Rattle.world_history.proofs.Below.{any_below-Decides, all_below-Decides}
+use Rattle.world_history.proofs.Places.{acknowledged-later}
+use Rattle.world_history.proofs.Parts.{Begun, Decides-itself, passes, begins-Decides, is_none_or-Decides, is_some_with-Decides, is_below-Decides, same_version-Decides, list_any-Decides, list_all-Decides}
+
+-- what a record says of a request is the same at equal buckets and keys
+began_there : (h : List Record) (i q node : ℕ) (kind : Kind) (b bucket k key : List ℕ) → slice_get h i ≡ Some (Began q node kind b k) → b ≡ bucket → k ≡ key → BeganAt h i q kind bucket key
+began_there h i q node kind b bucket k key is eb ek = (node, is ∙ (λ t. Some (Began q node kind (eb t) (ek t))))
+
+module _ (h : List Record) (bucket key : List ℕ) where
+  abbrev DeletesAs : Version → ℕ → ℕ → Kind → List ℕ → List ℕ → Type 0
+  DeletesAs w place q kind b k =
+      (is_delete kind ≡ true) × ((k ≡ key) × ((b ≡ bucket) × ((a : ℕ × Version) → acknowledged h place q ≡ Some a → ¬ Below a.1 w)))
+
+  deletes_at-Decides : (w : Version) (place : ℕ) → Decides (deletes_at h bucket key w place) (Begun (slice_get h place) (DeletesAs w place))
+  deletes_at-Decides w place =
+      begins-Decides _ (DeletesAs w place)
+      (λ q kind b k. Decides-and _ _ (Decides-itself (is_delete kind)) (Decides-and _ _ (bytes_eq-Decides k key) (Decides-and _ _ (bytes_eq-Decides b bucket)
+      (is_none_or-Decides _ (λ a. ¬ Below a.1 w) (λ a. Decides-not _ (is_below-Decides a.1 w)) (acknowledged h place q)))))
+      (slice_get h place)
+
+  pub is_deleted-Decides : (j : ℕ) (w : Version) → Decides (is_deleted h j bucket key w) (IsDeleted h j bucket key w)
+  is_deleted-Decides j w =
+      Decides-like _
+      (λ (place, lt, b). record {
+        request = b.request;
+        kind = b.kind;
+        place = place;
+        deletes = b.holds.0;
+        began = began_there h place b.request b.node b.kind b.bucket bucket b.key key b.is b.holds.1.1.0 b.holds.1.0;
+        before = lt;
+        not_below = λ end v e. b.holds.1.1.1 (end, v) e;
+      })
+      (λ d. (
+        d.place,
+        d.before,
+        record {
+          request = d.request;
+          node = d.began.0;
+          kind = d.kind;
+          bucket = bucket;
+          key = key;
+          is = d.began.1;
+          holds = (d.deletes, (refl, (refl, λ a e. d.not_below a.0 a.1 e)));
+        },
+      ))
+      (any_below-Decides (deletes_at h bucket key w) (λ place. Begun (slice_get h place) (DeletesAs w place)) (deletes_at-Decides w) j)
+
+  abbrev WritesAs : Version → ℕ → ℕ → Kind → List ℕ → List ℕ → Type 0
+  WritesAs v place q kind b k =
+      (q ≡ v.id) × ((is_source kind ≡ true) × ((k ≡ key) × ((b ≡ bucket) × ((a : ℕ × Version) → acknowledged h place q ≡ Some a → a.1 ≡ v))))
+
+  writes_at-Decides : (v : Version) (place : ℕ) → Decides (writes_at h bucket key v place) (Begun (slice_get h place) (WritesAs v place))
+  writes_at-Decides v place =
+      begins-Decides _ (WritesAs v place)
+      (λ q kind b k. Decides-and _ _ (Decides-eqb q v.id) (Decides-and _ _ (Decides-itself (is_source kind)) (Decides-and _ _ (bytes_eq-Decides k key) (Decides-and _ _ (bytes_eq-Decides b bucket)
+      (is_none_or-Decides _ (λ a. a.1 ≡ v) (λ a. same_version-Decides a.1 v) (acknowledged h place q))))))
+      (slice_get h place)
+
+  pub is_written-Decides : (j : ℕ) (v : Version) → Decides (is_written h j bucket key v) (IsWritten h j bucket key v)
+  is_written-Decides j v =
+      Decides-like _
+      (λ (place, lt, b). written place lt b)
+      (λ d. (
+        d.place,
+        d.before,
+        record {
+          request = v.id;
+          node = d.began.0;
+          kind = d.kind;
+          bucket = bucket;
+          key = key;
+          is = d.began.1;
+          holds = (refl, (d.writes, (refl, (refl, λ a e. d.no_other a.0 a.1 e))));
+        },
+      ))
+      (any_below-Decides (writes_at h bucket key v) (λ place. Begun (slice_get h place) (WritesAs v place)) (writes_at-Decides v) j)
+    where
+      written : (place : ℕ) → place < j → Begun (slice_get h place) (WritesAs v place) → IsWritten h j bucket key v
+      written place lt b = record {
+        kind = b.kind;
+        place = place;
+        writes = b.holds.1.0;
+        began = (b.node, b.is ∙ (λ t. Some (Began (b.holds.0 t) b.node b.kind (b.holds.1.1.1.0 t) (b.holds.1.1.0 t))));
+        before = lt;
+        no_other = λ end other e. b.holds.1.1.1.1 (end, other) (ap (acknowledged h place) b.holds.0 ∙ e);
+      }
+
+  module _ (own : List ℕ) (answer : Answer) where
+    shows-Decides : Decides (shows own answer key) ((e : List ℕ × Version) × Contains (shown own answer) e × (e.0 ≡ key))
+    shows-Decides = list_any-Decides _ (λ e. e.0 ≡ key) (λ e. bytes_eq-Decides e.0 key) (shown own answer)
+
+    shows_below-Decides : (w : Version) → Decides (shows_below own answer key w) ((e : List ℕ × Version) × Contains (shown own answer) e × ((e.0 ≡ key) × Below e.1 w))
+    shows_below-Decides w = list_any-Decides _ (λ e. (e.0 ≡ key) × Below e.1 w) (λ e. Decides-and _ _ (bytes_eq-Decides e.0 key) (is_below-Decides e.1 w)) (shown own answer)
+
+    -- an entry for the key is what it shows for the key
+    shows_there : (e : List ℕ × Version) → Contains (shown own answer) e → e.0 ≡ key → Shows own answer key e.1
+    shows_there e there same = subst (λ k. Contains (shown own answer) (k, e.1)) same there
+
+    shown_or_deleted : (j : ℕ) (w : Version) → Decides (shows own answer key || is_deleted h j bucket key w) (((v : Version) → ¬ Shows own answer key v) → IsDeleted h j bucket key w)
+    shown_or_deleted j w = by_case (shows own answer key) refl
+      where
+        by_case : (b : Bool) → shows own answer key ≡ b → Decides (b || is_deleted h j bucket key w) (((v : Version) → ¬ Shows own answer key v) → IsDeleted h j bucket key w)
+        by_case true e = (λ t none. let s = shows-Decides.0 e in absurd (none s.0.1 (shows_there s.0 s.1 s.2)), λ p. refl)
+        by_case false e = (
+          λ d none. (is_deleted-Decides j w).0 d,
+          λ p. (is_deleted-Decides j w).1 (p (λ v there. let t = shows-Decides.1 ((key, v), there, refl) in let no : false ≡ true = sym e ∙ t in cc)),
+        )
+
+    pub covers-Decides : (j : ℕ) (w : Version) → Decides (covers h j bucket own answer key w) (Covers h j bucket own answer key w)
+    covers-Decides j w =
+        Decides-like _
+        (λ both. record { versions = λ v there below. both.0 ((key, v), there, (refl, below)); none = both.1 })
+        (λ c. (λ (e, there, (same, below)). c.versions e.1 (shows_there e there same) below, c.none))
+        (Decides-and _ _ (Decides-not _ (shows_below-Decides w)) (shown_or_deleted j w))
+
+module _ (h : List Record) (i j : ℕ) (kind : Kind) (bucket own : List ℕ) (answer : Answer) where
+  -- what a read owes to each write of a key that it names which was acknowledged before it began
+  abbrev pub CoversAll : Type 0
+  CoversAll = (key : List ℕ) (w : Version) → IsTrue (names kind own key) → IsAcknowledged h i bucket key w → Covers h j bucket own answer key w
+
+  -- and for each version that it shows
+  abbrev pub WrittenAll : Type 0
+  WrittenAll = (key : List ℕ) (v : Version) → IsTrue (names kind own key) → Shows own answer key v → IsWritten h j bucket key v
+
+  -- a write that it doesn't cover
+  abbrev UncoveredAs : ℕ → ℕ → Kind → List ℕ → List ℕ → Type 0
+  UncoveredAs place q other b key =
+      (is_write other ≡ true) × ((names kind own key ≡ true) × ((b ≡ bucket)
+      × ((a : ℕ × Version) × (acknowledged h place q ≡ Some a) × ((a.0 < i) × ¬ Covers h j bucket own answer key a.1))))
+
+  covers_at-Decides : (place : ℕ) → Decides (covers_at h i j kind bucket own answer place) (¬ Begun (slice_get h place) (UncoveredAs place))
+  covers_at-Decides place =
+      Decides-not _ (begins-Decides _ (UncoveredAs place)
+      (λ q other b key. Decides-and _ _ (Decides-itself (is_write other)) (Decides-and _ _ (Decides-itself (names kind own key)) (Decides-and _ _ (bytes_eq-Decides b bucket)
+      (is_some_with-Decides _ (λ a. (a.0 < i) × ¬ Covers h j bucket own answer key a.1)
+      (λ a. Decides-and _ _ (Decides-ltb a.0 i) (Decides-not _ (covers-Decides h bucket key own answer j a.1))) (acknowledged h place q)))))
+      (slice_get h place))
+
+  pub covers_all-Decides : Decides (covers_all h i j kind bucket own answer) CoversAll
+  covers_all-Decides =
+      Decides-like _
+      (λ all key w named a. passes _ (covers-Decides h bucket key own answer j w) (λ not_covered. all a.place (placed a) (uncovered a named not_covered)))
+      (λ owed place lt b. let x = b.holds in x.1.1.1.2.1 (owed b.key x.1.1.1.0.1 x.1.0 (acked place b)))
+      (all_below-Decides (covers_at h i j kind bucket own answer) (λ place. ¬ Begun (slice_get h place) (UncoveredAs place)) covers_at-Decides i)
+    where
+      placed : {key : List ℕ} {w : Version} (a : IsAcknowledged h i bucket key w) → a.place < i
+      placed a = let later = acknowledged-later h a.place a.request _ a.finished in let before = a.before in omega arith
+
+      uncovered : {key : List ℕ} {w : Version} (a : IsAcknowledged h i bucket key w) → names kind own key ≡ true → ¬ Covers h j bucket own answer key w → Begun (slice_get h a.place) (UncoveredAs a.place)
+      uncovered {key} {w} a named not_covered = record {
+        request = a.request;
+        node = a.began.0;
+        kind = a.kind;
+        bucket = bucket;
+        key = key;
+        is = a.began.1;
+        holds = (a.writes, (named, (refl, ((a.end, w), a.finished, (a.before, not_covered)))));
+      }
+
+      acked : (place : ℕ) (b : Begun (slice_get h place) (UncoveredAs place)) → IsAcknowledged h i bucket b.key b.holds.1.1.1.0.1
+      acked place b = record {
+        request = b.request;
+        kind = b.kind;
+        place = place;
+        end = b.holds.1.1.1.0.0;
+        writes = b.holds.0;
+        began = began_there h place b.request b.node b.kind b.bucket bucket b.key b.key b.is b.holds.1.1.0 refl;
+        finished = b.holds.1.1.1.1;
+        before = b.holds.1.1.1.2.0;
+      }
+
+  -- an entry whose key the read names was written
+  abbrev WrittenIfNamed : List ℕ × Version → Type 0
+  WrittenIfNamed e = names kind own e.0 ≡ true → IsWritten h j bucket e.0 e.1
+
+  if_named-Decides : (e : List ℕ × Version) → Decides (is_written_if_named h j kind bucket own e) (WrittenIfNamed e)
+  if_named-Decides e = by_case (names kind own e.0) refl
+    where
+      by_case : (b : Bool) → names kind own e.0 ≡ b → Decides (not b || is_written h j bucket e.0 e.1) (WrittenIfNamed e)
+      by_case true named = (λ t _. (is_written-Decides h bucket e.0 j e.1).0 t, λ p. (is_written-Decides h bucket e.0 j e.1).1 (p named))
+      by_case false unnamed = (λ t named. let no : false ≡ true = sym unnamed ∙ named in cc, λ p. refl)
+
+  pub shows_written-Decides : Decides (shows_written h j kind bucket own answer) WrittenAll
+  shows_written-Decides =
+      Decides-like _
+      (λ all key v named there. all (key, v) there named)
+      (λ all e there named. all e.0 e.1 named there)
+      (list_all-Decides (is_written_if_named h j kind bucket own) WrittenIfNamed if_named-Decides (shown own answer))
+
+  abbrev pub FreshParts : Type 0
+  FreshParts = CoversAll × WrittenAll
+
+module _ (h : List Record) where
+  -- a read that finished and isn't fresh
+  abbrev StaleAs : ℕ → ℕ → Kind → List ℕ → List ℕ → Type 0
+  StaleAs i q kind bucket own =
+      (is_read kind ≡ true) × ((f : ℕ × Answer) × (finish h i q ≡ Some f) × ¬ FreshParts h i f.0 kind bucket own f.1)
+
+  fresh_at-Decides : (i : ℕ) → Decides (fresh_at h i) (¬ Begun (slice_get h i) (StaleAs i))
+  fresh_at-Decides i =
+      Decides-not _ (begins-Decides _ (StaleAs i)
+      (λ q kind bucket own. Decides-and _ _ (Decides-itself (is_read kind))
+      (is_some_with-Decides _ (λ f. ¬ FreshParts h i f.0 kind bucket own f.1) (λ f. parts f i kind bucket own) (finish h i q)))
+      (slice_get h i))
+    where
+      parts : (f : ℕ × Answer) (i : ℕ) (kind : Kind) (bucket own : List ℕ) → Decides (not (covers_all h i f.0 kind bucket own f.1 && shows_written h f.0 kind bucket own f.1)) (¬ FreshParts h i f.0 kind bucket own f.1)
+      parts f i kind bucket own = Decides-not _ (Decides-and _ _ (covers_all-Decides h i f.0 kind bucket own f.1) (shows_written-Decides h i f.0 kind bucket own f.1))
+
+  -- the tests of all places decide whether the history is fresh
+  pub fresh-Decides : Decides (all_below (fresh_at h) (length h)) (Fresh h)
+  fresh-Decides =
+      Decides-like _
+      (λ all i j kind bucket own answer r. record { covers = (parts all i j kind bucket own answer r).0; written = (parts all i j kind bucket own answer r).1 })
+      (λ fresh i lt b. let x = b.holds.1 in x.2 (whole (fresh i x.0.0 b.kind b.bucket b.key x.0.1 (read i b))))
+      (all_below-Decides (fresh_at h) (λ i. ¬ Begun (slice_get h i) (StaleAs i)) fresh_at-Decides (length h))
+    where
+      parts : ((k : ℕ) → k < length h → ¬ Begun (slice_get h k) (StaleAs k)) → (i j : ℕ) (kind : Kind) (bucket own : List ℕ) (answer : Answer) → IsRead h i j kind bucket own answer → FreshParts h i j kind bucket own answer
+      parts all i j kind bucket own answer r =
+          passes _ (Decides-and _ _ (covers_all-Decides h i j kind bucket own answer) (shows_written-Decides h i j kind bucket own answer))
+          (λ stale. all i (slice_get_within h i _ r.began.1) (record {
+            request = r.request;
+            node = r.began.0;
+            kind = kind;
+            bucket = bucket;
+            key = own;
+            is = r.began.1;
+            holds = (r.reads, ((j, answer), r.finished, stale));
+          }))
+
+      whole : {i j : ℕ} {kind : Kind} {bucket own : List ℕ} {answer : Answer} → IsFreshRead h i j kind bucket own answer → FreshParts h i j kind bucket own answer
+      whole f = (f.covers, f.written)
+
+      read : (i : ℕ) (b : Begun (slice_get h i) (StaleAs i)) → IsRead h i b.holds.1.0.0 b.kind b.bucket b.key b.holds.1.0.1
+      read i b = record { request = b.request; reads = b.holds.0; began = (b.node, b.is); finished = b.holds.1.1 }

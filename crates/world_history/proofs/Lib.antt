@@ -1,0 +1,6 @@
+pub mod Below
+pub mod Counts
+pub mod Decided
+pub mod Newest
+pub mod Places
+pub mod Parts

@@ -1,0 +1,56 @@
+//! Whether each finished read of a history is fresh.
+ghost use Rattle.std.specs.Prelude.{◌≡◌, ◌<◌, ◌↔◌, length, IsTrue};
+ghost use Rattle.world_history.specs.Checks.{all_below, fresh_at};
+ghost use Rattle.world_history.specs.Fresh.{Fresh};
+
+use crate::finish::finish;
+use crate::read::Read;
+use crate::record::{History, Record};
+
+// Whether the read that began at this place, if one did and finished, is fresh.
+fn fresh_at(records: &[Record], i: usize) -> bool
+    requires { i < length records.now }
+    ensures { result ≡ fresh_at records.now i }
+{
+    match &records[i] {
+        Record::Began {
+            request,
+            kind,
+            bucket,
+            key,
+            ..
+        } if kind.is_read() => match finish(records, i, *request) {
+            Some((finished, answer)) => {
+                let read = Read {
+                    kind: *kind,
+                    bucket,
+                    key,
+                    began: i,
+                    finished,
+                    answer,
+                };
+                read.covers_all(records) && read.shows_written(records)
+            }
+            None => true,
+        },
+        _ => true,
+    }
+}
+
+fn each_fresh(records: &[Record]) -> bool
+    ensures { result ≡ all_below (fresh_at records.now) (length records.now) }
+{
+    for i in 0..records.len() {
+        if !fresh_at(records, i) {
+            return false;
+        }
+    }
+    true
+}
+
+/// Whether each finished read shows what it owes.
+pub fn fresh(h: &History) -> bool
+    ensures { IsTrue result ↔ Fresh h.now.0 }
+{
+    each_fresh(h.0.as_slice())
+}

@@ -1,0 +1,25 @@
+//! The history of a cluster's requests, and whether its reads are fresh.
+//!
+//! A `History` is a list of `Record`s in the order in which they happened. A request begins by a `Began`, and
+//! finishes by the next record of its number, where that is a `Finished`. A put, copy or delete that finished
+//! with a version was acknowledged with it. A get or head names its one key, a list each key of its bucket with
+//! its prefix; a key that a list doesn't show has the result none.
+//!
+//! `fresh` says whether each finished read shows what it owes: for each key that it names, no version that is
+//! below one acknowledged before the read began, and none only where a delete explains it; and each version
+//! that it shows is that of a put or copy of the key. `pairs` counts what there was to check: the pairs of a
+//! finished read and a write acknowledged before it began, of a key that it names. Both hold of any list of
+//! records, and take no memory.
+#![tactic(auto)]
+
+mod finish;
+mod freshness;
+mod pair_count;
+mod read;
+mod record;
+#[cfg(test)]
+mod tests;
+
+pub use freshness::fresh;
+pub use pair_count::pairs;
+pub use record::{Answer, Cause, History, Kind, Record};

@@ -1,0 +1,277 @@
+//! A finished read, and what it owes.
+ghost use Rattle.std.specs.Prelude.{◌≡◌, ◌<◌, ◌≤◌, length};
+ghost use Rattle.world_history.specs.Record.{names};
+ghost use Rattle.world_history.specs.Checks.{deletes_at, is_deleted, writes_at, is_written, shows, shows_below, covers, covers_at, covers_all, version_at, newer_of, IsNewestBelow, is_written_if_named, shows_written};
+ghost use Rattle.std.specs.List.{list_all};
+
+use crate::finish::acknowledged;
+use crate::record::{Answer, Kind, Record};
+use crdt_core::Bytes;
+use crdt_rows::Version;
+
+/// A read that began and finished at these places.
+#[derive(Clone, Copy)]
+pub struct Read<'a> {
+    pub kind: Kind,
+    pub bucket: &'a Bytes,
+    /// Of a list the prefix.
+    pub key: &'a Bytes,
+    pub began: usize,
+    pub finished: usize,
+    pub answer: &'a Answer,
+}
+
+/// Whether a read with this key of its own names the other key.
+pub fn names(kind: Kind, own: &Bytes, key: &Bytes) -> bool
+    ensures { result ≡ names kind own.now key.now }
+{
+    match kind {
+        Kind::List => key.as_slice().starts_with(own.as_slice()),
+        _ => own == key,
+    }
+}
+
+// Whether a delete of the key began at this place which wasn't acknowledged with a version below w.
+fn deletes_at(records: &[Record], bucket: &Bytes, key: &Bytes, w: Version, place: usize) -> bool
+    requires { place < length records.now }
+    ensures { result ≡ deletes_at records.now bucket.now key.now w place }
+{
+    match &records[place] {
+        Record::Began {
+            request,
+            kind,
+            bucket: place_bucket,
+            key: place_key,
+            ..
+        } if kind.is_delete() && place_key == key && place_bucket == bucket => {
+            match acknowledged(records, place, *request) {
+                Some((_, version)) => !(version < w),
+                None => true,
+            }
+        }
+        _ => false,
+    }
+}
+
+// Whether that is so at some place before place j.
+fn is_deleted(records: &[Record], j: usize, bucket: &Bytes, key: &Bytes, w: Version) -> bool
+    requires { j ≤ length records.now }
+    ensures { result ≡ is_deleted records.now j bucket.now key.now w }
+{
+    for place in (0..j).rev() {
+        if deletes_at(records, bucket, key, w, place) {
+            return true;
+        }
+    }
+    false
+}
+
+// Whether a put or copy of the key with the number of v began at this place, which wasn't acknowledged with
+// another version.
+fn writes_at(records: &[Record], bucket: &Bytes, key: &Bytes, v: Version, place: usize) -> bool
+    requires { place < length records.now }
+    ensures { result ≡ writes_at records.now bucket.now key.now v place }
+{
+    match &records[place] {
+        Record::Began {
+            request,
+            kind,
+            bucket: place_bucket,
+            key: place_key,
+            ..
+        } if *request == v.id && kind.is_source() && place_key == key && place_bucket == bucket => {
+            match acknowledged(records, place, *request) {
+                Some((_, version)) => version == v,
+                None => true,
+            }
+        }
+        _ => false,
+    }
+}
+
+// Whether that is so at some place before place j.
+fn is_written(records: &[Record], j: usize, bucket: &Bytes, key: &Bytes, v: Version) -> bool
+    requires { j ≤ length records.now }
+    ensures { result ≡ is_written records.now j bucket.now key.now v }
+{
+    for place in (0..j).rev() {
+        if writes_at(records, bucket, key, v, place) {
+            return true;
+        }
+    }
+    false
+}
+
+// Whether an answer to a read whose own key is this shows a version for the key.
+fn shows(own: &Bytes, answer: &Answer, key: &Bytes) -> bool
+    ensures { result ≡ shows own.now answer.now key.now }
+{
+    match answer {
+        Answer::Version(_) => own == key,
+        Answer::None => false,
+        Answer::Listed(entries) => entries.as_slice().iter().any(|entry| entry.0 == *key),
+    }
+}
+
+// Whether it shows a version for the key that is below w.
+fn shows_below(own: &Bytes, answer: &Answer, key: &Bytes, w: Version) -> bool
+    ensures { result ≡ shows_below own.now answer.now key.now w }
+{
+    match answer {
+        Answer::Version(version) => own == key && *version < w,
+        Answer::None => false,
+        Answer::Listed(entries) => entries
+            .as_slice()
+            .iter()
+            .any(|entry| entry.0 == *key && entry.1 < w),
+    }
+}
+
+// The version, if any, with which a write of the key began at this place and was acknowledged before place i.
+fn version_at(
+    records: &[Record],
+    i: usize,
+    bucket: &Bytes,
+    key: &Bytes,
+    place: usize,
+) -> Option<Version>
+    requires { place < length records.now }
+    ensures { result ≡ version_at records.now i bucket.now key.now place }
+{
+    match &records[place] {
+        Record::Began {
+            request,
+            kind,
+            bucket: place_bucket,
+            key: place_key,
+            ..
+        } if kind.is_write() && place_key == key && place_bucket == bucket => {
+            match acknowledged(records, place, *request) {
+                Some((end, version)) if end < i => Some(version),
+                _ => None,
+            }
+        }
+        _ => None,
+    }
+}
+
+// The newer of two versions, of which each may be missing.
+fn newer(a: Option<Version>, b: Option<Version>) -> Option<Version>
+    ensures { result ≡ newer_of a b }
+{
+    match (a, b) {
+        (Some(a), Some(b)) => Some(if a < b { b } else { a }),
+        (None, b) => b,
+        (a, None) => a,
+    }
+}
+
+// The newest version with which a write of the key was acknowledged before place i.
+fn newest_before(records: &[Record], i: usize, bucket: &Bytes, key: &Bytes) -> Option<Version>
+    requires { i ≤ length records.now }
+    ensures { IsNewestBelow (version_at records.now i bucket.now key.now) i result }
+{
+    let mut newest = None;
+    for place in 0..i {
+        newest = newer(newest, version_at(records, i, bucket, key, place));
+    }
+    newest
+}
+
+impl Read<'_> {
+    // Whether what it shows for the key covers w.
+    fn covers(&self, records: &[Record], key: &Bytes, w: Version) -> bool
+        requires { self.now.finished ≤ length records.now }
+        ensures { result ≡ covers records.now self.now.finished self.now.bucket.now self.now.key.now self.now.answer.now key.now w }
+    {
+        !shows_below(self.key, self.answer, key, w)
+            && (shows(self.key, self.answer, key)
+                || is_deleted(records, self.finished, self.bucket, key, w))
+    }
+
+    // Whether it covers the version, if any, with which a write of a key that it names began at this place and
+    // was acknowledged before it began.
+    fn covers_at(&self, records: &[Record], place: usize) -> bool
+        requires there { place < length records.now }
+        requires finished { self.now.finished ≤ length records.now }
+        ensures { result ≡ covers_at records.now self.now.began self.now.finished self.now.kind self.now.bucket.now self.now.key.now self.now.answer.now place }
+    {
+        match &records[place] {
+            Record::Began {
+                request,
+                kind,
+                bucket,
+                key,
+                ..
+            } if kind.is_write() && names(self.kind, self.key, key) && bucket == self.bucket => {
+                match acknowledged(records, place, *request) {
+                    Some((end, version)) if end < self.began => self.covers(records, key, version),
+                    _ => true,
+                }
+            }
+            _ => true,
+        }
+    }
+
+    // Whether it covers each version with which a write of a key that it names was acknowledged before it began.
+    fn covers_each(&self, records: &[Record]) -> bool
+        requires began { self.now.began ≤ length records.now }
+        requires finished { self.now.finished ≤ length records.now }
+        ensures { result ≡ covers_all records.now self.now.began self.now.finished self.now.kind self.now.bucket.now self.now.key.now self.now.answer.now }
+    {
+        for place in 0..self.began {
+            if !self.covers_at(records, place) {
+                return false;
+            }
+        }
+        true
+    }
+
+    /// The same. A read of one key covers each version where it covers the newest.
+    pub fn covers_all(&self, records: &[Record]) -> bool
+        requires began { self.now.began ≤ length records.now }
+        requires finished { self.now.finished ≤ length records.now }
+        ensures { result ≡ covers_all records.now self.now.began self.now.finished self.now.kind self.now.bucket.now self.now.key.now self.now.answer.now }
+    {
+        if self.kind.is_list() {
+            return self.covers_each(records);
+        }
+        match newest_before(records, self.began, self.bucket, self.key) {
+            Some(version) => self.covers(records, self.key, version),
+            None => true,
+        }
+    }
+
+    // Whether the version that it shows for a key was written there, where it names the key.
+    fn is_written(&self, records: &[Record], key: &Bytes, version: Version) -> bool
+        requires { self.now.finished ≤ length records.now }
+        ensures { result ≡ is_written_if_named records.now self.now.finished self.now.kind self.now.bucket.now self.now.key.now (key.now, version) }
+    {
+        !names(self.kind, self.key, key)
+            || is_written(records, self.finished, self.bucket, key, version)
+    }
+
+    /// Whether each version that it shows for a key that it names was written there.
+    pub fn shows_written(&self, records: &[Record]) -> bool
+        requires { self.now.finished ≤ length records.now }
+        ensures { result ≡ shows_written records.now self.now.finished self.now.kind self.now.bucket.now self.now.key.now self.now.answer.now }
+    {
+        match self.answer {
+            Answer::Version(version) => self.is_written(records, self.key, *version),
+            Answer::None => true,
+            Answer::Listed(entries) => self.lists_written(records, entries.as_slice()),
+        }
+    }
+
+    fn lists_written(&self, records: &[Record], entries: &[(Bytes, Version)]) -> bool
+        requires { self.now.finished ≤ length records.now }
+        ensures { result ≡ list_all (is_written_if_named records.now self.now.finished self.now.kind self.now.bucket.now self.now.key.now) entries.now }
+    {
+        for (key, version) in entries {
+            if !self.is_written(records, key, *version) {
+                return false;
+            }
+        }
+        true
+    }
+}
