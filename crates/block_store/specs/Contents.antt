@@ -1,7 +1,8 @@
 -- What a block store holds, and what each of its calls makes of that.
-use Rattle.std.specs.Prelude.{◌≡◌, ◌≢◌, ℕ, if◌then◌else◌, ◌==◌, List, [], ◌∷◌, Option, count_by, is_some}
+use Rattle.std.specs.Prelude.{◌≡◌, ◌≢◌, ℕ, if◌then◌else◌, ◌==◌, List, [], ◌∷◌, Option, None, count_by, is_some}
 use Rattle.std.specs.List.{filter}
-use Rattle.std.specs.Map.{lookup, remove_entry}
+use Rattle.std.specs.List.Sorted.{IsStrictlySortedBy}
+use Rattle.std.specs.Map.{keys_of, lookup, remove_entry}
 use Rattle.std.specs.Ordering.{is_lt}
 use Rattle.std.specs.BTreeMap.{insert_entry}
 use Rattle.blake2_hash.specs.declared.digest.Hash32.{Hash32}
@@ -23,9 +24,20 @@ empty = record { blocks = []; live = []; notes = [] }
 abbrev pub block_at : Contents → Hash32 → Option (List ℕ)
 block_at c h = lookup (is_hash h) c.blocks
 
+abbrev pub note_at : Contents → Hash32 → Option ℕ
+note_at c h = lookup (is_hash h) c.notes
+
 -- how many live references there are to a block
 abbrev pub live_count : Contents → Hash32 → ℕ
 live_count c h = count_by (is_hash h) c.live
+
+-- what holds of the contents of every store
+pub record IsInOrder (c : Contents) : Type 0 where
+  pub blocks : IsStrictlySortedBy hash_cmp (keys_of c.blocks)
+  pub notes : IsStrictlySortedBy hash_cmp (keys_of c.notes)
+  -- each live reference has its block, and so has each note
+  pub held : (h : Hash32) → block_at c h ≡ None → live_count c h ≡ 0
+  pub noted : (h : Hash32) → block_at c h ≡ None → note_at c h ≡ None
 
 -- h at its place among hashes in order
 abbrev pub placed : Hash32 → List Hash32 → List Hash32

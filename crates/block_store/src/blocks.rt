@@ -1,9 +1,11 @@
 //! The block store.
 ghost use Rattle.std.specs.Prelude.{◌≡◌, ◌≤◌, ◌<◌, ◌^◌, ◌==◌, length, IsTrue, is_some, OnOk, OnErr, IfOk, IfErr, option_map};
+ghost use Rattle.std.specs.Map.{keys_of};
+ghost use Rattle.std.specs.List.Sorted.{IsStrictlySortedBy};
 ghost use Rattle.crdt_core.specs.declared.memory.Memory.TheVariants.{Want};
 ghost use Rattle.block_store.specs.declared.fault.BlockFault.TheVariants.{InUse};
-ghost use Rattle.block_store.specs.Hash.{digest_of};
-ghost use Rattle.block_store.specs.Contents.{empty, block_at, live_count, put, told_live, told_dead, deleted, idle_notes, RefusesPut};
+ghost use Rattle.block_store.specs.Hash.{digest_of, hash_cmp};
+ghost use Rattle.block_store.specs.Contents.{empty, block_at, live_count, put, told_live, told_dead, deleted, idle_notes, IsInOrder, RefusesPut};
 
 use crate::fault::BlockFault;
 use crate::shelf::{Kept, Shelf, add_reference, drop_reference};
@@ -125,7 +127,8 @@ impl Blocks {
 
     /// How many blocks there are.
     pub fn len(&self) -> usize
-        ensures { result ≡ length self.now.blocks }
+        ensures len { result ≡ length self.now.blocks }
+        ensures in_order { IsInOrder self.now }
     {
         self.shelf.len()
     }
@@ -134,6 +137,7 @@ impl Blocks {
     /// last one did, in milliseconds.
     pub fn idle(&self) -> Result<Vec<(Hash32, u64)>, Memory>
         ensures notes { IfOk result (λ v. v.items ≡ idle_notes self.now) }
+        ensures in_order { IfOk result (λ v. IsStrictlySortedBy hash_cmp (keys_of v.items)) }
         ensures want { IfErr result (λ e. e ≡ Want) }
     {
         let mut idle = Vec::new(self.alloc);

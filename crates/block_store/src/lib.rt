@@ -7,15 +7,18 @@
 //! done with them, and when, is the caller's.
 //!
 //! Contracts see a `Blocks` as its contents: a list of blocks, a list of live references and a list of
-//! notes. Each call is one step of these lists, which `specs/Contents.antt` has. Only `put` and `idle` take
-//! memory: `put` makes the room for a block's count and note.
+//! notes. Each call is one step of these lists, which `specs/Contents.antt` has, and `calls_by_hash` says what
+//! a step makes of one hash. Only `put` and `idle` take memory: `put` makes the room for a block's count and
+//! note.
 #![tactic(auto)]
 
 mod blocks;
 mod fault;
+mod laws;
 mod shelf;
 #[cfg(test)]
 mod tests;
 
 pub use blocks::Blocks;
 pub use fault::BlockFault;
+pub use laws::calls_by_hash;
