@@ -115,7 +115,8 @@ impl Blocks {
         ensures ok { OnOk result (self.new ≡ deleted self.old hash.now) }
         ensures unused { OnOk result (live_count self.old hash.now ≡ 0) }
         ensures err { OnErr result (self.new ≡ self.old) }
-        ensures in_use { IfErr result (λ e. (e ≡ InUse (live_count self.old hash.now)) × (1 ≤ live_count self.old hash.now)) }
+        ensures in_use { IfErr result (λ e. (e ≡ InUse (live_count self.old hash.now)) ×
+            (1 ≤ live_count self.old hash.now)) }
     {
         let count = self.count(hash);
         if count > 0 {
