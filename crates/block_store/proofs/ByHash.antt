@@ -9,11 +9,12 @@ use Rattle.std.specs.Cmp.{tied_itself, eq_by_cmp_equiv}
 use Rattle.std.specs.declared.cmp.Ordering.TheVariants.{Less, Equal, Greater}
 use Rattle.std.specs.BTreeMap.{insert_entry}
 use Rattle.std.proofs.lemmas.Map.{lookup-remove_entry}
+use Rattle.std.proofs.lemmas.Map.Entries.{lookup-filter-keys}
 use Rattle.std.proofs.lemmas.Map.Keys.{IsDistinct-from_sorted}
 use Rattle.std.proofs.lemmas.List.Sums.{sum_by-cons}
 use Rattle.blake2_hash.specs.declared.digest.Hash32.{Hash32}
 use Rattle.block_store.specs.Hash.{hash_cmp, hash_total, hash_identical, is_hash}
-use Rattle.block_store.specs.Contents.{Contents, block_at, live_count, note_at, placed, without, put, told_dead}
+use Rattle.block_store.specs.Contents.{Contents, block_at, live_count, note_at, placed, without, put, told_dead, idle_notes}
 use Rattle.block_store.proofs.Showing.{same_hash}
 
 abbrev one_at : Hash32 → Hash32 → ℕ
@@ -109,3 +110,7 @@ put_by_hash c h q bytes =
       | true ↦ λ t. rw (same_hash h q t) (put_here c q bytes)
       | false ↦ λ t. put_apart c h q bytes t ∙ some_or_none (block_at c q)
     ] refl
+
+pub idle_by_hash : (c : Contents) (q : Hash32) → lookup (is_hash q) (idle_notes c) ≡ (if live_count c q == 0 then note_at c q else None)
+idle_by_hash c q =
+    lookup-filter-keys (is_hash q) (λ k. live_count c k == 0) (live_count c q == 0) (λ k t. ap (λ h. live_count c h == 0) (sym (same_hash q k t))) c.notes
