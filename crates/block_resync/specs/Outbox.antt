@@ -1,0 +1,90 @@
+-- The outbox: a list of numbered items, and what each call makes of it. And which blocks are due.
+use Rattle.std.specs.Prelude.{◌≡◌, ◌<◌, ◌≤◌, ℕ, ◌+◌, ◌-◌, ◌^◌, Bool, not, if◌then◌else◌, ◌==◌, ◌&&◌, List, [], ◌∷◌, ◌++◌, map, nat_le, count_by}
+use Rattle.std.specs.List.{AllByRecursion, filter, list_all, list_any}
+use Rattle.blake2_hash.specs.declared.digest.Hash32.{Hash32}
+use Rattle.crdt_core.specs.declared.memory.Memory.{Memory}
+use Rattle.crdt_core.specs.declared.memory.Memory.TheVariants.{Want, Full}
+use Rattle.block_resync.specs.declared.item.Item.{Item}
+
+pub record Outbox : Type 0 where
+  -- how many items were ever pushed, which is the number of the last one
+  pub pushed : ℕ
+  -- the items that wait, in order of their numbers, each with the nodes that have confirmed it
+  pub items : List Item
+
+abbrev pub empty : Outbox
+empty = record { pushed = 0; items = [] }
+
+-- ---- numbers
+
+abbrev pub numbers : List Item → List ℕ
+numbers items = map (λ x. x.number) items
+
+-- each of these is above the one before it, and the first above `low`
+abbrev pub Rises : ℕ → List ℕ → Type 0
+Rises low [] = Unit {0}
+Rises low (n ∷ ns) = (low < n) × Rises n ns
+
+-- the numbers ascend from 1, and none is above the last that was given
+pub record IsNumbered (pushed : ℕ) (items : List Item) : Type 0 where
+  pub rises : Rises 0 (numbers items)
+  pub given : AllByRecursion (λ n. n ≤ pushed) (numbers items)
+
+-- ---- confirmations
+
+-- n is one of these nodes
+abbrev pub is_among : ℕ → List ℕ → Bool
+is_among n nodes = list_any (λ m. m == n) nodes
+
+-- two nodes of the set are among these
+abbrev pub two_of : List ℕ → List ℕ → Bool
+two_of set nodes = nat_le 2 (count_by (λ n. is_among n nodes) set)
+
+-- two nodes of each set have confirmed the item
+abbrev pub two_of_each : List (List ℕ) → Item → Bool
+two_of_each sets x = list_all (λ set. two_of set x.confirmed) sets
+
+-- the item after a node confirmed it: a node counts once
+abbrev pub item_confirmed : ℕ → Item → Item
+item_confirmed node x = if is_among node x.confirmed then x else record x { confirmed = x.confirmed ++ node ∷ [] }
+
+abbrev pub item_forgot : Item → Item
+item_forgot x = record x { confirmed = [] }
+
+-- ---- the calls
+
+abbrev pub pushed_on : Outbox → List ℕ → Outbox
+pushed_on o row =
+    record {
+      pushed = o.pushed + 1;
+      items = o.items ++ record { number = o.pushed + 1; row = row; confirmed = [] } ∷ [];
+    }
+
+-- the node confirms the item with this number, where there is one
+abbrev pub confirmed : Outbox → ℕ → ℕ → Outbox
+confirmed o number node = record o { items = map (λ x. if x.number == number then item_confirmed node x else x) o.items }
+
+-- there is an item with this number, and two nodes of each set have confirmed it
+abbrev pub is_done : Outbox → ℕ → List (List ℕ) → Bool
+is_done o number sets = list_any (λ x. (x.number == number) && two_of_each sets x) o.items
+
+abbrev pub dropped : Outbox → ℕ → Outbox
+dropped o number = record o { items = filter (λ x. not (x.number == number)) o.items }
+
+abbrev pub forgot : Outbox → Outbox
+forgot o = record o { items = map item_forgot o.items }
+
+-- why an item isn't pushed: for want of memory, or because its number would be 2 ^ 64
+abbrev pub RefusesPush : ℕ → Memory → Type 0
+RefusesPush pushed Want = pushed + 1 < 2 ^ 64
+RefusesPush pushed Full = pushed + 1 ≡ 2 ^ 64
+
+-- ---- blocks
+
+-- the note is 600,000 milliseconds old or more
+abbrev pub is_due : ℕ → Hash32 × ℕ → Bool
+is_due now n = nat_le 600000 (now - n.1)
+
+-- the hashes of these notes that are due
+abbrev pub due_of : ℕ → List (Hash32 × ℕ) → List Hash32
+due_of now notes = map (λ n. n.0) (filter (is_due now) notes)

@@ -1,0 +1,84 @@
+-- That the contents for which a map stands are in order.
+use Rattle.std.proofs.Common.{◌≡◌, ℕ, true, false, cond, List, [], ◌∷◌, Option, Some, None, refl, sym, ap, ◌∙◌}
+use Rattle.std.specs.Prelude.{option_map, ◌==◌}
+use Rattle.std.specs.List.{AllByRecursion}
+use Rattle.std.specs.List.Sorted.{IsStrictlySortedBy}
+use Rattle.std.specs.Map.{lookup, keys_of}
+use Rattle.std.specs.Option.{is_some}
+use Rattle.std.specs.declared.cmp.Ordering.TheVariants.{Less}
+use Rattle.std.proofs.lemmas.Map.{NonePasses, none_passes_from_lookup}
+use Rattle.std.proofs.lemmas.Map.Made.{keys_of-map_values}
+use Rattle.blake2_hash.specs.declared.digest.Hash32.{Hash32}
+use Rattle.block_store.specs.declared.shelf.Kept.{Kept}
+use Rattle.block_store.specs.Hash.{hash_cmp, is_hash}
+use Rattle.block_store.specs.Contents.{IsInOrder, block_at}
+use Rattle.block_store.specs.Shelf.{Entries, contents_of, notes_of, note_before}
+use Rattle.block_store.proofs.Showing.{Sorted, Above, idle_of}
+use Rattle.block_store.proofs.Steps.{block_shown, count_absent}
+
+-- h is below each of these
+abbrev AllAbove : Hash32 → List (Hash32 × ℕ) → Type 0
+AllAbove h ns = AllByRecursion (λ k. hash_cmp h k ≡ Less) (keys_of ns)
+
+above_noted : (h : Hash32) (es : Entries) → Above h es → AllAbove h (notes_of es)
+above_noted h [] a = tt
+above_noted h (e ∷ es) a =
+    elim e.1.note as (λ n. AllAbove h (note_before e.0 n (notes_of es))) [
+      | None ↦ above_noted h es a.1
+      | Some t ↦ (a.0, above_noted h es a.1)
+    ]
+
+notes_sorted : (es : Entries) → Sorted es → IsStrictlySortedBy hash_cmp (keys_of (notes_of es))
+unfolding IsStrictlySortedBy
+notes_sorted [] s = tt
+notes_sorted (e ∷ es) s =
+    elim e.1.note as (λ n. IsStrictlySortedBy hash_cmp (keys_of (note_before e.0 n (notes_of es)))) [
+      | None ↦ notes_sorted es s.1
+      | Some t ↦ (above_noted e.0 es s.0, notes_sorted es s.1)
+    ]
+
+above_idle : (h : Hash32) (es : Entries) → Above h es → AllAbove h (idle_of es)
+above_idle h [] a = tt
+above_idle h (e ∷ es) a =
+    elim (e.1.count == 0) as (λ b. AllAbove h (cond b (note_before e.0 e.1.note (idle_of es)) (idle_of es))) [
+      | true ↦ elim e.1.note as (λ n. AllAbove h (note_before e.0 n (idle_of es))) [
+        | None ↦ above_idle h es a.1
+        | Some t ↦ (a.0, above_idle h es a.1)
+      ]
+      | false ↦ above_idle h es a.1
+    ]
+
+pub idle_sorted : (es : Entries) → Sorted es → IsStrictlySortedBy hash_cmp (keys_of (idle_of es))
+unfolding IsStrictlySortedBy
+idle_sorted [] s = tt
+idle_sorted (e ∷ es) s =
+    elim (e.1.count == 0) as (λ b. IsStrictlySortedBy hash_cmp (keys_of (cond b (note_before e.0 e.1.note (idle_of es)) (idle_of es)))) [
+      | true ↦ elim e.1.note as (λ n. IsStrictlySortedBy hash_cmp (keys_of (note_before e.0 n (idle_of es)))) [
+        | None ↦ idle_sorted es s.1
+        | Some t ↦ (above_idle e.0 es s.0, idle_sorted es s.1)
+      ]
+      | false ↦ idle_sorted es s.1
+    ]
+
+none_noted_at : (h : Hash32) (es : Entries) → NonePasses (is_hash h) es → lookup (is_hash h) (notes_of es) ≡ None
+none_noted_at h [] n = refl
+none_noted_at h (e ∷ es) n =
+    elim e.1.note as (λ m. lookup (is_hash h) (note_before e.0 m (notes_of es)) ≡ None) [
+      | None ↦ none_noted_at h es n.1
+      | Some t ↦ rw n.0 (none_noted_at h es n.1)
+    ]
+
+no_entry : (o : Option Kept) → option_map (λ k. k.bytes) o ≡ None → o ≡ None
+no_entry None e = refl
+no_entry (Some k) e = absurd (let no : true ≡ false = ap is_some e in cc)
+
+absent : (h : Hash32) (es : Entries) → block_at (contents_of es) h ≡ None → lookup (is_hash h) es ≡ None
+absent h es e = no_entry (lookup (is_hash h) es) (sym (block_shown h es) ∙ e)
+
+pub in_order : (es : Entries) → Sorted es → IsInOrder (contents_of es)
+in_order es s = record {
+  blocks = rw (keys_of-map_values (λ (k : Kept). k.bytes) es) s;
+  notes = notes_sorted es s;
+  held = λ h e. count_absent h es s (absent h es e);
+  noted = λ h e. none_noted_at h es (none_passes_from_lookup (is_hash h) es (absent h es e));
+}

@@ -1,0 +1,4 @@
+pub mod ByHash
+pub mod InOrder
+pub mod Showing
+pub mod Steps

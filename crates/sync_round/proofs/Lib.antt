@@ -1,0 +1,3 @@
+pub mod Confirming
+pub mod Counting
+pub mod Ordering
