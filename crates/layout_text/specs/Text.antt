@@ -1,0 +1,74 @@
+-- The text of a layout.
+use Rattle.std.specs.Prelude.{ℕ, Bool, true, false, ◌==◌, nat_eq, get_or, map, List, [], ◌∷◌, ◌++◌, flat_map, codes, decimal}
+use Rattle.std.specs.Cmp.Lexicographic.{pointwise}
+use Rattle.std.specs.List.{filter, range_with_len}
+use Rattle.layout_roles.specs.declared.role.Role.{Role}
+use Rattle.layout_roles.specs.Zones.{Name, zone_names}
+use Rattle.layout_roles.specs.Fits.{NodeSet, partitions}
+use Rattle.layout_flow.specs.declared.vertex.Vertex.{Vertex}
+use Rattle.layout_flow.specs.declared.vertex.Vertex.TheVariants.{Source, Up, Down, Zone, Node, Sink}
+use Rattle.layout_flow.specs.declared.cut.Cut.{Cut}
+use Rattle.layout_size.specs.declared.certified.Certified.{Certified}
+use Rattle.layout_text.specs.Runs.{runs, run_lines}
+
+-- a word after one space
+abbrev pub word : List ℕ → List ℕ
+word w = 32 ∷ w
+
+-- a number in decimal, after one space
+abbrev pub number : ℕ → List ℕ
+number n = word (decimal n)
+
+abbrev pub line : List ℕ → List ℕ
+line words = words ++ 10 ∷ []
+
+-- `p FIRST LAST A B C`
+abbrev pub set_line : ℕ → ℕ → NodeSet → List ℕ
+set_line first last set = line (codes "p" ++ number first ++ number last ++ flat_map number set)
+
+-- a line for each longest run of partitions with one set
+abbrev pub set_lines : List NodeSet → List ℕ
+set_lines sets = run_lines set_line 0 (runs (pointwise nat_eq) sets)
+
+abbrev pub is_in_partition : ℕ → Vertex → Bool
+is_in_partition p (Up q) = q == p
+is_in_partition p (Down q) = q == p
+is_in_partition p (Zone q i) = q == p
+is_in_partition p _ = false
+
+-- the word of a partition's vertex; a zone goes by its name
+abbrev pub vertex_word : List Name → Vertex → List ℕ
+vertex_word names (Up p) = codes "up"
+vertex_word names (Down p) = codes "down"
+vertex_word names (Zone p i) = codes "z:" ++ get_or names i []
+vertex_word names _ = []
+
+-- the words of a partition's vertices on the source's side, in their order there: up, down, and the zones by name
+abbrev pub side_words : List Name → List Vertex → ℕ → List ℕ
+side_words names side p = flat_map (λ vertex. word (vertex_word names vertex)) (filter (is_in_partition p) side)
+
+-- `c FIRST LAST` and the words, where there are any
+abbrev pub side_line : ℕ → ℕ → List ℕ → List ℕ
+side_line first last [] = []
+side_line first last (b ∷ words) = line (codes "c" ++ number first ++ number last ++ (b ∷ words))
+
+-- a line for each longest run of partitions with the same vertices on the source's side
+abbrev pub side_lines : List Name → List Vertex → List ℕ
+side_lines names side = run_lines side_line 0 (runs (pointwise nat_eq) (map (side_words names side) (range_with_len 0 256)))
+
+abbrev pub node_word : Vertex → List ℕ
+node_word (Node n) = number n
+node_word _ = []
+
+-- `cut SIZE WEIGHT`, the lines of the partitions, and `cn` with the nodes on the source's side
+abbrev pub cut_text : List Name → Cut → List ℕ
+cut_text names cut =
+    line (codes "cut" ++ number cut.size ++ number cut.weight) ++ side_lines names cut.side ++ line (codes "cn" ++ flat_map node_word cut.side)
+
+abbrev pub cut_lines : List Role → Cut → List ℕ
+cut_lines roles cut = cut_text (zone_names roles) cut
+
+-- `size S`, `redundancy R`, the sets of the partitions, and the cut that shows that no greater size is possible
+abbrev pub layout_text : List Role → Certified → List ℕ
+layout_text roles certified =
+    line (codes "size" ++ number certified.size) ++ line (codes "redundancy" ++ number certified.r) ++ set_lines certified.sets.sets ++ cut_lines roles certified.cut
