@@ -27,7 +27,7 @@ abbrev pub set_line : ℕ → ℕ → NodeSet → List ℕ
 set_line first last set = line (codes "p" ++ number first ++ number last ++ flat_map number set)
 
 -- a line for each longest run of partitions with one set
-abbrev pub set_lines : List NodeSet → List ℕ
+unfoldable pub set_lines : List NodeSet → List ℕ
 set_lines sets = run_lines set_line 0 (runs (pointwise nat_eq) sets)
 
 abbrev pub is_in_partition : ℕ → Vertex → Bool
@@ -36,11 +36,14 @@ is_in_partition p (Down q) = q == p
 is_in_partition p (Zone q i) = q == p
 is_in_partition p _ = false
 
+abbrev pub zone_word : List Name → ℕ → List ℕ
+zone_word names i = codes "z:" ++ get_or names i []
+
 -- the word of a partition's vertex; a zone goes by its name
 abbrev pub vertex_word : List Name → Vertex → List ℕ
 vertex_word names (Up p) = codes "up"
 vertex_word names (Down p) = codes "down"
-vertex_word names (Zone p i) = codes "z:" ++ get_or names i []
+vertex_word names (Zone p i) = zone_word names i
 vertex_word names _ = []
 
 -- the words of a partition's vertices on the source's side, in their order there: up, down, and the zones by name
@@ -53,22 +56,37 @@ side_line first last [] = []
 side_line first last (b ∷ words) = line (codes "c" ++ number first ++ number last ++ (b ∷ words))
 
 -- a line for each longest run of partitions with the same vertices on the source's side
-abbrev pub side_lines : List Name → List Vertex → List ℕ
+unfoldable pub side_lines : List Name → List Vertex → List ℕ
 side_lines names side = run_lines side_line 0 (runs (pointwise nat_eq) (map (side_words names side) (range_with_len 0 256)))
 
 abbrev pub node_word : Vertex → List ℕ
 node_word (Node n) = number n
 node_word _ = []
 
--- `cut SIZE WEIGHT`, the lines of the partitions, and `cn` with the nodes on the source's side
-abbrev pub cut_text : List Name → Cut → List ℕ
-cut_text names cut =
-    line (codes "cut" ++ number cut.size ++ number cut.weight) ++ side_lines names cut.side ++ line (codes "cn" ++ flat_map node_word cut.side)
+-- `cut SIZE WEIGHT`
+unfoldable pub cut_line : ℕ → ℕ → List ℕ
+cut_line size weight = line (codes "cut" ++ number size ++ number weight)
 
+-- `cn` and the nodes on the source's side, in their order there: ascending
+unfoldable pub nodes_line : List Vertex → List ℕ
+nodes_line side = line (codes "cn" ++ flat_map node_word side)
+
+abbrev pub cut_text : List Name → Cut → List ℕ
+cut_text names cut = cut_line cut.size cut.weight ++ side_lines names cut.side ++ nodes_line cut.side
+
+-- the lines of a cut of the network of these roles
 abbrev pub cut_lines : List Role → Cut → List ℕ
 cut_lines roles cut = cut_text (zone_names roles) cut
 
--- `size S`, `redundancy R`, the sets of the partitions, and the cut that shows that no greater size is possible
+-- `size S`
+unfoldable pub size_line : ℕ → List ℕ
+size_line size = line (codes "size" ++ number size)
+
+-- `redundancy R`
+unfoldable pub redundancy_line : ℕ → List ℕ
+redundancy_line r = line (codes "redundancy" ++ number r)
+
+-- the size, the redundancy, the sets of the partitions, and the cut that shows that no greater size is possible
 abbrev pub layout_text : List Role → Certified → List ℕ
 layout_text roles certified =
-    line (codes "size" ++ number certified.size) ++ line (codes "redundancy" ++ number certified.r) ++ set_lines certified.sets.sets ++ cut_lines roles certified.cut
+    size_line certified.size ++ redundancy_line certified.r ++ set_lines certified.sets.sets ++ cut_lines roles certified.cut
