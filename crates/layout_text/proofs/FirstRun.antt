@@ -1,8 +1,8 @@
 -- The first run of a list, and the lines of the runs after it.
-use Rattle.std.proofs.Common.{◌≡◌, ℕ, zero, suc, ◌+◌, ◌-◌, ◌<◌, ◌≤◌, Bool, true, false, cond, List, [], ◌∷◌, ◌++◌, take, Option, Some, None, length, drop, get_or, refl, sym, ap, ◌∙◌, subst, arith, append_assoc, append-nil, inl, inr}
+use Rattle.std.proofs.Common.{◌≡◌, ℕ, zero, suc, ◌+◌, ◌-◌, ◌<◌, ◌≤◌, Bool, true, false, List, [], ◌∷◌, ◌++◌, take, Some, length, drop, get_or, refl, sym, ap, ◌∙◌, arith, append_assoc}
 use Rattle.std.specs.Prelude.{slice_get}
 use Rattle.std.proofs.lemmas.List.{drop_more, drop_all, drop-drop, length-drop, take_all}
-use Rattle.layout_text.specs.Runs.{Run, once, joined, runs, run_lines}
+use Rattle.layout_text.specs.Runs.{Run, runs, run_lines}
 
 module _ {A : Type 0} (same : A → A → Bool) where
   -- the first of these runs, so many values longer, from this value on

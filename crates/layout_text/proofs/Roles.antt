@@ -1,6 +1,6 @@
 -- The roles of nodes, one by one.
-use Rattle.std.proofs.Common.{◌≡◌, ◌≢◌, ℕ, ◌+◌, ◌<◌, ◌≤◌, min, ℤ, pos, negsuc, Bool, true, false, not, cond, ◌&&◌, ◌||◌, ◌==◌, nat_lt, nat_le, IsTrue, List, [], ◌∷◌, Option, Some, None, Result, Ok, Err, option_and_then, length, drop, get_or, codes, refl, sym, ap, ◌∙◌, subst, arith, inl, inr, leb-true}
-use Rattle.std.specs.List.{list_all, list_any}
+use Rattle.std.proofs.Common.{◌≡◌, ◌≢◌, ℕ, ◌+◌, ◌<◌, ◌≤◌, min, ℤ, pos, negsuc, Bool, true, false, not, nat_lt, nat_le, List, [], ◌∷◌, Option, Some, None, Result, Ok, Err, option_and_then, length, drop, get_or, codes, refl, sym, ap, ◌∙◌, subst, arith, inl, inr, leb-true}
+use Rattle.std.specs.List.{list_all}
 use Rattle.std.proofs.lemmas.Bool.{cases_Bool, and_parts}
 use Rattle.std.proofs.lemmas.Bool.Decides.{nat_tests}
 use Rattle.std.proofs.lemmas.List.{drop_more}
@@ -9,13 +9,13 @@ use Rattle.toml.specs.View.{view, items_view}
 use Rattle.toml.specs.declared.value.Value.{Value}
 use Rattle.layout_roles.specs.declared.role.Role.{Role}
 use Rattle.layout_roles.specs.declared.role.Kind.{Kind}
-use Rattle.layout_roles.specs.Zones.{ascend_from, nodes_ascend, is_numbered}
+use Rattle.layout_roles.specs.Zones.{ascend_from, is_numbered}
 use Rattle.layout_text.specs.declared.config.FieldName.{FieldName}
 use Rattle.layout_text.specs.declared.config.FieldName.TheVariants as field
 use Rattle.layout_text.specs.declared.config.ConfigFault.{ConfigFault}
 use Rattle.layout_text.specs.declared.config.ConfigFault.TheVariants.{NotToml, Field, Memory}
 use Rattle.layout_text.specs.Values.{keep_if, is_between, between, number_in, tables_of, is_taken, id_in, zone_in, kind_in}
-use Rattle.layout_text.specs.Settings.{◌>>=◌, needed, put_role, role_in, roles_in, faulted, IsFaultOf, Reads}
+use Rattle.layout_text.specs.Settings.{◌>>=◌, needed, put_role, role_in, roles_in, faulted, IsFaultOf}
 use Rattle.layout_text.proofs.Tables.{both}
 
 -- a role that may come after others: a node from 1 to 64 that none of them is
@@ -49,7 +49,7 @@ free_found : (before : List Role) (found : Option ℕ) (n : ℕ) → option_and_
 free_found before None n h = cc
 free_found before (Some m) n h =
     let k = kept (not (is_taken before m)) m n h in
-    let free : is_taken before m ≡ false = elim (cases_Bool (is_taken before m)) [ | inl taken ↦ cc | inr not_taken ↦ not_taken ] in
+    let free : is_taken before m ≡ false = elim (cases_Bool (is_taken before m)) [ inl taken ↦ cc | inr not_taken ↦ not_taken ] in
     (ap Some k.1, subst (λ i. is_taken before i ≡ false) k.1 free)
 
 id_found : (greatest : ℕ) (before : List Role) (node : Members) (n : ℕ) → id_in greatest before node ≡ Some n → (1 ≤ n) × (n ≤ 64) × (is_taken before n ≡ false)

@@ -1,5 +1,5 @@
 -- The longest runs of equal values in a list.
-use Rattle.std.specs.Prelude.{ℕ, suc, ◌+◌, ◌-◌, Bool, if◌then◌else◌, List, [], ◌∷◌, ◌++◌}
+use Rattle.std.specs.Prelude.{◌≡◌, ℕ, suc, ◌+◌, ◌-◌, ◌<◌, ⊤, Bool, false, if◌then◌else◌, List, [], ◌∷◌, ◌++◌, replicate, flat_map}
 
 -- a value, and how many times it stands there
 pub record Run (A : Type 0) : Type 0 where
@@ -23,3 +23,13 @@ module _ {A : Type 0} where
   abbrev pub run_lines : (ℕ → ℕ → A → List ℕ) → ℕ → List (Run A) → List ℕ
   run_lines line place [] = []
   run_lines line place (run ∷ runs) = line place (place + run.count - 1) run.value ++ run_lines line (place + run.count) runs
+
+  -- the values of some runs, one by one
+  abbrev pub written_out : List (Run A) → List A
+  written_out runs = flat_map (λ run. replicate run.count run.value) runs
+
+  -- no run is empty, and none has the value of the one after it
+  abbrev pub AreApart : (A → A → Bool) → List (Run A) → Type 0
+  AreApart same [] = ⊤
+  AreApart same (run ∷ []) = 0 < run.count
+  AreApart same (run ∷ next ∷ runs) = (0 < run.count) × (same run.value next.value ≡ false) × AreApart same (next ∷ runs)

@@ -1,12 +1,12 @@
 -- The text of a layout.
-use Rattle.std.specs.Prelude.{ℕ, Bool, true, false, ◌==◌, nat_eq, get_or, map, List, [], ◌∷◌, ◌++◌, flat_map, codes, decimal}
+use Rattle.std.specs.Prelude.{ℕ, Bool, false, ◌==◌, nat_eq, get_or, map, List, [], ◌∷◌, ◌++◌, flat_map, codes, decimal}
 use Rattle.std.specs.Cmp.Lexicographic.{pointwise}
 use Rattle.std.specs.List.{filter, range_with_len}
 use Rattle.layout_roles.specs.declared.role.Role.{Role}
 use Rattle.layout_roles.specs.Zones.{Name, zone_names}
-use Rattle.layout_roles.specs.Fits.{NodeSet, partitions}
+use Rattle.layout_roles.specs.Fits.{NodeSet}
 use Rattle.layout_flow.specs.declared.vertex.Vertex.{Vertex}
-use Rattle.layout_flow.specs.declared.vertex.Vertex.TheVariants.{Source, Up, Down, Zone, Node, Sink}
+use Rattle.layout_flow.specs.declared.vertex.Vertex.TheVariants.{Up, Down, Zone, Node}
 use Rattle.layout_flow.specs.declared.cut.Cut.{Cut}
 use Rattle.layout_size.specs.declared.certified.Certified.{Certified}
 use Rattle.layout_text.specs.Runs.{runs, run_lines}

@@ -47,7 +47,12 @@ fn append_vertex(out: &mut Bytes, names: &[Bytes], vertex: &Vertex) -> Result<()
 }
 
 // The words of a partition's vertices.
-fn side_words(alloc: Global, names: &[Bytes], side: &[Vertex], partition: u8) -> Result<Bytes, Memory>
+fn side_words(
+    alloc: Global,
+    names: &[Bytes],
+    side: &[Vertex],
+    partition: u8,
+) -> Result<Bytes, Memory>
     ensures words { IfOk result (λ words. words ≡ side_words names.now side.now partition) }
     ensures want { IfErr result (λ e. e ≡ Want) }
 {

@@ -113,7 +113,11 @@ fn node_values(root: &Table) -> Option<&Array>
     ensures same { IfSome result (λ values. nodes_in (table_view root.now) ≡ tables_of (array_view values.now)) }
 {
     let values = values::array_at(root, "node")?;
-    if are_tables(values.as_slice()) { Some(values) } else { None }
+    if are_tables(values.as_slice()) {
+        Some(values)
+    } else {
+        None
+    }
 }
 
 fn are_tables(values: &[Value]) -> bool

@@ -111,7 +111,9 @@ pub(crate) fn bucket_of<'a>(before: &[Bytes], value: &'a Value) -> Option<&'a st
     ensures { option_copied result ≡ bucket_of before.now (view value.now) }
 {
     match value.as_str() {
-        Some(name) if is_bucket_name(name.as_bytes()) && !has_name(before, name.as_bytes()) => Some(name),
+        Some(name) if is_bucket_name(name.as_bytes()) && !has_name(before, name.as_bytes()) => Some(
+            name,
+        ),
         _ => None,
     }
 }

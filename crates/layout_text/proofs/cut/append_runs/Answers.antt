@@ -1,4 +1,4 @@
-use Rattle.std.proofs.Common.{◌≡◌, arith, refl, nat_eq, ◌+◌, ◌++◌, ◌≤◌, length}
+use Rattle.std.proofs.Common.{arith, refl, nat_eq, ◌+◌, ◌++◌}
 use Rattle.std.specs.Cmp.Lexicographic.{pointwise}
 use Rattle.std.proofs.lemmas.List.{length-drop}
 use Rattle.layout_text.specs.Text.{side_line}

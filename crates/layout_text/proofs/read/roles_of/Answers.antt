@@ -1,9 +1,7 @@
-use Rattle.std.proofs.Common.{◌≡◌, Some, sym, ap, ◌∙◌, option_map, subst}
-use Rattle.std.specs.List.{list_all}
+use Rattle.std.proofs.Common.{◌≡◌, Some, sym, ap, ◌∙◌, option_map}
 use Rattle.std.proofs.lemmas.Result.{err_from_is_err_and}
 use Rattle.toml.specs.Data.{as_table}
 use Rattle.toml.specs.View.{view, table_view}
-use Rattle.layout_roles.specs.Zones.{is_numbered, nodes_ascend}
 use Rattle.layout_text.specs.Settings.{role_in}
 use Rattle.layout_text.proofs.Roles.{role_is_new, faulted_ok, ascend_put, numbered_put, fault_here, role_here}
 use Rattle.layout_text.proofs.read.roles_of.Goals as goal

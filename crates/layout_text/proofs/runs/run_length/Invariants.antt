@@ -1,4 +1,3 @@
-use Rattle.std.proofs.Common.{◌≤◌}
 use Rattle.layout_text.proofs.FirstRun.{IsRunning}
 use Rattle.layout_text.proofs.runs.run_length.Given as goal
 

@@ -1,4 +1,4 @@
-use Rattle.std.proofs.Common.{◌≡◌, arith, refl, nat_eq, get_or, [], ◌+◌, ◌++◌, ◌≤◌, length}
+use Rattle.std.proofs.Common.{arith, refl, nat_eq, get_or, [], ◌+◌, ◌++◌}
 use Rattle.std.specs.Cmp.Lexicographic.{pointwise}
 use Rattle.std.proofs.lemmas.List.{length-drop}
 use Rattle.layout_text.specs.Text.{set_line}
