@@ -1,3 +1,4 @@
 pub mod Replay
 pub mod Answer
 pub mod Stop
+pub mod Layout

@@ -1,0 +1,13 @@
+//! What holds of the answers that are stated.
+ghost use Rattle.std.specs.Prelude.{ℕ, List, ◌≡◌};
+ghost use Rattle.lab_outside.specs.declared.exit.Status.{Status};
+ghost use Rattle.layout_command.specs.Answer.{IsAnswer};
+
+use layout_roles::smaller_sizes;
+
+/// One status is stated for an input, whichever greatest assignment is given.
+pub fn one_status()
+    ensures { (input : List ℕ) (first second : Status) (text other : List ℕ) → IsAnswer input first text → IsAnswer input second other → first ≡ second }
+{
+    smaller_sizes();
+}

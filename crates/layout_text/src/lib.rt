@@ -1,0 +1,30 @@
+//! A cluster's configuration in TOML, and the text of the layout that is computed for it.
+//!
+//! `read_config` reads which nodes there are: the settings that a text says, or why it says none, which is the
+//! first bad field in the order in which they are looked at. `layout_lines` writes a computed layout as an
+//! operator reads it: the partition size, the redundancy, the sets of the partitions (`set_lines`), and a cut
+//! of the flow network for the next size (`cut_lines`), which shows that no greater size is possible. Equal
+//! neighbours share a line: `longest_runs` says that no line could be longer.
+//!
+//! Each call gives exactly what the definition of its contract says, and fails else only for want of memory.
+#![tactic(auto)]
+
+mod config;
+mod cut;
+mod laws;
+mod lines;
+mod read;
+mod runs;
+mod sets;
+#[cfg(test)]
+mod tests;
+mod values;
+mod words;
+mod zones;
+
+pub use config::{Config, ConfigFault, FieldName};
+pub use cut::cut_lines;
+pub use laws::longest_runs;
+pub use lines::layout_lines;
+pub use read::read_config;
+pub use sets::set_lines;

@@ -1,0 +1,48 @@
+//! The text of a layout.
+ghost use Rattle.std.specs.Prelude.{◌≡◌, ◌++◌, IfOk, IfErr, OnOk};
+ghost use Rattle.crdt_core.specs.declared.memory.Memory.TheVariants.{Want};
+ghost use Rattle.layout_text.specs.Text.{size_line, redundancy_line, layout_text};
+
+use crate::cut::append_cut;
+use crate::sets::append_sets;
+use crate::words::append_number;
+use crate::zones::zone_names;
+use crdt_core::{Bytes, Memory};
+use layout_roles::Roles;
+use layout_size::Certified;
+use std::alloc::Global;
+
+#[tactic(auto, unfolding(crate::specs::Text::size_line))]
+fn append_size(out: &mut Bytes, size: u64) -> Result<(), Memory>
+    ensures ok { OnOk result (out.new ≡ out.old ++ size_line size) }
+    ensures want { IfErr result (λ e. e ≡ Want) }
+{
+    out.extend_from_slice(b"size")?;
+    append_number(out, size)?;
+    out.push(b'\n')
+}
+
+#[tactic(auto, unfolding(crate::specs::Text::redundancy_line))]
+fn append_redundancy(out: &mut Bytes, r: u8) -> Result<(), Memory>
+    ensures ok { OnOk result (out.new ≡ out.old ++ redundancy_line r) }
+    ensures want { IfErr result (λ e. e ≡ Want) }
+{
+    out.extend_from_slice(b"redundancy")?;
+    append_number(out, u64::from(r))?;
+    out.push(b'\n')
+}
+
+/// `size S`, `redundancy R`, the sets of the partitions (`set_lines`), and the cut for the next size
+/// (`cut_lines`), which shows that no greater partition size is possible.
+pub fn layout_lines(alloc: Global, certified: &Certified, roles: &Roles) -> Result<Bytes, Memory>
+    ensures text { IfOk result (λ text. text ≡ layout_text roles.now.list certified.now) }
+    ensures want { IfErr result (λ e. e ≡ Want) }
+{
+    let names = zone_names(alloc, roles.list.as_slice())?;
+    let mut out = Bytes::new(alloc);
+    append_size(&mut out, certified.size)?;
+    append_redundancy(&mut out, certified.r)?;
+    append_sets(&mut out, certified.sets.sets.as_slice())?;
+    append_cut(&mut out, names.as_slice(), &certified.cut)?;
+    Ok(out)
+}
