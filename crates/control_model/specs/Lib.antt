@@ -1,0 +1,4 @@
+pub mod Facts
+pub mod Layouts
+pub mod Steps
+pub mod World
