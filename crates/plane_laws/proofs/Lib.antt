@@ -6,3 +6,4 @@ pub mod Growth
 pub mod Moves
 pub mod Steps
 pub mod Given
+pub mod Runs

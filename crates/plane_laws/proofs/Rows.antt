@@ -60,6 +60,19 @@ pub all_took_fine : {C E K R : Type 0} (control : Control C E) (c : C) (n : ℕ)
 all_took_fine control c n [] = tt
 all_took_fine control c n (r ∷ rs) = (tt, all_took_fine control c n rs)
 
+module _ {C E K R : Type 0} (plane : Plane C E K R) (laws : JoinLaws plane.join) where
+  -- who takes all rows of a list has at least these
+  pub rows_over : (rows : List (Row K R)) (older : List (Entry K R)) (n : ℕ) (k : K) → IsOver plane.join (row_at plane (all_took n rows ++ older) n k) (row_in plane rows k)
+  rows_over [] older n k = tt
+  rows_over (r ∷ rs) older n k =
+      let before = rows_over rs older n k in
+      let at = row_at plane (all_took n rs ++ older) n k in
+      let has = row_in plane rs k in
+      rw (eq-eqb n n refl) (elim (plane.keys.is_same r.key k) as (λ b. IsOver plane.join (cond b (option_join plane.join at (Some r.row)) at) (cond b (option_join plane.join has (Some r.row)) has)) [
+        | true ↦ over_merged laws at has r.row before
+        | false ↦ before
+      ])
+
 module _ {C E K R : Type 0} (plane : Plane C E K R) (laws : PlaneLaws plane) where
   row_grows : (new older : List (Entry K R)) (n : ℕ) (k : K) (x : R) → AllByRecursion (Leaves n (plane.keys.partition k)) new → IsAtLeast plane.join (row_at plane older n k) x → IsAtLeast plane.join (row_at plane (new ++ older) n k) x
   row_grows [] older n k x a h = h
@@ -89,18 +102,6 @@ module _ {C E K R : Type 0} (plane : Plane C E K R) (laws : PlaneLaws plane) whe
 
   pub row_new : (older : List (Entry K R)) (n : ℕ) (k : K) (x : R) → IsAtLeast plane.join (row_at plane (took n k x ∷ older) n k) x
   row_new older n k x = rw (eq-eqb n n refl, laws.keys.itself k) (at_least_right laws.join (row_at plane older n k) x)
-
-  -- who takes all rows of a list has at least these
-  pub rows_over : (rows : List (Row K R)) (older : List (Entry K R)) (n : ℕ) (k : K) → IsOver plane.join (row_at plane (all_took n rows ++ older) n k) (row_in plane rows k)
-  rows_over [] older n k = tt
-  rows_over (r ∷ rs) older n k =
-      let before = rows_over rs older n k in
-      let at = row_at plane (all_took n rs ++ older) n k in
-      let has = row_in plane rs k in
-      rw (eq-eqb n n refl) (elim (plane.keys.is_same r.key k) as (λ b. IsOver plane.join (cond b (option_join plane.join at (Some r.row)) at) (cond b (option_join plane.join has (Some r.row)) has)) [
-        | true ↦ over_merged laws.join at has r.row before
-        | false ↦ before
-      ])
 
   fine_leaves : (c : C) (i n p : ℕ) → Contains (plane.control.set c i p) n → i ≤ plane.control.newest c n → plane.control.oldest c n ≤ i → (e : Entry K R) → IsFineEntry plane.control c e → Leaves n p e
   fine_leaves c i n p is below above (took m j x) f = tt

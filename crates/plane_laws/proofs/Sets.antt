@@ -10,11 +10,11 @@ contains_here x xs = (0, omega arith, refl)
 pub contains_there : {X : Type 0} (y : X) (xs : List X) (x : X) → Contains xs x → Contains (y ∷ xs) x
 contains_there y xs x c = (suc c.0, (let h : c.0 < length xs = c.1 in omega arith), c.2)
 
-contains_cases : (y : ℕ) (ys : List ℕ) (n : ℕ) → Contains (y ∷ ys) n → (n ≡ y) ⊎ Contains ys n
+pub contains_cases : (y : ℕ) (ys : List ℕ) (n : ℕ) → Contains (y ∷ ys) n → (n ≡ y) ⊎ Contains ys n
 contains_cases y ys n (zero, h, e) = inl (sym e)
 contains_cases y ys n (suc k, h, e) = inr (k, omega arith, e)
 
-contains_none : (n : ℕ) → Contains [] n → ⊥
+pub contains_none : (n : ℕ) → Contains [] n → ⊥
 contains_none n c = let h : c.0 < 0 = c.1 in omega arith
 
 abbrev IsOneOf : ℕ → ℕ → ℕ → ℕ → Type 0

@@ -1,0 +1,4 @@
+pub mod Completes
+pub mod Quiet
+pub mod Sample
+pub mod Found
