@@ -1,10 +1,8 @@
 -- A run that changes the layout: version 2 is applied, acknowledged, synchronized and read, and version 1 is dropped.
-use Rattle.std.specs.Prelude.{◌≡◌, ℕ, Bool, leb, ◌&&◌, List, [], ◌∷◌, ◌++◌}
-use Rattle.std.specs.List.{flat_map}
-use Rattle.view_model.specs.View.{Reading, View, oldest, newest}
-use Rattle.control_model.specs.World.{Request, World, empty, view_of}
+use Rattle.std.specs.Prelude.{ℕ, Bool, leb, ◌&&◌, List, [], ◌∷◌, ◌++◌}
+use Rattle.view_model.specs.View.{Reading}
+use Rattle.control_model.specs.World.{World, empty}
 use Rattle.control_model.specs.Steps.{Step, run}
-use Rattle.control_model.specs.Facts.{read_of}
 
 -- a layout that is nothing but what is said of it
 pub record Plan : Type 0 where
@@ -29,23 +27,41 @@ is_first n = leb 1 n && leb n 3
 abbrev pub tells : ℕ → ℕ → List (Step Plan)
 tells n k = Step.Gossip n ∷ Step.Deliver 1 k ∷ Step.Deliver 2 k ∷ Step.Deliver 3 k ∷ Step.Deliver 4 k ∷ []
 
+-- a request begins at node 2, and node 1 applies version 2
 abbrev pub applied : List (Step Plan)
 applied = Step.Install is_first first_plan ∷ Step.Begin 2 ∷ Step.Apply 1 second_plan ∷ tells 1 0
 
-abbrev pub acknowledged : List (Step Plan)
-acknowledged = Step.End 2 1 ∷ Step.RaiseAck 1 ∷ Step.RaiseAck 2 ∷ Step.RaiseAck 3 ∷ Step.RaiseAck 4 ∷ (tells 1 1 ++ (tells 2 2 ++ (tells 3 3 ++ tells 4 4)))
+-- each node raises its ack and tells it
+abbrev pub acks : List (Step Plan)
+acks = Step.RaiseAck 1 ∷ Step.RaiseAck 2 ∷ Step.RaiseAck 3 ∷ Step.RaiseAck 4 ∷ (tells 1 1 ++ (tells 2 2 ++ (tells 3 3 ++ tells 4 4)))
 
+-- the same once the request has ended
+abbrev pub acknowledged : List (Step Plan)
+acknowledged = Step.End 2 1 ∷ acks
+
+-- three nodes of version 1 begin rounds, and two complete them
 abbrev pub synchronized : List (Step Plan)
 synchronized = Step.BeginRound 1 ∷ Step.BeginRound 2 ∷ Step.BeginRound 3 ∷ Step.Complete 1 ∷ Step.Complete 3 ∷ (tells 1 5 ++ tells 3 6)
 
+-- each node acknowledges that it reads version 2, and node 2 cleans
 abbrev pub cleaned_up : List (Step Plan)
 cleaned_up = Step.RaiseSyncAck 1 ∷ Step.RaiseSyncAck 2 ∷ Step.RaiseSyncAck 3 ∷ Step.RaiseSyncAck 4 ∷ (tells 1 7 ++ (tells 2 8 ++ (tells 3 9 ++ (tells 4 10 ++ (Step.Clean 2 ∷ Step.Begin 4 ∷ [])))))
 
+abbrev pub goes_on : World Plan → List (Step Plan) → World Plan
+goes_on w steps = run plan_reading 2 w steps
+
+abbrev pub after_apply : World Plan
+after_apply = goes_on empty applied
+
+-- the request is still in flight, and node 1 tries a round
+abbrev pub held_back : World Plan
+held_back = goes_on after_apply (acks ++ (Step.BeginRound 1 ∷ []))
+
 abbrev pub before_reading : World Plan
-before_reading = run plan_reading 2 empty (applied ++ acknowledged)
+before_reading = goes_on after_apply acknowledged
 
 abbrev pub after_reading : World Plan
-after_reading = run plan_reading 2 before_reading synchronized
+after_reading = goes_on before_reading synchronized
 
 abbrev pub after_cleaning : World Plan
-after_cleaning = run plan_reading 2 after_reading cleaned_up
+after_cleaning = goes_on after_reading cleaned_up
