@@ -5,15 +5,46 @@
 //! `L` is what a layout is, `K` what a key is, `R` what a row is.
 #![tactic(auto)]
 
-ghost use Rattle.std.specs.Prelude.{◌≡◌, ◌⊎◌, ℕ, Bool, true, Some, None, List, [], ◌∷◌, map};
+ghost use Rattle.std.specs.Prelude.{◌≡◌, ◌⊎◌, ◌≤◌, ℕ, Bool, true, Some, None, List, [], ◌∷◌, length, map};
+ghost use Rattle.std.specs.List.{Contains};
+ghost use Rattle.crdt_core.specs.Laws.{JoinLaws};
 ghost use Rattle.view_model.specs.View.{Reading};
 ghost use Rattle.control_model.specs.World.{World, empty};
 ghost use Rattle.control_model.specs.Steps.{Step};
 ghost use Rattle.version_laws.specs.Example.{Plan};
+ghost use Rattle.plane_model.specs.Keys.{Keys, KeyLaws};
+ghost use Rattle.plane_model.specs.Control.{ControlLaws};
+ghost use Rattle.plane_model.specs.Plane.{PlaneLaws};
 ghost use Rattle.plane_model.specs.World.{Read, first};
-ghost use Rattle.plane_model.specs.Action.{Happens};
-ghost use Rattle.plane_meets.specs.Joint.{seen, CompletesIt};
+ghost use Rattle.plane_model.specs.Action.{Action, run, Happens};
+ghost use Rattle.plane_model.specs.Kept.{GivesKept, none_collected};
+ghost use Rattle.plane_meets.specs.Joint.{seen, joint, CompletesIt};
 ghost use Rattle.plane_meets.specs.Example.{plane, put_row, put_and_get, after_get};
+
+/// The control plane of layout versions proves what the data plane takes of a control plane, so that the laws of
+/// the data plane hold over both.
+pub fn the_control_plane_meets<L, K, R>()
+    ensures control { (r : Reading L) (partitions : ℕ) → 1 ≤ partitions → ControlLaws (seen r partitions) }
+    ensures both { (r : Reading L) (partitions : ℕ) (keys : Keys K) (join : R → R → R) → 1 ≤ partitions → KeyLaws keys → JoinLaws join → PlaneLaws (joint r partitions keys join) }
+{}
+
+/// Kept reads, over every list of events of both planes: whatever versions are applied, whatever views travel,
+/// and whatever rows, answers and confirmations come, a read or range phase that ends gives, at each key that it
+/// names, at least the join of all rows of that key that store phases kept before it began: by a moment before
+/// it, and by what it says of its own beginning.
+pub fn kept_rows_are_read<L, K, R>()
+    ensures by_a_moment { (r : Reading L) (partitions : ℕ) (keys : Keys K) (join : R → R → R) → 1 ≤ partitions → KeyLaws keys → JoinLaws join →
+        (before later : List (Action (World L) (Step L) K R)) (read : Read (World L) K R) →
+        (let both = joint r partitions keys join in let w = run both (first empty) before in
+        Happens both (first empty) before → Happens both w later →
+        Contains (run both w later).reads read → length w.readings ≤ read.reading.number →
+        GivesKept both none_collected w.kept read) }
+    ensures by_its_beginning { (r : Reading L) (partitions : ℕ) (keys : Keys K) (join : R → R → R) → 1 ≤ partitions → KeyLaws keys → JoinLaws join →
+        (events : List (Action (World L) (Step L) K R)) (read : Read (World L) K R) →
+        (let both = joint r partitions keys join in
+        Happens both (first empty) events → Contains (run both (first empty) events).reads read →
+        GivesKept both none_collected read.reading.kept read) }
+{}
 
 /// A step completes a round only where its node has it open.
 pub fn open_rounds_complete<L>()
