@@ -45,7 +45,7 @@ pub record Pushed (K R : Type 0) : Type 0 where
   pub node : ℕ
 
 -- a read or range phase: its place among all that began, the partition and the version that it asks for, and what was when it began
-pub record Reading (C K R : Type 0) : Type 0 where
+pub record Question (C K R : Type 0) : Type 0 where
   pub number : ℕ
   pub partition : ℕ
   pub version : ℕ
@@ -55,31 +55,31 @@ pub record Reading (C K R : Type 0) : Type 0 where
 
 -- a node answered with all that it had
 pub record Answer (C K R : Type 0) : Type 0 where
-  pub reading : Reading C K R
+  pub question : Question C K R
   pub node : ℕ
   pub rows : K → Option R
 
 -- a read or range phase ended, and what it gives at each key of its partition
 pub record Read (C K R : Type 0) : Type 0 where
-  pub reading : Reading C K R
+  pub question : Question C K R
   pub rows : K → Option R
 
 pub record World (C K R : Type 0) : Type 0 where
   pub control : C
   pub log : List (Entry K R)  -- the newest first, as all lists here
-  pub stores : List (Store K R)
-  pub stored : List (Stored K R)
-  pub kept : List (Store K R)
-  pub rounds : List (Round K R)
-  pub pushes : List (Push K R)
-  pub pushed : List (Pushed K R)
-  pub finished : List (Round K R)
-  pub readings : List (Reading C K R)
-  pub answers : List (Answer C K R)
-  pub reads : List (Read C K R)
+  pub stores : List (Store K R)  -- the rows of store phases that began
+  pub stored : List (Stored K R)  -- who confirmed them
+  pub kept : List (Store K R)  -- the rows of store phases that ended
+  pub rounds : List (Round K R)  -- the rounds that began
+  pub pushes : List (Push K R)  -- what they showed
+  pub pushed : List (Pushed K R)  -- who confirmed it
+  pub finished : List (Round K R)  -- the rounds that may complete
+  pub questions : List (Question C K R)  -- the read and range phases that began
+  pub answers : List (Answer C K R)  -- what they were answered
+  pub reads : List (Read C K R)  -- those that ended
 
 abbrev pub first : {C K R : Type 0} → C → World C K R
-first c = record { control = c; log = []; stores = []; stored = []; kept = []; rounds = []; pushes = []; pushed = []; finished = []; readings = []; answers = []; reads = [] }
+first c = record { control = c; log = []; stores = []; stored = []; kept = []; rounds = []; pushes = []; pushed = []; finished = []; questions = []; answers = []; reads = [] }
 
 -- what an action adds
 pub record Effects (C K R : Type 0) : Type 0 where
@@ -91,12 +91,12 @@ pub record Effects (C K R : Type 0) : Type 0 where
   pub pushes : List (Push K R)
   pub pushed : List (Pushed K R)
   pub finished : List (Round K R)
-  pub readings : List (Reading C K R)
+  pub questions : List (Question C K R)
   pub answers : List (Answer C K R)
   pub reads : List (Read C K R)
 
 abbrev pub nothing : {C K R : Type 0} → Effects C K R
-nothing = record { log = []; stores = []; stored = []; kept = []; rounds = []; pushes = []; pushed = []; finished = []; readings = []; answers = []; reads = [] }
+nothing = record { log = []; stores = []; stored = []; kept = []; rounds = []; pushes = []; pushed = []; finished = []; questions = []; answers = []; reads = [] }
 
 abbrev pub applied : {C K R : Type 0} → World C K R → Effects C K R → World C K R
 applied w e = record {
@@ -109,7 +109,7 @@ applied w e = record {
   pushes = e.pushes ++ w.pushes;
   pushed = e.pushed ++ w.pushed;
   finished = e.finished ++ w.finished;
-  readings = e.readings ++ w.readings;
+  questions = e.questions ++ w.questions;
   answers = e.answers ++ w.answers;
   reads = e.reads ++ w.reads;
 }
