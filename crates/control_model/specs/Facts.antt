@@ -51,13 +51,13 @@ module _ {L : Type 0} (r : Reading L) where
 
   -- a request in flight at node n
   pub record InFlight (w : World L) (n : ℕ) (q : Request) : Type 0 where
-    pub member : IsMember r n (layout_of w q.start)
+    pub member : IsMember r n (layout_of w q.start)  -- its coordinator is a member of its start version
     pub real : 1 ≤ q.start
     pub known : q.start ≤ newest r (view_of w n)
-    pub acked : entry_of Ack (view_of w n) n ≤ q.start
-    pub least : (m : ℕ) → read_of w m ≤ q.start  -- so the greatest read version is at most its start
-    pub late : (t : Round) → Has w.began t → t.version ≤ q.start
-    pub recent : IsRecent w (read_of w n)
+    pub acked : entry_of Ack (view_of w n) n ≤ q.start  -- it holds back the ack
+    pub least : (m : ℕ) → read_of w m ≤ q.start  -- and each read version
+    pub late : (t : Round) → Has w.began t → t.version ≤ q.start  -- and each round
+    pub recent : IsRecent w (read_of w n)  -- what it reads no node is past
 
   -- a round that ever began
   pub record Begun (w : World L) (t : Round) : Type 0 where
@@ -68,10 +68,10 @@ module _ {L : Type 0} (r : Reading L) where
   -- an open round of node n to version i
   pub record Open (w : World L) (n i : ℕ) : Type 0 where
     pub began : Has w.began (round_of n i)
-    pub stores_it : oldest r (view_of w n) < i
+    pub stores_it : oldest r (view_of w n) < i  -- the node stores a version before it
     pub knows_it : i ≤ newest r (view_of w n)
 
-  -- there is a greatest read version, and where it is above 1 some node reads it
+  -- there is a greatest read version: it is at most 1, or some node reads it
   pub record Greatest (w : World L) : Type 0 where
     pub version : ℕ
     pub above : (n : ℕ) → read_of w n ≤ version
@@ -82,7 +82,7 @@ module _ {L : Type 0} (r : Reading L) where
     pub by_one : (n : ℕ) × (suc (read_of w n) ≡ i)
     pub two : (p : ℕ) (set : List ℕ) → IsSet new (pred i) p set → TwoOf (λ n. Has new.completed (round_of n i)) set
 
-  -- what a step does
+  -- what a step does: nothing falls, and the greatest read version rises by one at a time
   pub record Moves (w new : World L) : Type 0 where
     pub views : (n : ℕ) → GrewFrom r (view_of w n) (view_of new n)
     pub reads : (n : ℕ) → read_of w n ≤ read_of new n
@@ -93,30 +93,38 @@ module _ {L : Type 0} (r : Reading L) where
     pub completed : (t : Round) → Has w.completed t → Has new.completed t
     pub rises : (n : ℕ) → 2 ≤ read_of new n → ((m : ℕ) → read_of w m < read_of new n) → Rises w new (read_of new n)
 
-  -- how a view, of a node or of a message, stands to the views with which versions were applied
+  -- how a view, of a node or of a message, stands to what was applied
   pub record Travels (w : World L) (v : View L) : Type 0 where
     pub gapless : IsTrue (is_gapless r v.layouts)
     pub under : newest r v ≤ w.top
     pub layouts : (i : ℕ) → oldest r v ≤ i → i ≤ newest r v → layout_at r v i ≡ layout_of w i
+    -- a view that knows a version grew from the view with which that version was applied
     pub since : (i : ℕ) → 2 ≤ i → i ≤ newest r v → GrewFrom r (w.applied i).origin v
+    -- one that doesn't know it has no greater entry of the node that applied it than that node had then
     pub before : (i : ℕ) → 2 ≤ i → newest r v < i → i ≤ w.top → (k : Which) → entry_of k v (w.applied i).by ≤ entry_of k (w.applied i).origin (w.applied i).by
+    -- and no view has a greater entry of a node than that node
     pub own : (k : Which) (n : ℕ) → entry_of k v n ≤ entry_of k (view_of w n) n
 
   module _ (partitions : ℕ) where
     -- what holds of a world
     pub record Safe (w : World L) : Type 0 where
       pub gapless : (n : ℕ) → IsTrue (is_gapless r (view_of w n).layouts)
+      -- oldest, read and newest version, and how many were applied
       pub stored : (n : ℕ) → oldest r (view_of w n) ≤ read_of w n
       pub known : (n : ℕ) → read_of w n ≤ newest r (view_of w n)
       pub applied : (n : ℕ) → newest r (view_of w n) ≤ w.top
+      -- a stored layout is the one that was applied, and that one is lawful
       pub layouts : (n i : ℕ) → oldest r (view_of w n) ≤ i → i ≤ newest r (view_of w n) → layout_at r (view_of w n) i ≡ layout_of w i
       pub lawful : (i : ℕ) → 1 ≤ i → i ≤ w.top → (l : L) × (layout_of w i ≡ Some l) × IsTrue (is_lawful r partitions i l)
+      -- own entries bound all entries
       pub own : (n : ℕ) (k : Which) (m : ℕ) → entry_of k (view_of w n) m ≤ entry_of k (view_of w m) m
       pub acks : (n : ℕ) → entry_of Ack (view_of w n) n ≤ newest r (view_of w n)
       pub syncacks : (n : ℕ) → entry_of SyncAck (view_of w n) n ≤ read_of w n
+      -- the members of a version that a node dropped read a later one; those of a version that a node is past in reading know a later one
       pub passed : (n j m : ℕ) → j < oldest r (view_of w n) → IsMember r m (layout_of w j) → j < read_of w m
       pub behind : (n j m : ℕ) → j < read_of w n → IsMember r m (layout_of w j) → j < newest r (view_of w m)
       pub requests : (n : ℕ) (q : Request) → Has (w.nodes n).requests q → InFlight w n q
+      -- a member of its newest version reads one that no node is past
       pub members : (n : ℕ) → IsMember r n (layout_at r (view_of w n) (newest r (view_of w n))) → IsRecent w (read_of w n)
       pub rounds : (t : Round) → Has w.began t → Begun w t
       pub open_rounds : (n i : ℕ) → (w.nodes n).round ≡ Some i → Open w n i
