@@ -10,9 +10,14 @@ ghost use Rattle.plane_model.specs.Rows.{IsAtLeast, IsOver};
 ghost use Rattle.plane_model.specs.Sets.{Two};
 ghost use Rattle.plane_model.specs.Control.{IsRecent, IsRead};
 ghost use Rattle.plane_model.specs.Plane.{Plane, PlaneLaws};
-ghost use Rattle.plane_model.specs.World.{Store, Round, Read, row_at};
-ghost use Rattle.plane_model.specs.Action.{Action, IsRun, after};
+ghost use Rattle.plane_model.specs.World.{Store, Round, Read, World, Extends, row_at};
+ghost use Rattle.plane_model.specs.Action.{Action, run, IsRun, after};
 ghost use Rattle.plane_model.specs.Kept.{Holds, Carries, GivesKept, none_collected};
+
+/// Whatever comes, the log only grows, and nothing that was begun, sent, confirmed, kept or read is forgotten.
+pub fn nothing_is_forgotten<C, E, K, R>()
+    ensures { (plane : Plane C E K R) (w : World C K R) (acts : List (Action C E K R)) → Extends w (run plane w acts) }
+{}
 
 /// Whatever comes, a node that holds a row for a version holds it from then on.
 pub fn held_rows_stay<C, E, K, R>()

@@ -1,5 +1,6 @@
 -- The world of the data plane: what every node accepted and dropped, and all that was ever begun, sent, confirmed, kept and read.
-use Rattle.std.specs.Prelude.{ℕ, ◌&&◌, ◌==◌, if◌then◌else◌, Option, Some, None, List, [], ◌∷◌, ◌++◌}
+use Rattle.std.specs.Prelude.{◌≡◌, ℕ, ◌&&◌, ◌==◌, if◌then◌else◌, Option, Some, None, List, [], ◌∷◌, ◌++◌}
+use Rattle.std.specs.List.{Contains}
 use Rattle.crdt_core.specs.Order.{option_join}
 use Rattle.plane_model.specs.Plane.{Plane}
 
@@ -113,6 +114,21 @@ applied w e = record {
   answers = e.answers ++ w.answers;
   reads = e.reads ++ w.reads;
 }
+
+-- the log of the first is the end of that of the second, and nothing that was in the first is missing in the second
+pub record Extends {C K R : Type 0} (old new : World C K R) : Type 0 where
+  pub more : List (Entry K R)
+  pub log : new.log ≡ more ++ old.log
+  pub stores : (x : Store K R) → Contains old.stores x → Contains new.stores x
+  pub stored : (x : Stored K R) → Contains old.stored x → Contains new.stored x
+  pub kept : (x : Store K R) → Contains old.kept x → Contains new.kept x
+  pub rounds : (x : Round K R) → Contains old.rounds x → Contains new.rounds x
+  pub pushes : (x : Push K R) → Contains old.pushes x → Contains new.pushes x
+  pub pushed : (x : Pushed K R) → Contains old.pushed x → Contains new.pushed x
+  pub finished : (x : Round K R) → Contains old.finished x → Contains new.finished x
+  pub questions : (x : Question C K R) → Contains old.questions x → Contains new.questions x
+  pub answers : (x : Answer C K R) → Contains old.answers x → Contains new.answers x
+  pub reads : (x : Read C K R) → Contains old.reads x → Contains new.reads x
 
 -- a node took each of these rows
 abbrev pub all_took : {K R : Type 0} → ℕ → List (Row K R) → List (Entry K R)
