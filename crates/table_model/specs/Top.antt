@@ -1,8 +1,9 @@
 -- The roots of the rows of each table and partition, and the hash over all of them.
-use Rattle.std.specs.Prelude.{ℕ, ◌==◌, ◌&&◌, List, [], ◌∷◌, ◌++◌, map, filter, flat_map, IsSome, unwrap_or, All}
+use Rattle.std.specs.Prelude.{ℕ, ◌==◌, List, [], ◌++◌, map, filter, IsSome, unwrap_or, All}
 use Rattle.std.specs.List.{concat}
 use Rattle.blake2_hash.specs.Blake2b.{blake2b}
-use Rattle.table_schema.specs.Words.{Words, partition_of}
+use Rattle.table_schema.specs.Words.{Words}
+use Rattle.table_model.specs.Rows.{rows_in}
 use Rattle.table_model.specs.Root.{Pair, every_byte, root}
 
 module _ {R : Type 0} (s : Words R) where
@@ -16,7 +17,7 @@ module _ {R : Type 0} (s : Words R) where
 
   -- those of the rows of one table and partition
   abbrev pub pairs_of : ℕ → ℕ → List R → List Pair
-  pairs_of table p rows = map pair_of (filter (λ r. (s.table r == table) && (partition_of s r == p)) rows)
+  pairs_of table p rows = map pair_of (filter (λ r. s.table r == table) (rows_in s p rows))
 
   abbrev pub root_of : ℕ → ℕ → List R → List ℕ
   root_of table p rows = root (blake2b 32) (pairs_of table p rows)
