@@ -1,0 +1,5 @@
+pub mod Facts
+pub mod Layouts
+pub mod Reached
+pub mod Steps
+pub mod World

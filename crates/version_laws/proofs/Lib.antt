@@ -1,0 +1,12 @@
+pub mod Tests
+pub mod OneView
+pub mod WholeViews
+pub mod WholeSteps
+pub mod Paced
+pub mod PacedSteps
+pub mod Recent
+pub mod Rise
+pub mod Greatest
+pub mod Opens
+pub mod Laws
+pub mod InShort
