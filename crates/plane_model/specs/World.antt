@@ -1,0 +1,137 @@
+-- The world of the data plane: what every node accepted and dropped, and all that was ever begun, sent, confirmed, kept and read.
+use Rattle.std.specs.Prelude.{ℕ, ◌&&◌, ◌==◌, if◌then◌else◌, Option, Some, None, List, [], ◌∷◌, ◌++◌}
+use Rattle.crdt_core.specs.Order.{option_join}
+use Rattle.plane_model.specs.Plane.{Plane}
+
+-- a node accepted a row at a key, or dropped a partition
+pub data Entry (K R : Type 0) : Type 0 where
+  took : (node : ℕ) (key : K) (row : R) → Entry K R
+  left : (node partition : ℕ) → Entry K R
+
+pub record Row (K R : Type 0) : Type 0 where
+  pub key : K
+  pub row : R
+
+-- a row of a store phase: its coordinator, the start version of its request, and the coordinator's newest version when the phase began
+pub record Store (K R : Type 0) : Type 0 where
+  pub node : ℕ
+  pub start : ℕ
+  pub newest : ℕ
+  pub key : K
+  pub row : R
+
+-- a node confirmed a row of a store phase
+pub record Stored (K R : Type 0) : Type 0 where
+  pub store : Store K R
+  pub node : ℕ
+
+-- a round from a version to the next, and the log as it was when the round began
+pub record Round (K R : Type 0) : Type 0 where
+  pub node : ℕ
+  pub from : ℕ
+  pub log : List (Entry K R)
+
+-- what a round shows of a partition, and its node's newest version then
+pub record Push (K R : Type 0) : Type 0 where
+  pub round : Round K R
+  pub partition : ℕ
+  pub newest : ℕ
+  pub rows : List (Row K R)
+
+-- a node confirmed a partition of a round
+pub record Pushed (K R : Type 0) : Type 0 where
+  pub round : Round K R
+  pub partition : ℕ
+  pub node : ℕ
+
+-- a read or range phase: its place among all that began, the partition and the version that it asks for, and what was when it began
+pub record Reading (C K R : Type 0) : Type 0 where
+  pub number : ℕ
+  pub partition : ℕ
+  pub version : ℕ
+  pub control : C
+  pub log : List (Entry K R)
+  pub kept : List (Store K R)
+
+-- a node answered with all that it had
+pub record Answer (C K R : Type 0) : Type 0 where
+  pub reading : Reading C K R
+  pub node : ℕ
+  pub rows : K → Option R
+
+-- a read or range phase ended, and what it gives at each key of its partition
+pub record Read (C K R : Type 0) : Type 0 where
+  pub reading : Reading C K R
+  pub rows : K → Option R
+
+pub record World (C K R : Type 0) : Type 0 where
+  pub control : C
+  pub log : List (Entry K R)  -- the newest first, as all lists here
+  pub stores : List (Store K R)
+  pub stored : List (Stored K R)
+  pub kept : List (Store K R)
+  pub rounds : List (Round K R)
+  pub pushes : List (Push K R)
+  pub pushed : List (Pushed K R)
+  pub finished : List (Round K R)
+  pub readings : List (Reading C K R)
+  pub answers : List (Answer C K R)
+  pub reads : List (Read C K R)
+
+abbrev pub first : {C K R : Type 0} → C → World C K R
+first c = record { control = c; log = []; stores = []; stored = []; kept = []; rounds = []; pushes = []; pushed = []; finished = []; readings = []; answers = []; reads = [] }
+
+-- what an action adds
+pub record Effects (C K R : Type 0) : Type 0 where
+  pub log : List (Entry K R)
+  pub stores : List (Store K R)
+  pub stored : List (Stored K R)
+  pub kept : List (Store K R)
+  pub rounds : List (Round K R)
+  pub pushes : List (Push K R)
+  pub pushed : List (Pushed K R)
+  pub finished : List (Round K R)
+  pub readings : List (Reading C K R)
+  pub answers : List (Answer C K R)
+  pub reads : List (Read C K R)
+
+abbrev pub nothing : {C K R : Type 0} → Effects C K R
+nothing = record { log = []; stores = []; stored = []; kept = []; rounds = []; pushes = []; pushed = []; finished = []; readings = []; answers = []; reads = [] }
+
+abbrev pub applied : {C K R : Type 0} → World C K R → Effects C K R → World C K R
+applied w e = record {
+  control = w.control;
+  log = e.log ++ w.log;
+  stores = e.stores ++ w.stores;
+  stored = e.stored ++ w.stored;
+  kept = e.kept ++ w.kept;
+  rounds = e.rounds ++ w.rounds;
+  pushes = e.pushes ++ w.pushes;
+  pushed = e.pushed ++ w.pushed;
+  finished = e.finished ++ w.finished;
+  readings = e.readings ++ w.readings;
+  answers = e.answers ++ w.answers;
+  reads = e.reads ++ w.reads;
+}
+
+-- a node took each of these rows
+abbrev pub all_took : {K R : Type 0} → ℕ → List (Row K R) → List (Entry K R)
+all_took n [] = []
+all_took n (r ∷ rs) = took n r.key r.row ∷ all_took n rs
+
+module _ {C E K R : Type 0} (plane : Plane C E K R) where
+  -- what a node has at a key: the join of what it accepted there since it last dropped the key's partition
+  abbrev pub row_at : List (Entry K R) → ℕ → K → Option R
+  row_at [] n k = None
+  row_at (took m j x ∷ older) n k = if (m == n) && plane.keys.is_same j k then option_join plane.join (row_at older n k) (Some x) else row_at older n k
+  row_at (left m p ∷ older) n k = if (m == n) && (p == plane.keys.partition k) then None else row_at older n k
+
+  -- what a list of rows has at a key
+  abbrev pub row_in : List (Row K R) → K → Option R
+  row_in [] k = None
+  row_in (r ∷ rs) k = if plane.keys.is_same r.key k then option_join plane.join (row_in rs k) (Some r.row) else row_in rs k
+
+  -- what store phases kept at a key
+  abbrev pub kept_at : List (Store K R) → K → Option R
+  kept_at [] k = None
+  kept_at (s ∷ older) k = if plane.keys.is_same s.key k then option_join plane.join (kept_at older k) (Some s.row) else kept_at older k
