@@ -1,0 +1,4 @@
+pub mod Toy
+pub mod FirstPutAndGet
+pub mod LostStore
+pub mod Versions
