@@ -37,8 +37,9 @@ module _ {R : Type 0} where
   abbrev pub without_call : ℕ → List (Call R) → List (Call R)
   without_call request calls = filter (λ c. cond (c.request == request) false true) calls
 
+  -- the call of this request has this phase now
   abbrev pub with_call : Call R → List (Call R) → List (Call R)
-  with_call c calls = map (λ d. cond (d.request == c.request) c d) calls
+  with_call c calls = map (λ d. cond (d.request == c.request) (record d { phases = c.phases; present = c.present }) d) calls
 
 module _ {R L : Type 0} where
   -- one message to each of these nodes

@@ -36,6 +36,11 @@ abbrev pub note_of : List Note → List ℕ → Option ℕ
 note_of [] hash = None
 note_of (n ∷ ns) hash = cond (same_bytes n.hash hash) (Some n.moment) (note_of ns hash)
 
+-- a round to a version that is at most the oldest stored one is closed
+abbrev pub still : ℕ → Option Round → Option Round
+still oldest None = None
+still oldest (Some round) = cond (leb round.target oldest) None (Some round)
+
 module _ {R : Type 0} (join : R → R → R) (s : Words R) where
   -- how many live references to this block the node has
   abbrev pub count_of : List R → List ℕ → ℕ
@@ -107,11 +112,6 @@ module _ {R : Type 0} (join : R → R → R) (s : Words R) where
             accepted = accepted;
             notes = notes_after accepted x.notes now (live_blocks s (filter (λ r. not (stays r)) (rows join s x.accepted)));
           }
-
-      -- a round to a version that is at most the oldest stored one is closed
-      abbrev pub still : ℕ → Option Round → Option Round
-      still oldest None = None
-      still oldest (Some round) = cond (leb round.target oldest) None (Some round)
 
       -- the node's view becomes this one: its round may close, and where its oldest version rises it drops rows
       abbrev pub sees : ℕ → ℕ → Node R L → View L → Node R L

@@ -1,6 +1,6 @@
 -- Runs: lists of steps, each with what is given to an apply, under the conditions of the world's calls.
 use Rattle.std.specs.Prelude.{◌≡◌, ◌≢◌, ◌≤◌, ◌<◌, ◌⊎◌, ℕ, suc, nat_eq, IsTrue, Option, Some, None, List, [], ◌∷◌, ◌++◌, length, ⊤}
-use Rattle.std.specs.List.{All, starts_with}
+use Rattle.std.specs.List.{All, AllByRecursion, starts_with}
 use Rattle.table_schema.specs.Words.{Words, partition_at, partition_of}
 use Rattle.layout_roles.specs.declared.role.Role.{Role}
 use Rattle.quorum_model.specs.Quorum.{is_among}
@@ -47,14 +47,14 @@ module _ {L : Type 0} (k : Layouts L) where
     pub three : ℕ
     pub are : set ≡ one ∷ two ∷ three ∷ []
     pub differ : (one ≢ two) × (one ≢ three) × (two ≢ three)
-    pub keep_copies : All (λ n. IsTrue (is_among n (k.storage l))) set
+    pub keep_copies : AllByRecursion (λ n. IsTrue (is_among n (k.storage l))) set
 
   -- a layout of so many partitions, each with three different nodes that keep copies, and these are members
   pub record IsLayout (partitions : ℕ) (l : L) : Type 0 where
     pub version : 1 ≤ k.reading.version l
     pub count : length (k.reading.sets l) ≡ partitions
-    pub sets : All (IsSet l) (k.reading.sets l)
-    pub members : All (λ n. IsTrue (is_among n (k.reading.members l))) (k.storage l)
+    pub sets : AllByRecursion (IsSet l) (k.reading.sets l)
+    pub members : AllByRecursion (λ n. IsTrue (is_among n (k.reading.members l))) (k.storage l)
 
   -- what is given to an apply in this world: a layout of the next version
   abbrev pub IsChoice : {R A C : Type 0} → ℕ → World R L → Choice L A C → Type 0

@@ -1,14 +1,9 @@
 -- A put and a get on one layout, each message delivered once and in order.
-use Rattle.std.specs.Prelude.{ℕ, Some, None, List, [], ◌∷◌, ◌++◌, map, replicate}
-use Rattle.wire_messages.specs.declared.phase.Phase.{Phase}
-use Rattle.wire_messages.specs.declared.phase.Phase.TheVariants.{Read, Store}
-use Rattle.cluster_machine.specs.declared.step.Step.{Step}
+use Rattle.std.specs.Prelude.{List, [], ◌∷◌, ◌++◌}
 use Rattle.cluster_machine.specs.declared.step.Step.TheVariants.{Open, Phase as Begin}
-use Rattle.cluster_machine.specs.declared.step.Refusal.TheVariants.{NotMember}
 use Rattle.cluster_machine.specs.declared.line.Line.{Line}
 use Rattle.cluster_machine.specs.declared.line.Line.TheVariants.{Got, Sent}
 use Rattle.cluster_machine.specs.declared.line.SentKind.TheVariants.{Get, Row, Store as KindStore, Stored}
-use Rattle.cluster_machine.specs.Step.{none_given}
 use Rattle.machine_laws.specs.Toy.{Toy, Move, plain, delivered, whole_put, read}
 
 abbrev pub steps : List Move

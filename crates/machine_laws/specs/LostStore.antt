@@ -1,9 +1,9 @@
 -- A put of which one store is lost and another delivered twice, and a get whose first question is lost.
 use Rattle.std.specs.Prelude.{List, [], ◌∷◌, ◌++◌}
-use Rattle.cluster_machine.specs.declared.step.Step.TheVariants.{Trio, Deliver, Lose, Open, Phase as Begin, Close}
+use Rattle.cluster_machine.specs.declared.step.Step.TheVariants.{Trio, Lose, Open, Phase as Begin, Close}
 use Rattle.cluster_machine.specs.declared.line.Line.{Line}
 use Rattle.cluster_machine.specs.declared.line.Line.TheVariants.{Got, Sent}
-use Rattle.cluster_machine.specs.declared.line.SentKind.TheVariants.{Get, Row, Store, Stored}
+use Rattle.cluster_machine.specs.declared.line.SentKind.TheVariants.{Get, Row, Stored}
 use Rattle.machine_laws.specs.Toy.{Toy, Move, plain, delivered, read, store}
 
 abbrev pub put : List Move

@@ -1,7 +1,6 @@
 -- A small schema and small layouts, over which runs are computed: rows are numbers under a key of one byte.
-use Rattle.std.specs.Prelude.{ℕ, max, Bool, true, Option, Some, None, List, [], ◌∷◌, ◌++◌, map, replicate}
+use Rattle.std.specs.Prelude.{ℕ, max, true, Option, Some, None, List, [], ◌∷◌, ◌++◌, map, replicate}
 use Rattle.table_schema.specs.Words.{Words}
-
 use Rattle.cluster_machine.specs.declared.step.Step.{Step}
 use Rattle.cluster_machine.specs.declared.step.Step.TheVariants.{Trio, Apply, Deliver, Gossip, Ack, Open, Phase as Begin, Close}
 use Rattle.cluster_machine.specs.declared.step.Refusal.{Refusal}
