@@ -1,0 +1,11 @@
+pub mod Layouts
+pub mod Node
+pub mod Rows
+pub mod Phases
+pub mod Rounds
+pub mod Receives
+pub mod Acts
+pub mod World
+pub mod Step
+pub mod Run
+pub mod Kept

@@ -1,0 +1,10 @@
+mod Ties
+mod Controls
+mod Same
+mod Turning
+mod Requests
+mod Lawful
+mod Rounding
+mod Applying
+mod Runs
+mod Said

@@ -1,0 +1,4 @@
+pub mod Rows
+pub mod Root
+pub mod Top
+pub mod RowLaws
