@@ -1,7 +1,7 @@
 -- Runs: lists of steps, each with what is given to an apply, under the conditions of the world's calls.
-use Rattle.std.specs.Prelude.{◌≡◌, ◌≢◌, ◌≤◌, ◌<◌, ◌⊎◌, ℕ, suc, nat_eq, IsTrue, Option, Some, None, List, [], ◌∷◌, ◌++◌, length, ⊤}
+use Rattle.std.specs.Prelude.{◌≡◌, ◌≢◌, ◌≤◌, ◌<◌, ℕ, suc, nat_eq, IsTrue, List, [], ◌∷◌, ◌++◌, length, ⊤}
 use Rattle.std.specs.List.{All, AllByRecursion, starts_with}
-use Rattle.table_schema.specs.Words.{Words, partition_at, partition_of}
+use Rattle.table_schema.specs.Words.{Words, partition_at}
 use Rattle.layout_roles.specs.declared.role.Role.{Role}
 use Rattle.quorum_model.specs.Quorum.{is_among}
 use Rattle.wire_messages.specs.declared.phase.Phase.{Phase}
@@ -9,7 +9,7 @@ use Rattle.wire_messages.specs.declared.phase.Phase.TheVariants.{Read, Range, St
 use Rattle.cluster_machine.specs.declared.step.Step.{Step}
 use Rattle.cluster_machine.specs.declared.step.Step.TheVariants.{Phase as Begin}
 use Rattle.cluster_machine.specs.Layouts.{Layouts}
-use Rattle.cluster_machine.specs.World.{World, empty}
+use Rattle.cluster_machine.specs.World.{World}
 use Rattle.cluster_machine.specs.Step.{Choice, given, none_given, Effects, effects, applied}
 
 pub record Move (R L A C : Type 0) : Type 0 where

@@ -1,12 +1,16 @@
 -- The world: its nodes, every message that was ever sent, the time, what is staged, the requests, and the history of rows and reads.
-use Rattle.std.specs.Prelude.{ℕ, zero, suc, ◌+◌, Bool, ◌||◌, ◌==◌, nat_lt, cond, Option, Some, None, List, [], ◌∷◌, slice_get}
+use Rattle.std.specs.Prelude.{ℕ, zero, suc, ◌+◌, ◌*◌, Bool, ◌||◌, ◌==◌, nat_lt, cond, Option, Some, None, List, [], ◌∷◌, slice_get, true, length, map}
 use Rattle.layout_roles.specs.declared.role.Role.{Role}
 use Rattle.layout_roles.specs.declared.role.Zone.{Zone}
 use Rattle.layout_roles.specs.declared.role.Kind.{Kind}
 use Rattle.layout_roles.specs.declared.redundancy.Redundancy.{Redundancy}
 use Rattle.layout_roles.specs.declared.redundancy.Redundancy.TheVariants.{Maximum}
-use Rattle.cluster_machine.specs.Layouts.{Layouts, is_member}
-use Rattle.cluster_machine.specs.Node.{Node, Packet, Reading, new_node}
+use Rattle.table_schema.specs.Words.{Words}
+use Rattle.table_model.specs.Rows.{rows}
+use Rattle.table_model.specs.Top.{top}
+use Rattle.wire_messages.specs.Size.{size, plus}
+use Rattle.cluster_machine.specs.Layouts.{Layouts, is_member, has_none}
+use Rattle.cluster_machine.specs.Node.{Node, Packet, says, shows, Reading, new_node}
 
 -- a message that was sent, and when
 pub record Sent (R L : Type 0) : Type 0 where
@@ -85,3 +89,36 @@ staged node role [] = new_role node role []
 staged node role (r ∷ rs) =
     cond (r.node == node) (new_role node role rs)
     (cond (nat_lt node r.node) (new_role node role (r ∷ rs)) (r ∷ staged node role rs))
+
+-- what a node shows of itself at the end
+pub record NodeLine : Type 0 where
+  pub node : ℕ
+  pub rows : ℕ
+  pub blocks : ℕ
+  pub top : List ℕ
+
+module _ {R L : Type 0} (s : Words R) where
+  -- the bytes that a packet counts; a view counts 1,600 for each of its versions. None where a row has no spelling
+  abbrev pub packet_size : Packet R L → Option ℕ
+  packet_size (says m) = size s m
+  packet_size (shows v) = Some (64 + 1600 * length v.layouts)
+
+  -- the bytes of all messages that were sent
+  abbrev pub sent_bytes : List (Sent R L) → Option ℕ
+  sent_bytes [] = Some 0
+  sent_bytes (m ∷ ms) = plus (packet_size m.packet) (sent_bytes ms)
+
+module _ {R L : Type 0} (join : R → R → R) (s : Words R) (k : Layouts L) where
+  -- none where the node's view is empty
+  abbrev pub node_line : World R L → ℕ → Option NodeLine
+  node_line w n =
+      let x = w.nodes n in
+      let there = rows join s x.accepted in
+      cond (has_none k x.view) None (Some (record { node = n; rows = length there; blocks = length x.blocks; top = top s there }))
+
+-- a message that was delivered counts as lost from here on
+abbrev pub forgot : Mark → Mark
+forgot m = cond m.is_delivered (record { is_delivered = true; is_lost = true }) m
+
+abbrev pub forget_delivered : {R L : Type 0} → World R L → World R L
+forget_delivered w = record w { marks = map forgot w.marks }
