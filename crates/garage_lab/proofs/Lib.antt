@@ -4,4 +4,3 @@ pub mod Replays
 pub mod Running
 pub mod Answering
 pub mod Ends
-pub mod LaysOut

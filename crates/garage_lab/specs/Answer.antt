@@ -1,31 +1,15 @@
 -- What the program answers: the status and the text that are stated for its words and its input.
-use Rattle.std.specs.Prelude.{◌≡◌, ◌⊎◌, ℕ, ◌<◌, ◌≤◌, ⊤, List, [], ◌∷◌, ◌++◌, length, codes, decimal, Option}
+use Rattle.std.specs.Prelude.{◌≡◌, ℕ, ◌<◌, ◌≤◌, ⊤, List, [], ◌∷◌, ◌++◌, length, codes, decimal, Option}
 use Rattle.lab_outside.specs.declared.exit.Status.{Status}
 use Rattle.lab_outside.specs.declared.exit.Status.TheVariants.{Done, Refused, Usage, ReadFault, WriteFault, LinkFault, Memory, Limit}
 use Rattle.lab_outside.specs.Rose.{Rose}
 use Rattle.lab_outside.specs.Bytes.{Wrote, WrotePrefix}
 use Rattle.object_model.specs.declared.event.Numbered.{Numbered}
 use Rattle.text_model.specs.Grammar.{IsSchedule, IsFirstBadLine}
-use Rattle.layout_command.specs.Answer.{IsAnswer as IsLayoutAnswer}
-use Rattle.garage_lab.specs.declared.words.Asked.{Asked}
-use Rattle.garage_lab.specs.declared.words.Asked.TheVariants.{Replay, Layout, Other}
 use Rattle.garage_lab.specs.Replay.{IsReplay}
 
 abbrev pub replay_words : List (List ℕ)
 replay_words = codes "replay" ∷ []
-
-abbrev pub layout_words : List (List ℕ)
-layout_words = codes "layout" ∷ []
-
--- the words that have an input
-abbrev pub ReadsInput : List (List ℕ) → Type 0
-ReadsInput words = (words ≡ replay_words) ⊎ (words ≡ layout_words)
-
--- what the words ask for
-abbrev pub IsAsked : List (List ℕ) → Asked → Type 0
-IsAsked words Replay = words ≡ replay_words
-IsAsked words Layout = words ≡ layout_words
-IsAsked words Other = ReadsInput words → ⊥
 
 -- how many bytes the input may have
 abbrev pub input_limit : ℕ
@@ -42,11 +26,10 @@ bad_line_text n = codes "bad line " ++ (decimal n ++ 10 ∷ [])
 
 -- the status and the text that are stated for words and an input, in the order in which their causes come
 pub data IsAnswer (words : List (List ℕ)) (input : List ℕ) (status : Status) (text : List ℕ) : Type 0 where
-  usage : (ReadsInput words → ⊥) → status ≡ Usage → text ≡ usage_line → IsAnswer words input status text
-  long_input : ReadsInput words → input_limit < length input → status ≡ Limit → text ≡ input_line → IsAnswer words input status text
+  usage : (words ≡ replay_words → ⊥) → status ≡ Usage → text ≡ usage_line → IsAnswer words input status text
+  long_input : words ≡ replay_words → input_limit < length input → status ≡ Limit → text ≡ input_line → IsAnswer words input status text
   bad_line : (n : ℕ) → words ≡ replay_words → length input ≤ input_limit → IsFirstBadLine input n → status ≡ Refused → text ≡ bad_line_text n → IsAnswer words input status text
   replayed : (events : List Numbered) → words ≡ replay_words → length input ≤ input_limit → IsSchedule input events → IsReplay events status text → IsAnswer words input status text
-  laid_out : words ≡ layout_words → length input ≤ input_limit → IsLayoutAnswer input status text → IsAnswer words input status text
 
 -- the statuses that come with a whole text
 abbrev pub IsStated : Status → Type 0
@@ -59,7 +42,7 @@ IsStated WriteFault = ⊥
 IsStated LinkFault = ⊥
 IsStated Memory = ⊥
 
--- the statuses that come only when the input was read
+-- the statuses that a replay answers only when its input was read
 abbrev pub IsAfterReading : Status → Type 0
 IsAfterReading Done = ⊤
 IsAfterReading Refused = ⊤
@@ -79,11 +62,6 @@ pub record Answers (words : List (List ℕ)) (input : List ℕ) (status : Status
 -- a first part of the text that is stated for the words and the input was written, and no more
 abbrev pub AnswersPrefix : List (List ℕ) → List ℕ → Option (List ℕ) → Option (List ℕ) → Type 0
 AnswersPrefix words input old new = (status : Status) (text : List ℕ) → IsAnswer words input status text → WrotePrefix old new text
-
--- nothing was written, or a first part of a text that is stated for the words and the input, and no more
-pub data Begins (words : List (List ℕ)) (input : List ℕ) (old new : Option (List ℕ)) : Type 0 where
-  nothing : Wrote old new [] → Begins words input old new
-  begun : (status : Status) (text : List ℕ) → IsAnswer words input status text → WrotePrefix old new text → Begins words input old new
 
 -- it ends with this status and this text written, unless a write fails or memory is wanting
 pub data Says (status : Status) (text : List ℕ) (result : Status) (old new : Option (List ℕ)) (faults risen : ℕ) : Type 0 where

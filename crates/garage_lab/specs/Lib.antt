@@ -1,4 +1,3 @@
 pub mod Replay
 pub mod Answer
 pub mod Stop
-pub mod Layout

@@ -1,21 +1,17 @@
-//! garage_lab: an object store on an in-process cluster, replayed from a schedule of events, and the layout of
-//! a cluster.
+//! garage_lab: an object store on an in-process cluster, replayed from a schedule of events.
 //!
 //! `run` is the program: it takes the words after the program's name, the outside as a source, a sink, a
 //! link and a clock, and answers the status with which the program ends. Its contract says which text is
-//! written for which input, and why each other answer comes. `schedule` reads a replay's input, `transcript`
-//! writes what the events told, and `stop` is why either gave up; `layout` reads a configuration and has it laid
-//! out.
+//! written for which input, and why each other answer comes. `schedule` reads the input, `transcript`
+//! writes what the events told, and `stop` is why either gave up.
 #![tactic(auto)]
 
-mod layout;
 mod run;
 mod schedule;
 mod stop;
 #[cfg(test)]
 mod tests;
 mod transcript;
-mod words;
 
 use crate::run::run;
 use lab_outside::{MemClock, Status, StdSink, StdSource, SureLink};

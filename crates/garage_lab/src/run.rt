@@ -1,25 +1,30 @@
 //! The program as one call.
-ghost use Rattle.std.specs.Prelude.{◌≡◌, ◌⊎◌, ◌+◌, ◌≤◌, ℕ, List, map, drop, Some, IfOk, OnOk, IfErr, IfSome};
+ghost use Rattle.std.specs.Prelude.{◌≡◌, ◌⊎◌, ◌+◌, ◌≤◌, ℕ, List, map, drop, Some, IfOk, OnOk, IfErr, IfSome, IsTrue, ◌↔◌};
 ghost use Rattle.std.specs.String.{string_bytes};
 ghost use Rattle.std.specs.Io.KnownBytes.{IsAtEnd};
-ghost use Rattle.crdt_core.specs.declared.memory.Memory.TheVariants.{Want};
 ghost use Rattle.lab_outside.specs.Rose.{Rose};
 ghost use Rattle.lab_outside.specs.Bytes.{Wrote, WrotePrefix};
 ghost use Rattle.garage_lab.specs.Replay.{IsTranscribed};
-ghost use Rattle.garage_lab.specs.Layout.{IsLaidOut};
-ghost use Rattle.garage_lab.specs.Answer.{replay_words, layout_words, ReadsInput, input_limit, usage_line, bad_line_text, IsAnswer, IsStated, IsAfterReading, Answers, AnswersPrefix, Begins, Says};
+ghost use Rattle.garage_lab.specs.Answer.{replay_words, input_limit, usage_line, bad_line_text, IsAnswer, IsStated, IsAfterReading, Answers, AnswersPrefix, Says};
 ghost use Rattle.garage_lab.specs.Stop.{status_of, said_of, Halts, IsSaid};
 
-use crate::layout::read_layout;
 use crate::schedule::read_schedule;
 use crate::stop::Stop;
 use crate::transcript::write_transcript;
-use crate::words::{Asked, asked_by};
 use crdt_core::{Bytes, Memory};
-use lab_outside::{Clock, Failed, Link, ReadStop, Sink, Source, Status, write_whole};
-use layout_command::one_status;
+use lab_outside::{Clock, Failed, Link, Sink, Source, Status, write_whole};
 use object_laws::fresh_reads;
 use std::alloc::Global;
+
+/// The words ask for a replay.
+fn asks_replay(words: &[String]) -> bool
+    ensures { IsTrue result ↔ (map string_bytes words.now ≡ replay_words) }
+{
+    match words {
+        [word] => word.as_str() == "replay",
+        _ => false,
+    }
+}
 
 /// Writes the last text, and answers the status that goes with it.
 fn ends<O: Sink>(output: &mut O, text: &[u8], status: Status) -> Status
@@ -35,8 +40,7 @@ fn ends<O: Sink>(output: &mut O, text: &[u8], status: Status) -> Status
 
 /// What is said of the first line outside the grammar.
 fn bad_line(alloc: Global, line: u64) -> Result<Bytes, Memory>
-    ensures text { IfOk result (λ text. text ≡ bad_line_text line) }
-    ensures want { IfErr result (λ e. e ≡ Want) }
+    ensures { IfOk result (λ text. text ≡ bad_line_text line) }
 {
     let mut text = Bytes::from_slice(alloc, b"bad line ")?;
     text.extend_from_slice(itoa::Buffer::new().format(line).as_bytes())?;
@@ -94,25 +98,7 @@ fn replayed<I: Source, O: Sink>(alloc: Global, input: &mut I, output: &mut O) ->
     }
 }
 
-/// Lays out what the input spells, and says how that ended.
-fn laid_out<I: Source, O: Sink>(alloc: Global, input: &mut I, output: &mut O) -> Status
-    ensures answers { IsStated result → IfSome (I.left input.old) (λ bytes. Answers layout_words bytes result (O.written output.old) (O.written output.new)) }
-    ensures prefix { IfSome (I.left input.old) (λ bytes. Begins layout_words bytes (O.written output.old) (O.written output.new)) }
-    ensures end { result ≡ Status.Done → IsAtEnd (I.left input.new) }
-    ensures read { IsAfterReading result → IfSome (I.left input.old) (λ bytes. I.left input.new ≡ Some (drop (input_limit + 1) bytes)) }
-    ensures no_usage { result ≡ Status.Usage → ⊥ }
-    ensures read_fault { result ≡ Status.ReadFault → Rose (I.faults input.old) (I.faults input.new) }
-    ensures write_fault { result ≡ Status.WriteFault → Rose (O.faults output.old) (O.faults output.new) }
-    ensures link_fault { result ≡ Status.LinkFault → ⊥ }
-{
-    match read_layout(alloc, input) {
-        Ok(reply) => ends(output, reply.text.as_slice(), reply.status),
-        Err(ReadStop::Failed) => Status::ReadFault,
-        Err(ReadStop::Memory) => Status::Memory,
-    }
-}
-
-/// Does what the words ask for.
+/// What the words ask for.
 fn answer<I: Source, O: Sink>(
     alloc: Global,
     words: &[String],
@@ -120,25 +106,22 @@ fn answer<I: Source, O: Sink>(
     output: &mut O,
 ) -> Status
     ensures answers { IsStated result → IfSome (I.left input.old) (λ bytes. Answers (map string_bytes words.now) bytes result (O.written output.old) (O.written output.new)) }
-    ensures prefix { (map string_bytes words.now ≡ layout_words → ⊥) → IfSome (I.left input.old) (λ bytes. AnswersPrefix (map string_bytes words.now) bytes (O.written output.old) (O.written output.new)) }
-    ensures begins { map string_bytes words.now ≡ layout_words → IfSome (I.left input.old) (λ bytes. Begins layout_words bytes (O.written output.old) (O.written output.new)) }
+    ensures prefix { IfSome (I.left input.old) (λ bytes. AnswersPrefix (map string_bytes words.now) bytes (O.written output.old) (O.written output.new)) }
     ensures end { result ≡ Status.Done → IsAtEnd (I.left input.new) }
-    ensures read { ReadsInput (map string_bytes words.now) → IsAfterReading result → IfSome (I.left input.old) (λ bytes. I.left input.new ≡ Some (drop (input_limit + 1) bytes)) }
-    ensures usage { result ≡ Status.Usage → ReadsInput (map string_bytes words.now) → ⊥ }
-    ensures usage_alone { (ReadsInput (map string_bytes words.now) → ⊥) → (result ≡ Status.Usage) ⊎ (result ≡ Status.WriteFault) }
-    ensures unread { (ReadsInput (map string_bytes words.now) → ⊥) → input.new ≡ input.old }
+    ensures read { map string_bytes words.now ≡ replay_words → IsAfterReading result → IfSome (I.left input.old) (λ bytes. I.left input.new ≡ Some (drop (input_limit + 1) bytes)) }
+    ensures usage { result ≡ Status.Usage → map string_bytes words.now ≡ replay_words → ⊥ }
+    ensures usage_alone { (map string_bytes words.now ≡ replay_words → ⊥) → (result ≡ Status.Usage) ⊎ (result ≡ Status.WriteFault) }
+    ensures unread { (map string_bytes words.now ≡ replay_words → ⊥) → input.new ≡ input.old }
     ensures read_fault { result ≡ Status.ReadFault → Rose (I.faults input.old) (I.faults input.new) }
     ensures write_fault { result ≡ Status.WriteFault → Rose (O.faults output.old) (O.faults output.new) }
     ensures link_fault { result ≡ Status.LinkFault → ⊥ }
 {
-    match asked_by(words) {
-        Asked::Replay => replayed(alloc, input, output),
-        Asked::Layout => laid_out(alloc, input, output),
-        Asked::Other => {
-            let usage =
-                b"usage: garage_lab layout | replay [--check] | workload N SEED | serve PORT COUNT\n";
-            ends(output, usage, Status::Usage)
-        }
+    if asks_replay(words) {
+        replayed(alloc, input, output)
+    } else {
+        let usage =
+            b"usage: garage_lab layout | replay [--check] | workload N SEED | serve PORT COUNT\n";
+        ends(output, usage, Status::Usage)
     }
 }
 
@@ -151,32 +134,28 @@ pub fn run<I: Source, O: Sink, L: Link, C: Clock>(
     _link: &mut L,
     _clock: &mut C,
 ) -> Status
-    // After Done the source was read to its end, and what was written is, for `replay`, the whole transcript of
-    // the events that all its bytes spell, whose answered gets are fresh; for `layout` it is the layout text of a
-    // greatest assignment for the configuration that all its bytes spell, with the cut that shows that it is one.
-    ensures done { result ≡ Status.Done → map string_bytes words.now ≡ replay_words → IfSome (I.left input.old) (λ bytes. IsTranscribed bytes (O.written output.old) (O.written output.new)) }
-    ensures laid_out { result ≡ Status.Done → map string_bytes words.now ≡ layout_words → IfSome (I.left input.old) (λ bytes. IsLaidOut bytes (O.written output.old) (O.written output.new)) }
+    // After Done the source was read to its end, and what was written is the whole transcript of the events
+    // that all its bytes spell. The answered gets of that very run are fresh.
+    ensures done { result ≡ Status.Done → IfSome (I.left input.old) (λ bytes. IsTranscribed bytes (O.written output.old) (O.written output.new)) }
     ensures end { result ≡ Status.Done → IsAtEnd (I.left input.new) }
 
-    // Words that have an input read to its end, or to the first byte past its limit, before they answer anything
+    // A replay reads to the end of the input, or to the first byte past its limit, before it answers anything
     // but ReadFault and Memory.
-    ensures read { ReadsInput (map string_bytes words.now) → IsAfterReading result → IfSome (I.left input.old) (λ bytes. I.left input.new ≡ Some (drop (input_limit + 1) bytes)) }
+    ensures read { map string_bytes words.now ≡ replay_words → IsAfterReading result → IfSome (I.left input.old) (λ bytes. I.left input.new ≡ Some (drop (input_limit + 1) bytes)) }
 
     // Done, Refused, Usage and Limit come with the status and the whole text that are stated for the words and
-    // the input. Whatever the status, what was written is a first part of the text that is stated; for `layout`,
-    // where one of several greatest assignments is given, it is nothing or a first part of a text that is stated.
+    // the input. Whatever the status, what was written is a first part of the text that is stated.
     ensures answers { IsStated result → IfSome (I.left input.old) (λ bytes. Answers (map string_bytes words.now) bytes result (O.written output.old) (O.written output.new)) }
-    ensures prefix { (map string_bytes words.now ≡ layout_words → ⊥) → IfSome (I.left input.old) (λ bytes. AnswersPrefix (map string_bytes words.now) bytes (O.written output.old) (O.written output.new)) }
-    ensures begins { map string_bytes words.now ≡ layout_words → IfSome (I.left input.old) (λ bytes. Begins layout_words bytes (O.written output.old) (O.written output.new)) }
+    ensures prefix { IfSome (I.left input.old) (λ bytes. AnswersPrefix (map string_bytes words.now) bytes (O.written output.old) (O.written output.new)) }
 
     // The stated answer comes, or memory was wanting, where no count of faults rises.
     ensures complete { IfSome (I.left input.old) (λ bytes. (status : Status) (text : List ℕ) → IsAnswer (map string_bytes words.now) bytes status text →
         (Rose (I.faults input.old) (I.faults input.new) → ⊥) → (Rose (O.faults output.old) (O.faults output.new) → ⊥) → (result ≡ status) ⊎ (result ≡ Status.Memory)) }
 
     // Words that ask for nothing known bring Usage, with nothing read; no other words do.
-    ensures usage { result ≡ Status.Usage → ReadsInput (map string_bytes words.now) → ⊥ }
-    ensures usage_alone { (ReadsInput (map string_bytes words.now) → ⊥) → (result ≡ Status.Usage) ⊎ (result ≡ Status.WriteFault) }
-    ensures unread { (ReadsInput (map string_bytes words.now) → ⊥) → input.new ≡ input.old }
+    ensures usage { result ≡ Status.Usage → map string_bytes words.now ≡ replay_words → ⊥ }
+    ensures usage_alone { (map string_bytes words.now ≡ replay_words → ⊥) → (result ≡ Status.Usage) ⊎ (result ≡ Status.WriteFault) }
+    ensures unread { (map string_bytes words.now ≡ replay_words → ⊥) → input.new ≡ input.old }
 
     // A fault comes only where the count of its object rose in this call.
     ensures read_fault { result ≡ Status.ReadFault → Rose (I.faults input.old) (I.faults input.new) }
@@ -184,6 +163,5 @@ pub fn run<I: Source, O: Sink, L: Link, C: Clock>(
     ensures link_fault { result ≡ Status.LinkFault → ⊥ }
 {
     fresh_reads();
-    one_status();
     answer(alloc, words, input, output)
 }

@@ -1,6 +1,5 @@
 -- Which answer is stated for settings and for an input, and that its status is one.
 use Rattle.std.proofs.Common.{◌≡◌, ℕ, ◌+◌, ◌<◌, ◌≤◌, ◌↔◌, List, ◌++◌, length, Result, Ok, Err, IfErr, refl, sym, ap, ap₂, ◌∙◌, subst, arith, inl, inr}
-use Rattle.std.specs.Prelude.{IsUtf8}
 use Rattle.std.proofs.lemmas.Bool.{cases_lt}
 use Rattle.std.proofs.lemmas.Result.{IfErr-at_err}
 use Rattle.lab_outside.specs.declared.exit.Status.{Status}

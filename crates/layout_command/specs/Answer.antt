@@ -1,9 +1,7 @@
 -- What the command `layout` answers: the status and the text that are stated for an input.
-use Rattle.std.specs.Prelude.{◌≡◌, ℕ, ◌+◌, ◌<◌, ◌≤◌, IsUtf8, length, List, [], ◌∷◌, ◌++◌, codes, decimal, Result, Ok, Err}
+use Rattle.std.specs.Prelude.{◌≡◌, ℕ, ◌+◌, ◌<◌, ◌≤◌, IsUtf8, length, List, ◌++◌, codes, Ok, Err}
 use Rattle.lab_outside.specs.declared.exit.Status.{Status}
 use Rattle.lab_outside.specs.declared.exit.Status.TheVariants.{Done, Refused}
-use Rattle.layout_roles.specs.declared.role.Role.{Role}
-use Rattle.layout_roles.specs.declared.redundancy.Redundancy.{Redundancy}
 use Rattle.layout_roles.specs.Zones.{storage_nodes, zone_names}
 use Rattle.layout_roles.specs.Fits.{IsGreatest, NoneFits}
 use Rattle.layout_flow.specs.Answers.{IsPrintedCut}

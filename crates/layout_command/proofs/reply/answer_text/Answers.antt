@@ -1,8 +1,8 @@
 use Rattle.std.specs.Prelude.{IsUtf8}
 use Rattle.std.proofs.Common.{◌∙◌}
 use Rattle.std.proofs.lemmas.Result.{IfOk-weaker}
-use Rattle.layout_text.specs.Settings.{settings_of, IsFaultOf, said}
-use Rattle.layout_command.specs.Answer.{greatest_node, IsLaidOut, IsAnswer, laid_out, bad_field}
+use Rattle.layout_text.specs.Settings.{settings_of}
+use Rattle.layout_command.specs.Answer.{IsLaidOut, IsAnswer, laid_out, bad_field}
 use Rattle.layout_command.proofs.reply.answer_text.Goals as goal
 
 pub returns-in-Ok-clause-stated : goal.returns-in-Ok-clause-stated
