@@ -1,0 +1,8 @@
+pub mod Gives
+pub mod Joined
+pub mod Numbers
+pub mod Parts
+pub mod Proper
+pub mod Reading
+pub mod Reads
+pub mod Spelling

@@ -1,0 +1,166 @@
+//! Numbers, strings of bytes and digests.
+ghost use Rattle.std.specs.Prelude.{◌≡◌, ◌<◌, ◌^◌, true};
+ghost use Rattle.row_codec.specs.Gives.{Gives};
+ghost use Rattle.row_codec.specs.Numbers.{bytes_reads, four_reads, eight_reads, field_reads};
+ghost use Rattle.row_codec.specs.Parts.{hash_reads};
+ghost use Rattle.row_codec.specs.Proper.{IsBlock, IsProperHash, is_below};
+ghost use Rattle.row_codec.specs.Reading.{bytes_at, four_at, eight_at, field_at, hash_at};
+ghost use Rattle.row_codec.specs.Reads.{IsBytes};
+ghost use Rattle.row_codec.specs.Spelling.{four, eight, field};
+
+use crate::fault::RowFault;
+use crate::field::Field;
+use blake2_hash::Hash32;
+use crdt_core::{Bytes, Memory};
+use std::alloc::Global;
+
+/// Lengths and counts from here on have no 4 bytes.
+pub const LIMIT: usize = 1 << 32;
+
+// The first N bytes, and the rest.
+#[tactic(auto, unfolding(crate::specs::Reading::bytes_at))]
+fn front<const N: usize>(bytes: &[u8]) -> Result<(&[u8; N], &[u8]), RowFault>
+    ensures { Gives (λ x. (x.0.now, x.1.now)) result (bytes_at N bytes.now) }
+{
+    match bytes.split_first_chunk::<N>() {
+        Some((front, rest)) => Ok((front, rest)),
+        None => Err(RowFault::NotARow),
+    }
+}
+
+impl Field for u32 {
+    ghost IsProper = { λ n. n < 2 ^ 32 };
+
+    ghost is_short = { λ n. true };
+
+    ghost spelled = { four };
+
+    ghost read = { four_at };
+
+    ghost reads = { four_reads };
+
+    fn is_short(&self) -> bool {
+        true
+    }
+
+    #[tactic(auto, unfolding(crate::specs::Spelling::four))]
+    fn put(&self, out: &mut Bytes) -> Result<(), Memory> {
+        out.extend_from_slice(&self.to_be_bytes())
+    }
+
+    #[tactic(auto, unfolding(crate::specs::Reading::four_at))]
+    fn take(_alloc: Global, bytes: &[u8]) -> Result<(u32, &[u8]), RowFault> {
+        let (number, rest) = front::<4>(bytes)?;
+        Ok((u32::from_be_bytes(*number), rest))
+    }
+}
+
+impl Field for u64 {
+    ghost IsProper = { λ n. n < 2 ^ 64 };
+
+    ghost is_short = { λ n. true };
+
+    ghost spelled = { eight };
+
+    ghost read = { eight_at };
+
+    ghost reads = { eight_reads };
+
+    fn is_short(&self) -> bool {
+        true
+    }
+
+    #[tactic(auto, unfolding(crate::specs::Spelling::eight))]
+    fn put(&self, out: &mut Bytes) -> Result<(), Memory> {
+        out.extend_from_slice(&self.to_be_bytes())
+    }
+
+    #[tactic(auto, unfolding(crate::specs::Reading::eight_at))]
+    fn take(_alloc: Global, bytes: &[u8]) -> Result<(u64, &[u8]), RowFault> {
+        let (number, rest) = front::<8>(bytes)?;
+        Ok((u64::from_be_bytes(*number), rest))
+    }
+}
+
+impl<const N: usize> Field for [u8; N] {
+    ghost IsProper = { IsBlock N };
+
+    ghost is_short = { λ b. true };
+
+    ghost spelled = { λ b. b };
+
+    ghost read = { bytes_at N };
+
+    ghost reads = { bytes_reads N };
+
+    fn is_short(&self) -> bool {
+        true
+    }
+
+    fn put(&self, out: &mut Bytes) -> Result<(), Memory> {
+        out.extend_from_slice(self)
+    }
+
+    fn take(_alloc: Global, bytes: &[u8]) -> Result<([u8; N], &[u8]), RowFault> {
+        let (block, rest) = front::<N>(bytes)?;
+        Ok((*block, rest))
+    }
+}
+
+impl Field for Hash32 {
+    ghost IsProper = { IsProperHash };
+
+    ghost is_short = { λ h. true };
+
+    ghost spelled = { λ h. h.0 };
+
+    ghost read = { hash_at };
+
+    ghost reads = { hash_reads };
+
+    fn is_short(&self) -> bool {
+        true
+    }
+
+    fn put(&self, out: &mut Bytes) -> Result<(), Memory> {
+        out.extend_from_slice(&self.0)
+    }
+
+    #[tactic(auto, unfolding(crate::specs::Reading::hash_at, crate::specs::Reading::made_at))]
+    fn take(_alloc: Global, bytes: &[u8]) -> Result<(Hash32, &[u8]), RowFault> {
+        let (block, rest) = front::<32>(bytes)?;
+        Ok((Hash32(*block), rest))
+    }
+}
+
+impl Field for Bytes {
+    ghost IsProper = { IsBytes };
+
+    ghost is_short = { is_below };
+
+    ghost spelled = { field };
+
+    ghost read = { field_at };
+
+    ghost reads = { field_reads };
+
+    fn is_short(&self) -> bool {
+        self.len() < LIMIT
+    }
+
+    fn put(&self, out: &mut Bytes) -> Result<(), Memory> {
+        (self.len() as u32).put(out)?;
+        out.extend_from_slice(self.as_slice())
+    }
+
+    #[tactic(auto, unfolding(crate::specs::Reading::field_at, crate::specs::Reading::bytes_at))]
+    fn take(alloc: Global, bytes: &[u8]) -> Result<(Bytes, &[u8]), RowFault> {
+        let (len, rest) = u32::take(alloc, bytes)?;
+        let len = len as usize;
+        if rest.len() < len {
+            return Err(RowFault::NotARow);
+        }
+        let (front, rest) = rest.split_at(len);
+        Ok((Bytes::from_slice(alloc, front)?, rest))
+    }
+}
