@@ -2,7 +2,7 @@ pub mod Gives
 pub mod Joined
 pub mod Numbers
 pub mod Parts
-pub mod Proper
+pub mod Range
 pub mod Reading
 pub mod Reads
 pub mod Spelling

@@ -11,7 +11,7 @@ use std::alloc::Global;
 /// A part of a row, with the one string of bytes that spells it.
 pub trait Field: Drop {
     /// Each number is in its type's range.
-    ghost IsProper: { Self → Type 0 };
+    ghost in_range: { Self → Bool };
 
     /// Each length and count is below 2^32, so that 4 bytes spell it.
     ghost is_short: { Self → Bool };
@@ -28,11 +28,12 @@ pub trait Field: Drop {
     fn put(&self, out: &mut Bytes) -> Result<(), Memory>
         requires { IsTrue (is_short self.now) }
         ensures ok { OnOk result (out.new ≡ out.old ++ spelled self.now) }
+        ensures in_range { OnOk result (IsTrue (in_range self.now)) }
         ensures want { IfErr result (λ e. e ≡ Want) };
 
     /// Reads one from the front of bytes, and gives the bytes after it too.
     fn take(alloc: Global, bytes: &[u8]) -> Result<(Self, &[u8]), RowFault>
         ensures { Gives (λ x. (x.0, x.1.now)) result (read bytes.now) };
 
-    ghost reads: { Reads IsProper is_short spelled read };
+    ghost reads: { Reads in_range is_short spelled read };
 }

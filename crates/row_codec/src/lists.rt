@@ -1,11 +1,11 @@
 //! Pairs, and lists of values.
 ghost use Rattle.std.specs.Prelude.{◌≡◌, ◌&&◌, ◌++◌, IsTrue, OnOk, IfErr};
-ghost use Rattle.std.specs.List.{AllByRecursion, list_all, flat_map};
+ghost use Rattle.std.specs.List.{list_all, flat_map};
 ghost use Rattle.crdt_core.specs.declared.memory.Memory.TheVariants.{Want};
 ghost use Rattle.row_codec.specs.Gives.{Gives};
 ghost use Rattle.row_codec.specs.Joined.{both_reads, counted_reads};
 ghost use Rattle.row_codec.specs.Parts.{max_reads};
-ghost use Rattle.row_codec.specs.Proper.{are_short};
+ghost use Rattle.row_codec.specs.Range.{are_short};
 ghost use Rattle.row_codec.specs.Reading.{both_at, each_at, counted_at, max_at};
 ghost use Rattle.row_codec.specs.Spelling.{counted};
 
@@ -16,7 +16,7 @@ use crdt_core::{Bytes, List, Max, Memory, Value};
 use std::alloc::Global;
 
 impl<A: Field, B: Field> Field for (A, B) {
-    ghost IsProper = { λ p. A.IsProper p.0 × B.IsProper p.1 };
+    ghost in_range = { λ p. A.in_range p.0 && B.in_range p.1 };
 
     ghost is_short = { λ p. A.is_short p.0 && B.is_short p.1 };
 
@@ -44,7 +44,7 @@ impl<A: Field, B: Field> Field for (A, B) {
 }
 
 impl<T: Value + Field> Field for Max<T> {
-    ghost IsProper = { λ m. T.IsProper m.0 };
+    ghost in_range = { λ m. T.in_range m.0 };
 
     ghost is_short = { λ m. T.is_short m.0 };
 
@@ -78,6 +78,7 @@ fn all_short<T: Field>(items: &[T]) -> bool
 fn put_each<T: Field>(items: &[T], out: &mut Bytes) -> Result<(), Memory>
     requires { IsTrue (list_all T.is_short items.now) }
     ensures ok { OnOk result (out.new ≡ out.old ++ flat_map T.spelled items.now) }
+    ensures in_range { OnOk result (IsTrue (list_all T.in_range items.now)) }
     ensures want { IfErr result (λ e. e ≡ Want) }
 {
     for item in items {
@@ -103,6 +104,7 @@ fn take_each<T: Field>(alloc: Global, count: u32, bytes: &[u8]) -> Result<(List<
 pub fn put_items<T: Field>(items: &[T], out: &mut Bytes) -> Result<(), Memory>
     requires { IsTrue (are_short T.is_short items.now) }
     ensures ok { OnOk result (out.new ≡ out.old ++ counted T.spelled items.now) }
+    ensures in_range { OnOk result (IsTrue (list_all T.in_range items.now)) }
     ensures want { IfErr result (λ e. e ≡ Want) }
 {
     (items.len() as u32).put(out)?;
@@ -117,7 +119,7 @@ pub fn are_short<T: Field>(items: &[T]) -> bool
 }
 
 impl<T: Field> Field for List<T> {
-    ghost IsProper = { AllByRecursion T.IsProper };
+    ghost in_range = { list_all T.in_range };
 
     ghost is_short = { are_short T.is_short };
 

@@ -1,11 +1,12 @@
 //! Numbers, strings of bytes and digests.
-ghost use Rattle.std.specs.Prelude.{◌≡◌, ◌<◌, ◌^◌, true};
+ghost use Rattle.std.specs.Prelude.{◌≡◌, ◌++◌, true, IsTrue, OnOk, IfErr};
+ghost use Rattle.crdt_core.specs.declared.memory.Memory.TheVariants.{Want};
 ghost use Rattle.row_codec.specs.Gives.{Gives};
 ghost use Rattle.row_codec.specs.Numbers.{bytes_reads, four_reads, eight_reads, field_reads};
 ghost use Rattle.row_codec.specs.Parts.{hash_reads};
-ghost use Rattle.row_codec.specs.Proper.{IsBlock, IsProperHash, is_below};
+ghost use Rattle.row_codec.specs.Range.{is_block, is_four, is_eight, is_hash, is_below};
 ghost use Rattle.row_codec.specs.Reading.{bytes_at, four_at, eight_at, field_at, hash_at};
-ghost use Rattle.row_codec.specs.Reads.{IsBytes};
+ghost use Rattle.row_codec.specs.Reads.{are_bytes};
 ghost use Rattle.row_codec.specs.Spelling.{four, eight, field};
 
 use crate::fault::RowFault;
@@ -28,8 +29,17 @@ fn front<const N: usize>(bytes: &[u8]) -> Result<(&[u8; N], &[u8]), RowFault>
     }
 }
 
+// Writes the bytes at the end.
+fn put_bytes(bytes: &[u8], out: &mut Bytes) -> Result<(), Memory>
+    ensures ok { OnOk result (out.new ≡ out.old ++ bytes.now) }
+    ensures want { IfErr result (λ e. e ≡ Want) }
+    ensures in_range { IsTrue (are_bytes bytes.now) }
+{
+    out.extend_from_slice(bytes)
+}
+
 impl Field for u32 {
-    ghost IsProper = { λ n. n < 2 ^ 32 };
+    ghost in_range = { is_four };
 
     ghost is_short = { λ n. true };
 
@@ -56,7 +66,7 @@ impl Field for u32 {
 }
 
 impl Field for u64 {
-    ghost IsProper = { λ n. n < 2 ^ 64 };
+    ghost in_range = { is_eight };
 
     ghost is_short = { λ n. true };
 
@@ -83,7 +93,7 @@ impl Field for u64 {
 }
 
 impl<const N: usize> Field for [u8; N] {
-    ghost IsProper = { IsBlock N };
+    ghost in_range = { is_block N };
 
     ghost is_short = { λ b. true };
 
@@ -98,7 +108,7 @@ impl<const N: usize> Field for [u8; N] {
     }
 
     fn put(&self, out: &mut Bytes) -> Result<(), Memory> {
-        out.extend_from_slice(self)
+        put_bytes(self, out)
     }
 
     fn take(_alloc: Global, bytes: &[u8]) -> Result<([u8; N], &[u8]), RowFault> {
@@ -108,7 +118,7 @@ impl<const N: usize> Field for [u8; N] {
 }
 
 impl Field for Hash32 {
-    ghost IsProper = { IsProperHash };
+    ghost in_range = { is_hash };
 
     ghost is_short = { λ h. true };
 
@@ -123,7 +133,7 @@ impl Field for Hash32 {
     }
 
     fn put(&self, out: &mut Bytes) -> Result<(), Memory> {
-        out.extend_from_slice(&self.0)
+        put_bytes(&self.0, out)
     }
 
     #[tactic(auto, unfolding(crate::specs::Reading::hash_at, crate::specs::Reading::made_at))]
@@ -134,7 +144,7 @@ impl Field for Hash32 {
 }
 
 impl Field for Bytes {
-    ghost IsProper = { IsBytes };
+    ghost in_range = { are_bytes };
 
     ghost is_short = { is_below };
 
@@ -150,7 +160,7 @@ impl Field for Bytes {
 
     fn put(&self, out: &mut Bytes) -> Result<(), Memory> {
         (self.len() as u32).put(out)?;
-        out.extend_from_slice(self.as_slice())
+        put_bytes(self.as_slice(), out)
     }
 
     #[tactic(auto, unfolding(crate::specs::Reading::field_at, crate::specs::Reading::bytes_at))]

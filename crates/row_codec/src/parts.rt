@@ -1,7 +1,7 @@
 //! The parts of rows.
 ghost use Rattle.std.specs.Prelude.{true};
 ghost use Rattle.row_codec.specs.Parts.{version_reads, part_reads, block_reads, meta_reads, state_reads};
-ghost use Rattle.row_codec.specs.Proper.{IsProperVersion, IsProperPart, IsProperBlock, IsProperMeta, IsProperState, is_short_meta, is_short_state};
+ghost use Rattle.row_codec.specs.Range.{version_in_range, part_in_range, block_in_range, meta_in_range, state_in_range, is_short_meta, is_short_state};
 ghost use Rattle.row_codec.specs.Reading.{version_at, part_at, block_at, meta_at, state_at};
 ghost use Rattle.row_codec.specs.Spelling.{version, part, block, meta, state};
 
@@ -13,7 +13,7 @@ use crdt_rows::{BlockRef, Body, Meta, Part, State, Version};
 use std::alloc::Global;
 
 impl Field for Version {
-    ghost IsProper = { IsProperVersion };
+    ghost in_range = { version_in_range };
 
     ghost is_short = { λ v. true };
 
@@ -41,7 +41,7 @@ impl Field for Version {
 }
 
 impl Field for Part {
-    ghost IsProper = { IsProperPart };
+    ghost in_range = { part_in_range };
 
     ghost is_short = { λ p. true };
 
@@ -69,7 +69,7 @@ impl Field for Part {
 }
 
 impl Field for BlockRef {
-    ghost IsProper = { IsProperBlock };
+    ghost in_range = { block_in_range };
 
     ghost is_short = { λ b. true };
 
@@ -97,7 +97,7 @@ impl Field for BlockRef {
 }
 
 impl Field for Meta {
-    ghost IsProper = { IsProperMeta };
+    ghost in_range = { meta_in_range };
 
     ghost is_short = { is_short_meta };
 
@@ -134,7 +134,7 @@ impl Field for Meta {
 }
 
 impl Field for State {
-    ghost IsProper = { IsProperState };
+    ghost in_range = { state_in_range };
 
     ghost is_short = { is_short_state };
 

@@ -1,6 +1,6 @@
 -- Rows whose numbers are in their types' ranges, and rows that are short enough to have bytes.
-use Rattle.std.specs.Prelude.{◌≡◌, ℕ, ◌^◌, ◌<◌, Bool, true, nat_lt, ◌&&◌, List, length}
-use Rattle.std.specs.List.{AllByRecursion, list_all}
+use Rattle.std.specs.Prelude.{ℕ, ◌^◌, ◌==◌, Bool, true, nat_lt, ◌&&◌, List, length}
+use Rattle.std.specs.List.{list_all}
 use Rattle.blake2_hash.specs.declared.digest.Hash32.{Hash32}
 use Rattle.crdt_core.specs.declared.max.Max.{Max}
 use Rattle.crdt_core.specs.declared.deletable.Deletable.TheVariants.{Present, Deleted}
@@ -17,50 +17,58 @@ use Rattle.crdt_rows.specs.declared.version_row.VersionRow.{VersionRow}
 use Rattle.crdt_rows.specs.declared.ref_row.RefRow.{RefRow}
 use Rattle.crdt_rows.specs.declared.any_row.AnyRow.{AnyRow}
 use Rattle.crdt_rows.specs.declared.any_row.AnyRow.TheVariants as rows
-use Rattle.row_codec.specs.Reads.{IsBytes}
+use Rattle.row_codec.specs.Reads.{are_bytes}
 
 -- ---- numbers in their types' ranges
 
 -- n bytes
-abbrev pub IsBlock : ℕ → List ℕ → Type 0
-IsBlock n bytes = (length bytes ≡ n) × IsBytes bytes
+abbrev pub is_block : ℕ → List ℕ → Bool
+is_block n bytes = (length bytes == n) && are_bytes bytes
 
-abbrev pub IsProperHash : Hash32 → Type 0
-IsProperHash h = IsBlock 32 h.0
+-- a number of 4 bytes
+abbrev pub is_four : ℕ → Bool
+is_four n = nat_lt n (2 ^ 32)
 
-abbrev pub IsProperMeta : Meta → Type 0
-IsProperMeta m = (m.size < 2 ^ 64) × (IsBlock 16 m.etag × AllByRecursion (λ h. IsBytes h.0 × IsBytes h.1) m.headers)
+-- a number of 8 bytes
+abbrev pub is_eight : ℕ → Bool
+is_eight n = nat_lt n (2 ^ 64)
 
-abbrev pub IsProperState : State → Type 0
-IsProperState Uploading = Unit {0}
-IsProperState Aborted = Unit {0}
-IsProperState (Complete Marker) = Unit {0}
-IsProperState (Complete (Inline m bytes)) = IsProperMeta m × IsBytes bytes
-IsProperState (Complete (Blocks m first)) = IsProperMeta m × IsProperHash first
+abbrev pub is_hash : Hash32 → Bool
+is_hash h = is_block 32 h.0
 
-abbrev pub IsProperVersion : Version → Type 0
-IsProperVersion v = (v.ts < 2 ^ 64) × (v.id < 2 ^ 64)
+abbrev pub meta_in_range : Meta → Bool
+meta_in_range m = is_eight m.size && (is_block 16 m.etag && list_all (λ h. are_bytes h.0 && are_bytes h.1) m.headers)
 
-abbrev pub IsProperPart : Part → Type 0
-IsProperPart p = (p.part < 2 ^ 32) × (p.offset < 2 ^ 64)
+abbrev pub state_in_range : State → Bool
+state_in_range Uploading = true
+state_in_range Aborted = true
+state_in_range (Complete Marker) = true
+state_in_range (Complete (Inline m bytes)) = meta_in_range m && are_bytes bytes
+state_in_range (Complete (Blocks m first)) = meta_in_range m && is_hash first
 
-abbrev pub IsProperBlock : BlockRef → Type 0
-IsProperBlock b = IsProperHash b.hash × (b.size < 2 ^ 32)
+abbrev pub version_in_range : Version → Bool
+version_in_range v = is_eight v.ts && is_eight v.id
 
-abbrev pub IsProperObject : ObjectRow → Type 0
-IsProperObject r = IsProperHash r.bucket × (IsBytes r.key × AllByRecursion (λ e. IsProperVersion e.0 × IsProperState e.1.0) (map_entries r.versions))
+abbrev pub part_in_range : Part → Bool
+part_in_range p = is_four p.part && is_eight p.offset
 
-abbrev pub IsProperVersionRow : VersionRow → Type 0
-IsProperVersionRow r = (r.id < 2 ^ 64) × (elim r.blocks [ Present m ↦ AllByRecursion (λ e. IsProperPart e.0 × IsProperBlock e.1.0) (map_entries m) | Deleted ↦ Unit {0} ])
+abbrev pub block_in_range : BlockRef → Bool
+block_in_range b = is_hash b.hash && is_four b.size
 
-abbrev pub IsProperRef : RefRow → Type 0
-IsProperRef r = IsProperHash r.hash × (r.id < 2 ^ 64)
+abbrev pub object_in_range : ObjectRow → Bool
+object_in_range r = is_hash r.bucket && (are_bytes r.key && list_all (λ e. version_in_range e.0 && state_in_range e.1.0) (map_entries r.versions))
+
+abbrev pub version_row_in_range : VersionRow → Bool
+version_row_in_range r = is_eight r.id && (elim r.blocks [ Present m ↦ list_all (λ e. part_in_range e.0 && block_in_range e.1.0) (map_entries m) | Deleted ↦ true ])
+
+abbrev pub ref_in_range : RefRow → Bool
+ref_in_range r = is_hash r.hash && is_eight r.id
 
 -- each number of the row is in its type's range
-abbrev pub IsProper : AnyRow → Type 0
-IsProper (rows.Object r) = IsProperObject r
-IsProper (rows.Version r) = IsProperVersionRow r
-IsProper (rows.Ref r) = IsProperRef r
+abbrev pub in_range : AnyRow → Bool
+in_range (rows.Object r) = object_in_range r
+in_range (rows.Version r) = version_row_in_range r
+in_range (rows.Ref r) = ref_in_range r
 
 -- ---- lengths and counts below 2^32
 
