@@ -1,3 +1,4 @@
+pub mod Built
 pub mod Gives
 pub mod Joined
 pub mod Numbers
@@ -6,3 +7,4 @@ pub mod Range
 pub mod Reading
 pub mod Reads
 pub mod Spelling
+pub mod Rows

@@ -19,6 +19,10 @@ pub bytes_back : (a b : List ℕ) → IsBytes (a ++ b) → IsBytes b
 bytes_back [] b h = h
 bytes_back (x ∷ a) b h = bytes_back a b (and_parts (nat_lt x (2 ^ 8)) (are_bytes (a ++ b)) h).1
 
+pub bytes_both : (a b : List ℕ) → IsBytes a → IsBytes b → IsBytes (a ++ b)
+bytes_both [] b h g = g
+bytes_both (x ∷ a) b h g = let parts = and_parts (nat_lt x (2 ^ 8)) (are_bytes a) h in and_both _ _ parts.0 (bytes_both a b parts.1 g)
+
 -- what is left is bytes
 pub bytes_rest : (bytes a b : List ℕ) → bytes ≡ a ++ b → IsBytes bytes → IsBytes b
 bytes_rest bytes a b e h = bytes_back a b (subst IsBytes e h)
@@ -61,6 +65,7 @@ some_is x y e = cc
 pub bytes_reads : (n : ℕ) → Reads (is_block n) (λ b. true) (λ b. b) (bytes_at n)
 unfolding bytes_at
 bytes_reads n = record {
+  bytes = λ x fits. block_bytes n x fits;
   takes = λ bytes x rest fits e.
       let g = guard_some (nat_lt (length bytes) n) (take n bytes, drop n bytes) (x, rest) e in
       let long : n ≤ length bytes = ltb-false _ _ g.0 in
@@ -118,6 +123,7 @@ wide_64 = record {
 
 number_reads : (w : Width) (len limit : ℕ) → IsWide w len limit → Reads (λ n. nat_lt n limit) (λ n. true) (to_be_bytes w) (λ bytes. bytes_at len bytes >>= λ front. Some (from_be_bytes w front.0, front.1))
 number_reads w len limit wide = record {
+  bytes = λ x fits. wide.small x;
   takes = λ bytes x rest fits e.
       let b = bind_some (bytes_at len bytes) (λ front. Some (from_be_bytes w front.0, front.1)) (x, rest) e in
       let t = (bytes_reads len).takes bytes b.0.0 b.0.1 fits b.1 in
@@ -133,6 +139,10 @@ pub four_reads : Reads is_four (λ n. true) four four_at
 unfolding four_at four
 four_reads = number_reads w32 4 (2 ^ 32) wide_32
 
+pub four_bytes : (n : ℕ) → IsBytes (four n)
+unfolding four
+four_bytes n = high_small 4 n
+
 pub eight_reads : Reads is_eight (λ n. true) eight eight_at
 unfolding eight_at eight
 eight_reads = number_reads w64 8 (2 ^ 64) wide_64
@@ -142,6 +152,7 @@ eight_reads = number_reads w64 8 (2 ^ 64) wide_64
 pub field_reads : Reads are_bytes is_below field field_at
 unfolding field_at
 field_reads = record {
+  bytes = λ x fits. bytes_both (four (length x)) x (four_bytes (length x)) fits;
   takes = λ bytes x rest fits e.
       let b = bind_some (four_at bytes) (λ len. bytes_at len.0 len.1) (x, rest) e in
       let t = four_reads.takes bytes b.0.0 b.0.1 fits b.1 in

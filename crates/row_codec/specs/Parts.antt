@@ -74,5 +74,12 @@ state_again (Complete Marker) rest proper short = refl
 state_again (Complete (Inline m bytes)) rest proper short = rw (inline_reads.again (m, bytes) rest proper short) refl
 state_again (Complete (Blocks m first)) rest proper short = rw (blocks_reads.again (m, first) rest proper (and_both _ _ short refl)) refl
 
+state_bytes : (s : State) → state_in_range s ≡ true → IsBytes (state s)
+state_bytes Uploading fits = refl
+state_bytes Aborted fits = refl
+state_bytes (Complete Marker) fits = refl
+state_bytes (Complete (Inline m bytes)) fits = inline_reads.bytes (m, bytes) fits
+state_bytes (Complete (Blocks m first)) fits = blocks_reads.bytes (m, first) fits
+
 pub state_reads : Reads state_in_range is_short_state state state_at
-state_reads = record { takes = state_takes; again = state_again }
+state_reads = record { bytes = state_bytes; takes = state_takes; again = state_again }

@@ -3,6 +3,7 @@ use Rattle.std.specs.Prelude.{ℕ, ◌^◌, ◌==◌, Bool, true, nat_lt, ◌&&�
 use Rattle.std.specs.List.{list_all}
 use Rattle.blake2_hash.specs.declared.digest.Hash32.{Hash32}
 use Rattle.crdt_core.specs.declared.max.Max.{Max}
+use Rattle.crdt_core.specs.declared.deletable.Deletable.{Deletable}
 use Rattle.crdt_core.specs.declared.deletable.Deletable.TheVariants.{Present, Deleted}
 use Rattle.crdt_core.specs.Map.{map_entries}
 use Rattle.crdt_rows.specs.declared.version.Version.{Version}
@@ -18,6 +19,11 @@ use Rattle.crdt_rows.specs.declared.ref_row.RefRow.{RefRow}
 use Rattle.crdt_rows.specs.declared.any_row.AnyRow.{AnyRow}
 use Rattle.crdt_rows.specs.declared.any_row.AnyRow.TheVariants as rows
 use Rattle.row_codec.specs.Reads.{are_bytes}
+
+-- the value passes the test, where there is one
+abbrev pub unless_deleted : {X : Type 0} → (X → Bool) → Deletable X → Bool
+unless_deleted test (Present x) = test x
+unless_deleted test Deleted = true
 
 -- ---- numbers in their types' ranges
 
@@ -59,7 +65,7 @@ abbrev pub object_in_range : ObjectRow → Bool
 object_in_range r = is_hash r.bucket && (are_bytes r.key && list_all (λ e. version_in_range e.0 && state_in_range e.1.0) (map_entries r.versions))
 
 abbrev pub version_row_in_range : VersionRow → Bool
-version_row_in_range r = is_eight r.id && (elim r.blocks [ Present m ↦ list_all (λ e. part_in_range e.0 && block_in_range e.1.0) (map_entries m) | Deleted ↦ true ])
+version_row_in_range r = is_eight r.id && unless_deleted (λ m. list_all (λ e. part_in_range e.0 && block_in_range e.1.0) (map_entries m)) r.blocks
 
 abbrev pub ref_in_range : RefRow → Bool
 ref_in_range r = is_hash r.hash && is_eight r.id
@@ -93,7 +99,7 @@ abbrev pub is_short_object : ObjectRow → Bool
 is_short_object r = is_below r.key && are_short (λ e. is_short_state e.1.0) (map_entries r.versions)
 
 abbrev pub is_short_version_row : VersionRow → Bool
-is_short_version_row r = elim r.blocks [ Present m ↦ is_below (map_entries m) | Deleted ↦ true ]
+is_short_version_row r = unless_deleted (λ m. are_short (λ e. true) (map_entries m)) r.blocks
 
 -- each length and count is below 2^32, so that the row has bytes
 abbrev pub has_bytes : AnyRow → Bool

@@ -61,6 +61,13 @@ made_at f read bytes = do
   x ← read bytes
   Some (f x.0, x.1)
 
+-- what f makes of a value, where it makes something of it
+unfoldable pub tested_at : {X Y : Type 0} → (X → Option Y) → (List ℕ → Option (X × List ℕ)) → List ℕ → Option (Y × List ℕ)
+tested_at f read bytes = do
+  x ← read bytes
+  y ← f x.0
+  Some (y, x.1)
+
 -- ---- the parts of rows
 
 unfoldable pub hash_at : List ℕ → Option (Hash32 × List ℕ)

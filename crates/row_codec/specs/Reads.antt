@@ -25,4 +25,5 @@ pub record Begins {X : Type 0} (in_range : X → Bool) (is_short : X → Bool) (
 -- the reader takes from the front of bytes exactly the values whose spelling stands there
 pub record Reads {X : Type 0} (in_range : X → Bool) (is_short : X → Bool) (spelled : X → List ℕ) (read : List ℕ → Option (X × List ℕ)) : Type 0 where
   pub takes : (bytes : List ℕ) (x : X) (rest : List ℕ) → IsBytes bytes → read bytes ≡ Some (x, rest) → Begins in_range is_short spelled bytes x rest
+  pub bytes : (x : X) → in_range x ≡ true → IsBytes (spelled x)
   pub again : (x : X) (rest : List ℕ) → in_range x ≡ true → is_short x ≡ true → read (spelled x ++ rest) ≡ Some (x, rest)

@@ -1,9 +1,11 @@
 -- The bytes of each row: the table of rows.
-use Rattle.std.specs.Prelude.{ℕ, Bool, true, false, List, [], ◌∷◌, ◌++◌, length}
+use Rattle.std.specs.Prelude.{ℕ, true, false, List, [], ◌∷◌, ◌++◌, length}
 use Rattle.std.specs.Int.{w32, w64, to_be_bytes}
 use Rattle.std.specs.List.{flat_map}
 use Rattle.crdt_core.specs.declared.max.Max.{Max}
+use Rattle.crdt_core.specs.declared.deletable.Deletable.{Deletable}
 use Rattle.crdt_core.specs.declared.deletable.Deletable.TheVariants.{Present, Deleted}
+use Rattle.crdt_core.specs.declared.flag.Bool.{Bool as Flag}
 use Rattle.crdt_core.specs.Map.{map_entries}
 use Rattle.crdt_rows.specs.declared.version.Version.{Version}
 use Rattle.crdt_rows.specs.declared.body.Meta.{Meta}
@@ -60,16 +62,20 @@ block b = b.hash.0 ++ four b.size
 abbrev pub object_row : ObjectRow → List ℕ
 object_row r = r.bucket.0 ++ (field r.key ++ counted (λ e. version e.0 ++ state e.1.0) (map_entries r.versions))
 
-abbrev pub version_row : VersionRow → List ℕ
-version_row r = eight r.id ++ (elim r.blocks [ Present m ↦ 0 ∷ counted (λ e. part e.0 ++ block e.1.0) (map_entries m) | Deleted ↦ 1 ∷ [] ])
+-- 00 and the value, or 01
+abbrev pub deletable : {X : Type 0} → (X → List ℕ) → Deletable X → List ℕ
+deletable spelled (Present x) = 0 ∷ spelled x
+deletable spelled Deleted = 1 ∷ []
 
--- the byte 1 where it is so, else 0
-abbrev pub flag : Bool → ℕ
-flag true = 1
-flag false = 0
+abbrev pub version_row : VersionRow → List ℕ
+version_row r = eight r.id ++ deletable (λ m. counted (λ e. part e.0 ++ block e.1.0) (map_entries m)) r.blocks
+
+-- 01 where it is up
+abbrev pub flag : Flag → List ℕ
+flag b = elim b.0 [ true ↦ 1 ∷ [] | false ↦ 0 ∷ [] ]
 
 abbrev pub reference_row : RefRow → List ℕ
-reference_row r = r.hash.0 ++ (eight r.id ++ flag r.deleted.0 ∷ [])
+reference_row r = r.hash.0 ++ (eight r.id ++ flag r.deleted)
 
 -- the bytes of a row
 abbrev pub spelled : AnyRow → List ℕ

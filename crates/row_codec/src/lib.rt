@@ -1,10 +1,14 @@
 //! The bytes of rows.
 #![tactic(auto)]
 
+mod codec;
 mod fault;
 mod field;
+mod lists;
+mod maps;
 mod numbers;
 mod parts;
-mod lists;
+mod rows;
 
+pub use codec::{decode, encode};
 pub use fault::RowFault;

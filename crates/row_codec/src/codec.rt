@@ -1,0 +1,55 @@
+//! A row's bytes, and the row of bytes.
+ghost use Rattle.std.specs.Prelude.{◌≡◌, ◌≢◌, ◌⊎◌, false, IsTrue, IfOk, IfErr, Some, None};
+ghost use Rattle.crdt_core.specs.declared.memory.Memory.TheVariants.{Want, Full};
+ghost use Rattle.crdt_rows.specs.declared.any_row.AnyRow.{AnyRow};
+ghost use Rattle.row_codec.specs.declared.fault.RowFault.TheVariants as faults;
+ghost use Rattle.row_codec.specs.Gives.{Gives};
+ghost use Rattle.row_codec.specs.Range.{in_range, has_bytes};
+ghost use Rattle.row_codec.specs.Rows.{read};
+ghost use Rattle.row_codec.specs.Spelling.{spelled};
+
+use crate::fault::RowFault;
+use crate::field::Field;
+use crdt_core::{Bytes, Memory};
+use crdt_rows::AnyRow;
+use std::alloc::Global;
+
+/// The bytes of a row. `Full` where one of its lengths or counts is 2^32 or more.
+pub fn encode(alloc: Global, row: &AnyRow) -> Result<Bytes, Memory>
+    ensures spelled { IfOk result (λ bytes. bytes ≡ spelled row.now) }
+    ensures short { IfOk result (λ bytes. IsTrue (has_bytes row.now)) }
+    ensures in_range { IfOk result (λ bytes. IsTrue (in_range row.now)) }
+    ensures causes { IfErr result (λ e. (e ≡ Want) ⊎ ((e ≡ Full) × (has_bytes row.now ≡ false))) }
+{
+    if !row.is_short() {
+        return Err(Memory::Full);
+    }
+    let mut out = Bytes::new(alloc);
+    row.put(&mut out)?;
+    Ok(out)
+}
+
+fn whole(alloc: Global, bytes: &[u8]) -> Result<AnyRow, RowFault>
+    ensures { Gives (λ row. row) result (read bytes.now) }
+{
+    let (row, rest) = AnyRow::take(alloc, bytes)?;
+    if !rest.is_empty() {
+        return Err(RowFault::NotARow);
+    }
+    Ok(row)
+}
+
+/// The row that has these bytes.
+pub fn decode(alloc: Global, bytes: &[u8]) -> Result<AnyRow, RowFault>
+    ensures spelled { IfOk result (λ row. bytes.now ≡ spelled row) }
+    ensures short { IfOk result (λ row. IsTrue (has_bytes row)) }
+    ensures in_range { IfOk result (λ row. IsTrue (in_range row)) }
+    ensures found { IfOk result (λ row. read bytes.now ≡ Some row) }
+
+    // No row has these bytes.
+    ensures not_a_row { IfErr result (λ e. e ≡ faults.NotARow →
+        (row : AnyRow) → IsTrue (in_range row) → IsTrue (has_bytes row) → bytes.now ≢ spelled row) }
+    ensures nothing { IfErr result (λ e. e ≡ faults.NotARow → read bytes.now ≡ None) }
+{
+    whole(alloc, bytes)
+}
