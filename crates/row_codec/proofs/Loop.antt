@@ -1,8 +1,8 @@
 -- Reading values one after the other, as a loop does.
 use Rattle.std.proofs.Common.{◌≡◌, ℕ, suc, ◌-◌, ◌+◌, ◌≤◌, ◌<◌, List, [], ◌∷◌, ◌++◌, Option, Some, None, refl, sym, ap, ◌∙◌, append_assoc, arith}
 use Rattle.std.proofs.lemmas.List.{append-nil}
-use Rattle.row_codec.specs.declared.fault.RowFault.{RowFault}
-use Rattle.row_codec.specs.declared.fault.RowFault.TheVariants.{NotARow, Memory}
+use Rattle.row_codec.specs.declared.fault.Fault.{Fault}
+use Rattle.row_codec.specs.declared.fault.Fault.TheVariants.{NotARow, Memory}
 use Rattle.row_codec.specs.Gives.{Fails}
 use Rattle.row_codec.specs.Reads.{◌>>=◌}
 use Rattle.row_codec.specs.Reading.{each_at}
@@ -25,7 +25,7 @@ module _ {X : Type 0} where
         let one : with_front front (each_at x_at (count - i) bytes) ≡ with_front (front ++ x ∷ []) (each_at x_at (count - (i + 1)) after) = rw (k, h) (regroup front x (each_at x_at (count - (i + 1)) after)) in
         sym one ∙ so_far
 
-    pub ends : (e : RowFault) (front : List X) (count i : ℕ) (bytes : List ℕ) (total : Option (List X × List ℕ)) → i < count → Fails e (x_at bytes)
+    pub ends : (e : Fault) (front : List X) (count i : ℕ) (bytes : List ℕ) (total : Option (List X × List ℕ)) → i < count → Fails e (x_at bytes)
         → with_front front (each_at x_at (count - i) bytes) ≡ total → Fails e total
     unfolding each_at
     ends Memory front count i bytes total lt h so_far = tt

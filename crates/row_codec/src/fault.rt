@@ -1,20 +1,22 @@
-//! Why bytes could not be read as a row.
+//! Why a part of a row could not be read.
 ghost use Rattle.std.specs.Prelude.{◌≡◌};
-ghost use Rattle.row_codec.specs.declared.fault.RowFault.TheVariants as faults;
+ghost use Rattle.row_codec.specs.declared.fault.Fault.TheVariants as faults;
 
 use crdt_core::Memory;
 
-/// Why bytes could not be read as a row.
-#[derive(Clone, Copy, Debug, PartialEq, Eq)]
-pub enum RowFault {
+/// Why a part of a row could not be read.
+#[derive(Drop)]
+pub enum Fault {
+    /// No such part begins with these bytes.
     NotARow,
+    /// There was not enough memory for it.
     Memory,
 }
 
-impl From<Memory> for RowFault {
-    ghost from_gives = { λ _ r. r ≡ faults.Memory };
+impl From<Memory> for Fault {
+    ghost from_gives = { λ _ fault. fault ≡ faults.Memory };
 
-    fn from(_: Memory) -> RowFault {
-        RowFault::Memory
+    fn from(_: Memory) -> Fault {
+        Fault::Memory
     }
 }

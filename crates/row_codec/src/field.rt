@@ -4,7 +4,7 @@ ghost use Rattle.crdt_core.specs.declared.memory.Memory.TheVariants.{Want};
 ghost use Rattle.row_codec.specs.Gives.{Gives};
 ghost use Rattle.row_codec.specs.Reads.{Reads};
 
-use crate::fault::RowFault;
+use crate::fault::Fault;
 use crdt_core::{Bytes, Memory};
 use std::alloc::Global;
 
@@ -32,7 +32,7 @@ pub trait Field: Drop {
         ensures want { IfErr result (λ e. e ≡ Want) };
 
     /// Reads one from the front of bytes, and gives the bytes after it too.
-    fn take(alloc: Global, bytes: &[u8]) -> Result<(Self, &[u8]), RowFault>
+    fn take(alloc: Global, bytes: &[u8]) -> Result<(Self, &[u8]), Fault>
         ensures { Gives (λ x. (x.0, x.1.now)) result (read bytes.now) };
 
     ghost reads: { Reads in_range is_short spelled read };

@@ -10,5 +10,4 @@ mod numbers;
 mod parts;
 mod rows;
 
-pub use codec::{decode, encode};
-pub use fault::RowFault;
+pub use codec::{decode, encode, rows_are_read_back};

@@ -9,7 +9,7 @@ ghost use Rattle.row_codec.specs.Range.{are_short};
 ghost use Rattle.row_codec.specs.Reading.{both_at, each_at, counted_at, max_at};
 ghost use Rattle.row_codec.specs.Spelling.{counted};
 
-use crate::fault::RowFault;
+use crate::fault::Fault;
 use crate::field::Field;
 use crate::numbers::LIMIT;
 use crdt_core::{Bytes, List, Max, Memory, Value};
@@ -36,7 +36,7 @@ impl<A: Field, B: Field> Field for (A, B) {
     }
 
     #[tactic(auto, unfolding(crate::specs::Reading::both_at))]
-    fn take(alloc: Global, bytes: &[u8]) -> Result<((A, B), &[u8]), RowFault> {
+    fn take(alloc: Global, bytes: &[u8]) -> Result<((A, B), &[u8]), Fault> {
         let (first, rest) = A::take(alloc, bytes)?;
         let (second, rest) = B::take(alloc, rest)?;
         Ok(((first, second), rest))
@@ -63,7 +63,7 @@ impl<T: Value + Field> Field for Max<T> {
     }
 
     #[tactic(auto, unfolding(crate::specs::Reading::max_at, crate::specs::Reading::made_at))]
-    fn take(alloc: Global, bytes: &[u8]) -> Result<(Max<T>, &[u8]), RowFault> {
+    fn take(alloc: Global, bytes: &[u8]) -> Result<(Max<T>, &[u8]), Fault> {
         let (value, rest) = T::take(alloc, bytes)?;
         Ok((Max(value), rest))
     }
@@ -87,7 +87,7 @@ fn put_each<T: Field>(items: &[T], out: &mut Bytes) -> Result<(), Memory>
     Ok(())
 }
 
-fn take_each<T: Field>(alloc: Global, count: u32, bytes: &[u8]) -> Result<(List<T>, &[u8]), RowFault>
+fn take_each<T: Field>(alloc: Global, count: u32, bytes: &[u8]) -> Result<(List<T>, &[u8]), Fault>
     ensures { Gives (λ x. (x.0, x.1.now)) result (each_at T.read count bytes.now) }
 {
     let mut items = List::new(alloc);
@@ -138,7 +138,7 @@ impl<T: Field> Field for List<T> {
     }
 
     #[tactic(auto, unfolding(crate::specs::Reading::counted_at))]
-    fn take(alloc: Global, bytes: &[u8]) -> Result<(List<T>, &[u8]), RowFault> {
+    fn take(alloc: Global, bytes: &[u8]) -> Result<(List<T>, &[u8]), Fault> {
         let (count, rest) = u32::take(alloc, bytes)?;
         take_each(alloc, count, rest)
     }

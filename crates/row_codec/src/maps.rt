@@ -8,7 +8,7 @@ ghost use Rattle.row_codec.specs.Range.{are_short, unless_deleted};
 ghost use Rattle.row_codec.specs.Rows.{flag_at, flag_reads, deletable_at, deletable_reads, map_at, map_reads};
 ghost use Rattle.row_codec.specs.Spelling.{counted, deletable, flag};
 
-use crate::fault::RowFault;
+use crate::fault::Fault;
 use crate::field::Field;
 use crate::lists::{are_short, put_items};
 use crdt_core::{Bool, Bytes, Crdt, Deletable, List, Map, Memory, Value};
@@ -39,11 +39,11 @@ impl Field for Bool {
     }
 
     #[tactic(auto, unfolding(crate::specs::Rows::flag_at))]
-    fn take(_alloc: Global, bytes: &[u8]) -> Result<(Bool, &[u8]), RowFault> {
+    fn take(_alloc: Global, bytes: &[u8]) -> Result<(Bool, &[u8]), Fault> {
         match bytes {
             [0, rest @ ..] => Ok((Bool(false), rest)),
             [1, rest @ ..] => Ok((Bool(true), rest)),
-            _ => Err(RowFault::NotARow),
+            _ => Err(Fault::NotARow),
         }
     }
 }
@@ -77,14 +77,14 @@ impl<V: Crdt + Field> Field for Deletable<V> {
     }
 
     #[tactic(auto, unfolding(crate::specs::Rows::deletable_at, crate::specs::Reading::made_at))]
-    fn take(alloc: Global, bytes: &[u8]) -> Result<(Deletable<V>, &[u8]), RowFault> {
+    fn take(alloc: Global, bytes: &[u8]) -> Result<(Deletable<V>, &[u8]), Fault> {
         match bytes {
             [0, rest @ ..] => {
                 let (value, rest) = V::take(alloc, rest)?;
                 Ok((Deletable::Present(value), rest))
             }
             [1, rest @ ..] => Ok((Deletable::Deleted, rest)),
-            _ => Err(RowFault::NotARow),
+            _ => Err(Fault::NotARow),
         }
     }
 }
@@ -136,10 +136,10 @@ impl<K: Value + Field, V: Crdt + Field> Field for Map<K, V> {
     }
 
     #[tactic(auto, unfolding(crate::specs::Rows::map_at, crate::specs::Reading::tested_at))]
-    fn take(alloc: Global, bytes: &[u8]) -> Result<(Map<K, V>, &[u8]), RowFault> {
+    fn take(alloc: Global, bytes: &[u8]) -> Result<(Map<K, V>, &[u8]), Fault> {
         let (entries, rest) = List::<(K, V)>::take(alloc, bytes)?;
         if !are_ascending(entries.as_slice()) {
-            return Err(RowFault::NotARow);
+            return Err(Fault::NotARow);
         }
         Ok((map_of(alloc, entries.as_slice())?, rest))
     }

@@ -9,7 +9,7 @@ ghost use Rattle.row_codec.specs.Reading.{bytes_at, four_at, eight_at, field_at,
 ghost use Rattle.row_codec.specs.Reads.{are_bytes};
 ghost use Rattle.row_codec.specs.Spelling.{four, eight, field};
 
-use crate::fault::RowFault;
+use crate::fault::Fault;
 use crate::field::Field;
 use blake2_hash::Hash32;
 use crdt_core::{Bytes, Memory};
@@ -20,12 +20,12 @@ pub const LIMIT: usize = 1 << 32;
 
 // The first N bytes, and the rest.
 #[tactic(auto, unfolding(crate::specs::Reading::bytes_at))]
-fn front<const N: usize>(bytes: &[u8]) -> Result<(&[u8; N], &[u8]), RowFault>
+fn front<const N: usize>(bytes: &[u8]) -> Result<(&[u8; N], &[u8]), Fault>
     ensures { Gives (λ x. (x.0.now, x.1.now)) result (bytes_at N bytes.now) }
 {
     match bytes.split_first_chunk::<N>() {
         Some((front, rest)) => Ok((front, rest)),
-        None => Err(RowFault::NotARow),
+        None => Err(Fault::NotARow),
     }
 }
 
@@ -59,7 +59,7 @@ impl Field for u32 {
     }
 
     #[tactic(auto, unfolding(crate::specs::Reading::four_at))]
-    fn take(_alloc: Global, bytes: &[u8]) -> Result<(u32, &[u8]), RowFault> {
+    fn take(_alloc: Global, bytes: &[u8]) -> Result<(u32, &[u8]), Fault> {
         let (number, rest) = front::<4>(bytes)?;
         Ok((u32::from_be_bytes(*number), rest))
     }
@@ -86,7 +86,7 @@ impl Field for u64 {
     }
 
     #[tactic(auto, unfolding(crate::specs::Reading::eight_at))]
-    fn take(_alloc: Global, bytes: &[u8]) -> Result<(u64, &[u8]), RowFault> {
+    fn take(_alloc: Global, bytes: &[u8]) -> Result<(u64, &[u8]), Fault> {
         let (number, rest) = front::<8>(bytes)?;
         Ok((u64::from_be_bytes(*number), rest))
     }
@@ -111,7 +111,7 @@ impl<const N: usize> Field for [u8; N] {
         put_bytes(self, out)
     }
 
-    fn take(_alloc: Global, bytes: &[u8]) -> Result<([u8; N], &[u8]), RowFault> {
+    fn take(_alloc: Global, bytes: &[u8]) -> Result<([u8; N], &[u8]), Fault> {
         let (block, rest) = front::<N>(bytes)?;
         Ok((*block, rest))
     }
@@ -137,7 +137,7 @@ impl Field for Hash32 {
     }
 
     #[tactic(auto, unfolding(crate::specs::Reading::hash_at, crate::specs::Reading::made_at))]
-    fn take(_alloc: Global, bytes: &[u8]) -> Result<(Hash32, &[u8]), RowFault> {
+    fn take(_alloc: Global, bytes: &[u8]) -> Result<(Hash32, &[u8]), Fault> {
         let (block, rest) = front::<32>(bytes)?;
         Ok((Hash32(*block), rest))
     }
@@ -164,11 +164,11 @@ impl Field for Bytes {
     }
 
     #[tactic(auto, unfolding(crate::specs::Reading::field_at, crate::specs::Reading::bytes_at))]
-    fn take(alloc: Global, bytes: &[u8]) -> Result<(Bytes, &[u8]), RowFault> {
+    fn take(alloc: Global, bytes: &[u8]) -> Result<(Bytes, &[u8]), Fault> {
         let (len, rest) = u32::take(alloc, bytes)?;
         let len = len as usize;
         if rest.len() < len {
-            return Err(RowFault::NotARow);
+            return Err(Fault::NotARow);
         }
         let (front, rest) = rest.split_at(len);
         Ok((Bytes::from_slice(alloc, front)?, rest))

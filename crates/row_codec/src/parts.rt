@@ -5,7 +5,7 @@ ghost use Rattle.row_codec.specs.Range.{version_in_range, part_in_range, block_i
 ghost use Rattle.row_codec.specs.Reading.{version_at, part_at, block_at, meta_at, state_at};
 ghost use Rattle.row_codec.specs.Spelling.{version, part, block, meta, state};
 
-use crate::fault::RowFault;
+use crate::fault::Fault;
 use crate::field::Field;
 use blake2_hash::Hash32;
 use crdt_core::{Bytes, List, Memory};
@@ -33,7 +33,7 @@ impl Field for Version {
     }
 
     #[tactic(auto, unfolding(crate::specs::Reading::version_at, crate::specs::Reading::made_at, crate::specs::Reading::both_at))]
-    fn take(alloc: Global, bytes: &[u8]) -> Result<(Version, &[u8]), RowFault> {
+    fn take(alloc: Global, bytes: &[u8]) -> Result<(Version, &[u8]), Fault> {
         let (ts, rest) = u64::take(alloc, bytes)?;
         let (id, rest) = u64::take(alloc, rest)?;
         Ok((Version { ts, id }, rest))
@@ -61,7 +61,7 @@ impl Field for Part {
     }
 
     #[tactic(auto, unfolding(crate::specs::Reading::part_at, crate::specs::Reading::made_at, crate::specs::Reading::both_at))]
-    fn take(alloc: Global, bytes: &[u8]) -> Result<(Part, &[u8]), RowFault> {
+    fn take(alloc: Global, bytes: &[u8]) -> Result<(Part, &[u8]), Fault> {
         let (part, rest) = u32::take(alloc, bytes)?;
         let (offset, rest) = u64::take(alloc, rest)?;
         Ok((Part { part, offset }, rest))
@@ -89,7 +89,7 @@ impl Field for BlockRef {
     }
 
     #[tactic(auto, unfolding(crate::specs::Reading::block_at, crate::specs::Reading::made_at, crate::specs::Reading::both_at))]
-    fn take(alloc: Global, bytes: &[u8]) -> Result<(BlockRef, &[u8]), RowFault> {
+    fn take(alloc: Global, bytes: &[u8]) -> Result<(BlockRef, &[u8]), Fault> {
         let (hash, rest) = Hash32::take(alloc, bytes)?;
         let (size, rest) = u32::take(alloc, rest)?;
         Ok((BlockRef { hash, size }, rest))
@@ -118,7 +118,7 @@ impl Field for Meta {
     }
 
     #[tactic(auto, unfolding(crate::specs::Reading::meta_at, crate::specs::Reading::made_at, crate::specs::Reading::both_at))]
-    fn take(alloc: Global, bytes: &[u8]) -> Result<(Meta, &[u8]), RowFault> {
+    fn take(alloc: Global, bytes: &[u8]) -> Result<(Meta, &[u8]), Fault> {
         let (size, rest) = u64::take(alloc, bytes)?;
         let (etag, rest) = <[u8; 16]>::take(alloc, rest)?;
         let (headers, rest) = List::take(alloc, rest)?;
@@ -171,7 +171,7 @@ impl Field for State {
     }
 
     #[tactic(auto, unfolding(crate::specs::Reading::state_at, crate::specs::Reading::made_at, crate::specs::Reading::both_at))]
-    fn take(alloc: Global, bytes: &[u8]) -> Result<(State, &[u8]), RowFault> {
+    fn take(alloc: Global, bytes: &[u8]) -> Result<(State, &[u8]), Fault> {
         match bytes {
             [0, rest @ ..] => Ok((State::Uploading, rest)),
             [1, rest @ ..] => Ok((State::Aborted, rest)),
@@ -186,7 +186,7 @@ impl Field for State {
                 let (first, rest) = Hash32::take(alloc, rest)?;
                 Ok((State::Complete(Body::Blocks(meta, first)), rest))
             }
-            _ => Err(RowFault::NotARow),
+            _ => Err(Fault::NotARow),
         }
     }
 }

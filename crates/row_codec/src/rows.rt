@@ -4,7 +4,7 @@ ghost use Rattle.row_codec.specs.Range.{object_in_range, version_row_in_range, r
 ghost use Rattle.row_codec.specs.Rows.{object_at, object_reads, version_row_at, version_row_reads, reference_at, reference_reads, row_at, row_reads};
 ghost use Rattle.row_codec.specs.Spelling.{object_row, version_row, reference_row, spelled};
 
-use crate::fault::RowFault;
+use crate::fault::Fault;
 use crate::field::Field;
 use blake2_hash::Hash32;
 use crdt_core::{Bool, Bytes, Deletable, Map, Memory};
@@ -33,13 +33,13 @@ impl Field for ObjectRow {
     }
 
     #[tactic(auto, unfolding(crate::specs::Rows::object_at, crate::specs::Reading::tested_at, crate::specs::Reading::both_at))]
-    fn take(alloc: Global, bytes: &[u8]) -> Result<(ObjectRow, &[u8]), RowFault> {
+    fn take(alloc: Global, bytes: &[u8]) -> Result<(ObjectRow, &[u8]), Fault> {
         let (bucket, rest) = Hash32::take(alloc, bytes)?;
         let (key, rest) = Bytes::take(alloc, rest)?;
         let (versions, rest) = Map::take(alloc, rest)?;
         match ObjectRow::with_versions(bucket, key, versions) {
             Some(row) => Ok((row, rest)),
-            None => Err(RowFault::NotARow),
+            None => Err(Fault::NotARow),
         }
     }
 }
@@ -65,7 +65,7 @@ impl Field for VersionRow {
     }
 
     #[tactic(auto, unfolding(crate::specs::Rows::version_row_at, crate::specs::Reading::made_at, crate::specs::Reading::both_at))]
-    fn take(alloc: Global, bytes: &[u8]) -> Result<(VersionRow, &[u8]), RowFault> {
+    fn take(alloc: Global, bytes: &[u8]) -> Result<(VersionRow, &[u8]), Fault> {
         let (id, rest) = u64::take(alloc, bytes)?;
         let (blocks, rest) = Deletable::take(alloc, rest)?;
         Ok((VersionRow { id, blocks }, rest))
@@ -94,7 +94,7 @@ impl Field for RefRow {
     }
 
     #[tactic(auto, unfolding(crate::specs::Rows::reference_at, crate::specs::Reading::made_at, crate::specs::Reading::both_at))]
-    fn take(alloc: Global, bytes: &[u8]) -> Result<(RefRow, &[u8]), RowFault> {
+    fn take(alloc: Global, bytes: &[u8]) -> Result<(RefRow, &[u8]), Fault> {
         let (hash, rest) = Hash32::take(alloc, bytes)?;
         let (id, rest) = u64::take(alloc, rest)?;
         let (deleted, rest) = Bool::take(alloc, rest)?;
@@ -139,7 +139,7 @@ impl Field for AnyRow {
     }
 
     #[tactic(auto, unfolding(crate::specs::Rows::row_at, crate::specs::Reading::made_at))]
-    fn take(alloc: Global, bytes: &[u8]) -> Result<(AnyRow, &[u8]), RowFault> {
+    fn take(alloc: Global, bytes: &[u8]) -> Result<(AnyRow, &[u8]), Fault> {
         match bytes {
             [1, rest @ ..] => {
                 let (row, rest) = ObjectRow::take(alloc, rest)?;
@@ -153,7 +153,7 @@ impl Field for AnyRow {
                 let (row, rest) = RefRow::take(alloc, rest)?;
                 Ok((AnyRow::Ref(row), rest))
             }
-            _ => Err(RowFault::NotARow),
+            _ => Err(Fault::NotARow),
         }
     }
 }
