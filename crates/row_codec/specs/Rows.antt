@@ -196,8 +196,9 @@ read_takes bytes r e =
 -- bytes are read as a row exactly where they are its spelling
 pub reads_back : (r : AnyRow) (bytes : List ℕ) → (read bytes ≡ Some r) ↔ (spelling r ≡ Some bytes)
 reads_back r bytes = (
-    (λ e. let t = read_takes bytes r e in rw (t.1, t.2) (ap Some (sym t.0))),
-    (λ e.
-        let a = cond_true (in_range r && has_bytes r) (Some (spelled r)) bytes e in
-        let b = and_parts (in_range r) (has_bytes r) a.0 in
-        ap read (sym (some_is _ _ a.1)) ∙ read_spelled r b.0 b.1))
+  (λ e. let t = read_takes bytes r e in rw (t.1, t.2) (ap Some (sym t.0))),
+  (λ e.
+      let a = cond_true (in_range r && has_bytes r) (Some (spelled r)) bytes e in
+      let b = and_parts (in_range r) (has_bytes r) a.0 in
+      ap read (sym (some_is _ _ a.1)) ∙ read_spelled r b.0 b.1),
+)

@@ -62,5 +62,4 @@ pub fn rows_are_read_back()
     ensures back { (row : AnyRow) (bytes : List ℕ) → (read bytes ≡ Some row) ↔ (spelling row ≡ Some bytes) }
     ensures none { (row : AnyRow) (bytes : List ℕ) → read bytes ≡ None →
         IsTrue (in_range row) → IsTrue (has_bytes row) → bytes ≢ spelled row }
-{
-}
+{}

@@ -31,11 +31,7 @@ impl Field for Bool {
     }
 
     fn put(&self, out: &mut Bytes) -> Result<(), Memory> {
-        if self.0 {
-            out.push(1)
-        } else {
-            out.push(0)
-        }
+        if self.0 { out.push(1) } else { out.push(0) }
     }
 
     #[tactic(auto, unfolding(crate::specs::Rows::flag_at))]
