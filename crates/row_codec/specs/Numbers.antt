@@ -30,7 +30,7 @@ bytes_rest bytes a b e h = bytes_back a b (subst IsBytes e h)
 pub byte_rest : (b : ℕ) (bytes : List ℕ) → IsBytes (b ∷ bytes) → IsBytes bytes
 byte_rest b bytes h = (and_parts (nat_lt b (2 ^ 8)) (are_bytes bytes) h).1
 
-bytes_each : (bytes : List ℕ) → IsBytes bytes → (i : ℕ) → get_or bytes i 0 < 256
+pub bytes_each : (bytes : List ℕ) → IsBytes bytes → (i : ℕ) → get_or bytes i 0 < 256
 bytes_each [] h i = lit< tt
 bytes_each (b ∷ bytes) h zero = ltb-true _ _ (and_parts (nat_lt b (2 ^ 8)) (are_bytes bytes) h).0
 bytes_each (b ∷ bytes) h (suc i) = bytes_each bytes (and_parts (nat_lt b (2 ^ 8)) (are_bytes bytes) h).1 i

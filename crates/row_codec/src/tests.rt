@@ -135,24 +135,27 @@ fn object_row_bytes(rt: HostRuntime) -> Result<(), Fail> {
     Ok(())
 }
 
+fn inline(alloc: Global) -> Result<State, Memory> {
+    let data = Bytes::from_slice(alloc, b"def")?;
+    Ok(State::Complete(Body::Inline(meta(alloc, 3)?, data)))
+}
+
 #[test]
 fn inline_row_bytes(rt: HostRuntime) -> Result<(), Fail> {
     let alloc = rt.alloc();
+    let row = object(alloc, inline(alloc)?, State::Aborted)?;
     let etag = [0x33; 16];
     let first = b"\0\0\0\x02\0\0\0\0\0\0\0\x04\0\0\0\0\0\0\0\x02\x03";
     let headers = b"\0\0\0\x01\0\0\0\x01a\0\0\0\x02bc";
     let last = b"\0\0\0\x03def\0\0\0\0\0\0\0\x05\0\0\0\0\0\0\0\x01\x01";
-    let data = Bytes::from_slice(alloc, b"def")?;
-    let inline = State::Complete(Body::Inline(meta(alloc, 3)?, data));
-    let row = object(alloc, inline, State::Aborted)?;
-    let size = b"\0\0\0\0\0\0\0\x03";
-    let bytes = joined(alloc, &[&OBJECT, first, size, &etag, headers, last])?;
+    let three = b"\0\0\0\0\0\0\0\x03";
+    let bytes = joined(alloc, &[&OBJECT, first, three, &etag, headers, last])?;
     assert!(rt; is_written(alloc, &row, bytes.as_slice())?);
     assert!(rt; is_read(alloc, &row, bytes.as_slice()));
-    let size = b"\0\0\0\0\0\0\0\x04";
-    let bytes = joined(alloc, &[&OBJECT, first, size, &etag, headers, last])?;
+    let four = b"\0\0\0\0\0\0\0\x04";
+    let wrong = joined(alloc, &[&OBJECT, first, four, &etag, headers, last])?;
     assert!(rt;
-        is_not_a_row(alloc, bytes.as_slice()),
+        is_not_a_row(alloc, wrong.as_slice()),
         "the size is not the length"
     );
     Ok(())
