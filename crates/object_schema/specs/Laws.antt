@@ -1,13 +1,14 @@
 -- What the schema keeps.
-use Rattle.std.proofs.Common.{◌≡◌, ℕ, zero, suc, ◌+◌, ◌<◌, ◌≤◌, Bool, true, false, ◌⊎◌, inl, inr, List, [], ◌∷◌, ◌++◌, length, take, drop, get_or, map, Option, Some, None, refl, sym, ap, subst, ◌∙◌, arith, lit<, lit≤}
+use Rattle.std.proofs.Common.{◌≡◌, ℕ, zero, suc, ◌+◌, ◌<◌, ◌≤◌, Bool, true, false, ◌⊎◌, inl, inr, List, [], ◌∷◌, ◌++◌, length, take, drop, get_or, map, Option, Some, None, refl, sym, ap, subst, ◌∙◌, add-one, arith, lit<, lit≤}
 use Rattle.std.specs.Prelude.{◌&&◌, ◌||◌, slice_index, slice_index_or}
 use Rattle.std.specs.Ordering.{nat_cmp}
-use Rattle.std.specs.List.{Contains}
+use Rattle.std.specs.List.{Contains, flat_map}
+use Rattle.std.specs.Int.{w64, to_le_bytes}
 use Rattle.std.proofs.lemmas.List.{take_at, drop_at, append-nil}
 use Rattle.std.specs.declared.cmp.Ordering.{Ordering}
 use Rattle.std.specs.declared.cmp.Ordering.TheVariants.{Less, Equal, Greater}
 use Rattle.std.specs.Cmp.{tied_itself}
-use Rattle.blake2_hash.specs.Blake2b.{blake2b, state_after, compress}
+use Rattle.blake2_hash.specs.Blake2b.{blake2b, state_after, compress, last_block}
 use Rattle.blake2_hash.specs.declared.digest.Hash32.{Hash32}
 use Rattle.crdt_core.specs.EntryLaws.{and_parts, and_both}
 use Rattle.crdt_core.specs.Lex.{by_order, lex_join}
@@ -44,14 +45,23 @@ use Rattle.object_schema.specs.Schema.{is_proper, position_of, key_of, only_mark
 
 -- ---- digests
 
+-- the bytes of a state after some blocks
+blocks_length : (m : List ℕ) (k : ℕ) → length (take 32 (flat_map (to_le_bytes w64) (state_after 32 m (suc k)))) ≡ 32
+unfolding state_after compress
+blocks_length m k = refl
+
+blocks_first : (m : List ℕ) (k : ℕ) → slice_index (take 32 (flat_map (to_le_bytes w64) (state_after 32 m (suc k)))) 0 < 256
+unfolding state_after compress
+blocks_first m k = omega arith
+
 -- a digest has 32 bytes
 digest_length : (m : List ℕ) → length (blake2b 32 m) ≡ 32
-unfolding blake2b state_after compress
-digest_length m = refl
+unfolding blake2b
+digest_length m = subst (λ (i : ℕ). length (take 32 (flat_map (to_le_bytes w64) (state_after 32 m i))) ≡ 32) (sym (add-one (last_block (length m)))) (blocks_length m (last_block (length m)))
 
 digest_first : (m : List ℕ) → slice_index (blake2b 32 m) 0 < 256
-unfolding blake2b state_after compress
-digest_first m = ?
+unfolding blake2b
+digest_first m = subst (λ (i : ℕ). slice_index (take 32 (flat_map (to_le_bytes w64) (state_after 32 m i))) 0 < 256) (sym (add-one (last_block (length m)))) (blocks_first m (last_block (length m)))
 
 hash_first : (h : Hash32) → is_hash h ≡ true → slice_index h.0 0 < 256
 hash_first h fits = bytes_each h.0 (block_bytes 32 h.0 fits) 0
@@ -144,30 +154,24 @@ module _ (a b : RefRow) (h : Same words (rows.Ref a) (rows.Ref b)) where
   references : Together (rows.Ref a) (rows.Ref b)
   references = record {
     position = ref_parts.0;
-    proper = rw merged_ref h.first_proper;
+    proper = subst (λ (r : RefRow). is_proper (rows.Ref r) ≡ true) (sym merged_ref) h.first_proper;
     table = refl;
-    key = rw merged_ref refl;
+    key = ap (λ (r : RefRow). key_of (rows.Ref r)) merged_ref;
     block = λ hash e. needed_both a.deleted.0 b.deleted.0 a.hash.0 b.hash.0 hash ref_parts.0 (ap block_of (sym merged_ref) ∙ e);
   }
 
-apart_1_2 : {A : Type 0} → 1 ≡ 2 → A
-apart_1_2 e = absurd (omega arith)
-
-apart_1_3 : {A : Type 0} → 1 ≡ 3 → A
-apart_1_3 e = absurd (omega arith)
-
-apart_2_3 : {A : Type 0} → 2 ≡ 3 → A
-apart_2_3 e = absurd (omega arith)
+apart : {A : Type 0} (m n : ℕ) → m < n → m ≡ n → A
+apart m n lt e = absurd (omega arith)
 
 together : (a b : AnyRow) → Same words a b → Together a b
 together (rows.Object a) (rows.Object b) h = objects a b h
-together (rows.Object a) (rows.Version b) h = apart_1_2 h.table
-together (rows.Object a) (rows.Ref b) h = apart_1_3 h.table
-together (rows.Version a) (rows.Object b) h = apart_1_2 (sym h.table)
+together (rows.Object a) (rows.Version b) h = apart 1 2 (lit< tt) h.table
+together (rows.Object a) (rows.Ref b) h = apart 1 3 (lit< tt) h.table
+together (rows.Version a) (rows.Object b) h = apart 1 2 (lit< tt) (sym h.table)
 together (rows.Version a) (rows.Version b) h = versions a b h
-together (rows.Version a) (rows.Ref b) h = apart_2_3 h.table
-together (rows.Ref a) (rows.Object b) h = apart_1_3 (sym h.table)
-together (rows.Ref a) (rows.Version b) h = apart_2_3 (sym h.table)
+together (rows.Version a) (rows.Ref b) h = apart 2 3 (lit< tt) h.table
+together (rows.Ref a) (rows.Object b) h = apart 1 3 (lit< tt) (sym h.table)
+together (rows.Ref a) (rows.Version b) h = apart 2 3 (lit< tt) (sym h.table)
 together (rows.Ref a) (rows.Ref b) h = references a b h
 
 -- ---- one row
@@ -209,7 +213,9 @@ triggered_none (rows.Object a) (rows.Ref b) r c = absurd (omega (arith, c.1))
 triggered_none (rows.Version a) (rows.Object b) r c = absurd (omega (arith, c.1))
 triggered_none (rows.Version a) (rows.Version b) r c = mapped_none (deleted_reference a.id) (λ h. refl) (released a b) r c.0 c.1 c.2
 triggered_none (rows.Version a) (rows.Ref b) r c = absurd (omega (arith, c.1))
-triggered_none (rows.Ref a) b r c = absurd (omega (arith, c.1))
+triggered_none (rows.Ref a) (rows.Object b) r c = absurd (omega (arith, c.1))
+triggered_none (rows.Ref a) (rows.Version b) r c = absurd (omega (arith, c.1))
+triggered_none (rows.Ref a) (rows.Ref b) r c = absurd (omega (arith, c.1))
 
 marked_table : (r : AnyRow) (v : ℕ × ℕ) → marker_of r ≡ Some v → table_of r ≡ 1
 marked_table (rows.Object r) v e = refl

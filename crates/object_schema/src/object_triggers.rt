@@ -133,5 +133,6 @@ pub fn object_triggers(
     let mut versions = Map::new(alloc);
     add_lost(&mut versions, old.versions.as_slice(), new)?;
     add_newly_aborted(&mut versions, new.versions.as_slice(), old)?;
-    deleted_versions(alloc, versions.as_slice())
+    let rows = deleted_versions(alloc, versions.as_slice())?;
+    Ok(rows)
 }

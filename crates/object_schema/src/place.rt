@@ -46,14 +46,20 @@ pub fn is_placed(row: &AnyRow)
     }
 }
 
+// An identifier as 8 bytes, the highest first.
+fn id_bytes(id: u64) -> [u8; 8]
+    ensures { result ≡ eight id }
+{
+    id.to_be_bytes()
+}
+
 /// The bucket of an object, the digest of a version's identifier, the hash of a block.
-#[tactic(auto, unfolding(std::row_codec::specs::Spelling::eight))]
 pub fn position(row: &AnyRow) -> Hash32
     ensures { result.0 ≡ position_of row.now }
 {
     match row {
         AnyRow::Object(row) => row.bucket,
-        AnyRow::Version(row) => blake2b_256(&row.id.to_be_bytes()),
+        AnyRow::Version(row) => blake2b_256(&id_bytes(row.id)),
         AnyRow::Ref(row) => row.hash,
     }
 }
@@ -74,7 +80,7 @@ pub fn key(alloc: Global, row: &AnyRow) -> Result<Bytes, Memory>
 {
     match row {
         AnyRow::Object(row) => joined(alloc, &row.bucket.0, row.key.as_slice()),
-        AnyRow::Version(row) => Bytes::from_slice(alloc, &row.id.to_be_bytes()),
-        AnyRow::Ref(row) => joined(alloc, &row.hash.0, &row.id.to_be_bytes()),
+        AnyRow::Version(row) => Bytes::from_slice(alloc, &id_bytes(row.id)),
+        AnyRow::Ref(row) => joined(alloc, &row.hash.0, &id_bytes(row.id)),
     }
 }

@@ -63,13 +63,7 @@ impl Schema for S3Schema {
     fn live_block(row: &AnyRow) -> Option<Hash32> {
         match row {
             AnyRow::Object(_) | AnyRow::Version(_) => None,
-            AnyRow::Ref(row) => {
-                if row.deleted.0 {
-                    None
-                } else {
-                    Some(row.hash)
-                }
-            }
+            AnyRow::Ref(row) => { if row.deleted.0 { None } else { Some(row.hash) } }
         }
     }
 

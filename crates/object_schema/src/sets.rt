@@ -11,5 +11,6 @@ pub fn add<K: Value>(set: &mut Map<K, Bool>, value: K) -> Result<(), Memory>
     ensures ok { OnOk result (keys_of set.new ≡ with_value K.cmp value (keys_of set.old)) }
     ensures want { IfErr result (λ e. e ≡ Want) }
 {
-    set.join_at(value, &Bool(true))
+    set.join_at(value, &Bool(true))?;
+    Ok(())
 }

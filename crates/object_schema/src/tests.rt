@@ -2,7 +2,9 @@
 use crate::S3Schema;
 use blake2_hash::{Hash32, blake2b_256};
 use crdt_core::{Bool, Bytes, Crdt, Deletable, List, Map, Max, Memory};
-use crdt_rows::{AnyRow, BlockRef, Body, Meta, ObjectRow, Part, RefRow, State, Version, VersionRow};
+use crdt_rows::{
+    AnyRow, BlockRef, Body, Meta, ObjectRow, Part, RefRow, State, Version, VersionRow,
+};
 use std::alloc::Global;
 use std::test::Fail;
 use table_schema::{RowFault, Schema, partition};
@@ -41,11 +43,7 @@ fn reads_back<S: Schema>(alloc: Global, row: &S::Row) -> Result<S::Row, RowFault
     }
 }
 
-fn calls_for<S: Schema>(
-    alloc: Global,
-    old: &S::Row,
-    new: &S::Row,
-) -> Result<Vec<S::Row>, Memory> {
+fn calls_for<S: Schema>(alloc: Global, old: &S::Row, new: &S::Row) -> Result<Vec<S::Row>, Memory> {
     S::triggers(alloc, old, new)
 }
 
@@ -115,7 +113,10 @@ fn places_of_rows(rt: HostRuntime) -> Result<(), Fail> {
     assert_eq!(rt; S3Schema::key(alloc, &marker)?.len(), 33);
     assert!(rt; reads_back::<S3Schema>(alloc, &marker)? == marker);
     let version = deleted_version(5);
-    assert_eq!(rt; S3Schema::position(&version), blake2b_256(b"\0\0\0\0\0\0\0\x05"));
+    assert_eq!(rt;
+        S3Schema::position(&version),
+        blake2b_256(b"\0\0\0\0\0\0\0\x05")
+    );
     assert!(rt; S3Schema::tombstone(&version));
     let live = reference(0x11, 5, false);
     assert_eq!(rt; S3Schema::live_block(&live), Some(Hash32([0x11; 32])));

@@ -57,7 +57,8 @@ pub fn version_triggers(
         Deletable::Deleted => match &old.blocks {
             Deletable::Present(blocks) => {
                 let hashes = hashes_of(alloc, blocks.as_slice())?;
-                deleted_references(alloc, old.id, hashes.as_slice())
+                let rows = deleted_references(alloc, old.id, hashes.as_slice())?;
+                Ok(rows)
             }
             Deletable::Deleted => Ok(Vec::new(alloc)),
         },
