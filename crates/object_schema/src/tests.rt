@@ -70,13 +70,13 @@ fn versions_that_are_given_up(rt: HostRuntime) -> Result<(), Fail> {
     let all = merged(&two, &object(alloc, (4, 5), State::Uploading)?)?;
     let done = object(alloc, (3, 7), kept(alloc))?;
     let lost = calls_for::<S3Schema>(alloc, &all, &merged(&all, &done)?)?;
-    assert!(rt; *lost.as_slice() == [deleted_version(9), deleted_version(3)]);
+    assert!(rt; lost.as_slice() == [deleted_version(9), deleted_version(3)].as_slice());
     let aborted = merged(&all, &object(alloc, (2, 3), State::Aborted)?)?;
     let given_up = calls_for::<S3Schema>(alloc, &all, &aborted)?;
-    assert!(rt; *given_up.as_slice() == [deleted_version(3)]);
+    assert!(rt; given_up.as_slice() == [deleted_version(3)].as_slice());
     let marker = object(alloc, (8, 8), State::Complete(Body::Marker))?;
     let replaced = calls_for::<S3Schema>(alloc, &done, &merged(&done, &marker)?)?;
-    assert!(rt; *replaced.as_slice() == [deleted_version(7)]);
+    assert!(rt; replaced.as_slice() == [deleted_version(7)].as_slice());
     let newer = object(alloc, (9, 9), State::Complete(Body::Marker))?;
     let nothing = calls_for::<S3Schema>(alloc, &marker, &merged(&marker, &newer)?)?;
     assert!(rt; nothing.is_empty());
@@ -97,7 +97,9 @@ fn blocks_that_are_released(rt: HostRuntime) -> Result<(), Fail> {
         blocks: Deletable::Present(blocks),
     });
     let released = calls_for::<S3Schema>(alloc, &row, &deleted_version(7))?;
-    assert!(rt; *released.as_slice() == [reference(0x11, 7, true), reference(0x33, 7, true)]);
+    assert!(rt;
+        released.as_slice() == [reference(0x11, 7, true), reference(0x33, 7, true)].as_slice()
+    );
     let again = calls_for::<S3Schema>(alloc, &deleted_version(7), &deleted_version(7))?;
     assert!(rt; again.is_empty());
     Ok(())
