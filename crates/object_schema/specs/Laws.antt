@@ -1,6 +1,6 @@
 -- What the schema keeps.
-use Rattle.std.proofs.Common.{◌≡◌, ℕ, zero, suc, ◌+◌, ◌<◌, ◌≤◌, Bool, true, false, ◌⊎◌, inl, inr, List, [], ◌∷◌, ◌++◌, length, take, drop, get_or, map, Option, Some, None, refl, sym, ap, subst, ◌∙◌, add-one, arith, lit<, lit≤}
-use Rattle.std.specs.Prelude.{◌&&◌, ◌||◌, slice_index, slice_index_or}
+use Rattle.std.proofs.Common.{◌≡◌, ℕ, zero, suc, ◌<◌, ◌≤◌, Bool, true, false, ◌⊎◌, inl, inr, List, [], ◌∷◌, ◌++◌, length, take, drop, map, Option, Some, None, refl, sym, ap, subst, ◌∙◌, add-one, arith, lit<, lit≤}
+use Rattle.std.specs.Prelude.{◌||◌, slice_index, slice_index_or}
 use Rattle.std.specs.Ordering.{nat_cmp}
 use Rattle.std.specs.List.{Contains, flat_map}
 use Rattle.std.specs.Int.{w64, to_le_bytes}
@@ -10,14 +10,9 @@ use Rattle.std.specs.declared.cmp.Ordering.TheVariants.{Less, Equal, Greater}
 use Rattle.std.specs.Cmp.{tied_itself}
 use Rattle.blake2_hash.specs.Blake2b.{blake2b, state_after, compress, last_block}
 use Rattle.blake2_hash.specs.declared.digest.Hash32.{Hash32}
-use Rattle.crdt_core.specs.EntryLaws.{and_parts, and_both}
-use Rattle.crdt_core.specs.Lex.{by_order, lex_join}
-use Rattle.crdt_core.specs.declared.max.Max.{Max}
-use Rattle.crdt_core.specs.Map.{map_entries, map_join}
-use Rattle.crdt_rows.specs.declared.version.Version.{Version}
-use Rattle.crdt_rows.specs.declared.body.Body.TheVariants.{Marker}
-use Rattle.crdt_rows.specs.declared.state.State.{State}
-use Rattle.crdt_rows.specs.declared.state.State.TheVariants.{Uploading, Aborted, Complete}
+use Rattle.crdt_core.specs.EntryLaws.{and_parts}
+use Rattle.crdt_core.specs.Lex.{lex_join}
+use Rattle.crdt_core.specs.Map.{map_join}
 use Rattle.crdt_rows.specs.declared.object_row.ObjectRow.{ObjectRow}
 use Rattle.crdt_rows.specs.declared.version_row.VersionRow.{VersionRow}
 use Rattle.crdt_rows.specs.declared.ref_row.RefRow.{RefRow}
@@ -32,8 +27,7 @@ use Rattle.crdt_rows.specs.State.{is_complete, is_sized, state_cmp}
 use Rattle.crdt_rows.specs.ObjectRow.{object_key, object_key_cmp, object_join}
 use Rattle.crdt_rows.specs.VersionRow.{block_ref_cmp, version_row_join}
 use Rattle.crdt_rows.specs.RefRow.{ref_key, ref_key_cmp, ref_row_join, key_total}
-use Rattle.row_codec.specs.Reads.{IsBytes}
-use Rattle.row_codec.specs.Range.{is_hash, is_eight, in_range, has_bytes, is_block, meta_in_range}
+use Rattle.row_codec.specs.Range.{is_hash, is_eight, in_range}
 use Rattle.row_codec.specs.Numbers.{block_length, block_bytes, bytes_each, eight_reads, some_is}
 use Rattle.row_codec.specs.Rows.{spelling, reads_back, read_takes}
 use Rattle.row_codec.specs.Reading.{eight_at}
@@ -41,7 +35,7 @@ use Rattle.row_codec.specs.Spelling.{eight}
 use Rattle.table_schema.specs.Laws.{Same, Laws}
 use Rattle.table_schema.specs.Words.{partition_of}
 use Rattle.object_schema.specs.Triggers.{deleted_version, deleted_reference, given_up, released, triggered}
-use Rattle.object_schema.specs.Schema.{is_proper, position_of, key_of, only_marker, marker_of, block_of, live_block_of, words}
+use Rattle.object_schema.specs.Schema.{is_proper, position_of, key_of, marker_of, block_of, live_block_of, words}
 
 -- ---- digests
 

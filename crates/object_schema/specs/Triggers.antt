@@ -1,5 +1,5 @@
 -- The rows that a row's change calls for.
-use Rattle.std.specs.Prelude.{◌≡◌, ℕ, Bool, true, false, not, ◌&&◌, List, [], ◌∷◌, ◌++◌, Option, Some, None, is_none, map, filter, fold}
+use Rattle.std.specs.Prelude.{ℕ, Bool, true, false, not, ◌&&◌, List, [], ◌∷◌, ◌++◌, Option, Some, is_none, map, filter}
 use Rattle.std.specs.declared.cmp.Ordering.{Ordering}
 use Rattle.blake2_hash.specs.declared.digest.Hash32.{Hash32}
 use Rattle.crdt_core.specs.declared.deletable.Deletable.TheVariants.{Present, Deleted}
@@ -13,7 +13,6 @@ use Rattle.crdt_rows.specs.declared.state.State.{State}
 use Rattle.crdt_rows.specs.declared.state.State.TheVariants.{Uploading, Aborted, Complete}
 use Rattle.crdt_rows.specs.declared.object_row.ObjectRow.{ObjectRow}
 use Rattle.crdt_rows.specs.declared.version_row.VersionRow.{VersionRow}
-use Rattle.crdt_rows.specs.declared.ref_row.RefRow.{RefRow}
 use Rattle.crdt_rows.specs.declared.any_row.AnyRow.{AnyRow}
 use Rattle.crdt_rows.specs.declared.any_row.AnyRow.TheVariants as rows
 use Rattle.crdt_rows.specs.Hash.{hash_cmp}

@@ -10,11 +10,9 @@ use Rattle.crdt_core.specs.declared.map.Map.{Map}
 use Rattle.crdt_core.specs.Entries.{is_ascending}
 use Rattle.crdt_core.specs.Map.{MapOf, map_entries, same_map}
 use Rattle.crdt_core.specs.declared.max.Max.{Max}
-use Rattle.crdt_rows.specs.declared.version.Version.{Version}
 use Rattle.crdt_rows.specs.declared.state.State.{State}
 use Rattle.crdt_rows.specs.declared.object_row.ObjectRow.{ObjectRow}
 use Rattle.crdt_rows.specs.ObjectRow.{same_row}
-use Rattle.crdt_rows.specs.declared.version_row.Part.{Part}
 use Rattle.crdt_rows.specs.declared.version_row.BlockRef.{BlockRef}
 use Rattle.crdt_rows.specs.Version.{version_cmp}
 use Rattle.crdt_rows.specs.VersionRow.{part_cmp}

@@ -1,8 +1,7 @@
 -- Readers of several values are made of readers of one.
-use Rattle.std.proofs.Common.{◌≡◌, ℕ, zero, suc, ◌+◌, ◌^◌, ◌<◌, Bool, true, false, List, [], ◌∷◌, ◌++◌, length, Option, Some, None, refl, sym, ap, subst, ◌∙◌, append_assoc, arith}
+use Rattle.std.proofs.Common.{◌≡◌, ℕ, zero, suc, Bool, true, List, [], ◌∷◌, ◌++◌, length, Option, Some, refl, sym, ap, subst, ◌∙◌, append_assoc}
 use Rattle.std.specs.Prelude.{◌&&◌}
-use Rattle.std.specs.List.{AllByRecursion, list_all, flat_map}
-use Rattle.std.proofs.lemmas.Bool.{ltb-true, lt-ltb}
+use Rattle.std.specs.List.{list_all, flat_map}
 use Rattle.crdt_core.specs.EntryLaws.{and_parts, and_both}
 use Rattle.row_codec.specs.Reads.{◌>>=◌, IsBytes, Begins, Reads}
 use Rattle.row_codec.specs.Range.{is_below, are_short}

@@ -1,20 +1,15 @@
 -- The parts of rows are read as they are spelled.
-use Rattle.std.proofs.Common.{◌≡◌, ℕ, zero, suc, ◌^◌, ◌<◌, Bool, true, List, [], ◌∷◌, ◌++◌, length, Option, Some, None, refl, sym, ap, subst, ◌∙◌}
+use Rattle.std.proofs.Common.{◌≡◌, ℕ, zero, suc, Bool, true, List, [], ◌∷◌, ◌++◌, Option, Some, refl, ap, subst}
 use Rattle.std.specs.Prelude.{◌&&◌}
-use Rattle.blake2_hash.specs.declared.digest.Hash32.{Hash32}
 use Rattle.crdt_core.specs.declared.max.Max.{Max}
 use Rattle.crdt_core.specs.EntryLaws.{and_parts, and_both}
-use Rattle.crdt_rows.specs.declared.version.Version.{Version}
-use Rattle.crdt_rows.specs.declared.body.Meta.{Meta}
 use Rattle.crdt_rows.specs.declared.body.Body.TheVariants.{Marker, Inline, Blocks}
 use Rattle.crdt_rows.specs.declared.state.State.{State}
 use Rattle.crdt_rows.specs.declared.state.State.TheVariants.{Uploading, Aborted, Complete}
-use Rattle.crdt_rows.specs.declared.version_row.Part.{Part}
-use Rattle.crdt_rows.specs.declared.version_row.BlockRef.{BlockRef}
-use Rattle.row_codec.specs.Reads.{◌>>=◌, are_bytes, IsBytes, Begins, Reads}
+use Rattle.row_codec.specs.Reads.{are_bytes, IsBytes, Begins, Reads}
 use Rattle.row_codec.specs.Range.{is_hash, meta_in_range, state_in_range, version_in_range, part_in_range, block_in_range, is_below, is_short_meta, is_short_state}
 use Rattle.row_codec.specs.Spelling.{field, meta, state, version, part, block}
-use Rattle.row_codec.specs.Reading.{bytes_at, four_at, eight_at, field_at, counted_at, both_at, made_at, hash_at, version_at, part_at, block_at, max_at, meta_at, state_at}
+use Rattle.row_codec.specs.Reading.{field_at, both_at, made_at, hash_at, version_at, part_at, block_at, max_at, meta_at, state_at}
 use Rattle.row_codec.specs.Numbers.{bytes_reads, four_reads, eight_reads, field_reads, bind_some, some_is, byte_rest}
 use Rattle.row_codec.specs.Joined.{both_reads, made_reads, counted_reads}
 

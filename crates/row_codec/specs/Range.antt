@@ -2,7 +2,6 @@
 use Rattle.std.specs.Prelude.{ℕ, ◌^◌, ◌==◌, Bool, true, nat_lt, ◌&&◌, List, length}
 use Rattle.std.specs.List.{list_all}
 use Rattle.blake2_hash.specs.declared.digest.Hash32.{Hash32}
-use Rattle.crdt_core.specs.declared.max.Max.{Max}
 use Rattle.crdt_core.specs.declared.deletable.Deletable.{Deletable}
 use Rattle.crdt_core.specs.declared.deletable.Deletable.TheVariants.{Present, Deleted}
 use Rattle.crdt_core.specs.Map.{map_entries}

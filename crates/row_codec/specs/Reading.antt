@@ -1,5 +1,5 @@
 -- Reading the parts of a row, each from the front of bytes.
-use Rattle.std.specs.Prelude.{ℕ, zero, suc, Bool, List, [], ◌∷◌, length, take, drop, nat_lt, Option, Some, None, if◌then◌else◌}
+use Rattle.std.specs.Prelude.{ℕ, zero, suc, List, [], ◌∷◌, length, take, drop, nat_lt, Option, Some, None, if◌then◌else◌}
 use Rattle.std.specs.Int.{w32, w64, from_be_bytes}
 use Rattle.blake2_hash.specs.declared.digest.Hash32.{Hash32}
 use Rattle.crdt_core.specs.declared.max.Max.{Max}

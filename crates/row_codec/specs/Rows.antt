@@ -7,12 +7,11 @@ use Rattle.std.specs.declared.cmp.PartialEq as partial_eq
 use Rattle.std.specs.declared.cmp.PartialOrd as partial_ord
 use Rattle.std.proofs.lemmas.List.{append-nil, nil_from_length}
 use Rattle.std.proofs.lemmas.Bool.{eqb-true}
-use Rattle.blake2_hash.specs.declared.digest.Hash32.{Hash32}
 use Rattle.crdt_core.specs.declared.deletable.Deletable.{Deletable}
 use Rattle.crdt_core.specs.declared.deletable.Deletable.TheVariants.{Present, Deleted}
 use Rattle.crdt_core.specs.declared.flag.Bool.{Bool as Flag}
 use Rattle.crdt_core.specs.declared.map.Map.{Map}
-use Rattle.crdt_core.specs.EntryLaws.{and_parts, and_both}
+use Rattle.crdt_core.specs.EntryLaws.{and_parts}
 use Rattle.crdt_core.specs.Map.{map_entries}
 use Rattle.crdt_rows.specs.declared.object_row.ObjectRow.{ObjectRow}
 use Rattle.crdt_rows.specs.declared.version_row.VersionRow.{VersionRow}
@@ -22,11 +21,11 @@ use Rattle.crdt_rows.specs.declared.any_row.AnyRow.TheVariants as rows
 use Rattle.row_codec.specs.Reads.{◌>>=◌, are_bytes, IsBytes, Begins, Reads}
 use Rattle.row_codec.specs.Range.{unless_deleted, is_hash, is_eight, object_in_range, version_row_in_range, ref_in_range, in_range, are_short, is_short_object, is_short_version_row, has_bytes}
 use Rattle.row_codec.specs.Spelling.{counted, deletable, flag, object_row, version_row, reference_row, spelled}
-use Rattle.row_codec.specs.Reading.{bytes_at, eight_at, field_at, counted_at, both_at, made_at, tested_at, hash_at, version_at, part_at, block_at, max_at, state_at}
+use Rattle.row_codec.specs.Reading.{eight_at, field_at, counted_at, both_at, made_at, tested_at, hash_at, version_at, part_at, block_at, max_at, state_at}
 use Rattle.row_codec.specs.Numbers.{eight_reads, field_reads, bind_some, some_is, byte_rest}
 use Rattle.row_codec.specs.Joined.{both_reads, made_reads, tested_reads, counted_reads}
 use Rattle.row_codec.specs.Parts.{hash_reads, version_reads, part_reads, block_reads, max_reads, state_reads}
-use Rattle.row_codec.specs.Built.{VersionMap, BlockMap, map_from, map_there, map_back, object_parts, object_from, object_there, object_back}
+use Rattle.row_codec.specs.Built.{BlockMap, map_from, map_there, map_back, object_parts, object_from, object_there, object_back}
 
 -- ---- flags, and values that may be deleted
 

@@ -2,7 +2,6 @@
 use Rattle.std.specs.Prelude.{ℕ, true, false, List, [], ◌∷◌, ◌++◌, length}
 use Rattle.std.specs.Int.{w32, w64, to_be_bytes}
 use Rattle.std.specs.List.{flat_map}
-use Rattle.crdt_core.specs.declared.max.Max.{Max}
 use Rattle.crdt_core.specs.declared.deletable.Deletable.{Deletable}
 use Rattle.crdt_core.specs.declared.deletable.Deletable.TheVariants.{Present, Deleted}
 use Rattle.crdt_core.specs.declared.flag.Bool.{Bool as Flag}

@@ -11,6 +11,8 @@
 //!   an object is complete, or where inline bytes aren't as many as their size says.
 //! - `rows_are_read_back` says that the two agree: each row has one string of bytes, and each string of bytes is
 //!   that of one row at most.
+//! - `states_are_ordered_as_bytes` says that of two states of a version the greater, which stays where they merge,
+//!   is the one with the greater bytes.
 //!
 //! Inside, each part of a row is a `Field`, which writes itself at the end of bytes and is read from their front.
 #![tactic(auto)]
@@ -21,9 +23,11 @@ mod field;
 mod lists;
 mod maps;
 mod numbers;
+mod order;
 mod parts;
 mod rows;
 #[cfg(test)]
 mod tests;
 
 pub use codec::{decode, encode, rows_are_read_back};
+pub use order::states_are_ordered_as_bytes;

@@ -1,5 +1,5 @@
 -- Numbers are ordered as their bytes are, the highest first.
-use Rattle.std.proofs.Common.{◌≡◌, ℕ, zero, suc, ◌+◌, ◌*◌, ◌^◌, ◌<◌, ◌≤◌, Bool, true, List, [], ◌∷◌, ◌++◌, length, get_or, refl, sym, ap, ◌∙◌, arith, mul-le-mul_right, pow-suc, lit<}
+use Rattle.std.proofs.Common.{◌≡◌, ℕ, ◌+◌, ◌*◌, ◌^◌, ◌<◌, ◌≤◌, true, List, [], ◌∷◌, length, refl, sym, ap, ◌∙◌, arith, mul-le-mul_right, pow-suc, lit<}
 use Rattle.std.specs.Prelude.{nat_lt}
 use Rattle.std.specs.declared.cmp.Ordering.{Ordering}
 use Rattle.std.specs.declared.cmp.Ordering.TheVariants.{Less, Equal, Greater}
@@ -60,20 +60,20 @@ value_below (b ∷ bs) h =
     let m : (b + 1) * 256 ^ length bs ≤ 256 * 256 ^ length bs = mul-le-mul_right (256 ^ length bs) top in
     rw pow-suc (omega arith)
 
-value_order : (as bs : List ℕ) → IsBytes as → IsBytes bs → length as ≡ length bs → slice_cmp nat_cmp as bs ≡ nat_cmp (value as) (value bs)
+value_order : (xs ys : List ℕ) → IsBytes xs → IsBytes ys → length xs ≡ length ys → slice_cmp nat_cmp xs ys ≡ nat_cmp (value xs) (value ys)
 unfolding value
 value_order [] [] p q e = refl
-value_order [] (b ∷ bs) p q e = absurd (omega arith)
-value_order (a ∷ as) [] p q e = absurd (omega arith)
-value_order (a ∷ as) (b ∷ bs) p q e =
-    let left = (and_parts (nat_lt a (2 ^ 8)) (are_bytes as) p).1 in
-    let right = (and_parts (nat_lt b (2 ^ 8)) (are_bytes bs) q).1 in
-    let len : length as ≡ length bs = omega arith in
+value_order [] (b ∷ ys) p q e = absurd (omega arith)
+value_order (a ∷ xs) [] p q e = absurd (omega arith)
+value_order (a ∷ xs) (b ∷ ys) p q e =
+    let left = (and_parts (nat_lt a (2 ^ 8)) (are_bytes xs) p).1 in
+    let right = (and_parts (nat_lt b (2 ^ 8)) (are_bytes ys) q).1 in
+    let len : length xs ≡ length ys = omega arith in
     let w = ap (λ (n : ℕ). 256 ^ n) len in
-    let low : value bs < 256 ^ length as = rw w (value_below bs right) in
-    ap (ordering_then (nat_cmp a b)) (value_order as bs left right len)
-    ∙ (sym (places a b (value as) (value bs) (256 ^ length as) (value_below as left) low)
-    ∙ ap (λ (k : ℕ). nat_cmp (a * 256 ^ length as + value as) (b * k + value bs)) w)
+    let low : value ys < 256 ^ length xs = rw w (value_below ys right) in
+    ap (ordering_then (nat_cmp a b)) (value_order xs ys left right len)
+    ∙ (sym (places a b (value xs) (value ys) (256 ^ length xs) (value_below xs left) low)
+    ∙ ap (λ (k : ℕ). nat_cmp (a * 256 ^ length xs + value xs) (b * k + value ys)) w)
 
 value_4 : (a b c d : ℕ) → value (a ∷ b ∷ c ∷ d ∷ []) ≡ from_be_bytes w32 (a ∷ b ∷ c ∷ d ∷ [])
 unfolding value

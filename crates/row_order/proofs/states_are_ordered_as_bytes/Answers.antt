@@ -1,5 +1,0 @@
-use Rattle.row_order.proofs.States.{states_ordered}
-use Rattle.row_order.proofs.states_are_ordered_as_bytes.Goals as goal
-
-pub returns : goal.returns
-returns c = λ a b f p g q. states_ordered a b f p g q
