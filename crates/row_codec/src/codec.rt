@@ -21,6 +21,7 @@ pub fn encode(alloc: Global, row: &AnyRow) -> Result<Bytes, Memory>
     ensures short { IfOk result (λ bytes. IsTrue (has_bytes row.now)) }
     ensures in_range { IfOk result (λ bytes. IsTrue (in_range row.now)) }
     ensures causes { IfErr result (λ e. (e ≡ Want) ⊎ ((e ≡ Full) × (has_bytes row.now ≡ false))) }
+    ensures full { has_bytes row.now ≡ false → result ≡ Err Full }
 {
     if !row.is_short() {
         return Err(Memory::Full);
