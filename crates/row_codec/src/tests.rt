@@ -140,24 +140,26 @@ fn inline(alloc: Global) -> Result<State, Memory> {
     Ok(State::Complete(Body::Inline(meta(alloc, 3)?, data)))
 }
 
+// The bytes of an object row with inline data, of which they say this size.
+fn inline_bytes(alloc: Global, size: &[u8]) -> Result<Bytes, Memory> {
+    let mut all = joined(alloc, &[&OBJECT, b"\0\0\0\x02\0\0\0\0\0\0\0\x04"])?;
+    all.extend_from_slice(b"\0\0\0\0\0\0\0\x02\x03")?;
+    all.extend_from_slice(size)?;
+    all.extend_from_slice(&[0x33; 16])?;
+    all.extend_from_slice(b"\0\0\0\x01\0\0\0\x01a\0\0\0\x02bc\0\0\0\x03def")?;
+    all.extend_from_slice(b"\0\0\0\0\0\0\0\x05\0\0\0\0\0\0\0\x01\x01")?;
+    Ok(all)
+}
+
 #[test]
 fn inline_row_bytes(rt: HostRuntime) -> Result<(), Fail> {
     let alloc = rt.alloc();
     let row = object(alloc, inline(alloc)?, State::Aborted)?;
-    let etag = [0x33; 16];
-    let first = b"\0\0\0\x02\0\0\0\0\0\0\0\x04\0\0\0\0\0\0\0\x02\x03";
-    let headers = b"\0\0\0\x01\0\0\0\x01a\0\0\0\x02bc";
-    let last = b"\0\0\0\x03def\0\0\0\0\0\0\0\x05\0\0\0\0\0\0\0\x01\x01";
-    let three = b"\0\0\0\0\0\0\0\x03";
-    let bytes = joined(alloc, &[&OBJECT, first, three, &etag, headers, last])?;
+    let bytes = inline_bytes(alloc, b"\0\0\0\0\0\0\0\x03")?;
     assert!(rt; is_written(alloc, &row, bytes.as_slice())?);
     assert!(rt; is_read(alloc, &row, bytes.as_slice()));
-    let four = b"\0\0\0\0\0\0\0\x04";
-    let wrong = joined(alloc, &[&OBJECT, first, four, &etag, headers, last])?;
-    assert!(rt;
-        is_not_a_row(alloc, wrong.as_slice()),
-        "the size is not the length"
-    );
+    let wrong = inline_bytes(alloc, b"\0\0\0\0\0\0\0\x04")?;
+    assert!(rt; is_not_a_row(alloc, wrong.as_slice()), "not its length");
     Ok(())
 }
 
