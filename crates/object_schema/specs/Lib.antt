@@ -1,0 +1,5 @@
+pub mod Laws
+pub mod Names
+pub mod Schema
+pub mod Sets
+pub mod Triggers

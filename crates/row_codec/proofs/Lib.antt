@@ -1,0 +1,6 @@
+pub mod Ascending
+pub mod ByteOrder
+pub mod Loop
+pub mod Ordered
+pub mod StateOrder
+pub mod Whole
