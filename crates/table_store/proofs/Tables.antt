@@ -3,7 +3,7 @@ use Rattle.std.specs.Prelude.{◌≡◌, ℕ, zero, suc, ◌+◌, ◌^◌, ◌<�
 use Rattle.std.proofs.Common.{ap, sym, ◌∙◌, append_assoc, append-nil, arith, get_or-set_same, get_or-set_other}
 use Rattle.std.proofs.lemmas.Bool.{eqb-true, eqb-false, ne_eqb, le-ltb}
 use Rattle.std.proofs.lemmas.List.{take_all}
-use Rattle.std.proofs.lemmas.List.Sums.{length-filter}
+use Rattle.std.proofs.lemmas.List.Filters.{length-filter_both}
 use Rattle.std.proofs.lemmas.List.Elements.{All-nil, All-cons, All-head, All-tail, All-weaker, filter-append, filter_map-append}
 use Rattle.std.specs.declared.cmp.Ordering.{Ordering}
 use Rattle.std.specs.declared.cmp.Ordering.TheVariants.{Less, Equal, Greater}
@@ -175,7 +175,7 @@ module _ {R Z : Type 0} (s : Words R) (occupied : List Bool) (first second third
     in_third = dropped_placed s 3 occupied p third sound.in_third;
     fits =
       let rows = shelf_rows first ++ (shelf_rows second ++ shelf_rows third) in
-      let fewer = length-filter (λ r. not (partition_of s r == p)) rows in
+      let fewer = length-filter_both (λ r. partition_of s r == p) (λ r. not (partition_of s r == p)) (λ _. refl) rows in
       let was = sound.fits in
       rw (without_three s occupied first second third sound.in_first sound.in_second sound.in_third p) (omega arith);
   }
