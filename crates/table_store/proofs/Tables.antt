@@ -174,10 +174,10 @@ module _ {R Z : Type 0} (s : Words R) (occupied : List Bool) (first second third
     in_second = dropped_placed s 2 occupied p second sound.in_second;
     in_third = dropped_placed s 3 occupied p third sound.in_third;
     fits =
-      let rows = shelf_rows first ++ (shelf_rows second ++ shelf_rows third) in
-      let fewer = length-filter_both (λ r. partition_of s r == p) (λ r. not (partition_of s r == p)) (λ _. refl) rows in
-      let was = sound.fits in
-      rw (without_three s occupied first second third sound.in_first sound.in_second sound.in_third p) (omega arith);
+        let rows = shelf_rows first ++ (shelf_rows second ++ shelf_rows third) in
+        let fewer = length-filter_both (λ r. partition_of s r == p) (λ r. not (partition_of s r == p)) (λ _. refl) rows in
+        let was = sound.fits in
+        rw (without_three s occupied first second third sound.in_first sound.in_second sound.in_third p) (omega arith);
   }
 
   pub blocks_three : (p : ℕ) → (live_blocks s (shelf_rows (filter (in_partition p) first)) ++ live_blocks s (shelf_rows (filter (in_partition p) second))) ++ live_blocks s (shelf_rows (filter (in_partition p) third)) ≡ live_blocks s (rows_in s p (shelf_rows first ++ (shelf_rows second ++ shelf_rows third)))

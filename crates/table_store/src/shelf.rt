@@ -98,11 +98,7 @@ pub fn merge_into<S: Schema>(
 }
 
 /// Appends copies of a partition's rows, in order of their keys.
-pub fn push_partition<R: Crdt>(
-    shelf: &Shelf<R>,
-    p: u8,
-    rows: &mut Vec<R>,
-) -> Result<(), Memory>
+pub fn push_partition<R: Crdt>(shelf: &Shelf<R>, p: u8, rows: &mut Vec<R>) -> Result<(), Memory>
     ensures rows { OnOk result (rows.new.items ≡ rows.old.items ++ shelf_rows (filter (in_partition p) shelf.now.entries)) }
     ensures want { IfErr result (λ e. e ≡ Want) }
 {

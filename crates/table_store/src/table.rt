@@ -1,11 +1,13 @@
 //! The rows of a node.
-ghost use Rattle.std.specs.Prelude.{◌≡◌, [], length, map, IfOk, IfErr, OnOk, OnErr, IsOk, option_copied};
-ghost use Rattle.crdt_core.specs.declared.memory.Memory.TheVariants.{Want};
+ghost use Rattle.std.specs.Prelude.{◌≡◌, ◌⊎◌, false, [], length, map, IsTrue, IfOk, IfErr, OnOk, OnErr, IsOk, option_copied};
+ghost use Rattle.crdt_core.specs.declared.memory.Memory.TheVariants.{Want, Full};
+ghost use Rattle.table_model.specs.Top.{any_unspelled, top};
 ghost use Rattle.table_model.specs.Rows.{merged_in, change_of, find_row, range, rows_in, without, live_blocks};
 
+use crate::roots::take_roots;
 use crate::shelf::{Shelf, drop_rows, find, merge_into, push_blocks, push_partition};
 use crate::window::rows_past;
-use blake2_hash::Hash32;
+use blake2_hash::{Blake2b, Hash32};
 use crdt_core::Memory;
 use std::alloc::Global;
 use std::collections::BTreeMap;
@@ -152,5 +154,18 @@ impl<S: Schema> Table<S> {
         drop_rows(&mut self.third, p);
         self.occupied[p as usize] = false;
         Ok(hashes)
+    }
+
+    /// The BLAKE2b-256 of the roots of all partitions, those of table 1 first. `Full` where some row can't be written.
+    pub fn top(&self) -> Result<Hash32, Memory>
+        ensures is { IfOk result (λ hash. hash.0 ≡ top S.words self.now) }
+        ensures written { OnOk result (any_unspelled S.words self.now ≡ false) }
+        ensures causes { IfErr result (λ e. (e ≡ Want) ⊎ ((e ≡ Full) × IsTrue (any_unspelled S.words self.now))) }
+    {
+        let mut hasher = Blake2b::new();
+        take_roots::<S>(self.alloc, &self.first, &mut hasher)?;
+        take_roots::<S>(self.alloc, &self.second, &mut hasher)?;
+        take_roots::<S>(self.alloc, &self.third, &mut hasher)?;
+        Ok(hasher.finish())
     }
 }

@@ -13,5 +13,5 @@ returns-clause-is g c =
     let entries = c.args.shelf.now.entries in
     let from = filter_agree _ (is_from prefix after) (λ e. and_true (is_from_start vec_cmp c.in_ok-start.start e.0) ∙ c.in_ok-start.ensures.is e.0) entries in
     let same : leading (begins prefix) c.range.result ≡ filter (is_after prefix after) entries =
-        ap (leading (begins prefix)) (c.range.ensures.between tt ∙ from) ∙ sym (window_is prefix after entries c.range.ensures.ordered) in
+    ap (leading (begins prefix)) (c.range.ensures.between tt ∙ from) ∙ sym (window_is prefix after entries c.range.ensures.ordered) in
     subst (λ es. IfOk c.first_rows.result (λ found. ◌≡◌ {A = List g.row.R.Denot × Bool} (found.0.items, found.1) (window c.args.limit (shelf_rows es)))) same c.first_rows.ensures.is
