@@ -1,15 +1,15 @@
 -- The roots of the rows of each table and partition, and the hash over all of them.
-use Rattle.std.specs.Prelude.{ℕ, ◌==◌, List, [], ◌++◌, map, filter, IsSome, unwrap_or, All}
-use Rattle.std.specs.List.{concat}
+use Rattle.std.specs.Prelude.{ℕ, ◌==◌, Bool, List, [], ◌++◌, map, filter, is_none, unwrap_or}
+use Rattle.std.specs.List.{concat, list_any}
 use Rattle.blake2_hash.specs.Blake2b.{blake2b}
 use Rattle.table_schema.specs.Words.{Words}
 use Rattle.table_model.specs.Rows.{rows_in}
 use Rattle.table_model.specs.Root.{Pair, every_byte, root}
 
 module _ {R : Type 0} (s : Words R) where
-  -- each row can be written
-  abbrev pub AllSpelled : List R → Type 0
-  AllSpelled rows = All (λ r. IsSome (s.spelling r)) rows
+  -- some row has no bytes
+  abbrev pub any_unspelled : List R → Bool
+  any_unspelled rows = list_any (λ r. is_none (s.spelling r)) rows
 
   -- the hashes of a row's key and of its bytes
   abbrev pub pair_of : R → Pair

@@ -1,0 +1,4 @@
+pub mod Shelves
+pub mod Tables
+pub mod Windows
+pub mod PartitionRoots

@@ -1,0 +1,67 @@
+-- The rows of one table, by their keys.
+use Rattle.std.specs.Prelude.{◌≡◌, ℕ, ◌==◌, ◌<◌, ◌^◌, Bool, true, false, ◌&&◌, if◌then◌else◌, nat_eq, nat_lt, IsTrue, List, [], ◌∷◌, ◌++◌, Option, Some, None, All, length, map, take, slice_index_or, Vec}
+use Rattle.std.specs.List.{starts_with}
+use Rattle.std.specs.Ordering.{nat_cmp, is_eq, is_lt}
+use Rattle.std.specs.declared.cmp.Ordering.{Ordering}
+use Rattle.std.specs.Cmp.Lexicographic.{slice_cmp}
+use Rattle.table_schema.specs.Words.{Words, partition_of}
+use Rattle.table_store.specs.declared.shelf.Placed.{Placed}
+
+-- the partition is marked
+abbrev pub is_marked : List Bool → ℕ → Bool
+is_marked occupied p = slice_index_or occupied p false
+
+module _ {R Z : Type 0} where
+  -- the rows in order of their keys
+  abbrev pub shelf_rows : List (Vec ℕ Z × Placed R) → List R
+  shelf_rows es = map (λ e. e.1.row) es
+
+  -- the row at a key
+  abbrev pub shelf_find : List ℕ → List (Vec ℕ Z × Placed R) → Option R
+  shelf_find key [] = None
+  shelf_find key (e ∷ es) = if is_eq (slice_cmp nat_cmp key e.0.items) then Some e.1.row else shelf_find key es
+
+  abbrev pub in_partition : ℕ → Vec ℕ Z × Placed R → Bool
+  in_partition p e = e.1.partition == p
+
+  -- the row stands under its key in its table's shelf, with its partition, which is marked as occupied
+  pub record IsPlaced (s : Words R) (table : ℕ) (occupied : List Bool) (e : Vec ℕ Z × Placed R) : Type 0 where
+    pub proper : IsTrue (s.is_proper e.1.row)
+    pub table_is : s.table e.1.row ≡ table
+    pub key_is : e.0.items ≡ s.key e.1.row
+    pub partition_is : e.1.partition ≡ partition_of s e.1.row
+    pub is_occupied : IsTrue (is_marked occupied (partition_of s e.1.row))
+
+  -- a key of these begins with the prefix
+  abbrev pub begins : List ℕ → Vec ℕ Z × Placed R → Bool
+  begins prefix e = starts_with nat_eq e.0.items prefix
+
+  abbrev pub is_after : List ℕ → List ℕ → Vec ℕ Z × Placed R → Bool
+  is_after prefix after e = begins prefix e && is_lt (slice_cmp nat_cmp after e.0.items)
+
+  abbrev pub AllPlaced : Words R → ℕ → List Bool → List (Vec ℕ Z × Placed R) → Type 0
+  AllPlaced s table occupied es = All (IsPlaced s table occupied) es
+
+-- what stands at a row's place after it is merged in
+abbrev pub merged_with : {R : Type 0} → (R → R → R) → Option R → R → R
+merged_with join None row = row
+merged_with join (Some old) row = join old row
+
+-- the first elements, up to the first that fails the test
+abbrev pub leading : {X : Type 0} → (X → Bool) → List X → List X
+leading test [] = []
+leading test (x ∷ xs) = if test x then x ∷ leading test xs else []
+
+-- the first rows, and whether there are more
+abbrev pub window : {R : Type 0} → ℕ → List R → List R × Bool
+window limit rows = (take limit rows, nat_lt limit (length rows))
+
+abbrev pub vec_cmp : {Z : Type 0} → Vec ℕ Z → Vec ℕ Z → Ordering
+vec_cmp x y = slice_cmp nat_cmp x.items y.items
+
+-- the three shelves hold the rows of their tables, and together no more than a number can count
+pub record IsSound {R Z : Type 0} (s : Words R) (occupied : List Bool) (first second third : List (Vec ℕ Z × Placed R)) : Type 0 where
+  pub in_first : AllPlaced s 1 occupied first
+  pub in_second : AllPlaced s 2 occupied second
+  pub in_third : AllPlaced s 3 occupied third
+  pub fits : length (shelf_rows first ++ (shelf_rows second ++ shelf_rows third)) < 2 ^ 64

@@ -1,0 +1,20 @@
+//! One node's rows: of each table number and key the merge of all rows that the node accepted there.
+//!
+//! To contracts a `Table` is the list of its rows, in order of table, then of key. `merge_in` merges one row into that
+//! list, `get`, `range` and `rows_of` read it, `drop_partition` takes a partition's rows out of it, `len` counts
+//! them, and `top` is the hash over the roots of all partitions. What these words mean stands in table_model's specs/, for any rows that have a schema. There it is
+//! also proved that the list after any merges and drops holds at each place the join of the rows accepted there, and
+//! depends on the set of the rows accepted alone.
+//!
+//! Inside, each of the three tables is an ordered map by row key (src/shelf.rt), so that a look-up is logarithmic and a
+//! range proportional to what it gives, and one mark per partition tells whether it has rows at all.
+#![tactic(auto)]
+
+mod root;
+mod roots;
+mod shelf;
+mod table;
+mod window;
+
+pub use table::Table;
+pub use table_model::Change;
