@@ -1,5 +1,5 @@
 -- Rows of the object table beside their keys: what is found among them, and what merging them keeps.
-use Rattle.std.specs.Prelude.{◌≡◌, ℕ, true, List, [], ◌∷◌, None, IsTrue, All, map, refl}
+use Rattle.std.specs.Prelude.{◌≡◌, ℕ, Bool, true, false, cond, List, [], ◌∷◌, None, IsTrue, All, map, filter, refl}
 use Rattle.std.proofs.Common.{ap, sym, ◌∙◌}
 use Rattle.std.proofs.lemmas.List.Elements.{All-cons, All-head, All-tail}
 use Rattle.std.proofs.lemmas.Cmp.{nat_list_cmp_total}
@@ -75,7 +75,45 @@ module _ {R : Type 0} (s : Words R) where
       let parts = and_parts (is_below key_cmp e.0 es) (is_ascending key_cmp es) up in
       found_by key e es (All-head (Fits s) e es fits) parts.0 (found key es (All-tail (Fits s) e es fits) parts.1) (key_cmp key e.0) refl
 
+-- ---- entries left out
+
+module _ {V : Type 0} (test : List ℕ × V → Bool) where
+  below_lower : (key : List ℕ) (e : List ℕ × V) (es : List (List ℕ × V)) → key_cmp key e.0 ≡ Less → is_below key_cmp e.0 es ≡ true → is_below key_cmp key es ≡ true
+  below_lower key e [] h b = refl
+  below_lower key e (f ∷ fs) h b = ap is_lt (nat_list_cmp_total.trans key e.0 f.0 h (less_is (key_cmp e.0 f.0) b))
+
+  below_filter : (key : List ℕ) (es : List (List ℕ × V)) → is_below key_cmp key es ≡ true → is_ascending key_cmp es ≡ true → is_below key_cmp key (filter test es) ≡ true
+  below_filter key [] b up = refl
+  below_filter key (e ∷ es) b up =
+      let parts = and_parts (is_below key_cmp e.0 es) (is_ascending key_cmp es) up in
+      elim (test e) as (λ t. is_below key_cmp key (cond t (e ∷ filter test es) (filter test es)) ≡ true)
+      [ true ↦ b | false ↦ below_filter key es (below_lower key e es (less_is (key_cmp key e.0) b) parts.0) parts.1 ]
+
+  pub ascending_filter : (es : List (List ℕ × V)) → is_ascending key_cmp es ≡ true → is_ascending key_cmp (filter test es) ≡ true
+  ascending_filter [] up = refl
+  ascending_filter (e ∷ es) up =
+      let parts = and_parts (is_below key_cmp e.0 es) (is_ascending key_cmp es) up in
+      elim (test e) as (λ t. is_ascending key_cmp (cond t (e ∷ filter test es) (filter test es)) ≡ true)
+      [ true ↦ and_both _ _ (below_filter e.0 es parts.0 parts.1) (ascending_filter es parts.1) | false ↦ ascending_filter es parts.1 ]
+
 -- ---- entries merged
+
+-- what both lists' entries have and two merged under one key have, all merged have
+module _ {R : Type 0} (join : R → R → R) (P : List ℕ × R → Type 0) (joined : (x y : List ℕ × R) → P x → P y → key_cmp x.0 y.0 ≡ Equal → P (x.0, join x.1 y.1)) where
+  has_by : (x y : List ℕ × R) (xs ys : List (List ℕ × R)) → P x → P y →
+      All P (merged key_cmp join xs (y ∷ ys)) → All P (merged key_cmp join xs ys) → All P (merged key_cmp join (x ∷ xs) ys) →
+      (o : Ordering) → key_cmp x.0 y.0 ≡ o → All P (merged key_cmp join (x ∷ xs) (y ∷ ys))
+  has_by x y xs ys f g a b c Less e = rw e (All-cons P x (merged key_cmp join xs (y ∷ ys)) f a)
+  has_by x y xs ys f g a b c Equal e = rw e (All-cons P (x.0, join x.1 y.1) (merged key_cmp join xs ys) (joined x y f g e) b)
+  has_by x y xs ys f g a b c Greater e = rw e (All-cons P y (merged key_cmp join (x ∷ xs) ys) g c)
+
+  pub merged_has : (xs ys : List (List ℕ × R)) → All P xs → All P ys → All P (merged key_cmp join xs ys)
+  merged_has [] ys f g = g
+  merged_has (x ∷ xs) [] f g = f
+  merged_has (x ∷ xs) (y ∷ ys) f g =
+      let fs = All-tail P x xs f in
+      let gs = All-tail P y ys g in
+      has_by x y xs ys (All-head P x xs f) (All-head P y ys g) (merged_has xs (y ∷ ys) fs g) (merged_has xs ys fs gs) (merged_has (x ∷ xs) ys f gs) (key_cmp x.0 y.0) refl
 
 module _ {R : Type 0} {join : R → R → R} {s : Words R} (laws : Laws join s) where
   joined_fits : (x y : List ℕ × R) → Fits s x → Fits s y → key_cmp x.0 y.0 ≡ Equal → Fits s (x.0, join x.1 y.1)
@@ -84,17 +122,5 @@ module _ {R : Type 0} {join : R → R → R} {s : Words R} (laws : Laws join s) 
       let same : Same s x.1 y.1 = record { first_proper = f.proper; second_proper = g.proper; table = f.table ∙ sym g.table; key = f.key ∙ (one ∙ sym g.key) } in
       record { proper = laws.joined_is_proper x.1 y.1 same; table = laws.joined_table x.1 y.1 same ∙ f.table; key = laws.joined_key x.1 y.1 same ∙ f.key }
 
-  fits_by : (x y : List ℕ × R) (xs ys : List (List ℕ × R)) → Fits s x → Fits s y →
-      All (Fits s) (merged key_cmp join xs (y ∷ ys)) → All (Fits s) (merged key_cmp join xs ys) → All (Fits s) (merged key_cmp join (x ∷ xs) ys) →
-      (o : Ordering) → key_cmp x.0 y.0 ≡ o → All (Fits s) (merged key_cmp join (x ∷ xs) (y ∷ ys))
-  fits_by x y xs ys f g a b c Less e = rw e (All-cons (Fits s) x (merged key_cmp join xs (y ∷ ys)) f a)
-  fits_by x y xs ys f g a b c Equal e = rw e (All-cons (Fits s) (x.0, join x.1 y.1) (merged key_cmp join xs ys) (joined_fits x y f g e) b)
-  fits_by x y xs ys f g a b c Greater e = rw e (All-cons (Fits s) y (merged key_cmp join (x ∷ xs) ys) g c)
-
   pub merged_fit : (xs ys : List (List ℕ × R)) → All (Fits s) xs → All (Fits s) ys → All (Fits s) (merged key_cmp join xs ys)
-  merged_fit [] ys f g = g
-  merged_fit (x ∷ xs) [] f g = f
-  merged_fit (x ∷ xs) (y ∷ ys) f g =
-      let fs = All-tail (Fits s) x xs f in
-      let gs = All-tail (Fits s) y ys g in
-      fits_by x y xs ys (All-head (Fits s) x xs f) (All-head (Fits s) y ys g) (merged_fit xs (y ∷ ys) fs g) (merged_fit xs ys fs gs) (merged_fit (x ∷ xs) ys f gs) (key_cmp x.0 y.0) refl
+  merged_fit = merged_has join (Fits s) joined_fits

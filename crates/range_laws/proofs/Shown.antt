@@ -57,7 +57,7 @@ module _ {R : Type 0} (s : Words R) where
       subst (λ (q : ℕ × List ℕ). ((q.0 == 1) && starts_with nat_eq q.1 begin && is_lt (slice_cmp nat_cmp start q.1)) ≡ true) (at_place key r e) (and_both _ _ b p)
 
   -- the table, the prefix and the start key of what was asked for
-  asked_parts : (begin start : List ℕ) (r : R) → is_past s 1 begin start r ≡ true → (s.table r ≡ 1) × (starts_with nat_eq (s.key r) begin ≡ true) × (is_lt (slice_cmp nat_cmp start (s.key r)) ≡ true)
+  pub asked_parts : (begin start : List ℕ) (r : R) → is_past s 1 begin start r ≡ true → (s.table r ≡ 1) × (starts_with nat_eq (s.key r) begin ≡ true) × (is_lt (slice_cmp nat_cmp start (s.key r)) ≡ true)
   asked_parts begin start r e =
       let ends = and_parts ((s.table r == 1) && starts_with nat_eq (s.key r) begin) (is_lt (slice_cmp nat_cmp start (s.key r))) e in
       let begins = and_parts (s.table r == 1) (starts_with nat_eq (s.key r) begin) ends.0 in
@@ -122,10 +122,10 @@ module _ {R : Type 0} (s : Words R) where
 -- ---- two answers
 
 module _ {R : Type 0} {join : R → R → R} {s : Words R} (laws : Laws join s) where
-  both_fit : (xs ys : List R) → Plain s xs → Plain s ys → All (Fits s) (merged key_cmp join (keyed s xs) (keyed s ys))
+  pub both_fit : (xs ys : List R) → Plain s xs → Plain s ys → All (Fits s) (merged key_cmp join (keyed s xs) (keyed s ys))
   both_fit xs ys p q = merged_fit laws (keyed s xs) (keyed s ys) (all_fit s xs p.proper p.table) (all_fit s ys q.proper q.table)
 
-  both_ascend : (xs ys : List R) → Plain s xs → Plain s ys → is_ascending key_cmp (merged key_cmp join (keyed s xs) (keyed s ys)) ≡ true
+  pub both_ascend : (xs ys : List R) → Plain s xs → Plain s ys → is_ascending key_cmp (merged key_cmp join (keyed s xs) (keyed s ys)) ≡ true
   both_ascend xs ys p q = ascending_merged nat_list_cmp_total join (keyed s xs) (keyed s ys) (keys_ascend s xs p.table p.ascends) (keys_ascend s ys q.table q.ascends)
 
   -- at a key within the end the rows of both have the merge of what each has
@@ -141,7 +141,7 @@ module _ {R : Type 0} {join : R → R → R} {s : Words R} (laws : Laws join s) 
 
   module _ (position prefix after : List ℕ) (limit : ℕ) where
     -- the rows of these contents that were asked for
-    abbrev asked : List R → List R
+    abbrev pub asked : List R → List R
     asked contents = filter (is_past s 1 (position ++ prefix) (position ++ after)) (rows join s contents)
 
     asked_plain : (contents : List R) → AllProper s contents → Plain s (asked contents)
@@ -153,7 +153,7 @@ module _ {R : Type 0} {join : R → R → R} {s : Words R} (laws : Laws join s) 
           ascends = ascends_filter s test (rows join s contents) (rows_ascend laws contents all);
         }
 
-    answer_plain : (contents : List R) → AllProper s contents → Plain s (take limit (asked contents))
+    pub answer_plain : (contents : List R) → AllProper s contents → Plain s (take limit (asked contents))
     answer_plain contents all =
         let plain = asked_plain contents all in
         record {
