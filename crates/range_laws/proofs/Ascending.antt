@@ -29,7 +29,7 @@ module _ {R : Type 0} {join : R → R → R} {s : Words R} (laws : Laws join s) 
 
   -- the window's rows beside their keys
   abbrev shown : List (List ℕ × R)
-  shown = filter (λ e. is_within (end_of join s answers) e.0) (both_rows join s answers)
+  shown = filter (λ e. is_within (end_of s answers) e.0) (both_rows join s answers)
 
   rows_asked : (contents : List R) → All (λ e. IsAsked (position ++ prefix) (position ++ after) e.0) (keyed s (take limit (asked laws position prefix after limit contents)))
   rows_asked contents =
@@ -43,13 +43,13 @@ module _ {R : Type 0} {join : R → R → R} {s : Words R} (laws : Laws join s) 
   shown_asked : All (λ e. IsAsked (position ++ prefix) (position ++ after) e.0) shown
   shown_asked =
       let P = λ (e : List ℕ × R). IsAsked (position ++ prefix) (position ++ after) e.0 in
-      All-filter (λ e. is_within (end_of join s answers) e.0) P (both_rows join s answers)
+      All-filter (λ e. is_within (end_of s answers) e.0) P (both_rows join s answers)
       (merged_has join P (λ x y p q e. p) (keyed s answers.0.rows) (keyed s answers.1.rows) (rows_asked a) (rows_asked b))
 
   module _ (p : AllProper s a) (q : AllProper s b) where
     shown_fit : All (Fits s) shown
     shown_fit =
-        All-filter (λ e. is_within (end_of join s answers) e.0) (Fits s) (both_rows join s answers)
+        All-filter (λ e. is_within (end_of s answers) e.0) (Fits s) (both_rows join s answers)
         (both_fit laws answers.0.rows answers.1.rows (answer_plain laws position prefix after limit a p) (answer_plain laws position prefix after limit b q))
 
     pub window_proper : AllProper s the_window.rows
@@ -61,10 +61,10 @@ module _ {R : Type 0} {join : R → R → R} {s : Words R} (laws : Laws join s) 
     pub window_ascends : IsAscending s the_window.rows
     window_ascends =
         ap (is_ascending key_cmp) (entries_back s shown shown_fit)
-        ∙ ascending_filter (λ e. is_within (end_of join s answers) e.0) (both_rows join s answers)
+        ∙ ascending_filter (λ e. is_within (end_of s answers) e.0) (both_rows join s answers)
         (both_ascend laws answers.0.rows answers.1.rows (answer_plain laws position prefix after limit a p) (answer_plain laws position prefix after limit b q))
 
-    named_at : length position ≡ 32 → (e : List ℕ × R) → Fits s e → IsAsked (position ++ prefix) (position ++ after) e.0 → is_within (end_of join s answers) e.0 ≡ true → IsNamed position prefix after the_window.end (s.key e.1)
+    named_at : length position ≡ 32 → (e : List ℕ × R) → Fits s e → IsAsked (position ++ prefix) (position ++ after) e.0 → is_within (end_of s answers) e.0 ≡ true → IsNamed position prefix after the_window.end (s.key e.1)
     named_at long e fit is_asked within =
         subst (IsNamed position prefix after the_window.end) (sym fit.key)
         (record { begins = is_asked.begins; past = is_asked.past; within = ap (λ end. is_within end e.0) (end_back laws position prefix after limit long a b) ∙ within })
@@ -72,4 +72,4 @@ module _ {R : Type 0} {join : R → R → R} {s : Words R} (laws : Laws join s) 
     pub window_named : length position ≡ 32 → All (λ r. IsNamed position prefix after the_window.end (s.key r)) the_window.rows
     window_named long =
         All-map (λ r. IsNamed position prefix after the_window.end (s.key r)) (λ e. e.1) shown
-        (λ k d lt. named_at long _ (shown_fit k d lt) (shown_asked k d lt) (filter_passes (λ e. is_within (end_of join s answers) e.0) (both_rows join s answers) k d lt))
+        (λ k d lt. named_at long _ (shown_fit k d lt) (shown_asked k d lt) (filter_passes (λ e. is_within (end_of s answers) e.0) (both_rows join s answers) k d lt))

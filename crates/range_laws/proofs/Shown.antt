@@ -181,7 +181,7 @@ module _ {R : Type 0} {join : R → R → R} {s : Words R} (laws : Laws join s) 
         ∙ (find_filter (is_at s 1 key) (is_past s 1 (position ++ prefix) (position ++ after)) (λ r. asked_at s (position ++ prefix) (position ++ after) key r b p) (rows join s contents)
         ∙ row_found laws contents 1 key all)
 
-    pub end_back : length position ≡ 32 → (a b : List R) → end_key position (window_between join s position prefix after limit a b).end ≡ end_of join s (answer join s position prefix after limit a, answer join s position prefix after limit b)
+    pub end_back : length position ≡ 32 → (a b : List R) → end_key position (window_between join s position prefix after limit a b).end ≡ end_of s (answer join s position prefix after limit a, answer join s position prefix after limit b)
     end_back long a b =
         let one = shown_to s (answer join s position prefix after limit a) in
         let other = shown_to s (answer join s position prefix after limit b) in
