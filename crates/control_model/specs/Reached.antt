@@ -26,3 +26,7 @@ module _ {L : Type 0} (r : Reading L) (partitions : ℕ) where
 
   pub reached_step : (w : World L) (s : Step L) → IsReached w → IsReached (step r partitions w s)
   reached_step w s h = (h.0, (h.1.0 ++ s ∷ [], ap (λ w. step r partitions w s) h.1.1 ∙ sym (run_more h.1.0 empty s)))
+
+  pub reached_run : (steps : List (Step L)) (w : World L) → IsReached w → IsReached (run r partitions w steps)
+  reached_run [] w h = h
+  reached_run (s ∷ steps) w h = reached_run steps (step r partitions w s) (reached_step w s h)

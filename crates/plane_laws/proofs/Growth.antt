@@ -4,12 +4,12 @@ use Rattle.std.proofs.lemmas.List.Elements.{All-append, All-weaker, All-from_rec
 use Rattle.std.specs.List.{All, AllByRecursion}
 use Rattle.plane_model.specs.Sets.{Two}
 use Rattle.plane_model.specs.Plane.{Plane, PlaneLaws}
-use Rattle.plane_model.specs.World.{Store, Stored, Round, Push, Pushed, Reading, World, Effects, applied}
+use Rattle.plane_model.specs.World.{Store, Stored, Round, Push, Pushed, Question, World, Effects, applied}
 use Rattle.plane_model.specs.Action.{HasFinished}
 use Rattle.plane_model.specs.Kept.{HadIt, Carries}
 use Rattle.plane_laws.proofs.Sets.{two_weaker}
 use Rattle.plane_laws.proofs.Rows.{IsFineEntry, holds_log, holds_row}
-use Rattle.plane_laws.proofs.Sound.{HoldsIn, IsGoodStore, IsGoodStored, IsGoodRound, IsGoodPush, IsGoodPushed, IsGoodFinished, IsGoodKept, IsGoodReading, IsGoodAnswer, IsGoodRead, IsSound, Grows, IsNewRound, IsFine}
+use Rattle.plane_laws.proofs.Sound.{HoldsIn, IsGoodStore, IsGoodStored, IsGoodRound, IsGoodPush, IsGoodPushed, IsGoodFinished, IsGoodKept, IsGoodQuestion, IsGoodAnswer, IsGoodRead, IsSound, Grows, IsNewRound, IsFine}
 
 module _ {C E K R : Type 0} (plane : Plane C E K R) (laws : PlaneLaws plane) where
   -- two nodes of a set that some node knows stay two of it
@@ -68,8 +68,8 @@ module _ {C E K R : Type 0} (plane : Plane C E K R) (laws : PlaneLaws plane) whe
         shared = λ k x at has. two_grows w new g (suc r.from) (plane.keys.partition k) (HoldsIn plane w (suc r.from) k x) (HoldsIn plane new (suc r.from) k x) (λ n held. held.knows) (λ n held. g.holds (suc r.from) k x n held) (h.shared k x (rw (← g.sets r.node r.from (plane.keys.partition k) (omega arith)) at) has);
       }
 
-  pub reading_grows : (w new : World C K R) → Grows plane w new → (q : Reading C K R) → IsGoodReading plane w q → IsGoodReading plane new q
-  reading_grows w new g q h = record { three = h.three; safe = h.safe; still = λ k x n held. g.holds q.version k x n (h.still k x n held) }
+  pub question_grows : (w new : World C K R) → Grows plane w new → (q : Question C K R) → IsGoodQuestion plane w q → IsGoodQuestion plane new q
+  question_grows w new g q h = record { three = h.three; safe = h.safe; still = λ k x n held. g.holds q.version k x n (h.still k x n held) }
 
   pub has_finished_grows : (w new : World C K R) → Grows plane w new → (n s : ℕ) → HasFinished w n s → HasFinished new n s
   has_finished_grows w new g n s h = record { round = h.round; finished = g.finished h.round h.finished; at_node = h.at_node; from_it = h.from_it }
@@ -131,7 +131,7 @@ module _ {C E K R : Type 0} (plane : Plane C E K R) (laws : PlaneLaws plane) whe
         pushes = on (IsGoodPush plane w) (IsGoodPush plane new) e.pushes w.pushes f.pushes (push_grows w new g) s.pushes;
         pushed = on (IsGoodPushed plane w) (IsGoodPushed plane new) e.pushed w.pushed f.pushed (pushed_grows w new g) s.pushed;
         finished = on (IsGoodFinished plane w) (IsGoodFinished plane new) e.finished w.finished f.finished (finished_grows w new g) s.finished;
-        readings = on (IsGoodReading plane w) (IsGoodReading plane new) e.readings w.readings f.readings (reading_grows w new g) s.readings;
+        questions = on (IsGoodQuestion plane w) (IsGoodQuestion plane new) e.questions w.questions f.questions (question_grows w new g) s.questions;
         answers = on (IsGoodAnswer plane) (IsGoodAnswer plane) e.answers w.answers f.answers (λ x h. h) s.answers;
         reads = on (IsGoodRead plane) (IsGoodRead plane) e.reads w.reads f.reads (λ x h. h) s.reads;
       }

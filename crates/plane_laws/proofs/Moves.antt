@@ -12,9 +12,9 @@ use Rattle.plane_model.specs.Action.{HasFinished, MayMove}
 use Rattle.plane_model.specs.Kept.{HadIt, Carries}
 use Rattle.plane_laws.proofs.Rows.{holds_later}
 use Rattle.plane_laws.proofs.Reached.{IsReached, reached_next, always_reached, later_reached}
-use Rattle.plane_laws.proofs.Sound.{HoldsIn, IsGoodStored, IsGoodRound, IsGoodPush, IsGoodPushed, IsGoodFinished, IsGoodKept, IsGoodReading, IsSound, Grows}
+use Rattle.plane_laws.proofs.Sound.{HoldsIn, IsGoodStored, IsGoodRound, IsGoodPush, IsGoodPushed, IsGoodFinished, IsGoodKept, IsGoodQuestion, IsSound, Grows}
 use Rattle.plane_laws.proofs.Sets.{two_weaker, meet}
-use Rattle.plane_laws.proofs.Growth.{two_grows, stored_grows, round_grows, push_grows, pushed_grows, finished_grows, reading_grows, has_finished_grows}
+use Rattle.plane_laws.proofs.Growth.{two_grows, stored_grows, round_grows, push_grows, pushed_grows, finished_grows, question_grows, has_finished_grows}
 
 module _ {C E K R : Type 0} (plane : Plane C E K R) (laws : PlaneLaws plane) where
   -- the state of the control plane after its step
@@ -120,7 +120,7 @@ module _ {C E K R : Type 0} (plane : Plane C E K R) (laws : PlaneLaws plane) whe
         pushes = All-weaker (IsGoodPush plane w) (IsGoodPush plane new) (push_grows plane laws w new g) w.pushes sound.pushes;
         pushed = All-weaker (IsGoodPushed plane w) (IsGoodPushed plane new) (pushed_grows plane laws w new g) w.pushed sound.pushed;
         finished = All-weaker (IsGoodFinished plane w) (IsGoodFinished plane new) (finished_grows plane laws w new g) w.finished sound.finished;
-        readings = All-weaker (IsGoodReading plane w) (IsGoodReading plane new) (reading_grows plane laws w new g) w.readings sound.readings;
+        questions = All-weaker (IsGoodQuestion plane w) (IsGoodQuestion plane new) (question_grows plane laws w new g) w.questions sound.questions;
         answers = sound.answers;
         reads = sound.reads;
       }

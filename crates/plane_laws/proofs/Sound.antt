@@ -5,7 +5,7 @@ use Rattle.plane_model.specs.Rows.{IsAtLeast}
 use Rattle.plane_model.specs.Sets.{Two}
 use Rattle.plane_model.specs.Control.{IsRecent, IsRead}
 use Rattle.plane_model.specs.Plane.{Plane}
-use Rattle.plane_model.specs.World.{Store, Stored, Round, Push, Pushed, Reading, Answer, Read, World, Effects, row_at, row_in}
+use Rattle.plane_model.specs.World.{Store, Stored, Round, Push, Pushed, Question, Answer, Read, World, Effects, row_at, row_in}
 use Rattle.plane_model.specs.Action.{HasFinished}
 use Rattle.plane_model.specs.Kept.{Holds, Carries}
 use Rattle.plane_laws.proofs.Rows.{IsFineEntry}
@@ -54,26 +54,26 @@ module _ {C E K R : Type 0} (plane : Plane C E K R) where
     pub carried : (i : ℕ) → IsRecent plane.control w.control i → (IsRead plane.control w.control i ⊎ (i ≤ s.newest)) → Two (plane.control.set w.control i (plane.keys.partition s.key)) (Carries plane w s i)
 
   -- what was held when a phase began that reads
-  abbrev pub HeldFor : Reading C K R → K → R → ℕ → Type 0
+  abbrev pub HeldFor : Question C K R → K → R → ℕ → Type 0
   HeldFor q k x n = Holds plane q.control q.log q.version k x n
 
   -- two nodes of the set that a phase asks held each row that was kept before it
-  abbrev pub IsSafe : Reading C K R → Type 0
+  abbrev pub IsSafe : Question C K R → Type 0
   IsSafe q = All (λ (s : Store K R). plane.keys.partition s.key ≡ q.partition → Two (plane.control.set q.control q.version q.partition) (HeldFor q s.key s.row)) q.kept
 
-  pub record IsGoodReading (w : World C K R) (q : Reading C K R) : Type 0 where
+  pub record IsGoodQuestion (w : World C K R) (q : Question C K R) : Type 0 where
     pub three : (i p : ℕ) → length (plane.control.set q.control i p) ≤ 3
     pub safe : IsSafe q
     pub still : (k : K) (x : R) (n : ℕ) → HeldFor q k x n → HoldsIn w q.version k x n
 
   pub record IsGoodAnswer (a : Answer C K R) : Type 0 where
-    pub three : (i p : ℕ) → length (plane.control.set a.reading.control i p) ≤ 3
-    pub safe : IsSafe a.reading
-    pub asked : Contains (plane.control.set a.reading.control a.reading.version a.reading.partition) a.node
-    pub has : (k : K) (x : R) → HeldFor a.reading k x a.node → IsAtLeast plane.join (a.rows k) x
+    pub three : (i p : ℕ) → length (plane.control.set a.question.control i p) ≤ 3
+    pub safe : IsSafe a.question
+    pub asked : Contains (plane.control.set a.question.control a.question.version a.question.partition) a.node
+    pub has : (k : K) (x : R) → HeldFor a.question k x a.node → IsAtLeast plane.join (a.rows k) x
 
   abbrev pub IsGoodRead : Read C K R → Type 0
-  IsGoodRead r = All (λ (s : Store K R). plane.keys.partition s.key ≡ r.reading.partition → IsAtLeast plane.join (r.rows s.key) s.row) r.reading.kept
+  IsGoodRead r = All (λ (s : Store K R). plane.keys.partition s.key ≡ r.question.partition → IsAtLeast plane.join (r.rows s.key) s.row) r.question.kept
 
   pub record IsSound (w : World C K R) : Type 0 where
     pub control : IsReached plane.control w.control
@@ -85,7 +85,7 @@ module _ {C E K R : Type 0} (plane : Plane C E K R) where
     pub pushes : All (IsGoodPush w) w.pushes
     pub pushed : All (IsGoodPushed w) w.pushed
     pub finished : All (IsGoodFinished w) w.finished
-    pub readings : All (IsGoodReading w) w.readings
+    pub questions : All (IsGoodQuestion w) w.questions
     pub answers : All IsGoodAnswer w.answers
     pub reads : All IsGoodRead w.reads
 
@@ -113,6 +113,6 @@ module _ {C E K R : Type 0} (plane : Plane C E K R) where
     pub pushes : AllByRecursion (IsGoodPush new) e.pushes
     pub pushed : AllByRecursion (IsGoodPushed new) e.pushed
     pub finished : AllByRecursion (IsGoodFinished new) e.finished
-    pub readings : AllByRecursion (IsGoodReading new) e.readings
+    pub questions : AllByRecursion (IsGoodQuestion new) e.questions
     pub answers : AllByRecursion IsGoodAnswer e.answers
     pub reads : AllByRecursion IsGoodRead e.reads

@@ -8,13 +8,13 @@ use Rattle.plane_model.specs.Rows.{IsAtLeast}
 use Rattle.plane_model.specs.Sets.{Two}
 use Rattle.plane_model.specs.Control.{IsAlways, InFlight, InRound}
 use Rattle.plane_model.specs.Plane.{Plane, PlaneLaws}
-use Rattle.plane_model.specs.World.{Row, Store, Round, Push, Reading, Answer, World, first, applied, row_at, row_in}
-use Rattle.plane_model.specs.Action.{Action, moves, drops, begins_store, stores, takes, keeps, begins_round, pushes, takes_push, finishes, begins_read, answers, ends_read, effects, step, run, MayStore, MayKeep, MayPush, MayTakePush, MayFinish, MayAnswer, MayEnd, May, Happens}
+use Rattle.plane_model.specs.World.{Row, Store, Round, Push, Question, Answer, World, first, applied, row_at, row_in}
+use Rattle.plane_model.specs.Action.{Action, moves, drops, begins_store, stores, takes, keeps, begins_round, pushes, takes_push, finishes, asks, answers, ends_read, effects, step, run, MayStore, MayKeep, MayPush, MayTakePush, MayFinish, MayAnswer, MayEnd, May, Happens}
 use Rattle.plane_model.specs.Kept.{Holds, HadIt, Carries}
 use Rattle.plane_laws.proofs.Sets.{two_weaker, Both, meet}
 use Rattle.plane_laws.proofs.Rows.{merged_left, merged_right, over_trans, all_took_fine, row_new, holds_row}
 use Rattle.plane_laws.proofs.Reached.{reached_first, always_reached}
-use Rattle.plane_laws.proofs.Sound.{HoldsIn, IsGoodStore, IsGoodStored, IsGoodRound, IsGoodPush, IsGoodPushed, IsGoodKept, HeldFor, IsGoodReading, IsGoodAnswer, IsSound, Grows, IsFine}
+use Rattle.plane_laws.proofs.Sound.{HoldsIn, IsGoodStore, IsGoodStored, IsGoodRound, IsGoodPush, IsGoodPushed, IsGoodKept, HeldFor, IsGoodQuestion, IsGoodAnswer, IsSound, Grows, IsFine}
 use Rattle.plane_laws.proofs.Growth.{applied_grows, grows_on, sound_applied}
 use Rattle.plane_laws.proofs.Moves.{move_grows, move_sound}
 
@@ -23,12 +23,12 @@ module _ {C E K R : Type 0} (plane : Plane C E K R) (laws : PlaneLaws plane) whe
   Fine w a = IsFine plane w (applied w (effects plane w a)) (effects plane w a)
 
   drops_fine : (w : World C K R) (n p : ℕ) → May plane w (drops n p) → Fine w (drops n p)
-  drops_fine w n p may = record { log = (may, tt); stores = tt; stored = tt; kept = tt; begins = tt; rounds = tt; pushes = tt; pushed = tt; finished = tt; readings = tt; answers = tt; reads = tt }
+  drops_fine w n p may = record { log = (may, tt); stores = tt; stored = tt; kept = tt; begins = tt; rounds = tt; pushes = tt; pushed = tt; finished = tt; questions = tt; answers = tt; reads = tt }
 
   begins_store_fine : (w : World C K R) (n s : ℕ) (k : K) (x : R) → IsAlways plane.control w.control → May plane w (begins_store n s k x) → Fine w (begins_store n s k x)
   begins_store_fine w n s k x always may =
       let f = always.flight n s may in
-      record { log = tt; stores = ((f.positive, f.known), tt); stored = tt; kept = tt; begins = tt; rounds = tt; pushes = tt; pushed = tt; finished = tt; readings = tt; answers = tt; reads = tt }
+      record { log = tt; stores = ((f.positive, f.known), tt); stored = tt; kept = tt; begins = tt; rounds = tt; pushes = tt; pushed = tt; finished = tt; questions = tt; answers = tt; reads = tt }
 
   stores_fine : (w : World C K R) (s : Store K R) (n : ℕ) → MayStore plane w s n → Fine w (stores s n)
   stores_fine w s n may =
@@ -43,13 +43,13 @@ module _ {C E K R : Type 0} (plane : Plane C E K R) (laws : PlaneLaws plane) whe
         pushes = tt;
         pushed = tt;
         finished = tt;
-        readings = tt;
+        questions = tt;
         answers = tt;
         reads = tt;
       }
 
   takes_fine : (w : World C K R) (n : ℕ) (k : K) (x : R) → Fine w (takes n k x)
-  takes_fine w n k x = record { log = (tt, tt); stores = tt; stored = tt; kept = tt; begins = tt; rounds = tt; pushes = tt; pushed = tt; finished = tt; readings = tt; answers = tt; reads = tt }
+  takes_fine w n k x = record { log = (tt, tt); stores = tt; stored = tt; kept = tt; begins = tt; rounds = tt; pushes = tt; pushed = tt; finished = tt; questions = tt; answers = tt; reads = tt }
 
   -- no round to a version above its start has begun, so each node that confirmed carries the row
   keeps_fine : (w : World C K R) (s : Store K R) → IsSound plane w → MayKeep plane w s → Fine w (keeps s)
@@ -83,7 +83,7 @@ module _ {C E K R : Type 0} (plane : Plane C E K R) (laws : PlaneLaws plane) whe
         pushes = tt;
         pushed = tt;
         finished = tt;
-        readings = tt;
+        questions = tt;
         answers = tt;
         reads = tt;
       }
@@ -102,7 +102,7 @@ module _ {C E K R : Type 0} (plane : Plane C E K R) (laws : PlaneLaws plane) whe
         pushes = tt;
         pushed = tt;
         finished = tt;
-        readings = tt;
+        questions = tt;
         answers = tt;
         reads = tt;
       }
@@ -137,7 +137,7 @@ module _ {C E K R : Type 0} (plane : Plane C E K R) (laws : PlaneLaws plane) whe
         );
         pushed = tt;
         finished = tt;
-        readings = tt;
+        questions = tt;
         answers = tt;
         reads = tt;
       }
@@ -172,7 +172,7 @@ module _ {C E K R : Type 0} (plane : Plane C E K R) (laws : PlaneLaws plane) whe
           tt,
         );
         finished = tt;
-        readings = tt;
+        questions = tt;
         answers = tt;
         reads = tt;
       }
@@ -203,13 +203,13 @@ module _ {C E K R : Type 0} (plane : Plane C E K R) (laws : PlaneLaws plane) whe
           },
           tt,
         );
-        readings = tt;
+        questions = tt;
         answers = tt;
         reads = tt;
       }
 
-  begins_read_fine : (w : World C K R) (n s p : ℕ) → IsSound plane w → May plane w (begins_read n s p) → Fine w (begins_read n s p)
-  begins_read_fine w n s p sound may =
+  asks_fine : (w : World C K R) (n s p : ℕ) → IsSound plane w → May plane w (asks n s p) → Fine w (asks n s p)
+  asks_fine w n s p sound may =
       let always : IsAlways plane.control w.control = always_reached plane.control laws.control w.control sound.control in
       let f : InFlight plane.control w.control n s = always.flight n s may in
       let at = plane.control.read w.control n in
@@ -227,14 +227,14 @@ module _ {C E K R : Type 0} (plane : Plane C E K R) (laws : PlaneLaws plane) whe
         pushes = tt;
         pushed = tt;
         finished = tt;
-        readings = (record { three = always.three; safe = All-weaker (IsGoodKept plane w) _ safe w.kept sound.kept; still = λ k x n h. h }, tt);
+        questions = (record { three = always.three; safe = All-weaker (IsGoodKept plane w) _ safe w.kept sound.kept; still = λ k x n h. h }, tt);
         answers = tt;
         reads = tt;
       }
 
-  answers_fine : (w : World C K R) (q : Reading C K R) (n : ℕ) → IsSound plane w → MayAnswer plane w q n → Fine w (answers q n)
+  answers_fine : (w : World C K R) (q : Question C K R) (n : ℕ) → IsSound plane w → MayAnswer plane w q n → Fine w (answers q n)
   answers_fine w q n sound may =
-      let good : IsGoodReading plane w q = All-contains (IsGoodReading plane w) w.readings q sound.readings may.began in
+      let good : IsGoodQuestion plane w q = All-contains (IsGoodQuestion plane w) w.questions q sound.questions may.began in
       record {
         log = tt;
         stores = tt;
@@ -245,21 +245,21 @@ module _ {C E K R : Type 0} (plane : Plane C E K R) (laws : PlaneLaws plane) whe
         pushes = tt;
         pushed = tt;
         finished = tt;
-        readings = tt;
+        questions = tt;
         answers = (record { three = good.three; safe = good.safe; asked = may.asked; has = λ k x held. holds_row plane laws w.control w.log q.version k x n (good.still k x n held) may.stores.from_oldest }, tt);
         reads = tt;
       }
 
   -- the two that answered meet the two that held the row
-  two_answers : (a b : Answer C K R) → IsGoodAnswer plane a → IsGoodAnswer plane b → a.reading ≡ b.reading → a.node ≢ b.node → (s : Store K R) → (plane.keys.partition s.key ≡ a.reading.partition → Two (plane.control.set a.reading.control a.reading.version a.reading.partition) (HeldFor plane a.reading s.key s.row)) → plane.keys.partition s.key ≡ a.reading.partition → IsAtLeast plane.join (option_join plane.join (a.rows s.key) (b.rows s.key)) s.row
+  two_answers : (a b : Answer C K R) → IsGoodAnswer plane a → IsGoodAnswer plane b → a.question ≡ b.question → a.node ≢ b.node → (s : Store K R) → (plane.keys.partition s.key ≡ a.question.partition → Two (plane.control.set a.question.control a.question.version a.question.partition) (HeldFor plane a.question s.key s.row)) → plane.keys.partition s.key ≡ a.question.partition → IsAtLeast plane.join (option_join plane.join (a.rows s.key) (b.rows s.key)) s.row
   two_answers a b ga gb one differ s safe at =
-      let set = plane.control.set a.reading.control a.reading.version a.reading.partition in
+      let set = plane.control.set a.question.control a.question.version a.question.partition in
       let asked : Two set (λ n. (n ≡ a.node) ⊎ (n ≡ b.node)) = record { one = a.node; other = b.node; differ = differ; one_in = ga.asked; other_in = rw one gb.asked; one_is = inl refl; other_is = inr refl } in
-      let both : Both (λ n. (n ≡ a.node) ⊎ (n ≡ b.node)) (HeldFor plane a.reading s.key s.row) = meet set (λ n. (n ≡ a.node) ⊎ (n ≡ b.node)) (HeldFor plane a.reading s.key s.row) (ga.three a.reading.version a.reading.partition) asked (safe at) in
-      let held : HeldFor plane a.reading s.key s.row both.node = both.other_is in
+      let both : Both (λ n. (n ≡ a.node) ⊎ (n ≡ b.node)) (HeldFor plane a.question s.key s.row) = meet set (λ n. (n ≡ a.node) ⊎ (n ≡ b.node)) (HeldFor plane a.question s.key s.row) (ga.three a.question.version a.question.partition) asked (safe at) in
+      let held : HeldFor plane a.question s.key s.row both.node = both.other_is in
       elim both.one_is [
-        | inl e ↦ merged_left laws.join (a.rows s.key) (b.rows s.key) s.row (ga.has s.key s.row (subst (HeldFor plane a.reading s.key s.row) e held))
-        | inr e ↦ merged_right laws.join (a.rows s.key) (b.rows s.key) s.row (gb.has s.key s.row (rw (← one) (subst (HeldFor plane a.reading s.key s.row) e held)))
+        | inl e ↦ merged_left laws.join (a.rows s.key) (b.rows s.key) s.row (ga.has s.key s.row (subst (HeldFor plane a.question s.key s.row) e held))
+        | inr e ↦ merged_right laws.join (a.rows s.key) (b.rows s.key) s.row (gb.has s.key s.row (rw (← one) (subst (HeldFor plane a.question s.key s.row) e held)))
       ]
 
   ends_read_fine : (w : World C K R) (a b : Answer C K R) → IsSound plane w → MayEnd plane w a b → Fine w (ends_read a b)
@@ -276,9 +276,9 @@ module _ {C E K R : Type 0} (plane : Plane C E K R) (laws : PlaneLaws plane) whe
         pushes = tt;
         pushed = tt;
         finished = tt;
-        readings = tt;
+        questions = tt;
         answers = tt;
-        reads = (All-weaker _ _ (λ s. two_answers a b ga gb may.one_phase may.differ s) a.reading.kept ga.safe, tt);
+        reads = (All-weaker _ _ (λ s. two_answers a b ga gb may.one_phase may.differ s) a.question.kept ga.safe, tt);
       }
 
   -- a world that is sound, and in which what held before holds
@@ -300,7 +300,7 @@ module _ {C E K R : Type 0} (plane : Plane C E K R) (laws : PlaneLaws plane) whe
   step_sound w (pushes r p rows) s may = after w (pushes r p rows) s (pushes_fine w r p rows s may)
   step_sound w (takes_push m n rows) s may = after w (takes_push m n rows) s (takes_push_fine w m n rows s may)
   step_sound w (finishes r) s may = after w (finishes r) s (finishes_fine w r s may)
-  step_sound w (begins_read n t p) s may = after w (begins_read n t p) s (begins_read_fine w n t p s may)
+  step_sound w (asks n t p) s may = after w (asks n t p) s (asks_fine w n t p s may)
   step_sound w (answers q n) s may = after w (answers q n) s (answers_fine w q n s may)
   step_sound w (ends_read a b) s may = after w (ends_read a b) s (ends_read_fine w a b s may)
 
@@ -322,7 +322,7 @@ module _ {C E K R : Type 0} (plane : Plane C E K R) (laws : PlaneLaws plane) whe
     pushes = All-nil _;
     pushed = All-nil _;
     finished = All-nil _;
-    readings = All-nil _;
+    questions = All-nil _;
     answers = All-nil _;
     reads = All-nil _;
   }

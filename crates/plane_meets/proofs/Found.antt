@@ -1,10 +1,9 @@
 -- Tests on lists, sets of three, and layouts that were never applied.
-use Rattle.std.proofs.Common.{◌≡◌, ◌≢◌, ℕ, zero, suc, ◌<◌, ◌≤◌, Bool, true, false, not, cond, ◌&&◌, ◌||◌, ◌==◌, length, Option, Some, None, List, [], ◌∷◌, ◌++◌, slice_get, unwrap_or, refl, sym, ap, ◌∙◌, subst, inl, inr, ◌⊎◌, arith, eqb-true, eq-eqb}
-use Rattle.std.specs.Prelude.{⊤, IsTrue}
+use Rattle.std.proofs.Common.{◌≡◌, ◌≢◌, ℕ, zero, suc, Bool, true, false, not, ◌&&◌, ◌||◌, ◌==◌, length, Some, List, [], ◌∷◌, slice_get, unwrap_or, refl, sym, ap, ◌∙◌, subst, inl, inr, eq-eqb}
 use Rattle.std.specs.List.{Contains, list_any, list_all}
 use Rattle.std.proofs.lemmas.Bool.{or_cases, and_parts, true≢false}
-use Rattle.control_model.specs.Layouts.{are_three, is_set}
-use Rattle.control_model.specs.Facts.{Has, OneOf, TwoOf}
+use Rattle.control_model.specs.Layouts.{are_three}
+use Rattle.control_model.specs.Facts.{Has, TwoOf}
 use Rattle.plane_model.specs.Sets.{Two}
 use Rattle.plane_laws.proofs.Sets.{contains_here, contains_there}
 

@@ -1,5 +1,5 @@
 -- The control plane of layout versions proves what the data plane takes of a control plane.
-use Rattle.std.proofs.Common.{◌≡◌, ℕ, zero, suc, pred, ◌<◌, ◌≤◌, Bool, true, false, ◌&&◌, ◌==◌, length, Option, Some, None, List, [], ◌∷◌, slice_get, refl, sym, ap, ◌∙◌, subst, inl, inr, ◌⊎◌, arith, eqb-true, eq-eqb}
+use Rattle.std.proofs.Common.{◌≡◌, ℕ, zero, suc, pred, ◌<◌, ◌≤◌, true, ◌&&◌, ◌==◌, length, Option, Some, None, List, [], ◌∷◌, slice_get, refl, sym, ap, subst, inl, inr, arith, eqb-true, eq-eqb}
 use Rattle.std.proofs.lemmas.Bool.{cases_lt, and_parts, true≢false}
 use Rattle.std.specs.Prelude.{⊤}
 use Rattle.std.specs.List.{list_any, list_all}
@@ -8,10 +8,10 @@ use Rattle.crdt_core.specs.EntryLaws.{and_both}
 use Rattle.crdt_core.specs.Laws.{JoinLaws}
 use Rattle.view_model.specs.View.{Reading, oldest, newest}
 use Rattle.control_model.specs.Layouts.{are_three, is_set, set_in, is_lawful}
-use Rattle.control_model.specs.World.{Request, Round, World, empty, view_of, layout_of}
+use Rattle.control_model.specs.World.{Round, World, empty, view_of}
 use Rattle.control_model.specs.Steps.{Step, step, run, round_of}
 use Rattle.control_model.specs.Reached.{IsReached, reached_step}
-use Rattle.control_model.specs.Facts.{Has, TwoOf, InFlight as Flying, Begun, Open, Rises as Rose, Moves, Safe, read_of}
+use Rattle.control_model.specs.Facts.{Has, TwoOf, InFlight as Flying, Open, Rises as Rose, Moves, Safe, read_of}
 use Rattle.version_laws.proofs.Laws.{safe_at, moves_at}
 use Rattle.plane_model.specs.Sets.{Two}
 use Rattle.plane_model.specs.Control.{InFlight, InRound, IsRead, IsAlways, Rises, Later, led_to, ControlLaws}
@@ -19,7 +19,7 @@ use Rattle.plane_model.specs.Keys.{Keys, KeyLaws}
 use Rattle.plane_model.specs.Plane.{PlaneLaws}
 use Rattle.plane_laws.proofs.Sets.{contains_none}
 use Rattle.plane_meets.specs.Joint.{is_to, seen, joint}
-use Rattle.plane_meets.proofs.Found.{Found, found, any_has, at_passes, three_long, two_from}
+use Rattle.plane_meets.proofs.Found.{found, any_has, at_passes, three_long, two_from}
 use Rattle.plane_meets.proofs.Unapplied.{HasNone, run_none, empty_none}
 
 -- what a test for a round finds

@@ -1,21 +1,19 @@
 -- Each action of the example may happen when it comes.
-use Rattle.std.proofs.Common.{◌≡◌, ◌≢◌, ℕ, zero, suc, ◌≤◌, Bool, true, false, cond, ◌||◌, ◌==◌, Option, Some, None, List, [], ◌∷◌, ◌++◌, map, refl, sym, ap, ◌∙◌, subst, inl, inr, ◌⊎◌, arith, eqb-true}
-use Rattle.std.specs.Prelude.{⊤, max}
+use Rattle.std.proofs.Common.{◌≡◌, ℕ, zero, suc, ◌≤◌, Bool, true, false, cond, ◌||◌, ◌==◌, Option, Some, None, List, [], ◌∷◌, ◌++◌, refl, sym, ap, subst, inl, inr, ◌⊎◌, arith, eqb-true}
 use Rattle.std.specs.List.{Contains, list_all}
 use Rattle.crdt_core.specs.Laws.{JoinLaws}
 use Rattle.control_model.specs.World.{World as State, empty}
 use Rattle.control_model.specs.Steps.{Step}
 use Rattle.version_laws.specs.Example.{Plan, plan_reading}
-use Rattle.plane_model.specs.Rows.{IsOver}
 use Rattle.plane_model.specs.Sets.{Two}
 use Rattle.plane_model.specs.Control.{Gives}
-use Rattle.plane_model.specs.World.{Round, World, Read, first, row_at}
-use Rattle.plane_model.specs.Action.{Action, moves, drops, begins_round, pushes, takes_push, run, step, HasPushed, HasFinished, MayStore, MayKeep, MayPush, MayTakePush, MayFinish, MayAnswer, MayEnd, MayMove, Happens}
+use Rattle.plane_model.specs.World.{World, first, row_at}
+use Rattle.plane_model.specs.Action.{moves, drops, begins_round, pushes, takes_push, run, step, HasPushed, HasFinished, MayStore, MayTakePush, MayMove, Happens}
 use Rattle.plane_laws.proofs.Sets.{contains_here, contains_there, contains_cases, contains_none}
 use Rattle.plane_laws.proofs.Rows.{rows_over}
 use Rattle.plane_laws.proofs.Runs.{happens_append}
-use Rattle.plane_meets.specs.Joint.{is_to, CompletesIt}
-use Rattle.plane_meets.specs.Example.{keys, plane, Acts, installed, put, put_row, first_reading, answered, changed, rounds, round_of, log_before, row_7, push, completed, cleaned, all_moves, before_get, second_reading, get, until_dropped, put_and_get, after_get}
+use Rattle.plane_meets.specs.Joint.{is_to}
+use Rattle.plane_meets.specs.Example.{keys, plane, installed, put, put_row, changed, rounds, round_of, log_before, row_7, push, completed, cleaned, all_moves, before_get, get, until_dropped, put_and_get}
 use Rattle.plane_meets.proofs.Completes.{completes_open}
 use Rattle.plane_meets.proofs.Quiet.{is_quiet, quiet_happens}
 
@@ -86,7 +84,7 @@ put_happens = (
                   began = (0, omega arith, refl);
                   flies = refl;
                   two = λ i a b. (let e : 1 ≡ i = omega arith in let P : ℕ → Type 0 = λ j. Two (plane.control.set w1.control j 1) (λ n. Contains w2.stored (record { store = put_row; node = n })) in
-                  subst P e (record { one = 1; other = 2; differ = λ e. omega arith; one_in = first_in 1 2 3; other_in = second_in 1 2 3; one_is = (1, omega arith, refl); other_is = (0, omega arith, refl) }));
+                      subst P e (record { one = 1; other = 2; differ = λ e. omega arith; one_in = first_in 1 2 3; other_in = second_in 1 2 3; one_is = (1, omega arith, refl); other_is = (0, omega arith, refl) }));
                 },
                 tt,
               ),

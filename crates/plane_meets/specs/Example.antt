@@ -5,8 +5,8 @@ use Rattle.control_model.specs.Steps.{Step, run as moved}
 use Rattle.version_laws.specs.Example.{Plan, plan_reading, first_plan, second_plan, is_first, tells}
 use Rattle.plane_model.specs.Keys.{Keys}
 use Rattle.plane_model.specs.Plane.{Plane}
-use Rattle.plane_model.specs.World.{Entry, took, left, Row, Store, Round, Push, Reading, Answer, World, first, row_at}
-use Rattle.plane_model.specs.Action.{Action, moves, drops, begins_store, stores, keeps, begins_round, pushes, takes_push, finishes, begins_read, answers, ends_read, run}
+use Rattle.plane_model.specs.World.{Entry, took, Row, Store, Round, Push, Question, Answer, World, row_at}
+use Rattle.plane_model.specs.Action.{Action, moves, drops, begins_store, stores, keeps, begins_round, pushes, takes_push, finishes, asks, answers, ends_read, after}
 use Rattle.plane_meets.specs.Joint.{joint}
 
 -- keys are numbers; of two partitions key 7 is in the second
@@ -23,11 +23,11 @@ Acts = List (Action (State Plan) (Step Plan) ℕ Bool)
 abbrev pub installed : List (Step Plan)
 installed = Step.Install is_first first_plan ∷ Step.Begin 2 ∷ []
 
-abbrev pub first_reading : Reading (State Plan) ℕ Bool
-first_reading = record { number = 0; partition = 1; version = 1; control = moved plan_reading 2 empty installed; log = []; kept = [] }
+abbrev pub first_question : Question (State Plan) ℕ Bool
+first_question = record { number = 0; partition = 1; version = 1; control = moved plan_reading 2 empty installed; log = []; kept = [] }
 
-abbrev pub answered : Reading (State Plan) ℕ Bool → ℕ → Answer (State Plan) ℕ Bool
-answered q n = record { reading = q; node = n; rows = row_at plane q.log n }
+abbrev pub answered : Question (State Plan) ℕ Bool → ℕ → Answer (State Plan) ℕ Bool
+answered q n = record { question = q; node = n; rows = row_at plane q.log n }
 
 abbrev pub put_row : Store ℕ Bool
 put_row = record { node = 2; start = 1; newest = 1; key = 7; row = true }
@@ -35,7 +35,7 @@ put_row = record { node = 2; start = 1; newest = 1; key = 7; row = true }
 -- a read phase, then a store phase that nodes 1 and 2 confirm
 abbrev pub put : Acts
 put =
-    begins_read 2 1 1 ∷ answers first_reading 1 ∷ answers first_reading 3 ∷ ends_read (answered first_reading 1) (answered first_reading 3)
+    asks 2 1 1 ∷ answers first_question 1 ∷ answers first_question 3 ∷ ends_read (answered first_question 1) (answered first_question 3)
     ∷ begins_store 2 1 7 true ∷ stores put_row 1 ∷ stores put_row 2 ∷ keeps put_row ∷ []
 
 -- the request ends, version 2 is applied, known and acknowledged, and nodes 1 and 3 begin a round to it
@@ -76,17 +76,17 @@ abbrev pub until_dropped : Acts
 until_dropped = all_moves installed ++ (put ++ (all_moves changed ++ (rounds ++ (all_moves completed ++ (all_moves cleaned ++ (drops 1 1 ∷ []))))))
 
 abbrev pub before_get : World (State Plan) ℕ Bool
-before_get = run plane (first empty) until_dropped
+before_get = after plane until_dropped
 
-abbrev pub second_reading : Reading (State Plan) ℕ Bool
-second_reading = record { number = 1; partition = 1; version = 2; control = before_get.control; log = before_get.log; kept = before_get.kept }
+abbrev pub second_question : Question (State Plan) ℕ Bool
+second_question = record { number = 1; partition = 1; version = 2; control = before_get.control; log = before_get.log; kept = before_get.kept }
 
 -- a read phase that nodes 3 and 4 answer
 abbrev pub get : Acts
-get = begins_read 4 2 1 ∷ answers second_reading 3 ∷ answers second_reading 4 ∷ ends_read (answered second_reading 3) (answered second_reading 4) ∷ []
+get = asks 4 2 1 ∷ answers second_question 3 ∷ answers second_question 4 ∷ ends_read (answered second_question 3) (answered second_question 4) ∷ []
 
 abbrev pub put_and_get : Acts
 put_and_get = until_dropped ++ get
 
 abbrev pub after_get : World (State Plan) ℕ Bool
-after_get = run plane (first empty) put_and_get
+after_get = after plane put_and_get

@@ -6,7 +6,7 @@ use Rattle.plane_model.specs.Rows.{IsOver}
 use Rattle.plane_model.specs.Sets.{Two}
 use Rattle.plane_model.specs.Control.{Stores, Gives}
 use Rattle.plane_model.specs.Plane.{Plane}
-use Rattle.plane_model.specs.World.{took, left, Row, Store, Round, Push, Reading, Answer, World, Effects, nothing, applied, all_took, row_at, row_in}
+use Rattle.plane_model.specs.World.{took, left, Row, Store, Round, Push, Question, Answer, World, Effects, first, nothing, applied, all_took, row_at, row_in}
 
 pub data Action (C E K R : Type 0) : Type 0 where
   moves : (event : E) → Action C E K R  -- the control plane steps
@@ -19,8 +19,8 @@ pub data Action (C E K R : Type 0) : Type 0 where
   pushes : (round : Round K R) (partition : ℕ) (rows : List (Row K R)) → Action C E K R
   takes_push : (push : Push K R) (node : ℕ) (rows : List (Row K R)) → Action C E K R  -- this node takes these rows and confirms
   finishes : (round : Round K R) → Action C E K R
-  begins_read : (node start partition : ℕ) → Action C E K R  -- a read or range phase, at its coordinator
-  answers : (reading : Reading C K R) (node : ℕ) → Action C E K R
+  asks : (node start partition : ℕ) → Action C E K R  -- a read or range phase, at its coordinator
+  answers : (question : Question C K R) (node : ℕ) → Action C E K R
   ends_read : (one other : Answer C K R) → Action C E K R
 
 -- the node that began the round, or one that confirmed its partition
@@ -46,11 +46,11 @@ module _ {C E K R : Type 0} (plane : Plane C E K R) where
   effects w (pushes r p rows) = record nothing { pushes = record { round = r; partition = p; newest = plane.control.newest w.control r.node; rows = rows } ∷ [] }
   effects w (takes_push m n rows) = record nothing { log = all_took n rows; pushed = record { round = m.round; partition = m.partition; node = n } ∷ [] }
   effects w (finishes r) = record nothing { finished = r ∷ [] }
-  effects w (begins_read n s p) = record nothing {
-    readings = record { number = length w.readings; partition = p; version = plane.control.read w.control n; control = w.control; log = w.log; kept = w.kept } ∷ [];
+  effects w (asks n s p) = record nothing {
+    questions = record { number = length w.questions; partition = p; version = plane.control.read w.control n; control = w.control; log = w.log; kept = w.kept } ∷ [];
   }
-  effects w (answers q n) = record nothing { answers = record { reading = q; node = n; rows = row_at plane w.log n } ∷ [] }
-  effects w (ends_read a b) = record nothing { reads = record { reading = a.reading; rows = λ k. option_join plane.join (a.rows k) (b.rows k) } ∷ [] }
+  effects w (answers q n) = record nothing { answers = record { question = q; node = n; rows = row_at plane w.log n } ∷ [] }
+  effects w (ends_read a b) = record nothing { reads = record { question = a.question; rows = λ k. option_join plane.join (a.rows k) (b.rows k) } ∷ [] }
 
   abbrev pub control_after : World C K R → Action C E K R → C
   control_after w (moves e) = plane.control.step w.control e
@@ -99,8 +99,8 @@ module _ {C E K R : Type 0} (plane : Plane C E K R) where
     pub two : (p : ℕ) → Contains (plane.control.set w.control r.from p) r.node → ((k : K) → plane.keys.partition k ≡ p → row_at plane r.log r.node k ≡ None) ⊎ Two (plane.control.set w.control (suc r.from) p) (HasPushed w r p)
 
   -- only a node of the set that was asked answers, and only while it stores the version
-  pub record MayAnswer (w : World C K R) (q : Reading C K R) (n : ℕ) : Type 0 where
-    pub began : Contains w.readings q
+  pub record MayAnswer (w : World C K R) (q : Question C K R) (n : ℕ) : Type 0 where
+    pub began : Contains w.questions q
     pub asked : Contains (plane.control.set q.control q.version q.partition) n
     pub stores : Stores plane.control w.control n q.version
 
@@ -108,7 +108,7 @@ module _ {C E K R : Type 0} (plane : Plane C E K R) where
   pub record MayEnd (w : World C K R) (a b : Answer C K R) : Type 0 where
     pub one : Contains w.answers a
     pub other : Contains w.answers b
-    pub one_phase : a.reading ≡ b.reading
+    pub one_phase : a.question ≡ b.question
     pub differ : a.node ≢ b.node
 
   abbrev pub May : World C K R → Action C E K R → Type 0
@@ -122,7 +122,7 @@ module _ {C E K R : Type 0} (plane : Plane C E K R) where
   May w (pushes r p rows) = MayPush w r p rows
   May w (takes_push m n rows) = MayTakePush w m n rows
   May w (finishes r) = MayFinish w r
-  May w (begins_read n s p) = plane.control.in_flight w.control n s ≡ true
+  May w (asks n s p) = plane.control.in_flight w.control n s ≡ true
   May w (answers q n) = MayAnswer w q n
   May w (ends_read a b) = MayEnd w a b
 
@@ -130,3 +130,11 @@ module _ {C E K R : Type 0} (plane : Plane C E K R) where
   abbrev pub Happens : World C K R → List (Action C E K R) → Type 0
   Happens w [] = ⊤
   Happens w (a ∷ more) = May w a × Happens (step w a) more
+
+  -- a run: actions of which each may happen when it comes, from the first world on
+  abbrev pub IsRun : List (Action C E K R) → Type 0
+  IsRun acts = Happens (first plane.control.start) acts
+
+  -- the world that they lead to
+  abbrev pub after : List (Action C E K R) → World C K R
+  after acts = run (first plane.control.start) acts

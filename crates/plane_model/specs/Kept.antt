@@ -13,7 +13,7 @@ module _ {C E K R : Type 0} (plane : Plane C E K R) where
     pub knows : i ≤ plane.control.newest c n
     pub has : (suc i ≤ plane.control.oldest c n) ⊎ IsAtLeast plane.join (row_at plane log n k) x
 
-  -- where the row's phase named no version above i: a round of node n from version i had the row when it began
+  -- a round of node n from version i had the row when it began, unless the row's phase named a version above i
   abbrev pub HadIt : Store K R → ℕ → ℕ → Round K R → Type 0
   HadIt s i n r = r.node ≡ n → r.from ≡ i → s.newest ≤ i → IsAtLeast plane.join (row_at plane r.log n s.key) s.row
 
@@ -25,7 +25,7 @@ module _ {C E K R : Type 0} (plane : Plane C E K R) where
   -- at each key of its partition, what a phase gives, joined with what was collected there, is at least the join of all rows that these stores kept
   abbrev pub GivesKept : (K → Option R) → List (Store K R) → Read C K R → Type 0
   GivesKept collected kept r =
-      (k : K) → plane.keys.partition k ≡ r.reading.partition → IsOver plane.join (option_join plane.join (collected k) (r.rows k)) (kept_at plane kept k)
+      (k : K) → plane.keys.partition k ≡ r.question.partition → IsOver plane.join (option_join plane.join (collected k) (r.rows k)) (kept_at plane kept k)
 
 -- no row is collected yet
 abbrev pub none_collected : {K R : Type 0} → K → Option R

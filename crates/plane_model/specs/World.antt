@@ -1,5 +1,6 @@
 -- The world of the data plane: what every node accepted and dropped, and all that was ever begun, sent, confirmed, kept and read.
-use Rattle.std.specs.Prelude.{ℕ, ◌&&◌, ◌==◌, if◌then◌else◌, Option, Some, None, List, [], ◌∷◌, ◌++◌}
+use Rattle.std.specs.Prelude.{◌≡◌, ℕ, ◌&&◌, ◌==◌, if◌then◌else◌, Option, Some, None, List, [], ◌∷◌, ◌++◌}
+use Rattle.std.specs.List.{Contains}
 use Rattle.crdt_core.specs.Order.{option_join}
 use Rattle.plane_model.specs.Plane.{Plane}
 
@@ -45,7 +46,7 @@ pub record Pushed (K R : Type 0) : Type 0 where
   pub node : ℕ
 
 -- a read or range phase: its place among all that began, the partition and the version that it asks for, and what was when it began
-pub record Reading (C K R : Type 0) : Type 0 where
+pub record Question (C K R : Type 0) : Type 0 where
   pub number : ℕ
   pub partition : ℕ
   pub version : ℕ
@@ -55,31 +56,31 @@ pub record Reading (C K R : Type 0) : Type 0 where
 
 -- a node answered with all that it had
 pub record Answer (C K R : Type 0) : Type 0 where
-  pub reading : Reading C K R
+  pub question : Question C K R
   pub node : ℕ
   pub rows : K → Option R
 
 -- a read or range phase ended, and what it gives at each key of its partition
 pub record Read (C K R : Type 0) : Type 0 where
-  pub reading : Reading C K R
+  pub question : Question C K R
   pub rows : K → Option R
 
 pub record World (C K R : Type 0) : Type 0 where
   pub control : C
   pub log : List (Entry K R)  -- the newest first, as all lists here
-  pub stores : List (Store K R)
-  pub stored : List (Stored K R)
-  pub kept : List (Store K R)
-  pub rounds : List (Round K R)
-  pub pushes : List (Push K R)
-  pub pushed : List (Pushed K R)
-  pub finished : List (Round K R)
-  pub readings : List (Reading C K R)
-  pub answers : List (Answer C K R)
-  pub reads : List (Read C K R)
+  pub stores : List (Store K R)  -- the rows of store phases that began
+  pub stored : List (Stored K R)  -- who confirmed them
+  pub kept : List (Store K R)  -- the rows of store phases that ended
+  pub rounds : List (Round K R)  -- the rounds that began
+  pub pushes : List (Push K R)  -- what they showed
+  pub pushed : List (Pushed K R)  -- who confirmed it
+  pub finished : List (Round K R)  -- the rounds that may complete
+  pub questions : List (Question C K R)  -- the read and range phases that began
+  pub answers : List (Answer C K R)  -- what they were answered
+  pub reads : List (Read C K R)  -- those that ended
 
 abbrev pub first : {C K R : Type 0} → C → World C K R
-first c = record { control = c; log = []; stores = []; stored = []; kept = []; rounds = []; pushes = []; pushed = []; finished = []; readings = []; answers = []; reads = [] }
+first c = record { control = c; log = []; stores = []; stored = []; kept = []; rounds = []; pushes = []; pushed = []; finished = []; questions = []; answers = []; reads = [] }
 
 -- what an action adds
 pub record Effects (C K R : Type 0) : Type 0 where
@@ -91,12 +92,12 @@ pub record Effects (C K R : Type 0) : Type 0 where
   pub pushes : List (Push K R)
   pub pushed : List (Pushed K R)
   pub finished : List (Round K R)
-  pub readings : List (Reading C K R)
+  pub questions : List (Question C K R)
   pub answers : List (Answer C K R)
   pub reads : List (Read C K R)
 
 abbrev pub nothing : {C K R : Type 0} → Effects C K R
-nothing = record { log = []; stores = []; stored = []; kept = []; rounds = []; pushes = []; pushed = []; finished = []; readings = []; answers = []; reads = [] }
+nothing = record { log = []; stores = []; stored = []; kept = []; rounds = []; pushes = []; pushed = []; finished = []; questions = []; answers = []; reads = [] }
 
 abbrev pub applied : {C K R : Type 0} → World C K R → Effects C K R → World C K R
 applied w e = record {
@@ -109,10 +110,25 @@ applied w e = record {
   pushes = e.pushes ++ w.pushes;
   pushed = e.pushed ++ w.pushed;
   finished = e.finished ++ w.finished;
-  readings = e.readings ++ w.readings;
+  questions = e.questions ++ w.questions;
   answers = e.answers ++ w.answers;
   reads = e.reads ++ w.reads;
 }
+
+-- the log of the first is the end of that of the second, and nothing that was in the first is missing in the second
+pub record Extends {C K R : Type 0} (old new : World C K R) : Type 0 where
+  pub more : List (Entry K R)
+  pub log : new.log ≡ more ++ old.log
+  pub stores : (x : Store K R) → Contains old.stores x → Contains new.stores x
+  pub stored : (x : Stored K R) → Contains old.stored x → Contains new.stored x
+  pub kept : (x : Store K R) → Contains old.kept x → Contains new.kept x
+  pub rounds : (x : Round K R) → Contains old.rounds x → Contains new.rounds x
+  pub pushes : (x : Push K R) → Contains old.pushes x → Contains new.pushes x
+  pub pushed : (x : Pushed K R) → Contains old.pushed x → Contains new.pushed x
+  pub finished : (x : Round K R) → Contains old.finished x → Contains new.finished x
+  pub questions : (x : Question C K R) → Contains old.questions x → Contains new.questions x
+  pub answers : (x : Answer C K R) → Contains old.answers x → Contains new.answers x
+  pub reads : (x : Read C K R) → Contains old.reads x → Contains new.reads x
 
 -- a node took each of these rows
 abbrev pub all_took : {K R : Type 0} → ℕ → List (Row K R) → List (Entry K R)

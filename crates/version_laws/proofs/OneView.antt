@@ -6,7 +6,7 @@ use Rattle.std.specs.List.{list_all}
 use Rattle.std.proofs.lemmas.Bool.{cases_lt, or_cases, and_parts, ltb-true, ne_eqb, eq-eqb}
 use Rattle.std.proofs.lemmas.List.Folds.{find-append}
 use Rattle.layout_trackers.specs.declared.which.Which.{Which}
-use Rattle.layout_trackers.specs.declared.which.Which.TheVariants.{Sync, SyncAck}
+use Rattle.layout_trackers.specs.declared.which.Which.TheVariants.{Ack, Sync, SyncAck}
 use Rattle.layout_trackers.specs.Trackers.{entry, is_reached}
 use Rattle.layout_trackers.specs.Entries.{later, IsNotAbove, never_falls, grows_trans, counts-joined, entry-raised, entry-raised_alone, entry-raised_one}
 use Rattle.layout_trackers.specs.Reaching.{reached_by}
@@ -17,6 +17,25 @@ use Rattle.view_model.specs.Reads.{GrewFrom, read_known, read_stored, read_reada
 use Rattle.control_model.specs.Layouts.{is_in, is_set, are_three, IsMember, is_lawful}
 use Rattle.control_model.specs.Facts.{Has, TwoOf, entry_of}
 use Rattle.version_laws.proofs.Tests.{some_is, none_is_not, has_map, has_flat, has_found, is_in-has, list_all-at, least_at, two_of}
+
+-- the three trackers are different ones
+pub sync_not_syncack : Sync ≢ SyncAck
+sync_not_syncack e = cc
+
+pub sync_not_ack : Sync ≢ Ack
+sync_not_ack e = cc
+
+pub syncack_not_sync : SyncAck ≢ Sync
+syncack_not_sync e = cc
+
+pub syncack_not_ack : SyncAck ≢ Ack
+syncack_not_ack e = cc
+
+pub ack_not_syncack : Ack ≢ SyncAck
+ack_not_syncack e = cc
+
+pub ack_not_sync : Ack ≢ Sync
+ack_not_sync e = cc
 
 -- ---- entries
 

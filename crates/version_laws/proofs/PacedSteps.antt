@@ -12,7 +12,7 @@ use Rattle.control_model.specs.World.{Request, Round, Node, World, next, nothing
 use Rattle.control_model.specs.Steps.{Step, applies, installs, still, with_view, comes, least_start, without, is_none, completes, is_current, change, step, round_of}
 use Rattle.control_model.specs.Facts.{Has, entry_of, read_of}
 use Rattle.version_laws.proofs.Tests.{some_of, some_at}
-use Rattle.version_laws.proofs.OneView.{merged_entry, own_entry, other_node, other_kind, ordered, started, read_low, read_high, read_below, WhyRead, why_read, established_two, least_member, clean_reaches, oldest_appended, some_set, some_member}
+use Rattle.version_laws.proofs.OneView.{sync_not_syncack, sync_not_ack, syncack_not_sync, syncack_not_ack, ack_not_syncack, ack_not_sync, merged_entry, own_entry, other_node, other_kind, ordered, started, read_low, read_high, read_below, WhyRead, why_read, established_two, least_member, clean_reaches, oldest_appended, some_set, some_member}
 use Rattle.version_laws.proofs.WholeViews.{IsView, IsMessage, IsWhole, same_layout, at_each, at_one, IsWholeChange, grows, whole_next}
 use Rattle.version_laws.proofs.WholeSteps.{One, whole_change, first_top}
 use Rattle.version_laws.proofs.Paced.{Reaches, reaches_less, reaches_max, IsRound, IsRequest, IsPaced, IsPacedChange, nobody_member, zero_or, paced_next}
@@ -33,24 +33,6 @@ without-has number (x ∷ xs) q has =
       | true ↦ λ h. inr (without-has number xs q h)
       | false ↦ λ h. elim h [ inl e ↦ inl e | inr d ↦ inr (without-has number xs q d) ]
     ] has
-
-sync_not_syncack : Sync ≢ SyncAck
-sync_not_syncack e = cc
-
-sync_not_ack : Sync ≢ Ack
-sync_not_ack e = cc
-
-syncack_not_sync : SyncAck ≢ Sync
-syncack_not_sync e = cc
-
-syncack_not_ack : SyncAck ≢ Ack
-syncack_not_ack e = cc
-
-ack_not_syncack : Ack ≢ SyncAck
-ack_not_syncack e = cc
-
-ack_not_sync : Ack ≢ Sync
-ack_not_sync e = cc
 
 module _ {L : Type 0} (R : Reading L) (parts : ℕ) (some : 1 ≤ parts) where
   -- the set of some partition in the version before

@@ -1,15 +1,12 @@
 -- What tests on lists tell.
-use Rattle.std.proofs.Common.{◌≡◌, ℕ, zero, suc, ◌+◌, ◌≤◌, min, Bool, true, false, cond, ◌==◌, List, [], ◌∷◌, ◌++◌, map, IsTrue, Some, None, refl, sym, ◌∙◌, ap, subst, inl, inr, ◌⊎◌, arith, eqb-true, slice_get, IfSome, unwrap_or, fold, count_by, find, flat_map}
+use Rattle.std.proofs.Common.{◌≡◌, ℕ, zero, suc, ◌+◌, ◌≤◌, min, Bool, true, false, cond, ◌==◌, List, [], ◌∷◌, ◌++◌, map, IsTrue, Some, None, refl, sym, ap, subst, inl, inr, ◌⊎◌, arith, eqb-true, slice_get, IfSome, unwrap_or, fold, count_by, find, flat_map}
 use Rattle.std.specs.List.{AllByRecursion, list_all}
-use Rattle.std.proofs.lemmas.Bool.{or_cases, and_parts, leb-true, true≢false, false≢true}
+use Rattle.std.proofs.lemmas.Bool.{or_cases, and_parts, leb-true, false≢true}
 use Rattle.std.proofs.lemmas.List.Sums.{sum_by-cons}
 use Rattle.layout_trackers.specs.Least.{least, lesser}
 use Rattle.view_model.specs.View.{two_have}
 use Rattle.control_model.specs.Layouts.{is_in}
 use Rattle.control_model.specs.Facts.{Has, OneOf, TwoOf}
-
-pub no_way : {A : Type 0} (b : Bool) → b ≡ true → b ≡ false → A
-no_way b p q = absurd (true≢false (sym p ∙ q))
 
 pub some_is : {A : Type 0} (x y : A) → Some x ≡ Some y → x ≡ y
 some_is x y e = ap (λ o. unwrap_or o x) e

@@ -1,5 +1,5 @@
 -- Each step keeps views whole.
-use Rattle.std.proofs.Common.{◌≡◌, ◌≢◌, ℕ, suc, pred, ◌<◌, ◌≤◌, Bool, ◌&&◌, ◌==◌, Option, Some, None, List, [], ◌∷◌, IsTrue, IfSome, slice_get, refl, sym, ◌∙◌, ap, subst, inl, inr, arith, eqb-true, eq-eqb, le_refl, le_trans}
+use Rattle.std.proofs.Common.{◌≡◌, ℕ, suc, pred, ◌<◌, ◌≤◌, Bool, ◌&&◌, ◌==◌, Option, Some, None, List, [], ◌∷◌, IsTrue, IfSome, slice_get, refl, sym, ◌∙◌, ap, subst, inl, inr, arith, eqb-true, eq-eqb, le_refl, le_trans}
 use Rattle.std.proofs.lemmas.Bool.{eqb-false, cases_lt, cases_Bool, and_parts, cond_both, cond-true, false≢true}
 use Rattle.layout_trackers.specs.declared.which.Which.{Which}
 use Rattle.layout_trackers.specs.declared.which.Which.TheVariants.{Ack, Sync, SyncAck}
@@ -12,24 +12,12 @@ use Rattle.control_model.specs.World.{Request, Round, Node, Applied, World, Chan
 use Rattle.control_model.specs.Steps.{Step, applies, installs, with_view, comes, least_start, without, completes, is_current, may_begin, change, step, round_of}
 use Rattle.control_model.specs.Facts.{entry_of}
 use Rattle.version_laws.proofs.Tests.{some_at, some_is}
-use Rattle.version_laws.proofs.OneView.{Gapless, grew_refl, grew_trans, merged_entry, own_entry, other_node, other_kind, range_of, ordered, started, grew_at, read_below, cleaned_grew, at_appended, at_new, newest_new, gapless_new}
+use Rattle.version_laws.proofs.OneView.{syncack_not_ack, ack_not_syncack, syncack_not_sync, ack_not_sync, Gapless, grew_refl, grew_trans, merged_entry, own_entry, other_node, other_kind, range_of, ordered, started, grew_at, read_below, cleaned_grew, at_appended, at_new, newest_new, gapless_new}
 use Rattle.version_laws.proofs.WholeViews.{at_each, at_each_apart, at_one, IsView, IsMessage, IsApplier, Lawful, IsWhole, Grows, view_grows, IsWholeChange, grows_by, grows, whole_next}
 
 pub least_start-le : (d : ℕ) (qs : List Request) → least_start d qs ≤ d
 least_start-le d [] = le_refl d
 least_start-le d (q ∷ qs) = let h = least_start-le d qs in omega arith
-
-syncack_not_ack : SyncAck ≢ Ack
-syncack_not_ack e = cc
-
-ack_not_syncack : Ack ≢ SyncAck
-ack_not_syncack e = cc
-
-syncack_not_sync : SyncAck ≢ Sync
-syncack_not_sync e = cc
-
-ack_not_sync : Ack ≢ Sync
-ack_not_sync e = cc
 
 module _ {L : Type 0} (R : Reading L) (parts : ℕ) where
   pub nothing_whole : (w : World L) → IsWholeChange R parts w (nothing w)

@@ -50,6 +50,10 @@ cleaned_up = Step.RaiseSyncAck 1 ∷ Step.RaiseSyncAck 2 ∷ Step.RaiseSyncAck 3
 abbrev pub goes_on : World Plan → List (Step Plan) → World Plan
 goes_on w steps = run plan_reading 2 w steps
 
+-- two nodes apply version 2 before they hear of one another
+abbrev pub applied_twice : World Plan
+applied_twice = goes_on empty (Step.Install is_first first_plan ∷ Step.Apply 1 second_plan ∷ Step.Apply 2 second_plan ∷ [])
+
 abbrev pub after_apply : World Plan
 after_apply = goes_on empty applied
 

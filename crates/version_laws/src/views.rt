@@ -21,6 +21,7 @@ pub fn versions_are_in_order<L>()
 pub fn nothing_falls<L>()
     ensures views { (r : Reading L) (partitions : ℕ) (w : World L) (s : Step L) → IsReached r partitions w → (n : ℕ) → GrewFrom r (view_of w n) (view_of (step r partitions w s) n) }
     ensures reads { (r : Reading L) (partitions : ℕ) (w : World L) (s : Step L) → IsReached r partitions w → (n : ℕ) → read_of r w n ≤ read_of r (step r partitions w s) n }
+    ensures applied { (r : Reading L) (partitions : ℕ) (w : World L) (s : Step L) → IsReached r partitions w → w.top ≤ (step r partitions w s).top }
     ensures layouts { (r : Reading L) (partitions : ℕ) (w : World L) (s : Step L) → IsReached r partitions w → (i : ℕ) → i ≤ w.top → layout_of w i ≡ layout_of (step r partitions w s) i }
     ensures sent { (r : Reading L) (partitions : ℕ) (w : World L) (s : Step L) → IsReached r partitions w → (v : View L) → Has w.sent v → Has (step r partitions w s).sent v }
     ensures began { (r : Reading L) (partitions : ℕ) (w : World L) (s : Step L) → IsReached r partitions w → (t : Round) → Has w.began t → Has (step r partitions w s).began t }

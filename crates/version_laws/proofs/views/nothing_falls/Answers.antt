@@ -18,3 +18,6 @@ returns-clause-began g c r parts w s h = (moves_at r parts w s h).began
 
 pub returns-clause-completed : goal.returns-clause-completed
 returns-clause-completed g c r parts w s h = (moves_at r parts w s h).completed
+
+pub returns-clause-applied : goal.returns-clause-applied
+returns-clause-applied g c r parts w s h = (moves_at r parts w s h).top
