@@ -1,0 +1,4 @@
+mod Placed
+mod Growth
+mod Logs
+mod Leads
