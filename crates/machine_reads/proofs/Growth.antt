@@ -23,6 +23,7 @@ module _ {R L : Type 0} (join : R → R → R) (s : Words R) (k : Layouts L) (pa
   -- the data plane's world and what was issued only grow
   pub record Grown (p new : State join s k partitions) (g h : Issued R L) : Type 0 where
     pub lists : Extends p new
+    pub oldest : (n : ℕ) → (both join s k partitions).control.oldest p.control n ≤ (both join s k partitions).control.oldest new.control n
     pub newest : (n : ℕ) → (both join s k partitions).control.newest p.control n ≤ (both join s k partitions).control.newest new.control n
     pub sets : (n i part : ℕ) → i ≤ (both join s k partitions).control.newest p.control n → (both join s k partitions).control.set new.control i part ≡ (both join s k partitions).control.set p.control i part
     pub asks : (request phase : ℕ) (a : Asked R L) → g.asks request phase ≡ Some a → h.asks request phase ≡ Some a
@@ -96,6 +97,8 @@ module _ {R L : Type 0} (join : R → R → R) (s : Words R) (k : Layouts L) (pa
     slot_grows : (n request phase slot : ℕ) (r : R) (t : StoreSlot) → h.start request ≡ g.start request → IsSlot join s k partitions p g n request phase slot r t → IsSlot join s k partitions new h n request phase slot r t
     slot_grows n request phase slot r t same m =
         let high : (both join s k partitions).control.newest p.control n ≤ (both join s k partitions).control.newest new.control n = up.newest n in
+        let older : (both join s k partitions).control.oldest p.control n ≤ (both join s k partitions).control.oldest new.control n = up.oldest n in
+        let old : t.first ≤ (both join s k partitions).control.oldest p.control n = m.old in
         let known : m.store.newest ≤ (both join s k partitions).control.newest p.control n = m.known in
         record {
           store = m.store;
@@ -107,6 +110,7 @@ module _ {R L : Type 0} (join : R → R → R) (s : Words R) (k : Layouts L) (pa
           node = m.node;
           start = m.start ∙ sym same;
           known = omega arith;
+          old = omega arith;
           sets = sets_grow n m.store.newest (partition_of s r) t.first t.sets m.long m.known m.sets;
           long = m.long;
           confirmed = all_weaker _ _ (λ x c. up.lists.stored _ c) t.nodes m.confirmed;

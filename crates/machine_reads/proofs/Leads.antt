@@ -14,6 +14,7 @@ use Rattle.plane_model.specs.Plane.{PlaneLaws}
 use Rattle.plane_model.specs.World as plane
 use Rattle.plane_model.specs.World.{row_at as log_at, kept_at}
 use Rattle.plane_model.specs.Action.{Action, moves, run, Happens}
+use Rattle.plane_laws.proofs.Reached.{later_reached}
 use Rattle.plane_laws.proofs.Sound.{IsSound}
 use Rattle.plane_laws.proofs.Steps.{run_sound}
 use Rattle.plane_laws.proofs.Runs.{run_extends, run_append, happens_append}
@@ -61,11 +62,24 @@ module _ {R L : Type 0} (join : R → R → R) (s : Words R) (k : Layouts L) (pa
   abbrev pub laws_of : PlaneLaws (both join s k partitions)
   laws_of = joint_laws k.reading partitions keys join some keys_laws joins_well
 
+  oldest_step : (a : Act) (p : State join s k partitions) → IsSound (both join s k partitions) p → (n : ℕ) → (both join s k partitions).control.oldest p.control n ≤ (both join s k partitions).control.oldest (run (both join s k partitions) p (a ∷ [])).control n
+  oldest_step (moves e) p sound n = (later_reached (both join s k partitions).control laws_of.control p.control e sound.control).oldest n
+  oldest_step _ p sound n = omega arith
+
+  oldest_grows : (acts : List Act) (p : State join s k partitions) → IsSound (both join s k partitions) p → Happens (both join s k partitions) p acts → (n : ℕ) → (both join s k partitions).control.oldest p.control n ≤ (both join s k partitions).control.oldest (run (both join s k partitions) p acts).control n
+  oldest_grows [] p sound h n = omega arith
+  oldest_grows (a ∷ acts) p sound h n =
+      let mid = run (both join s k partitions) p (a ∷ []) in
+      let one : (both join s k partitions).control.oldest p.control n ≤ (both join s k partitions).control.oldest mid.control n = oldest_step a p sound n in
+      let rest : (both join s k partitions).control.oldest mid.control n ≤ (both join s k partitions).control.oldest (run (both join s k partitions) p (a ∷ acts)).control n = oldest_grows acts mid (run_sound (both join s k partitions) laws_of (a ∷ []) p sound (h.0, tt)).sound h.1 n in
+      omega arith
+
   pub grown : (p : State join s k partitions) (g h : Issued R L) (acts : List Act) → IsSound (both join s k partitions) p → Happens (both join s k partitions) p acts → Issues g h → Grown join s k partitions p (run (both join s k partitions) p acts) g h
   grown p g h acts sound happens issues =
       let up = (run_sound (both join s k partitions) laws_of acts p sound happens).grows in
       record {
         lists = run_extends (both join s k partitions) acts p;
+        oldest = oldest_grows acts p sound happens;
         newest = up.newest;
         sets = up.sets;
         asks = issues.asks;

@@ -2,3 +2,6 @@ mod Placed
 mod Growth
 mod Logs
 mod Leads
+mod Sees
+mod Called
+mod Asking

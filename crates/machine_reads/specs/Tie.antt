@@ -180,6 +180,7 @@ module _ {R L : Type 0} (join : R → R → R) (s : Words R) (k : Layouts L) (pa
       pub node : store.node ≡ n
       pub start : store.start ≡ g.start request
       pub known : store.newest ≤ both.control.newest p.control n
+      pub old : t.first ≤ both.control.oldest p.control n
       pub sets : AreSets (partition_of s r) t.first t.sets
       pub long : t.first + length t.sets ≡ suc store.newest
       pub confirmed : AllByRecursion (λ m. Contains p.stored (record { store = store; node = m })) t.nodes
