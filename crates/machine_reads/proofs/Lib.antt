@@ -5,3 +5,5 @@ mod Leads
 mod Sees
 mod Called
 mod Asking
+mod Sets
+mod Takes
