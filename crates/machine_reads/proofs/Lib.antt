@@ -7,3 +7,6 @@ mod Called
 mod Asking
 mod Sets
 mod Takes
+mod Storing
+mod Views
+mod Rounds
