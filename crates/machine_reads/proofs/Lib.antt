@@ -10,3 +10,5 @@ mod Takes
 mod Storing
 mod Views
 mod Rounds
+mod Begins
+mod Tied

@@ -47,53 +47,53 @@ use Rattle.machine_reads.proofs.Sets.{two_at}
 use Rattle.machine_reads.proofs.Called.{sent_each, quietly}
 use Rattle.machine_reads.proofs.Storing.{sent_append, read_back}
 
-all_in : {X : Type 0} (f : X → Bool) (xs : List X) (x : X) → list_all f xs ≡ true → Has xs x → f x ≡ true
+pub all_in : {X : Type 0} (f : X → Bool) (xs : List X) (x : X) → list_all f xs ≡ true → Has xs x → f x ≡ true
 all_in f [] x a h = absurd h
 all_in f (y ∷ xs) x a h =
     let parts = and_parts (f y) (list_all f xs) a in
     elim h [ inl e ↦ subst (λ z. f z ≡ true) e parts.0 | inr more ↦ all_in f xs x parts.1 more ]
 
 module _ {R L : Type 0} (join : R → R → R) (s : Words R) (k : Layouts L) (partitions : ℕ) (some : 1 ≤ partitions) (joins_well : JoinLaws join) (laws : Laws join s) where
-  abbrev P : Rattle.plane_model.specs.Plane.Plane (control.World L) (Step L) Place R
+  abbrev pub P : Rattle.plane_model.specs.Plane.Plane (control.World L) (Step L) Place R
   P = both join s k partitions
 
-  abbrev Acts : Type 0
+  abbrev pub Acts : Type 0
   Acts = List (Act join s k partitions some joins_well)
 
-  placed_in : (rs : List R) (q : Place) → row_in P (map (placed join s k partitions) rs) q ≡ at_place s join rs q
+  pub placed_in : (rs : List R) (q : Place) → row_in P (map (placed join s k partitions) rs) q ≡ at_place s join rs q
   placed_in [] q = refl
   placed_in (r ∷ rs) q = ap (λ o. cond (keys.is_same (place_of s r) q) (option_join join o (Some r)) o) (placed_in rs q)
 
-  shown_at : (x : Node R L) (part : ℕ) (q : Place) → AllByRecursion (λ r. IsTrue (s.is_proper r)) x.accepted → q.0 ≡ part → at_place s join (rows_at join s x part) q ≡ at_place s join x.accepted q
+  pub shown_at : (x : Node R L) (part : ℕ) (q : Place) → AllByRecursion (λ r. IsTrue (s.is_proper r)) x.accepted → q.0 ≡ part → at_place s join (rows_at join s x part) q ≡ at_place s join x.accepted q
   shown_at x part q proper e = kept_at_place joins_well laws (λ i. i == part) (rows join s x.accepted) q (eq-eqb q.0 part e) ∙ rows_at_place joins_well laws x.accepted q proper
 
   -- a round shows these partitions
-  abbrev pushing : plane.Round Place R → Node R L → List Part → Acts
+  abbrev pub pushing : plane.Round Place R → Node R L → List Part → Acts
   pushing rd x [] = []
   pushing rd x (part ∷ parts) = pushes rd part.partition (map (placed join s k partitions) (rows_at join s x part.partition)) ∷ pushing rd x parts
 
-  pushing_happens : (rd : plane.Round Place R) (x : Node R L) (parts : List Part) (q : State join s k partitions) → Contains q.rounds rd → P.control.in_round q.control rd.node rd.from ≡ true →
+  pub pushing_happens : (rd : plane.Round Place R) (x : Node R L) (parts : List Part) (q : State join s k partitions) → Contains q.rounds rd → P.control.in_round q.control rd.node rd.from ≡ true →
       ((z : Place) → log_at P q.log rd.node z ≡ at_place s join x.accepted z) → AllByRecursion (λ r. IsTrue (s.is_proper r)) x.accepted → Happens P q (pushing rd x parts)
-  pushing_happens rd x [] q there open has proper = tt
-  pushing_happens rd x (part ∷ parts) q there open has proper =
-      (record { began = there; is_open = open; shows = λ z e. inr (placed_in (rows_at join s x part.partition) z ∙ (shown_at x part.partition z proper e ∙ sym (has z))) },
-      pushing_happens rd x parts (step P q (pushes rd part.partition (map (placed join s k partitions) (rows_at join s x part.partition)))) there open has proper)
+  pushing_happens rd x [] q there opens_it has proper = tt
+  pushing_happens rd x (part ∷ parts) q there opens_it has proper =
+      (record { began = there; is_open = opens_it; shows = λ z e. inr (placed_in (rows_at join s x part.partition) z ∙ (shown_at x part.partition z proper e ∙ sym (has z))) },
+      pushing_happens rd x parts (step P q (pushes rd part.partition (map (placed join s k partitions) (rows_at join s x part.partition)))) there opens_it has proper)
 
   module _ {X : Type 0} (f : State join s k partitions → X) (same : (q : State join s k partitions) (rd : plane.Round Place R) (part : ℕ) (rs : List (plane.Row Place R)) → f (step P q (pushes rd part rs)) ≡ f q) where
-    pushing_same : (rd : plane.Round Place R) (x : Node R L) (parts : List Part) (q : State join s k partitions) → f (run P q (pushing rd x parts)) ≡ f q
+    pub pushing_same : (rd : plane.Round Place R) (x : Node R L) (parts : List Part) (q : State join s k partitions) → f (run P q (pushing rd x parts)) ≡ f q
     pushing_same rd x [] q = refl
     pushing_same rd x (part ∷ parts) q = pushing_same rd x parts (step P q (pushes rd part.partition (map (placed join s k partitions) (rows_at join s x part.partition)))) ∙ same q rd part.partition _
 
-  abbrev push_of : State join s k partitions → plane.Round Place R → Node R L → Part → plane.Push Place R
+  abbrev pub push_of : State join s k partitions → plane.Round Place R → Node R L → Part → plane.Push Place R
   push_of q rd x part = record { round = rd; partition = part.partition; newest = P.control.newest q.control rd.node; rows = map (placed join s k partitions) (rows_at join s x part.partition) }
 
-  pushing_has : (rd : plane.Round Place R) (x : Node R L) (parts : List Part) (q : State join s k partitions) → AllByRecursion (λ part. Contains (run P q (pushing rd x parts)).pushes (push_of q rd x part)) parts
+  pub pushing_has : (rd : plane.Round Place R) (x : Node R L) (parts : List Part) (q : State join s k partitions) → AllByRecursion (λ part. Contains (run P q (pushing rd x parts)).pushes (push_of q rd x part)) parts
   pushing_has rd x [] q = tt
   pushing_has rd x (part ∷ parts) q =
       let next = step P q (pushes rd part.partition (map (placed join s k partitions) (rows_at join s x part.partition))) in
       ((run_extends P (pushing rd x parts) next).pushes (push_of q rd x part) (contains_here _ q.pushes), pushing_has rd x parts next)
 
-  rows_back : (x : Node R L) (rs : List R) → list_all (is_spelled s) rs ≡ true → rows_read join s k partitions (map (with_its_block join s x) rs) ≡ rs
+  pub rows_back : (x : Node R L) (rs : List R) → list_all (is_spelled s) rs ≡ true → rows_read join s k partitions (map (with_its_block join s x) rs) ≡ rs
   rows_back x [] e = refl
   rows_back x (r ∷ rs) e =
       let parts = and_parts (is_spelled s r) (list_all (is_spelled s) rs) e in
@@ -101,10 +101,10 @@ module _ {R L : Type 0} (join : R → R → R) (s : Words R) (k : Layouts L) (pa
 
   -- what the posts of a round or a repair mean
   module _ (w : World R L) (n : ℕ) (new : State join s k partitions) (h : Issued R L) (number : ℕ) (b : Begun R) (issued : h.rounds n number ≡ Some b) where
-    abbrev Shown : Node R L → Part → Type 0
+    abbrev pub Shown : Node R L → Part → Type 0
     Shown x part = Rattle.machine_reads.specs.Tie.IsPushOf join s k partitions new h b part.partition (newest k.reading x.view) (map (with_its_block join s x) (rows_at join s x part.partition))
 
-    sent_part : (x : Node R L) (part : Part) (nodes : List ℕ) (rs : List R) → rows_at join s x part.partition ≡ rs → Shown x part → AllByRecursion (Means join s k partitions new h) (sent_by w n (pushes_rows join s k x number part.partition nodes rs))
+    pub sent_part : (x : Node R L) (part : Part) (nodes : List ℕ) (rs : List R) → rows_at join s x part.partition ≡ rs → Shown x part → AllByRecursion (Means join s k partitions new h) (sent_by w n (pushes_rows join s k x number part.partition nodes rs))
     sent_part x part nodes [] e m = tt
     sent_part x part nodes (r ∷ rs) e m =
         sent_each join s k partitions new h w n (Store (ForRound number part.partition) (newest k.reading x.view) part.partition (map (with_its_block join s x) (r ∷ rs))) nodes (λ to is. (refl, record {
@@ -119,7 +119,7 @@ module _ {R L : Type 0} (join : R → R → R) (s : Words R) (k : Layouts L) (pa
         sent_append (Means join s k partitions new h) w n (push_posts join s k x number part.partition (nodes part)) _ (sent_part x part (nodes part) (rows_at join s x part.partition) refl a.0) (sent_parts x nodes parts a.1)
 
   -- each part was shown
-  all_shown : (w : World R L) (n : ℕ) (new q : State join s k partitions) (h : Issued R L) (number : ℕ) (rd : plane.Round Place R) (x : Node R L) (parts : List Part) → (issued : h.rounds n number ≡ Some (a_round rd)) → P.control.newest q.control rd.node ≡ newest k.reading x.view →
+  pub all_shown : (w : World R L) (n : ℕ) (new q : State join s k partitions) (h : Issued R L) (number : ℕ) (rd : plane.Round Place R) (x : Node R L) (parts : List Part) → (issued : h.rounds n number ≡ Some (a_round rd)) → P.control.newest q.control rd.node ≡ newest k.reading x.view →
       AllByRecursion (λ part. Contains new.pushes (push_of q rd x part)) parts → are_spelled join s k x parts ≡ true → AllByRecursion (Shown w n new h number (a_round rd) issued x) parts
   all_shown w n new q h number rd x [] issued same a e = tt
   all_shown w n new q h number rd x (part ∷ parts) issued same a e =
@@ -127,7 +127,7 @@ module _ {R L : Type 0} (join : R → R → R) (s : Words R) (k : Layouts L) (pa
       (record { push = push_of q rd x part; is_there = a.0; of_it = refl; partition_is = refl; newest = same; rows_are = ap (map (placed join s k partitions)) (sym (rows_back x (rows_at join s x part.partition) both_.0)) },
       all_shown w n new q h number rd x parts issued same a.1 both_.1)
 
-  confirmed_pushed : (q : State join s k partitions) (rd : plane.Round Place R) (part n : ℕ) (cs : List Confirmed) → AllByRecursion (λ (c : Confirmed). HasPushed q rd c.partition c.node) cs → is_among n (confirmed_for part cs) ≡ true → HasPushed q rd part n
+  pub confirmed_pushed : (q : State join s k partitions) (rd : plane.Round Place R) (part n : ℕ) (cs : List Confirmed) → AllByRecursion (λ (c : Confirmed). HasPushed q rd c.partition c.node) cs → is_among n (confirmed_for part cs) ≡ true → HasPushed q rd part n
   confirmed_pushed q rd part n [] a h = cc
   confirmed_pushed q rd part n (c ∷ cs) a h =
       elim (c.partition == part) as (λ b. (c.partition == part) ≡ b → is_among n (map (λ (c : Confirmed). c.node) (cond b (c ∷ filter (λ (c : Confirmed). c.partition == part) cs) (filter (λ (c : Confirmed). c.partition == part) cs))) ≡ true → HasPushed q rd part n) [
@@ -140,16 +140,16 @@ module _ {R L : Type 0} (join : R → R → R) (s : Words R) (k : Layouts L) (pa
 
   module _ (A C : Type 0) (w : World R L) (p : State join s k partitions) (g : Issued R L) (sound : IsSound (both join s k partitions) p) (t : IsTied join s k partitions w p g) where
     -- an open round of the machine is open in the control plane
-    open_by : (n : ℕ) (x : machine.Round) (m : IsRound join s k partitions p g n x) → (w.nodes n).round ≡ Some x → P.control.in_round p.control m.round.node m.round.from ≡ true
+    pub open_by : (n : ℕ) (x : machine.Round) (m : IsRound join s k partitions p g n x) → (w.nodes n).round ≡ Some x → P.control.in_round p.control m.round.node m.round.from ≡ true
     open_by n x m e =
         let at : (p.control.nodes n).round ≡ Some x.target = (t.control.nodes n).round ∙ ap (option_map target_of) e in
         subst (λ i. Rattle.plane_meets.specs.Joint.is_to (suc m.round.from) (p.control.nodes i).round ≡ true) (sym m.node)
         (ap (Rattle.plane_meets.specs.Joint.is_to (suc m.round.from)) at ∙ eq-eqb x.target (suc m.round.from) (sym m.target))
 
-    finish_may : (q : State join s k partitions) (h : Issued R L) (up : Grown join s k partitions p q g h) (n : ℕ) (x : machine.Round) (m : IsRound join s k partitions q h n x) → P.control.in_round q.control m.round.node m.round.from ≡ true → x.target ≤ P.control.newest p.control n → is_complete x ≡ true → MayFinish P q m.round
-    finish_may q h up n x m open known complete = record {
+    pub finish_may : (q : State join s k partitions) (h : Issued R L) (up : Grown join s k partitions p q g h) (n : ℕ) (x : machine.Round) (m : IsRound join s k partitions q h n x) → P.control.in_round q.control m.round.node m.round.from ≡ true → x.target ≤ P.control.newest p.control n → is_complete x ≡ true → MayFinish P q m.round
+    finish_may q h up n x m opens_it known complete = record {
       began = m.is_there;
-      is_open = open;
+      is_open = opens_it;
       two = λ part is. elim (m.parts part (subst (λ i. Contains (P.control.set q.control m.round.from part) i) m.node is)) [
         | inl none ↦ inl (λ z e. ap (λ i. log_at P m.round.log i z) m.node ∙ none z e)
         | inr has ↦ inr (
@@ -164,13 +164,13 @@ module _ {R L : Type 0} (join : R → R → R) (s : Words R) (k : Layouts L) (pa
     }
 
     -- a finished round may complete
-    complete_may : (q : State join s k partitions) (n : ℕ) (rd : plane.Round Place R) → rd.node ≡ n → (q.control.nodes n).round ≡ Some (suc rd.from) → Contains q.finished rd → MayMove P q (Step.Complete n)
-    complete_may q n rd at open there i j h = elim (completes_open k.reading partitions q.control (Step.Complete n) i j h) [
+    pub complete_may : (q : State join s k partitions) (n : ℕ) (rd : plane.Round Place R) → rd.node ≡ n → (q.control.nodes n).round ≡ Some (suc rd.from) → Contains q.finished rd → MayMove P q (Step.Complete n)
+    complete_may q n rd at opens_it there i j h = elim (completes_open k.reading partitions q.control (Step.Complete n) i j h) [
       | inl old ↦ inl old
       | inr c ↦
           let same : n ≡ i = ap (node_of n) c.completes in
           let here : Rattle.plane_meets.specs.Joint.is_to (suc j) (q.control.nodes n).round ≡ true = subst (λ m. Rattle.plane_meets.specs.Joint.is_to (suc j) (q.control.nodes m).round ≡ true) (sym same) c.is_open in
-          let from : suc rd.from ≡ suc j = eqb-true (suc rd.from) (suc j) (ap (Rattle.plane_meets.specs.Joint.is_to (suc j)) (sym open) ∙ here) in
+          let from : suc rd.from ≡ suc j = eqb-true (suc rd.from) (suc j) (ap (Rattle.plane_meets.specs.Joint.is_to (suc j)) (sym opens_it) ∙ here) in
           inr (record { round = rd; finished = there; at_node = at ∙ same; from_it = (omega arith) })
     ]
       where
@@ -200,7 +200,7 @@ module _ {R L : Type 0} (join : R → R → R) (s : Words R) (k : Layouts L) (pa
         t.not_asked t.not_stored tt
 
     -- an open round completes, or goes on
-    round_by : (n : ℕ) (old x : machine.Round) (b : Bool) → (w.nodes n).round ≡ Some old → x.target ≡ old.target → IsRound join s k partitions p g n x → is_complete x ≡ b →
+    pub round_by : (n : ℕ) (old x : machine.Round) (b : Bool) → (w.nodes n).round ≡ Some old → x.target ≡ old.target → IsRound join s k partitions p g n x → is_complete x ≡ b →
         Leads join s k partitions some joins_well {A = A} {C = C} w p g (did w n (quiet (cond b (synced join s k n (w.nodes n) x) (record (w.nodes n) { round = Some x }))))
     round_by n old x false e same m complete =
         let y = w.nodes n in
@@ -217,9 +217,9 @@ module _ {R L : Type 0} (join : R → R → R) (s : Words R) (k : Layouts L) (pa
         let mid = step P p (finishes rd) in
         let new = run P p acts in
         let now : (p.control.nodes n).round ≡ Some x.target = (t.control.nodes n).round ∙ (ap (option_map target_of) e ∙ ap Some (sym same)) in
-        let open = subst (λ i. Rattle.plane_meets.specs.Joint.is_to (suc rd.from) (p.control.nodes i).round ≡ true) (sym m.node) (ap (Rattle.plane_meets.specs.Joint.is_to (suc rd.from)) now ∙ eq-eqb x.target (suc rd.from) (sym m.target)) in
+        let opens_it = subst (λ i. Rattle.plane_meets.specs.Joint.is_to (suc rd.from) (p.control.nodes i).round ≡ true) (sym m.node) (ap (Rattle.plane_meets.specs.Joint.is_to (suc rd.from)) now ∙ eq-eqb x.target (suc rd.from) (sym m.target)) in
         let up_none = grown join s k partitions some joins_well p g g [] sound tt (issues_self g) in
-        let happens : Happens P p acts = (finish_may p g up_none n x m open m.known complete, complete_may mid n rd m.node (now ∙ ap Some (sym m.target)) (contains_here rd p.finished), tt) in
+        let happens : Happens P p acts = (finish_may p g up_none n x m opens_it m.known complete, (complete_may mid n rd m.node (now ∙ ap Some (sym m.target)) (contains_here rd p.finished), tt)) in
         let up = grown join s k partitions some joins_well p g g acts sound happens (issues_self g) in
         let d = quiet (synced join s k n y x) in
         by_node join s k partitions some joins_well w p g g n (did w n d) d.node acts sound t happens (issues_self g)

@@ -128,6 +128,9 @@ module _ {R L : Type 0} (join : R → R → R) (s : Words R) (k : Layouts L) (pa
         ap (λ i. set_at k (w.nodes n).view i part) (sym (read_same n))
         ∙ set_at_same n (both.control.read p.control n) part (subst Q (view_same n) (safe.stored n)) (subst S (view_same n) (safe.known n))
 
+    pub read_stored : (n : ℕ) → oldest k.reading (w.nodes n).view ≤ read_version k.reading (w.nodes n).view
+    read_stored n = subst (λ v. oldest k.reading v ≤ read_version k.reading v) (view_same n) ((safe_at k.reading partitions p.control (reached_of p sound)).stored n)
+
     is_some_by : (v : View L) (i : ℕ) (o : Option L) → layout_at k.reading v i ≡ o → is_some k o ≡ true → Rattle.std.specs.Prelude.IsTrue (Rattle.view_model.specs.View.is_gapless k.reading v.layouts) → (oldest k.reading v ≤ i) × (i ≤ newest k.reading v)
     is_some_by v i None e h g = cc
     is_some_by v i (Some l) e h g = range_of k.reading v g i l e

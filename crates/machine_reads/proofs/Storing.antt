@@ -38,7 +38,7 @@ use Rattle.machine_reads.proofs.Sees.{all_has, newest_same, oldest_same, flies_b
 use Rattle.machine_reads.proofs.Sets.{all_among_list, two_later, stored_sets_are, stored_count, two_at}
 use Rattle.machine_reads.proofs.Called.{called_node, sent_each, quietly}
 
-none_is : {X : Type 0} {x : X} → None ≡ Some x → ⊥
+pub none_is : {X : Type 0} {x : X} → None ≡ Some x → ⊥
 none_is e = cc
 
 pub sent_append : {R L : Type 0} (P : Rattle.cluster_machine.specs.World.Sent R L → Type 0) (w : World R L) (n : ℕ) (xs ys : List (Post R L)) → AllByRecursion P (sent_by w n xs) → AllByRecursion P (sent_by w n ys) → AllByRecursion P (sent_by w n (xs ++ ys))
@@ -53,60 +53,60 @@ read_back {s = s} laws r h = by_spelling (s.spelling r) refl h
     by_spelling (Some bytes) e h = (laws.reads_back r bytes).1 e
 
 module _ {R L : Type 0} (join : R → R → R) (s : Words R) (k : Layouts L) (partitions : ℕ) (some : 1 ≤ partitions) (joins_well : JoinLaws join) (laws : Laws join s) where
-  abbrev Acts : Type 0
+  abbrev pub Acts : Type 0
   Acts = List (Act join s k partitions some joins_well)
 
-  abbrev P : Rattle.plane_model.specs.Plane.Plane (control.World L) (Rattle.control_model.specs.Steps.Step L) Place R
+  abbrev pub P : Rattle.plane_model.specs.Plane.Plane (control.World L) (Rattle.control_model.specs.Steps.Step L) Place R
   P = both join s k partitions
 
-  abbrev beginning : ℕ → ℕ → List R → Acts
+  abbrev pub beginning : ℕ → ℕ → List R → Acts
   beginning n start [] = []
   beginning n start (r ∷ rs) = begins_store n start (place_of s r) r ∷ beginning n start rs
 
-  abbrev store_of : State join s k partitions → ℕ → ℕ → R → plane.Store Place R
+  abbrev pub store_of : State join s k partitions → ℕ → ℕ → R → plane.Store Place R
   store_of p n start r = record { node = n; start = start; newest = P.control.newest p.control n; key = place_of s r; row = r }
 
-  beginning_happens : (n start : ℕ) (rs : List R) (p : State join s k partitions) → P.control.in_flight p.control n start ≡ true → Happens P p (beginning n start rs)
+  pub beginning_happens : (n start : ℕ) (rs : List R) (p : State join s k partitions) → P.control.in_flight p.control n start ≡ true → Happens P p (beginning n start rs)
   beginning_happens n start [] p h = tt
   beginning_happens n start (r ∷ rs) p h = (h, beginning_happens n start rs (step P p (begins_store n start (place_of s r) r)) h)
 
-  beginning_control : (n start : ℕ) (rs : List R) (p : State join s k partitions) → (run P p (beginning n start rs)).control ≡ p.control
+  pub beginning_control : (n start : ℕ) (rs : List R) (p : State join s k partitions) → (run P p (beginning n start rs)).control ≡ p.control
   beginning_control n start [] p = refl
   beginning_control n start (r ∷ rs) p = beginning_control n start rs (step P p (begins_store n start (place_of s r) r))
 
-  beginning_log : (n start : ℕ) (rs : List R) (p : State join s k partitions) → (run P p (beginning n start rs)).log ≡ p.log
+  pub beginning_log : (n start : ℕ) (rs : List R) (p : State join s k partitions) → (run P p (beginning n start rs)).log ≡ p.log
   beginning_log n start [] p = refl
   beginning_log n start (r ∷ rs) p = beginning_log n start rs (step P p (begins_store n start (place_of s r) r))
 
-  beginning_kept : (n start : ℕ) (rs : List R) (p : State join s k partitions) → (run P p (beginning n start rs)).kept ≡ p.kept
+  pub beginning_kept : (n start : ℕ) (rs : List R) (p : State join s k partitions) → (run P p (beginning n start rs)).kept ≡ p.kept
   beginning_kept n start [] p = refl
   beginning_kept n start (r ∷ rs) p = beginning_kept n start rs (step P p (begins_store n start (place_of s r) r))
 
-  begun_has : (n start : ℕ) (rs : List R) (p : State join s k partitions) → AllByRecursion (λ r. Contains (run P p (beginning n start rs)).stores (store_of p n start r)) rs
+  pub begun_has : (n start : ℕ) (rs : List R) (p : State join s k partitions) → AllByRecursion (λ r. Contains (run P p (beginning n start rs)).stores (store_of p n start r)) rs
   begun_has n start [] p = tt
   begun_has n start (r ∷ rs) p =
       let next = step P p (begins_store n start (place_of s r) r) in
       ((run_extends P (beginning n start rs) next).stores (store_of p n start r) (contains_here _ p.stores), begun_has n start rs next)
 
-  abbrev AreAt : (R → plane.Store Place R) → (ℕ → Option (plane.Store Place R)) → ℕ → List R → Type 0
+  abbrev pub AreAt : (R → plane.Store Place R) → (ℕ → Option (plane.Store Place R)) → ℕ → List R → Type 0
   AreAt st f i [] = ⊤
   AreAt st f i (r ∷ rs) = (f i ≡ Some (st r)) × AreAt st f (suc i) rs
 
-  shifted : (st : R → plane.Store Place R) (f : ℕ → Option (plane.Store Place R)) (i : ℕ) (rs : List R) → AreAt st (λ j. f (suc j)) i rs → AreAt st f (suc i) rs
+  pub shifted : (st : R → plane.Store Place R) (f : ℕ → Option (plane.Store Place R)) (i : ℕ) (rs : List R) → AreAt st (λ j. f (suc j)) i rs → AreAt st f (suc i) rs
   shifted st f i [] a = tt
   shifted st f i (r ∷ rs) a = (a.0, shifted st f (suc i) rs a.1)
 
-  at_all : (st : R → plane.Store Place R) (rs : List R) → AreAt st (λ i. option_map st (slice_get rs i)) 0 rs
+  pub at_all : (st : R → plane.Store Place R) (rs : List R) → AreAt st (λ i. option_map st (slice_get rs i)) 0 rs
   at_all st [] = tt
   at_all st (r ∷ rs) = (refl, shifted st (λ i. option_map st (slice_get (r ∷ rs) i)) 0 rs (at_all st rs))
 
-  abbrev stored_of : Issued R L → ℕ → ℕ → (ℕ → Option (plane.Store Place R)) → Issued R L
+  abbrev pub stored_of : Issued R L → ℕ → ℕ → (ℕ → Option (plane.Store Place R)) → Issued R L
   stored_of g request phase f = record g { stores = λ r ph i. cond ((r == request) && (ph == phase)) (f i) (g.stores r ph i) }
 
-  stored_here : (g : Issued R L) (request phase i : ℕ) (f : ℕ → Option (plane.Store Place R)) → (stored_of g request phase f).stores request phase i ≡ f i
+  pub stored_here : (g : Issued R L) (request phase i : ℕ) (f : ℕ → Option (plane.Store Place R)) → (stored_of g request phase f).stores request phase i ≡ f i
   stored_here g request phase i f = rw (eq-eqb request request refl, eq-eqb phase phase refl) refl
 
-  stored_issues : (g : Issued R L) (request phase : ℕ) (f : ℕ → Option (plane.Store Place R)) → ((i : ℕ) → g.stores request phase i ≡ None) → Issues g (stored_of g request phase f)
+  pub stored_issues : (g : Issued R L) (request phase : ℕ) (f : ℕ → Option (plane.Store Place R)) → ((i : ℕ) → g.stores request phase i ≡ None) → Issues g (stored_of g request phase f)
   stored_issues g request phase f none = record {
     asks = λ r ph b e. e;
     stores = λ r ph i b e. elim ((r == request) && (ph == phase)) as (λ c. ((r == request) && (ph == phase)) ≡ c → cond c (f i) (g.stores r ph i) ≡ Some b) [
@@ -117,10 +117,10 @@ module _ {R L : Type 0} (join : R → R → R) (s : Words R) (k : Layouts L) (pa
     rounds = λ n number b e. e;
   }
 
-  stored_apart : (g : Issued R L) (request phase r : ℕ) (f : ℕ → Option (plane.Store Place R)) → r ≢ request → SameOf join s k partitions g (stored_of g request phase f) r
+  pub stored_apart : (g : Issued R L) (request phase r : ℕ) (f : ℕ → Option (plane.Store Place R)) → r ≢ request → SameOf join s k partitions g (stored_of g request phase f) r
   stored_apart g request phase r f d = record { owner = refl; start = refl; asks = λ ph. refl; stores = λ ph i. rw (ne_eqb r request d) refl }
 
-  stored_later : (g : Issued R L) (request phase r ph i : ℕ) (f : ℕ → Option (plane.Store Place R)) → (r ≢ request) ⊎ (phase < ph) → (stored_of g request phase f).stores r ph i ≡ g.stores r ph i
+  pub stored_later : (g : Issued R L) (request phase r ph i : ℕ) (f : ℕ → Option (plane.Store Place R)) → (r ≢ request) ⊎ (phase < ph) → (stored_of g request phase f).stores r ph i ≡ g.stores r ph i
   stored_later g request phase r ph i f d = elim d [
     | inl apart ↦ rw (ne_eqb r request apart) refl
     | inr late ↦ elim (r == request) as (λ b. cond (b && (ph == phase)) (f i) (g.stores r ph i) ≡ g.stores r ph i) [
@@ -130,48 +130,48 @@ module _ {R L : Type 0} (join : R → R → R) (s : Words R) (k : Layouts L) (pa
   ]
 
   -- keeps, the last one first
-  abbrev turned : List (plane.Store Place R) → List (plane.Store Place R)
+  abbrev pub turned : List (plane.Store Place R) → List (plane.Store Place R)
   turned [] = []
   turned (x ∷ xs) = turned xs ++ x ∷ []
 
-  abbrev onto_kept : List (plane.Store Place R) → List (plane.Store Place R) → List (plane.Store Place R)
+  abbrev pub onto_kept : List (plane.Store Place R) → List (plane.Store Place R) → List (plane.Store Place R)
   onto_kept [] acc = acc
   onto_kept (x ∷ xs) acc = onto_kept xs (x ∷ acc)
 
-  onto_last : (xs : List (plane.Store Place R)) (y : plane.Store Place R) (acc : List (plane.Store Place R)) → onto_kept (xs ++ y ∷ []) acc ≡ y ∷ onto_kept xs acc
+  pub onto_last : (xs : List (plane.Store Place R)) (y : plane.Store Place R) (acc : List (plane.Store Place R)) → onto_kept (xs ++ y ∷ []) acc ≡ y ∷ onto_kept xs acc
   onto_last [] y acc = refl
   onto_last (x ∷ xs) y acc = onto_last xs y (x ∷ acc)
 
-  onto_turned : (xs acc : List (plane.Store Place R)) → onto_kept (turned xs) acc ≡ xs ++ acc
+  pub onto_turned : (xs acc : List (plane.Store Place R)) → onto_kept (turned xs) acc ≡ xs ++ acc
   onto_turned [] acc = refl
   onto_turned (x ∷ xs) acc = onto_last (turned xs) x acc ∙ ap (λ ys. x ∷ ys) (onto_turned xs acc)
 
-  all_turned : (Q : plane.Store Place R → Type 0) (xs : List (plane.Store Place R)) → AllByRecursion Q xs → AllByRecursion Q (turned xs)
+  pub all_turned : (Q : plane.Store Place R → Type 0) (xs : List (plane.Store Place R)) → AllByRecursion Q xs → AllByRecursion Q (turned xs)
   all_turned Q [] a = tt
   all_turned Q (x ∷ xs) a = all_append Q (turned xs) (x ∷ []) (all_turned Q xs a.1) (a.0, tt)
 
-  abbrev keeping : List (plane.Store Place R) → Acts
+  abbrev pub keeping : List (plane.Store Place R) → Acts
   keeping [] = []
   keeping (x ∷ xs) = keeps x ∷ keeping xs
 
-  keeping_happens : (xs : List (plane.Store Place R)) (p : State join s k partitions) → AllByRecursion (MayKeep P p) xs → Happens P p (keeping xs)
+  pub keeping_happens : (xs : List (plane.Store Place R)) (p : State join s k partitions) → AllByRecursion (MayKeep P p) xs → Happens P p (keeping xs)
   keeping_happens [] p a = tt
   keeping_happens (x ∷ xs) p a = (a.0, keeping_happens xs (step P p (keeps x)) (all_weaker (MayKeep P p) (MayKeep P (step P p (keeps x))) (λ y h. record { began = h.began; flies = h.flies; two = h.two }) xs a.1))
 
-  keeping_control : (xs : List (plane.Store Place R)) (p : State join s k partitions) → (run P p (keeping xs)).control ≡ p.control
+  pub keeping_control : (xs : List (plane.Store Place R)) (p : State join s k partitions) → (run P p (keeping xs)).control ≡ p.control
   keeping_control [] p = refl
   keeping_control (x ∷ xs) p = keeping_control xs (step P p (keeps x))
 
-  keeping_log : (xs : List (plane.Store Place R)) (p : State join s k partitions) → (run P p (keeping xs)).log ≡ p.log
+  pub keeping_log : (xs : List (plane.Store Place R)) (p : State join s k partitions) → (run P p (keeping xs)).log ≡ p.log
   keeping_log [] p = refl
   keeping_log (x ∷ xs) p = keeping_log xs (step P p (keeps x))
 
-  keeping_kept : (xs : List (plane.Store Place R)) (p : State join s k partitions) → (run P p (keeping xs)).kept ≡ onto_kept xs p.kept
+  pub keeping_kept : (xs : List (plane.Store Place R)) (p : State join s k partitions) → (run P p (keeping xs)).kept ≡ onto_kept xs p.kept
   keeping_kept [] p = refl
   keeping_kept (x ∷ xs) p = keeping_kept xs (step P p (keeps x))
 
   module _ (A C : Type 0) (w : World R L) (p : State join s k partitions) (g : Issued R L) (sound : IsSound (both join s k partitions) p) (t : IsTied join s k partitions w p g) where
-    slots_by : (new : State join s k partitions) (h : Issued R L) (n start request phase i : ℕ) (f : ℕ → Option (plane.Store Place R)) (rows : List (R × Option (List ℕ))) → new.control ≡ p.control → h.start request ≡ start → ((j : ℕ) → h.stores request phase j ≡ f j) → 1 ≤ newest k.reading (w.nodes n).view →
+    pub slots_by : (new : State join s k partitions) (h : Issued R L) (n start request phase i : ℕ) (f : ℕ → Option (plane.Store Place R)) (rows : List (R × Option (List ℕ))) → new.control ≡ p.control → h.start request ≡ start → ((j : ℕ) → h.stores request phase j ≡ f j) → 1 ≤ newest k.reading (w.nodes n).view →
         AreAt (store_of p n start) f i (map (λ r. r.0) rows) → AllByRecursion (λ r. Contains new.stores (store_of p n start r)) (map (λ r. r.0) rows) → AllByRecursion (λ r. IsTrue (s.is_proper r)) (map (λ r. r.0) rows) →
         IsStoring join s k partitions new h n request phase i (map (λ r. r.0) rows) (slots_of s k (w.nodes n).view rows)
     slots_by new h n start request phase i f [] c same issued one a b d = tt
@@ -197,7 +197,7 @@ module _ {R L : Type 0} (join : R → R → R) (s : Words R) (k : Layouts L) (pa
           confirmed = tt;
         }, slots_by new h n start request phase (suc i) f rows c same issued one a.1 b.1 d.1)
 
-    sent_stores : (new : State join s k partitions) (h : Issued R L) (n start request phase i : ℕ) (f : ℕ → Option (plane.Store Place R)) (rows : List (R × Option (List ℕ))) → ((j : ℕ) → h.stores request phase j ≡ f j) →
+    pub sent_stores : (new : State join s k partitions) (h : Issued R L) (n start request phase i : ℕ) (f : ℕ → Option (plane.Store Place R)) (rows : List (R × Option (List ℕ))) → ((j : ℕ) → h.stores request phase j ≡ f j) →
         AreAt (store_of p n start) f i (map (λ r. r.0) rows) → AllByRecursion (λ r. Contains new.stores (store_of p n start r)) (map (λ r. r.0) rows) → list_all (λ r. is_spelled s r.0) rows ≡ true →
         AllByRecursion (Means join s k partitions new h) (sent_by w n (stores s k (w.nodes n).view request phase i rows))
     sent_stores new h n start request phase i f [] issued a b d = tt
@@ -257,7 +257,7 @@ module _ {R L : Type 0} (join : R → R → R) (s : Words R) (k : Layouts L) (pa
         (λ r ph i late. (let b : c.request ≤ length w.requests = m.begun in stored_later g c.request phase r ph i f (inl (λ e. omega arith)) ∙ t.not_stored r ph i late))
         (subst (AllByRecursion (Rattle.machine_reads.specs.Tie.GetGaveKept join s k partitions)) (sym reads) tt)
 
-    confirmed_slots : (n request phase base place slot from : ℕ) (rs : List R) (ts : List StoreSlot) → slot ≡ base + place → MeansStored join s k partitions p g request phase slot from → IsStoring join s k partitions p g n request phase base rs ts →
+    pub confirmed_slots : (n request phase base place slot from : ℕ) (rs : List R) (ts : List StoreSlot) → slot ≡ base + place → MeansStored join s k partitions p g request phase slot from → IsStoring join s k partitions p g n request phase base rs ts →
         IsStoring join s k partitions p g n request phase base rs (with_confirmation ts place from)
     confirmed_slots n request phase base place slot from [] [] e m a = tt
     confirmed_slots n request phase base place slot from [] (x ∷ ts) e m a = absurd a
@@ -284,13 +284,13 @@ module _ {R L : Type 0} (join : R → R → R) (s : Words R) (k : Layouts L) (pa
     confirmed_slots n request phase base (suc place) slot from (r ∷ rs) (x ∷ ts) e m a = (a.0, confirmed_slots n request phase (suc base) place slot from rs ts (omega arith) m a.1)
 
     -- the stores of the rows, each of which may be kept
-    record Kept (n : ℕ) (rs : List R) : Type 0 where
-      stores : List (plane.Store Place R)
-      may : AllByRecursion (MayKeep P p) stores
-      same : (q : Place) (older : List (plane.Store Place R)) (ks : List R) → kept_at P older q ≡ at_place s join ks q → kept_at P (stores ++ older) q ≡ at_place s join (rs ++ ks) q
-      proper : AllByRecursion (λ r. IsTrue (s.is_proper r)) rs
+    pub record Kept (n : ℕ) (rs : List R) : Type 0 where
+      pub stores : List (plane.Store Place R)
+      pub may : AllByRecursion (MayKeep P p) stores
+      pub same : (q : Place) (older : List (plane.Store Place R)) (ks : List R) → kept_at P older q ≡ at_place s join ks q → kept_at P (stores ++ older) q ≡ at_place s join (rs ++ ks) q
+      pub proper : AllByRecursion (λ r. IsTrue (s.is_proper r)) rs
 
-    kept_one : (n request phase base : ℕ) (c : Call R) (r : R) (x : StoreSlot) → Has (w.nodes n).calls c → g.start request ≡ c.start → (y : IsSlot join s k partitions p g n request phase base r x) → reached x.first x.sets x.nodes (oldest k.reading (w.nodes n).view) ≡ true → MayKeep P p y.store
+    pub kept_one : (n request phase base : ℕ) (c : Call R) (r : R) (x : StoreSlot) → Has (w.nodes n).calls c → g.start request ≡ c.start → (y : IsSlot join s k partitions p g n request phase base r x) → reached x.first x.sets x.nodes (oldest k.reading (w.nodes n).view) ≡ true → MayKeep P p y.store
     kept_one n request phase base c r x has start y e = record {
       began = y.is_there;
       flies = subst (λ m. P.control.in_flight p.control m y.store.start ≡ true) (sym y.node) (subst (λ i. P.control.in_flight p.control n i ≡ true) (sym (y.start ∙ start)) (flies_by join s k partitions some w p sound t.control n c has));
@@ -309,7 +309,7 @@ module _ {R L : Type 0} (join : R → R → R) (s : Words R) (k : Layouts L) (pa
           (two_later join s k partitions p g (partition_of s r) x.first (oldest k.reading (w.nodes n).view - x.first) i x.nodes x.sets y.sets parts.1 (omega arith) (omega arith))));
     }
 
-    kept_all : (n request phase base : ℕ) (c : Call R) (rs : List R) (ts : List StoreSlot) → Has (w.nodes n).calls c → g.start request ≡ c.start → IsStoring join s k partitions p g n request phase base rs ts → is_kept ts (oldest k.reading (w.nodes n).view) ≡ true → Kept n rs
+    pub kept_all : (n request phase base : ℕ) (c : Call R) (rs : List R) (ts : List StoreSlot) → Has (w.nodes n).calls c → g.start request ≡ c.start → IsStoring join s k partitions p g n request phase base rs ts → is_kept ts (oldest k.reading (w.nodes n).view) ≡ true → Kept n rs
     kept_all n request phase base c [] [] has start a e = record { stores = []; may = tt; same = λ q older ks h. h; proper = tt }
     kept_all n request phase base c [] (x ∷ ts) has start a e = absurd a
     kept_all n request phase base c (r ∷ rs) [] has start a e = absurd a
@@ -327,7 +327,7 @@ module _ {R L : Type 0} (join : R → R → R) (s : Words R) (k : Layouts L) (pa
           proper = (y.proper, rest.proper);
         }
 
-    confirm_by : (n : ℕ) (c : Call R) (rs : List R) (ts : List StoreSlot) (b : Bool) → Has (w.nodes n).calls c → IsStoring join s k partitions p g n c.request c.phases 0 rs ts → is_kept ts (oldest k.reading (w.nodes n).view) ≡ b → Leads join s k partitions some joins_well {A = A} {C = C} w p g (did w n (stored (w.nodes n) c rs ts b))
+    pub confirm_by : (n : ℕ) (c : Call R) (rs : List R) (ts : List StoreSlot) (b : Bool) → Has (w.nodes n).calls c → IsStoring join s k partitions p g n c.request c.phases 0 rs ts → is_kept ts (oldest k.reading (w.nodes n).view) ≡ b → Leads join s k partitions some joins_well {A = A} {C = C} w p g (did w n (stored (w.nodes n) c rs ts b))
     confirm_by n c rs ts false has a e =
         let m = all_has (IsCall join s k partitions p g (length w.requests) n) (w.nodes n).calls c (t.nodes n).calls has in
         quietly join s k partitions some joins_well w p g g n (stored (w.nodes n) c rs ts false) [] sound t (unseen_stored (w.nodes n) c rs ts false) tt refl refl refl (issues_self g)
