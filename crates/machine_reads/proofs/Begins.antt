@@ -236,6 +236,7 @@ module _ {R L : Type 0} (join : R → R → R) (s : Words R) (k : Layouts L) (pa
           (λ q. ap (λ l. kept_at P l q) kept_is ∙ t.kept q) tt (sends q₃ (λ m c. c)) t.not_asked t.not_stored tt
 
       completes_now : is_complete round ≡ true → Leads join s k partitions some joins_well {A = A} {C = C} w p g (did w n (begin_round join s k n x))
+      unfolding is_round
       completes_now e =
           let d = begin_round join s k n x in
           let said = said_pushes join s k x (suc x.rounds) (open_nodes round) parts in

@@ -36,7 +36,10 @@ use Rattle.machine_laws.specs.Follows.{target_of}
 use Rattle.machine_laws.proofs.Controls.{Turns, all_append}
 use Rattle.machine_laws.proofs.Same.{Unseen, unseen_quiet, same_self}
 use Rattle.machine_laws.proofs.Turning.{unseen}
-use Rattle.machine_laws.proofs.Rounding.{some_same, sync_goes, unseen_again}
+use Rattle.machine_laws.proofs.Rounding.{some_same, completed, complete_is, unseen_again}
+use Rattle.machine_laws.proofs.Requests.{one_turns}
+use Rattle.layout_trackers.specs.declared.which.Which.TheVariants.{Sync}
+use Rattle.view_model.specs.View.{with_entry}
 use Rattle.machine_reads.specs.Places.{Place, keys, place_of, at_place}
 use Rattle.machine_reads.specs.Tie.{Issued, Begun, a_round, a_repair, both, State, with_read, rows_read, placed, Means, MeansPushed, HasPart, IsRound, IsRoundIn, IsNode, IsTied}
 use Rattle.machine_reads.proofs.Placed.{Proper, rows_at_place, kept_at_place}
@@ -223,7 +226,10 @@ module _ {R L : Type 0} (join : R → R → R) (s : Words R) (k : Layouts L) (pa
         let up = grown join s k partitions some joins_well p g g acts sound happens (issues_self g) in
         let d = quiet (synced join s k n y x) in
         by_node join s k partitions some joins_well w p g g n (did w n d) d.node acts sound t happens (issues_self g)
-        (sync_goes join s k partitions w p.control n x t.control (ap (option_map target_of) e ∙ ap Some (sym same))).turns
+        (one_turns k partitions w p.control new.control n 0 (completed k partitions p.control n x.target) (synced join s k n y x) (did w n d) t.control
+        (complete_is k partitions p.control n x.target now)
+        (record { view = ap (λ v. with_entry k.reading Sync n x.target v) (t.control.nodes n).view; requests = (t.control.nodes n).requests; round = refl })
+        (λ m. refl) refl refl tt)
         (λ i d. same_at join s k partitions g (length w.requests) i) (λ i q d. refl) (λ i. refl) refl
         (record {
           rows = tied.rows;

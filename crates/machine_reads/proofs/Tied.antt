@@ -387,7 +387,7 @@ module _ {R L : Type 0} (join : R → R → R) (s : Words R) (k : Layouts L) (pa
 
     -- each step of the machine
     pub leads : (step : Step R) (choice : Choice L A C) → IsStep s partitions step → IsChoice k partitions w choice → (effects join s k trio trio_roles w step choice).is_spelled ≡ true → Lead (effects join s k trio trio_roles w step choice)
-    leads Trio choice i is = by_test (leb 1 w.applied) (refusal w (VersionTaken 1)) _ (λ e h. refused (VersionTaken 1)) (λ e h. trio_leads e)
+    leads Trio choice i is h = by_test (leb 1 w.applied) (refusal w (VersionTaken 1)) _ (λ e h. refused (VersionTaken 1)) (λ e h. trio_leads e) h
     leads (Stage n role) choice i is h = nothing_leads _ (λ m. refl) refl refl refl refl refl
     leads (Spread r) choice i is h = nothing_leads _ (λ m. refl) refl refl refl refl refl
     leads (Apply n) choice i is h = apply_leads n choice is h
@@ -428,7 +428,7 @@ module _ {R L : Type 0} (join : R → R → R) (s : Words R) (k : Layouts L) (pa
     issued = none_issued;
     is_here = record { before = []; happens = tt; is = refl };
     tied = record {
-      control = (Rattle.machine_laws.proofs.Runs.follows_empty k partitions some).same;
+      control = record { nodes = λ n. record { view = refl; requests = refl; round = refl }; top = refl; asked = refl; sent = tt; layouts = λ i l e. cc };
       nodes = λ n. record { rows = λ q. refl; proper = tt; calls = tt; round = tt; later_rounds = λ number late. refl };
       kept = λ q. refl;
       kept_proper = tt;
@@ -438,6 +438,9 @@ module _ {R L : Type 0} (join : R → R → R) (s : Words R) (k : Layouts L) (pa
       reads = tt;
     };
   }
+
+  gave : (rs : List (Reading R)) → AllByRecursion (GetGaveKept join s k partitions) rs → (q : machine.Question R) (value : Option R) → Contains rs (read q value) → GaveKept join s (read q value)
+  gave rs a q value c = All-contains (GetGaveKept join s k partitions) rs (read q value) (Rattle.std.proofs.lemmas.List.Elements.All-from_recursion _ rs a) c
 
   module _ {A C : Type 0} (trio : L) (trio_roles : List Role → List Role) (is_trio : IsLayout k partitions trio) (is_first : k.reading.version trio ≡ 1) where
     stands_after : (w : World R L) (ms : List (Move R L A C)) → Stands w → IsRun join s k trio trio_roles partitions w ms → Stands (run join s k trio trio_roles w ms)
@@ -458,9 +461,6 @@ module _ {R L : Type 0} (join : R → R → R) (s : Words R) (k : Layouts L) (pa
           };
           tied = led join s k partitions some joins_well w st.state st.issued _ sound st.tied l;
         }) h.3
-
-    gave : (rs : List (Reading R)) → AllByRecursion (GetGaveKept join s k partitions) rs → (q : machine.Question R) (value : Option R) → Contains rs (read q value) → GaveKept join s (read q value)
-    gave rs a q value c = All-contains (GetGaveKept join s k partitions) rs (read q value) (Rattle.std.proofs.lemmas.List.Elements.All-from_recursion _ rs a) c
 
     -- a read phase that ended gave what was kept
     pub gets_gave : (moves : List (Move R L A C)) → IsRun join s k trio trio_roles partitions empty moves → (q : machine.Question R) (value : Option R) → Contains (run join s k trio trio_roles empty moves).reads (read q value) → GaveKept join s (read q value)
