@@ -404,12 +404,12 @@ module _ {R L : Type 0} (join : R → R → R) (s : Words R) (k : Layouts L) (pa
     leads (Gossip from to) choice i is h =
         only_control join s k partitions some joins_well w p g _ (Turn.Gossip from ∷ []) sound t refl (gossip_turns k partitions w p.control from to t.control)
         (one_less join s k partitions some joins_well laws A C w p g sound t from _ (less_self join s k partitions some joins_well (w.nodes from))) refl refl refl (λ q h. (tt, tt))
-    leads (Ack n) choice i is h = acting_leads n _ _ (acts_leads n RaiseAck) h
-    leads (Syncs n) choice i is h = acting_leads n _ _ (acts_leads n GoOn) h
-    leads (SyncAck n) choice i is h = acting_leads n _ _ (acts_leads n RaiseSyncAck) h
-    leads (Clean n) choice i is h = acting_leads n _ _ (acts_leads n CleanUp) h
-    leads (Work n) choice i is h = acting_leads n _ _ (acts_leads n WorkOff) h
-    leads (Repair n) choice i is h = acting_leads n _ _ (acts_leads n Mend) h
+    leads (Ack n) choice i is h = acting_leads n (has_none k (w.nodes n).view) (acts join s k n (clock w n) (w.nodes n) RaiseAck) (acts_leads n RaiseAck) h
+    leads (Syncs n) choice i is h = acting_leads n (has_none k (w.nodes n).view) (acts join s k n (clock w n) (w.nodes n) GoOn) (acts_leads n GoOn) h
+    leads (SyncAck n) choice i is h = acting_leads n (has_none k (w.nodes n).view) (acts join s k n (clock w n) (w.nodes n) RaiseSyncAck) (acts_leads n RaiseSyncAck) h
+    leads (Clean n) choice i is h = acting_leads n (has_none k (w.nodes n).view) (acts join s k n (clock w n) (w.nodes n) CleanUp) (acts_leads n CleanUp) h
+    leads (Work n) choice i is h = acting_leads n (has_none k (w.nodes n).view) (acts join s k n (clock w n) (w.nodes n) WorkOff) (acts_leads n WorkOff) h
+    leads (Repair n) choice i is h = acting_leads n (not (is_member k (w.nodes n).view n)) (acts join s k n (clock w n) (w.nodes n) Mend) (acts_leads n Mend) h
     leads (Open n) choice i is h = opening_leads n h
     leads (Begin q x) choice i is h = beginning_leads q x (numbered w.requests q) i h
     leads (Close q) choice i is h = closing_leads q (numbered w.requests q)
