@@ -1,10 +1,9 @@
 -- Read phases: how they begin, are answered and end.
-use Rattle.std.specs.Prelude.{◌≡◌, ◌≢◌, ◌≤◌, ◌<◌, ◌⊎◌, ℕ, suc, Bool, true, false, cond, ◌==◌, ◌&&◌, Option, Some, None, is_some, option_map, List, [], ◌∷◌, ◌++◌, length, map, filter, IsTrue, refl, ⊤}
-use Rattle.std.specs.Option.{unwrap_or}
+use Rattle.std.specs.Prelude.{◌≡◌, ◌≢◌, ◌≤◌, ◌<◌, ◌⊎◌, ℕ, suc, true, false, cond, ◌==◌, ◌&&◌, Option, Some, None, is_some, option_map, List, [], ◌∷◌, ◌++◌, length, IsTrue, refl}
 use Rattle.std.specs.List.{Contains, AllByRecursion}
 use Rattle.std.proofs.Common.{ap, sym, subst, ◌∙◌, inl, inr, arith}
-use Rattle.std.proofs.lemmas.Bool.{eqb-true, eqb-false, eq-eqb, ne_eqb, true≢false}
-use Rattle.crdt_core.specs.EntryLaws.{and_parts, and_both}
+use Rattle.std.proofs.lemmas.Bool.{eqb-true, eqb-false, eq-eqb, ne_eqb}
+use Rattle.crdt_core.specs.EntryLaws.{and_parts}
 use Rattle.crdt_core.specs.Laws.{JoinLaws}
 use Rattle.crdt_core.specs.Order.{option_join}
 use Rattle.view_model.specs.View.{read_version}
@@ -15,11 +14,11 @@ use Rattle.table_schema.specs.Laws.{Laws}
 use Rattle.table_model.specs.Rows.{row_at}
 use Rattle.quorum_model.specs.Quorum.{is_among}
 use Rattle.quorum_model.specs.Answers.{heard, answer_of_other, first_two, first_two_at, merged}
-use Rattle.wire_messages.specs.declared.message.Message.TheVariants.{Get, Row}
+use Rattle.wire_messages.specs.declared.message.Message.TheVariants.{Get}
 use Rattle.plane_model.specs.Rows.{IsOver as PlaneOver}
 use Rattle.plane_model.specs.World as plane
 use Rattle.plane_model.specs.World.{row_at as log_at, kept_at, first}
-use Rattle.plane_model.specs.Action.{Action, asks, answers, ends_read, run, Happens}
+use Rattle.plane_model.specs.Action.{asks, answers, ends_read, run, Happens}
 use Rattle.plane_laws.proofs.Given.{reads_before}
 use Rattle.plane_laws.proofs.Runs.{run_append, happens_append}
 use Rattle.plane_laws.proofs.Sets.{contains_here}
@@ -35,10 +34,10 @@ use Rattle.cluster_machine.specs.Step.{did}
 use Rattle.machine_laws.proofs.Controls.{all_append}
 use Rattle.machine_laws.proofs.Rounding.{some_same}
 use Rattle.machine_laws.proofs.Same.{unseen_begins, unseen_asked, same_self}
-use Rattle.machine_reads.specs.Places.{Place, place_of, at_place}
+use Rattle.machine_reads.specs.Places.{Place}
 use Rattle.machine_reads.specs.Tie.{Asked, place_asked, Issued, both, State, Answered, MeansGet, MeansRow, IsAsking, IsCall, IsNode, IsTied}
 use Rattle.machine_reads.proofs.Placed.{place_of_key}
-use Rattle.machine_reads.proofs.Growth.{Grown, SameOf, SameAt, same_of, same_at, node_stays, answered_grows, call_stays}
+use Rattle.machine_reads.proofs.Growth.{SameOf, same_of, same_at, node_stays, call_stays}
 use Rattle.machine_reads.proofs.Leads.{Issues, issues_self, Act, laws_of, grown, Leads}
 use Rattle.machine_reads.proofs.Sees.{all_has, IsHere, read_set_same, read_same, stores_by, flies_by}
 use Rattle.machine_reads.proofs.Called.{called_node, sent_each, quietly}
@@ -221,14 +220,20 @@ module _ {R L : Type 0} (join : R → R → R) (s : Words R) (k : Layouts L) (pa
         let place_same : place_asked m.asked ≡ (q.partition, (table, key)) = (λ i. (q.partition, (m.table_is i, m.key_is i))) in
         quietly join s k partitions some joins_well w p g g n d acts sound t (record { same = same_self (w.nodes n); posts = (tt, tt) }) happens refl refl refl (issues_self g)
         (λ i e. same_at join s k partitions g (length w.requests) i) refl
-        (node_stays join s k partitions p new g g up (length w.requests) (length w.requests) n (w.nodes n) (omega arith) (same_at join s k partitions g (length w.requests) n) (λ q. refl) (t.nodes n))
-        (record { asked = m.asked; issued = m.issued; answered = record {
-          answer = answer;
-          is_there = contains_here answer p.answers;
-          of_it = refl;
-          at_node = refl;
-          row_is = ap (log_at both p.log n) place_same ∙ ((t.nodes n).rows (q.partition, (table, key)) ∙ place_of_key joins_well laws q.partition table key (w.nodes n).accepted (t.nodes n).proper m.one_partition);
-        } }, tt)
+        (node_stays join s k partitions p new g g up (length w.requests) (length w.requests) n (w.nodes n) (omega arith) (same_at join s k partitions g (length w.requests) n) (λ q. refl) (t.nodes n)) (
+          record {
+            asked = m.asked;
+            issued = m.issued;
+            answered = record {
+              answer = answer;
+              is_there = contains_here answer p.answers;
+              of_it = refl;
+              at_node = refl;
+              row_is = ap (log_at both p.log n) place_same ∙ ((t.nodes n).rows (q.partition, (table, key)) ∙ place_of_key joins_well laws q.partition table key (w.nodes n).accepted (t.nodes n).proper m.one_partition);
+            };
+          },
+          tt,
+        )
         t.not_asked t.not_stored tt
 
     -- a row comes to a phase that waits for it

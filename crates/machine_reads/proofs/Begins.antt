@@ -1,17 +1,17 @@
 -- A round begins; a repair.
-use Rattle.std.specs.Prelude.{◌≡◌, ◌≢◌, ◌≤◌, ◌<◌, ◌⊎◌, ℕ, zero, suc, ◌+◌, Bool, true, false, not, cond, ◌==◌, ◌&&◌, leb, Option, Some, None, option_map, slice_get, List, [], ◌∷◌, ◌++◌, length, map, filter, IsTrue, refl, ⊤}
+use Rattle.std.specs.Prelude.{◌≡◌, ◌≢◌, ◌≤◌, ◌<◌, ◌⊎◌, ℕ, zero, suc, ◌+◌, Bool, true, false, not, cond, ◌==◌, ◌&&◌, Option, Some, None, slice_get, List, [], ◌∷◌, ◌++◌, length, map, filter, refl}
 use Rattle.std.specs.Option.{unwrap_or}
-use Rattle.std.specs.List.{Contains, AllByRecursion, list_all, flat_map}
+use Rattle.std.specs.List.{Contains, AllByRecursion}
 use Rattle.std.proofs.Common.{ap, sym, subst, ◌∙◌, inl, inr, arith}
-use Rattle.std.proofs.lemmas.Bool.{eqb-true, eq-eqb, ne_eqb, true≢false, leb-true}
+use Rattle.std.proofs.lemmas.Bool.{eqb-true, eq-eqb, ne_eqb}
 use Rattle.crdt_core.specs.EntryLaws.{and_parts, and_both}
 use Rattle.crdt_core.specs.Laws.{JoinLaws}
 use Rattle.layout_trackers.specs.declared.which.Which.TheVariants.{Sync}
-use Rattle.view_model.specs.View.{View, oldest, newest, read_version, layout_at, with_entry, ack_least, version_of}
+use Rattle.view_model.specs.View.{oldest, newest, read_version, layout_at, with_entry}
 use Rattle.control_model.specs.World as control
-use Rattle.control_model.specs.Steps.{Step, run as turn_all, step as turn, may_begin}
+use Rattle.control_model.specs.Steps.{Step, step as turn, may_begin}
 use Rattle.control_model.specs.Facts.{Has}
-use Rattle.table_schema.specs.Words.{Words, partition_of}
+use Rattle.table_schema.specs.Words.{Words}
 use Rattle.table_schema.specs.Laws.{Laws}
 use Rattle.quorum_model.specs.Quorum.{is_among}
 use Rattle.plane_model.specs.World as plane
@@ -21,7 +21,7 @@ use Rattle.plane_laws.proofs.Runs.{run_append, happens_append, run_extends}
 use Rattle.plane_laws.proofs.Sets.{contains_here, contains_none}
 use Rattle.plane_laws.proofs.Sound.{IsSound}
 use Rattle.plane_meets.proofs.Quiet.{quiet_happens}
-use Rattle.cluster_machine.specs.Layouts.{Layouts, set_in, set_of, storage_in}
+use Rattle.cluster_machine.specs.Layouts.{Layouts, set_in}
 use Rattle.cluster_machine.specs.Node as machine
 use Rattle.cluster_machine.specs.Node.{Part, Confirmed, Node, Did, quiet}
 use Rattle.cluster_machine.specs.Rounds.{numbered_from, is_complete, open_nodes, is_empty, rows_at, are_spelled, sets_in, parts_of, goes_on, may_sync, begin_round, repairs}
@@ -31,14 +31,14 @@ use Rattle.machine_laws.proofs.Controls.{Turns}
 use Rattle.machine_laws.proofs.Requests.{one_turns}
 use Rattle.machine_laws.proofs.Rounding.{node_after, one_then, completed, complete_is, with_round, round_is, said_pushes, unseen_repairs}
 use Rattle.machine_laws.proofs.Turning.{said_known}
-use Rattle.machine_reads.specs.Places.{Place, keys, place_of, at_place}
-use Rattle.machine_reads.specs.Tie.{Issued, Begun, a_round, a_repair, both, State, Means, HasPart, IsRound, IsRoundIn, IsNode, IsTied}
+use Rattle.machine_reads.specs.Places.{Place, keys, at_place}
+use Rattle.machine_reads.specs.Tie.{Issued, Begun, a_round, a_repair, both, State, Means, IsRound, IsNode, IsTied}
 use Rattle.machine_reads.proofs.Growth.{Grown, SameAt, same_at, same_of, calls_stay, round_in_stays}
-use Rattle.machine_reads.proofs.Leads.{Issues, issues_self, Act, grown, Leads, by_node}
+use Rattle.machine_reads.proofs.Leads.{Issues, Act, grown, Leads, by_node}
 use Rattle.machine_reads.proofs.Sees.{among_contains, contains_among, newest_same, read_same, read_set_same, set_at_same, oldest_same}
 use Rattle.machine_reads.proofs.Called.{quietly}
 use Rattle.machine_reads.proofs.Storing.{none_is}
-use Rattle.machine_reads.proofs.Rounds.{Shown, shown_at, pushing, pushing_happens, pushing_same, push_of, pushing_has, sent_parts, all_shown, finish_may, complete_may}
+use Rattle.machine_reads.proofs.Rounds.{Shown, shown_at, pushing, pushing_happens, pushing_same, pushing_has, sent_parts, all_shown, finish_may, complete_may}
 
 numbered_has : (sets : List (List ℕ)) (base i part : ℕ) (set : List ℕ) → slice_get sets i ≡ Some set → part ≡ base + i → Has (numbered_from base sets) (record { partition = part; set = set })
 numbered_has [] base i part set e f = cc
@@ -221,8 +221,8 @@ module _ {R L : Type 0} (join : R → R → R) (s : Words R) (k : Layouts L) (pa
           let hn = t.control.nodes n in
           let node_is : d.node ≡ record x { rounds = suc x.rounds; round = Some round } = ap (λ b. cond b (Rattle.cluster_machine.specs.Rounds.synced join s k n (record x { rounds = suc x.rounds }) round) (record x { rounds = suc x.rounds; round = Some round })) e in
           let turns : Turns {A = A} {C = C} k partitions w p.control c₁ (did w n d) = one_turns k partitions w p.control c₁ n 0 (with_round k partitions p.control n) d.node (did w n d) t.control first
-              (rw e (record { view = hn.view; requests = hn.requests; round = ap (λ v. Some (suc (read_version k.reading v))) hn.view }))
-              (λ m. refl) refl refl (said_known w c₁ n d.posts said) in
+          (rw e (record { view = hn.view; requests = hn.requests; round = ap (λ v. Some (suc (read_version k.reading v))) hn.view }))
+          (λ m. refl) refl refl (said_known w c₁ n d.posts said) in
           by_node join s k partitions some joins_well w p g h n (did w n d) d.node acts sound t happens issues
           (subst (λ c. Turns k partitions w p.control c (did {A = A} {C = C} w n d)) (sym control_is) turns)
           (λ i apart. rounded_same g n (suc x.rounds) (length w.requests) i (a_round rd) apart) (λ i q apart. ap (λ l. log_at P l i q) log_is) (λ i. refl) refl
@@ -259,13 +259,13 @@ module _ {R L : Type 0} (join : R → R → R) (s : Words R) (k : Layouts L) (pa
           let last_control : new.control ≡ c₂ = ap (λ (q : State join s k partitions). q.control) same_run ∙ ap (λ c. turn k.reading partitions c (Step.Complete n)) control_is in
           let node_is : d.node ≡ Rattle.cluster_machine.specs.Rounds.synced join s k n (record x { rounds = suc x.rounds }) round = ap (λ b. cond b (Rattle.cluster_machine.specs.Rounds.synced join s k n (record x { rounds = suc x.rounds }) round) (record x { rounds = suc x.rounds; round = Some round })) e in
           let turns : Turns {A = A} {C = C} k partitions w p.control c₂ (did w n d) = one_turns k partitions w p.control c₂ n 0 (completed k partitions c₁ n (suc at)) d.node (did w n d) t.control
-              (one_then p.control c₁ c₂ n (with_round k partitions p.control n) (completed k partitions c₁ n (suc at)) first (complete_is k partitions c₁ n (suc at) begins))
-              (rw e (record {
-                view = ap (λ v. with_entry k.reading Sync n (suc at) v) (ap (λ (y : control.Node L). y.view) (node_after p.control c₁ n (with_round k partitions p.control n) 0 first) ∙ hn.view);
-                requests = ap (λ (y : control.Node L). y.requests) (node_after p.control c₁ n (with_round k partitions p.control n) 0 first) ∙ hn.requests;
-                round = refl;
-              }))
-              (λ m. refl) refl refl (said_known w c₂ n d.posts said) in
+          (one_then p.control c₁ c₂ n (with_round k partitions p.control n) (completed k partitions c₁ n (suc at)) first (complete_is k partitions c₁ n (suc at) begins))
+          (rw e (record {
+            view = ap (λ v. with_entry k.reading Sync n (suc at) v) (ap (λ (y : control.Node L). y.view) (node_after p.control c₁ n (with_round k partitions p.control n) 0 first) ∙ hn.view);
+            requests = ap (λ (y : control.Node L). y.requests) (node_after p.control c₁ n (with_round k partitions p.control n) 0 first) ∙ hn.requests;
+            round = refl;
+          }))
+          (λ m. refl) refl refl (said_known w c₂ n d.posts said) in
           by_node join s k partitions some joins_well w p g h n (did w n d) d.node all sound t goes issues
           (subst (λ c. Turns k partitions w p.control c (did {A = A} {C = C} w n d)) (sym last_control) turns)
           (λ i apart. rounded_same g n (suc x.rounds) (length w.requests) i (a_round rd) apart)

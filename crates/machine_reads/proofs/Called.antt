@@ -1,5 +1,5 @@
 -- A call of a node changes, and messages go to several nodes.
-use Rattle.std.specs.Prelude.{◌≡◌, ◌≢◌, ◌≤◌, ◌<◌, ℕ, suc, Bool, true, false, cond, ◌==◌, Option, Some, None, List, [], ◌∷◌, ◌++◌, length, map, IsTrue, refl, ⊤}
+use Rattle.std.specs.Prelude.{◌≡◌, ◌≢◌, ◌≤◌, ◌<◌, ℕ, None, List, [], ◌∷◌, ◌++◌, length, IsTrue, refl}
 use Rattle.std.specs.List.{Contains, AllByRecursion}
 use Rattle.std.proofs.Common.{ap, sym, subst, ◌∙◌, arith}
 use Rattle.crdt_core.specs.Laws.{JoinLaws}
@@ -10,7 +10,7 @@ use Rattle.plane_model.specs.Action.{run, Happens}
 use Rattle.plane_laws.proofs.Sets.{contains_here, contains_there}
 use Rattle.plane_laws.proofs.Sound.{IsSound}
 use Rattle.cluster_machine.specs.Layouts.{Layouts}
-use Rattle.cluster_machine.specs.Node.{Call, Node, Did, says}
+use Rattle.cluster_machine.specs.Node.{Call, Node, Did}
 use Rattle.cluster_machine.specs.Phases.{to_each, calls_now}
 use Rattle.cluster_machine.specs.World.{World}
 use Rattle.cluster_machine.specs.Step.{sent_by, did}
@@ -18,8 +18,8 @@ use Rattle.machine_laws.proofs.Same.{Unseen}
 use Rattle.machine_laws.proofs.Turning.{unseen}
 use Rattle.machine_reads.specs.Places.{Place, at_place}
 use Rattle.machine_reads.specs.Tie.{Issued, both, State, MeansMessage, Means, IsCall, IsPresent, IsNode, GetGaveKept, IsTied}
-use Rattle.machine_reads.proofs.Growth.{Grown, SameOf, SameAt, same_of, same_at, call_stays, round_in_stays}
-use Rattle.machine_reads.proofs.Leads.{Issues, issues_self, Act, grown, Leads, by_node}
+use Rattle.machine_reads.proofs.Growth.{Grown, SameOf, SameAt, call_stays, round_in_stays}
+use Rattle.machine_reads.proofs.Leads.{Issues, Act, Leads, by_node}
 use Rattle.machine_reads.proofs.Sees.{all_with_call}
 
 module _ {R L : Type 0} (join : R → R → R) (s : Words R) (k : Layouts L) (partitions : ℕ) where

@@ -1,7 +1,7 @@
 -- What stays as it is while a world of the data plane grows.
-use Rattle.std.specs.Prelude.{◌≡◌, ◌≤◌, ◌<◌, ◌⊎◌, ℕ, suc, ◌+◌, Option, Some, None, List, [], ◌∷◌, ◌++◌, length, refl, ⊤}
+use Rattle.std.specs.Prelude.{◌≡◌, ◌≤◌, ℕ, suc, ◌+◌, Option, Some, None, List, [], ◌∷◌, length, refl}
 use Rattle.std.specs.List.{Contains, AllByRecursion}
-use Rattle.std.proofs.Common.{ap, sym, subst, ◌∙◌, inl, inr, arith}
+use Rattle.std.proofs.Common.{sym, subst, ◌∙◌, inl, inr, arith}
 use Rattle.table_schema.specs.Words.{Words, partition_of}
 use Rattle.quorum_model.specs.Quorum.{StoreSlot}
 use Rattle.wire_messages.specs.declared.message.Message.{Message}
@@ -17,7 +17,7 @@ use Rattle.cluster_machine.specs.Node.{Present, resting, asking, scanning, stori
 use Rattle.cluster_machine.specs.World.{Sent}
 use Rattle.machine_laws.proofs.Controls.{all_weaker}
 use Rattle.machine_reads.specs.Places.{Place}
-use Rattle.machine_reads.specs.Tie.{Asked, Begun, a_round, a_repair, Issued, both, State, Answered, MeansGet, MeansRow, MeansStore, MeansStored, IsPush, IsPushOf, MeansPush, IsPushedOf, MeansPushed, MeansTag, MeansDone, MeansMessage, MeansPacket, Means, IsAsking, AreSets, IsSlot, IsStoring, IsPresent, IsCall, HasPart, IsRound, IsRoundIn, IsNode}
+use Rattle.machine_reads.specs.Tie.{Asked, Begun, a_round, a_repair, Issued, both, State, Answered, IsPushOf, IsPushedOf, MeansTag, MeansDone, MeansMessage, MeansPacket, Means, IsAsking, AreSets, IsSlot, IsStoring, IsPresent, IsCall, IsRound, IsRoundIn, IsNode}
 
 module _ {R L : Type 0} (join : R → R → R) (s : Words R) (k : Layouts L) (partitions : ℕ) where
   -- the data plane's world and what was issued only grow

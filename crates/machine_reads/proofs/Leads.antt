@@ -1,5 +1,5 @@
 -- What a step of the machine owes to the data plane, and that with it the tie goes on.
-use Rattle.std.specs.Prelude.{◌≡◌, ◌≢◌, ◌≤◌, ◌<◌, ◌⊎◌, ℕ, suc, ◌+◌, Bool, true, false, cond, ◌==◌, Option, Some, None, List, [], ◌∷◌, ◌++◌, length, map, IsTrue, refl, ⊤}
+use Rattle.std.specs.Prelude.{◌≡◌, ◌≢◌, ◌≤◌, ◌<◌, ◌⊎◌, ℕ, ◌+◌, true, false, cond, ◌==◌, Some, None, List, [], ◌∷◌, ◌++◌, length, map, IsTrue, refl}
 use Rattle.std.specs.Option.{unwrap_or}
 use Rattle.std.specs.List.{AllByRecursion, list_all}
 use Rattle.std.proofs.Common.{ap, sym, subst, ◌∙◌, inl, inr, arith}
@@ -8,8 +8,7 @@ use Rattle.std.proofs.lemmas.Bool.{eqb-true, eqb-false}
 use Rattle.crdt_core.specs.Laws.{JoinLaws}
 use Rattle.control_model.specs.World as control
 use Rattle.control_model.specs.Steps.{Step, run as turn_all}
-use Rattle.table_schema.specs.Words.{Words, partition_of}
-use Rattle.table_schema.specs.Laws.{Laws}
+use Rattle.table_schema.specs.Words.{Words}
 use Rattle.plane_model.specs.Plane.{PlaneLaws}
 use Rattle.plane_model.specs.World as plane
 use Rattle.plane_model.specs.World.{row_at as log_at, kept_at}
@@ -17,21 +16,19 @@ use Rattle.plane_model.specs.Action.{Action, moves, run, Happens}
 use Rattle.plane_laws.proofs.Reached.{later_reached}
 use Rattle.plane_laws.proofs.Sound.{IsSound}
 use Rattle.plane_laws.proofs.Steps.{run_sound}
-use Rattle.plane_laws.proofs.Runs.{run_extends, run_append, happens_append}
+use Rattle.plane_laws.proofs.Runs.{run_extends}
 use Rattle.plane_meets.proofs.Meets.{joint_laws}
 use Rattle.plane_meets.proofs.Quiet.{is_quiet, quiet_happens}
 use Rattle.cluster_machine.specs.Layouts.{Layouts}
-use Rattle.cluster_machine.specs.Node as machine
 use Rattle.cluster_machine.specs.Node.{Call, Node}
 use Rattle.cluster_machine.specs.Phases.{without_call}
-use Rattle.cluster_machine.specs.World.{World, Request, Sent}
+use Rattle.cluster_machine.specs.World.{World, Request}
 use Rattle.cluster_machine.specs.Step.{Effects, only, changed, shut, applied}
-use Rattle.machine_laws.specs.Follows.{Controlled}
 use Rattle.machine_laws.proofs.Controls.{all_append, all_weaker, Turns, turned, length_shut}
-use Rattle.machine_reads.specs.Places.{Place, keys, place_of, at_place}
+use Rattle.machine_reads.specs.Places.{Place, keys, at_place}
 use Rattle.machine_reads.specs.Tie.{Asked, Begun, Issued, both, State, Means, IsCall, IsRoundIn, IsNode, GetGaveKept, IsTied}
 use Rattle.machine_reads.proofs.Placed.{keys_laws}
-use Rattle.machine_reads.proofs.Growth.{Grown, SameAt, same_at, means_grows, round_in_stays, calls_stay, node_stays}
+use Rattle.machine_reads.proofs.Growth.{Grown, SameAt, same_at, means_grows, node_stays}
 use Rattle.machine_reads.proofs.Logs.{moved_control, moved_log, moved_kept}
 
 -- what was issued stays issued

@@ -1,15 +1,15 @@
 -- What actions of the data plane do to the log, and what they leave.
-use Rattle.std.specs.Prelude.{◌≡◌, ◌≢◌, ◌≤◌, ◌⊎◌, ℕ, Bool, true, false, cond, not, ◌&&◌, ◌==◌, Option, Some, None, List, [], ◌∷◌, ◌++◌, map, filter, IsTrue, refl, ⊤}
+use Rattle.std.specs.Prelude.{◌≡◌, ◌≢◌, ◌≤◌, ◌⊎◌, ℕ, Bool, true, false, cond, ◌==◌, Option, Some, None, List, [], ◌∷◌, map, refl}
 use Rattle.std.specs.List.{AllByRecursion}
 use Rattle.std.proofs.Common.{ap, sym, subst, ◌∙◌, inl, inr}
-use Rattle.std.proofs.lemmas.Bool.{eqb-true, eq-eqb, ne_eqb, true≢false}
+use Rattle.std.proofs.lemmas.Bool.{eq-eqb, ne_eqb, true≢false}
 use Rattle.crdt_core.specs.Laws.{JoinLaws}
 use Rattle.crdt_core.specs.Order.{option_join}
 use Rattle.control_model.specs.World as control
-use Rattle.control_model.specs.Steps.{Step, run as turn_all, step as turn}
+use Rattle.control_model.specs.Steps.{Step, run as turn_all}
 use Rattle.table_schema.specs.Words.{Words, partition_of}
 use Rattle.plane_model.specs.Rows.{IsAtLeast, IsOver}
-use Rattle.plane_model.specs.World.{Entry, took, left, Row, row_at as log_at, row_in}
+use Rattle.plane_model.specs.World.{Entry, took, left, row_at as log_at, row_in}
 use Rattle.plane_model.specs.Action.{Action, moves, drops, takes, step, run, Happens}
 use Rattle.plane_laws.proofs.Rows.{merged_left, over_join, row_new}
 use Rattle.plane_meets.proofs.Meets.{joint_laws}
@@ -156,12 +156,12 @@ module _ {R L : Type 0} (join : R → R → R) (s : Words R) (k : Layouts L) (pa
       elim (test (partition_of s r)) as (λ b. test (partition_of s r) ≡ b → log_at P (run P p (cond b (dropping n test rs) (drops n (partition_of s r) ∷ dropping n test rs))).log n q ≡ None) [
         | true ↦ (λ f. drops_all n test rs p q e (elim h [ inl none ↦ inl none | inr some ↦ elim some [ inl here ↦ absurd (true≢false (sym f ∙ (ap test here ∙ e))) | inr more ↦ inr more ] ]))
         | false ↦ (λ f. drops_all n test rs (step P p (drops n (partition_of s r))) q e (elim (partition_of s r == q.0) as (λ b. (partition_of s r == q.0) ≡ b → (log_at P (left n (partition_of s r) ∷ p.log) n q ≡ None) ⊎ HasPartition rs q.0) [
-            | true ↦ (λ g. inl (left_own n (partition_of s r) p.log q ∙ ap (λ b. cond b None (log_at P p.log n q)) g))
-            | false ↦ (λ g. elim h [
-                | inl none ↦ inl (left_own n (partition_of s r) p.log q ∙ (ap (λ b. cond b None (log_at P p.log n q)) g ∙ none))
-                | inr some ↦ elim some [ inl here ↦ absurd (true≢false (sym (eq-eqb (partition_of s r) q.0 here) ∙ g)) | inr more ↦ inr more ]
-              ])
-          ] refl))
+          | true ↦ (λ g. inl (left_own n (partition_of s r) p.log q ∙ ap (λ b. cond b None (log_at P p.log n q)) g))
+          | false ↦ (λ g. elim h [
+            | inl none ↦ inl (left_own n (partition_of s r) p.log q ∙ (ap (λ b. cond b None (log_at P p.log n q)) g ∙ none))
+            | inr some ↦ elim some [ inl here ↦ absurd (true≢false (sym (eq-eqb (partition_of s r) q.0 here) ∙ g)) | inr more ↦ inr more ]
+          ])
+        ] refl))
       ] refl
 
 module _ {R L : Type 0} (join : R → R → R) (s : Words R) (k : Layouts L) (partitions : ℕ) where

@@ -1,20 +1,19 @@
 -- What rows have at a place: merged or not, of one partition or all, and told from their table and key.
-use Rattle.std.specs.Prelude.{◌≡◌, ℕ, Bool, true, false, cond, not, ◌==◌, List, [], ◌∷◌, Option, Some, None, IsTrue, filter, refl}
+use Rattle.std.specs.Prelude.{◌≡◌, ℕ, Bool, true, false, cond, List, [], ◌∷◌, Option, Some, None, IsTrue, filter, refl}
 use Rattle.std.specs.List.{AllByRecursion}
-use Rattle.std.specs.Ordering.{nat_cmp, is_eq}
+use Rattle.std.specs.Ordering.{is_eq}
 use Rattle.std.specs.Cmp.{both_ways}
-use Rattle.std.proofs.Common.{ap, sym, subst, ◌∙◌}
-use Rattle.std.proofs.lemmas.Bool.{eqb-true, eq-eqb, eqb-false, true≢false}
+use Rattle.std.proofs.Common.{ap, sym, ◌∙◌}
+use Rattle.std.proofs.lemmas.Bool.{true≢false}
 use Rattle.std.proofs.lemmas.Cmp.{nat_cmp_total, on_total, then_total, tied_itself}
-use Rattle.std.specs.declared.cmp.Ordering.{Ordering}
 use Rattle.std.specs.declared.cmp.Ordering.TheVariants.{Less, Equal, Greater}
-use Rattle.std.specs.Cmp.{IsTotalOrder, Equal-is}
+use Rattle.std.specs.Cmp.{Equal-is}
 use Rattle.crdt_core.specs.Laws.{JoinLaws}
 use Rattle.crdt_core.specs.Order.{option_join}
 use Rattle.crdt_core.specs.Orders.{nat_identical, pair_identical}
 use Rattle.table_schema.specs.Words.{Words, partition_of}
 use Rattle.table_schema.specs.Laws.{Same, Laws}
-use Rattle.table_model.specs.Rows.{place_cmp, place, row_cmp, is_at, row_at, merged_in, rows, rows_in}
+use Rattle.table_model.specs.Rows.{place_cmp, place, row_cmp, is_at, row_at, merged_in, rows}
 use Rattle.table_model.specs.RowLaws.{place_total, place_identical, joins}
 use Rattle.plane_model.specs.Keys.{KeyLaws, ordered_laws}
 use Rattle.machine_reads.specs.Places.{Place, keys, place_of, at_place}
@@ -110,9 +109,9 @@ module _ {R : Type 0} {join : R → R → R} {s : Words R} (joins_well : JoinLaw
       elim (test (partition_of s r)) as (λ b. test (partition_of s r) ≡ b → at_place s join (cond b (r ∷ filter (λ r. test (partition_of s r)) xs) (filter (λ r. test (partition_of s r)) xs)) k ≡ added (at_place s join xs k) r (keys.is_same (place_of s r) k)) [
         | true ↦ (λ f. ap (λ o. added o r (keys.is_same (place_of s r) k)) rest)
         | false ↦ (λ f. elim (keys.is_same (place_of s r) k) as (λ b. keys.is_same (place_of s r) k ≡ b → at_place s join (filter (λ r. test (partition_of s r)) xs) k ≡ added (at_place s join xs k) r b) [
-            | true ↦ (λ g. absurd (true≢false (sym e ∙ (ap test (sym (of_partition r k g)) ∙ f))))
-            | false ↦ (λ g. rest)
-          ] refl)
+          | true ↦ (λ g. absurd (true≢false (sym e ∙ (ap test (sym (of_partition r k g)) ∙ f))))
+          | false ↦ (λ g. rest)
+        ] refl)
       ] refl
 
   pub none_at_place : (test : ℕ → Bool) (xs : List R) (k : Place) → test k.0 ≡ false → at_place s join (filter (λ r. test (partition_of s r)) xs) k ≡ None
@@ -121,9 +120,9 @@ module _ {R : Type 0} {join : R → R → R} {s : Words R} (joins_well : JoinLaw
       let rest = none_at_place test xs k e in
       elim (test (partition_of s r)) as (λ b. test (partition_of s r) ≡ b → at_place s join (cond b (r ∷ filter (λ r. test (partition_of s r)) xs) (filter (λ r. test (partition_of s r)) xs)) k ≡ None) [
         | true ↦ (λ f. elim (keys.is_same (place_of s r) k) as (λ b. keys.is_same (place_of s r) k ≡ b → added (at_place s join (filter (λ r. test (partition_of s r)) xs) k) r b ≡ None) [
-            | true ↦ (λ g. absurd (true≢false (sym f ∙ (ap test (of_partition r k g) ∙ e))))
-            | false ↦ (λ g. rest)
-          ] refl)
+          | true ↦ (λ g. absurd (true≢false (sym f ∙ (ap test (of_partition r k g) ∙ e))))
+          | false ↦ (λ g. rest)
+        ] refl)
         | false ↦ (λ f. rest)
       ] refl
 
@@ -137,6 +136,7 @@ module _ {R : Type 0} {join : R → R → R} {s : Words R} (joins_well : JoinLaw
       one : keys.is_same (place_of s r) (p, (table, key)) ≡ true → is_at s table key r ≡ true
       one e = let same = keys_laws.identical (place_of s r) (p, (table, key)) e in
           ap (λ (q : ℕ × List ℕ). is_eq (place_cmp (table, key) q)) (ap (λ (q : Place). q.1) same) ∙ (Equal-is (place_cmp (table, key) (table, key))).1 (tied_itself place_total (table, key))
+
       other : is_at s table key r ≡ true → keys.is_same (place_of s r) (p, (table, key)) ≡ true
       other e =
           let same = place_identical (table, key) (place s r) ((Equal-is (place_cmp (table, key) (place s r))).0 e) in

@@ -1,50 +1,47 @@
 -- Rounds: how they begin, go on and complete; repairs.
-use Rattle.std.specs.Prelude.{◌≡◌, ◌≢◌, ◌≤◌, ◌<◌, ◌⊎◌, ℕ, zero, suc, ◌+◌, Bool, true, false, not, cond, ◌==◌, ◌&&◌, leb, Option, Some, None, option_map, slice_get, List, [], ◌∷◌, ◌++◌, length, map, filter, IsTrue, refl, ⊤}
-use Rattle.std.specs.Option.{unwrap_or}
+use Rattle.std.specs.Prelude.{◌≡◌, ◌≤◌, ℕ, suc, Bool, true, false, cond, ◌==◌, Some, option_map, List, [], ◌∷◌, ◌++◌, length, map, filter, IsTrue, refl}
 use Rattle.std.specs.List.{Contains, AllByRecursion, list_all, flat_map}
 use Rattle.std.proofs.Common.{ap, sym, subst, ◌∙◌, inl, inr, arith}
 use Rattle.std.proofs.lemmas.Bool.{eqb-true, eq-eqb, ne_eqb, true≢false}
-use Rattle.crdt_core.specs.EntryLaws.{and_parts, and_both}
+use Rattle.crdt_core.specs.EntryLaws.{and_parts}
 use Rattle.crdt_core.specs.Laws.{JoinLaws}
 use Rattle.crdt_core.specs.Order.{option_join}
-use Rattle.view_model.specs.View.{View, oldest, newest, read_version, layout_at}
+use Rattle.view_model.specs.View.{newest}
 use Rattle.control_model.specs.World as control
-use Rattle.control_model.specs.Steps.{Step, run as turn_all, step as turn}
+use Rattle.control_model.specs.Steps.{Step}
 use Rattle.control_model.specs.Facts.{Has}
-use Rattle.table_schema.specs.Words.{Words, partition_of}
+use Rattle.table_schema.specs.Words.{Words}
 use Rattle.table_schema.specs.Laws.{Laws}
-use Rattle.table_model.specs.Rows.{rows, rows_in}
+use Rattle.table_model.specs.Rows.{rows}
 use Rattle.quorum_model.specs.Quorum.{is_among, two_of}
 use Rattle.wire_messages.specs.declared.message.Message.TheVariants.{Store}
 use Rattle.wire_messages.specs.declared.message.Tag.TheVariants.{Round as ForRound}
 use Rattle.plane_model.specs.World as plane
 use Rattle.plane_model.specs.World.{row_at as log_at, row_in, kept_at}
-use Rattle.plane_model.specs.Action.{moves, begins_round, pushes, finishes, step, run, Happens, MayFinish, MayMove, HasPushed}
-use Rattle.plane_laws.proofs.Runs.{run_append, happens_append, run_extends}
+use Rattle.plane_model.specs.Action.{moves, pushes, finishes, step, run, Happens, MayFinish, MayMove, HasPushed}
+use Rattle.plane_laws.proofs.Runs.{run_extends}
 use Rattle.plane_laws.proofs.Sets.{contains_here, two_weaker}
 use Rattle.plane_laws.proofs.Sound.{IsSound}
 use Rattle.plane_meets.proofs.Completes.{completes_open}
-use Rattle.plane_meets.proofs.Quiet.{quiet_happens}
-use Rattle.cluster_machine.specs.Layouts.{Layouts, set_in}
+use Rattle.cluster_machine.specs.Layouts.{Layouts}
 use Rattle.cluster_machine.specs.Node as machine
 use Rattle.cluster_machine.specs.Node.{Part, Confirmed, Node, Did, Post, quiet}
-use Rattle.cluster_machine.specs.Phases.{to_each, bytes_of, is_spelled}
-use Rattle.cluster_machine.specs.Rounds.{numbered_from, confirmed_for, is_complete, open_nodes, is_empty, rows_at, with_its_block, pushes as push_posts, pushes_rows, are_spelled, sets_in, parts_of, synced, goes_on, again}
+use Rattle.cluster_machine.specs.Phases.{is_spelled}
+use Rattle.cluster_machine.specs.Rounds.{confirmed_for, is_complete, open_nodes, rows_at, with_its_block, pushes as push_posts, pushes_rows, are_spelled, synced, goes_on, again}
 use Rattle.cluster_machine.specs.World.{World}
-use Rattle.cluster_machine.specs.Step.{Effects, changed, only, did, sent_by}
+use Rattle.cluster_machine.specs.Step.{did, sent_by}
 use Rattle.machine_laws.specs.Follows.{target_of}
-use Rattle.machine_laws.proofs.Controls.{Turns, all_append}
-use Rattle.machine_laws.proofs.Same.{Unseen, unseen_quiet, same_self}
-use Rattle.machine_laws.proofs.Turning.{unseen}
+use Rattle.machine_laws.proofs.Controls.{all_append}
+use Rattle.machine_laws.proofs.Same.{unseen_quiet}
 use Rattle.machine_laws.proofs.Rounding.{some_same, completed, complete_is, unseen_again}
 use Rattle.machine_laws.proofs.Requests.{one_turns}
 use Rattle.layout_trackers.specs.declared.which.Which.TheVariants.{Sync}
 use Rattle.view_model.specs.View.{with_entry}
 use Rattle.machine_reads.specs.Places.{Place, keys, place_of, at_place}
 use Rattle.machine_reads.specs.Tie.{Issued, Begun, a_round, a_repair, both, State, with_read, rows_read, placed, Means, MeansPushed, HasPart, IsRound, IsRoundIn, IsNode, IsTied}
-use Rattle.machine_reads.proofs.Placed.{Proper, rows_at_place, kept_at_place}
-use Rattle.machine_reads.proofs.Growth.{Grown, same_at, same_of, calls_stay, round_stays, round_in_stays, node_stays}
-use Rattle.machine_reads.proofs.Leads.{Issues, issues_self, Act, laws_of, grown, Leads, by_node}
+use Rattle.machine_reads.proofs.Placed.{rows_at_place, kept_at_place}
+use Rattle.machine_reads.proofs.Growth.{Grown, same_at, calls_stay, node_stays}
+use Rattle.machine_reads.proofs.Leads.{issues_self, Act, grown, Leads, by_node}
 use Rattle.machine_reads.proofs.Sees.{all_has}
 use Rattle.machine_reads.proofs.Sets.{two_at}
 use Rattle.machine_reads.proofs.Called.{sent_each, quietly}
@@ -78,9 +75,10 @@ module _ {R L : Type 0} (join : R → R → R) (s : Words R) (k : Layouts L) (pa
   pub pushing_happens : (rd : plane.Round Place R) (x : Node R L) (parts : List Part) (q : State join s k partitions) → Contains q.rounds rd → P.control.in_round q.control rd.node rd.from ≡ true →
       ((z : Place) → log_at P q.log rd.node z ≡ at_place s join x.accepted z) → AllByRecursion (λ r. IsTrue (s.is_proper r)) x.accepted → Happens P q (pushing rd x parts)
   pushing_happens rd x [] q there opens_it has proper = tt
-  pushing_happens rd x (part ∷ parts) q there opens_it has proper =
-      (record { began = there; is_open = opens_it; shows = λ z e. inr (placed_in (rows_at join s x part.partition) z ∙ (shown_at x part.partition z proper e ∙ sym (has z))) },
-      pushing_happens rd x parts (step P q (pushes rd part.partition (map (placed join s k partitions) (rows_at join s x part.partition)))) there opens_it has proper)
+  pushing_happens rd x (part ∷ parts) q there opens_it has proper = (
+    record { began = there; is_open = opens_it; shows = λ z e. inr (placed_in (rows_at join s x part.partition) z ∙ (shown_at x part.partition z proper e ∙ sym (has z))) },
+    pushing_happens rd x parts (step P q (pushes rd part.partition (map (placed join s k partitions) (rows_at join s x part.partition)))) there opens_it has proper,
+  )
 
   module _ {X : Type 0} (f : State join s k partitions → X) (same : (q : State join s k partitions) (rd : plane.Round Place R) (part : ℕ) (rs : List (plane.Row Place R)) → f (step P q (pushes rd part rs)) ≡ f q) where
     pub pushing_same : (rd : plane.Round Place R) (x : Node R L) (parts : List Part) (q : State join s k partitions) → f (run P q (pushing rd x parts)) ≡ f q
@@ -110,11 +108,14 @@ module _ {R L : Type 0} (join : R → R → R) (s : Words R) (k : Layouts L) (pa
     pub sent_part : (x : Node R L) (part : Part) (nodes : List ℕ) (rs : List R) → rows_at join s x part.partition ≡ rs → Shown x part → AllByRecursion (Means join s k partitions new h) (sent_by w n (pushes_rows join s k x number part.partition nodes rs))
     sent_part x part nodes [] e m = tt
     sent_part x part nodes (r ∷ rs) e m =
-        sent_each join s k partitions new h w n (Store (ForRound number part.partition) (newest k.reading x.view) part.partition (map (with_its_block join s x) (r ∷ rs))) nodes (λ to is. (refl, record {
-          begun = b;
-          issued = issued;
-          push = subst (λ rs. Rattle.machine_reads.specs.Tie.IsPushOf join s k partitions new h b part.partition (newest k.reading x.view) (map (with_its_block join s x) rs)) e m;
-        }))
+        sent_each join s k partitions new h w n (Store (ForRound number part.partition) (newest k.reading x.view) part.partition (map (with_its_block join s x) (r ∷ rs))) nodes (λ to is. (
+          refl,
+          record {
+            begun = b;
+            issued = issued;
+            push = subst (λ rs. Rattle.machine_reads.specs.Tie.IsPushOf join s k partitions new h b part.partition (newest k.reading x.view) (map (with_its_block join s x) rs)) e m;
+          },
+        ))
 
     pub sent_parts : (x : Node R L) (nodes : Part → List ℕ) (parts : List Part) → AllByRecursion (Shown x) parts → AllByRecursion (Means join s k partitions new h) (sent_by w n (flat_map (λ part. push_posts join s k x number part.partition (nodes part)) parts))
     sent_parts x nodes [] a = tt
@@ -126,18 +127,19 @@ module _ {R L : Type 0} (join : R → R → R) (s : Words R) (k : Layouts L) (pa
       AllByRecursion (λ part. Contains new.pushes (push_of q rd x part)) parts → are_spelled join s k x parts ≡ true → AllByRecursion (Shown w n new h number (a_round rd) issued x) parts
   all_shown w n new q h number rd x [] issued same a e = tt
   all_shown w n new q h number rd x (part ∷ parts) issued same a e =
-      let both_ = and_parts (list_all (is_spelled s) (rows_at join s x part.partition)) (are_spelled join s k x parts) e in
-      (record { push = push_of q rd x part; is_there = a.0; of_it = refl; partition_is = refl; newest = same; rows_are = ap (map (placed join s k partitions)) (sym (rows_back x (rows_at join s x part.partition) both_.0)) },
-      all_shown w n new q h number rd x parts issued same a.1 both_.1)
+      let both_ = and_parts (list_all (is_spelled s) (rows_at join s x part.partition)) (are_spelled join s k x parts) e in (
+        record { push = push_of q rd x part; is_there = a.0; of_it = refl; partition_is = refl; newest = same; rows_are = ap (map (placed join s k partitions)) (sym (rows_back x (rows_at join s x part.partition) both_.0)) },
+        all_shown w n new q h number rd x parts issued same a.1 both_.1,
+      )
 
   pub confirmed_pushed : (q : State join s k partitions) (rd : plane.Round Place R) (part n : ℕ) (cs : List Confirmed) → AllByRecursion (λ (c : Confirmed). HasPushed q rd c.partition c.node) cs → is_among n (confirmed_for part cs) ≡ true → HasPushed q rd part n
   confirmed_pushed q rd part n [] a h = cc
   confirmed_pushed q rd part n (c ∷ cs) a h =
       elim (c.partition == part) as (λ b. (c.partition == part) ≡ b → is_among n (map (λ (c : Confirmed). c.node) (cond b (c ∷ filter (λ (c : Confirmed). c.partition == part) cs) (filter (λ (c : Confirmed). c.partition == part) cs))) ≡ true → HasPushed q rd part n) [
         | true ↦ (λ e g. elim (Rattle.std.proofs.lemmas.Bool.or_cases (c.node == n) (is_among n (confirmed_for part cs)) g) [
-            | inl here ↦ subst (λ m. HasPushed q rd part m) (eqb-true c.node n here) (subst (λ i. HasPushed q rd i c.node) (eqb-true c.partition part e) a.0)
-            | inr more ↦ confirmed_pushed q rd part n cs a.1 more
-          ])
+          | inl here ↦ subst (λ m. HasPushed q rd part m) (eqb-true c.node n here) (subst (λ i. HasPushed q rd i c.node) (eqb-true c.partition part e) a.0)
+          | inr more ↦ confirmed_pushed q rd part n cs a.1 more
+        ])
         | false ↦ (λ e g. confirmed_pushed q rd part n cs a.1 g)
       ] refl h
 

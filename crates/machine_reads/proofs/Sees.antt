@@ -15,16 +15,15 @@ use Rattle.version_laws.proofs.OneView.{range_of}
 use Rattle.version_laws.proofs.Tests.{has_found}
 use Rattle.table_schema.specs.Words.{Words}
 use Rattle.quorum_model.specs.Quorum.{is_among}
-use Rattle.plane_model.specs.Control.{Stores, Gives, led_to}
+use Rattle.plane_model.specs.Control.{Stores, led_to}
 use Rattle.plane_model.specs.World.{first}
 use Rattle.plane_model.specs.Action.{Action, run, Happens}
-use Rattle.plane_laws.proofs.Reached.{IsReached as IsLed}
 use Rattle.plane_laws.proofs.Sets.{contains_here, contains_there, contains_cases}
 use Rattle.plane_laws.proofs.Sound.{IsSound}
 use Rattle.plane_meets.specs.Joint.{seen}
 use Rattle.plane_meets.proofs.Found.{any_has}
-use Rattle.cluster_machine.specs.Layouts.{Layouts, set_of, set_in, set_at, stored_sets, is_given, is_some, is_stored}
-use Rattle.cluster_machine.specs.Node.{Call, Node}
+use Rattle.cluster_machine.specs.Layouts.{Layouts, set_in, set_at, is_some, is_stored}
+use Rattle.cluster_machine.specs.Node.{Call}
 use Rattle.cluster_machine.specs.Phases.{call_at, with_call}
 use Rattle.cluster_machine.specs.World.{World}
 use Rattle.machine_laws.specs.Follows.{in_flight, Controlled}

@@ -17,11 +17,10 @@ use Rattle.plane_model.specs.Sets.{Two}
 use Rattle.plane_laws.proofs.Sets.{contains_here, contains_there, contains_none}
 use Rattle.plane_meets.proofs.Unapplied.{HasNone, run_none, empty_none}
 use Rattle.plane_laws.proofs.Sound.{IsSound}
-use Rattle.cluster_machine.specs.Layouts.{Layouts, set_of, set_in, stored_sets, is_given}
+use Rattle.cluster_machine.specs.Layouts.{Layouts, set_of, stored_sets, is_given}
 use Rattle.cluster_machine.specs.Run.{IsSet, IsLayout}
 use Rattle.cluster_machine.specs.World.{World}
 use Rattle.machine_laws.specs.Follows.{Controlled}
-use Rattle.machine_laws.proofs.Rounding.{some_same}
 use Rattle.machine_laws.proofs.Runs.{all_at}
 use Rattle.machine_reads.specs.Tie.{Issued, both, State, AreSets}
 use Rattle.machine_reads.proofs.Sees.{contains_among, among_contains, reached_of, newest_same, oldest_same}
@@ -93,8 +92,7 @@ module _ {R L : Type 0} (join : R → R → R) (s : Words R) (k : Layouts L) (pa
   are_by part b [] f h = tt
   are_by part b (x ∷ ls) f h =
       let parts = and_parts (k.reading.version x == suc b) (follow k.reading (k.reading.version x) ls) f in
-      let one : k.reading.version x ≡ suc b = eqb-true (k.reading.version x) (suc b) parts.0 in
-      (
+      let one : k.reading.version x ≡ suc b = eqb-true (k.reading.version x) (suc b) parts.0 in (
         ap (λ o. unwrap_or (control_set k.reading o part) []) (h (suc b) x (ap (λ c. cond c (Some x) (find (λ l. k.reading.version l == suc b) ls)) parts.0)),
         subst (λ b. AreSets join s k partitions p g part (suc b) (map (λ l. set_of k l part) ls)) one (are_by part (k.reading.version x) ls parts.1 (λ i l e.
             let more : k.reading.version x < i = late k partitions (k.reading.version x) ls i l parts.1 e in
@@ -104,8 +102,7 @@ module _ {R L : Type 0} (join : R → R → R) (s : Words R) (k : Layouts L) (pa
   are_first : (part : ℕ) (ls : List L) → is_gapless k.reading ls ≡ true → ((i : ℕ) (l : L) → find (λ l. k.reading.version l == i) ls ≡ Some l → control.layout_of p.control i ≡ Some l) → AreSets join s k partitions p g part (Rattle.view_model.specs.View.first_version k.reading ls) (map (λ l. set_of k l part) ls)
   are_first part [] f h = tt
   are_first part (x ∷ ls) f h =
-      let parts = and_parts (Rattle.std.specs.Prelude.leb 1 (k.reading.version x)) (follow k.reading (k.reading.version x) ls) f in
-      (
+      let parts = and_parts (Rattle.std.specs.Prelude.leb 1 (k.reading.version x)) (follow k.reading (k.reading.version x) ls) f in (
         ap (λ o. unwrap_or (control_set k.reading o part) []) (h (k.reading.version x) x (ap (λ c. cond c (Some x) (find (λ l. k.reading.version l == k.reading.version x) ls)) (eq-eqb (k.reading.version x) (k.reading.version x) refl))),
         are_by part (k.reading.version x) ls parts.1 (λ i l e.
             let more : k.reading.version x < i = late k partitions (k.reading.version x) ls i l parts.1 e in

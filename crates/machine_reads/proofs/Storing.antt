@@ -6,7 +6,7 @@ use Rattle.std.proofs.lemmas.Bool.{eqb-true, eq-eqb, ne_eqb}
 use Rattle.crdt_core.specs.EntryLaws.{and_parts}
 use Rattle.crdt_core.specs.Laws.{JoinLaws}
 use Rattle.crdt_core.specs.Order.{option_join}
-use Rattle.view_model.specs.View.{View, oldest, newest}
+use Rattle.view_model.specs.View.{oldest, newest}
 use Rattle.control_model.specs.World as control
 use Rattle.control_model.specs.Facts.{Has}
 use Rattle.table_schema.specs.Words.{Words, partition_of}
@@ -16,13 +16,13 @@ use Rattle.wire_messages.specs.declared.message.Message.TheVariants.{Store}
 use Rattle.wire_messages.specs.declared.message.Tag.TheVariants.{Call as ForCall}
 use Rattle.plane_model.specs.World as plane
 use Rattle.plane_model.specs.World.{row_at as log_at, kept_at}
-use Rattle.plane_model.specs.Action.{Action, begins_store, keeps, step, run, Happens, MayKeep}
+use Rattle.plane_model.specs.Action.{begins_store, keeps, step, run, Happens, MayKeep}
 use Rattle.plane_laws.proofs.Reached.{always_reached}
 use Rattle.plane_laws.proofs.Runs.{run_extends}
 use Rattle.plane_laws.proofs.Sets.{contains_here, two_weaker}
 use Rattle.plane_laws.proofs.Sound.{IsSound}
 use Rattle.cluster_machine.specs.Layouts.{Layouts, stored_sets}
-use Rattle.cluster_machine.specs.Node.{Call, Node, Did, Post, resting, storing}
+use Rattle.cluster_machine.specs.Node.{Call, Did, Post, resting, storing}
 use Rattle.cluster_machine.specs.Phases.{nodes_of, to_each, calls_now, bytes_of, is_spelled, is_there, spelled, stores, slots_of, stored}
 use Rattle.cluster_machine.specs.World.{World}
 use Rattle.cluster_machine.specs.Step.{did, sent_by}
@@ -32,7 +32,7 @@ use Rattle.machine_laws.proofs.Same.{Unseen, unseen_stored}
 use Rattle.machine_laws.proofs.Turning.{unseen}
 use Rattle.machine_reads.specs.Places.{Place, keys, place_of, at_place}
 use Rattle.machine_reads.specs.Tie.{Issued, both, State, with_read, MeansStored, Means, IsSlot, IsStoring, IsCall, IsNode, IsTied}
-use Rattle.machine_reads.proofs.Growth.{SameOf, SameAt, same_of, same_at, call_stays, present_grows}
+use Rattle.machine_reads.proofs.Growth.{SameOf, same_of, same_at, call_stays}
 use Rattle.machine_reads.proofs.Leads.{Issues, issues_self, Act, laws_of, grown, Leads, by_node}
 use Rattle.machine_reads.proofs.Sees.{all_has, newest_same, oldest_same, flies_by}
 use Rattle.machine_reads.proofs.Sets.{all_among_list, two_later, stored_sets_are, stored_count, two_at}
@@ -180,22 +180,24 @@ module _ {R L : Type 0} (join : R → R → R) (s : Words R) (k : Layouts L) (pa
         let new_same : P.control.newest p.control n ≡ newest k.reading (w.nodes n).view = newest_same join s k partitions some w p sound t.control n in
         let old_same : P.control.oldest p.control n ≡ oldest k.reading (w.nodes n).view = oldest_same join s k partitions some w p sound t.control n in
         let now : P.control.newest new.control n ≡ P.control.newest p.control n = ap (λ c. P.control.newest c n) c in
-        let then : P.control.oldest new.control n ≡ P.control.oldest p.control n = ap (λ c. P.control.oldest c n) c in
-        (record {
-          store = store_of p n start r.0;
-          issued = issued i ∙ a.0;
-          is_there = b.0;
-          proper = d.0;
-          row = refl;
-          key = refl;
-          node = refl;
-          start = sym same;
-          known = omega arith;
-          old = omega arith;
-          sets = subst (λ c. Rattle.machine_reads.specs.Tie.AreSets join s k partitions (record p { control = c }) g part (oldest k.reading (w.nodes n).view) (stored_sets k (w.nodes n).view part)) (sym c) (stored_sets_are join s k partitions some w p g sound t.control n part);
-          long = stored_count join s k partitions some w p g sound t.control n part one ∙ ap suc (sym new_same);
-          confirmed = tt;
-        }, slots_by new h n start request phase (suc i) f rows c same issued one a.1 b.1 d.1)
+        let then : P.control.oldest new.control n ≡ P.control.oldest p.control n = ap (λ c. P.control.oldest c n) c in (
+          record {
+            store = store_of p n start r.0;
+            issued = issued i ∙ a.0;
+            is_there = b.0;
+            proper = d.0;
+            row = refl;
+            key = refl;
+            node = refl;
+            start = sym same;
+            known = omega arith;
+            old = omega arith;
+            sets = subst (λ c. Rattle.machine_reads.specs.Tie.AreSets join s k partitions (record p { control = c }) g part (oldest k.reading (w.nodes n).view) (stored_sets k (w.nodes n).view part)) (sym c) (stored_sets_are join s k partitions some w p g sound t.control n part);
+            long = stored_count join s k partitions some w p g sound t.control n part one ∙ ap suc (sym new_same);
+            confirmed = tt;
+          },
+          slots_by new h n start request phase (suc i) f rows c same issued one a.1 b.1 d.1,
+        )
 
     pub sent_stores : (new : State join s k partitions) (h : Issued R L) (n start request phase i : ℕ) (f : ℕ → Option (plane.Store Place R)) (rows : List (R × Option (List ℕ))) → ((j : ℕ) → h.stores request phase j ≡ f j) →
         AreAt (store_of p n start) f i (map (λ r. r.0) rows) → AllByRecursion (λ r. Contains new.stores (store_of p n start r)) (map (λ r. r.0) rows) → list_all (λ r. is_spelled s r.0) rows ≡ true →
@@ -265,22 +267,24 @@ module _ {R L : Type 0} (join : R → R → R) (s : Words R) (k : Layouts L) (pa
     confirmed_slots n request phase base zero slot from (r ∷ rs) (x ∷ ts) e m a =
         let y = a.0 in
         let at : slot ≡ base = omega arith in
-        let same : m.store ≡ y.store = some_same m.store y.store (sym m.issued ∙ (ap (g.stores request phase) at ∙ y.issued)) in
-        (record {
-          store = y.store;
-          issued = y.issued;
-          is_there = y.is_there;
-          proper = y.proper;
-          row = y.row;
-          key = y.key;
-          node = y.node;
-          start = y.start;
-          known = y.known;
-          old = y.old;
-          sets = y.sets;
-          long = y.long;
-          confirmed = all_append _ x.nodes (from ∷ []) y.confirmed (subst (λ st. Contains p.stored (record { store = st; node = from })) same m.confirmed, tt);
-        }, a.1)
+        let same : m.store ≡ y.store = some_same m.store y.store (sym m.issued ∙ (ap (g.stores request phase) at ∙ y.issued)) in (
+          record {
+            store = y.store;
+            issued = y.issued;
+            is_there = y.is_there;
+            proper = y.proper;
+            row = y.row;
+            key = y.key;
+            node = y.node;
+            start = y.start;
+            known = y.known;
+            old = y.old;
+            sets = y.sets;
+            long = y.long;
+            confirmed = all_append _ x.nodes (from ∷ []) y.confirmed (subst (λ st. Contains p.stored (record { store = st; node = from })) same m.confirmed, tt);
+          },
+          a.1,
+        )
     confirmed_slots n request phase base (suc place) slot from (r ∷ rs) (x ∷ ts) e m a = (a.0, confirmed_slots n request phase (suc base) place slot from rs ts (omega arith) m a.1)
 
     -- the stores of the rows, each of which may be kept

@@ -1,30 +1,29 @@
 -- Rows that come to a node.
-use Rattle.std.specs.Prelude.{◌≡◌, ◌≢◌, ◌≤◌, ◌<◌, ◌⊎◌, ℕ, suc, Bool, true, false, not, cond, ◌==◌, nat_lt, Option, Some, None, List, [], ◌∷◌, ◌++◌, length, map, IsTrue, refl, ⊤}
+use Rattle.std.specs.Prelude.{◌≡◌, ◌≢◌, ◌≤◌, ◌<◌, ℕ, true, false, cond, nat_lt, Option, Some, None, List, [], ◌∷◌, ◌++◌, length, IsTrue, refl}
 use Rattle.std.specs.List.{Contains, AllByRecursion}
-use Rattle.std.proofs.Common.{ap, sym, subst, ◌∙◌, inl, inr, arith}
+use Rattle.std.proofs.Common.{ap, sym, subst, ◌∙◌, arith}
 use Rattle.std.proofs.lemmas.Bool.{ltb-false}
 use Rattle.crdt_core.specs.Laws.{JoinLaws}
 use Rattle.view_model.specs.View.{newest}
-use Rattle.control_model.specs.World as control
-use Rattle.table_schema.specs.Words.{Words, partition_of}
+use Rattle.table_schema.specs.Words.{Words}
 use Rattle.table_schema.specs.Laws.{Laws}
 use Rattle.wire_messages.specs.declared.message.Message.TheVariants.{Stored}
 use Rattle.wire_messages.specs.declared.message.Tag.{Tag}
 use Rattle.wire_messages.specs.declared.message.Tag.TheVariants.{Call as ForCall, Round as ForRound, Item as ForItem}
 use Rattle.plane_model.specs.World as plane
 use Rattle.plane_model.specs.World.{took, row_at as log_at, kept_at}
-use Rattle.plane_model.specs.Action.{Action, takes, stores, takes_push, run, Happens}
+use Rattle.plane_model.specs.Action.{stores, takes_push, run, Happens}
 use Rattle.plane_laws.proofs.Runs.{run_append, happens_append}
 use Rattle.plane_laws.proofs.Sets.{contains_here}
 use Rattle.plane_laws.proofs.Sound.{IsSound}
 use Rattle.cluster_machine.specs.Layouts.{Layouts, is_given}
-use Rattle.cluster_machine.specs.Node.{Node, Did, quiet}
+use Rattle.cluster_machine.specs.Node.{Node}
 use Rattle.cluster_machine.specs.Rows.{accepts_read, accepts_all}
 use Rattle.cluster_machine.specs.Receives.{answers}
 use Rattle.cluster_machine.specs.World.{World}
 use Rattle.cluster_machine.specs.Step.{did}
 use Rattle.machine_laws.proofs.Controls.{Turns}
-use Rattle.machine_laws.proofs.Same.{Same, Unseen, same_all}
+use Rattle.machine_laws.proofs.Same.{same_all}
 use Rattle.machine_laws.proofs.Turning.{unseen}
 use Rattle.machine_reads.specs.Places.{Place, keys, place_of, at_place}
 use Rattle.machine_reads.specs.Tie.{Issued, Begun, a_round, a_repair, both, State, with_read, rows_read, placed, MeansTag, MeansDone, MeansPush, MeansStore, IsPush, Means, IsCall, IsRoundIn, IsNode, IsTied}
@@ -115,9 +114,9 @@ module _ {R L : Type 0} (join : R → R → R) (s : Words R) (k : Layouts L) (pa
       refl refl
       (λ i q e. took_other join s k partitions i n st.key st.row p.log q e)
       (λ q. ap (λ x. log_at both (took n x st.row ∷ p.log) n q) m.key
-          ∙ (took_own join s k partitions n st.row p.log q
-          ∙ (ap (λ o. cond (keys.is_same (place_of s st.row) q) (Rattle.crdt_core.specs.Order.option_join join o (Some st.row)) o) ((t.nodes n).rows q)
-          ∙ ap (λ rs. at_place s join (onto join s k partitions rs (w.nodes n).accepted) q) (sym m.rows_are))))
+      ∙ (took_own join s k partitions n st.row p.log q
+      ∙ (ap (λ o. cond (keys.is_same (place_of s st.row) q) (Rattle.crdt_core.specs.Order.option_join join o (Some st.row)) o) ((t.nodes n).rows q)
+      ∙ ap (λ rs. at_place s join (onto join s k partitions rs (w.nodes n).accepted) q) (sym m.rows_are))))
       (record { store = st; issued = m.issued; confirmed = contains_here _ p.stored })
 
   push_comes : (n now from number part named : ℕ) (bs : List (List ℕ × Option (List ℕ))) (round : plane.Round Place R) → g.rounds from number ≡ Some (a_round round) → IsPush join s k partitions p g round part named bs → nat_lt (newest k.reading (w.nodes n).view) named ≡ false →
@@ -137,12 +136,14 @@ module _ {R L : Type 0} (join : R → R → R) (s : Words R) (k : Layouts L) (pa
       let up = grown join s k partitions some joins_well p g g takings sound (taking_happens join s k partitions n rs p) (issues_self g) in
       let knows : m.push.newest ≤ both.control.newest p.control n = omega arith in
       accepting n now from (ForRound number part) bs acts
-      (happens_append both takings last p (taking_happens join s k partitions n rs p)
-      (record {
-        was_pushed = up.lists.pushes m.push m.is_there;
-        knows = subst (λ c. m.push.newest ≤ both.control.newest c n) (sym control) knows;
-        has = λ old q e. subst (λ rows. Rattle.plane_model.specs.Rows.IsOver join (log_at both mid.log n q) (Rattle.plane_model.specs.World.row_in both rows q)) (sym m.rows_are) (taking_over join s k partitions joins_well some n rs p q);
-      }, tt))
+      (happens_append both takings last p (taking_happens join s k partitions n rs p) (
+        record {
+          was_pushed = up.lists.pushes m.push m.is_there;
+          knows = subst (λ c. m.push.newest ≤ both.control.newest c n) (sym control) knows;
+          has = λ old q e. subst (λ rows. Rattle.plane_model.specs.Rows.IsOver join (log_at both mid.log n q) (Rattle.plane_model.specs.World.row_in both rows q)) (sym m.rows_are) (taking_over join s k partitions joins_well some n rs p q);
+        },
+        tt,
+      ))
       (ap (λ (x : State join s k partitions). x.control) same_run ∙ control)
       (ap (λ (x : State join s k partitions). x.kept) same_run ∙ taking_kept join s k partitions n rs p)
       (λ i q e. ap (λ (x : State join s k partitions). log_at both x.log i q) same_run ∙ taking_others join s k partitions i n rs p q e)

@@ -1,22 +1,21 @@
 -- Every step of the machine leads on, and so kept reads holds of every run.
-use Rattle.std.specs.Prelude.{◌≡◌, ◌≢◌, ◌≤◌, ◌<◌, ◌⊎◌, ℕ, zero, suc, ◌+◌, Bool, true, false, not, cond, ◌==◌, ◌&&◌, ◌||◌, leb, nat_lt, Option, Some, None, List, [], ◌∷◌, ◌++◌, length, map, IsTrue, refl, ⊤}
+use Rattle.std.specs.Prelude.{◌≡◌, ◌≤◌, ◌<◌, ℕ, suc, Bool, true, false, not, cond, ◌==◌, ◌&&◌, ◌||◌, leb, nat_lt, Option, Some, None, List, [], ◌∷◌, ◌++◌, length, map, IsTrue, refl}
 use Rattle.std.specs.Option.{unwrap_or}
-use Rattle.std.specs.List.{Contains, All, AllByRecursion, list_all, flat_map}
+use Rattle.std.specs.List.{Contains, AllByRecursion, flat_map}
 use Rattle.std.proofs.Common.{ap, sym, subst, ◌∙◌, inl, inr, arith}
 use Rattle.std.proofs.lemmas.Bool.{eqb-true, leb-false, leb-true}
 use Rattle.std.proofs.lemmas.List.Elements.{All-contains, recursion_from_All}
 use Rattle.crdt_core.specs.EntryLaws.{and_parts}
 use Rattle.crdt_core.specs.Laws.{JoinLaws}
-use Rattle.view_model.specs.View.{View, oldest, newest, read_version, merged, cleaned, ack_least}
+use Rattle.view_model.specs.View.{View, newest, read_version, merged, cleaned, ack_least}
 use Rattle.control_model.specs.World as control
-use Rattle.control_model.specs.Steps.{Step as Turn, run as turn_all}
+use Rattle.control_model.specs.Steps.{Step as Turn}
 use Rattle.control_model.specs.Facts.{Has, read_of}
 use Rattle.control_model.specs.Reached.{place_of}
 use Rattle.version_laws.proofs.Laws.{safe_at}
 use Rattle.layout_roles.specs.declared.role.Role.{Role}
 use Rattle.table_schema.specs.Words.{Words, partition_of}
 use Rattle.table_schema.specs.Laws.{Laws}
-use Rattle.quorum_model.specs.Quorum.{StoreSlot}
 use Rattle.wire_messages.specs.declared.message.Message.{Message}
 use Rattle.wire_messages.specs.declared.message.Message.TheVariants.{Get, Row, Range, Rows, Store, Stored, Behind, NotHere, BlockGet, Block, NoBlock}
 use Rattle.wire_messages.specs.declared.message.Tag.{Tag}
@@ -28,7 +27,6 @@ use Rattle.plane_model.specs.Action.{run as act_all}
 use Rattle.plane_laws.proofs.Runs.{run_append, happens_append}
 use Rattle.plane_laws.proofs.Sound.{IsSound}
 use Rattle.plane_laws.proofs.Steps.{all_sound}
-use Rattle.plane_meets.proofs.Quiet.{is_quiet}
 use Rattle.cluster_machine.specs.declared.step.Step.{Step}
 use Rattle.cluster_machine.specs.declared.step.Step.TheVariants.{Trio, Role as Stage, Redundancy as Spread, Apply, Tick, Skew, Deliver, Lose, Expire, Restart, Gossip, Ack, Sync as Syncs, SyncAck, Clean, Work, Repair, Open, Phase as Begin, Close}
 use Rattle.cluster_machine.specs.declared.step.Action.{Action}
@@ -42,24 +40,23 @@ use Rattle.cluster_machine.specs.Node.{Call, Item, Round, Node, Did, Packet, say
 use Rattle.cluster_machine.specs.Phases.{nodes_of, to_each, bytes_of, call_at, calls_now, begins, at_call, in_phase, row_came, rows_came, stored_came, block_came, looked, window_at}
 use Rattle.cluster_machine.specs.Rounds.{may_sync, begin_round}
 use Rattle.cluster_machine.specs.Rows.{block_at}
-use Rattle.cluster_machine.specs.Receives.{answers, where_stored, gives_row, gives_rows, gives_block, takes, round_came, item_came, confirms, hears, receives}
+use Rattle.cluster_machine.specs.Receives.{answers, where_stored, gives_rows, gives_block, takes, round_came, item_came, confirms, hears, receives}
 use Rattle.cluster_machine.specs.Acts.{Acted, item_posts, works, syncs, acts, appends}
 use Rattle.cluster_machine.specs.World.{Sent, Mark, Request, World, numbered, clock, empty}
-use Rattle.cluster_machine.specs.Step.{most_versions, Choice, given, none_given, Effects, nothing, refusal, only, changed, did, received, at_message, expires, closing, chosen, applies_at, trio_applies, acting, local, begun, beginning, opening, effects, sent_by}
+use Rattle.cluster_machine.specs.Step.{most_versions, Choice, given, none_given, Effects, nothing, refusal, did, received, at_message, expires, closing, chosen, applies_at, trio_applies, acting, begun, beginning, opening, effects, sent_by}
 use Rattle.cluster_machine.specs.Run.{Move, IsPhase, IsStep, IsLayout, IsChoice, next, run, IsRun}
 use Rattle.cluster_machine.specs.Kept.{GaveKept}
-use Rattle.machine_laws.proofs.Controls.{Turns}
-use Rattle.machine_laws.proofs.Same.{Unseen, Same, same_self, same_calls, unseen_quiet, unseen_hears, unseen_begins, unseen_looked, unseen_block, unseen_gives_block}
+use Rattle.machine_laws.proofs.Same.{Unseen, same_self, unseen_quiet, unseen_begins, unseen_looked, unseen_block}
 use Rattle.machine_laws.proofs.Turning.{stays, unseen, ack_turns, sync_ack_turns, clean_turns, view_turns}
 use Rattle.machine_laws.proofs.Requests.{close_turns, restart_turns, open_turns, gossip_turns}
 use Rattle.machine_laws.proofs.Rounding.{may_both}
 use Rattle.machine_laws.proofs.Applying.{install_turns, apply_turns}
 use Rattle.machine_laws.proofs.Runs.{all_numbered, stays_true, here, unseen_works}
-use Rattle.machine_reads.specs.Places.{Place, at_place}
+use Rattle.machine_reads.specs.Places.{Place}
 use Rattle.machine_reads.specs.Tie.{Issued, none_issued, both, State, MeansMessage, MeansPacket, Means, MeansDone, IsAsking, IsPresent, IsCall, IsNode, GetGaveKept, IsTied}
 use Rattle.machine_reads.proofs.Leads.{Leads, led, Less, less_self, only_control}
 use Rattle.machine_reads.proofs.Sees.{found_call, all_has, IsHere, reached_of}
-use Rattle.machine_reads.proofs.Called.{sent_each, quietly}
+use Rattle.machine_reads.proofs.Called.{sent_each}
 use Rattle.machine_reads.proofs.Asking.{plain_begins, read_begins, get_answers, row_comes}
 use Rattle.machine_reads.proofs.Takes.{rows_come}
 use Rattle.machine_reads.proofs.Storing.{sent_append, store_begins, confirm_comes}
@@ -222,9 +219,9 @@ module _ {R L : Type 0} (join : R → R → R) (s : Words R) (k : Layouts L) (pa
       elim (nat_lt (newest k.reading (w.nodes n).view) named) as (λ b. nat_lt (newest k.reading (w.nodes n).view) named ≡ b → LeadBy n (cond b (answers (w.nodes n) from (Behind tag (newest k.reading (w.nodes n).view))) (cond (not (is_given k (w.nodes n).view n part)) (answers (w.nodes n) from (NotHere tag)) (answers (Rattle.cluster_machine.specs.Rows.accepts_all join s now (w.nodes n) bs) from (Stored tag))))) [
         | true ↦ (λ e. says_bare n from (Behind tag (newest k.reading (w.nodes n).view)) (λ q h. tt))
         | false ↦ (λ low. elim (is_given k (w.nodes n).view n part) as (λ b. is_given k (w.nodes n).view n part ≡ b → LeadBy n (cond (not b) (answers (w.nodes n) from (NotHere tag)) (answers (Rattle.cluster_machine.specs.Rows.accepts_all join s now (w.nodes n) bs) from (Stored tag)))) [
-            | true ↦ (λ e. rows_come join s k partitions some joins_well laws A C w p g sound t n now from tag named part bs m low e)
-            | false ↦ (λ e. says_bare n from (NotHere tag) (λ q h. tt))
-          ] refl)
+          | true ↦ (λ e. rows_come join s k partitions some joins_well laws A C w p g sound t n now from tag named part bs m low e)
+          | false ↦ (λ e. says_bare n from (NotHere tag) (λ q h. tt))
+        ] refl)
       ] refl
 
   rows_give : (n from request phase : ℕ) (found : List R × Bool) → LeadBy n (gives_rows join s k (w.nodes n) from request phase found)
@@ -288,7 +285,7 @@ module _ {R L : Type 0} (join : R → R → R) (s : Words R) (k : Layouts L) (pa
       let c = p.control in
       let safe = safe_at k.reading partitions c (reached_of join s k partitions some p sound) in
       elim (may_sync join s k n x.view) as (λ b. may_sync join s k n x.view ≡ b → (cond {A = Acted R L} b (record { did = begin_round join s k n x; how = At (suc (read_version k.reading x.view)) }) (record { did = quiet x; how = Idle (read_version k.reading x.view) (ack_least k.reading x.view) })).did.is_spelled ≡ true →
-          LeadBy n (cond {A = Acted R L} b (record { did = begin_round join s k n x; how = At (suc (read_version k.reading x.view)) }) (record { did = quiet x; how = Idle (read_version k.reading x.view) (ack_least k.reading x.view) })).did) [
+      LeadBy n (cond {A = Acted R L} b (record { did = begin_round join s k n x; how = At (suc (read_version k.reading x.view)) }) (record { did = quiet x; how = Idle (read_version k.reading x.view) (ack_least k.reading x.view) })).did) [
         | true ↦ (λ may sp. round_begins join s k partitions some joins_well laws A C w p g sound t n e
             (may_both join s k partitions (c.nodes n) x n (t.control.nodes n) e (λ l is. t.control.layouts (read_of k.reading c n) l (sym (safe.layouts n (read_of k.reading c n) (safe.stored n) (safe.known n)) ∙ is)) may)
             (leb-true (suc (read_version k.reading x.view)) (newest k.reading x.view) (and_parts (leb (suc (read_version k.reading x.view)) (newest k.reading x.view)) _ may).0) sp)

@@ -1,5 +1,5 @@
 -- A node sees a view, and may drop rows; a request opens.
-use Rattle.std.specs.Prelude.{◌≡◌, ◌≢◌, ◌≤◌, ◌<◌, ◌⊎◌, ℕ, suc, ◌+◌, Bool, true, false, cond, ◌==◌, leb, Option, Some, None, List, [], ◌∷◌, ◌++◌, length, map, filter, IsTrue, refl, ⊤}
+use Rattle.std.specs.Prelude.{◌≡◌, ◌≤◌, ◌⊎◌, ℕ, suc, ◌+◌, Bool, true, false, cond, ◌==◌, leb, Option, Some, None, List, [], ◌∷◌, ◌++◌, length, map, filter, IsTrue, refl}
 use Rattle.std.specs.Option.{unwrap_or}
 use Rattle.std.specs.List.{AllByRecursion, list_all}
 use Rattle.std.proofs.Common.{ap, sym, subst, ◌∙◌, inl, inr, arith}
@@ -11,25 +11,24 @@ use Rattle.control_model.specs.Steps.{Step, run as turn_all}
 use Rattle.table_schema.specs.Words.{Words, partition_of}
 use Rattle.table_schema.specs.Laws.{Laws}
 use Rattle.plane_model.specs.World.{row_at as log_at, kept_at}
-use Rattle.plane_model.specs.Action.{moves, drops as leaves, step, run, Happens}
+use Rattle.plane_model.specs.Action.{moves, run, Happens}
 use Rattle.plane_laws.proofs.Runs.{run_append, happens_append}
 use Rattle.plane_laws.proofs.Sound.{IsSound}
 use Rattle.plane_laws.proofs.Steps.{run_sound}
 use Rattle.plane_meets.proofs.Quiet.{is_quiet, quiet_happens}
-use Rattle.cluster_machine.specs.Layouts.{Layouts, is_given, is_member}
-use Rattle.cluster_machine.specs.Node.{Call, Round, Node, quiet, resting}
+use Rattle.cluster_machine.specs.Layouts.{Layouts, is_given}
+use Rattle.cluster_machine.specs.Node.{Round, Node, quiet, resting}
 use Rattle.cluster_machine.specs.Phases.{opened}
 use Rattle.cluster_machine.specs.Rows.{still, drops, sees}
-use Rattle.cluster_machine.specs.World.{World, Request}
+use Rattle.cluster_machine.specs.World.{World}
 use Rattle.cluster_machine.specs.Step.{Effects, only, changed, did, applied}
-use Rattle.machine_laws.specs.Follows.{Controlled}
 use Rattle.machine_laws.proofs.Controls.{Turns, turned}
-use Rattle.machine_reads.specs.Places.{Place, keys, place_of, at_place}
+use Rattle.machine_reads.specs.Places.{Place, keys, at_place}
 use Rattle.machine_reads.specs.Tie.{Issued, both, State, IsCall, IsRoundIn, IsNode, IsTied}
 use Rattle.machine_reads.proofs.Placed.{kept_at_place, none_at_place}
 use Rattle.machine_reads.proofs.Growth.{same_at, same_of, calls_stay, call_stays, round_in_stays, node_stays, SameOf}
 use Rattle.machine_reads.proofs.Logs.{moved_control, moved_log, moved_kept, dropping, dropping_happens, dropping_same, dropping_others, dropping_keeps, dropping_none}
-use Rattle.machine_reads.proofs.Leads.{Issues, issues_self, Act, laws_of, grown, Leads, led, Less, only_control, by_node, less_self, at_one}
+use Rattle.machine_reads.proofs.Leads.{Issues, issues_self, Act, laws_of, grown, Leads, Less, only_control, by_node, less_self, at_one}
 use Rattle.machine_reads.proofs.Sets.{not_given}
 
 all_filter : {X : Type 0} (P : X → Type 0) (f : X → Bool) (xs : List X) → AllByRecursion P xs → AllByRecursion P (filter f xs)
@@ -79,7 +78,7 @@ module _ {R L : Type 0} (join : R → R → R) (s : Words R) (k : Layouts L) (pa
       let controlled = turned k partitions w p.control mid.control e t.control turns_mid in
       let node_same : changed (only n y) w.nodes n ≡ y = changed_own n y w.nodes in
       let may : (q : State join s k partitions) (part : ℕ) → q.control ≡ mid.control → test part ≡ false → Rattle.plane_model.specs.Control.Gives P.control q.control n part → ⊥ = λ q part same no gives.
-          not_given join s k partitions some (applied w e) mid g sound_mid controlled n part (ap (λ (z : Node R L). is_given k z.view n part) node_same ∙ no) (subst (λ c. Rattle.plane_model.specs.Control.Gives P.control c n part) same gives) in
+      not_given join s k partitions some (applied w e) mid g sound_mid controlled n part (ap (λ (z : Node R L). is_given k z.view n part) node_same ∙ no) (subst (λ c. Rattle.plane_model.specs.Control.Gives P.control c n part) same gives) in
       let happens : Happens P p acts = happens_append P first last p goes (dropping_happens join s k partitions n test (λ q. q.control ≡ mid.control) (λ q part h. h) may x.accepted mid refl) in
       let same_run : new ≡ run P mid last = run_append P first last p in
       let control : new.control ≡ mid.control = ap (λ (q : State join s k partitions). q.control) same_run ∙ dropping_same join s k partitions (λ q. q.control) n (λ q part. refl) test x.accepted mid in

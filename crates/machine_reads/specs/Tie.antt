@@ -1,5 +1,5 @@
 -- What the machine's messages, calls, rounds and rows are in a world of the data plane.
-use Rattle.std.specs.Prelude.{◌≡◌, ◌≤◌, ◌<◌, ◌⊎◌, ℕ, suc, ◌+◌, Option, Some, None, List, [], ◌∷◌, ◌++◌, length, map, IsTrue, ⊤}
+use Rattle.std.specs.Prelude.{◌≡◌, ◌≤◌, ◌<◌, ◌⊎◌, ℕ, suc, ◌+◌, Option, Some, None, List, [], ◌∷◌, length, map, IsTrue, ⊤}
 use Rattle.std.specs.List.{Contains, AllByRecursion}
 use Rattle.control_model.specs.World as control
 use Rattle.control_model.specs.Steps.{Step}
@@ -14,7 +14,7 @@ use Rattle.wire_messages.specs.declared.message.Tag.TheVariants.{Call as ForCall
 use Rattle.plane_model.specs.Plane.{Plane}
 use Rattle.plane_model.specs.World as plane
 use Rattle.plane_model.specs.World.{row_at as log_at, kept_at}
-use Rattle.plane_model.specs.Action.{Action, HasPushed}
+use Rattle.plane_model.specs.Action.{HasPushed}
 use Rattle.plane_meets.specs.Joint.{joint}
 use Rattle.cluster_machine.specs.Layouts.{Layouts}
 use Rattle.cluster_machine.specs.Node as machine
