@@ -24,16 +24,16 @@ pub all_weaker : {A : Type 0} (P Q : A → Type 0) → ((x : A) → P x → Q x)
 all_weaker P Q f [] h = tt
 all_weaker P Q f (x ∷ xs) h = (f x h.0, all_weaker P Q f xs h.1)
 
-length_shut_one : (rs : List Request) (q : ℕ) (r : Option Request) → length (shut_one rs q r) ≡ length rs
+pub length_shut_one : (rs : List Request) (q : ℕ) (r : Option Request) → length (shut_one rs q r) ≡ length rs
 length_shut_one rs q None = refl
 length_shut_one rs q (Some r) = length-set rs (q - 1) (record r { is_open = false })
 
-length_shut : (rs : List Request) (qs : List ℕ) → length (shut rs qs) ≡ length rs
+pub length_shut : (rs : List Request) (qs : List ℕ) → length (shut rs qs) ≡ length rs
 length_shut rs [] = refl
 length_shut rs (q ∷ qs) = length_shut (shut_one rs q (numbered rs q)) qs ∙ length_shut_one rs q (numbered rs q)
 
 module _ {R L : Type 0} where
-  shown_grows : (c new : control.World L) → ((v : View L) → Has c.sent v → Has new.sent v) → (p : Packet R L) → IsShown c p → IsShown new p
+  pub shown_grows : (c new : control.World L) → ((v : View L) → Has c.sent v → Has new.sent v) → (p : Packet R L) → IsShown c p → IsShown new p
   shown_grows c new g (says m) h = tt
   shown_grows c new g (shows v) h = g v h
 

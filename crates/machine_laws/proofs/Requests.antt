@@ -20,7 +20,7 @@ use Rattle.machine_laws.proofs.Ties.{without_flies}
 use Rattle.machine_laws.proofs.Controls.{one_changes, one_stays, Turns}
 use Rattle.machine_laws.proofs.Turning.{has_more, none_more}
 
-same_either_way : (m n : ℕ) → (m == n) ≡ (n == m)
+pub same_either_way : (m n : ℕ) → (m == n) ≡ (n == m)
 same_either_way m n =
     elim (m == n) as (λ b. (m == n) ≡ b → b ≡ (n == m)) [
       | true ↦ (λ e. sym (eq-eqb n m (sym (eqb-true m n e))))
@@ -30,7 +30,7 @@ same_either_way m n =
 pub one_more : (n : ℕ) → suc n ≡ n + 1
 one_more n = omega arith
 
-has_last : {X : Type 0} (xs : List X) (x y : X) → x ≡ y → Has (xs ++ x ∷ []) y
+pub has_last : {X : Type 0} (xs : List X) (x y : X) → x ≡ y → Has (xs ++ x ∷ []) y
 has_last [] x y e = inl e
 has_last (z ∷ xs) x y e = inr (has_last xs x y e)
 
@@ -57,10 +57,10 @@ module _ {L : Type 0} where
 
 module _ {L : Type 0} (k : Layouts L) (partitions : ℕ) where
   -- a request begins
-  abbrev begun : control.World L → ℕ → control.Node L
+  abbrev pub begun : control.World L → ℕ → control.Node L
   begun c n = record (c.nodes n) { requests = record { number = suc c.asked; start = newest k.reading (control.view_of c n) } ∷ (c.nodes n).requests }
 
-  begin_is : (c : control.World L) (n : ℕ) → is_current k.reading (control.view_of c n) n ≡ true → IsOne c (step k.reading partitions c (Step.Begin n)) n (begun c n) 1
+  pub begin_is : (c : control.World L) (n : ℕ) → is_current k.reading (control.view_of c n) n ≡ true → IsOne c (step k.reading partitions c (Step.Begin n)) n (begun c n) 1
   begin_is c n e = rw e (record { nodes = λ m. refl; top = refl; more = one_more c.asked; grows = λ v i. has_more c.sent [] v i; applied = λ i. refl })
 
 module _ {R L A C : Type 0} (k : Layouts L) (partitions : ℕ) where

@@ -29,7 +29,7 @@ use Rattle.machine_laws.proofs.Requests.{among_in, members_same, IsOne, one_turn
 pub some_same : {X : Type 0} (x y : X) → Some x ≡ Some y → x ≡ y
 some_same x y e = ap (λ o. unwrap_or o x) e
 
-cond_twice : {X : Type 0} (b : Bool) (z y x : X) → cond b z (cond b y x) ≡ cond b z x
+pub cond_twice : {X : Type 0} (b : Bool) (z y x : X) → cond b z (cond b y x) ≡ cond b z x
 cond_twice true z y x = refl
 cond_twice false z y x = refl
 
@@ -37,7 +37,7 @@ module _ {L : Type 0} where
   pub node_after : (c new : control.World L) (n : ℕ) (y : control.Node L) (asked : ℕ) → IsOne c new n y asked → new.nodes n ≡ y
   node_after c new n y asked is = is.nodes n ∙ rw (eq-eqb n n refl) refl
 
-  one_then : (c d new : control.World L) (n : ℕ) (y z : control.Node L) → IsOne c d n y 0 → IsOne d new n z 0 → IsOne c new n z 0
+  pub one_then : (c d new : control.World L) (n : ℕ) (y z : control.Node L) → IsOne c d n y 0 → IsOne d new n z 0 → IsOne c new n z 0
   one_then c d new n y z h k = record {
     nodes = λ m. k.nodes m ∙ (ap (λ x. cond (m == n) z x) (h.nodes m) ∙ cond_twice (m == n) z y (c.nodes m));
     top = k.top ∙ h.top;
@@ -51,7 +51,7 @@ module _ {L : Type 0} (k : Layouts L) (partitions : ℕ) where
   abbrev pub completed : control.World L → ℕ → ℕ → control.Node L
   completed c n i = record (c.nodes n) { view = with_entry k.reading Sync n i (control.view_of c n); round = None }
 
-  completes_is : (c : control.World L) (n i : ℕ) (o : Option ℕ) → o ≡ Some i → IsOne c (control.next c (completes k.reading c n o)) n (completed c n i) 0
+  pub completes_is : (c : control.World L) (n i : ℕ) (o : Option ℕ) → o ≡ Some i → IsOne c (control.next c (completes k.reading c n o)) n (completed c n i) 0
   completes_is c n i None e = cc
   completes_is c n i (Some j) e = subst (λ v. IsOne c (control.next c (completes k.reading c n (Some v))) n (completed c n i) 0) (sym (some_same j i e))
       (record { nodes = λ m. refl; top = refl; more = none_more c.asked; grows = λ v h. has_more c.sent [] v h; applied = λ v. refl })
@@ -76,7 +76,7 @@ module _ {R L A C : Type 0} (k : Layouts L) (partitions : ℕ) where
 
 module _ {R L A C : Type 0} (join : R → R → R) (s : Words R) (k : Layouts L) (partitions : ℕ) where
   -- a round that is complete
-  sync_goes : (w : World R L) (c : control.World L) (n : ℕ) (round : Round) → Controlled k partitions w c → option_map target_of (w.nodes n).round ≡ Some round.target →
+  pub sync_goes : (w : World R L) (c : control.World L) (n : ℕ) (round : Round) → Controlled k partitions w c → option_map target_of (w.nodes n).round ≡ Some round.target →
       Goes {A = A} {C = C} k partitions w c (did w n (quiet (synced join s k n (w.nodes n) round)))
   sync_goes w c n round t e =
       let h = t.nodes n in record {
@@ -87,7 +87,7 @@ module _ {R L A C : Type 0} (join : R → R → R) (s : Words R) (k : Layouts L)
             (λ m. refl) refl refl tt;
       }
 
-  on_goes : (w : World R L) (c : control.World L) (n : ℕ) (round : Round) → Controlled k partitions w c → option_map target_of (w.nodes n).round ≡ Some round.target →
+  pub on_goes : (w : World R L) (c : control.World L) (n : ℕ) (round : Round) → Controlled k partitions w c → option_map target_of (w.nodes n).round ≡ Some round.target →
       Goes {A = A} {C = C} k partitions w c (did w n (quiet (goes_on join s k n (w.nodes n) round)))
   on_goes w c n round t e =
       elim (is_complete round) as (λ b. Goes {A = A} {C = C} k partitions w c (did w n (quiet (cond b (synced join s k n (w.nodes n) round) (record (w.nodes n) { round = Some round }))))) [
@@ -95,7 +95,7 @@ module _ {R L A C : Type 0} (join : R → R → R) (s : Words R) (k : Layouts L)
         | false ↦ goes_unseen k partitions w c n (quiet (record (w.nodes n) { round = Some round })) t (unseen_quiet (w.nodes n) _ (record { view = refl; calls = refl; round = sym e }))
       ]
 
-  came_goes : (w : World R L) (c : control.World L) (n from number p : ℕ) (o : Option Round) → Controlled k partitions w c → (w.nodes n).round ≡ o →
+  pub came_goes : (w : World R L) (c : control.World L) (n from number p : ℕ) (o : Option Round) → Controlled k partitions w c → (w.nodes n).round ≡ o →
       Goes {A = A} {C = C} k partitions w c (did w n (round_came join s k n (w.nodes n) from number p o))
   came_goes w c n from number p None t e = goes_unseen k partitions w c n (quiet (w.nodes n)) t (unseen_quiet (w.nodes n) _ (same_self (w.nodes n)))
   came_goes w c n from number p (Some round) t e =
@@ -111,11 +111,11 @@ module _ {R L A C : Type 0} (join : R → R → R) (s : Words R) (k : Layouts L)
   confirmed_goes w c n from number p t = came_goes w c n from number p (w.nodes n).round t refl
 
 module _ {R L : Type 0} (join : R → R → R) (s : Words R) (k : Layouts L) where
-  said_pushes_rows : (x : Node R L) (number p : ℕ) (nodes : List ℕ) (rs : List R) → SaysOnly (pushes_rows join s k x number p nodes rs)
+  pub said_pushes_rows : (x : Node R L) (number p : ℕ) (nodes : List ℕ) (rs : List R) → SaysOnly (pushes_rows join s k x number p nodes rs)
   said_pushes_rows x number p nodes [] = tt
   said_pushes_rows x number p nodes (r ∷ rs) = said_to_each L nodes _
 
-  said_pushes : (x : Node R L) (number : ℕ) (nodes_of : Part → List ℕ) (parts : List Part) → SaysOnly (flat_map (λ part. pushes join s k x number part.partition (nodes_of part)) parts)
+  pub said_pushes : (x : Node R L) (number : ℕ) (nodes_of : Part → List ℕ) (parts : List Part) → SaysOnly (flat_map (λ part. pushes join s k x number part.partition (nodes_of part)) parts)
   said_pushes x number nodes_of [] = tt
   said_pushes x number nodes_of (part ∷ parts) =
       all_append _ (pushes join s k x number part.partition (nodes_of part)) _ (said_pushes_rows x number part.partition (nodes_of part) (rows_at join s x part.partition)) (said_pushes x number nodes_of parts)

@@ -40,21 +40,21 @@ use Rattle.machine_laws.proofs.Requests.{close_turns, restart_turns, open_turns,
 use Rattle.machine_laws.proofs.Rounding.{Goes, goes_unseen, confirmed_goes, unseen_again, unseen_repairs, may_both, begun_goes}
 use Rattle.machine_laws.proofs.Applying.{install_turns, apply_turns}
 
-all_at : {X : Type 0} (P : X → Type 0) (xs : List X) (i : ℕ) (x : X) → AllByRecursion P xs → slice_get xs i ≡ Some x → P x
+pub all_at : {X : Type 0} (P : X → Type 0) (xs : List X) (i : ℕ) (x : X) → AllByRecursion P xs → slice_get xs i ≡ Some x → P x
 all_at P [] i x a e = cc
 all_at P (y ∷ ys) zero x a e = subst P (ap (λ o. unwrap_or o x) e) a.0
 all_at P (y ∷ ys) (suc i) x a e = all_at P ys i x a.1 e
 
-all_numbered : {X : Type 0} (P : X → Type 0) (xs : List X) (m : ℕ) (x : X) → AllByRecursion P xs → numbered xs m ≡ Some x → P x
+pub all_numbered : {X : Type 0} (P : X → Type 0) (xs : List X) (m : ℕ) (x : X) → AllByRecursion P xs → numbered xs m ≡ Some x → P x
 all_numbered P xs zero x a e = cc
 all_numbered P xs (suc m) x a e = all_at P xs m x a e
 
-stays_true : (b : Bool) → not b ≡ false → b ≡ true
+pub stays_true : (b : Bool) → not b ≡ false → b ≡ true
 stays_true true e = refl
 stays_true false e = cc
 
 -- this node, at its own place
-here : {R L : Type 0} (k : Layouts L) (nodes : ℕ → Node R L) (l : L) (n m : ℕ) → only n (appends k (nodes n) l) m ≡ cond (m == n) (Some (appends k (nodes m) l)) None
+pub here : {R L : Type 0} (k : Layouts L) (nodes : ℕ → Node R L) (l : L) (n m : ℕ) → only n (appends k (nodes n) l) m ≡ cond (m == n) (Some (appends k (nodes m) l)) None
 here k nodes l n m =
     elim (m == n) as (λ b. (m == n) ≡ b → cond b (Some (appends k (nodes n) l)) None ≡ cond b (Some (appends k (nodes m) l)) None) [
       | true ↦ (λ e. ap (λ i. Some (appends k (nodes i) l)) (sym (eqb-true m n e)))
@@ -62,34 +62,34 @@ here k nodes l n m =
     ] refl
 
 module _ {R L : Type 0} (join : R → R → R) (s : Words R) (k : Layouts L) where
-  said_items : (v : View L) (items : List (Item R)) → SaysOnly (flat_map (item_posts join s k v) items)
+  pub said_items : (v : View L) (items : List (Item R)) → SaysOnly (flat_map (item_posts join s k v) items)
   said_items v [] = tt
   said_items v (item ∷ items) =
       all_append _ (item_posts join s k v item) (flat_map (item_posts join s k v) items)
       (said_to_each L (nodes_of (stored_sets k v (partition_of s item.row))) (Store (ForItem item.number) (newest k.reading v) (partition_of s item.row) ((bytes_of s item.row, None) ∷ [])))
       (said_items v items)
 
-  unseen_works : (now : ℕ) (x : Node R L) → Unseen x (works join s k now x).did
+  pub unseen_works : (now : ℕ) (x : Node R L) → Unseen x (works join s k now x).did
   unseen_works now x = record { same = record { view = refl; calls = refl; round = refl }; posts = said_items x.view x.items }
 
 module _ {R L A C : Type 0} (join : R → R → R) (s : Words R) (k : Layouts L) (partitions : ℕ) where
-  goes_cond : (w : World R L) (c : control.World L) (b : Bool) (d e : Effects R L A C) → (b ≡ true → Goes k partitions w c d) → (b ≡ false → Goes k partitions w c e) → Goes k partitions w c (cond b d e)
+  pub goes_cond : (w : World R L) (c : control.World L) (b : Bool) (d e : Effects R L A C) → (b ≡ true → Goes k partitions w c d) → (b ≡ false → Goes k partitions w c e) → Goes k partitions w c (cond b d e)
   goes_cond w c true d e f g = f refl
   goes_cond w c false d e f g = g refl
 
-  nothing_goes : (w : World R L) (c : control.World L) → Controlled k partitions w c → Goes {A = A} {C = C} k partitions w c (nothing w)
+  pub nothing_goes : (w : World R L) (c : control.World L) → Controlled k partitions w c → Goes {A = A} {C = C} k partitions w c (nothing w)
   nothing_goes w c t = record { steps = []; turns = stays k partitions w c (nothing w) t (λ n. refl) refl refl refl }
 
-  refusal_goes : (w : World R L) (c : control.World L) (r : Refusal C) → Controlled k partitions w c → Goes {A = A} k partitions w c (refusal w r)
+  pub refusal_goes : (w : World R L) (c : control.World L) (r : Refusal C) → Controlled k partitions w c → Goes {A = A} k partitions w c (refusal w r)
   refusal_goes w c r t = record { steps = []; turns = stays k partitions w c (refusal w r) t (λ n. refl) refl refl refl }
 
-  received_goes : (w : World R L) (c : control.World L) (m : ℕ) (e : Effects R L A C) → Goes k partitions w c e → Goes k partitions w c (received m e)
+  pub received_goes : (w : World R L) (c : control.World L) (m : ℕ) (e : Effects R L A C) → Goes k partitions w c e → Goes k partitions w c (received m e)
   received_goes w c m e g = record {
     steps = g.steps;
     turns = record { nodes = g.turns.nodes; top = g.turns.top; asked = g.turns.asked; grows = g.turns.grows; sends = g.turns.sends; layouts = g.turns.layouts };
   }
 
-  hears_goes : (w : World R L) (c : control.World L) (n from : ℕ) (m : Message R) → Controlled k partitions w c → Goes {A = A} {C = C} k partitions w c (did w n (hears join s k n (clock w n) (w.nodes n) from m))
+  pub hears_goes : (w : World R L) (c : control.World L) (n from : ℕ) (m : Message R) → Controlled k partitions w c → Goes {A = A} {C = C} k partitions w c (did w n (hears join s k n (clock w n) (w.nodes n) from m))
   hears_goes w c n from (Get request phase at table key) t = goes_unseen k partitions w c n _ t (unseen_hears join s k n (clock w n) (w.nodes n) from (Get request phase at table key) tt)
   hears_goes w c n from (Row request phase row) t = goes_unseen k partitions w c n _ t (unseen_hears join s k n (clock w n) (w.nodes n) from (Row request phase row) tt)
   hears_goes w c n from (Range request phase at bucket prefix after) t = goes_unseen k partitions w c n _ t (unseen_hears join s k n (clock w n) (w.nodes n) from (Range request phase at bucket prefix after) tt)
@@ -104,32 +104,32 @@ module _ {R L A C : Type 0} (join : R → R → R) (s : Words R) (k : Layouts L)
   hears_goes w c n from (Block request phase bytes) t = goes_unseen k partitions w c n _ t (unseen_hears join s k n (clock w n) (w.nodes n) from (Block request phase bytes) tt)
   hears_goes w c n from (NoBlock request phase) t = goes_unseen k partitions w c n _ t (unseen_hears join s k n (clock w n) (w.nodes n) from (NoBlock request phase) tt)
 
-  receives_goes : (w : World R L) (c : control.World L) (n from : ℕ) (p : Packet R L) → Controlled k partitions w c → IsShown c p → Goes {A = A} {C = C} k partitions w c (did w n (receives join s k n (clock w n) (w.nodes n) from p))
+  pub receives_goes : (w : World R L) (c : control.World L) (n from : ℕ) (p : Packet R L) → Controlled k partitions w c → IsShown c p → Goes {A = A} {C = C} k partitions w c (did w n (receives join s k n (clock w n) (w.nodes n) from p))
   receives_goes w c n from (says m) t h = hears_goes w c n from m t
   receives_goes w c n from (shows v) t h = record { steps = Turn.Deliver n (place_of c.sent v h).0 ∷ []; turns = view_turns k partitions join s w c n (clock w n) v h t }
 
   -- a message comes, unless there is none with this number or it was lost
-  message_goes : (w : World R L) (c : control.World L) (m : ℕ) (f : Sent R L → Effects R L A C) (o : Option (Sent R L)) (mark : Option Mark) → Controlled k partitions w c →
+  pub message_goes : (w : World R L) (c : control.World L) (m : ℕ) (f : Sent R L → Effects R L A C) (o : Option (Sent R L)) (mark : Option Mark) → Controlled k partitions w c →
       ((x : Sent R L) → o ≡ Some x → Goes k partitions w c (f x)) → Goes k partitions w c (at_message w f o mark)
   message_goes w c m f None mark t g = refusal_goes w c NoSuchMessage t
   message_goes w c m f (Some x) None t g = refusal_goes w c NoSuchMessage t
   message_goes w c m f (Some x) (Some mark) t g = goes_cond w c mark.is_lost (refusal w Lost) (f x) (λ e. refusal_goes w c Lost t) (λ e. g x refl)
 
-  expires_goes : (w : World R L) (c : control.World L) (q : ℕ) (o : Option Request) → Controlled k partitions w c → Goes {A = A} {C = C} k partitions w c (expires w q o)
+  pub expires_goes : (w : World R L) (c : control.World L) (q : ℕ) (o : Option Request) → Controlled k partitions w c → Goes {A = A} {C = C} k partitions w c (expires w q o)
   expires_goes w c q None t = refusal_goes w c NoSuchRequest t
   expires_goes w c q (Some r) t =
       goes_cond w c r.is_open _ (refusal w AlreadyEnded)
       (λ e. record { steps = Turn.End r.coordinator q ∷ []; turns = close_turns k partitions w c r.coordinator q _ t (λ m. refl) refl refl refl })
       (λ e. refusal_goes w c AlreadyEnded t)
 
-  closing_goes : (w : World R L) (c : control.World L) (q : ℕ) (o : Option Request) → Controlled k partitions w c → Goes {A = A} {C = C} k partitions w c (closing w q o)
+  pub closing_goes : (w : World R L) (c : control.World L) (q : ℕ) (o : Option Request) → Controlled k partitions w c → Goes {A = A} {C = C} k partitions w c (closing w q o)
   closing_goes w c q None t = nothing_goes w c t
   closing_goes w c q (Some r) t =
       goes_cond w c r.is_open _ (nothing w)
       (λ e. record { steps = Turn.End r.coordinator q ∷ []; turns = close_turns k partitions w c r.coordinator q _ t (λ m. refl) refl refl refl })
       (λ e. nothing_goes w c t)
 
-  syncs_goes : (w : World R L) (c : control.World L) (n : ℕ) (o : Option Round) → IsReached k.reading partitions c → Controlled k partitions w c → (w.nodes n).round ≡ o →
+  pub syncs_goes : (w : World R L) (c : control.World L) (n : ℕ) (o : Option Round) → IsReached k.reading partitions c → Controlled k partitions w c → (w.nodes n).round ≡ o →
       Goes {A = A} {C = C} k partitions w c (did w n (syncs join s k n (w.nodes n) o).did)
   syncs_goes w c n (Some round) reached t e = goes_unseen k partitions w c n _ t (unseen_again join s k n (w.nodes n) round)
   syncs_goes w c n None reached t e =
@@ -141,7 +141,7 @@ module _ {R L A C : Type 0} (join : R → R → R) (s : Words R) (k : Layouts L)
         | false ↦ (λ may. goes_unseen k partitions w c n (quiet x) t (unseen_quiet x x (same_self x)))
       ] refl
 
-  acts_goes : (w : World R L) (c : control.World L) (n : ℕ) (a : Action) → IsReached k.reading partitions c → Controlled k partitions w c → Goes {A = A} {C = C} k partitions w c (did w n (acts join s k n (clock w n) (w.nodes n) a).did)
+  pub acts_goes : (w : World R L) (c : control.World L) (n : ℕ) (a : Action) → IsReached k.reading partitions c → Controlled k partitions w c → Goes {A = A} {C = C} k partitions w c (did w n (acts join s k n (clock w n) (w.nodes n) a).did)
   acts_goes w c n RaiseAck reached t = record { steps = Turn.RaiseAck n ∷ []; turns = ack_turns k partitions w c n t }
   acts_goes w c n GoOn reached t = syncs_goes w c n (w.nodes n).round reached t refl
   acts_goes w c n RaiseSyncAck reached t = record { steps = Turn.RaiseSyncAck n ∷ []; turns = sync_ack_turns k partitions w c n t }
@@ -150,7 +150,7 @@ module _ {R L A C : Type 0} (join : R → R → R) (s : Words R) (k : Layouts L)
   acts_goes w c n Mend reached t = goes_unseen k partitions w c n _ t (unseen_repairs join s k n (w.nodes n))
 
 module _ {L : Type 0} (k : Layouts L) (partitions : ℕ) where
-  reached_all : (c : control.World L) (steps : List (Turn L)) → IsReached k.reading partitions c → IsReached k.reading partitions (turn_all k.reading partitions c steps)
+  pub reached_all : (c : control.World L) (steps : List (Turn L)) → IsReached k.reading partitions c → IsReached k.reading partitions (turn_all k.reading partitions c steps)
   reached_all c [] h = h
   reached_all c (x ∷ steps) h = reached_all (turn k.reading partitions c x) steps (reached_step k.reading partitions c x h)
 
@@ -169,25 +169,25 @@ module _ {R L : Type 0} (k : Layouts L) (partitions : ℕ) where
   }
 
 module _ {R L A C : Type 0} (join : R → R → R) (s : Words R) (k : Layouts L) (trio : L) (trio_roles : List Role → List Role) (partitions : ℕ) (is_trio : IsLayout k partitions trio) (is_first : k.reading.version trio ≡ 1) where
-  abbrev Going : World R L → control.World L → Effects R L A C → Type 0
+  abbrev pub Going : World R L → control.World L → Effects R L A C → Type 0
   Going w c e = Goes k partitions w c e
 
-  choose : (w : World R L) (c : control.World L) (b : Bool) (d e : Effects R L A C) → (b ≡ true → Going w c d) → (b ≡ false → Going w c e) → Going w c (cond b d e)
+  pub choose : (w : World R L) (c : control.World L) (b : Bool) (d e : Effects R L A C) → (b ≡ true → Going w c d) → (b ≡ false → Going w c e) → Going w c (cond b d e)
   choose w c b d e f g = goes_cond join s k partitions w c b d e f g
 
-  refuse : (w : World R L) (c : control.World L) (r : Refusal C) → Controlled k partitions w c → Going w c (refusal w r)
+  pub refuse : (w : World R L) (c : control.World L) (r : Refusal C) → Controlled k partitions w c → Going w c (refusal w r)
   refuse w c r t = refusal_goes join s k partitions w c r t
 
-  acting_goes : (w : World R L) (c : control.World L) (n : ℕ) (b : Bool) (a : Acted R L) → Controlled k partitions w c → Going w c (did w n a.did) → Going w c (acting join s k trio trio_roles w n b a)
+  pub acting_goes : (w : World R L) (c : control.World L) (n : ℕ) (b : Bool) (a : Acted R L) → Controlled k partitions w c → Going w c (did w n a.did) → Going w c (acting join s k trio trio_roles w n b a)
   acting_goes w c n b a t g = choose w c b (refusal w NotMember) _ (λ e. refuse w c NotMember t) (λ e. record {
     steps = g.steps;
     turns = record { nodes = g.turns.nodes; top = g.turns.top; asked = g.turns.asked; grows = g.turns.grows; sends = g.turns.sends; layouts = g.turns.layouts };
   })
 
-  local_goes : (w : World R L) (c : control.World L) (n : ℕ) (a : Action) → IsReached k.reading partitions c → Controlled k partitions w c → Going w c (local join s k trio trio_roles w n a)
+  pub local_goes : (w : World R L) (c : control.World L) (n : ℕ) (a : Action) → IsReached k.reading partitions c → Controlled k partitions w c → Going w c (local join s k trio trio_roles w n a)
   local_goes w c n a reached t = acting_goes w c n (has_none k (w.nodes n).view) (acts join s k n (clock w n) (w.nodes n) a) t (acts_goes join s k partitions w c n a reached t)
 
-  trio_goes : (w : World R L) (c : control.World L) → Controlled k partitions w c → leb 1 w.applied ≡ false → Going w c (trio_applies join s k trio trio_roles w)
+  pub trio_goes : (w : World R L) (c : control.World L) → Controlled k partitions w c → leb 1 w.applied ≡ false → Going w c (trio_applies join s k trio trio_roles w)
   trio_goes w c t e =
       let low : w.applied < 1 = leb-false 1 w.applied e in
       let none : w.applied ≡ 0 = omega arith in record {
@@ -195,7 +195,7 @@ module _ {R L A C : Type 0} (join : R → R → R) (s : Words R) (k : Layouts L)
         turns = install_turns k partitions w c (λ n. (n == 1) || ((n == 2) || (n == 3))) trio _ t is_trio is_first none (λ m. refl) refl refl refl;
       }
 
-  given_goes : (w : World R L) (c : control.World L) (n : ℕ) (l : L) (shown : A) → IsReached k.reading partitions c → Controlled k partitions w c → IsLayout k partitions l → k.reading.version l ≡ suc w.applied →
+  pub given_goes : (w : World R L) (c : control.World L) (n : ℕ) (l : L) (shown : A) → IsReached k.reading partitions c → Controlled k partitions w c → IsLayout k partitions l → k.reading.version l ≡ suc w.applied →
       (leb 1 w.applied && not (is_member k (w.nodes n).view n)) ≡ false → leb (suc (newest k.reading (w.nodes n).view)) w.applied ≡ false →
       Going w c (chosen join s k trio trio_roles w n (suc (newest k.reading (w.nodes n).view)) (given l shown))
   given_goes w c n l shown reached t is version member free =
@@ -218,13 +218,13 @@ module _ {R L A C : Type 0} (join : R → R → R) (s : Words R) (k : Layouts L)
             })
       ] refl member
 
-  chosen_goes : (w : World R L) (c : control.World L) (n : ℕ) (choice : Choice L A C) → IsReached k.reading partitions c → Controlled k partitions w c → IsChoice k partitions w choice →
+  pub chosen_goes : (w : World R L) (c : control.World L) (n : ℕ) (choice : Choice L A C) → IsReached k.reading partitions c → Controlled k partitions w c → IsChoice k partitions w choice →
       (leb 1 w.applied && not (is_member k (w.nodes n).view n)) ≡ false → leb (suc (newest k.reading (w.nodes n).view)) w.applied ≡ false →
       Going w c (chosen join s k trio trio_roles w n (suc (newest k.reading (w.nodes n).view)) choice)
   chosen_goes w c n (none_given r) reached t is member free = refuse w c r t
   chosen_goes w c n (given l shown) reached t is member free = given_goes w c n l shown reached t is.0 is.1 member free
 
-  apply_goes : (w : World R L) (c : control.World L) (n : ℕ) (choice : Choice L A C) → IsReached k.reading partitions c → Controlled k partitions w c → IsChoice k partitions w choice → Going w c (applies_at join s k trio trio_roles w n choice)
+  pub apply_goes : (w : World R L) (c : control.World L) (n : ℕ) (choice : Choice L A C) → IsReached k.reading partitions c → Controlled k partitions w c → IsChoice k partitions w choice → Going w c (applies_at join s k trio trio_roles w n choice)
   apply_goes w c n choice reached t is =
       let after = suc (newest k.reading (w.nodes n).view) in
       choose w c (leb 1 w.applied && not (is_member k (w.nodes n).view n)) (refusal w NotMember) _ (λ e. refuse w c NotMember t) (λ member.
@@ -232,15 +232,15 @@ module _ {R L A C : Type 0} (join : R → R → R) (s : Words R) (k : Layouts L)
       choose w c (leb most_versions w.applied) (refusal w VersionLimit) _ (λ e. refuse w c VersionLimit t) (λ few.
       chosen_goes w c n choice reached t is member free)))
 
-  begun_phase_goes : (w : World R L) (c : control.World L) (n : ℕ) (p : Phase R) (o : Option (Call R)) → Controlled k partitions w c → Going w c (begun join s k trio trio_roles w n p o)
+  pub begun_phase_goes : (w : World R L) (c : control.World L) (n : ℕ) (p : Phase R) (o : Option (Call R)) → Controlled k partitions w c → Going w c (begun join s k trio trio_roles w n p o)
   begun_phase_goes w c n p None t = nothing_goes join s k partitions w c t
   begun_phase_goes w c n p (Some d) t = goes_unseen k partitions w c n _ t (unseen_begins join s k w.kept (w.nodes n) d p)
 
-  phase_goes : (w : World R L) (c : control.World L) (q : ℕ) (p : Phase R) (o : Option Request) → Controlled k partitions w c → Going w c (beginning join s k trio trio_roles w q p o)
+  pub phase_goes : (w : World R L) (c : control.World L) (q : ℕ) (p : Phase R) (o : Option Request) → Controlled k partitions w c → Going w c (beginning join s k trio trio_roles w q p o)
   phase_goes w c q p None t = nothing_goes join s k partitions w c t
   phase_goes w c q p (Some r) t = choose w c r.is_open _ (nothing w) (λ e. begun_phase_goes w c r.coordinator p (call_at (w.nodes r.coordinator).calls q) t) (λ e. nothing_goes join s k partitions w c t)
 
-  open_goes : (w : World R L) (c : control.World L) (n : ℕ) → Controlled k partitions w c → Going w c (opening join s k trio trio_roles w n)
+  pub open_goes : (w : World R L) (c : control.World L) (n : ℕ) → Controlled k partitions w c → Going w c (opening join s k trio trio_roles w n)
   open_goes w c n t =
       choose w c (is_member k (w.nodes n).view n) _ (refusal w NotMember)
       (λ member. record { steps = Turn.Begin n ∷ []; turns = open_turns k partitions w c n _ t member (λ m. refl) refl refl refl })

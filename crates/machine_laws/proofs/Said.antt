@@ -10,12 +10,12 @@ use Rattle.cluster_machine.specs.Node.{Call}
 use Rattle.cluster_machine.specs.World.{World}
 use Rattle.machine_laws.specs.Follows.{in_flight, Follows}
 
-has_map : {X Y : Type 0} (f : X → Y) (xs : List X) (x : X) → Has xs x → Has (map f xs) (f x)
+pub has_map : {X Y : Type 0} (f : X → Y) (xs : List X) (x : X) → Has xs x → Has (map f xs) (f x)
 has_map f [] x h = absurd h
 has_map f (y ∷ ys) x h = elim h [ inl e ↦ inl (ap f e) | inr e ↦ inr (has_map f ys x e) ]
 
 module _ {R L : Type 0} (k : Layouts L) (partitions : ℕ) (w : World R L) (f : Follows k partitions w) where
-  abbrev view_at : ℕ → View L
+  abbrev pub view_at : ℕ → View L
   view_at n = (w.nodes n).view
 
   pub stored_of : (n : ℕ) → (oldest k.reading (view_at n) ≤ read_version k.reading (view_at n)) × (read_version k.reading (view_at n) ≤ newest k.reading (view_at n))
@@ -23,7 +23,7 @@ module _ {R L : Type 0} (k : Layouts L) (partitions : ℕ) (w : World R L) (f : 
       let safe = safe_at k.reading partitions f.control_world f.reached in
       subst (λ v. (oldest k.reading v ≤ read_version k.reading v) × (read_version k.reading v ≤ newest k.reading v)) (f.same.nodes n).view (safe.stored n, safe.known n)
 
-  layout_is : (n i : ℕ) → oldest k.reading (view_at n) ≤ i → i ≤ newest k.reading (view_at n) → layout_at k.reading (view_at n) i ≡ control.layout_of f.control_world i
+  pub layout_is : (n i : ℕ) → oldest k.reading (view_at n) ≤ i → i ≤ newest k.reading (view_at n) → layout_at k.reading (view_at n) i ≡ control.layout_of f.control_world i
   layout_is n i =
       let safe = safe_at k.reading partitions f.control_world f.reached in
       subst (λ v. oldest k.reading v ≤ i → i ≤ newest k.reading v → layout_at k.reading v i ≡ control.layout_of f.control_world i) (f.same.nodes n).view (safe.layouts n i)

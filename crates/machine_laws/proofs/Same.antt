@@ -50,33 +50,33 @@ module _ {R L : Type 0} where
   pub same_calls : (x : Node R L) (c : Call R) → Same x (calls_now x c)
   same_calls x c = record { view = refl; calls = with_call_flies c x.calls; round = refl }
 
-  unseen_ended : (x : Node R L) (c : Call R) (how : PhaseEnd R) → Unseen x (ended x c how)
+  pub unseen_ended : (x : Node R L) (c : Call R) (how : PhaseEnd R) → Unseen x (ended x c how)
   unseen_ended x c how = record { same = same_calls x (record c { present = resting }); posts = tt }
 
-  unseen_asked : (x : Node R L) (c : Call R) (q : Question R) (as' : List (ℕ × Option R)) (a : ℕ × Option R) (value : Option (Option R)) → Unseen x (asked x c q as' a value)
+  pub unseen_asked : (x : Node R L) (c : Call R) (q : Question R) (as' : List (ℕ × Option R)) (a : ℕ × Option R) (value : Option (Option R)) → Unseen x (asked x c q as' a value)
   unseen_asked x c q as' a None = unseen_quiet x _ (same_calls x (record c { present = asking q (as' ++ a ∷ []) }))
   unseen_asked x c q as' a (Some value) = record { same = same_calls x (record c { present = resting }); posts = tt }
 
-  unseen_looked : (x : Node R L) (c : Call R) (q : Scan R) (as' : List (ℕ × RangeAnswer R)) (a : ℕ × RangeAnswer R) (w : Option (Window R)) → Unseen x (looked x c q as' a w)
+  pub unseen_looked : (x : Node R L) (c : Call R) (q : Scan R) (as' : List (ℕ × RangeAnswer R)) (a : ℕ × RangeAnswer R) (w : Option (Window R)) → Unseen x (looked x c q as' a w)
   unseen_looked x c q as' a None = unseen_quiet x _ (same_calls x (record c { present = scanning q (as' ++ a ∷ []) }))
   unseen_looked x c q as' a (Some w) = record { same = same_calls x (record c { present = resting }); posts = tt }
 
-  unseen_stored : (x : Node R L) (c : Call R) (rs : List R) (slots : List StoreSlot) (b : Bool) → Unseen x (stored x c rs slots b)
+  pub unseen_stored : (x : Node R L) (c : Call R) (rs : List R) (slots : List StoreSlot) (b : Bool) → Unseen x (stored x c rs slots b)
   unseen_stored x c rs slots false = unseen_quiet x _ (same_calls x (record c { present = storing rs slots }))
   unseen_stored x c rs slots true = record { same = same_calls x (record c { present = resting }); posts = tt }
 
-  unseen_answers : (x y : Node R L) (to : ℕ) (m : Message R) → Same x y → Unseen x (answers y to m)
+  pub unseen_answers : (x y : Node R L) (to : ℕ) (m : Message R) → Same x y → Unseen x (answers y to m)
   unseen_answers x y to m h = record { same = h; posts = (tt, tt) }
 
-  unseen_cond : (x : Node R L) (b : Bool) (d e : Did R L) → Unseen x d → Unseen x e → Unseen x (cond b d e)
+  pub unseen_cond : (x : Node R L) (b : Bool) (d e : Did R L) → Unseen x d → Unseen x e → Unseen x (cond b d e)
   unseen_cond x true d e h k = h
   unseen_cond x false d e h k = k
 
-  unseen_at_call : (x : Node R L) (phase : ℕ) (f : Call R → Did R L) (o : Option (Call R)) → ((c : Call R) → Unseen x (f c)) → Unseen x (at_call x phase f o)
+  pub unseen_at_call : (x : Node R L) (phase : ℕ) (f : Call R → Did R L) (o : Option (Call R)) → ((c : Call R) → Unseen x (f c)) → Unseen x (at_call x phase f o)
   unseen_at_call x phase f None h = unseen_quiet x x (same_self x)
   unseen_at_call x phase f (Some c) h = unseen_cond x (c.phases == phase) (f c) (quiet x) (h c) (unseen_quiet x x (same_self x))
 
-  unseen_block : (x : Node R L) (c : Call R) (bytes : List ℕ) (p : Present R) → Unseen x (block_came x c bytes p)
+  pub unseen_block : (x : Node R L) (c : Call R) (bytes : List ℕ) (p : Present R) → Unseen x (block_came x c bytes p)
   unseen_block x c bytes resting = unseen_quiet x x (same_self x)
   unseen_block x c bytes (asking q as') = unseen_quiet x x (same_self x)
   unseen_block x c bytes (scanning q as') = unseen_quiet x x (same_self x)
@@ -88,21 +88,21 @@ said_to_each L [] m = tt
 said_to_each L (n ∷ nodes) m = (tt, said_to_each L nodes m)
 
 module _ {R L : Type 0} (join : R → R → R) (s : Words R) (k : Layouts L) where
-  unseen_row : (x : Node R L) (c : Call R) (from : ℕ) (row : Option R) (p : Present R) → Unseen x (row_came join x c from row p)
+  pub unseen_row : (x : Node R L) (c : Call R) (from : ℕ) (row : Option R) (p : Present R) → Unseen x (row_came join x c from row p)
   unseen_row x c from row resting = unseen_quiet x x (same_self x)
   unseen_row x c from row (asking q as') = unseen_asked x c q as' (from, row) (value_after join q as' (from, row))
   unseen_row x c from row (scanning q as') = unseen_quiet x x (same_self x)
   unseen_row x c from row (storing rs slots) = unseen_quiet x x (same_self x)
   unseen_row x c from row fetching = unseen_quiet x x (same_self x)
 
-  unseen_rows : (x : Node R L) (c : Call R) (from : ℕ) (rs : List R) (more : Bool) (p : Present R) → Unseen x (rows_came join s x c from rs more p)
+  pub unseen_rows : (x : Node R L) (c : Call R) (from : ℕ) (rs : List R) (more : Bool) (p : Present R) → Unseen x (rows_came join s x c from rs more p)
   unseen_rows x c from rs more resting = unseen_quiet x x (same_self x)
   unseen_rows x c from rs more (asking q as') = unseen_quiet x x (same_self x)
   unseen_rows x c from rs more (scanning q as') = unseen_looked x c q as' _ _
   unseen_rows x c from rs more (storing rs' slots) = unseen_quiet x x (same_self x)
   unseen_rows x c from rs more fetching = unseen_quiet x x (same_self x)
 
-  unseen_confirmed : (x : Node R L) (c : Call R) (slot from : ℕ) (p : Present R) → Unseen x (stored_came k x c slot from p)
+  pub unseen_confirmed : (x : Node R L) (c : Call R) (slot from : ℕ) (p : Present R) → Unseen x (stored_came k x c slot from p)
   unseen_confirmed x c slot from resting = unseen_quiet x x (same_self x)
   unseen_confirmed x c slot from (asking q as') = unseen_quiet x x (same_self x)
   unseen_confirmed x c slot from (scanning q as') = unseen_quiet x x (same_self x)
@@ -112,10 +112,10 @@ module _ {R L : Type 0} (join : R → R → R) (s : Words R) (k : Layouts L) whe
   pub same_accepts : (now : ℕ) (x : Node R L) (r : R) (given : Option (List ℕ)) → Same x (accepts join s now x r given)
   same_accepts now x r given = record { view = refl; calls = refl; round = refl }
 
-  same_then : (x y z : Node R L) → Same x y → Same y z → Same x z
+  pub same_then : (x y z : Node R L) → Same x y → Same y z → Same x z
   same_then x y z h k = record { view = k.view ∙ h.view; calls = k.calls ∙ h.calls; round = k.round ∙ h.round }
 
-  same_read : (now : ℕ) (x : Node R L) (r : Option R) (given : Option (List ℕ)) → Same x (accepts_read join s now x r given)
+  pub same_read : (now : ℕ) (x : Node R L) (r : Option R) (given : Option (List ℕ)) → Same x (accepts_read join s now x r given)
   same_read now x None given = same_self x
   same_read now x (Some r) given = same_accepts now x r given
 
@@ -123,16 +123,16 @@ module _ {R L : Type 0} (join : R → R → R) (s : Words R) (k : Layouts L) whe
   same_all now x [] = same_self x
   same_all now x (r ∷ rs) = let y = accepts_read join s now x (s.read r.0) r.1 in same_then x y (accepts_all join s now y rs) (same_read now x (s.read r.0) r.1) (same_all now y rs)
 
-  unseen_takes : (id now : ℕ) (x : Node R L) (from : ℕ) (tag : Tag) (named p : ℕ) (rs : List (List ℕ × Option (List ℕ))) → Unseen x (takes join s k id now x from tag named p rs)
+  pub unseen_takes : (id now : ℕ) (x : Node R L) (from : ℕ) (tag : Tag) (named p : ℕ) (rs : List (List ℕ × Option (List ℕ))) → Unseen x (takes join s k id now x from tag named p rs)
   unseen_takes id now x from tag named p rs =
       unseen_cond x (nat_lt (newest k.reading x.view) named) _ _ (unseen_answers x x from _ (same_self x))
       (unseen_cond x (not (is_given k x.view id p)) _ _ (unseen_answers x x from _ (same_self x))
       (unseen_answers x (accepts_all join s now x rs) from _ (same_all now x rs)))
 
-  unseen_where : (x : Node R L) (from request phase at : ℕ) (d : Did R L) → Unseen x d → Unseen x (where_stored join s k x from request phase at d)
+  pub unseen_where : (x : Node R L) (from request phase at : ℕ) (d : Did R L) → Unseen x d → Unseen x (where_stored join s k x from request phase at d)
   unseen_where x from request phase at d h = unseen_cond x (is_stored k x.view at) d _ h (unseen_answers x x from _ (same_self x))
 
-  unseen_gives_block : (x : Node R L) (from request phase : ℕ) (b : Option (List ℕ)) → Unseen x (gives_block join s k x from request phase b)
+  pub unseen_gives_block : (x : Node R L) (from request phase : ℕ) (b : Option (List ℕ)) → Unseen x (gives_block join s k x from request phase b)
   unseen_gives_block x from request phase None = unseen_answers x x from _ (same_self x)
   unseen_gives_block x from request phase (Some bytes) = unseen_answers x x from _ (same_self x)
 
@@ -146,7 +146,7 @@ module _ {R L : Type 0} (join : R → R → R) (s : Words R) (k : Layouts L) whe
   IsQuiet (Stored tag) = IsRoundTag tag → ⊥
   IsQuiet _ = ⊤
 
-  unseen_confirms : (id : ℕ) (x : Node R L) (from : ℕ) (tag : Tag) → (IsRoundTag tag → ⊥) → Unseen x (confirms join s k id x from tag)
+  pub unseen_confirms : (id : ℕ) (x : Node R L) (from : ℕ) (tag : Tag) → (IsRoundTag tag → ⊥) → Unseen x (confirms join s k id x from tag)
   unseen_confirms id x from (ForCall request phase slot) h = unseen_at_call x phase _ (call_at x.calls request) (λ c. unseen_confirmed x c slot from c.present)
   unseen_confirms id x from (ForRound number p) h = absurd (h tt)
   unseen_confirms id x from (ForItem number) h = unseen_quiet x _ (record { view = refl; calls = refl; round = refl })
@@ -164,14 +164,14 @@ module _ {R L : Type 0} (join : R → R → R) (s : Words R) (k : Layouts L) whe
   unseen_hears id now x from (Block request phase bytes) q = unseen_at_call x phase _ (call_at x.calls request) (λ c. unseen_block x c bytes c.present)
   unseen_hears id now x from (NoBlock request phase) q = unseen_quiet x x (same_self x)
 
-  said_stores : (v : View L) (request phase slot : ℕ) (rs : List (R × Option (List ℕ))) → SaysOnly (stores s k v request phase slot rs)
+  pub said_stores : (v : View L) (request phase slot : ℕ) (rs : List (R × Option (List ℕ))) → SaysOnly (stores s k v request phase slot rs)
   said_stores v request phase slot [] = tt
   said_stores v request phase slot (r ∷ rs) =
       all_append _ (to_each _ _) (stores s k v request phase (suc slot) rs)
       (said_to_each L (nodes_of (stored_sets k v (partition_of s r.0))) (Store (ForCall request phase slot) (newest k.reading v) (partition_of s r.0) ((bytes_of s r.0, r.1) ∷ [])))
       (said_stores v request phase (suc slot) rs)
 
-  abbrev asked_set : Node R L → List ℕ → List ℕ
+  abbrev pub asked_set : Node R L → List ℕ → List ℕ
   asked_set x position = set_at k x.view (read_version k.reading x.view) (partition_at position)
 
   pub unseen_begins : (kept : List R) (x : Node R L) (c : Call R) (p : Phase R) → Unseen x (begins s k kept x c p)

@@ -27,12 +27,12 @@ has_more (y ∷ xs) ys x h = elim h [ inl e ↦ inl e | inr e ↦ inr (has_more 
 pub none_more : (n : ℕ) → n ≡ n + 0
 none_more n = omega arith
 
-target_still : (oldest_now : ℕ) (round : Option Round) → still_to oldest_now (option_map target_of round) ≡ option_map target_of (still oldest_now round)
+pub target_still : (oldest_now : ℕ) (round : Option Round) → still_to oldest_now (option_map target_of round) ≡ option_map target_of (still oldest_now round)
 target_still o None = refl
 target_still o (Some round) = elim (leb round.target o) as (λ b. cond b None (Some round.target) ≡ option_map target_of (cond b None (Some round))) [ true ↦ refl | false ↦ refl ]
 
 module _ {R : Type 0} where
-  starts_least : (i : ℕ) (calls : List (Call R)) → least_of_requests i (map in_flight calls) ≡ least_start i calls
+  pub starts_least : (i : ℕ) (calls : List (Call R)) → least_of_requests i (map in_flight calls) ≡ least_start i calls
   starts_least i [] = refl
   starts_least i (c ∷ calls) = ap (min c.start) (starts_least i calls)
 
@@ -40,7 +40,7 @@ module _ {R L : Type 0} where
   pub same_matches : (y : control.Node L) (x z : Node R L) → Matches y x → Same x z → Matches y z
   same_matches y x z h s = record { view = h.view ∙ sym s.view; requests = h.requests ∙ sym s.calls; round = h.round ∙ sym s.round }
 
-  packet_known : (c : control.World L) (q : Packet R L) → IsSaid q → IsShown c q
+  pub packet_known : (c : control.World L) (q : Packet R L) → IsSaid q → IsShown c q
   packet_known c (says m) h = tt
   packet_known c (shows v) h = absurd h
 
@@ -50,15 +50,15 @@ module _ {R L : Type 0} where
 
 module _ {R L : Type 0} (k : Layouts L) where
   -- the node's own entry is raised
-  raised_matches : (n i j : ℕ) (which : Which) (y : control.Node L) (x : Node R L) → Matches y x → i ≡ j →
+  pub raised_matches : (n i j : ℕ) (which : Which) (y : control.Node L) (x : Node R L) → Matches y x → i ≡ j →
       Matches (record y { view = with_entry k.reading which n i y.view }) (record x { view = with_entry k.reading which n j x.view })
   raised_matches n i j which y x h e = record { view = ap₂ (λ i v. with_entry k.reading which n i v) e h.view; requests = h.requests; round = h.round }
 
-  closes : (y : control.Node L) (x : Node R L) (u v : View L) → Matches y x → u ≡ v → still_to (oldest k.reading u) y.round ≡ option_map target_of (still (oldest k.reading v) x.round)
+  pub closes : (y : control.Node L) (x : Node R L) (u v : View L) → Matches y x → u ≡ v → still_to (oldest k.reading u) y.round ≡ option_map target_of (still (oldest k.reading v) x.round)
   closes y x u v h e = ap₂ (λ w o. still_to (oldest k.reading w) o) e h.round ∙ target_still (oldest k.reading v) x.round
 
   -- a node sees a view
-  seen_matches : (join : R → R → R) (s : Words R) (id now : ℕ) (y : control.Node L) (x : Node R L) (u v : View L) → Matches y x → u ≡ v → Matches (with_view k.reading y u) (sees join s k id now x v)
+  pub seen_matches : (join : R → R → R) (s : Words R) (id now : ℕ) (y : control.Node L) (x : Node R L) (u v : View L) → Matches y x → u ≡ v → Matches (with_view k.reading y u) (sees join s k id now x v)
   seen_matches join s id now y x u v h e =
       elim (leb (oldest k.reading v) (oldest k.reading x.view)) as (λ b. Matches (with_view k.reading y u) (cond b (record x { view = v; round = still (oldest k.reading v) x.round }) (drops join s k id now (record x { view = v; round = still (oldest k.reading v) x.round })))) [
         | true ↦ record { view = e; requests = h.requests; round = closes y x u v h e }

@@ -1,0 +1,186 @@
+-- What stays as it is while a world of the data plane grows.
+use Rattle.std.specs.Prelude.{◌≡◌, ◌≤◌, ℕ, suc, ◌+◌, Option, Some, None, List, [], ◌∷◌, length, refl}
+use Rattle.std.specs.List.{Contains, AllByRecursion}
+use Rattle.std.proofs.Common.{sym, subst, ◌∙◌, inl, inr, arith}
+use Rattle.table_schema.specs.Words.{Words, partition_of}
+use Rattle.quorum_model.specs.Quorum.{StoreSlot}
+use Rattle.wire_messages.specs.declared.message.Message.{Message}
+use Rattle.wire_messages.specs.declared.message.Message.TheVariants.{Get, Row, Range, Rows, Store, Stored, Behind, NotHere, BlockGet, Block, NoBlock}
+use Rattle.wire_messages.specs.declared.message.Tag.{Tag}
+use Rattle.wire_messages.specs.declared.message.Tag.TheVariants.{Call as ForCall, Round as ForRound, Item as ForItem}
+use Rattle.plane_model.specs.World as plane
+use Rattle.plane_model.specs.World.{Extends, row_at as log_at}
+use Rattle.plane_model.specs.Action.{HasPushed}
+use Rattle.cluster_machine.specs.Layouts.{Layouts}
+use Rattle.cluster_machine.specs.Node as machine
+use Rattle.cluster_machine.specs.Node.{Present, resting, asking, scanning, storing, fetching, Call, Packet, says, shows, Node}
+use Rattle.cluster_machine.specs.World.{Sent}
+use Rattle.machine_laws.proofs.Controls.{all_weaker}
+use Rattle.machine_reads.specs.Places.{Place}
+use Rattle.machine_reads.specs.Tie.{Asked, Begun, a_round, a_repair, Issued, both, State, Answered, IsPushOf, IsPushedOf, MeansTag, MeansDone, MeansMessage, MeansPacket, Means, IsAsking, AreSets, IsSlot, IsStoring, IsPresent, IsCall, IsRound, IsRoundIn, IsNode}
+
+module _ {R L : Type 0} (join : R → R → R) (s : Words R) (k : Layouts L) (partitions : ℕ) where
+  -- the data plane's world and what was issued only grow
+  pub record Grown (p new : State join s k partitions) (g h : Issued R L) : Type 0 where
+    pub lists : Extends p new
+    pub oldest : (n : ℕ) → (both join s k partitions).control.oldest p.control n ≤ (both join s k partitions).control.oldest new.control n
+    pub newest : (n : ℕ) → (both join s k partitions).control.newest p.control n ≤ (both join s k partitions).control.newest new.control n
+    pub sets : (n i part : ℕ) → i ≤ (both join s k partitions).control.newest p.control n → (both join s k partitions).control.set new.control i part ≡ (both join s k partitions).control.set p.control i part
+    pub asks : (request phase : ℕ) (a : Asked R L) → g.asks request phase ≡ Some a → h.asks request phase ≡ Some a
+    pub stores : (request phase slot : ℕ) (a : plane.Store Place R) → g.stores request phase slot ≡ Some a → h.stores request phase slot ≡ Some a
+    pub rounds : (n number : ℕ) (b : Begun R) → g.rounds n number ≡ Some b → h.rounds n number ≡ Some b
+
+  -- nothing was issued for this request
+  pub record SameOf (g h : Issued R L) (request : ℕ) : Type 0 where
+    pub owner : h.owner request ≡ g.owner request
+    pub start : h.start request ≡ g.start request
+    pub asks : (phase : ℕ) → h.asks request phase ≡ g.asks request phase
+    pub stores : (phase slot : ℕ) → h.stores request phase slot ≡ g.stores request phase slot
+
+  -- nor for the requests and rounds of this node
+  pub record SameAt (g h : Issued R L) (requests n : ℕ) : Type 0 where
+    pub calls : (request : ℕ) → request ≤ requests → g.owner request ≡ n → SameOf g h request
+    pub rounds : (number : ℕ) → h.rounds n number ≡ g.rounds n number
+
+  pub same_of : (g : Issued R L) (request : ℕ) → SameOf g g request
+  same_of g request = record { owner = refl; start = refl; asks = λ phase. refl; stores = λ phase slot. refl }
+
+  pub same_at : (g : Issued R L) (requests n : ℕ) → SameAt g g requests n
+  same_at g requests n = record { calls = λ r b o. same_of g r; rounds = λ number. refl }
+
+  module _ (p new : State join s k partitions) (g h : Issued R L) (up : Grown p new g h) where
+    pub answered_grows : (q : Asked R L) (n : ℕ) (row : Option R) → Answered join s k partitions p g q n row → Answered join s k partitions new h q n row
+    answered_grows q n row a = record { answer = a.answer; is_there = up.lists.answers a.answer a.is_there; of_it = a.of_it; at_node = a.at_node; row_is = a.row_is }
+
+    push_grows : (b : Begun R) (part named : ℕ) (rows : List (List ℕ × Option (List ℕ))) → IsPushOf join s k partitions p g b part named rows → IsPushOf join s k partitions new h b part named rows
+    push_grows (a_round round) part named rows m = record { push = m.push; is_there = up.lists.pushes m.push m.is_there; of_it = m.of_it; partition_is = m.partition_is; newest = m.newest; rows_are = m.rows_are }
+    push_grows a_repair part named rows m = tt
+
+    pushed_grows : (b : Begun R) (part node : ℕ) → IsPushedOf join s k partitions p g b part node → IsPushedOf join s k partitions new h b part node
+    pushed_grows (a_round round) part node m = up.lists.pushed _ m
+    pushed_grows a_repair part node m = tt
+
+    tag_grows : (from to : ℕ) (tag : Tag) (named part : ℕ) (rows : List (List ℕ × Option (List ℕ))) → MeansTag join s k partitions p g from to tag named part rows → MeansTag join s k partitions new h from to tag named part rows
+    tag_grows from to (ForCall request phase slot) named part rows m = record { store = m.store; issued = up.stores request phase slot m.store m.issued; is_there = up.lists.stores m.store m.is_there; newest = m.newest; key = m.key; partition_is = m.partition_is; rows_are = m.rows_are }
+    tag_grows from to (ForRound number part') named part rows m = (m.0, record { begun = m.1.begun; issued = up.rounds from number m.1.begun m.1.issued; push = push_grows m.1.begun part named rows m.1.push })
+    tag_grows from to (ForItem number) named part rows m = tt
+
+    done_grows : (from to : ℕ) (tag : Tag) → MeansDone join s k partitions p g from to tag → MeansDone join s k partitions new h from to tag
+    done_grows from to (ForCall request phase slot) m = record { store = m.store; issued = up.stores request phase slot m.store m.issued; confirmed = up.lists.stored _ m.confirmed }
+    done_grows from to (ForRound number part) m = record { begun = m.begun; issued = up.rounds to number m.begun m.issued; pushed = pushed_grows m.begun part from m.pushed }
+    done_grows from to (ForItem number) m = tt
+
+    message_grows : (from to : ℕ) (x : Message R) → MeansMessage join s k partitions p g from to x → MeansMessage join s k partitions new h from to x
+    message_grows from to (Get request phase at table key) m = record { asked = m.asked; issued = up.asks request phase m.asked m.issued; is_there = up.lists.questions m.asked.question m.is_there; version = m.version; table_is = m.table_is; key_is = m.key_is; given = m.given; one_partition = m.one_partition }
+    message_grows from to (Row request phase row) m = record { asked = m.asked; issued = up.asks request phase m.asked m.issued; answered = answered_grows m.asked from row m.answered }
+    message_grows from to (Range request phase at bucket prefix after) m = tt
+    message_grows from to (Rows request phase rows more) m = tt
+    message_grows from to (Store tag named part rows) m = tag_grows from to tag named part rows m
+    message_grows from to (Stored tag) m = done_grows from to tag m
+    message_grows from to (Behind tag v) m = tt
+    message_grows from to (NotHere tag) m = tt
+    message_grows from to (BlockGet request phase at hash) m = tt
+    message_grows from to (Block request phase bytes) m = tt
+    message_grows from to (NoBlock request phase) m = tt
+
+    packet_grows : (from to : ℕ) (x : Packet R L) → MeansPacket join s k partitions p g from to x → MeansPacket join s k partitions new h from to x
+    packet_grows from to (says x) m = message_grows from to x m
+    packet_grows from to (shows v) m = tt
+
+    pub means_grows : (x : Sent R L) → Means join s k partitions p g x → Means join s k partitions new h x
+    means_grows x m = packet_grows x.from x.to x.packet m
+
+    sets_grow : (n m part first : ℕ) (sets : List (List ℕ)) → first + length sets ≡ suc m → m ≤ (both join s k partitions).control.newest p.control n → AreSets join s k partitions p g part first sets → AreSets join s k partitions new h part first sets
+    sets_grow n m part first [] long known a = tt
+    sets_grow n m part first (set ∷ sets) long known a = (up.sets n first part (omega arith) ∙ a.0, sets_grow n m part (suc first) sets (omega arith) known a.1)
+
+    slot_grows : (n request phase slot : ℕ) (r : R) (t : StoreSlot) → h.start request ≡ g.start request → IsSlot join s k partitions p g n request phase slot r t → IsSlot join s k partitions new h n request phase slot r t
+    slot_grows n request phase slot r t same m =
+        let high : (both join s k partitions).control.newest p.control n ≤ (both join s k partitions).control.newest new.control n = up.newest n in
+        let older : (both join s k partitions).control.oldest p.control n ≤ (both join s k partitions).control.oldest new.control n = up.oldest n in
+        let old : t.first ≤ (both join s k partitions).control.oldest p.control n = m.old in
+        let known : m.store.newest ≤ (both join s k partitions).control.newest p.control n = m.known in
+        record {
+          store = m.store;
+          issued = up.stores request phase slot m.store m.issued;
+          is_there = up.lists.stores m.store m.is_there;
+          proper = m.proper;
+          row = m.row;
+          key = m.key;
+          node = m.node;
+          start = m.start ∙ sym same;
+          known = omega arith;
+          old = omega arith;
+          sets = sets_grow n m.store.newest (partition_of s r) t.first t.sets m.long m.known m.sets;
+          long = m.long;
+          confirmed = all_weaker _ _ (λ x c. up.lists.stored _ c) t.nodes m.confirmed;
+        }
+
+    storing_grows : (n request phase slot : ℕ) (rs : List R) (ts : List StoreSlot) → h.start request ≡ g.start request → IsStoring join s k partitions p g n request phase slot rs ts → IsStoring join s k partitions new h n request phase slot rs ts
+    storing_grows n request phase slot [] [] same m = tt
+    storing_grows n request phase slot [] (t ∷ ts) same m = absurd m
+    storing_grows n request phase slot (r ∷ rs) [] same m = absurd m
+    storing_grows n request phase slot (r ∷ rs) (t ∷ ts) same m = (slot_grows n request phase slot r t same m.0, storing_grows n request phase (suc slot) rs ts same m.1)
+
+    pub asking_grows : (request phase : ℕ) (q : machine.Question R) (as' : List (ℕ × Option R)) → IsAsking join s k partitions p g request phase q as' → IsAsking join s k partitions new h request phase q as'
+    asking_grows request phase q as' m = record { asked = m.asked; issued = up.asks request phase m.asked m.issued; kept = m.kept; answered = all_weaker _ _ (λ a b. answered_grows m.asked a.0 a.1 b) as' m.answered }
+
+    pub present_grows : (n request phase : ℕ) (x : Present R) → h.start request ≡ g.start request → IsPresent join s k partitions p g n request phase x → IsPresent join s k partitions new h n request phase x
+    present_grows n request phase resting same m = tt
+    present_grows n request phase (asking q as') same m = asking_grows request phase q as' m
+    present_grows n request phase (scanning q as') same m = tt
+    present_grows n request phase (storing rs ts) same m = storing_grows n request phase 0 rs ts same m
+    present_grows n request phase fetching same m = tt
+
+    pub call_stays : (requests more n : ℕ) (c : Call R) → requests ≤ more → SameOf g h c.request → IsCall join s k partitions p g requests n c → IsCall join s k partitions new h more n c
+    call_stays requests more n c low same m =
+        let b : c.request ≤ requests = m.begun in
+        record {
+          owner = same.owner ∙ m.owner;
+          start = same.start ∙ m.start;
+          begun = omega arith;
+          not_asked = λ phase late. same.asks phase ∙ m.not_asked phase late;
+          not_stored = λ phase slot late. same.stores phase slot ∙ m.not_stored phase slot late;
+          present = present_grows n c.request c.phases c.present same.start m.present;
+        }
+
+    pub calls_stay : (requests more n : ℕ) (cs : List (Call R)) → requests ≤ more → SameAt g h requests n → AllByRecursion (IsCall join s k partitions p g requests n) cs → AllByRecursion (IsCall join s k partitions new h more n) cs
+    calls_stay requests more n cs low same a = all_weaker _ _ (λ c m. call_stays requests more n c low (same.calls c.request m.begun m.owner) m) cs a
+
+    has_pushed_grows : (r : plane.Round Place R) (part n : ℕ) → HasPushed p r part n → HasPushed new r part n
+    has_pushed_grows r part n m = elim m [ inl e ↦ inl e | inr c ↦ inr (up.lists.pushed _ c) ]
+
+    pub round_stays : (n : ℕ) (x : machine.Round) → IsRound join s k partitions p g n x → IsRound join s k partitions new h n x
+    round_stays n x m =
+        let both = both join s k partitions in
+        let target : suc m.round.from ≡ x.target = m.target in
+        let known : x.target ≤ both.control.newest p.control n = m.known in
+        let high : both.control.newest p.control n ≤ both.control.newest new.control n = up.newest n in
+        record {
+          round = m.round;
+          issued = up.rounds n x.number (a_round m.round) m.issued;
+          is_there = up.lists.rounds m.round m.is_there;
+          node = m.node;
+          target = m.target;
+          known = omega arith;
+          confirmed = all_weaker _ _ (λ (c : machine.Confirmed) b. has_pushed_grows m.round c.partition c.node b) x.confirmed m.confirmed;
+          parts = λ part is. elim (m.parts part (subst (λ set. Contains set n) (up.sets n m.round.from part (omega arith)) is)) [
+            | inl none ↦ inl none
+            | inr some ↦ inr (record { part = some.part; is_there = some.is_there; partition_is = some.partition_is; set_is = some.set_is ∙ sym (up.sets n x.target part m.known) })
+          ];
+        }
+
+    pub round_in_stays : (n : ℕ) (x : Option machine.Round) → IsRoundIn join s k partitions p g n x → IsRoundIn join s k partitions new h n x
+    round_in_stays n None m = tt
+    round_in_stays n (Some x) m = round_stays n x m
+
+    -- a node that does not change, and of which the log says nothing new
+    pub node_stays : (requests more n : ℕ) (x : Node R L) → requests ≤ more → SameAt g h requests n → ((q : Place) → log_at (both join s k partitions) new.log n q ≡ log_at (both join s k partitions) p.log n q) →
+        IsNode join s k partitions p g requests n x → IsNode join s k partitions new h more n x
+    node_stays requests more n x low same log m = record {
+      rows = λ q. log q ∙ m.rows q;
+      proper = m.proper;
+      calls = calls_stay requests more n x.calls low same m.calls;
+      round = round_in_stays n x.round m.round;
+      later_rounds = λ number late. same.rounds number ∙ m.later_rounds number late;
+    }

@@ -1,0 +1,14 @@
+mod Placed
+mod Growth
+mod Logs
+mod Leads
+mod Sees
+mod Called
+mod Asking
+mod Sets
+mod Takes
+mod Storing
+mod Views
+mod Rounds
+mod Begins
+mod Tied

@@ -1,0 +1,250 @@
+-- What the machine's messages, calls, rounds and rows are in a world of the data plane.
+use Rattle.std.specs.Prelude.{◌≡◌, ◌≤◌, ◌<◌, ◌⊎◌, ℕ, suc, ◌+◌, Option, Some, None, List, [], ◌∷◌, length, map, IsTrue, ⊤}
+use Rattle.std.specs.List.{Contains, AllByRecursion}
+use Rattle.control_model.specs.World as control
+use Rattle.control_model.specs.Steps.{Step}
+use Rattle.control_model.specs.Facts.{Has}
+use Rattle.table_schema.specs.Words.{Words, partition_of}
+use Rattle.table_model.specs.Rows.{row_at}
+use Rattle.quorum_model.specs.Quorum.{StoreSlot}
+use Rattle.wire_messages.specs.declared.message.Message.{Message}
+use Rattle.wire_messages.specs.declared.message.Message.TheVariants.{Get, Row as GaveRow, Store as PleaseStore, Stored as HasStored}
+use Rattle.wire_messages.specs.declared.message.Tag.{Tag}
+use Rattle.wire_messages.specs.declared.message.Tag.TheVariants.{Call as ForCall, Round as ForRound, Item as ForItem}
+use Rattle.plane_model.specs.Plane.{Plane}
+use Rattle.plane_model.specs.World as plane
+use Rattle.plane_model.specs.World.{row_at as log_at, kept_at}
+use Rattle.plane_model.specs.Action.{HasPushed}
+use Rattle.plane_meets.specs.Joint.{joint}
+use Rattle.cluster_machine.specs.Layouts.{Layouts}
+use Rattle.cluster_machine.specs.Node as machine
+use Rattle.cluster_machine.specs.Node.{Present, resting, asking, scanning, storing, fetching, Call, Packet, says, shows, Node, Reading, read, scanned}
+use Rattle.cluster_machine.specs.Kept.{GaveKept}
+use Rattle.cluster_machine.specs.World.{Sent, World}
+use Rattle.machine_laws.specs.Follows.{Controlled}
+use Rattle.machine_reads.specs.Places.{Place, keys, place_of, at_place}
+
+-- what a read phase asks, in the data plane, and the table and key that it names
+pub record Asked (R L : Type 0) : Type 0 where
+  pub question : plane.Question (control.World L) Place R
+  pub table : ℕ
+  pub key : List ℕ
+
+abbrev pub place_asked : {R L : Type 0} → Asked R L → Place
+place_asked q = (q.question.partition, (q.table, q.key))
+
+-- what a node began under a number
+pub data Begun (R : Type 0) : Type 0 where
+  a_round : plane.Round Place R → Begun R
+  a_repair : Begun R
+
+-- what stands behind numbers: who opened a request and when, what its phases began, and what a node's rounds are
+pub record Issued (R L : Type 0) : Type 0 where
+  pub owner : ℕ → ℕ
+  pub start : ℕ → ℕ
+  pub asks : ℕ → ℕ → Option (Asked R L)  -- of a request and a phase
+  pub stores : ℕ → ℕ → ℕ → Option (plane.Store Place R)  -- of a request, a phase and a slot
+  pub rounds : ℕ → ℕ → Option (Begun R)  -- of a node and a number
+
+abbrev pub none_issued : {R L : Type 0} → Issued R L
+none_issued = record { owner = λ _. 0; start = λ _. 0; asks = λ _ _. None; stores = λ _ _ _. None; rounds = λ _ _. None }
+
+module _ {R L : Type 0} (join : R → R → R) (s : Words R) (k : Layouts L) (partitions : ℕ) where
+  abbrev pub both : Plane (control.World L) (Step L) Place R
+  both = joint k.reading partitions keys join
+
+  abbrev pub State : Type 0
+  State = plane.World (control.World L) Place R
+
+  -- the rows that bytes are read as
+  abbrev pub with_read : Option R → List R → List R
+  with_read None rs = rs
+  with_read (Some r) rs = r ∷ rs
+
+  abbrev pub rows_read : List (List ℕ × Option (List ℕ)) → List R
+  rows_read [] = []
+  rows_read (b ∷ bs) = with_read (s.read b.0) (rows_read bs)
+
+  abbrev pub placed : R → plane.Row Place R
+  placed r = record { key = place_of s r; row = r }
+
+  module _ (p : State) (g : Issued R L) where
+    -- a node answered a question with this row
+    pub record Answered (q : Asked R L) (n : ℕ) (row : Option R) : Type 0 where
+      pub answer : plane.Answer (control.World L) Place R
+      pub is_there : Contains p.answers answer
+      pub of_it : answer.question ≡ q.question
+      pub at_node : answer.node ≡ n
+      pub row_is : answer.rows (place_asked q) ≡ row
+
+    pub record MeansGet (request phase at table : ℕ) (key : List ℕ) (to : ℕ) : Type 0 where
+      pub asked : Asked R L
+      pub issued : g.asks request phase ≡ Some asked
+      pub is_there : Contains p.questions asked.question
+      pub version : asked.question.version ≡ at
+      pub table_is : asked.table ≡ table
+      pub key_is : asked.key ≡ key
+      pub given : Contains (both.control.set asked.question.control asked.question.version asked.question.partition) to
+      pub one_partition : (r : R) → IsTrue (s.is_proper r) → s.table r ≡ table → s.key r ≡ key → partition_of s r ≡ asked.question.partition
+
+    pub record MeansRow (request phase from : ℕ) (row : Option R) : Type 0 where
+      pub asked : Asked R L
+      pub issued : g.asks request phase ≡ Some asked
+      pub answered : Answered asked from row
+
+    pub record MeansStore (request phase slot named partition : ℕ) (rows : List (List ℕ × Option (List ℕ))) : Type 0 where
+      pub store : plane.Store Place R
+      pub issued : g.stores request phase slot ≡ Some store
+      pub is_there : Contains p.stores store
+      pub newest : store.newest ≡ named
+      pub key : store.key ≡ place_of s store.row
+      pub partition_is : partition_of s store.row ≡ partition
+      pub rows_are : rows_read rows ≡ store.row ∷ []
+
+    pub record MeansStored (request phase slot from : ℕ) : Type 0 where
+      pub store : plane.Store Place R
+      pub issued : g.stores request phase slot ≡ Some store
+      pub confirmed : Contains p.stored (record { store = store; node = from })
+
+    pub record IsPush (round : plane.Round Place R) (partition named : ℕ) (rows : List (List ℕ × Option (List ℕ))) : Type 0 where
+      pub push : plane.Push Place R
+      pub is_there : Contains p.pushes push
+      pub of_it : push.round ≡ round
+      pub partition_is : push.partition ≡ partition
+      pub newest : push.newest ≡ named
+      pub rows_are : push.rows ≡ map placed (rows_read rows)
+
+    abbrev pub IsPushOf : Begun R → ℕ → ℕ → List (List ℕ × Option (List ℕ)) → Type 0
+    IsPushOf (a_round round) partition named rows = IsPush round partition named rows
+    IsPushOf a_repair partition named rows = ⊤
+
+    pub record MeansPush (from number partition named : ℕ) (rows : List (List ℕ × Option (List ℕ))) : Type 0 where
+      pub begun : Begun R
+      pub issued : g.rounds from number ≡ Some begun
+      pub push : IsPushOf begun partition named rows
+
+    abbrev pub IsPushedOf : Begun R → ℕ → ℕ → Type 0
+    IsPushedOf (a_round round) partition node = Contains p.pushed (record { round = round; partition = partition; node = node })
+    IsPushedOf a_repair partition node = ⊤
+
+    pub record MeansPushed (to number partition from : ℕ) : Type 0 where
+      pub begun : Begun R
+      pub issued : g.rounds to number ≡ Some begun
+      pub pushed : IsPushedOf begun partition from
+
+    abbrev pub MeansTag : ℕ → ℕ → Tag → ℕ → ℕ → List (List ℕ × Option (List ℕ)) → Type 0
+    MeansTag from to (ForCall request phase slot) named partition rows = MeansStore request phase slot named partition rows
+    MeansTag from to (ForRound number part) named partition rows = (part ≡ partition) × MeansPush from number partition named rows
+    MeansTag from to (ForItem number) named partition rows = ⊤
+
+    abbrev pub MeansDone : ℕ → ℕ → Tag → Type 0
+    MeansDone from to (ForCall request phase slot) = MeansStored request phase slot from
+    MeansDone from to (ForRound number partition) = MeansPushed to number partition from
+    MeansDone from to (ForItem number) = ⊤
+
+    -- what a message stands for
+    abbrev pub MeansMessage : ℕ → ℕ → Message R → Type 0
+    MeansMessage from to (Get request phase at table key) = MeansGet request phase at table key to
+    MeansMessage from to (GaveRow request phase row) = MeansRow request phase from row
+    MeansMessage from to (PleaseStore tag named partition rows) = MeansTag from to tag named partition rows
+    MeansMessage from to (HasStored tag) = MeansDone from to tag
+    MeansMessage from to _ = ⊤
+
+    abbrev pub MeansPacket : ℕ → ℕ → Packet R L → Type 0
+    MeansPacket from to (says m) = MeansMessage from to m
+    MeansPacket from to (shows v) = ⊤
+
+    abbrev pub Means : Sent R L → Type 0
+    Means x = MeansPacket x.from x.to x.packet
+
+    -- a read phase that waits for answers
+    pub record IsAsking (request phase : ℕ) (q : machine.Question R) (answers : List (ℕ × Option R)) : Type 0 where
+      pub asked : Asked R L
+      pub issued : g.asks request phase ≡ Some asked
+      pub kept : kept_at both asked.question.kept (place_asked asked) ≡ row_at join s q.kept q.table q.key
+      pub answered : AllByRecursion (λ a. Answered asked a.0 a.1) answers
+
+    -- the sets of consecutive versions
+    abbrev pub AreSets : ℕ → ℕ → List (List ℕ) → Type 0
+    AreSets partition first [] = ⊤
+    AreSets partition first (set ∷ sets) = (both.control.set p.control first partition ≡ set) × AreSets partition (suc first) sets
+
+    -- a row of a store phase that waits for confirmations
+    pub record IsSlot (n request phase slot : ℕ) (r : R) (t : StoreSlot) : Type 0 where
+      pub store : plane.Store Place R
+      pub issued : g.stores request phase slot ≡ Some store
+      pub is_there : Contains p.stores store
+      pub proper : IsTrue (s.is_proper r)
+      pub row : store.row ≡ r
+      pub key : store.key ≡ place_of s r
+      pub node : store.node ≡ n
+      pub start : store.start ≡ g.start request
+      pub known : store.newest ≤ both.control.newest p.control n
+      pub old : t.first ≤ both.control.oldest p.control n
+      pub sets : AreSets (partition_of s r) t.first t.sets
+      pub long : t.first + length t.sets ≡ suc store.newest
+      pub confirmed : AllByRecursion (λ m. Contains p.stored (record { store = store; node = m })) t.nodes
+
+    abbrev pub IsStoring : ℕ → ℕ → ℕ → ℕ → List R → List StoreSlot → Type 0
+    IsStoring n request phase slot [] [] = ⊤
+    IsStoring n request phase slot [] (t ∷ ts) = ⊥
+    IsStoring n request phase slot (r ∷ rs) [] = ⊥
+    IsStoring n request phase slot (r ∷ rs) (t ∷ ts) = IsSlot n request phase slot r t × IsStoring n request phase (suc slot) rs ts
+
+    abbrev pub IsPresent : ℕ → ℕ → ℕ → Present R → Type 0
+    IsPresent n request phase (asking q answers) = IsAsking request phase q answers
+    IsPresent n request phase (storing rows slots) = IsStoring n request phase 0 rows slots
+    IsPresent n request phase _ = ⊤
+
+    -- an open call of node n, where so many requests began
+    pub record IsCall (requests n : ℕ) (c : Call R) : Type 0 where
+      pub owner : g.owner c.request ≡ n
+      pub start : g.start c.request ≡ c.start
+      pub begun : c.request ≤ requests
+      pub not_asked : (phase : ℕ) → c.phases < phase → g.asks c.request phase ≡ None
+      pub not_stored : (phase slot : ℕ) → c.phases < phase → g.stores c.request phase slot ≡ None
+      pub present : IsPresent n c.request c.phases c.present
+
+    -- a partition that a round moves, with its set in the version that it leads to
+    pub record HasPart (parts : List machine.Part) (target partition : ℕ) : Type 0 where
+      pub part : machine.Part
+      pub is_there : Has parts part
+      pub partition_is : part.partition ≡ partition
+      pub set_is : part.set ≡ both.control.set p.control target partition
+
+    pub record IsRound (n : ℕ) (x : machine.Round) : Type 0 where
+      pub round : plane.Round Place R
+      pub issued : g.rounds n x.number ≡ Some (a_round round)
+      pub is_there : Contains p.rounds round
+      pub node : round.node ≡ n
+      pub target : suc round.from ≡ x.target
+      pub known : x.target ≤ both.control.newest p.control n
+      pub confirmed : AllByRecursion (λ (c : machine.Confirmed). HasPushed p round c.partition c.node) x.confirmed
+      pub parts : (partition : ℕ) → Contains (both.control.set p.control round.from partition) n → ((q : Place) → q.0 ≡ partition → log_at both round.log n q ≡ None) ⊎ HasPart x.parts x.target partition
+
+    abbrev pub IsRoundIn : ℕ → Option machine.Round → Type 0
+    IsRoundIn n None = ⊤
+    IsRoundIn n (Some x) = IsRound n x
+
+    -- what a node is
+    pub record IsNode (requests n : ℕ) (x : Node R L) : Type 0 where
+      pub rows : (q : Place) → log_at both p.log n q ≡ at_place s join x.accepted q
+      pub proper : AllByRecursion (λ r. IsTrue (s.is_proper r)) x.accepted
+      pub calls : AllByRecursion (IsCall requests n) x.calls
+      pub round : IsRoundIn n x.round
+      pub later_rounds : (number : ℕ) → x.rounds < number → g.rounds n number ≡ None
+
+  -- a read phase that ended gave what was kept; of a range phase nothing is said here
+  abbrev pub GetGaveKept : Reading R → Type 0
+  GetGaveKept (read q value) = GaveKept join s (read q value)
+  GetGaveKept (scanned q rows end) = ⊤
+
+  pub record IsTied (w : World R L) (p : State) (g : Issued R L) : Type 0 where
+    pub control : Controlled k partitions w p.control
+    pub nodes : (n : ℕ) → IsNode p g (length w.requests) n (w.nodes n)
+    pub kept : (q : Place) → kept_at both p.kept q ≡ at_place s join w.kept q
+    pub kept_proper : AllByRecursion (λ r. IsTrue (s.is_proper r)) w.kept
+    pub messages : AllByRecursion (Means p g) w.messages
+    pub not_asked : (request phase : ℕ) → length w.requests < request → g.asks request phase ≡ None
+    pub not_stored : (request phase slot : ℕ) → length w.requests < request → g.stores request phase slot ≡ None
+    pub reads : AllByRecursion GetGaveKept w.reads
