@@ -17,7 +17,8 @@ use Rattle.std.proofs.lemmas.Bool.{leb-true, le-leb}
 use Rattle.std.proofs.lemmas.Map.{NonePasses}
 use Rattle.std.proofs.lemmas.Map.Entries.{none_past_head, sum_by-set_value}
 use Rattle.std.proofs.lemmas.Map.Keys.{sorted_tail, IsDistinct-from_sorted}
-use Rattle.sync_round.specs.Round.{is_among, told_for, confirmed, is_asked}
+use Rattle.quorum_model.specs.Quorum.{is_among}
+use Rattle.sync_round.specs.Round.{told_for, confirmed, is_asked}
 use Rattle.sync_round.specs.Marks.{Entries, unmarked, mark_after, marks_after, three, nodes_of, has_two, entries_after, lacking_of, IsRight}
 use Rattle.sync_round.specs.declared.marks.Marks.{Marks}
 use Rattle.sync_round.specs.declared.marks.Mark.{Mark}

@@ -5,7 +5,8 @@ use Rattle.std.specs.List.{filter}
 use Rattle.std.specs.Map.{values_of}
 use Rattle.std.proofs.Math.Dec.{eqb-suc-zero}
 use Rattle.std.proofs.lemmas.List.Sums.{sum_by-append}
-use Rattle.sync_round.specs.Round.{is_among, two_of, missing, confirmed, is_complete, open_parts}
+use Rattle.quorum_model.specs.Quorum.{is_among, two_of}
+use Rattle.sync_round.specs.Round.{missing, confirmed, is_complete, open_parts}
 use Rattle.sync_round.specs.Marks.{Entries, three, nodes_of, has_two, missing_of, lacking_of, IsRight}
 use Rattle.sync_round.specs.declared.marks.Marks.{Marks}
 use Rattle.sync_round.specs.declared.marks.Mark.{Mark}

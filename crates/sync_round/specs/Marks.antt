@@ -3,7 +3,7 @@ use Rattle.std.specs.Prelude.{◌≡◌, ℕ, ◌==◌, ◌||◌, Bool, false, n
 use Rattle.std.specs.List.{filter}
 use Rattle.std.specs.Map.{values_of}
 use Rattle.std.specs.BTreeMap.{BTreeMap}
-use Rattle.sync_round.specs.Round.{is_among}
+use Rattle.quorum_model.specs.Quorum.{is_among}
 use Rattle.sync_round.specs.declared.marks.Mark.{Mark}
 use Rattle.sync_round.specs.declared.marks.Marks.{Marks}
 

@@ -1,17 +1,9 @@
 -- When the partitions of a round are confirmed, and which nodes are waited for.
-use Rattle.std.specs.Prelude.{ℕ, Bool, false, not, if◌then◌else◌, ◌==◌, ◌||◌, ◌&&◌, List, [], ◌∷◌, length, nat_le, count_by}
+use Rattle.std.specs.Prelude.{ℕ, Bool, not, if◌then◌else◌, ◌==◌, ◌&&◌, List, [], ◌∷◌, length}
 use Rattle.std.specs.List.{filter, list_all, list_any}
 use Rattle.std.specs.Ordering.{nat_cmp}
 use Rattle.std.specs.BTreeMap.{insert_entry}
-
--- n is one of these nodes
-abbrev pub is_among : ℕ → List ℕ → Bool
-is_among n [] = false
-is_among n (m ∷ ms) = (m == n) || is_among n ms
-
--- two nodes of the set are among these
-abbrev pub two_of : List ℕ → List ℕ → Bool
-two_of set nodes = nat_le 2 (count_by (λ n. is_among n nodes) set)
+use Rattle.quorum_model.specs.Quorum.{is_among, two_of}
 
 -- the nodes of the set that aren't among these
 abbrev pub missing : List ℕ → List ℕ → List ℕ
