@@ -1,5 +1,5 @@
 -- What the machine reads off a layout, and a view's words for it.
-use Rattle.std.specs.Prelude.{ℕ, Bool, true, false, ◌==◌, List, [], map, Option, Some, None, slice_get}
+use Rattle.std.specs.Prelude.{ℕ, Bool, ◌==◌, List, [], map, Option, Some, None, is_some, slice_get}
 use Rattle.std.specs.Option.{unwrap_or}
 use Rattle.std.specs.List.{list_any}
 use Rattle.view_model.specs.View.{Reading, View, newest, layout_at}
@@ -42,10 +42,6 @@ module _ {L : Type 0} (k : Layouts L) where
   -- the node has a role in its newest version
   abbrev pub is_member : View L → ℕ → Bool
   is_member v n = is_among n (members_in (layout_at k.reading v (newest k.reading v)))
-
-  abbrev pub is_some : {A : Type 0} → Option A → Bool
-  is_some None = false
-  is_some (Some a) = true
 
   abbrev pub is_stored : View L → ℕ → Bool
   is_stored v i = is_some (layout_at k.reading v i)

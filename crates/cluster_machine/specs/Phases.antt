@@ -1,5 +1,5 @@
 -- Requests at their coordinator: how they begin, how a phase begins, and what an answer does.
-use Rattle.std.specs.Prelude.{ℕ, suc, Bool, true, false, ◌==◌, cond, nat_lt, Option, Some, None, List, [], ◌∷◌, ◌++◌, map}
+use Rattle.std.specs.Prelude.{ℕ, suc, Bool, true, false, ◌==◌, cond, nat_lt, Option, Some, None, is_some, List, [], ◌∷◌, ◌++◌, map}
 use Rattle.std.specs.List.{filter, find, list_all, flat_map}
 use Rattle.view_model.specs.View.{View, oldest, newest, read_version}
 use Rattle.table_schema.specs.Words.{Words, partition_at, partition_of}
@@ -79,17 +79,13 @@ abbrev pub spelled : Option (List ℕ) → List ℕ
 spelled None = []
 spelled (Some bytes) = bytes
 
-abbrev pub is_there : {A : Type 0} → Option A → Bool
-is_there None = false
-is_there (Some a) = true
-
 module _ {R : Type 0} (s : Words R) where
   -- the row's bytes, none where it has no spelling
   abbrev pub bytes_of : R → List ℕ
   bytes_of r = spelled (s.spelling r)
 
   abbrev pub is_spelled : R → Bool
-  is_spelled r = is_there (s.spelling r)
+  is_spelled r = is_some (s.spelling r)
 
   module _ {L : Type 0} (k : Layouts L) where
     -- the stores of a phase's rows, each to all nodes of its stored sets

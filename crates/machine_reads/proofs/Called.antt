@@ -12,12 +12,13 @@ use Rattle.plane_laws.proofs.Sound.{IsSound}
 use Rattle.cluster_machine.specs.Layouts.{Layouts}
 use Rattle.cluster_machine.specs.Node.{Call, Node, Did}
 use Rattle.cluster_machine.specs.Phases.{to_each, calls_now}
+use Rattle.cluster_machine.specs.Kept.{GaveKept}
 use Rattle.cluster_machine.specs.World.{World}
 use Rattle.cluster_machine.specs.Step.{sent_by, did}
 use Rattle.machine_laws.proofs.Same.{Unseen}
 use Rattle.machine_laws.proofs.Turning.{unseen}
 use Rattle.machine_reads.specs.Places.{Place, at_place}
-use Rattle.machine_reads.specs.Tie.{Issued, both, State, MeansMessage, Means, IsCall, IsPresent, IsNode, GetGaveKept, IsTied}
+use Rattle.machine_reads.specs.Tie.{Issued, both, State, MeansMessage, Means, IsCall, IsPresent, IsNode, IsTied}
 use Rattle.machine_reads.proofs.Growth.{Grown, SameOf, SameAt, call_stays, round_in_stays}
 use Rattle.machine_reads.proofs.Leads.{Issues, Act, Leads, by_node}
 use Rattle.machine_reads.proofs.Sees.{all_with_call}
@@ -59,7 +60,7 @@ module _ {R L A C : Type 0} (join : R → R → R) (s : Words R) (k : Layouts L)
       IsNode join s k partitions (run (both join s k partitions) p acts) h (length w.requests) n d.node →
       AllByRecursion (Means join s k partitions (run (both join s k partitions) p acts) h) (sent_by w n d.posts) →
       ((request phase : ℕ) → length w.requests < request → h.asks request phase ≡ None) → ((request phase slot : ℕ) → length w.requests < request → h.stores request phase slot ≡ None) →
-      AllByRecursion (GetGaveKept join s k partitions) d.reads → Leads join s k partitions some joins_well {A = A} {C = C} w p g (did w n d)
+      AllByRecursion (GaveKept join s) d.reads → Leads join s k partitions some joins_well {A = A} {C = C} w p g (did w n d)
   quietly w p g h n d acts sound t u happens control log kept issues same keeps node sends not_asked not_stored reads =
       let both = both join s k partitions in
       by_node join s k partitions some joins_well w p g h n (did w n d) d.node acts sound t happens issues

@@ -4,6 +4,7 @@ use Rattle.std.specs.List.{Contains, AllByRecursion}
 use Rattle.std.proofs.Common.{sym, subst, ◌∙◌, inl, inr, arith}
 use Rattle.table_schema.specs.Words.{Words, partition_of}
 use Rattle.quorum_model.specs.Quorum.{StoreSlot}
+use Rattle.quorum_model.specs.declared.range.RangeAnswer.{RangeAnswer}
 use Rattle.wire_messages.specs.declared.message.Message.{Message}
 use Rattle.wire_messages.specs.declared.message.Message.TheVariants.{Get, Row, Range, Rows, Store, Stored, Behind, NotHere, BlockGet, Block, NoBlock}
 use Rattle.wire_messages.specs.declared.message.Tag.{Tag}
@@ -13,11 +14,11 @@ use Rattle.plane_model.specs.World.{Extends, row_at as log_at}
 use Rattle.plane_model.specs.Action.{HasPushed}
 use Rattle.cluster_machine.specs.Layouts.{Layouts}
 use Rattle.cluster_machine.specs.Node as machine
-use Rattle.cluster_machine.specs.Node.{Present, resting, asking, scanning, storing, fetching, Call, Packet, says, shows, Node}
+use Rattle.cluster_machine.specs.Node.{Scan, Present, resting, asking, scanning, storing, fetching, Call, Packet, says, shows, Node}
 use Rattle.cluster_machine.specs.World.{Sent}
 use Rattle.machine_laws.proofs.Controls.{all_weaker}
 use Rattle.machine_reads.specs.Places.{Place}
-use Rattle.machine_reads.specs.Tie.{Asked, Begun, a_round, a_repair, Issued, both, State, Answered, IsPushOf, IsPushedOf, MeansTag, MeansDone, MeansMessage, MeansPacket, Means, IsAsking, AreSets, IsSlot, IsStoring, IsPresent, IsCall, IsRound, IsRoundIn, IsNode}
+use Rattle.machine_reads.specs.Tie.{Question, Asked, a_key, a_range, Begun, a_round, a_repair, Issued, both, State, Answered, AtKey, InRange, AnsweredRow, AnsweredRows, IsAsked, IsPushOf, IsPushedOf, MeansTag, MeansDone, MeansMessage, MeansPacket, Means, IsAsking, IsScanning, AreSets, IsSlot, IsStoring, IsPresent, IsCall, IsRound, IsRoundIn, IsNode}
 
 module _ {R L : Type 0} (join : R → R → R) (s : Words R) (k : Layouts L) (partitions : ℕ) where
   -- the data plane's world and what was issued only grow
@@ -49,8 +50,25 @@ module _ {R L : Type 0} (join : R → R → R) (s : Words R) (k : Layouts L) (pa
   same_at g requests n = record { calls = λ r b o. same_of g r; rounds = λ number. refl }
 
   module _ (p new : State join s k partitions) (g h : Issued R L) (up : Grown p new g h) where
-    pub answered_grows : (q : Asked R L) (n : ℕ) (row : Option R) → Answered join s k partitions p g q n row → Answered join s k partitions new h q n row
-    answered_grows q n row a = record { answer = a.answer; is_there = up.lists.answers a.answer a.is_there; of_it = a.of_it; at_node = a.at_node; row_is = a.row_is }
+    abbrev answered_grows : (question : Question R L) (n : ℕ) → Answered join s k partitions p g question n → Answered join s k partitions new h question n
+    answered_grows question n a = record { answer = a.answer; is_there = up.lists.answers a.answer a.is_there; of_it = a.of_it; at_node = a.at_node }
+
+    key_grows : (question : Question R L) (table : ℕ) (key : List ℕ) (n : ℕ) (row : Option R) → AtKey join s k partitions p g question table key n row → AtKey join s k partitions new h question table key n row
+    key_grows question table key n row a = record { answered = answered_grows question n a.answered; row_is = a.row_is }
+
+    range_grows : (question : Question R L) (position prefix after : List ℕ) (n : ℕ) (found : RangeAnswer R) → InRange join s k partitions p g question position prefix after n found → InRange join s k partitions new h question position prefix after n found
+    range_grows question position prefix after n found a = record { answered = answered_grows question n a.answered; contents = a.contents; proper = a.proper; rows_are = a.rows_are; found_is = a.found_is }
+
+    row_grows : (q : Asked R L) (n : ℕ) (row : Option R) → AnsweredRow join s k partitions p g q n row → AnsweredRow join s k partitions new h q n row
+    row_grows (a_key question table key) n row a = key_grows question table key n row a
+    row_grows (a_range question position prefix after) n row a = absurd a
+
+    rows_grow : (q : Asked R L) (n : ℕ) (found : RangeAnswer R) → AnsweredRows join s k partitions p g q n found → AnsweredRows join s k partitions new h q n found
+    rows_grow (a_key question table key) n found a = absurd a
+    rows_grow (a_range question position prefix after) n found a = range_grows question position prefix after n found a
+
+    abbrev asked_grows : (request phase at : ℕ) (asked : Question R L → Asked R L) (to : ℕ) → IsAsked join s k partitions p g request phase at asked to → IsAsked join s k partitions new h request phase at asked to
+    asked_grows request phase at asked to m = record { question = m.question; issued = up.asks request phase (asked m.question) m.issued; is_there = up.lists.questions m.question m.is_there; version = m.version; given = m.given }
 
     push_grows : (b : Begun R) (part named : ℕ) (rows : List (List ℕ × Option (List ℕ))) → IsPushOf join s k partitions p g b part named rows → IsPushOf join s k partitions new h b part named rows
     push_grows (a_round round) part named rows m = record { push = m.push; is_there = up.lists.pushes m.push m.is_there; of_it = m.of_it; partition_is = m.partition_is; newest = m.newest; rows_are = m.rows_are }
@@ -71,10 +89,10 @@ module _ {R L : Type 0} (join : R → R → R) (s : Words R) (k : Layouts L) (pa
     done_grows from to (ForItem number) m = tt
 
     message_grows : (from to : ℕ) (x : Message R) → MeansMessage join s k partitions p g from to x → MeansMessage join s k partitions new h from to x
-    message_grows from to (Get request phase at table key) m = record { asked = m.asked; issued = up.asks request phase m.asked m.issued; is_there = up.lists.questions m.asked.question m.is_there; version = m.version; table_is = m.table_is; key_is = m.key_is; given = m.given; one_partition = m.one_partition }
-    message_grows from to (Row request phase row) m = record { asked = m.asked; issued = up.asks request phase m.asked m.issued; answered = answered_grows m.asked from row m.answered }
-    message_grows from to (Range request phase at bucket prefix after) m = tt
-    message_grows from to (Rows request phase rows more) m = tt
+    message_grows from to (Get request phase at table key) m = record { asked = asked_grows request phase at _ to m.asked; one_partition = m.one_partition }
+    message_grows from to (Row request phase row) m = record { asked = m.asked; issued = up.asks request phase m.asked m.issued; answered = row_grows m.asked from row m.answered }
+    message_grows from to (Range request phase at position prefix after) m = asked_grows request phase at _ to m
+    message_grows from to (Rows request phase rows more) m = record { asked = m.asked; issued = up.asks request phase m.asked m.issued; answered = rows_grow m.asked from (record { rows = rows; more = more }) m.answered }
     message_grows from to (Store tag named part rows) m = tag_grows from to tag named part rows m
     message_grows from to (Stored tag) m = done_grows from to tag m
     message_grows from to (Behind tag v) m = tt
@@ -122,13 +140,23 @@ module _ {R L : Type 0} (join : R → R → R) (s : Words R) (k : Layouts L) (pa
     storing_grows n request phase slot (r ∷ rs) [] same m = absurd m
     storing_grows n request phase slot (r ∷ rs) (t ∷ ts) same m = (slot_grows n request phase slot r t same m.0, storing_grows n request phase (suc slot) rs ts same m.1)
 
-    pub asking_grows : (request phase : ℕ) (q : machine.Question R) (as' : List (ℕ × Option R)) → IsAsking join s k partitions p g request phase q as' → IsAsking join s k partitions new h request phase q as'
-    asking_grows request phase q as' m = record { asked = m.asked; issued = up.asks request phase m.asked m.issued; kept = m.kept; answered = all_weaker _ _ (λ a b. answered_grows m.asked a.0 a.1 b) as' m.answered }
+    asking_grows : (request phase : ℕ) (q : machine.Question R) (as' : List (ℕ × Option R)) → IsAsking join s k partitions p g request phase q as' → IsAsking join s k partitions new h request phase q as'
+    asking_grows request phase q as' m = record { question = m.question; issued = up.asks request phase (a_key m.question q.table q.key) m.issued; kept = m.kept; answered = all_weaker _ _ (λ a b. key_grows m.question q.table q.key a.0 a.1 b) as' m.answered }
+
+    scanning_grows : (request phase : ℕ) (q : Scan R) (as' : List (ℕ × RangeAnswer R)) → IsScanning join s k partitions p g request phase q as' → IsScanning join s k partitions new h request phase q as'
+    scanning_grows request phase q as' m = record {
+      question = m.question;
+      issued = up.asks request phase (a_range m.question q.position q.prefix q.after) m.issued;
+      long = m.long;
+      one_partition = m.one_partition;
+      kept = m.kept;
+      answered = all_weaker _ _ (λ a b. range_grows m.question q.position q.prefix q.after a.0 a.1 b) as' m.answered;
+    }
 
     pub present_grows : (n request phase : ℕ) (x : Present R) → h.start request ≡ g.start request → IsPresent join s k partitions p g n request phase x → IsPresent join s k partitions new h n request phase x
     present_grows n request phase resting same m = tt
     present_grows n request phase (asking q as') same m = asking_grows request phase q as' m
-    present_grows n request phase (scanning q as') same m = tt
+    present_grows n request phase (scanning q as') same m = scanning_grows request phase q as' m
     present_grows n request phase (storing rs ts) same m = storing_grows n request phase 0 rs ts same m
     present_grows n request phase fetching same m = tt
 

@@ -22,11 +22,12 @@ use Rattle.plane_meets.proofs.Quiet.{is_quiet, quiet_happens}
 use Rattle.cluster_machine.specs.Layouts.{Layouts}
 use Rattle.cluster_machine.specs.Node.{Call, Node}
 use Rattle.cluster_machine.specs.Phases.{without_call}
+use Rattle.cluster_machine.specs.Kept.{GaveKept}
 use Rattle.cluster_machine.specs.World.{World, Request}
 use Rattle.cluster_machine.specs.Step.{Effects, only, changed, shut, applied}
 use Rattle.machine_laws.proofs.Controls.{all_append, all_weaker, Turns, turned, length_shut}
 use Rattle.machine_reads.specs.Places.{Place, keys, at_place}
-use Rattle.machine_reads.specs.Tie.{Asked, Begun, Issued, both, State, Means, IsCall, IsRoundIn, IsNode, GetGaveKept, IsTied}
+use Rattle.machine_reads.specs.Tie.{Asked, Begun, Issued, both, State, Means, IsCall, IsRoundIn, IsNode, IsTied}
 use Rattle.machine_reads.proofs.Placed.{keys_laws}
 use Rattle.machine_reads.proofs.Growth.{Grown, SameAt, same_at, means_grows, node_stays}
 use Rattle.machine_reads.proofs.Logs.{moved_control, moved_log, moved_kept}
@@ -98,7 +99,7 @@ module _ {R L : Type 0} (join : R → R → R) (s : Words R) (k : Layouts L) (pa
       pub sends : AllByRecursion (Means join s k partitions (run (both join s k partitions) p acts) issued) e.sends
       pub not_asked : (request phase : ℕ) → length w.requests + length e.opens < request → issued.asks request phase ≡ None
       pub not_stored : (request phase slot : ℕ) → length w.requests + length e.opens < request → issued.stores request phase slot ≡ None
-      pub reads : AllByRecursion (GetGaveKept join s k partitions) e.reads
+      pub reads : AllByRecursion (GaveKept join s) e.reads
 
     pub led : (w : World R L) (p : State join s k partitions) (g : Issued R L) (e : Effects R L A C) → IsSound (both join s k partitions) p → IsTied join s k partitions w p g → (l : Leads w p g e) →
         IsTied join s k partitions (applied w e) (run (both join s k partitions) p l.acts) l.issued
@@ -114,7 +115,7 @@ module _ {R L : Type 0} (join : R → R → R) (s : Words R) (k : Layouts L) (pa
           messages = all_append (Means join s k partitions new l.issued) w.messages e.sends (all_weaker _ _ (means_grows join s k partitions p new g l.issued up) w.messages t.messages) l.sends;
           not_asked = λ request phase late. l.not_asked request phase (subst (λ count. count < request) count late);
           not_stored = λ request phase slot late. l.not_stored request phase slot (subst (λ count. count < request) count late);
-          reads = all_append (GetGaveKept join s k partitions) e.reads w.reads l.reads t.reads;
+          reads = all_append (GaveKept join s) e.reads w.reads l.reads t.reads;
         }
 
   -- a node that has the same rows, not more calls, and the same round or none
@@ -171,7 +172,7 @@ module _ {R L : Type 0} (join : R → R → R) (s : Words R) (k : Layouts L) (pa
           sends = bare new g;
           not_asked = λ request phase late. t.not_asked request phase (subst (λ count. count < request) count late);
           not_stored = λ request phase slot late. t.not_stored request phase slot (subst (λ count. count < request) count late);
-          reads = subst (AllByRecursion (GetGaveKept join s k partitions)) (sym reads) tt;
+          reads = subst (AllByRecursion (GaveKept join s)) (sym reads) tt;
         }
 
     -- what one node does where no control step is seen and only data actions come
@@ -183,7 +184,7 @@ module _ {R L : Type 0} (join : R → R → R) (s : Words R) (k : Layouts L) (pa
         ((q : Place) → kept_at (both join s k partitions) (run (both join s k partitions) p acts).kept q ≡ at_place s join (e.keeps ++ w.kept) q) → AllByRecursion (λ r. IsTrue (s.is_proper r)) e.keeps →
         AllByRecursion (Means join s k partitions (run (both join s k partitions) p acts) h) e.sends →
         ((request phase : ℕ) → length w.requests < request → h.asks request phase ≡ None) → ((request phase slot : ℕ) → length w.requests < request → h.stores request phase slot ≡ None) →
-        AllByRecursion (GetGaveKept join s k partitions) e.reads → Leads w p g e
+        AllByRecursion (GaveKept join s) e.reads → Leads w p g e
     by_node w p g h n e x acts sound t happens issues turns same log nodes opens here kept proper sends not_asked not_stored reads =
         let both = both join s k partitions in
         let new = run both p acts in

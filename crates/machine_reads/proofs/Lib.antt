@@ -5,6 +5,8 @@ mod Leads
 mod Sees
 mod Called
 mod Asking
+mod Reading
+mod Scanning
 mod Sets
 mod Takes
 mod Storing

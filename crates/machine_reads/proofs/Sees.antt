@@ -1,5 +1,5 @@
 -- What a node of the machine reads off its view, as the data plane sees it, and its calls.
-use Rattle.std.specs.Prelude.{◌≡◌, ◌≢◌, ◌≤◌, ◌⊎◌, ℕ, suc, Bool, true, false, cond, ◌==◌, ◌||◌, Option, Some, None, List, [], ◌∷◌, map, slice_get, refl}
+use Rattle.std.specs.Prelude.{◌≡◌, ◌≢◌, ◌≤◌, ◌⊎◌, ℕ, suc, Bool, true, false, cond, ◌==◌, ◌||◌, Option, Some, None, is_some, List, [], ◌∷◌, map, slice_get, refl}
 use Rattle.std.specs.Option.{unwrap_or}
 use Rattle.std.specs.List.{Contains, AllByRecursion, list_any, find}
 use Rattle.std.proofs.Common.{ap, sym, subst, ◌∙◌, inl, inr}
@@ -22,7 +22,7 @@ use Rattle.plane_laws.proofs.Sets.{contains_here, contains_there, contains_cases
 use Rattle.plane_laws.proofs.Sound.{IsSound}
 use Rattle.plane_meets.specs.Joint.{seen}
 use Rattle.plane_meets.proofs.Found.{any_has}
-use Rattle.cluster_machine.specs.Layouts.{Layouts, set_in, set_at, is_some, is_stored}
+use Rattle.cluster_machine.specs.Layouts.{Layouts, set_in, set_at, is_stored}
 use Rattle.cluster_machine.specs.Node.{Call}
 use Rattle.cluster_machine.specs.Phases.{call_at, with_call}
 use Rattle.cluster_machine.specs.World.{World}
@@ -130,7 +130,7 @@ module _ {R L : Type 0} (join : R → R → R) (s : Words R) (k : Layouts L) (pa
     pub read_stored : (n : ℕ) → oldest k.reading (w.nodes n).view ≤ read_version k.reading (w.nodes n).view
     read_stored n = subst (λ v. oldest k.reading v ≤ read_version k.reading v) (view_same n) ((safe_at k.reading partitions p.control (reached_of p sound)).stored n)
 
-    is_some_by : (v : View L) (i : ℕ) (o : Option L) → layout_at k.reading v i ≡ o → is_some k o ≡ true → Rattle.std.specs.Prelude.IsTrue (Rattle.view_model.specs.View.is_gapless k.reading v.layouts) → (oldest k.reading v ≤ i) × (i ≤ newest k.reading v)
+    is_some_by : (v : View L) (i : ℕ) (o : Option L) → layout_at k.reading v i ≡ o → is_some o ≡ true → Rattle.std.specs.Prelude.IsTrue (Rattle.view_model.specs.View.is_gapless k.reading v.layouts) → (oldest k.reading v ≤ i) × (i ≤ newest k.reading v)
     is_some_by v i None e h g = cc
     is_some_by v i (Some l) e h g = range_of k.reading v g i l e
 

@@ -1,5 +1,5 @@
 -- Store phases: how they begin, are confirmed and end.
-use Rattle.std.specs.Prelude.{◌≡◌, ◌≢◌, ◌≤◌, ◌<◌, ◌⊎◌, ℕ, zero, suc, ◌+◌, ◌-◌, Bool, true, false, cond, ◌==◌, ◌&&◌, Option, Some, None, option_map, slice_get, List, [], ◌∷◌, ◌++◌, length, map, drop, IsTrue, refl, ⊤}
+use Rattle.std.specs.Prelude.{◌≡◌, ◌≢◌, ◌≤◌, ◌<◌, ◌⊎◌, ℕ, zero, suc, ◌+◌, ◌-◌, Bool, true, false, cond, ◌==◌, ◌&&◌, Option, Some, None, is_some, option_map, slice_get, List, [], ◌∷◌, ◌++◌, length, map, drop, IsTrue, refl, ⊤}
 use Rattle.std.specs.List.{Contains, AllByRecursion, list_all}
 use Rattle.std.proofs.Common.{ap, sym, subst, ◌∙◌, inl, inr, arith}
 use Rattle.std.proofs.lemmas.Bool.{eqb-true, eq-eqb, ne_eqb}
@@ -23,7 +23,8 @@ use Rattle.plane_laws.proofs.Sets.{contains_here, two_weaker}
 use Rattle.plane_laws.proofs.Sound.{IsSound}
 use Rattle.cluster_machine.specs.Layouts.{Layouts, stored_sets}
 use Rattle.cluster_machine.specs.Node.{Call, Did, Post, resting, storing}
-use Rattle.cluster_machine.specs.Phases.{nodes_of, to_each, calls_now, bytes_of, is_spelled, is_there, spelled, stores, slots_of, stored}
+use Rattle.cluster_machine.specs.Phases.{nodes_of, to_each, calls_now, bytes_of, is_spelled, spelled, stores, slots_of, stored}
+use Rattle.cluster_machine.specs.Kept.{GaveKept}
 use Rattle.cluster_machine.specs.World.{World}
 use Rattle.cluster_machine.specs.Step.{did, sent_by}
 use Rattle.machine_laws.proofs.Controls.{all_append, all_weaker, Turns}
@@ -48,7 +49,7 @@ sent_append P w n (x ∷ xs) ys a b = (a.0, sent_append P w n xs ys a.1 b)
 pub read_back : {R : Type 0} {join : R → R → R} {s : Words R} → Laws join s → (r : R) → is_spelled s r ≡ true → s.read (bytes_of s r) ≡ Some r
 read_back {s = s} laws r h = by_spelling (s.spelling r) refl h
   where
-    by_spelling : (o : Option (List ℕ)) → s.spelling r ≡ o → is_there o ≡ true → s.read (spelled o) ≡ Some r
+    by_spelling : (o : Option (List ℕ)) → s.spelling r ≡ o → is_some o ≡ true → s.read (spelled o) ≡ Some r
     by_spelling None e h = cc
     by_spelling (Some bytes) e h = (laws.reads_back r bytes).1 e
 
@@ -257,7 +258,7 @@ module _ {R L : Type 0} (join : R → R → R) (s : Words R) (k : Layouts L) (pa
         (sent_stores new h n c.start c.request phase 0 f rows (λ j. stored_here g c.request phase j f) (at_all st rs) (begun_has n c.start rs p) are_spelled))
         t.not_asked
         (λ r ph i late. (let b : c.request ≤ length w.requests = m.begun in stored_later g c.request phase r ph i f (inl (λ e. omega arith)) ∙ t.not_stored r ph i late))
-        (subst (AllByRecursion (Rattle.machine_reads.specs.Tie.GetGaveKept join s k partitions)) (sym reads) tt)
+        (subst (AllByRecursion (GaveKept join s)) (sym reads) tt)
 
     pub confirmed_slots : (n request phase base place slot from : ℕ) (rs : List R) (ts : List StoreSlot) → slot ≡ base + place → MeansStored join s k partitions p g request phase slot from → IsStoring join s k partitions p g n request phase base rs ts →
         IsStoring join s k partitions p g n request phase base rs (with_confirmation ts place from)

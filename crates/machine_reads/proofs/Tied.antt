@@ -1,10 +1,10 @@
 -- Every step of the machine leads on, and so kept reads holds of every run.
 use Rattle.std.specs.Prelude.{◌≡◌, ◌≤◌, ◌<◌, ℕ, suc, Bool, true, false, not, cond, ◌==◌, ◌&&◌, ◌||◌, leb, nat_lt, Option, Some, None, List, [], ◌∷◌, ◌++◌, length, map, IsTrue, refl}
 use Rattle.std.specs.Option.{unwrap_or}
-use Rattle.std.specs.List.{Contains, AllByRecursion, flat_map}
+use Rattle.std.specs.List.{AllByRecursion, flat_map}
 use Rattle.std.proofs.Common.{ap, sym, subst, ◌∙◌, inl, inr, arith}
 use Rattle.std.proofs.lemmas.Bool.{eqb-true, leb-false, leb-true}
-use Rattle.std.proofs.lemmas.List.Elements.{All-contains, recursion_from_All}
+use Rattle.std.proofs.lemmas.List.Elements.{All-contains, All-from_recursion, recursion_from_All}
 use Rattle.crdt_core.specs.EntryLaws.{and_parts}
 use Rattle.crdt_core.specs.Laws.{JoinLaws}
 use Rattle.view_model.specs.View.{View, newest, read_version, merged, cleaned, ack_least}
@@ -35,29 +35,30 @@ use Rattle.cluster_machine.specs.declared.step.LocalEnd.TheVariants.{At, Idle}
 use Rattle.cluster_machine.specs.declared.step.Refusal.{Refusal}
 use Rattle.cluster_machine.specs.declared.step.Refusal.TheVariants.{VersionTaken, VersionLimit, NotMember, NoSuchMessage, Lost, NoSuchRequest, AlreadyEnded}
 use Rattle.cluster_machine.specs.Layouts.{Layouts, is_member, has_none, stored_sets, is_given, is_stored}
-use Rattle.cluster_machine.specs.Node as machine
-use Rattle.cluster_machine.specs.Node.{Call, Item, Round, Node, Did, Packet, says, shows, Present, resting, asking, scanning, storing, fetching, Reading, read, quiet}
+use Rattle.cluster_machine.specs.Node.{Call, Item, Round, Node, Did, Packet, says, shows, Present, resting, asking, scanning, storing, fetching, quiet}
 use Rattle.cluster_machine.specs.Phases.{nodes_of, to_each, bytes_of, call_at, calls_now, begins, at_call, in_phase, row_came, rows_came, stored_came, block_came, looked, window_at}
 use Rattle.cluster_machine.specs.Rounds.{may_sync, begin_round}
 use Rattle.cluster_machine.specs.Rows.{block_at}
-use Rattle.cluster_machine.specs.Receives.{answers, where_stored, gives_rows, gives_block, takes, round_came, item_came, confirms, hears, receives}
+use Rattle.cluster_machine.specs.Receives.{answers, where_stored, gives_block, takes, round_came, item_came, confirms, hears, receives}
 use Rattle.cluster_machine.specs.Acts.{Acted, item_posts, works, syncs, acts, appends}
 use Rattle.cluster_machine.specs.World.{Sent, Mark, Request, World, numbered, clock, empty}
 use Rattle.cluster_machine.specs.Step.{most_versions, Choice, given, none_given, Effects, nothing, refusal, did, received, at_message, expires, closing, chosen, applies_at, trio_applies, acting, begun, beginning, opening, effects, sent_by}
 use Rattle.cluster_machine.specs.Run.{Move, IsPhase, IsStep, IsLayout, IsChoice, next, run, IsRun}
-use Rattle.cluster_machine.specs.Kept.{GaveKept}
-use Rattle.machine_laws.proofs.Same.{Unseen, same_self, unseen_quiet, unseen_begins, unseen_looked, unseen_block}
+use Rattle.cluster_machine.specs.Kept.{GaveKept, KeptReads}
+use Rattle.machine_laws.proofs.Same.{Unseen, same_self, unseen_quiet, unseen_begins, unseen_block}
 use Rattle.machine_laws.proofs.Turning.{stays, unseen, ack_turns, sync_ack_turns, clean_turns, view_turns}
 use Rattle.machine_laws.proofs.Requests.{close_turns, restart_turns, open_turns, gossip_turns}
 use Rattle.machine_laws.proofs.Rounding.{may_both}
 use Rattle.machine_laws.proofs.Applying.{install_turns, apply_turns}
 use Rattle.machine_laws.proofs.Runs.{all_numbered, stays_true, here, unseen_works}
 use Rattle.machine_reads.specs.Places.{Place}
-use Rattle.machine_reads.specs.Tie.{Issued, none_issued, both, State, MeansMessage, MeansPacket, Means, MeansDone, IsAsking, IsPresent, IsCall, IsNode, GetGaveKept, IsTied}
+use Rattle.machine_reads.specs.Tie.{MeansRows, Issued, none_issued, both, State, MeansMessage, MeansPacket, Means, MeansDone, IsAsking, IsPresent, IsCall, IsNode, IsTied}
 use Rattle.machine_reads.proofs.Leads.{Leads, led, Less, less_self, only_control}
 use Rattle.machine_reads.proofs.Sees.{found_call, all_has, IsHere, reached_of}
 use Rattle.machine_reads.proofs.Called.{sent_each}
-use Rattle.machine_reads.proofs.Asking.{plain_begins, read_begins, get_answers, row_comes}
+use Rattle.machine_reads.proofs.Asking.{call_changes}
+use Rattle.machine_reads.proofs.Reading.{read_begins, get_answers, row_comes}
+use Rattle.machine_reads.proofs.Scanning.{scan_begins, range_answers, range_comes}
 use Rattle.machine_reads.proofs.Takes.{rows_come}
 use Rattle.machine_reads.proofs.Storing.{sent_append, store_begins, confirm_comes}
 use Rattle.machine_reads.proofs.Views.{one_less, view_comes, opens}
@@ -161,16 +162,12 @@ module _ {R L : Type 0} (join : R → R → R) (s : Words R) (k : Layouts L) (pa
   row_leads n from c row (storing rs ts) has e m = still n
   row_leads n from c row fetching has e m = still n
 
-  looked_leads : (n : ℕ) (c : Call R) (q : machine.Scan R) (as' : List (ℕ × Rattle.quorum_model.specs.declared.range.RangeAnswer.RangeAnswer R)) (a : ℕ × Rattle.quorum_model.specs.declared.range.RangeAnswer.RangeAnswer R) (o : Option (Rattle.quorum_model.specs.Window.Window R)) → Has (w.nodes n).calls c → LeadBy n (looked (w.nodes n) c q as' a o)
-  looked_leads n c q as' a None has = plain_begins join s k partitions some joins_well laws A C w p g sound t n c (looked (w.nodes n) c q as' a None) c.phases (scanning q (as' ++ a ∷ [])) has (omega arith) (λ h. tt) (unseen_looked (w.nodes n) c q as' a None) refl refl tt tt
-  looked_leads n c q as' a (Some v) has = plain_begins join s k partitions some joins_well laws A C w p g sound t n c (looked (w.nodes n) c q as' a (Some v)) c.phases resting has (omega arith) (λ h. tt) (unseen_looked (w.nodes n) c q as' a (Some v)) refl refl tt (tt, tt)
-
-  rows_leads : (n from : ℕ) (c : Call R) (rs : List R) (more : Bool) (x : Present R) → Has (w.nodes n).calls c → LeadBy n (rows_came join s (w.nodes n) c from rs more x)
-  rows_leads n from c rs more resting has = still n
-  rows_leads n from c rs more (asking q as') has = still n
-  rows_leads n from c rs more (scanning q as') has = looked_leads n c q as' _ _ has
-  rows_leads n from c rs more (storing rs' ts) has = still n
-  rows_leads n from c rs more fetching has = still n
+  rows_leads : (n from : ℕ) (c : Call R) (rs : List R) (more : Bool) (x : Present R) → Has (w.nodes n).calls c → c.present ≡ x → MeansRows join s k partitions p g c.request c.phases from (record { rows = rs; more = more }) → LeadBy n (rows_came join s (w.nodes n) c from rs more x)
+  rows_leads n from c rs more resting has e m = still n
+  rows_leads n from c rs more (asking q as') has e m = still n
+  rows_leads n from c rs more (scanning q as') has e m = range_comes join s k partitions some joins_well laws A C w p g sound t is_here n from c q as' (record { rows = rs; more = more }) has (present_of n c (scanning q as') has e) m
+  rows_leads n from c rs more (storing rs' ts) has e m = still n
+  rows_leads n from c rs more fetching has e m = still n
 
   stored_leads : (n slot from : ℕ) (c : Call R) (x : Present R) → Has (w.nodes n).calls c → c.present ≡ x → Rattle.machine_reads.specs.Tie.MeansStored join s k partitions p g c.request c.phases slot from → LeadBy n (stored_came k (w.nodes n) c slot from x)
   stored_leads n slot from c resting has e m = still n
@@ -184,7 +181,7 @@ module _ {R L : Type 0} (join : R → R → R) (s : Words R) (k : Layouts L) (pa
   block_leads n c bytes (asking q as') has = still n
   block_leads n c bytes (scanning q as') has = still n
   block_leads n c bytes (storing rs ts) has = still n
-  block_leads n c bytes fetching has = plain_begins join s k partitions some joins_well laws A C w p g sound t n c (block_came (w.nodes n) c bytes fetching) c.phases resting has (omega arith) (λ h. tt) (unseen_block (w.nodes n) c bytes fetching) refl refl tt tt
+  block_leads n c bytes fetching has = call_changes join s k partitions some joins_well A C w p g sound t n c (block_came (w.nodes n) c bytes fetching) c.phases resting has (omega arith) tt (unseen_block (w.nodes n) c bytes fetching) refl refl tt tt
 
   round_leads : (n from number part : ℕ) (o : Option Round) → (w.nodes n).round ≡ o → Rattle.machine_reads.specs.Tie.MeansPushed join s k partitions p g n number part from → LeadBy n (round_came join s k n (w.nodes n) from number part o)
   round_leads n from number part None e m = still n
@@ -224,20 +221,15 @@ module _ {R L : Type 0} (join : R → R → R) (s : Words R) (k : Layouts L) (pa
         ] refl)
       ] refl
 
-  rows_give : (n from request phase : ℕ) (found : List R × Bool) → LeadBy n (gives_rows join s k (w.nodes n) from request phase found)
-  rows_give n from request phase found =
-      let d : Did R L = gives_rows join s k (w.nodes n) from request phase found in
-      let u : Unseen (w.nodes n) d = record { same = same_self (w.nodes n); posts = (tt, tt) } in
-      let sends : (q : State join s k partitions) (h : Issued R L) → AllByRecursion (Means join s k partitions q h) (sent_by w n d.posts) = λ q h. (tt, tt) in
-      bare n d (less_self join s k partitions some joins_well (w.nodes n)) u refl refl sends
-
   hears_leads : (n now from : ℕ) (m : Message R) → MeansMessage join s k partitions p g from n m → LeadBy n (hears join s k n now (w.nodes n) from m)
   hears_leads n now from (Get request phase at table key) m = where_leads n from request phase at _ (λ e. get_answers join s k partitions some joins_well laws A C w p g sound t n from request phase at table key m e)
   hears_leads n now from (Row request phase row) m =
       at_open n request phase (λ c. row_came join (w.nodes n) c from row c.present) (call_at (w.nodes n).calls request) refl
       (λ c has r ph. row_leads n from c row c.present has refl (subst (λ i. Rattle.machine_reads.specs.Tie.MeansRow join s k partitions p g i c.phases from row) (sym r) (subst (λ i. Rattle.machine_reads.specs.Tie.MeansRow join s k partitions p g request i from row) (sym ph) m)))
-  hears_leads n now from (Range request phase at bucket prefix after) m = where_leads n from request phase at _ (λ e. rows_give n from request phase _)
-  hears_leads n now from (Rows request phase rs more) m = at_open n request phase (λ c. rows_came join s (w.nodes n) c from rs more c.present) (call_at (w.nodes n).calls request) refl (λ c has r ph. rows_leads n from c rs more c.present has)
+  hears_leads n now from (Range request phase at position prefix after) m = where_leads n from request phase at _ (λ e. range_answers join s k partitions some joins_well laws A C w p g sound t n from request phase at position.0 prefix after m e)
+  hears_leads n now from (Rows request phase rs more) m =
+      at_open n request phase (λ c. rows_came join s (w.nodes n) c from rs more c.present) (call_at (w.nodes n).calls request) refl
+      (λ c has r ph. rows_leads n from c rs more c.present has refl (subst (λ i. MeansRows join s k partitions p g i c.phases from (record { rows = rs; more = more })) (sym r) (subst (λ i. MeansRows join s k partitions p g request i from (record { rows = rs; more = more })) (sym ph) m)))
   hears_leads n now from (Store tag named part bs) m = takes_leads n now from tag named part bs m
   hears_leads n now from (Stored tag) m = confirms_leads n from tag m
   hears_leads n now from (Behind tag v) m = still n
@@ -259,8 +251,7 @@ module _ {R L : Type 0} (join : R → R → R) (s : Words R) (k : Layouts L) (pa
   phase_leads n c (Read table position key) has is e =
       read_begins join s k partitions some joins_well laws A C w p g sound t n c table position.0 key (begins s k w.kept (w.nodes n) c (Read table position key)) has is.1 (unseen_begins join s k w.kept (w.nodes n) c (Read table position key)) refl refl refl refl
   phase_leads n c (Scans position prefix after) has is e =
-      plain_begins join s k partitions some joins_well laws A C w p g sound t n c (begins s k w.kept (w.nodes n) c (Scans position prefix after)) (suc c.phases) _ has (omega arith) (λ h. tt) (unseen_begins join s k w.kept (w.nodes n) c (Scans position prefix after)) refl refl
-      (sent_each join s k partitions p g w n _ _ (λ to is. tt)) tt
+      scan_begins join s k partitions some joins_well laws A C w p g sound t n c position prefix after (begins s k w.kept (w.nodes n) c (Scans position prefix after)) has is.1 is.2 (unseen_begins join s k w.kept (w.nodes n) c (Scans position prefix after)) refl refl refl refl
   phase_leads n c (Keeps rows) has is e =
       store_begins join s k partitions some joins_well laws A C w p g sound t n c rows (begins s k w.kept (w.nodes n) c (Keeps rows)) has (proper_rows rows (recursion_from_All _ rows is.2)) e (unseen_begins join s k w.kept (w.nodes n) c (Keeps rows)) refl refl refl refl
     where
@@ -268,7 +259,7 @@ module _ {R L : Type 0} (join : R → R → R) (s : Words R) (k : Layouts L) (pa
       proper_rows [] a = tt
       proper_rows (r ∷ rows) a = (a.0.0, proper_rows rows a.1)
   phase_leads n c (Fetches hash) has is e =
-      plain_begins join s k partitions some joins_well laws A C w p g sound t n c (begins s k w.kept (w.nodes n) c (Fetches hash)) (suc c.phases) fetching has (omega arith) (λ h. tt) (unseen_begins join s k w.kept (w.nodes n) c (Fetches hash)) refl refl
+      call_changes join s k partitions some joins_well A C w p g sound t n c (begins s k w.kept (w.nodes n) c (Fetches hash)) (suc c.phases) fetching has (omega arith) tt (unseen_begins join s k w.kept (w.nodes n) c (Fetches hash)) refl refl
       (sent_each join s k partitions p g w n _ _ (λ to is. tt)) tt
 
   sent_items : (q : State join s k partitions) (h : Issued R L) (n : ℕ) (v : View L) (items : List (Item R)) → AllByRecursion (Means join s k partitions q h) (sent_by w n (flat_map (item_posts join s k v) items))
@@ -436,9 +427,6 @@ module _ {R L : Type 0} (join : R → R → R) (s : Words R) (k : Layouts L) (pa
     };
   }
 
-  gave : (rs : List (Reading R)) → AllByRecursion (GetGaveKept join s k partitions) rs → (q : machine.Question R) (value : Option R) → Contains rs (read q value) → GaveKept join s (read q value)
-  gave rs a q value c = All-contains (GetGaveKept join s k partitions) rs (read q value) (Rattle.std.proofs.lemmas.List.Elements.All-from_recursion _ rs a) c
-
   module _ {A C : Type 0} (trio : L) (trio_roles : List Role → List Role) (is_trio : IsLayout k partitions trio) (is_first : k.reading.version trio ≡ 1) where
     stands_after : (w : World R L) (ms : List (Move R L A C)) → Stands w → IsRun join s k trio trio_roles partitions w ms → Stands (run join s k trio trio_roles w ms)
     stands_after w [] st h = st
@@ -459,6 +447,8 @@ module _ {R L : Type 0} (join : R → R → R) (s : Words R) (k : Layouts L) (pa
           tied = led join s k partitions some joins_well w st.state st.issued _ sound st.tied l;
         }) h.3
 
-    -- a read phase that ended gave what was kept
-    pub gets_gave : (moves : List (Move R L A C)) → IsRun join s k trio trio_roles partitions empty moves → (q : machine.Question R) (value : Option R) → Contains (run join s k trio trio_roles empty moves).reads (read q value) → GaveKept join s (read q value)
-    gets_gave moves h q value c = gave (run join s k trio trio_roles empty moves).reads (stands_after empty moves stands_empty h).tied.reads q value c
+    -- each phase that ended gave what was kept
+    pub keeps_reads : (moves : List (Move R L A C)) → IsRun join s k trio trio_roles partitions empty moves → KeptReads join s (run join s k trio trio_roles empty moves)
+    keeps_reads moves h r c =
+        let rs = (run join s k trio trio_roles empty moves).reads in
+        All-contains (GaveKept join s) rs r (All-from_recursion _ rs (stands_after empty moves stands_empty h).tied.reads) c

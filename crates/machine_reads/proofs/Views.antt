@@ -20,6 +20,7 @@ use Rattle.cluster_machine.specs.Layouts.{Layouts, is_given}
 use Rattle.cluster_machine.specs.Node.{Round, Node, quiet, resting}
 use Rattle.cluster_machine.specs.Phases.{opened}
 use Rattle.cluster_machine.specs.Rows.{still, drops, sees}
+use Rattle.cluster_machine.specs.Kept.{GaveKept}
 use Rattle.cluster_machine.specs.World.{World}
 use Rattle.cluster_machine.specs.Step.{Effects, only, changed, did, applied}
 use Rattle.machine_laws.proofs.Controls.{Turns, turned}
@@ -166,5 +167,5 @@ module _ {R L : Type 0} (join : R → R → R) (s : Words R) (k : Layouts L) (pa
         sends = subst (AllByRecursion (Rattle.machine_reads.specs.Tie.Means join s k partitions new h)) (sym sends) tt;
         not_asked = λ r ph late. t.not_asked r ph (omega arith);
         not_stored = λ r ph i late. t.not_stored r ph i (omega arith);
-        reads = subst (AllByRecursion (Rattle.machine_reads.specs.Tie.GetGaveKept join s k partitions)) (sym reads) tt;
+        reads = subst (AllByRecursion (GaveKept join s)) (sym reads) tt;
       }

@@ -1,14 +1,16 @@
 -- What the machine's messages, calls, rounds and rows are in a world of the data plane.
-use Rattle.std.specs.Prelude.{◌≡◌, ◌≤◌, ◌<◌, ◌⊎◌, ℕ, suc, ◌+◌, Option, Some, None, List, [], ◌∷◌, length, map, IsTrue, ⊤}
-use Rattle.std.specs.List.{Contains, AllByRecursion}
+use Rattle.std.specs.Prelude.{◌≡◌, ◌≤◌, ◌<◌, ◌⊎◌, ℕ, nat_eq, suc, ◌+◌, Option, Some, None, List, [], ◌∷◌, ◌++◌, length, map, IsTrue, ⊤}
+use Rattle.std.specs.List.{Contains, AllByRecursion, starts_with}
 use Rattle.control_model.specs.World as control
 use Rattle.control_model.specs.Steps.{Step}
 use Rattle.control_model.specs.Facts.{Has}
 use Rattle.table_schema.specs.Words.{Words, partition_of}
 use Rattle.table_model.specs.Rows.{row_at}
 use Rattle.quorum_model.specs.Quorum.{StoreSlot}
+use Rattle.quorum_model.specs.declared.range.RangeAnswer.{RangeAnswer}
+use Rattle.range_laws.specs.Scans.{answer as found_in}
 use Rattle.wire_messages.specs.declared.message.Message.{Message}
-use Rattle.wire_messages.specs.declared.message.Message.TheVariants.{Get, Row as GaveRow, Store as PleaseStore, Stored as HasStored}
+use Rattle.wire_messages.specs.declared.message.Message.TheVariants.{Get, Row as GaveRow, Range, Rows as GaveRows, Store as PleaseStore, Stored as HasStored}
 use Rattle.wire_messages.specs.declared.message.Tag.{Tag}
 use Rattle.wire_messages.specs.declared.message.Tag.TheVariants.{Call as ForCall, Round as ForRound, Item as ForItem}
 use Rattle.plane_model.specs.Plane.{Plane}
@@ -18,20 +20,25 @@ use Rattle.plane_model.specs.Action.{HasPushed}
 use Rattle.plane_meets.specs.Joint.{joint}
 use Rattle.cluster_machine.specs.Layouts.{Layouts}
 use Rattle.cluster_machine.specs.Node as machine
-use Rattle.cluster_machine.specs.Node.{Present, resting, asking, scanning, storing, fetching, Call, Packet, says, shows, Node, Reading, read, scanned}
+use Rattle.cluster_machine.specs.Node.{Scan, Present, asking, scanning, storing, Call, Packet, says, shows, Node}
+use Rattle.cluster_machine.specs.Receives.{most_rows}
 use Rattle.cluster_machine.specs.Kept.{GaveKept}
 use Rattle.cluster_machine.specs.World.{Sent, World}
 use Rattle.machine_laws.specs.Follows.{Controlled}
 use Rattle.machine_reads.specs.Places.{Place, keys, place_of, at_place}
 
--- what a read phase asks, in the data plane, and the table and key that it names
-pub record Asked (R L : Type 0) : Type 0 where
-  pub question : plane.Question (control.World L) Place R
-  pub table : ℕ
-  pub key : List ℕ
+abbrev pub Question : Type 0 → Type 0 → Type 0
+Question R L = plane.Question (control.World L) Place R
 
-abbrev pub place_asked : {R L : Type 0} → Asked R L → Place
-place_asked q = (q.question.partition, (q.table, q.key))
+-- what a phase asks in the data plane, and what it names there: a read phase a table and a key, a range phase a
+-- position, a prefix and a start key
+pub data Asked (R L : Type 0) : Type 0 where
+  a_key : Question R L → (table : ℕ) (key : List ℕ) → Asked R L
+  a_range : Question R L → (position prefix after : List ℕ) → Asked R L
+
+-- a key under the position and prefix that a range phase names
+abbrev pub IsUnder : {R : Type 0} → Scan R → List ℕ → Type 0
+IsUnder q key = IsTrue (starts_with nat_eq key (q.position ++ q.prefix))
 
 -- what a node began under a number
 pub data Begun (R : Type 0) : Type 0 where
@@ -69,28 +76,58 @@ module _ {R L : Type 0} (join : R → R → R) (s : Words R) (k : Layouts L) (pa
   placed r = record { key = place_of s r; row = r }
 
   module _ (p : State) (g : Issued R L) where
-    -- a node answered a question with this row
-    pub record Answered (q : Asked R L) (n : ℕ) (row : Option R) : Type 0 where
+    -- a node answered a question
+    pub record Answered (question : Question R L) (n : ℕ) : Type 0 where
       pub answer : plane.Answer (control.World L) Place R
       pub is_there : Contains p.answers answer
-      pub of_it : answer.question ≡ q.question
+      pub of_it : answer.question ≡ question
       pub at_node : answer.node ≡ n
-      pub row_is : answer.rows (place_asked q) ≡ row
+
+    -- with this row at a table and key
+    pub record AtKey (question : Question R L) (table : ℕ) (key : List ℕ) (n : ℕ) (row : Option R) : Type 0 where
+      pub answered : Answered question n
+      pub row_is : answered.answer.rows (question.partition, (table, key)) ≡ row
+
+    -- with the first rows of a range that its contents had then
+    pub record InRange (question : Question R L) (position prefix after : List ℕ) (n : ℕ) (found : RangeAnswer R) : Type 0 where
+      pub answered : Answered question n
+      pub contents : List R
+      pub proper : AllByRecursion (λ r. IsTrue (s.is_proper r)) contents
+      pub rows_are : (q : Place) → answered.answer.rows q ≡ at_place s join contents q
+      pub found_is : found ≡ found_in join s position prefix after most_rows contents
+
+    abbrev pub AnsweredRow : Asked R L → ℕ → Option R → Type 0
+    AnsweredRow (a_key question table key) n row = AtKey question table key n row
+    AnsweredRow (a_range question position prefix after) n row = ⊥
+
+    abbrev pub AnsweredRows : Asked R L → ℕ → RangeAnswer R → Type 0
+    AnsweredRows (a_key question table key) n found = ⊥
+    AnsweredRows (a_range question position prefix after) n found = InRange question position prefix after n found
+
+    -- a phase asks this at a version, and the node is one of those that it asks
+    pub record IsAsked (request phase at : ℕ) (asked : Question R L → Asked R L) (to : ℕ) : Type 0 where
+      pub question : Question R L
+      pub issued : g.asks request phase ≡ Some (asked question)
+      pub is_there : Contains p.questions question
+      pub version : question.version ≡ at
+      pub given : Contains (both.control.set question.control question.version question.partition) to
 
     pub record MeansGet (request phase at table : ℕ) (key : List ℕ) (to : ℕ) : Type 0 where
-      pub asked : Asked R L
-      pub issued : g.asks request phase ≡ Some asked
-      pub is_there : Contains p.questions asked.question
-      pub version : asked.question.version ≡ at
-      pub table_is : asked.table ≡ table
-      pub key_is : asked.key ≡ key
-      pub given : Contains (both.control.set asked.question.control asked.question.version asked.question.partition) to
+      pub asked : IsAsked request phase at (λ question. a_key question table key) to
       pub one_partition : (r : R) → IsTrue (s.is_proper r) → s.table r ≡ table → s.key r ≡ key → partition_of s r ≡ asked.question.partition
+
+    abbrev pub MeansRange : (request phase at : ℕ) (position prefix after : List ℕ) (to : ℕ) → Type 0
+    MeansRange request phase at position prefix after to = IsAsked request phase at (λ question. a_range question position prefix after) to
 
     pub record MeansRow (request phase from : ℕ) (row : Option R) : Type 0 where
       pub asked : Asked R L
       pub issued : g.asks request phase ≡ Some asked
-      pub answered : Answered asked from row
+      pub answered : AnsweredRow asked from row
+
+    pub record MeansRows (request phase from : ℕ) (found : RangeAnswer R) : Type 0 where
+      pub asked : Asked R L
+      pub issued : g.asks request phase ≡ Some asked
+      pub answered : AnsweredRows asked from found
 
     pub record MeansStore (request phase slot named partition : ℕ) (rows : List (List ℕ × Option (List ℕ))) : Type 0 where
       pub store : plane.Store Place R
@@ -146,6 +183,8 @@ module _ {R L : Type 0} (join : R → R → R) (s : Words R) (k : Layouts L) (pa
     abbrev pub MeansMessage : ℕ → ℕ → Message R → Type 0
     MeansMessage from to (Get request phase at table key) = MeansGet request phase at table key to
     MeansMessage from to (GaveRow request phase row) = MeansRow request phase from row
+    MeansMessage from to (Range request phase at position prefix after) = MeansRange request phase at position.0 prefix after to
+    MeansMessage from to (GaveRows request phase rows more) = MeansRows request phase from (record { rows = rows; more = more })
     MeansMessage from to (PleaseStore tag named partition rows) = MeansTag from to tag named partition rows
     MeansMessage from to (HasStored tag) = MeansDone from to tag
     MeansMessage from to _ = ⊤
@@ -159,10 +198,19 @@ module _ {R L : Type 0} (join : R → R → R) (s : Words R) (k : Layouts L) (pa
 
     -- a read phase that waits for answers
     pub record IsAsking (request phase : ℕ) (q : machine.Question R) (answers : List (ℕ × Option R)) : Type 0 where
-      pub asked : Asked R L
-      pub issued : g.asks request phase ≡ Some asked
-      pub kept : kept_at both asked.question.kept (place_asked asked) ≡ row_at join s q.kept q.table q.key
-      pub answered : AllByRecursion (λ a. Answered asked a.0 a.1) answers
+      pub question : Question R L
+      pub issued : g.asks request phase ≡ Some (a_key question q.table q.key)
+      pub kept : kept_at both question.kept (question.partition, (q.table, q.key)) ≡ row_at join s q.kept q.table q.key
+      pub answered : AllByRecursion (λ a. AtKey question q.table q.key a.0 a.1) answers
+
+    -- a range phase that waits for answers
+    pub record IsScanning (request phase : ℕ) (q : Scan R) (answers : List (ℕ × RangeAnswer R)) : Type 0 where
+      pub question : Question R L
+      pub issued : g.asks request phase ≡ Some (a_range question q.position q.prefix q.after)
+      pub long : length q.position ≡ 32
+      pub one_partition : (r : R) → IsTrue (s.is_proper r) → s.table r ≡ 1 → IsUnder q (s.key r) → partition_of s r ≡ question.partition
+      pub kept : (key : List ℕ) → IsUnder q key → kept_at both question.kept (question.partition, (1, key)) ≡ row_at join s q.kept 1 key
+      pub answered : AllByRecursion (λ a. InRange question q.position q.prefix q.after a.0 a.1) answers
 
     -- the sets of consecutive versions
     abbrev pub AreSets : ℕ → ℕ → List (List ℕ) → Type 0
@@ -193,6 +241,7 @@ module _ {R L : Type 0} (join : R → R → R) (s : Words R) (k : Layouts L) (pa
 
     abbrev pub IsPresent : ℕ → ℕ → ℕ → Present R → Type 0
     IsPresent n request phase (asking q answers) = IsAsking request phase q answers
+    IsPresent n request phase (scanning q answers) = IsScanning request phase q answers
     IsPresent n request phase (storing rows slots) = IsStoring n request phase 0 rows slots
     IsPresent n request phase _ = ⊤
 
@@ -234,11 +283,6 @@ module _ {R L : Type 0} (join : R → R → R) (s : Words R) (k : Layouts L) (pa
       pub round : IsRoundIn n x.round
       pub later_rounds : (number : ℕ) → x.rounds < number → g.rounds n number ≡ None
 
-  -- a read phase that ended gave what was kept; of a range phase nothing is said here
-  abbrev pub GetGaveKept : Reading R → Type 0
-  GetGaveKept (read q value) = GaveKept join s (read q value)
-  GetGaveKept (scanned q rows end) = ⊤
-
   pub record IsTied (w : World R L) (p : State) (g : Issued R L) : Type 0 where
     pub control : Controlled k partitions w p.control
     pub nodes : (n : ℕ) → IsNode p g (length w.requests) n (w.nodes n)
@@ -247,4 +291,4 @@ module _ {R L : Type 0} (join : R → R → R) (s : Words R) (k : Layouts L) (pa
     pub messages : AllByRecursion (Means p g) w.messages
     pub not_asked : (request phase : ℕ) → length w.requests < request → g.asks request phase ≡ None
     pub not_stored : (request phase slot : ℕ) → length w.requests < request → g.stores request phase slot ≡ None
-    pub reads : AllByRecursion GetGaveKept w.reads
+    pub reads : AllByRecursion (GaveKept join s) w.reads
