@@ -1,4 +1,5 @@
--- A small schema and small layouts, over which runs are computed: rows are numbers under a key of one byte.
+-- A small schema and small layouts, over which runs are computed: rows are numbers under a key of one byte, behind
+-- the one position.
 use Rattle.std.specs.Prelude.{ℕ, max, true, Option, Some, None, List, [], ◌∷◌, ◌++◌, map, replicate}
 use Rattle.table_schema.specs.Words.{Words}
 use Rattle.cluster_machine.specs.declared.step.Step.{Step}
@@ -10,7 +11,7 @@ use Rattle.cluster_machine.specs.declared.step.Words.TheVariants.{Empty}
 use Rattle.cluster_machine.specs.declared.line.Line.{Line}
 use Rattle.layout_roles.specs.declared.role.Role.{Role}
 use Rattle.wire_messages.specs.declared.phase.Phase.{Phase}
-use Rattle.wire_messages.specs.declared.phase.Phase.TheVariants.{Read, Store}
+use Rattle.wire_messages.specs.declared.phase.Phase.TheVariants.{Read, Range, Store}
 use Rattle.cluster_machine.specs.Layouts.{Layouts}
 use Rattle.cluster_machine.specs.Node.{Reading, read as was_read, scanned}
 use Rattle.cluster_machine.specs.World.{World, empty}
@@ -23,6 +24,10 @@ pub record Number : Type 0 where
 abbrev pub greater : Number → Number → Number
 greater a b = record { key = a.key; value = max a.value b.value }
 
+-- the position of all rows
+abbrev pub home : List ℕ
+home = replicate 32 0
+
 abbrev pub read_number : List ℕ → Option Number
 read_number (k ∷ v ∷ []) = Some (record { key = k; value = v })
 read_number _ = None
@@ -31,8 +36,8 @@ abbrev pub numbers : Words Number
 numbers = record {
   is_proper = λ r. true;
   table = λ r. 1;
-  position = λ r. replicate 32 0;
-  key = λ r. r.key ∷ [];
+  position = λ r. home;
+  key = λ r. home ++ r.key ∷ [];
   is_tombstone = λ r. true;
   live_block = λ r. None;
   marker = λ r. None;
@@ -94,6 +99,14 @@ value_in (scanned q rows end) = None
 abbrev pub values_read : World Number Toy → List (Option Number)
 values_read w = map value_in w.reads
 
+abbrev pub shown_in : Reading Number → List Number
+shown_in (was_read q value) = []
+shown_in (scanned q rows end) = rows
+
+-- the rows of the range phases that ended, none for a read phase, the last one first
+abbrev pub rows_shown : World Number Toy → List (List Number)
+rows_shown w = map shown_in w.reads
+
 -- a step without a layout
 abbrev pub plain : Step Number → Move
 plain s = record { step = s; choice = none_given NotMember }
@@ -122,9 +135,12 @@ seven_eight_nine = record { version = 3; members = 1 ∷ 2 ∷ 3 ∷ 4 ∷ 5 ∷
 abbrev pub one_two_four : Toy
 one_two_four = record { version = 2; members = 1 ∷ 2 ∷ 4 ∷ []; storage = 1 ∷ 2 ∷ 4 ∷ []; sets = (1 ∷ 2 ∷ 4 ∷ []) ∷ [] }
 
--- the phases of a put and a get of one key
+-- the phases of a put and a get of one key, and of a list of all keys
 abbrev pub read : Phase Number
-read = Read 1 (record { 0 = replicate 32 0 }) (97 ∷ [])
+read = Read 1 (record { 0 = home }) (home ++ 97 ∷ [])
+
+abbrev pub scan : Phase Number
+scan = Range (record { 0 = home }) [] []
 
 abbrev pub store : Phase Number
 store = Store ((record { key = 97; value = 1 }, None) ∷ [])
