@@ -15,10 +15,10 @@ use Rattle.text_model.specs.Transcript.{transcript, events_text}
 use Rattle.garage_lab.specs.declared.stop.Stop.{Stop}
 use Rattle.garage_lab.specs.declared.stop.Stop.TheVariants.{Read, Write, Memory, LongInput, BadLine, Number}
 use Rattle.garage_lab.specs.Replay.{AllFit, IsReplay, whole, number, IsTranscribed}
-use Rattle.garage_lab.specs.Answer.{replay_words, input_limit, IsAnswer, usage, long_input, bad_line, replayed, IsStated, Answers, AnswersPrefix, Says, said, cut_off, unsaid}
+use Rattle.garage_lab.specs.Answer.{layout_words, replay_words, input_limit, IsAnswer, usage, long_input, bad_line, laid_out, replayed, IsStated, Answers, AnswersPrefix, Says, said, cut_off, unsaid}
 use Rattle.garage_lab.specs.Stop.{status_of, said_of, IsNearly, Halts, IsCutShort, IsOfInput, IsOfOutput}
 use Rattle.garage_lab.proofs.Texts.{wrote_nothing, prefix_none, rose_later, rose_earlier}
-use Rattle.garage_lab.proofs.Answering.{answers_prefix, stopped_answers, stopped_prefix, done_transcribes, completes}
+use Rattle.garage_lab.proofs.Answering.{replay_is_other, OneStatus, answers_prefix, stopped_answers, stopped_prefix, done_transcribes, completes}
 
 -- the reading gave up, and nothing was written
 read_halted : (bytes : List ℕ) (old : Option (List ℕ)) (stop : Stop) → IsOfInput stop → ((n : ℕ) → stop ≡ BadLine n → (length bytes ≤ input_limit) × IsFirstBadLine bytes n) → (stop ≡ LongInput → input_limit < length bytes) → Halts bytes stop old old
@@ -26,7 +26,7 @@ read_halted bytes old Read of_input bad long = λ status text stated. prefix_non
 read_halted bytes old Memory of_input bad long = λ status text stated. prefix_none old old text (wrote_nothing old)
 read_halted bytes old Write of_input bad long = absurd of_input
 read_halted bytes old Number of_input bad long = absurd of_input
-read_halted bytes old LongInput of_input bad long = record { front = []; wrote = wrote_nothing old; stated = long_input refl (long refl) refl refl }
+read_halted bytes old LongInput of_input bad long = record { front = []; wrote = wrote_nothing old; stated = long_input (inr refl) (long refl) refl refl }
 read_halted bytes old (BadLine n) of_input bad long = let h = bad n refl in record { front = []; wrote = wrote_nothing old; stated = bad_line n refl h.0 h.1 refl refl }
 
 reading_halted : (left : Option (List ℕ)) (old : Option (List ℕ)) (stop : Stop) → IsOfInput stop → ((n : ℕ) → stop ≡ BadLine n → IfSome left (λ bytes. (length bytes ≤ input_limit) × IsFirstBadLine bytes n)) →
@@ -44,9 +44,10 @@ read_halts left old (Err e) stop is of_input bad long =
 -- what is stated of an input that is a schedule is stated of its events
 module _ (bytes : List ℕ) (events : List Numbered) (short : length bytes ≤ input_limit) (spells : IsSchedule bytes events) (old new : Option (List ℕ)) where
   of_events : ((status : Status) (text : List ℕ) → IsReplay events status text → WrotePrefix old new text) → AnswersPrefix replay_words bytes old new
-  of_events prefix status text (usage other e w) = absurd (other refl)
+  of_events prefix status text (usage other e w) = absurd (other (inr refl))
   of_events prefix status text (long_input asked long e w) = absurd (omega arith)
   of_events prefix status text (bad_line n asked less bad e w) = absurd (schedule_has_no_bad_line bytes events n spells bad)
+  of_events prefix status text (laid_out asked less says) = absurd (replay_is_other asked)
   of_events prefix status text (replayed others asked less spell stated) =
       prefix status text (subst (λ (es : List Numbered). IsReplay es status text) (schedule_determined bytes others events spell spells) stated)
 
@@ -77,9 +78,9 @@ write_done (Some bytes) old new events listed (Ok x) same spells fits wrote = re
   wrote = wrote;
 }
 
-pub done_prefix : (left : Option (List ℕ)) (words : List (List ℕ)) (status : Status) (old new : Option (List ℕ)) → IfSome left (λ bytes. Answers words bytes status old new) → IfSome left (λ bytes. AnswersPrefix words bytes old new)
-done_prefix None words status old new h = tt
-done_prefix (Some bytes) words status old new h = answers_prefix words bytes status old new h
+pub done_prefix : (left : Option (List ℕ)) (words : List (List ℕ)) (status : Status) (old new : Option (List ℕ)) → (words ≡ layout_words → ⊥) → IfSome left (λ bytes. Answers words bytes status old new) → IfSome left (λ bytes. AnswersPrefix words bytes old new)
+done_prefix None words status old new no_layout h = tt
+done_prefix (Some bytes) words status old new no_layout h = answers_prefix words bytes status old new no_layout h
 
 module _ (stop : Stop) (result : Status) (old mid new : Option (List ℕ)) (faults risen : ℕ) (says : Says (status_of stop) (said_of stop) result mid new faults risen) where
   pub halted_answers : (left : Option (List ℕ)) → IfSome left (λ bytes. Halts bytes stop old mid) → IsStated result → IfSome left (λ bytes. Answers replay_words bytes result old new)
@@ -105,14 +106,14 @@ halted_fault stop result mid new before faults risen (cut_off is later wrote) ro
 halted_fault stop result mid new before faults risen (unsaid is wrote) rose low high e = cc
 
 pub some_transcribes : (left : Option (List ℕ)) (words : List (List ℕ)) (result : Status) (old new : Option (List ℕ)) → ((events : List Event) → IsFresh (run start events)) →
-    (IsStated result → IfSome left (λ bytes. Answers words bytes result old new)) → result ≡ Done → IfSome left (λ bytes. IsTranscribed bytes old new)
-some_transcribes None words result old new fresh answers e = tt
-some_transcribes (Some bytes) words result old new fresh answers e =
+    (IsStated result → IfSome left (λ bytes. Answers words bytes result old new)) → words ≡ replay_words → result ≡ Done → IfSome left (λ bytes. IsTranscribed bytes old new)
+some_transcribes None words result old new fresh answers asks e = tt
+some_transcribes (Some bytes) words result old new fresh answers asks e =
     let P : Status → Type 0 = λ s. IsStated s → Answers words bytes s old new in
-    done_transcribes words bytes old new fresh (subst P e answers tt)
+    done_transcribes words bytes old new asks fresh (subst P e answers tt)
 
-pub some_completes : (left : Option (List ℕ)) (words : List (List ℕ)) (result : Status) (old new : Option (List ℕ)) (Reads Writes : Type 0) → (IsStated result → IfSome left (λ bytes. Answers words bytes result old new)) →
+pub some_completes : OneStatus → (left : Option (List ℕ)) (words : List (List ℕ)) (result : Status) (old new : Option (List ℕ)) (Reads Writes : Type 0) → (IsStated result → IfSome left (λ bytes. Answers words bytes result old new)) →
     (result ≡ ReadFault → Reads) → (result ≡ WriteFault → Writes) → (result ≡ LinkFault → ⊥) →
     IfSome left (λ bytes. (status : Status) (text : List ℕ) → IsAnswer words bytes status text → (Reads → ⊥) → (Writes → ⊥) → (result ≡ status) ⊎ (result ≡ MemoryStatus))
-some_completes None words result old new R W answers reads writes links = tt
-some_completes (Some bytes) words result old new R W answers reads writes links = completes words bytes result old new R W answers reads writes links
+some_completes one None words result old new R W answers reads writes links = tt
+some_completes one (Some bytes) words result old new R W answers reads writes links = completes one words bytes result old new R W answers reads writes links

@@ -4,3 +4,4 @@ pub mod Replays
 pub mod Running
 pub mod Answering
 pub mod Ends
+pub mod Lays

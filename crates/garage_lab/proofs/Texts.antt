@@ -64,12 +64,16 @@ pub longer : (left : Option (List ℕ)) (limit : ℕ) (all : List ℕ) → limit
 longer None limit all more h = tt
 longer (Some bytes) limit all more h = omega (arith, ap length h, length-take (limit + 1) bytes)
 
-module _ (P : List ℕ → Type 0) where
-  pub not_longer : (left : Option (List ℕ)) (limit : ℕ) (all : List ℕ) → length all ≤ limit → IfSome left (λ bytes. all ≡ take (limit + 1) bytes) → IfSome left (λ bytes. length bytes ≤ limit → all ≡ bytes) →
-      P all → IfSome left (λ bytes. (length bytes ≤ limit) × P bytes)
-  not_longer None limit all less h short p = tt
-  not_longer (Some bytes) limit all less h short p =
-      let fits : length bytes ≤ limit = omega (arith, ap length h, length-take (limit + 1) bytes) in (fits, subst P (short fits) p)
+pub not_longer : (left : Option (List ℕ)) (limit : ℕ) (all : List ℕ) → length all ≤ limit → IfSome left (λ bytes. all ≡ take (limit + 1) bytes) → IfSome left (λ bytes. length bytes ≤ limit → all ≡ bytes) →
+    IfSome left (λ bytes. (length bytes ≤ limit) × (all ≡ bytes))
+not_longer None limit all less h short = tt
+not_longer (Some bytes) limit all less h short =
+    let fits : length bytes ≤ limit = omega (arith, ap length h, length-take (limit + 1) bytes) in (fits, short fits)
+
+-- what holds of all that was read holds of the input
+pub of_all : (P : List ℕ → Type 0) (left : Option (List ℕ)) (limit : ℕ) (all : List ℕ) → IfSome left (λ bytes. (length bytes ≤ limit) × (all ≡ bytes)) → P all → IfSome left (λ bytes. (length bytes ≤ limit) × P bytes)
+of_all P None limit all read p = tt
+of_all P (Some bytes) limit all read p = (read.0, subst P read.1 p)
 
 -- one word, and whether it is a certain one
 pub one_word : (words : List (String Global)) (word : String Global) (text asked : List ℕ) (b : Bool) → 1 ≤ length words → length words < 2 → word ≡ get_or words 0 word → text ≡ string_bytes word → b ≡ pointwise nat_eq text asked →

@@ -1,15 +1,23 @@
 -- What the program answers: the status and the text that are stated for its words and its input.
-use Rattle.std.specs.Prelude.{◌≡◌, ℕ, ◌<◌, ◌≤◌, ⊤, List, [], ◌∷◌, ◌++◌, length, codes, decimal, Option}
+use Rattle.std.specs.Prelude.{◌≡◌, ◌⊎◌, ℕ, ◌<◌, ◌≤◌, ⊤, List, [], ◌∷◌, ◌++◌, length, codes, decimal, Option}
 use Rattle.lab_outside.specs.declared.exit.Status.{Status}
 use Rattle.lab_outside.specs.declared.exit.Status.TheVariants.{Done, Refused, Usage, ReadFault, WriteFault, LinkFault, Memory, Limit}
 use Rattle.lab_outside.specs.Rose.{Rose}
 use Rattle.lab_outside.specs.Bytes.{Wrote, WrotePrefix}
 use Rattle.object_model.specs.declared.event.Numbered.{Numbered}
 use Rattle.text_model.specs.Grammar.{IsSchedule, IsFirstBadLine}
+use Rattle.layout_command.specs.Answer.{IsAnswer as IsLayoutAnswer}
 use Rattle.garage_lab.specs.Replay.{IsReplay}
+
+abbrev pub layout_words : List (List ℕ)
+layout_words = codes "layout" ∷ []
 
 abbrev pub replay_words : List (List ℕ)
 replay_words = codes "replay" ∷ []
+
+-- these words ask for something, and what they ask for has an input
+abbrev pub IsKnown : List (List ℕ) → Type 0
+IsKnown words = (words ≡ layout_words) ⊎ (words ≡ replay_words)
 
 -- how many bytes the input may have
 abbrev pub input_limit : ℕ
@@ -24,11 +32,12 @@ input_line = codes "limit input 8388608" ++ 10 ∷ []
 abbrev pub bad_line_text : ℕ → List ℕ
 bad_line_text n = codes "bad line " ++ (decimal n ++ 10 ∷ [])
 
--- the status and the text that are stated for words and an input, in the order in which their causes come
+-- the status and the text that are stated for words and an input, in the order in which their causes come; which greatest assignment a layout's text gives is free
 pub data IsAnswer (words : List (List ℕ)) (input : List ℕ) (status : Status) (text : List ℕ) : Type 0 where
-  usage : (words ≡ replay_words → ⊥) → status ≡ Usage → text ≡ usage_line → IsAnswer words input status text
-  long_input : words ≡ replay_words → input_limit < length input → status ≡ Limit → text ≡ input_line → IsAnswer words input status text
+  usage : (IsKnown words → ⊥) → status ≡ Usage → text ≡ usage_line → IsAnswer words input status text
+  long_input : IsKnown words → input_limit < length input → status ≡ Limit → text ≡ input_line → IsAnswer words input status text
   bad_line : (n : ℕ) → words ≡ replay_words → length input ≤ input_limit → IsFirstBadLine input n → status ≡ Refused → text ≡ bad_line_text n → IsAnswer words input status text
+  laid_out : words ≡ layout_words → length input ≤ input_limit → IsLayoutAnswer input status text → IsAnswer words input status text
   replayed : (events : List Numbered) → words ≡ replay_words → length input ≤ input_limit → IsSchedule input events → IsReplay events status text → IsAnswer words input status text
 
 -- the statuses that come with a whole text
@@ -42,7 +51,7 @@ IsStated WriteFault = ⊥
 IsStated LinkFault = ⊥
 IsStated Memory = ⊥
 
--- the statuses that a replay answers only when its input was read
+-- the statuses that are answered to known words only when the input was read
 abbrev pub IsAfterReading : Status → Type 0
 IsAfterReading Done = ⊤
 IsAfterReading Refused = ⊤
@@ -53,6 +62,17 @@ IsAfterReading WriteFault = ⊤
 IsAfterReading LinkFault = ⊥
 IsAfterReading Memory = ⊥
 
+-- the statuses that go with a layout's text, or with the line that says why there is none
+abbrev pub IsOfLayout : Status → Type 0
+IsOfLayout Done = ⊤
+IsOfLayout Refused = ⊤
+IsOfLayout Usage = ⊥
+IsOfLayout ReadFault = ⊥
+IsOfLayout WriteFault = ⊥
+IsOfLayout LinkFault = ⊥
+IsOfLayout Memory = ⊥
+IsOfLayout Limit = ⊥
+
 -- this status is stated for the words and the input, and the text with it was written
 pub record Answers (words : List (List ℕ)) (input : List ℕ) (status : Status) (old new : Option (List ℕ)) : Type 0 where
   pub text : List ℕ
@@ -62,6 +82,11 @@ pub record Answers (words : List (List ℕ)) (input : List ℕ) (status : Status
 -- a first part of the text that is stated for the words and the input was written, and no more
 abbrev pub AnswersPrefix : List (List ℕ) → List ℕ → Option (List ℕ) → Option (List ℕ) → Type 0
 AnswersPrefix words input old new = (status : Status) (text : List ℕ) → IsAnswer words input status text → WrotePrefix old new text
+
+-- nothing was written, or a first part of one text that is stated for a layout of the input, and no more
+pub data LayoutPrefix (input : List ℕ) (old new : Option (List ℕ)) : Type 0 where
+  nothing : Wrote old new [] → LayoutPrefix input old new
+  begun : (status : Status) (text : List ℕ) → IsAnswer layout_words input status text → WrotePrefix old new text → LayoutPrefix input old new
 
 -- it ends with this status and this text written, unless a write fails or memory is wanting
 pub data Says (status : Status) (text : List ℕ) (result : Status) (old new : Option (List ℕ)) (faults risen : ℕ) : Type 0 where

@@ -1,3 +1,4 @@
 pub mod Replay
+pub mod Layout
 pub mod Answer
 pub mod Stop

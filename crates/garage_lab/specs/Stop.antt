@@ -1,4 +1,4 @@
--- Why a replay gave up: the status and the last text that go with it, and what was written before.
+-- Why a command gave up: the status and the last text that go with it, and what was written before.
 use Rattle.std.specs.Prelude.{◌≡◌, ℕ, ◌<◌, ◌≤◌, ⊤, List, [], ◌∷◌, ◌++◌, Option}
 use Rattle.crdt_core.specs.declared.memory.Memory.{Memory as Why}
 use Rattle.crdt_core.specs.declared.memory.Memory.TheVariants.{Want, Full}
@@ -68,6 +68,15 @@ IsSaid Memory = ⊥
 IsSaid LongInput = ⊤
 IsSaid (BadLine n) = ⊤
 IsSaid Number = ⊤
+
+-- reading the input may be the cause
+abbrev pub IsOfReading : Stop → Type 0
+IsOfReading Read = ⊤
+IsOfReading Write = ⊥
+IsOfReading Memory = ⊤
+IsOfReading LongInput = ⊤
+IsOfReading (BadLine n) = ⊥
+IsOfReading Number = ⊥
 
 -- the input may be the cause
 abbrev pub IsOfInput : Stop → Type 0

@@ -1,11 +1,16 @@
-//! garage_lab: an object store on an in-process cluster, replayed from a schedule of events.
+//! garage_lab: an object store on an in-process cluster, replayed from a schedule of events, and the layouts
+//! of its partitions over nodes and zones.
 //!
 //! `run` is the program: it takes the words after the program's name, the outside as a source, a sink, a
 //! link and a clock, and answers the status with which the program ends. Its contract says which text is
-//! written for which input, and why each other answer comes. `schedule` reads the input, `transcript`
-//! writes what the events told, and `stop` is why either gave up.
+//! written for which input, and why each other answer comes. `asked` tells the commands apart, and `input`
+//! reads the input. For a replay `schedule` reads the events and `transcript` writes what they told; `layout`
+//! reads a configuration and computes what is answered. `stop` is why any of them gave up.
 #![tactic(auto)]
 
+mod asked;
+mod input;
+mod layout;
 mod run;
 mod schedule;
 mod stop;

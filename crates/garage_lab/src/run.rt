@@ -1,30 +1,25 @@
 //! The program as one call.
-ghost use Rattle.std.specs.Prelude.{◌≡◌, ◌⊎◌, ◌+◌, ◌≤◌, ℕ, List, map, drop, Some, IfOk, OnOk, IfErr, IfSome, IsTrue, ◌↔◌};
+ghost use Rattle.std.specs.Prelude.{◌≡◌, ◌⊎◌, ◌+◌, ◌≤◌, ℕ, List, map, drop, Some, IfOk, OnOk, IfErr, IfSome};
 ghost use Rattle.std.specs.String.{string_bytes};
 ghost use Rattle.std.specs.Io.KnownBytes.{IsAtEnd};
+ghost use Rattle.crdt_core.specs.declared.memory.Memory.TheVariants.{Want};
 ghost use Rattle.lab_outside.specs.Rose.{Rose};
 ghost use Rattle.lab_outside.specs.Bytes.{Wrote, WrotePrefix};
 ghost use Rattle.garage_lab.specs.Replay.{IsTranscribed};
-ghost use Rattle.garage_lab.specs.Answer.{replay_words, input_limit, usage_line, bad_line_text, IsAnswer, IsStated, IsAfterReading, Answers, AnswersPrefix, Says};
+ghost use Rattle.garage_lab.specs.Layout.{IsPrinted};
+ghost use Rattle.garage_lab.specs.Answer.{layout_words, replay_words, IsKnown, input_limit, usage_line, bad_line_text, IsAnswer, IsStated, IsAfterReading, Answers, AnswersPrefix, LayoutPrefix, Says};
 ghost use Rattle.garage_lab.specs.Stop.{status_of, said_of, Halts, IsSaid};
 
+use crate::asked::{Asked, asked_by};
+use crate::layout::read_layout;
 use crate::schedule::read_schedule;
 use crate::stop::Stop;
 use crate::transcript::write_transcript;
 use crdt_core::{Bytes, Memory};
 use lab_outside::{Clock, Failed, Link, Sink, Source, Status, write_whole};
+use layout_command::one_status;
 use object_laws::fresh_reads;
 use std::alloc::Global;
-
-/// The words ask for a replay.
-fn asks_replay(words: &[String]) -> bool
-    ensures { IsTrue result ↔ (map string_bytes words.now ≡ replay_words) }
-{
-    match words {
-        [word] => word.as_str() == "replay",
-        _ => false,
-    }
-}
 
 /// Writes the last text, and answers the status that goes with it.
 fn ends<O: Sink>(output: &mut O, text: &[u8], status: Status) -> Status
@@ -40,7 +35,8 @@ fn ends<O: Sink>(output: &mut O, text: &[u8], status: Status) -> Status
 
 /// What is said of the first line outside the grammar.
 fn bad_line(alloc: Global, line: u64) -> Result<Bytes, Memory>
-    ensures { IfOk result (λ text. text ≡ bad_line_text line) }
+    ensures text { IfOk result (λ text. text ≡ bad_line_text line) }
+    ensures want { IfErr result (λ e. e ≡ Want) }
 {
     let mut text = Bytes::from_slice(alloc, b"bad line ")?;
     text.extend_from_slice(itoa::Buffer::new().format(line).as_bytes())?;
@@ -48,7 +44,7 @@ fn bad_line(alloc: Global, line: u64) -> Result<Bytes, Memory>
     Ok(text)
 }
 
-/// Says why a replay gave up, where that is said in the output.
+/// Says why a command gave up, where that is said in the output.
 fn stopped<O: Sink>(alloc: Global, output: &mut O, stop: Stop) -> Status
     ensures says { Says (status_of stop) (said_of stop) result (O.written output.old) (O.written output.new) (O.faults output.old) (O.faults output.new) }
     ensures read { IsAfterReading result → IsSaid stop }
@@ -98,6 +94,23 @@ fn replayed<I: Source, O: Sink>(alloc: Global, input: &mut I, output: &mut O) ->
     }
 }
 
+/// Prints the layout of the nodes that the input says, or why there is none.
+fn laid_out<I: Source, O: Sink>(alloc: Global, input: &mut I, output: &mut O) -> Status
+    ensures answers { IsStated result → IfSome (I.left input.old) (λ bytes. Answers layout_words bytes result (O.written output.old) (O.written output.new)) }
+    ensures prefix { IfSome (I.left input.old) (λ bytes. LayoutPrefix bytes (O.written output.old) (O.written output.new)) }
+    ensures end { result ≡ Status.Done → IsAtEnd (I.left input.new) }
+    ensures read { IsAfterReading result → IfSome (I.left input.old) (λ bytes. I.left input.new ≡ Some (drop (input_limit + 1) bytes)) }
+    ensures no_usage { result ≡ Status.Usage → ⊥ }
+    ensures read_fault { result ≡ Status.ReadFault → Rose (I.faults input.old) (I.faults input.new) }
+    ensures write_fault { result ≡ Status.WriteFault → Rose (O.faults output.old) (O.faults output.new) }
+    ensures link_fault { result ≡ Status.LinkFault → ⊥ }
+{
+    match read_layout(alloc, input) {
+        Ok(reply) => ends(output, reply.text.as_slice(), reply.status),
+        Err(stop) => stopped(alloc, output, stop),
+    }
+}
+
 /// What the words ask for.
 fn answer<I: Source, O: Sink>(
     alloc: Global,
@@ -106,22 +119,25 @@ fn answer<I: Source, O: Sink>(
     output: &mut O,
 ) -> Status
     ensures answers { IsStated result → IfSome (I.left input.old) (λ bytes. Answers (map string_bytes words.now) bytes result (O.written output.old) (O.written output.new)) }
-    ensures prefix { IfSome (I.left input.old) (λ bytes. AnswersPrefix (map string_bytes words.now) bytes (O.written output.old) (O.written output.new)) }
+    ensures prefix { (map string_bytes words.now ≡ layout_words → ⊥) → IfSome (I.left input.old) (λ bytes. AnswersPrefix (map string_bytes words.now) bytes (O.written output.old) (O.written output.new)) }
+    ensures layout_prefix { map string_bytes words.now ≡ layout_words → IfSome (I.left input.old) (λ bytes. LayoutPrefix bytes (O.written output.old) (O.written output.new)) }
     ensures end { result ≡ Status.Done → IsAtEnd (I.left input.new) }
-    ensures read { map string_bytes words.now ≡ replay_words → IsAfterReading result → IfSome (I.left input.old) (λ bytes. I.left input.new ≡ Some (drop (input_limit + 1) bytes)) }
-    ensures usage { result ≡ Status.Usage → map string_bytes words.now ≡ replay_words → ⊥ }
-    ensures usage_alone { (map string_bytes words.now ≡ replay_words → ⊥) → (result ≡ Status.Usage) ⊎ (result ≡ Status.WriteFault) }
-    ensures unread { (map string_bytes words.now ≡ replay_words → ⊥) → input.new ≡ input.old }
+    ensures read { IsKnown (map string_bytes words.now) → IsAfterReading result → IfSome (I.left input.old) (λ bytes. I.left input.new ≡ Some (drop (input_limit + 1) bytes)) }
+    ensures usage { result ≡ Status.Usage → IsKnown (map string_bytes words.now) → ⊥ }
+    ensures usage_alone { (IsKnown (map string_bytes words.now) → ⊥) → (result ≡ Status.Usage) ⊎ (result ≡ Status.WriteFault) }
+    ensures unread { (IsKnown (map string_bytes words.now) → ⊥) → input.new ≡ input.old }
     ensures read_fault { result ≡ Status.ReadFault → Rose (I.faults input.old) (I.faults input.new) }
     ensures write_fault { result ≡ Status.WriteFault → Rose (O.faults output.old) (O.faults output.new) }
     ensures link_fault { result ≡ Status.LinkFault → ⊥ }
 {
-    if asks_replay(words) {
-        replayed(alloc, input, output)
-    } else {
-        let usage =
-            b"usage: garage_lab layout | replay [--check] | workload N SEED | serve PORT COUNT\n";
-        ends(output, usage, Status::Usage)
+    match asked_by(words) {
+        Asked::Layout => laid_out(alloc, input, output),
+        Asked::Replay => replayed(alloc, input, output),
+        Asked::Unknown => {
+            let usage =
+                b"usage: garage_lab layout | replay [--check] | workload N SEED | serve PORT COUNT\n";
+            ends(output, usage, Status::Usage)
+        }
     }
 }
 
@@ -134,28 +150,34 @@ pub fn run<I: Source, O: Sink, L: Link, C: Clock>(
     _link: &mut L,
     _clock: &mut C,
 ) -> Status
-    // After Done the source was read to its end, and what was written is the whole transcript of the events
-    // that all its bytes spell. The answered gets of that very run are fresh.
-    ensures done { result ≡ Status.Done → IfSome (I.left input.old) (λ bytes. IsTranscribed bytes (O.written output.old) (O.written output.new)) }
-    ensures end { result ≡ Status.Done → IsAtEnd (I.left input.new) }
+    // After Done of a replay what was written is the whole transcript of the events that all the input's bytes
+    // spell. The answered gets of that very run are fresh.
+    ensures done { map string_bytes words.now ≡ replay_words → result ≡ Status.Done → IfSome (I.left input.old) (λ bytes. IsTranscribed bytes (O.written output.old) (O.written output.new)) }
 
-    // A replay reads to the end of the input, or to the first byte past its limit, before it answers anything
-    // but ReadFault and Memory.
-    ensures read { map string_bytes words.now ≡ replay_words → IsAfterReading result → IfSome (I.left input.old) (λ bytes. I.left input.new ≡ Some (drop (input_limit + 1) bytes)) }
+    // After Done of a layout what was written is the text of an assignment of the greatest partition size for
+    // the nodes that the input says, with the cut that shows that no greater size has any.
+    ensures laid_out { map string_bytes words.now ≡ layout_words → result ≡ Status.Done → IfSome (I.left input.old) (λ bytes. IsPrinted bytes (O.written output.old) (O.written output.new)) }
+
+    // After Done the source was read to its end. Known words read to the end of the input, or to the first byte
+    // past its limit, before they bring anything but ReadFault and Memory.
+    ensures end { result ≡ Status.Done → IsAtEnd (I.left input.new) }
+    ensures read { IsKnown (map string_bytes words.now) → IsAfterReading result → IfSome (I.left input.old) (λ bytes. I.left input.new ≡ Some (drop (input_limit + 1) bytes)) }
 
     // Done, Refused, Usage and Limit come with the status and the whole text that are stated for the words and
-    // the input. Whatever the status, what was written is a first part of the text that is stated.
+    // the input. Whatever the status, what was written is a first part of the text that is stated; of a
+    // layout's texts, which differ by the sets that are chosen, it is a first part of one.
     ensures answers { IsStated result → IfSome (I.left input.old) (λ bytes. Answers (map string_bytes words.now) bytes result (O.written output.old) (O.written output.new)) }
-    ensures prefix { IfSome (I.left input.old) (λ bytes. AnswersPrefix (map string_bytes words.now) bytes (O.written output.old) (O.written output.new)) }
+    ensures prefix { (map string_bytes words.now ≡ layout_words → ⊥) → IfSome (I.left input.old) (λ bytes. AnswersPrefix (map string_bytes words.now) bytes (O.written output.old) (O.written output.new)) }
+    ensures layout_prefix { map string_bytes words.now ≡ layout_words → IfSome (I.left input.old) (λ bytes. LayoutPrefix bytes (O.written output.old) (O.written output.new)) }
 
     // The stated answer comes, or memory was wanting, where no count of faults rises.
     ensures complete { IfSome (I.left input.old) (λ bytes. (status : Status) (text : List ℕ) → IsAnswer (map string_bytes words.now) bytes status text →
         (Rose (I.faults input.old) (I.faults input.new) → ⊥) → (Rose (O.faults output.old) (O.faults output.new) → ⊥) → (result ≡ status) ⊎ (result ≡ Status.Memory)) }
 
     // Words that ask for nothing known bring Usage, with nothing read; no other words do.
-    ensures usage { result ≡ Status.Usage → map string_bytes words.now ≡ replay_words → ⊥ }
-    ensures usage_alone { (map string_bytes words.now ≡ replay_words → ⊥) → (result ≡ Status.Usage) ⊎ (result ≡ Status.WriteFault) }
-    ensures unread { (map string_bytes words.now ≡ replay_words → ⊥) → input.new ≡ input.old }
+    ensures usage { result ≡ Status.Usage → IsKnown (map string_bytes words.now) → ⊥ }
+    ensures usage_alone { (IsKnown (map string_bytes words.now) → ⊥) → (result ≡ Status.Usage) ⊎ (result ≡ Status.WriteFault) }
+    ensures unread { (IsKnown (map string_bytes words.now) → ⊥) → input.new ≡ input.old }
 
     // A fault comes only where the count of its object rose in this call.
     ensures read_fault { result ≡ Status.ReadFault → Rose (I.faults input.old) (I.faults input.new) }
@@ -163,5 +185,6 @@ pub fn run<I: Source, O: Sink, L: Link, C: Clock>(
     ensures link_fault { result ≡ Status.LinkFault → ⊥ }
 {
     fresh_reads();
+    one_status();
     answer(alloc, words, input, output)
 }

@@ -1,19 +1,17 @@
 //! The schedule that the input spells.
-ghost use Rattle.std.specs.Prelude.{◌≡◌, ◌⊎◌, ◌+◌, ◌<◌, ◌≤◌, ℕ, length, drop, Some, Err, IfOk, OnOk, IfErr, IfSome};
+ghost use Rattle.std.specs.Prelude.{◌≡◌, ◌+◌, ◌<◌, ◌≤◌, ℕ, length, drop, Some, Err, IfOk, OnOk, IfErr, IfSome};
 ghost use Rattle.std.specs.Io.KnownBytes.{IsAtEnd};
 ghost use Rattle.lab_outside.specs.Rose.{Rose};
 ghost use Rattle.text_model.specs.Grammar.{IsSchedule, IsFirstBadLine};
 ghost use Rattle.garage_lab.specs.Answer.{input_limit};
 ghost use Rattle.garage_lab.specs.Stop.{IsSaid, IsOfInput};
 
+use crate::input::read_input;
 use crate::stop::Stop;
 use crdt_core::List;
-use lab_outside::{Source, read_up_to};
+use lab_outside::Source;
 use schedule_text::{Numbered, parse};
 use std::alloc::Global;
-
-/// How many bytes the input may have.
-pub const INPUT_LIMIT: usize = 8_388_608;
 
 /// Reads the input to its end, or to the first byte past the limit, and then what it spells.
 pub fn read_schedule<I: Source>(alloc: Global, input: &mut I) -> Result<List<Numbered>, Stop>
@@ -25,10 +23,7 @@ pub fn read_schedule<I: Source>(alloc: Global, input: &mut I) -> Result<List<Num
     ensures causes { IfErr result IsOfInput }
     ensures fault { result ≡ Err Stop.Read → Rose (I.faults input.old) (I.faults input.new) }
 {
-    let text = read_up_to(alloc, input, INPUT_LIMIT)?;
-    if text.len() > INPUT_LIMIT {
-        return Err(Stop::LongInput);
-    }
+    let text = read_input(alloc, input)?;
     let events = parse(alloc, &text)?;
     Ok(events)
 }

@@ -1,11 +1,11 @@
-//! Why a replay gave up.
+//! Why a command gave up.
 ghost use Rattle.std.specs.Prelude.{◌≡◌};
 ghost use Rattle.garage_lab.specs.Stop.{stop_of_read, stop_of_fault, stop_of_memory};
 
 use lab_outside::{Failed, ReadStop};
 use schedule_text::ScheduleFault;
 
-/// Why a replay gave up.
+/// Why a command gave up.
 #[derive(Clone, Copy, Debug, PartialEq, Eq)]
 pub enum Stop {
     /// A read failed.

@@ -1,4 +1,5 @@
-//! What no clause says: that the answers come with ample memory, and which text a schedule has in whole.
+//! What no clause says: that the answers come with ample memory, and which text a schedule or a configuration
+//! has in whole.
 use super::run::run;
 use lab_outside::{
     MemClock, MemSink, MemSource, Sink, Source, Status, SureLink, SureSink, SureSource,
@@ -23,6 +24,18 @@ const FIRST_GET: &[u8] =
 
 const REPEATED_GET: &[u8] =
     b"7 deliver ok\ngot 14\nsent 16 row 2 2\n8 deliver ok\ngot 14\nsent 17 row 2 2\n9 drain ok\ngot 13\nsent 18 row 1 2\ngot 15\nsent 19 row 3 2\ngot 16\ngot 17\ngot 18\ndone 2 get 1000/1 3 900150983cd24fb0d6963f7d28e17f72\ngot 19\nend 9 2 19\n";
+
+/// Four nodes in three zones, two of them in lyon.
+const THREE_ZONES: &[u8] =
+    b"[[node]]\nid = 1\nzone = 'lille'\ncapacity = 2_000_000_000_000\n[[node]]\nid = 2\nzone = 'paris'\ncapacity = 2_000_000_000_000\n[[node]]\nid = 3\nzone = 'lyon'\ncapacity = 1_000_000_000_000\n[[node]]\nid = 4\nzone = 'lyon'\ncapacity = 2_000_000_000_000\n";
+
+/// Three nodes in two zones, and a gateway.
+const GATEWAY: &[u8] =
+    b"redundancy = 2\n[[node]]\nid = 1\nzone = 'lille'\ncapacity = 500_000_000_000\n[[node]]\nid = 2\nzone = 'paris'\ncapacity = 500_000_000_000\n[[node]]\nid = 3\nzone = 'paris'\ncapacity = 1_000_000_000_000\n[[node]]\nid = 4\nzone = 'lyon'\ngateway = true\n";
+
+/// Three nodes in two zones, where three are asked for.
+const TOO_FEW_ZONES: &[u8] =
+    b"redundancy = 3\n[[node]]\nid = 1\nzone = 'lille'\ncapacity = 2_000_000_000_000\n[[node]]\nid = 2\nzone = 'paris'\ncapacity = 2_000_000_000_000\n[[node]]\nid = 3\nzone = 'paris'\ncapacity = 2_000_000_000_000\n";
 
 const USAGE: &[u8] =
     b"usage: garage_lab layout | replay [--check] | workload N SEED | serve PORT COUNT\n";
@@ -99,7 +112,7 @@ fn empty_input(rt: HostRuntime) -> Result<(), Fail> {
 
 #[test]
 fn other_words_are_usage(rt: HostRuntime) -> Result<(), Fail> {
-    let words: [&[&str]; 3] = [&[], &["replay", "x"], &["layout"]];
+    let words: [&[&str]; 3] = [&[], &["replay", "x"], &["layouts"]];
     for asked in words {
         let (status, text) = played(rt.alloc(), asked, FIRST, &[], &[])?;
         assert_eq!(rt; status, Status::Usage);
@@ -113,6 +126,44 @@ fn first_bad_line_is_told(rt: HostRuntime) -> Result<(), Fail> {
     let (status, text) = played(rt.alloc(), &["replay"], b"trio\n\nfoo\nbar\n", &[], &[])?;
     assert_eq!(rt; status, Status::Refused);
     assert_eq!(rt; text.as_slice(), b"bad line 3\n".as_slice());
+    Ok(())
+}
+
+/// Which of the partitions node 3 has and which node 4 is free: the lines before them, and the cut.
+#[test]
+fn three_zones(rt: HostRuntime) -> Result<(), Fail> {
+    let (status, text) = played(rt.alloc(), &["layout"], THREE_ZONES, &[], &[])?;
+    assert_eq!(rt; status, Status::Done);
+    assert!(rt; text.starts_with(b"size 7812500000\nredundancy 3\np 0 "));
+    assert!(rt; text.ends_with(b"\ncut 7812500001 766\nc 0 255 up z:lille z:paris\ncn 1 2\n"));
+    Ok(())
+}
+
+#[test]
+fn gateway_has_no_copies(rt: HostRuntime) -> Result<(), Fail> {
+    let (status, text) = played(rt.alloc(), &["layout"], GATEWAY, &[], &[])?;
+    assert_eq!(rt; status, Status::Done);
+    assert_eq!(rt;
+        text.as_slice(),
+        b"size 1953125000\nredundancy 2\np 0 255 1 2 3\ncut 1953125001 766\nc 0 255 up down z:lille z:paris\ncn 1 2\n".as_slice()
+    );
+    Ok(())
+}
+
+#[test]
+fn refused_layouts(rt: HostRuntime) -> Result<(), Fail> {
+    let id_out_of_range = b"node = [{ id = 65 }]";
+    let rows: [(&[u8], &[u8]); 4] = [
+        (TOO_FEW_ZONES, b"too few zones 2 3\n"),
+        (b"", b"bad field node\n"),
+        (id_out_of_range, b"bad field id\n"),
+        (b"# \xff", b"bad toml\n"),
+    ];
+    for (input, wanted) in rows {
+        let (status, text) = played(rt.alloc(), &["layout"], input, &[], &[])?;
+        assert_eq!(rt; status, Status::Refused);
+        assert_eq!(rt; text.as_slice(), wanted);
+    }
     Ok(())
 }
 

@@ -1,4 +1,4 @@
 use Rattle.garage_lab.proofs.run.answer.Goals as goal
 
-pub returns-then-asks_replay-clause-prefix : goal.returns-then-asks_replay-clause-prefix
-returns-then-asks_replay-clause-prefix g c = rw (c.asks_replay.ensures.0 c.if-asks_replay.true) c.replayed.ensures.prefix
+pub returns-in-Replay-clause-prefix : goal.returns-in-Replay-clause-prefix
+returns-in-Replay-clause-prefix g c = λ _. rw (c.asked_by.ensures.replay.0 c.in-Replay.is) c.replayed.ensures.prefix

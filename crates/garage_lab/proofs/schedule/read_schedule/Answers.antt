@@ -1,20 +1,15 @@
-use Rattle.std.proofs.Common.{arith, ap, Err, ◌<◌, ◌≤◌, length}
+use Rattle.std.proofs.Common.{ap, Err}
 use Rattle.garage_lab.specs.Answer.{input_limit}
 use Rattle.text_model.specs.Grammar.{IsSchedule, IsFirstBadLine}
-use Rattle.garage_lab.proofs.Texts.{longer, not_longer}
+use Rattle.garage_lab.proofs.Texts.{of_all}
 use Rattle.garage_lab.proofs.Stops.{bad_line_back}
 use Rattle.garage_lab.proofs.schedule.read_schedule.Goals as goal
 
-pub returns-then-len-gt-INPUT_LIMIT-clause-long_input : goal.returns-then-len-gt-INPUT_LIMIT-clause-long_input
-returns-then-len-gt-INPUT_LIMIT-clause-long_input g c = λ e.
-    longer (g.I.Source.left c.args.input.now) input_limit c.in_ok-text.text.items (omega (arith, c.in_ok-text.text.ok.0, c.len.ensures, c.if-len-gt-INPUT_LIMIT.true)) c.in_ok-text.ensures.bytes
-
 pub returns-in_err-events-clause-bad_line : goal.returns-in_err-events-clause-bad_line
 returns-in_err-events-clause-bad_line g c = λ n e.
-    not_longer (λ bytes. IsFirstBadLine bytes n) (g.I.Source.left c.args.input.now) input_limit c.in_ok-text.text.items (omega (arith, c.in_ok-text.text.ok.0, c.len.ensures, c.if-len-gt-INPUT_LIMIT.false)) c.in_ok-text.ensures.bytes c.in_ok-text.ensures.short
+    of_all (λ bytes. IsFirstBadLine bytes n) (g.I.Source.left c.args.input.now) input_limit c.in_ok-text.text.items c.in_ok-text.ensures.bytes
     (rw c.deref.ensures.value at (c.in_err-events.ensures.bad_line n (ap Err (bad_line_back c.from_residual-in_err-events.result c.in_err-events.field-0.0 n c.from_residual-in_err-events.ensures.1 e))))
 
 pub returns-clause-schedule : goal.returns-clause-schedule
 returns-clause-schedule g c =
-    not_longer (λ bytes. IsSchedule bytes c.in_ok-events.events) (g.I.Source.left c.args.input.now) input_limit c.in_ok-text.text.items (omega (arith, c.in_ok-text.text.ok.0, c.len.ensures, c.if-len-gt-INPUT_LIMIT.false)) c.in_ok-text.ensures.bytes c.in_ok-text.ensures.short
-    (rw c.deref.ensures.value at c.in_ok-events.ensures.events)
+    of_all (λ bytes. IsSchedule bytes c.in_ok-events.events) (g.I.Source.left c.args.input.now) input_limit c.in_ok-text.text.items c.in_ok-text.ensures.bytes (rw c.deref.ensures.value at c.in_ok-events.ensures.events)

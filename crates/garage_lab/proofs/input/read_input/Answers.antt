@@ -1,0 +1,12 @@
+use Rattle.std.proofs.Common.{arith, ◌<◌, ◌≤◌}
+use Rattle.garage_lab.specs.Answer.{input_limit}
+use Rattle.garage_lab.proofs.Texts.{longer, not_longer}
+use Rattle.garage_lab.proofs.input.read_input.Goals as goal
+
+pub returns-then-len-gt-INPUT_LIMIT-clause-long_input : goal.returns-then-len-gt-INPUT_LIMIT-clause-long_input
+returns-then-len-gt-INPUT_LIMIT-clause-long_input g c = λ e.
+    longer (g.I.Source.left c.args.input.now) input_limit c.in_ok-bytes.bytes.items (omega (arith, c.in_ok-bytes.bytes.ok.0, c.len.ensures, c.if-len-gt-INPUT_LIMIT.true)) c.in_ok-bytes.ensures.bytes
+
+pub returns-clause-bytes : goal.returns-clause-bytes
+returns-clause-bytes g c =
+    not_longer (g.I.Source.left c.args.input.now) input_limit c.in_ok-bytes.bytes.items (omega (arith, c.in_ok-bytes.bytes.ok.0, c.len.ensures, c.if-len-gt-INPUT_LIMIT.false)) c.in_ok-bytes.ensures.bytes c.in_ok-bytes.ensures.short
