@@ -60,7 +60,15 @@ impl View {
         }
     }
 
-    fn layout(&self, v: u32) -> Option<&Layout>
+    /// The stored layouts, from the oldest version to the newest.
+    pub fn layouts(&self) -> &[Layout]
+        ensures { result.now ≡ (known self.now).layouts }
+    {
+        self.layouts.as_slice()
+    }
+
+    /// The layout of version v, where it is stored.
+    pub fn layout(&self, v: u32) -> Option<&Layout>
         ensures { option_copied result ≡ layout_at reading (known self.now) v }
     {
         self.layouts
