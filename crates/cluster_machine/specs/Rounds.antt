@@ -34,6 +34,10 @@ abbrev pub is_empty : {A : Type 0} → List A → Bool
 is_empty [] = true
 is_empty (a ∷ as') = false
 
+-- the partitions that some node of the set has not confirmed
+abbrev pub open_parts : Round → List Part
+open_parts round = filter (λ part. not (is_empty (open_nodes round part))) round.parts
+
 module _ {R : Type 0} (join : R → R → R) (s : Words R) where
   module _ {L : Type 0} where
     -- the node's rows of a partition, in order of tables and keys
@@ -99,10 +103,12 @@ module _ {R : Type 0} (join : R → R → R) (s : Words R) where
 
       -- an open round sends again, with the rows of now, to the nodes that have not confirmed
       abbrev pub again : ℕ → Node R L → Round → Did R L
-      again id x round = record (quiet x) {
-        posts = flat_map (λ part. pushes x round.number part.partition (open_nodes round part)) round.parts;
-        is_spelled = are_spelled x round.parts;
-      }
+      again id x round =
+          let parts = open_parts round in
+          record (quiet x) {
+            posts = flat_map (λ part. pushes x round.number part.partition (open_nodes round part)) parts;
+            is_spelled = are_spelled x parts;
+          }
 
       -- the rows of each partition go to the other nodes of its newest set
       abbrev pub repairs : ℕ → Node R L → Did R L

@@ -14,7 +14,7 @@ use Rattle.table_schema.specs.Words.{Words}
 use Rattle.quorum_model.specs.Quorum.{is_among}
 use Rattle.cluster_machine.specs.Layouts.{Layouts, storage_in}
 use Rattle.cluster_machine.specs.Node.{Part, Round, Node, Did, quiet}
-use Rattle.cluster_machine.specs.Rounds.{is_complete, open_nodes, pushes, pushes_rows, rows_at, parts_of, synced, goes_on, may_sync, begin_round, again, repairs}
+use Rattle.cluster_machine.specs.Rounds.{is_complete, open_nodes, open_parts, pushes, pushes_rows, rows_at, parts_of, synced, goes_on, may_sync, begin_round, again, repairs}
 use Rattle.cluster_machine.specs.Receives.{round_came}
 use Rattle.cluster_machine.specs.Run.{IsLayout}
 use Rattle.cluster_machine.specs.World.{World}
@@ -121,7 +121,7 @@ module _ {R L : Type 0} (join : R → R → R) (s : Words R) (k : Layouts L) whe
       all_append _ (pushes join s k x number part.partition (nodes_of part)) _ (said_pushes_rows x number part.partition (nodes_of part) (rows_at join s x part.partition)) (said_pushes x number nodes_of parts)
 
   pub unseen_again : (n : ℕ) (x : Node R L) (round : Round) → Unseen x (again join s k n x round)
-  unseen_again n x round = record { same = same_self x; posts = said_pushes x round.number (open_nodes round) round.parts }
+  unseen_again n x round = record { same = same_self x; posts = said_pushes x round.number (open_nodes round) (open_parts round) }
 
   pub unseen_repairs : (n : ℕ) (x : Node R L) → Unseen x (repairs join s k n x)
   unseen_repairs n x = record { same = record { view = refl; calls = refl; round = refl }; posts = said_pushes x (suc x.rounds) (λ part. filter (λ m. not (m == n)) part.set) _ }

@@ -27,7 +27,7 @@ use Rattle.cluster_machine.specs.Layouts.{Layouts}
 use Rattle.cluster_machine.specs.Node as machine
 use Rattle.cluster_machine.specs.Node.{Part, Confirmed, Node, Did, Post, quiet}
 use Rattle.cluster_machine.specs.Phases.{is_spelled}
-use Rattle.cluster_machine.specs.Rounds.{confirmed_for, is_complete, open_nodes, rows_at, with_its_block, pushes as push_posts, pushes_rows, are_spelled, synced, goes_on, again}
+use Rattle.cluster_machine.specs.Rounds.{confirmed_for, is_complete, open_nodes, open_parts, rows_at, with_its_block, pushes as push_posts, pushes_rows, are_spelled, synced, goes_on, again}
 use Rattle.cluster_machine.specs.World.{World}
 use Rattle.cluster_machine.specs.Step.{did, sent_by}
 use Rattle.machine_laws.specs.Follows.{target_of}
@@ -184,24 +184,24 @@ module _ {R L : Type 0} (join : R → R → R) (s : Words R) (k : Layouts L) (pa
         node_of d _ = d
 
     -- an open round sends again
-    pub sends_again : (n : ℕ) (x : machine.Round) → (w.nodes n).round ≡ Some x → are_spelled join s k (w.nodes n) x.parts ≡ true → Leads join s k partitions some joins_well {A = A} {C = C} w p g (did w n (again join s k n (w.nodes n) x))
+    pub sends_again : (n : ℕ) (x : machine.Round) → (w.nodes n).round ≡ Some x → are_spelled join s k (w.nodes n) (open_parts x) ≡ true → Leads join s k partitions some joins_well {A = A} {C = C} w p g (did w n (again join s k n (w.nodes n) x))
     sends_again n x e spelled =
         let y = w.nodes n in
         let tied = t.nodes n in
         let m = subst (IsRoundIn join s k partitions p g n) e tied.round in
         let rd = m.round in
-        let acts = pushing rd y x.parts in
+        let acts = pushing rd y (open_parts x) in
         let new = run P p acts in
-        let happens = pushing_happens rd y x.parts p m.is_there (open_by n x m e) (λ z. ap (λ i. log_at P p.log i z) m.node ∙ tied.rows z) tied.proper in
-        let control : new.control ≡ p.control = pushing_same (λ (q : State join s k partitions). q.control) (λ q rd part rs. refl) rd y x.parts p in
-        let log : new.log ≡ p.log = pushing_same (λ (q : State join s k partitions). q.log) (λ q rd part rs. refl) rd y x.parts p in
-        let kept : new.kept ≡ p.kept = pushing_same (λ (q : State join s k partitions). q.kept) (λ q rd part rs. refl) rd y x.parts p in
+        let happens = pushing_happens rd y (open_parts x) p m.is_there (open_by n x m e) (λ z. ap (λ i. log_at P p.log i z) m.node ∙ tied.rows z) tied.proper in
+        let control : new.control ≡ p.control = pushing_same (λ (q : State join s k partitions). q.control) (λ q rd part rs. refl) rd y (open_parts x) p in
+        let log : new.log ≡ p.log = pushing_same (λ (q : State join s k partitions). q.log) (λ q rd part rs. refl) rd y (open_parts x) p in
+        let kept : new.kept ≡ p.kept = pushing_same (λ (q : State join s k partitions). q.kept) (λ q rd part rs. refl) rd y (open_parts x) p in
         let up = grown join s k partitions some joins_well p g g acts sound happens (issues_self g) in
         quietly join s k partitions some joins_well w p g g n (again join s k n y x) acts sound t (unseen_again join s k n y x) happens control log kept (issues_self g)
         (λ i d. same_at join s k partitions g (length w.requests) i) refl
         (node_stays join s k partitions p new g g up (length w.requests) (length w.requests) n y (omega arith) (same_at join s k partitions g (length w.requests) n) (λ q. ap (λ l. log_at P l n q) log) tied)
-        (sent_parts w n new g x.number (a_round rd) m.issued y (open_nodes x) x.parts
-        (all_shown w n new p g x.number rd y x.parts m.issued (ap (P.control.newest p.control) m.node ∙ Rattle.machine_reads.proofs.Sees.newest_same join s k partitions some w p sound t.control n) (pushing_has rd y x.parts p) spelled))
+        (sent_parts w n new g x.number (a_round rd) m.issued y (open_nodes x) (open_parts x)
+        (all_shown w n new p g x.number rd y (open_parts x) m.issued (ap (P.control.newest p.control) m.node ∙ Rattle.machine_reads.proofs.Sees.newest_same join s k partitions some w p sound t.control n) (pushing_has rd y (open_parts x) p) spelled))
         t.not_asked t.not_stored tt
 
     -- an open round completes, or goes on
