@@ -1,0 +1,185 @@
+-- What stays when a part of a node changes.
+use Rattle.std.proofs.Common.{◌≡◌, ◌≤◌, ◌<◌, ℕ, zero, suc, Bool, true, false, leb, nat_lt, IsTrue, List, [], ◌∷◌, Option, Some, None, is_some, option_map, ◌&&◌, map, append-nil, refl, ap, sym, subst, ◌∙◌, arith, Result, Ok, Err, IfOk, OnOk, OnErr}
+use Rattle.std.specs.List.{AllZip, filter, list_all}
+use Rattle.std.specs.Cmp.{nat_cmp_total}
+use Rattle.std.proofs.lemmas.Bool.{le-leb, leb-true}
+use Rattle.std.proofs.Math.Nat.{le_trans}
+use Rattle.layout_roles.specs.declared.layout.Layout.{Layout}
+use Rattle.crdt_core.specs.EntryLaws.{and_parts}
+use Rattle.crdt_core.specs.Orders.{nat_identical}
+use Rattle.crdt_core.specs.Map.{map_get, map_get-decides}
+use Rattle.layout_trackers.specs.declared.trackers.Trackers.{Trackers}
+use Rattle.layout_trackers.specs.declared.which.Which.{Which}
+use Rattle.layout_trackers.specs.declared.which.Which.TheVariants.{Ack, Sync, SyncAck}
+use Rattle.layout_trackers.specs.Trackers.{Tracker, entry}
+use Rattle.layout_history.specs.Known.{reading}
+use Rattle.view_model.specs.View.{View, newest, layout_at, is_gapless, merged, cleaned}
+use Rattle.view_model.specs.Reads.{merged_grew}
+use Rattle.view_model.specs.Cleans.{newest_stays}
+use Rattle.view_model.specs.Gapless.{none_at_0, lt_leb}
+use Rattle.table_schema.specs.Words.{Words}
+use Rattle.quorum_model.specs.Quorum.{is_among}
+use Rattle.cluster_machine.specs.Layouts.{members_in, is_member}
+use Rattle.cluster_machine.specs.Node.{no_trackers, quiet, Item as Waiting, Node as Model, Call as Opened, Round as Moved}
+use Rattle.node_core.specs.declared.contents.Contents.{Contents}
+use Rattle.node_core.specs.Layouts.{layouts}
+use Rattle.node_core.specs.Contents.{IsContents, IsItem, Became}
+use Rattle.block_resync.specs.declared.item.Item.{Item}
+use Rattle.cluster_machine.specs.Phases.{is_spelled}
+use Rattle.cluster_machine.specs.Acts.{without_due, stays}
+use Rattle.node_core.specs.Calls.{AreCalls}
+use Rattle.node_core.specs.declared.node.Node.{Node}
+use Rattle.node_core.specs.declared.rounds.Moving.{Moving}
+use Rattle.node_core.specs.declared.rounds.Rounds.{Rounds}
+use Rattle.node_core.specs.Rounds.{IsOpen, IsMoving, AreRounds}
+use Rattle.node_core.specs.Stands.{HasVersion, StandsFor, StandsApart, StandsButView, Done}
+use Rattle.node_core.specs.declared.packet.Envelope.{Envelope}
+use Rattle.node_core.specs.Posts.{Posts, posted}
+
+pub ok_to : {A E P Q : Type 0} → (r : Result A E) → OnOk r P → (P → Q) → OnOk r Q
+ok_to (Ok a) p f = f p
+ok_to (Err e) p f = tt
+
+pub ok_all : {A E : Type 0} {P Q : A → Type 0} → (r : Result A E) → IfOk r P → ((a : A) → P a → Q a) → IfOk r Q
+ok_all (Ok a) p f = f a p
+ok_all (Err e) p f = tt
+
+pub err_to : {A E P Q : Type 0} → (r : Result A E) → OnErr r P → (P → Q) → OnErr r Q
+err_to (Ok a) p f = tt
+err_to (Err e) p f = f p
+
+-- contents have nothing to do with the view, the requests and the rounds
+pub same_contents : {S R : Type 0} {join : R → R → R} {s : Words R} {c : Contents S R} (x : Model R Layout) (v : View Layout) (calls : List (Opened R)) (round : Option Moved) (rounds : ℕ) →
+    IsContents join s c x → IsContents join s c (record x { view = v; calls = calls; round = round; rounds = rounds })
+same_contents x v calls round rounds is = record { proper = is.proper; table = is.table; items = is.items; queued = is.queued; blocks = is.blocks }
+
+-- a version is stored when the newest one has not fallen
+pub version_stays : {R : Type 0} (a b : View Layout) (calls : List (Opened R)) → newest reading a ≤ newest reading b → HasVersion a calls → HasVersion b calls
+version_stays a b [] le h = tt
+version_stays a b (c ∷ cs) le h = le-leb 1 (newest reading b) (le_trans (leb-true 1 (newest reading a) h) le)
+
+pub version_kept : {R : Type 0} (v : View Layout) (t : Trackers) (calls : List (Opened R)) → HasVersion v calls → HasVersion (record v { trackers = t }) calls
+version_kept v t [] h = tt
+version_kept v t (c ∷ cs) h = h
+
+-- an open round is one of the model
+pub open_some : {id : ℕ} (m : Moving) (round : Option Moved) → IsOpen id (Some m) round → (r : Moved) × (round ≡ Some r) × IsMoving id m r
+open_some m None is = absurd is
+open_some m (Some r) is = (r, refl, is)
+
+pub open_none : (id : ℕ) (round : Option Moved) → IsOpen id None round → round ≡ None
+open_none id None is = refl
+open_none id (Some r) is = absurd is
+
+pub apart : {S R : Type 0} {join : R → R → R} {s : Words R} {c : Node S R} {id : ℕ} {x : Model R Layout} → StandsFor join s c id x → StandsApart join s c id x
+apart is = record { id_is = is.id_is; view = is.view; contents = is.contents; calls = is.calls; begun = is.rounds.begun; has_version = is.has_version }
+
+-- ---- a view without a version and without an entry
+
+none_under : {A B : Type 0} (f : A → B) (o : Option A) → option_map f o ≡ None → o ≡ None
+none_under f None e = refl
+none_under f (Some a) e = cc
+
+same_trackers : (a b : Trackers) → a.ack ≡ b.ack → a.sync ≡ b.sync → a.sync_ack ≡ b.sync_ack → a ≡ b
+same_trackers a b x y z = λ i. record { ack = x i; sync = y i; sync_ack = z i }
+
+no_entry : (a b : Tracker) → ((node : ℕ) → map_get a node ≡ None) → ((node : ℕ) → map_get b node ≡ None) → a ≡ b
+no_entry a b na nb = map_get-decides nat_cmp_total nat_identical a b (λ k. na k ∙ sym (nb k))
+
+pub no_entries : (t : Trackers) → ((which : Which) (node : ℕ) → entry which node t ≡ None) → t ≡ no_trackers
+no_entries t none = same_trackers t no_trackers
+    (no_entry t.ack no_trackers.ack (λ node. none_under (λ v. v.0) (map_get t.ack node) (none Ack node)) (λ node. refl))
+    (no_entry t.sync no_trackers.sync (λ node. none_under (λ v. v.0) (map_get t.sync node) (none Sync node)) (λ node. refl))
+    (no_entry t.sync_ack no_trackers.sync_ack (λ node. none_under (λ v. v.0) (map_get t.sync_ack node) (none SyncAck node)) (λ node. refl))
+
+-- ---- a member has a version
+
+none_in : (o : Option Layout) (id : ℕ) → o ≡ None → is_among id (members_in layouts o) ≡ false
+none_in o id e = rw e refl
+
+has_by : (v : View Layout) (id n : ℕ) → newest reading v ≡ n → is_gapless reading v.layouts ≡ true → is_member layouts v id ≡ true → leb 1 (newest reading v) ≡ true
+has_by v id (suc n) e gapless member = rw e (le-leb 1 (suc n) (omega arith))
+has_by v id zero e gapless member =
+    let none = none_in (layout_at reading v (newest reading v)) id (rw e (none_at_0 reading v.layouts gapless)) in
+    let no : true ≡ false = sym member ∙ none in cc
+
+pub member_has_version : (v : View Layout) (id : ℕ) → is_gapless reading v.layouts ≡ true → is_member layouts v id ≡ true → IsTrue (leb 1 (newest reading v))
+member_has_version v id gapless member = has_by v id (newest reading v) refl gapless member
+
+-- ---- contents that changed
+
+pub with_contents : {S R : Type 0} {join : R → R → R} {s : Words R} (c : Node S R) (id : ℕ) (x y : Model R Layout) (contents : Contents S R) →
+    StandsFor join s c id x → Became join s contents x y → StandsFor join s (record c { contents = contents }) id y
+with_contents c id x y contents is became =
+    let rest = became.rest in
+    record {
+      id_is = is.id_is;
+      view = is.view ∙ sym rest.view;
+      contents = became.contents;
+      calls = subst (λ calls. AreCalls c.calls calls) (sym rest.calls) is.calls;
+      rounds = record {
+        is_open = subst (λ round. IsOpen id c.rounds.round round) (sym rest.round) is.rounds.is_open;
+        begun = is.rounds.begun ∙ sym rest.rounds;
+      };
+      has_version = subst (λ v. HasVersion v y.calls) (sym rest.view) (subst (λ calls. HasVersion x.view calls) (sym rest.calls) is.has_version);
+    }
+
+-- what the node knows of its view
+pub knows_less : (a b n : ℕ) → n ≡ a → b ≤ n → nat_lt a b ≡ false
+knows_less a b n e le = lt_leb (suc a) b (omega arith)
+
+-- the view changed, and the round closed where it had to
+pub seen : {S R : Type 0} {join : R → R → R} {s : Words R} (c : Node S R) (id : ℕ) (x : Model R Layout) (v : View Layout) (rounds : Rounds) (round : Option Moved) →
+    StandsButView join s c id x v → AreRounds id rounds round x.rounds → StandsFor join s (record c { rounds = rounds }) id (record x { view = v; round = round })
+seen c id x v rounds round is closed = record {
+  id_is = is.id_is;
+  view = is.view;
+  contents = same_contents x v x.calls round x.rounds is.contents;
+  calls = is.calls;
+  rounds = closed;
+  has_version = is.has_version;
+}
+
+pub rose : (old new before now : ℕ) → now ≡ new → old ≡ before → before < now → leb new old ≡ false
+rose old new before now e f lt = lt_leb new old (omega arith)
+
+pub stayed : (old new before now : ℕ) → now ≡ new → old ≡ before → now ≤ before → leb new old ≡ true
+stayed old new before now e f le = le-leb new old (omega arith)
+
+-- ---- nothing is sent
+
+pub nothing_sent : {R : Type 0} (id : ℕ) (out : List (Envelope R)) → Posts id out out []
+nothing_sent id out = sym (append-nil (map posted out))
+
+pub silent : {S R : Type 0} {join : R → R → R} {s : Words R} (c : Node S R) (id : ℕ) (y : Model R Layout) (out : List (Envelope R)) → StandsFor join s c id y → Done join s c id out out None (quiet y)
+silent c id y out is = record { stands = is; posts = nothing_sent id out; ends = refl; spelled = λ sizes. refl }
+
+-- a view after a merge has at least as new a version
+pub newer_merged : (a b : View Layout) → is_gapless reading a.layouts ≡ true → is_gapless reading b.layouts ≡ true → newest reading a ≤ newest reading (merged reading a b)
+newer_merged a b ga gb = (merged_grew reading a b ga gb).newest_grew
+
+-- a clean keeps the newest version
+pub cleaned_newest : (v : View Layout) → is_gapless reading v.layouts ≡ true → newest reading v ≤ newest reading (cleaned reading v)
+cleaned_newest v g = let e = newest_stays reading v g in omega arith
+
+pub and_first : (a b : Bool) → (a && b) ≡ true → a ≡ true
+and_first a b e = (and_parts a b e).0
+
+-- ---- the outbox
+
+-- each item has a spelling
+pub items_spelled : {R : Type 0} (s : Words R) (cs : List Item) (ms : List (Waiting R)) → AllZip (IsItem s) cs ms → list_all (λ (m : Waiting R). is_spelled s m.row) ms ≡ true
+items_spelled s [] [] all = refl
+items_spelled s [] (m ∷ ms) all = absurd all
+items_spelled s (c ∷ cs) [] all = absurd all
+items_spelled s (c ∷ cs) (m ∷ ms) all = rw (ap is_some all.0.row) (items_spelled s cs ms all.1)
+
+-- where no block is there, none is due
+pub nothing_due : {S R : Type 0} {join : R → R → R} {s : Words R} {c : Contents S R} (now : ℕ) (x : Model R Layout) → IsContents join s c x → IsContents join s c (without_due join s now x)
+nothing_due {S} {R} {join} {s} now x is = record {
+  proper = is.proper;
+  table = is.table;
+  items = is.items;
+  queued = is.queued;
+  blocks = ap (filter (stays join s now x)) is.blocks;
+}

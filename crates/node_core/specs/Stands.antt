@@ -1,0 +1,132 @@
+-- When a node of the code stands for a node of the model, and when a call does what the model says.
+use Rattle.std.specs.Prelude.{◌≡◌, ◌<◌, ◌^◌, ℕ, true, false, leb, IsTrue, IsSome, Option, None, Some, List, [], ◌∷◌, ⊤}
+use Rattle.std.specs.List.{AllByRecursion}
+use Rattle.layout_roles.specs.declared.layout.Layout.{Layout}
+use Rattle.layout_history.specs.Views.{known}
+use Rattle.layout_history.specs.Known.{reading}
+use Rattle.view_model.specs.View.{View, newest, layout_at}
+use Rattle.table_schema.specs.Words.{Words}
+use Rattle.wire_messages.specs.declared.message.Message.{Message}
+use Rattle.wire_messages.specs.declared.message.Message.TheVariants.{Store}
+use Rattle.wire_messages.specs.declared.phase.Phase.{Phase}
+use Rattle.wire_messages.specs.declared.phase.PhaseEnd.{PhaseEnd}
+use Rattle.cluster_machine.specs.declared.step.LocalEnd.{LocalEnd}
+use Rattle.cluster_machine.specs.Node.{Node as Model, Call as Opened, Post, Ended, Did, quiet}
+use Rattle.cluster_machine.specs.Phases.{begins}
+use Rattle.cluster_machine.specs.Acts.{Acted}
+use Rattle.cluster_machine.specs.World.{packet_size}
+use Rattle.node_core.specs.declared.node.Node.{Node}
+use Rattle.node_core.specs.declared.packet.Packet.{Packet}
+use Rattle.node_core.specs.declared.packet.Packet.TheVariants.{Msg, View as Shown}
+use Rattle.node_core.specs.declared.packet.Envelope.{Envelope}
+use Rattle.node_core.specs.declared.pushes.Sender.{Sender}
+use Rattle.node_core.specs.Layouts.{layouts}
+use Rattle.node_core.specs.Posts.{Posts}
+use Rattle.node_core.specs.Calls.{AreCalls}
+use Rattle.node_core.specs.Contents.{AreBare, IsContents, Holds}
+use Rattle.node_core.specs.Rounds.{AreRounds}
+use Rattle.node_core.specs.Pushes.{PushedAll, moved}
+use Rattle.cluster_machine.specs.Rounds.{are_spelled}
+
+-- where a request is open a version is stored
+abbrev pub HasVersion : {R : Type 0} → View Layout → List (Opened R) → Type 0
+HasVersion v [] = ⊤
+HasVersion v (c ∷ cs) = IsTrue (leb 1 (newest reading v))
+
+abbrev pub view_of : {S R : Type 0} → Node S R → View Layout
+view_of node = known node.view
+
+-- what the node sends in a round or a repair with this number
+abbrev pub sender_of : {S R : Type 0} → Node S R → ℕ → Sender
+sender_of node round = record { node = node.id; newest = newest reading (known node.view); round = round; alloc = node.alloc }
+
+pub record StandsFor {S R : Type 0} (join : R → R → R) (s : Words R) (c : Node S R) (id : ℕ) (x : Model R Layout) : Type 0 where
+  pub id_is : c.id ≡ id
+  pub view : known c.view ≡ x.view
+  pub contents : IsContents join s c.contents x
+  pub calls : AreCalls c.calls x.calls
+  pub rounds : AreRounds id c.rounds x.round x.rounds
+  pub has_version : HasVersion x.view x.calls
+
+-- the same, whatever round is open
+pub record StandsApart {S R : Type 0} (join : R → R → R) (s : Words R) (c : Node S R) (id : ℕ) (x : Model R Layout) : Type 0 where
+  pub id_is : c.id ≡ id
+  pub view : known c.view ≡ x.view
+  pub contents : IsContents join s c.contents x
+  pub calls : AreCalls c.calls x.calls
+  pub begun : c.rounds.begun ≡ x.rounds
+  pub has_version : HasVersion x.view x.calls
+
+-- the same of a node whose view has just become v
+pub record StandsButView {S R : Type 0} (join : R → R → R) (s : Words R) (c : Node S R) (id : ℕ) (x : Model R Layout) (v : View Layout) : Type 0 where
+  pub id_is : c.id ≡ id
+  pub view : known c.view ≡ v
+  pub contents : IsContents join s c.contents x
+  pub calls : AreCalls c.calls x.calls
+  pub rounds : AreRounds id c.rounds x.round x.rounds
+  pub has_version : HasVersion v x.calls
+
+-- a request, and how its phase ended, where one did
+abbrev pub ends_of : {R : Type 0} → Option (ℕ × PhaseEnd R) → List (Ended R)
+ends_of None = []
+ends_of (Some e) = record { request = e.0; how = e.1 } ∷ []
+
+-- the size of each packet is a number
+abbrev pub AreSized : {R : Type 0} → Words R → List (Post R Layout) → Type 0
+AreSized s posts = AllByRecursion (λ p. IsSome (packet_size s p.packet)) posts
+
+-- the node stands for the one that d leaves, and d's messages were sent. That each row sent has a spelling shows in the sizes
+pub record Done {S R : Type 0} (join : R → R → R) (s : Words R) (new : Node S R) (id : ℕ) (old_out new_out : List (Envelope R)) (given : Option (ℕ × PhaseEnd R)) (d : Did R Layout) : Type 0 where
+  pub stands : StandsFor join s new id d.node
+  pub posts : Posts id old_out new_out d.posts
+  pub ends : d.ends ≡ ends_of given
+  pub spelled : AreSized s d.posts → d.is_spelled ≡ true
+
+-- what d leaves and sends has numbers and bytes in the code
+pub record Fits {R : Type 0} (s : Words R) (d : Did R Layout) : Type 0 where
+  pub items : Holds s d.node
+  pub rounds : d.node.rounds < 2 ^ 64
+  pub phases : AllByRecursion (λ (c : Opened R). c.phases < 2 ^ 32) d.node.calls
+  pub spelled : IsTrue d.is_spelled
+
+-- the node sent its rows of the partitions that one of its stored layouts gives it to their nodes in another
+abbrev pub Hands : {S R : Type 0} → (R → R → R) → Words R → Node S R → ℕ → ℕ → ℕ → List (Envelope R) → List (Envelope R) → List (ℕ × List ℕ) → Type 0
+Hands {S} {R} join s node here there round old new parts =
+    (id : ℕ) (x : Model R Layout) (l m : Layout) → StandsFor join s node id x → layout_at reading x.view here ≡ Some l → layout_at reading x.view there ≡ Some m →
+    PushedAll join s (sender_of node round) l m old new parts x
+
+abbrev pub CannotHand : {S R : Type 0} → (R → R → R) → Words R → Node S R → ℕ → ℕ → ℕ → Type 0
+CannotHand {S} {R} join s node here there round =
+    (id : ℕ) (x : Model R Layout) (l m : Layout) → StandsFor join s node id x → layout_at reading x.view here ≡ Some l → layout_at reading x.view there ≡ Some m →
+    are_spelled join s layouts x (moved join s (sender_of node round) l m x) ≡ false
+
+module _ {S R : Type 0} (join : R → R → R) (s : Words R) where
+  -- whatever node the code's node stood for, the call did what f does to it
+  abbrev pub Does : Node S R → Node S R → List (Envelope R) → List (Envelope R) → Option (ℕ × PhaseEnd R) → (ℕ → Model R Layout → Did R Layout) → Type 0
+  Does old new old_out new_out given f = (id : ℕ) (x : Model R Layout) → StandsFor join s old id x → Done join s new id old_out new_out given (f id x)
+
+  -- the same of an action, which ends so
+  abbrev pub Acts : Node S R → Node S R → List (Envelope R) → List (Envelope R) → LocalEnd → (ℕ → Model R Layout → Acted R Layout) → Type 0
+  Acts old new old_out new_out how f = (id : ℕ) (x : Model R Layout) → StandsFor join s old id x → Done join s new id old_out new_out None (f id x).did × (how ≡ (f id x).how)
+
+  -- the same of a change without messages
+  abbrev pub Becomes : Node S R → Node S R → (ℕ → Model R Layout → Model R Layout) → Type 0
+  Becomes old new f = (id : ℕ) (x : Model R Layout) → StandsFor join s old id x → StandsFor join s new id (f id x)
+
+  -- after what f does some number or row would not fit
+  abbrev pub Overflows : Node S R → (ℕ → Model R Layout → Did R Layout) → Type 0
+  Overflows old f = (id : ℕ) (x : Model R Layout) → StandsFor join s old id x → Fits s (f id x) → ⊥
+
+-- a phase of an open request begins; of another one none does
+abbrev pub begins_at : {R : Type 0} → Words R → List R → Model R Layout → Phase R → Option (Opened R) → Did R Layout
+begins_at s kept x phase None = quiet x
+begins_at s kept x phase (Some c) = begins s layouts kept x c phase
+
+-- a store comes without blocks
+abbrev pub IsBare : {R : Type 0} → Message R → Type 0
+IsBare (Store tag newest p rows) = AreBare rows
+IsBare _ = ⊤
+
+abbrev pub IsBarePacket : {R : Type 0} → Packet R → Type 0
+IsBarePacket (Msg m) = IsBare m
+IsBarePacket (Shown v) = ⊤

@@ -1,0 +1,665 @@
+//! A node.
+ghost use Rattle.std.specs.Prelude.{◌≡◌, ◌⊎◌, ◌<◌, ◌≤◌, ◌+◌, ◌^◌, ℕ, Bool, true, false, Option, Some, None, List, [], ◌++◌, suc, reverse, option_map, IfOk, IfErr, OnOk, OnErr, IsTrue};
+ghost use Rattle.std.specs.List.{All};
+ghost use Rattle.crdt_core.specs.declared.memory.Memory.TheVariants.{Want, Full};
+ghost use Rattle.layout_roles.specs.declared.layout.Layout.{Layout};
+ghost use Rattle.layout_history.specs.Views.{known};
+ghost use Rattle.layout_history.specs.Known.{reading, has_members};
+ghost use Rattle.view_model.specs.View.{View as Seen, oldest, newest, read_version, merged};
+ghost use Rattle.table_model.specs.Rows.{row_at, find_row, rows, range};
+ghost use Rattle.wire_messages.specs.declared.message.Message.TheVariants as message;
+ghost use Rattle.wire_messages.specs.declared.message.Tag.TheVariants as tag;
+ghost use Rattle.cluster_machine.specs.Layouts.{is_member};
+ghost use Rattle.cluster_machine.specs.Node.{Node as Model, Round as Moved, Did, quiet, new_node};
+ghost use Rattle.cluster_machine.specs.Rows.{still, sees};
+ghost use Rattle.cluster_machine.specs.Phases.{opened, closed, call_at};
+ghost use Rattle.cluster_machine.specs.Rounds.{goes_on, may_sync, begin_round, again, repairs};
+ghost use Rattle.cluster_machine.specs.Receives.{most_rows, answers, round_came, where_stored, gives_row, gives_rows, gives_block, takes, confirms, hears, receives};
+ghost use Rattle.cluster_machine.specs.Acts.{Acted, raises, cleans, syncs, acts, appends, restarts};
+ghost use Rattle.cluster_machine.specs.Step.{requests_of};
+ghost use Rattle.node_core.specs.declared.node.BeginFault.TheVariants.{NotMember, Memory as WantsMemory};
+ghost use Rattle.node_core.specs.Layouts.{layouts};
+ghost use Rattle.node_core.specs.Posts.{told};
+ghost use Rattle.node_core.specs.Calls.{ended_with};
+ghost use Rattle.node_core.specs.Begins.{IsShort};
+ghost use Rattle.node_core.specs.Contents.{AreBare};
+ghost use Rattle.node_core.specs.Rounds.{IsMoving};
+ghost use Rattle.cluster_machine.specs.declared.step.LocalEnd.TheVariants.{At, Repaired};
+ghost use Rattle.node_core.specs.declared.packet.Envelope.{Envelope};
+ghost use Rattle.node_core.specs.Stands.{view_of, sender_of, Hands, CannotHand, begins_at, IsBare, IsBarePacket, ends_of, Done, Fits, StandsApart, StandsButView};
+
+use crate::begin::Beginning;
+use crate::calls::Calls;
+use crate::contents::Contents;
+use crate::packet::{Envelope, Packet};
+use crate::posts::send;
+use crate::pushes::Sender;
+use crate::rounds::{Moving, Rounds};
+use crate::sets::{is_given, is_member, is_stored};
+use crate::storage::keeps_copies;
+use blake2_hash::Hash32;
+use cluster_machine::{Action, LocalEnd};
+use crdt_core::{Bytes, Crdt, List, Memory, Value};
+use layout_history::View;
+use layout_roles::Layout;
+use layout_trackers::Which;
+use std::alloc::Global;
+use table_schema::Schema;
+use table_store::Table;
+use wire_messages::{Message, Phase, PhaseEnd, Tag};
+
+/// How many rows an answer to a range phase has at most.
+const MOST_ROWS: usize = 1000;
+
+/// Why a request didn't begin.
+#[derive(Debug, Drop, PartialEq, Eq)]
+pub enum BeginFault {
+    /// The node has no role in its newest version.
+    NotMember,
+    /// There was not enough memory.
+    Memory,
+}
+
+/// A node of the cluster, without blocks.
+#[derive(Drop)]
+pub struct Node<S: Schema> {
+    id: u8,
+    view: View,
+    contents: Contents<S>,
+    calls: Calls<S>,
+    rounds: Rounds,
+    alloc: Global,
+}
+
+impl<S: Schema> Node<S> {
+    ghost use Rattle.node_core.specs.Stands.{StandsFor, Does, Acts, Becomes, Overflows};
+
+    /// A node with an empty view, and nothing else.
+    pub fn new(alloc: Global, id: u8) -> Result<Node<S>, Memory>
+        ensures stands { IfOk result (λ node. StandsFor S.Row.join S.words node id new_node) }
+        ensures want { IfErr result (λ e. e ≡ Want) }
+    {
+        Ok(Node {
+            id,
+            view: View::new(alloc),
+            contents: Contents::new(alloc)?,
+            calls: Calls::new(alloc),
+            rounds: Rounds::new(),
+            alloc,
+        })
+    }
+
+    pub fn view(&self) -> &View
+        ensures { known result.now ≡ view_of self.now }
+    {
+        &self.view
+    }
+
+    pub fn table(&self) -> &Table<S>
+        ensures { (id : ℕ) (x : Model S.Row Layout) → StandsFor S.Row.join S.words self.now id x → result.now ≡ rows S.Row.join S.words x.accepted }
+    {
+        &self.contents.table
+    }
+
+    /// A request begins. Its number is above those of the open ones.
+    pub fn open(&mut self, request: u64) -> Result<(), BeginFault>
+        ensures opens { OnOk result ((id : ℕ) (x : Model S.Row Layout) → All (λ c. c.request < request) x.calls → StandsFor S.Row.join S.words self.old id x → StandsFor S.Row.join S.words self.new id (opened request (newest reading x.view) x)) }
+        ensures member { OnOk result ((id : ℕ) (x : Model S.Row Layout) → StandsFor S.Row.join S.words self.old id x → is_member layouts x.view id ≡ true) }
+        ensures causes { IfErr result (λ e. (e ≡ WantsMemory) ⊎ ((e ≡ NotMember) × ((id : ℕ) (x : Model S.Row Layout) → StandsFor S.Row.join S.words self.old id x → is_member layouts x.view id ≡ false))) }
+        ensures unchanged { OnErr result (Becomes S.Row.join S.words self.old self.new (λ id x. x)) }
+    {
+        if !is_member(&self.view, self.id) {
+            return Err(BeginFault::NotMember);
+        }
+        match self.calls.begin(request, self.view.newest()) {
+            Ok(()) => Ok(()),
+            Err(_) => Err(BeginFault::Memory),
+        }
+    }
+
+    /// Begins a phase of an open request, in the place of the phase that it is in.
+    pub fn phase(
+        &mut self,
+        request: u64,
+        phase: Phase<S::Row>,
+        out: &mut Vec<Envelope<S::Row>>,
+    ) -> Result<(), Memory>
+        requires short { IsShort phase }
+        ensures begins { OnOk result ((kept : List S.Row) → Does S.Row.join S.words self.old self.new out.old.items out.new.items None (λ id x. begins_at S.words kept x phase (call_at x.calls request))) }
+        ensures causes { IfErr result (λ e. (e ≡ Want) ⊎ ((e ≡ Full) × ((kept : List S.Row) → Overflows S.Row.join S.words self.old (λ id x. begins_at S.words kept x phase (call_at x.calls request))))) }
+    {
+        let Some(phases) = self.calls.phases(request) else {
+            return Ok(());
+        };
+        let Some(number) = phases.checked_add(1) else {
+            return Err(Memory::Full);
+        };
+        let beginning = Beginning {
+            node: self.id,
+            request,
+            phase: number,
+            alloc: self.alloc,
+        };
+        let present = beginning.begin(&self.view, &phase, out)?;
+        self.calls.enter(request, number, present);
+        Ok(())
+    }
+
+    /// Forgets a request.
+    pub fn close(&mut self, request: u64)
+        ensures { Becomes S.Row.join S.words self.old self.new (λ id x. closed request x) }
+    {
+        self.calls.end(request);
+    }
+
+    // Asked at a version that it does not store a node answers that it is not here.
+    fn not_here(
+        &self,
+        from: u8,
+        request: u64,
+        phase: u32,
+        out: &mut Vec<Envelope<S::Row>>,
+    ) -> Result<(), Memory>
+        ensures answers { OnOk result (Does S.Row.join S.words self.now self.now out.old.items out.new.items None (λ id x. answers x from (message.NotHere (tag.Call request phase 0)))) }
+        ensures want { IfErr result (λ e. e ≡ Want) }
+    {
+        let tag = Tag::Call {
+            request,
+            phase,
+            slot: 0,
+        };
+        send(out, self.id, from, Message::NotHere(tag))
+    }
+
+    // The answer to a read phase.
+    fn give_row(
+        &self,
+        from: u8,
+        request: u64,
+        phase: u32,
+        at: u32,
+        table: u8,
+        key: &Bytes,
+        out: &mut Vec<Envelope<S::Row>>,
+    ) -> Result<(), Memory>
+        ensures answers { OnOk result (Does S.Row.join S.words self.now self.now out.old.items out.new.items None (λ id x. where_stored S.Row.join S.words layouts x from request phase at (gives_row S.Row.join S.words layouts x from request phase (row_at S.Row.join S.words x.accepted table key.now)))) }
+        ensures want { IfErr result (λ e. e ≡ Want) }
+    {
+        if !is_stored(&self.view, at) {
+            return self.not_here(from, request, phase, out);
+        }
+        let row = row_at_key(&self.contents.table, table, key)?;
+        let message = Message::Row {
+            request,
+            phase,
+            row,
+        };
+        send(out, self.id, from, message)
+    }
+
+    // The answer to a range phase.
+    fn give_rows(
+        &self,
+        from: u8,
+        request: u64,
+        phase: u32,
+        at: u32,
+        bucket: &Hash32,
+        prefix: &Bytes,
+        after: &Bytes,
+        out: &mut Vec<Envelope<S::Row>>,
+    ) -> Result<(), Memory>
+        ensures answers { OnOk result (Does S.Row.join S.words self.now self.now out.old.items out.new.items None (λ id x. where_stored S.Row.join S.words layouts x from request phase at (gives_rows S.Row.join S.words layouts x from request phase (range S.words 1 (bucket.now.0 ++ prefix.now) (bucket.now.0 ++ after.now) most_rows (rows S.Row.join S.words x.accepted))))) }
+        ensures want { IfErr result (λ e. e ≡ Want) }
+    {
+        if !is_stored(&self.view, at) {
+            return self.not_here(from, request, phase, out);
+        }
+        let whole_prefix = whole_key(self.alloc, bucket, prefix)?;
+        let whole_after = whole_key(self.alloc, bucket, after)?;
+        let (rows, more) = self.contents.table.range(
+            1,
+            whole_prefix.as_slice(),
+            whole_after.as_slice(),
+            MOST_ROWS,
+        )?;
+        let message = Message::Rows {
+            request,
+            phase,
+            rows: List::from_vec(rows),
+            more,
+        };
+        send(out, self.id, from, message)
+    }
+
+    // The answer to a block phase: no block is here.
+    fn give_block(
+        &self,
+        from: u8,
+        request: u64,
+        phase: u32,
+        at: u32,
+        out: &mut Vec<Envelope<S::Row>>,
+    ) -> Result<(), Memory>
+        ensures answers { OnOk result (Does S.Row.join S.words self.now self.now out.old.items out.new.items None (λ id x. where_stored S.Row.join S.words layouts x from request phase at (gives_block S.Row.join S.words layouts x from request phase None))) }
+        ensures want { IfErr result (λ e. e ≡ Want) }
+    {
+        if !is_stored(&self.view, at) {
+            return self.not_here(from, request, phase, out);
+        }
+        send(out, self.id, from, Message::NoBlock { request, phase })
+    }
+
+    // A store of rows of a partition, by a node whose newest version is `named`.
+    fn take_store(
+        &mut self,
+        from: u8,
+        tag: Tag,
+        named: u32,
+        p: u8,
+        rows: &[(Bytes, Option<Bytes>)],
+        out: &mut Vec<Envelope<S::Row>>,
+    ) -> Result<(), Memory>
+        requires bare { AreBare rows.now }
+        ensures takes { OnOk result ((now : ℕ) → Does S.Row.join S.words self.old self.new out.old.items out.new.items None (λ id x. takes S.Row.join S.words layouts id now x from tag named p rows.now)) }
+        ensures causes { IfErr result (λ e. (e ≡ Want) ⊎ ((e ≡ Full) × ((now : ℕ) → Overflows S.Row.join S.words self.old (λ id x. takes S.Row.join S.words layouts id now x from tag named p rows.now)))) }
+    {
+        let newest = self.view.newest();
+        if newest < named {
+            return send(out, self.id, from, Message::Behind(tag, newest));
+        }
+        if !is_given(&self.view, self.id, p) {
+            return send(out, self.id, from, Message::NotHere(tag));
+        }
+        self.contents.accept_all(rows)?;
+        send(out, self.id, from, Message::Stored(tag))
+    }
+
+    // A round that is complete closes, and the node has synced to its version.
+    fn go_on(&mut self, moving: Moving) -> Result<(), Memory>
+        ensures goes_on { OnOk result ((id : ℕ) (x : Model S.Row Layout) (r : Moved) → IsMoving id moving r → StandsApart S.Row.join S.words self.old id x → StandsFor S.Row.join S.words self.new id (goes_on S.Row.join S.words layouts id x r)) }
+        ensures want { IfErr result (λ e. e ≡ Want) }
+    {
+        if moving.is_complete() {
+            self.view.raise(Which::Sync, self.id, moving.target())?;
+            self.rounds.round = None;
+        } else {
+            self.rounds.round = Some(moving);
+        }
+        Ok(())
+    }
+
+    // A node confirms a partition of the round with this number, where it is the open one.
+    fn confirm_round(&mut self, from: u8, number: u64, p: u8) -> Result<(), Memory>
+        ensures confirms { OnOk result (Becomes S.Row.join S.words self.old self.new (λ id x. (round_came S.Row.join S.words layouts id x from number p x.round).node)) }
+        ensures want { IfErr result (λ e. e ≡ Want) }
+    {
+        let Some(mut moving) = self.rounds.round.take() else {
+            return Ok(());
+        };
+        if moving.number != number {
+            self.rounds.round = Some(moving);
+            return Ok(());
+        }
+        moving.confirm(p, from);
+        self.go_on(moving)
+    }
+
+    // A confirmation.
+    fn take_stored(&mut self, from: u8, tag: Tag) -> Result<Option<(u64, PhaseEnd<S::Row>)>, Memory>
+        ensures confirms { IfOk result (λ given. (out : List (Envelope S.Row)) → Does S.Row.join S.words self.old self.new out out given (λ id x. confirms S.Row.join S.words layouts id x from tag)) }
+        ensures want { IfErr result (λ e. e ≡ Want) }
+    {
+        match tag {
+            Tag::Call {
+                request,
+                phase,
+                slot,
+            } => {
+                let oldest = self.view.oldest();
+                let given = self
+                    .calls
+                    .hear_confirmation(from, request, phase, slot, oldest);
+                Ok(beside(request, given))
+            }
+            Tag::Round { round, p } => {
+                self.confirm_round(from, round, p)?;
+                Ok(None)
+            }
+            Tag::Item { number } => {
+                self.contents.confirm(&self.view, number, from)?;
+                Ok(None)
+            }
+        }
+    }
+
+    // After the view has changed: the round may close, and where the oldest version rose rows are dropped.
+    fn look_around(&mut self, before: u32) -> Result<(), Memory>
+        ensures sees { OnOk result ((now : ℕ) (id : ℕ) (x : Model S.Row Layout) (v : Seen Layout) → oldest reading x.view ≡ before → StandsButView S.Row.join S.words self.old id x v → StandsFor S.Row.join S.words self.new id (sees S.Row.join S.words layouts id now x v)) }
+        ensures want { IfErr result (λ e. e ≡ Want) }
+    {
+        let oldest = self.view.oldest();
+        self.rounds.close_below(oldest);
+        if before < oldest {
+            self.contents.drop_lost(&self.view, self.id)?;
+        }
+        Ok(())
+    }
+
+    // A whole view comes.
+    fn take_view(&mut self, view: &View) -> Result<(), Memory>
+        ensures sees { OnOk result ((now : ℕ) → Becomes S.Row.join S.words self.old self.new (λ id x. sees S.Row.join S.words layouts id now x (merged reading x.view (known view.now)))) }
+        ensures want { IfErr result (λ e. e ≡ Want) }
+    {
+        let before = self.view.oldest();
+        self.view.merge(view)?;
+        self.look_around(before)
+    }
+
+    /// A packet comes from another node; how a phase of a request ended, where one did.
+    pub fn on_packet(
+        &mut self,
+        from: u8,
+        packet: &Packet<S::Row>,
+        _now: u64,
+        out: &mut Vec<Envelope<S::Row>>,
+    ) -> Result<Option<(u64, PhaseEnd<S::Row>)>, Memory>
+        requires bare { IsBarePacket packet.now }
+        ensures receives { IfOk result (λ given. Does S.Row.join S.words self.old self.new out.old.items out.new.items given (λ id x. receives S.Row.join S.words layouts id _now x from (told packet.now))) }
+        ensures causes { IfErr result (λ e. (e ≡ Want) ⊎ ((e ≡ Full) × Overflows S.Row.join S.words self.old (λ id x. receives S.Row.join S.words layouts id _now x from (told packet.now)))) }
+    {
+        match packet {
+            Packet::Msg(message) => self.on_message(from, message, out),
+            Packet::View(view) => {
+                self.take_view(view)?;
+                Ok(None)
+            }
+        }
+    }
+
+    fn on_message(
+        &mut self,
+        from: u8,
+        message: &Message<S::Row>,
+        out: &mut Vec<Envelope<S::Row>>,
+    ) -> Result<Option<(u64, PhaseEnd<S::Row>)>, Memory>
+        requires bare { IsBare message.now }
+        ensures hears { IfOk result (λ given. (now : ℕ) → Does S.Row.join S.words self.old self.new out.old.items out.new.items given (λ id x. hears S.Row.join S.words layouts id now x from message.now)) }
+        ensures causes { IfErr result (λ e. (e ≡ Want) ⊎ ((e ≡ Full) × ((now : ℕ) → Overflows S.Row.join S.words self.old (λ id x. hears S.Row.join S.words layouts id now x from message.now)))) }
+    {
+        match message {
+            Message::Get {
+                request,
+                phase,
+                at,
+                table,
+                key,
+            } => {
+                self.give_row(from, *request, *phase, *at, *table, key, out)?;
+                Ok(None)
+            }
+            Message::Row {
+                request,
+                phase,
+                row,
+            } => {
+                let given = self.calls.hear_row(from, *request, *phase, row)?;
+                Ok(beside(*request, given))
+            }
+            Message::Range {
+                request,
+                phase,
+                at,
+                bucket,
+                prefix,
+                after,
+            } => {
+                self.give_rows(from, *request, *phase, *at, bucket, prefix, after, out)?;
+                Ok(None)
+            }
+            Message::Rows {
+                request,
+                phase,
+                rows,
+                more,
+            } => {
+                let given = self
+                    .calls
+                    .hear_rows(from, *request, *phase, rows.as_slice(), *more)?;
+                Ok(beside(*request, given))
+            }
+            Message::Store {
+                tag,
+                newest,
+                p,
+                rows,
+            } => {
+                self.take_store(from, *tag, *newest, *p, rows.as_slice(), out)?;
+                Ok(None)
+            }
+            Message::Stored(tag) => self.take_stored(from, *tag),
+            Message::Behind(_, _) | Message::NotHere(_) | Message::NoBlock { .. } => Ok(None),
+            Message::BlockGet {
+                request,
+                phase,
+                at,
+                ..
+            } => {
+                self.give_block(from, *request, *phase, *at, out)?;
+                Ok(None)
+            }
+            Message::Block {
+                request,
+                phase,
+                bytes,
+            } => {
+                let given = self.calls.hear_block(*request, *phase, bytes)?;
+                Ok(beside(*request, given))
+            }
+        }
+    }
+
+    // What the node sends in a round or a repair with this number.
+    fn sender(&self, round: u64) -> Sender
+        ensures { result ≡ sender_of self.now round }
+    {
+        Sender {
+            node: self.id,
+            newest: self.view.newest(),
+            round,
+            alloc: self.alloc,
+        }
+    }
+
+    // Sends the rows of each partition whose set in version `here` has the node to the other nodes of its set in
+    // version `there`, both of which are stored; these partitions, with their sets there.
+    fn hand(
+        &self,
+        here: u32,
+        there: u32,
+        round: u64,
+        out: &mut Vec<Envelope<S::Row>>,
+    ) -> Result<Vec<(u8, [u8; 3])>, Memory>
+        ensures hands { IfOk result (λ parts. Hands S.Row.join S.words self.now here there round out.old.items out.new.items parts.items) }
+        ensures causes { IfErr result (λ e. (e ≡ Want) ⊎ ((e ≡ Full) × CannotHand S.Row.join S.words self.now here there round)) }
+    {
+        match (self.view.layout(here), self.view.layout(there)) {
+            (Some(here), Some(there)) => {
+                let sender = self.sender(round);
+                sender.push_all(&self.contents.table, here, there, out)
+            }
+            _ => Ok(Vec::new(self.alloc)),
+        }
+    }
+
+    // Raises the node's own entry; the version that it has then.
+    fn raise(&mut self, which: Which, version: u32) -> Result<LocalEnd, Memory>
+        ensures raises { IfOk result (λ how. (out : List (Envelope S.Row)) → Acts S.Row.join S.words self.old self.new out out how (λ id x. raises S.Row.join S.words layouts id x which version)) }
+        ensures want { IfErr result (λ e. e ≡ Want) }
+    {
+        self.view.raise(which, self.id, version)?;
+        let oldest = self.view.oldest();
+        Ok(LocalEnd::At(self.view.trackers().counts(which, self.id, oldest)))
+    }
+
+    // A round from a version, the read version, to the next may begin.
+    fn may_sync(&self, at: u32) -> bool
+        ensures is { (id : ℕ) (x : Model S.Row Layout) → StandsFor S.Row.join S.words self.now id x → read_version reading x.view ≡ at → result ≡ may_sync S.Row.join S.words layouts id x.view }
+        ensures below { IsTrue result → at + 1 < 2 ^ 32 }
+    {
+        let oldest = self.view.oldest();
+        at < self.view.newest()
+            && keeps_copies(&self.view, at, self.id)
+            && at < self.view.ack_least()
+            && self.view.trackers().counts(Which::Sync, self.id, oldest) <= at
+    }
+
+    // Begins a round from a version, the read version, to the next.
+    fn begin_round(&mut self, at: u32, out: &mut Vec<Envelope<S::Row>>) -> Result<LocalEnd, Memory>
+        requires below { at + 1 < 2 ^ 32 }
+        ensures begins { IfOk result (λ how. (id : ℕ) (x : Model S.Row Layout) → may_sync S.Row.join S.words layouts id x.view ≡ true → read_version reading x.view ≡ at → StandsFor S.Row.join S.words self.old id x → Done S.Row.join S.words self.new id out.old.items out.new.items None (begin_round S.Row.join S.words layouts id x) × (how ≡ At (suc at))) }
+        ensures causes { IfErr result (λ e. (e ≡ Want) ⊎ ((e ≡ Full) × ((id : ℕ) (x : Model S.Row Layout) → may_sync S.Row.join S.words layouts id x.view ≡ true → read_version reading x.view ≡ at → StandsFor S.Row.join S.words self.old id x → Fits S.words (begin_round S.Row.join S.words layouts id x) → ⊥))) }
+    {
+        let target = at + 1;
+        let number = self.rounds.next()?;
+        let parts = self.hand(at, target, number, out)?;
+        let moving = Moving::new(self.alloc, number, target, parts, self.id)?;
+        self.rounds.begun = number;
+        self.go_on(moving)?;
+        Ok(LocalEnd::At(target))
+    }
+
+    // Begins a round, or sends again what nobody confirmed in the open one.
+    fn sync(&mut self, out: &mut Vec<Envelope<S::Row>>) -> Result<LocalEnd, Memory>
+        ensures syncs { IfOk result (λ how. Acts S.Row.join S.words self.old self.new out.old.items out.new.items how (λ id x. syncs S.Row.join S.words layouts id x x.round)) }
+        ensures causes { IfErr result (λ e. (e ≡ Want) ⊎ ((e ≡ Full) × Overflows S.Row.join S.words self.old (λ id x. (syncs S.Row.join S.words layouts id x x.round).did))) }
+    {
+        match &self.rounds.round {
+            Some(moving) => {
+                let parts = moving.open_parts()?;
+                let target = moving.target();
+                let sender = self.sender(moving.number);
+                sender.push_again(&self.contents.table, parts.as_slice(), out)?;
+                Ok(LocalEnd::At(target))
+            }
+            None => {
+                let read = self.view.read_version();
+                if self.may_sync(read) {
+                    self.begin_round(read, out)
+                } else {
+                    let ack_least = self.view.ack_least();
+                    Ok(LocalEnd::Idle { read, ack_least })
+                }
+            }
+        }
+    }
+
+    // Drops the layout versions that nobody needs.
+    fn clean(&mut self) -> Result<LocalEnd, Memory>
+        ensures cleans { IfOk result (λ how. (now : ℕ) (out : List (Envelope S.Row)) → Acts S.Row.join S.words self.old self.new out out how (λ id x. cleans S.Row.join S.words layouts id now x)) }
+        ensures want { IfErr result (λ e. e ≡ Want) }
+    {
+        let before = self.view.oldest();
+        let oldest = self.view.clean();
+        self.look_around(before)?;
+        Ok(LocalEnd::At(oldest))
+    }
+
+    // Sends the rows of each partition to the other nodes of its newest set.
+    fn repair(&mut self, out: &mut Vec<Envelope<S::Row>>) -> Result<LocalEnd, Memory>
+        requires has_version { 1 ≤ newest reading (view_of self.old) }
+        ensures repairs { IfOk result (λ how. (how ≡ Repaired) × Does S.Row.join S.words self.old self.new out.old.items out.new.items None (λ id x. repairs S.Row.join S.words layouts id x)) }
+        ensures causes { IfErr result (λ e. (e ≡ Want) ⊎ ((e ≡ Full) × Overflows S.Row.join S.words self.old (λ id x. repairs S.Row.join S.words layouts id x))) }
+    {
+        let number = self.rounds.next()?;
+        let newest = self.view.newest();
+        let _ = self.hand(newest, newest, number, out)?;
+        self.rounds.begun = number;
+        Ok(LocalEnd::Repaired)
+    }
+
+    /// Does what a node does by itself.
+    pub fn local(
+        &mut self,
+        action: Action,
+        _now: u64,
+        out: &mut Vec<Envelope<S::Row>>,
+    ) -> Result<LocalEnd, Memory>
+        requires has_version { 1 ≤ newest reading (view_of self.old) }
+        ensures acts { IfOk result (λ how. Acts S.Row.join S.words self.old self.new out.old.items out.new.items how (λ id x. acts S.Row.join S.words layouts id _now x action)) }
+        ensures causes { IfErr result (λ e. (e ≡ Want) ⊎ ((e ≡ Full) × Overflows S.Row.join S.words self.old (λ id x. (acts S.Row.join S.words layouts id _now x action).did))) }
+    {
+        match action {
+            Action::Ack => {
+                let version = self.calls.least_start(self.view.newest());
+                self.raise(Which::Ack, version)
+            }
+            Action::Sync => self.sync(out),
+            Action::SyncAck => {
+                let version = self.view.read_version();
+                self.raise(Which::SyncAck, version)
+            }
+            Action::Clean => self.clean(),
+            Action::Work => {
+                let rows = self.contents.send_waiting(&self.view, self.id, out)?;
+                Ok(LocalEnd::Worked { rows, blocks: 0 })
+            }
+            Action::Repair => self.repair(out),
+        }
+    }
+
+    /// Stores one layout version more.
+    pub fn append(&mut self, layout: Layout) -> Result<(), Memory>
+        requires next { layout.version ≡ newest reading (view_of self.old) + 1 }
+        requires inhabited { IsTrue (has_members layout) }
+        ensures appends { OnOk result (Becomes S.Row.join S.words self.old self.new (λ id x. appends layouts x layout)) }
+        ensures unchanged { OnErr result (Becomes S.Row.join S.words self.old self.new (λ id x. x)) }
+        ensures want { IfErr result (λ e. e ≡ Want) }
+    {
+        self.view.append(layout)
+    }
+
+    /// Loses what a node keeps in memory alone: its requests, its round, and who confirmed its outbox. The lost
+    /// requests, ascending.
+    pub fn restart(&mut self) -> Result<Vec<u64>, Memory>
+        ensures restarts { OnOk result (Becomes S.Row.join S.words self.old self.new (λ id x. restarts x)) }
+        ensures lost { IfOk result (λ lost. (id : ℕ) (x : Model S.Row Layout) → StandsFor S.Row.join S.words self.old id x → lost.items ≡ reverse (requests_of x.calls)) }
+        ensures want { IfErr result (λ e. e ≡ Want) }
+    {
+        let lost = self.calls.lose_all()?;
+        self.rounds.round = None;
+        self.contents.forget_confirmations();
+        Ok(lost)
+    }
+}
+
+// A copy of the row at a key of a table.
+fn row_at_key<S: Schema>(rows: &Table<S>, table: u8, key: &Bytes) -> Result<Option<S::Row>, Memory>
+    ensures is { IfOk result (λ row. row ≡ find_row S.words table key.now rows.now) }
+    ensures want { IfErr result (λ e. e ≡ Want) }
+{
+    match rows.get(table, key.as_slice()) {
+        Some(row) => Ok(Some(row.copy()?)),
+        None => Ok(None),
+    }
+}
+
+// A bucket's identifier and what follows it in a row key.
+fn whole_key(alloc: Global, bucket: &Hash32, rest: &Bytes) -> Result<Bytes, Memory>
+    ensures is { IfOk result (λ key. key ≡ bucket.now.0 ++ rest.now) }
+    ensures want { IfErr result (λ e. e ≡ Want) }
+{
+    let mut key = Bytes::from_slice(alloc, &bucket.0)?;
+    key.extend_from_slice(rest.as_slice())?;
+    Ok(key)
+}
+
+// How a request's phase ended, where it did.
+fn beside<R>(request: u64, given: Option<PhaseEnd<R>>) -> Option<(u64, PhaseEnd<R>)>
+    ensures { ends_of result ≡ ended_with request given }
+{
+    match given {
+        Some(end) => Some((request, end)),
+        None => None,
+    }
+}
