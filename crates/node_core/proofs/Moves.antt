@@ -8,14 +8,14 @@ use Rattle.table_schema.specs.Words.{Words}
 use Rattle.quorum_model.specs.Quorum.{is_among}
 use Rattle.cluster_machine.specs.Node.{Node as Model, Part, Confirmed, Round as Moved}
 use Rattle.cluster_machine.specs.Rounds.{confirmed_for, open_nodes, open_parts, is_empty, pushes, rows_at, are_spelled}
-use Rattle.node_core.specs.Layouts.{layouts}
-use Rattle.node_core.specs.Sets.{others_of}
-use Rattle.node_core.specs.Rounds.{begun_round, has_any, open_parts_of}
-use Rattle.node_core.specs.declared.pushes.Sender.{Sender}
-use Rattle.node_core.specs.declared.packet.Envelope.{Envelope}
-use Rattle.node_core.specs.Posts.{Posts, posted}
-use Rattle.node_core.specs.Pushes.{part_of, PushedAll, PushedAgain, moved}
-use Rattle.node_core.proofs.Confirmations.{has, own_first, AreAmong, all_among}
+use Rattle.node_parts.specs.Layouts.{layouts}
+use Rattle.node_parts.specs.Sets.{others_of}
+use Rattle.node_parts.specs.Rounds.{begun_round, has_any, open_parts_of}
+use Rattle.node_parts.specs.declared.pushes.Sender.{Sender}
+use Rattle.node_parts.specs.declared.packet.Envelope.{Envelope}
+use Rattle.node_parts.specs.Posts.{Posts, posted}
+use Rattle.node_parts.specs.Pushes.{part_of, PushedAll, PushedAgain, moved}
+use Rattle.node_parts.proofs.Confirmations.{has, own_first, AreAmong, all_among}
 
 eq_back : (m n : ℕ) (b : Bool) → (m == n) ≡ b → (n == m) ≡ b
 eq_back m n true e = eq-eqb n m (sym (eqb-true m n e))

@@ -21,20 +21,20 @@ use Rattle.table_schema.specs.Words.{Words}
 use Rattle.quorum_model.specs.Quorum.{is_among}
 use Rattle.cluster_machine.specs.Layouts.{members_in, is_member}
 use Rattle.cluster_machine.specs.Node.{no_trackers, quiet, Item as Waiting, Node as Model, Call as Opened, Round as Moved}
-use Rattle.node_core.specs.declared.contents.Contents.{Contents}
-use Rattle.node_core.specs.Layouts.{layouts}
-use Rattle.node_core.specs.Contents.{IsContents, IsItem, Became}
+use Rattle.node_parts.specs.declared.contents.Contents.{Contents}
+use Rattle.node_parts.specs.Layouts.{layouts}
+use Rattle.node_parts.specs.Contents.{IsContents, IsItem, Became}
 use Rattle.block_resync.specs.declared.item.Item.{Item}
 use Rattle.cluster_machine.specs.Phases.{is_spelled}
 use Rattle.cluster_machine.specs.Acts.{without_due, stays}
-use Rattle.node_core.specs.Calls.{AreCalls}
+use Rattle.node_parts.specs.Calls.{AreCalls}
 use Rattle.node_core.specs.declared.node.Node.{Node}
-use Rattle.node_core.specs.declared.rounds.Moving.{Moving}
-use Rattle.node_core.specs.declared.rounds.Rounds.{Rounds}
-use Rattle.node_core.specs.Rounds.{IsOpen, IsMoving, AreRounds}
+use Rattle.node_parts.specs.declared.rounds.Moving.{Moving}
+use Rattle.node_parts.specs.declared.rounds.Rounds.{Rounds}
+use Rattle.node_parts.specs.Rounds.{IsOpen, IsMoving, AreRounds}
 use Rattle.node_core.specs.Stands.{HasVersion, StandsFor, StandsApart, StandsButView, Done}
-use Rattle.node_core.specs.declared.packet.Envelope.{Envelope}
-use Rattle.node_core.specs.Posts.{Posts, posted}
+use Rattle.node_parts.specs.declared.packet.Envelope.{Envelope}
+use Rattle.node_parts.specs.Posts.{Posts, posted}
 
 pub ok_to : {A E P Q : Type 0} → (r : Result A E) → OnOk r P → (P → Q) → OnOk r Q
 ok_to (Ok a) p f = f p

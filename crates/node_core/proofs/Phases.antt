@@ -10,7 +10,7 @@ use Rattle.wire_messages.specs.declared.phase.Phase.{Phase}
 use Rattle.wire_messages.specs.declared.phase.Phase.TheVariants.{Read, Range, Store, Block}
 use Rattle.cluster_machine.specs.Node.{Node as Model, Call as Opened, Present as Doing}
 use Rattle.cluster_machine.specs.Phases.{call_at, with_call, calls_now, begins}
-use Rattle.node_core.specs.Layouts.{layouts}
+use Rattle.node_parts.specs.Layouts.{layouts}
 use Rattle.node_core.specs.Stands.{HasVersion}
 
 module _ {R : Type 0} where

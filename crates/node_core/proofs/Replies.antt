@@ -10,8 +10,8 @@ use Rattle.cluster_machine.specs.Node.{Node as Model}
 use Rattle.cluster_machine.specs.Phases.{to_each, is_spelled}
 use Rattle.cluster_machine.specs.Receives.{answers, is_sendable}
 use Rattle.node_core.specs.declared.node.Node.{Node}
-use Rattle.node_core.specs.declared.packet.Envelope.{Envelope}
-use Rattle.node_core.specs.Posts.{Posts}
+use Rattle.node_parts.specs.declared.packet.Envelope.{Envelope}
+use Rattle.node_parts.specs.Posts.{Posts}
 use Rattle.node_core.specs.Stands.{StandsFor, Done}
 
 module _ {S R : Type 0} {join : R → R → R} {s : Words R} where

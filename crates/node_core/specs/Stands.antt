@@ -16,16 +16,16 @@ use Rattle.cluster_machine.specs.Phases.{begins}
 use Rattle.cluster_machine.specs.Acts.{Acted}
 use Rattle.cluster_machine.specs.World.{packet_size}
 use Rattle.node_core.specs.declared.node.Node.{Node}
-use Rattle.node_core.specs.declared.packet.Packet.{Packet}
-use Rattle.node_core.specs.declared.packet.Packet.TheVariants.{Msg, View as Shown}
-use Rattle.node_core.specs.declared.packet.Envelope.{Envelope}
-use Rattle.node_core.specs.declared.pushes.Sender.{Sender}
-use Rattle.node_core.specs.Layouts.{layouts}
-use Rattle.node_core.specs.Posts.{Posts}
-use Rattle.node_core.specs.Calls.{AreCalls}
-use Rattle.node_core.specs.Contents.{AreBare, IsContents, Holds}
-use Rattle.node_core.specs.Rounds.{AreRounds}
-use Rattle.node_core.specs.Pushes.{PushedAll, moved}
+use Rattle.node_parts.specs.declared.packet.Packet.{Packet}
+use Rattle.node_parts.specs.declared.packet.Packet.TheVariants.{Msg, View as Shown}
+use Rattle.node_parts.specs.declared.packet.Envelope.{Envelope}
+use Rattle.node_parts.specs.declared.pushes.Sender.{Sender}
+use Rattle.node_parts.specs.Layouts.{layouts}
+use Rattle.node_parts.specs.Posts.{Posts}
+use Rattle.node_parts.specs.Calls.{AreCalls}
+use Rattle.node_parts.specs.Contents.{AreBare, IsContents, Holds}
+use Rattle.node_parts.specs.Rounds.{AreRounds}
+use Rattle.node_parts.specs.Pushes.{PushedAll, moved}
 use Rattle.cluster_machine.specs.Rounds.{are_spelled}
 
 -- where a request is open a version is stored

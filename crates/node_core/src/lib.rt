@@ -7,9 +7,8 @@
 //! before, it stands for the one that the model's function gives, and has put the model's messages at the end of `out`.
 //! Rows are known by their schema alone.
 //!
-//! Inside, `Contents` are the rows and the outbox, `Calls` the open requests by number, and `Rounds` the open round.
-//! `Beginning` begins a phase, and `Sender` pushes the rows of partitions. A message costs the logarithm of the rows
-//! and of the requests; where the oldest version rises, and where a round or a repair begins, all partitions are
+//! Inside are the parts of `node_parts`: rows and outbox, open requests, rounds. A message costs the logarithm of the
+//! rows and of the requests; where the oldest version rises, and where a round or a repair begins, all partitions are
 //! walked once.
 //!
 //! Blocks are not here yet: a store comes without them (`IsBare`), and a node answers that it has none.
@@ -18,17 +17,7 @@
 //! would not fit (`Fits`).
 #![tactic(auto)]
 
-mod begin;
-mod call;
-mod calls;
-mod contents;
 mod node;
-mod packet;
-mod posts;
-mod pushes;
-mod rounds;
-mod sets;
-mod storage;
 
 pub use node::{BeginFault, Node};
-pub use packet::{Envelope, Packet};
+pub use node_parts::{Envelope, Packet};

@@ -18,31 +18,26 @@ ghost use Rattle.cluster_machine.specs.Receives.{most_rows, answers, round_came,
 ghost use Rattle.cluster_machine.specs.Acts.{Acted, raises, cleans, syncs, acts, appends, restarts};
 ghost use Rattle.cluster_machine.specs.Step.{requests_of};
 ghost use Rattle.node_core.specs.declared.node.BeginFault.TheVariants.{NotMember, Memory as WantsMemory};
-ghost use Rattle.node_core.specs.Layouts.{layouts};
-ghost use Rattle.node_core.specs.Posts.{told};
-ghost use Rattle.node_core.specs.Calls.{ended_with};
-ghost use Rattle.node_core.specs.Begins.{IsShort};
-ghost use Rattle.node_core.specs.Contents.{AreBare};
-ghost use Rattle.node_core.specs.Rounds.{IsMoving};
+ghost use Rattle.node_parts.specs.Layouts.{layouts};
+ghost use Rattle.node_parts.specs.Posts.{told};
+ghost use Rattle.node_parts.specs.Calls.{ended_with};
+ghost use Rattle.node_parts.specs.Begins.{IsShort};
+ghost use Rattle.node_parts.specs.Contents.{AreBare};
+ghost use Rattle.node_parts.specs.Rounds.{IsMoving};
 ghost use Rattle.cluster_machine.specs.declared.step.LocalEnd.TheVariants.{At, Repaired};
-ghost use Rattle.node_core.specs.declared.packet.Envelope.{Envelope};
+ghost use Rattle.node_parts.specs.declared.packet.Envelope.{Envelope};
 ghost use Rattle.node_core.specs.Stands.{view_of, sender_of, Hands, CannotHand, begins_at, IsBare, IsBarePacket, ends_of, Done, Fits, StandsApart, StandsButView};
 
-use crate::begin::Beginning;
-use crate::calls::Calls;
-use crate::contents::Contents;
-use crate::packet::{Envelope, Packet};
-use crate::posts::send;
-use crate::pushes::Sender;
-use crate::rounds::{Moving, Rounds};
-use crate::sets::{is_given, is_member, is_stored};
-use crate::storage::keeps_copies;
 use blake2_hash::Hash32;
 use cluster_machine::{Action, LocalEnd};
 use crdt_core::{Bytes, Crdt, List, Memory, Value};
 use layout_history::View;
 use layout_roles::Layout;
 use layout_trackers::Which;
+use node_parts::{
+    Beginning, Calls, Contents, Envelope, Moving, Packet, Rounds, Sender, is_given, is_member,
+    is_stored, keeps_copies, send,
+};
 use std::alloc::Global;
 use table_schema::Schema;
 use table_store::Table;

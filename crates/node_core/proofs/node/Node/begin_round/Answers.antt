@@ -6,9 +6,9 @@ use Rattle.layout_history.specs.Views.{known}
 use Rattle.view_model.specs.View.{newest, read_version, layout_at, is_gapless}
 use Rattle.cluster_machine.specs.declared.step.LocalEnd.TheVariants.{At}
 use Rattle.cluster_machine.specs.Rounds.{are_spelled, parts_of}
-use Rattle.node_core.specs.Layouts.{layouts}
-use Rattle.node_core.specs.Pushes.{part_of, moved}
-use Rattle.node_core.specs.Rounds.{IsMoving, begun_round}
+use Rattle.node_parts.specs.Layouts.{layouts}
+use Rattle.node_parts.specs.Pushes.{part_of, moved}
+use Rattle.node_parts.specs.Rounds.{IsMoving, begun_round}
 use Rattle.node_core.specs.Stands.{sender_of}
 use Rattle.node_core.proofs.Nodes.{same_contents, and_first}
 use Rattle.node_core.proofs.Stored.{read_is_there, next_is_there}

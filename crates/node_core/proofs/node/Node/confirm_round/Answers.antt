@@ -1,6 +1,6 @@
 use Rattle.std.proofs.Common.{◌≡◌, ◌==◌, true, sym, subst, ◌∙◌}
 use Rattle.std.proofs.lemmas.Bool.{eq-eqb}
-use Rattle.node_core.specs.Rounds.{IsOpen, confirmed_round}
+use Rattle.node_parts.specs.Rounds.{IsOpen, confirmed_round}
 use Rattle.node_core.proofs.Nodes.{ok_to, open_some}
 use Rattle.node_core.proofs.node.Node.confirm_round.Goals as goal
 

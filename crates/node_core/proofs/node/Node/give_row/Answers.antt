@@ -5,8 +5,8 @@ use Rattle.wire_messages.specs.declared.message.Message.TheVariants.{Row}
 use Rattle.cluster_machine.specs.Layouts.{is_stored}
 use Rattle.cluster_machine.specs.Phases.{to_each}
 use Rattle.cluster_machine.specs.Receives.{is_sendable}
-use Rattle.node_core.specs.Layouts.{layouts}
-use Rattle.node_core.specs.Posts.{Posts}
+use Rattle.node_parts.specs.Layouts.{layouts}
+use Rattle.node_parts.specs.Posts.{Posts}
 use Rattle.node_core.proofs.Nodes.{ok_to}
 use Rattle.node_core.proofs.Replies.{replies, sized_row}
 use Rattle.node_core.proofs.node.Node.give_row.Goals as goal

@@ -6,11 +6,11 @@ use Rattle.view_model.specs.View.{newest, read_version}
 use Rattle.cluster_machine.specs.declared.step.LocalEnd.TheVariants.{Worked}
 use Rattle.cluster_machine.specs.Node.{Block}
 use Rattle.cluster_machine.specs.Acts.{least_start, raises, item_posts, is_due}
-use Rattle.node_core.specs.Layouts.{layouts}
-use Rattle.node_core.specs.Posts.{Posts}
-use Rattle.node_core.specs.Contents.{IsItem}
+use Rattle.node_parts.specs.Layouts.{layouts}
+use Rattle.node_parts.specs.Posts.{Posts}
+use Rattle.node_parts.specs.Contents.{IsItem}
 use Rattle.node_core.specs.Stands.{Done}
-use Rattle.node_core.proofs.SendingItems.{zip_length}
+use Rattle.node_parts.proofs.SendingItems.{zip_length}
 use Rattle.node_core.proofs.Nodes.{ok_all, items_spelled, nothing_due}
 use Rattle.node_core.proofs.node.Node.local.Goals as goal
 

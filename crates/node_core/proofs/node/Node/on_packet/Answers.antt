@@ -2,7 +2,7 @@ use Rattle.layout_history.specs.Known.{reading}
 use Rattle.layout_history.specs.Views.{known}
 use Rattle.view_model.specs.View.{merged}
 use Rattle.cluster_machine.specs.Rows.{sees}
-use Rattle.node_core.specs.Layouts.{layouts}
+use Rattle.node_parts.specs.Layouts.{layouts}
 use Rattle.node_core.proofs.Nodes.{silent}
 use Rattle.node_core.proofs.node.Node.on_packet.Goals as goal
 

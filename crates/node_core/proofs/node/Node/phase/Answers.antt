@@ -3,11 +3,11 @@ use Rattle.std.specs.List.{AllByRecursion}
 use Rattle.layout_roles.specs.declared.layout.Layout.{Layout}
 use Rattle.cluster_machine.specs.Node.{Node as Model}
 use Rattle.cluster_machine.specs.Phases.{call_at, with_call, calls_now, begins}
-use Rattle.node_core.specs.Layouts.{layouts}
-use Rattle.node_core.specs.Posts.{Posts}
+use Rattle.node_parts.specs.Layouts.{layouts}
+use Rattle.node_parts.specs.Posts.{Posts}
 use Rattle.node_core.specs.Stands.{StandsFor, Done, begins_at}
 use Rattle.node_core.proofs.Nodes.{same_contents}
-use Rattle.node_core.proofs.Answered.{request_is}
+use Rattle.node_parts.proofs.Answered.{request_is}
 use Rattle.node_core.proofs.Phases.{some_of, has_one, version_called, counted, enters}
 use Rattle.node_core.proofs.node.Node.phase.Goals as goal
 

@@ -4,7 +4,7 @@ use Rattle.layout_history.specs.Known.{reading}
 use Rattle.layout_history.specs.Views.{known}
 use Rattle.view_model.specs.View.{newest, layout_at, is_gapless}
 use Rattle.cluster_machine.specs.Rounds.{are_spelled, parts_of}
-use Rattle.node_core.specs.Layouts.{layouts}
+use Rattle.node_parts.specs.Layouts.{layouts}
 use Rattle.node_core.specs.Stands.{sender_of}
 use Rattle.node_core.proofs.Nodes.{same_contents}
 use Rattle.node_core.proofs.Stored.{newest_is_there}

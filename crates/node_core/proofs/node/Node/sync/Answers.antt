@@ -5,9 +5,9 @@ use Rattle.view_model.specs.View.{newest}
 use Rattle.cluster_machine.specs.declared.step.LocalEnd.TheVariants.{At}
 use Rattle.cluster_machine.specs.Rounds.{are_spelled, open_parts}
 use Rattle.cluster_machine.specs.Acts.{syncs}
-use Rattle.node_core.specs.Layouts.{layouts}
-use Rattle.node_core.specs.Pushes.{part_of}
-use Rattle.node_core.specs.Rounds.{IsOpen}
+use Rattle.node_parts.specs.Layouts.{layouts}
+use Rattle.node_parts.specs.Pushes.{part_of}
+use Rattle.node_parts.specs.Rounds.{IsOpen}
 use Rattle.node_core.specs.Stands.{Done}
 use Rattle.node_core.proofs.Nodes.{open_some}
 use Rattle.node_core.proofs.Moves.{again_sent, again_spelled}

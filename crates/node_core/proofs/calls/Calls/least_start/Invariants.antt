@@ -1,7 +1,0 @@
-use Rattle.std.proofs.Common.{◌≡◌}
-use Rattle.node_core.proofs.OpenCalls.{least_of}
-use Rattle.node_core.proofs.calls.Calls.least_start.Given as goal
-
-abbrev pub invariant-loop-call : goal.invariant-loop-call
-invariant-loop-call g l =
-    least_of l.least l.call-iterator ≡ least_of l.initial.least l.initial.call-iterator

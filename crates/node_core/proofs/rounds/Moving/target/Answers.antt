@@ -1,6 +1,0 @@
-use Rattle.std.proofs.Common.{map}
-use Rattle.node_core.specs.Rounds.{pair_of}
-use Rattle.node_core.proofs.rounds.Moving.target.Goals as goal
-
-pub returns : goal.returns
-returns c node r is = c.target.ensures r.target (map pair_of r.parts) node is.told is.round

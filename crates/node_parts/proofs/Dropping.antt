@@ -1,0 +1,115 @@
+-- Rows that are dropped one partition after the other.
+use Rattle.std.proofs.Common.{◌≡◌, ◌<◌, ◌+◌, ℕ, Bool, true, false, not, cond, ltb, ◌==◌, ◌&&◌, List, [], ◌∷◌, filter, IsTrue, inl, inr, refl, sym, ap, ◌∙◌, subst, arith, eq-eqb, ne_eqb, lt-ltb, le-ltb}
+use Rattle.std.specs.List.{AllByRecursion, AllZip}
+use Rattle.std.proofs.lemmas.Bool.{cases_order}
+use Rattle.std.proofs.lemmas.List.Elements.{recursion_from_All, All-from_recursion}
+use Rattle.block_resync.specs.Outbox.{Outbox}
+use Rattle.layout_roles.specs.declared.layout.Layout.{Layout}
+use Rattle.view_model.specs.View.{View}
+use Rattle.table_schema.specs.Words.{Words, partition_at, partition_of}
+use Rattle.table_schema.specs.Laws.{Laws}
+use Rattle.table_model.specs.Rows.{AllProper, rows, without}
+use Rattle.table_model.specs.RowLaws.{rows_filter, rows_proper}
+use Rattle.cluster_machine.specs.Node.{Node}
+use Rattle.cluster_machine.specs.Layouts.{is_given}
+use Rattle.cluster_machine.specs.Rows.{drops}
+use Rattle.node_parts.specs.declared.contents.Contents.{Contents}
+use Rattle.node_parts.specs.Contents.{IsItem, IsContents, Became}
+use Rattle.node_parts.specs.Layouts.{layouts}
+
+and_true : (b : Bool) → (b && true) ≡ b
+and_true true = refl
+and_true false = refl
+
+filter_twice : {A : Type 0} (a b : A → Bool) (xs : List A) → filter a (filter b xs) ≡ filter (λ x. b x && a x) xs
+filter_twice a b [] = refl
+filter_twice a b (x ∷ xs) =
+    elim (b x) as (λ t. filter a (cond t (x ∷ filter b xs) (filter b xs)) ≡ cond (t && a x) (x ∷ filter (λ y. b y && a y) xs) (filter (λ y. b y && a y) xs)) [
+      | true ↦ ap (λ l. cond (a x) (x ∷ l) l) (filter_twice a b xs)
+      | false ↦ filter_twice a b xs
+    ]
+
+filter_whole : {A : Type 0} (xs : List A) → filter (λ x. true) xs ≡ xs
+filter_whole [] = refl
+filter_whole (x ∷ xs) = ap (λ l. x ∷ l) (filter_whole xs)
+
+module _ (given : ℕ → Bool) where
+  -- partition p isn't below i, or it is given
+  abbrev pub stays_at : ℕ → ℕ → Bool
+  stays_at i p = cond (ltb p i) (given p) true
+
+  lost : (i p : ℕ) → given i ≡ false → (stays_at i p && not (p == i)) ≡ stays_at (i + 1) p
+  lost i p none = elim (cases_order p i) [
+    | inl same ↦ rw (le-ltb p i (omega arith), eq-eqb p i same, lt-ltb p (i + 1) (omega arith)) (sym (ap given same ∙ none))
+    | inr apart ↦ elim apart [
+      | inl below ↦ rw (lt-ltb p i below, ne_eqb p i (λ e. omega arith), lt-ltb p (i + 1) (omega arith)) (and_true (given p))
+      | inr above ↦ rw (le-ltb p i (omega arith), ne_eqb p i (λ e. omega arith), le-ltb p (i + 1) (omega arith)) refl
+    ]
+  ]
+
+  first : (p : ℕ) → stays_at 0 p ≡ true
+  first p = ap (λ b. cond b (given p) true) (le-ltb p 0 (omega arith))
+
+  kept : (i p : ℕ) → given i ≡ true → stays_at i p ≡ stays_at (i + 1) p
+  kept i p some = elim (cases_order p i) [
+    | inl same ↦ rw (le-ltb p i (omega arith), lt-ltb p (i + 1) (omega arith)) (sym (ap given same ∙ some))
+    | inr apart ↦ elim apart [
+      | inl below ↦ rw (lt-ltb p i below, lt-ltb p (i + 1) (omega arith)) refl
+      | inr above ↦ rw (le-ltb p i (omega arith), le-ltb p (i + 1) (omega arith)) refl
+    ]
+  ]
+
+  module _ {R : Type 0} (s : Words R) where
+    -- the rows that stay when the partitions below i were gone through
+    abbrev pub left_at : ℕ → List R → List R
+    left_at i xs = filter (λ r. stays_at i (partition_of s r)) xs
+
+    pub left_first : (xs : List R) → xs ≡ left_at 0 xs
+    left_first xs =
+        let none : filter (λ r. stays_at 0 (partition_of s r)) xs ≡ filter (λ r. true) xs = λ j. filter (λ r. first (partition_of s r) j) xs in
+        sym (none ∙ filter_whole xs)
+
+    pub left_lost : (i : ℕ) (xs : List R) → given i ≡ false → without s i (left_at i xs) ≡ left_at (i + 1) xs
+    left_lost i xs none =
+        filter_twice (λ r. not (partition_of s r == i)) (λ r. stays_at i (partition_of s r)) xs ∙ (λ j. filter (λ r. lost i (partition_of s r) none j) xs)
+
+    pub left_kept : (i : ℕ) (xs : List R) → given i ≡ true → left_at i xs ≡ left_at (i + 1) xs
+    left_kept i xs some = λ j. filter (λ r. kept i (partition_of s r) some j) xs
+
+  last : {R : Type 0} {join : R → R → R} {s : Words R} (laws : Laws join s) (xs : List R) → AllByRecursion (λ r. IsTrue (s.is_proper r)) xs → left_at s 256 xs ≡ filter (λ r. given (partition_of s r)) xs
+  last laws [] h = refl
+  last {R} {join} {s} laws (x ∷ xs) h =
+      let byte : partition_of s x < 256 = laws.partition_is_byte x h.0 in
+      let here : stays_at 256 (partition_of s x) ≡ given (partition_of s x) = ap (λ b. cond b (given (partition_of s x)) true) (lt-ltb (partition_of s x) 256 byte) in
+      λ j. cond (here j) (x ∷ last laws xs h.1 j) (last laws xs h.1 j)
+
+  -- all partitions were gone through
+  pub left_last : {R : Type 0} {join : R → R → R} {s : Words R} (laws : Laws join s) (contents : List R) → AllProper s contents →
+      left_at s 256 (rows join s contents) ≡ rows join s (filter (λ r. given (partition_of s r)) contents)
+  left_last {R} {join} {s} laws contents all =
+      let whole = rows join s contents in
+      let proper = recursion_from_All (λ r. IsTrue (s.is_proper r)) whole (rows_proper laws contents all) in
+      last laws whole proper ∙ sym (rows_filter laws (λ r. given (partition_of s r)) (λ a b same. ap (λ position. given (partition_at position)) (laws.one_position a b same)) contents all)
+
+filter_all : {A : Type 0} (P : A → Type 0) (test : A → Bool) (xs : List A) → AllByRecursion P xs → AllByRecursion P (filter test xs)
+filter_all P test [] h = tt
+filter_all P test (x ∷ xs) h =
+    elim (test x) as (λ b. AllByRecursion P (cond b (x ∷ filter test xs) (filter test xs))) [ true ↦ (h.0, filter_all P test xs h.1) | false ↦ filter_all P test xs h.1 ]
+
+module _ {S R : Type 0} {join : R → R → R} {s : Words R} (laws : Laws join s) where
+  pub dropped : (c d : Contents S R) (v : View Layout) (node now : ℕ) (x : Node R Layout) → v ≡ x.view → IsContents join s c x → d.table ≡ left_at (is_given layouts v node) s 256 c.table → d.outbox ≡ c.outbox → Became join s d x (drops join s layouts node now x)
+  dropped c d v node now x same h table outbox =
+      let stays : R → Bool = λ r. is_given layouts x.view node (partition_of s r) in
+      let proper = filter_all (λ r. IsTrue (s.is_proper r)) stays x.accepted (recursion_from_All (λ r. IsTrue (s.is_proper r)) x.accepted h.proper) in
+      record {
+        contents = record {
+          proper = All-from_recursion (λ r. IsTrue (s.is_proper r)) (filter stays x.accepted) proper;
+          table = table ∙ (ap (left_at (is_given layouts v node) s 256) h.table
+              ∙ (left_last (is_given layouts v node) laws x.accepted h.proper
+              ∙ ap (λ w. rows join s (filter (λ r. is_given layouts w node (partition_of s r)) x.accepted)) same));
+          items = subst (λ (o : Outbox). AllZip (IsItem s) o.items x.items) (sym outbox) h.items;
+          queued = ap (λ (o : Outbox). o.pushed) outbox ∙ h.queued;
+          blocks = h.blocks;
+        };
+        rest = record { view = refl; calls = refl; round = refl; rounds = refl };
+      }

@@ -1,0 +1,17 @@
+pub mod Accepting
+pub mod Answered
+pub mod Confirmations
+pub mod Confirming
+pub mod Dropping
+pub mod Faults
+pub mod FirstSends
+pub mod Handing
+pub mod HandingAll
+pub mod Keeping
+pub mod OpenCalls
+pub mod Posting
+pub mod RowSends
+pub mod SendingItems
+pub mod SetAsked
+pub mod SetReading
+pub mod Waiting

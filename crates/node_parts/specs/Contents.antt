@@ -1,0 +1,84 @@
+-- When the rows and the outbox of the code stand for those of a node of the model, and what is done to them.
+use Rattle.std.specs.Prelude.{◌≡◌, ◌<◌, ◌^◌, ◌==◌, ℕ, IsTrue, Option, Some, None, List, []}
+use Rattle.std.specs.List.{All, AllZip, find, flat_map}
+use Rattle.layout_roles.specs.declared.layout.Layout.{Layout}
+use Rattle.layout_history.specs.declared.view.View.{View}
+use Rattle.layout_history.specs.Views.{known}
+use Rattle.table_schema.specs.Words.{Words}
+use Rattle.table_model.specs.Rows.{AllProper, rows}
+use Rattle.quorum_model.specs.Quorum.{is_among}
+use Rattle.block_resync.specs.declared.item.Item.{Item}
+use Rattle.cluster_machine.specs.Node.{Node, Item as Waiting}
+use Rattle.cluster_machine.specs.Phases.{is_spelled}
+use Rattle.cluster_machine.specs.Rows.{accepts_all, drops}
+use Rattle.cluster_machine.specs.Receives.{item_came}
+use Rattle.cluster_machine.specs.Acts.{item_posts}
+use Rattle.node_parts.specs.declared.contents.Contents.{Contents}
+use Rattle.node_parts.specs.declared.packet.Envelope.{Envelope}
+use Rattle.node_parts.specs.Layouts.{layouts}
+use Rattle.node_parts.specs.Posts.{Posts}
+
+-- rows that come without blocks
+abbrev pub AreBare : List (List ℕ × Option (List ℕ)) → Type 0
+AreBare stored = All (λ r. r.1 ≡ None) stored
+
+-- the item has the row's bytes, and the same nodes have confirmed it
+pub record IsItem {R : Type 0} (s : Words R) (i : Item) (m : Waiting R) : Type 0 where
+  pub number : i.number ≡ m.number
+  pub row : s.spelling m.row ≡ Some i.row
+  pub confirmed : (n : ℕ) → is_among n i.confirmed ≡ is_among n m.confirmed
+
+-- the item with this number
+abbrev pub item_at : {R : Type 0} → List (Waiting R) → ℕ → Option (Waiting R)
+item_at ms number = find (λ m. m.number == number) ms
+
+-- the table has the rows of the node, and the outbox its items. No block is there
+pub record IsContents {S R : Type 0} (join : R → R → R) (s : Words R) (c : Contents S R) (x : Node R Layout) : Type 0 where
+  pub proper : AllProper s x.accepted
+  pub table : c.table ≡ rows join s x.accepted
+  pub items : AllZip (IsItem s) c.outbox.items x.items
+  pub queued : c.outbox.pushed ≡ x.queued
+  pub blocks : x.blocks ≡ []
+
+-- x became y, and its view, its requests and its rounds stayed as they were
+pub record KeepsRest {R : Type 0} (x y : Node R Layout) : Type 0 where
+  pub view : y.view ≡ x.view
+  pub calls : y.calls ≡ x.calls
+  pub round : y.round ≡ x.round
+  pub rounds : y.rounds ≡ x.rounds
+
+pub record Became {S R : Type 0} (join : R → R → R) (s : Words R) (c : Contents S R) (x y : Node R Layout) : Type 0 where
+  pub contents : IsContents join s c y
+  pub rest : KeepsRest x y
+
+-- each row that waits has a spelling, and their count a number
+pub record Holds {R : Type 0} (s : Words R) (x : Node R Layout) : Type 0 where
+  pub spelled : All (λ (m : Waiting R). IsTrue (is_spelled s m.row)) x.items
+  pub queued : x.queued < 2 ^ 64
+
+module _ {S R : Type 0} (join : R → R → R) (s : Words R) where
+  -- whatever node the contents stood for, they stand for the one that f leaves
+  abbrev pub Turns : Contents S R → Contents S R → (Node R Layout → Node R Layout) → Type 0
+  Turns old new f = (x : Node R Layout) → IsContents join s old x → Became join s new x (f x)
+
+  -- the node that f leaves has too much for the code
+  abbrev pub Exceeds : Contents S R → (Node R Layout → Node R Layout) → Type 0
+  Exceeds old f = (x : Node R Layout) → IsContents join s old x → Holds s (f x) → ⊥
+
+  abbrev pub Accepts : Contents S R → Contents S R → List (List ℕ × Option (List ℕ)) → Type 0
+  Accepts old new stored = (now : ℕ) → Turns old new (λ x. accepts_all join s now x stored)
+
+  abbrev pub CannotAccept : Contents S R → List (List ℕ × Option (List ℕ)) → Type 0
+  CannotAccept old stored = (now : ℕ) → Exceeds old (λ x. accepts_all join s now x stored)
+
+  -- the node drops what its stored sets don't give it
+  abbrev pub Drops : Contents S R → Contents S R → View → ℕ → Type 0
+  Drops old new view node = (now : ℕ) (x : Node R Layout) → known view ≡ x.view → IsContents join s old x → Became join s new x (drops join s layouts node now x)
+
+  -- a node confirms an item
+  abbrev pub Confirms : Contents S R → Contents S R → View → ℕ → ℕ → Type 0
+  Confirms old new view number node = (x : Node R Layout) → known view ≡ x.view → IsContents join s old x → IsContents join s new (record x { items = item_came join s layouts x.view node number x.items })
+
+  -- the node sends its items
+  abbrev pub SendsItems : Contents S R → View → ℕ → List (Envelope R) → List (Envelope R) → Type 0
+  SendsItems c view node old new = (x : Node R Layout) → known view ≡ x.view → IsContents join s c x → Posts node old new (flat_map (item_posts join s layouts x.view) x.items)

@@ -1,0 +1,8 @@
+pub mod Layouts
+pub mod Posts
+pub mod Sets
+pub mod Calls
+pub mod Begins
+pub mod Contents
+pub mod Pushes
+pub mod Rounds

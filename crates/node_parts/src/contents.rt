@@ -1,0 +1,167 @@
+//! What a node has: its rows, and those that wait to be stored at other nodes.
+
+ghost use Rattle.std.specs.Prelude.{◌≡◌, ◌⊎◌, ℕ, Some, [], ◌∷◌, length, map, IsTrue, IfOk, IfErr, OnOk, option_map};
+ghost use Rattle.crdt_core.specs.declared.memory.Memory.TheVariants.{Want, Full};
+ghost use Rattle.layout_roles.specs.declared.layout.Layout.{Layout};
+ghost use Rattle.table_schema.specs.Words.{partition_of};
+ghost use Rattle.block_resync.specs.Outbox.{IsNumbered};
+ghost use Rattle.cluster_machine.specs.Node.{Node, new_node};
+ghost use Rattle.cluster_machine.specs.Rows.{accepts};
+ghost use Rattle.cluster_machine.specs.Acts.{unconfirmed};
+ghost use Rattle.node_parts.specs.Contents.{AreBare, IsContents, item_at, Turns, Exceeds, Accepts, CannotAccept, Drops, Confirms, SendsItems};
+
+use crate::packet::Envelope;
+use crate::posts::send_each;
+use crate::sets::{is_given, nodes_of, stored_sets};
+use block_resync::{Item, Resync};
+use crdt_core::{Bytes, List, Memory, Value};
+use layout_history::View;
+use std::alloc::Global;
+use table_schema::{RowFault, Schema, partition};
+use table_store::Table;
+use wire_messages::{Message, Tag};
+
+/// The rows of a node, and its outbox.
+#[derive(Drop)]
+pub struct Contents<S: Schema> {
+    pub table: Table<S>,
+    pub outbox: Resync,
+    pub alloc: Global,
+}
+
+impl<S: Schema> Contents<S> {
+    pub fn new(alloc: Global) -> Result<Contents<S>, Memory>
+        ensures empty { IfOk result (λ contents. IsContents S.Row.join S.words contents new_node) }
+        ensures want { IfErr result (λ e. e ≡ Want) }
+    {
+        Ok(Contents {
+            table: Table::new(alloc)?,
+            outbox: Resync::new(alloc),
+            alloc,
+        })
+    }
+
+    // Merges a row in, and queues the rows that this calls for.
+    fn accept(&mut self, row: &S::Row) -> Result<(), Memory>
+        requires { IsTrue (S.words.is_proper row.now) }
+        ensures accepts { OnOk result ((now : ℕ) → Turns S.Row.join S.words self.old self.new (λ x. accepts S.Row.join S.words now x row.now None)) }
+        ensures causes { IfErr result (λ e. (e ≡ Want) ⊎ ((e ≡ Full) × ((now : ℕ) → Exceeds S.Row.join S.words self.old (λ x. accepts S.Row.join S.words now x row.now None)))) }
+    {
+        let change = self.table.merge_in(row)?;
+        for called in change.triggered.as_slice() {
+            let bytes = S::row_bytes(self.alloc, called)?;
+            let _ = self.outbox.push(bytes)?;
+        }
+        Ok(())
+    }
+
+    /// Merges in the rows that have these bytes, one after the other, and queues those that this calls for.
+    /// Bytes of no row are passed over.
+    pub fn accept_all(&mut self, rows: &[(Bytes, Option<Bytes>)]) -> Result<(), Memory>
+        requires bare { AreBare rows.now }
+        ensures accepts { OnOk result (Accepts S.Row.join S.words self.old self.new rows.now) }
+        ensures causes { IfErr result (λ e. (e ≡ Want) ⊎ ((e ≡ Full) × CannotAccept S.Row.join S.words self.old rows.now)) }
+    {
+        for stored in rows {
+            match S::row_from(self.alloc, stored.0.as_slice()) {
+                Ok(row) => self.accept(&row)?,
+                Err(RowFault::NotARow) => {}
+                Err(RowFault::Memory) => return Err(Memory::Want),
+            }
+        }
+        Ok(())
+    }
+
+    /// Drops each row whose partition none of the view's sets gives the node.
+    pub fn drop_lost(&mut self, view: &View, node: u8) -> Result<(), Memory>
+        ensures drops { OnOk result (Drops S.Row.join S.words self.old self.new view.now node) }
+        ensures want { IfErr result (λ e. e ≡ Want) }
+    {
+        for p in 0..=255 {
+            if !is_given(view, node, p) {
+                let _ = self.table.drop_partition(p)?;
+            }
+        }
+        Ok(())
+    }
+
+    // The partition of the row that waits under this number, where there is one.
+    fn waiting(&self, number: u64) -> Result<Option<u8>, Memory>
+        ensures is { IfOk result (λ p. (x : Node S.Row Layout) → IsContents S.Row.join S.words self.now x → p ≡ option_map (λ m. partition_of S.words m.row) (item_at x.items number)) }
+        ensures numbered { IsNumbered self.now.outbox.pushed self.now.outbox.items }
+        ensures want { IfErr result (λ e. e ≡ Want) }
+    {
+        let items = self.outbox.items();
+        match items.binary_search_by(|item| item.number.cmp(&number)) {
+            Ok(place) => partition_of::<S>(self.alloc, &items[place]),
+            Err(_) => Ok(None),
+        }
+    }
+
+    /// A node confirms a row that waits. It waits no longer when two nodes of each of its stored sets have.
+    pub fn confirm(&mut self, view: &View, number: u64, node: u8) -> Result<(), Memory>
+        ensures confirms { OnOk result (Confirms S.Row.join S.words self.old self.new view.now number node) }
+        ensures want { IfErr result (λ e. e ≡ Want) }
+    {
+        let Some(p) = self.waiting(number)? else {
+            return Ok(());
+        };
+        let sets = stored_sets(self.alloc, view, p)?;
+        self.outbox.confirm(number, node)?;
+        let _ = self.outbox.done(number, sets.as_slice());
+        Ok(())
+    }
+
+    /// Forgets who confirmed the rows that wait.
+    pub fn forget_confirmations(&mut self)
+        ensures { Turns S.Row.join S.words self.old self.new (λ x. record x { items = map unconfirmed x.items }) }
+    {
+        self.outbox.forget_confirms();
+    }
+
+    /// Sends each row that waits to all nodes of its stored sets; how many these are.
+    pub fn send_waiting(
+        &self,
+        view: &View,
+        node: u8,
+        out: &mut Vec<Envelope<S::Row>>,
+    ) -> Result<u64, Memory>
+        ensures sent { OnOk result (SendsItems S.Row.join S.words self.now view.now node out.old.items out.new.items) }
+        ensures count { IfOk result (λ count. count ≡ length self.now.outbox.items) }
+        ensures want { IfErr result (λ e. e ≡ Want) }
+    {
+        let items = self.outbox.items();
+        for item in items {
+            let Some(p) = partition_of::<S>(self.alloc, item)? else {
+                continue;
+            };
+            let sets = stored_sets(self.alloc, view, p)?;
+            let nodes = nodes_of(self.alloc, sets.as_slice())?;
+            let mut rows = List::new(self.alloc);
+            rows.push((item.row.copy()?, None))?;
+            let tag = Tag::Item {
+                number: item.number,
+            };
+            let message = Message::Store {
+                tag,
+                newest: view.newest(),
+                p,
+                rows,
+            };
+            send_each(out, node, nodes.as_slice(), &message)?;
+        }
+        Ok(items.len() as u64)
+    }
+}
+
+// The partition of a row that waits.
+fn partition_of<S: Schema>(alloc: Global, item: &Item) -> Result<Option<u8>, Memory>
+    ensures is { IfOk result (λ p. p ≡ option_map (partition_of S.words) (S.words.read item.now.row)) }
+    ensures want { IfErr result (λ e. e ≡ Want) }
+{
+    match S::row_from(alloc, item.row.as_slice()) {
+        Ok(row) => Ok(Some(partition::<S>(&row))),
+        Err(RowFault::NotARow) => Ok(None),
+        Err(RowFault::Memory) => Err(Memory::Want),
+    }
+}

@@ -1,0 +1,34 @@
+//! The parts of a node: its rows and outbox, its open requests, its rounds, and what it sends. `node_core` puts them
+//! together.
+//!
+//! Each part stands for its part of a node of the machine (`cluster_machine`), by a relation of specs/: `Contents` for
+//! the accepted rows and the items that wait (`IsContents`), `Calls` for the open requests, the newest first
+//! (`AreCalls`), and `Rounds` for the open round and the count of rounds (`AreRounds`). Their calls are the
+//! machine's functions of the same part. What is sent goes to the end of a list of envelopes (`Posts`).
+//!
+//! `Beginning` begins a phase of a request: it sends the first messages and gives the phase. `Sender` pushes the rows
+//! of partitions in a round or a repair. The rest reads a view: the sets of a partition in the stored versions, and
+//! who is a member or keeps copies.
+#![tactic(auto)]
+
+mod begin;
+mod call;
+mod calls;
+mod contents;
+mod packet;
+mod posts;
+mod pushes;
+mod rounds;
+mod sets;
+mod storage;
+
+pub use begin::Beginning;
+pub use call::{Call, Present};
+pub use calls::Calls;
+pub use contents::Contents;
+pub use packet::{Envelope, Packet};
+pub use posts::send;
+pub use pushes::Sender;
+pub use rounds::{Moving, Rounds};
+pub use sets::{is_given, is_member, is_stored};
+pub use storage::keeps_copies;

@@ -1,0 +1,179 @@
+//! What a node sends.
+ghost use Rattle.std.specs.Prelude.{◌≡◌, [], ◌∷◌, IfOk, IfErr, OnOk};
+ghost use Rattle.crdt_core.specs.declared.memory.Memory.TheVariants.{Want};
+ghost use Rattle.cluster_machine.specs.Phases.{to_each};
+ghost use Rattle.node_parts.specs.Posts.{Posts};
+
+use crate::packet::{Envelope, Packet};
+use crdt_core::{Bytes, Crdt, List, Memory, Value};
+use wire_messages::Message;
+
+fn copy_row<R: Crdt>(row: &Option<R>) -> Result<Option<R>, Memory>
+    ensures same { IfOk result (λ copied. copied ≡ row.now) }
+    ensures want { IfErr result (λ e. e ≡ Want) }
+{
+    match row {
+        Some(row) => Ok(Some(row.copy()?)),
+        None => Ok(None),
+    }
+}
+
+fn copy_rows<R: Crdt>(rows: &List<R>) -> Result<List<R>, Memory>
+    ensures same { IfOk result (λ copied. copied ≡ rows.now) }
+    ensures want { IfErr result (λ e. e ≡ Want) }
+{
+    let mut copied = List::new(rows.allocator());
+    for row in rows.as_slice() {
+        copied.push(row.copy()?)?;
+    }
+    Ok(copied)
+}
+
+fn copy_block(block: &Option<Bytes>) -> Result<Option<Bytes>, Memory>
+    ensures same { IfOk result (λ copied. copied ≡ block.now) }
+    ensures want { IfErr result (λ e. e ≡ Want) }
+{
+    match block {
+        Some(block) => Ok(Some(block.copy()?)),
+        None => Ok(None),
+    }
+}
+
+fn copy_stored(rows: &List<(Bytes, Option<Bytes>)>) -> Result<List<(Bytes, Option<Bytes>)>, Memory>
+    ensures same { IfOk result (λ copied. copied ≡ rows.now) }
+    ensures want { IfErr result (λ e. e ≡ Want) }
+{
+    let mut copied = List::new(rows.allocator());
+    for row in rows.as_slice() {
+        copied.push((row.0.copy()?, copy_block(&row.1)?))?;
+    }
+    Ok(copied)
+}
+
+fn copy_of<R: Crdt>(message: &Message<R>) -> Result<Message<R>, Memory>
+    ensures same { IfOk result (λ copied. copied ≡ message.now) }
+    ensures want { IfErr result (λ e. e ≡ Want) }
+{
+    match message {
+        Message::Get {
+            request,
+            phase,
+            at,
+            table,
+            key,
+        } => Ok(Message::Get {
+            request: *request,
+            phase: *phase,
+            at: *at,
+            table: *table,
+            key: key.copy()?,
+        }),
+        Message::Row {
+            request,
+            phase,
+            row,
+        } => Ok(Message::Row {
+            request: *request,
+            phase: *phase,
+            row: copy_row(row)?,
+        }),
+        Message::Range {
+            request,
+            phase,
+            at,
+            bucket,
+            prefix,
+            after,
+        } => Ok(Message::Range {
+            request: *request,
+            phase: *phase,
+            at: *at,
+            bucket: *bucket,
+            prefix: prefix.copy()?,
+            after: after.copy()?,
+        }),
+        Message::Rows {
+            request,
+            phase,
+            rows,
+            more,
+        } => Ok(Message::Rows {
+            request: *request,
+            phase: *phase,
+            rows: copy_rows(rows)?,
+            more: *more,
+        }),
+        Message::Store {
+            tag,
+            newest,
+            p,
+            rows,
+        } => Ok(Message::Store {
+            tag: *tag,
+            newest: *newest,
+            p: *p,
+            rows: copy_stored(rows)?,
+        }),
+        Message::Stored(tag) => Ok(Message::Stored(*tag)),
+        Message::Behind(tag, newest) => Ok(Message::Behind(*tag, *newest)),
+        Message::NotHere(tag) => Ok(Message::NotHere(*tag)),
+        Message::BlockGet {
+            request,
+            phase,
+            at,
+            hash,
+        } => Ok(Message::BlockGet {
+            request: *request,
+            phase: *phase,
+            at: *at,
+            hash: *hash,
+        }),
+        Message::Block {
+            request,
+            phase,
+            bytes,
+        } => Ok(Message::Block {
+            request: *request,
+            phase: *phase,
+            bytes: bytes.copy()?,
+        }),
+        Message::NoBlock { request, phase } => Ok(Message::NoBlock {
+            request: *request,
+            phase: *phase,
+        }),
+    }
+}
+
+/// Sends a message from a node to another.
+pub fn send<R: Drop>(
+    out: &mut Vec<Envelope<R>>,
+    from: u8,
+    to: u8,
+    message: Message<R>,
+) -> Result<(), Memory>
+    ensures sent { OnOk result (Posts from out.old.items out.new.items (to_each (to ∷ []) message)) }
+    ensures want { IfErr result (λ e. e ≡ Want) }
+{
+    out.push(Envelope {
+        from,
+        to,
+        packet: Packet::Msg(message),
+    })?;
+    Ok(())
+}
+
+/// Sends a message from a node to each of these.
+pub fn send_each<R: Crdt>(
+    out: &mut Vec<Envelope<R>>,
+    from: u8,
+    nodes: &[u8],
+    message: &Message<R>,
+) -> Result<(), Memory>
+    ensures sent { OnOk result (Posts from out.old.items out.new.items (to_each nodes.now message.now)) }
+    ensures want { IfErr result (λ e. e ≡ Want) }
+{
+    for to in nodes {
+        send(out, from, *to, copy_of(message)?)?;
+    }
+    Ok(())
+}
