@@ -2,8 +2,8 @@
 //! its round, and what a restart leaves. The messages are passed on by hand.
 ghost use Rattle.std.specs.Prelude.{◌≡◌, None, IsTrue, IfOk};
 ghost use Rattle.layout_roles.specs.Zones.{set_ascends};
-ghost use Rattle.node_core.specs.Begins.{IsShort};
-ghost use Rattle.node_core.specs.Contents.{AreBare};
+ghost use Rattle.node_parts.specs.Begins.{IsShort};
+ghost use Rattle.node_parts.specs.Contents.{AreBare};
 ghost use Rattle.node_core.specs.Stands.{IsBarePacket};
 
 use blake2_hash::Hash32;
