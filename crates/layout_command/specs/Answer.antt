@@ -6,7 +6,7 @@ use Rattle.layout_roles.specs.Zones.{storage_nodes, zone_names}
 use Rattle.layout_roles.specs.Fits.{IsGreatest, NoneFits}
 use Rattle.layout_flow.specs.Answers.{IsPrintedCut}
 use Rattle.layout_flow.specs.declared.cut.Cut.{Cut}
-use Rattle.layout_size.specs.Answers.{zones_wanted}
+use Rattle.layout_size.specs.Answers.{zones_wanted, AreEnough as EnoughFor, IsCertified, ShowsNone}
 use Rattle.layout_size.specs.declared.certified.Certified.{Certified}
 use Rattle.layout_text.specs.declared.config.FieldName.{FieldName}
 use Rattle.layout_text.specs.declared.config.FieldName.TheVariants as field
@@ -48,24 +48,16 @@ abbrev pub zones_for : Settings → ℕ
 zones_for settings = zones_wanted settings.redundancy settings.roles
 
 -- three storage nodes, and as many zones as are wanted
-pub record AreEnough (settings : Settings) : Type 0 where
-  pub nodes : 3 ≤ length (storage_nodes settings.roles)
-  pub zones : zones_for settings ≤ length (zone_names settings.roles)
+abbrev pub AreEnough : Settings → Type 0
+AreEnough settings = EnoughFor settings.roles settings.redundancy
 
--- an assignment of the greatest partition size, and the printed cut of the network for the next size, through which less than three copies of each partition go
-pub record IsLayout (settings : Settings) (certified : Certified) : Type 0 where
-  pub redundancy : certified.r ≡ zones_for settings
-  pub greatest : IsGreatest settings.roles certified.r certified.size certified.sets.sets
-  pub above : (size : ℕ) → certified.size < size → NoneFits settings.roles certified.r size
-  pub some : 0 < certified.size
-  pub cut : IsPrintedCut settings.roles certified.r (certified.size + 1) certified.cut
-  pub light : certified.cut.weight < 768
+-- an assignment of the greatest partition size with its printed cut
+abbrev pub IsLayout : Settings → Certified → Type 0
+IsLayout settings certified = IsCertified settings.roles settings.redundancy certified
 
 -- no assignment fits partitions of one byte, and the printed cut of their network shows it
-pub record HasNone (settings : Settings) (cut : Cut) : Type 0 where
-  pub none : NoneFits settings.roles (zones_for settings) 1
-  pub printed : IsPrintedCut settings.roles (zones_for settings) 1 cut
-  pub light : cut.weight < 768
+abbrev pub HasNone : Settings → Cut → Type 0
+HasNone settings cut = ShowsNone settings.roles (zones_for settings) cut
 
 -- what is stated for these settings
 pub data IsLaidOut (settings : Settings) (status : Status) (text : List ℕ) : Type 0 where

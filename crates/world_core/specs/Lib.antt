@@ -1,7 +1,3 @@
-pub mod Marks
+pub mod Parts
 pub mod Nodes
-pub mod Post
-pub mod Report
-pub mod Request
-pub mod Cluster
 pub mod Stands

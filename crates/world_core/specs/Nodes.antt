@@ -1,14 +1,84 @@
--- What a node has at a key.
-use Rattle.std.specs.Prelude.{ℕ, Option, Some, None}
+-- When the nodes of the code stand for those of a world, and what is done at one of them.
+use Rattle.std.specs.Prelude.{◌≡◌, ℕ, Bool, true, false, cond, length, option_map, Option, Some, None, List}
 use Rattle.std.specs.Ordering.{nat_cmp}
-use Rattle.std.specs.BTreeMap.{BTreeMap, get}
-use Rattle.cluster_model.specs.declared.key.RowKey.{RowKey}
-use Rattle.cluster_model.specs.RowKey.{key_cmp}
+use Rattle.std.specs.BTreeMap.{get}
+use Rattle.layout_roles.specs.declared.layout.Layout.{Layout}
+use Rattle.layout_history.specs.Known.{reading}
+use Rattle.view_model.specs.View.{newest}
+use Rattle.table_schema.specs.Words.{Words}
+use Rattle.table_model.specs.Rows.{rows}
+use Rattle.table_model.specs.Top.{top}
+use Rattle.wire_messages.specs.declared.phase.PhaseEnd.{PhaseEnd}
+use Rattle.cluster_machine.specs.declared.step.LocalEnd.{LocalEnd}
+use Rattle.cluster_machine.specs.Layouts.{has_none, is_member}
+use Rattle.cluster_machine.specs.Node.{Node as Model, Did, new_node}
+use Rattle.cluster_machine.specs.Phases.{opened}
+use Rattle.cluster_machine.specs.World as machine
+use Rattle.cluster_machine.specs.Acts.{Acted}
+use Rattle.cluster_machine.specs.Step.{only, changed}
+use Rattle.node_parts.specs.declared.packet.Envelope.{Envelope}
+use Rattle.node_parts.specs.Posts.{Posts}
+use Rattle.node_core.specs.declared.node.Node.{Node}
+use Rattle.node_core.specs.Stands.{StandsFor, AreSized, ends_of, Fits, view_of}
+use Rattle.node_parts.specs.Layouts.{layouts}
+use Rattle.world_core.specs.declared.node_line.NodeLine.{NodeLine}
 use Rattle.world_core.specs.declared.nodes.Nodes.{Nodes}
 
-abbrev pub row_of : {R : Type 0} → Option (BTreeMap RowKey R) → RowKey → Option R
-row_of None key = None
-row_of (Some rows) key = get key_cmp rows key
+-- a node that nothing happened to is a new one
+abbrev pub IsNodeAt : {S R : Type 0} → (R → R → R) → Words R → Option (Node S R) → ℕ → Model R Layout → Type 0
+IsNodeAt join s None n x = x ≡ new_node
+IsNodeAt join s (Some c) n x = StandsFor join s c n x
 
-abbrev pub row_in : {R : Type 0} → Nodes R → ℕ → RowKey → Option R
-row_in nodes n key = row_of (get nat_cmp nodes.rows n) key
+abbrev pub AreNodes : {S R : Type 0} → (R → R → R) → Words R → Nodes S R → (ℕ → Model R Layout) → Type 0
+AreNodes join s nodes xs = (n : ℕ) → IsNodeAt join s (get nat_cmp nodes.by_number n) n (xs n)
+
+-- the newest version that node n knows
+abbrev pub newest_of : {S R : Type 0} → Option (Node S R) → ℕ
+newest_of None = 0
+newest_of (Some c) = newest reading (view_of c)
+
+abbrev pub newest_in : {S R : Type 0} → Nodes S R → ℕ → ℕ
+newest_in nodes n = newest_of (get nat_cmp nodes.by_number n)
+
+-- the nodes with another one in the place of node n
+abbrev pub with_node : {R : Type 0} → ℕ → Model R Layout → (ℕ → Model R Layout) → ℕ → Model R Layout
+with_node n x xs = changed (only n x) xs
+
+-- node n became the one that d leaves, and sent its messages. That each row sent has a spelling shows in the sizes
+pub record DidAt {S R : Type 0} (join : R → R → R) (s : Words R) (new : Nodes S R) (n : ℕ) (xs : ℕ → Model R Layout) (old_out new_out : List (Envelope R)) (given : Option (ℕ × PhaseEnd R)) (d : Did R Layout) : Type 0 where
+  pub nodes : AreNodes join s new (with_node n d.node xs)
+  pub posts : Posts n old_out new_out d.posts
+  pub ends : d.ends ≡ ends_of given
+  pub spelled : AreSized s d.posts → d.is_spelled ≡ true
+
+module _ {S R : Type 0} (join : R → R → R) (s : Words R) where
+  -- whatever nodes they stood for, node n did what f does
+  abbrev pub DoesAt : Nodes S R → Nodes S R → ℕ → List (Envelope R) → List (Envelope R) → Option (ℕ × PhaseEnd R) → (Model R Layout → Did R Layout) → Type 0
+  DoesAt old new n old_out new_out given f = (xs : ℕ → Model R Layout) → AreNodes join s old xs → DidAt join s new n xs old_out new_out given (f (xs n))
+
+  abbrev pub ActsAt : Nodes S R → Nodes S R → ℕ → List (Envelope R) → List (Envelope R) → LocalEnd → (Model R Layout → Acted R Layout) → Type 0
+  ActsAt old new n old_out new_out how f = (xs : ℕ → Model R Layout) → AreNodes join s old xs → DidAt join s new n xs old_out new_out None (f (xs n)).did × (how ≡ (f (xs n)).how)
+
+  abbrev pub BecomesAt : Nodes S R → Nodes S R → ℕ → (Model R Layout → Model R Layout) → Type 0
+  BecomesAt old new n f = (xs : ℕ → Model R Layout) → AreNodes join s old xs → AreNodes join s new (with_node n (f (xs n)) xs)
+
+  -- after what f does some number or row would not fit
+  abbrev pub OverflowsAt : Nodes S R → ℕ → (Model R Layout → Did R Layout) → Type 0
+  OverflowsAt old n f = (xs : ℕ → Model R Layout) → AreNodes join s old xs → Fits s (f (xs n)) → ⊥
+
+abbrev pub shown_line : NodeLine → machine.NodeLine
+shown_line line = record { node = line.node; rows = line.rows; blocks = line.blocks; top = line.top.0 }
+
+-- what a node shows of itself, none where it knows no version
+abbrev pub line_of : {R : Type 0} → (R → R → R) → Words R → ℕ → Model R Layout → Option machine.NodeLine
+line_of join s n x =
+    let there = rows join s x.accepted in
+    cond (has_none layouts x.view) None (Some (record { node = n; rows = length there; blocks = length x.blocks; top = top s there }))
+
+abbrev pub IsLineOf : {R : Type 0} → (R → R → R) → Words R → ℕ → Model R Layout → Option NodeLine → Type 0
+IsLineOf join s n x line = option_map shown_line line ≡ line_of join s n x
+
+-- a request began at node n where it is a member; else nothing changed
+abbrev pub Opens : {S R : Type 0} → (R → R → R) → Words R → Nodes S R → ℕ → ℕ → (ℕ → Model R Layout) → Bool → Type 0
+Opens join s new n request xs true = (is_member layouts (xs n).view n ≡ true) × AreNodes join s new (with_node n (opened request (newest reading (xs n).view) (xs n)) xs)
+Opens join s new n request xs false = (is_member layouts (xs n).view n ≡ false) × AreNodes join s new xs

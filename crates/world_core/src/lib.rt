@@ -1,20 +1,31 @@
-//! The cluster as code: the nodes' rows, every message that was ever sent, and the requests in flight.
+//! The cluster over layout versions: its nodes, every message that was ever sent, the time, what is staged, and the
+//! requests.
 //!
-//! A `World` stands for a world of the model, and `World::step` is the model's step: it keeps that,
-//! and its `Report` is what the model's step answers. Rows are known by their join alone.
-//! Inside, the `Post` keeps the messages, and the `Cluster` what they change: requests and nodes' rows.
+//! A `World` stands for a world of the machine (`cluster_machine`, with the layouts of `world_model`), by `StandsFor` of
+//! specs/Stands.antt. `World::step` is one step of the machine: whatever world it stood for, it stands for the next one,
+//! and its `Report` is what the machine's step answers (`Steps`). An apply computes its layout, and which one is free:
+//! it is lawful. `install` and `forget_delivered` keep the relation too, and the rest reads the world. Rows are known by
+//! their schema alone.
+//!
+//! Inside are the parts, each with a relation of its own: `Nodes` (a node that nothing happened to takes no room), `Post`
+//! (message m at place m - 1, the least undelivered one known at once), `Clocks` and `Requests`; `staged` changes the
+//! staged roles, `decide` computes a layout. A step costs what its node's part costs, and constant time per message.
+//!
+//! Blocks are not here yet: a phase stores rows without them. After `Memory` in `step` the world is given up. `Full`
+//! comes only where a number or a row would not fit (`HasRoom`).
 #![tactic(auto)]
 
-mod cluster;
-mod copies;
-mod marks;
+mod clocks;
+mod decide;
+mod lines;
+mod node_line;
 mod nodes;
 mod post;
 mod report;
-mod request;
-#[cfg(test)]
-mod tests;
+mod requests;
+mod staging;
 mod world;
 
+pub use node_line::NodeLine;
 pub use report::Report;
 pub use world::World;

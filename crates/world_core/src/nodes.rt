@@ -1,76 +1,248 @@
-//! The rows of all nodes: for each node its keys, each with one merged row.
-ghost use Rattle.std.specs.Prelude.{◌≡◌, ℕ, ◌==◌, ◌&&◌, if◌then◌else◌, Some, None, OnOk, IfErr, option_copied};
-ghost use Rattle.std.specs.BTreeMap.{get};
-ghost use Rattle.crdt_core.specs.declared.memory.Memory.TheVariants.{Want};
-ghost use Rattle.cluster_model.specs.declared.key.RowKey.{RowKey};
-ghost use Rattle.cluster_model.specs.RowKey.{key_cmp, is_key};
-ghost use Rattle.cluster_model.specs.Order.{merged};
-ghost use Rattle.world_core.specs.Nodes.{row_in};
+//! The nodes of the cluster, by their numbers.
+ghost use Rattle.std.specs.Prelude.{◌≡◌, ◌⊎◌, ◌×◌, ◌<◌, ◌≤◌, ◌+◌, ℕ, true, false, Option, Some, None, List, reverse, length, IsTrue, OnOk, OnErr, IfOk, IfErr};
+ghost use Rattle.std.specs.List.{All};
+ghost use Rattle.crdt_core.specs.declared.memory.Memory.TheVariants.{Want, Full};
+ghost use Rattle.layout_trackers.specs.declared.which.Which.TheVariants.{Sync};
+ghost use Rattle.layout_trackers.specs.Trackers.{counts};
+ghost use Rattle.layout_roles.specs.declared.layout.Layout.{Layout};
+ghost use Rattle.layout_history.specs.Known.{reading, has_members};
+ghost use Rattle.view_model.specs.View.{newest};
+ghost use Rattle.table_model.specs.Rows.{rows};
+ghost use Rattle.table_model.specs.Top.{top, any_unspelled};
+ghost use Rattle.cluster_machine.specs.Layouts.{is_member};
+ghost use Rattle.cluster_machine.specs.Node.{Node as Model, shows, new_node};
+ghost use Rattle.cluster_machine.specs.Phases.{opened, closed, call_at};
+ghost use Rattle.cluster_machine.specs.Receives.{receives};
+ghost use Rattle.cluster_machine.specs.Acts.{acts, appends, restarts};
+ghost use Rattle.cluster_machine.specs.Step.{requests_of};
+ghost use Rattle.node_parts.specs.Layouts.{layouts};
+ghost use Rattle.node_parts.specs.Posts.{told};
+ghost use Rattle.node_parts.specs.Begins.{IsShort};
+ghost use Rattle.node_core.specs.Stands.{IsBarePacket, begins_at};
+ghost use Rattle.node_core.specs.declared.node.BeginFault.TheVariants.{NotMember, Memory as WantsMemory};
 
-use cluster_model::RowKey;
-use crdt_core::{Crdt, Memory, Value};
+use crate::node_line::NodeLine;
+use blake2_hash::Hash32;
+use cluster_machine::{Action, LocalEnd};
+use crdt_core::Memory;
+use layout_history::View;
+use layout_roles::Layout;
+use layout_trackers::Which;
+use node_core::{BeginFault, Envelope, Node, Packet};
+use node_parts::is_member as knows_member;
 use std::alloc::Global;
 use std::collections::BTreeMap;
+use table_schema::Schema;
+use wire_messages::{Phase, PhaseEnd};
 
-/// The rows of one node.
-type Rows<R> = BTreeMap<RowKey, R>;
-
-/// The rows of each node that has any.
+/// The nodes that something happened to. Each other one is new: it knows no layout version and has no rows.
 #[derive(Drop)]
-pub struct Nodes<R> {
-    pub rows: BTreeMap<u8, Rows<R>>,
+pub struct Nodes<S: Schema> {
+    pub by_number: BTreeMap<u8, Node<S>>,
+    alloc: Global,
 }
 
-fn merge_row<R: Crdt>(rows: &mut Rows<R>, key: &RowKey, row: &R) -> Result<(), Memory>
-    ensures rows { OnOk result ((k : RowKey) → get key_cmp rows.new k ≡
-        (if is_key key.now k then merged R.join (get key_cmp rows.old k) (Some row.now) else get key_cmp rows.old k)) }
-    ensures want { IfErr result (λ e. e ≡ Want) }
-{
-    match rows.get_mut(key) {
-        Some(own) => {
-            own.merge(row)?;
-            Ok(())
-        }
-        None => {
-            rows.insert(key.copy()?, row.copy()?)?;
-            Ok(())
-        }
-    }
-}
+impl<S: Schema> Nodes<S> {
+    ghost use Rattle.world_core.specs.Nodes.{newest_in, IsLineOf, Opens, AreNodes, DoesAt, ActsAt, BecomesAt, OverflowsAt};
 
-impl<R: Crdt> Nodes<R> {
-    pub fn new(alloc: Global) -> Nodes<R>
-        ensures { (n : ℕ) (k : RowKey) → row_in result n k ≡ None }
+    pub fn new(alloc: Global) -> Nodes<S>
+        ensures { AreNodes S.Row.join S.words result (λ n. new_node) }
     {
         Nodes {
-            rows: BTreeMap::new(alloc),
+            by_number: BTreeMap::new(alloc),
+            alloc,
         }
     }
 
-    /// A node accepts a row at a key.
-    pub fn merge_in(&mut self, alloc: Global, node: u8, key: &RowKey, row: &R) -> Result<(), Memory>
-        ensures rows { OnOk result ((n : ℕ) (k : RowKey) → row_in self.new n k ≡
-            (if (node == n) && is_key key.now k then merged R.join (row_in self.old n k) (Some row.now) else row_in self.old n k)) }
+    // A node with this number is there.
+    fn ready(&mut self, node: u8) -> Result<(), Memory>
+        ensures same { OnOk result ((xs : ℕ → Model S.Row Layout) → AreNodes S.Row.join S.words self.old xs → AreNodes S.Row.join S.words self.new xs) }
         ensures want { IfErr result (λ e. e ≡ Want) }
     {
-        match self.rows.get_mut(&node) {
-            Some(rows) => {
-                merge_row(rows, key, row)?;
-                Ok(())
-            }
-            None => {
-                let mut rows = BTreeMap::new(alloc);
-                merge_row(&mut rows, key, row)?;
-                self.rows.insert(node, rows)?;
-                Ok(())
+        if self.by_number.get(&node).is_none() {
+            let new = Node::new(self.alloc, node)?;
+            let _ = self.by_number.insert(node, new)?;
+        }
+        Ok(())
+    }
+
+    /// The newest layout version that the node knows, 0 where it knows none.
+    pub fn newest(&self, node: u8) -> u32
+        ensures known { result ≡ newest_in self.now node }
+        ensures is { (xs : ℕ → Model S.Row Layout) → AreNodes S.Row.join S.words self.now xs → result ≡ newest reading (xs node).view }
+    {
+        match self.by_number.get(&node) {
+            Some(found) => found.view().newest(),
+            None => 0,
+        }
+    }
+
+    /// Whether the node has a role in its newest version.
+    pub fn is_member(&self, node: u8) -> bool
+        ensures { (xs : ℕ → Model S.Row Layout) → AreNodes S.Row.join S.words self.now xs → result ≡ is_member layouts (xs node).view node }
+    {
+        match self.by_number.get(&node) {
+            Some(found) => knows_member(found.view(), node),
+            None => false,
+        }
+    }
+
+    /// The node's own sync entry, 0 where it has none.
+    pub fn synced(&self, node: u8) -> u32
+        ensures { (xs : ℕ → Model S.Row Layout) → AreNodes S.Row.join S.words self.now xs → result ≡ counts 0 Sync (xs node).view.trackers node }
+    {
+        match self.by_number.get(&node) {
+            Some(found) => found.view().trackers().counts(Which::Sync, node, 0),
+            None => 0,
+        }
+    }
+
+    /// The node's whole view, to be sent.
+    pub fn shown(&self, node: u8) -> Result<Packet<S::Row>, Memory>
+        ensures shown { IfOk result (λ packet. (xs : ℕ → Model S.Row Layout) → AreNodes S.Row.join S.words self.now xs → told packet ≡ shows (xs node).view) }
+        ensures bare { IfOk result (λ packet. IsBarePacket packet) }
+        ensures want { IfErr result (λ e. e ≡ Want) }
+    {
+        let view = match self.by_number.get(&node) {
+            Some(found) => found.view().copy()?,
+            None => View::new(self.alloc),
+        };
+        Ok(Packet::View(view))
+    }
+
+    /// What the node shows of itself; None where it knows no layout version.
+    pub fn line(&self, node: u8) -> Result<Option<NodeLine>, Memory>
+        ensures rows { IfOk result (λ line. (xs : ℕ → Model S.Row Layout) → AreNodes S.Row.join S.words self.now xs → IsLineOf S.Row.join S.words node (xs node) line) }
+        ensures causes { IfErr result (λ e. (e ≡ Want) ⊎ ((e ≡ Full) × ((xs : ℕ → Model S.Row Layout) → AreNodes S.Row.join S.words self.now xs → IsTrue (any_unspelled S.words (rows S.Row.join S.words (xs node).accepted))))) }
+    {
+        match self.by_number.get(&node) {
+            None => Ok(None),
+            Some(found) => {
+                if found.view().newest() == 0 {
+                    return Ok(None);
+                }
+                let table = found.table();
+                Ok(Some(NodeLine {
+                    node,
+                    rows: table.len() as u64,
+                    blocks: 0,
+                    top: table.top()?,
+                }))
             }
         }
     }
 
-    /// The row that a node has at a key.
-    pub fn get(&self, node: u8, key: &RowKey) -> Option<&R>
-        ensures { option_copied result ≡ row_in self.now node key.now }
+    /// A request begins at the node, with a number above those that are open there. False where the node is no member.
+    pub fn open(&mut self, node: u8, request: u64) -> Result<bool, Memory>
+        ensures opens { IfOk result (λ member. (xs : ℕ → Model S.Row Layout) → AreNodes S.Row.join S.words self.old xs → All (λ c. c.request < request) (xs node).calls →
+            Opens S.Row.join S.words self.new node request xs member) }
+        ensures want { IfErr result (λ e. e ≡ Want) }
     {
-        self.rows.get(&node)?.get(key)
+        self.ready(node)?;
+        let Some(found) = self.by_number.get_mut(&node) else {
+            unreachable!()
+        };
+        match found.open(request) {
+            Ok(()) => Ok(true),
+            Err(BeginFault::NotMember) => Ok(false),
+            Err(BeginFault::Memory) => Err(Memory::Want),
+        }
+    }
+
+    /// Begins a phase of a request that is open at the node.
+    pub fn phase(
+        &mut self,
+        node: u8,
+        request: u64,
+        phase: Phase<S::Row>,
+        out: &mut Vec<Envelope<S::Row>>,
+    ) -> Result<(), Memory>
+        requires short { IsShort phase }
+        ensures begins { OnOk result ((kept : List S.Row) → DoesAt S.Row.join S.words self.old self.new node out.old.items out.new.items None (λ x. begins_at S.words kept x phase (call_at x.calls request))) }
+        ensures causes { IfErr result (λ e. (e ≡ Want) ⊎ ((e ≡ Full) × ((kept : List S.Row) → OverflowsAt S.Row.join S.words self.old node (λ x. begins_at S.words kept x phase (call_at x.calls request))))) }
+    {
+        self.ready(node)?;
+        let Some(found) = self.by_number.get_mut(&node) else {
+            unreachable!()
+        };
+        found.phase(request, phase, out)?;
+        Ok(())
+    }
+
+    /// The node forgets a request.
+    pub fn close(&mut self, node: u8, request: u64)
+        ensures { BecomesAt S.Row.join S.words self.old self.new node (λ x. closed request x) }
+    {
+        if let Some(found) = self.by_number.get_mut(&node) {
+            found.close(request);
+        }
+    }
+
+    /// A packet comes to its receiver, whose clock says `now`.
+    pub fn receive(
+        &mut self,
+        envelope: &Envelope<S::Row>,
+        now: u64,
+        out: &mut Vec<Envelope<S::Row>>,
+    ) -> Result<Option<(u64, PhaseEnd<S::Row>)>, Memory>
+        requires bare { IsBarePacket envelope.now.packet }
+        ensures receives { IfOk result (λ given. DoesAt S.Row.join S.words self.old self.new envelope.now.to out.old.items out.new.items given (λ x. receives S.Row.join S.words layouts envelope.now.to now x envelope.now.from (told envelope.now.packet))) }
+        ensures causes { IfErr result (λ e. (e ≡ Want) ⊎ ((e ≡ Full) × OverflowsAt S.Row.join S.words self.old envelope.now.to (λ x. receives S.Row.join S.words layouts envelope.now.to now x envelope.now.from (told envelope.now.packet)))) }
+    {
+        self.ready(envelope.to)?;
+        let Some(found) = self.by_number.get_mut(&envelope.to) else {
+            unreachable!()
+        };
+        let ended = found.on_packet(envelope.from, &envelope.packet, now, out)?;
+        Ok(ended)
+    }
+
+    /// The node does something by itself. It knows a layout version.
+    pub fn act(
+        &mut self,
+        node: u8,
+        action: Action,
+        now: u64,
+        out: &mut Vec<Envelope<S::Row>>,
+    ) -> Result<LocalEnd, Memory>
+        requires has_version { 1 ≤ newest_in self.old node }
+        ensures acts { IfOk result (λ how. ActsAt S.Row.join S.words self.old self.new node out.old.items out.new.items how (λ x. acts S.Row.join S.words layouts node now x action)) }
+        ensures causes { IfErr result (λ e. (e ≡ Want) ⊎ ((e ≡ Full) × OverflowsAt S.Row.join S.words self.old node (λ x. (acts S.Row.join S.words layouts node now x action).did))) }
+    {
+        self.ready(node)?;
+        let Some(found) = self.by_number.get_mut(&node) else {
+            unreachable!()
+        };
+        let how = found.local(action, now, out)?;
+        Ok(how)
+    }
+
+    /// The node stores one layout version more, the one after its newest.
+    pub fn append(&mut self, node: u8, layout: Layout) -> Result<(), Memory>
+        requires next { layout.version ≡ newest_in self.old node + 1 }
+        requires inhabited { IsTrue (has_members layout) }
+        ensures appends { OnOk result (BecomesAt S.Row.join S.words self.old self.new node (λ x. appends layouts x layout)) }
+        ensures want { IfErr result (λ e. e ≡ Want) }
+    {
+        self.ready(node)?;
+        let Some(found) = self.by_number.get_mut(&node) else {
+            unreachable!()
+        };
+        found.append(layout)?;
+        Ok(())
+    }
+
+    /// The node loses what it keeps in memory alone. Its requests, ascending.
+    pub fn restart(&mut self, node: u8) -> Result<Vec<u64>, Memory>
+        ensures restarts { OnOk result (BecomesAt S.Row.join S.words self.old self.new node (λ x. restarts x)) }
+        ensures lost { IfOk result (λ lost. (xs : ℕ → Model S.Row Layout) → AreNodes S.Row.join S.words self.old xs → lost.items ≡ reverse (requests_of (xs node).calls)) }
+        ensures want { IfErr result (λ e. e ≡ Want) }
+    {
+        self.ready(node)?;
+        let Some(found) = self.by_number.get_mut(&node) else {
+            unreachable!()
+        };
+        let lost = found.restart()?;
+        Ok(lost)
     }
 }

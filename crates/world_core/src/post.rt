@@ -1,78 +1,198 @@
-//! Every message that was ever sent, and which of them were delivered.
-ghost use Rattle.std.specs.Prelude.{◌≡◌, ◌<◌, ◌+◌, ◌^◌, [], length, OnOk, IfOk, IfErr};
-ghost use Rattle.crdt_core.specs.declared.memory.Memory.TheVariants.{Want};
-ghost use Rattle.cluster_model.specs.Step.{kind_of, sent_from};
-ghost use Rattle.cluster_model.specs.World.{first_waiting};
+//! Every message that was ever sent, and what became of it.
+ghost use Rattle.std.specs.Prelude.{◌≡◌, ◌⊎◌, ◌×◌, ◌<◌, ◌≤◌, ◌^◌, ℕ, suc, Some, None, [], ◌++◌, false, true, length, map, OnOk, IfOk, IfErr};
+ghost use Rattle.layout_roles.specs.declared.layout.Layout.{Layout};
+ghost use Rattle.crdt_core.specs.declared.memory.Memory.TheVariants.{Want, Full};
+ghost use Rattle.table_schema.specs.Words.{Words};
+ghost use Rattle.cluster_machine.specs.World.{Sent, Mark, numbered, first_waiting, sent_bytes, forgot};
+ghost use Rattle.cluster_machine.specs.Step.{marked};
+ghost use Rattle.world_model.specs.Fits.{IsWord};
+ghost use Rattle.world_core.specs.Parts.{IsPost, AreSent, IsFound, IsMissing, AreGone, IsFirst, packet_bytes, not_yet, lines_from};
 
-use crate::marks::Marks;
-use cluster_model::{Envelope, Line, Message, SentKind};
+use crate::lines::kind;
 use crdt_core::{List, Memory};
+use node_core::{Envelope, Packet};
 use std::alloc::Global;
+use table_schema::Schema;
+use wire_messages::size;
+use world_model::{Line, Refusal};
 
-/// The messages in order of their numbers: message m stands at place m - 1. Each has a mark.
+/// A message that was sent, unless it was lost since, and whether it was delivered.
+#[derive(Drop)]
+pub struct Slot<R> {
+    pub envelope: Option<Envelope<R>>,
+    pub is_delivered: bool,
+}
+
+impl<R> Slot<R> {
+    ghost use Rattle.world_core.specs.Parts.{is_waiting};
+
+    /// Neither delivered nor lost.
+    fn is_waiting(&self) -> bool
+        ensures { result ≡ is_waiting self.now }
+    {
+        !self.is_delivered && self.envelope.is_some()
+    }
+}
+
+/// Every message that was ever sent: message m at place m - 1. All before the place `first` are delivered or lost, and
+/// all before `kept` are lost.
 #[derive(Drop)]
 pub struct Post<R> {
-    pub messages: Vec<Envelope<R>>,
-    pub delivered: Marks,
+    pub slots: Vec<Slot<R>>,
+    pub first: usize,
+    pub kept: usize,
+    /// The sizes of all messages.
+    pub bytes: u64,
 }
 
-fn kind_of<R>(message: &Message<R>) -> SentKind
-    ensures { result ≡ kind_of message.now }
+/// How many bytes a packet counts; a view counts 1,600 for each of its versions.
+fn packet_size<S: Schema>(alloc: Global, packet: &Packet<S::Row>) -> Result<u64, Memory>
+    ensures is { IfOk result (λ n. packet_bytes S.words packet.now ≡ Some n) }
+    ensures causes { IfErr result (λ e. (e ≡ Want) ⊎ ((e ≡ Full) × (IsWord (packet_bytes S.words packet.now) → ⊥))) }
 {
-    match message {
-        Message::Get { .. } => SentKind::Get,
-        Message::Row { .. } => SentKind::Row,
-        Message::Store { .. } => SentKind::Store,
-        Message::Stored { .. } => SentKind::Stored,
+    match packet {
+        Packet::Msg(message) => size::<S>(alloc, message),
+        Packet::View(view) => {
+            let versions = view.layouts().len() as u64;
+            match versions.checked_mul(1600) {
+                None => Err(Memory::Full),
+                Some(bytes) => match bytes.checked_add(64) {
+                    None => Err(Memory::Full),
+                    Some(total) => Ok(total),
+                },
+            }
+        }
     }
-}
-
-/// The lines of messages that are sent, numbered from `first` on.
-fn sent_lines<R>(alloc: Global, first: u64, envelopes: &[Envelope<R>]) -> Result<List<Line>, Memory>
-    requires { first + length envelopes.now < 2 ^ 64 }
-    ensures lines { IfOk result (λ lines. lines ≡ sent_from first envelopes.now) }
-    ensures want { IfErr result (λ e. e ≡ Want) }
-{
-    let mut lines = List::new(alloc);
-    let mut number = first;
-    for envelope in envelopes {
-        lines.push(Line::Sent {
-            number,
-            kind: kind_of(&envelope.message),
-            from: envelope.from,
-            to: envelope.to,
-        })?;
-        number += 1;
-    }
-    Ok(lines)
 }
 
 impl<R: Drop> Post<R> {
-    ghost use Rattle.world_core.specs.Post.{Posts};
+    ghost use Rattle.std.specs.Prelude.{List};
 
     pub fn new(alloc: Global) -> Post<R>
-        ensures messages { result.messages.items ≡ [] }
-        ensures delivered { result.delivered ≡ [] }
+        ensures { (s : Words R) → IsPost s result [] [] }
     {
         Post {
-            messages: Vec::new(alloc),
-            delivered: Marks::new(alloc),
+            slots: Vec::new(alloc),
+            first: 0,
+            kept: 0,
+            bytes: 0,
         }
     }
 
-    /// Sends these messages: their lines.
-    pub fn send(
-        &mut self,
-        alloc: Global,
-        mut envelopes: Vec<Envelope<R>>,
-    ) -> Result<List<Line>, Memory>
-        ensures posts { OnOk result (Posts self.old self.new envelopes.items) }
-        ensures lines { IfOk result (λ lines. lines ≡ sent_from (length self.old.messages.items + 1) envelopes.items) }
-        ensures want { IfErr result (λ e. e ≡ Want) }
+    /// How many messages were sent.
+    pub fn sent(&self) -> u64
+        ensures { (s : Words R) (messages : List (Sent R Layout)) (marks : List Mark) → IsPost s self.now messages marks → result ≡ length messages }
     {
-        let lines = sent_lines(alloc, self.messages.len() as u64 + 1, &envelopes)?;
-        self.delivered.push_each(&envelopes)?;
-        self.messages.append(&mut envelopes)?;
-        Ok(lines)
+        self.slots.len() as u64
     }
+
+    /// The least number of a message that was neither delivered nor lost.
+    pub fn undelivered(&self) -> Option<u64>
+        ensures { (s : Words R) (messages : List (Sent R Layout)) (marks : List Mark) → IsPost s self.now messages marks → result ≡ first_waiting 1 marks }
+    {
+        if self.first < self.slots.len() {
+            Some(self.first as u64 + 1)
+        } else {
+            None
+        }
+    }
+
+    /// The message with this number, or that there is none, or that it was lost.
+    pub fn get(&self, number: u64) -> Result<&Envelope<R>, Refusal>
+        ensures found { IfOk result (λ e. (s : Words R) (messages : List (Sent R Layout)) (marks : List Mark) → IsPost s self.now messages marks → IsFound number messages marks e.now) }
+        ensures missing { IfErr result (λ why. (s : Words R) (messages : List (Sent R Layout)) (marks : List Mark) → IsPost s self.now messages marks → IsMissing number messages marks why) }
+    {
+        if number < 1 || number > self.slots.len() as u64 {
+            return Err(Refusal::NoSuchMessage);
+        }
+        match &self.slots[(number - 1) as usize].envelope {
+            Some(envelope) => Ok(envelope),
+            None => Err(Refusal::Lost),
+        }
+    }
+
+    /// A message that wasn't lost is delivered.
+    pub fn deliver(&mut self, number: u64)
+        ensures { (s : Words R) (messages : List (Sent R Layout)) (marks : List Mark) (mark : Mark) → IsPost s self.old messages marks → numbered marks number ≡ Some mark → mark.is_lost ≡ false →
+            IsPost s self.new messages (marked marks (Some (number, record { is_delivered = true; is_lost = false }))) }
+    {
+        if number < 1 || number > self.slots.len() as u64 {
+            return;
+        }
+        self.slots[(number - 1) as usize].is_delivered = true;
+        self.first = next_waiting(&self.slots, self.first);
+    }
+
+    /// A message is lost: it can't be delivered any more.
+    pub fn lose(&mut self, number: u64)
+        ensures { (s : Words R) (messages : List (Sent R Layout)) (marks : List Mark) (mark : Mark) → IsPost s self.old messages marks → numbered marks number ≡ Some mark →
+            IsPost s self.new messages (marked marks (Some (number, record { is_delivered = false; is_lost = true }))) }
+    {
+        if number < 1 || number > self.slots.len() as u64 {
+            return;
+        }
+        let slot = &mut self.slots[(number - 1) as usize];
+        slot.envelope = None;
+        slot.is_delivered = false;
+        self.first = next_waiting(&self.slots, self.first);
+    }
+
+    /// A delivered message counts as lost from here on, and its room is given back.
+    pub fn forget_delivered(&mut self)
+        ensures { (s : Words R) (messages : List (Sent R Layout)) (marks : List Mark) → IsPost s self.old messages marks → IsPost s self.new messages (map forgot marks) }
+    {
+        for place in self.kept..self.slots.len() {
+            if self.slots[place].is_delivered {
+                self.slots[place].envelope = None;
+            }
+        }
+        self.kept = self.first;
+    }
+}
+
+/// Sends these messages, in order, and puts a line for each at the end.
+pub fn send<S: Schema>(
+    post: &mut Post<S::Row>,
+    alloc: Global,
+    envelopes: Vec<Envelope<S::Row>>,
+    lines: &mut List<Line>,
+) -> Result<(), Memory>
+    ensures sent { OnOk result ((messages : List (Sent S.Row Layout)) (marks : List Mark) (sent : List (Sent S.Row Layout)) → IsPost S.words post.old messages marks → AreSent envelopes.items sent →
+        IsPost S.words post.new (messages ++ sent) (marks ++ not_yet sent)) }
+    ensures told { OnOk result ((messages : List (Sent S.Row Layout)) (marks : List Mark) → IsPost S.words post.old messages marks → lines.new ≡ lines.old ++ lines_from (suc (length messages)) envelopes.items) }
+    ensures causes { IfErr result (λ e. (e ≡ Want) ⊎ ((e ≡ Full) × ((messages : List (Sent S.Row Layout)) (marks : List Mark) (sent : List (Sent S.Row Layout)) →
+        IsPost S.words post.old messages marks → AreSent envelopes.items sent → IsWord (sent_bytes S.words (messages ++ sent)) → ⊥))) }
+{
+    for envelope in envelopes {
+        let size = packet_size::<S>(alloc, &envelope.packet)?;
+        let Some(bytes) = post.bytes.checked_add(size) else {
+            return Err(Memory::Full);
+        };
+        let line = Line::Sent {
+            number: post.slots.len() as u64 + 1,
+            kind: kind(&envelope.packet),
+            from: envelope.from,
+            to: envelope.to,
+        };
+        lines.push(line)?;
+        post.slots.push(Slot {
+            envelope: Some(envelope),
+            is_delivered: false,
+        })?;
+        post.bytes = bytes;
+    }
+    Ok(())
+}
+
+/// The first place from `from` on whose message waits, where no one before it does.
+fn next_waiting<R>(slots: &[Slot<R>], from: usize) -> usize
+    requires within { from ≤ length slots.now }
+    requires before { AreGone slots.now from }
+    ensures { IsFirst slots.now result }
+{
+    let mut first = from;
+    while first < slots.len() && !slots[first].is_waiting() {
+        first += 1;
+    }
+    first
 }

@@ -1,162 +1,529 @@
-//! The whole cluster, and its steps.
-ghost use Rattle.std.specs.Prelude.{◌≡◌, length, IfOk, IfErr, Err};
+//! The cluster, step by step.
+ghost use Rattle.std.specs.Prelude.{◌≡◌, ◌⊎◌, ◌≤◌, ◌+◌, ℕ, nat_eq, Some, None, [], length, option_map, IsTrue, IfOk, IfErr, OnOk};
+ghost use Rattle.std.specs.List.{IsDistinct};
 ghost use Rattle.crdt_core.specs.declared.memory.Memory.TheVariants.{Want, Full};
-ghost use Rattle.cluster_model.specs.declared.step.Step.{Step};
-ghost use Rattle.cluster_model.specs.World.{World as Model, empty, is_member, undelivered};
+ghost use Rattle.layout_history.specs.Known.{has_members};
+ghost use Rattle.layout_size.specs.Answers.{IsRedundancy};
+ghost use Rattle.table_model.specs.Rows.{rows};
+ghost use Rattle.table_model.specs.Top.{any_unspelled};
+ghost use Rattle.node_parts.specs.Begins.{IsShort};
+ghost use Rattle.node_parts.specs.Layouts.{layouts};
+ghost use Rattle.cluster_machine.specs.declared.step.Step.TheVariants as step;
+ghost use Rattle.cluster_machine.specs.declared.step.Words.TheVariants.{Empty};
+ghost use Rattle.cluster_machine.specs.Step.{told};
+ghost use Rattle.cluster_machine.specs.World.{clock, is_member_at, undelivered, sent_bytes, node_line, forget_delivered, empty};
+ghost use Rattle.world_model.specs.Worlds.{Model, IsMeant, installed};
+ghost use Rattle.world_core.specs.Nodes.{shown_line, newest_in};
+ghost use Rattle.world_core.specs.Stands.{SendsOut, CannotSend, acts_so, local_so};
 
-use crate::cluster::{Cluster, place};
-use crate::post::Post;
+use crate::clocks::Clocks;
+use crate::decide::{Decided, decide};
+use crate::lines::push_synced;
+use crate::node_line::NodeLine;
+use crate::nodes::Nodes;
+use crate::post::{Post, send};
 use crate::report::Report;
-use cluster_model::{Line, Phase, Refusal, Step, Words};
-use crdt_core::{Crdt, List, Memory};
+use crate::requests::Requests;
+use crate::staging::{staged, trio_layout, with_trio};
+use cluster_machine::{Action, EndWord, LocalEnd, Step, Words};
+use crdt_core::{List, Memory};
+use layout_roles::{Kind, Layout, Redundancy, Roles, Zone};
+use node_core::Envelope;
 use std::alloc::Global;
+use table_schema::Schema;
+use wire_messages::{Phase, PhaseEnd};
+use world_model::{Line, Refusal, empty_world_is_sound, sound_worlds_stay_sound};
 
-/// A cluster of nodes that keep rows, in one process.
+/// How many layout versions may be applied.
+const MOST_VERSIONS: u32 = 100;
+
+/// The cluster. Nodes are numbered; those of a layout are 1 to 64.
 #[derive(Drop)]
-pub struct World<R> {
+pub struct World<S: Schema> {
+    nodes: Nodes<S>,
+    post: Post<S::Row>,
+    clocks: Clocks,
+    /// The staged roles and redundancy.
+    roles: Roles,
+    redundancy: Redundancy,
+    /// How many layout versions were applied.
+    applied: u32,
+    requests: Requests,
     alloc: Global,
-    is_applied: bool,
-    time: u64,
-    post: Post<R>,
-    cluster: Cluster<R>,
 }
 
-impl<R: Crdt> World<R> {
-    ghost use Rattle.world_core.specs.Stands.{StandsFor, Does, Overflows};
+impl<S: Schema> World<S> {
+    ghost use Rattle.world_core.specs.Stands.{StandsFor, IsWorld, Steps, Overflows, PlaysSo, ExceedsSo, Plays, Exceeds, Turns};
 
-    /// No version applied, time 0, nothing sent.
-    pub fn new(alloc: Global) -> World<R>
-        ensures { StandsFor R.join result empty }
+    /// A world without layout versions, messages and requests, at time 0. Any redundancy is wanted that there can be.
+    pub fn new(alloc: Global) -> Result<World<S>, Memory>
+        ensures stands { IfOk result (λ world. StandsFor S.Row.join S.words world empty) }
+        ensures want { IfErr result (λ e. e ≡ Want) }
     {
-        World {
-            alloc,
-            is_applied: false,
-            time: 0,
+        empty_world_is_sound::<S::Row>();
+        Ok(World {
+            nodes: Nodes::new(alloc),
             post: Post::new(alloc),
-            cluster: Cluster::new(alloc),
+            clocks: Clocks::new(),
+            roles: Roles {
+                list: List::new(alloc),
+            },
+            redundancy: Redundancy::Maximum,
+            applied: 0,
+            requests: Requests::new(alloc),
+            alloc,
+        })
+    }
+
+    /// Puts a first layout into the views of these nodes, each once. It counts as applied from then on.
+    pub fn install(&mut self, first: Layout, nodes: &[u8]) -> Result<(), Memory>
+        requires stands { IsWorld S.Row.join S.words self.old }
+        requires unused { (w : Model S.Row) → StandsFor S.Row.join S.words self.old w → w.applied ≡ 0 }
+        requires version { first.version ≡ 1 }
+        requires inhabited { IsTrue (has_members first) }
+        requires each_once { IsDistinct nat_eq nodes.now }
+        ensures installed { OnOk result (Turns S.Row.join S.words self.old self.new (λ w. installed w first nodes.now)) }
+        ensures want { IfErr result (λ e. e ≡ Want) }
+    {
+        sound_worlds_stay_sound::<S::Row>();
+        for node in nodes {
+            self.nodes.append(*node, first.copy()?)?;
         }
+        self.applied = 1;
+        Ok(())
     }
 
-    /// The node has a role in its newest layout version.
+    /// Whether the node has a role in its newest layout version.
     pub fn member(&self, node: u8) -> bool
-        ensures { (w : Model R) → StandsFor R.join self.now w → result ≡ is_member w node }
+        ensures { (w : Model S.Row) → StandsFor S.Row.join S.words self.now w → result ≡ is_member_at layouts w node }
     {
-        self.is_applied && (node == 1 || node == 2 || node == 3)
+        self.nodes.is_member(node)
     }
 
-    /// A node's clock, in milliseconds.
-    pub fn clock(&self, _node: u8) -> u64
-        ensures { (w : Model R) → StandsFor R.join self.now w → result ≡ w.time }
+    /// The node's clock, in milliseconds.
+    pub fn clock(&self, node: u8) -> u64
+        ensures { (w : Model S.Row) → StandsFor S.Row.join S.words self.now w → result ≡ clock w node }
     {
-        self.time
+        self.clocks.now(node)
     }
 
-    /// How many messages were ever sent.
+    /// How many messages were sent.
     pub fn sent(&self) -> u64
-        ensures { (w : Model R) → StandsFor R.join self.now w → result ≡ length w.messages }
+        ensures { (w : Model S.Row) → StandsFor S.Row.join S.words self.now w → result ≡ length w.messages }
     {
-        self.post.messages.len() as u64
+        self.post.sent()
     }
 
-    /// How many requests were ever opened.
-    pub fn requests(&self) -> u64
-        ensures { (w : Model R) → StandsFor R.join self.now w → result ≡ length w.requests }
+    /// How many bytes the messages count that were sent.
+    pub fn sent_bytes(&self) -> u64
+        ensures { (w : Model S.Row) → StandsFor S.Row.join S.words self.now w → sent_bytes S.words w.messages ≡ Some result }
     {
-        self.cluster.requests.len() as u64
+        self.post.bytes
     }
 
-    /// The least number of a message that wasn't delivered.
+    /// The least number of a message that was neither delivered nor lost.
     pub fn undelivered(&self) -> Option<u64>
-        ensures { (w : Model R) → StandsFor R.join self.now w → result ≡ undelivered w }
+        ensures { (w : Model S.Row) → StandsFor S.Row.join S.words self.now w → result ≡ undelivered w }
     {
-        self.post.delivered.first_number()
+        self.post.undelivered()
     }
 
-    /// One step. After an error the world is to be given up. A step of a request that isn't open changes
-    /// nothing.
-    pub fn step(&mut self, step: Step<R>) -> Result<Report<R>, Memory>
-        ensures does { IfOk result (λ report. Does R.join self.old self.new step report) }
-        ensures full { result ≡ Err Full → Overflows R.join self.old step }
+    /// How many requests began.
+    pub fn requests(&self) -> u64
+        ensures { (w : Model S.Row) → StandsFor S.Row.join S.words self.now w → result ≡ length w.requests }
+    {
+        self.requests.len()
+    }
+
+    /// What a node shows of itself, None where it knows no layout version.
+    pub fn node_line(&self, node: u8) -> Result<Option<NodeLine>, Memory>
+        ensures line { IfOk result (λ line. (w : Model S.Row) → StandsFor S.Row.join S.words self.now w → option_map shown_line line ≡ node_line S.Row.join S.words layouts w node) }
+        ensures causes { IfErr result (λ e. (e ≡ Want) ⊎ ((e ≡ Full) × ((w : Model S.Row) → StandsFor S.Row.join S.words self.now w → IsTrue (any_unspelled S.words (rows S.Row.join S.words (w.nodes node).accepted))))) }
+    {
+        let line = self.nodes.line(node)?;
+        Ok(line)
+    }
+
+    /// From here on a delivered message counts as lost, and takes no room.
+    pub fn forget_delivered(&mut self)
+        requires stands { IsWorld S.Row.join S.words self.old }
+        ensures { Turns S.Row.join S.words self.old self.new (λ w. forget_delivered w) }
+    {
+        self.post.forget_delivered();
+    }
+
+    /// One atomic change of the world. A refused step changes nothing.
+    pub fn step(&mut self, step: Step<S::Row>) -> Result<Report<S::Row>, Memory>
+        requires stands { IsWorld S.Row.join S.words self.old }
+        requires meant { IsMeant step }
+        ensures steps { IfOk result (λ report. Steps S.Row.join S.words self.old self.new report step) }
+        ensures causes { IfErr result (λ e. (e ≡ Want) ⊎ ((e ≡ Full) × Overflows S.Row.join S.words self.old step)) }
     {
         match step {
-            Step::Trio => Ok(self.trio()),
+            Step::Trio => self.trio(),
+            Step::Role { node, role } => self.stage(node, role),
+            Step::Redundancy(wanted) => self.spread(wanted),
+            Step::Apply(node) => self.apply(node),
             Step::Tick(ms) => self.tick(ms),
+            Step::Skew { node, ms } => self.skew(node, ms),
             Step::Deliver(message) => self.deliver(message),
+            Step::Lose(message) => self.lose(message),
+            Step::Expire(request) => self.expire(request),
+            Step::Restart(node) => self.restart(node),
+            Step::Gossip { from, to } => self.gossip(from, to),
+            Step::Ack(node) => self.local(node, Action::Ack),
+            Step::Sync(node) => self.local(node, Action::Sync),
+            Step::SyncAck(node) => self.local(node, Action::SyncAck),
+            Step::Clean(node) => self.local(node, Action::Clean),
+            Step::Work(node) => self.local(node, Action::Work),
+            Step::Repair(node) => self.repair(node),
             Step::Open(node) => self.open(node),
-            Step::Phase(request, phase) => self.begin(request, phase),
-            Step::Close(request) => Ok(self.close(request)),
+            Step::Phase(request, phase) => self.phase(request, phase),
+            Step::Close(request) => self.close(request),
         }
     }
 
-    fn trio(&mut self) -> Report<R>
-        ensures { Does R.join self.old self.new Step.Trio result }
+    // Why a step is refused, and nothing else.
+    fn refused(&self, reason: Refusal) -> Report<S::Row>
+        ensures { result ≡ record { refused = Some reason; words = Empty; lines = []; ends = []; lost = [] } }
     {
-        if self.is_applied {
-            return Report::refusal(self.alloc, Refusal::VersionTaken(1));
+        Report {
+            refused: Some(reason),
+            words: Words::Empty,
+            lines: List::new(self.alloc),
+            ends: List::new(self.alloc),
+            lost: List::new(self.alloc),
         }
-        self.is_applied = true;
-        Report::nothing(self.alloc)
     }
 
-    fn tick(&mut self, ms: u64) -> Result<Report<R>, Memory>
-        ensures does { IfOk result (λ report. Does R.join self.old self.new (Step.Tick ms) report) }
-        ensures full { result ≡ Err Full → Overflows R.join self.old (Step.Tick ms) }
+    // What a step answers and tells.
+    fn told(&self, words: Words, lines: List<Line>) -> Report<S::Row>
+        ensures { result ≡ record { refused = None; words = words; lines = lines; ends = []; lost = [] } }
     {
-        match self.time.checked_add(ms) {
-            Some(time) => {
-                self.time = time;
-                Ok(Report::nothing(self.alloc))
+        Report {
+            refused: None,
+            words,
+            lines,
+            ends: List::new(self.alloc),
+            lost: List::new(self.alloc),
+        }
+    }
+
+    // A step that answers and tells nothing.
+    fn silent(&self) -> Report<S::Row>
+        ensures { result ≡ record { refused = None; words = Empty; lines = []; ends = []; lost = [] } }
+    {
+        self.told(Words::Empty, List::new(self.alloc))
+    }
+
+    // Nodes 1, 2 and 3 get their layout as version 1.
+    fn trio(&mut self) -> Result<Report<S::Row>, Memory>
+        requires stands { IsWorld S.Row.join S.words self.old }
+        ensures plays { IfOk result (λ report. Plays S.Row.join S.words self.old self.new report step.Trio) }
+        ensures want { IfErr result (λ e. e ≡ Want) }
+    {
+        sound_worlds_stay_sound::<S::Row>();
+        if self.applied >= 1 {
+            return Ok(self.refused(Refusal::VersionTaken(1)));
+        }
+        self.roles = with_trio(self.alloc, &self.roles)?;
+        let first = trio_layout(self.alloc)?;
+        self.nodes.append(1, first.copy()?)?;
+        self.nodes.append(2, first.copy()?)?;
+        self.nodes.append(3, first)?;
+        self.applied = 1;
+        Ok(self.silent())
+    }
+
+    fn stage(
+        &mut self,
+        node: u8,
+        role: Option<(Zone, Kind)>,
+    ) -> Result<Report<S::Row>, Memory>
+        requires low { 1 ≤ node }
+        requires high { node ≤ 64 }
+        ensures plays { IfOk result (λ report. Plays S.Row.join S.words self.old self.new report (step.Role node role)) }
+        ensures want { IfErr result (λ e. e ≡ Want) }
+    {
+        sound_worlds_stay_sound::<S::Row>();
+        self.roles = staged(self.alloc, &self.roles, node, role)?;
+        Ok(self.silent())
+    }
+
+    fn spread(&mut self, wanted: Redundancy) -> Result<Report<S::Row>, Memory>
+        requires { IsRedundancy wanted }
+        ensures plays { IfOk result (λ report. Plays S.Row.join S.words self.old self.new report (step.Redundancy wanted)) }
+        ensures want { IfErr result (λ e. e ≡ Want) }
+    {
+        sound_worlds_stay_sound::<S::Row>();
+        self.redundancy = wanted;
+        Ok(self.silent())
+    }
+
+    // Versions are applied one after the other, each once in the world.
+    fn apply(&mut self, node: u8) -> Result<Report<S::Row>, Memory>
+        requires stands { IsWorld S.Row.join S.words self.old }
+        ensures steps { IfOk result (λ report. Steps S.Row.join S.words self.old self.new report (step.Apply node)) }
+        ensures want { IfErr result (λ e. e ≡ Want) }
+    {
+        sound_worlds_stay_sound::<S::Row>();
+        if self.applied >= 1 && !self.nodes.is_member(node) {
+            return Ok(self.refused(Refusal::NotMember));
+        }
+        let newest = self.nodes.newest(node);
+        if newest < self.applied {
+            return Ok(self.refused(Refusal::VersionTaken(newest + 1)));
+        }
+        if self.applied >= MOST_VERSIONS {
+            return Ok(self.refused(Refusal::VersionLimit));
+        }
+        let version = newest + 1;
+        match decide(self.alloc, &self.roles, self.redundancy, version)? {
+            Decided::Refused(reason) => Ok(self.refused(reason)),
+            Decided::Given(layout, applied) => {
+                self.nodes.append(node, layout)?;
+                self.applied += 1;
+                let mut lines = List::new(self.alloc);
+                lines.push(Line::Layout(applied))?;
+                Ok(self.told(Words::One(u64::from(version)), lines))
             }
-            None => Err(Memory::Full),
         }
     }
 
-    fn open(&mut self, node: u8) -> Result<Report<R>, Memory>
-        ensures does { IfOk result (λ report. Does R.join self.old self.new (Step.Open node) report) }
-        ensures want { IfErr result (λ e. e ≡ Want) }
+    fn tick(&mut self, ms: u64) -> Result<Report<S::Row>, Memory>
+        ensures plays { IfOk result (λ report. Plays S.Row.join S.words self.old self.new report (step.Tick ms)) }
+        ensures causes { IfErr result (λ e. (e ≡ Full) × Exceeds S.Row.join S.words self.old (step.Tick ms)) }
     {
-        if !self.member(node) {
-            return Ok(Report::refusal(self.alloc, Refusal::NotMember));
-        }
-        self.cluster.open(node)?;
-        let number = self.cluster.requests.len() as u64;
-        Ok(Report::words(self.alloc, Words::One(number)))
+        sound_worlds_stay_sound::<S::Row>();
+        self.clocks.tick(ms)?;
+        Ok(self.silent())
     }
 
-    fn begin(&mut self, request: u64, phase: Phase<R>) -> Result<Report<R>, Memory>
-        ensures does { IfOk result (λ report. Does R.join self.old self.new (Step.Phase request phase) report) }
-        ensures full { result ≡ Err Full → Overflows R.join self.old (Step.Phase request phase) }
+    fn skew(&mut self, node: u8, ms: u64) -> Result<Report<S::Row>, Memory>
+        ensures plays { IfOk result (λ report. Plays S.Row.join S.words self.old self.new report (step.Skew node ms)) }
+        ensures causes { IfErr result (λ e. (e ≡ Full) × Exceeds S.Row.join S.words self.old (step.Skew node ms)) }
     {
-        let sends = self.cluster.begin(self.alloc, request, &phase)?;
-        let lines = self.post.send(self.alloc, sends)?;
-        Ok(Report::lines(self.alloc, lines))
+        sound_worlds_stay_sound::<S::Row>();
+        self.clocks.skew(node, ms)?;
+        Ok(self.silent())
     }
 
-    fn close(&mut self, request: u64) -> Report<R>
-        ensures { Does R.join self.old self.new (Step.Close request) result }
+    // A node sent messages; its own sync was this before.
+    fn tell(
+        &mut self,
+        node: u8,
+        before: u32,
+        out: Vec<Envelope<S::Row>>,
+        lines: &mut List<Line>,
+    ) -> Result<(), Memory>
+        ensures tells { OnOk result (SendsOut S.Row.join S.words self.old self.new node before out.items lines.old lines.new) }
+        ensures causes { IfErr result (λ e. (e ≡ Want) ⊎ ((e ≡ Full) × CannotSend S.words self.old out.items)) }
     {
-        self.cluster.close(request);
-        Report::nothing(self.alloc)
+        send::<S>(&mut self.post, self.alloc, out, lines)?;
+        push_synced(lines, node, before, self.nodes.synced(node))?;
+        Ok(())
     }
 
-    fn deliver(&mut self, message: u64) -> Result<Report<R>, Memory>
-        ensures does { IfOk result (λ report. Does R.join self.old self.new (Step.Deliver message) report) }
-        ensures want { IfErr result (λ e. e ≡ Want) }
+    fn deliver(&mut self, message: u64) -> Result<Report<S::Row>, Memory>
+        requires stands { IsWorld S.Row.join S.words self.old }
+        ensures plays { IfOk result (λ report. Plays S.Row.join S.words self.old self.new report (step.Deliver message)) }
+        ensures causes { IfErr result (λ e. (e ≡ Want) ⊎ ((e ≡ Full) × Exceeds S.Row.join S.words self.old (step.Deliver message))) }
     {
-        let Some(i) = place(message, self.post.messages.len()) else {
-            return Ok(Report::refusal(self.alloc, Refusal::NoSuchMessage));
+        sound_worlds_stay_sound::<S::Row>();
+        let envelope = match self.post.get(message) {
+            Ok(envelope) => envelope,
+            Err(reason) => return Ok(self.refused(reason)),
         };
-        let received = self.cluster.receive(self.alloc, &self.post.messages[i])?;
-        self.post.delivered.mark(i);
+        let node = envelope.to;
+        let before = self.nodes.synced(node);
+        let now = self.clocks.now(node);
+        let mut out = Vec::new(self.alloc);
+        let ended = self.nodes.receive(envelope, now, &mut out)?;
+        self.post.deliver(message);
         let mut lines = List::new(self.alloc);
         lines.push(Line::Got(message))?;
-        let mut sent = self.post.send(self.alloc, received.sends)?;
-        lines.append(&mut sent)?;
-        Ok(Report {
-            refused: None,
-            words: Words::Empty,
-            lines,
-            ends: received.ends,
-        })
+        self.tell(node, before, out, &mut lines)?;
+        let mut report = self.told(Words::Empty, lines);
+        if let Some(end) = ended {
+            report.ends.push(end)?;
+        }
+        Ok(report)
+    }
+
+    fn lose(&mut self, message: u64) -> Result<Report<S::Row>, Memory>
+        ensures plays { IfOk result (λ report. Plays S.Row.join S.words self.old self.new report (step.Lose message)) }
+        ensures want { IfErr result (λ e. e ≡ Want) }
+    {
+        sound_worlds_stay_sound::<S::Row>();
+        match self.post.get(message) {
+            Ok(_) => {
+                self.post.lose(message);
+                Ok(self.silent())
+            }
+            Err(reason) => Ok(self.refused(reason)),
+        }
+    }
+
+    // A request that is open ends without an answer.
+    fn expire(&mut self, request: u64) -> Result<Report<S::Row>, Memory>
+        ensures plays { IfOk result (λ report. Plays S.Row.join S.words self.old self.new report (step.Expire request)) }
+        ensures want { IfErr result (λ e. e ≡ Want) }
+    {
+        sound_worlds_stay_sound::<S::Row>();
+        let Some(found) = self.requests.get(request) else {
+            return Ok(self.refused(Refusal::NoSuchRequest));
+        };
+        if !found.is_open {
+            return Ok(self.refused(Refusal::AlreadyEnded));
+        }
+        self.nodes.close(found.coordinator, request);
+        self.requests.close(request);
+        let mut lines = List::new(self.alloc);
+        lines.push(Line::Ended {
+            request,
+            word: EndWord::Expired,
+        })?;
+        Ok(self.told(Words::Empty, lines))
+    }
+
+    fn restart(&mut self, node: u8) -> Result<Report<S::Row>, Memory>
+        ensures plays { IfOk result (λ report. Plays S.Row.join S.words self.old self.new report (step.Restart node)) }
+        ensures want { IfErr result (λ e. e ≡ Want) }
+    {
+        sound_worlds_stay_sound::<S::Row>();
+        let lost = self.nodes.restart(node)?;
+        self.requests.close_all(&lost);
+        let mut lines = List::new(self.alloc);
+        for request in &lost {
+            lines.push(Line::Ended {
+                request: *request,
+                word: EndWord::Restarted,
+            })?;
+        }
+        let mut report = self.told(Words::Empty, lines);
+        report.lost = List::from_vec(lost);
+        Ok(report)
+    }
+
+    // A node sends its view to another.
+    fn gossip(&mut self, from: u8, to: u8) -> Result<Report<S::Row>, Memory>
+        ensures plays { IfOk result (λ report. Plays S.Row.join S.words self.old self.new report (step.Gossip from to)) }
+        ensures causes { IfErr result (λ e. (e ≡ Want) ⊎ ((e ≡ Full) × Exceeds S.Row.join S.words self.old (step.Gossip from to))) }
+    {
+        sound_worlds_stay_sound::<S::Row>();
+        let packet = self.nodes.shown(from)?;
+        let mut out = Vec::new(self.alloc);
+        out.push(Envelope { from, to, packet })?;
+        let mut lines = List::new(self.alloc);
+        let before = self.nodes.synced(from);
+        self.tell(from, before, out, &mut lines)?;
+        Ok(self.told(Words::Empty, lines))
+    }
+
+    // A node does something by itself.
+    fn acts(&mut self, node: u8, action: Action) -> Result<Report<S::Row>, Memory>
+        requires has_version { 1 ≤ newest_in self.old.nodes node }
+        ensures plays { IfOk result (λ report. PlaysSo S.Row.join S.words self.old self.new report (acts_so S.Row.join S.words node action)) }
+        ensures causes { IfErr result (λ e. (e ≡ Want) ⊎ ((e ≡ Full) × ExceedsSo S.Row.join S.words self.old (acts_so S.Row.join S.words node action))) }
+    {
+        let before = self.nodes.synced(node);
+        let now = self.clocks.now(node);
+        let mut out = Vec::new(self.alloc);
+        let how = self.nodes.act(node, action, now, &mut out)?;
+        let mut lines = List::new(self.alloc);
+        self.tell(node, before, out, &mut lines)?;
+        Ok(self.told(words_of(how), lines))
+    }
+
+    // The same, unless the node knows no layout version.
+    fn local(&mut self, node: u8, action: Action) -> Result<Report<S::Row>, Memory>
+        ensures plays { IfOk result (λ report. PlaysSo S.Row.join S.words self.old self.new report (local_so S.Row.join S.words node action)) }
+        ensures causes { IfErr result (λ e. (e ≡ Want) ⊎ ((e ≡ Full) × ExceedsSo S.Row.join S.words self.old (local_so S.Row.join S.words node action))) }
+    {
+        sound_worlds_stay_sound::<S::Row>();
+        if self.nodes.newest(node) == 0 {
+            return Ok(self.refused(Refusal::NotMember));
+        }
+        let report = self.acts(node, action)?;
+        Ok(report)
+    }
+
+    fn repair(&mut self, node: u8) -> Result<Report<S::Row>, Memory>
+        ensures plays { IfOk result (λ report. Plays S.Row.join S.words self.old self.new report (step.Repair node)) }
+        ensures causes { IfErr result (λ e. (e ≡ Want) ⊎ ((e ≡ Full) × Exceeds S.Row.join S.words self.old (step.Repair node))) }
+    {
+        sound_worlds_stay_sound::<S::Row>();
+        if self.nodes.newest(node) == 0 || !self.nodes.is_member(node) {
+            return Ok(self.refused(Refusal::NotMember));
+        }
+        let report = self.acts(node, Action::Repair)?;
+        Ok(report)
+    }
+
+    // A request begins at a node, its coordinator.
+    fn open(&mut self, node: u8) -> Result<Report<S::Row>, Memory>
+        ensures plays { IfOk result (λ report. Plays S.Row.join S.words self.old self.new report (step.Open node)) }
+        ensures want { IfErr result (λ e. e ≡ Want) }
+    {
+        sound_worlds_stay_sound::<S::Row>();
+        let request = self.requests.len() + 1;
+        if !self.nodes.open(node, request)? {
+            return Ok(self.refused(Refusal::NotMember));
+        }
+        let number = self.requests.begin(node)?;
+        Ok(self.told(Words::One(number), List::new(self.alloc)))
+    }
+
+    // A phase of an open request begins at its coordinator.
+    fn phase(
+        &mut self,
+        request: u64,
+        phase: Phase<S::Row>,
+    ) -> Result<Report<S::Row>, Memory>
+        requires short { IsShort phase }
+        ensures plays { IfOk result (λ report. Plays S.Row.join S.words self.old self.new report (step.Phase request phase)) }
+        ensures causes { IfErr result (λ e. (e ≡ Want) ⊎ ((e ≡ Full) × Exceeds S.Row.join S.words self.old (step.Phase request phase))) }
+    {
+        sound_worlds_stay_sound::<S::Row>();
+        let Some(found) = self.requests.get(request) else {
+            return Ok(self.silent());
+        };
+        if !found.is_open {
+            return Ok(self.silent());
+        }
+        let node = found.coordinator;
+        let before = self.nodes.synced(node);
+        let mut out = Vec::new(self.alloc);
+        self.nodes.phase(node, request, phase, &mut out)?;
+        let mut lines = List::new(self.alloc);
+        self.tell(node, before, out, &mut lines)?;
+        Ok(self.told(Words::Empty, lines))
+    }
+
+    // A request that has its answer ends.
+    fn close(&mut self, request: u64) -> Result<Report<S::Row>, Memory>
+        ensures plays { IfOk result (λ report. Plays S.Row.join S.words self.old self.new report (step.Close request)) }
+        ensures want { IfErr result (λ e. e ≡ Want) }
+    {
+        sound_worlds_stay_sound::<S::Row>();
+        if let Some(found) = self.requests.get(request) {
+            if found.is_open {
+                self.nodes.close(found.coordinator, request);
+                self.requests.close(request);
+            }
+        }
+        Ok(self.silent())
+    }
+}
+
+// What an action answers.
+fn words_of(how: LocalEnd) -> Words
+    ensures { result ≡ told how }
+{
+    match how {
+        LocalEnd::At(version) => Words::One(u64::from(version)),
+        LocalEnd::Idle { read, ack_least } => Words::Idle(read, ack_least),
+        LocalEnd::Worked { rows, blocks } => Words::Two(rows, blocks),
+        LocalEnd::Repaired => Words::Empty,
     }
 }

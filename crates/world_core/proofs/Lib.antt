@@ -1,6 +1,0 @@
-mod FirstMark
-mod RowsAt
-mod Following
-mod Handling
-mod Sending
-mod Worlds

@@ -1,0 +1,139 @@
+-- When the parts of the code stand for those of a world of the machine.
+use Rattle.std.specs.Prelude.{◌≡◌, ◌<◌, ◌≤◌, ◌+◌, ◌^◌, ℕ, suc, Bool, true, false, not, ◌&&◌, Option, Some, None, is_some, is_none, List, [], ◌∷◌, ◌++◌, length, map, slice_get, slice_index_or, Result, Ok, Err, ⊤}
+use Rattle.std.specs.List.{AllZip}
+use Rattle.layout_roles.specs.declared.layout.Layout.{Layout}
+use Rattle.layout_roles.specs.declared.roles.Roles.{Roles}
+use Rattle.layout_flow.specs.declared.cut.Cut.{Cut}
+use Rattle.layout_size.specs.declared.certified.Certified.{Certified}
+use Rattle.table_schema.specs.Words.{Words}
+use Rattle.cluster_machine.specs.declared.line.SentKind.{SentKind}
+use Rattle.cluster_machine.specs.declared.line.Line.TheVariants.{Sent as WasSent}
+use Rattle.cluster_machine.specs.declared.step.Refusal.{Refusal}
+use Rattle.cluster_machine.specs.declared.step.Refusal.TheVariants.{NoSuchMessage, Lost}
+use Rattle.cluster_machine.specs.World as machine
+use Rattle.cluster_machine.specs.World.{Sent, Mark, numbered, packet_size, sent_bytes}
+use Rattle.cluster_machine.specs.Step.{Choice, given, none_given, kind_of as kind_told}
+use Rattle.cluster_machine.specs.declared.line.Line.{Line}
+use Rattle.node_parts.specs.declared.packet.Packet.{Packet}
+use Rattle.node_parts.specs.declared.packet.Envelope.{Envelope}
+use Rattle.node_parts.specs.Posts.{told}
+use Rattle.world_model.specs.declared.applied.Applied.{Applied}
+use Rattle.world_model.specs.Choices.{Decision}
+use Rattle.world_core.specs.declared.clocks.Clocks.{Clocks}
+use Rattle.world_core.specs.declared.requests.Request.{Request}
+use Rattle.world_core.specs.declared.post.Slot.{Slot}
+use Rattle.world_core.specs.declared.post.Post.{Post}
+use Rattle.world_core.specs.declared.decide.Decided.{Decided}
+use Rattle.world_core.specs.declared.decide.Decided.TheVariants.{Given, Refused}
+
+-- ---- requests
+
+abbrev pub asked : Request → machine.Request
+asked r = record { coordinator = r.coordinator; is_open = r.is_open }
+
+-- ---- clocks
+
+-- every clock is a u64
+abbrev pub NoneLate : ℕ → (ℕ → ℕ) → Type 0
+NoneLate time skew_of = (time < 2 ^ 64) × ((n : ℕ) → time + skew_of n < 2 ^ 64)
+
+pub record AreClocks (c : Clocks) (time : ℕ) (skew_of : ℕ → ℕ) : Type 0 where
+  pub time_is : c.time ≡ time
+  pub skews : (n : ℕ) → slice_index_or c.skews n 0 ≡ skew_of n
+  pub none_late : NoneLate time skew_of
+
+-- ---- layouts
+
+abbrev pub decision : Decided → Decision
+decision (Given l shown) = given l shown
+decision (Refused refusal) = none_given refusal
+
+-- a layout with this assignment is given
+abbrev pub IsGiven : Roles → ℕ → Certified → Decision → Type 0
+IsGiven roles version certified (given l shown) = (l ≡ record { version = version; roles = roles; r = certified.r; size = certified.size; sets = certified.sets }) × (shown ≡ record { certified = certified; roles = roles })
+IsGiven roles version certified (none_given refusal) = ⊥
+
+-- ---- messages
+
+module _ {R : Type 0} where
+  abbrev pub kind_of : Packet R → SentKind
+  kind_of packet = kind_told (told packet)
+
+  -- a line for each message, the first of which has this number
+  abbrev pub lines_from : ℕ → List (Envelope R) → List (Line Applied)
+  lines_from number [] = []
+  lines_from number (e ∷ es) = WasSent number (kind_of e.packet) e.from e.to ∷ lines_from (suc number) es
+
+  pub record IsSent (e : Envelope R) (m : Sent R Layout) : Type 0 where
+    pub from : e.from ≡ m.from
+    pub to : e.to ≡ m.to
+    pub packet : told e.packet ≡ m.packet
+
+  abbrev pub AreSent : List (Envelope R) → List (Sent R Layout) → Type 0
+  AreSent es ms = AllZip IsSent es ms
+
+  abbrev pub mark_of : Slot R → Mark
+  mark_of slot = record { is_delivered = slot.is_delivered; is_lost = is_none slot.envelope }
+
+  abbrev pub is_waiting : Slot R → Bool
+  is_waiting slot = not slot.is_delivered && is_some slot.envelope
+
+  -- a message that wasn't lost is held
+  abbrev pub IsHeldIn : Option (Envelope R) → Sent R Layout → Type 0
+  IsHeldIn None m = ⊤
+  IsHeldIn (Some e) m = IsSent e m
+
+  abbrev pub IsHeld : Slot R → Sent R Layout → Type 0
+  IsHeld slot m = IsHeldIn slot.envelope m
+
+  -- none of the first n messages waits
+  abbrev pub AreGone : List (Slot R) → ℕ → Type 0
+  AreGone slots n = (i : ℕ) (slot : Slot R) → i < n → slice_get slots i ≡ Some slot → is_waiting slot ≡ false
+
+  -- the first n messages are lost
+  abbrev pub AreLost : List (Slot R) → ℕ → Type 0
+  AreLost slots n = (i : ℕ) (slot : Slot R) → i < n → slice_get slots i ≡ Some slot → slot.envelope ≡ None
+
+  -- the first message that waits stands here, or none waits and this is the end
+  pub record IsFirst (slots : List (Slot R)) (n : ℕ) : Type 0 where
+    pub within : n ≤ length slots
+    pub before : AreGone slots n
+    pub here : (slot : Slot R) → slice_get slots n ≡ Some slot → is_waiting slot ≡ true
+
+  pub record IsPost (s : Words R) (post : Post R) (messages : List (Sent R Layout)) (marks : List Mark) : Type 0 where
+    pub marks_are : map mark_of post.slots.items ≡ marks
+    pub held : AllZip IsHeld post.slots.items messages
+    pub first : IsFirst post.slots.items post.first
+    pub kept : post.kept ≤ post.first
+    pub lost : AreLost post.slots.items post.kept
+    pub bytes : sent_bytes s messages ≡ Some post.bytes
+    pub few : length messages < 2 ^ 64
+    pub small : post.bytes < 2 ^ 64
+
+  -- messages that were just sent
+  abbrev pub not_yet : List (Sent R Layout) → List Mark
+  not_yet sent = map (λ m. record { is_delivered = false; is_lost = false }) sent
+
+  abbrev pub packet_bytes : Words R → Packet R → Option ℕ
+  packet_bytes s packet = packet_size s (told packet)
+
+  -- the message with this number, which wasn't lost; or why there is none
+  pub record IsFound (number : ℕ) (messages : List (Sent R Layout)) (marks : List Mark) (e : Envelope R) : Type 0 where
+    pub message : Sent R Layout
+    pub mark : Mark
+    pub is_there : numbered messages number ≡ Some message
+    pub is_marked : numbered marks number ≡ Some mark
+    pub not_lost : mark.is_lost ≡ false
+    pub is : IsSent e message
+
+  pub record IsLost (number : ℕ) (messages : List (Sent R Layout)) (marks : List Mark) : Type 0 where
+    pub message : Sent R Layout
+    pub mark : Mark
+    pub is_there : numbered messages number ≡ Some message
+    pub is_marked : numbered marks number ≡ Some mark
+    pub lost : mark.is_lost ≡ true
+
+  abbrev pub IsMissing : ℕ → List (Sent R Layout) → List Mark → Refusal Cut → Type 0
+  IsMissing number messages marks NoSuchMessage = numbered messages number ≡ None
+  IsMissing number messages marks Lost = IsLost number messages marks
+  IsMissing number messages marks _ = ⊥

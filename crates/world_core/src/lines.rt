@@ -1,0 +1,49 @@
+//! The kind of a message, and the line of a sync.
+ghost use Rattle.std.specs.Prelude.{◌≡◌, ◌++◌, [], ◌∷◌, cond, leb, OnOk, IfErr};
+ghost use Rattle.crdt_core.specs.declared.memory.Memory.TheVariants.{Want};
+ghost use Rattle.cluster_machine.specs.declared.line.Line.TheVariants.{Synced};
+ghost use Rattle.world_core.specs.Parts.{kind_of};
+
+use cluster_machine::SentKind;
+use crdt_core::{List, Memory};
+use node_core::Packet;
+use wire_messages::Message;
+use world_model::Line;
+
+/// The kind of a packet.
+pub fn kind<R>(packet: &Packet<R>) -> SentKind
+    ensures { result ≡ kind_of packet.now }
+{
+    match packet {
+        Packet::View(_) => SentKind::View,
+        Packet::Msg(message) => match message {
+            Message::Get { .. } => SentKind::Get,
+            Message::Row { .. } => SentKind::Row,
+            Message::Range { .. } => SentKind::Range,
+            Message::Rows { .. } => SentKind::Rows,
+            Message::Store { .. } => SentKind::Store,
+            Message::Stored(_) => SentKind::Stored,
+            Message::Behind(_, _) => SentKind::Behind,
+            Message::NotHere(_) => SentKind::NotHere,
+            Message::BlockGet { .. } => SentKind::BlockGet,
+            Message::Block { .. } => SentKind::Block,
+            Message::NoBlock { .. } => SentKind::NoBlock,
+        },
+    }
+}
+
+/// Says that a node raised its own sync, where it rose.
+pub fn push_synced(
+    lines: &mut List<Line>,
+    node: u8,
+    before: u32,
+    after: u32,
+) -> Result<(), Memory>
+    ensures pushed { OnOk result (lines.new ≡ lines.old ++ cond (leb after before) [] (Synced node after ∷ [])) }
+    ensures want { IfErr result (λ e. e ≡ Want) }
+{
+    if before < after {
+        lines.push(Line::Synced(node, after))?;
+    }
+    Ok(())
+}

@@ -1,0 +1,4 @@
+pub mod Trio
+pub mod Choices
+pub mod Fits
+pub mod Worlds

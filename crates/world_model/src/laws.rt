@@ -1,0 +1,32 @@
+//! What holds of computed layouts and of each world of a run. No body does anything: each is called for its contract.
+ghost use Rattle.std.specs.Prelude.{◌≡◌, ◌≤◌, ℕ, List};
+ghost use Rattle.layout_roles.specs.declared.role.Role.{Role};
+ghost use Rattle.layout_roles.specs.declared.redundancy.Redundancy.{Redundancy};
+ghost use Rattle.layout_roles.specs.declared.layout.Layout.{Layout};
+ghost use Rattle.table_schema.specs.Words.{Words};
+ghost use Rattle.cluster_machine.specs.World.{empty};
+ghost use Rattle.cluster_machine.specs.Run.{IsLayout};
+ghost use Rattle.node_parts.specs.Layouts.{layouts};
+ghost use Rattle.world_model.specs.declared.applied.Applied.{Applied};
+ghost use Rattle.world_model.specs.Trio.{trio};
+ghost use Rattle.world_model.specs.Choices.{IsBest};
+ghost use Rattle.world_model.specs.Worlds.{Model, Doing, IsLawful, IsMeant, next, installed, IsSound};
+
+/// Each layout that an apply may be given has for each partition three different nodes that keep copies, and so has
+/// the first one.
+pub fn computed_layouts_are_layouts()
+    ensures computed { (roles : List Role) (wanted : Redundancy) (version : ℕ) (l : Layout) (shown : Applied) → 1 ≤ version → IsBest roles wanted version l shown → IsLayout layouts 256 l }
+    ensures first { IsLayout layouts 256 trio }
+{}
+
+/// The empty world is sound.
+pub fn empty_world_is_sound<R>()
+    ensures { IsSound (empty {R = R} {L = Layout}) }
+{}
+
+/// A sound world stays sound: no node knows of a version that was not applied, nobody has a block, and open requests have
+/// numbers that were given.
+pub fn sound_worlds_stay_sound<R>()
+    ensures stepped { (join : R → R → R) (s : Words R) (w : Model R) (m : Doing R) → IsSound w → IsMeant m.step → IsLawful w m → IsSound (next join s w m) }
+    ensures installed { (w : Model R) (first : Layout) (nodes : List ℕ) → IsSound w → w.applied ≡ 0 → first.version ≡ 1 → IsSound (installed w first nodes) }
+{}
