@@ -1,0 +1,2 @@
+pub mod FollowingCalls
+pub mod FollowingSteps

@@ -23,7 +23,7 @@ ghost use Rattle.cluster_machine.specs.Acts.{acts};
 ghost use Rattle.cluster_machine.specs.World.{empty};
 ghost use Rattle.cluster_machine.specs.Run.{Move, IsLayout, IsRun, run};
 ghost use Rattle.machine_origins.specs.Origins.{IsInherited, IsOf, Gave};
-ghost use Rattle.machine_origins.specs.Following.{Follows, Begins};
+ghost use Rattle.machine_origins.specs.Following.{AreDifferent, Follows, Begins};
 
 /// In every run of the cluster's machine each read and range phase that ended gave only rows with a property that
 /// merges inherit, where every store phase stored only such rows; a read phase gave a row of its table and key.
@@ -36,8 +36,8 @@ pub fn every_read_gives_stored_rows<R, L, A, C>()
 
 /// What a node's open requests are in after a message came, after an action, and after a phase of one began.
 pub fn phases_follow<R, L>()
-    ensures received { (join : R → R → R) (s : Words R) (k : Layouts L) (id now from : ℕ) (x : Node R L) (packet : Packet R L) → Follows x (receives join s k id now x from packet) }
+    ensures received { (join : R → R → R) (s : Words R) (k : Layouts L) (id now from : ℕ) (x : Node R L) (packet : Packet R L) → AreDifferent x.calls → Follows x (receives join s k id now x from packet) }
     ensures acted { (join : R → R → R) (s : Words R) (k : Layouts L) (id now : ℕ) (x : Node R L) (action : Action) → Follows x (acts join s k id now x action).did }
     ensures begun { (s : Words R) (k : Layouts L) (kept : List R) (x : Node R L) (request : ℕ) (c : Call R) (phase : Phase R) →
-        call_at x.calls request ≡ Option.Some c → Begins kept x c phase (begins s k kept x c phase) }
+        AreDifferent x.calls → call_at x.calls request ≡ Option.Some c → Begins kept x c phase (begins s k kept x c phase) }
 {}
