@@ -1,10 +1,11 @@
 -- A step keeps a node's newest version and its requests' numbers, leaves it without blocks, and sends none.
-use Rattle.std.specs.Prelude.{◌≡◌, ◌⊎◌, ◌≤◌, ℕ, suc, Bool, true, false, cond, ◌||◌, ◌==◌, leb, map, List, [], ◌∷◌, ◌++◌, Option, Some, None, refl, ⊤}
+use Rattle.std.specs.Prelude.{◌≡◌, ◌⊎◌, ◌≤◌, ◌<◌, ℕ, suc, Bool, true, false, cond, ◌||◌, ◌==◌, leb, map, List, [], ◌∷◌, ◌++◌, Option, Some, None, refl, ⊤}
 use Rattle.std.specs.List.{All, AllByRecursion, filter, flat_map}
-use Rattle.std.proofs.Common.{ap, sym, subst, ◌∙◌, inl, inr}
+use Rattle.std.proofs.Common.{ap, sym, subst, ◌∙◌, inl, inr, arith}
 use Rattle.std.proofs.lemmas.Bool.{eq-eqb}
 use Rattle.std.proofs.lemmas.List.Elements.{All-nil, All-cons, All-head, All-tail, All-map}
 use Rattle.view_model.specs.View.{View, last_version, oldest, newest, cleaned}
+use Rattle.control_model.specs.Facts.{Has}
 use Rattle.table_schema.specs.Words.{Words, partition_of}
 use Rattle.wire_messages.specs.declared.message.Message.{Message}
 use Rattle.wire_messages.specs.declared.message.Message.TheVariants.{Store}
@@ -12,7 +13,7 @@ use Rattle.wire_messages.specs.declared.message.Tag.TheVariants.{Call as ForCall
 use Rattle.cluster_machine.specs.Layouts.{Layouts, stored_sets}
 use Rattle.cluster_machine.specs.Node.{Call, Present, Node, Part, Block, Round, Did, quiet}
 use Rattle.cluster_machine.specs.Rows.{accepts_read, accepts_all, blocks_after, still, drops, sees}
-use Rattle.cluster_machine.specs.Phases.{nodes_of, to_each, with_call, calls_now, bytes_of, stores}
+use Rattle.cluster_machine.specs.Phases.{nodes_of, to_each, with_call, without_call, calls_now, bytes_of, stores}
 use Rattle.cluster_machine.specs.Rounds.{is_complete, rows_at, found, with_its_block, pushes_rows, pushes, synced, goes_on}
 use Rattle.machine_origins.specs.Following.{AreDifferent}
 use Rattle.machine_origins.specs.Keeping.{IsBare, AreBare, IsBareMessage, ArePosts, AreUpTo}
@@ -60,6 +61,33 @@ module _ {R : Type 0} where
 
   pub stay_different : (old new : List (Call R)) → AtMostOneChanges old new → AreDifferent old → AreDifferent new
   stay_different old new h differ = elim h [ inl e ↦ subst AreDifferent (sym e) differ | inr e ↦ subst AreDifferent (sym e.1) (differ_with e.0 old differ) ]
+
+has_filter : {A : Type 0} (passes : A → Bool) (xs : List A) (x : A) → Has (filter passes xs) x → Has xs x
+has_filter passes [] x h = h
+has_filter passes (y ∷ xs) x h =
+    elim (passes y) as (λ b. Has (cond b (y ∷ filter passes xs) (filter passes xs)) x → Has (y ∷ xs) x) [
+      | true ↦ (λ g. elim g [ inl e ↦ inl e | inr more ↦ inr (has_filter passes xs x more) ])
+      | false ↦ (λ g. inr (has_filter passes xs x g))
+    ] h
+
+module _ {R : Type 0} where
+  up_to_has : (n : ℕ) (calls : List (Call R)) (c : Call R) → AreUpTo n calls → Has calls c → c.request ≤ n
+  up_to_has n [] c a h = absurd h
+  up_to_has n (d ∷ calls) c a h = elim h [
+    | inl e ↦ subst (λ (z : Call R). z.request ≤ n) e (All-head (λ z. z.request ≤ n) d calls a)
+    | inr more ↦ up_to_has n calls c (All-tail (λ z. z.request ≤ n) d calls a) more
+  ]
+
+  pub different_opened : (n : ℕ) (new : Call R) (calls : List (Call R)) → AreUpTo n calls → n < new.request → AreDifferent calls → AreDifferent (new ∷ calls)
+  different_opened n new calls a above differ d e at_d at_e same =
+      let late : (c : Call R) → Has calls c → new.request ≡ c.request → ⊥ = (λ c h is. let low = up_to_has n calls c a h in omega arith) in
+      elim at_d [
+        | inl is ↦ elim at_e [ inl also ↦ sym is ∙ also | inr h ↦ absurd (late e h (ap (λ (z : Call R). z.request) is ∙ same)) ]
+        | inr h ↦ elim at_e [ inl also ↦ absurd (late d h (ap (λ (z : Call R). z.request) also ∙ sym same)) | inr g ↦ differ d e h g same ]
+      ]
+
+  pub different_closed : (request : ℕ) (calls : List (Call R)) → AreDifferent calls → AreDifferent (without_call request calls)
+  different_closed request calls differ d e at_d at_e same = differ d e (has_filter _ calls d at_d) (has_filter _ calls e at_e) same
 
 module _ {R L : Type 0} (k : Layouts L) where
   -- from x to y, where B holds

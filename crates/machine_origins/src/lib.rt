@@ -9,7 +9,7 @@
 //! `R` is what a row is, `L` what a layout is, `A` what is printed of one, `C` what shows that there is none.
 #![tactic(auto)]
 
-ghost use Rattle.std.specs.Prelude.{◌≡◌, ◌≤◌, ℕ, IsTrue, List, [], Option};
+ghost use Rattle.std.specs.Prelude.{◌≡◌, ◌≤◌, ◌<◌, ℕ, IsTrue, List, [], Option};
 ghost use Rattle.std.specs.List.{All, Contains};
 ghost use Rattle.layout_roles.specs.declared.role.Role.{Role};
 ghost use Rattle.table_schema.specs.Words.{Words};
@@ -18,7 +18,7 @@ ghost use Rattle.wire_messages.specs.declared.phase.Phase.{Phase};
 ghost use Rattle.cluster_machine.specs.declared.step.Action.{Action};
 ghost use Rattle.cluster_machine.specs.Layouts.{Layouts};
 ghost use Rattle.cluster_machine.specs.Node.{Node, Call, Packet, Reading};
-ghost use Rattle.cluster_machine.specs.Phases.{begins, call_at};
+ghost use Rattle.cluster_machine.specs.Phases.{begins, call_at, opened, closed};
 ghost use Rattle.cluster_machine.specs.Receives.{receives};
 ghost use Rattle.cluster_machine.specs.Acts.{acts};
 ghost use Rattle.cluster_machine.specs.World.{empty};
@@ -46,7 +46,8 @@ pub fn phases_follow<R, L>()
 {}
 
 /// After a message came, after an action, and after a phase began: a node without blocks sent none and is still without;
-/// its newest version and its requests' numbers are still at most a number, and no two of its requests have one number.
+/// its newest version and its requests' numbers are still at most a number, and no two of its requests have one number,
+/// nor have they after one was opened or closed.
 pub fn handlers_keep<R, L>()
     ensures received_posts { (join : R → R → R) (s : Words R) (k : Layouts L) (id now from : ℕ) (x : Node R L) (packet : Packet R L) → x.blocks ≡ [] → ArePosts (receives join s k id now x from packet).posts }
     ensures received_versions { (join : R → R → R) (s : Words R) (k : Layouts L) (id now from : ℕ) (x : Node R L) (packet : Packet R L) (n : ℕ) →
@@ -64,4 +65,6 @@ pub fn handlers_keep<R, L>()
     ensures begun_requests { (s : Words R) (k : Layouts L) (kept : List R) (x : Node R L) (c : Call R) (phase : Phase R) (n : ℕ) → AreUpTo n x.calls → AreUpTo n (begins s k kept x c phase).node.calls }
     ensures begun_different { (s : Words R) (k : Layouts L) (kept : List R) (x : Node R L) (c : Call R) (phase : Phase R) → AreDifferent x.calls → AreDifferent (begins s k kept x c phase).node.calls }
     ensures begun_without_blocks { (s : Words R) (k : Layouts L) (kept : List R) (x : Node R L) (c : Call R) (phase : Phase R) → x.blocks ≡ [] → (begins s k kept x c phase).node.blocks ≡ [] }
+    ensures opened_different { (request start : ℕ) (x : Node R L) (n : ℕ) → AreUpTo n x.calls → n < request → AreDifferent x.calls → AreDifferent (opened request start x).calls }
+    ensures closed_different { (request : ℕ) (x : Node R L) → AreDifferent x.calls → AreDifferent (closed request x).calls }
 {}

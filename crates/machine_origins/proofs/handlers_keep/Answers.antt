@@ -1,7 +1,8 @@
 use Rattle.std.specs.Prelude.{◌≤◌}
 use Rattle.std.proofs.Common.{sym, subst}
-use Rattle.machine_origins.proofs.KeepingNodes.{stay_up_to, stay_different}
+use Rattle.machine_origins.proofs.KeepingNodes.{stay_up_to, stay_different, different_opened, different_closed}
 use Rattle.machine_origins.proofs.KeepingSteps.{posts_received, newest_received, calls_received, blocks_received, keeps_acts, stays_begins, bare_begins}
+use Rattle.cluster_machine.specs.Node.{resting}
 use Rattle.machine_origins.proofs.handlers_keep.Goals as goal
 
 pub returns-clause-received_posts : goal.returns-clause-received_posts
@@ -48,3 +49,9 @@ returns-clause-begun_different g c s k kept x call phase = stay_different x.call
 
 pub returns-clause-begun_without_blocks : goal.returns-clause-begun_without_blocks
 returns-clause-begun_without_blocks g c s k kept x call phase = (stays_begins s k kept x call phase).blocks tt
+
+pub returns-clause-opened_different : goal.returns-clause-opened_different
+returns-clause-opened_different g c request start x n = different_opened n (record { request = request; start = start; phases = 0; present = resting }) x.calls
+
+pub returns-clause-closed_different : goal.returns-clause-closed_different
+returns-clause-closed_different g c request x = different_closed request x.calls
