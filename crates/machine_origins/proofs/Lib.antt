@@ -1,0 +1,4 @@
+pub mod FollowingCalls
+pub mod FollowingSteps
+pub mod KeepingNodes
+pub mod KeepingSteps
