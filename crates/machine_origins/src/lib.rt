@@ -23,19 +23,9 @@ ghost use Rattle.cluster_machine.specs.Receives.{receives};
 ghost use Rattle.cluster_machine.specs.Acts.{acts};
 ghost use Rattle.cluster_machine.specs.World.{empty};
 ghost use Rattle.cluster_machine.specs.Run.{Move, IsLayout, IsRun, run};
-ghost use Rattle.machine_origins.specs.Origins.{IsInherited, IsOf, Gave};
 ghost use Rattle.view_model.specs.View.{is_gapless, newest};
 ghost use Rattle.machine_origins.specs.Following.{AreDifferent, Follows, Begins};
 ghost use Rattle.machine_origins.specs.Keeping.{IsBarePacket, IsBarePhase, ArePosts, IsUpTo, AreUpTo};
-
-/// In every run of the cluster's machine each read and range phase that ended gave only rows with a property that
-/// merges inherit, where every store phase stored only such rows; a read phase gave a row of its table and key.
-pub fn every_read_gives_stored_rows<R, L, A, C>()
-    ensures { (join : R → R → R) (s : Words R) (k : Layouts L) (trio : L) (trio_roles : List Role → List Role) (partitions : ℕ) (moves : List (Move R L A C)) (P : R → Type 0) →
-        Laws join s → 1 ≤ partitions → IsLayout k partitions trio → k.reading.version trio ≡ 1 → IsRun join s k trio trio_roles partitions empty moves →
-        IsInherited join s P → All (λ m. IsOf P m.step) moves →
-        (r : Reading R) → Contains (run join s k trio trio_roles empty moves).reads r → Gave s P r }
-{}
 
 /// What a node's open requests are in after a message came, after an action, and after a phase of one began.
 pub fn phases_follow<R, L>()

@@ -18,7 +18,7 @@ trio_role node letter = record { node = node; zone = zone letter; kind = Storage
 abbrev pub trio_roles : List Role
 trio_roles = trio_role 1 97 ∷ trio_role 2 98 ∷ trio_role 3 99 ∷ []
 
-pub trio_sets : List (List ℕ)
+abbrev pub trio_sets : List (List ℕ)
 trio_sets = replicate 256 (1 ∷ 2 ∷ 3 ∷ [])
 
 abbrev pub trio : Layout

@@ -1,22 +1,22 @@
 -- Worlds with the layouts of the code: a step, which steps are lawful, lawful runs, and what every world of a run keeps.
-use Rattle.std.specs.Prelude.{◌≡◌, ◌≤◌, ℕ, suc, Bool, true, not, ◌&&◌, leb, cond, IsTrue, Option, Some, None, List, [], ◌∷◌, length, ⊤}
-use Rattle.std.specs.List.{All, AllByRecursion}
+use Rattle.std.specs.Prelude.{◌≡◌, ◌≤◌, ℕ, suc, Bool, not, ◌&&◌, leb, cond, IsTrue, List, [], ◌∷◌, length, ⊤}
+use Rattle.std.specs.List.{AllByRecursion}
 use Rattle.layout_roles.specs.declared.layout.Layout.{Layout}
 use Rattle.layout_history.specs.Known.{reading}
 use Rattle.layout_size.specs.Answers.{IsRedundancy}
 use Rattle.layout_flow.specs.declared.cut.Cut.{Cut}
-use Rattle.view_model.specs.View.{newest}
+use Rattle.view_model.specs.View.{newest, is_gapless}
 use Rattle.table_schema.specs.Words.{Words}
 use Rattle.quorum_model.specs.Quorum.{is_among}
-use Rattle.wire_messages.specs.declared.message.Message.{Message}
-use Rattle.wire_messages.specs.declared.message.Message.TheVariants.{Store}
 use Rattle.cluster_machine.specs.declared.step.Step.{Step}
 use Rattle.cluster_machine.specs.declared.step.Step.TheVariants.{Role as Stage, Redundancy as Spread, Apply, Phase as Begin}
-use Rattle.cluster_machine.specs.Node.{Call, Node, Packet, says, shows}
+use Rattle.cluster_machine.specs.Node.{Packet}
 use Rattle.cluster_machine.specs.Acts.{appends}
 use Rattle.cluster_machine.specs.World.{World, Sent, is_member_at}
 use Rattle.cluster_machine.specs.Step.{most_versions, Effects, effects, applied}
 use Rattle.cluster_machine.specs.Run.{Move, IsStep}
+use Rattle.machine_origins.specs.Following.{AreDifferent}
+use Rattle.machine_origins.specs.Keeping.{IsBarePacket, IsUpTo, AreUpTo}
 use Rattle.node_parts.specs.Layouts.{layouts}
 use Rattle.node_parts.specs.Begins.{IsShort}
 use Rattle.world_model.specs.declared.applied.Applied.{Applied}
@@ -62,22 +62,18 @@ module _ {R : Type 0} where
   abbrev pub installed : Model R → Layout → List ℕ → Model R
   installed w first nodes = record w { nodes = λ n. cond (is_among n nodes) (appends layouts (w.nodes n) first) (w.nodes n); applied = 1 }
 
-  -- a store comes without blocks
-  abbrev pub IsBare : Message R → Type 0
-  IsBare (Store tag newest p rows) = All (λ r. r.1 ≡ None) rows
-  IsBare _ = ⊤
-
-  -- a message comes without blocks, and a view knows no version above this one
+  -- a message comes without blocks, and a view without a gap, with no version above this one
   abbrev pub IsUsual : ℕ → Packet R Layout → Type 0
-  IsUsual version (says m) = IsBare m
-  IsUsual version (shows v) = newest reading v ≤ version
+  IsUsual version packet = IsBarePacket packet × IsUpTo layouts version packet
 
-  -- no node and no view on its way knows of a version that was not applied, blocks are nowhere, and the numbers of open requests were given
+  -- no node and no view on its way knows of a version that was not applied, blocks are nowhere, and the numbers of open requests were given, each once
   pub record IsSound (w : Model R) : Type 0 where
     pub versions : (n : ℕ) → newest_at w n ≤ w.applied
+    pub gapless : (n : ℕ) → IsTrue (is_gapless reading (w.nodes n).view.layouts)
     pub messages : AllByRecursion (λ (m : Sent R Layout). IsUsual w.applied m.packet) w.messages
     pub blocks : (n : ℕ) → (w.nodes n).blocks ≡ []
-    pub requests : (n : ℕ) → All (λ (c : Call R). c.request ≤ length w.requests) (w.nodes n).calls
+    pub requests : (n : ℕ) → AreUpTo (length w.requests) (w.nodes n).calls
+    pub different : (n : ℕ) → AreDifferent (w.nodes n).calls
 
 module _ {R : Type 0} (join : R → R → R) (s : Words R) where
   abbrev pub does : Model R → Doing R → Done R
