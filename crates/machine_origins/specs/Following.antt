@@ -28,7 +28,7 @@ pub record Continues {R : Type 0} (old : List (Call R)) (c : Call R) : Type 0 wh
 -- a phase like this one ends so, with these rows kept and these reads made
 abbrev pub EndsSo : {R : Type 0} → Present R → PhaseEnd R → List R → List (Reading R) → Type 0
 EndsSo (asking q answers) (GaveRow value) keeps reads = (keeps ≡ []) × (reads ≡ read q value ∷ [])
-EndsSo (scanning q answers) (GaveWindow w) keeps reads = (keeps ≡ []) × (reads ≡ scanned q w.rows w.end ∷ [])
+EndsSo (scanning q answers) (GaveWindow rows end) keeps reads = (keeps ≡ []) × (reads ≡ scanned q rows end ∷ [])
 EndsSo (storing rows slots) IsKept keeps reads = (keeps ≡ rows) × (reads ≡ [])
 EndsSo fetching (GaveBlock bytes) keeps reads = (keeps ≡ []) × (reads ≡ [])
 EndsSo _ _ keeps reads = ⊥

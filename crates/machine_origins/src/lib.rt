@@ -1,15 +1,15 @@
 //! Where the rows come from that reads give, and what becomes of open requests in a step. No body does anything: each is
 //! called for its contract.
 //!
-//! `every_read_gives_stored_rows` says that a property of rows that merging keeps, and that every row has which a store
-//! phase stores, every row has that a read gives; and that a read phase gives a row of the table and key that it asked
+//! `every_read_gives_stored_rows` says that each row that a read gives comes from rows that store phases began to store,
+//! by merges and by what changes call for; and that a read phase gives a row of the table and key that it asked
 //! for. `phases_follow` says of what a node does which of its requests' phases go on and which end.
 //!
 //! `R` is what a row is, `L` what a layout is, `A` what is printed of one, `C` what shows that there is none.
 #![tactic(auto)]
 
 ghost use Rattle.std.specs.Prelude.{◌≡◌, ◌≤◌, ℕ, List, Option};
-ghost use Rattle.std.specs.List.{All, Contains};
+ghost use Rattle.std.specs.List.{Contains};
 ghost use Rattle.layout_roles.specs.declared.role.Role.{Role};
 ghost use Rattle.table_schema.specs.Words.{Words};
 ghost use Rattle.table_schema.specs.Laws.{Laws};
@@ -22,16 +22,16 @@ ghost use Rattle.cluster_machine.specs.Receives.{receives};
 ghost use Rattle.cluster_machine.specs.Acts.{acts};
 ghost use Rattle.cluster_machine.specs.World.{empty};
 ghost use Rattle.cluster_machine.specs.Run.{Move, IsLayout, IsRun, run};
-ghost use Rattle.machine_origins.specs.Origins.{IsInherited, IsOf, Gave};
+ghost use Rattle.machine_origins.specs.Origins.{stored_in, ComesFrom, Gave};
 ghost use Rattle.machine_origins.specs.Following.{Follows, Begins};
 
-/// In every run of the cluster's machine each read and range phase that ended gave only rows with a property that
-/// merges inherit, where every store phase stored only such rows; a read phase gave a row of its table and key.
+/// In every run of the cluster's machine each row that a read or range phase gave comes from rows that store phases
+/// began to store; a read phase gave a row of its table and key. What holds of all stored rows, and of merges and what
+/// changes call for where it held before, so holds of each row that was given (`gave_by_origin`).
 pub fn every_read_gives_stored_rows<R, L, A, C>()
-    ensures { (join : R → R → R) (s : Words R) (k : Layouts L) (trio : L) (trio_roles : List Role → List Role) (partitions : ℕ) (moves : List (Move R L A C)) (P : R → Type 0) →
+    ensures { (join : R → R → R) (s : Words R) (k : Layouts L) (trio : L) (trio_roles : List Role → List Role) (partitions : ℕ) (moves : List (Move R L A C)) →
         Laws join s → 1 ≤ partitions → IsLayout k partitions trio → k.reading.version trio ≡ 1 → IsRun join s k trio trio_roles partitions empty moves →
-        IsInherited join s P → All (λ m. IsOf P m.step) moves →
-        (r : Reading R) → Contains (run join s k trio trio_roles empty moves).reads r → Gave s P r }
+        (r : Reading R) → Contains (run join s k trio trio_roles empty moves).reads r → Gave s (ComesFrom join s (stored_in moves)) r }
 {}
 
 /// What a node's open requests are in after a message came, after an action, and after a phase of one began.
