@@ -1,25 +1,31 @@
 -- Nodes that accept rows, queue those that changes call for, and drop rows.
-use Rattle.std.specs.Prelude.{◌≡◌, ℕ, suc, Bool, true, false, cond, leb, Option, Some, None, List, [], ◌∷◌, ◌++◌, refl}
+use Rattle.std.specs.Prelude.{◌≡◌, ℕ, suc, true, false, cond, leb, Option, Some, None, List, [], ◌∷◌, refl}
 use Rattle.std.specs.List.{Contains, AllByRecursion}
 use Rattle.std.proofs.lemmas.List.Elements.{All-weaker, All-contains_itself, recursion_from_All}
+use Rattle.std.proofs.Common.{subst}
+use Rattle.std.proofs.lemmas.Cmp.{tied_itself}
+use Rattle.crdt_core.specs.Order.{option_join}
 use Rattle.view_model.specs.View.{View, oldest}
 use Rattle.table_schema.specs.Words.{Words, partition_of}
-use Rattle.table_model.specs.Rows.{row_at}
+use Rattle.table_model.specs.Rows.{place, row_at}
+use Rattle.table_model.specs.RowLaws.{place_total}
 use Rattle.cluster_machine.specs.Layouts.{Layouts, is_given}
 use Rattle.cluster_machine.specs.Node.{Item, Node}
 use Rattle.cluster_machine.specs.Rows.{still, called_for, queue_from, accepts, accepts_read, accepts_all, drops, sees}
 use Rattle.machine_origins.proofs.Lists.{all_append, all_filter}
-use Rattle.machine_origins.proofs.Good.{IsGood, IsFound, Rules, row_found}
+use Rattle.machine_origins.proofs.Good.{IsGood, IsAt, IsFound, Rules, same_at, row_found}
 use Rattle.machine_origins.proofs.Sound.{Asks, ReadsTo, IsNode}
 
 module _ {R : Type 0} {join : R → R → R} {s : Words R} {P : R → Type 0} (rules : Rules join s P) where
-  -- a change between rows with the property calls for rows with the property
-  called_has : (table : ℕ) (key : List ℕ) (old new : Option R) → IsFound s P table key old → IsFound s P table key new → AllByRecursion P (called_for join s old new)
-  called_has table key None new p q = tt
-  called_has table key (Some old) None p q = tt
-  called_has table key (Some old) (Some new) p q =
-      let rs = s.triggered old new in
-      recursion_from_All P rs (All-weaker (Contains rs) P (λ row c. rules.handed_on.called_for old new row p.good.has q.good.has c) rs (All-contains_itself rs))
+  -- a merge of rows with the property calls for rows with the property
+  called_has : (table : ℕ) (key : List ℕ) (old : Option R) (r : R) → IsFound s P table key old → IsAt s P table key r → AllByRecursion P (called_for join s old (option_join join old (Some r)))
+  called_has table key None r p q = tt
+  called_has table key (Some old) r p q =
+      let rs = s.triggered old (join old r) in
+      recursion_from_All P rs (All-weaker (Contains rs) P (λ row c. rules.called_for old r row (same_at rules table key old r p q) p.good.has q.good.has c) rs (All-contains_itself rs))
+
+  row_after : (r : R) (older : List R) → option_join join (row_at join s older (s.table r) (s.key r)) (Some r) ≡ row_at join s (r ∷ older) (s.table r) (s.key r)
+  row_after r older = rw (tied_itself place_total (place s r)) refl
 
   queued_have : (number : ℕ) (rs : List R) → AllByRecursion P rs → AllByRecursion (λ (item : Item R). P item.row) (queue_from join s number rs)
   queued_have number [] a = tt
@@ -28,14 +34,13 @@ module _ {R : Type 0} {join : R → R → R} {s : Words R} {P : R → Type 0} (r
   module _ {L : Type 0} (g : Asks) (count n : ℕ) where
     accepts_node : (now : ℕ) (x : Node R L) (r : R) (given : Option (List ℕ)) → IsGood s P r → IsNode s P g count n x → IsNode s P g count n (accepts join s now x r given)
     accepts_node now x r given good i =
-        let table = s.table r in
-        let key = s.key r in
-        let before = row_at join s x.accepted table key in
-        let after = row_at join s (r ∷ x.accepted) table key in
+        let before = row_at join s x.accepted (s.table r) (s.key r) in
+        let after = row_at join s (r ∷ x.accepted) (s.table r) (s.key r) in
         record {
           accepted = (good, i.accepted);
           items = all_append (λ (item : Item R). P item.row) x.items (queue_from join s x.queued (called_for join s before after)) i.items
-              (queued_have x.queued (called_for join s before after) (called_has table key before after (row_found rules x.accepted table key i.accepted) (row_found rules (r ∷ x.accepted) table key (good, i.accepted))));
+              (queued_have x.queued (called_for join s before after) (subst (λ o. AllByRecursion P (called_for join s before o)) (row_after r x.accepted)
+              (called_has (s.table r) (s.key r) before r (row_found rules x.accepted (s.table r) (s.key r) i.accepted) (record { good = good; table_is = refl; key_is = refl }))));
           calls = i.calls;
         }
 

@@ -1,15 +1,15 @@
 -- A phase of an open request begins: where it is a read phase, what it asks for is known from then on.
 use Rattle.std.specs.Prelude.{◌≡◌, ◌≢◌, ◌≤◌, ◌<◌, ℕ, suc, true, Option, Some, None, List, [], ◌∷◌, map, refl}
 use Rattle.std.specs.List.{AllByRecursion}
-use Rattle.std.proofs.Common.{ap, sym, subst, ◌∙◌, arith}
+use Rattle.std.proofs.Common.{ap, sym, ◌∙◌, arith}
 use Rattle.table_schema.specs.Words.{Words, partition_at}
 use Rattle.view_model.specs.View.{read_version}
 use Rattle.wire_messages.specs.declared.message.Message.TheVariants.{Get, Range, BlockGet}
 use Rattle.wire_messages.specs.declared.phase.Phase.{Phase}
 use Rattle.wire_messages.specs.declared.phase.Phase.TheVariants.{Read, Range as Scans, Store as Keeps, Block as Fetches}
 use Rattle.cluster_machine.specs.Layouts.{Layouts, set_at}
-use Rattle.cluster_machine.specs.Node.{asking, scanning, storing, fetching, Call, Node, Did}
-use Rattle.cluster_machine.specs.Phases.{calls_now, slots_of, begins}
+use Rattle.cluster_machine.specs.Node.{asking, scanning, storing, fetching, Call, Node}
+use Rattle.cluster_machine.specs.Phases.{begins}
 use Rattle.machine_origins.specs.Origins.{stored_by}
 use Rattle.machine_origins.proofs.Lists.{set_at as put_at, set_here, set_there, set_all}
 use Rattle.machine_origins.proofs.Good.{Rules}

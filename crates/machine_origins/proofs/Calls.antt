@@ -1,27 +1,22 @@
 -- Open requests: what a phase gets, how it ends, and how the next one begins.
-use Rattle.std.specs.Prelude.{◌≡◌, ◌≢◌, ◌≤◌, ◌<◌, ℕ, suc, Bool, true, false, cond, ◌==◌, Option, Some, None, List, [], ◌∷◌, ◌++◌, refl}
+use Rattle.std.specs.Prelude.{◌≡◌, ◌≢◌, ◌≤◌, ℕ, Bool, true, false, cond, ◌==◌, Option, Some, None, List, [], ◌∷◌, ◌++◌, refl}
 use Rattle.std.specs.Option.{unwrap_or}
-use Rattle.std.specs.List.{AllByRecursion, list_all}
+use Rattle.std.specs.List.{AllByRecursion}
 use Rattle.std.proofs.Common.{ap, sym, subst, ◌∙◌, arith}
 use Rattle.std.proofs.lemmas.Bool.{eqb-true, eqb-false}
-use Rattle.std.proofs.lemmas.List.Elements.{All-from_recursion}
-use Rattle.table_schema.specs.Words.{Words, partition_at}
+use Rattle.table_schema.specs.Words.{Words}
 use Rattle.view_model.specs.View.{read_version}
-use Rattle.quorum_model.specs.Quorum.{StoreSlot, is_kept, with_confirmation}
+use Rattle.quorum_model.specs.Quorum.{is_kept, with_confirmation}
 use Rattle.quorum_model.specs.Answers.{first_two_at, merged}
 use Rattle.quorum_model.specs.declared.range.RangeAnswer.{RangeAnswer}
-use Rattle.quorum_model.specs.Window.{window}
-use Rattle.wire_messages.specs.declared.message.Message.TheVariants.{Get, Row, Range, BlockGet}
-use Rattle.wire_messages.specs.declared.phase.Phase.{Phase}
-use Rattle.wire_messages.specs.declared.phase.Phase.TheVariants.{Read, Range as Scans, Store as Keeps, Block as Fetches}
-use Rattle.cluster_machine.specs.Layouts.{Layouts, set_at}
-use Rattle.cluster_machine.specs.Node.{Question, Scan, Present, resting, asking, scanning, storing, fetching, Call, Node, Reading, read, Did, quiet}
-use Rattle.cluster_machine.specs.Phases.{call_at, with_call, calls_now, asked, looked, stored, is_spelled, begins, merged_at, value_after, row_came, window_at, rows_came, stored_came, block_came, at_call}
-use Rattle.machine_origins.specs.Origins.{Gave, stored_by}
-use Rattle.machine_origins.proofs.Lists.{all_append, all_found, set_at as put_at, set_here, set_there, set_all}
-use Rattle.machine_origins.proofs.Good.{IsGood, IsAt, IsFound, IsObject, Rules, found_joined, window_has, two_have}
-use Rattle.machine_origins.proofs.Sound.{Asks, Grows, IsMessage, IsPresent, IsCall, IsNode, IsDone, call_stays}
-use Rattle.machine_origins.proofs.Sending.{each_post, stores_posts}
+use Rattle.wire_messages.specs.declared.message.Message.TheVariants.{Row}
+use Rattle.cluster_machine.specs.Layouts.{Layouts}
+use Rattle.cluster_machine.specs.Node.{Question, Scan, Present, resting, asking, scanning, storing, fetching, Call, Node, read, quiet}
+use Rattle.cluster_machine.specs.Phases.{with_call, calls_now, asked, looked, stored, merged_at, row_came, window_at, rows_came, stored_came, block_came}
+use Rattle.machine_origins.specs.Origins.{Gave}
+use Rattle.machine_origins.proofs.Lists.{all_append}
+use Rattle.machine_origins.proofs.Good.{IsFound, IsObject, Rules, found_joined, window_has, two_have}
+use Rattle.machine_origins.proofs.Sound.{Asks, IsMessage, IsPresent, IsCall, IsNode, IsDone, call_stays}
 
 module _ {R : Type 0} (P Q : Call R → Type 0) (c : Call R) (here : (d : Call R) → P d → d.request ≡ c.request → Q (record d { phases = c.phases; present = c.present })) (others : (d : Call R) → P d → d.request ≢ c.request → Q d) where
   all_with_call : (cs : List (Call R)) → AllByRecursion P cs → AllByRecursion Q (with_call c cs)

@@ -1,5 +1,5 @@
 -- Rows with a property that merges and changes hand on: what a node has at a key, its rows in order, what it answers, and windows.
-use Rattle.std.specs.Prelude.{◌≡◌, ℕ, Bool, true, false, cond, ◌==◌, take, List, [], ◌∷◌, ◌++◌, Option, Some, None, is_some, option_map, map, filter, IsTrue, All, refl, ⊤}
+use Rattle.std.specs.Prelude.{◌≡◌, ℕ, true, false, cond, ◌==◌, List, [], ◌∷◌, ◌++◌, Option, Some, None, is_some, option_map, filter, IsTrue, All, refl, ⊤}
 use Rattle.std.specs.Option.{unwrap_or}
 use Rattle.std.specs.List.{AllByRecursion, Contains}
 use Rattle.std.specs.declared.cmp.Ordering.{Ordering}
@@ -16,10 +16,9 @@ use Rattle.table_model.specs.RowLaws.{place_identical, joins}
 use Rattle.quorum_model.specs.Quorum.{is_among}
 use Rattle.quorum_model.specs.Answers.{heard, answer_of_other, first_two, first_two_at}
 use Rattle.quorum_model.specs.declared.range.RangeAnswer.{RangeAnswer}
-use Rattle.quorum_model.specs.Window.{key_cmp, keyed, is_within, end_of, both_rows, window}
+use Rattle.quorum_model.specs.Window.{keyed, is_within, end_of, both_rows, window}
 use Rattle.range_laws.proofs.Entries.{merged_has}
 use Rattle.range_laws.proofs.Shown.{asked_parts}
-use Rattle.machine_origins.specs.Origins.{IsInherited}
 use Rattle.machine_origins.proofs.Lists.{all_append, all_filter, all_take}
 
 module _ {R : Type 0} (s : Words R) (P : R → Type 0) where
@@ -43,10 +42,11 @@ module _ {R : Type 0} (s : Words R) (P : R → Type 0) where
   abbrev pub IsObject : R → Type 0
   IsObject r = IsAt 1 (s.key r) r
 
--- what is known of rows: the laws of their words, and that merges and changes hand the property on
+-- what is known of rows: the laws of their words, and that merges hand the property on, to the rows that they call for too
 pub record Rules {R : Type 0} (join : R → R → R) (s : Words R) (P : R → Type 0) : Type 0 where
   pub laws : Laws join s
-  pub handed_on : IsInherited join s P
+  pub joined : (a b : R) → Same s a b → P a → P b → P (join a b)
+  pub called_for : (old r row : R) → Same s old r → P old → P r → Contains (s.triggered old (join old r)) row → P row
 
 equal_is : (o : Ordering) → is_eq o ≡ true → o ≡ Equal
 equal_is Less e = cc
@@ -55,11 +55,14 @@ equal_is Greater e = cc
 
 module _ {R : Type 0} {join : R → R → R} {s : Words R} {P : R → Type 0} (rules : Rules join s P) where
   good_joined : (a b : R) → Same s a b → IsGood s P a → IsGood s P b → IsGood s P (join a b)
-  good_joined a b same p q = record { proper = rules.laws.joined_is_proper a b same; has = rules.handed_on.joined a b same p.has q.has }
+  good_joined a b same p q = record { proper = rules.laws.joined_is_proper a b same; has = rules.joined a b same p.has q.has }
+
+  pub same_at : (table : ℕ) (key : List ℕ) (a b : R) → IsAt s P table key a → IsAt s P table key b → Same s a b
+  same_at table key a b p q = record { first_proper = p.good.proper; second_proper = q.good.proper; table = p.table_is ∙ sym q.table_is; key = p.key_is ∙ sym q.key_is }
 
   joined_at : (table : ℕ) (key : List ℕ) (a b : R) → IsAt s P table key a → IsAt s P table key b → IsAt s P table key (join a b)
   joined_at table key a b p q =
-      let same : Same s a b = record { first_proper = p.good.proper; second_proper = q.good.proper; table = p.table_is ∙ sym q.table_is; key = p.key_is ∙ sym q.key_is } in
+      let same = same_at table key a b p q in
       record { good = good_joined a b same p.good q.good; table_is = rules.laws.joined_table a b same ∙ p.table_is; key_is = rules.laws.joined_key a b same ∙ p.key_is }
 
   pub found_joined : (table : ℕ) (key : List ℕ) (a b : Option R) → IsFound s P table key a → IsFound s P table key b → IsFound s P table key (option_join join a b)
@@ -115,8 +118,8 @@ module _ {R : Type 0} {join : R → R → R} {s : Words R} {P : R → Type 0} (r
       let Q : List ℕ × R → Type 0 = λ e. IsAt s P 1 e.0 e.1 in
       let shown = filter (λ (e : List ℕ × R). is_within (end_of s two) e.0) (both_rows join s two) in
       let fit : All Q shown = All-filter (λ e. is_within (end_of s two) e.0) Q (both_rows join s two)
-          (merged_has join Q (λ x y p q e. joined_at 1 x.0 x.1 y.1 p (subst (λ key. IsAt s P 1 key y.1) (sym (slice_identical nat_identical x.0 y.0 e)) q))
-          (keyed s two.0.rows) (keyed s two.1.rows) (keyed_all two.0.rows one) (keyed_all two.1.rows other)) in
+      (merged_has join Q (λ x y p q e. joined_at 1 x.0 x.1 y.1 p (subst (λ key. IsAt s P 1 key y.1) (sym (slice_identical nat_identical x.0 y.0 e)) q))
+      (keyed s two.0.rows) (keyed s two.1.rows) (keyed_all two.0.rows one) (keyed_all two.1.rows other)) in
       All-map P (λ (e : List ℕ × R). e.1) shown (All-weaker Q (λ e. P e.1) (λ e p. p.good.has) shown fit)
 
 -- ---- two of the answers to a phase

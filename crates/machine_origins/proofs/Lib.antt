@@ -5,3 +5,5 @@ pub mod Accepting
 pub mod Sending
 pub mod Calls
 pub mod Beginning
+pub mod Doing
+pub mod Steps

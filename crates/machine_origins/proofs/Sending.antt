@@ -1,5 +1,5 @@
 -- Rows that nodes send to be stored: those of store phases, of the outbox, of rounds and of repairs.
-use Rattle.std.specs.Prelude.{◌≡◌, ℕ, suc, Bool, true, false, ◌==◌, Option, Some, None, is_some, List, [], ◌∷◌, ◌++◌, map, refl}
+use Rattle.std.specs.Prelude.{◌≡◌, ℕ, suc, true, ◌==◌, Option, Some, None, is_some, List, [], ◌∷◌, ◌++◌, map, refl}
 use Rattle.std.specs.Option.{unwrap_or}
 use Rattle.std.specs.List.{AllByRecursion, list_all, flat_map}
 use Rattle.std.proofs.Common.{ap, sym, subst, ◌∙◌}
@@ -15,7 +15,7 @@ use Rattle.cluster_machine.specs.Node.{Item, Part, Node, Post}
 use Rattle.cluster_machine.specs.Phases.{nodes_of, to_each, spelled, bytes_of, is_spelled, stores}
 use Rattle.cluster_machine.specs.Rounds.{rows_at, with_its_block, pushes, pushes_rows, are_spelled}
 use Rattle.cluster_machine.specs.Acts.{item_posts}
-use Rattle.machine_origins.proofs.Lists.{all_append, all_filter, all_weaker}
+use Rattle.machine_origins.proofs.Lists.{all_append, all_filter}
 use Rattle.machine_origins.proofs.Good.{IsGood, Rules, rows_good}
 use Rattle.machine_origins.proofs.Sound.{Asks, ReadsTo, IsMessage, IsPacket}
 

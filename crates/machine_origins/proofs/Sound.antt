@@ -6,15 +6,14 @@ use Rattle.std.proofs.Common.{ap, sym, subst, ◌∙◌, arith}
 use Rattle.std.proofs.lemmas.List.{length-append}
 use Rattle.std.proofs.lemmas.Bool.{eqb-true, eqb-false}
 use Rattle.table_schema.specs.Words.{Words}
-use Rattle.quorum_model.specs.declared.range.RangeAnswer.{RangeAnswer}
 use Rattle.wire_messages.specs.declared.message.Message.{Message}
 use Rattle.wire_messages.specs.declared.message.Message.TheVariants.{Get, Row, Range, Rows, Store, Stored, Behind, NotHere, BlockGet, Block, NoBlock}
-use Rattle.cluster_machine.specs.Node.{Present, resting, asking, scanning, storing, fetching, Call, Item, Node, Packet, says, shows, Post, Did}
+use Rattle.cluster_machine.specs.Node.{Present, asking, scanning, Call, Item, Node, Packet, says, shows, Post, Did}
 use Rattle.cluster_machine.specs.World.{Sent, World}
 use Rattle.cluster_machine.specs.Step.{Effects, only, sent_by, did, applied, shut}
 use Rattle.machine_origins.specs.Origins.{Gave}
 use Rattle.machine_origins.proofs.Lists.{all_append, all_weaker, length_shut}
-use Rattle.machine_origins.proofs.Good.{IsGood, IsAt, IsFound, IsObject}
+use Rattle.machine_origins.proofs.Good.{IsGood, IsFound, IsObject}
 
 -- the table and key that a read phase asks for: of a node, a request of its, and a phase of that
 abbrev pub Asks : Type 0
@@ -121,7 +120,7 @@ module _ {R : Type 0} (s : Words R) (P : R → Type 0) where
     pub led : {A C : Type 0} (g : Asks) (w : World R L) (e : Effects R L A C) → IsSound g w → (l : Leads g w e) → IsSound l.asks (applied w e)
     led g w e sound l =
         let count : length (shut w.requests e.closes ++ e.opens) ≡ counted e.opens (length w.requests) =
-            length-append (shut w.requests e.closes) e.opens ∙ (ap (λ n. n + length e.opens) (length_shut w.requests e.closes) ∙ sym (counted_is e.opens (length w.requests))) in
+        length-append (shut w.requests e.closes) e.opens ∙ (ap (λ n. n + length e.opens) (length_shut w.requests e.closes) ∙ sym (counted_is e.opens (length w.requests))) in
         record {
           nodes = λ n. subst (λ i. IsNode l.asks i n (unwrap_or (e.nodes n) (w.nodes n))) (sym count) (l.nodes n);
           messages = all_append (IsSent l.asks) w.messages e.sends (all_weaker (IsSent g) (IsSent l.asks) (λ x i. packet_grows g l.asks l.grows x.from x.to x.packet i) w.messages sound.messages) l.sends;

@@ -2,7 +2,7 @@
 //! called for its contract.
 //!
 //! `every_read_gives_stored_rows` says that each row that a read gives comes from rows that store phases began to store,
-//! by merges and by what changes call for; and that a read phase gives a row of the table and key that it asked
+//! by merges and by what merges call for; and that a read phase gives a row of the table and key that it asked
 //! for. `phases_follow` says of what a node does which of its requests' phases go on and which end.
 //!
 //! `R` is what a row is, `L` what a layout is, `A` what is printed of one, `C` what shows that there is none.
@@ -26,11 +26,11 @@ ghost use Rattle.machine_origins.specs.Origins.{stored_in, ComesFrom, Gave};
 ghost use Rattle.machine_origins.specs.Following.{Follows, Begins};
 
 /// In every run of the cluster's machine each row that a read or range phase gave comes from rows that store phases
-/// began to store; a read phase gave a row of its table and key. What holds of all stored rows, and of merges and what
-/// changes call for where it held before, so holds of each row that was given (`gave_by_origin`).
+/// began to store; a read phase gave a row of its table and key. So a property that all stored rows have, and that
+/// merges hand on, each row has that was given (`gave_by_origin`).
 pub fn every_read_gives_stored_rows<R, L, A, C>()
     ensures { (join : R → R → R) (s : Words R) (k : Layouts L) (trio : L) (trio_roles : List Role → List Role) (partitions : ℕ) (moves : List (Move R L A C)) →
-        Laws join s → 1 ≤ partitions → IsLayout k partitions trio → k.reading.version trio ≡ 1 → IsRun join s k trio trio_roles partitions empty moves →
+        Laws join s → IsRun join s k trio trio_roles partitions empty moves →
         (r : Reading R) → Contains (run join s k trio trio_roles empty moves).reads r → Gave s (ComesFrom join s (stored_in moves)) r }
 {}
 
