@@ -2,11 +2,13 @@
 use Rattle.std.specs.Prelude.{◌≡◌, ◌≢◌, ◌≤◌, ◌<◌, ℕ, suc, true, Option, Some, None, List, [], ◌∷◌, map, refl}
 use Rattle.std.specs.List.{AllByRecursion}
 use Rattle.std.proofs.Common.{ap, sym, ◌∙◌, arith}
+use Rattle.blake2_hash.specs.declared.digest.Hash32.{Hash32}
 use Rattle.table_schema.specs.Words.{Words, partition_at}
 use Rattle.view_model.specs.View.{read_version}
 use Rattle.wire_messages.specs.declared.message.Message.TheVariants.{Get, Range, BlockGet}
 use Rattle.wire_messages.specs.declared.phase.Phase.{Phase}
 use Rattle.wire_messages.specs.declared.phase.Phase.TheVariants.{Read, Range as Scans, Store as Keeps, Block as Fetches}
+use Rattle.cluster_machine.specs.declared.step.Step.TheVariants.{Phase as Begin}
 use Rattle.cluster_machine.specs.Layouts.{Layouts, set_at}
 use Rattle.cluster_machine.specs.Node.{asking, scanning, storing, fetching, Call, Node}
 use Rattle.cluster_machine.specs.Phases.{begins}
@@ -63,7 +65,7 @@ module _ {R : Type 0} {join : R → R → R} {s : Words R} {P : R → Type 0} (r
   plainly : (phase : Phase R) → IsDone s P g count n (begins s k kept x c phase) → Began phase
   plainly phase done = record { asks = g; grows = λ m r p a e. e; elsewhere = λ m r p d. refl; later = λ r p late. refl; done = done }
 
-  read_begins : (table : ℕ) (position : Rattle.blake2_hash.specs.declared.digest.Hash32.Hash32) (key : List ℕ) → Began (Read table position key)
+  read_begins : (table : ℕ) (position : Hash32) (key : List ℕ) → Began (Read table position key)
   read_begins table position key =
       let phase = suc c.phases in
       let a : ℕ × List ℕ = (table, key) in
@@ -85,7 +87,7 @@ module _ {R : Type 0} {join : R → R → R} {s : Words R} {P : R → Type 0} (r
       }
 
   -- a phase begins that stores rows with the property only
-  pub phase_begins : (q : ℕ) (phase : Phase R) → AllByRecursion P (stored_by (Rattle.cluster_machine.specs.declared.step.Step.TheVariants.Phase q phase)) → (begins s k kept x c phase).is_spelled ≡ true → Began phase
+  pub phase_begins : (q : ℕ) (phase : Phase R) → AllByRecursion P (stored_by (Begin q phase)) → (begins s k kept x c phase).is_spelled ≡ true → Began phase
   phase_begins q (Read table position key) a e = read_begins table position key
   phase_begins q (Scans position prefix after) a e =
       plainly (Scans position prefix after) (record {

@@ -4,8 +4,8 @@ use Rattle.std.specs.Option.{unwrap_or}
 use Rattle.std.specs.List.{AllByRecursion}
 use Rattle.std.proofs.Common.{ap, sym, subst, ◌∙◌, arith}
 use Rattle.std.proofs.lemmas.Bool.{eqb-true, eqb-false}
+use Rattle.view_model.specs.View.{oldest}
 use Rattle.table_schema.specs.Words.{Words}
-use Rattle.view_model.specs.View.{read_version}
 use Rattle.quorum_model.specs.Quorum.{is_kept, with_confirmation}
 use Rattle.quorum_model.specs.Answers.{first_two_at, merged}
 use Rattle.quorum_model.specs.declared.range.RangeAnswer.{RangeAnswer}
@@ -58,7 +58,7 @@ module _ {R L : Type 0} (s : Words R) (P : R → Type 0) (count n : ℕ) where
     stored_done k slot from (scanning q as') = still g x i
     stored_done k slot from (storing rs slots) =
         let now = with_confirmation slots slot from in
-        elim (is_kept now (Rattle.view_model.specs.View.oldest k.reading x.view)) as (λ b. IsDone s P g count n (stored x c rs now b)) [
+        elim (is_kept now (oldest k.reading x.view)) as (λ b. IsDone s P g count n (stored x c rs now b)) [
           | true ↦ record { node = goes_on c.phases resting (omega arith) tt; posts = tt; reads = tt }
           | false ↦ stays_done (storing rs now) tt
         ]

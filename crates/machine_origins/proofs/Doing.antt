@@ -12,6 +12,7 @@ use Rattle.wire_messages.specs.declared.message.Tag.{Tag}
 use Rattle.wire_messages.specs.declared.message.Tag.TheVariants.{Call as ForCall, Round as ForRound, Item as ForItem}
 use Rattle.cluster_machine.specs.declared.step.Action.{Action}
 use Rattle.cluster_machine.specs.declared.step.Action.TheVariants.{Ack as RaiseAck, Sync as GoOn, SyncAck as RaiseSyncAck, Clean, Work, Repair}
+use Rattle.cluster_machine.specs.declared.step.LocalEnd.{LocalEnd}
 use Rattle.cluster_machine.specs.Layouts.{Layouts, is_given, is_stored}
 use Rattle.cluster_machine.specs.Node.{Call, Item, Part, Round, Node, Packet, says, shows, Did, quiet}
 use Rattle.cluster_machine.specs.Phases.{call_at, row_came, rows_came, stored_came, block_came, at_call}
@@ -42,9 +43,9 @@ module _ {R : Type 0} {join : R → R → R} {s : Words R} {P : R → Type 0} (r
 
   -- ---- a message comes
 
-  gives_found : (x : Node R L) (to request phase table : ℕ) (key : List ℕ) (row : Option R) → Sound x → g to request phase ≡ Some (table, key) → IsFound s P table key row → IsMessage s P g n to (Row request phase row)
-  gives_found x to request phase table key None i e f = tt
-  gives_found x to request phase table key (Some r) i e f = (subst (λ t. g to request phase ≡ Some (t, s.key r)) (sym f.table_is) (subst (λ q. g to request phase ≡ Some (table, q)) (sym f.key_is) e), f.good)
+  gives_found : (to request phase table : ℕ) (key : List ℕ) (row : Option R) → g to request phase ≡ Some (table, key) → IsFound s P table key row → IsMessage s P g n to (Row request phase row)
+  gives_found to request phase table key None e f = tt
+  gives_found to request phase table key (Some r) e f = (subst (λ t. g to request phase ≡ Some (t, s.key r)) (sym f.table_is) (subst (λ q. g to request phase ≡ Some (table, q)) (sym f.key_is) e), f.good)
 
   in_call : (x : Node R L) (request phase : ℕ) (f : Call R → Did R L) (o : Option (Call R)) → Sound x → call_at x.calls request ≡ o → ((c : Call R) → IsCall s P g count n c → c.request ≡ request → c.phases ≡ phase → Done (f c)) → Done (at_call x phase f o)
   in_call x request phase f None i e h = still s P count n g x i
@@ -97,7 +98,7 @@ module _ {R : Type 0} {join : R → R → R} {s : Words R} {P : R → Type 0} (r
   hears_done : (now : ℕ) (x : Node R L) (from : ℕ) (m : Message R) → Sound x → IsMessage s P g from n m → Done (hears join s k n now x from m)
   hears_done now x from (Get request phase at table key) i m =
       let row = row_at join s x.accepted table key in
-      here x from request phase at _ i (record { node = i; posts = (gives_found x from request phase table key row i m (row_found rules x.accepted table key i.accepted), tt); reads = tt })
+      here x from request phase at _ i (record { node = i; posts = (gives_found from request phase table key row m (row_found rules x.accepted table key i.accepted), tt); reads = tt })
   hears_done now x from (Row request phase row) i m =
       in_call x request phase (λ c. row_came join x c from row c.present) (call_at x.calls request) i refl
       (λ c is r p. row_done rules count n g x c i is from row c.present is.present (subst (λ q. IsMessage s P g from n (Row q c.phases row)) (sym r) (subst (λ q. IsMessage s P g from n (Row request q row)) (sym p) m)))
@@ -134,7 +135,7 @@ module _ {R : Type 0} {join : R → R → R} {s : Words R} {P : R → Type 0} (r
   syncs_done x (Some round) i e = record { node = i; posts = parts_posts rules k g n x round.number (open_nodes round) (open_parts round) i.accepted e; reads = tt }
   syncs_done x None i e = by_test (may_sync join s k n x.view) _ _ (begin_done x i) e
     where
-      by_test : (b : Bool) (how other : Rattle.cluster_machine.specs.declared.step.LocalEnd.LocalEnd) → ((begin_round join s k n x).is_spelled ≡ true → Done (begin_round join s k n x)) →
+      by_test : (b : Bool) (how other : LocalEnd) → ((begin_round join s k n x).is_spelled ≡ true → Done (begin_round join s k n x)) →
           (cond {A = Acted R L} b (record { did = begin_round join s k n x; how = how }) (record { did = quiet x; how = other })).did.is_spelled ≡ true → Done (cond {A = Acted R L} b (record { did = begin_round join s k n x; how = how }) (record { did = quiet x; how = other })).did
       by_test true how other h e = h e
       by_test false how other h e = still s P count n g x i

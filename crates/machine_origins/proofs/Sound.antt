@@ -155,7 +155,7 @@ module _ {R : Type 0} (s : Words R) (P : R → Type 0) where
       grows = up;
       nodes = one_changes h (length w.requests) n d.node w.nodes done.node (λ m e. node_stays g h (length w.requests) (length w.requests) m (w.nodes m) (omega arith) (λ request phase. same m request phase e) (sound.nodes m));
       sends = sent_done h w n d.posts done.posts;
-      later = λ m request phase late. set_later m request phase late;
+      later = set_later;
       reads = done.reads;
     }
       where
