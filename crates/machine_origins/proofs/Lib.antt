@@ -7,3 +7,7 @@ pub mod Calls
 pub mod Beginning
 pub mod Doing
 pub mod Steps
+pub mod FollowingCalls
+pub mod FollowingSteps
+pub mod KeepingNodes
+pub mod KeepingSteps
