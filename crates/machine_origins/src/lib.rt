@@ -8,7 +8,7 @@
 //! `R` is what a row is, `L` what a layout is, `A` what is printed of one, `C` what shows that there is none.
 #![tactic(auto)]
 
-ghost use Rattle.std.specs.Prelude.{◌≡◌, ◌≤◌, ℕ, List, Option};
+ghost use Rattle.std.specs.Prelude.{◌≡◌, ℕ, List, Option};
 ghost use Rattle.std.specs.List.{Contains};
 ghost use Rattle.layout_roles.specs.declared.role.Role.{Role};
 ghost use Rattle.table_schema.specs.Words.{Words};
@@ -21,7 +21,7 @@ ghost use Rattle.cluster_machine.specs.Phases.{begins, call_at};
 ghost use Rattle.cluster_machine.specs.Receives.{receives};
 ghost use Rattle.cluster_machine.specs.Acts.{acts};
 ghost use Rattle.cluster_machine.specs.World.{empty};
-ghost use Rattle.cluster_machine.specs.Run.{Move, IsLayout, IsRun, run};
+ghost use Rattle.cluster_machine.specs.Run.{Move, IsRun, run};
 ghost use Rattle.machine_origins.specs.Origins.{stored_in, ComesFrom, Gave};
 ghost use Rattle.machine_origins.specs.Following.{Follows, Begins};
 
