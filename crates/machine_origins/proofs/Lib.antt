@@ -1,3 +1,12 @@
+pub mod Lists
+pub mod Good
+pub mod Sound
+pub mod Accepting
+pub mod Sending
+pub mod Calls
+pub mod Beginning
+pub mod Doing
+pub mod Steps
 pub mod FollowingCalls
 pub mod FollowingSteps
 pub mod KeepingNodes

@@ -1,8 +1,8 @@
 //! Where the rows come from that reads give, and what becomes of open requests in a step. No body does anything: each is
 //! called for its contract.
 //!
-//! `every_read_gives_stored_rows` says that a property of rows that merging keeps, and that every row has which a store
-//! phase stores, every row has that a read gives; and that a read phase gives a row of the table and key that it asked
+//! `every_read_gives_stored_rows` says that each row that a read gives comes from rows that store phases began to store,
+//! by merges and by what merges call for; and that a read phase gives a row of the table and key that it asked
 //! for. `phases_follow` says of what a node does which of its requests' phases go on and which end. `handlers_keep` says
 //! what holds of a node and of its packets whatever it does: no blocks, and no version or request above a number.
 //!
@@ -10,7 +10,7 @@
 #![tactic(auto)]
 
 ghost use Rattle.std.specs.Prelude.{◌≡◌, ◌≤◌, ◌<◌, ℕ, IsTrue, List, [], Option};
-ghost use Rattle.std.specs.List.{All, Contains};
+ghost use Rattle.std.specs.List.{Contains};
 ghost use Rattle.layout_roles.specs.declared.role.Role.{Role};
 ghost use Rattle.table_schema.specs.Words.{Words};
 ghost use Rattle.table_schema.specs.Laws.{Laws};
@@ -22,10 +22,20 @@ ghost use Rattle.cluster_machine.specs.Phases.{begins, call_at, opened, closed};
 ghost use Rattle.cluster_machine.specs.Receives.{receives};
 ghost use Rattle.cluster_machine.specs.Acts.{acts};
 ghost use Rattle.cluster_machine.specs.World.{empty};
-ghost use Rattle.cluster_machine.specs.Run.{Move, IsLayout, IsRun, run};
+ghost use Rattle.cluster_machine.specs.Run.{Move, IsRun, run};
+ghost use Rattle.machine_origins.specs.Origins.{stored_in, ComesFrom, Gave};
 ghost use Rattle.view_model.specs.View.{is_gapless, newest};
 ghost use Rattle.machine_origins.specs.Following.{AreDifferent, Follows, Begins};
 ghost use Rattle.machine_origins.specs.Keeping.{IsBarePacket, IsBarePhase, ArePosts, IsUpTo, AreUpTo};
+
+/// In every run of the cluster's machine each row that a read or range phase gave comes from rows that store phases
+/// began to store; a read phase gave a row of its table and key. So a property that all stored rows have, and that
+/// merges hand on, each row has that was given (`gave_by_origin`).
+pub fn every_read_gives_stored_rows<R, L, A, C>()
+    ensures { (join : R → R → R) (s : Words R) (k : Layouts L) (trio : L) (trio_roles : List Role → List Role) (partitions : ℕ) (moves : List (Move R L A C)) →
+        Laws join s → IsRun join s k trio trio_roles partitions empty moves →
+        (r : Reading R) → Contains (run join s k trio trio_roles empty moves).reads r → Gave s (ComesFrom join s (stored_in moves)) r }
+{}
 
 /// What a node's open requests are in after a message came, after an action, and after a phase of one began.
 pub fn phases_follow<R, L>()
