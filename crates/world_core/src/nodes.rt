@@ -1,5 +1,5 @@
 //! The nodes of the cluster, by their numbers.
-ghost use Rattle.std.specs.Prelude.{◌≡◌, ◌⊎◌, ◌×◌, ◌<◌, ◌≤◌, ◌+◌, ℕ, true, false, Option, Some, None, List, reverse, length, IsTrue, OnOk, OnErr, IfOk, IfErr};
+ghost use Rattle.std.specs.Prelude.{◌≡◌, ◌⊎◌, ◌<◌, ◌≤◌, ◌+◌, ℕ, true, false, Option, Some, None, List, reverse, length, IsTrue, OnOk, OnErr, IfOk, IfErr};
 ghost use Rattle.std.specs.List.{All};
 ghost use Rattle.crdt_core.specs.declared.memory.Memory.TheVariants.{Want, Full};
 ghost use Rattle.layout_trackers.specs.declared.which.Which.TheVariants.{Sync};
