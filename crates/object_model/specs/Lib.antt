@@ -1,3 +1,4 @@
-pub mod Version
+pub mod Object
 pub mod Run
+pub mod Turns
 pub mod Fresh

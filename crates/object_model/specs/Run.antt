@@ -1,33 +1,49 @@
--- The run of a schedule: its state, one event, and a list of events.
-use Rattle.std.specs.Prelude.{◌≡◌, ℕ, zero, suc, ◌+◌, ◌-◌, ◌%◌, ◌^◌, ◌<◌, max, Bool, true, false, not, ◌||◌, nat_eq, if◌then◌else◌, Option, Some, None, List, [], ◌∷◌, ◌++◌, length, slice_set}
-use Rattle.std.specs.List.{Contains}
+-- The run of a schedule: its state, one event, and a list of turns.
+use Rattle.std.specs.Prelude.{◌≡◌, ℕ, zero, suc, ◌-◌, ◌%◌, max, Bool, true, false, ◌||◌, nat_eq, if◌then◌else◌, Option, Some, None, List, [], ◌∷◌, ◌++◌, length, slice_set}
 use Rattle.std.specs.Cmp.Lexicographic.{pointwise}
 use Rattle.md5.specs.Md5.{md5}
-use Rattle.cluster_model.specs.declared.key.RowKey.{RowKey}
-use Rattle.cluster_model.specs.declared.line.Line.{Line}
-use Rattle.cluster_model.specs.declared.line.Line.TheVariants.{Done}
-use Rattle.cluster_model.specs.declared.line.DoneWord.{DoneWord}
-use Rattle.cluster_model.specs.declared.line.DoneWord.TheVariants.{Put as WordPut, Get as WordGet}
-use Rattle.cluster_model.specs.declared.step.Step.{Step}
-use Rattle.cluster_model.specs.declared.step.Step.TheVariants.{Trio as StepTrio, Tick as StepTick, Deliver as StepDeliver, Open, Phase as Begin, Close}
-use Rattle.cluster_model.specs.declared.step.Phase.TheVariants.{Read, Store}
-use Rattle.cluster_model.specs.declared.step.PhaseEnd.{PhaseEnd}
-use Rattle.cluster_model.specs.declared.step.PhaseEnd.TheVariants.{Row as Answered, Kept}
-use Rattle.cluster_model.specs.declared.step.Refusal.{Refusal}
-use Rattle.cluster_model.specs.declared.step.Refusal.TheVariants.{NotMember, NoSuchBucket}
-use Rattle.cluster_model.specs.declared.step.Words.{Words}
-use Rattle.cluster_model.specs.declared.step.Words.TheVariants.{Empty, One}
-use Rattle.cluster_model.specs.World.{World, empty, is_member, numbered, undelivered, Fits}
-use Rattle.cluster_model.specs.Step.{Effects, effects, applied}
-use Rattle.object_model.specs.declared.row.Version.{Version}
+use Rattle.layout_roles.specs.declared.layout.Layout.{Layout}
+use Rattle.layout_flow.specs.declared.cut.Cut.{Cut}
+use Rattle.crdt_rows.specs.declared.version.Version.{Version}
+use Rattle.crdt_rows.specs.declared.any_row.AnyRow.{AnyRow}
+use Rattle.crdt_rows.specs.AnyRow.{any_join}
+use Rattle.object_schema.specs.Schema.{words}
+use Rattle.wire_messages.specs.declared.phase.Phase.TheVariants.{Read, Store}
+use Rattle.wire_messages.specs.declared.phase.PhaseEnd.{PhaseEnd}
+use Rattle.wire_messages.specs.declared.phase.PhaseEnd.TheVariants.{Row as Answered, Kept}
+use Rattle.cluster_machine.specs.declared.step.Step.{Step}
+use Rattle.cluster_machine.specs.declared.step.Step.TheVariants as step
+use Rattle.cluster_machine.specs.declared.step.Refusal.{Refusal}
+use Rattle.cluster_machine.specs.declared.step.Refusal.TheVariants.{VersionLimit, NotMember, NoSuchBucket}
+use Rattle.cluster_machine.specs.declared.step.Words.{Words}
+use Rattle.cluster_machine.specs.declared.step.Words.TheVariants.{Empty, One}
+use Rattle.cluster_machine.specs.declared.line.Line.{Line}
+use Rattle.cluster_machine.specs.declared.line.Line.TheVariants.{Done}
+use Rattle.cluster_machine.specs.declared.line.DoneWord.{DoneWord}
+use Rattle.cluster_machine.specs.declared.line.DoneWord.TheVariants.{Put as WordPut, Get as WordGet}
+use Rattle.cluster_machine.specs.Node.{Ended}
+use Rattle.cluster_machine.specs.World.{empty, clock, is_member_at, numbered, undelivered}
+use Rattle.cluster_machine.specs.Step.{none_given}
+use Rattle.node_parts.specs.Layouts.{layouts}
+use Rattle.world_model.specs.declared.applied.Applied.{Applied}
+use Rattle.world_model.specs.Choices.{Decision}
+use Rattle.world_model.specs.Worlds.{Model, Doing, Done as Effect, does, next}
 use Rattle.object_model.specs.declared.event.Event.{Event}
-use Rattle.object_model.specs.declared.event.Event.TheVariants.{Trio, Bucket, Tick, Put, Get, Deliver, Drain}
-use Rattle.object_model.specs.Version.{Row, join, row_of, version_of, bytes_of}
+use Rattle.object_model.specs.declared.event.Event.TheVariants.{Trio, Bucket, Role, Redundancy, Apply, Tick, Put, Get, Deliver, Drain, Expire, Gossip, Ack, Sync, SyncAck, Clean}
+use Rattle.object_model.specs.declared.event.Numbered.{Numbered}
+use Rattle.object_model.specs.Object.{Name, row_key, bucket_hash, object, greatest_ts, Newest, absent, inline, in_blocks, newest_of}
 
--- what a request was asked for; a put has its version once it has drawn one
+abbrev pub World : Type 0
+World = Model AnyRow
+
+abbrev pub Moving : Type 0
+Moving = Doing AnyRow
+
+-- what a request was asked for, at which node; a put has its version once it has drawn one
 pub record Order : Type 0 where
+  pub node : ℕ
   pub word : DoneWord
-  pub key : RowKey
+  pub name : Name
   pub bytes : List ℕ
   pub version : Option Version
 
@@ -35,21 +51,21 @@ pub record Order : Type 0 where
 pub data Answer : Type 0 where
   stored : Version → Answer
   found : Version → List ℕ → Answer
-  absent : Answer
+  nothing : Answer
 
 pub data Record : Type 0 where
-  began : ℕ → ℕ → DoneWord → RowKey → Record  -- request, node
+  began : ℕ → ℕ → DoneWord → Name → Record  -- request, node
   finished : ℕ → Answer → Record
 
 -- a put drew its version, to write these bytes
 pub record Draw : Type 0 where
   pub request : ℕ
-  pub key : RowKey
+  pub name : Name
   pub version : Version
   pub bytes : List ℕ
 
 pub record State : Type 0 where
-  pub world : World Row
+  pub world : World
   pub buckets : List (List ℕ)
   pub orders : List Order  -- of request q at place q - 1
   pub history : List Record  -- the oldest first
@@ -58,30 +74,36 @@ pub record State : Type 0 where
 abbrev pub start : State
 start = record { world = empty; buckets = []; orders = []; history = []; draws = [] }
 
--- every number of the state fits its type
-pub record FitsAll (s : State) : Type 0 where
-  pub world : Fits s.world
-  pub draws : (d : Draw) → Contains s.draws d → d.version.ts < 2 ^ 64
-
--- the state after an event, and what it told
+-- the state after an event, the steps of the world that it was, and what it told
 pub record Outcome : Type 0 where
   pub state : State
-  pub refused : Option Refusal
+  pub moves : List Moving
+  pub refused : Option (Refusal Cut)
   pub words : Words
-  pub lines : List Line
+  pub lines : List (Line Applied)
 
-abbrev pub refusal : State → Refusal → Outcome
-refusal s r = record { state = s; refused = Some r; words = Empty; lines = [] }
+abbrev pub silent : State → Outcome
+silent s = record { state = s; moves = []; refused = None; words = Empty; lines = [] }
 
--- the world after a step
-abbrev pub doing : State → Step Row → State
-doing s st = record s { world = applied s.world (effects join s.world st) }
+abbrev pub refusal : State → Refusal Cut → Outcome
+refusal s r = record (silent s) { refused = Some r }
+
+-- a step that is given no layout
+abbrev pub plainly : Step AnyRow → Moving
+plainly st = record { step = st; choice = none_given VersionLimit }
+
+abbrev pub effect : State → Moving → Effect AnyRow
+effect s m = does any_join words s.world m
+
+-- the state after a step of the world
+abbrev pub doing : State → Moving → State
+doing s m = record s { world = next any_join words s.world m }
 
 -- one step and its lines are all that the event is
-abbrev pub plain : State → Step Row → Outcome
-plain s st =
-    let e = effects join s.world st in
-    record { state = record s { world = applied s.world e }; refused = e.refused; words = e.words; lines = e.tells }
+abbrev pub plain : State → Moving → Outcome
+plain s m =
+    let e = effect s m in
+    record { state = doing s m; moves = m ∷ []; refused = e.refused; words = e.words; lines = e.tells }
 
 -- the bytes of an object: size many, the first one fill, modulo 251
 abbrev pub object_bytes : ℕ → ℕ → List ℕ
@@ -92,18 +114,23 @@ abbrev pub is_bucket : List (List ℕ) → List ℕ → Bool
 is_bucket [] name = false
 is_bucket (b ∷ bs) name = pointwise nat_eq b name || is_bucket bs name
 
+-- the read phase of an object's row
+abbrev pub asks : ℕ → Name → Moving
+asks q name = plainly (step.Phase q (Read 1 (bucket_hash name.bucket) (row_key name)))
+
 -- a request begins with its read phase
 abbrev pub opened : State → ℕ → Order → Outcome
 opened s n order =
     let q = suc (length s.world.requests) in
-    let here = applied s.world (effects join s.world (Open n)) in
-    let e = effects join here (Begin q (Read order.key)) in
+    let opens = plainly (step.Open n) in
+    let here = doing s opens in
+    let e = effect here (asks q order.name) in
     record {
-      state = record s {
-        world = applied here e;
+      state = record (doing here (asks q order.name)) {
         orders = s.orders ++ order ∷ [];
-        history = s.history ++ began q n order.word order.key ∷ [];
+        history = s.history ++ began q n order.word order.name ∷ [];
       };
+      moves = opens ∷ asks q order.name ∷ [];
       refused = None;
       words = One q;
       lines = e.tells;
@@ -111,36 +138,36 @@ opened s n order =
 
 abbrev pub begins : State → ℕ → Order → Outcome
 begins s n order =
-    if is_member s.world n then (if is_bucket s.buckets order.key.bucket then opened s n order else refusal s NoSuchBucket) else refusal s NotMember
-
--- the greatest timestamp of a merged row; no row counts as 0
-abbrev pub greatest_ts : Option Row → ℕ
-greatest_ts None = 0
-greatest_ts (Some row) = (version_of row).ts
+    if is_member_at layouts s.world n then (if is_bucket s.buckets order.name.bucket then opened s n order else refusal s NoSuchBucket) else refusal s NotMember
 
 -- the version that a put draws when its read phase ends
-abbrev pub drawn : State → ℕ → Option Row → Version
-drawn s q value = record { ts = max s.world.time (suc (greatest_ts value)); id = q }
+abbrev pub drawn : State → ℕ → Order → Option AnyRow → Version
+drawn s q order value = record { ts = max (clock s.world order.node) (suc (greatest_ts value)); id = q }
+
+-- the store phase of an object's row
+abbrev pub stores : ℕ → Order → Version → Moving
+stores q order version = plainly (step.Phase q (Store ((object order.name version order.bytes, None) ∷ [])))
 
 -- a put goes on with its store phase
 abbrev pub writes : State → ℕ → Order → Version → Outcome
 writes s q order version =
-    let e = effects join s.world (Begin q (Store order.key (row_of order.key version order.bytes))) in
+    let e = effect s (stores q order version) in
     record {
-      state = record s {
-        world = applied s.world e;
+      state = record (doing s (stores q order version)) {
         orders = slice_set s.orders (q - 1) (record order { version = Some version });
-        draws = record { request = q; key = order.key; version = version; bytes = order.bytes } ∷ s.draws;
+        draws = record { request = q; name = order.name; version = version; bytes = order.bytes } ∷ s.draws;
       };
+      moves = stores q order version ∷ [];
       refused = None;
       words = Empty;
       lines = e.tells;
     }
 
 -- a request finishes
-abbrev pub finishes : State → ℕ → Answer → Line → Outcome
+abbrev pub finishes : State → ℕ → Answer → Line Applied → Outcome
 finishes s q answer line = record {
-  state = record (doing s (Close q)) { history = s.history ++ finished q answer ∷ [] };
+  state = record (doing s (plainly (step.Close q))) { history = s.history ++ finished q answer ∷ [] };
+  moves = plainly (step.Close q) ∷ [];
   refused = None;
   words = Empty;
   lines = line ∷ [];
@@ -149,72 +176,89 @@ finishes s q answer line = record {
 abbrev pub pair : Version → ℕ × ℕ
 pair v = (v.ts, v.id)
 
-abbrev pub put_line : ℕ → Version → Line
+abbrev pub put_line : ℕ → Version → Line Applied
 put_line q v = Done q WordPut (Some (pair v)) None None
 
-abbrev pub get_answer : Option Row → Answer
-get_answer None = absent
-get_answer (Some row) = found (version_of row) (bytes_of row)
+abbrev pub found_line : ℕ → Version → List ℕ → Line Applied
+found_line q v bytes = Done q WordGet (Some (pair v)) (Some (length bytes)) (Some (md5 bytes))
 
-abbrev pub get_line : ℕ → Option Row → Line
-get_line q None = Done q WordGet None None None
-get_line q (Some row) =
-    Done q WordGet (Some (pair (version_of row))) (Some (length (bytes_of row))) (Some (md5 (bytes_of row)))
+abbrev pub nothing_line : ℕ → Line Applied
+nothing_line q = Done q WordGet None None None
 
-abbrev pub silent : State → Outcome
-silent s = record { state = s; refused = None; words = Empty; lines = [] }
+-- a get finishes, unless the object is kept in blocks
+abbrev pub gets : State → ℕ → Newest → Outcome
+gets s q absent = finishes s q nothing (nothing_line q)
+gets s q (inline v bytes) = finishes s q (found v bytes) (found_line q v bytes)
+gets s q in_blocks = silent s
 
 -- what a request does when its phase ended
-abbrev pub follows : State → ℕ → Order → DoneWord → Option Version → PhaseEnd Row → Outcome
-follows s q order WordPut None (Answered value) = writes s q order (drawn s q value)
+abbrev pub follows : State → ℕ → Order → DoneWord → Option Version → PhaseEnd AnyRow → Outcome
+follows s q order WordPut None (Answered value) = writes s q order (drawn s q order value)
 follows s q order WordPut (Some version) Kept = finishes s q (stored version) (put_line q version)
-follows s q order WordGet version (Answered value) = finishes s q (get_answer value) (get_line q value)
+follows s q order WordGet version (Answered value) = gets s q (newest_of value)
 follows s q order word version end = silent s
 
-abbrev pub follow : State → ℕ → Option Order → PhaseEnd Row → Outcome
+abbrev pub follow : State → ℕ → Option Order → PhaseEnd AnyRow → Outcome
 follow s q None end = silent s
 follow s q (Some order) end = follows s q order order.word order.version end
 
-abbrev pub goes_on : State → List (ℕ × PhaseEnd Row) → Outcome
+abbrev pub goes_on : State → List (Ended AnyRow) → Outcome
 goes_on s [] = silent s
-goes_on s (e ∷ es) = follow s e.0 (numbered s.orders e.0) e.1
+goes_on s (e ∷ es) = follow s e.request (numbered s.orders e.request) e.how
 
--- lines before those of an outcome
-abbrev pub after_lines : List Line → Outcome → Outcome
-after_lines lines o = record o { lines = lines ++ o.lines }
-
--- a delivery was refused, or it did e and led to the state next
-abbrev pub received : State → State → Effects Row → Option Refusal → Outcome
-received s next e None = after_lines e.tells (goes_on next e.ends)
-received s next e (Some r) = refusal s r
+-- an outcome before which this step was done
+abbrev pub after_step : Moving → Effect AnyRow → Outcome → Outcome
+after_step m e o = record { state = o.state; moves = m ∷ o.moves; refused = e.refused; words = e.words; lines = e.tells ++ o.lines }
 
 -- a delivery, and in the same step what the request does whose phase it ended
 abbrev pub delivers : State → ℕ → Outcome
 delivers s m =
-    let e = effects join s.world (StepDeliver m) in received s (record s { world = applied s.world e }) e e.refused
+    let d = plainly (step.Deliver m) in
+    let e = effect s d in after_step d e (goes_on (doing s d) e.ends)
 
--- up to n deliveries, each of the least message that wasn't delivered
+abbrev pub then_drains : Outcome → Outcome → Outcome
+then_drains first rest = record { state = rest.state; moves = first.moves ++ rest.moves; refused = None; words = Empty; lines = first.lines ++ rest.lines }
+
+-- up to n deliveries, each of the least message that was neither delivered nor lost
 abbrev pub drains : ℕ → State → Outcome
 drains zero s = silent s
 drains (suc n) s = elim (undelivered s.world) as (λ o. Outcome) [
   | None ↦ silent s
-  | Some m ↦ let o = delivers s m in after_lines o.lines (drains n o.state)
+  | Some m ↦ let o = delivers s m in then_drains o (drains n o.state)
 ]
 
-abbrev pub outcome : State → Event → Outcome
-outcome s Trio = plain s StepTrio
-outcome s (Bucket name) = silent (record s { buckets = s.buckets ++ name ∷ [] })
-outcome s (Tick ms) = plain s (StepTick ms)
-outcome s (Put n bucket key size fill) =
-    begins s n (record { word = WordPut; key = record { bucket = bucket; key = key }; bytes = object_bytes size fill; version = None })
-outcome s (Get n bucket key) =
-    begins s n (record { word = WordGet; key = record { bucket = bucket; key = key }; bytes = []; version = None })
-outcome s (Deliver m) = delivers s m
-outcome s (Drain n) = drains n s
+-- an event; an apply is given the choice
+abbrev pub outcome : State → Event → Decision → Outcome
+outcome s Trio choice = plain s (plainly step.Trio)
+outcome s (Bucket name) choice = silent (record s { buckets = s.buckets ++ name ∷ [] })
+outcome s (Role n role) choice = plain s (plainly (step.Role n role))
+outcome s (Redundancy wanted) choice = plain s (plainly (step.Redundancy wanted))
+outcome s (Apply n) choice = plain s (record { step = step.Apply n; choice = choice })
+outcome s (Tick ms) choice = plain s (plainly (step.Tick ms))
+outcome s (Put n bucket key size fill) choice =
+    begins s n (record { node = n; word = WordPut; name = record { bucket = bucket; key = key }; bytes = object_bytes size fill; version = None })
+outcome s (Get n bucket key) choice =
+    begins s n (record { node = n; word = WordGet; name = record { bucket = bucket; key = key }; bytes = []; version = None })
+outcome s (Deliver m) choice = delivers s m
+outcome s (Drain n) choice = drains n s
+outcome s (Expire q) choice = plain s (plainly (step.Expire q))
+outcome s (Gossip from to) choice = plain s (plainly (step.Gossip from to))
+outcome s (Ack n) choice = plain s (plainly (step.Ack n))
+outcome s (Sync n) choice = plain s (plainly (step.Sync n))
+outcome s (SyncAck n) choice = plain s (plainly (step.SyncAck n))
+outcome s (Clean n) choice = plain s (plainly (step.Clean n))
 
-abbrev pub after : State → Event → State
-after s e = (outcome s e).state
+-- an event of a schedule, and what it is given
+pub record Turn : Type 0 where
+  pub numbered : Numbered
+  pub choice : Decision
 
-abbrev pub run : State → List Event → State
+abbrev pub outcome_of : State → Turn → Outcome
+outcome_of s t = outcome s t.numbered.event t.choice
+
+abbrev pub after : State → Turn → State
+after s t = (outcome_of s t).state
+
+abbrev pub run : State → List Turn → State
 run s [] = s
-run s (e ∷ es) = run (after s e) es
+run s (t ∷ ts) = run (after s t) ts

@@ -1,6 +1,8 @@
 //! The events of a schedule, and what each answers.
-use cluster_model::{Line, Refusal, Words};
+use cluster_machine::Words;
 use crdt_core::{Bytes, List};
+use layout_roles::{Kind, Redundancy, Zone};
+use world_model::{Line, Refusal};
 
 /// A line of a schedule. Nodes are 1 to 16.
 #[derive(Drop)]
@@ -9,6 +11,15 @@ pub enum Event {
     Trio,
     /// Adds a bucket of this name.
     Bucket(Bytes),
+    /// Stages a node's role, or that it has none.
+    Role {
+        node: u8,
+        role: Option<(Zone, Kind)>,
+    },
+    /// Stages in how many zones the three copies have to lie.
+    Redundancy(Redundancy),
+    /// Computes a layout from what is staged, and applies it at a node.
+    Apply(u8),
     /// Adds milliseconds to the time.
     Tick(u64),
     /// Begins to write an object of `size` bytes at a node: byte i, from 0, is `fill` + i modulo 251.
@@ -27,8 +38,23 @@ pub enum Event {
     },
     /// Delivers the message with this number, any number of times.
     Deliver(u64),
-    /// Delivers up to this many times the least message that wasn't delivered yet.
+    /// Delivers up to this many times the least message that was neither delivered nor lost.
     Drain(u32),
+    /// Ends a request that is open.
+    Expire(u64),
+    /// A node sends its view to another.
+    Gossip {
+        from: u8,
+        to: u8,
+    },
+    /// A node raises its ack.
+    Ack(u8),
+    /// A node begins a round, or sends again what nobody confirmed in the one that is open.
+    Sync(u8),
+    /// A node raises its sync-ack.
+    SyncAck(u8),
+    /// A node drops the layout versions that nobody needs.
+    Clean(u8),
 }
 
 /// An event and the line of the schedule that spells it, counted from 1.

@@ -32,7 +32,8 @@ use node_core::Envelope;
 use std::alloc::Global;
 use table_schema::Schema;
 use wire_messages::{Phase, PhaseEnd};
-use world_model::{Line, Refusal, empty_world_is_sound, sound_worlds_stay_sound};
+use world_laws::{empty_world_is_sound, sound_worlds_stay_sound};
+use world_model::{Line, Refusal};
 
 /// How many layout versions may be applied.
 const MOST_VERSIONS: u32 = 100;

@@ -109,3 +109,7 @@ module _ {R : Type 0} (join : R → R → R) (s : Words R) where
   abbrev pub FitAll : Model R → List (Doing R) → Type 0
   FitAll w [] = ⊤
   FitAll w (m ∷ ms) = FitsAfter w m × FitAll (next w m) ms
+
+  abbrev pub HaveRoom : Model R → List (Doing R) → Type 0
+  HaveRoom w [] = ⊤
+  HaveRoom w (m ∷ ms) = HasRoom w m × HaveRoom (next w m) ms

@@ -4,11 +4,9 @@
 //! `Applied` is what is printed of a layout version; `Line` and `Refusal` are the machine's with it. In specs/: `Trio`
 //! is the layout of nodes 1, 2 and 3; `Choices` says which layout, or which refusal, is computed from the staged roles;
 //! `Fits` says when every number of a world has its place in the code; `Worlds` are the steps and lawful runs, and
-//! what a `Sound` world keeps. The laws are called for their contracts.
+//! what every world of a run keeps (`IsSound`; `world_laws` proves it).
 #![tactic(auto)]
 
 mod applied;
-mod laws;
 
 pub use applied::{Applied, Line, Refusal};
-pub use laws::{computed_layouts_are_layouts, empty_world_is_sound, sound_worlds_stay_sound};

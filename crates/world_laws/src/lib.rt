@@ -1,4 +1,7 @@
-//! What holds of computed layouts and of each world of a run. No body does anything: each is called for its contract.
+//! What holds of the layouts that an apply may be given, and of every world of a run. No body does anything: each is called
+//! for its contract.
+#![tactic(auto)]
+
 ghost use Rattle.std.specs.Prelude.{◌≡◌, ◌≤◌, ℕ, List};
 ghost use Rattle.layout_roles.specs.declared.role.Role.{Role};
 ghost use Rattle.layout_roles.specs.declared.redundancy.Redundancy.{Redundancy};

@@ -1,0 +1,79 @@
+-- The row of an object, and what a row says of its newest version.
+use Rattle.std.specs.Prelude.{◌≡◌, ℕ, ◌==◌, Bool, true, Option, Some, None, List, [], ◌∷◌, ◌++◌, length, refl}
+use Rattle.std.proofs.Common.{arith}
+use Rattle.md5.specs.Md5.{md5}
+use Rattle.blake2_hash.specs.Blake2b.{blake2b}
+use Rattle.blake2_hash.specs.declared.digest.Hash32.{Hash32}
+use Rattle.crdt_core.specs.declared.max.Max.{Max}
+use Rattle.crdt_core.specs.Map.{map_entries, map_single}
+use Rattle.crdt_rows.specs.declared.version.Version.{Version}
+use Rattle.crdt_rows.specs.declared.body.Meta.{Meta}
+use Rattle.crdt_rows.specs.declared.body.Body.{Body}
+use Rattle.crdt_rows.specs.declared.body.Body.TheVariants.{Marker, Inline, Blocks}
+use Rattle.crdt_rows.specs.declared.state.State.{State}
+use Rattle.crdt_rows.specs.declared.state.State.TheVariants.{Uploading, Aborted, Complete}
+use Rattle.crdt_rows.specs.declared.object_row.ObjectRow.{ObjectRow}
+use Rattle.crdt_rows.specs.declared.any_row.AnyRow.{AnyRow}
+use Rattle.crdt_rows.specs.declared.any_row.AnyRow.TheVariants as rows
+use Rattle.crdt_rows.specs.ObjectRow.{newest, state_at}
+use Rattle.crdt_rows.specs.Versions.{is_sized_row, greatest_ts as greatest_of}
+
+-- an object's bucket and key
+pub record Name : Type 0 where
+  pub bucket : List ℕ
+  pub key : List ℕ
+
+-- the digest of the bucket's name
+abbrev pub bucket_hash : List ℕ → Hash32
+bucket_hash bucket = record { 0 = blake2b 32 bucket }
+
+-- the key of the object's row
+abbrev pub row_key : Name → List ℕ
+row_key name = (bucket_hash name.bucket).0 ++ name.key
+
+-- what is said of bytes that are stored without headers
+abbrev pub meta_of : List ℕ → Meta
+meta_of bytes = record { size = length bytes; etag = md5 bytes; headers = [] }
+
+abbrev pub state_of : List ℕ → State
+state_of bytes = Complete (Inline (meta_of bytes) bytes)
+
+same_number : (n : ℕ) → (n == n) ≡ true
+same_number n = search arith
+
+pub sized : (version : Version) (bytes : List ℕ) → is_sized_row ((version, record { 0 = state_of bytes }) ∷ []) ≡ true
+sized version bytes = ?
+
+-- the row that says that this version is complete, with these bytes
+abbrev pub object : Name → Version → List ℕ → AnyRow
+object name version bytes = rows.Object (record {
+  bucket = bucket_hash name.bucket;
+  key = name.key;
+  versions = map_single version (record { 0 = state_of bytes });
+  settled = refl;
+  sized = sized version bytes;
+})
+
+-- the greatest timestamp of a row; no row counts as 0
+abbrev pub greatest_ts : Option AnyRow → ℕ
+greatest_ts (Some (rows.Object r)) = greatest_of (map_entries r.versions)
+greatest_ts _ = 0
+
+-- what a row says of an object
+pub data Newest : Type 0 where
+  absent : Newest  -- no complete version, or the newest one is a delete marker
+  inline : Version → List ℕ → Newest  -- the newest complete version, and its bytes
+  in_blocks : Newest
+
+abbrev pub of_state : Version → Option State → Newest
+of_state v (Some (Complete (Inline meta bytes))) = inline v bytes
+of_state v (Some (Complete (Blocks meta hash))) = in_blocks
+of_state v _ = absent
+
+abbrev pub of_version : ObjectRow → Option Version → Newest
+of_version r None = absent
+of_version r (Some v) = of_state v (state_at r v)
+
+abbrev pub newest_of : Option AnyRow → Newest
+newest_of (Some (rows.Object r)) = of_version r (newest r)
+newest_of _ = absent

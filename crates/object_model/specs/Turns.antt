@@ -1,0 +1,39 @@
+-- Which turns are lawful, and when everything fits after them.
+use Rattle.std.specs.Prelude.{⊤, List, [], ◌∷◌, map}
+use Rattle.crdt_rows.specs.AnyRow.{any_join}
+use Rattle.object_schema.specs.Schema.{words}
+use Rattle.cluster_machine.specs.declared.step.Step.TheVariants as step
+use Rattle.world_model.specs.Choices.{Decision, IsNone}
+use Rattle.world_model.specs.Worlds.{IsLawfulStep, FitAll, HaveRoom}
+use Rattle.object_model.specs.declared.event.Event.{Event}
+use Rattle.object_model.specs.declared.event.Event.TheVariants.{Apply}
+use Rattle.object_model.specs.declared.event.Numbered.{Numbered}
+use Rattle.object_model.specs.Run.{State, Turn, outcome_of, after}
+
+-- an apply that computes a layout is given what is computed from the staged roles, and no other event is given one
+abbrev pub IsLawfulEvent : State → Event → Decision → Type 0
+IsLawfulEvent s (Apply n) choice = IsLawfulStep s.world (step.Apply n) choice
+IsLawfulEvent s _ choice = IsNone choice
+
+abbrev pub IsLawful : State → Turn → Type 0
+IsLawful s t = IsLawfulEvent s t.numbered.event t.choice
+
+abbrev pub AreLawful : State → List Turn → Type 0
+AreLawful s [] = ⊤
+AreLawful s (t ∷ ts) = IsLawful s t × AreLawful (after s t) ts
+
+-- after each step of the event every number fits, and every row that is sent has a spelling
+abbrev pub Fits : State → Turn → Type 0
+Fits s t = FitAll any_join words s.world (outcome_of s t).moves
+
+abbrev pub AllFit : State → List Turn → Type 0
+AllFit s [] = ⊤
+AllFit s (t ∷ ts) = Fits s t × AllFit (after s t) ts
+
+-- and so does every number and row that waits at a node
+abbrev pub HasRoom : State → Turn → Type 0
+HasRoom s t = HaveRoom any_join words s.world (outcome_of s t).moves
+
+-- the events of turns
+abbrev pub events_of : List Turn → List Numbered
+events_of ts = map (λ t. t.numbered) ts

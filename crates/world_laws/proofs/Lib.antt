@@ -1,0 +1,5 @@
+pub mod Unbroken
+pub mod Additions
+pub mod Doings
+pub mod Steps
+pub mod Sets

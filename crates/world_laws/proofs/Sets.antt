@@ -1,0 +1,104 @@
+-- Three different storage nodes are a set of the machine, and storage nodes are members.
+use Rattle.std.specs.Prelude.{◌≡◌, ◌≤◌, ℕ, zero, suc, Bool, true, false, ◌==◌, ◌||◌, IsTrue, List, [], ◌∷◌, length, map, replicate, refl, cond}
+use Rattle.std.specs.List.{All, AllByRecursion, list_any, filter, IsDistinct}
+use Rattle.std.proofs.Common.{ap, sym, subst, ◌∙◌, arith}
+use Rattle.std.proofs.lemmas.Bool.{eq-eqb, eqb-false}
+use Rattle.std.proofs.lemmas.List.{length-replicate}
+use Rattle.std.proofs.lemmas.List.Elements.{recursion_from_All}
+use Rattle.layout_roles.specs.declared.role.Role.{Role}
+use Rattle.layout_roles.specs.declared.redundancy.Redundancy.{Redundancy}
+use Rattle.layout_roles.specs.declared.layout.Layout.{Layout}
+use Rattle.layout_roles.specs.Zones.{is_storage, storage_nodes}
+use Rattle.layout_roles.specs.Fits.{partitions, is_storage_node, IsThree}
+use Rattle.quorum_model.specs.Quorum.{is_among}
+use Rattle.cluster_machine.specs.Run.{IsSet, IsLayout}
+use Rattle.node_parts.specs.Layouts.{layouts}
+use Rattle.world_model.specs.declared.applied.Applied.{Applied}
+use Rattle.world_model.specs.Choices.{IsBest}
+use Rattle.world_model.specs.Trio.{trio}
+use Rattle.world_laws.proofs.Additions.{all_weaker}
+
+abbrev names_of : List Role → List ℕ
+names_of roles = map (λ role. role.node) roles
+
+or_second : (a b : Bool) → b ≡ true → (a || b) ≡ true
+or_second true b e = refl
+or_second false b e = e
+
+-- a role is found where its node is among those that have one
+found_among : (n : ℕ) (roles : List Role) → list_any (λ role. role.node == n) roles ≡ is_among n (names_of roles)
+found_among n [] = refl
+found_among n (role ∷ roles) = ap (λ b. (role.node == n) || b) (found_among n roles)
+
+-- nodes whose roles pass are among the nodes that have a role
+passing_among : (passes : Role → Bool) (roles : List Role) → AllByRecursion (λ n. IsTrue (is_among n (names_of roles))) (names_of (filter passes roles))
+passing_among passes [] = tt
+passing_among passes (role ∷ roles) =
+    let rest = all_weaker _ (λ n. IsTrue (is_among n (names_of (role ∷ roles)))) (λ n is. or_second (role.node == n) (is_among n (names_of roles)) is) (names_of (filter passes roles)) (passing_among passes roles) in
+    elim (passes role) as (λ b. AllByRecursion (λ n. IsTrue (is_among n (names_of (role ∷ roles)))) (names_of (cond b (role ∷ filter passes roles) (filter passes roles)))) [
+      | true ↦ (rw (eq-eqb role.node role.node refl) refl, rest)
+      | false ↦ rest
+    ]
+
+-- three different storage nodes
+is_set : (l : Layout) (set : List ℕ) → IsThree l.roles.list set → IsSet layouts l set
+unfolding IsDistinct
+is_set l [] h = let three = h.three in let never : ⊥ = omega arith in absurd never
+is_set l (a ∷ []) h = let three = h.three in let never : ⊥ = omega arith in absurd never
+is_set l (a ∷ b ∷ []) h = let three = h.three in let never : ⊥ = omega arith in absurd never
+is_set l (a ∷ b ∷ c ∷ []) h =
+    let first = h.different.0 in
+    let second = h.different.1.0 in
+    let stored = recursion_from_All (λ n. IsTrue (is_storage_node l.roles.list n)) (a ∷ b ∷ c ∷ []) h.stored in
+    let kept : (n : ℕ) → list_any (λ (role : Role). role.node == n) (storage_nodes l.roles.list) ≡ true → IsTrue (is_among n (layouts.storage l)) = (λ n e. sym (found_among n (storage_nodes l.roles.list)) ∙ e) in
+    record {
+      one = a;
+      two = b;
+      three = c;
+      are = refl;
+      differ = (eqb-false a b first.0, eqb-false a c first.1.0, eqb-false b c second.0);
+      keep_copies = (kept a stored.0, (kept b stored.1.0, (kept c stored.1.1.0, tt)));
+    }
+is_set l (a ∷ b ∷ c ∷ d ∷ set) h = let three = h.three in let never : ⊥ = omega arith in absurd never
+
+are_sets : (l : Layout) (sets : List (List ℕ)) → All (IsThree l.roles.list) sets → AllByRecursion (IsSet layouts l) sets
+are_sets l sets h = all_weaker (IsThree l.roles.list) (IsSet layouts l) (is_set l) sets (recursion_from_All (IsThree l.roles.list) sets h)
+
+members_there : (l : Layout) → AllByRecursion (λ n. IsTrue (is_among n (layouts.reading.members l))) (layouts.storage l)
+members_there l = passing_among is_storage l.roles.list
+
+-- a layout of the greatest partition size is a layout of the machine
+pub best_is_layout : (roles : List Role) (wanted : Redundancy) (version : ℕ) (l : Layout) (shown : Applied) → 1 ≤ version → IsBest roles wanted version l shown → IsLayout layouts 256 l
+unfolding partitions
+best_is_layout roles wanted version l shown one best =
+    let fits = best.certified.greatest.fits in
+    let same = best.sets in
+    record {
+      version = subst (λ v. 1 ≤ v) (sym best.version_is) one;
+      count = ap length same ∙ fits.whole;
+      sets = are_sets l l.sets.sets (subst (λ sets. All (IsThree l.roles.list) sets) (sym same) (subst (λ rs. All (IsThree rs) shown.certified.sets.sets) (sym best.roles_are) fits.threes));
+      members = members_there l;
+    }
+
+all_same : {A : Type 0} (P : A → Type 0) (n : ℕ) (x : A) → P x → AllByRecursion P (replicate n x)
+all_same P zero x h = tt
+all_same P (suc n) x h = (h, all_same P n x h)
+
+-- so many times one set
+one_set_is_layout : (l : Layout) (count : ℕ) (set : List ℕ) → 1 ≤ l.version → l.sets.sets ≡ replicate count set → IsSet layouts l set → IsLayout layouts count l
+one_set_is_layout l count set one same is = record {
+  version = one;
+  count = ap length same ∙ length-replicate count set;
+  sets = subst (AllByRecursion (IsSet layouts l)) (sym same) (all_same (IsSet layouts l) count set is);
+  members = members_there l;
+}
+
+pub trio_is_layout : IsLayout layouts 256 trio
+trio_is_layout = one_set_is_layout trio 256 (1 ∷ 2 ∷ 3 ∷ []) (omega arith) refl (record {
+  one = 1;
+  two = 2;
+  three = 3;
+  are = refl;
+  differ = (λ e. omega arith, λ e. omega arith, λ e. omega arith);
+  keep_copies = (refl, (refl, (refl, tt)));
+})
