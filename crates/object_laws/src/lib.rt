@@ -2,18 +2,19 @@
 #![tactic(auto)]
 
 ghost use Rattle.std.specs.Prelude.{List};
-ghost use Rattle.object_model.specs.declared.event.Event.{Event};
-ghost use Rattle.object_model.specs.Run.{run, start};
+ghost use Rattle.object_model.specs.Run.{Turn, run, start};
+ghost use Rattle.object_model.specs.Turns.{AreLawful, AllFit};
 ghost use Rattle.object_model.specs.Fresh.{IsFresh};
 
-use cluster_laws::{kept_reads, stored_reads};
-use object_model::Row;
+use object_schema::S3Schema;
+use world_reads::{every_world_has_kept_reads, every_world_is_sound, every_world_reads_stored_rows};
 
-/// Whatever comes, an answered get covers every put of its key that was acknowledged before it began,
-/// and what it found is what some put of its key wrote.
+/// Whatever comes, and whichever layouts are given, an answered get covers every put of its object that was acknowledged
+/// before it began, and what it found is what some put of its object wrote.
 pub fn fresh_reads()
-    ensures { (events : List Event) → IsFresh (run start events) }
+    ensures { (turns : List Turn) → AreLawful start turns → AllFit start turns → IsFresh (run start turns) }
 {
-    kept_reads::<Row>();
-    stored_reads::<Row>();
+    every_world_is_sound::<S3Schema>();
+    every_world_has_kept_reads::<S3Schema>();
+    every_world_reads_stored_rows::<S3Schema>();
 }

@@ -1,6 +1,7 @@
 -- The row of an object, and what a row says of its newest version.
 use Rattle.std.specs.Prelude.{◌≡◌, ℕ, ◌==◌, Bool, true, Option, Some, None, List, [], ◌∷◌, ◌++◌, length, refl}
-use Rattle.std.proofs.Common.{arith}
+use Rattle.std.proofs.Common.{rules}
+use Rattle.std.specs.Cmp.{tied_itself}
 use Rattle.md5.specs.Md5.{md5}
 use Rattle.blake2_hash.specs.Blake2b.{blake2b}
 use Rattle.blake2_hash.specs.declared.digest.Hash32.{Hash32}
@@ -16,7 +17,8 @@ use Rattle.crdt_rows.specs.declared.object_row.ObjectRow.{ObjectRow}
 use Rattle.crdt_rows.specs.declared.any_row.AnyRow.{AnyRow}
 use Rattle.crdt_rows.specs.declared.any_row.AnyRow.TheVariants as rows
 use Rattle.crdt_rows.specs.ObjectRow.{newest, state_at}
-use Rattle.crdt_rows.specs.Versions.{is_sized_row, greatest_ts as greatest_of}
+use Rattle.crdt_rows.specs.Version.{version_total}
+use Rattle.crdt_rows.specs.Versions.{is_settled_row, is_sized_row, greatest_ts as greatest_of}
 
 -- an object's bucket and key
 pub record Name : Type 0 where
@@ -39,10 +41,13 @@ abbrev pub state_of : List ℕ → State
 state_of bytes = Complete (Inline (meta_of bytes) bytes)
 
 same_number : (n : ℕ) → (n == n) ≡ true
-same_number n = search arith
+same_number n = search rules
+
+pub settled : (version : Version) (bytes : List ℕ) → is_settled_row ((version, record { 0 = state_of bytes }) ∷ []) ≡ true
+settled version bytes = rw (tied_itself version_total version) refl
 
 pub sized : (version : Version) (bytes : List ℕ) → is_sized_row ((version, record { 0 = state_of bytes }) ∷ []) ≡ true
-sized version bytes = ?
+sized version bytes = rw (same_number (length bytes)) refl
 
 -- the row that says that this version is complete, with these bytes
 abbrev pub object : Name → Version → List ℕ → AnyRow
@@ -50,7 +55,7 @@ object name version bytes = rows.Object (record {
   bucket = bucket_hash name.bucket;
   key = name.key;
   versions = map_single version (record { 0 = state_of bytes });
-  settled = refl;
+  settled = settled version bytes;
   sized = sized version bytes;
 })
 

@@ -89,7 +89,7 @@ module _ {R : Type 0} (join : R → R → R) (s : Words R) where
   -- each step meets its conditions, is given what it may be given, and sends rows that have a spelling
   abbrev pub IsLawfulRun : Model R → List (Doing R) → Type 0
   IsLawfulRun w [] = ⊤
-  IsLawfulRun w (m ∷ ms) = IsStep s 256 m.step × IsLawful w m × IsTrue (does w m).is_spelled × IsLawfulRun (next w m) ms
+  IsLawfulRun w (m ∷ ms) = IsMeant m.step × IsStep s 256 m.step × IsLawful w m × IsTrue (does w m).is_spelled × IsLawfulRun (next w m) ms
 
   -- after these effects every number of the world fits, and every row that is sent has a spelling
   abbrev pub FitsWith : Model R → Done R → Type 0
