@@ -3,3 +3,7 @@ pub mod ClockTimes
 pub mod StagedList
 pub mod StagedTrio
 pub mod DecidedLayout
+pub mod Asked
+pub mod Posts
+pub mod PostsSent
+pub mod PostsForgotten

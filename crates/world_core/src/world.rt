@@ -236,11 +236,7 @@ impl<S: Schema> World<S> {
         Ok(self.silent())
     }
 
-    fn stage(
-        &mut self,
-        node: u8,
-        role: Option<(Zone, Kind)>,
-    ) -> Result<Report<S::Row>, Memory>
+    fn stage(&mut self, node: u8, role: Option<(Zone, Kind)>) -> Result<Report<S::Row>, Memory>
         requires low { 1 ≤ node }
         requires high { node ≤ 64 }
         ensures plays { IfOk result (λ report. Plays S.Row.join S.words self.old self.new report (step.Role node role)) }
@@ -476,11 +472,7 @@ impl<S: Schema> World<S> {
     }
 
     // A phase of an open request begins at its coordinator.
-    fn phase(
-        &mut self,
-        request: u64,
-        phase: Phase<S::Row>,
-    ) -> Result<Report<S::Row>, Memory>
+    fn phase(&mut self, request: u64, phase: Phase<S::Row>) -> Result<Report<S::Row>, Memory>
         requires short { IsShort phase }
         ensures plays { IfOk result (λ report. Plays S.Row.join S.words self.old self.new report (step.Phase request phase)) }
         ensures causes { IfErr result (λ e. (e ≡ Want) ⊎ ((e ≡ Full) × Exceeds S.Row.join S.words self.old (step.Phase request phase))) }
