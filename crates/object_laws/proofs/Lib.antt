@@ -1,0 +1,9 @@
+pub mod Cuts
+pub mod Places
+pub mod Rows
+pub mod Covering
+pub mod Placing
+pub mod Sound
+pub mod Grown
+pub mod Starting
+pub mod Calm

@@ -1,18 +1,22 @@
 -- Which turns are lawful, and when everything fits after them.
 use Rattle.std.specs.Prelude.{⊤, List, [], ◌∷◌, map}
+use Rattle.crdt_rows.specs.declared.any_row.AnyRow.{AnyRow}
 use Rattle.crdt_rows.specs.AnyRow.{any_join}
 use Rattle.object_schema.specs.Schema.{words}
 use Rattle.cluster_machine.specs.declared.step.Step.TheVariants as step
 use Rattle.world_model.specs.Choices.{Decision, IsNone}
-use Rattle.world_model.specs.Worlds.{IsLawfulStep, FitAll, HaveRoom}
+use Rattle.world_model.specs.Worlds.{IsMeant, IsLawfulStep, FitAll, HaveRoom}
 use Rattle.object_model.specs.declared.event.Event.{Event}
-use Rattle.object_model.specs.declared.event.Event.TheVariants.{Apply}
+use Rattle.object_model.specs.declared.event.Event.TheVariants.{Role, Redundancy, Apply}
 use Rattle.object_model.specs.declared.event.Numbered.{Numbered}
 use Rattle.object_model.specs.Run.{State, Turn, outcome_of, after}
 
--- an apply that computes a layout is given what is computed from the staged roles, and no other event is given one
+-- an apply that computes a layout is given what is computed from the staged roles, and no other event is given one; roles
+-- are of nodes 1 to 64, and redundancies of one to three zones
 abbrev pub IsLawfulEvent : State → Event → Decision → Type 0
 IsLawfulEvent s (Apply n) choice = IsLawfulStep s.world (step.Apply n) choice
+IsLawfulEvent s (Role n role) choice = IsMeant {R = AnyRow} (step.Role n role) × IsNone choice
+IsLawfulEvent s (Redundancy wanted) choice = IsMeant {R = AnyRow} (step.Redundancy wanted) × IsNone choice
 IsLawfulEvent s _ choice = IsNone choice
 
 abbrev pub IsLawful : State → Turn → Type 0
