@@ -21,6 +21,20 @@ use Rattle.machine_origins.specs.Following.{AreDifferent, Continues, AtMostOne, 
 use Rattle.machine_origins.proofs.FollowingCalls.{continues_self, follows_quiet}
 use Rattle.machine_origins.proofs.FollowingSteps.{follows_receives, follows_acts}
 
+-- no request opens in it, and no phase begins
+abbrev pub IsCalmStep : {R : Type 0} → Step R → Type 0
+IsCalmStep (Open n) = ⊥
+IsCalmStep (Begin q phase) = ⊥
+IsCalmStep _ = ⊤
+
+there_closed : {R : Type 0} (q : ℕ) (calls : List (Call R)) (c : Call R) → Has (without_call q calls) c → Has calls c
+there_closed q [] c h = h
+there_closed q (d ∷ calls) c h =
+    elim (d.request == q) as (λ b. Has (cond (cond b false true) (d ∷ without_call q calls) (without_call q calls)) c → Has (d ∷ calls) c) [
+      | true ↦ (λ k. inr (there_closed q calls c k))
+      | false ↦ (λ k. elim k [ inl e ↦ inl e | inr more ↦ inr (there_closed q calls c more) ])
+    ] h
+
 module _ {R L A C : Type 0} where
   -- what such a step does
   pub record IsCalm (w : World R L) (e : Effects R L A C) : Type 0 where
@@ -63,14 +77,6 @@ module _ {R L A C : Type 0} where
   calm_cond w true d e h k = h
   calm_cond w false d e h k = k
 
-  there_closed : (q : ℕ) (calls : List (Call R)) (c : Call R) → Has (without_call q calls) c → Has calls c
-  there_closed q [] c h = h
-  there_closed q (d ∷ calls) c h =
-      elim (d.request == q) as (λ b. Has (cond (cond b false true) (d ∷ without_call q calls) (without_call q calls)) c → Has (d ∷ calls) c) [
-        | true ↦ (λ k. inr (there_closed q calls c k))
-        | false ↦ (λ k. elim k [ inl e ↦ inl e | inr more ↦ inr (there_closed q calls c more) ])
-      ] h
-
   calm_message : (w : World R L) (f : Sent R L → Effects R L A C) (o : Option (Sent R L)) (mark : Option Mark) → ((m : Sent R L) → IsCalm w (f m)) → IsCalm w (at_message w f o mark)
   calm_message w f None mark is = calm_still w _ (λ n. refl) refl (refl, refl)
   calm_message w f (Some m) None is = calm_still w _ (λ n. refl) refl (refl, refl)
@@ -102,12 +108,6 @@ module _ {R L A C : Type 0} (join : R → R → R) (s : Words R) (k : Layouts L)
       calm_cond w (leb 1 w.applied && not (is_member_at k w n)) _ _ (still _ (λ m. refl) refl (refl, refl))
       (calm_cond w (leb _ w.applied) _ _ (still _ (λ m. refl) refl (refl, refl))
       (calm_cond w (leb most_versions w.applied) _ _ (still _ (λ m. refl) refl (refl, refl)) (calm_chosen n _ choice)))
-
-  -- no request opens in it, and no phase begins
-  abbrev pub IsCalmStep : Step R → Type 0
-  IsCalmStep (Open n) = ⊥
-  IsCalmStep (Begin q phase) = ⊥
-  IsCalmStep _ = ⊤
 
   pub calm_step : ((n : ℕ) → AreDifferent (w.nodes n).calls) → (step : Step R) (choice : Choice L A C) → IsCalmStep step → IsCalm w (effects join s k trio stage w step choice)
   calm_step differ Trio choice is =

@@ -3,7 +3,15 @@ pub mod Places
 pub mod Rows
 pub mod Covering
 pub mod Placing
+pub mod Good
 pub mod Sound
 pub mod Grown
 pub mod Starting
+pub mod Reached
 pub mod Calm
+pub mod Ends
+pub mod Stepping
+pub mod Opening
+pub mod Drawing
+pub mod Finishing
+pub mod Beginning

@@ -15,14 +15,14 @@ use Rattle.world_model.specs.Worlds.{IsLawfulRun, run}
 use Rattle.object_model.specs.Object.{Name, row_key, object}
 use Rattle.object_model.specs.Run.{World, Moving, Order, Answer, stored, found, nothing, Record, began, finished, Draw, State}
 use Rattle.object_model.specs.Fresh.{IsAcknowledged, IsFresh}
-use Rattle.object_laws.proofs.Rows.{IsOf}
+use Rattle.object_laws.proofs.Good.{IsGood}
 
--- the world is one that lawful steps lead to, and each row that they began to store is of what was drawn
+-- the world is one that lawful steps lead to, and each row that they began to store is good
 pub record IsReached (draws : List Draw) (w : World) : Type 0 where
   pub moves : List Moving
   pub lawful : IsLawfulRun any_join words empty moves
   pub is : w ≡ run any_join words empty moves
-  pub stores : All (λ (m : Moving). All (IsOf draws) (stored_by m.step)) moves
+  pub stores : All (λ (m : Moving). All (IsGood draws) (stored_by m.step)) moves
 
 -- request q was asked for, with this word and this name
 pub record IsAsked (orders : List Order) (q : ℕ) (word : DoneWord) (name : Name) : Type 0 where
@@ -60,8 +60,11 @@ pub record HasKept (kept : List AnyRow) (name : Name) (version : Version) : Type
 abbrev pub HasAcknowledged : List AnyRow → List Record → Type 0
 HasAcknowledged kept history = (name : Name) (version : Version) → IsAcknowledged history name version → HasKept kept name version
 
+abbrev pub IsProper : AnyRow → Type 0
+IsProper row = IsTrue (words.is_proper row)
+
 abbrev pub AreProper : List AnyRow → Type 0
-AreProper rows = All (λ r. IsTrue (words.is_proper r)) rows
+AreProper rows = All IsProper rows
 
 -- request q asks for its object, and all that was acknowledged before it began was kept before its read phase began
 pub record IsAsking (orders : List Order) (history : List Record) (q : ℕ) (question : Question AnyRow) : Type 0 where
