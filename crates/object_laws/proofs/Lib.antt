@@ -15,3 +15,6 @@ pub mod Opening
 pub mod Drawing
 pub mod Finishing
 pub mod Beginning
+pub mod Buckets
+pub mod Values
+pub mod Ending
