@@ -33,12 +33,7 @@ pub fn kind<R>(packet: &Packet<R>) -> SentKind
 }
 
 /// Says that a node raised its own sync, where it rose.
-pub fn push_synced(
-    lines: &mut List<Line>,
-    node: u8,
-    before: u32,
-    after: u32,
-) -> Result<(), Memory>
+pub fn push_synced(lines: &mut List<Line>, node: u8, before: u32, after: u32) -> Result<(), Memory>
     ensures pushed { OnOk result (lines.new ≡ lines.old ++ cond (leb after before) [] (Synced node after ∷ [])) }
     ensures want { IfErr result (λ e. e ≡ Want) }
 {

@@ -1,6 +1,8 @@
 //! The nodes of the cluster, by their numbers.
-ghost use Rattle.std.specs.Prelude.{◌≡◌, ◌⊎◌, ◌<◌, ◌≤◌, ◌+◌, ℕ, true, false, Option, Some, None, List, reverse, length, IsTrue, OnOk, OnErr, IfOk, IfErr};
+ghost use Rattle.std.specs.Prelude.{◌≡◌, ◌⊎◌, ◌<◌, ◌≤◌, ◌+◌, ℕ, true, false, Option, Some, None, List, reverse, length, IsTrue, IsSome, OnOk, OnErr, IfOk, IfErr};
 ghost use Rattle.std.specs.List.{All};
+ghost use Rattle.std.specs.Ordering.{nat_cmp};
+ghost use Rattle.std.specs.BTreeMap.{get};
 ghost use Rattle.crdt_core.specs.declared.memory.Memory.TheVariants.{Want, Full};
 ghost use Rattle.layout_trackers.specs.declared.which.Which.TheVariants.{Sync};
 ghost use Rattle.layout_trackers.specs.Trackers.{counts};
@@ -57,6 +59,8 @@ impl<S: Schema> Nodes<S> {
     // A node with this number is there.
     fn ready(&mut self, node: u8) -> Result<(), Memory>
         ensures same { OnOk result ((xs : ℕ → Model S.Row Layout) → AreNodes S.Row.join S.words self.old xs → AreNodes S.Row.join S.words self.new xs) }
+        ensures present { OnOk result (IsSome (get nat_cmp self.new.by_number node)) }
+        ensures newest { OnOk result (newest_in self.new node ≡ newest_in self.old node) }
         ensures want { IfErr result (λ e. e ≡ Want) }
     {
         if self.by_number.get(&node).is_none() {

@@ -20,8 +20,9 @@ pub fn staged(
     ensures staged { IfOk result (λ new. new.list ≡ staged_model node role roles.now.list) }
     ensures want { IfErr result (λ e. e ≡ Want) }
 {
+    let others = roles.list.as_slice();
     let mut list = List::new(alloc);
-    for other in roles.list.as_slice() {
+    for other in others {
         if other.node < node {
             list.push(other.copy()?)?;
         }
@@ -29,7 +30,7 @@ pub fn staged(
     if let Some((zone, kind)) = role {
         list.push(Role { node, zone, kind })?;
     }
-    for other in roles.list.as_slice() {
+    for other in others {
         if node < other.node {
             list.push(other.copy()?)?;
         }
