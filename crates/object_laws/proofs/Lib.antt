@@ -18,3 +18,4 @@ pub mod Beginning
 pub mod Buckets
 pub mod Values
 pub mod Ending
+pub mod Events

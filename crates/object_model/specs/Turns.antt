@@ -11,12 +11,7 @@ use Rattle.object_model.specs.declared.event.Event.TheVariants.{Role, Redundancy
 use Rattle.object_model.specs.declared.event.Numbered.{Numbered}
 use Rattle.object_model.specs.Run.{State, Turn, outcome_of, after}
 
-<<<<<<< HEAD
--- an apply that computes a layout is given what is computed from the staged roles, and no other event is given one; roles
--- are of nodes 1 to 64, and redundancies of one to three zones
-=======
 -- an apply that computes a layout is given what is computed from the staged roles, and no other event is given one; roles and redundancies are in their ranges
->>>>>>> dcb67c0393a8674c5c8c9a84da064c2c5a0d07e1
 abbrev pub IsLawfulEvent : State → Event → Decision → Type 0
 IsLawfulEvent s (Apply n) choice = IsLawfulStep s.world (step.Apply n) choice
 IsLawfulEvent s (Role n role) choice = IsMeant {R = AnyRow} (step.Role n role) × IsNone choice
