@@ -5,12 +5,13 @@ use Rattle.std.proofs.lemmas.List.Elements.{All-nil, All-cons}
 use Rattle.crdt_rows.specs.declared.version.Version.{Version}
 use Rattle.crdt_rows.specs.declared.any_row.AnyRow.{AnyRow}
 use Rattle.crdt_rows.specs.AnyRow.{any_join}
+use Rattle.table_schema.specs.Words.{Words}
 use Rattle.object_schema.specs.Schema.{words}
 use Rattle.node_parts.specs.Layouts.{layouts}
 use Rattle.wire_messages.specs.declared.phase.PhaseEnd.{PhaseEnd}
 use Rattle.wire_messages.specs.declared.phase.PhaseEnd.TheVariants.{Row as Answered, Window, Kept, Block}
 use Rattle.cluster_machine.specs.declared.line.DoneWord.{DoneWord}
-use Rattle.cluster_machine.specs.declared.line.DoneWord.TheVariants.{Put as WordPut, Get as WordGet}
+use Rattle.cluster_machine.specs.declared.line.DoneWord.TheVariants.{Put as WordPut, Get as WordGet, Head, Delete, Copy}
 use Rattle.cluster_machine.specs.declared.step.Refusal.TheVariants.{NotMember, NoSuchBucket}
 use Rattle.cluster_machine.specs.declared.step.Step.TheVariants as step
 use Rattle.cluster_machine.specs.Node.{Ended}
@@ -19,7 +20,7 @@ use Rattle.cluster_machine.specs.World.{empty, is_member_at, numbered, undeliver
 use Rattle.machine_origins.specs.Origins.{stored_by}
 use Rattle.world_model.specs.Choices.{Decision}
 use Rattle.world_model.specs.Trio.{trio, stage_trio}
-use Rattle.world_model.specs.Worlds.{IsMeant, IsLawful as IsLawfulMove, FitAll, run as world_run}
+use Rattle.world_model.specs.Worlds.{Model, Doing, next, IsMeant, IsLawful as IsLawfulMove, FitAll, run as world_run}
 use Rattle.object_model.specs.declared.event.Event.{Event}
 use Rattle.object_model.specs.declared.event.Event.TheVariants.{Trio, Bucket, Role, Redundancy, Apply, Tick, Put, Get, Deliver, Drain, Expire, Gossip, Ack, Sync, SyncAck, Clean}
 use Rattle.object_model.specs.Object.{object, Newest, absent, inline, in_blocks, newest_of}
@@ -42,9 +43,9 @@ use Rattle.object_laws.proofs.Beginning.{asks_fine, stores_fine}
 use Rattle.object_laws.proofs.Ending.{put_fresh, put_kept, finishes_keeps, gets_keeps}
 
 -- steps that fit, in two parts
-fit_parts : (w : World) (first rest : List Moving) → FitAll any_join words w (first ++ rest) → FitAll any_join words w first × FitAll any_join words (world_run any_join words w first) rest
-fit_parts w [] rest fits = (tt, fits)
-fit_parts w (m ∷ first) rest fits = let more = fit_parts _ first rest fits.1 in ((fits.0, more.0), more.1)
+fit_parts : {R : Type 0} (join : R → R → R) (ws : Words R) (w : Model R) (first rest : List (Doing R)) → FitAll join ws w (first ++ rest) → FitAll join ws w first × FitAll join ws (world_run join ws w first) rest
+fit_parts join ws w [] rest fits = (tt, fits)
+fit_parts join ws w (m ∷ first) rest fits = let more = fit_parts join ws (next join ws w m) first rest fits.1 in ((fits.0, more.0), more.1)
 
 module _ (every : EveryWorld) where
   is_calm : (s : State) (m : Moving) → IsCalmStep m.step → IsSound s → IsCalm s.world (effect s m)
@@ -67,13 +68,13 @@ module _ (every : EveryWorld) where
   begins_keeps : (s : State) (n : ℕ) (order : Order) → FitAll any_join words s.world (begins s n order).moves → IsSound s → IsSound (begins s n order).state
   begins_keeps s n order fits sound =
       elim (is_member_at layouts s.world n) as (λ b. is_member_at layouts s.world n ≡ b →
-          FitAll any_join words s.world (if b then (if is_bucket s.buckets order.name.bucket then opened s n order else refusal s NoSuchBucket) else refusal s NotMember).moves →
-          IsSound (if b then (if is_bucket s.buckets order.name.bucket then opened s n order else refusal s NoSuchBucket) else refusal s NotMember).state) [
+      FitAll any_join words s.world (if b then (if is_bucket s.buckets order.name.bucket then opened s n order else refusal s NoSuchBucket) else refusal s NotMember).moves →
+      IsSound (if b then (if is_bucket s.buckets order.name.bucket then opened s n order else refusal s NoSuchBucket) else refusal s NotMember).state) [
         | true ↦ λ member. elim (is_bucket s.buckets order.name.bucket) as (λ b. is_bucket s.buckets order.name.bucket ≡ b →
             FitAll any_join words s.world (if b then opened s n order else refusal s NoSuchBucket).moves → IsSound (if b then opened s n order else refusal s NoSuchBucket).state) [
-          | true ↦ λ bucket fits. opened_keeps s n order member bucket fits sound
-          | false ↦ λ _ fits. sound
-        ] refl
+              | true ↦ λ bucket fits. opened_keeps s n order member bucket fits sound
+              | false ↦ λ _ fits. sound
+            ] refl
         | false ↦ λ _ fits. sound
       ] refl fits
 
@@ -104,6 +105,9 @@ module _ (every : EveryWorld) where
     follows_keeps order WordGet version (Window rows more) at word_is version_is fits sound h = sound
     follows_keeps order WordGet version Kept at word_is version_is fits sound h = sound
     follows_keeps order WordGet version (Block bytes) at word_is version_is fits sound h = sound
+    follows_keeps order Head version end at word_is version_is fits sound h = sound
+    follows_keeps order Delete version end at word_is version_is fits sound h = sound
+    follows_keeps order Copy version end at word_is version_is fits sound h = sound
 
     follow_keeps : (order : Option Order) (end : PhaseEnd AnyRow) → numbered s.orders q ≡ order → FitAll any_join words s.world (follow s q order end).moves → IsSound s →
         IsEnd s.orders s.history s.world.kept s.world.reads q end → IsSound (follow s q order end).state
@@ -146,6 +150,9 @@ module _ (every : EveryWorld) where
     follows_leads order WordGet version (Window rows more) = refl
     follows_leads order WordGet version Kept = refl
     follows_leads order WordGet version (Block bytes) = refl
+    follows_leads order Head version end = refl
+    follows_leads order Delete version end = refl
+    follows_leads order Copy version end = refl
 
     follow_leads : (order : Option Order) (end : PhaseEnd AnyRow) → Leads (follow s q order end)
     follow_leads None end = refl
@@ -159,11 +166,11 @@ module _ (every : EveryWorld) where
   drains_keeps zero s fits sound = sound
   drains_keeps (suc n) s fits sound =
       elim (undelivered s.world) as (λ o. FitAll any_join words s.world (elim o as (λ o. Outcome) [ None ↦ silent s | Some m ↦ let o = delivers s m in then_drains o (drains n o.state) ]).moves →
-          IsSound (elim o as (λ o. Outcome) [ None ↦ silent s | Some m ↦ let o = delivers s m in then_drains o (drains n o.state) ]).state) [
+      IsSound (elim o as (λ o. Outcome) [ None ↦ silent s | Some m ↦ let o = delivers s m in then_drains o (drains n o.state) ]).state) [
         | None ↦ λ fits. sound
         | Some m ↦ λ fits.
             let first : Outcome = delivers s m in
-            let parts = fit_parts s.world first.moves (drains n first.state).moves fits in
+            let parts = fit_parts any_join words s.world first.moves (drains n first.state).moves fits in
             let leads : world_run any_join words s.world first.moves ≡ first.state.world = goes_on_leads (doing s (plainly (step.Deliver m))) (effect s (plainly (step.Deliver m))).ends in
             drains_keeps n first.state (subst (λ w. FitAll any_join words w (drains n first.state).moves) leads parts.1) (delivers_keeps s m parts.0 sound)
       ] fits
