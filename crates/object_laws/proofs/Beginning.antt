@@ -1,11 +1,9 @@
 -- The phases of puts and gets: what a request is in whose phase has begun.
-use Rattle.std.specs.Prelude.{◌≡◌, ℕ, Bool, true, false, ◌==◌, cond, List, [], ◌∷◌, ◌++◌, Option, Some, None, refl}
+use Rattle.std.specs.Prelude.{◌≡◌, ℕ, true, false, ◌==◌, cond, List, [], ◌∷◌, ◌++◌, Option, Some, None, refl}
 use Rattle.std.specs.Option.{unwrap_or}
 use Rattle.std.proofs.Common.{ap, sym, subst, ◌∙◌, inl, inr}
 use Rattle.std.proofs.lemmas.Bool.{eqb-true}
-use Rattle.std.specs.List.{Contains}
 use Rattle.std.proofs.lemmas.List.Elements.{All-nil, Contains-append_left}
-use Rattle.control_model.specs.Facts.{Has}
 use Rattle.crdt_rows.specs.declared.version.Version.{Version}
 use Rattle.crdt_rows.specs.declared.any_row.AnyRow.{AnyRow}
 use Rattle.crdt_rows.specs.AnyRow.{any_join}
@@ -26,7 +24,7 @@ use Rattle.world_model.specs.Trio.{trio, stage_trio}
 use Rattle.object_model.specs.Object.{Name, row_key, bucket_hash, object}
 use Rattle.object_model.specs.Run.{State, Order, Record, began, plainly, effect, asks, stores}
 use Rattle.object_model.specs.Fresh.{IsAcknowledged}
-use Rattle.object_laws.proofs.Sound.{HasKept, IsProper, AreProper, IsPresent, ArePresent, IsSound}
+use Rattle.object_laws.proofs.Sound.{HasKept, IsProper, AreProper, IsPresent, IsSound}
 use Rattle.object_laws.proofs.Stepping.{IsFine, fine_still, fine_one, fine_cond}
 
 found_request : (calls : List (Call AnyRow)) (q : ℕ) (c : Call AnyRow) → call_at calls q ≡ Some c → c.request ≡ q

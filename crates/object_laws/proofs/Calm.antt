@@ -1,8 +1,8 @@
 -- Each step but that a request opens and that a phase begins: every open request was open before, in the same phase, and at
 -- most one phase ends.
-use Rattle.std.specs.Prelude.{◌≡◌, ℕ, suc, Bool, true, false, not, ◌&&◌, ◌||◌, ◌==◌, cond, leb, List, [], ◌∷◌, Option, Some, None, refl, ⊤}
+use Rattle.std.specs.Prelude.{◌≡◌, ℕ, Bool, true, false, not, ◌&&◌, ◌||◌, ◌==◌, cond, leb, List, [], ◌∷◌, Option, Some, None, refl, ⊤}
 use Rattle.std.specs.Option.{unwrap_or}
-use Rattle.std.proofs.Common.{ap, sym, subst, inl, inr}
+use Rattle.std.proofs.Common.{sym, subst, inl, inr}
 use Rattle.std.proofs.lemmas.Bool.{eqb-true}
 use Rattle.control_model.specs.Facts.{Has}
 use Rattle.layout_roles.specs.declared.role.Role.{Role}
@@ -16,9 +16,9 @@ use Rattle.cluster_machine.specs.Node.{Call, Node, Did}
 use Rattle.cluster_machine.specs.Phases.{without_call, closed}
 use Rattle.cluster_machine.specs.Acts.{acts, appends, restarts}
 use Rattle.cluster_machine.specs.World.{World, Sent, Mark, Request, numbered, clock, is_member_at}
-use Rattle.cluster_machine.specs.Step.{most_versions, Choice, given, none_given, Effects, only, changed, at_message, expires, closing, chosen, applies_at, trio_applies, acting, effects}
+use Rattle.cluster_machine.specs.Step.{most_versions, Choice, given, none_given, Effects, only, changed, at_message, expires, closing, chosen, applies_at, acting, effects}
 use Rattle.machine_origins.specs.Following.{AreDifferent, Continues, AtMostOne, Follows}
-use Rattle.machine_origins.proofs.FollowingCalls.{continues_self, follows_quiet}
+use Rattle.machine_origins.proofs.FollowingCalls.{continues_self}
 use Rattle.machine_origins.proofs.FollowingSteps.{follows_receives, follows_acts}
 
 -- no request opens in it, and no phase begins

@@ -1,6 +1,6 @@
 -- What each event keeps, up to the run of a schedule.
-use Rattle.std.proofs.Common.{◌≡◌, ℕ, zero, suc, Bool, true, false, Option, Some, None, List, [], ◌∷◌, ◌++◌, length, if◌then◌else◌, refl, sym, subst, arith}
-use Rattle.std.specs.List.{All, AllByRecursion, Contains}
+use Rattle.std.proofs.Common.{◌≡◌, ℕ, zero, suc, true, false, Option, Some, None, List, [], ◌∷◌, ◌++◌, length, if◌then◌else◌, refl, subst, arith}
+use Rattle.std.specs.List.{All, AllByRecursion}
 use Rattle.std.proofs.lemmas.List.Elements.{All-nil, All-cons}
 use Rattle.crdt_rows.specs.declared.version.Version.{Version}
 use Rattle.crdt_rows.specs.declared.any_row.AnyRow.{AnyRow}
@@ -16,7 +16,7 @@ use Rattle.cluster_machine.specs.declared.step.Refusal.TheVariants.{NotMember, N
 use Rattle.cluster_machine.specs.declared.step.Step.TheVariants as step
 use Rattle.cluster_machine.specs.Node.{Ended}
 use Rattle.cluster_machine.specs.Run.{IsStep}
-use Rattle.cluster_machine.specs.World.{empty, is_member_at, numbered, undelivered}
+use Rattle.cluster_machine.specs.World.{is_member_at, numbered, undelivered}
 use Rattle.machine_origins.specs.Origins.{stored_by}
 use Rattle.world_model.specs.Choices.{Decision}
 use Rattle.world_model.specs.Trio.{trio, stage_trio}
@@ -24,7 +24,7 @@ use Rattle.world_model.specs.Worlds.{Model, Doing, next, IsMeant, IsLawful as Is
 use Rattle.object_model.specs.declared.event.Event.{Event}
 use Rattle.object_model.specs.declared.event.Event.TheVariants.{Trio, Bucket, Role, Redundancy, Apply, Tick, Put, Get, Deliver, Drain, Expire, Gossip, Ack, Sync, SyncAck, Clean}
 use Rattle.object_model.specs.Object.{object, Newest, absent, inline, in_blocks, newest_of}
-use Rattle.object_model.specs.Run.{World, Moving, Order, stored, State, start, Outcome, silent, refusal, plainly, effect, doing, is_bucket, asks, opened, begins, drawn, stores, writes, put_line, gets, follows, follow, goes_on, delivers, then_drains, drains, outcome, Turn, after, run}
+use Rattle.object_model.specs.Run.{Moving, Order, stored, State, start, Outcome, silent, refusal, plainly, effect, doing, is_bucket, asks, opened, begins, drawn, stores, writes, put_line, gets, follows, follow, goes_on, delivers, then_drains, drains, outcome, Turn, after, run}
 use Rattle.object_model.specs.Turns.{IsLawfulEvent, AreLawful, AllFit}
 use Rattle.object_model.specs.Fresh.{IsFresh}
 use Rattle.object_laws.proofs.Places.{numbered_set_here}

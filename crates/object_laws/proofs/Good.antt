@@ -1,5 +1,5 @@
 -- The rows of objects that a run stores: their versions were drawn, and their names fit.
-use Rattle.std.proofs.Common.{◌≡◌, ℕ, List, [], ◌∷◌, map, ap, arith, refl}
+use Rattle.std.proofs.Common.{◌≡◌, List, [], ◌∷◌, map, arith}
 use Rattle.std.specs.Prelude.{IsTrue}
 use Rattle.std.specs.List.{All, Contains}
 use Rattle.std.proofs.lemmas.List.Elements.{All-nil, All-cons, All-map, All-contains}

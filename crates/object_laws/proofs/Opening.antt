@@ -1,11 +1,9 @@
 -- A request that opens keeps a state sound.
-use Rattle.std.proofs.Common.{◌≡◌, inl, inr, ℕ, suc, ◌+◌, ◌≤◌, Bool, true, false, ◌==◌, cond, Some, None, List, [], ◌∷◌, ◌++◌, length, refl, sym, ap, ◌∙◌, subst, arith}
+use Rattle.std.proofs.Common.{◌≡◌, inl, inr, ℕ, suc, ◌+◌, ◌≤◌, true, false, ◌==◌, cond, Some, None, List, [], ◌∷◌, ◌++◌, length, refl, sym, ap, ◌∙◌, subst, arith}
 use Rattle.std.specs.Option.{unwrap_or}
-use Rattle.std.proofs.lemmas.Bool.{eqb-true}
 use Rattle.std.proofs.lemmas.List.{length_push}
 use Rattle.std.specs.List.{Contains}
 use Rattle.std.proofs.lemmas.List.Elements.{All-nil, Contains-append_left, Contains-push, Contains-push_cases}
-use Rattle.control_model.specs.Facts.{Has}
 use Rattle.crdt_rows.specs.declared.any_row.AnyRow.{AnyRow}
 use Rattle.crdt_rows.specs.AnyRow.{any_join}
 use Rattle.layout_roles.specs.declared.layout.Layout.{Layout}
@@ -14,13 +12,13 @@ use Rattle.node_parts.specs.Layouts.{layouts}
 use Rattle.cluster_machine.specs.declared.line.DoneWord.{DoneWord}
 use Rattle.cluster_machine.specs.declared.line.DoneWord.TheVariants.{Put}
 use Rattle.cluster_machine.specs.declared.step.Step.TheVariants.{Open}
-use Rattle.cluster_machine.specs.Node.{Call, Node, resting}
+use Rattle.cluster_machine.specs.Node.{Call, Node}
 use Rattle.cluster_machine.specs.Phases.{opened}
 use Rattle.cluster_machine.specs.World.{Request, numbered, is_member_at}
 use Rattle.cluster_machine.specs.Step.{only, changed}
 use Rattle.world_model.specs.Worlds.{IsLawfulRun, newest_at, next}
 use Rattle.object_model.specs.Object.{Name}
-use Rattle.object_model.specs.Run.{World, Moving, State, Order, stored, Record, began, finished, plainly}
+use Rattle.object_model.specs.Run.{World, State, Order, stored, Record, began, finished, plainly}
 use Rattle.object_laws.proofs.Places.{numbered_append, numbered_push_cases, numbered_last, numbered_within}
 use Rattle.object_laws.proofs.Good.{IsGood}
 use Rattle.object_laws.proofs.Sound.{word_of, IsTold, HasAcknowledged, AreProper, IsPresent, ArePresent, IsSound}

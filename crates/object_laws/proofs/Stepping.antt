@@ -1,8 +1,7 @@
 -- A step of the world keeps a state sound where what it adds fits the orders.
 use Rattle.std.specs.Prelude.{◌≡◌, ℕ, ◌-◌, Bool, true, false, ◌==◌, cond, List, [], ◌∷◌, ◌++◌, length, Option, Some, None, refl}
 use Rattle.std.specs.Option.{unwrap_or}
-use Rattle.std.proofs.Common.{ap, sym, subst, ◌∙◌, inl, inr}
-use Rattle.std.proofs.lemmas.Bool.{eqb-true}
+use Rattle.std.proofs.Common.{ap, sym, subst, ◌∙◌}
 use Rattle.std.proofs.lemmas.List.{append-nil, length-set}
 use Rattle.std.specs.List.{All, AllByRecursion}
 use Rattle.std.proofs.lemmas.List.Elements.{All-append}
@@ -10,7 +9,7 @@ use Rattle.crdt_rows.specs.declared.any_row.AnyRow.{AnyRow}
 use Rattle.crdt_rows.specs.AnyRow.{any_join}
 use Rattle.layout_roles.specs.declared.layout.Layout.{Layout}
 use Rattle.object_schema.specs.Schema.{words}
-use Rattle.cluster_machine.specs.Node.{Call, Node, Ended}
+use Rattle.cluster_machine.specs.Node.{Node, Ended}
 use Rattle.cluster_machine.specs.World.{Request, numbered}
 use Rattle.cluster_machine.specs.Step.{only, changed, shut, shut_one}
 use Rattle.machine_origins.specs.Origins.{stored_by}

@@ -1,10 +1,9 @@
 -- What a read phase that ended gives: versions that puts drew, and none older than what was acknowledged before.
-use Rattle.std.proofs.Common.{◌≡◌, ℕ, Option, Some, None, List, [], ◌∷◌, ◌++◌, refl, sym, ap, ◌∙◌, subst}
+use Rattle.std.proofs.Common.{◌≡◌, ℕ, Option, Some, None, List, ◌∷◌, ◌++◌, refl, sym, ap, ◌∙◌, subst}
 use Rattle.std.specs.List.{Contains}
 use Rattle.blake2_hash.specs.declared.digest.Hash32.{Hash32}
 use Rattle.crdt_rows.specs.declared.version.Version.{Version}
 use Rattle.crdt_rows.specs.declared.any_row.AnyRow.{AnyRow}
-use Rattle.crdt_rows.specs.declared.any_row.AnyRow.TheVariants as rows
 use Rattle.crdt_rows.specs.AnyRow.{any_join}
 use Rattle.table_model.specs.Rows.{row_at}
 use Rattle.object_schema.specs.Schema.{words}
@@ -12,7 +11,7 @@ use Rattle.cluster_machine.specs.declared.line.DoneWord.TheVariants.{Put, Get}
 use Rattle.cluster_machine.specs.Node.{read}
 use Rattle.cluster_machine.specs.Kept.{IsOver}
 use Rattle.machine_origins.specs.Origins.{Gave}
-use Rattle.object_model.specs.Object.{Name, row_key, Newest, absent, inline, newest_of}
+use Rattle.object_model.specs.Object.{Name, row_key, absent, inline, newest_of}
 use Rattle.object_model.specs.Run.{State, Order, found, nothing, Record, began, Draw}
 use Rattle.object_model.specs.Fresh.{IsUpTo, IsAcknowledged, IsDrawn, NoClash}
 use Rattle.object_laws.proofs.Cuts.{at_cut}
