@@ -78,12 +78,13 @@ start = record { world = empty; buckets = []; orders = []; history = []; draws =
 pub record Outcome : Type 0 where
   pub state : State
   pub moves : List Moving
+  pub new_versions : List Version  -- that puts drew
   pub refused : Option (Refusal Cut)
   pub words : Words
   pub lines : List (Line Applied)
 
 abbrev pub silent : State → Outcome
-silent s = record { state = s; moves = []; refused = None; words = Empty; lines = [] }
+silent s = record { state = s; moves = []; new_versions = []; refused = None; words = Empty; lines = [] }
 
 abbrev pub refusal : State → Refusal Cut → Outcome
 refusal s r = record (silent s) { refused = Some r }
@@ -103,7 +104,7 @@ doing s m = record s { world = next any_join words s.world m }
 abbrev pub plain : State → Moving → Outcome
 plain s m =
     let e = effect s m in
-    record { state = doing s m; moves = m ∷ []; refused = e.refused; words = e.words; lines = e.tells }
+    record { state = doing s m; moves = m ∷ []; new_versions = []; refused = e.refused; words = e.words; lines = e.tells }
 
 -- the bytes of an object: size many, the first one fill, modulo 251
 abbrev pub object_bytes : ℕ → ℕ → List ℕ
@@ -131,6 +132,7 @@ opened s n order =
         history = s.history ++ began q n order.word order.name ∷ [];
       };
       moves = opens ∷ asks q order.name ∷ [];
+      new_versions = [];
       refused = None;
       words = One q;
       lines = e.tells;
@@ -158,6 +160,7 @@ writes s q order version =
         draws = record { request = q; name = order.name; version = version; bytes = order.bytes } ∷ s.draws;
       };
       moves = stores q order version ∷ [];
+      new_versions = version ∷ [];
       refused = None;
       words = Empty;
       lines = e.tells;
@@ -168,6 +171,7 @@ abbrev pub finishes : State → ℕ → Answer → Line Applied → Outcome
 finishes s q answer line = record {
   state = record (doing s (plainly (step.Close q))) { history = s.history ++ finished q answer ∷ [] };
   moves = plainly (step.Close q) ∷ [];
+  new_versions = [];
   refused = None;
   words = Empty;
   lines = line ∷ [];
@@ -208,7 +212,7 @@ goes_on s (e ∷ es) = follow s e.request (numbered s.orders e.request) e.how
 
 -- an outcome before which this step was done
 abbrev pub after_step : Moving → Effect AnyRow → Outcome → Outcome
-after_step m e o = record { state = o.state; moves = m ∷ o.moves; refused = e.refused; words = e.words; lines = e.tells ++ o.lines }
+after_step m e o = record { state = o.state; moves = m ∷ o.moves; new_versions = o.new_versions; refused = e.refused; words = e.words; lines = e.tells ++ o.lines }
 
 -- a delivery, and in the same step what the request does whose phase it ended
 abbrev pub delivers : State → ℕ → Outcome
@@ -217,7 +221,7 @@ delivers s m =
     let e = effect s d in after_step d e (goes_on (doing s d) e.ends)
 
 abbrev pub then_drains : Outcome → Outcome → Outcome
-then_drains first rest = record { state = rest.state; moves = first.moves ++ rest.moves; refused = None; words = Empty; lines = first.lines ++ rest.lines }
+then_drains first rest = record { state = rest.state; moves = first.moves ++ rest.moves; new_versions = first.new_versions ++ rest.new_versions; refused = None; words = Empty; lines = first.lines ++ rest.lines }
 
 -- up to n deliveries, each of the least message that was neither delivered nor lost
 abbrev pub drains : ℕ → State → Outcome

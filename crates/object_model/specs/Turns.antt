@@ -1,5 +1,7 @@
 -- Which turns are lawful, and when everything fits after them.
-use Rattle.std.specs.Prelude.{⊤, List, [], ◌∷◌, map}
+use Rattle.std.specs.Prelude.{◌<◌, ◌^◌, ⊤, List, [], ◌∷◌, map}
+use Rattle.std.specs.List.{AllByRecursion}
+use Rattle.crdt_rows.specs.declared.version.Version.{Version}
 use Rattle.crdt_rows.specs.declared.any_row.AnyRow.{AnyRow}
 use Rattle.crdt_rows.specs.AnyRow.{any_join}
 use Rattle.object_schema.specs.Schema.{words}
@@ -9,7 +11,7 @@ use Rattle.world_model.specs.Worlds.{IsMeant, IsLawfulStep, FitAll, HaveRoom}
 use Rattle.object_model.specs.declared.event.Event.{Event}
 use Rattle.object_model.specs.declared.event.Event.TheVariants.{Role, Redundancy, Apply}
 use Rattle.object_model.specs.declared.event.Numbered.{Numbered}
-use Rattle.object_model.specs.Run.{State, Turn, outcome_of, after}
+use Rattle.object_model.specs.Run.{State, Outcome, Turn, outcome_of, after}
 
 -- an apply that computes a layout is given what is computed from the staged roles, and no other event is given one; roles and redundancies are in their ranges
 abbrev pub IsLawfulEvent : State → Event → Decision → Type 0
@@ -33,9 +35,12 @@ abbrev pub AllFit : State → List Turn → Type 0
 AllFit s [] = ⊤
 AllFit s (t ∷ ts) = Fits s t × AllFit (after s t) ts
 
--- and so does every number and row that waits at a node
+-- and so does every number and row that waits at a node, and every timestamp
+abbrev pub FitsOutcome : State → Outcome → Type 0
+FitsOutcome s o = HaveRoom any_join words s.world o.moves × AllByRecursion (λ (v : Version). v.ts < 2 ^ 64) o.new_versions
+
 abbrev pub HasRoom : State → Turn → Type 0
-HasRoom s t = HaveRoom any_join words s.world (outcome_of s t).moves
+HasRoom s t = FitsOutcome s (outcome_of s t)
 
 -- the events of turns
 abbrev pub events_of : List Turn → List Numbered
