@@ -1,13 +1,13 @@
 -- What an event with given words is.
 use Rattle.std.proofs.Common.{◌≡◌, ℕ, ◌<◌, ◌≤◌, List, [], ◌∷◌, length, Bor, slice_index_or, refl, ◌∙◌, ap, arith, codes, decimal, Option, Some, None, Err}
 use Rattle.object_model.specs.declared.event.Event.{Event}
-use Rattle.object_model.specs.declared.event.Event.TheVariants.{Trio, Bucket, Tick, Put, Get, Deliver, Drain}
+use Rattle.object_model.specs.declared.event.Event.TheVariants.{Trio, Bucket, Role, Redundancy, Apply, Tick, Put, Get, Deliver, Drain, Expire, Gossip, Ack, Sync, SyncAck, Clean}
 use Rattle.text_model.specs.Grammar.{IsFrom}
 use Rattle.text_model.specs.Words.{IsSpelledBy}
 use Rattle.schedule_text.specs.declared.fault.LineFault.{LineFault}
 use Rattle.schedule_text.specs.declared.fault.LineFault.TheVariants.{Outside, Memory}
 use Rattle.schedule_text.specs.declared.event_line.Kind.{Kind}
-use Rattle.schedule_text.specs.declared.event_line.Kind.TheVariants.{Trio as KindTrio, Bucket as KindBucket, Tick as KindTick, Put as KindPut, Get as KindGet, Deliver as KindDeliver, Drain as KindDrain}
+use Rattle.schedule_text.specs.declared.event_line.Kind.TheVariants as kind
 use Rattle.schedule_text.specs.Reads.{Reads, Finds}
 use Rattle.schedule_text.specs.Kinds.{IsPlace, texts, kind_text}
 
@@ -103,13 +103,22 @@ module _ (words : Words) where
 
 -- the first word of an event is that of a kind
 has_kind : (w : List ℕ) (ws : List (List ℕ)) (e : Event) → IsSpelledBy (w ∷ ws) e → (k : Kind) × (w ≡ kind_text k)
-has_kind w ws Trio h = (KindTrio, let s = h.spelled in cc)
-has_kind w ws (Bucket _) h = (KindBucket, let s = h.spelled in cc)
-has_kind w ws (Tick _) h = (KindTick, let s = h.spelled in cc)
-has_kind w ws (Put _ _ _ _ _) h = (KindPut, let s = h.spelled in cc)
-has_kind w ws (Get _ _ _) h = (KindGet, let s = h.spelled in cc)
-has_kind w ws (Deliver _) h = (KindDeliver, let s = h.spelled in cc)
-has_kind w ws (Drain _) h = (KindDrain, let s = h.spelled in cc)
+has_kind w ws Trio h = (kind.Trio, let s = h.spelled in cc)
+has_kind w ws (Bucket _) h = (kind.Bucket, let s = h.spelled in cc)
+has_kind w ws (Role _ _) h = (kind.Role, let s = h.spelled in cc)
+has_kind w ws (Redundancy _) h = (kind.Redundancy, let s = h.spelled in cc)
+has_kind w ws (Apply _) h = (kind.Apply, let s = h.spelled in cc)
+has_kind w ws (Tick _) h = (kind.Tick, let s = h.spelled in cc)
+has_kind w ws (Put _ _ _ _ _) h = (kind.Put, let s = h.spelled in cc)
+has_kind w ws (Get _ _ _) h = (kind.Get, let s = h.spelled in cc)
+has_kind w ws (Deliver _) h = (kind.Deliver, let s = h.spelled in cc)
+has_kind w ws (Drain _) h = (kind.Drain, let s = h.spelled in cc)
+has_kind w ws (Expire _) h = (kind.Expire, let s = h.spelled in cc)
+has_kind w ws (Gossip _ _) h = (kind.Gossip, let s = h.spelled in cc)
+has_kind w ws (Ack _) h = (kind.Ack, let s = h.spelled in cc)
+has_kind w ws (Sync _) h = (kind.Sync, let s = h.spelled in cc)
+has_kind w ws (SyncAck _) h = (kind.SyncAck, let s = h.spelled in cc)
+has_kind w ws (Clean _) h = (kind.Clean, let s = h.spelled in cc)
 
 -- a first word of no kind leaves the line unread
 pub no_kind : (words : Words) → 1 ≤ length words → (o : Option Kind) → Finds (λ k. at words 0 ≡ kind_text k) o → o ≡ None → (f : LineFault) → Reads (IsSpelledBy (texts words)) (Err f)

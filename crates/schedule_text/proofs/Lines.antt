@@ -1,8 +1,8 @@
 -- From the words of a line to the line.
-use Rattle.std.proofs.Common.{◌≡◌, ℕ, ◌≤◌, List, length, take, length-take, Result, Ok, Err, Bor, sym, ◌∙◌, subst, arith, lit≤}
+use Rattle.std.proofs.Common.{◌≡◌, ℕ, ◌≤◌, Some, None, List, length, take, length-take, Result, Ok, Err, Bor, sym, ◌∙◌, subst, arith, lit≤}
 use Rattle.std.proofs.lemmas.List.{take_all}
 use Rattle.object_model.specs.declared.event.Event.{Event}
-use Rattle.object_model.specs.declared.event.Event.TheVariants.{Trio, Bucket, Tick, Put, Get, Deliver, Drain}
+use Rattle.object_model.specs.declared.event.Event.TheVariants.{Role}
 use Rattle.text_model.specs.Grammar.{Spells}
 use Rattle.text_model.specs.Words.{words_in, words_of, IsSpelledBy}
 use Rattle.text_model.specs.Spelled.{words_spelled, line_spelled}
@@ -13,13 +13,9 @@ use Rattle.schedule_text.specs.Kinds.{texts}
 
 -- an event has six words at most
 few : (e : Event) → length (words_of e) ≤ 6
-few Trio = lit≤ tt
-few (Bucket _) = lit≤ tt
-few (Tick _) = lit≤ tt
-few (Put _ _ _ _ _) = lit≤ tt
-few (Get _ _ _) = lit≤ tt
-few (Deliver _) = lit≤ tt
-few (Drain _) = lit≤ tt
+few (Role _ None) = lit≤ tt
+few (Role _ (Some _)) = lit≤ tt
+few e = lit≤ tt
 
 taken : (ws : List (List ℕ)) → length (take 7 ws) ≤ 6 → take 7 ws ≡ ws
 taken ws h = take_all 7 ws (let l = length-take 7 ws in omega arith)

@@ -3,7 +3,7 @@ use Rattle.std.specs.Prelude.{◌≡◌, ℕ, List, codes, decimal, map}
 use Rattle.std.specs.Borrow.{Bor}
 use Rattle.text_model.specs.Grammar.{IsNode, IsBucketName, IsKey}
 use Rattle.schedule_text.specs.declared.event_line.Kind.{Kind}
-use Rattle.schedule_text.specs.declared.event_line.Kind.TheVariants.{Trio, Bucket, Tick, Put, Get, Deliver, Drain}
+use Rattle.schedule_text.specs.declared.event_line.Kind.TheVariants.{Trio, Bucket, Role, Redundancy, Apply, Tick, Put, Get, Deliver, Drain, Expire, Gossip, Ack, Sync, SyncAck, Clean}
 
 -- the bytes of some words
 abbrev pub texts : List (Bor (List ℕ)) → List (List ℕ)
@@ -12,11 +12,20 @@ texts words = map (λ word. word.now) words
 abbrev pub kind_text : Kind → List ℕ
 kind_text Trio = codes "trio"
 kind_text Bucket = codes "bucket"
+kind_text Role = codes "role"
+kind_text Redundancy = codes "redundancy"
+kind_text Apply = codes "apply"
 kind_text Tick = codes "tick"
 kind_text Put = codes "put"
 kind_text Get = codes "get"
 kind_text Deliver = codes "deliver"
 kind_text Drain = codes "drain"
+kind_text Expire = codes "expire"
+kind_text Gossip = codes "gossip"
+kind_text Ack = codes "ack"
+kind_text Sync = codes "sync"
+kind_text SyncAck = codes "syncack"
+kind_text Clean = codes "clean"
 
 -- a node, a bucket and a key that three words name
 abbrev pub IsPlace : List ℕ → List ℕ → List ℕ → ℕ × List ℕ × List ℕ → Type 0

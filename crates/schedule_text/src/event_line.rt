@@ -1,13 +1,14 @@
 //! The event that a line spells.
-ghost use Rattle.std.specs.Prelude.{◌≡◌, ◌↔◌, ◌∷◌, IsTrue, codes, take, IfOk};
-ghost use Rattle.text_model.specs.Grammar.{Spells};
+ghost use Rattle.std.specs.Prelude.{◌≡◌, [], ◌∷◌, codes, decimal, take, IfOk};
+ghost use Rattle.text_model.specs.Grammar.{Spells, IsNode};
 ghost use Rattle.text_model.specs.Words.{words_in, IsSpelledBy};
 ghost use Rattle.schedule_text.specs.Reads.{Finds, Reads};
 ghost use Rattle.schedule_text.specs.Kinds.{kind_text, texts, IsPlace};
 
 use crate::fault::LineFault;
-use crate::names::{bucket_name, object_key};
+use crate::names::{bucket_name, is, object_key};
 use crate::numbers::{node, number};
+use crate::roles::{role_of, wanted};
 use crdt_core::Bytes;
 use object_model::Event;
 use std::alloc::{AllocError, Global};
@@ -17,17 +18,20 @@ use std::alloc::{AllocError, Global};
 pub(crate) enum Kind {
     Trio,
     Bucket,
+    Role,
+    Redundancy,
+    Apply,
     Tick,
     Put,
     Get,
     Deliver,
     Drain,
-}
-
-fn is(word: &[u8], name: &[u8]) -> bool
-    ensures { IsTrue result ↔ (word.now ≡ name.now) }
-{
-    word == name
+    Expire,
+    Gossip,
+    Ack,
+    Sync,
+    SyncAck,
+    Clean,
 }
 
 fn kind_of(word: &[u8]) -> Option<Kind>
@@ -37,6 +41,12 @@ fn kind_of(word: &[u8]) -> Option<Kind>
         Some(Kind::Trio)
     } else if is(word, b"bucket") {
         Some(Kind::Bucket)
+    } else if is(word, b"role") {
+        Some(Kind::Role)
+    } else if is(word, b"redundancy") {
+        Some(Kind::Redundancy)
+    } else if is(word, b"apply") {
+        Some(Kind::Apply)
     } else if is(word, b"tick") {
         Some(Kind::Tick)
     } else if is(word, b"put") {
@@ -47,6 +57,18 @@ fn kind_of(word: &[u8]) -> Option<Kind>
         Some(Kind::Deliver)
     } else if is(word, b"drain") {
         Some(Kind::Drain)
+    } else if is(word, b"expire") {
+        Some(Kind::Expire)
+    } else if is(word, b"gossip") {
+        Some(Kind::Gossip)
+    } else if is(word, b"ack") {
+        Some(Kind::Ack)
+    } else if is(word, b"sync") {
+        Some(Kind::Sync)
+    } else if is(word, b"syncack") {
+        Some(Kind::SyncAck)
+    } else if is(word, b"clean") {
+        Some(Kind::Clean)
     } else {
         None
     }
@@ -68,6 +90,43 @@ fn bucket(alloc: Global, words: &[&[u8]]) -> Result<Event, LineFault>
         [name] => Ok(Event::Bucket(bucket_name(alloc, name)?)),
         _ => Err(LineFault::Outside),
     }
+}
+
+fn role(alloc: Global, words: &[&[u8]]) -> Result<Event, LineFault>
+    ensures { Reads (IsSpelledBy (codes "role" ∷ texts words.now)) result }
+{
+    let [at, rest @ ..] = words else {
+        return Err(LineFault::Outside);
+    };
+    Ok(Event::Role {
+        node: node(at)?,
+        role: role_of(alloc, rest)?,
+    })
+}
+
+fn redundancy(words: &[&[u8]]) -> Result<Event, LineFault>
+    ensures { Reads (IsSpelledBy (codes "redundancy" ∷ texts words.now)) result }
+{
+    match *words {
+        [word] => Ok(Event::Redundancy(wanted(word)?)),
+        _ => Err(LineFault::Outside),
+    }
+}
+
+/// The node that one word names, where there is one.
+fn node_word(words: &[&[u8]]) -> Result<u8, LineFault>
+    ensures { Reads (λ n. (texts words.now ≡ decimal n ∷ []) × IsNode n) result }
+{
+    match *words {
+        [at] => node(at),
+        _ => Err(LineFault::Outside),
+    }
+}
+
+fn apply(words: &[&[u8]]) -> Result<Event, LineFault>
+    ensures { Reads (IsSpelledBy (codes "apply" ∷ texts words.now)) result }
+{
+    Ok(Event::Apply(node_word(words)?))
 }
 
 fn tick(words: &[&[u8]]) -> Result<Event, LineFault>
@@ -139,6 +198,51 @@ fn drain(words: &[&[u8]]) -> Result<Event, LineFault>
     }
 }
 
+fn expire(words: &[&[u8]]) -> Result<Event, LineFault>
+    ensures { Reads (IsSpelledBy (codes "expire" ∷ texts words.now)) result }
+{
+    match *words {
+        [request] => Ok(Event::Expire(number(request, 1, 4_294_967_295)?)),
+        _ => Err(LineFault::Outside),
+    }
+}
+
+fn gossip(words: &[&[u8]]) -> Result<Event, LineFault>
+    ensures { Reads (IsSpelledBy (codes "gossip" ∷ texts words.now)) result }
+{
+    match *words {
+        [from, to] => Ok(Event::Gossip {
+            from: node(from)?,
+            to: node(to)?,
+        }),
+        _ => Err(LineFault::Outside),
+    }
+}
+
+fn ack(words: &[&[u8]]) -> Result<Event, LineFault>
+    ensures { Reads (IsSpelledBy (codes "ack" ∷ texts words.now)) result }
+{
+    Ok(Event::Ack(node_word(words)?))
+}
+
+fn sync(words: &[&[u8]]) -> Result<Event, LineFault>
+    ensures { Reads (IsSpelledBy (codes "sync" ∷ texts words.now)) result }
+{
+    Ok(Event::Sync(node_word(words)?))
+}
+
+fn sync_ack(words: &[&[u8]]) -> Result<Event, LineFault>
+    ensures { Reads (IsSpelledBy (codes "syncack" ∷ texts words.now)) result }
+{
+    Ok(Event::SyncAck(node_word(words)?))
+}
+
+fn clean(words: &[&[u8]]) -> Result<Event, LineFault>
+    ensures { Reads (IsSpelledBy (codes "clean" ∷ texts words.now)) result }
+{
+    Ok(Event::Clean(node_word(words)?))
+}
+
 /// The event that the words of a line spell.
 fn spelled(alloc: Global, words: &[&[u8]]) -> Result<Event, LineFault>
     ensures { Reads (IsSpelledBy (texts words.now)) result }
@@ -149,11 +253,20 @@ fn spelled(alloc: Global, words: &[&[u8]]) -> Result<Event, LineFault>
     match kind_of(first).ok_or(LineFault::Outside)? {
         Kind::Trio => trio(rest),
         Kind::Bucket => bucket(alloc, rest),
+        Kind::Role => role(alloc, rest),
+        Kind::Redundancy => redundancy(rest),
+        Kind::Apply => apply(rest),
         Kind::Tick => tick(rest),
         Kind::Put => put(alloc, rest),
         Kind::Get => get(alloc, rest),
         Kind::Deliver => deliver(rest),
         Kind::Drain => drain(rest),
+        Kind::Expire => expire(rest),
+        Kind::Gossip => gossip(rest),
+        Kind::Ack => ack(rest),
+        Kind::Sync => sync(rest),
+        Kind::SyncAck => sync_ack(rest),
+        Kind::Clean => clean(rest),
     }
 }
 

@@ -1,14 +1,15 @@
 //! Reads a schedule: the events that its lines spell, or the first line outside the grammar.
 //!
 //! `parse` goes line by line. A line is cut at its spaces (`event_line`); its first word says which
-//! event it is, and the others are numbers (`numbers`) and names (`names`) in their ranges. Empty lines
-//! and those that begin with `#` are no events, but count as lines.
+//! event it is, and the others are numbers (`numbers`), names (`names`) and roles (`roles`) in their
+//! ranges. Empty lines and those that begin with `#` are no events, but count as lines.
 #![tactic(auto)]
 
 mod event_line;
 mod fault;
 mod names;
 mod numbers;
+mod roles;
 mod schedule;
 #[cfg(test)]
 mod tests;

@@ -1,11 +1,18 @@
 //! Words that are names.
 ghost use Rattle.std.specs.Prelude.{◌≡◌, ◌↔◌, IsTrue};
-ghost use Rattle.text_model.specs.Grammar.{is_bucket_end, is_bucket_byte, is_key_byte, IsBucketName, IsKey};
+ghost use Rattle.text_model.specs.Grammar.{is_bucket_end, is_bucket_byte, is_key_byte, IsBucketName, IsZone, IsKey};
 ghost use Rattle.schedule_text.specs.Reads.{Reads};
 
 use crate::fault::LineFault;
 use crdt_core::Bytes;
 use std::alloc::Global;
+
+/// Whether a word is this name.
+pub(crate) fn is(word: &[u8], name: &[u8]) -> bool
+    ensures { IsTrue result ↔ (word.now ≡ name.now) }
+{
+    word == name
+}
 
 fn is_bucket_end(byte: u8) -> bool
     ensures { result ≡ is_bucket_end byte }
@@ -40,6 +47,12 @@ fn is_bucket_name(word: &[u8]) -> bool
     }
 }
 
+fn is_zone(word: &[u8]) -> bool
+    ensures { IsTrue result ↔ IsZone word.now }
+{
+    1 <= word.len() && word.len() <= 16 && word.iter().all(|byte| is_bucket_end(*byte))
+}
+
 fn is_key(word: &[u8]) -> bool
     ensures { IsTrue result ↔ IsKey word.now }
 {
@@ -51,6 +64,16 @@ pub(crate) fn bucket_name(alloc: Global, word: &[u8]) -> Result<Bytes, LineFault
     ensures { Reads (λ name. (name ≡ word.now) × IsBucketName name) result }
 {
     if !is_bucket_name(word) {
+        return Err(LineFault::Outside);
+    }
+    Ok(Bytes::from_slice(alloc, word)?)
+}
+
+/// A zone's name has 1 to 16 lower-case letters and digits.
+pub(crate) fn zone_name(alloc: Global, word: &[u8]) -> Result<Bytes, LineFault>
+    ensures { Reads (λ name. (name ≡ word.now) × IsZone name) result }
+{
+    if !is_zone(word) {
         return Err(LineFault::Outside);
     }
     Ok(Bytes::from_slice(alloc, word)?)

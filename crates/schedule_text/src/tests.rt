@@ -1,5 +1,7 @@
 //! Lines within the grammar and outside of it, written by hand.
 use crate::{Event, ScheduleFault, parse};
+use crdt_core::Bytes;
+use layout_roles::{Kind, Redundancy};
 use std::alloc::Global;
 use std::test::Fail;
 
@@ -22,6 +24,88 @@ fn reads_numbers_at_their_bounds(rt: HostRuntime) -> Result<(), Fail> {
         )
     );
     assert!(rt; matches!(only(alloc, b"drain 1000000")?, Event::Drain(1_000_000)));
+    assert!(rt;
+        matches!(
+            only(alloc, b"expire 4294967295")?,
+            Event::Expire(4_294_967_295)
+        )
+    );
+    Ok(())
+}
+
+#[test]
+fn reads_nodes(rt: HostRuntime) -> Result<(), Fail> {
+    let alloc = rt.alloc();
+    assert!(rt; matches!(only(alloc, b"apply 1")?, Event::Apply(1)));
+    assert!(rt; matches!(only(alloc, b"ack 16")?, Event::Ack(16)));
+    assert!(rt; matches!(only(alloc, b"sync 2")?, Event::Sync(2)));
+    assert!(rt; matches!(only(alloc, b"syncack 3")?, Event::SyncAck(3)));
+    assert!(rt; matches!(only(alloc, b"clean 10")?, Event::Clean(10)));
+    assert!(rt;
+        matches!(
+            only(alloc, b"gossip 4 15")?,
+            Event::Gossip { from: 4, to: 15 }
+        )
+    );
+    Ok(())
+}
+
+#[test]
+fn reads_redundancies(rt: HostRuntime) -> Result<(), Fail> {
+    let alloc = rt.alloc();
+    assert!(rt;
+        matches!(
+            only(alloc, b"redundancy 1")?,
+            Event::Redundancy(Redundancy::AtLeast(1))
+        )
+    );
+    assert!(rt;
+        matches!(
+            only(alloc, b"redundancy 3")?,
+            Event::Redundancy(Redundancy::AtLeast(3))
+        )
+    );
+    assert!(rt;
+        matches!(
+            only(alloc, b"redundancy maximum")?,
+            Event::Redundancy(Redundancy::Maximum)
+        )
+    );
+    Ok(())
+}
+
+/// The node, the zone and what the node does, of a text with one event that gives a role.
+fn only_role(alloc: Global, text: &[u8]) -> Result<(u8, Bytes, Kind), Fail> {
+    match only(alloc, text)? {
+        Event::Role { node, role } => {
+            let (zone, kind) = role.ok_or("no role")?;
+            Ok((node, zone.0, kind))
+        }
+        _ => Err("no role".into()),
+    }
+}
+
+#[test]
+fn reads_roles(rt: HostRuntime) -> Result<(), Fail> {
+    let alloc = rt.alloc();
+    assert!(rt;
+        matches!(
+            only(alloc, b"role 16 none")?,
+            Event::Role {
+                node: 16,
+                role: None
+            }
+        )
+    );
+    let (node, zone, kind) = only_role(alloc, b"role 1 z9 1125899906842624")?;
+    assert_eq!(rt; (node, kind), (1, Kind::Storage(1_125_899_906_842_624)));
+    assert_eq!(rt; zone.as_slice(), b"z9".as_slice());
+    let (node, zone, kind) = only_role(alloc, b"role 2 none 1")?;
+    assert_eq!(rt; (node, kind), (2, Kind::Storage(1)));
+    assert_eq!(rt; zone.as_slice(), b"none".as_slice());
+    let (node, zone, kind) = only_role(alloc, b"role 3 0123456789abcdef gateway")?;
+    assert_eq!(rt; (node, kind), (3, Kind::Gateway));
+    assert_eq!(rt; zone.as_slice(), b"0123456789abcdef".as_slice());
     Ok(())
 }
 
@@ -97,6 +181,40 @@ fn refuses_lines_outside_the_grammar(rt: HostRuntime) {
         b"deliver 4294967296",
         b"drain 0",
         b"drain 1000001",
+        b"role 1",
+        b"role 1 zone",
+        b"role 1 None",
+        b"role 17 none",
+        b"role 1 none ",
+        b"role 1 Zone 5",
+        b"role 1 a-b 5",
+        b"role 1  5",
+        b"role 1 0123456789abcdefg 5",
+        b"role 1 zone 0",
+        b"role 1 zone 05",
+        b"role 1 zone 1125899906842625",
+        b"role 1 zone Gateway",
+        b"role 1 zone 5 5",
+        b"redundancy",
+        b"redundancy 0",
+        b"redundancy 4",
+        b"redundancy Maximum",
+        b"redundancy maximum 1",
+        b"apply",
+        b"apply 0",
+        b"apply 1 1",
+        b"expire 0",
+        b"expire 4294967296",
+        b"gossip 1",
+        b"gossip 0 1",
+        b"gossip 1 17",
+        b"gossip 1 2 3",
+        b"ack 17",
+        b"sync 0",
+        b"sync ack 1",
+        b"syncack 1 ",
+        b"clean",
+        b"clean 01",
     ];
     for line in lines {
         assert!(rt; matches!(parse(rt.alloc(), line), Err(ScheduleFault::BadLine(1))));

@@ -1,5 +1,5 @@
 -- A line spells an event where its words are those of the event, and it spells no second one.
-use Rattle.std.proofs.Common.{◌≡◌, ℕ, ◌^◌, ◌<◌, Bool, true, false, ◌==◌, List, [], ◌∷◌, refl, sym, ap, ◌∙◌, arith, rules, append_assoc, eqb-true}
+use Rattle.std.proofs.Common.{◌≡◌, ℕ, ◌^◌, ◌<◌, Bool, true, false, ◌==◌, Some, None, List, [], ◌∷◌, refl, sym, ap, ◌∙◌, arith, rules, append_assoc, append-nil, eqb-true}
 use Rattle.std.specs.Prelude.{⊤, IsTrue, codes, decimal}
 use Rattle.std.specs.List.{All, AllByRecursion, join_with_byte}
 use Rattle.std.specs.Int.{IsInRange}
@@ -9,9 +9,13 @@ use Rattle.std.proofs.lemmas.Fmt.{decimal_is_IsNumeral}
 use Rattle.std.proofs.lemmas.Str.Parse.{digit_from_value}
 use Rattle.std.proofs.lemmas.List.Elements.{All-nil, All-cons, All-from_recursion}
 use Rattle.std.proofs.lemmas.List.Splits.{slice_split_none, slice_split_at, join_with_byte-slice_split}
+use Rattle.layout_roles.specs.declared.role.Kind.{Kind}
+use Rattle.layout_roles.specs.declared.role.Kind.TheVariants.{Storage, Gateway}
+use Rattle.layout_roles.specs.declared.redundancy.Redundancy as wanted
+use Rattle.layout_roles.specs.declared.redundancy.Redundancy.TheVariants.{AtLeast, Maximum}
 use Rattle.object_model.specs.declared.event.Event.{Event}
-use Rattle.object_model.specs.declared.event.Event.TheVariants.{Trio, Bucket, Tick, Put, Get, Deliver, Drain}
-use Rattle.text_model.specs.Grammar.{spelling, Spells, IsAllowed, IsBucketName, IsKey, is_bucket_byte, is_key_byte}
+use Rattle.object_model.specs.declared.event.Event.TheVariants.{Trio, Bucket, Role, Redundancy, Apply, Tick, Put, Get, Deliver, Drain, Expire, Gossip, Ack, Sync, SyncAck, Clean}
+use Rattle.text_model.specs.Grammar.{spelling, Spells, IsAllowed, IsBucketName, IsZone, IsKey, IsCapacity, IsRedundancy, is_bucket_end, is_bucket_byte, is_key_byte, kind_word, redundancy_word}
 use Rattle.text_model.specs.Words.{is_space, words_in, words_of, IsSpelledBy}
 
 abbrev NoSpace : List ℕ → Type 0
@@ -37,6 +41,9 @@ passes p at b h =
 bucket_no_space : (name : List ℕ) → IsBucketName name → NoSpace name
 bucket_no_space name h = λ k d inside. passes is_bucket_byte refl _ (h.bytes k d inside)
 
+zone_no_space : (name : List ℕ) → IsZone name → NoSpace name
+zone_no_space name h = λ k d inside. passes is_bucket_end refl _ (h.bytes k d inside)
+
 key_no_space : (key : List ℕ) → IsKey key → NoSpace key
 key_no_space key h = λ k d inside. passes is_key_byte refl _ (h.bytes k d inside)
 
@@ -54,10 +61,32 @@ number_no_space n h = digits_no_space (decimal n) (decimal_is_IsNumeral n h).0.1
 name_no_space : (name : List ℕ) → AllByRecursion (λ b. is_space b ≡ false) name → NoSpace name
 name_no_space name h = All-from_recursion (λ b. is_space b ≡ false) name h
 
+kind_no_space : (k : Kind) → IsCapacity k → NoSpace (kind_word k)
+kind_no_space (Storage capacity) h = number_no_space capacity (omega arith)
+kind_no_space Gateway h = name_no_space (codes "gateway") (search rules)
+
+redundancy_no_space : (r : wanted.Redundancy) → IsRedundancy r → NoSpace (redundancy_word r)
+redundancy_no_space (AtLeast r) h = number_no_space r (omega arith)
+redundancy_no_space Maximum h = name_no_space (codes "maximum") (search rules)
+
+-- a name and a number
+named : (name : List ℕ) → AllByRecursion (λ b. is_space b ≡ false) name → (n : ℕ) → n < 2 ^ 64 → NoSpaces (name ∷ decimal n ∷ [])
+named name h n small = (name_no_space name h, (number_no_space n small, tt))
+
 no_spaces : (e : Event) → IsAllowed e → NoSpaces (words_of e)
 no_spaces Trio h = (name_no_space (codes "trio") (search rules), tt)
 no_spaces (Bucket name) h = (name_no_space (codes "bucket") (search rules), (bucket_no_space name h, tt))
-no_spaces (Tick ms) h = (name_no_space (codes "tick") (search rules), (number_no_space ms (omega arith), tt))
+no_spaces (Role n None) h = (
+  name_no_space (codes "role") (search rules),
+  (number_no_space n (omega arith), (name_no_space (codes "none") (search rules), tt)),
+)
+no_spaces (Role n (Some role)) h = (
+  name_no_space (codes "role") (search rules),
+  (number_no_space n (omega arith), (zone_no_space role.0.0 h.1.0, (kind_no_space role.1 h.1.1, tt))),
+)
+no_spaces (Redundancy r) h = (name_no_space (codes "redundancy") (search rules), (redundancy_no_space r h, tt))
+no_spaces (Apply n) h = named (codes "apply") (search rules) n (omega arith)
+no_spaces (Tick ms) h = named (codes "tick") (search rules) ms (omega arith)
 no_spaces (Put n bucket key size fill) h = (
   name_no_space (codes "put") (search rules),
   (
@@ -69,26 +98,27 @@ no_spaces (Get n bucket key) h = (
   name_no_space (codes "get") (search rules),
   (number_no_space n (omega arith), (bucket_no_space bucket h.1, (key_no_space key h.2, tt))),
 )
-no_spaces (Deliver m) h = (name_no_space (codes "deliver") (search rules), (number_no_space m (omega arith), tt))
-no_spaces (Drain n) h = (name_no_space (codes "drain") (search rules), (number_no_space n (omega arith), tt))
+no_spaces (Deliver m) h = named (codes "deliver") (search rules) m (omega arith)
+no_spaces (Drain n) h = named (codes "drain") (search rules) n (omega arith)
+no_spaces (Expire q) h = named (codes "expire") (search rules) q (omega arith)
+no_spaces (Gossip from to) h = (
+  name_no_space (codes "gossip") (search rules),
+  (number_no_space from (omega arith), (number_no_space to (omega arith), tt)),
+)
+no_spaces (Ack n) h = named (codes "ack") (search rules) n (omega arith)
+no_spaces (Sync n) h = named (codes "sync") (search rules) n (omega arith)
+no_spaces (SyncAck n) h = named (codes "syncack") (search rules) n (omega arith)
+no_spaces (Clean n) h = named (codes "clean") (search rules) n (omega arith)
 
 spelling-joined : (e : Event) → spelling e ≡ join_with_byte 32 (words_of e)
-spelling-joined Trio = refl
-spelling-joined (Bucket name) = refl
-spelling-joined (Tick ms) = refl
+spelling-joined (Role n (Some role)) = simp append-nil
 spelling-joined (Put n bucket key size fill) = simp append_assoc
 spelling-joined (Get n bucket key) = simp append_assoc
-spelling-joined (Deliver m) = refl
-spelling-joined (Drain n) = refl
+spelling-joined e = refl
 
 words_of_spelling : (e : Event) → IsAllowed e → words_in (join_with_byte 32 (words_of e)) ≡ words_of e
 words_of_spelling Trio h = split_join _ _ (no_spaces Trio h)
-words_of_spelling (Bucket name) h = split_join _ _ (no_spaces (Bucket name) h)
-words_of_spelling (Tick ms) h = split_join _ _ (no_spaces (Tick ms) h)
-words_of_spelling (Put n bucket key size fill) h = split_join _ _ (no_spaces (Put n bucket key size fill) h)
-words_of_spelling (Get n bucket key) h = split_join _ _ (no_spaces (Get n bucket key) h)
-words_of_spelling (Deliver m) h = split_join _ _ (no_spaces (Deliver m) h)
-words_of_spelling (Drain n) h = split_join _ _ (no_spaces (Drain n) h)
+words_of_spelling e h = split_join _ _ (no_spaces e h)
 
 -- the words of a line that spells an event
 pub words_spelled : (line : List ℕ) (e : Event) → Spells line e → IsSpelledBy (words_in line) e

@@ -1,36 +1,87 @@
 -- A text spells one list of events, or has one first bad line, and never both.
-use Rattle.std.proofs.Common.{◌≡◌, ℕ, suc, ◌^◌, ◌<◌, ◌⊎◌, inl, inr, if◌then◌else◌, Option, Some, None, List, [], ◌∷◌, refl, sym, ap, subst, ◌∙◌, arith, bytes_eq, lit<}
+use Rattle.std.proofs.Common.{◌≡◌, ℕ, suc, ◌^◌, ◌<◌, ◌⊎◌, inl, inr, Bool, true, false, if◌then◌else◌, Option, Some, None, List, [], ◌∷◌, length, refl, sym, ap, subst, ◌∙◌, arith, bytes_eq}
 use Rattle.std.specs.Prelude.{codes, decimal}
-use Rattle.std.specs.Str.Parse.{digits_value}
+use Rattle.std.specs.Int.{IsInRange}
+use Rattle.std.specs.Str.Parse.{AllDigits, digits_value}
+use Rattle.std.proofs.lemmas.Bool.Decides.{nat_tests}
 use Rattle.std.proofs.lemmas.Fmt.{decimal_is_IsNumeral}
+use Rattle.std.proofs.lemmas.Str.Parse.{digit_from_value}
+use Rattle.layout_roles.specs.declared.role.Kind.{Kind}
+use Rattle.layout_roles.specs.declared.role.Kind.TheVariants.{Storage, Gateway}
+use Rattle.layout_roles.specs.declared.redundancy.Redundancy as wanted
+use Rattle.layout_roles.specs.declared.redundancy.Redundancy.TheVariants.{AtLeast, Maximum}
 use Rattle.object_model.specs.declared.event.Event.{Event}
-use Rattle.object_model.specs.declared.event.Event.TheVariants.{Trio, Bucket, Tick, Put, Get, Deliver, Drain}
+use Rattle.object_model.specs.declared.event.Event.TheVariants.{Trio, Bucket, Role, Redundancy, Apply, Tick, Put, Get, Deliver, Drain, Expire, Gossip, Ack, Sync, SyncAck, Clean}
 use Rattle.object_model.specs.declared.event.Numbered.{Numbered}
-use Rattle.text_model.specs.Grammar.{spelling, Spells, IsAllowed, IsBlank, IsBad, SpellsAll, no_line, blank_line, event_line, IsFirstBad, this_line, after_blank, after_event, IsSchedule, IsFirstBadLine}
+use Rattle.text_model.specs.Grammar.{spelling, Spells, IsAllowed, IsCapacity, IsRedundancy, is_digit, kind_word, redundancy_word, IsBlank, IsBad, SpellsAll, no_line, blank_line, event_line, IsFirstBad, this_line, after_blank, after_event, IsSchedule, IsFirstBadLine}
 use Rattle.text_model.specs.Words.{words_of}
 use Rattle.text_model.specs.Spelled.{words_spelled}
 
 abbrev number_in : List ℕ → ℕ
 number_in word = digits_value 10 word
 
+-- whether a word begins with a digit
+abbrev is_number : List ℕ → Bool
+is_number [] = false
+is_number (b ∷ bs) = is_digit b
+
+abbrev kind_in : List ℕ → Kind
+kind_in word = if is_number word then Storage (number_in word) else Gateway
+
+abbrev redundancy_in : List ℕ → wanted.Redundancy
+redundancy_in word = if is_number word then AtLeast (number_in word) else Maximum
+
 -- the event that has these words, if one has
 abbrev event_with : List (List ℕ) → Option Event
 event_with (w ∷ []) = Some Trio
 event_with (w ∷ a ∷ []) =
     if bytes_eq w (codes "bucket") then Some (Bucket a)
+    else if bytes_eq w (codes "redundancy") then Some (Redundancy (redundancy_in a))
+    else if bytes_eq w (codes "apply") then Some (Apply (number_in a))
     else if bytes_eq w (codes "tick") then Some (Tick (number_in a))
     else if bytes_eq w (codes "deliver") then Some (Deliver (number_in a))
-    else Some (Drain (number_in a))
-event_with (w ∷ n ∷ bucket ∷ key ∷ []) = Some (Get (number_in n) bucket key)
+    else if bytes_eq w (codes "drain") then Some (Drain (number_in a))
+    else if bytes_eq w (codes "expire") then Some (Expire (number_in a))
+    else if bytes_eq w (codes "ack") then Some (Ack (number_in a))
+    else if bytes_eq w (codes "sync") then Some (Sync (number_in a))
+    else if bytes_eq w (codes "syncack") then Some (SyncAck (number_in a))
+    else Some (Clean (number_in a))
+event_with (w ∷ a ∷ b ∷ []) =
+    if bytes_eq w (codes "role") then Some (Role (number_in a) None) else Some (Gossip (number_in a) (number_in b))
+event_with (w ∷ n ∷ a ∷ b ∷ []) =
+    if bytes_eq w (codes "role") then Some (Role (number_in n) (Some (record { 0 = a }, kind_in b)))
+    else Some (Get (number_in n) a b)
 event_with (w ∷ n ∷ bucket ∷ key ∷ size ∷ fill ∷ []) = Some (Put (number_in n) bucket key (number_in size) (number_in fill))
 event_with _ = None
 
 read_back : (n : ℕ) → n < 2 ^ 64 → number_in (decimal n) ≡ n
 read_back n h = (decimal_is_IsNumeral n h).1
 
+begins_with_digit : (ds : List ℕ) → 0 < length ds → AllDigits 10 ds → is_number ds ≡ true
+begins_with_digit [] some h = absurd (omega arith)
+begins_with_digit (c ∷ cs) some h = let r : IsInRange 48 57 c = digit_from_value c h.0 in grind (arith, nat_tests)
+
+decimal_is_number : (n : ℕ) → n < 2 ^ 64 → is_number (decimal n) ≡ true
+decimal_is_number n h = let d = (decimal_is_IsNumeral n h).0 in begins_with_digit (decimal n) d.0 d.1
+
+kind_back : (k : Kind) → IsCapacity k → kind_in (kind_word k) ≡ k
+kind_back (Storage c) h = rw (decimal_is_number c (omega arith), read_back c (omega arith)) refl
+kind_back Gateway h = refl
+
+redundancy_back : (r : wanted.Redundancy) → IsRedundancy r → redundancy_in (redundancy_word r) ≡ r
+redundancy_back (AtLeast r) h = rw (decimal_is_number r (omega arith), read_back r (omega arith)) refl
+redundancy_back Maximum h = refl
+
 event_with-words_of : (e : Event) → IsAllowed e → event_with (words_of e) ≡ Some e
 event_with-words_of Trio h = refl
 event_with-words_of (Bucket name) h = refl
+event_with-words_of (Role n None) h = ap (λ x. Some (Role x None)) (read_back n (omega arith))
+event_with-words_of (Role n (Some role)) h =
+    let a = read_back n (omega arith) in
+    let b = kind_back role.1 h.1.1 in
+    rw (a, b) refl
+event_with-words_of (Redundancy r) h = ap (λ x. Some (Redundancy x)) (redundancy_back r h)
+event_with-words_of (Apply n) h = ap (λ x. Some (Apply x)) (read_back n (omega arith))
 event_with-words_of (Tick ms) h = ap (λ x. Some (Tick x)) (read_back ms (omega arith))
 event_with-words_of (Put n bucket key size fill) h =
     let a = read_back n (omega arith) in
@@ -40,6 +91,15 @@ event_with-words_of (Put n bucket key size fill) h =
 event_with-words_of (Get n bucket key) h = ap (λ x. Some (Get x bucket key)) (read_back n (omega arith))
 event_with-words_of (Deliver m) h = ap (λ x. Some (Deliver x)) (read_back m (omega arith))
 event_with-words_of (Drain n) h = ap (λ x. Some (Drain x)) (read_back n (omega arith))
+event_with-words_of (Expire q) h = ap (λ x. Some (Expire x)) (read_back q (omega arith))
+event_with-words_of (Gossip from to) h =
+    let a = read_back from (omega arith) in
+    let b = read_back to (omega arith) in
+    rw (a, b) refl
+event_with-words_of (Ack n) h = ap (λ x. Some (Ack x)) (read_back n (omega arith))
+event_with-words_of (Sync n) h = ap (λ x. Some (Sync x)) (read_back n (omega arith))
+event_with-words_of (SyncAck n) h = ap (λ x. Some (SyncAck x)) (read_back n (omega arith))
+event_with-words_of (Clean n) h = ap (λ x. Some (Clean x)) (read_back n (omega arith))
 
 -- a line spells one event
 pub one_event : (line : List ℕ) (a b : Event) → Spells line a → Spells line b → a ≡ b
@@ -50,17 +110,9 @@ one_event line a b h k =
     sym (event_with-words_of a h.allowed) ∙ ap event_with (sym x.spelled ∙ y.spelled) ∙ event_with-words_of b k.allowed in
     cc
 
-no_hash : (b : ℕ) → 96 < b → b ≡ 35 → ⊥
-no_hash b letter hash = omega arith
-
 not_blank : (e : Event) → IsBlank (spelling e) → ⊥
-not_blank Trio h = no_hash 116 (lit< tt) h
-not_blank (Bucket _) h = no_hash 98 (lit< tt) h
-not_blank (Tick _) h = no_hash 116 (lit< tt) h
-not_blank (Put _ _ _ _ _) h = no_hash 112 (lit< tt) h
-not_blank (Get _ _ _) h = no_hash 103 (lit< tt) h
-not_blank (Deliver _) h = no_hash 100 (lit< tt) h
-not_blank (Drain _) h = no_hash 100 (lit< tt) h
+not_blank Trio h = omega arith
+not_blank e h = omega arith
 
 -- a blank line spells none
 pub blank_spells_none : (line : List ℕ) (e : Event) → IsBlank line → Spells line e → ⊥
