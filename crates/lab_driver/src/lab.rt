@@ -12,7 +12,7 @@ ghost use Rattle.object_model.specs.Object.{newest_of};
 ghost use Rattle.object_model.specs.Run.{is_bucket as has_bucket};
 ghost use Rattle.lab_driver.specs.Stands.{ordered, IsMeantEvent};
 
-use crate::newest::{Newest, greatest_ts, newest};
+use crate::newest::{Newest, greatest_ts, read_newest};
 use crate::object::{bucket_of, key_of, row_of};
 use crate::order::{Order, found_line, nothing_line, put_line};
 use cluster_machine::{DoneWord, Step, Words};
@@ -266,7 +266,7 @@ impl Lab {
         ensures plays { IfOk result (λ told. Plays self.old self.new told (λ s. gets s request (newest_of value.now))) }
         ensures causes { IfErr result (λ e. (e ≡ Want) ⊎ ((e ≡ Full) × Overflows self.old (λ s. gets s request (newest_of value.now)))) }
     {
-        match newest(value) {
+        match read_newest(value) {
             Newest::Absent => self.finishes(request, nothing_line(request)),
             Newest::Inline(version, bytes) => {
                 self.finishes(request, found_line(request, version, bytes))

@@ -17,7 +17,7 @@ pub enum Newest<'a> {
 }
 
 /// What a row says of the newest version.
-pub fn newest(row: &Option<AnyRow>) -> Newest
+pub fn read_newest(row: &Option<AnyRow>) -> Newest
     ensures { said result ≡ newest_of row.now }
 {
     let Some(AnyRow::Object(row)) = row else {
