@@ -7,7 +7,9 @@ use Rattle.lab_outside.specs.Bytes.{Wrote, WrotePrefix}
 use Rattle.object_model.specs.declared.event.Numbered.{Numbered}
 use Rattle.text_model.specs.Grammar.{IsSchedule, IsFirstBadLine}
 use Rattle.layout_command.specs.Answer.{IsAnswer as IsLayoutAnswer}
-use Rattle.garage_lab.specs.Replay.{IsReplay}
+use Rattle.object_model.specs.Run.{Turn, start}
+use Rattle.text_model.specs.Transcript.{turns_text}
+use Rattle.garage_lab.specs.Replay.{AreFirst, IsReplay}
 
 abbrev pub layout_words : List (List ℕ)
 layout_words = codes "layout" ∷ []
@@ -32,7 +34,7 @@ input_line = codes "limit input 8388608" ++ 10 ∷ []
 abbrev pub bad_line_text : ℕ → List ℕ
 bad_line_text n = codes "bad line " ++ (decimal n ++ 10 ∷ [])
 
--- the status and the text that are stated for words and an input, in the order in which their causes come; which greatest assignment a layout's text gives is free
+-- the status and the text that are stated for words and an input, in the order in which their causes come; which greatest assignments are given is free
 pub data IsAnswer (words : List (List ℕ)) (input : List ℕ) (status : Status) (text : List ℕ) : Type 0 where
   usage : (IsKnown words → ⊥) → status ≡ Usage → text ≡ usage_line → IsAnswer words input status text
   long_input : IsKnown words → input_limit < length input → status ≡ Limit → text ≡ input_line → IsAnswer words input status text
@@ -87,6 +89,22 @@ AnswersPrefix words input old new = (status : Status) (text : List ℕ) → IsAn
 pub data LayoutPrefix (input : List ℕ) (old new : Option (List ℕ)) : Type 0 where
   nothing : Wrote old new [] → LayoutPrefix input old new
   begun : (status : Status) (text : List ℕ) → IsAnswer layout_words input status text → WrotePrefix old new text → LayoutPrefix input old new
+
+-- what was written when a replay of the input ended or gave up: nothing, or a first part of one text that is stated, or of what the first events tell with lawful layouts
+pub data ReplayPrefix (input : List ℕ) (old new : Option (List ℕ)) : Type 0 where
+  nothing_yet : Wrote old new [] → ReplayPrefix input old new
+  of_stated : (status : Status) (text : List ℕ) → IsAnswer replay_words input status text → WrotePrefix old new text → ReplayPrefix input old new
+  of_events : (events : List Numbered) (turns : List Turn) → length input ≤ input_limit → IsSchedule input events → AreFirst events turns → WrotePrefix old new (turns_text start turns) → ReplayPrefix input old new
+
+-- the statuses of a replay of events, which the free layouts may decide
+abbrev pub IsOfReplay : Status → Type 0
+IsOfReplay Done = ⊤
+IsOfReplay Limit = ⊤
+IsOfReplay _ = ⊥
+
+-- where this status is stated, it is answered, or memory was wanting; a replay may end with the status that other layouts bring
+abbrev pub Completes : List (List ℕ) → Status → Status → Type 0
+Completes words status result = (result ≡ status) ⊎ (result ≡ Memory) ⊎ ((words ≡ replay_words) × IsOfReplay status × IsOfReplay result)
 
 -- it ends with this status and this text written, unless a write fails or memory is wanting
 pub data Says (status : Status) (text : List ℕ) (result : Status) (old new : Option (List ℕ)) (faults risen : ℕ) : Type 0 where

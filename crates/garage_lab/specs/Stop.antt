@@ -6,16 +6,18 @@ use Rattle.lab_outside.specs.declared.exit.Status.{Status}
 use Rattle.lab_outside.specs.declared.exit.Status.TheVariants.{Refused, ReadFault, WriteFault, Memory as MemoryStatus, Limit}
 use Rattle.lab_outside.specs.declared.whole.ReadStop.{ReadStop}
 use Rattle.lab_outside.specs.declared.whole.ReadStop.TheVariants.{Failed, Memory as ReadMemory}
-use Rattle.lab_outside.specs.Bytes.{Wrote}
+use Rattle.lab_outside.specs.Bytes.{Wrote, WrotePrefix}
 use Rattle.schedule_text.specs.declared.fault.ScheduleFault.{ScheduleFault}
 use Rattle.schedule_text.specs.declared.fault.ScheduleFault.TheVariants.{BadLine as FaultLine, Memory as FaultMemory}
 use Rattle.garage_lab.specs.declared.stop.Stop.{Stop}
 use Rattle.garage_lab.specs.declared.stop.Stop.TheVariants.{Read, Write, Memory, LongInput, BadLine, Number}
 use Rattle.object_model.specs.declared.event.Numbered.{Numbered}
 use Rattle.object_model.specs.Run.{start}
-use Rattle.text_model.specs.Transcript.{events_text}
-use Rattle.garage_lab.specs.Replay.{number_line, StopsAfter}
-use Rattle.garage_lab.specs.Answer.{replay_words, input_line, bad_line_text, IsAnswer, AnswersPrefix}
+use Rattle.object_model.specs.Run.{Turn}
+use Rattle.text_model.specs.Transcript.{turns_text, transcript}
+use Rattle.object_model.specs.Turns.{events_of}
+use Rattle.garage_lab.specs.Replay.{number_line, ArePlayed, AreFirst, StopsAfter}
+use Rattle.garage_lab.specs.Answer.{replay_words, input_line, bad_line_text, IsAnswer, ReplayPrefix}
 
 abbrev pub stop_of_read : ReadStop → Stop
 stop_of_read Failed = Read
@@ -53,9 +55,9 @@ pub record IsNearly (input : List ℕ) (status : Status) (last : List ℕ) (old 
 
 -- what was written when a replay of this input gave up
 abbrev pub Halts : List ℕ → Stop → Option (List ℕ) → Option (List ℕ) → Type 0
-Halts input Read old new = AnswersPrefix replay_words input old new
-Halts input Write old new = AnswersPrefix replay_words input old new
-Halts input Memory old new = AnswersPrefix replay_words input old new
+Halts input Read old new = ReplayPrefix input old new
+Halts input Write old new = ReplayPrefix input old new
+Halts input Memory old new = ReplayPrefix input old new
 Halts input LongInput old new = IsNearly input Limit input_line old new
 Halts input (BadLine n) old new = IsNearly input Refused (bad_line_text n) old new
 Halts input Number old new = IsNearly input Limit number_line old new
@@ -98,6 +100,18 @@ IsOfOutput Number = ⊤
 
 -- the transcript was written up to the event before a number doesn't fit
 pub record IsCutShort (events : List Numbered) (old new : Option (List ℕ)) : Type 0 where
-  pub before : List Numbered
+  pub before : List Turn
   pub stops : StopsAfter events before
-  pub wrote : Wrote old new (events_text start before)
+  pub wrote : Wrote old new (turns_text start before)
+
+-- the first events were played, and a first part of what they told was written, or of the whole transcript
+pub data IsPart (events : List Numbered) (old new : Option (List ℕ)) : Type 0 where
+  of_turns : (turns : List Turn) → AreFirst events turns → WrotePrefix old new (turns_text start turns) → IsPart events old new
+  of_all : (turns : List Turn) → events_of turns ≡ events → ArePlayed turns → WrotePrefix old new (transcript turns) → IsPart events old new
+
+-- all events were played, and their transcript was written
+pub record IsWhole (events : List Numbered) (old new : Option (List ℕ)) : Type 0 where
+  pub turns : List Turn
+  pub events_are : events_of turns ≡ events
+  pub played : ArePlayed turns
+  pub wrote : Wrote old new (transcript turns)

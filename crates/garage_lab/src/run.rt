@@ -7,7 +7,7 @@ ghost use Rattle.lab_outside.specs.Rose.{Rose};
 ghost use Rattle.lab_outside.specs.Bytes.{Wrote, WrotePrefix};
 ghost use Rattle.garage_lab.specs.Replay.{IsTranscribed};
 ghost use Rattle.garage_lab.specs.Layout.{IsPrinted};
-ghost use Rattle.garage_lab.specs.Answer.{layout_words, replay_words, IsKnown, input_limit, usage_line, bad_line_text, IsAnswer, IsStated, IsAfterReading, Answers, AnswersPrefix, LayoutPrefix, Says};
+ghost use Rattle.garage_lab.specs.Answer.{layout_words, replay_words, IsKnown, input_limit, usage_line, bad_line_text, IsAnswer, IsStated, IsAfterReading, Answers, AnswersPrefix, LayoutPrefix, ReplayPrefix, Completes, Says};
 ghost use Rattle.garage_lab.specs.Stop.{status_of, said_of, Halts, IsSaid};
 
 use crate::asked::{Asked, asked_by};
@@ -80,7 +80,7 @@ fn replay<I: Source, O: Sink>(alloc: Global, input: &mut I, output: &mut O) -> R
 /// Replays the schedule that the input spells, and says how that ended.
 fn replayed<I: Source, O: Sink>(alloc: Global, input: &mut I, output: &mut O) -> Status
     ensures answers { IsStated result → IfSome (I.left input.old) (λ bytes. Answers replay_words bytes result (O.written output.old) (O.written output.new)) }
-    ensures prefix { IfSome (I.left input.old) (λ bytes. AnswersPrefix replay_words bytes (O.written output.old) (O.written output.new)) }
+    ensures prefix { IfSome (I.left input.old) (λ bytes. ReplayPrefix bytes (O.written output.old) (O.written output.new)) }
     ensures end { result ≡ Status.Done → IsAtEnd (I.left input.new) }
     ensures read { IsAfterReading result → IfSome (I.left input.old) (λ bytes. I.left input.new ≡ Some (drop (input_limit + 1) bytes)) }
     ensures no_usage { result ≡ Status.Usage → ⊥ }
@@ -119,7 +119,8 @@ fn answer<I: Source, O: Sink>(
     output: &mut O,
 ) -> Status
     ensures answers { IsStated result → IfSome (I.left input.old) (λ bytes. Answers (map string_bytes words.now) bytes result (O.written output.old) (O.written output.new)) }
-    ensures prefix { (map string_bytes words.now ≡ layout_words → ⊥) → IfSome (I.left input.old) (λ bytes. AnswersPrefix (map string_bytes words.now) bytes (O.written output.old) (O.written output.new)) }
+    ensures prefix { (IsKnown (map string_bytes words.now) → ⊥) → IfSome (I.left input.old) (λ bytes. AnswersPrefix (map string_bytes words.now) bytes (O.written output.old) (O.written output.new)) }
+    ensures replay_prefix { map string_bytes words.now ≡ replay_words → IfSome (I.left input.old) (λ bytes. ReplayPrefix bytes (O.written output.old) (O.written output.new)) }
     ensures layout_prefix { map string_bytes words.now ≡ layout_words → IfSome (I.left input.old) (λ bytes. LayoutPrefix bytes (O.written output.old) (O.written output.new)) }
     ensures end { result ≡ Status.Done → IsAtEnd (I.left input.new) }
     ensures read { IsKnown (map string_bytes words.now) → IsAfterReading result → IfSome (I.left input.old) (λ bytes. I.left input.new ≡ Some (drop (input_limit + 1) bytes)) }
@@ -151,7 +152,8 @@ pub fn run<I: Source, O: Sink, L: Link, C: Clock>(
     _clock: &mut C,
 ) -> Status
     // After Done of a replay what was written is the whole transcript of the events that all the input's bytes
-    // spell. The answered gets of that very run are fresh.
+    // spell, with the layouts that it prints: each is computed from what was staged, an assignment of the greatest
+    // partition size, with its printed cut. The answered gets of that very run are fresh.
     ensures done { map string_bytes words.now ≡ replay_words → result ≡ Status.Done → IfSome (I.left input.old) (λ bytes. IsTranscribed bytes (O.written output.old) (O.written output.new)) }
 
     // After Done of a layout what was written is the text of an assignment of the greatest partition size for
@@ -164,15 +166,18 @@ pub fn run<I: Source, O: Sink, L: Link, C: Clock>(
     ensures read { IsKnown (map string_bytes words.now) → IsAfterReading result → IfSome (I.left input.old) (λ bytes. I.left input.new ≡ Some (drop (input_limit + 1) bytes)) }
 
     // Done, Refused, Usage and Limit come with the status and the whole text that are stated for the words and
-    // the input. Whatever the status, what was written is a first part of the text that is stated; of a
-    // layout's texts, which differ by the sets that are chosen, it is a first part of one.
+    // the input. Whatever the status, what was written is a first part of the text that is stated; of a layout's
+    // texts, which differ by the sets that are chosen, it is a first part of one, and for a replay, whose applies
+    // choose sets, it is a first part of one or of what the first events tell.
     ensures answers { IsStated result → IfSome (I.left input.old) (λ bytes. Answers (map string_bytes words.now) bytes result (O.written output.old) (O.written output.new)) }
-    ensures prefix { (map string_bytes words.now ≡ layout_words → ⊥) → IfSome (I.left input.old) (λ bytes. AnswersPrefix (map string_bytes words.now) bytes (O.written output.old) (O.written output.new)) }
+    ensures prefix { (IsKnown (map string_bytes words.now) → ⊥) → IfSome (I.left input.old) (λ bytes. AnswersPrefix (map string_bytes words.now) bytes (O.written output.old) (O.written output.new)) }
+    ensures replay_prefix { map string_bytes words.now ≡ replay_words → IfSome (I.left input.old) (λ bytes. ReplayPrefix bytes (O.written output.old) (O.written output.new)) }
     ensures layout_prefix { map string_bytes words.now ≡ layout_words → IfSome (I.left input.old) (λ bytes. LayoutPrefix bytes (O.written output.old) (O.written output.new)) }
 
-    // The stated answer comes, or memory was wanting, where no count of faults rises.
+    // The stated answer comes, or memory was wanting, where no count of faults rises. A replay of events may end with
+    // Done or Limit as the layouts decide that were chosen.
     ensures complete { IfSome (I.left input.old) (λ bytes. (status : Status) (text : List ℕ) → IsAnswer (map string_bytes words.now) bytes status text →
-        (Rose (I.faults input.old) (I.faults input.new) → ⊥) → (Rose (O.faults output.old) (O.faults output.new) → ⊥) → (result ≡ status) ⊎ (result ≡ Status.Memory)) }
+        (Rose (I.faults input.old) (I.faults input.new) → ⊥) → (Rose (O.faults output.old) (O.faults output.new) → ⊥) → Completes (map string_bytes words.now) status result) }
 
     // Words that ask for nothing known bring Usage, with nothing read; no other words do.
     ensures usage { result ≡ Status.Usage → IsKnown (map string_bytes words.now) → ⊥ }

@@ -1,0 +1,34 @@
+-- What one event of a replay does in the code.
+use Rattle.std.specs.Prelude.{◌≡◌, ℕ, List}
+use Rattle.crdt_rows.specs.AnyRow.{any_join}
+use Rattle.object_schema.specs.Schema.{words}
+use Rattle.world_model.specs.Choices.{Decision}
+use Rattle.object_model.specs.declared.event.Numbered.{Numbered}
+use Rattle.object_model.specs.Run.{State, Turn, outcome_of}
+use Rattle.object_model.specs.Turns.{IsLawful, Fits, HasRoom}
+use Rattle.text_model.specs.Transcript.{event_text}
+use Rattle.lab_driver.specs.declared.lab.Lab.{Lab}
+use Rattle.lab_driver.specs.Stands.{IsLab}
+
+abbrev pub turn : Numbered → Decision → Turn
+turn e choice = record { numbered = e; choice = choice }
+
+-- the event was given something lawful, the lab stands for the state after it, and this is what it tells
+pub record TurnsTo (new : Lab) (s : State) (e : Numbered) (text : List ℕ) : Type 0 where
+  pub choice : Decision
+  pub lawful : IsLawful s (turn e choice)
+  pub lab : IsLab new (outcome_of s (turn e choice)).state
+  pub fits : Fits s (turn e choice)
+  pub text_is : text ≡ event_text e (outcome_of s (turn e choice))
+
+abbrev pub TurnsOne : Lab → Lab → Numbered → List ℕ → Type 0
+TurnsOne old new e text = (s : State) → IsLab old s → TurnsTo new s e text
+
+-- with something lawful given there is no room after the event
+pub record LacksRoom (s : State) (e : Numbered) : Type 0 where
+  pub choice : Decision
+  pub lawful : IsLawful s (turn e choice)
+  pub lacks : HasRoom s (turn e choice) → ⊥
+
+abbrev pub CannotTurn : Lab → Numbered → Type 0
+CannotTurn old e = (s : State) → IsLab old s → LacksRoom s e
