@@ -11,10 +11,19 @@ pub fn name(event: &Event) -> &'static [u8]
     match event {
         Event::Trio => b"trio",
         Event::Bucket(_) => b"bucket",
+        Event::Role { .. } => b"role",
+        Event::Redundancy(_) => b"redundancy",
+        Event::Apply(_) => b"apply",
         Event::Tick(_) => b"tick",
         Event::Put { .. } => b"put",
         Event::Get { .. } => b"get",
         Event::Deliver(_) => b"deliver",
         Event::Drain(_) => b"drain",
+        Event::Expire(_) => b"expire",
+        Event::Gossip { .. } => b"gossip",
+        Event::Ack(_) => b"ack",
+        Event::Sync(_) => b"sync",
+        Event::SyncAck(_) => b"syncack",
+        Event::Clean(_) => b"clean",
     }
 }

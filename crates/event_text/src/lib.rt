@@ -9,6 +9,7 @@
 mod end;
 mod event;
 mod line;
+mod parts;
 #[cfg(test)]
 mod tests;
 mod told;

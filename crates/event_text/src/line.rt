@@ -1,117 +1,150 @@
 //! The text of one line of what happened.
-ghost use Rattle.std.specs.Prelude.{◌≡◌, ◌++◌, [], ◌∷◌, IfOk, IfErr, OnOk, flat_map, option_map};
+ghost use Rattle.std.specs.Prelude.{◌≡◌, ◌++◌, IfOk, IfErr, OnOk, flat_map};
 ghost use Rattle.crdt_core.specs.declared.memory.Memory.TheVariants.{Want};
-ghost use Rattle.text_model.specs.Transcript.{kind_text, done_text, version_text, size_text, digest_text, line_words, line_text};
-ghost use Rattle.text_model.specs.Grammar.{word};
+ghost use Rattle.cluster_machine.specs.declared.line.Line.TheVariants as line;
+ghost use Rattle.text_model.specs.Transcript.{key_line, line_text};
 
-use crate::words::{append_digits, append_number, append_word};
-use cluster_model::{DoneWord, Line, SentKind};
+use crate::parts::{
+    append_digest, append_size, append_stamp, append_version, done_text, end_word, kind_text,
+};
+use crate::words::{append_number, append_word};
+use cluster_machine::{DoneWord, EndWord, SentKind};
 use crdt_core::{Bytes, Memory};
+use layout_text::layout_lines;
 use std::alloc::Global;
+use world_model::{Applied, Line};
 
-fn kind_word(kind: SentKind) -> &'static [u8]
-    ensures { result.now ≡ kind_text kind }
-{
-    match kind {
-        SentKind::Get => b"get",
-        SentKind::Row => b"row",
-        SentKind::Store => b"store",
-        SentKind::Stored => b"stored",
-    }
-}
-
-fn done_word(word: DoneWord) -> &'static [u8]
-    ensures { result.now ≡ done_text word }
-{
-    match word {
-        DoneWord::Put => b"put",
-        DoneWord::Get => b"get",
-    }
-}
-
-/// `TS/ID`, or `none`.
-fn append_version(out: &mut Bytes, version: &Option<(u64, u64)>) -> Result<(), Memory>
-    ensures ok { OnOk result (out.new ≡ out.old ++ word (version_text version.now)) }
+fn append_layout(out: &mut Bytes, shown: &Applied) -> Result<(), Memory>
+    ensures ok { OnOk result (out.new ≡ out.old ++ line_text (line.Layout shown.now)) }
     ensures want { IfErr result (λ e. e ≡ Want) }
 {
-    match version {
-        None => append_word(out, b"none"),
-        Some((ts, id)) => {
-            append_number(out, *ts)?;
-            out.push(b'/')?;
-            append_digits(out, *id)
-        }
-    }
+    let text = layout_lines(out.allocator(), &shown.certified, &shown.roles)?;
+    out.extend_from_slice(text.as_slice())
 }
 
-fn append_size(out: &mut Bytes, size: &Option<u64>) -> Result<(), Memory>
-    ensures ok { OnOk result (out.new ≡ out.old ++ size_text size.now) }
+fn append_got(out: &mut Bytes, number: u64) -> Result<(), Memory>
+    ensures ok { OnOk result (out.new ≡ out.old ++ line_text (line.Got number)) }
     ensures want { IfErr result (λ e. e ≡ Want) }
 {
-    match size {
-        None => Ok(()),
-        Some(size) => append_number(out, *size),
-    }
+    out.extend_from_slice(b"got")?;
+    append_number(out, number)?;
+    out.push(b'\n')
 }
 
-/// Lower-case hexadecimal.
-fn append_digest(out: &mut Bytes, digest: &Option<[u8; 16]>) -> Result<(), Memory>
-    ensures ok { OnOk result (out.new ≡ out.old ++ digest_text digest.now) }
+fn append_sent(out: &mut Bytes, number: u64, kind: SentKind, from: u8, to: u8) -> Result<(), Memory>
+    ensures ok { OnOk result (out.new ≡ out.old ++ line_text (line.Sent number kind from to)) }
     ensures want { IfErr result (λ e. e ≡ Want) }
 {
-    match digest {
-        None => Ok(()),
-        Some(digest) => {
-            let text = hex::encode(out.allocator(), *digest)?;
-            append_word(out, text.as_bytes())
-        }
-    }
+    out.extend_from_slice(b"sent")?;
+    append_number(out, number)?;
+    append_word(out, kind_text(kind))?;
+    append_number(out, u64::from(from))?;
+    append_number(out, u64::from(to))?;
+    out.push(b'\n')
 }
 
-fn append_words(out: &mut Bytes, line: &Line) -> Result<(), Memory>
-    ensures ok { OnOk result (out.new ≡ out.old ++ line_words line.now) }
+fn append_synced(out: &mut Bytes, node: u8, version: u32) -> Result<(), Memory>
+    ensures ok { OnOk result (out.new ≡ out.old ++ line_text (line.Synced node version)) }
     ensures want { IfErr result (λ e. e ≡ Want) }
 {
-    match line {
-        Line::Got(number) => {
-            out.extend_from_slice(b"got")?;
-            append_number(out, *number)
-        }
-        Line::Sent {
-            number,
-            kind,
-            from,
-            to,
-        } => {
-            out.extend_from_slice(b"sent")?;
-            append_number(out, *number)?;
-            append_word(out, kind_word(*kind))?;
-            append_number(out, u64::from(*from))?;
-            append_number(out, u64::from(*to))
-        }
-        Line::Done {
-            request,
-            word,
-            version,
-            size,
-            md5,
-        } => {
-            out.extend_from_slice(b"done")?;
-            append_number(out, *request)?;
-            append_word(out, done_word(*word))?;
-            append_version(out, version)?;
-            append_size(out, size)?;
-            append_digest(out, md5)
-        }
+    out.extend_from_slice(b"synced")?;
+    append_number(out, u64::from(node))?;
+    append_number(out, u64::from(version))?;
+    out.push(b'\n')
+}
+
+fn append_done(
+    out: &mut Bytes,
+    request: u64,
+    word: DoneWord,
+    version: &Option<(u64, u64)>,
+    size: &Option<u64>,
+    md5: &Option<[u8; 16]>,
+) -> Result<(), Memory>
+    ensures ok { OnOk result (out.new ≡ out.old ++ line_text (line.Done request word version.now size.now md5.now)) }
+    ensures want { IfErr result (λ e. e ≡ Want) }
+{
+    out.extend_from_slice(b"done")?;
+    append_number(out, request)?;
+    append_word(out, done_text(word))?;
+    append_version(out, version)?;
+    append_size(out, size)?;
+    append_digest(out, md5)?;
+    out.push(b'\n')
+}
+
+fn append_key(out: &mut Bytes, key: &(Bytes, u64, u64, u64)) -> Result<(), Memory>
+    ensures ok { OnOk result (out.new ≡ out.old ++ key_line key.now) }
+    ensures want { IfErr result (λ e. e ≡ Want) }
+{
+    let (name, ts, id, size) = key;
+    out.extend_from_slice(b"key")?;
+    append_word(out, name.as_slice())?;
+    append_stamp(out, *ts, *id)?;
+    append_number(out, *size)?;
+    out.push(b'\n')
+}
+
+fn append_keys(out: &mut Bytes, keys: &[(Bytes, u64, u64, u64)]) -> Result<(), Memory>
+    ensures ok { OnOk result (out.new ≡ out.old ++ flat_map key_line keys.now) }
+    ensures want { IfErr result (λ e. e ≡ Want) }
+{
+    for key in keys {
+        append_key(out, key)?;
     }
+    Ok(())
+}
+
+fn append_listed(
+    out: &mut Bytes,
+    request: u64,
+    keys: &[(Bytes, u64, u64, u64)],
+) -> Result<(), Memory>
+    ensures ok { OnOk result (out.new ≡ out.old ++ line_text (line.Listed request keys.now)) }
+    ensures want { IfErr result (λ e. e ≡ Want) }
+{
+    out.extend_from_slice(b"done")?;
+    append_number(out, request)?;
+    append_word(out, b"list")?;
+    append_number(out, keys.len() as u64)?;
+    out.push(b'\n')?;
+    append_keys(out, keys)
+}
+
+fn append_ended(out: &mut Bytes, request: u64, word: EndWord) -> Result<(), Memory>
+    ensures ok { OnOk result (out.new ≡ out.old ++ line_text (line.Ended request word)) }
+    ensures want { IfErr result (λ e. e ≡ Want) }
+{
+    out.extend_from_slice(b"ended")?;
+    append_number(out, request)?;
+    append_word(out, end_word(word))?;
+    out.push(b'\n')
 }
 
 fn append_line(out: &mut Bytes, line: &Line) -> Result<(), Memory>
     ensures ok { OnOk result (out.new ≡ out.old ++ line_text line.now) }
     ensures want { IfErr result (λ e. e ≡ Want) }
 {
-    append_words(out, line)?;
-    out.push(b'\n')
+    match line {
+        Line::Layout(shown) => append_layout(out, shown),
+        Line::Got(number) => append_got(out, *number),
+        Line::Sent {
+            number,
+            kind,
+            from,
+            to,
+        } => append_sent(out, *number, *kind, *from, *to),
+        Line::Synced(node, version) => append_synced(out, *node, *version),
+        Line::Done {
+            request,
+            word,
+            version,
+            size,
+            md5,
+        } => append_done(out, *request, *word, version, size, md5),
+        Line::Listed { request, keys } => append_listed(out, *request, keys.as_slice()),
+        Line::Ended { request, word } => append_ended(out, *request, *word),
+    }
 }
 
 pub(crate) fn append_lines(out: &mut Bytes, lines: &[Line]) -> Result<(), Memory>
@@ -124,7 +157,7 @@ pub(crate) fn append_lines(out: &mut Bytes, lines: &[Line]) -> Result<(), Memory
     Ok(())
 }
 
-/// The text of one line, with its line feed.
+/// The text of one line, with its line feed; a layout and a list of keys take several.
 pub fn line_text(alloc: Global, line: &Line) -> Result<Bytes, Memory>
     ensures text { IfOk result (λ t. t ≡ line_text line.now) }
     ensures want { IfErr result (λ e. e ≡ Want) }

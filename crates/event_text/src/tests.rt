@@ -1,8 +1,14 @@
 //! Transcript lines written by hand.
 use crate::{end_text, line_text, name, told_text};
-use cluster_model::{DoneWord, Line, Refusal, SentKind, Words};
+use cluster_machine::{DoneWord, EndWord, SentKind, Words};
+use crdt_core::{Bytes, List};
+use layout_flow::Cut;
+use layout_roles::{Kind, Redundancy, Role, Roles, Zone};
+use layout_size::compute;
 use object_model::Event;
+use std::alloc::Global;
 use std::test::Fail;
+use world_model::{Applied, Line, Refusal};
 
 #[test]
 fn writes_each_kind_of_line(rt: HostRuntime) -> Result<(), Fail> {
@@ -55,6 +61,70 @@ fn writes_each_kind_of_line(rt: HostRuntime) -> Result<(), Fail> {
 }
 
 #[test]
+fn writes_a_raised_sync(rt: HostRuntime) -> Result<(), Fail> {
+    let written = line_text(rt.alloc(), &Line::Synced(16, 2))?;
+    assert_eq!(rt; written.as_slice(), b"synced 16 2\n".as_slice());
+    Ok(())
+}
+
+#[test]
+fn writes_a_request_without_an_answer(rt: HostRuntime) -> Result<(), Fail> {
+    let ended = [
+        (EndWord::Expired, b"ended 4 expired\n".as_slice()),
+        (EndWord::Restarted, b"ended 4 restarted\n"),
+        (EndWord::Superseded, b"ended 4 superseded\n"),
+    ];
+    for (word, text) in ended {
+        let written = line_text(rt.alloc(), &Line::Ended { request: 4, word })?;
+        assert_eq!(rt; written.as_slice(), text);
+    }
+    Ok(())
+}
+
+#[test]
+fn writes_a_list_of_keys(rt: HostRuntime) -> Result<(), Fail> {
+    let alloc = rt.alloc();
+    let mut keys = List::new(alloc);
+    keys.push((Bytes::from_slice(alloc, b"a")?, 1000, 1, 3))?;
+    keys.push((Bytes::from_slice(alloc, b"b/c")?, 2000, 12, 0))?;
+    let written = line_text(alloc, &Line::Listed { request: 5, keys })?;
+    assert_eq!(rt;
+        written.as_slice(),
+        b"done 5 list 2\nkey a 1000/1 3\nkey b/c 2000/12 0\n".as_slice()
+    );
+    Ok(())
+}
+
+fn role(alloc: Global, node: u8, zone: &[u8]) -> Result<Role, Fail> {
+    Ok(Role {
+        node,
+        zone: Zone(Bytes::from_slice(alloc, zone)?),
+        kind: Kind::Storage(1000),
+    })
+}
+
+#[test]
+fn writes_a_layout_of_three_equal_zones(rt: HostRuntime) -> Result<(), Fail> {
+    let alloc = rt.alloc();
+    let mut list = List::new(alloc);
+    list.push(role(alloc, 1, b"a")?)?;
+    list.push(role(alloc, 2, b"b")?)?;
+    list.push(role(alloc, 3, b"c")?)?;
+    let Some(roles) = Roles::from_list(list) else {
+        return Err(Fail::new("three roles"));
+    };
+    let Ok(certified) = compute(alloc, &roles, Redundancy::Maximum) else {
+        return Err(Fail::new("no layout"));
+    };
+    let written = line_text(alloc, &Line::Layout(Applied { certified, roles }))?;
+    assert_eq!(rt;
+        written.as_slice(),
+        b"size 3\nredundancy 3\np 0 255 1 2 3\ncut 4 750\nc 0 255 up z:a z:b z:c\ncn 1 2 3\n".as_slice()
+    );
+    Ok(())
+}
+
+#[test]
 fn writes_the_lines_of_an_event(rt: HostRuntime) -> Result<(), Fail> {
     let lines = vec![in rt.alloc();
         Line::Sent {
@@ -86,10 +156,51 @@ fn writes_the_lines_of_an_event(rt: HostRuntime) -> Result<(), Fail> {
         (Refusal::NoSuchBucket, b"10 trio refused NoSuchBucket\n"),
         (Refusal::NoSuchMessage, b"10 trio refused NoSuchMessage\n"),
     ];
-    for (refusal, text) in &refusals {
-        let written = told_text(rt.alloc(), 10, b"trio", &Some(*refusal), &Words::Empty, &[])?;
-        assert_eq!(rt; written.as_slice(), *text);
+    for (refusal, text) in refusals {
+        let written = told_text(rt.alloc(), 10, b"trio", &Some(refusal), &Words::Empty, &[])?;
+        assert_eq!(rt; written.as_slice(), text);
     }
+    Ok(())
+}
+
+#[test]
+fn writes_refusals_with_their_numbers(rt: HostRuntime) -> Result<(), Fail> {
+    let cut = Cut {
+        size: 1,
+        weight: 767,
+        side: List::new(rt.alloc()),
+    };
+    let refusals = [
+        (
+            Refusal::TooFewNodes(0),
+            b"7 apply refused TooFewNodes 0\n".as_slice(),
+        ),
+        (
+            Refusal::TooFewZones(2, 3),
+            b"7 apply refused TooFewZones 2 3\n",
+        ),
+        (
+            Refusal::NoAssignment(cut),
+            b"7 apply refused NoAssignment 767\n",
+        ),
+        (Refusal::VersionLimit, b"7 apply refused VersionLimit\n"),
+        (Refusal::Lost, b"7 apply refused Lost\n"),
+        (Refusal::NoSuchRequest, b"7 apply refused NoSuchRequest\n"),
+        (Refusal::AlreadyEnded, b"7 apply refused AlreadyEnded\n"),
+    ];
+    for (refusal, text) in refusals {
+        let written = told_text(rt.alloc(), 7, b"apply", &Some(refusal), &Words::Empty, &[])?;
+        assert_eq!(rt; written.as_slice(), text);
+    }
+    Ok(())
+}
+
+#[test]
+fn writes_words_of_two_numbers(rt: HostRuntime) -> Result<(), Fail> {
+    let idle = told_text(rt.alloc(), 8, b"sync", &None, &Words::Idle(1, 3), &[])?;
+    assert_eq!(rt; idle.as_slice(), b"8 sync ok idle 1 3\n".as_slice());
+    let two = told_text(rt.alloc(), 9, b"drain", &None, &Words::Two(12, 0), &[])?;
+    assert_eq!(rt; two.as_slice(), b"9 drain ok 12 0\n".as_slice());
     Ok(())
 }
 
@@ -111,4 +222,7 @@ fn names_events(rt: HostRuntime) {
     assert_eq!(rt; name(&Event::Tick(0)), b"tick".as_slice());
     assert_eq!(rt; name(&Event::Deliver(1)), b"deliver".as_slice());
     assert_eq!(rt; name(&Event::Drain(1)), b"drain".as_slice());
+    let gossip = Event::Gossip { from: 1, to: 2 };
+    assert_eq!(rt; name(&gossip), b"gossip".as_slice());
+    assert_eq!(rt; name(&Event::SyncAck(3)), b"syncack".as_slice());
 }

@@ -1,14 +1,34 @@
 //! The lines of one event.
 ghost use Rattle.std.specs.Prelude.{◌≡◌, ◌++◌, IfOk, IfErr, OnOk};
 ghost use Rattle.crdt_core.specs.declared.memory.Memory.TheVariants.{Want};
+ghost use Rattle.cluster_machine.specs.declared.step.Refusal.TheVariants.{TooFewZones};
 ghost use Rattle.text_model.specs.Grammar.{word};
-ghost use Rattle.text_model.specs.Transcript.{refusal_text, words_text, answer_text, told_text};
+ghost use Rattle.text_model.specs.Transcript.{number, refusal_text, words_text, answer_text, told_text};
 
 use crate::line::append_lines;
 use crate::words::{append_digits, append_number, append_word};
-use cluster_model::{Line, Refusal, Words};
+use cluster_machine::Words;
 use crdt_core::{Bytes, Memory};
 use std::alloc::Global;
+use world_model::{Line, Refusal};
+
+// A reason with a number.
+fn append_numbered(out: &mut Bytes, reason: &[u8], n: u64) -> Result<(), Memory>
+    ensures ok { OnOk result (out.new ≡ out.old ++ word (reason.now ++ number n)) }
+    ensures want { IfErr result (λ e. e ≡ Want) }
+{
+    append_word(out, reason)?;
+    append_number(out, n)
+}
+
+fn append_too_few_zones(out: &mut Bytes, zones: u8, wanted: u8) -> Result<(), Memory>
+    ensures ok { OnOk result (out.new ≡ out.old ++ word (refusal_text (TooFewZones zones wanted))) }
+    ensures want { IfErr result (λ e. e ≡ Want) }
+{
+    append_word(out, b"TooFewZones")?;
+    append_number(out, u64::from(zones))?;
+    append_number(out, u64::from(wanted))
+}
 
 fn append_refusal(out: &mut Bytes, refusal: &Refusal) -> Result<(), Memory>
     ensures ok { OnOk result (out.new ≡ out.old ++ word (refusal_text refusal.now)) }
@@ -16,12 +36,39 @@ fn append_refusal(out: &mut Bytes, refusal: &Refusal) -> Result<(), Memory>
 {
     match refusal {
         Refusal::VersionTaken(version) => {
-            append_word(out, b"VersionTaken")?;
-            append_number(out, u64::from(*version))
+            append_numbered(out, b"VersionTaken", u64::from(*version))
         }
+        Refusal::VersionLimit => append_word(out, b"VersionLimit"),
         Refusal::NotMember => append_word(out, b"NotMember"),
         Refusal::NoSuchBucket => append_word(out, b"NoSuchBucket"),
         Refusal::NoSuchMessage => append_word(out, b"NoSuchMessage"),
+        Refusal::Lost => append_word(out, b"Lost"),
+        Refusal::NoSuchRequest => append_word(out, b"NoSuchRequest"),
+        Refusal::AlreadyEnded => append_word(out, b"AlreadyEnded"),
+        Refusal::TooFewNodes(nodes) => append_numbered(out, b"TooFewNodes", u64::from(*nodes)),
+        Refusal::TooFewZones(zones, wanted) => append_too_few_zones(out, *zones, *wanted),
+        Refusal::NoAssignment(cut) => {
+            append_numbered(out, b"NoAssignment", u64::from(cut.weight))
+        }
+    }
+}
+
+fn append_words(out: &mut Bytes, words: &Words) -> Result<(), Memory>
+    ensures ok { OnOk result (out.new ≡ out.old ++ words_text words.now) }
+    ensures want { IfErr result (λ e. e ≡ Want) }
+{
+    match words {
+        Words::Empty => Ok(()),
+        Words::One(number) => append_number(out, *number),
+        Words::Idle(read, ack_least) => {
+            append_word(out, b"idle")?;
+            append_number(out, u64::from(*read))?;
+            append_number(out, u64::from(*ack_least))
+        }
+        Words::Two(first, second) => {
+            append_number(out, *first)?;
+            append_number(out, *second)
+        }
     }
 }
 
@@ -32,10 +79,7 @@ fn append_answer(out: &mut Bytes, refused: &Option<Refusal>, words: &Words) -> R
     match refused {
         None => {
             append_word(out, b"ok")?;
-            match words {
-                Words::Empty => Ok(()),
-                Words::One(number) => append_number(out, *number),
-            }
+            append_words(out, words)
         }
         Some(refusal) => {
             append_word(out, b"refused")?;
