@@ -1,0 +1,4 @@
+pub mod Causes
+pub mod Objects
+pub mod Opens
+pub mod Follows

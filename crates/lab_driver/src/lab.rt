@@ -276,12 +276,7 @@ impl Lab {
     }
 
     /// What a request does when it has read this.
-    fn follow_row(
-        &mut self,
-        request: u64,
-        i: usize,
-        value: &Option<AnyRow>,
-    ) -> Result<Told, Memory>
+    fn follow_row(&mut self, request: u64, i: usize, value: &Option<AnyRow>) -> Result<Told, Memory>
         requires lab { HasLab self.old }
         requires place { i + 1 ≡ request }
         requires within { i < length self.old.orders }

@@ -5,8 +5,8 @@ ghost use Rattle.object_model.specs.Run.{found_line as line_of_found, nothing_li
 
 use cluster_machine::DoneWord;
 use crdt_core::{Bytes, Memory, Value};
-use md5::{Digest, Md5};
 use crdt_rows::Version;
+use md5::{Digest, Md5};
 use world_model::Line;
 
 /// What a request was asked for at its coordinator. A put has its version once it has drawn one.
