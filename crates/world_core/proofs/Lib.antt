@@ -3,3 +3,5 @@ pub mod ClockTimes
 pub mod StagedList
 pub mod StagedTrio
 pub mod DecidedLayout
+pub mod WorldsStand
+pub mod WorldsChange
