@@ -5,3 +5,4 @@ pub mod StagedTrio
 pub mod DecidedLayout
 pub mod WorldsStand
 pub mod WorldsChange
+pub mod WorldsInstall

@@ -86,7 +86,6 @@ impl<S: Schema> World<S> {
         ensures installed { OnOk result (Turns S.Row.join S.words self.old self.new (λ w. installed w first nodes.now)) }
         ensures want { IfErr result (λ e. e ≡ Want) }
     {
-        sound_worlds_stay_sound::<S::Row>();
         for node in nodes {
             self.nodes.append(*node, first.copy()?)?;
         }
@@ -246,7 +245,6 @@ impl<S: Schema> World<S> {
         ensures plays { IfOk result (λ report. Plays S.Row.join S.words self.old self.new report (step.Role node role)) }
         ensures want { IfErr result (λ e. e ≡ Want) }
     {
-        sound_worlds_stay_sound::<S::Row>();
         self.roles = staged(self.alloc, &self.roles, node, role)?;
         Ok(self.silent())
     }
@@ -256,7 +254,6 @@ impl<S: Schema> World<S> {
         ensures plays { IfOk result (λ report. Plays S.Row.join S.words self.old self.new report (step.Redundancy wanted)) }
         ensures want { IfErr result (λ e. e ≡ Want) }
     {
-        sound_worlds_stay_sound::<S::Row>();
         self.redundancy = wanted;
         Ok(self.silent())
     }
@@ -295,7 +292,6 @@ impl<S: Schema> World<S> {
         ensures plays { IfOk result (λ report. Plays S.Row.join S.words self.old self.new report (step.Tick ms)) }
         ensures causes { IfErr result (λ e. (e ≡ Full) × Exceeds S.Row.join S.words self.old (step.Tick ms)) }
     {
-        sound_worlds_stay_sound::<S::Row>();
         self.clocks.tick(ms)?;
         Ok(self.silent())
     }
@@ -304,7 +300,6 @@ impl<S: Schema> World<S> {
         ensures plays { IfOk result (λ report. Plays S.Row.join S.words self.old self.new report (step.Skew node ms)) }
         ensures causes { IfErr result (λ e. (e ≡ Full) × Exceeds S.Row.join S.words self.old (step.Skew node ms)) }
     {
-        sound_worlds_stay_sound::<S::Row>();
         self.clocks.skew(node, ms)?;
         Ok(self.silent())
     }
