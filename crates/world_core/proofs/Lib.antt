@@ -6,3 +6,4 @@ pub mod DecidedLayout
 pub mod WorldsStand
 pub mod WorldsChange
 pub mod WorldsInstall
+pub mod WorldsApply

@@ -25,7 +25,7 @@ use Rattle.world_core.specs.declared.world.World.{World}
 use Rattle.world_core.specs.Nodes.{newest_of, newest_in, IsNodeAt, AreNodes, BecomesAt, with_node}
 use Rattle.world_core.specs.Stands.{StandsFor, IsWorld}
 
-nat_eq_flips : (m n : ℕ) → (m == n) ≡ (n == m)
+pub nat_eq_flips : (m n : ℕ) → (m == n) ≡ (n == m)
 nat_eq_flips m n =
     elim (m == n) as (λ b. (m == n) ≡ b → b ≡ (n == m)) [
       | true ↦ λ e. sym (eq-eqb n m (sym (eqb-true m n e)))
@@ -95,17 +95,19 @@ module _ {S R : Type 0} (join : R → R → R) (s : Words R) where
       same_at_each new (with_node n (appends layouts (given_to nodes first xs n) first) (given_to nodes first xs)) (given_to (nodes ++ n ∷ []) first xs) (λ m. given_more first xs nodes n m free)
       (subst (λ k. AreNodes join s new (with_node n (appends layouts (given_to nodes first xs n) k) (given_to nodes first xs))) is (becomes (given_to nodes first xs) are))
 
-  pub installed_stands : (old : World S R) (w : Model R) (now : Nodes S R) (first : Layout) (nodes : List ℕ) → StandsFor join s old w → w.applied ≡ 0 → first.version ≡ 1 → AreNodes join s now (given_to nodes first w.nodes) →
-      StandsFor join s (record old { nodes = now; applied = 1 }) (installed w first nodes)
-  installed_stands old w now first nodes h none one are = record {
-    nodes = are;
-    post = h.post;
-    clocks = h.clocks;
-    roles = h.roles;
-    redundancy = h.redundancy;
-    wanted = h.wanted;
-    applied = refl;
-    requests = h.requests;
-    fits = record { time = h.fits.time; clocks = h.fits.clocks; messages = h.fits.messages; requests = h.fits.requests; bytes = h.fits.bytes };
-    sound = installed_sound w h.sound first nodes none one;
-  }
+  pub installed_stands : (old now : World S R) (w : Model R) (first : Layout) (nodes : List ℕ) → now ≡ record old { nodes = now.nodes } → StandsFor join s old w → w.applied ≡ 0 → first.version ≡ 1 →
+      AreNodes join s now.nodes (given_to nodes first w.nodes) → StandsFor join s (record now { applied = 1 }) (installed w first nodes)
+  installed_stands old now w first nodes rest h none one are =
+      subst (λ (x : World S R). StandsFor join s (record x { applied = 1 }) (installed w first nodes)) (sym rest)
+      (record {
+        nodes = are;
+        post = h.post;
+        clocks = h.clocks;
+        roles = h.roles;
+        redundancy = h.redundancy;
+        wanted = h.wanted;
+        applied = refl;
+        requests = h.requests;
+        fits = record { time = h.fits.time; clocks = h.fits.clocks; messages = h.fits.messages; requests = h.fits.requests; bytes = h.fits.bytes };
+        sound = installed_sound w h.sound first nodes none one;
+      })

@@ -222,7 +222,6 @@ impl<S: Schema> World<S> {
         ensures plays { IfOk result (λ report. Plays S.Row.join S.words self.old self.new report step.Trio) }
         ensures want { IfErr result (λ e. e ≡ Want) }
     {
-        sound_worlds_stay_sound::<S::Row>();
         if self.applied >= 1 {
             return Ok(self.refused(Refusal::VersionTaken(1)));
         }
@@ -264,7 +263,6 @@ impl<S: Schema> World<S> {
         ensures steps { IfOk result (λ report. Steps S.Row.join S.words self.old self.new report (step.Apply node)) }
         ensures want { IfErr result (λ e. e ≡ Want) }
     {
-        sound_worlds_stay_sound::<S::Row>();
         if self.applied >= 1 && !self.nodes.is_member(node) {
             return Ok(self.refused(Refusal::NotMember));
         }

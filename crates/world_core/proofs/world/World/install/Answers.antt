@@ -40,8 +40,6 @@ returns-clause-installed g c w h =
     let join = g.S.Row.Crdt.join in
     let s = g.S.Schema.words in
     let nodes = c.args.nodes.now in
-    let now = c.loop-node.self.nodes in
     let end : length nodes ≤ c.loop-node.node-index = omega arith in
-    let are = subst (λ ns. AreNodes join s now (given_to ns c.args.first w.nodes)) (take_all c.loop-node.node-index nodes end) (c.loop-node.invariant.nodes w.nodes h.nodes) in
-    subst (λ (x : World g.row.S.Denot g.row.S-Row.Denot). StandsFor join s (record x { applied = 1 }) (installed w c.args.first nodes)) (sym c.loop-node.invariant.rest)
-    (installed_stands join s c.args.self.now w now c.args.first nodes h (c.requires.unused w h) c.requires.version are)
+    installed_stands join s c.args.self.now c.loop-node.self w c.args.first nodes c.loop-node.invariant.rest h (c.requires.unused w h) c.requires.version
+    (subst (λ ns. AreNodes join s c.loop-node.self.nodes (given_to ns c.args.first w.nodes)) (take_all c.loop-node.node-index nodes end) (c.loop-node.invariant.nodes w.nodes h.nodes))
