@@ -1,5 +1,5 @@
 //! The cluster, step by step.
-ghost use Rattle.std.specs.Prelude.{◌≡◌, ◌⊎◌, ◌≤◌, ◌+◌, ℕ, nat_eq, Some, None, [], length, option_map, IsTrue, IfOk, IfErr, OnOk};
+ghost use Rattle.std.specs.Prelude.{◌≡◌, ◌⊎◌, ◌≤◌, ◌+◌, ℕ, nat_eq, leb, not, ◌&&◌, Some, None, [], length, option_map, IsTrue, IfOk, IfErr, OnOk};
 ghost use Rattle.std.specs.List.{IsDistinct};
 ghost use Rattle.crdt_core.specs.declared.memory.Memory.TheVariants.{Want, Full};
 ghost use Rattle.layout_history.specs.Known.{has_members};
@@ -257,13 +257,20 @@ impl<S: Schema> World<S> {
         Ok(self.silent())
     }
 
+    // A layout was applied, and the node has no role in its newest one.
+    fn is_outside(&self, node: u8) -> bool
+        ensures { (w : Model S.Row) → StandsFor S.Row.join S.words self.now w → result ≡ (leb 1 w.applied && not (is_member_at layouts w node)) }
+    {
+        self.applied >= 1 && !self.nodes.is_member(node)
+    }
+
     // Versions are applied one after the other, each once in the world.
     fn apply(&mut self, node: u8) -> Result<Report<S::Row>, Memory>
         requires stands { IsWorld S.Row.join S.words self.old }
         ensures steps { IfOk result (λ report. Steps S.Row.join S.words self.old self.new report (step.Apply node)) }
         ensures want { IfErr result (λ e. e ≡ Want) }
     {
-        if self.applied >= 1 && !self.nodes.is_member(node) {
+        if self.is_outside(node) {
             return Ok(self.refused(Refusal::NotMember));
         }
         let newest = self.nodes.newest(node);

@@ -1,38 +1,34 @@
-use Rattle.std.proofs.Common.{rules, ◌≡◌, ◌⊎◌, ◌≤◌, ◌+◌, ℕ, nat_eq, Some, None, [], length, option_map, IsTrue, IfOk, IfErr, OnOk, ◌-◌, ◌*◌, ◌<◌, ◌/◌, ◌%◌, Bool, true, false, nat_lt, List, ◌∷◌, ◌++◌, slice_index_or, slice_set, bit_and, bit_or, Fits, w8, w32, w64, Bor, MutBor}
-use Rattle.std.specs.List.{IsDistinct}
-use Rattle.crdt_core.specs.declared.memory.Memory.TheVariants.{Want, Full}
-use Rattle.layout_history.specs.Known.{has_members}
-use Rattle.layout_size.specs.Answers.{IsRedundancy}
-use Rattle.table_model.specs.Rows.{rows}
-use Rattle.table_model.specs.Top.{any_unspelled}
-use Rattle.node_parts.specs.Begins.{IsShort}
-use Rattle.node_parts.specs.Layouts.{layouts}
-use Rattle.cluster_machine.specs.declared.step.Step.TheVariants as step
-use Rattle.cluster_machine.specs.declared.step.Words.TheVariants.{Empty}
-use Rattle.cluster_machine.specs.Step.{told}
-use Rattle.cluster_machine.specs.World.{clock, is_member_at, undelivered, sent_bytes, node_line, forget_delivered, empty}
-use Rattle.world_model.specs.Worlds.{Model, IsMeant, installed}
-use Rattle.world_core.specs.Nodes.{shown_line, newest_in}
-use Rattle.world_core.specs.Stands.{SendsOut, CannotSend, acts_so, local_so, StandsFor, IsWorld, Steps, Overflows, PlaysSo, ExceedsSo, Plays, Exceeds, Turns}
+use Rattle.std.proofs.Common.{◌≡◌, ◌+◌, sym, ap, subst, ◌∙◌, [], ◌∷◌, ◌++◌, ◌<◌, arith}
+use Rattle.cluster_machine.specs.declared.line.Line.TheVariants.{Layout}
+use Rattle.cluster_machine.specs.declared.step.Words.TheVariants.{One}
+use Rattle.world_model.specs.Choices.{IsComputed}
+use Rattle.world_core.specs.Parts.{decision}
+use Rattle.world_core.proofs.WorldsStand.{told_report}
+use Rattle.world_core.proofs.WorldsApply.{apply_outside, apply_taken, apply_full, apply_refused, apply_given}
 use Rattle.world_core.proofs.world.World.apply.Goals as goal
 
--- src/world.rt:267:13
-pub returns-then-not-is_member-clause-steps : goal.returns-then-not-is_member-clause-steps
-returns-then-not-is_member-clause-steps g c = ?
+pub returns-then-is_outside-clause-steps : goal.returns-then-is_outside-clause-steps
+returns-then-is_outside-clause-steps g c w h = apply_outside g.S.Row.Crdt.join g.S.Schema.words c.args.self.now c.args.node c.refused.result c.refused.ensures w h (sym (c.is_outside.ensures w h) ∙ c.if-is_outside.true)
 
--- src/world.rt:271:13
 pub returns-then-newest-self-clause-steps : goal.returns-then-newest-self-clause-steps
-returns-then-newest-self-clause-steps g c = ?
+returns-then-newest-self-clause-steps g c w h =
+    apply_taken g.S.Row.Crdt.join g.S.Schema.words c.args.self.now c.args.node c.refused-then-newest-self.result c.newest-newest.result w h (c.newest-newest.ensures.is w.nodes h.nodes) (sym (c.is_outside.ensures w h) ∙ c.if-is_outside.false)
+    c.refused-then-newest-self.ensures c.if-newest-self.true
 
--- src/world.rt:274:13
-pub returns-then-self-ge-MOST_VERSIONS-clause-steps :
-    goal.returns-then-self-ge-MOST_VERSIONS-clause-steps
-returns-then-self-ge-MOST_VERSIONS-clause-steps g c = ?
+pub returns-then-self-ge-MOST_VERSIONS-clause-steps : goal.returns-then-self-ge-MOST_VERSIONS-clause-steps
+returns-then-self-ge-MOST_VERSIONS-clause-steps g c w h =
+    apply_full g.S.Row.Crdt.join g.S.Schema.words c.args.self.now c.args.node c.refused-then-self-ge-MOST_VERSIONS.result c.newest-newest.result w h (c.newest-newest.ensures.is w.nodes h.nodes) (sym (c.is_outside.ensures w h) ∙ c.if-is_outside.false)
+    c.refused-then-self-ge-MOST_VERSIONS.ensures c.if-newest-self.false c.if-self-ge-MOST_VERSIONS.true
 
--- src/world.rt:261:5
 pub returns-in-Refused-clause-steps : goal.returns-in-Refused-clause-steps
-returns-in-Refused-clause-steps g c = ?
+returns-in-Refused-clause-steps g c w h =
+    apply_refused g.S.Row.Crdt.join g.S.Schema.words c.args.self.now c.args.node c.refused-in-Refused.result c.newest-newest.result w h (c.newest-newest.ensures.is w.nodes h.nodes) (sym (c.is_outside.ensures w h) ∙ c.if-is_outside.false)
+    c.if-newest-self.false (omega arith) c.in-Refused.reason c.refused-in-Refused.ensures
+    (subst (λ d. IsComputed c.args.self.now.roles.list c.args.self.now.redundancy (c.newest-newest.result + 1) (decision d)) c.in-Refused.is c.in_ok-reason.ensures.computed)
 
--- src/world.rt:261:5
 pub returns-in_ok-push-in-Given-clause-steps : goal.returns-in_ok-push-in-Given-clause-steps
-returns-in_ok-push-in-Given-clause-steps g c = ?
+returns-in_ok-push-in-Given-clause-steps g c w h =
+    apply_given g.S.Row.Crdt.join g.S.Schema.words c.args.self.now c.args.node c.told.result c.newest-newest.result w h (c.newest-newest.ensures.is w.nodes h.nodes) (sym (c.is_outside.ensures w h) ∙ c.if-is_outside.false)
+    c.if-newest-self.false (omega arith) c.append.new.self c.in-Given.layout c.in-Given.applied
+    (c.told.ensures ∙ (λ i. told_report (One (c.from.ensures i)) ((c.in_ok-push-in-Given.ensures.ok ∙ ap (λ lines. lines ++ Layout c.in-Given.applied ∷ []) c.new-lines.ensures) i)))
+    (subst (λ d. IsComputed c.args.self.now.roles.list c.args.self.now.redundancy (c.newest-newest.result + 1) (decision d)) c.in-Given.is c.in_ok-reason.ensures.computed) c.in_ok-append-in-Given.ensures.appends
