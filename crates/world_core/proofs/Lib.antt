@@ -7,3 +7,6 @@ pub mod Asked
 pub mod Posts
 pub mod PostsSent
 pub mod PostsForgotten
+pub mod WorldsStand
+pub mod WorldsSending
+pub mod WorldsDoing

@@ -326,7 +326,6 @@ impl<S: Schema> World<S> {
         ensures plays { IfOk result (λ report. Plays S.Row.join S.words self.old self.new report (step.Deliver message)) }
         ensures causes { IfErr result (λ e. (e ≡ Want) ⊎ ((e ≡ Full) × Exceeds S.Row.join S.words self.old (step.Deliver message))) }
     {
-        sound_worlds_stay_sound::<S::Row>();
         let envelope = match self.post.get(message) {
             Ok(envelope) => envelope,
             Err(reason) => return Ok(self.refused(reason)),
@@ -351,7 +350,6 @@ impl<S: Schema> World<S> {
         ensures plays { IfOk result (λ report. Plays S.Row.join S.words self.old self.new report (step.Lose message)) }
         ensures want { IfErr result (λ e. e ≡ Want) }
     {
-        sound_worlds_stay_sound::<S::Row>();
         match self.post.get(message) {
             Ok(_) => {
                 self.post.lose(message);
@@ -366,7 +364,6 @@ impl<S: Schema> World<S> {
         ensures plays { IfOk result (λ report. Plays S.Row.join S.words self.old self.new report (step.Expire request)) }
         ensures want { IfErr result (λ e. e ≡ Want) }
     {
-        sound_worlds_stay_sound::<S::Row>();
         let Some(found) = self.requests.get(request) else {
             return Ok(self.refused(Refusal::NoSuchRequest));
         };
@@ -387,7 +384,6 @@ impl<S: Schema> World<S> {
         ensures plays { IfOk result (λ report. Plays S.Row.join S.words self.old self.new report (step.Restart node)) }
         ensures want { IfErr result (λ e. e ≡ Want) }
     {
-        sound_worlds_stay_sound::<S::Row>();
         let lost = self.nodes.restart(node)?;
         self.requests.close_all(&lost);
         let mut lines = List::new(self.alloc);
@@ -407,7 +403,6 @@ impl<S: Schema> World<S> {
         ensures plays { IfOk result (λ report. Plays S.Row.join S.words self.old self.new report (step.Gossip from to)) }
         ensures causes { IfErr result (λ e. (e ≡ Want) ⊎ ((e ≡ Full) × Exceeds S.Row.join S.words self.old (step.Gossip from to))) }
     {
-        sound_worlds_stay_sound::<S::Row>();
         let packet = self.nodes.shown(from)?;
         let mut out = Vec::new(self.alloc);
         out.push(Envelope { from, to, packet })?;
@@ -437,7 +432,6 @@ impl<S: Schema> World<S> {
         ensures plays { IfOk result (λ report. PlaysSo S.Row.join S.words self.old self.new report (local_so S.Row.join S.words node action)) }
         ensures causes { IfErr result (λ e. (e ≡ Want) ⊎ ((e ≡ Full) × ExceedsSo S.Row.join S.words self.old (local_so S.Row.join S.words node action))) }
     {
-        sound_worlds_stay_sound::<S::Row>();
         if self.nodes.newest(node) == 0 {
             return Ok(self.refused(Refusal::NotMember));
         }
@@ -449,7 +443,6 @@ impl<S: Schema> World<S> {
         ensures plays { IfOk result (λ report. Plays S.Row.join S.words self.old self.new report (step.Repair node)) }
         ensures causes { IfErr result (λ e. (e ≡ Want) ⊎ ((e ≡ Full) × Exceeds S.Row.join S.words self.old (step.Repair node))) }
     {
-        sound_worlds_stay_sound::<S::Row>();
         if self.nodes.newest(node) == 0 || !self.nodes.is_member(node) {
             return Ok(self.refused(Refusal::NotMember));
         }
@@ -462,7 +455,6 @@ impl<S: Schema> World<S> {
         ensures plays { IfOk result (λ report. Plays S.Row.join S.words self.old self.new report (step.Open node)) }
         ensures want { IfErr result (λ e. e ≡ Want) }
     {
-        sound_worlds_stay_sound::<S::Row>();
         let request = self.requests.len() + 1;
         if !self.nodes.open(node, request)? {
             return Ok(self.refused(Refusal::NotMember));
@@ -477,7 +469,6 @@ impl<S: Schema> World<S> {
         ensures plays { IfOk result (λ report. Plays S.Row.join S.words self.old self.new report (step.Phase request phase)) }
         ensures causes { IfErr result (λ e. (e ≡ Want) ⊎ ((e ≡ Full) × Exceeds S.Row.join S.words self.old (step.Phase request phase))) }
     {
-        sound_worlds_stay_sound::<S::Row>();
         let Some(found) = self.requests.get(request) else {
             return Ok(self.silent());
         };
@@ -498,7 +489,6 @@ impl<S: Schema> World<S> {
         ensures plays { IfOk result (λ report. Plays S.Row.join S.words self.old self.new report (step.Close request)) }
         ensures want { IfErr result (λ e. e ≡ Want) }
     {
-        sound_worlds_stay_sound::<S::Row>();
         if let Some(found) = self.requests.get(request) {
             if found.is_open {
                 self.nodes.close(found.coordinator, request);
