@@ -10,3 +10,4 @@ pub mod PostsForgotten
 pub mod WorldsStand
 pub mod WorldsSending
 pub mod WorldsDoing
+pub mod WorldsAsking

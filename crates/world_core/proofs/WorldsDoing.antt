@@ -111,12 +111,12 @@ module _ {S R : Type 0} (join : R → R → R) (s : Words R) where
 
   -- ---- a view that is sent
 
-  module _ (old : World S R) (w : Model R) (from to : ℕ) (packet : Packet R) (out : List (Envelope R)) (h : StandsFor join s old w) (shown : told packet ≡ shows (w.nodes from).view) (is_out : out ≡ record { from = from; to = to; packet = packet } ∷ []) where
+  module _ (old : World S R) (w : Model R) (from to : ℕ) (packet : Packet R) (start out : List (Envelope R)) (h : StandsFor join s old w) (shown : told packet ≡ shows (w.nodes from).view) (none : start ≡ []) (pushed : out ≡ start ++ record { from = from; to = to; packet = packet } ∷ []) where
     abbrev shows_it : Did R Layout
     shows_it = record (quiet (w.nodes from)) { posts = record { to = to; packet = shows (w.nodes from).view } ∷ [] }
 
     view_shown : DidAt join s old.nodes from w.nodes [] out None shows_it
-    view_shown = subst (λ es. DidAt join s old.nodes from w.nodes [] es None shows_it) (sym is_out) (record {
+    view_shown = subst (λ es. DidAt join s old.nodes from w.nodes [] es None shows_it) (sym (pushed ∙ ap (λ es. es ++ record { from = from; to = to; packet = packet } ∷ []) none)) (record {
       nodes = subst (AreNodes join s old.nodes) (sym (still from w.nodes)) h.nodes;
       posts = ap (λ p. (from, record { to = to; packet = p }) ∷ []) shown;
       ends = refl;
@@ -188,3 +188,63 @@ module _ {S R : Type 0} (join : R → R → R) (s : Words R) where
           subst (DoesSo join s new report w) (sym begun_is)
           (begun_does old w n phase h nodes out new before all report call phase_done synced (subst (λ ls. SendsOut join s (record old { nodes = nodes }) new n before out ls all) no_lines sends) is
           (subst (λ e. IsSound (applied w e)) begun_is (sound_after join s w (Begin number phase) nothing_given h.sound short tt)))
+
+  -- ---- a message that comes
+
+  module _ (old : World S R) (w : Model R) (number : ℕ) (envelope : Envelope R) (h : StandsFor join s old w) (found : IsFound number w.messages w.marks envelope) where
+    abbrev pub message : Sent R Layout
+    message = record { from = envelope.from; to = envelope.to; packet = told envelope.packet; moment = found.message.moment }
+
+    is_message : numbered w.messages number ≡ Some message
+    is_message = found.is_there ∙ ap Some (λ i. record { from = sym found.is.from i; to = sym found.is.to i; packet = sym found.is.packet i; moment = found.message.moment })
+
+    pub bare_found : IsBarePacket envelope.packet
+    bare_found = bare_packet envelope.packet (all_numbered (λ m. IsUsual w.applied m.packet) w.messages number message h.sound.messages is_message).0
+
+    -- a message that wasn't lost is there
+    pub at_found : (f : Sent R Layout → Done R) → at_message w f (numbered w.messages number) (numbered w.marks number) ≡ f message
+    at_found f = (λ i. at_message w f (is_message i) (found.is_marked i)) ∙ ap (λ b. cond b (refusal w Lost) (f message)) found.not_lost
+
+    abbrev it_does : ℕ → Node R Layout → Did R Layout
+    it_does now x = receives join s layouts envelope.to now x envelope.from (told envelope.packet)
+
+    abbrev came : Done R
+    came = received number (did w envelope.to (it_does (clock w envelope.to) (w.nodes envelope.to)))
+
+    came_is : does join s w (plainly (Deliver number)) ≡ came
+    came_is = at_found (λ sent. received number (did w sent.to (receives join s layouts sent.to (clock w sent.to) (w.nodes sent.to) sent.from sent.packet)))
+
+    module _ (now : ℕ) (is_now : now ≡ clock w envelope.to) where
+      pub came_full : OverflowsAt join s old.nodes envelope.to (it_does now) → RoomWith join s w (does join s w (plainly (Deliver number))) → ⊥
+      came_full over room =
+          node_full join s old w came envelope.to (it_does (clock w envelope.to)) h (subst (λ t. OverflowsAt join s old.nodes envelope.to (it_does t)) is_now over) (at_itself envelope.to _ w.nodes) refl
+          (subst (RoomWith join s w) came_is room)
+
+      module _ (nodes : Nodes S R) (post : Post R) (start out : List (Envelope R)) (given : Option (ℕ × PhaseEnd R)) (none : start ≡ []) (receives_at : DoesAt join s old.nodes nodes envelope.to start out given (it_does now))
+               (delivered : IsPost s post w.messages (marked w.marks (Some (number, record { is_delivered = true; is_lost = false })))) where
+        received_it : DidAt join s nodes envelope.to w.nodes [] out given (it_does (clock w envelope.to) (w.nodes envelope.to))
+        received_it =
+            subst (λ t. DidAt join s nodes envelope.to w.nodes [] out given (it_does t (w.nodes envelope.to))) is_now
+            (subst (λ es. DidAt join s nodes envelope.to w.nodes es out given (it_does now (w.nodes envelope.to))) none (receives_at w.nodes h.nodes))
+
+        pub came_sent_full : CannotSend s (record old { nodes = nodes; post = post }) out → RoomWith join s w (does join s w (plainly (Deliver number))) → ⊥
+        came_sent_full cannot room = post_full join s (record old { nodes = nodes; post = post }) w came envelope.to out _ _ delivered received_it.posts cannot refl (subst (RoomWith join s w) came_is room)
+
+        pub came_does : (new : World S R) (before : ℕ) (empty first all : List (Line Applied)) (ends : List (ℕ × PhaseEnd R)) (report : Report R) → before ≡ counts 0 Sync (w.nodes envelope.to).view.trackers envelope.to →
+            empty ≡ [] → first ≡ empty ++ Got number ∷ [] → SendsOut join s (record old { nodes = nodes; post = post }) new envelope.to before out first all → map ended ends ≡ ends_of given →
+            report ≡ record { refused = None; words = Empty; lines = all; ends = ends; lost = [] } → DoesSo join s new report w (does join s w (plainly (Deliver number)))
+        came_does new before empty first all ends report synced no_lines got sends ended_so is =
+            let d = it_does (clock w envelope.to) (w.nodes envelope.to) in
+            let it : Acted join s old new w nodes post envelope.to before out given d (marked w.marks (Some (number, record { is_delivered = true; is_lost = false }))) (Got number ∷ []) all =
+            record {
+              stands = h;
+              marked = delivered;
+              did = received_it;
+              synced = synced;
+              sends = subst (λ ls. SendsOut join s (record old { nodes = nodes; post = post }) new envelope.to before out ls all) (got ∙ ap (λ ls. ls ++ Got number ∷ []) no_lines) sends;
+            } in
+            subst (DoesSo join s new report w) (sym came_is) (record {
+              stands = acted_stands join s it (subst (λ e. IsSound (applied w e)) came_is (sound_after join s w (Deliver number) nothing_given h.sound tt tt));
+              tells = subst (λ r. Tells r came) (sym is) (record { refused = refl; words = refl; lines = acted_lines join s it; ends = ended_so ∙ sym received_it.ends; lost = refl });
+              spelled = acted_spelled join s it;
+            })
