@@ -7,7 +7,9 @@ ghost use Rattle.object_model.specs.Turns.{AreLawful, AllFit};
 ghost use Rattle.object_model.specs.Fresh.{IsFresh};
 
 use object_schema::S3Schema;
-use world_reads::{every_world_has_kept_reads, every_world_is_sound, every_world_reads_stored_rows};
+use world_reads::{
+    every_world_has_kept_reads, every_world_is_sound, every_world_reads_stored_rows,
+};
 
 /// Whatever comes, and whichever layouts are given, an answered get covers every put of its object that was acknowledged
 /// before it began, and what it found is what some put of its object wrote.

@@ -1,8 +1,13 @@
 -- Which event a line of a schedule spells, and which list of events an input spells.
-use Rattle.std.specs.Prelude.{◌≡◌, ℕ, suc, ◌-◌, ◌≤◌, Bool, ◌||◌, ◌&&◌, ◌==◌, nat_le, if◌then◌else◌, IsTrue, ⊤, List, [], ◌∷◌, ◌++◌, length, codes, decimal, slice_index}
+use Rattle.std.specs.Prelude.{◌≡◌, ℕ, suc, ◌-◌, ◌≤◌, Bool, ◌||◌, ◌&&◌, ◌==◌, nat_le, if◌then◌else◌, IsTrue, ⊤, Option, Some, None, List, [], ◌∷◌, ◌++◌, length, flat_map, codes, decimal, slice_index}
 use Rattle.std.specs.List.{All}
 use Rattle.object_model.specs.declared.event.Event.{Event}
-use Rattle.object_model.specs.declared.event.Event.TheVariants.{Trio, Bucket, Tick, Put, Get, Deliver, Drain}
+use Rattle.layout_roles.specs.declared.role.Zone.{Zone}
+use Rattle.layout_roles.specs.declared.role.Kind.{Kind}
+use Rattle.layout_roles.specs.declared.role.Kind.TheVariants.{Storage, Gateway}
+use Rattle.layout_roles.specs.declared.redundancy.Redundancy as wanted
+use Rattle.layout_roles.specs.declared.redundancy.Redundancy.TheVariants.{AtLeast, Maximum}
+use Rattle.object_model.specs.declared.event.Event.TheVariants.{Trio, Bucket, Role, Redundancy, Apply, Tick, Put, Get, Deliver, Drain, Expire, Gossip, Ack, Sync, SyncAck, Clean}
 use Rattle.object_model.specs.declared.event.Numbered.{Numbered}
 
 abbrev pub is_between : ℕ → ℕ → ℕ → Bool
@@ -40,6 +45,12 @@ pub record IsBucketName (name : List ℕ) : Type 0 where
   pub first : IsTrue (is_bucket_end (slice_index name 0))
   pub last : IsTrue (is_bucket_end (slice_index name (length name - 1)))
 
+-- a zone's name: 1 to 16 bytes
+pub record IsZone (name : List ℕ) : Type 0 where
+  pub at_least : 1 ≤ length name
+  pub at_most : length name ≤ 16
+  pub bytes : All (λ b. IsTrue (is_bucket_end b)) name
+
 -- 1 to 64 bytes
 pub record IsKey (key : List ℕ) : Type 0 where
   pub at_least : 1 ≤ length key
@@ -56,26 +67,69 @@ IsNode n = IsFrom 1 16 n
 abbrev pub word : List ℕ → List ℕ
 word w = 32 ∷ w
 
+abbrev pub kind_word : Kind → List ℕ
+kind_word (Storage capacity) = decimal capacity
+kind_word Gateway = codes "gateway"
+
+-- the words of a role: its zone, and its capacity in bytes or `gateway`; or `none`
+abbrev pub role_words : Option (Zone × Kind) → List (List ℕ)
+role_words None = codes "none" ∷ []
+role_words (Some role) = role.0.0 ∷ kind_word role.1 ∷ []
+
+abbrev pub redundancy_word : wanted.Redundancy → List ℕ
+redundancy_word (AtLeast r) = decimal r
+redundancy_word Maximum = codes "maximum"
+
 -- how an event is spelled: its name and its words, one space apart, numbers in decimal without a leading zero
 abbrev pub spelling : Event → List ℕ
 spelling Trio = codes "trio"
 spelling (Bucket name) = codes "bucket" ++ word name
+spelling (Role n role) = codes "role" ++ word (decimal n) ++ flat_map word (role_words role)
+spelling (Redundancy r) = codes "redundancy" ++ word (redundancy_word r)
+spelling (Apply n) = codes "apply" ++ word (decimal n)
 spelling (Tick ms) = codes "tick" ++ word (decimal ms)
 spelling (Put n bucket key size fill) =
     codes "put" ++ word (decimal n) ++ word bucket ++ word key ++ word (decimal size) ++ word (decimal fill)
 spelling (Get n bucket key) = codes "get" ++ word (decimal n) ++ word bucket ++ word key
 spelling (Deliver m) = codes "deliver" ++ word (decimal m)
 spelling (Drain n) = codes "drain" ++ word (decimal n)
+spelling (Expire q) = codes "expire" ++ word (decimal q)
+spelling (Gossip from to) = codes "gossip" ++ word (decimal from) ++ word (decimal to)
+spelling (Ack n) = codes "ack" ++ word (decimal n)
+spelling (Sync n) = codes "sync" ++ word (decimal n)
+spelling (SyncAck n) = codes "syncack" ++ word (decimal n)
+spelling (Clean n) = codes "clean" ++ word (decimal n)
+
+abbrev pub IsCapacity : Kind → Type 0
+IsCapacity (Storage capacity) = IsFrom 1 1125899906842624 capacity
+IsCapacity Gateway = ⊤
+
+abbrev pub IsRole : Option (Zone × Kind) → Type 0
+IsRole None = ⊤
+IsRole (Some role) = IsZone role.0.0 × IsCapacity role.1
+
+abbrev pub IsRedundancy : wanted.Redundancy → Type 0
+IsRedundancy (AtLeast r) = IsFrom 1 3 r
+IsRedundancy Maximum = ⊤
 
 -- the words of an event are in their ranges
 abbrev pub IsAllowed : Event → Type 0
 IsAllowed Trio = ⊤
 IsAllowed (Bucket name) = IsBucketName name
+IsAllowed (Role n role) = IsNode n × IsRole role
+IsAllowed (Redundancy r) = IsRedundancy r
+IsAllowed (Apply n) = IsNode n
 IsAllowed (Tick ms) = IsFrom 0 86400000 ms
 IsAllowed (Put n bucket key size fill) = IsNode n × IsBucketName bucket × IsKey key × IsFrom 0 3071 size × IsFrom 0 250 fill
 IsAllowed (Get n bucket key) = IsNode n × IsBucketName bucket × IsKey key
 IsAllowed (Deliver m) = IsFrom 1 4294967295 m
 IsAllowed (Drain n) = IsFrom 1 1000000 n
+IsAllowed (Expire q) = IsFrom 1 4294967295 q
+IsAllowed (Gossip from to) = IsNode from × IsNode to
+IsAllowed (Ack n) = IsNode n
+IsAllowed (Sync n) = IsNode n
+IsAllowed (SyncAck n) = IsNode n
+IsAllowed (Clean n) = IsNode n
 
 -- a line spells an event
 pub record Spells (line : List ℕ) (event : Event) : Type 0 where

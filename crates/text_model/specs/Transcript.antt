@@ -1,20 +1,25 @@
 -- The text of what a run tells.
 use Rattle.std.specs.Prelude.{ℕ, Option, Some, None, List, [], ◌∷◌, ◌++◌, length, flat_map, codes, decimal}
 use Rattle.hex.specs.Hex.{encode_lower}
-use Rattle.cluster_model.specs.declared.line.Line.{Line}
-use Rattle.cluster_model.specs.declared.line.Line.TheVariants.{Got, Sent, Done}
-use Rattle.cluster_model.specs.declared.line.SentKind.{SentKind}
-use Rattle.cluster_model.specs.declared.line.SentKind.TheVariants.{Get as KindGet, Row as KindRow, Store as KindStore, Stored as KindStored}
-use Rattle.cluster_model.specs.declared.line.DoneWord.{DoneWord}
-use Rattle.cluster_model.specs.declared.line.DoneWord.TheVariants.{Put as WordPut, Get as WordGet}
-use Rattle.cluster_model.specs.declared.step.Refusal.{Refusal}
-use Rattle.cluster_model.specs.declared.step.Refusal.TheVariants.{VersionTaken, NotMember, NoSuchBucket, NoSuchMessage}
-use Rattle.cluster_model.specs.declared.step.Words.{Words}
-use Rattle.cluster_model.specs.declared.step.Words.TheVariants.{Empty, One}
+use Rattle.layout_flow.specs.declared.cut.Cut.{Cut}
+use Rattle.layout_text.specs.Text.{layout_text}
+use Rattle.cluster_machine.specs.declared.line.Line.{Line}
+use Rattle.cluster_machine.specs.declared.line.Line.TheVariants.{Layout, Got, Sent, Synced, Done, Listed, Ended}
+use Rattle.cluster_machine.specs.declared.line.SentKind.{SentKind}
+use Rattle.cluster_machine.specs.declared.line.SentKind.TheVariants as kind
+use Rattle.cluster_machine.specs.declared.line.DoneWord.{DoneWord}
+use Rattle.cluster_machine.specs.declared.line.DoneWord.TheVariants as done
+use Rattle.cluster_machine.specs.declared.line.EndWord.{EndWord}
+use Rattle.cluster_machine.specs.declared.line.EndWord.TheVariants.{Expired, Restarted, Superseded}
+use Rattle.cluster_machine.specs.declared.step.Refusal.{Refusal}
+use Rattle.cluster_machine.specs.declared.step.Refusal.TheVariants.{VersionTaken, VersionLimit, NotMember, NoSuchBucket, NoSuchMessage, Lost, NoSuchRequest, AlreadyEnded, TooFewNodes, TooFewZones, NoAssignment}
+use Rattle.cluster_machine.specs.declared.step.Words.{Words}
+use Rattle.cluster_machine.specs.declared.step.Words.TheVariants.{Empty, One, Idle, Two}
+use Rattle.world_model.specs.declared.applied.Applied.{Applied}
 use Rattle.object_model.specs.declared.event.Event.{Event}
-use Rattle.object_model.specs.declared.event.Event.TheVariants.{Trio, Bucket, Tick, Put, Get, Deliver, Drain}
+use Rattle.object_model.specs.declared.event.Event.TheVariants as event
 use Rattle.object_model.specs.declared.event.Numbered.{Numbered}
-use Rattle.object_model.specs.Run.{State, Outcome, start, outcome}
+use Rattle.object_model.specs.Run.{State, Outcome, Turn, start, outcome_of, run}
 use Rattle.text_model.specs.Grammar.{word}
 
 -- a number in decimal, after one space
@@ -22,14 +27,30 @@ abbrev pub number : ℕ → List ℕ
 number n = word (decimal n)
 
 abbrev pub kind_text : SentKind → List ℕ
-kind_text KindGet = codes "get"
-kind_text KindRow = codes "row"
-kind_text KindStore = codes "store"
-kind_text KindStored = codes "stored"
+kind_text kind.Get = codes "get"
+kind_text kind.Row = codes "row"
+kind_text kind.Range = codes "range"
+kind_text kind.Rows = codes "rows"
+kind_text kind.Store = codes "store"
+kind_text kind.Stored = codes "stored"
+kind_text kind.Behind = codes "behind"
+kind_text kind.NotHere = codes "nothere"
+kind_text kind.BlockGet = codes "blockget"
+kind_text kind.Block = codes "block"
+kind_text kind.NoBlock = codes "noblock"
+kind_text kind.View = codes "view"
 
 abbrev pub done_text : DoneWord → List ℕ
-done_text WordPut = codes "put"
-done_text WordGet = codes "get"
+done_text done.Put = codes "put"
+done_text done.Get = codes "get"
+done_text done.Head = codes "head"
+done_text done.Delete = codes "delete"
+done_text done.Copy = codes "copy"
+
+abbrev pub end_word : EndWord → List ℕ
+end_word Expired = codes "expired"
+end_word Restarted = codes "restarted"
+end_word Superseded = codes "superseded"
 
 -- TS/ID, or none
 abbrev pub version_text : Option (ℕ × ℕ) → List ℕ
@@ -45,69 +66,84 @@ abbrev pub digest_text : Option (List ℕ) → List ℕ
 digest_text None = []
 digest_text (Some md5) = word (encode_lower md5)
 
--- a line of the transcript, without its line feed
-abbrev pub line_words : Line → List ℕ
-line_words (Got m) = codes "got" ++ number m
-line_words (Sent m kind a b) = codes "sent" ++ number m ++ word (kind_text kind) ++ number a ++ number b
-line_words (Done q kind version size md5) =
-    codes "done" ++ number q ++ word (done_text kind) ++ word (version_text version) ++ size_text size ++ digest_text md5
+-- a key of a list, with its version and size
+abbrev pub key_line : List ℕ × ℕ × ℕ × ℕ → List ℕ
+key_line k = codes "key" ++ word k.0 ++ word (decimal k.1 ++ 47 ∷ decimal k.2) ++ number k.3 ++ 10 ∷ []
 
-abbrev pub line_text : Line → List ℕ
-line_text line = line_words line ++ 10 ∷ []
+-- what happened, each line with its line feed
+abbrev pub line_text : Line Applied → List ℕ
+line_text (Layout shown) = layout_text shown.roles.list shown.certified
+line_text (Got m) = codes "got" ++ number m ++ 10 ∷ []
+line_text (Sent m k a b) = codes "sent" ++ number m ++ word (kind_text k) ++ number a ++ number b ++ 10 ∷ []
+line_text (Synced n v) = codes "synced" ++ number n ++ number v ++ 10 ∷ []
+line_text (Done q w version size md5) =
+    codes "done" ++ number q ++ word (done_text w) ++ word (version_text version) ++ size_text size ++ digest_text md5 ++ 10 ∷ []
+line_text (Listed q keys) = codes "done" ++ number q ++ word (codes "list") ++ number (length keys) ++ 10 ∷ [] ++ flat_map key_line keys
+line_text (Ended q w) = codes "ended" ++ number q ++ word (end_word w) ++ 10 ∷ []
 
-abbrev pub refusal_text : Refusal → List ℕ
+abbrev pub refusal_text : Refusal Cut → List ℕ
 refusal_text (VersionTaken v) = codes "VersionTaken" ++ number v
+refusal_text VersionLimit = codes "VersionLimit"
 refusal_text NotMember = codes "NotMember"
 refusal_text NoSuchBucket = codes "NoSuchBucket"
 refusal_text NoSuchMessage = codes "NoSuchMessage"
+refusal_text Lost = codes "Lost"
+refusal_text NoSuchRequest = codes "NoSuchRequest"
+refusal_text AlreadyEnded = codes "AlreadyEnded"
+refusal_text (TooFewNodes nodes) = codes "TooFewNodes" ++ number nodes
+refusal_text (TooFewZones zones r) = codes "TooFewZones" ++ number zones ++ number r
+refusal_text (NoAssignment cut) = codes "NoAssignment" ++ number cut.weight
 
 abbrev pub words_text : Words → List ℕ
 words_text Empty = []
 words_text (One n) = number n
+words_text (Idle read least) = word (codes "idle") ++ number read ++ number least
+words_text (Two a b) = number a ++ number b
 
 -- the first word of an event
 abbrev pub name_of : Event → List ℕ
-name_of Trio = codes "trio"
-name_of (Bucket _) = codes "bucket"
-name_of (Tick _) = codes "tick"
-name_of (Put _ _ _ _ _) = codes "put"
-name_of (Get _ _ _) = codes "get"
-name_of (Deliver _) = codes "deliver"
-name_of (Drain _) = codes "drain"
+name_of event.Trio = codes "trio"
+name_of (event.Bucket _) = codes "bucket"
+name_of (event.Role _ _) = codes "role"
+name_of (event.Redundancy _) = codes "redundancy"
+name_of (event.Apply _) = codes "apply"
+name_of (event.Tick _) = codes "tick"
+name_of (event.Put _ _ _ _ _) = codes "put"
+name_of (event.Get _ _ _) = codes "get"
+name_of (event.Deliver _) = codes "deliver"
+name_of (event.Drain _) = codes "drain"
+name_of (event.Expire _) = codes "expire"
+name_of (event.Gossip _ _) = codes "gossip"
+name_of (event.Ack _) = codes "ack"
+name_of (event.Sync _) = codes "sync"
+name_of (event.SyncAck _) = codes "syncack"
+name_of (event.Clean _) = codes "clean"
 
 -- what an event answers, after its line and name
-abbrev pub answer_text : Option Refusal → Words → List ℕ
+abbrev pub answer_text : Option (Refusal Cut) → Words → List ℕ
 answer_text None words = codes "ok" ++ words_text words
 answer_text (Some r) words = codes "refused" ++ word (refusal_text r)
 
 -- the lines of one event
-abbrev pub told_text : ℕ → List ℕ → Option Refusal → Words → List Line → List ℕ
+abbrev pub told_text : ℕ → List ℕ → Option (Refusal Cut) → Words → List (Line Applied) → List ℕ
 told_text line name refused words lines =
     (decimal line ++ word name ++ word (answer_text refused words) ++ 10 ∷ []) ++ flat_map line_text lines
 
 abbrev pub event_text : Numbered → Outcome → List ℕ
 event_text e o = told_text e.line (name_of e.event) o.refused o.words o.lines
 
-abbrev pub outcome_of : State → Numbered → Outcome
-outcome_of s e = outcome s e.event
-
--- the state after events
-abbrev pub state_after : State → List Numbered → State
-state_after s [] = s
-state_after s (e ∷ es) = state_after (outcome_of s e).state es
-
--- the text of events
-abbrev pub events_text : State → List Numbered → List ℕ
-events_text s [] = []
-events_text s (e ∷ es) = event_text e (outcome_of s e) ++ events_text (outcome_of s e).state es
+-- the text of turns
+abbrev pub turns_text : State → List Turn → List ℕ
+turns_text s [] = []
+turns_text s (t ∷ ts) = event_text t.numbered (outcome_of s t) ++ turns_text (outcome_of s t).state ts
 
 -- the last line: how many events, requests and messages
 abbrev pub end_line : ℕ → ℕ → ℕ → List ℕ
 end_line events requests messages = codes "end" ++ number events ++ number requests ++ number messages ++ 10 ∷ []
 
-abbrev pub end_text : List Numbered → State → List ℕ
-end_text events s = end_line (length events) (length s.world.requests) (length s.world.messages)
+abbrev pub end_text : List Turn → State → List ℕ
+end_text ts s = end_line (length ts) (length s.world.requests) (length s.world.messages)
 
--- the whole transcript of a schedule
-abbrev pub transcript : List Numbered → List ℕ
-transcript events = events_text start events ++ end_text events (state_after start events)
+-- the whole transcript of turns
+abbrev pub transcript : List Turn → List ℕ
+transcript ts = turns_text start ts ++ end_text ts (run start ts)

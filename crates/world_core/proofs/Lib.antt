@@ -3,7 +3,14 @@ pub mod ClockTimes
 pub mod StagedList
 pub mod StagedTrio
 pub mod DecidedLayout
+pub mod Asked
+pub mod Posts
+pub mod PostsSent
+pub mod PostsForgotten
 pub mod WorldsStand
+pub mod WorldsSending
+pub mod WorldsDoing
+pub mod WorldsAsking
 pub mod WorldsChange
 pub mod WorldsInstall
 pub mod WorldsApply

@@ -1,5 +1,5 @@
 -- When the parts of the code stand for those of a world of the machine.
-use Rattle.std.specs.Prelude.{◌≡◌, ◌<◌, ◌≤◌, ◌+◌, ◌^◌, ℕ, suc, Bool, true, false, not, ◌&&◌, Option, Some, None, is_some, is_none, List, [], ◌∷◌, ◌++◌, length, map, slice_get, slice_index_or, Result, Ok, Err, ⊤}
+use Rattle.std.specs.Prelude.{◌≡◌, ◌<◌, ◌≤◌, ◌+◌, ◌^◌, ℕ, suc, Bool, true, false, not, ◌&&◌, cond, Option, Some, None, is_some, is_none, List, [], ◌∷◌, ◌++◌, length, map, slice_get, slice_index_or, Result, Ok, Err, ⊤}
 use Rattle.std.specs.List.{AllZip}
 use Rattle.layout_roles.specs.declared.layout.Layout.{Layout}
 use Rattle.layout_roles.specs.declared.roles.Roles.{Roles}
@@ -77,6 +77,10 @@ module _ {R : Type 0} where
 
   abbrev pub is_waiting : Slot R → Bool
   is_waiting slot = not slot.is_delivered && is_some slot.envelope
+
+  -- a delivered message counts as lost
+  abbrev pub forgotten : Slot R → Slot R
+  forgotten slot = cond slot.is_delivered (record { envelope = None; is_delivered = slot.is_delivered }) slot
 
   -- a message that wasn't lost is held
   abbrev pub IsHeldIn : Option (Envelope R) → Sent R Layout → Type 0

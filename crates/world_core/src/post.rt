@@ -1,12 +1,12 @@
 //! Every message that was ever sent, and what became of it.
-ghost use Rattle.std.specs.Prelude.{◌≡◌, ◌⊎◌, ◌<◌, ◌≤◌, ◌^◌, ℕ, suc, Some, None, [], ◌++◌, false, true, length, map, OnOk, IfOk, IfErr};
+ghost use Rattle.std.specs.Prelude.{◌≡◌, ◌⊎◌, ◌<◌, ◌≤◌, ◌^◌, ℕ, suc, Some, None, [], ◌∷◌, ◌++◌, false, true, length, map, OnOk, IfOk, IfErr};
 ghost use Rattle.layout_roles.specs.declared.layout.Layout.{Layout};
 ghost use Rattle.crdt_core.specs.declared.memory.Memory.TheVariants.{Want, Full};
 ghost use Rattle.table_schema.specs.Words.{Words};
 ghost use Rattle.cluster_machine.specs.World.{Sent, Mark, numbered, first_waiting, sent_bytes, forgot};
 ghost use Rattle.cluster_machine.specs.Step.{marked};
 ghost use Rattle.world_model.specs.Fits.{IsWord};
-ghost use Rattle.world_core.specs.Parts.{IsPost, AreSent, IsFound, IsMissing, AreGone, IsFirst, packet_bytes, not_yet, lines_from};
+ghost use Rattle.world_core.specs.Parts.{IsPost, AreSent, IsSent, IsFound, IsMissing, AreGone, IsFirst, packet_bytes, not_yet, lines_from};
 
 use crate::lines::kind;
 use crdt_core::{List, Memory};
@@ -23,14 +23,23 @@ pub struct Slot<R> {
     pub is_delivered: bool,
 }
 
-impl<R> Slot<R> {
-    ghost use Rattle.world_core.specs.Parts.{is_waiting};
+impl<R: Drop> Slot<R> {
+    ghost use Rattle.world_core.specs.Parts.{is_waiting, forgotten};
 
     /// Neither delivered nor lost.
     fn is_waiting(&self) -> bool
         ensures { result ≡ is_waiting self.now }
     {
         !self.is_delivered && self.envelope.is_some()
+    }
+
+    /// A delivered message is lost from here on.
+    fn forget(&mut self)
+        ensures { self.new ≡ forgotten self.old }
+    {
+        if self.is_delivered {
+            self.envelope = None;
+        }
     }
 }
 
@@ -142,9 +151,7 @@ impl<R: Drop> Post<R> {
         ensures { (s : Words R) (messages : List (Sent R Layout)) (marks : List Mark) → IsPost s self.old messages marks → IsPost s self.new messages (map forgot marks) }
     {
         for place in self.kept..self.slots.len() {
-            if self.slots[place].is_delivered {
-                self.slots[place].envelope = None;
-            }
+            self.slots[place].forget();
         }
         self.kept = self.first;
     }
@@ -164,31 +171,48 @@ pub fn send<S: Schema>(
         IsPost S.words post.old messages marks → AreSent envelopes.items sent → IsWord (sent_bytes S.words (messages ++ sent)) → ⊥))) }
 {
     for envelope in envelopes {
-        let size = packet_size::<S>(alloc, &envelope.packet)?;
-        let Some(bytes) = post.bytes.checked_add(size) else {
-            return Err(Memory::Full);
-        };
-        let line = Line::Sent {
-            number: post.slots.len() as u64 + 1,
-            kind: kind(&envelope.packet),
-            from: envelope.from,
-            to: envelope.to,
-        };
-        lines.push(line)?;
-        post.slots.push(Slot {
-            envelope: Some(envelope),
-            is_delivered: false,
-        })?;
-        post.bytes = bytes;
+        put::<S>(post, alloc, envelope, lines)?;
     }
     Ok(())
 }
 
+/// Sends one message.
+fn put<S: Schema>(
+    post: &mut Post<S::Row>,
+    alloc: Global,
+    envelope: Envelope<S::Row>,
+    lines: &mut List<Line>,
+) -> Result<(), Memory>
+    ensures sent { OnOk result ((messages : List (Sent S.Row Layout)) (marks : List Mark) (m : Sent S.Row Layout) → IsPost S.words post.old messages marks → IsSent envelope m →
+        IsPost S.words post.new (messages ++ m ∷ []) (marks ++ not_yet (m ∷ []))) }
+    ensures told { OnOk result (lines.new ≡ lines.old ++ lines_from (suc (length post.old.slots.items)) (envelope ∷ [])) }
+    ensures more { OnOk result (length post.new.slots.items ≡ suc (length post.old.slots.items)) }
+    ensures causes { IfErr result (λ e. (e ≡ Want) ⊎ ((e ≡ Full) × ((messages : List (Sent S.Row Layout)) (marks : List Mark) (m : Sent S.Row Layout) →
+        IsPost S.words post.old messages marks → IsSent envelope m → IsWord (sent_bytes S.words (messages ++ m ∷ [])) → ⊥))) }
+{
+    let size = packet_size::<S>(alloc, &envelope.packet)?;
+    let Some(bytes) = post.bytes.checked_add(size) else {
+        return Err(Memory::Full);
+    };
+    let line = Line::Sent {
+        number: post.slots.len() as u64 + 1,
+        kind: kind(&envelope.packet),
+        from: envelope.from,
+        to: envelope.to,
+    };
+    lines.push(line)?;
+    post.slots.push(Slot {
+        envelope: Some(envelope),
+        is_delivered: false,
+    })?;
+    post.bytes = bytes;
+    Ok(())
+}
+
 /// The first place from `from` on whose message waits, where no one before it does.
-fn next_waiting<R>(slots: &[Slot<R>], from: usize) -> usize
-    requires within { from ≤ length slots.now }
-    requires before { AreGone slots.now from }
-    ensures { IsFirst slots.now result }
+fn next_waiting<R: Drop>(slots: &[Slot<R>], from: usize) -> usize
+    ensures first { from ≤ length slots.now → AreGone slots.now from → IsFirst slots.now result }
+    ensures later { from ≤ result }
 {
     let mut first = from;
     while first < slots.len() && !slots[first].is_waiting() {
