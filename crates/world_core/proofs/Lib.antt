@@ -14,3 +14,4 @@ pub mod WorldsAsking
 pub mod WorldsChange
 pub mod WorldsInstall
 pub mod WorldsApply
+pub mod WorldsStep
