@@ -36,6 +36,6 @@ returns-clause-plays g c =
     let s = g.S.Schema.words in
     trio_plays join s c.args.self.now c.append-3.new.self c.in_ok-self.field-0 c.silent.result c.silent.ensures (omega arith) c.in_ok-self.ensures.staged
     (λ xs are.
-      one_more join s c.append-2.new.self c.append-3.new.self trio c.in_ok-first.first (1 ∷ 2 ∷ []) 3 xs refl c.in_ok-first.ensures.is c.in_ok-append-3.ensures.appends
-      (one_more join s c.append.new.self c.append-2.new.self trio c.in_ok-copy-2.field-0 (1 ∷ []) 2 xs refl (c.in_ok-copy-2.ensures.same ∙ c.in_ok-first.ensures.is) c.in_ok-append-2.ensures.appends
-      (one_more join s c.args.self.now.nodes c.append.new.self trio c.in_ok-copy.field-0 [] 1 xs refl (c.in_ok-copy.ensures.same ∙ c.in_ok-first.ensures.is) c.in_ok-append.ensures.appends are)))
+    one_more join s c.append-2.new.self c.append-3.new.self trio c.in_ok-first.first (1 ∷ 2 ∷ []) 3 xs refl c.in_ok-first.ensures.is c.in_ok-append-3.ensures.appends
+    (one_more join s c.append.new.self c.append-2.new.self trio c.in_ok-copy-2.field-0 (1 ∷ []) 2 xs refl (c.in_ok-copy-2.ensures.same ∙ c.in_ok-first.ensures.is) c.in_ok-append-2.ensures.appends
+    (one_more join s c.args.self.now.nodes c.append.new.self trio c.in_ok-copy.field-0 [] 1 xs refl (c.in_ok-copy.ensures.same ∙ c.in_ok-first.ensures.is) c.in_ok-append.ensures.appends are)))
