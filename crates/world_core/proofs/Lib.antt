@@ -7,3 +7,11 @@ pub mod Asked
 pub mod Posts
 pub mod PostsSent
 pub mod PostsForgotten
+pub mod WorldsStand
+pub mod WorldsSending
+pub mod WorldsDoing
+pub mod WorldsAsking
+pub mod WorldsChange
+pub mod WorldsInstall
+pub mod WorldsApply
+pub mod WorldsStep

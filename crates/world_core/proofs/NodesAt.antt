@@ -30,7 +30,7 @@ same_number n m =
       | false ↦ λ e. ne_cmp n m (λ same. let is = eq-eqb m n (sym same) in cc)
     ] refl
 
-same_at : {R : Type 0} → (n m : ℕ) (xs : ℕ → Model R Layout) (b : Bool) → (m == n) ≡ b → unwrap_or (cond b (Some (xs n)) None) (xs m) ≡ xs m
+pub same_at : {R : Type 0} → (n m : ℕ) (xs : ℕ → Model R Layout) (b : Bool) → (m == n) ≡ b → unwrap_or (cond b (Some (xs n)) None) (xs m) ≡ xs m
 same_at n m xs true same = ap xs (sym (eqb-true m n same))
 same_at n m xs false apart = refl
 

@@ -1,5 +1,5 @@
 //! The cluster, step by step.
-ghost use Rattle.std.specs.Prelude.{◌≡◌, ◌⊎◌, ◌≤◌, ◌+◌, ℕ, nat_eq, Some, None, [], length, option_map, IsTrue, IfOk, IfErr, OnOk};
+ghost use Rattle.std.specs.Prelude.{◌≡◌, ◌⊎◌, ◌≤◌, ◌+◌, ℕ, nat_eq, leb, not, ◌&&◌, Some, None, [], length, map, option_map, IsTrue, IfOk, IfErr, OnOk};
 ghost use Rattle.std.specs.List.{IsDistinct};
 ghost use Rattle.crdt_core.specs.declared.memory.Memory.TheVariants.{Want, Full};
 ghost use Rattle.layout_history.specs.Known.{has_members};
@@ -8,13 +8,16 @@ ghost use Rattle.table_model.specs.Rows.{rows};
 ghost use Rattle.table_model.specs.Top.{any_unspelled};
 ghost use Rattle.node_parts.specs.Begins.{IsShort};
 ghost use Rattle.node_parts.specs.Layouts.{layouts};
+ghost use Rattle.node_core.specs.Stands.{ends_of};
 ghost use Rattle.cluster_machine.specs.declared.step.Step.TheVariants as step;
 ghost use Rattle.cluster_machine.specs.declared.step.Words.TheVariants.{Empty};
+ghost use Rattle.cluster_machine.specs.declared.line.Line.TheVariants as line;
+ghost use Rattle.cluster_machine.specs.declared.line.EndWord.TheVariants as word;
 ghost use Rattle.cluster_machine.specs.Step.{told};
 ghost use Rattle.cluster_machine.specs.World.{clock, is_member_at, undelivered, sent_bytes, node_line, forget_delivered, empty};
 ghost use Rattle.world_model.specs.Worlds.{Model, IsMeant, installed};
 ghost use Rattle.world_core.specs.Nodes.{shown_line, newest_in};
-ghost use Rattle.world_core.specs.Stands.{SendsOut, CannotSend, acts_so, local_so};
+ghost use Rattle.world_core.specs.Stands.{SendsOut, CannotSend, acts_so, local_so, ended};
 
 use crate::clocks::Clocks;
 use crate::decide::{Decided, decide};
@@ -86,7 +89,6 @@ impl<S: Schema> World<S> {
         ensures installed { OnOk result (Turns S.Row.join S.words self.old self.new (λ w. installed w first nodes.now)) }
         ensures want { IfErr result (λ e. e ≡ Want) }
     {
-        sound_worlds_stay_sound::<S::Row>();
         for node in nodes {
             self.nodes.append(*node, first.copy()?)?;
         }
@@ -223,7 +225,6 @@ impl<S: Schema> World<S> {
         ensures plays { IfOk result (λ report. Plays S.Row.join S.words self.old self.new report step.Trio) }
         ensures want { IfErr result (λ e. e ≡ Want) }
     {
-        sound_worlds_stay_sound::<S::Row>();
         if self.applied >= 1 {
             return Ok(self.refused(Refusal::VersionTaken(1)));
         }
@@ -242,7 +243,6 @@ impl<S: Schema> World<S> {
         ensures plays { IfOk result (λ report. Plays S.Row.join S.words self.old self.new report (step.Role node role)) }
         ensures want { IfErr result (λ e. e ≡ Want) }
     {
-        sound_worlds_stay_sound::<S::Row>();
         self.roles = staged(self.alloc, &self.roles, node, role)?;
         Ok(self.silent())
     }
@@ -252,9 +252,15 @@ impl<S: Schema> World<S> {
         ensures plays { IfOk result (λ report. Plays S.Row.join S.words self.old self.new report (step.Redundancy wanted)) }
         ensures want { IfErr result (λ e. e ≡ Want) }
     {
-        sound_worlds_stay_sound::<S::Row>();
         self.redundancy = wanted;
         Ok(self.silent())
+    }
+
+    // A layout was applied, and the node has no role in its newest one.
+    fn is_outside(&self, node: u8) -> bool
+        ensures { (w : Model S.Row) → StandsFor S.Row.join S.words self.now w → result ≡ (leb 1 w.applied && not (is_member_at layouts w node)) }
+    {
+        self.applied >= 1 && !self.nodes.is_member(node)
     }
 
     // Versions are applied one after the other, each once in the world.
@@ -263,8 +269,7 @@ impl<S: Schema> World<S> {
         ensures steps { IfOk result (λ report. Steps S.Row.join S.words self.old self.new report (step.Apply node)) }
         ensures want { IfErr result (λ e. e ≡ Want) }
     {
-        sound_worlds_stay_sound::<S::Row>();
-        if self.applied >= 1 && !self.nodes.is_member(node) {
+        if self.is_outside(node) {
             return Ok(self.refused(Refusal::NotMember));
         }
         let newest = self.nodes.newest(node);
@@ -291,7 +296,6 @@ impl<S: Schema> World<S> {
         ensures plays { IfOk result (λ report. Plays S.Row.join S.words self.old self.new report (step.Tick ms)) }
         ensures causes { IfErr result (λ e. (e ≡ Full) × Exceeds S.Row.join S.words self.old (step.Tick ms)) }
     {
-        sound_worlds_stay_sound::<S::Row>();
         self.clocks.tick(ms)?;
         Ok(self.silent())
     }
@@ -300,7 +304,6 @@ impl<S: Schema> World<S> {
         ensures plays { IfOk result (λ report. Plays S.Row.join S.words self.old self.new report (step.Skew node ms)) }
         ensures causes { IfErr result (λ e. (e ≡ Full) × Exceeds S.Row.join S.words self.old (step.Skew node ms)) }
     {
-        sound_worlds_stay_sound::<S::Row>();
         self.clocks.skew(node, ms)?;
         Ok(self.silent())
     }
@@ -326,7 +329,6 @@ impl<S: Schema> World<S> {
         ensures plays { IfOk result (λ report. Plays S.Row.join S.words self.old self.new report (step.Deliver message)) }
         ensures causes { IfErr result (λ e. (e ≡ Want) ⊎ ((e ≡ Full) × Exceeds S.Row.join S.words self.old (step.Deliver message))) }
     {
-        sound_worlds_stay_sound::<S::Row>();
         let envelope = match self.post.get(message) {
             Ok(envelope) => envelope,
             Err(reason) => return Ok(self.refused(reason)),
@@ -341,9 +343,7 @@ impl<S: Schema> World<S> {
         lines.push(Line::Got(message))?;
         self.tell(node, before, out, &mut lines)?;
         let mut report = self.told(Words::Empty, lines);
-        if let Some(end) = ended {
-            report.ends.push(end)?;
-        }
+        report.ends = listed(self.alloc, ended)?;
         Ok(report)
     }
 
@@ -351,7 +351,6 @@ impl<S: Schema> World<S> {
         ensures plays { IfOk result (λ report. Plays S.Row.join S.words self.old self.new report (step.Lose message)) }
         ensures want { IfErr result (λ e. e ≡ Want) }
     {
-        sound_worlds_stay_sound::<S::Row>();
         match self.post.get(message) {
             Ok(_) => {
                 self.post.lose(message);
@@ -366,7 +365,6 @@ impl<S: Schema> World<S> {
         ensures plays { IfOk result (λ report. Plays S.Row.join S.words self.old self.new report (step.Expire request)) }
         ensures want { IfErr result (λ e. e ≡ Want) }
     {
-        sound_worlds_stay_sound::<S::Row>();
         let Some(found) = self.requests.get(request) else {
             return Ok(self.refused(Refusal::NoSuchRequest));
         };
@@ -387,16 +385,9 @@ impl<S: Schema> World<S> {
         ensures plays { IfOk result (λ report. Plays S.Row.join S.words self.old self.new report (step.Restart node)) }
         ensures want { IfErr result (λ e. e ≡ Want) }
     {
-        sound_worlds_stay_sound::<S::Row>();
         let lost = self.nodes.restart(node)?;
         self.requests.close_all(&lost);
-        let mut lines = List::new(self.alloc);
-        for request in &lost {
-            lines.push(Line::Ended {
-                request: *request,
-                word: EndWord::Restarted,
-            })?;
-        }
+        let lines = restart_lines(self.alloc, &lost)?;
         let mut report = self.told(Words::Empty, lines);
         report.lost = List::from_vec(lost);
         Ok(report)
@@ -407,7 +398,6 @@ impl<S: Schema> World<S> {
         ensures plays { IfOk result (λ report. Plays S.Row.join S.words self.old self.new report (step.Gossip from to)) }
         ensures causes { IfErr result (λ e. (e ≡ Want) ⊎ ((e ≡ Full) × Exceeds S.Row.join S.words self.old (step.Gossip from to))) }
     {
-        sound_worlds_stay_sound::<S::Row>();
         let packet = self.nodes.shown(from)?;
         let mut out = Vec::new(self.alloc);
         out.push(Envelope { from, to, packet })?;
@@ -437,7 +427,6 @@ impl<S: Schema> World<S> {
         ensures plays { IfOk result (λ report. PlaysSo S.Row.join S.words self.old self.new report (local_so S.Row.join S.words node action)) }
         ensures causes { IfErr result (λ e. (e ≡ Want) ⊎ ((e ≡ Full) × ExceedsSo S.Row.join S.words self.old (local_so S.Row.join S.words node action))) }
     {
-        sound_worlds_stay_sound::<S::Row>();
         if self.nodes.newest(node) == 0 {
             return Ok(self.refused(Refusal::NotMember));
         }
@@ -449,7 +438,6 @@ impl<S: Schema> World<S> {
         ensures plays { IfOk result (λ report. Plays S.Row.join S.words self.old self.new report (step.Repair node)) }
         ensures causes { IfErr result (λ e. (e ≡ Want) ⊎ ((e ≡ Full) × Exceeds S.Row.join S.words self.old (step.Repair node))) }
     {
-        sound_worlds_stay_sound::<S::Row>();
         if self.nodes.newest(node) == 0 || !self.nodes.is_member(node) {
             return Ok(self.refused(Refusal::NotMember));
         }
@@ -462,13 +450,12 @@ impl<S: Schema> World<S> {
         ensures plays { IfOk result (λ report. Plays S.Row.join S.words self.old self.new report (step.Open node)) }
         ensures want { IfErr result (λ e. e ≡ Want) }
     {
-        sound_worlds_stay_sound::<S::Row>();
-        let request = self.requests.len() + 1;
-        if !self.nodes.open(node, request)? {
+        if !self.nodes.is_member(node) {
             return Ok(self.refused(Refusal::NotMember));
         }
-        let number = self.requests.begin(node)?;
-        Ok(self.told(Words::One(number), List::new(self.alloc)))
+        let request = self.requests.begin(node)?;
+        let _ = self.nodes.open(node, request)?;
+        Ok(self.told(Words::One(request), List::new(self.alloc)))
     }
 
     // A phase of an open request begins at its coordinator.
@@ -477,7 +464,6 @@ impl<S: Schema> World<S> {
         ensures plays { IfOk result (λ report. Plays S.Row.join S.words self.old self.new report (step.Phase request phase)) }
         ensures causes { IfErr result (λ e. (e ≡ Want) ⊎ ((e ≡ Full) × Exceeds S.Row.join S.words self.old (step.Phase request phase))) }
     {
-        sound_worlds_stay_sound::<S::Row>();
         let Some(found) = self.requests.get(request) else {
             return Ok(self.silent());
         };
@@ -498,15 +484,46 @@ impl<S: Schema> World<S> {
         ensures plays { IfOk result (λ report. Plays S.Row.join S.words self.old self.new report (step.Close request)) }
         ensures want { IfErr result (λ e. e ≡ Want) }
     {
-        sound_worlds_stay_sound::<S::Row>();
-        if let Some(found) = self.requests.get(request) {
-            if found.is_open {
-                self.nodes.close(found.coordinator, request);
-                self.requests.close(request);
-            }
+        let Some(found) = self.requests.get(request) else {
+            return Ok(self.silent());
+        };
+        if !found.is_open {
+            return Ok(self.silent());
         }
+        self.nodes.close(found.coordinator, request);
+        self.requests.close(request);
         Ok(self.silent())
     }
+}
+
+// The phase that ended, if one did.
+fn listed<R: Drop>(
+    alloc: Global,
+    given: Option<(u64, PhaseEnd<R>)>,
+) -> Result<List<(u64, PhaseEnd<R>)>, Memory>
+    ensures ends { IfOk result (λ ends. map ended ends ≡ ends_of given) }
+    ensures want { IfErr result (λ e. e ≡ Want) }
+{
+    let mut ends = List::new(alloc);
+    if let Some(end) = given {
+        ends.push(end)?;
+    }
+    Ok(ends)
+}
+
+// A line for each request that a restart lost.
+fn restart_lines(alloc: Global, lost: &[u64]) -> Result<List<Line>, Memory>
+    ensures lines { IfOk result (λ lines. lines ≡ map (λ q. line.Ended q word.Restarted) lost.now) }
+    ensures want { IfErr result (λ e. e ≡ Want) }
+{
+    let mut lines = List::new(alloc);
+    for request in lost {
+        lines.push(Line::Ended {
+            request: *request,
+            word: EndWord::Restarted,
+        })?;
+    }
+    Ok(lines)
 }
 
 // What an action answers.

@@ -1,0 +1,7 @@
+use Rattle.world_core.proofs.world.World.local.Goals as goal
+
+pub returns-then-newest-eq0-clause-plays : goal.returns-then-newest-eq0-clause-plays
+returns-then-newest-eq0-clause-plays g c = ?
+
+pub returns-clause-plays : goal.returns-clause-plays
+returns-clause-plays g c = ?
