@@ -221,7 +221,7 @@ module _ {S R : Type 0} (join : R → R → R) (s : Words R) where
           (subst (RoomWith join s w) came_is room)
 
       module _ (nodes : Nodes S R) (post : Post R) (start out : List (Envelope R)) (given : Option (ℕ × PhaseEnd R)) (none : start ≡ []) (receives_at : DoesAt join s old.nodes nodes envelope.to start out given (it_does now))
-               (delivered : IsPost s post w.messages (marked w.marks (Some (number, record { is_delivered = true; is_lost = false })))) where
+          (delivered : IsPost s post w.messages (marked w.marks (Some (number, record { is_delivered = true; is_lost = false })))) where
         received_it : DidAt join s nodes envelope.to w.nodes [] out given (it_does (clock w envelope.to) (w.nodes envelope.to))
         received_it =
             subst (λ t. DidAt join s nodes envelope.to w.nodes [] out given (it_does t (w.nodes envelope.to))) is_now

@@ -94,7 +94,7 @@ module _ {S R : Type 0} (join : R → R → R) (s : Words R) where
     pub sends : SendsOut join s (record old { nodes = nodes; post = post }) new n before out first all
 
   module _ {old new : World S R} {w : Model R} {nodes : Nodes S R} {post : Post R} {n before : ℕ} {out : List (Envelope R)} {given : Option (ℕ × PhaseEnd R)} {d : Did R Layout} {marks : List Mark} {first all : List (Line Applied)}
-           (h : Acted old new w nodes post n before out given d marks first all) where
+      (h : Acted old new w nodes post n before out given d marks first all) where
     they_are : AreSent out (sent_by w n d.posts)
     they_are = are_sent w n out d.posts h.did.posts
 

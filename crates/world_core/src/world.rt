@@ -497,7 +497,10 @@ impl<S: Schema> World<S> {
 }
 
 // The phase that ended, if one did.
-fn listed<R: Drop>(alloc: Global, given: Option<(u64, PhaseEnd<R>)>) -> Result<List<(u64, PhaseEnd<R>)>, Memory>
+fn listed<R: Drop>(
+    alloc: Global,
+    given: Option<(u64, PhaseEnd<R>)>,
+) -> Result<List<(u64, PhaseEnd<R>)>, Memory>
     ensures ends { IfOk result (λ ends. map ended ends ≡ ends_of given) }
     ensures want { IfErr result (λ e. e ≡ Want) }
 {
