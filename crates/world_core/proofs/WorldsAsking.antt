@@ -1,7 +1,7 @@
 -- Requests and messages of the world: what becomes of one, where it is found and where it isn't.
 use Rattle.std.proofs.Common.{◌≡◌, ◌<◌, ◌≤◌, ◌+◌, ◌-◌, ◌^◌, ◌==◌, ℕ, zero, suc, Bool, true, false, not, cond, leb, Option, Some, None, List, [], ◌∷◌, ◌++◌, length, map, reverse, IsTrue, refl, sym, subst, ap, ◌∙◌, append-nil, arith}
 use Rattle.std.specs.List.{All}
-use Rattle.std.proofs.lemmas.Bool.{and_parts, leb-true, eqb-true, eq-eqb}
+use Rattle.std.proofs.lemmas.Bool.{and_parts, leb-true, eqb-true, eq-eqb, ne_eqb}
 use Rattle.std.proofs.lemmas.List.{length-set, length-append}
 use Rattle.std.proofs.lemmas.List.Elements.{All-weaker}
 use Rattle.layout_roles.specs.declared.layout.Layout.{Layout}
@@ -56,6 +56,27 @@ length_shut_one requests q (Some r) = length-set requests (q - 1) (record r { is
 length_shut : (requests : List Request) (qs : List ℕ) → length (shut requests qs) ≡ length requests
 length_shut requests [] = refl
 length_shut requests (q ∷ qs) = length_shut (shut_one requests q (numbered requests q)) qs ∙ length_shut_one requests q (numbered requests q)
+
+-- the last version is none of those before
+not_below : (before : ℕ) (ls : List Layout) → follow reading before ls ≡ true → before ≤ last_version reading before ls
+not_below before [] f = omega arith
+not_below before (l ∷ ls) f =
+    let parts = and_parts (l.version == suc before) (follow reading l.version ls) f in
+    let next = eqb-true l.version (suc before) parts.0 in
+    let rest = not_below l.version ls parts.1 in
+    omega arith
+
+none_stored : (ls : List Layout) → is_gapless reading ls ≡ true → last_version reading 0 ls ≡ 0 → ls ≡ []
+none_stored [] g e = refl
+none_stored (l ∷ ls) g e =
+    let parts = and_parts (leb 1 l.version) (follow reading l.version ls) g in
+    let first = leb-true 1 l.version parts.0 in
+    let rest = not_below l.version ls parts.1 in
+    absurd (omega arith)
+
+-- who knows no version is no member
+no_member : (v : View Layout) (n : ℕ) → is_gapless reading v.layouts ≡ true → newest reading v ≡ 0 → is_member layouts v n ≡ false
+no_member v n g e = ap (λ ls. is_member layouts (record v { layouts = ls }) n) (none_stored v.layouts g e)
 
 module _ {R : Type 0} where
   not_there : (w : Model R) (number : ℕ) (why : Refusal Cut) → IsMissing number w.messages w.marks why → (f : Sent R Layout → Done R) → at_message w f (numbered w.messages number) (numbered w.marks number) ≡ refusal w why
@@ -182,13 +203,79 @@ module _ {S R : Type 0} (join : R → R → R) (s : Words R) where
               spelled = refl;
             })
 
-  pub restarts_it : (old : World S R) (w : Model R) (n : ℕ) (nodes : Nodes S R) (requests : List Request) (lost : List ℕ) (lines : List (Line Applied)) (report : Report R) (h : StandsFor join s old w) → BecomesAt join s old.nodes nodes n (λ x. restarts x) →
-      lost ≡ reverse (requests_of (w.nodes n).calls) → requests ≡ shut old.requests lost → lines ≡ map (λ q. HasEnded q Restarted) lost → report ≡ record { refused = None; words = Empty; lines = lines; ends = []; lost = lost } →
-      DoesSo join s (record old { nodes = nodes; requests = requests }) report w (does join s w (plainly (Restart n)))
-  restarts_it old w n nodes requests lost lines report h becomes are now told is =
+  -- `a`, `b` and `d` are what the code calls lost
+  pub restarts_it : (old : World S R) (w : Model R) (n : ℕ) (nodes : Nodes S R) (requests : List Request) (lost a b d : List ℕ) (lines : List (Line Applied)) (bare : Report R) (h : StandsFor join s old w) → BecomesAt join s old.nodes nodes n (λ x. restarts x) →
+      lost ≡ reverse (requests_of (w.nodes n).calls) → a ≡ lost → b ≡ lost → d ≡ lost → requests ≡ shut old.requests a → lines ≡ map (λ q. HasEnded q Restarted) b → bare ≡ told_report Empty lines →
+      DoesSo join s (record old { nodes = nodes; requests = requests }) (record bare { lost = d }) w (does join s w (plainly (Restart n)))
+  restarts_it old w n nodes requests lost a b d lines bare h becomes are is_a is_b is_d now told is =
       let all = reverse (requests_of (w.nodes n).calls) in
       record {
-        stands = shuts old w nodes requests n (restarts (w.nodes n)) all h (becomes w.nodes h.nodes) (now ∙ ap (shut old.requests) are) (sound_after join s w (Restart n) nothing_given h.sound tt tt);
-        tells = subst (λ r. Tells r (restarted w n)) (sym is) (record { refused = refl; words = refl; lines = told ∙ ap (map (λ q. HasEnded q Restarted)) are; ends = refl; lost = are });
+        stands = shuts old w nodes requests n (restarts (w.nodes n)) all h (becomes w.nodes h.nodes) (now ∙ ap (shut old.requests) (is_a ∙ are)) (sound_after join s w (Restart n) nothing_given h.sound tt tt);
+        tells = subst (λ r. Tells (record r { lost = d }) (restarted w n)) (sym is) (record { refused = refl; words = refl; lines = told ∙ ap (map (λ q. HasEnded q Restarted)) (is_b ∙ are); ends = refl; lost = is_d ∙ are });
         spelled = refl;
       }
+
+  -- ---- a request begins
+
+  module _ (old : World S R) (w : Model R) (n : ℕ) (member : Bool) (h : StandsFor join s old w) (is_so : member ≡ is_member layouts (w.nodes n).view n) where
+    abbrev opens_now : Done R
+    opens_now =
+        let q = suc (length w.requests) in
+        record (nothing w) { words = One q; nodes = only n (opened q (newest reading (w.nodes n).view) (w.nodes n)); opens = record { coordinator = n; is_open = true } ∷ [] }
+
+    opening_is : (b : Bool) → member ≡ b → does join s w (plainly (Open n)) ≡ cond b opens_now (refusal w NotMember)
+    opening_is b is = ap (λ b. cond b opens_now (refusal w NotMember)) (sym is_so ∙ is)
+
+    pub opens_refused : member ≡ false → (report : Report R) → report ≡ refused_report NotMember → DoesSo join s old report w (does join s w (plainly (Open n)))
+    opens_refused other report told = subst (DoesSo join s old report w) (sym (opening_is false other)) (plays_refusal join s old w h report NotMember told)
+
+    begun_there : (nodes : Nodes S R) (number : ℕ) (b : Bool) → is_member layouts (w.nodes n).view n ≡ true → Opens join s nodes n number w.nodes b → AreNodes join s nodes (changed (only n (opened number (newest reading (w.nodes n).view) (w.nodes n))) w.nodes)
+    begun_there nodes number true is opens = opens.1
+    begun_there nodes number false is opens = let other = opens.0 in cc
+
+    pub opens_it : (nodes : Nodes S R) (requests : List Request) (number : ℕ) (b : Bool) (empty : List (Line Applied)) (report : Report R) → member ≡ true →
+        ((xs : ℕ → Node R Layout) → AreNodes join s old.nodes xs → All (λ c. c.request < number) (xs n).calls → Opens join s nodes n number xs b) →
+        number ≡ suc (length old.requests) → number < 2 ^ 64 → requests ≡ old.requests ++ record { coordinator = n; is_open = true } ∷ [] → empty ≡ [] → report ≡ told_report (One number) empty →
+        DoesSo join s (record old { nodes = nodes; requests = requests }) report w (does join s w (plainly (Open n)))
+    opens_it nodes requests number b empty report one_is opens next small now none told =
+        let member_there : is_member layouts (w.nodes n).view n ≡ true = sym is_so ∙ one_is in
+        let q = suc (length w.requests) in
+        let is_q : number ≡ q = next ∙ ap (λ rs. suc (length rs)) h.requests in
+        let one : List Request = record { coordinator = n; is_open = true } ∷ [] in
+        let x = opened q (newest reading (w.nodes n).view) (w.nodes n) in
+        let same : does join s w (plainly (Open n)) ≡ opens_now = opening_is true one_is in
+        let below : All (λ c. c.request < number) (w.nodes n).calls = All-weaker (λ c. c.request ≤ length w.requests) (λ c. c.request < number) (λ c low. omega (arith, is_q)) (w.nodes n).calls (h.sound.requests n) in
+        let are : AreNodes join s nodes (changed (only n x) w.nodes) =
+        subst (λ k. AreNodes join s nodes (changed (only n (opened k (newest reading (w.nodes n).view) (w.nodes n))) w.nodes)) is_q (begun_there nodes number b member_there (opens w.nodes h.nodes below)) in
+        let few : length (w.requests ++ one) < 2 ^ 64 = omega (arith, length-append w.requests one, is_q, small) in
+        subst (DoesSo join s (record old { nodes = nodes; requests = requests }) report w) (sym same) (record {
+          stands = turned old w nodes requests (only n x) [] one h are (now ∙ ap (λ rs. rs ++ one) h.requests) few (subst (λ e. IsSound (applied w e)) same (sound_after join s w (Open n) nothing_given h.sound tt tt));
+          tells = is_told report (One number) empty opens_now told refl (ap One is_q) none refl refl;
+          spelled = refl;
+        })
+
+  -- ---- who may act
+
+  module _ (old : World S R) (w : Model R) (n known : ℕ) (h : StandsFor join s old w) (is_known : known ≡ newest reading (w.nodes n).view) where
+    pub local_refused : (action : Action) → known ≡ 0 → (report : Report R) → report ≡ refused_report NotMember → DoesSo join s old report w (local_so join s n action w)
+    local_refused action zero' report told =
+        let same : local_so join s n action w ≡ refusal w NotMember = (λ i. cond (sym is_known i == 0) (refusal w NotMember) (acts_so join s n action w)) ∙ ap (λ b. cond b (refusal w NotMember) (acts_so join s n action w)) (eq-eqb known 0 zero') in
+        subst (DoesSo join s old report w) (sym same) (plays_refusal join s old w h report NotMember told)
+
+    pub local_acts : (new : World S R) (action : Action) → (known ≡ 0 → ⊥) → (report : Report R) → DoesSo join s new report w (acts_so join s n action w) → DoesSo join s new report w (local_so join s n action w)
+    local_acts new action more report acts =
+        let same : local_so join s n action w ≡ acts_so join s n action w = (λ i. cond (sym is_known i == 0) (refusal w NotMember) (acts_so join s n action w)) ∙ ap (λ b. cond b (refusal w NotMember) (acts_so join s n action w)) (ne_eqb known 0 more) in
+        subst (DoesSo join s new report w) (sym same) acts
+
+    pub no_member_yet : known ≡ 0 → is_member layouts (w.nodes n).view n ≡ false
+    no_member_yet zero' = no_member (w.nodes n).view n (h.sound.gapless n) (sym is_known ∙ zero')
+
+  pub repairs_refused : (old : World S R) (w : Model R) (n : ℕ) (h : StandsFor join s old w) → is_member layouts (w.nodes n).view n ≡ false → (report : Report R) → report ≡ refused_report NotMember → DoesSo join s old report w (does join s w (plainly (Repair n)))
+  repairs_refused old w n h other report told =
+      let same : does join s w (plainly (Repair n)) ≡ refusal w NotMember = ap (λ b. cond (not b) (refusal w NotMember) (acts_so join s n Mend w)) other in
+      subst (DoesSo join s old report w) (sym same) (plays_refusal join s old w h report NotMember told)
+
+  pub repairs_it : (new : World S R) (w : Model R) (n : ℕ) → is_member layouts (w.nodes n).view n ≡ true → (report : Report R) → DoesSo join s new report w (acts_so join s n Mend w) → DoesSo join s new report w (does join s w (plainly (Repair n)))
+  repairs_it new w n one_is report acts =
+      let same : does join s w (plainly (Repair n)) ≡ acts_so join s n Mend w = ap (λ b. cond (not b) (refusal w NotMember) (acts_so join s n Mend w)) one_is in
+      subst (DoesSo join s new report w) (sym same) acts

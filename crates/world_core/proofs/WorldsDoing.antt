@@ -230,10 +230,10 @@ module _ {S R : Type 0} (join : R → R → R) (s : Words R) where
         pub came_sent_full : CannotSend s (record old { nodes = nodes; post = post }) out → RoomWith join s w (does join s w (plainly (Deliver number))) → ⊥
         came_sent_full cannot room = post_full join s (record old { nodes = nodes; post = post }) w came envelope.to out _ _ delivered received_it.posts cannot refl (subst (RoomWith join s w) came_is room)
 
-        pub came_does : (new : World S R) (before : ℕ) (empty first all : List (Line Applied)) (ends : List (ℕ × PhaseEnd R)) (report : Report R) → before ≡ counts 0 Sync (w.nodes envelope.to).view.trackers envelope.to →
+        pub came_does : (new : World S R) (before : ℕ) (empty first all : List (Line Applied)) (ends : List (ℕ × PhaseEnd R)) (bare : Report R) → before ≡ counts 0 Sync (w.nodes envelope.to).view.trackers envelope.to →
             empty ≡ [] → first ≡ empty ++ Got number ∷ [] → SendsOut join s (record old { nodes = nodes; post = post }) new envelope.to before out first all → map ended ends ≡ ends_of given →
-            report ≡ record { refused = None; words = Empty; lines = all; ends = ends; lost = [] } → DoesSo join s new report w (does join s w (plainly (Deliver number)))
-        came_does new before empty first all ends report synced no_lines got sends ended_so is =
+            bare ≡ told_report Empty all → DoesSo join s new (record bare { ends = ends }) w (does join s w (plainly (Deliver number)))
+        came_does new before empty first all ends bare synced no_lines got sends ended_so is =
             let d = it_does (clock w envelope.to) (w.nodes envelope.to) in
             let it : Acted join s old new w nodes post envelope.to before out given d (marked w.marks (Some (number, record { is_delivered = true; is_lost = false }))) (Got number ∷ []) all =
             record {
@@ -243,8 +243,8 @@ module _ {S R : Type 0} (join : R → R → R) (s : Words R) where
               synced = synced;
               sends = subst (λ ls. SendsOut join s (record old { nodes = nodes; post = post }) new envelope.to before out ls all) (got ∙ ap (λ ls. ls ++ Got number ∷ []) no_lines) sends;
             } in
-            subst (DoesSo join s new report w) (sym came_is) (record {
+            subst (DoesSo join s new (record bare { ends = ends }) w) (sym came_is) (record {
               stands = acted_stands join s it (subst (λ e. IsSound (applied w e)) came_is (sound_after join s w (Deliver number) nothing_given h.sound tt tt));
-              tells = subst (λ r. Tells r came) (sym is) (record { refused = refl; words = refl; lines = acted_lines join s it; ends = ended_so ∙ sym received_it.ends; lost = refl });
+              tells = subst (λ r. Tells (record r { ends = ends }) came) (sym is) (record { refused = refl; words = refl; lines = acted_lines join s it; ends = ended_so ∙ sym received_it.ends; lost = refl });
               spelled = acted_spelled join s it;
             })

@@ -1,5 +1,5 @@
 //! The requests that ever began.
-ghost use Rattle.std.specs.Prelude.{◌≡◌, suc, true, [], ◌∷◌, ◌++◌, length, option_map, OnOk, OnErr, IfOk, IfErr};
+ghost use Rattle.std.specs.Prelude.{◌≡◌, ◌<◌, ◌^◌, suc, true, [], ◌∷◌, ◌++◌, length, option_map, OnOk, OnErr, IfOk, IfErr};
 ghost use Rattle.crdt_core.specs.declared.memory.Memory.TheVariants.{Want};
 ghost use Rattle.cluster_machine.specs.World.{numbered};
 ghost use Rattle.cluster_machine.specs.Step.{shut};
@@ -65,6 +65,7 @@ impl Requests {
     pub fn begin(&mut self, coordinator: u8) -> Result<u64, Memory>
         ensures begun { OnOk result (self.new ≡ self.old ++ record { coordinator = coordinator; is_open = true } ∷ []) }
         ensures number { IfOk result (λ number. number ≡ suc (length self.old)) }
+        ensures small { IfOk result (λ number. number < 2 ^ 64) }
         ensures want { IfErr result (λ e. e ≡ Want) }
     {
         self.list.push(Request {

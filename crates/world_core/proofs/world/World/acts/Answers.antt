@@ -1,4 +1,4 @@
-use Rattle.std.proofs.Common.{inl, inr, refl}
+use Rattle.std.proofs.Common.{inl, inr}
 use Rattle.std.proofs.lemmas.Result.{err_from_is_err_and}
 use Rattle.world_core.proofs.WorldsDoing.{action_full, action_sent_full, action_does}
 use Rattle.world_core.proofs.world.World.acts.Goals as goal

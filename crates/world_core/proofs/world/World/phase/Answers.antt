@@ -1,4 +1,4 @@
-use Rattle.std.proofs.Common.{inl, inr, ap, sym, ◌∙◌, Some}
+use Rattle.std.proofs.Common.{inl, inr}
 use Rattle.std.proofs.lemmas.Result.{err_from_is_err_and}
 use Rattle.world_core.proofs.WorldsDoing.{phase_full, phase_sent_full, phase_does}
 use Rattle.world_core.proofs.WorldsAsking.{open_there, begins_nothing, begins_none}
