@@ -1,29 +1,25 @@
 -- How the calls of a replay end, where the source tells its bytes.
-use Rattle.std.proofs.Common.{◌≡◌, ℕ, ◌+◌, ◌<◌, ◌≤◌, Option, Some, None, Result, Ok, Err, IfOk, IfErr, List, [], ◌∷◌, ◌++◌, length, refl, sym, ap, ◌∙◌, subst, arith, ◌⊎◌, inl, inr, IfSome}
+use Rattle.std.proofs.Common.{◌≡◌, ℕ, ◌<◌, ◌≤◌, Option, Some, None, Result, Ok, Err, IfErr, List, [], length, refl, sym, ap, ◌∙◌, subst, inr, IfSome}
 use Rattle.std.specs.Result.{IsErrAnd, OnErr, OnOk}
 use Rattle.lab_outside.specs.declared.exit.Status.{Status}
-use Rattle.lab_outside.specs.declared.exit.Status.TheVariants.{Done, Refused, Usage, ReadFault, WriteFault, LinkFault, Memory as MemoryStatus, Limit}
+use Rattle.lab_outside.specs.declared.exit.Status.TheVariants.{Done, ReadFault, WriteFault, LinkFault}
 use Rattle.lab_outside.specs.Rose.{Rose}
-use Rattle.lab_outside.specs.Bytes.{Wrote, WrotePrefix}
-use Rattle.object_model.specs.declared.event.Event.{Event}
 use Rattle.object_model.specs.declared.event.Numbered.{Numbered}
-use Rattle.object_model.specs.Run.{start, run}
-use Rattle.object_model.specs.Fresh.{IsFresh}
+use Rattle.object_model.specs.Run.{start}
 use Rattle.text_model.specs.Grammar.{IsSchedule, IsFirstBadLine}
-use Rattle.text_model.specs.Unique.{schedule_determined, schedule_has_no_bad_line}
-use Rattle.text_model.specs.Transcript.{transcript, events_text}
+use Rattle.text_model.specs.Transcript.{transcript, turns_text}
 use Rattle.garage_lab.specs.declared.stop.Stop.{Stop}
 use Rattle.garage_lab.specs.declared.stop.Stop.TheVariants.{Read, Write, Memory, LongInput, BadLine, Number}
-use Rattle.garage_lab.specs.Replay.{AllFit, IsReplay, whole, number, IsTranscribed}
-use Rattle.garage_lab.specs.Answer.{layout_words, replay_words, input_limit, IsAnswer, usage, long_input, bad_line, laid_out, replayed, IsStated, Answers, AnswersPrefix, Says, said, cut_off, unsaid}
-use Rattle.garage_lab.specs.Stop.{status_of, said_of, IsNearly, Halts, IsCutShort, IsOfInput, IsOfOutput}
-use Rattle.garage_lab.proofs.Texts.{wrote_nothing, prefix_none, rose_later, rose_earlier}
-use Rattle.garage_lab.proofs.Answering.{replay_is_other, OneStatus, answers_prefix, stopped_answers, stopped_prefix, done_transcribes, completes}
+use Rattle.garage_lab.specs.Replay.{whole, number, IsTranscribed}
+use Rattle.garage_lab.specs.Answer.{replay_words, IsKnown, input_limit, usage_line, IsAnswer, long_input, bad_line, replayed, IsStated, Answers, AnswersPrefix, ReplayPrefix, nothing_yet, of_stated, of_events, Completes, Says, said, cut_off, unsaid}
+use Rattle.garage_lab.specs.Stop.{status_of, said_of, Halts, IsCutShort, IsPart, of_turns, of_all, IsWhole, IsOfInput, IsOfOutput}
+use Rattle.garage_lab.proofs.Texts.{wrote_nothing, rose_later, rose_earlier}
+use Rattle.garage_lab.proofs.Answering.{OneStatus, AlwaysFresh, stated_prefix, unknown_prefix, stopped_answers, stopped_prefix, done_transcribes, completes}
 
 -- the reading gave up, and nothing was written
 read_halted : (bytes : List ℕ) (old : Option (List ℕ)) (stop : Stop) → IsOfInput stop → ((n : ℕ) → stop ≡ BadLine n → (length bytes ≤ input_limit) × IsFirstBadLine bytes n) → (stop ≡ LongInput → input_limit < length bytes) → Halts bytes stop old old
-read_halted bytes old Read of_input bad long = λ status text stated. prefix_none old old text (wrote_nothing old)
-read_halted bytes old Memory of_input bad long = λ status text stated. prefix_none old old text (wrote_nothing old)
+read_halted bytes old Read of_input bad long = nothing_yet (wrote_nothing old)
+read_halted bytes old Memory of_input bad long = nothing_yet (wrote_nothing old)
 read_halted bytes old Write of_input bad long = absurd of_input
 read_halted bytes old Number of_input bad long = absurd of_input
 read_halted bytes old LongInput of_input bad long = record { front = []; wrote = wrote_nothing old; stated = long_input (inr refl) (long refl) refl refl }
@@ -41,53 +37,53 @@ read_halts left old (Ok x) stop is of_input bad long = tt
 read_halts left old (Err e) stop is of_input bad long =
     subst (λ (s : Stop). IfSome left (λ bytes. Halts bytes s old old)) (sym is) (reading_halted left old stop of_input bad long)
 
--- what is stated of an input that is a schedule is stated of its events
+-- what was written for the events of a schedule
 module _ (bytes : List ℕ) (events : List Numbered) (short : length bytes ≤ input_limit) (spells : IsSchedule bytes events) (old new : Option (List ℕ)) where
-  of_events : ((status : Status) (text : List ℕ) → IsReplay events status text → WrotePrefix old new text) → AnswersPrefix replay_words bytes old new
-  of_events prefix status text (usage other e w) = absurd (other (inr refl))
-  of_events prefix status text (long_input asked long e w) = absurd (omega arith)
-  of_events prefix status text (bad_line n asked less bad e w) = absurd (schedule_has_no_bad_line bytes events n spells bad)
-  of_events prefix status text (laid_out asked less says) = absurd (replay_is_other asked)
-  of_events prefix status text (replayed others asked less spell stated) =
-      prefix status text (subst (λ (es : List Numbered). IsReplay es status text) (schedule_determined bytes others events spell spells) stated)
+  of_part : IsPart events old new → ReplayPrefix bytes old new
+  of_part (of_turns turns first begun) = of_events events turns short spells first begun
+  of_part (of_all turns are played begun) = of_stated Done (transcript turns) (replayed events refl short spells (whole turns are played refl refl)) begun
 
-  write_halted : (stop : Stop) → IsOfOutput stop → (stop ≡ Number → IsCutShort events old new) → ((status : Status) (text : List ℕ) → IsReplay events status text → WrotePrefix old new text) → Halts bytes stop old new
-  write_halted Read of_output cut prefix = absurd of_output
-  write_halted LongInput of_output cut prefix = absurd of_output
-  write_halted (BadLine n) of_output cut prefix = absurd of_output
-  write_halted Write of_output cut prefix = of_events prefix
-  write_halted Memory of_output cut prefix = of_events prefix
-  write_halted Number of_output cut prefix =
-      let h = cut refl in record { front = events_text start h.before; wrote = h.wrote; stated = replayed events refl short spells (number h.before h.stops refl refl) }
+  write_halted : (stop : Stop) → IsOfOutput stop → (stop ≡ Number → IsCutShort events old new) → IsPart events old new → Halts bytes stop old new
+  write_halted Read of_output cut part = absurd of_output
+  write_halted LongInput of_output cut part = absurd of_output
+  write_halted (BadLine n) of_output cut part = absurd of_output
+  write_halted Write of_output cut part = of_part part
+  write_halted Memory of_output cut part = of_part part
+  write_halted Number of_output cut part =
+      let h = cut refl in record { front = turns_text start h.before; wrote = h.wrote; stated = replayed events refl short spells (number h.before h.stops refl refl) }
+
+  write_answers : IsWhole events old new → Answers replay_words bytes Done old new
+  write_answers h = record { text = transcript h.turns; stated = replayed events refl short spells (whole h.turns h.events_are h.played refl refl); wrote = h.wrote }
 
 pub write_halts : {A : Type 0} (left : Option (List ℕ)) (old new : Option (List ℕ)) (events listed : List Numbered) (r : Result A Stop) → listed ≡ events → IfSome left (λ bytes. (length bytes ≤ input_limit) × IsSchedule bytes events) →
-    IfErr r IsOfOutput → (r ≡ Err Number → IsCutShort listed old new) → OnErr r ((status : Status) (text : List ℕ) → IsReplay listed status text → WrotePrefix old new text) →
+    IfErr r IsOfOutput → (r ≡ Err Number → IsCutShort listed old new) → OnErr r (IsPart listed old new) →
     IfErr r (λ stop. IfSome left (λ bytes. Halts bytes stop old new))
-write_halts left old new events listed (Ok x) same spells of_output cut prefix = tt
-write_halts None old new events listed (Err stop) same spells of_output cut prefix = tt
-write_halts (Some bytes) old new events listed (Err stop) same spells of_output cut prefix =
-    write_halted bytes listed spells.0 (subst (IsSchedule bytes) (sym same) spells.1) old new stop of_output (λ e. cut (ap Err e)) prefix
+write_halts left old new events listed (Ok x) same spells of_output cut part = tt
+write_halts None old new events listed (Err stop) same spells of_output cut part = tt
+write_halts (Some bytes) old new events listed (Err stop) same spells of_output cut part =
+    write_halted bytes listed spells.0 (subst (IsSchedule bytes) (sym same) spells.1) old new stop of_output (λ e. cut (ap Err e)) part
 
 pub write_done : {A : Type 0} (left : Option (List ℕ)) (old new : Option (List ℕ)) (events listed : List Numbered) (r : Result A Stop) → listed ≡ events → IfSome left (λ bytes. (length bytes ≤ input_limit) × IsSchedule bytes events) →
-    OnOk r (AllFit start listed) → OnOk r (Wrote old new (transcript listed)) → OnOk r (IfSome left (λ bytes. Answers replay_words bytes Done old new))
-write_done left old new events listed (Err stop) same spells fits wrote = tt
-write_done None old new events listed (Ok x) same spells fits wrote = tt
-write_done (Some bytes) old new events listed (Ok x) same spells fits wrote = record {
-  text = transcript listed;
-  stated = replayed listed refl spells.0 (subst (IsSchedule bytes) (sym same) spells.1) (whole fits refl refl);
-  wrote = wrote;
-}
+    OnOk r (IsWhole listed old new) → OnOk r (IfSome left (λ bytes. Answers replay_words bytes Done old new))
+write_done left old new events listed (Err stop) same spells all = tt
+write_done None old new events listed (Ok x) same spells all = tt
+write_done (Some bytes) old new events listed (Ok x) same spells all = write_answers bytes listed spells.0 (subst (IsSchedule bytes) (sym same) spells.1) old new all
 
-pub done_prefix : (left : Option (List ℕ)) (words : List (List ℕ)) (status : Status) (old new : Option (List ℕ)) → (words ≡ layout_words → ⊥) → IfSome left (λ bytes. Answers words bytes status old new) → IfSome left (λ bytes. AnswersPrefix words bytes old new)
-done_prefix None words status old new no_layout h = tt
-done_prefix (Some bytes) words status old new no_layout h = answers_prefix words bytes status old new no_layout h
+pub done_prefix : (left : Option (List ℕ)) (status : Status) (old new : Option (List ℕ)) → IfSome left (λ bytes. Answers replay_words bytes status old new) → IfSome left (λ bytes. ReplayPrefix bytes old new)
+done_prefix None status old new h = tt
+done_prefix (Some bytes) status old new h = stated_prefix bytes status old new h
+
+pub some_unknown : (left : Option (List ℕ)) (words : List (List ℕ)) (status result : Status) (old new : Option (List ℕ)) (faults risen : ℕ) → Says status usage_line result old new faults risen → (IsKnown words → ⊥) →
+    IfSome left (λ bytes. AnswersPrefix words bytes old new)
+some_unknown None words status result old new faults risen says other = tt
+some_unknown (Some bytes) words status result old new faults risen says other = unknown_prefix words bytes result old new faults risen other status says
 
 module _ (stop : Stop) (result : Status) (old mid new : Option (List ℕ)) (faults risen : ℕ) (says : Says (status_of stop) (said_of stop) result mid new faults risen) where
   pub halted_answers : (left : Option (List ℕ)) → IfSome left (λ bytes. Halts bytes stop old mid) → IsStated result → IfSome left (λ bytes. Answers replay_words bytes result old new)
   halted_answers None h stated = tt
   halted_answers (Some bytes) h stated = stopped_answers bytes result old mid new faults risen stop h says stated
 
-  pub halted_prefix : (left : Option (List ℕ)) → IfSome left (λ bytes. Halts bytes stop old mid) → IfSome left (λ bytes. AnswersPrefix replay_words bytes old new)
+  pub halted_prefix : (left : Option (List ℕ)) → IfSome left (λ bytes. Halts bytes stop old mid) → IfSome left (λ bytes. ReplayPrefix bytes old new)
   halted_prefix None h = tt
   halted_prefix (Some bytes) h = stopped_prefix bytes result old mid new faults risen stop h says
 
@@ -105,7 +101,7 @@ halted_fault stop result mid new before faults risen (said is wrote) rose low hi
 halted_fault stop result mid new before faults risen (cut_off is later wrote) rose low high e = rose_earlier before faults risen low later
 halted_fault stop result mid new before faults risen (unsaid is wrote) rose low high e = cc
 
-pub some_transcribes : (left : Option (List ℕ)) (words : List (List ℕ)) (result : Status) (old new : Option (List ℕ)) → ((events : List Event) → IsFresh (run start events)) →
+pub some_transcribes : (left : Option (List ℕ)) (words : List (List ℕ)) (result : Status) (old new : Option (List ℕ)) → AlwaysFresh →
     (IsStated result → IfSome left (λ bytes. Answers words bytes result old new)) → words ≡ replay_words → result ≡ Done → IfSome left (λ bytes. IsTranscribed bytes old new)
 some_transcribes None words result old new fresh answers asks e = tt
 some_transcribes (Some bytes) words result old new fresh answers asks e =
@@ -114,6 +110,6 @@ some_transcribes (Some bytes) words result old new fresh answers asks e =
 
 pub some_completes : OneStatus → (left : Option (List ℕ)) (words : List (List ℕ)) (result : Status) (old new : Option (List ℕ)) (Reads Writes : Type 0) → (IsStated result → IfSome left (λ bytes. Answers words bytes result old new)) →
     (result ≡ ReadFault → Reads) → (result ≡ WriteFault → Writes) → (result ≡ LinkFault → ⊥) →
-    IfSome left (λ bytes. (status : Status) (text : List ℕ) → IsAnswer words bytes status text → (Reads → ⊥) → (Writes → ⊥) → (result ≡ status) ⊎ (result ≡ MemoryStatus))
+    IfSome left (λ bytes. (status : Status) (text : List ℕ) → IsAnswer words bytes status text → (Reads → ⊥) → (Writes → ⊥) → Completes words status result)
 some_completes one None words result old new R W answers reads writes links = tt
 some_completes one (Some bytes) words result old new R W answers reads writes links = completes one words bytes result old new R W answers reads writes links

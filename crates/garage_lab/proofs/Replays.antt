@@ -1,87 +1,64 @@
--- The events of a replay one by one, and that one replay is stated for them.
-use Rattle.std.proofs.Common.{◌≡◌, ℕ, zero, suc, ◌+◌, ◌<◌, ◌≤◌, Option, Some, None, List, [], ◌∷◌, ◌++◌, length, refl, sym, ap, ◌∙◌, subst, append_assoc, append-nil, arith, map}
-use Rattle.std.specs.Prelude.{⊤}
-use Rattle.lab_outside.specs.declared.exit.Status.{Status}
-use Rattle.lab_outside.specs.declared.exit.Status.TheVariants.{Done, Limit}
+-- The turns of a replay one by one, and that the events of a schedule are meant.
+use Rattle.std.proofs.Common.{◌≡◌, ℕ, zero, suc, List, [], ◌∷◌, ◌++◌, refl, sym, ap, ◌∙◌, append_assoc, append-nil, arith}
+use Rattle.std.specs.List.{All}
+use Rattle.layout_roles.specs.declared.redundancy.Redundancy.TheVariants.{AtLeast, Maximum}
 use Rattle.object_model.specs.declared.event.Event.{Event}
+use Rattle.object_model.specs.declared.event.Event.TheVariants.{Trio, Bucket, Role, Redundancy, Apply, Tick, Put, Get, Deliver, Drain, Expire, Gossip, Ack, Sync, SyncAck, Clean}
 use Rattle.object_model.specs.declared.event.Numbered.{Numbered}
-use Rattle.object_model.specs.Run.{State, FitsAll, start, after, run}
-use Rattle.object_model.specs.Fresh.{IsFresh}
-use Rattle.text_model.specs.Transcript.{outcome_of, event_text, state_after, events_text, end_text, transcript}
-use Rattle.garage_lab.specs.Replay.{number_line, AllFit, StopsAfter, IsReplay, whole, number}
+use Rattle.object_model.specs.Run.{State, Turn, outcome_of, after, start, run}
+use Rattle.object_model.specs.Turns.{IsLawful, AreLawful, Fits, AllFit, events_of}
+use Rattle.text_model.specs.Grammar.{IsAllowed, SpellsAll, no_line, blank_line, event_line}
+use Rattle.text_model.specs.Transcript.{event_text, turns_text}
+use Rattle.lab_driver.specs.Stands.{IsMeantEvent}
+use Rattle.garage_lab.specs.Replay.{ArePlayed}
 
-pub state_append : (s : State) (xs : List Numbered) (e : Numbered) → state_after s (xs ++ e ∷ []) ≡ (outcome_of (state_after s xs) e).state
-state_append s [] e = refl
-state_append s (x ∷ xs) e = state_append (outcome_of s x).state xs e
+pub run_push : (s : State) (ts : List Turn) (t : Turn) → run s (ts ++ t ∷ []) ≡ after (run s ts) t
+run_push s [] t = refl
+run_push s (x ∷ xs) t = run_push (after s x) xs t
 
-pub text_append : (s : State) (xs ys : List Numbered) → events_text s (xs ++ ys) ≡ events_text s xs ++ events_text (state_after s xs) ys
-text_append s [] ys = refl
-text_append s (x ∷ xs) ys =
-    ap (λ t. event_text x (outcome_of s x) ++ t) (text_append (outcome_of s x).state xs ys)
-    ∙ sym (append_assoc (event_text x (outcome_of s x)) (events_text (outcome_of s x).state xs) (events_text (state_after (outcome_of s x).state xs) ys))
+pub text_push : (s : State) (ts : List Turn) (t : Turn) → turns_text s (ts ++ t ∷ []) ≡ turns_text s ts ++ event_text t.numbered (outcome_of (run s ts) t)
+text_push s [] t = append-nil (event_text t.numbered (outcome_of s t))
+text_push s (x ∷ xs) t =
+    let here = event_text x.numbered (outcome_of s x) in
+    ap (λ w. here ++ w) (text_push (after s x) xs t) ∙ sym (append_assoc here (turns_text (after s x) xs) (event_text t.numbered (outcome_of (run (after s x) xs) t)))
 
-pub text_push : (s : State) (xs : List Numbered) (e : Numbered) → events_text s (xs ++ e ∷ []) ≡ events_text s xs ++ event_text e (outcome_of (state_after s xs) e)
-text_push s xs e = text_append s xs (e ∷ []) ∙ ap (λ t. events_text s xs ++ t) (append-nil (event_text e (outcome_of (state_after s xs) e)))
+pub events_push : (ts : List Turn) (t : Turn) → events_of (ts ++ t ∷ []) ≡ events_of ts ++ t.numbered ∷ []
+events_push [] t = refl
+events_push (x ∷ xs) t = ap (λ es. x.numbered ∷ es) (events_push xs t)
 
-pub fit_append : (s : State) (xs : List Numbered) (e : Numbered) → AllFit s xs → FitsAll (outcome_of (state_after s xs) e).state → AllFit s (xs ++ e ∷ [])
-fit_append s [] e h k = (k, tt)
-fit_append s (x ∷ xs) e h k = (h.0, fit_append (outcome_of s x).state xs e h.1 k)
+lawful_push : (s : State) (ts : List Turn) (t : Turn) → AreLawful s ts → IsLawful (run s ts) t → AreLawful s (ts ++ t ∷ [])
+lawful_push s [] t h k = (k, tt)
+lawful_push s (x ∷ xs) t h k = (h.0, lawful_push (after s x) xs t h.1 k)
 
--- the event after which a number doesn't fit is none of those that all fit
-not_all_fit : (s : State) (xs ys : List Numbered) (e : Numbered) → AllFit s (xs ++ e ∷ ys) → FitsAll (outcome_of (state_after s xs) e).state
-not_all_fit s [] ys e h = h.0
-not_all_fit s (x ∷ xs) ys e h = not_all_fit (outcome_of s x).state xs ys e h.1
+fit_push : (s : State) (ts : List Turn) (t : Turn) → AllFit s ts → Fits (run s ts) t → AllFit s (ts ++ t ∷ [])
+fit_push s [] t h k = (k, tt)
+fit_push s (x ∷ xs) t h k = (h.0, fit_push (after s x) xs t h.1 k)
 
--- events that all fit are among those before the first that doesn't
-pub fit_before : (s : State) (xs ys before later : List Numbered) (e : Numbered) → xs ++ ys ≡ before ++ e ∷ later → AllFit s xs → (FitsAll (outcome_of (state_after s before) e).state → ⊥) →
-    (rest : List Numbered) × (xs ++ rest ≡ before)
-fit_before s [] ys before later e same fits over = (before, refl)
-fit_before s (x ∷ xs) ys [] later e same fits over = let is : x ≡ e = cc in absurd (over (subst (λ (y : Numbered). FitsAll (outcome_of s y).state) is fits.0))
-fit_before s (x ∷ xs) ys (b ∷ before) later e same fits over =
-    let is : x ≡ b = cc in
-    let rest : xs ++ ys ≡ before ++ e ∷ later = cc in
-    let more = fit_before (outcome_of s x).state xs ys before later e rest fits.1
-    (λ h. over (subst (λ (y : Numbered). FitsAll (outcome_of (state_after (outcome_of s y).state before) e).state) is h)) in
-    (more.0, ap (λ ls. x ∷ ls) more.1 ∙ ap (λ (y : Numbered). y ∷ before) is)
+pub played_push : (ts : List Turn) (t : Turn) → ArePlayed ts → IsLawful (run start ts) t → Fits (run start ts) t → ArePlayed (ts ++ t ∷ [])
+played_push ts t h lawful fits = record { lawful = lawful_push start ts t h.lawful lawful; fits = fit_push start ts t h.fits fits }
 
--- the text of events that all fit is a first part of what is stated
-pub replay_prefix : (xs ys events : List Numbered) (status : Status) (text : List ℕ) → xs ++ ys ≡ events → AllFit start xs → IsReplay events status text → (rest : List ℕ) × (events_text start xs ++ rest ≡ text)
-replay_prefix xs ys events status text same fits (whole all s t) =
-    let more = events_text (state_after start xs) ys in
-    let end = end_text events (state_after start events) in
-    (more ++ end, sym (append_assoc (events_text start xs) more end) ∙ ap (λ w. w ++ end) (sym (text_append start xs ys) ∙ ap (events_text start) same) ∙ sym t)
-replay_prefix xs ys events status text same fits (number before stops s t) =
-    let rest = fit_before start xs ys before stops.later stops.next (same ∙ stops.whole) fits stops.overflows in
-    let more = events_text (state_after start xs) rest.0 in
-    (more ++ number_line, sym (append_assoc (events_text start xs) more number_line) ∙ ap (λ w. w ++ number_line) (sym (text_append start xs rest.0) ∙ ap (events_text start) rest.1) ∙ sym t)
+allowed_is_meant : (e : Event) → IsAllowed e → IsMeantEvent e
+allowed_is_meant (Role n role) h = (h.0.0, omega arith)
+allowed_is_meant (Redundancy (AtLeast r)) h = h
+allowed_is_meant (Redundancy Maximum) h = tt
+allowed_is_meant Trio h = tt
+allowed_is_meant (Bucket name) h = tt
+allowed_is_meant (Apply n) h = tt
+allowed_is_meant (Tick ms) h = tt
+allowed_is_meant (Put n bucket key size fill) h = tt
+allowed_is_meant (Get n bucket key) h = tt
+allowed_is_meant (Deliver m) h = tt
+allowed_is_meant (Drain n) h = tt
+allowed_is_meant (Expire q) h = tt
+allowed_is_meant (Gossip from to) h = tt
+allowed_is_meant (Ack n) h = tt
+allowed_is_meant (Sync n) h = tt
+allowed_is_meant (SyncAck n) h = tt
+allowed_is_meant (Clean n) h = tt
 
-same_prefix : (xs ys a b : List Numbered) → xs ++ a ≡ ys → ys ++ b ≡ xs → xs ≡ ys
-same_prefix [] ys [] b h k = h
-same_prefix [] [] (e ∷ a) b h k = cc
-same_prefix [] (y ∷ ys) (e ∷ a) b h k = cc
-same_prefix (x ∷ xs) [] a b h k = cc
-same_prefix (x ∷ xs) (y ∷ ys) a b h k =
-    let is : x ≡ y = cc in
-    let first : xs ++ a ≡ ys = cc in
-    let second : ys ++ b ≡ xs = cc in
-    ap (λ ls. x ∷ ls) (same_prefix xs ys a b first second) ∙ ap (λ (e : Numbered). e ∷ ys) is
-
--- one end is stated for events
-pub replay_determined : (events : List Numbered) (s t : Status) (a b : List ℕ) → IsReplay events s a → IsReplay events t b → (s ≡ t) × (a ≡ b)
-replay_determined events s t a b (whole f e w) (whole g d v) = (e ∙ sym d, w ∙ sym v)
-replay_determined events s t a b (whole f e w) (number before stops d v) =
-    absurd (stops.overflows (not_all_fit start before stops.later stops.next (subst (AllFit start) stops.whole f)))
-replay_determined events s t a b (number before stops e w) (whole g d v) =
-    absurd (stops.overflows (not_all_fit start before stops.later stops.next (subst (AllFit start) stops.whole g)))
-replay_determined events s t a b (number xs p e w) (number ys q d v) =
-    let one = fit_before start xs (p.next ∷ p.later) ys q.later q.next (sym p.whole ∙ q.whole) p.fits q.overflows in
-    let two = fit_before start ys (q.next ∷ q.later) xs p.later p.next (sym q.whole ∙ p.whole) q.fits p.overflows in
-    (e ∙ sym d, w ∙ ap (λ ls. events_text start ls ++ number_line) (same_prefix xs ys one.0 two.0 one.1 two.1) ∙ sym v)
-
--- the run of the events alone
-pub run_is : (s : State) (events : List Numbered) → run s (map (λ (e : Numbered). e.event) events) ≡ state_after s events
-run_is s [] = refl
-run_is s (e ∷ es) = run_is (after s e.event) es
-
-pub fresh_after : ((events : List Event) → IsFresh (run start events)) → (events : List Numbered) → IsFresh (state_after start events)
-fresh_after fresh events = subst IsFresh (run_is start events) (fresh (map (λ (e : Numbered). e.event) events))
+-- the events of a schedule are meant
+pub spelled_are_meant : (n : ℕ) (lines : List (List ℕ)) (events : List Numbered) → SpellsAll n lines events → All (λ (e : Numbered). IsMeantEvent e.event) events
+spelled_are_meant _ _ _ (no_line n) k d lt = absurd (omega arith)
+spelled_are_meant _ _ _ (blank_line n line lines events blank h) k d lt = spelled_are_meant (suc n) lines events h k d lt
+spelled_are_meant _ _ _ (event_line n line event lines events spells h) zero d lt = allowed_is_meant event spells.allowed
+spelled_are_meant _ _ _ (event_line n line event lines events spells h) (suc k) d lt = spelled_are_meant (suc n) lines events h k d (omega arith)

@@ -1,101 +1,165 @@
 -- What the loop over the events keeps.
-use Rattle.std.proofs.Common.{◌≡◌, ℕ, zero, suc, ◌+◌, ◌<◌, ◌≤◌, Option, Some, None, Result, Ok, Err, IfOk, List, [], ◌∷◌, ◌++◌, length, take, drop, get_or, refl, sym, ap, ◌∙◌, subst, append_assoc, append-nil, arith, take-append-drop}
-use Rattle.std.proofs.lemmas.List.{take_more, take_all, drop_more}
-use Rattle.lab_outside.specs.declared.exit.Status.{Status}
-use Rattle.lab_outside.specs.declared.exit.Status.TheVariants.{Done, Limit}
+use Rattle.std.proofs.Common.{◌≡◌, ℕ, ◌+◌, ◌<◌, ◌≤◌, Option, List, [], ◌∷◌, ◌++◌, length, take, drop, get_or, refl, sym, ap, ◌∙◌, subst, ◌⊎◌, inl, inr, take-append-drop, Result, Ok, Err, IfOk, IfErr}
+use Rattle.std.specs.Result.{IsErrAnd}
+use Rattle.std.proofs.lemmas.List.{take_more, take_all, drop_more, length-map}
 use Rattle.lab_outside.specs.Bytes.{Wrote, WrotePrefix}
+use Rattle.crdt_core.specs.declared.memory.Memory.{Memory as Why}
+use Rattle.crdt_core.specs.declared.memory.Memory.TheVariants.{Want, Full}
+use Rattle.cluster_machine.specs.declared.line.Line.{Line}
+use Rattle.world_model.specs.declared.applied.Applied.{Applied}
 use Rattle.object_model.specs.declared.event.Numbered.{Numbered}
-use Rattle.object_model.specs.Run.{State, FitsAll, start}
-use Rattle.text_model.specs.Transcript.{outcome_of, event_text, state_after, events_text, end_text, end_line, transcript}
+use Rattle.object_model.specs.declared.event.Told.{Told}
+use Rattle.object_model.specs.Run.{State, Turn, outcome_of, start, run}
+use Rattle.object_model.specs.Turns.{events_of}
+use Rattle.text_model.specs.Transcript.{name_of, told_text, turns_text, end_text, end_line}
 use Rattle.lab_driver.specs.declared.lab.Lab.{Lab}
-use Rattle.lab_driver.specs.Stands.{IsLab}
-use Rattle.garage_lab.specs.Replay.{number_line, AllFit, StopsAfter, IsReplay, whole, number}
-use Rattle.garage_lab.specs.Stop.{IsCutShort}
-use Rattle.garage_lab.proofs.Texts.{wrote_nothing, wrote_more, prefix_more, prefix_of, prefix_longer, prefix_all}
-use Rattle.garage_lab.proofs.Replays.{state_append, text_push, fit_append, replay_prefix, replay_determined}
+use Rattle.lab_driver.specs.Stands.{IsLab, HasLab, PlaysEvent, OverflowsEvent}
+use Rattle.garage_lab.specs.Replay.{ArePlayed, AreFirst}
+use Rattle.garage_lab.specs.Turning.{turn, TurnsTo, TurnsOne, CannotTurn}
+use Rattle.garage_lab.specs.Stop.{IsCutShort, IsPart, of_turns, of_all, IsWhole}
+use Rattle.garage_lab.proofs.Texts.{wrote_nothing, wrote_more, prefix_more, prefix_all}
+use Rattle.garage_lab.proofs.Replays.{run_push, text_push, events_push, played_push}
 
--- the first i events were played, and their text was written
+-- what the lab plays is a turn, with the text of what it told
+plays_turn : (old new : Lab) (told : Told) (e : Numbered) (text : List ℕ) → PlaysEvent old new told e.event → text ≡ told_text e.line (name_of e.event) told.refused told.words told.lines → TurnsOne old new e text
+plays_turn old new told e text plays is s stands =
+    let d = plays s stands in
+    let o = outcome_of s (turn e d.choice) in
+    record {
+      choice = d.choice;
+      lawful = d.lawful;
+      lab = d.does.lab;
+      fits = d.does.fits;
+      text_is =
+          is ∙ ap (λ r. told_text e.line (name_of e.event) r told.words told.lines) d.does.tells.refused
+          ∙ ap (λ w. told_text e.line (name_of e.event) o.refused w told.lines) d.does.tells.words
+          ∙ ap (λ ls. told_text e.line (name_of e.event) o.refused o.words ls) d.does.tells.lines;
+    }
+
+pub turns_one : (r : Result (List ℕ) Why) (old new : Lab) (told : Told) (e : Numbered) (name : List ℕ) (lines : List (Line Applied)) → name ≡ name_of e.event → lines ≡ told.lines → PlaysEvent old new told e.event →
+    IfOk r (λ text. text ≡ told_text e.line name told.refused told.words lines) → IfOk r (λ text. TurnsOne old new e text)
+turns_one (Err why) old new told e name lines named listed plays is = tt
+turns_one (Ok text) old new told e name lines named listed plays is =
+    plays_turn old new told e text plays (is ∙ ap (λ n. told_text e.line n told.refused told.words lines) named ∙ ap (λ ls. told_text e.line (name_of e.event) told.refused told.words ls) listed)
+
+-- the lab had no room for the event, or memory was wanting
+cannot_turn : (why : Why) (old : Lab) (e : Numbered) → (why ≡ Want) ⊎ ((why ≡ Full) × OverflowsEvent old e.event) → (why ≡ Want) ⊎ ((why ≡ Full) × CannotTurn old e)
+cannot_turn why old e (inl want) = inl want
+cannot_turn why old e (inr h) = inr (h.0, λ s stands. let lacking = h.1 s stands in record { choice = lacking.choice; lawful = lacking.lawful; lacks = lacking.lacks })
+
+pub turns_none : (r : Result (List ℕ) Why) (why : Why) (old : Lab) (e : Numbered) → IsErrAnd r (λ x. x ≡ why) → (why ≡ Want) ⊎ ((why ≡ Full) × OverflowsEvent old e.event) →
+    IfErr r (λ x. (x ≡ Want) ⊎ ((x ≡ Full) × CannotTurn old e))
+turns_none (Ok text) why old e is causes = tt
+turns_none (Err x) why old e is causes = subst (λ (w : Why). (w ≡ Want) ⊎ ((w ≡ Full) × CannotTurn old e)) (sym is) (cannot_turn why old e causes)
+
+-- the first i events were played, with some layouts, and their text was written
 pub record Running (lab : Lab) (old now : Option (List ℕ)) (events : List Numbered) (i : ℕ) : Type 0 where
-  pub stands : IsLab lab (state_after start (take i events))
-  pub fits : AllFit start (take i events)
-  pub wrote : Wrote old now (events_text start (take i events))
+  pub turns : List Turn
+  pub events_are : events_of turns ≡ take i events
+  pub played : ArePlayed turns
+  pub stands : IsLab lab (run start turns)
+  pub wrote : Wrote old now (turns_text start turns)
 
 pub running_none : (lab : Lab) (old : Option (List ℕ)) (events : List Numbered) → IsLab lab start → Running lab old old events 0
-running_none lab old events d = record { stands = d; fits = tt; wrote = wrote_nothing old }
+running_none lab old events d = record { turns = []; events_are = refl; played = record { lawful = tt; fits = tt }; stands = d; wrote = wrote_nothing old }
 
--- what one event does, whatever state the lab stood for
-abbrev pub PlaysOne : Lab → Lab → Numbered → List ℕ → Type 0
-PlaysOne lab new next text = (s : State) → IsLab lab s → IsLab new (outcome_of s next).state × (text ≡ event_text next (outcome_of s next))
+pub part_none : (old : Option (List ℕ)) (events : List Numbered) → IsPart events old old
+part_none old events = of_turns [] (record { played = record { lawful = tt; fits = tt }; later = events; whole = refl }) (prefix_all old old [] (wrote_nothing old))
 
-module _ (lab new : Lab) (old mid now : Option (List ℕ)) (events : List Numbered) (i : ℕ) (next : Numbered) (lt : i < length events) (is : next ≡ get_or events i next) (run : Running lab old mid events i) where
+module _ (lab : Lab) (old now : Option (List ℕ)) (events : List Numbered) (i : ℕ) (r : Running lab old now events i) where
+  pub running_has : HasLab lab
+  running_has = (run start r.turns, r.stands)
+
+  are_first : AreFirst events r.turns
+  are_first = record { played = r.played; later = drop i events; whole = sym (take-append-drop i events) ∙ ap (λ es. es ++ drop i events) (sym r.events_are) }
+
+  -- what was written when the next event or the end came to nothing
+  pub running_part : IsPart events old now
+  running_part = of_turns r.turns are_first (prefix_all old now (turns_text start r.turns) r.wrote)
+
+module _ (lab new : Lab) (old mid now : Option (List ℕ)) (events : List Numbered) (i : ℕ) (next : Numbered) (lt : i < length events) (is : next ≡ get_or events i next) (r : Running lab old mid events i) where
   here : take (i + 1) events ≡ take i events ++ next ∷ []
   here = take_more events i next lt ∙ ap (λ (e : Numbered). take i events ++ e ∷ []) (sym is)
 
-  played_fits : (text : List ℕ) → PlaysOne lab new next text → AllFit start (take (i + 1) events)
-  played_fits text plays =
-      subst (AllFit start) (sym here) (fit_append start (take i events) next run.fits (plays (state_after start (take i events)) run.stands).0.fits)
+  module _ (text : List ℕ) (turns : TurnsOne lab new next text) where
+    to : TurnsTo new (run start r.turns) next text
+    to = turns (run start r.turns) r.stands
 
-  text_here : (text : List ℕ) → PlaysOne lab new next text → events_text start (take (i + 1) events) ≡ events_text start (take i events) ++ text
-  text_here text plays =
-      ap (events_text start) here ∙ text_push start (take i events) next
-      ∙ ap (λ t. events_text start (take i events) ++ t) (sym (plays (state_after start (take i events)) run.stands).1)
+    more : List Turn
+    more = r.turns ++ turn next to.choice ∷ []
 
-  pub running_more : (text : List ℕ) → PlaysOne lab new next text → Wrote mid now text → Running new old now events (i + 1)
-  running_more text plays wrote = record {
-    stands = subst (IsLab new) (sym (ap (state_after start) here ∙ state_append start (take i events) next)) (plays (state_after start (take i events)) run.stands).0;
-    fits = played_fits text plays;
-    wrote = subst (Wrote old now) (sym (text_here text plays)) (wrote_more old mid now (events_text start (take i events)) text run.wrote wrote);
-  }
+    more_are : events_of more ≡ take (i + 1) events
+    unfolding more
+    more_are = events_push r.turns (turn next to.choice) ∙ ap (λ es. es ++ next ∷ []) r.events_are ∙ sym here
 
-  -- a write of the event's text failed
-  pub running_cut : (text : List ℕ) → PlaysOne lab new next text → WrotePrefix mid now text → (status : Status) (all : List ℕ) → IsReplay events status all → WrotePrefix old now all
-  running_cut text plays wrote status all stated =
-      let rest = replay_prefix (take (i + 1) events) (drop (i + 1) events) events status all (take-append-drop (i + 1) events) (played_fits text plays) stated in
-      prefix_longer old now (events_text start (take (i + 1) events)) rest.0 all rest.1
-      (subst (WrotePrefix old now) (sym (text_here text plays)) (prefix_more old mid now (events_text start (take i events)) text run.wrote wrote))
+    more_played : ArePlayed more
+    unfolding more
+    more_played = played_push r.turns (turn next to.choice) r.played to.lawful to.fits
 
-  -- after the event a number doesn't fit
-  pub running_stops : ((s : State) → IsLab lab s → FitsAll (outcome_of s next).state → ⊥) → IsCutShort events old mid
-  running_stops over = record {
-    before = take i events;
-    stops = record {
-      next = next;
-      later = drop (i + 1) events;
-      whole = sym (take-append-drop i events) ∙ ap (λ ls. take i events ++ ls) (drop_more events i next lt ∙ ap (λ (e : Numbered). e ∷ drop (i + 1) events) (sym is));
-      fits = run.fits;
-      overflows = over (state_after start (take i events)) run.stands;
-    };
-    wrote = run.wrote;
-  }
+    more_text : turns_text start more ≡ turns_text start r.turns ++ text
+    unfolding more
+    more_text = text_push start r.turns (turn next to.choice) ∙ ap (λ t. turns_text start r.turns ++ t) (sym to.text_is)
 
-module _ (lab : Lab) (old mid now : Option (List ℕ)) (events : List Numbered) (i : ℕ) (run : Running lab old mid events i) where
-  -- a first part was written
-  pub running_prefix : (status : Status) (all : List ℕ) → IsReplay events status all → WrotePrefix old mid all
-  running_prefix status all stated =
-      let rest = replay_prefix (take i events) (drop i events) events status all (take-append-drop i events) run.fits stated in
-      prefix_of old mid (events_text start (take i events)) rest.0 all rest.1 run.wrote
+    more_stands : IsLab new (run start more)
+    unfolding more
+    more_stands = subst (IsLab new) (sym (run_push start r.turns (turn next to.choice))) to.lab
 
-  pub all_fit : length events ≤ i → AllFit start events
-  all_fit le = subst (AllFit start) (take_all i events le) run.fits
+    pub running_more : Wrote mid now text → Running new old now events (i + 1)
+    running_more wrote = record {
+      turns = more;
+      events_are = more_are;
+      played = more_played;
+      stands = more_stands;
+      wrote = subst (Wrote old now) (sym more_text) (wrote_more old mid now (turns_text start r.turns) text r.wrote wrote);
+    }
 
-  all_wrote : length events ≤ i → Wrote old mid (events_text start events)
-  all_wrote le = subst (λ (es : List Numbered). Wrote old mid (events_text start es)) (take_all i events le) run.wrote
+    -- a write of the event's text failed
+    pub running_cut : WrotePrefix mid now text → IsPart events old now
+    running_cut wrote =
+        of_turns more (record { played = more_played; later = drop (i + 1) events; whole = sym (take-append-drop (i + 1) events) ∙ ap (λ es. es ++ drop (i + 1) events) (sym more_are) })
+        (subst (WrotePrefix old now) (sym more_text) (prefix_more old mid now (turns_text start r.turns) text r.wrote wrote))
 
-  all_stands : length events ≤ i → IsLab lab (state_after start events)
-  all_stands le = subst (λ (es : List Numbered). IsLab lab (state_after start es)) (take_all i events le) run.stands
+  -- after the event there is no room
+  pub running_stops : (why : Why) → (why ≡ Want) ⊎ ((why ≡ Full) × CannotTurn lab next) → why ≡ Full → IsCutShort events old mid
+  running_stops why (inl want) full = cc
+  running_stops why (inr h) full =
+      let lacking = h.1 (run start r.turns) r.stands in
+      record {
+        before = r.turns;
+        stops = record {
+          played = r.played;
+          next = turn next lacking.choice;
+          later = drop (i + 1) events;
+          whole =
+              sym (take-append-drop i events) ∙ ap (λ es. take i events ++ es) (drop_more events i next lt ∙ ap (λ (e : Numbered). e ∷ drop (i + 1) events) (sym is))
+              ∙ ap (λ es. es ++ next ∷ drop (i + 1) events) (sym r.events_are);
+          lawful = lacking.lawful;
+          lacks = lacking.lacks;
+        };
+        wrote = r.wrote;
+      }
 
-  module _ (requests messages count : ℕ) (text : List ℕ) (le : length events ≤ i) (count_is : count ≡ length events) (asked : (s : State) → IsLab lab s → requests ≡ length s.world.requests) (sent : (s : State) → IsLab lab s → messages ≡ length s.world.messages)
+module _ (lab : Lab) (old mid now : Option (List ℕ)) (events : List Numbered) (i : ℕ) (r : Running lab old mid events i) (le : length events ≤ i) where
+  all_are : events_of r.turns ≡ events
+  all_are = r.events_are ∙ take_all i events le
+
+  count_turns : length events ≡ length r.turns
+  count_turns = ap length (sym all_are) ∙ length-map r.turns (λ (t : Turn). t.numbered)
+
+  module _ (requests messages count : ℕ) (text : List ℕ) (count_is : count ≡ length events) (asked : (s : State) → IsLab lab s → requests ≡ length s.world.requests) (sent : (s : State) → IsLab lab s → messages ≡ length s.world.messages)
       (is : text ≡ end_line count requests messages) where
-    end_is : text ≡ end_text events (state_after start events)
+    end_is : text ≡ end_text r.turns (run start r.turns)
     end_is =
-        let s = state_after start events in
-        let d = all_stands le in
-        is ∙ ap (λ n. end_line n requests messages) count_is ∙ ap (λ n. end_line (length events) n messages) (asked s d) ∙ ap (λ n. end_line (length events) (length s.world.requests) n) (sent s d)
+        let s = run start r.turns in
+        is ∙ ap (λ n. end_line n requests messages) (count_is ∙ count_turns) ∙ ap (λ n. end_line (length r.turns) n messages) (asked s r.stands) ∙ ap (λ n. end_line (length r.turns) (length s.world.requests) n) (sent s r.stands)
 
-    pub all_whole : Wrote mid now text → Wrote old now (transcript events)
-    all_whole wrote = wrote_more old mid now (events_text start events) (end_text events (state_after start events)) (all_wrote le) (subst (Wrote mid now) end_is wrote)
+    pub all_whole : Wrote mid now text → IsWhole events old now
+    all_whole wrote = record {
+      turns = r.turns;
+      events_are = all_are;
+      played = r.played;
+      wrote = wrote_more old mid now (turns_text start r.turns) (end_text r.turns (run start r.turns)) r.wrote (subst (Wrote mid now) end_is wrote);
+    }
 
-    pub all_cut : WrotePrefix mid now text → (status : Status) (all : List ℕ) → IsReplay events status all → WrotePrefix old now all
-    all_cut wrote status all stated =
-        let same = replay_determined events Done status (transcript events) all (whole (all_fit le) refl refl) stated in
-        subst (WrotePrefix old now) same.1 (prefix_more old mid now (events_text start events) (end_text events (state_after start events)) (all_wrote le) (subst (WrotePrefix mid now) end_is wrote))
+    pub all_cut : WrotePrefix mid now text → IsPart events old now
+    all_cut wrote = of_all r.turns all_are r.played (prefix_more old mid now (turns_text start r.turns) (end_text r.turns (run start r.turns)) r.wrote (subst (WrotePrefix mid now) end_is wrote))

@@ -1,7 +1,7 @@
 -- What was written before and after.
 use Rattle.std.specs.Cmp.Lexicographic.{pointwise, told_text}
 use Rattle.std.specs.String.{string_bytes}
-use Rattle.std.proofs.Common.{◌≢◌, Bool, true, false, IsTrue, nat_eq, get_or, map, String, Global, ◌≡◌, ℕ, ◌+◌, ◌<◌, ◌≤◌, Option, Some, None, List, [], ◌∷◌, ◌++◌, refl, sym, ap, ◌∙◌, subst, append_assoc, append-nil, arith, ◌⊎◌, inl, inr, length, take, IfSome}
+use Rattle.std.proofs.Common.{◌≢◌, Bool, true, false, IsTrue, nat_eq, get_or, map, String, Global, ◌≡◌, ℕ, ◌+◌, ◌<◌, ◌≤◌, Option, Some, None, List, [], ◌∷◌, ◌++◌, refl, sym, ap, ◌∙◌, subst, append_assoc, append-nil, arith, inl, inr, length, take, IfSome}
 use Rattle.std.proofs.lemmas.List.{length-take}
 use Rattle.lab_outside.specs.Bytes.{Wrote, WrotePrefix}
 use Rattle.lab_outside.specs.Rose.{Rose}
@@ -27,14 +27,6 @@ prefix_more old mid new a b h k = record {
 -- a first part of a text, and more of the text after it
 pub prefix_of : (old new : Option (List ℕ)) (a b text : List ℕ) → a ++ b ≡ text → Wrote old new a → WrotePrefix old new text
 prefix_of old new a b text whole h = record { front = a; rest = b; whole = whole; wrote = h }
-
-pub prefix_longer : (old new : Option (List ℕ)) (a b text : List ℕ) → a ++ b ≡ text → WrotePrefix old new a → WrotePrefix old new text
-prefix_longer old new a b text whole h = record {
-  front = h.front;
-  rest = h.rest ++ b;
-  whole = sym (append_assoc h.front h.rest b) ∙ ap (λ t. t ++ b) h.whole ∙ whole;
-  wrote = h.wrote;
-}
 
 pub prefix_all : (old new : Option (List ℕ)) (text : List ℕ) → Wrote old new text → WrotePrefix old new text
 prefix_all old new text h = prefix_of old new text [] text (append-nil text) h

@@ -1,7 +1,5 @@
 -- What one event of a replay does in the code.
 use Rattle.std.specs.Prelude.{◌≡◌, ℕ, List}
-use Rattle.crdt_rows.specs.AnyRow.{any_join}
-use Rattle.object_schema.specs.Schema.{words}
 use Rattle.world_model.specs.Choices.{Decision}
 use Rattle.object_model.specs.declared.event.Numbered.{Numbered}
 use Rattle.object_model.specs.Run.{State, Turn, outcome_of}

@@ -1,8 +1,10 @@
 //! The schedule that the input spells.
 ghost use Rattle.std.specs.Prelude.{◌≡◌, ◌+◌, ◌<◌, ◌≤◌, ℕ, length, drop, Some, Err, IfOk, OnOk, IfErr, IfSome};
+ghost use Rattle.std.specs.List.{All};
 ghost use Rattle.std.specs.Io.KnownBytes.{IsAtEnd};
 ghost use Rattle.lab_outside.specs.Rose.{Rose};
 ghost use Rattle.text_model.specs.Grammar.{IsSchedule, IsFirstBadLine};
+ghost use Rattle.lab_driver.specs.Stands.{IsMeantEvent};
 ghost use Rattle.garage_lab.specs.Answer.{input_limit};
 ghost use Rattle.garage_lab.specs.Stop.{IsSaid, IsOfInput};
 
@@ -16,6 +18,7 @@ use std::alloc::Global;
 /// Reads the input to its end, or to the first byte past the limit, and then what it spells.
 pub fn read_schedule<I: Source>(alloc: Global, input: &mut I) -> Result<List<Numbered>, Stop>
     ensures schedule { IfOk result (λ events. IfSome (I.left input.old) (λ bytes. (length bytes ≤ input_limit) × IsSchedule bytes events)) }
+    ensures meant { IfOk result (λ events. All (λ e. IsMeantEvent e.event) events) }
     ensures end { OnOk result (IsAtEnd (I.left input.new)) }
     ensures bad_line { (n : ℕ) → result ≡ Err (Stop.BadLine n) → IfSome (I.left input.old) (λ bytes. (length bytes ≤ input_limit) × IsFirstBadLine bytes n) }
     ensures long_input { result ≡ Err Stop.LongInput → IfSome (I.left input.old) (λ bytes. input_limit < length bytes) }

@@ -1,15 +1,20 @@
 //! A put and a get with ample memory, and each refusal.
+ghost use Rattle.std.specs.Prelude.{IfOk};
+ghost use Rattle.lab_driver.specs.Stands.{HasLab, IsMeantEvent};
+
 use crate::{Event, Lab, Told};
-use cluster_model::{Line, Refusal};
 use crdt_core::{Bytes, Memory};
 use std::alloc::Global;
 use std::test::Fail;
+use world_model::{Line, Refusal};
 
 fn name(alloc: Global, text: &[u8]) -> Result<Bytes, Memory> {
     Bytes::from_slice(alloc, text)
 }
 
-fn put(alloc: Global, node: u8) -> Result<Event, Memory> {
+fn put(alloc: Global, node: u8) -> Result<Event, Memory>
+    ensures meant { IfOk result (λ event. IsMeantEvent event) }
+{
     Ok(Event::Put {
         node,
         bucket: name(alloc, b"pics")?,
@@ -19,12 +24,23 @@ fn put(alloc: Global, node: u8) -> Result<Event, Memory> {
     })
 }
 
-fn get(alloc: Global) -> Result<Event, Memory> {
+fn get(alloc: Global) -> Result<Event, Memory>
+    ensures meant { IfOk result (λ event. IsMeantEvent event) }
+{
     Ok(Event::Get {
         node: 2,
         bucket: name(alloc, b"pics")?,
         key: name(alloc, b"a")?,
     })
+}
+
+/// The next event, and the lab is not given up.
+fn step(lab: &mut Lab, event: &Event) -> Result<Told, Memory>
+    requires lab { HasLab lab.old }
+    requires meant { IsMeantEvent event.now }
+    ensures { IfOk result (λ told. HasLab lab.new) }
+{
+    lab.step(event)
 }
 
 /// The version and the size of the last request that is done.
@@ -41,23 +57,23 @@ fn done(told: &Told) -> Option<(Option<(u64, u64)>, Option<u64>)> {
 #[test]
 fn a_get_reads_what_a_put_wrote(rt: HostRuntime) -> Result<(), Fail> {
     let alloc = rt.alloc();
-    let mut lab = Lab::new(alloc);
-    lab.step(&Event::Trio)?;
-    lab.step(&Event::Bucket(name(alloc, b"pics")?))?;
-    lab.step(&Event::Tick(1000))?;
-    lab.step(&put(alloc, 1)?)?;
+    let mut lab = Lab::new(alloc)?;
+    step(&mut lab, &Event::Trio)?;
+    step(&mut lab, &Event::Bucket(name(alloc, b"pics")?))?;
+    step(&mut lab, &Event::Tick(1000))?;
+    step(&mut lab, &put(alloc, 1)?)?;
     assert_eq!(rt;
-        done(&lab.step(&Event::Drain(100))?),
+        done(&step(&mut lab, &Event::Drain(100))?),
         Some((Some((1000, 1)), None))
     );
-    lab.step(&put(alloc, 3)?)?;
+    step(&mut lab, &put(alloc, 3)?)?;
     assert_eq!(rt;
-        done(&lab.step(&Event::Drain(100))?),
+        done(&step(&mut lab, &Event::Drain(100))?),
         Some((Some((1001, 2)), None))
     );
-    lab.step(&get(alloc)?)?;
+    step(&mut lab, &get(alloc)?)?;
     assert_eq!(rt;
-        done(&lab.step(&Event::Drain(100))?),
+        done(&step(&mut lab, &Event::Drain(100))?),
         Some((Some((1001, 2)), Some(300)))
     );
     assert_eq!(rt; (lab.requests(), lab.messages()), (3, 30));
@@ -67,27 +83,17 @@ fn a_get_reads_what_a_put_wrote(rt: HostRuntime) -> Result<(), Fail> {
 #[test]
 fn refusals_say_why(rt: HostRuntime) -> Result<(), Fail> {
     let alloc = rt.alloc();
-    let mut lab = Lab::new(alloc);
-    assert_eq!(rt;
-        lab.step(&put(alloc, 1)?)?.refused,
-        Some(Refusal::NotMember)
-    );
-    lab.step(&Event::Trio)?;
-    assert_eq!(rt;
-        lab.step(&Event::Trio)?.refused,
-        Some(Refusal::VersionTaken(1))
-    );
-    assert_eq!(rt;
-        lab.step(&put(alloc, 4)?)?.refused,
-        Some(Refusal::NotMember)
-    );
-    assert_eq!(rt;
-        lab.step(&put(alloc, 1)?)?.refused,
-        Some(Refusal::NoSuchBucket)
-    );
-    assert_eq!(rt;
-        lab.step(&Event::Deliver(1))?.refused,
-        Some(Refusal::NoSuchMessage)
-    );
+    let mut lab = Lab::new(alloc)?;
+    let early = step(&mut lab, &put(alloc, 1)?)?;
+    assert!(rt; matches!(&early.refused, Some(Refusal::NotMember)));
+    step(&mut lab, &Event::Trio)?;
+    let again = step(&mut lab, &Event::Trio)?;
+    assert!(rt; matches!(&again.refused, Some(Refusal::VersionTaken(1))));
+    let stranger = step(&mut lab, &put(alloc, 4)?)?;
+    assert!(rt; matches!(&stranger.refused, Some(Refusal::NotMember)));
+    let unnamed = step(&mut lab, &put(alloc, 1)?)?;
+    assert!(rt; matches!(&unnamed.refused, Some(Refusal::NoSuchBucket)));
+    let unsent = step(&mut lab, &Event::Deliver(1))?;
+    assert!(rt; matches!(&unsent.refused, Some(Refusal::NoSuchMessage)));
     Ok(())
 }

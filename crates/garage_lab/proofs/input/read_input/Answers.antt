@@ -1,4 +1,4 @@
-use Rattle.std.proofs.Common.{arith, ◌<◌, ◌≤◌}
+use Rattle.std.proofs.Common.{arith}
 use Rattle.garage_lab.specs.Answer.{input_limit}
 use Rattle.garage_lab.proofs.Texts.{longer, not_longer}
 use Rattle.garage_lab.proofs.input.read_input.Goals as goal

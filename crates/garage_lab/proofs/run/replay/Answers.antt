@@ -10,9 +10,9 @@ returns-in_err-events-clause-halts g c =
 pub returns-clause-done : goal.returns-clause-done
 returns-clause-done g c =
     write_done (g.I.Source.left c.args.input.now) (g.O.Sink.written c.args.output.now) (g.O.Sink.written c.write_transcript.new.output) c.in_ok-events.events c.as_slice.result.now c.write_transcript.result c.as_slice.ensures
-    c.in_ok-events.ensures.schedule c.write_transcript.ensures.fits c.write_transcript.ensures.whole
+    c.in_ok-events.ensures.schedule c.write_transcript.ensures.whole
 
 pub returns-clause-halts : goal.returns-clause-halts
 returns-clause-halts g c =
     write_halts (g.I.Source.left c.args.input.now) (g.O.Sink.written c.args.output.now) (g.O.Sink.written c.write_transcript.new.output) c.in_ok-events.events c.as_slice.result.now c.write_transcript.result c.as_slice.ensures
-    c.in_ok-events.ensures.schedule c.write_transcript.ensures.causes c.write_transcript.ensures.number c.write_transcript.ensures.prefix
+    c.in_ok-events.ensures.schedule c.write_transcript.ensures.causes c.write_transcript.ensures.number c.write_transcript.ensures.part

@@ -1,12 +1,10 @@
-use Rattle.std.proofs.Common.{ap, Err, refl}
+use Rattle.std.proofs.Common.{ap, Err}
 use Rattle.lab_outside.specs.declared.exit.Status.TheVariants.{Done}
-use Rattle.garage_lab.specs.Answer.{replay_words}
-use Rattle.garage_lab.proofs.Answering.{replay_is_other}
 use Rattle.garage_lab.proofs.Ends.{done_prefix, halted_answers, halted_prefix, halted_fault}
 use Rattle.garage_lab.proofs.run.replayed.Goals as goal
 
 pub returns-in-Ok-clause-prefix : goal.returns-in-Ok-clause-prefix
-returns-in-Ok-clause-prefix g c = done_prefix (g.I.Source.left c.args.input.now) replay_words Done (g.O.Sink.written c.args.output.now) (g.O.Sink.written c.replay.new.output) replay_is_other c.in-Ok.ensures.done
+returns-in-Ok-clause-prefix g c = done_prefix (g.I.Source.left c.args.input.now) Done (g.O.Sink.written c.args.output.now) (g.O.Sink.written c.replay.new.output) c.in-Ok.ensures.done
 
 pub returns-in-Err-clause-answers : goal.returns-in-Err-clause-answers
 returns-in-Err-clause-answers g c =
