@@ -1,5 +1,5 @@
 -- A list of roles in which one node's role is put in, changed, or taken out.
-use Rattle.std.proofs.Common.{◌≡◌, ◌<◌, ◌≤◌, ◌⊎◌, ℕ, Bool, true, false, cond, ◌&&◌, nat_lt, nat_le, nat_eq, get_or, ◌+◌, Option, Some, None, List, [], ◌∷◌, ◌++◌, filter, take, length, refl, ap, sym, subst, ◌∙◌, inl, inr, append_assoc, arith}
+use Rattle.std.proofs.Common.{◌≡◌, ◌<◌, ◌≤◌, ◌⊎◌, ℕ, Bool, true, false, cond, nat_lt, nat_le, nat_eq, get_or, ◌+◌, Option, Some, None, List, [], ◌∷◌, ◌++◌, filter, take, length, refl, ap, sym, subst, ◌∙◌, inl, inr, append_assoc, arith}
 use Rattle.std.specs.List.{list_all}
 use Rattle.std.proofs.lemmas.List.{append-nil, take_all}
 use Rattle.std.proofs.lemmas.List.Elements.{filter_more}

@@ -1,5 +1,5 @@
 -- The layout of nodes 1, 2 and 3: its parts are those of the model.
-use Rattle.std.proofs.Common.{◌≡◌, ℕ, Bool, true, List, [], ◌∷◌, length, replicate, zero, suc, refl, ap, ◌∙◌}
+use Rattle.std.proofs.Common.{◌≡◌, ℕ, true, List, [], ◌∷◌, length, replicate, zero, suc, refl, ap, ◌∙◌}
 use mathlib.Core.Bool.{Bool-set}
 use mathlib.Core.HLevel.{is_prop→PathP}
 use native.Mathlib.Nat.{ℕ_set}
@@ -7,7 +7,6 @@ use Rattle.std.specs.List.{list_all}
 use Rattle.std.proofs.lemmas.List.{length-replicate}
 use Rattle.layout_roles.specs.declared.roles.Roles.{Roles}
 use Rattle.layout_roles.specs.declared.assignment.Assignment.{Assignment}
-use Rattle.layout_roles.specs.declared.layout.Layout.{Layout}
 use Rattle.layout_roles.specs.Zones.{nodes_ascend, is_numbered, set_ascends}
 use Rattle.world_model.specs.Trio.{trio, trio_sets, stage_trio}
 

@@ -1,12 +1,9 @@
 -- The first layout of nodes 1, 2 and 3, and a layout that is applied.
-use Rattle.std.proofs.Common.{◌≡◌, ◌<◌, ◌≤◌, ◌+◌, ◌==◌, ◌||◌, ◌&&◌, not, leb, ℕ, zero, suc, Bool, true, false, cond, Option, Some, None, List, [], ◌∷◌, ◌++◌, length, IsTrue, refl, sym, subst, ap, ◌∙◌, arith}
+use Rattle.std.proofs.Common.{◌≡◌, ◌<◌, ◌≤◌, ◌+◌, ◌==◌, ◌||◌, ◌&&◌, not, leb, ℕ, suc, Bool, true, false, cond, Some, None, List, [], ◌∷◌, refl, sym, subst, ap, arith}
 use Rattle.std.specs.Option.{unwrap_or}
 use Rattle.std.proofs.lemmas.Bool.{le-leb, lt-leb}
-use Rattle.layout_roles.specs.declared.role.Role.{Role}
 use Rattle.layout_roles.specs.declared.roles.Roles.{Roles}
 use Rattle.layout_roles.specs.declared.layout.Layout.{Layout}
-use Rattle.layout_roles.specs.Zones.{storage_nodes}
-use Rattle.layout_history.specs.Known.{has_members}
 use Rattle.layout_flow.specs.declared.cut.Cut.{Cut}
 use Rattle.table_schema.specs.Words.{Words}
 use Rattle.quorum_model.specs.Quorum.{is_among}
@@ -18,19 +15,19 @@ use Rattle.cluster_machine.specs.World.{is_member_at}
 use Rattle.cluster_machine.specs.declared.step.Words.TheVariants.{Empty, One}
 use Rattle.cluster_machine.specs.Node.{Node as Seen}
 use Rattle.cluster_machine.specs.Acts.{appends}
-use Rattle.cluster_machine.specs.Step.{given, none_given, nothing, refusal, changed, applied, trio_applies, most_versions, chosen}
+use Rattle.cluster_machine.specs.Step.{given, none_given, refusal, applied, trio_applies, most_versions, chosen}
 use Rattle.node_parts.specs.Layouts.{layouts}
 use Rattle.world_model.specs.declared.applied.Applied.{Applied}
 use Rattle.world_model.specs.Choices.{Decision, IsComputed, IsNone}
 use Rattle.world_model.specs.Trio.{trio, stage_trio}
-use Rattle.world_model.specs.Worlds.{Model, Done, newest_at, IsSound, IsLawfulStep, does}
+use Rattle.world_model.specs.Worlds.{Model, Done, newest_at, IsSound, does}
 use Rattle.world_core.specs.declared.nodes.Nodes.{Nodes}
 use Rattle.world_core.specs.declared.report.Report.{Report}
 use Rattle.world_core.specs.declared.world.World.{World}
 use Rattle.world_core.specs.Nodes.{newest_in, AreNodes, BecomesAt}
-use Rattle.world_core.specs.Stands.{StandsFor, IsWorld, Tells, DoesSo, Stepped, Plays, plainly, nothing_given}
+use Rattle.world_core.specs.Stands.{StandsFor, IsWorld, DoesSo, Stepped, Plays, nothing_given}
 use Rattle.world_core.proofs.WorldsStand.{stands_of, sound_after, same_post, same_clocks, same_requests, same_few, refused_report, told_report, is_told, plays_refusal}
-use Rattle.world_core.proofs.WorldsInstall.{nat_eq_flips, given_to, none_known, one_more, same_at_each}
+use Rattle.world_core.proofs.WorldsInstall.{nat_eq_flips, given_to, none_known, same_at_each}
 
 any_of : {R : Type 0} (x y : Seen R Layout) (a b c d e f : Bool) → a ≡ d → b ≡ e → c ≡ f → cond (a || (b || (c || false))) y x ≡ unwrap_or (cond (d || (e || f)) (Some y) None) x
 any_of x y true b c d e f p q r = rw (← p) refl

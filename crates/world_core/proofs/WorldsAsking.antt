@@ -1,5 +1,5 @@
 -- Requests and messages of the world: what becomes of one, where it is found and where it isn't.
-use Rattle.std.proofs.Common.{◌≡◌, ◌<◌, ◌≤◌, ◌+◌, ◌-◌, ◌^◌, ◌==◌, ℕ, zero, suc, Bool, true, false, not, cond, leb, Option, Some, None, List, [], ◌∷◌, ◌++◌, length, map, reverse, IsTrue, refl, sym, subst, ap, ◌∙◌, append-nil, arith}
+use Rattle.std.proofs.Common.{◌≡◌, ◌<◌, ◌≤◌, ◌-◌, ◌^◌, ◌==◌, ℕ, suc, Bool, true, false, not, cond, leb, Option, Some, None, List, [], ◌∷◌, ◌++◌, length, map, reverse, refl, sym, subst, ap, ◌∙◌, append-nil, arith}
 use Rattle.std.specs.List.{All}
 use Rattle.std.proofs.lemmas.Bool.{and_parts, leb-true, eqb-true, eq-eqb, ne_eqb}
 use Rattle.std.proofs.lemmas.List.{length-set, length-append}
@@ -16,20 +16,20 @@ use Rattle.cluster_machine.specs.declared.line.EndWord.TheVariants.{Expired, Res
 use Rattle.cluster_machine.specs.declared.step.Action.{Action}
 use Rattle.cluster_machine.specs.declared.step.Action.TheVariants.{Repair as Mend}
 use Rattle.cluster_machine.specs.declared.step.Refusal.{Refusal}
-use Rattle.cluster_machine.specs.declared.step.Refusal.TheVariants.{NotMember, NoSuchMessage, Lost as WasLost, NoSuchRequest, AlreadyEnded, VersionTaken, VersionLimit, TooFewNodes, TooFewZones, NoAssignment}
+use Rattle.cluster_machine.specs.declared.step.Refusal.TheVariants.{NotMember, NoSuchMessage, Lost as WasLost, NoSuchRequest, AlreadyEnded}
 use Rattle.cluster_machine.specs.declared.step.Step.TheVariants.{Lose, Expire, Restart, Open, Phase as Begin, Close, Repair}
 use Rattle.cluster_machine.specs.declared.step.Words.TheVariants.{Empty, One}
 use Rattle.cluster_machine.specs.Layouts.{is_member}
 use Rattle.cluster_machine.specs.Node.{Node}
 use Rattle.cluster_machine.specs.Phases.{closed, opened}
 use Rattle.cluster_machine.specs.Acts.{restarts}
-use Rattle.cluster_machine.specs.World.{Sent, Mark, Request, numbered, is_member_at}
-use Rattle.cluster_machine.specs.Step.{only, nothing, refusal, at_message, expires, closing, restarted, beginning, opening, acting, requests_of, marked, shut, shut_one, changed, applied}
+use Rattle.cluster_machine.specs.World.{Sent, Mark, Request, numbered}
+use Rattle.cluster_machine.specs.Step.{only, nothing, refusal, at_message, expires, closing, restarted, beginning, requests_of, marked, shut, shut_one, changed, applied}
 use Rattle.node_parts.specs.declared.packet.Envelope.{Envelope}
 use Rattle.node_parts.specs.Layouts.{layouts}
 use Rattle.world_model.specs.declared.applied.Applied.{Applied}
 use Rattle.world_model.specs.Trio.{trio, stage_trio}
-use Rattle.world_model.specs.Worlds.{Model, Done, IsSound, RoomWith, does}
+use Rattle.world_model.specs.Worlds.{Model, Done, IsSound, does}
 use Rattle.world_core.specs.declared.nodes.Nodes.{Nodes}
 use Rattle.world_core.specs.declared.post.Post.{Post}
 use Rattle.world_core.specs.declared.report.Report.{Report}

@@ -1,7 +1,6 @@
 -- A world in which one part changed: what is staged, the time, or the skews.
-use Rattle.std.proofs.Common.{◌≡◌, ◌≤◌, add-zero, ◌+◌, ◌==◌, ℕ, cond, Option, Some, None, List, [], refl, sym, subst}
+use Rattle.std.proofs.Common.{◌≡◌, ◌≤◌, add-zero, ◌+◌, ◌==◌, ℕ, cond, Option, [], refl, sym, subst}
 use Rattle.layout_roles.specs.declared.redundancy.Redundancy.{Redundancy}
-use Rattle.layout_roles.specs.declared.role.Role.{Role}
 use Rattle.layout_roles.specs.declared.roles.Roles.{Roles}
 use Rattle.layout_roles.specs.declared.role.Zone.{Zone}
 use Rattle.layout_roles.specs.declared.role.Kind.{Kind}
@@ -10,13 +9,11 @@ use Rattle.table_schema.specs.Words.{Words}
 use Rattle.cluster_machine.specs.declared.step.Step.TheVariants.{Role as Stage, Redundancy as Spread, Tick, Skew}
 use Rattle.cluster_machine.specs.declared.step.Words.TheVariants.{Empty}
 use Rattle.cluster_machine.specs.World.{staged}
-use Rattle.cluster_machine.specs.Step.{nothing}
-use Rattle.world_model.specs.Worlds.{Model, Done, does}
 use Rattle.world_core.specs.declared.report.Report.{Report}
 use Rattle.world_core.specs.declared.world.World.{World}
 use Rattle.world_core.specs.declared.clocks.Clocks.{Clocks}
 use Rattle.world_core.specs.Parts.{AreClocks, NoneLate}
-use Rattle.world_core.specs.Stands.{StandsFor, IsWorld, Tells, DoesSo, Plays, PlaysSo, Exceeds, plainly, nothing_given}
+use Rattle.world_core.specs.Stands.{Plays, Exceeds, nothing_given}
 use Rattle.world_core.proofs.WorldsStand.{stands_of, sound_after, same_post, same_clocks, same_applied, same_requests, same_few, told_report, is_told}
 
 module _ {S R : Type 0} (join : R → R → R) (s : Words R) (c : World S R) (report : Report R) (is : report ≡ told_report Empty []) where

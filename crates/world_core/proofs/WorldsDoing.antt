@@ -1,7 +1,6 @@
 -- What a node does in a step of the world, and what is lacking where it can't.
-use Rattle.std.proofs.Common.{◌≡◌, ◌<◌, ◌≤◌, ◌+◌, ◌^◌, ◌==◌, ℕ, zero, suc, Bool, true, false, cond, leb, Option, Some, None, List, [], ◌∷◌, ◌++◌, length, map, IsTrue, refl, sym, subst, ap, ◌∙◌, arith}
+use Rattle.std.proofs.Common.{◌≡◌, ◌==◌, ℕ, zero, suc, true, false, cond, Option, Some, None, List, [], ◌∷◌, ◌++◌, map, refl, sym, subst, ap, ◌∙◌, arith}
 use Rattle.std.specs.Prelude.{slice_get}
-use Rattle.std.specs.Option.{unwrap_or}
 use Rattle.std.specs.List.{AllByRecursion}
 use Rattle.std.proofs.lemmas.Bool.{le-leb}
 use Rattle.layout_roles.specs.declared.layout.Layout.{Layout}
@@ -25,7 +24,7 @@ use Rattle.cluster_machine.specs.Node.{Call, Node, Did, shows, quiet}
 use Rattle.cluster_machine.specs.Phases.{call_at}
 use Rattle.cluster_machine.specs.Receives.{receives}
 use Rattle.cluster_machine.specs.Acts.{acts}
-use Rattle.cluster_machine.specs.World.{Sent, Mark, Request, clock, numbered}
+use Rattle.cluster_machine.specs.World.{Sent, clock, numbered}
 use Rattle.cluster_machine.specs.Step.{told as says, nothing, refusal, did, received, at_message, begun, beginning, sync_line, marked, applied}
 use Rattle.machine_origins.specs.Keeping as origins
 use Rattle.node_parts.specs.declared.packet.Packet.{Packet}

@@ -1,11 +1,10 @@
 -- Nodes get a first layout, one after the other, each once.
-use Rattle.std.proofs.Common.{◌≡◌, ◌<◌, ◌≤◌, ◌+◌, ◌==◌, ◌||◌, ℕ, zero, suc, Bool, true, false, cond, nat_eq, get_or, take, Option, Some, None, List, [], ◌∷◌, ◌++◌, length, IsTrue, refl, sym, subst, ap, ◌∙◌, arith}
+use Rattle.std.proofs.Common.{◌≡◌, ◌<◌, ◌==◌, ◌||◌, ℕ, zero, suc, Bool, true, false, cond, nat_eq, get_or, take, Option, Some, None, List, [], ◌∷◌, ◌++◌, length, refl, sym, subst, ap, ◌∙◌, arith}
 use Rattle.std.specs.Ordering.{nat_cmp}
 use Rattle.std.specs.BTreeMap.{get}
 use Rattle.std.specs.Option.{unwrap_or}
 use Rattle.std.specs.List.{IsDistinct, AllByRecursion}
 use Rattle.std.proofs.lemmas.Bool.{eq-eqb, eqb-true, ne_eqb}
-use Rattle.std.proofs.lemmas.List.{take_more}
 use Rattle.std.proofs.lemmas.Map.Keys.{IsDistinct-head, IsDistinct-tail}
 use Rattle.layout_roles.specs.declared.layout.Layout.{Layout}
 use Rattle.layout_history.specs.Known.{reading}
@@ -17,13 +16,12 @@ use Rattle.cluster_machine.specs.Node.{Node as Seen}
 use Rattle.cluster_machine.specs.Acts.{appends}
 use Rattle.node_parts.specs.Layouts.{layouts}
 use Rattle.node_core.specs.declared.node.Node.{Node}
-use Rattle.node_core.specs.Stands.{view_of}
-use Rattle.world_model.specs.Worlds.{Model, IsSound, installed}
+use Rattle.world_model.specs.Worlds.{Model, installed}
 use Rattle.world_laws.proofs.Steps.{installed_sound}
 use Rattle.world_core.specs.declared.nodes.Nodes.{Nodes}
 use Rattle.world_core.specs.declared.world.World.{World}
 use Rattle.world_core.specs.Nodes.{newest_of, newest_in, IsNodeAt, AreNodes, BecomesAt, with_node}
-use Rattle.world_core.specs.Stands.{StandsFor, IsWorld}
+use Rattle.world_core.specs.Stands.{StandsFor}
 
 pub nat_eq_flips : (m n : ℕ) → (m == n) ≡ (n == m)
 nat_eq_flips m n =

@@ -1,7 +1,6 @@
 -- A node did something, and its messages were sent: the world, what is told, and the room that is needed.
-use Rattle.std.proofs.Common.{◌≡◌, ◌⊎◌, ◌<◌, ◌+◌, ◌^◌, ◌==◌, ℕ, suc, true, false, cond, leb, Bool, Option, Some, None, List, [], ◌∷◌, ◌++◌, length, map, IsTrue, IsSome, refl, sym, subst, ap, ◌∙◌, inl, inr, append_assoc}
+use Rattle.std.proofs.Common.{◌≡◌, ℕ, suc, true, cond, leb, Option, Some, None, List, [], ◌∷◌, ◌++◌, length, map, IsTrue, IsSome, refl, sym, subst, ap, ◌∙◌, append_assoc}
 use Rattle.std.specs.Option.{unwrap_or}
-use Rattle.std.specs.List.{AllByRecursion, AllZip}
 use Rattle.std.proofs.lemmas.Bool.{eq-eqb}
 use Rattle.layout_roles.specs.declared.layout.Layout.{Layout}
 use Rattle.layout_trackers.specs.declared.which.Which.TheVariants.{Sync}
@@ -24,7 +23,7 @@ use Rattle.world_model.specs.Worlds.{Model, Done, IsSound, RoomWith}
 use Rattle.world_core.specs.declared.nodes.Nodes.{Nodes}
 use Rattle.world_core.specs.declared.post.Post.{Post}
 use Rattle.world_core.specs.declared.world.World.{World}
-use Rattle.world_core.specs.Parts.{IsPost, IsSent, AreSent, not_yet, lines_from}
+use Rattle.world_core.specs.Parts.{IsPost, AreSent, not_yet, lines_from}
 use Rattle.world_core.specs.Nodes.{DidAt, OverflowsAt}
 use Rattle.world_core.specs.Stands.{StandsFor, SendsOut, CannotSend}
 use Rattle.world_core.proofs.WorldsStand.{stands_of, same_clocks, same_applied, same_requests, same_few}

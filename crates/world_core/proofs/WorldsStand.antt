@@ -1,6 +1,5 @@
 -- A world of the code stands for one of the machine where its parts do.
-use Rattle.std.proofs.Common.{◌≡◌, ◌<◌, ◌+◌, ◌^◌, ℕ, suc, true, false, cond, Bool, Option, Some, None, List, [], ◌∷◌, ◌++◌, length, IsTrue, refl, sym, subst, ap, ◌∙◌, append-nil, add-zero, arith}
-use Rattle.layout_roles.specs.declared.layout.Layout.{Layout}
+use Rattle.std.proofs.Common.{◌≡◌, ◌<◌, ◌+◌, ◌^◌, Some, None, List, [], ◌++◌, length, refl, sym, subst, ◌∙◌, append-nil, add-zero}
 use Rattle.layout_flow.specs.declared.cut.Cut.{Cut}
 use Rattle.layout_size.specs.Answers.{IsRedundancy}
 use Rattle.table_schema.specs.Words.{Words}
@@ -9,20 +8,19 @@ use Rattle.cluster_machine.specs.declared.step.Words.{Words as Told}
 use Rattle.cluster_machine.specs.declared.step.Words.TheVariants.{Empty}
 use Rattle.cluster_machine.specs.declared.step.Refusal.{Refusal}
 use Rattle.cluster_machine.specs.declared.line.Line.{Line}
-use Rattle.cluster_machine.specs.World.{Sent, Mark, sent_bytes}
-use Rattle.cluster_machine.specs.Step.{nothing, refusal, applied, shut}
+use Rattle.cluster_machine.specs.Step.{nothing, refusal, applied}
 use Rattle.world_model.specs.declared.applied.Applied.{Applied}
 use Rattle.world_model.specs.Choices.{Decision}
-use Rattle.world_model.specs.Fits.{Fits, IsWord}
+use Rattle.world_model.specs.Fits.{IsWord}
 use Rattle.world_model.specs.Trio.{trio, stage_trio}
 use Rattle.world_model.specs.Worlds.{Model, Done, IsSound, IsMeant, IsLawfulStep, does}
-use Rattle.world_laws.proofs.Additions.{IsFine, fine_stays_sound}
+use Rattle.world_laws.proofs.Additions.{fine_stays_sound}
 use Rattle.world_laws.proofs.Steps.{fine_step}
 use Rattle.world_core.specs.declared.report.Report.{Report}
 use Rattle.world_core.specs.declared.world.World.{World}
 use Rattle.world_core.specs.Parts.{AreClocks, IsPost}
 use Rattle.world_core.specs.Nodes.{AreNodes}
-use Rattle.world_core.specs.Stands.{StandsFor, IsWorld, Tells, DoesSo, Plays, plainly}
+use Rattle.world_core.specs.Stands.{StandsFor, Tells, DoesSo}
 
 module _ {R : Type 0} where
   -- what is answered where the step is refused, and where it isn't

@@ -7,7 +7,7 @@ use Rattle.cluster_machine.specs.declared.step.Step.{Step}
 use Rattle.world_model.specs.Worlds.{Model, IsLawfulStep}
 use Rattle.world_core.specs.declared.report.Report.{Report}
 use Rattle.world_core.specs.declared.world.World.{World}
-use Rattle.world_core.specs.Stands.{StandsFor, Steps, Overflows, Plays, Exceeds, nothing_given}
+use Rattle.world_core.specs.Stands.{Steps, Overflows, Plays, Exceeds, nothing_given}
 
 module _ {S R : Type 0} (join : R → R → R) (s : Words R) (old : World S R) (step t : Step R) (is : t ≡ step) (free : (w : Model R) → IsLawfulStep w step nothing_given) where
   pub played : (new : World S R) (result : Result (Report R) Memory) → IfOk result (λ report. Plays join s old new report step) → IfOk result (λ report. Steps join s old new report t)

@@ -1,5 +1,5 @@
 -- When the parts of the code stand for those of a world of the machine.
-use Rattle.std.specs.Prelude.{◌≡◌, ◌<◌, ◌≤◌, ◌+◌, ◌^◌, ℕ, suc, Bool, true, false, not, ◌&&◌, cond, Option, Some, None, is_some, is_none, List, [], ◌∷◌, ◌++◌, length, map, slice_get, slice_index_or, Result, Ok, Err, ⊤}
+use Rattle.std.specs.Prelude.{◌≡◌, ◌<◌, ◌≤◌, ◌+◌, ◌^◌, ℕ, suc, Bool, true, false, not, ◌&&◌, cond, Option, Some, None, is_some, is_none, List, [], ◌∷◌, length, map, slice_get, slice_index_or, ⊤}
 use Rattle.std.specs.List.{AllZip}
 use Rattle.layout_roles.specs.declared.layout.Layout.{Layout}
 use Rattle.layout_roles.specs.declared.roles.Roles.{Roles}
@@ -12,7 +12,7 @@ use Rattle.cluster_machine.specs.declared.step.Refusal.{Refusal}
 use Rattle.cluster_machine.specs.declared.step.Refusal.TheVariants.{NoSuchMessage, Lost}
 use Rattle.cluster_machine.specs.World as machine
 use Rattle.cluster_machine.specs.World.{Sent, Mark, numbered, packet_size, sent_bytes}
-use Rattle.cluster_machine.specs.Step.{Choice, given, none_given, kind_of as kind_told}
+use Rattle.cluster_machine.specs.Step.{given, none_given, kind_of as kind_told}
 use Rattle.cluster_machine.specs.declared.line.Line.{Line}
 use Rattle.node_parts.specs.declared.packet.Packet.{Packet}
 use Rattle.node_parts.specs.declared.packet.Envelope.{Envelope}

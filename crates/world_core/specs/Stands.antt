@@ -1,5 +1,5 @@
 -- When a world of the code stands for one of the machine, and when a call does what the machine's step does.
-use Rattle.std.specs.Prelude.{◌≡◌, ℕ, suc, leb, cond, IsTrue, Option, Some, None, List, [], ◌∷◌, ◌++◌, length, map}
+use Rattle.std.specs.Prelude.{◌≡◌, ℕ, suc, leb, cond, IsTrue, List, [], ◌∷◌, ◌++◌, length, map}
 use Rattle.layout_roles.specs.declared.layout.Layout.{Layout}
 use Rattle.layout_trackers.specs.declared.which.Which.TheVariants.{Sync}
 use Rattle.layout_trackers.specs.Trackers.{counts}

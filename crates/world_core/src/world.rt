@@ -35,7 +35,7 @@ use node_core::Envelope;
 use std::alloc::Global;
 use table_schema::Schema;
 use wire_messages::{Phase, PhaseEnd};
-use world_laws::{empty_world_is_sound, sound_worlds_stay_sound};
+use world_laws::empty_world_is_sound;
 use world_model::{Line, Refusal};
 
 /// How many layout versions may be applied.

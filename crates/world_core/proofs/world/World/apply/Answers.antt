@@ -1,4 +1,4 @@
-use Rattle.std.proofs.Common.{◌≡◌, ◌+◌, sym, ap, subst, ◌∙◌, [], ◌∷◌, ◌++◌, ◌<◌, arith}
+use Rattle.std.proofs.Common.{◌+◌, sym, ap, subst, ◌∙◌, [], ◌∷◌, ◌++◌, arith}
 use Rattle.cluster_machine.specs.declared.line.Line.TheVariants.{Layout}
 use Rattle.cluster_machine.specs.declared.step.Words.TheVariants.{One}
 use Rattle.world_model.specs.Choices.{IsComputed}

@@ -1,9 +1,7 @@
-use Rattle.std.proofs.Common.{◌≡◌, ◌<◌, ◌≤◌, ◌+◌, get_or, take, length, refl, sym, subst, ap, ◌∙◌, arith}
+use Rattle.std.proofs.Common.{◌≡◌, ◌<◌, ◌≤◌, get_or, take, length, refl, sym, subst, ap, ◌∙◌, arith}
 use Rattle.std.proofs.lemmas.List.{take_more, take_all}
-use Rattle.world_model.specs.Worlds.{installed}
 use Rattle.world_core.specs.declared.world.World.{World}
-use Rattle.world_core.specs.Nodes.{newest_in, AreNodes}
-use Rattle.world_core.specs.Stands.{StandsFor}
+use Rattle.world_core.specs.Nodes.{AreNodes}
 use Rattle.world_core.proofs.WorldsInstall.{first_time, given_to, none_known, one_more, installed_stands}
 use Rattle.world_core.proofs.world.World.install.Goals as goal
 

@@ -2,7 +2,7 @@ use Rattle.std.proofs.Common.{◌≡◌, ℕ, [], ◌∷◌, refl, ap, ◌∙◌
 use Rattle.layout_roles.specs.declared.layout.Layout.{Layout}
 use Rattle.cluster_machine.specs.Node.{Node as Seen}
 use Rattle.world_model.specs.Trio.{trio}
-use Rattle.world_core.specs.Nodes.{newest_in, AreNodes}
+use Rattle.world_core.specs.Nodes.{AreNodes}
 use Rattle.world_core.proofs.WorldsInstall.{given_to, one_more}
 use Rattle.world_core.proofs.WorldsApply.{none_yet, trio_plays, trio_refused}
 use Rattle.world_core.proofs.world.World.trio.Goals as goal
