@@ -6,5 +6,6 @@ pub goes_on-requires : goal.goes_on-requires
 goes_on-requires c = record { lab = has_next c.args.self.now _ c.args.message c.in_ok-report.report c.in_ok-report.ensures.steps refl refl c.requires.lab }
 
 pub returns-clause-plays : goal.returns-clause-plays
-returns-clause-plays c = λ s d. rw c.in_ok-append.ensures.ok (
-delivered_plays c.args.self.now _ c.args.message c.in_ok-report.report c.in_ok-report.ensures.steps refl refl c.goes_on.new.self c.in_ok-told.told c.in_ok-told.ensures.plays s d)
+returns-clause-plays c = λ s d.
+    rw c.in_ok-append.ensures.ok.0
+    (delivered_plays c.args.self.now _ c.args.message c.in_ok-report.report c.in_ok-report.ensures.steps refl refl c.goes_on.new.self c.in_ok-told.told c.in_ok-told.ensures.plays s d)
