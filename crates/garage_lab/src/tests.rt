@@ -286,7 +286,10 @@ fn ack_waits_for_open_request(rt: HostRuntime) -> Result<(), Fail> {
 #[test]
 fn read_at_oldest_version(rt: HostRuntime) -> Result<(), Fail> {
     let text = replayed(rt.alloc(), OLDEST_READ)?;
-    assert_eq!(rt; without_messages(rt.alloc(), &text)?.as_slice(), OLDEST_READ_TEXT);
+    assert_eq!(rt;
+        without_messages(rt.alloc(), &text)?.as_slice(),
+        OLDEST_READ_TEXT
+    );
     assert!(rt; text.ends_with(OLDEST_READ_END));
     Ok(())
 }
@@ -311,7 +314,10 @@ fn refusals_on_an_empty_world(rt: HostRuntime) -> Result<(), Fail> {
 #[test]
 fn round_moves_one_partition(rt: HostRuntime) -> Result<(), Fail> {
     let text = replayed(rt.alloc(), ONE_ROUND)?;
-    assert_eq!(rt; without_messages(rt.alloc(), &text)?.as_slice(), ONE_ROUND_TEXT);
+    assert_eq!(rt;
+        without_messages(rt.alloc(), &text)?.as_slice(),
+        ONE_ROUND_TEXT
+    );
     assert!(rt; text.ends_with(ONE_ROUND_END));
     Ok(())
 }
@@ -319,6 +325,9 @@ fn round_moves_one_partition(rt: HostRuntime) -> Result<(), Fail> {
 #[test]
 fn layout_change_under_load(rt: HostRuntime) -> Result<(), Fail> {
     let text = replayed(rt.alloc(), CHANGE)?;
-    assert_eq!(rt; without_messages(rt.alloc(), &text)?.as_slice(), CHANGE_TEXT);
+    assert_eq!(rt;
+        without_messages(rt.alloc(), &text)?.as_slice(),
+        CHANGE_TEXT
+    );
     Ok(())
 }
