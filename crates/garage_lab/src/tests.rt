@@ -25,6 +25,54 @@ const FIRST_GET: &[u8] =
 const REPEATED_GET: &[u8] =
     b"7 deliver ok\ngot 14\nsent 16 row 2 2\n8 deliver ok\ngot 14\nsent 17 row 2 2\n9 drain ok\ngot 13\nsent 18 row 1 2\ngot 15\nsent 19 row 3 2\ngot 16\ngot 17\ngot 18\ndone 2 get 1000/1 3 900150983cd24fb0d6963f7d28e17f72\ngot 19\nend 9 2 19\n";
 
+/// A layout is applied while a put is open.
+const OPEN_REQUEST: &[u8] =
+    b"trio\nbucket pics\nrole 1 a gateway\nrole 2 b gateway\nrole 3 c gateway\nrole 4 a 1000\nrole 5 b 1000\nrole 6 c 1000\nput 1 pics a 1 97\napply 1\nack 1\nexpire 1\nack 1\n";
+
+/// Its transcript.
+const OPEN_REQUEST_TEXT: &[u8] =
+    b"1 trio ok\n2 bucket ok\n3 role ok\n4 role ok\n5 role ok\n6 role ok\n7 role ok\n8 role ok\n9 put ok 1\nsent 1 get 1 1\nsent 2 get 1 2\nsent 3 get 1 3\n10 apply ok 2\nsize 3\nredundancy 3\np 0 255 4 5 6\ncut 4 750\nc 0 255 up z:a z:b z:c\ncn 4 5 6\n11 ack ok 1\n12 expire ok\nended 1 expired\n13 ack ok 2\nend 13 1 3\n";
+
+/// Two more layouts, all acknowledged, and no round.
+const OLDEST_READ: &[u8] =
+    b"trio\nbucket pics\nput 1 pics a 1 97\ndrain 100\nrole 1 a gateway\nrole 2 b gateway\nrole 3 c gateway\nrole 4 a 1000\nrole 5 b 1000\nrole 6 c 1000\napply 1\nrole 4 a gateway\nrole 5 b gateway\nrole 6 c gateway\nrole 7 a 1000\nrole 8 b 1000\nrole 9 c 1000\napply 1\ngossip 1 2\ngossip 1 3\ngossip 1 4\ngossip 1 5\ngossip 1 6\ngossip 1 7\ngossip 1 8\ngossip 1 9\ndrain 100\nack 1\nack 2\nack 3\nack 4\nack 5\nack 6\nack 7\nack 8\nack 9\ngossip 1 4\ngossip 2 4\ngossip 3 4\ngossip 4 4\ngossip 5 4\ngossip 6 4\ngossip 7 4\ngossip 8 4\ngossip 9 4\ndrain 100\nsync 4\nget 4 pics a\ndrain 100\n";
+
+/// Its transcript, without the messages.
+const OLDEST_READ_TEXT: &[u8] =
+    b"1 trio ok\n2 bucket ok\n3 put ok 1\n4 drain ok\ndone 1 put 1/1\n5 role ok\n6 role ok\n7 role ok\n8 role ok\n9 role ok\n10 role ok\n11 apply ok 2\nsize 3\nredundancy 3\np 0 255 4 5 6\ncut 4 750\nc 0 255 up z:a z:b z:c\ncn 4 5 6\n12 role ok\n13 role ok\n14 role ok\n15 role ok\n16 role ok\n17 role ok\n18 apply ok 3\nsize 3\nredundancy 3\np 0 255 7 8 9\ncut 4 750\nc 0 255 up z:a z:b z:c\ncn 7 8 9\n19 gossip ok\n20 gossip ok\n21 gossip ok\n22 gossip ok\n23 gossip ok\n24 gossip ok\n25 gossip ok\n26 gossip ok\n27 drain ok\n28 ack ok 3\n29 ack ok 3\n30 ack ok 3\n31 ack ok 3\n32 ack ok 3\n33 ack ok 3\n34 ack ok 3\n35 ack ok 3\n36 ack ok 3\n37 gossip ok\n38 gossip ok\n39 gossip ok\n40 gossip ok\n41 gossip ok\n42 gossip ok\n43 gossip ok\n44 gossip ok\n45 gossip ok\n46 drain ok\n47 sync ok idle 1 3\n48 get ok 2\n49 drain ok\ndone 2 get 1/1 1 0cc175b9c0f1b6a831c399e269772661\nend 49 2 35\n";
+
+/// How it ends, with the messages.
+const OLDEST_READ_END: &[u8] =
+    b"47 sync ok idle 1 3\n48 get ok 2\nsent 30 get 4 1\nsent 31 get 4 2\nsent 32 get 4 3\n49 drain ok\ngot 30\nsent 33 row 1 4\ngot 31\nsent 34 row 2 4\ngot 32\nsent 35 row 3 4\ngot 33\ngot 34\ndone 2 get 1/1 1 0cc175b9c0f1b6a831c399e269772661\ngot 35\nend 49 2 35\n";
+
+/// Node 3 leaves, and learns of it before node 2 does.
+const LEAVING: &[u8] =
+    b"trio\nbucket pics\nrole 3 none\nrole 4 c 1000\napply 1\ngossip 1 3\ndrain 1\nget 3 pics a\napply 2\nget 2 pics a\nget 2 none a\n";
+
+/// Its transcript.
+const LEAVING_TEXT: &[u8] =
+    b"1 trio ok\n2 bucket ok\n3 role ok\n4 role ok\n5 apply ok 2\nsize 3\nredundancy 3\np 0 255 1 2 4\ncut 4 750\nc 0 255 up z:a z:b z:c\ncn 1 2 4\n6 gossip ok\nsent 1 view 1 3\n7 drain ok\ngot 1\n8 get refused NotMember\n9 apply refused VersionTaken 2\n10 get ok 1\nsent 2 get 2 1\nsent 3 get 2 2\nsent 4 get 2 3\n11 get refused NoSuchBucket\nend 11 1 4\n";
+
+/// A layout of other nodes, known to all, and one round.
+const ONE_ROUND: &[u8] =
+    b"trio\nbucket pics\nput 1 pics a 1 97\ndrain 100\nrole 4 a 1000\nrole 5 b 1000\nrole 6 c 1000\nrole 1 a gateway\nrole 2 b gateway\nrole 3 c gateway\napply 1\ngossip 1 2\ngossip 1 3\ngossip 1 4\ngossip 1 5\ngossip 1 6\ndrain 100\nack 1\nack 2\nack 3\nack 4\nack 5\nack 6\ngossip 1 1\ngossip 2 1\ngossip 3 1\ngossip 4 1\ngossip 5 1\ngossip 6 1\ndrain 100\ngossip 1 1\ngossip 1 2\ngossip 1 3\ngossip 1 4\ngossip 1 5\ngossip 1 6\ndrain 100\nsync 1\ndrain 100\nsync 4\n";
+
+/// Its transcript, without the messages.
+const ONE_ROUND_TEXT: &[u8] =
+    b"1 trio ok\n2 bucket ok\n3 put ok 1\n4 drain ok\ndone 1 put 1/1\n5 role ok\n6 role ok\n7 role ok\n8 role ok\n9 role ok\n10 role ok\n11 apply ok 2\nsize 3\nredundancy 3\np 0 255 4 5 6\ncut 4 750\nc 0 255 up z:a z:b z:c\ncn 4 5 6\n12 gossip ok\n13 gossip ok\n14 gossip ok\n15 gossip ok\n16 gossip ok\n17 drain ok\n18 ack ok 2\n19 ack ok 2\n20 ack ok 2\n21 ack ok 2\n22 ack ok 2\n23 ack ok 2\n24 gossip ok\n25 gossip ok\n26 gossip ok\n27 gossip ok\n28 gossip ok\n29 gossip ok\n30 drain ok\n31 gossip ok\n32 gossip ok\n33 gossip ok\n34 gossip ok\n35 gossip ok\n36 gossip ok\n37 drain ok\n38 sync ok 2\n39 drain ok\nsynced 1 2\n40 sync ok idle 1 2\nend 40 1 35\n";
+
+/// How it ends, with the messages.
+const ONE_ROUND_END: &[u8] =
+    b"38 sync ok 2\nsent 30 store 1 4\nsent 31 store 1 5\nsent 32 store 1 6\n39 drain ok\ngot 30\nsent 33 stored 4 1\ngot 31\nsent 34 stored 5 1\ngot 32\nsent 35 stored 6 1\ngot 33\ngot 34\nsynced 1 2\ngot 35\n40 sync ok idle 1 2\nend 40 1 35\n";
+
+/// The example of a whole layout change under load.
+const CHANGE: &[u8] =
+    b"# Three nodes hold everything. One put, and all its messages.\ntrio\nbucket photos\ntick 1000\nput 1 photos cat 5 1\ndrain 100\n\n# Nodes 4 to 6 shall hold everything; nodes 1 to 3 stay as gateways for now.\nrole 1 a gateway\nrole 2 b gateway\nrole 3 c gateway\nrole 4 a 1000\nrole 5 b 1000\nrole 6 c 1000\napply 1\n\n# Two puts of one key begin at nodes that don't know version 2 yet. Then the view spreads.\nput 2 photos cat 3 10\nput 3 photos cat 4 20\ngossip 1 2\ngossip 1 3\ngossip 1 4\ngossip 1 5\ngossip 1 6\ndrain 11\nack 2\ndrain 6\n\n# The first put is acknowledged by nodes 1 and 2 of the old set and 4 and 5 of the new one. All else waits.\ndeliver 30\ndeliver 31\ndeliver 33\ndeliver 34\ndeliver 42\ndeliver 43\ndeliver 44\ndeliver 45\nget 6 photos cat\ndeliver 47\ndeliver 48\ndeliver 49\ndeliver 50\n\n# What waited comes now, and the second put is acknowledged.\ndrain 100\nack 1\nack 2\nack 3\nack 4\nack 5\nack 6\nsync 1\ngossip 2 1\ngossip 3 1\ngossip 4 1\ngossip 5 1\ngossip 6 1\ndrain 100\ngossip 1 2\ndrain 100\n\n# Two of the old nodes push their rows to the new ones, while a put runs at a new node.\nsync 1\nsync 2\ntick 500\nput 4 photos cat 6 30\ndrain 100\nget 5 photos cat\ndrain 100\ngossip 2 1\ndrain 100\n\n# Nodes that know of both read at version 2 and say so.\ngossip 1 2\ngossip 1 3\ngossip 1 4\ngossip 1 5\ngossip 1 6\ndrain 100\nsyncack 1\nsyncack 2\nsyncack 3\nsyncack 4\nsyncack 5\nclean 1\nsyncack 6\ngossip 2 1\ngossip 3 1\ngossip 4 1\ngossip 5 1\ngossip 6 1\ndrain 100\n\n# Version 1 goes, and with it the rows at nodes 1 to 3.\nclean 1\ngossip 1 2\ngossip 1 3\ngossip 1 4\ngossip 1 5\ngossip 1 6\ndrain 100\n\n# The old nodes leave.\nrole 1 none\nrole 2 none\nrole 3 none\napply 4\ngossip 4 1\ndrain 100\nget 1 photos cat\nget 6 photos cat\ndrain 100\n";
+
+/// Its transcript, without the messages.
+const CHANGE_TEXT: &[u8] =
+    b"2 trio ok\n3 bucket ok\n4 tick ok\n5 put ok 1\n6 drain ok\ndone 1 put 1000/1\n9 role ok\n10 role ok\n11 role ok\n12 role ok\n13 role ok\n14 role ok\n15 apply ok 2\nsize 3\nredundancy 3\np 0 255 4 5 6\ncut 4 750\nc 0 255 up z:a z:b z:c\ncn 4 5 6\n18 put ok 2\n19 put ok 3\n20 gossip ok\n21 gossip ok\n22 gossip ok\n23 gossip ok\n24 gossip ok\n25 drain ok\n26 ack ok 1\n27 drain ok\n30 deliver ok\n31 deliver ok\n32 deliver ok\n33 deliver ok\n34 deliver ok\n35 deliver ok\n36 deliver ok\n37 deliver ok\ndone 2 put 1001/2\n38 get ok 4\n39 deliver ok\n40 deliver ok\n41 deliver ok\n42 deliver ok\ndone 4 get 1001/2 3 94263e4d553bcec128704e354b659526\n45 drain ok\ndone 3 put 1001/3\n46 ack ok 2\n47 ack ok 2\n48 ack ok 2\n49 ack ok 2\n50 ack ok 2\n51 ack ok 2\n52 sync ok idle 1 1\n53 gossip ok\n54 gossip ok\n55 gossip ok\n56 gossip ok\n57 gossip ok\n58 drain ok\n59 gossip ok\n60 drain ok\n63 sync ok 2\n64 sync ok 2\n65 tick ok\n66 put ok 5\n67 drain ok\nsynced 1 2\nsynced 2 2\ndone 5 put 1500/5\n68 get ok 6\n69 drain ok\ndone 6 get 1500/5 6 7d6df592ee911d375a6f13bae4c7552a\n70 gossip ok\n71 drain ok\n74 gossip ok\n75 gossip ok\n76 gossip ok\n77 gossip ok\n78 gossip ok\n79 drain ok\n80 syncack ok 2\n81 syncack ok 2\n82 syncack ok 2\n83 syncack ok 2\n84 syncack ok 2\n85 clean ok 1\n86 syncack ok 2\n87 gossip ok\n88 gossip ok\n89 gossip ok\n90 gossip ok\n91 gossip ok\n92 drain ok\n95 clean ok 2\n96 gossip ok\n97 gossip ok\n98 gossip ok\n99 gossip ok\n100 gossip ok\n101 drain ok\n104 role ok\n105 role ok\n106 role ok\n107 apply ok 3\nsize 3\nredundancy 3\np 0 255 4 5 6\ncut 4 750\nc 0 255 up z:a z:b z:c\ncn 4 5 6\n108 gossip ok\n109 drain ok\n110 get refused NotMember\n111 get ok 7\n112 drain ok\ndone 7 get 1500/5 6 7d6df592ee911d375a6f13bae4c7552a\nend 95 7 124\n";
+
 /// Four nodes in three zones, two of them in lyon.
 const THREE_ZONES: &[u8] =
     b"[[node]]\nid = 1\nzone = 'lille'\ncapacity = 2_000_000_000_000\n[[node]]\nid = 2\nzone = 'paris'\ncapacity = 2_000_000_000_000\n[[node]]\nid = 3\nzone = 'lyon'\ncapacity = 1_000_000_000_000\n[[node]]\nid = 4\nzone = 'lyon'\ncapacity = 2_000_000_000_000\n";
@@ -200,5 +248,86 @@ fn kth_write_fails(rt: HostRuntime) -> Result<(), Fail> {
         last = text.len();
     }
     assert_eq!(rt; last, whole.len());
+    Ok(())
+}
+
+/// The text without the lines of single messages.
+fn without_messages(alloc: Global, text: &[u8]) -> Result<Vec<u8>, Fail> {
+    let mut all = Vec::new(alloc);
+    let mut line = Vec::new(alloc);
+    for byte in text {
+        line.push(*byte)?;
+        if *byte == b'\n' {
+            if !line.starts_with(b"got ") && !line.starts_with(b"sent ") {
+                all.extend_from_slice(&line)?;
+            }
+            line = Vec::new(alloc);
+        }
+    }
+    Ok(all)
+}
+
+/// The transcript of a schedule that is replayed to its end.
+fn replayed(alloc: Global, schedule: &[u8]) -> Result<Vec<u8>, Fail> {
+    let (status, text) = played(alloc, &["replay"], schedule, &[], &[])?;
+    match status {
+        Status::Done => Ok(text),
+        _ => Ok(Vec::new(alloc)),
+    }
+}
+
+#[test]
+fn ack_waits_for_open_request(rt: HostRuntime) -> Result<(), Fail> {
+    let text = replayed(rt.alloc(), OPEN_REQUEST)?;
+    assert_eq!(rt; text.as_slice(), OPEN_REQUEST_TEXT);
+    Ok(())
+}
+
+#[test]
+fn read_at_oldest_version(rt: HostRuntime) -> Result<(), Fail> {
+    let text = replayed(rt.alloc(), OLDEST_READ)?;
+    assert_eq!(rt;
+        without_messages(rt.alloc(), &text)?.as_slice(),
+        OLDEST_READ_TEXT
+    );
+    assert!(rt; text.ends_with(OLDEST_READ_END));
+    Ok(())
+}
+
+#[test]
+fn member_of_its_newest_version(rt: HostRuntime) -> Result<(), Fail> {
+    let text = replayed(rt.alloc(), LEAVING)?;
+    assert_eq!(rt; text.as_slice(), LEAVING_TEXT);
+    Ok(())
+}
+
+#[test]
+fn refusals_on_an_empty_world(rt: HostRuntime) -> Result<(), Fail> {
+    let text = replayed(rt.alloc(), b"apply 1\ndeliver 1\nexpire 1\n")?;
+    assert_eq!(rt;
+        text.as_slice(),
+        b"1 apply refused TooFewNodes 0\n2 deliver refused NoSuchMessage\n3 expire refused NoSuchRequest\nend 3 0 0\n".as_slice()
+    );
+    Ok(())
+}
+
+#[test]
+fn round_moves_one_partition(rt: HostRuntime) -> Result<(), Fail> {
+    let text = replayed(rt.alloc(), ONE_ROUND)?;
+    assert_eq!(rt;
+        without_messages(rt.alloc(), &text)?.as_slice(),
+        ONE_ROUND_TEXT
+    );
+    assert!(rt; text.ends_with(ONE_ROUND_END));
+    Ok(())
+}
+
+#[test]
+fn layout_change_under_load(rt: HostRuntime) -> Result<(), Fail> {
+    let text = replayed(rt.alloc(), CHANGE)?;
+    assert_eq!(rt;
+        without_messages(rt.alloc(), &text)?.as_slice(),
+        CHANGE_TEXT
+    );
     Ok(())
 }

@@ -3,9 +3,12 @@ ghost use Rattle.std.specs.Prelude.{IfOk};
 ghost use Rattle.lab_driver.specs.Stands.{HasLab, IsMeantEvent};
 
 use crate::{Event, Lab, Told};
+use cluster_machine::Step;
 use crdt_core::{Bytes, Memory};
+use object_schema::S3Schema;
 use std::alloc::Global;
 use std::test::Fail;
+use world_core::World;
 use world_model::{Line, Refusal};
 
 fn name(alloc: Global, text: &[u8]) -> Result<Bytes, Memory> {
@@ -95,5 +98,19 @@ fn refusals_say_why(rt: HostRuntime) -> Result<(), Fail> {
     assert!(rt; matches!(&unnamed.refused, Some(Refusal::NoSuchBucket)));
     let unsent = step(&mut lab, &Event::Deliver(1))?;
     assert!(rt; matches!(&unsent.refused, Some(Refusal::NoSuchMessage)));
+    Ok(())
+}
+
+/// Two ticks of 2^63 ms: the time after the second one fits no u64.
+fn two_long_ticks(alloc: Global) -> Result<bool, Memory> {
+    let mut world = World::<S3Schema>::new(alloc)?;
+    let first = world.step(Step::Tick(1 << 63))?;
+    let second = world.step(Step::Tick(1 << 63));
+    Ok(first.refused.is_none() && matches!(second, Err(Memory::Full)))
+}
+
+#[test]
+fn tick_past_the_greatest_time(rt: HostRuntime) -> Result<(), Fail> {
+    assert!(rt; two_long_ticks(rt.alloc())?);
     Ok(())
 }
