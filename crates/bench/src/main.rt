@@ -1,14 +1,17 @@
-//! Jobs that are timed beside another program. `bench JOB ARGUMENTS..` does the job that its first
-//! word names, and prints what comes out and never a time; the script `bench/compare` takes the
-//! times.
+//! Jobs that are timed. `bench JOB ARGUMENTS..` does the job that its first word names, and prints what
+//! comes out and never a time; the scripts `bench/compare` and `bench/replay` take the times.
 //!
 //! - `hash BYTES`: the BLAKE2b digest of 32 bytes, in hexadecimal, of a message of that many bytes,
 //!   of which byte i is i modulo 251.
+//! - `replay`: a schedule of 100,000 events, for `garage_lab replay`.
 #![tactic(auto)]
 
 mod hashing;
+mod schedule;
 
 use hashing::pattern_digest;
+use schedule::schedule;
+use std::alloc::Global;
 use std::process::ExitCode;
 use std::{env, io};
 
@@ -16,6 +19,7 @@ fn main(rt: HostRuntime) -> io::Result<ExitCode> {
     let words: Vec<String> = env::args(&rt)?.skip(1).collect(rt.alloc())?;
     match words.as_slice() {
         [job, byte_count] if job.as_str() == "hash" => hash(&rt, byte_count.as_str()),
+        [job] if job.as_str() == "replay" => replay(&rt),
         _ => usage(&rt),
     }
 }
@@ -31,7 +35,14 @@ fn hash(rt: &(impl Print + Eprint + Alloc), byte_count: &str) -> io::Result<Exit
     }
 }
 
+fn replay(rt: &(impl Print + Alloc<A = Global>)) -> io::Result<ExitCode> {
+    for line in schedule(rt.alloc())? {
+        println!(rt; "{line}")?;
+    }
+    Ok(ExitCode::SUCCESS)
+}
+
 fn usage(rt: &impl Eprint) -> io::Result<ExitCode> {
-    eprintln!(rt; "usage: bench hash BYTES")?;
+    eprintln!(rt; "usage: bench hash BYTES | replay")?;
     Ok(ExitCode::from(2))
 }
