@@ -4,7 +4,7 @@ use Rattle.std.specs.List.{Contains}
 use Rattle.crdt_core.specs.Order.{AtMost}
 use Rattle.table_schema.specs.Words.{Words}
 use Rattle.table_model.specs.Rows.{row_at, find_row}
-use Rattle.range_laws.specs.Scans.{IsNamed}
+use Rattle.quorum_model.specs.Window.{IsNamed}
 use Rattle.cluster_machine.specs.Node.{Reading, read, scanned}
 use Rattle.cluster_machine.specs.World.{World}
 

@@ -1,7 +1,10 @@
--- What the machine reads off a layout, and a view's words for it.
+-- What the machine reads off a layout, and a view's words for it; and the layouts of the code.
 use Rattle.std.specs.Prelude.{ℕ, Bool, ◌==◌, List, [], map, Option, Some, None, is_some, slice_get}
 use Rattle.std.specs.Option.{unwrap_or}
-use Rattle.std.specs.List.{list_any}
+use Rattle.std.specs.List.{list_any, filter}
+use Rattle.layout_roles.specs.declared.layout.Layout.{Layout}
+use Rattle.layout_roles.specs.Zones.{is_storage}
+use Rattle.view_model.specs.Layouts.{reading}
 use Rattle.view_model.specs.View.{Reading, View, newest, layout_at}
 use Rattle.quorum_model.specs.Quorum.{is_among}
 
@@ -48,3 +51,10 @@ module _ {L : Type 0} (k : Layouts L) where
 
   abbrev pub has_none : View L → Bool
   has_none v = newest k.reading v == 0
+
+-- what the machine reads off a layout of the code: the nodes that keep copies are those whose role is one of storage
+abbrev pub layouts : Layouts Layout
+layouts = record {
+  reading = reading;
+  storage = λ l. map (λ role. role.node) (filter is_storage l.roles.list);
+}

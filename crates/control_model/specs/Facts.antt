@@ -9,11 +9,6 @@ use Rattle.control_model.specs.Layouts.{IsMember, set_in, is_lawful}
 use Rattle.control_model.specs.World.{Request, Round, World, view_of, layout_of}
 use Rattle.control_model.specs.Steps.{round_of}
 
--- x is an element
-abbrev pub Has : {A : Type 0} → List A → A → Type 0
-Has [] x = ⊥
-Has (y ∷ ys) x = (y ≡ x) ⊎ Has ys x
-
 -- P of one of these
 abbrev pub OneOf : (ℕ → Type 0) → List ℕ → Type 0
 OneOf P [] = ⊥

@@ -13,3 +13,4 @@ pub mod OrderLaws
 pub mod Orders
 pub mod Pair
 pub mod Places
+pub mod Members

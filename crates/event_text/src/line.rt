@@ -12,7 +12,7 @@ use cluster_machine::{DoneWord, EndWord, SentKind};
 use crdt_core::{Bytes, Memory};
 use layout_text::layout_lines;
 use std::alloc::Global;
-use world_model::{Applied, Line};
+use cluster_machine::applied::{Applied, Line};
 
 fn append_layout(out: &mut Bytes, shown: &Applied) -> Result<(), Memory>
     ensures ok { OnOk result (out.new ≡ out.old ++ line_text (line.Layout shown.now)) }

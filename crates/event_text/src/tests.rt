@@ -8,7 +8,7 @@ use layout_size::compute;
 use object_model::Event;
 use std::alloc::Global;
 use std::test::Fail;
-use world_model::{Applied, Line, Refusal};
+use cluster_machine::applied::{Applied, Line, Refusal};
 
 #[test]
 fn writes_each_kind_of_line(rt: HostRuntime) -> Result<(), Fail> {

@@ -10,7 +10,7 @@ use crate::words::{append_digits, append_number, append_word};
 use cluster_machine::Words;
 use crdt_core::{Bytes, Memory};
 use std::alloc::Global;
-use world_model::{Line, Refusal};
+use cluster_machine::applied::{Line, Refusal};
 
 // A reason with a number.
 fn append_numbered(out: &mut Bytes, reason: &[u8], n: u64) -> Result<(), Memory>

@@ -6,7 +6,7 @@ use Rattle.lab_outside.specs.Bytes.{Wrote, WrotePrefix}
 use Rattle.crdt_core.specs.declared.memory.Memory.{Memory as Why}
 use Rattle.crdt_core.specs.declared.memory.Memory.TheVariants.{Want, Full}
 use Rattle.cluster_machine.specs.declared.line.Line.{Line}
-use Rattle.world_model.specs.declared.applied.Applied.{Applied}
+use Rattle.cluster_machine.specs.declared.applied.Applied.{Applied}
 use Rattle.object_model.specs.declared.event.Numbered.{Numbered}
 use Rattle.object_model.specs.declared.event.Told.{Told}
 use Rattle.object_model.specs.Run.{State, Turn, outcome_of, start, run}

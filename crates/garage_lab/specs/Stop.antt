@@ -12,8 +12,7 @@ use Rattle.schedule_text.specs.declared.fault.ScheduleFault.TheVariants.{BadLine
 use Rattle.garage_lab.specs.declared.stop.Stop.{Stop}
 use Rattle.garage_lab.specs.declared.stop.Stop.TheVariants.{Read, Write, Memory, LongInput, BadLine, Number}
 use Rattle.object_model.specs.declared.event.Numbered.{Numbered}
-use Rattle.object_model.specs.Run.{start}
-use Rattle.object_model.specs.Run.{Turn}
+use Rattle.object_model.specs.Run.{start, Turn}
 use Rattle.text_model.specs.Transcript.{turns_text, transcript}
 use Rattle.object_model.specs.Turns.{events_of}
 use Rattle.garage_lab.specs.Replay.{number_line, ArePlayed, AreFirst, StopsAfter}

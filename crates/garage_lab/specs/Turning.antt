@@ -1,6 +1,6 @@
 -- What one event of a replay does in the code.
 use Rattle.std.specs.Prelude.{◌≡◌, ℕ, List}
-use Rattle.world_model.specs.Choices.{Decision}
+use Rattle.cluster_machine.specs.Choices.{Decision}
 use Rattle.object_model.specs.declared.event.Numbered.{Numbered}
 use Rattle.object_model.specs.Run.{State, Turn, outcome_of}
 use Rattle.object_model.specs.Turns.{IsLawful, Fits, HasRoom}

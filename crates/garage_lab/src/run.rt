@@ -4,10 +4,9 @@ ghost use Rattle.std.specs.String.{string_bytes};
 ghost use Rattle.std.specs.Io.KnownBytes.{IsAtEnd};
 ghost use Rattle.crdt_core.specs.declared.memory.Memory.TheVariants.{Want};
 ghost use Rattle.lab_outside.specs.Rose.{Rose};
-ghost use Rattle.lab_outside.specs.Bytes.{Wrote, WrotePrefix};
 ghost use Rattle.garage_lab.specs.Replay.{IsTranscribed};
 ghost use Rattle.garage_lab.specs.Layout.{IsPrinted};
-ghost use Rattle.garage_lab.specs.Answer.{layout_words, replay_words, IsKnown, input_limit, usage_line, bad_line_text, IsAnswer, IsStated, IsAfterReading, Answers, AnswersPrefix, LayoutPrefix, ReplayPrefix, Completes, Says};
+ghost use Rattle.garage_lab.specs.Answer.{layout_words, replay_words, IsKnown, input_limit, bad_line_text, IsAnswer, IsStated, IsAfterReading, Answers, AnswersPrefix, LayoutPrefix, ReplayPrefix, Completes, Says};
 ghost use Rattle.garage_lab.specs.Stop.{status_of, said_of, Halts, IsSaid};
 
 use crate::asked::{Asked, asked_by};

@@ -11,8 +11,8 @@ use Rattle.wire_messages.specs.declared.phase.Phase.TheVariants.{Read}
 use Rattle.cluster_machine.specs.declared.step.Step.TheVariants.{Open, Phase as Begin}
 use Rattle.cluster_machine.specs.declared.step.Words.TheVariants.{One}
 use Rattle.cluster_machine.specs.World.{Request, is_member_at}
-use Rattle.node_parts.specs.Layouts.{layouts}
-use Rattle.world_model.specs.Worlds.{Model, does, next}
+use Rattle.cluster_machine.specs.Layouts.{layouts}
+use Rattle.cluster_machine.specs.Worlds.{Model, does, next}
 use Rattle.object_model.specs.declared.event.Told.{Told}
 use Rattle.object_model.specs.Object.{Name, bucket_hash, row_key}
 use Rattle.object_model.specs.Run.{State, plainly, opened}

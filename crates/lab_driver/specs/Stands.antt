@@ -1,14 +1,13 @@
 -- When the code's lab stands for a state of the model, and what an event does to it.
 use Rattle.std.specs.Prelude.{◌≡◌, ◌<◌, ◌^◌, ⊤, map, Some}
 use Rattle.std.specs.List.{AllByRecursion}
-use Rattle.crdt_rows.specs.declared.version.Version.{Version}
 use Rattle.crdt_rows.specs.declared.any_row.AnyRow.{AnyRow}
 use Rattle.crdt_rows.specs.AnyRow.{any_join}
 use Rattle.object_schema.specs.Schema.{words}
 use Rattle.cluster_machine.specs.declared.step.Step.{Step}
 use Rattle.cluster_machine.specs.declared.step.Step.TheVariants as step
-use Rattle.world_model.specs.Choices.{Decision}
-use Rattle.world_model.specs.Worlds.{IsMeant, IsLawfulStep, FitAll}
+use Rattle.cluster_machine.specs.Choices.{Decision}
+use Rattle.cluster_machine.specs.Worlds.{IsMeant, IsLawfulStep, FitAll}
 use Rattle.object_model.specs.declared.event.Event.{Event}
 use Rattle.object_model.specs.declared.event.Event.TheVariants.{Role, Redundancy}
 use Rattle.object_model.specs.declared.event.Told.{Told}

@@ -4,12 +4,11 @@ ghost use Rattle.crdt_core.specs.declared.memory.Memory.TheVariants.{Want, Full}
 ghost use Rattle.cluster_machine.specs.declared.step.Words.TheVariants.{Empty};
 ghost use Rattle.wire_messages.specs.declared.phase.PhaseEnd.TheVariants.{Row as Answered, Kept};
 ghost use Rattle.cluster_machine.specs.World.{is_member_at, numbered};
-ghost use Rattle.node_parts.specs.Layouts.{layouts};
-ghost use Rattle.world_model.specs.Worlds.{IsMeant};
+ghost use Rattle.cluster_machine.specs.Layouts.{layouts};
+ghost use Rattle.cluster_machine.specs.Worlds.{IsMeant};
 ghost use Rattle.world_core.specs.Stands.{ended};
-ghost use Rattle.object_model.specs.Run.{State, Answer, start, begins, opened, drawn, writes, finishes, gets, follow, goes_on, delivers, drains, silent, Order as Ordered};
+ghost use Rattle.object_model.specs.Run.{State, Answer, start, begins, opened, drawn, writes, finishes, gets, follow, goes_on, delivers, drains, silent, Order as Ordered, is_bucket as has_bucket};
 ghost use Rattle.object_model.specs.Object.{newest_of};
-ghost use Rattle.object_model.specs.Run.{is_bucket as has_bucket};
 ghost use Rattle.lab_driver.specs.Stands.{ordered, IsMeantEvent};
 
 use crate::newest::{Newest, greatest_ts, read_newest};
@@ -24,7 +23,7 @@ use object_schema::S3Schema;
 use std::alloc::Global;
 use wire_messages::{Phase, PhaseEnd};
 use world_core::World;
-use world_model::{Line, Refusal};
+use cluster_machine::applied::{Line, Refusal};
 
 /// A cluster with buckets, and what each request was asked for.
 #[derive(Drop)]

@@ -7,7 +7,7 @@ use cluster_machine::DoneWord;
 use crdt_core::{Bytes, Memory, Value};
 use crdt_rows::Version;
 use md5::{Digest, Md5};
-use world_model::Line;
+use cluster_machine::applied::Line;
 
 /// What a request was asked for at its coordinator. A put has its version once it has drawn one.
 #[derive(Drop)]

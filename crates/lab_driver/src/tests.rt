@@ -9,7 +9,7 @@ use object_schema::S3Schema;
 use std::alloc::Global;
 use std::test::Fail;
 use world_core::World;
-use world_model::{Line, Refusal};
+use cluster_machine::applied::{Line, Refusal};
 
 fn name(alloc: Global, text: &[u8]) -> Result<Bytes, Memory> {
     Bytes::from_slice(alloc, text)

@@ -1,12 +1,12 @@
 //! The lines that say why there is no layout.
 ghost use Rattle.std.specs.Prelude.{◌≡◌, ◌++◌, IfOk, IfErr};
 ghost use Rattle.crdt_core.specs.declared.memory.Memory.TheVariants.{Want};
-ghost use Rattle.layout_text.specs.Text.{cut_lines};
+ghost use Rattle.layout_roles.specs.Text.{cut_lines};
 ghost use Rattle.layout_command.specs.Answer.{field_word, toml_line, field_line, nodes_line, zones_line, none_line};
 
 use crdt_core::{Bytes, Memory};
 use itoa::Buffer;
-use layout_flow::Cut;
+use layout_roles::Cut;
 use layout_roles::Roles;
 use layout_text::{FieldName, cut_lines};
 use std::alloc::Global;

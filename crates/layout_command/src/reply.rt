@@ -1,7 +1,7 @@
 //! The command as one call.
 ghost use Rattle.std.specs.Prelude.{◌≡◌, IsUtf8, IfOk, IfErr};
 ghost use Rattle.crdt_core.specs.declared.memory.Memory.TheVariants.{Want};
-ghost use Rattle.layout_size.specs.Answers.{IsRedundancy};
+ghost use Rattle.layout_roles.specs.Certificates.{IsRedundancy};
 ghost use Rattle.layout_text.specs.Settings.{settings_of};
 ghost use Rattle.layout_command.specs.Answer.{IsLaidOut, IsAnswer};
 

@@ -4,10 +4,10 @@ use Rattle.std.specs.List.{list_any, filter, flat_map, range_with_len, enumerate
 use Rattle.layout_roles.specs.declared.role.Role.{Role}
 use Rattle.layout_roles.specs.Zones.{storage_nodes, zones}
 use Rattle.layout_roles.specs.Fits.{room}
-use Rattle.layout_flow.specs.Cuts.{Side}
+use Rattle.layout_roles.specs.Cuts.{Side}
 use Rattle.layout_flow.specs.Totals.{total, copies_in}
-use Rattle.layout_flow.specs.declared.vertex.Vertex.{Vertex}
-use Rattle.layout_flow.specs.declared.vertex.Vertex.TheVariants.{Source, Up, Down, Zone, Node, Sink}
+use Rattle.layout_roles.specs.declared.vertex.Vertex.{Vertex}
+use Rattle.layout_roles.specs.declared.vertex.Vertex.TheVariants.{Source, Up, Down, Zone, Node, Sink}
 
 -- what the zones have room for, where each gets so many copies of a partition at most
 abbrev pub copies_for : ℕ → List Role → ℕ → ℕ → ℕ

@@ -1,9 +1,9 @@
 -- Flows of a network.
 use Rattle.std.specs.Prelude.{◌≡◌, ℕ, ◌≤◌, Bool, true, false, cond, ◌&&◌, ◌==◌, List}
 use Rattle.std.specs.List.{sum_by, All}
-use Rattle.layout_flow.specs.Network.{Edge}
-use Rattle.layout_flow.specs.declared.vertex.Vertex.{Vertex}
-use Rattle.layout_flow.specs.declared.vertex.Vertex.TheVariants.{Source, Up, Down, Zone, Node, Sink}
+use Rattle.layout_roles.specs.Network.{Edge}
+use Rattle.layout_roles.specs.declared.vertex.Vertex.{Vertex}
+use Rattle.layout_roles.specs.declared.vertex.Vertex.TheVariants.{Source, Up, Down, Zone, Node, Sink}
 
 abbrev pub same_vertex : Vertex → Vertex → Bool
 same_vertex Source Source = true

@@ -2,7 +2,6 @@
 #![tactic(auto)]
 
 mod answer;
-mod cut;
 mod groups;
 mod laws;
 mod network;
@@ -11,10 +10,8 @@ mod side;
 #[cfg(test)]
 mod tests;
 mod totals;
-mod vertex;
 
 pub use answer::FlowOrCut;
-pub use cut::Cut;
 pub use laws::{flows, light_cuts};
+pub use layout_roles::{Cut, Vertex};
 pub use network::Network;
-pub use vertex::Vertex;

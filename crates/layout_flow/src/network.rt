@@ -4,13 +4,12 @@ ghost use Rattle.crdt_core.specs.declared.memory.Memory.TheVariants.{Want};
 ghost use Rattle.layout_roles.specs.Zones.{zones};
 
 use crate::answer::FlowOrCut;
-use crate::cut::Cut;
 use crate::groups::by_zone;
 use crate::rows::{copies_in_order, sets_of};
 use crate::side::side_of;
 use crate::totals::{ALL_COPIES, copies_of_all};
 use crdt_core::{List, Memory};
-use layout_roles::{Assignment, PARTITIONS, Role, Roles};
+use layout_roles::{Assignment, Cut, PARTITIONS, Role, Roles};
 use std::alloc::Global;
 
 /// The flow network of roles for a redundancy, 1 to 3, and a partition size in bytes.

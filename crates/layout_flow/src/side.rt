@@ -6,9 +6,8 @@ ghost use Rattle.layout_roles.specs.Fits.{room};
 ghost use Rattle.layout_flow.specs.Closed.{zone_is_held, node_is_held, held_zones, held_in, held_in_all, held_nodes, held_list};
 
 use crate::totals::copies_of_zone;
-use crate::vertex::Vertex;
 use crdt_core::{List, Memory};
-use layout_roles::{PARTITIONS, Role};
+use layout_roles::{PARTITIONS, Role, Vertex};
 use std::alloc::Global;
 
 // Whether keeping a zone out of the side would cost strictly more, where so many copies of each partition

@@ -3,9 +3,8 @@ ghost use Rattle.std.specs.Prelude.{◌<◌, ◌≤◌};
 
 use crate::answer::FlowOrCut;
 use crate::network::Network;
-use crate::vertex::Vertex;
 use crdt_core::{Bytes, List, Memory};
-use layout_roles::{Kind, Layout, Role, Roles, Zone};
+use layout_roles::{Kind, Layout, Role, Roles, Vertex, Zone};
 use std::alloc::Global;
 
 const GATEWAY: u64 = 0;

@@ -4,15 +4,6 @@ use Rattle.std.specs.List.{find}
 use Rattle.layout_roles.specs.declared.layout.Layout.{Layout}
 use Rattle.layout_roles.specs.declared.role.Role.{Role}
 use Rattle.layout_roles.specs.declared.role.Kind.{Kind}
-use Rattle.view_model.specs.View.{Reading}
-
--- the members of a layout are the nodes that have a role in it
-abbrev pub reading : Reading Layout
-reading = record {
-  version = λ l. l.version;
-  members = λ l. map (λ role. role.node) l.roles.list;
-  sets = λ l. l.sets.sets;
-}
 
 abbrev pub is_any : List Role → Bool
 is_any [] = false

@@ -3,7 +3,8 @@ ghost use Rattle.std.specs.Prelude.{◌≡◌, suc, nat_lt, IsTrue, IfOk, IfErr}
 ghost use Rattle.std.specs.List.{count_by};
 ghost use Rattle.crdt_core.specs.declared.memory.Memory.TheVariants.{Want};
 ghost use Rattle.view_model.specs.View.{from};
-ghost use Rattle.layout_history.specs.Known.{reading, ascends, kind_among};
+ghost use Rattle.view_model.specs.Layouts.{reading};
+ghost use Rattle.layout_history.specs.Known.{ascends, kind_among};
 
 use crdt_core::{List, Memory};
 use layout_roles::{Kind, Layout, Role};

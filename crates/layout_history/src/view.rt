@@ -4,7 +4,8 @@ ghost use Rattle.std.specs.List.{list_all};
 ghost use Rattle.std.specs.Option.{option_and_then};
 ghost use Rattle.crdt_core.specs.declared.memory.Memory.TheVariants.{Want};
 ghost use Rattle.view_model.specs.View.{is_gapless};
-ghost use Rattle.layout_history.specs.Known.{reading, has_members};
+ghost use Rattle.view_model.specs.Layouts.{reading};
+ghost use Rattle.layout_history.specs.Known.{has_members};
 
 use crate::layouts::{copies_above, copies_of, drop_below, kind_in};
 use crate::synced::{all_synced, least_in};

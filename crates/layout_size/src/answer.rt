@@ -4,16 +4,15 @@ ghost use Rattle.crdt_core.specs.declared.memory.Memory.TheVariants.{Want};
 ghost use Rattle.layout_roles.specs.declared.role.Role.{Role};
 ghost use Rattle.layout_roles.specs.Zones.{storage_nodes, zone_names};
 ghost use Rattle.layout_roles.specs.Fits.{Fits, SomeFits, NoneFits, IsGreatest};
-ghost use Rattle.layout_flow.specs.Answers.{IsPrintedCut};
+ghost use Rattle.layout_roles.specs.Certificates.{IsPrintedCut, IsRedundancy, zones_wanted};
 ghost use Rattle.layout_size.specs.declared.fault.LayoutFault.{LayoutFault};
-ghost use Rattle.layout_size.specs.Answers.{IsRedundancy, zones_wanted, IfNoAssignment, IsLateFault};
+ghost use Rattle.layout_size.specs.Answers.{IfNoAssignment, IsLateFault};
 
-use crate::certified::Certified;
 use crate::fault::LayoutFault;
 use crate::search::greatest_size;
 use crdt_core::Memory;
-use layout_flow::{Cut, FlowOrCut, Network};
-use layout_roles::{Assignment, Redundancy, Roles};
+use layout_flow::{FlowOrCut, Network};
+use layout_roles::{Assignment, Certified, Cut, Redundancy, Roles};
 use std::alloc::Global;
 
 // How many nodes keep each partition.

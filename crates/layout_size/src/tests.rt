@@ -1,5 +1,5 @@
 //! Small layouts, as values; each number was worked out by hand.
-ghost use Rattle.layout_size.specs.Answers.{IsRedundancy};
+ghost use Rattle.layout_roles.specs.Certificates.{IsRedundancy};
 
 use crate::answer::compute;
 use crate::fault::LayoutFault;

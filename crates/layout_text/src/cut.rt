@@ -3,14 +3,14 @@ ghost use Rattle.std.specs.Prelude.{◌≡◌, ◌++◌, nat_eq, map, flat_map, 
 ghost use Rattle.std.specs.Cmp.Lexicographic.{pointwise};
 ghost use Rattle.std.specs.List.{range_with_len};
 ghost use Rattle.crdt_core.specs.declared.memory.Memory.TheVariants.{Want};
-ghost use Rattle.layout_text.specs.Runs.{runs, run_lines};
-ghost use Rattle.layout_text.specs.Text.{word, is_in_partition, zone_word, vertex_word, side_words, side_line, side_lines, node_word, cut_line, nodes_line, cut_text, cut_lines};
+ghost use Rattle.layout_roles.specs.Runs.{runs, run_lines};
+ghost use Rattle.layout_roles.specs.Text.{word, is_in_partition, zone_word, vertex_word, side_words, side_line, side_lines, node_word, cut_line, nodes_line, cut_text, cut_lines};
 
 use crate::runs::run_length;
 use crate::words::{append_number, append_word};
 use crate::zones::zone_names;
 use crdt_core::{Bytes, List, Memory};
-use layout_flow::{Cut, Vertex};
+use layout_roles::{Cut, Vertex};
 use layout_roles::{PARTITIONS, Roles};
 use std::alloc::Global;
 

@@ -1,7 +1,7 @@
 //! The text of a layout.
 ghost use Rattle.std.specs.Prelude.{◌≡◌, ◌++◌, IfOk, IfErr, OnOk};
 ghost use Rattle.crdt_core.specs.declared.memory.Memory.TheVariants.{Want};
-ghost use Rattle.layout_text.specs.Text.{size_line, redundancy_line, layout_text};
+ghost use Rattle.layout_roles.specs.Text.{size_line, redundancy_line, layout_text};
 
 use crate::cut::append_cut;
 use crate::sets::append_sets;
@@ -9,7 +9,7 @@ use crate::words::append_number;
 use crate::zones::zone_names;
 use crdt_core::{Bytes, Memory};
 use layout_roles::Roles;
-use layout_size::Certified;
+use layout_roles::Certified;
 use std::alloc::Global;
 
 #[tactic(auto, unfolding(crate::specs::Text::size_line))]

@@ -1,7 +1,7 @@
 //! The lines of the sets of partitions.
 ghost use Rattle.std.specs.Prelude.{◌≡◌, ◌++◌, flat_map, IfOk, IfErr, OnOk};
 ghost use Rattle.crdt_core.specs.declared.memory.Memory.TheVariants.{Want};
-ghost use Rattle.layout_text.specs.Text.{number, set_line, set_lines};
+ghost use Rattle.layout_roles.specs.Text.{number, set_line, set_lines};
 
 use crate::runs::run_length;
 use crate::words::append_number;

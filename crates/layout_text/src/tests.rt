@@ -1,6 +1,6 @@
 //! Configurations written by hand, and the text of a small layout.
 ghost use Rattle.std.specs.Prelude.{IfOk};
-ghost use Rattle.layout_size.specs.Answers.{IsRedundancy};
+ghost use Rattle.layout_roles.specs.Certificates.{IsRedundancy};
 
 use crate::config::{Config, ConfigFault, FieldName};
 use crate::cut::cut_lines;

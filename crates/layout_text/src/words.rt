@@ -1,7 +1,7 @@
 //! Words and numbers after one space.
 ghost use Rattle.std.specs.Prelude.{◌≡◌, ◌++◌, IfErr, OnOk};
 ghost use Rattle.crdt_core.specs.declared.memory.Memory.TheVariants.{Want};
-ghost use Rattle.layout_text.specs.Text.{word, number};
+ghost use Rattle.layout_roles.specs.Text.{word, number};
 
 use crdt_core::{Bytes, Memory};
 use itoa::Buffer;

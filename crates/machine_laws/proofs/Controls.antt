@@ -7,8 +7,7 @@ use Rattle.std.proofs.lemmas.List.{length-set, length-append}
 use Rattle.std.proofs.lemmas.Bool.{eqb-true}
 use Rattle.view_model.specs.View.{View}
 use Rattle.control_model.specs.World as control
-use Rattle.control_model.specs.World.{only as control_only, nothing as control_nothing, next as control_next}
-use Rattle.control_model.specs.Facts.{Has}
+use Rattle.crdt_core.specs.Members.{Has}
 use Rattle.cluster_machine.specs.Node.{Node, Packet, says, shows}
 use Rattle.cluster_machine.specs.Layouts.{Layouts}
 use Rattle.cluster_machine.specs.Run.{IsLayout}

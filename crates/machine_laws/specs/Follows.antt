@@ -2,7 +2,7 @@
 use Rattle.std.specs.Prelude.{◌≡◌, ℕ, map, length, Some, option_map, ⊤}
 use Rattle.std.specs.List.{AllByRecursion}
 use Rattle.control_model.specs.World as control
-use Rattle.control_model.specs.Facts.{Has}
+use Rattle.crdt_core.specs.Members.{Has}
 use Rattle.control_model.specs.Reached.{IsReached}
 use Rattle.cluster_machine.specs.Layouts.{Layouts}
 use Rattle.cluster_machine.specs.Node.{Call, Round, Node, Packet, says, shows}

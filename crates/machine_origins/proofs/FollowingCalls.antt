@@ -3,11 +3,12 @@ use Rattle.std.specs.Prelude.{◌≡◌, ◌≢◌, ◌⊎◌, ℕ, true, false,
 use Rattle.std.specs.Option.{unwrap_or}
 use Rattle.std.proofs.Common.{ap, sym, subst, ◌∙◌, inl, inr}
 use Rattle.std.proofs.lemmas.Bool.{eqb-true, eqb-false}
-use Rattle.control_model.specs.Facts.{Has}
+use Rattle.crdt_core.specs.Members.{Has}
 use Rattle.wire_messages.specs.declared.phase.PhaseEnd.{PhaseEnd}
 use Rattle.cluster_machine.specs.Node.{Present, resting, asking, scanning, storing, fetching, Call, Node, Reading, Did, quiet}
 use Rattle.cluster_machine.specs.Phases.{call_at, with_call, calls_now, ended}
-use Rattle.machine_origins.specs.Following.{AreDifferent, GoesOn, Continues, EndsSo, Follows}
+use Rattle.cluster_machine.specs.Keeping.{AreDifferent}
+use Rattle.machine_origins.specs.Following.{GoesOn, Continues, EndsSo, Follows}
 
 module _ {R : Type 0} where
   pub goes_on_self : (p : Present R) → GoesOn p p

@@ -1,15 +1,11 @@
 -- What becomes of a node's open requests: which phases go on, which end, and how.
 use Rattle.std.specs.Prelude.{◌≡◌, ◌⊎◌, ◌∷◌, [], ⊤, List, map}
-use Rattle.control_model.specs.Facts.{Has}
+use Rattle.crdt_core.specs.Members.{Has}
 use Rattle.wire_messages.specs.declared.phase.Phase.{Phase}
 use Rattle.wire_messages.specs.declared.phase.Phase.TheVariants.{Read, Range, Store, Block}
 use Rattle.wire_messages.specs.declared.phase.PhaseEnd.{PhaseEnd}
 use Rattle.wire_messages.specs.declared.phase.PhaseEnd.TheVariants.{Row as GaveRow, Window as GaveWindow, Kept as IsKept, Block as GaveBlock}
 use Rattle.cluster_machine.specs.Node.{Present, resting, asking, scanning, storing, fetching, Call, Node, Reading, read, scanned, Ended, Did}
-
--- no two open calls have one request
-abbrev pub AreDifferent : {R : Type 0} → List (Call R) → Type 0
-AreDifferent calls = (c d : Call _) → Has calls c → Has calls d → c.request ≡ d.request → c ≡ d
 
 -- the phase goes on as it was, with more answers, or it has ended
 abbrev pub GoesOn : {R : Type 0} → Present R → Present R → Type 0

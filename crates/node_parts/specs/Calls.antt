@@ -14,7 +14,7 @@ use Rattle.node_parts.specs.declared.call.Present.{Present}
 use Rattle.node_parts.specs.declared.call.Present.TheVariants.{Resting, Asking, Scanning, Storing, Fetching}
 use Rattle.node_parts.specs.declared.call.Call.{Call}
 use Rattle.node_parts.specs.declared.calls.Calls.{Calls}
-use Rattle.node_parts.specs.Layouts.{layouts}
+use Rattle.cluster_machine.specs.Layouts.{layouts}
 
 abbrev pub IsPresent : {S R : Type 0} → Present S R → Doing R → Type 0
 IsPresent Resting resting = ⊤

@@ -15,7 +15,7 @@ use Rattle.cluster_machine.specs.Receives.{item_came}
 use Rattle.cluster_machine.specs.Acts.{item_posts}
 use Rattle.node_parts.specs.declared.contents.Contents.{Contents}
 use Rattle.node_parts.specs.declared.packet.Envelope.{Envelope}
-use Rattle.node_parts.specs.Layouts.{layouts}
+use Rattle.cluster_machine.specs.Layouts.{layouts}
 use Rattle.node_parts.specs.Posts.{Posts}
 
 -- rows that come without blocks

@@ -3,7 +3,7 @@ use Rattle.std.specs.Prelude.{◌≡◌, ℕ, true, false, Bool, not, Option, So
 use Rattle.std.specs.List.{flat_map, list_all}
 use Rattle.std.specs.List.Sorted.{IsStrictlyIncreasing}
 use Rattle.layout_roles.specs.declared.layout.Layout.{Layout}
-use Rattle.layout_history.specs.Known.{reading}
+use Rattle.view_model.specs.Layouts.{reading}
 use Rattle.view_model.specs.View.{newest}
 use Rattle.table_schema.specs.Words.{Words}
 use Rattle.table_model.specs.Rows.{rows}
@@ -12,7 +12,7 @@ use Rattle.cluster_machine.specs.Phases.{is_spelled, bytes_of}
 use Rattle.cluster_machine.specs.Rounds.{is_empty, rows_at, pushes, are_spelled, parts_of}
 use Rattle.node_parts.specs.declared.packet.Envelope.{Envelope}
 use Rattle.node_parts.specs.declared.pushes.Sender.{Sender}
-use Rattle.node_parts.specs.Layouts.{layouts}
+use Rattle.cluster_machine.specs.Layouts.{layouts}
 use Rattle.node_parts.specs.Posts.{Posts}
 use Rattle.node_parts.specs.Sets.{others_of}
 

@@ -2,14 +2,14 @@
 ghost use Rattle.std.specs.Prelude.{◌≡◌, ◌⊎◌, false, leb, IsTrue, IsSome, IfSome, IfOk, IfErr};
 ghost use Rattle.crdt_core.specs.declared.memory.Memory.TheVariants.{Want, Full};
 ghost use Rattle.std.specs.List.{list_all};
-ghost use Rattle.layout_history.specs.Known.{reading};
+ghost use Rattle.view_model.specs.Layouts.{reading};
 ghost use Rattle.layout_history.specs.Views.{known};
 ghost use Rattle.view_model.specs.View.{newest, read_version};
 ghost use Rattle.table_schema.specs.Words.{partition_at};
-ghost use Rattle.cluster_machine.specs.Layouts.{set_at};
+ghost use Rattle.cluster_machine.specs.Layouts.{set_at, layouts};
 ghost use Rattle.cluster_machine.specs.Phases.{is_spelled};
-ghost use Rattle.node_parts.specs.Layouts.{layouts};
-ghost use Rattle.node_parts.specs.Begins.{AreShort, IsShort, Begins, CannotBegin, Stores, StoresAll};
+ghost use Rattle.cluster_machine.specs.Keeping.{AreShort, IsShort};
+ghost use Rattle.node_parts.specs.Begins.{Begins, CannotBegin, Stores, StoresAll};
 
 use crate::call::Present;
 use crate::packet::Envelope;

@@ -2,11 +2,11 @@
 ghost use Rattle.std.specs.Prelude.{◌≡◌, ◌<◌, ◌≤◌, ◌+◌, ◌^◌, ◌⊎◌, ◌==◌, ℕ, Bool, Option, Some, None, List, ◌++◌, [], ◌∷◌, map, IfOk, IfErr, OnOk, IfSome};
 ghost use Rattle.std.specs.List.Sorted.{IsStrictlyIncreasing};
 ghost use Rattle.crdt_core.specs.declared.memory.Memory.TheVariants.{Want, Full};
-ghost use Rattle.cluster_machine.specs.Node.{Round as Moved, Part};
+ghost use Rattle.cluster_machine.specs.Node.{Round as Moved};
 ghost use Rattle.cluster_machine.specs.Rows.{still};
 ghost use Rattle.cluster_machine.specs.Rounds.{is_complete};
 ghost use Rattle.node_parts.specs.Pushes.{part_of};
-ghost use Rattle.node_parts.specs.Rounds.{IsOpen, IsMoving, AreRounds, open_parts_of, begun_round, confirmed_round};
+ghost use Rattle.node_parts.specs.Rounds.{IsMoving, AreRounds, open_parts_of, begun_round, confirmed_round};
 
 use crdt_core::Memory;
 use std::alloc::Global;

@@ -3,9 +3,8 @@ ghost use Rattle.std.specs.Prelude.{◌≡◌, IfOk, IfErr, OnOk};
 ghost use Rattle.crdt_core.specs.declared.memory.Memory.TheVariants.{Want};
 ghost use Rattle.layout_history.specs.Views.{known};
 ghost use Rattle.quorum_model.specs.Quorum.{is_among};
-ghost use Rattle.cluster_machine.specs.Layouts.{set_of, stored_sets, is_given, is_member, is_stored};
+ghost use Rattle.cluster_machine.specs.Layouts.{set_of, stored_sets, is_given, is_member, is_stored, layouts};
 ghost use Rattle.cluster_machine.specs.Phases.{nodes_of, with_node};
-ghost use Rattle.node_parts.specs.Layouts.{layouts};
 ghost use Rattle.node_parts.specs.Sets.{others_of};
 
 use crdt_core::Memory;

@@ -2,7 +2,7 @@
 //! its round, and what a restart leaves. The messages are passed on by hand.
 ghost use Rattle.std.specs.Prelude.{◌≡◌, None, IsTrue, IfOk};
 ghost use Rattle.layout_roles.specs.Zones.{set_ascends};
-ghost use Rattle.node_parts.specs.Begins.{IsShort};
+ghost use Rattle.cluster_machine.specs.Keeping.{IsShort};
 ghost use Rattle.node_parts.specs.Contents.{AreBare};
 ghost use Rattle.node_core.specs.Stands.{IsBarePacket};
 

@@ -16,11 +16,12 @@ use Rattle.cluster_machine.specs.Node.{Present, resting, asking, scanning, stori
 use Rattle.cluster_machine.specs.Phases.{call_at, begins}
 use Rattle.cluster_machine.specs.World.{Request, numbered}
 use Rattle.cluster_machine.specs.Step.{begun, beginning}
-use Rattle.machine_origins.specs.Following.{AreDifferent, Began, Begins}
+use Rattle.cluster_machine.specs.Keeping.{AreDifferent}
+use Rattle.machine_origins.specs.Following.{Began, Begins}
 use Rattle.machine_origins.proofs.FollowingCalls.{found_there}
 use Rattle.machine_origins.proofs.FollowingSteps.{begins_follow}
-use Rattle.node_parts.specs.Layouts.{layouts}
-use Rattle.world_model.specs.Trio.{trio, stage_trio}
+use Rattle.cluster_machine.specs.Layouts.{layouts}
+use Rattle.cluster_machine.specs.Trio.{trio, stage_trio}
 use Rattle.object_model.specs.Object.{Name, row_key, bucket_hash, object}
 use Rattle.object_model.specs.Run.{State, Order, Record, began, plainly, effect, asks, stores}
 use Rattle.object_model.specs.Fresh.{IsAcknowledged}

@@ -5,14 +5,12 @@ use Rattle.std.specs.Cmp.{tied_itself}
 use Rattle.md5.specs.Md5.{md5}
 use Rattle.blake2_hash.specs.Blake2b.{blake2b}
 use Rattle.blake2_hash.specs.declared.digest.Hash32.{Hash32}
-use Rattle.crdt_core.specs.declared.max.Max.{Max}
 use Rattle.crdt_core.specs.Map.{map_entries, map_single}
 use Rattle.crdt_rows.specs.declared.version.Version.{Version}
 use Rattle.crdt_rows.specs.declared.body.Meta.{Meta}
-use Rattle.crdt_rows.specs.declared.body.Body.{Body}
-use Rattle.crdt_rows.specs.declared.body.Body.TheVariants.{Marker, Inline, Blocks}
+use Rattle.crdt_rows.specs.declared.body.Body.TheVariants.{Inline, Blocks}
 use Rattle.crdt_rows.specs.declared.state.State.{State}
-use Rattle.crdt_rows.specs.declared.state.State.TheVariants.{Uploading, Aborted, Complete}
+use Rattle.crdt_rows.specs.declared.state.State.TheVariants.{Complete}
 use Rattle.crdt_rows.specs.declared.object_row.ObjectRow.{ObjectRow}
 use Rattle.crdt_rows.specs.declared.any_row.AnyRow.{AnyRow}
 use Rattle.crdt_rows.specs.declared.any_row.AnyRow.TheVariants as rows

@@ -2,8 +2,7 @@
 use Rattle.std.specs.Prelude.{◌≡◌, ℕ, zero, suc, ◌-◌, ◌%◌, max, Bool, true, false, ◌||◌, nat_eq, if◌then◌else◌, Option, Some, None, List, [], ◌∷◌, ◌++◌, length, slice_set}
 use Rattle.std.specs.Cmp.Lexicographic.{pointwise}
 use Rattle.md5.specs.Md5.{md5}
-use Rattle.layout_roles.specs.declared.layout.Layout.{Layout}
-use Rattle.layout_flow.specs.declared.cut.Cut.{Cut}
+use Rattle.layout_roles.specs.declared.cut.Cut.{Cut}
 use Rattle.crdt_rows.specs.declared.version.Version.{Version}
 use Rattle.crdt_rows.specs.declared.any_row.AnyRow.{AnyRow}
 use Rattle.crdt_rows.specs.AnyRow.{any_join}
@@ -24,10 +23,10 @@ use Rattle.cluster_machine.specs.declared.line.DoneWord.TheVariants.{Put as Word
 use Rattle.cluster_machine.specs.Node.{Ended}
 use Rattle.cluster_machine.specs.World.{empty, clock, is_member_at, numbered, undelivered}
 use Rattle.cluster_machine.specs.Step.{none_given}
-use Rattle.node_parts.specs.Layouts.{layouts}
-use Rattle.world_model.specs.declared.applied.Applied.{Applied}
-use Rattle.world_model.specs.Choices.{Decision}
-use Rattle.world_model.specs.Worlds.{Model, Doing, Done as Effect, does, next}
+use Rattle.cluster_machine.specs.Layouts.{layouts}
+use Rattle.cluster_machine.specs.declared.applied.Applied.{Applied}
+use Rattle.cluster_machine.specs.Choices.{Decision}
+use Rattle.cluster_machine.specs.Worlds.{Model, Doing, Done as Effect, does, next}
 use Rattle.object_model.specs.declared.event.Event.{Event}
 use Rattle.object_model.specs.declared.event.Event.TheVariants.{Trio, Bucket, Role, Redundancy, Apply, Tick, Put, Get, Deliver, Drain, Expire, Gossip, Ack, Sync, SyncAck, Clean}
 use Rattle.object_model.specs.declared.event.Numbered.{Numbered}

@@ -6,8 +6,8 @@ use Rattle.crdt_rows.specs.declared.any_row.AnyRow.{AnyRow}
 use Rattle.crdt_rows.specs.AnyRow.{any_join}
 use Rattle.object_schema.specs.Schema.{words}
 use Rattle.cluster_machine.specs.declared.step.Step.TheVariants as step
-use Rattle.world_model.specs.Choices.{Decision, IsNone}
-use Rattle.world_model.specs.Worlds.{IsMeant, IsLawfulStep, FitAll, HaveRoom}
+use Rattle.cluster_machine.specs.Choices.{Decision, IsNone}
+use Rattle.cluster_machine.specs.Worlds.{IsMeant, IsLawfulStep, FitAll, HaveRoom}
 use Rattle.object_model.specs.declared.event.Event.{Event}
 use Rattle.object_model.specs.declared.event.Event.TheVariants.{Role, Redundancy, Apply}
 use Rattle.object_model.specs.declared.event.Numbered.{Numbered}

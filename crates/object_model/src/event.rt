@@ -2,7 +2,7 @@
 use cluster_machine::Words;
 use crdt_core::{Bytes, List};
 use layout_roles::{Kind, Redundancy, Zone};
-use world_model::{Line, Refusal};
+use cluster_machine::applied::{Line, Refusal};
 
 /// A line of a schedule. Nodes are 1 to 16.
 #[derive(Drop)]

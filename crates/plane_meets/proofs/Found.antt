@@ -3,7 +3,8 @@ use Rattle.std.proofs.Common.{◌≡◌, ◌≢◌, ℕ, zero, suc, Bool, true, 
 use Rattle.std.specs.List.{Contains, list_any, list_all}
 use Rattle.std.proofs.lemmas.Bool.{or_cases, and_parts, true≢false}
 use Rattle.control_model.specs.Layouts.{are_three}
-use Rattle.control_model.specs.Facts.{Has, TwoOf}
+use Rattle.crdt_core.specs.Members.{Has}
+use Rattle.control_model.specs.Facts.{TwoOf}
 use Rattle.plane_model.specs.Sets.{Two}
 use Rattle.plane_laws.proofs.Sets.{contains_here, contains_there}
 

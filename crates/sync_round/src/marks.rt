@@ -3,7 +3,7 @@ ghost use Rattle.std.specs.Prelude.{◌≡◌, ◌+◌, ◌||◌, ◌==◌, fals
 ghost use Rattle.std.specs.Ordering.{nat_cmp};
 ghost use Rattle.std.specs.BTreeMap.{IsOrdered};
 ghost use Rattle.crdt_core.specs.declared.memory.Memory.TheVariants.{Want};
-ghost use Rattle.sync_round.specs.Marks.{unmarked, mark_after, marks_after, nodes_of, three, has_two, missing_of, entries_after, lacking_in};
+ghost use Rattle.sync_round.specs.Marks.{unmarked, mark_after, marks_after, nodes_of, has_two, missing_of, entries_after, lacking_in};
 
 use crdt_core::Memory;
 use std::alloc::Global;

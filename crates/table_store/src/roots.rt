@@ -5,7 +5,7 @@ ghost use Rattle.blake2_hash.specs.Hashing.{Holds};
 ghost use Rattle.crdt_core.specs.declared.memory.Memory.TheVariants.{Want, Full};
 ghost use Rattle.table_model.specs.Root.{every_byte, root};
 ghost use Rattle.table_model.specs.Top.{any_unspelled};
-ghost use Rattle.table_store.specs.Shelf.{shelf_rows, in_partition};
+ghost use Rattle.table_store.specs.Shelf.{shelf_rows};
 ghost use Rattle.table_store.specs.Pairs.{tagged, entry_pair, shelf_roots};
 
 use crate::root::{Pair, pairs_value};

@@ -15,7 +15,8 @@ use Rattle.view_model.specs.Gapless.{at, Stored, lt_leb, led, below_oldest, abov
 use Rattle.view_model.specs.Cleans.{cleaned_from, gapless_cleaned, newest_stays}
 use Rattle.view_model.specs.Reads.{GrewFrom, read_known, read_stored, read_readable, read_grows, gapless_appended, newest_appended}
 use Rattle.control_model.specs.Layouts.{is_in, is_set, are_three, IsMember, is_lawful}
-use Rattle.control_model.specs.Facts.{Has, TwoOf, entry_of}
+use Rattle.crdt_core.specs.Members.{Has}
+use Rattle.control_model.specs.Facts.{TwoOf, entry_of}
 use Rattle.version_laws.proofs.Tests.{some_is, none_is_not, has_map, has_flat, has_found, is_in-has, list_all-at, least_at, two_of}
 
 -- the three trackers are different ones

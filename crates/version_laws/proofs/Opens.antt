@@ -8,7 +8,8 @@ use Rattle.view_model.specs.Cleans.{newest_stays}
 use Rattle.control_model.specs.Layouts.{is_lawful}
 use Rattle.control_model.specs.World.{Round, Node, World, Change, next, nothing, empty, view_of}
 use Rattle.control_model.specs.Steps.{Step, applies, installs, still, with_view, comes, completes, begins, begins_round, is_none, is_current, may_begin, least_start, without, change, step, round_of}
-use Rattle.control_model.specs.Facts.{Has, Open, read_of}
+use Rattle.crdt_core.specs.Members.{Has}
+use Rattle.control_model.specs.Facts.{Open, read_of}
 use Rattle.version_laws.proofs.Tests.{has_right, some_at, some_is}
 use Rattle.version_laws.proofs.OneView.{started, read_low, oldest_appended}
 use Rattle.version_laws.proofs.WholeViews.{IsMessage, IsWhole, IsWholeChange, at_each, at_one}

@@ -10,7 +10,8 @@ use Rattle.view_model.specs.Reads.{GrewFrom, merged_grew}
 use Rattle.control_model.specs.Layouts.{IsMember, is_lawful}
 use Rattle.control_model.specs.World.{Request, Round, Node, World, Change, next, nothing, empty, view_of, layout_of}
 use Rattle.control_model.specs.Steps.{Step, applies, installs, comes, completes, is_current, may_begin, change, step, round_of}
-use Rattle.control_model.specs.Facts.{Has, read_of}
+use Rattle.crdt_core.specs.Members.{Has}
+use Rattle.control_model.specs.Facts.{read_of}
 use Rattle.version_laws.proofs.Tests.{all_append, all_weaker, all_both, some_at}
 use Rattle.version_laws.proofs.OneView.{ordered, started, grew_at, read_low, read_high, read_below, cleaned_grew, oldest_appended}
 use Rattle.version_laws.proofs.WholeViews.{IsView, IsMessage, IsWhole, Grows, at_each, at_one, IsWholeChange, grows, whole_next}

@@ -3,3 +3,4 @@ pub mod Gapless
 pub mod Joins
 pub mod Reads
 pub mod View
+pub mod Layouts

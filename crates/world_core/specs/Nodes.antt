@@ -3,14 +3,14 @@ use Rattle.std.specs.Prelude.{◌≡◌, ℕ, Bool, true, false, cond, length, o
 use Rattle.std.specs.Ordering.{nat_cmp}
 use Rattle.std.specs.BTreeMap.{get}
 use Rattle.layout_roles.specs.declared.layout.Layout.{Layout}
-use Rattle.layout_history.specs.Known.{reading}
+use Rattle.view_model.specs.Layouts.{reading}
 use Rattle.view_model.specs.View.{newest}
 use Rattle.table_schema.specs.Words.{Words}
 use Rattle.table_model.specs.Rows.{rows}
 use Rattle.table_model.specs.Top.{top}
 use Rattle.wire_messages.specs.declared.phase.PhaseEnd.{PhaseEnd}
 use Rattle.cluster_machine.specs.declared.step.LocalEnd.{LocalEnd}
-use Rattle.cluster_machine.specs.Layouts.{has_none, is_member}
+use Rattle.cluster_machine.specs.Layouts.{has_none, is_member, layouts}
 use Rattle.cluster_machine.specs.Node.{Node as Model, Did, new_node}
 use Rattle.cluster_machine.specs.Phases.{opened}
 use Rattle.cluster_machine.specs.World as machine
@@ -20,7 +20,6 @@ use Rattle.node_parts.specs.declared.packet.Envelope.{Envelope}
 use Rattle.node_parts.specs.Posts.{Posts}
 use Rattle.node_core.specs.declared.node.Node.{Node}
 use Rattle.node_core.specs.Stands.{StandsFor, AreSized, ends_of, Fits, view_of}
-use Rattle.node_parts.specs.Layouts.{layouts}
 use Rattle.world_core.specs.declared.node_line.NodeLine.{NodeLine}
 use Rattle.world_core.specs.declared.nodes.Nodes.{Nodes}
 

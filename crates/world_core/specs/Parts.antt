@@ -3,8 +3,8 @@ use Rattle.std.specs.Prelude.{◌≡◌, ◌<◌, ◌≤◌, ◌+◌, ◌^◌, �
 use Rattle.std.specs.List.{AllZip}
 use Rattle.layout_roles.specs.declared.layout.Layout.{Layout}
 use Rattle.layout_roles.specs.declared.roles.Roles.{Roles}
-use Rattle.layout_flow.specs.declared.cut.Cut.{Cut}
-use Rattle.layout_size.specs.declared.certified.Certified.{Certified}
+use Rattle.layout_roles.specs.declared.cut.Cut.{Cut}
+use Rattle.layout_roles.specs.declared.certified.Certified.{Certified}
 use Rattle.table_schema.specs.Words.{Words}
 use Rattle.cluster_machine.specs.declared.line.SentKind.{SentKind}
 use Rattle.cluster_machine.specs.declared.line.Line.TheVariants.{Sent as WasSent}
@@ -17,8 +17,8 @@ use Rattle.cluster_machine.specs.declared.line.Line.{Line}
 use Rattle.node_parts.specs.declared.packet.Packet.{Packet}
 use Rattle.node_parts.specs.declared.packet.Envelope.{Envelope}
 use Rattle.node_parts.specs.Posts.{told}
-use Rattle.world_model.specs.declared.applied.Applied.{Applied}
-use Rattle.world_model.specs.Choices.{Decision}
+use Rattle.cluster_machine.specs.declared.applied.Applied.{Applied}
+use Rattle.cluster_machine.specs.Choices.{Decision}
 use Rattle.world_core.specs.declared.clocks.Clocks.{Clocks}
 use Rattle.world_core.specs.declared.requests.Request.{Request}
 use Rattle.world_core.specs.declared.post.Slot.{Slot}

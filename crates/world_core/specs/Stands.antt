@@ -3,7 +3,7 @@ use Rattle.std.specs.Prelude.{◌≡◌, ℕ, suc, leb, cond, IsTrue, List, [], 
 use Rattle.layout_roles.specs.declared.layout.Layout.{Layout}
 use Rattle.layout_trackers.specs.declared.which.Which.TheVariants.{Sync}
 use Rattle.layout_trackers.specs.Trackers.{counts}
-use Rattle.layout_size.specs.Answers.{IsRedundancy}
+use Rattle.layout_roles.specs.Certificates.{IsRedundancy}
 use Rattle.table_schema.specs.Words.{Words}
 use Rattle.wire_messages.specs.declared.phase.PhaseEnd.{PhaseEnd}
 use Rattle.cluster_machine.specs.declared.step.Step.{Step}
@@ -11,17 +11,17 @@ use Rattle.cluster_machine.specs.declared.step.Action.{Action}
 use Rattle.cluster_machine.specs.declared.step.Refusal.TheVariants.{VersionLimit}
 use Rattle.cluster_machine.specs.declared.line.Line.{Line}
 use Rattle.cluster_machine.specs.declared.line.Line.TheVariants.{Synced}
-use Rattle.node_parts.specs.Layouts.{layouts}
+use Rattle.cluster_machine.specs.Layouts.{layouts}
 use Rattle.node_parts.specs.declared.packet.Envelope.{Envelope}
-use Rattle.world_model.specs.declared.applied.Applied.{Applied}
+use Rattle.cluster_machine.specs.declared.applied.Applied.{Applied}
 use Rattle.cluster_machine.specs.Node.{Node as Seen, Ended}
 use Rattle.cluster_machine.specs.Acts.{acts}
 use Rattle.cluster_machine.specs.World.{Sent, Mark, clock, sent_bytes}
 use Rattle.cluster_machine.specs.Step.{none_given, applied, did, told, local}
-use Rattle.world_model.specs.Choices.{Decision}
-use Rattle.world_model.specs.Fits.{Fits, IsWord}
-use Rattle.world_model.specs.Trio.{trio, stage_trio}
-use Rattle.world_model.specs.Worlds.{Model, Doing, Done, IsSound, IsLawful, does, RoomWith, HasRoom}
+use Rattle.cluster_machine.specs.Choices.{Decision}
+use Rattle.cluster_machine.specs.Fits.{Fits, IsWord}
+use Rattle.cluster_machine.specs.Trio.{trio, stage_trio}
+use Rattle.cluster_machine.specs.Worlds.{Model, Doing, Done, IsSound, IsLawful, does, RoomWith, HasRoom}
 use Rattle.world_core.specs.declared.report.Report.{Report}
 use Rattle.world_core.specs.declared.world.World.{World}
 use Rattle.world_core.specs.Parts.{AreClocks, IsPost, AreSent, not_yet, lines_from}

@@ -1,15 +1,16 @@
 //! The layout of the staged roles, or why there is none.
 ghost use Rattle.std.specs.Prelude.{◌≡◌, IfOk, IfErr};
 ghost use Rattle.crdt_core.specs.declared.memory.Memory.TheVariants.{Want};
-ghost use Rattle.layout_size.specs.Answers.{IsRedundancy};
-ghost use Rattle.world_model.specs.Choices.{IsComputed};
+ghost use Rattle.layout_roles.specs.Certificates.{IsRedundancy};
+ghost use Rattle.cluster_machine.specs.Choices.{IsComputed};
 ghost use Rattle.world_core.specs.Parts.{decision, IsGiven};
 
 use crdt_core::Memory;
 use layout_roles::{Layout, Redundancy, Roles};
-use layout_size::{Certified, LayoutFault, compute};
+use layout_roles::Certified;
+use layout_size::{LayoutFault, compute};
 use std::alloc::Global;
-use world_model::{Applied, Refusal};
+use cluster_machine::applied::{Applied, Refusal};
 
 /// What an apply is given.
 #[derive(Drop)]

@@ -8,7 +8,7 @@ use cluster_machine::SentKind;
 use crdt_core::{List, Memory};
 use node_core::Packet;
 use wire_messages::Message;
-use world_model::Line;
+use cluster_machine::applied::Line;
 
 /// The kind of a packet.
 pub fn kind<R>(packet: &Packet<R>) -> SentKind

@@ -7,21 +7,21 @@ ghost use Rattle.crdt_core.specs.declared.memory.Memory.TheVariants.{Want, Full}
 ghost use Rattle.layout_trackers.specs.declared.which.Which.TheVariants.{Sync};
 ghost use Rattle.layout_trackers.specs.Trackers.{counts};
 ghost use Rattle.layout_roles.specs.declared.layout.Layout.{Layout};
-ghost use Rattle.layout_history.specs.Known.{reading, has_members};
+ghost use Rattle.view_model.specs.Layouts.{reading};
+ghost use Rattle.layout_history.specs.Known.{has_members};
 ghost use Rattle.view_model.specs.View.{newest};
 ghost use Rattle.table_model.specs.Rows.{rows};
 ghost use Rattle.table_model.specs.Top.{top, any_unspelled};
-ghost use Rattle.cluster_machine.specs.Layouts.{is_member};
+ghost use Rattle.cluster_machine.specs.Layouts.{is_member, layouts};
 ghost use Rattle.cluster_machine.specs.Node.{Node as Model, shows, new_node};
-ghost use Rattle.cluster_machine.specs.Phases.{opened, closed, call_at};
+ghost use Rattle.cluster_machine.specs.Phases.{closed, call_at};
 ghost use Rattle.cluster_machine.specs.Receives.{receives};
 ghost use Rattle.cluster_machine.specs.Acts.{acts, appends, restarts};
 ghost use Rattle.cluster_machine.specs.Step.{requests_of};
-ghost use Rattle.node_parts.specs.Layouts.{layouts};
 ghost use Rattle.node_parts.specs.Posts.{told};
-ghost use Rattle.node_parts.specs.Begins.{IsShort};
+ghost use Rattle.cluster_machine.specs.Keeping.{IsShort};
 ghost use Rattle.node_core.specs.Stands.{IsBarePacket, begins_at};
-ghost use Rattle.node_core.specs.declared.node.BeginFault.TheVariants.{NotMember, Memory as WantsMemory};
+ghost use Rattle.node_core.specs.declared.node.BeginFault.TheVariants.{NotMember};
 
 use crate::node_line::NodeLine;
 use blake2_hash::Hash32;

@@ -5,7 +5,7 @@ ghost use Rattle.crdt_core.specs.declared.memory.Memory.TheVariants.{Want, Full}
 ghost use Rattle.table_schema.specs.Words.{Words};
 ghost use Rattle.cluster_machine.specs.World.{Sent, Mark, numbered, first_waiting, sent_bytes, forgot};
 ghost use Rattle.cluster_machine.specs.Step.{marked};
-ghost use Rattle.world_model.specs.Fits.{IsWord};
+ghost use Rattle.cluster_machine.specs.Fits.{IsWord};
 ghost use Rattle.world_core.specs.Parts.{IsPost, AreSent, IsSent, IsFound, IsMissing, AreGone, IsFirst, packet_bytes, not_yet, lines_from};
 
 use crate::lines::kind;
@@ -14,7 +14,7 @@ use node_core::{Envelope, Packet};
 use std::alloc::Global;
 use table_schema::Schema;
 use wire_messages::size;
-use world_model::{Line, Refusal};
+use cluster_machine::applied::{Line, Refusal};
 
 /// A message that was sent, unless it was lost since, and whether it was delivered.
 #[derive(Drop)]

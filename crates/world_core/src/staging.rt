@@ -2,7 +2,7 @@
 ghost use Rattle.std.specs.Prelude.{◌≡◌, ◌≤◌, IfOk, IfErr};
 ghost use Rattle.crdt_core.specs.declared.memory.Memory.TheVariants.{Want};
 ghost use Rattle.cluster_machine.specs.World.{staged as staged_model};
-ghost use Rattle.world_model.specs.Trio.{trio, trio_roles, trio_sets, zone, stage_trio};
+ghost use Rattle.cluster_machine.specs.Trio.{trio, trio_sets, zone, stage_trio};
 
 use crdt_core::{Bytes, List, Memory};
 use layout_roles::{Assignment, Kind, Layout, PARTITIONS, Role, Roles, Zone};

@@ -3,11 +3,11 @@ ghost use Rattle.std.specs.Prelude.{◌≡◌, ◌⊎◌, ◌≤◌, ◌+◌, �
 ghost use Rattle.std.specs.List.{IsDistinct};
 ghost use Rattle.crdt_core.specs.declared.memory.Memory.TheVariants.{Want, Full};
 ghost use Rattle.layout_history.specs.Known.{has_members};
-ghost use Rattle.layout_size.specs.Answers.{IsRedundancy};
+ghost use Rattle.layout_roles.specs.Certificates.{IsRedundancy};
 ghost use Rattle.table_model.specs.Rows.{rows};
 ghost use Rattle.table_model.specs.Top.{any_unspelled};
-ghost use Rattle.node_parts.specs.Begins.{IsShort};
-ghost use Rattle.node_parts.specs.Layouts.{layouts};
+ghost use Rattle.cluster_machine.specs.Keeping.{IsShort};
+ghost use Rattle.cluster_machine.specs.Layouts.{layouts};
 ghost use Rattle.node_core.specs.Stands.{ends_of};
 ghost use Rattle.cluster_machine.specs.declared.step.Step.TheVariants as step;
 ghost use Rattle.cluster_machine.specs.declared.step.Words.TheVariants.{Empty};
@@ -15,7 +15,7 @@ ghost use Rattle.cluster_machine.specs.declared.line.Line.TheVariants as line;
 ghost use Rattle.cluster_machine.specs.declared.line.EndWord.TheVariants as word;
 ghost use Rattle.cluster_machine.specs.Step.{told};
 ghost use Rattle.cluster_machine.specs.World.{clock, is_member_at, undelivered, sent_bytes, node_line, forget_delivered, empty};
-ghost use Rattle.world_model.specs.Worlds.{Model, IsMeant, installed};
+ghost use Rattle.cluster_machine.specs.Worlds.{Model, IsMeant, installed};
 ghost use Rattle.world_core.specs.Nodes.{shown_line, newest_in};
 ghost use Rattle.world_core.specs.Stands.{SendsOut, CannotSend, acts_so, local_so, ended};
 
@@ -36,7 +36,7 @@ use std::alloc::Global;
 use table_schema::Schema;
 use wire_messages::{Phase, PhaseEnd};
 use world_laws::empty_world_is_sound;
-use world_model::{Line, Refusal};
+use cluster_machine::applied::{Line, Refusal};
 
 /// How many layout versions may be applied.
 const MOST_VERSIONS: u32 = 100;

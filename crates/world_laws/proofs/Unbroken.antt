@@ -24,7 +24,7 @@ use Rattle.cluster_machine.specs.Phases.{call_at, asked, looked, stored, begins,
 use Rattle.cluster_machine.specs.Rounds.{is_complete, synced, goes_on, may_sync, begin_round}
 use Rattle.cluster_machine.specs.Receives.{where_stored, gives_block, takes, round_came, confirms, hears, receives}
 use Rattle.cluster_machine.specs.Acts.{Acted, syncs, acts}
-use Rattle.machine_origins.specs.Keeping.{IsUpTo}
+use Rattle.cluster_machine.specs.Keeping.{IsUpTo}
 use Rattle.machine_origins.proofs.FollowingSteps.{round_begun}
 use Rattle.machine_origins.proofs.KeepingNodes.{view_seen, view_all}
 

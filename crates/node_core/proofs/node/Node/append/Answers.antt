@@ -1,6 +1,6 @@
 use Rattle.std.proofs.Common.{◌≡◌, ◌≤◌, ◌+◌, ap, ◌∙◌, arith}
 use Rattle.layout_roles.specs.declared.layout.Layout.{Layout}
-use Rattle.layout_history.specs.Known.{reading}
+use Rattle.view_model.specs.Layouts.{reading}
 use Rattle.view_model.specs.View.{View, newest, appended}
 use Rattle.view_model.specs.Reads.{newest_appended}
 use Rattle.node_core.proofs.Nodes.{ok_to, same_contents, version_stays}

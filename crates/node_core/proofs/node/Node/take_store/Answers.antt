@@ -1,10 +1,9 @@
 use Rattle.std.proofs.Common.{◌≡◌, nat_lt, true, false, refl, ap, sym, ◌∙◌}
-use Rattle.layout_history.specs.Known.{reading}
+use Rattle.view_model.specs.Layouts.{reading}
 use Rattle.view_model.specs.View.{newest}
 use Rattle.wire_messages.specs.declared.message.Message.TheVariants.{Stored, NotHere}
-use Rattle.cluster_machine.specs.Layouts.{is_given}
+use Rattle.cluster_machine.specs.Layouts.{is_given, layouts}
 use Rattle.cluster_machine.specs.Rows.{accepts_all}
-use Rattle.node_parts.specs.Layouts.{layouts}
 use Rattle.node_core.proofs.Nodes.{ok_to, with_contents, knows_less}
 use Rattle.node_core.proofs.Replies.{replies}
 use Rattle.node_core.proofs.node.Node.take_store.Goals as goal

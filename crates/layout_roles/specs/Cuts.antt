@@ -1,9 +1,9 @@
 -- Cuts of a network, and the one that is printed.
 use Rattle.std.specs.Prelude.{◌≡◌, ℕ, ◌≤◌, Bool, false, not, cond, ◌&&◌, IsTrue, List}
 use Rattle.std.specs.List.{sum_by}
-use Rattle.layout_flow.specs.Network.{Edge}
-use Rattle.layout_flow.specs.declared.vertex.Vertex.{Vertex}
-use Rattle.layout_flow.specs.declared.vertex.Vertex.TheVariants.{Source, Sink}
+use Rattle.layout_roles.specs.Network.{Edge}
+use Rattle.layout_roles.specs.declared.vertex.Vertex.{Vertex}
+use Rattle.layout_roles.specs.declared.vertex.Vertex.TheVariants.{Source, Sink}
 
 -- a set of vertices, as a test
 abbrev pub Side : Type 0

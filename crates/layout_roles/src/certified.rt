@@ -1,6 +1,6 @@
 //! What is computed for a layout.
-use layout_flow::Cut;
-use layout_roles::Assignment;
+use crate::assignment::Assignment;
+use crate::cut::Cut;
 
 /// The greatest partition size of roles, an assignment that fits it, and the cut for the next size.
 #[derive(Debug, Drop)]

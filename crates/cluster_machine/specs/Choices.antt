@@ -4,12 +4,12 @@ use Rattle.layout_roles.specs.declared.role.Role.{Role}
 use Rattle.layout_roles.specs.declared.redundancy.Redundancy.{Redundancy}
 use Rattle.layout_roles.specs.declared.layout.Layout.{Layout}
 use Rattle.layout_roles.specs.Zones.{storage_nodes, zone_names}
-use Rattle.layout_flow.specs.declared.cut.Cut.{Cut}
-use Rattle.layout_size.specs.Answers.{zones_wanted, AreEnough, IsCertified, ShowsNone}
+use Rattle.layout_roles.specs.declared.cut.Cut.{Cut}
+use Rattle.layout_roles.specs.Certificates.{zones_wanted, AreEnough, IsCertified, ShowsNone}
 use Rattle.cluster_machine.specs.declared.step.Refusal.{Refusal}
 use Rattle.cluster_machine.specs.declared.step.Refusal.TheVariants.{TooFewNodes, TooFewZones, NoAssignment}
 use Rattle.cluster_machine.specs.Step.{Choice, given, none_given}
-use Rattle.world_model.specs.declared.applied.Applied.{Applied}
+use Rattle.cluster_machine.specs.declared.applied.Applied.{Applied}
 
 -- what an apply is given: a layout and what is printed of it, or a refusal
 abbrev pub Decision : Type 0

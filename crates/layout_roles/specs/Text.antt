@@ -5,11 +5,11 @@ use Rattle.std.specs.List.{filter, range_with_len}
 use Rattle.layout_roles.specs.declared.role.Role.{Role}
 use Rattle.layout_roles.specs.Zones.{Name, zone_names}
 use Rattle.layout_roles.specs.Fits.{NodeSet}
-use Rattle.layout_flow.specs.declared.vertex.Vertex.{Vertex}
-use Rattle.layout_flow.specs.declared.vertex.Vertex.TheVariants.{Up, Down, Zone, Node}
-use Rattle.layout_flow.specs.declared.cut.Cut.{Cut}
-use Rattle.layout_size.specs.declared.certified.Certified.{Certified}
-use Rattle.layout_text.specs.Runs.{runs, run_lines}
+use Rattle.layout_roles.specs.declared.vertex.Vertex.{Vertex}
+use Rattle.layout_roles.specs.declared.vertex.Vertex.TheVariants.{Up, Down, Zone, Node}
+use Rattle.layout_roles.specs.declared.cut.Cut.{Cut}
+use Rattle.layout_roles.specs.declared.certified.Certified.{Certified}
+use Rattle.layout_roles.specs.Runs.{runs, run_lines}
 
 -- a word after one space
 abbrev pub word : List ℕ → List ℕ

@@ -4,8 +4,8 @@ use Rattle.std.specs.List.{flat_map, range_with_len, enumerate_from}
 use Rattle.layout_roles.specs.declared.role.Role.{Role}
 use Rattle.layout_roles.specs.Zones.{storage_nodes, zones}
 use Rattle.layout_roles.specs.Fits.{room, partitions}
-use Rattle.layout_flow.specs.declared.vertex.Vertex.{Vertex}
-use Rattle.layout_flow.specs.declared.vertex.Vertex.TheVariants.{Source, Up, Down, Zone, Node, Sink}
+use Rattle.layout_roles.specs.declared.vertex.Vertex.{Vertex}
+use Rattle.layout_roles.specs.declared.vertex.Vertex.TheVariants.{Source, Up, Down, Zone, Node, Sink}
 
 pub record Edge : Type 0 where
   pub from : Vertex

@@ -1,6 +1,7 @@
--- What each step of a node keeps: packets without blocks, versions and requests up to a number.
-use Rattle.std.specs.Prelude.{◌≡◌, ◌≤◌, ℕ, ⊤, IsTrue, List, Option, None}
+-- What each step of a node keeps: packets without blocks, versions and requests up to a number, each request once.
+use Rattle.std.specs.Prelude.{◌≡◌, ◌≤◌, ℕ, length, ⊤, IsTrue, List, Option, None}
 use Rattle.std.specs.List.{All, AllByRecursion}
+use Rattle.crdt_core.specs.Members.{Has}
 use Rattle.view_model.specs.View.{is_gapless, newest}
 use Rattle.wire_messages.specs.declared.message.Message.{Message}
 use Rattle.wire_messages.specs.declared.message.Message.TheVariants.{Store as Asks}
@@ -46,3 +47,17 @@ IsUpTo k n (shows v) = IsTrue (is_gapless k.reading v.layouts) × (newest k.read
 -- no open request has a number above n
 abbrev pub AreUpTo : {R : Type 0} → ℕ → List (Call R) → Type 0
 AreUpTo n calls = All (λ c. c.request ≤ n) calls
+
+-- no two open calls have one request
+abbrev pub AreDifferent : {R : Type 0} → List (Call R) → Type 0
+AreDifferent calls = (c d : Call _) → Has calls c → Has calls d → c.request ≡ d.request → c ≡ d
+
+-- one row or two, without blocks
+pub record AreShort {R : Type 0} (rows : List (R × Option (List ℕ))) : Type 0 where
+  pub few : length rows ≤ 2
+  pub bare : AreBare rows
+
+-- a phase stores at most two rows, without blocks
+abbrev pub IsShort : {R : Type 0} → Phase R → Type 0
+IsShort (Keeps rows) = AreShort rows
+IsShort _ = ⊤

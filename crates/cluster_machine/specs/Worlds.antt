@@ -2,9 +2,9 @@
 use Rattle.std.specs.Prelude.{◌≡◌, ◌≤◌, ℕ, suc, Bool, not, ◌&&◌, leb, cond, IsTrue, List, [], ◌∷◌, length, ⊤}
 use Rattle.std.specs.List.{AllByRecursion}
 use Rattle.layout_roles.specs.declared.layout.Layout.{Layout}
-use Rattle.layout_history.specs.Known.{reading}
-use Rattle.layout_size.specs.Answers.{IsRedundancy}
-use Rattle.layout_flow.specs.declared.cut.Cut.{Cut}
+use Rattle.view_model.specs.Layouts.{reading}
+use Rattle.layout_roles.specs.Certificates.{IsRedundancy}
+use Rattle.layout_roles.specs.declared.cut.Cut.{Cut}
 use Rattle.view_model.specs.View.{newest, is_gapless}
 use Rattle.table_schema.specs.Words.{Words}
 use Rattle.quorum_model.specs.Quorum.{is_among}
@@ -15,14 +15,12 @@ use Rattle.cluster_machine.specs.Acts.{appends}
 use Rattle.cluster_machine.specs.World.{World, Sent, is_member_at}
 use Rattle.cluster_machine.specs.Step.{most_versions, Effects, effects, applied}
 use Rattle.cluster_machine.specs.Run.{Move, IsStep}
-use Rattle.machine_origins.specs.Following.{AreDifferent}
-use Rattle.machine_origins.specs.Keeping.{IsBarePacket, IsUpTo, AreUpTo}
-use Rattle.node_parts.specs.Layouts.{layouts}
-use Rattle.node_parts.specs.Begins.{IsShort}
-use Rattle.world_model.specs.declared.applied.Applied.{Applied}
-use Rattle.world_model.specs.Trio.{trio, stage_trio}
-use Rattle.world_model.specs.Choices.{Decision, IsComputed, IsNone}
-use Rattle.world_model.specs.Fits.{Fits, FitNodes}
+use Rattle.cluster_machine.specs.Keeping.{AreDifferent, IsBarePacket, IsUpTo, AreUpTo, IsShort}
+use Rattle.cluster_machine.specs.Layouts.{layouts}
+use Rattle.cluster_machine.specs.declared.applied.Applied.{Applied}
+use Rattle.cluster_machine.specs.Trio.{trio, stage_trio}
+use Rattle.cluster_machine.specs.Choices.{Decision, IsComputed, IsNone}
+use Rattle.cluster_machine.specs.Fits.{Fits, FitNodes}
 
 abbrev pub Model : Type 0 → Type 0
 Model R = World R Layout
