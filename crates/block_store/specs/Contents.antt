@@ -8,7 +8,7 @@ use Rattle.std.specs.BTreeMap.{insert_entry}
 use Rattle.blake2_hash.specs.declared.digest.Hash32.{Hash32}
 use Rattle.block_store.specs.declared.fault.BlockFault.{BlockFault}
 use Rattle.block_store.specs.declared.fault.BlockFault.TheVariants.{WrongHash, InUse, Memory}
-use Rattle.block_store.specs.Hash.{hash_cmp, is_hash, digest_of}
+use Rattle.blake2_hash.specs.Hash.{hash_cmp, is_hash, digest_of}
 
 pub record Contents : Type 0 where
   -- the blocks by their hashes, each hash once, in order of hashes

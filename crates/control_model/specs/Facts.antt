@@ -1,5 +1,6 @@
 -- The words in which the laws say what holds of each world that steps lead to, and what each step does.
 use Rattle.std.specs.Prelude.{◌≡◌, ◌⊎◌, ◌<◌, ◌≤◌, ℕ, suc, pred, List, [], ◌∷◌, Some, IsTrue}
+use Rattle.crdt_core.specs.Members.{Has}
 use Rattle.layout_trackers.specs.declared.which.Which.{Which}
 use Rattle.layout_trackers.specs.declared.which.Which.TheVariants.{Ack, SyncAck}
 use Rattle.layout_trackers.specs.Trackers.{counts}

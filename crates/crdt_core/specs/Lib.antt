@@ -14,3 +14,4 @@ pub mod Orders
 pub mod Pair
 pub mod Places
 pub mod Members
+pub mod Outcomes

@@ -41,7 +41,7 @@ pub use bytes::Bytes;
 pub use crdt::Crdt;
 pub use deletable::Deletable;
 pub use flag::Bool;
-pub use joins::{copy_rows, join};
+pub use joins::{copy_row, copy_rows, join};
 pub use keyed::Keyed;
 pub use laws::{lists_join, maps_join_by_key, rows_are_ordered};
 pub use list::List;

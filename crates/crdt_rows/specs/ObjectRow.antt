@@ -16,7 +16,7 @@ use Rattle.crdt_core.specs.Lex.{larger, lex_join, lex_laws}
 use Rattle.crdt_core.specs.Order.{option_join}
 use Rattle.crdt_core.specs.Max.{max_join, max_laws}
 use Rattle.crdt_core.specs.Map.{map_entries, map_get, map_join}
-use Rattle.crdt_rows.specs.Hash.{hash_cmp, hash_total, hash_identical}
+use Rattle.blake2_hash.specs.Hash.{hash_cmp, hash_total, hash_identical}
 use Rattle.crdt_rows.specs.declared.object_row.ObjectRow.{ObjectRow}
 use Rattle.crdt_rows.specs.declared.version.Version.{Version}
 use Rattle.crdt_rows.specs.declared.state.State.{State}

@@ -19,7 +19,7 @@ use Rattle.crdt_core.specs.Max.{max_join, max_laws}
 use Rattle.crdt_rows.specs.declared.version_row.Part.{Part}
 use Rattle.crdt_rows.specs.declared.version_row.BlockRef.{BlockRef}
 use Rattle.crdt_rows.specs.declared.version_row.VersionRow.{VersionRow}
-use Rattle.crdt_rows.specs.Hash.{hash_cmp, hash_total, hash_identical}
+use Rattle.blake2_hash.specs.Hash.{hash_cmp, hash_total, hash_identical}
 
 -- by part, then by offset
 abbrev pub part_cmp : Part → Part → Ordering

@@ -1,6 +1,6 @@
 //! The text of one line of what happened.
-ghost use Rattle.std.specs.Prelude.{◌≡◌, ◌++◌, IfOk, IfErr, OnOk, flat_map};
-ghost use Rattle.crdt_core.specs.declared.memory.Memory.TheVariants.{Want};
+ghost use Rattle.std.specs.Prelude.{◌≡◌, ◌++◌, IfOk, OnOk, flat_map};
+ghost use Rattle.crdt_core.specs.Outcomes.{OnlyWant};
 ghost use Rattle.cluster_machine.specs.declared.line.Line.TheVariants as line;
 ghost use Rattle.text_model.specs.Transcript.{key_line, line_text};
 
@@ -8,15 +8,15 @@ use crate::parts::{
     append_digest, append_size, append_stamp, append_version, done_text, end_word, kind_text,
 };
 use crate::words::{append_number, append_word};
+use cluster_machine::applied::{Applied, Line};
 use cluster_machine::{DoneWord, EndWord, SentKind};
 use crdt_core::{Bytes, Memory};
 use layout_text::layout_lines;
 use std::alloc::Global;
-use cluster_machine::applied::{Applied, Line};
 
 fn append_layout(out: &mut Bytes, shown: &Applied) -> Result<(), Memory>
     ensures ok { OnOk result (out.new ≡ out.old ++ line_text (line.Layout shown.now)) }
-    ensures want { IfErr result (λ e. e ≡ Want) }
+    ensures want { OnlyWant result }
 {
     let text = layout_lines(out.allocator(), &shown.certified, &shown.roles)?;
     out.extend_from_slice(text.as_slice())
@@ -24,7 +24,7 @@ fn append_layout(out: &mut Bytes, shown: &Applied) -> Result<(), Memory>
 
 fn append_got(out: &mut Bytes, number: u64) -> Result<(), Memory>
     ensures ok { OnOk result (out.new ≡ out.old ++ line_text (line.Got number)) }
-    ensures want { IfErr result (λ e. e ≡ Want) }
+    ensures want { OnlyWant result }
 {
     out.extend_from_slice(b"got")?;
     append_number(out, number)?;
@@ -33,7 +33,7 @@ fn append_got(out: &mut Bytes, number: u64) -> Result<(), Memory>
 
 fn append_sent(out: &mut Bytes, number: u64, kind: SentKind, from: u8, to: u8) -> Result<(), Memory>
     ensures ok { OnOk result (out.new ≡ out.old ++ line_text (line.Sent number kind from to)) }
-    ensures want { IfErr result (λ e. e ≡ Want) }
+    ensures want { OnlyWant result }
 {
     out.extend_from_slice(b"sent")?;
     append_number(out, number)?;
@@ -45,7 +45,7 @@ fn append_sent(out: &mut Bytes, number: u64, kind: SentKind, from: u8, to: u8) -
 
 fn append_synced(out: &mut Bytes, node: u8, version: u32) -> Result<(), Memory>
     ensures ok { OnOk result (out.new ≡ out.old ++ line_text (line.Synced node version)) }
-    ensures want { IfErr result (λ e. e ≡ Want) }
+    ensures want { OnlyWant result }
 {
     out.extend_from_slice(b"synced")?;
     append_number(out, u64::from(node))?;
@@ -62,7 +62,7 @@ fn append_done(
     md5: &Option<[u8; 16]>,
 ) -> Result<(), Memory>
     ensures ok { OnOk result (out.new ≡ out.old ++ line_text (line.Done request word version.now size.now md5.now)) }
-    ensures want { IfErr result (λ e. e ≡ Want) }
+    ensures want { OnlyWant result }
 {
     out.extend_from_slice(b"done")?;
     append_number(out, request)?;
@@ -75,7 +75,7 @@ fn append_done(
 
 fn append_key(out: &mut Bytes, key: &(Bytes, u64, u64, u64)) -> Result<(), Memory>
     ensures ok { OnOk result (out.new ≡ out.old ++ key_line key.now) }
-    ensures want { IfErr result (λ e. e ≡ Want) }
+    ensures want { OnlyWant result }
 {
     let (name, ts, id, size) = key;
     out.extend_from_slice(b"key")?;
@@ -87,7 +87,7 @@ fn append_key(out: &mut Bytes, key: &(Bytes, u64, u64, u64)) -> Result<(), Memor
 
 fn append_keys(out: &mut Bytes, keys: &[(Bytes, u64, u64, u64)]) -> Result<(), Memory>
     ensures ok { OnOk result (out.new ≡ out.old ++ flat_map key_line keys.now) }
-    ensures want { IfErr result (λ e. e ≡ Want) }
+    ensures want { OnlyWant result }
 {
     for key in keys {
         append_key(out, key)?;
@@ -101,7 +101,7 @@ fn append_listed(
     keys: &[(Bytes, u64, u64, u64)],
 ) -> Result<(), Memory>
     ensures ok { OnOk result (out.new ≡ out.old ++ line_text (line.Listed request keys.now)) }
-    ensures want { IfErr result (λ e. e ≡ Want) }
+    ensures want { OnlyWant result }
 {
     out.extend_from_slice(b"done")?;
     append_number(out, request)?;
@@ -113,7 +113,7 @@ fn append_listed(
 
 fn append_ended(out: &mut Bytes, request: u64, word: EndWord) -> Result<(), Memory>
     ensures ok { OnOk result (out.new ≡ out.old ++ line_text (line.Ended request word)) }
-    ensures want { IfErr result (λ e. e ≡ Want) }
+    ensures want { OnlyWant result }
 {
     out.extend_from_slice(b"ended")?;
     append_number(out, request)?;
@@ -123,7 +123,7 @@ fn append_ended(out: &mut Bytes, request: u64, word: EndWord) -> Result<(), Memo
 
 fn append_line(out: &mut Bytes, line: &Line) -> Result<(), Memory>
     ensures ok { OnOk result (out.new ≡ out.old ++ line_text line.now) }
-    ensures want { IfErr result (λ e. e ≡ Want) }
+    ensures want { OnlyWant result }
 {
     match line {
         Line::Layout(shown) => append_layout(out, shown),
@@ -149,7 +149,7 @@ fn append_line(out: &mut Bytes, line: &Line) -> Result<(), Memory>
 
 pub(crate) fn append_lines(out: &mut Bytes, lines: &[Line]) -> Result<(), Memory>
     ensures ok { OnOk result (out.new ≡ out.old ++ flat_map line_text lines.now) }
-    ensures want { IfErr result (λ e. e ≡ Want) }
+    ensures want { OnlyWant result }
 {
     for line in lines {
         append_line(out, line)?;
@@ -160,7 +160,7 @@ pub(crate) fn append_lines(out: &mut Bytes, lines: &[Line]) -> Result<(), Memory
 /// The text of one line, with its line feed; a layout and a list of keys take several.
 pub fn line_text(alloc: Global, line: &Line) -> Result<Bytes, Memory>
     ensures text { IfOk result (λ t. t ≡ line_text line.now) }
-    ensures want { IfErr result (λ e. e ≡ Want) }
+    ensures want { OnlyWant result }
 {
     let mut out = Bytes::new(alloc);
     append_line(&mut out, line)?;

@@ -1,5 +1,6 @@
 //! Transcript lines written by hand.
 use crate::{end_text, line_text, name, told_text};
+use cluster_machine::applied::{Applied, Line, Refusal};
 use cluster_machine::{DoneWord, EndWord, SentKind, Words};
 use crdt_core::{Bytes, List};
 use layout_flow::Cut;
@@ -8,7 +9,6 @@ use layout_size::compute;
 use object_model::Event;
 use std::alloc::Global;
 use std::test::Fail;
-use cluster_machine::applied::{Applied, Line, Refusal};
 
 #[test]
 fn writes_each_kind_of_line(rt: HostRuntime) -> Result<(), Fail> {

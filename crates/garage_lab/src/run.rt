@@ -2,7 +2,7 @@
 ghost use Rattle.std.specs.Prelude.{◌≡◌, ◌⊎◌, ◌+◌, ◌≤◌, ℕ, List, map, drop, Some, IfOk, OnOk, IfErr, IfSome};
 ghost use Rattle.std.specs.String.{string_bytes};
 ghost use Rattle.std.specs.Io.KnownBytes.{IsAtEnd};
-ghost use Rattle.crdt_core.specs.declared.memory.Memory.TheVariants.{Want};
+ghost use Rattle.crdt_core.specs.Outcomes.{OnlyWant};
 ghost use Rattle.lab_outside.specs.Rose.{Rose};
 ghost use Rattle.garage_lab.specs.Replay.{IsTranscribed};
 ghost use Rattle.garage_lab.specs.Layout.{IsPrinted};
@@ -35,7 +35,7 @@ fn ends<O: Sink>(output: &mut O, text: &[u8], status: Status) -> Status
 /// What is said of the first line outside the grammar.
 fn bad_line(alloc: Global, line: u64) -> Result<Bytes, Memory>
     ensures text { IfOk result (λ text. text ≡ bad_line_text line) }
-    ensures want { IfErr result (λ e. e ≡ Want) }
+    ensures want { OnlyWant result }
 {
     let mut text = Bytes::from_slice(alloc, b"bad line ")?;
     text.extend_from_slice(itoa::Buffer::new().format(line).as_bytes())?;

@@ -4,12 +4,12 @@ ghost use Rattle.lab_driver.specs.Stands.{HasLab, IsMeantEvent};
 
 use crate::{Event, Lab, Told};
 use cluster_machine::Step;
+use cluster_machine::applied::{Line, Refusal};
 use crdt_core::{Bytes, Memory};
 use object_schema::S3Schema;
 use std::alloc::Global;
 use std::test::Fail;
 use world_core::World;
-use cluster_machine::applied::{Line, Refusal};
 
 fn name(alloc: Global, text: &[u8]) -> Result<Bytes, Memory> {
     Bytes::from_slice(alloc, text)

@@ -1,6 +1,6 @@
 //! The flow network of roles, a redundancy and a partition size.
-ghost use Rattle.std.specs.Prelude.{◌≡◌, ◌<◌, ◌≤◌, ◌↔◌, ◌-◌, min, IsTrue, IfOk, IfErr};
-ghost use Rattle.crdt_core.specs.declared.memory.Memory.TheVariants.{Want};
+ghost use Rattle.std.specs.Prelude.{◌≡◌, ◌<◌, ◌≤◌, ◌↔◌, ◌-◌, min, IsTrue, IfOk};
+ghost use Rattle.crdt_core.specs.Outcomes.{OnlyWant};
 ghost use Rattle.layout_roles.specs.Zones.{zones};
 
 use crate::answer::FlowOrCut;
@@ -39,7 +39,7 @@ impl Network {
         ensures roles { IfOk result (λ network. network.roles ≡ roles.now) }
         ensures redundancy { IfOk result (λ network. network.r ≡ r) }
         ensures size { IfOk result (λ network. network.size ≡ size) }
-        ensures want { IfErr result (λ e. e ≡ Want) }
+        ensures want { OnlyWant result }
     {
         let groups = by_zone(alloc, roles.list.as_slice())?;
         Ok(Network {
@@ -89,7 +89,7 @@ impl Network {
         ensures cut { IfOk result (λ answer. IfCut answer (λ cut. IsPrintedCut self.now.roles.list self.now.r self.now.size cut)) }
         ensures light { IfOk result (λ answer. IfCut answer (λ cut. cut.weight < 768)) }
         ensures none { IfOk result (λ answer. IfCut answer (λ _. NoneFits self.now.roles.list self.now.r self.now.size)) }
-        ensures want { IfErr result (λ e. e ≡ Want) }
+        ensures want { OnlyWant result }
     {
         if self.has_room() {
             Ok(FlowOrCut::Flow(self.flow()?))
@@ -102,7 +102,7 @@ impl Network {
     fn flow(&self) -> Result<Assignment, Memory>
         requires { 768 ≤ copies_for 256 self.now.roles.list self.now.size (4 - self.now.r) }
         ensures fits { IfOk result (λ assignment. Fits self.now.roles.list self.now.r self.now.size assignment.sets) }
-        ensures want { IfErr result (λ e. e ≡ Want) }
+        ensures want { OnlyWant result }
     {
         let alloc = self.groups.allocator();
         let copies = copies_in_order(alloc, self.groups.as_slice(), self.size, 4 - self.r)?;
@@ -124,7 +124,7 @@ impl Network {
         requires { copies_for 256 self.now.roles.list self.now.size (4 - self.now.r) < 768 }
         ensures printed { IfOk result (λ cut. IsPrintedCut self.now.roles.list self.now.r self.now.size cut) }
         ensures light { IfOk result (λ cut. cut.weight < 768) }
-        ensures want { IfErr result (λ e. e ≡ Want) }
+        ensures want { OnlyWant result }
     {
         let down = self.holds_down();
         let each = if down { 4 - self.r } else { 1 };

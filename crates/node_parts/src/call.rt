@@ -1,6 +1,6 @@
 //! An open request at its coordinator.
-ghost use Rattle.std.specs.Prelude.{◌≡◌, IfOk, IfErr, OnOk};
-ghost use Rattle.crdt_core.specs.declared.memory.Memory.TheVariants.{Want};
+ghost use Rattle.std.specs.Prelude.{◌≡◌, IfOk, OnOk};
+ghost use Rattle.crdt_core.specs.Outcomes.{OnlyWant};
 ghost use Rattle.node_parts.specs.Calls.{TakesRow, TakesRows, TakesConfirmation, TakesBlock};
 
 use crdt_core::{Bytes, Crdt, List, Memory, Value};
@@ -34,7 +34,7 @@ pub struct Call<S: Schema> {
 
 fn copy_row<R: Crdt>(row: &Option<R>) -> Result<Option<R>, Memory>
     ensures same { IfOk result (λ copied. copied ≡ row.now) }
-    ensures want { IfErr result (λ e. e ≡ Want) }
+    ensures want { OnlyWant result }
 {
     match row {
         Some(row) => Ok(Some(row.copy()?)),
@@ -44,7 +44,7 @@ fn copy_row<R: Crdt>(row: &Option<R>) -> Result<Option<R>, Memory>
 
 fn copy_rows<R: Crdt>(alloc: Global, rows: &[R]) -> Result<Vec<R>, Memory>
     ensures same { IfOk result (λ copied. copied.items ≡ rows.now) }
-    ensures want { IfErr result (λ e. e ≡ Want) }
+    ensures want { OnlyWant result }
 {
     let mut copied = Vec::new(alloc);
     for row in rows {
@@ -62,7 +62,7 @@ impl<S: Schema> Call<S> {
         row: &Option<S::Row>,
     ) -> Result<Option<PhaseEnd<S::Row>>, Memory>
         ensures takes { IfOk result (λ given. TakesRow S.Row.join self.old self.new from row.now given) }
-        ensures want { IfErr result (λ e. e ≡ Want) }
+        ensures want { OnlyWant result }
     {
         let Present::Asking(call) = &mut self.present else {
             return Ok(None);
@@ -84,7 +84,7 @@ impl<S: Schema> Call<S> {
         more: bool,
     ) -> Result<Option<PhaseEnd<S::Row>>, Memory>
         ensures takes { IfOk result (λ given. TakesRows S.Row.join S.words self.old self.new from rows.now more given) }
-        ensures want { IfErr result (λ e. e ≡ Want) }
+        ensures want { OnlyWant result }
     {
         let Present::Scanning(call) = &mut self.present else {
             return Ok(None);
@@ -117,7 +117,7 @@ impl<S: Schema> Call<S> {
     /// A node answers with a block, which ends a block phase.
     pub fn take_block(&mut self, bytes: &Bytes) -> Result<Option<PhaseEnd<S::Row>>, Memory>
         ensures takes { IfOk result (λ given. TakesBlock self.old self.new bytes.now given) }
-        ensures want { IfErr result (λ e. e ≡ Want) }
+        ensures want { OnlyWant result }
     {
         let Present::Fetching = self.present else {
             return Ok(None);

@@ -1,6 +1,6 @@
 //! What a node sends.
-ghost use Rattle.std.specs.Prelude.{◌≡◌, [], ◌∷◌, IfOk, IfErr, OnOk};
-ghost use Rattle.crdt_core.specs.declared.memory.Memory.TheVariants.{Want};
+ghost use Rattle.std.specs.Prelude.{◌≡◌, [], ◌∷◌, IfOk, OnOk};
+ghost use Rattle.crdt_core.specs.Outcomes.{OnlyWant};
 ghost use Rattle.cluster_machine.specs.Phases.{to_each};
 ghost use Rattle.node_parts.specs.Posts.{Posts};
 
@@ -10,7 +10,7 @@ use wire_messages::Message;
 
 fn copy_row<R: Crdt>(row: &Option<R>) -> Result<Option<R>, Memory>
     ensures same { IfOk result (λ copied. copied ≡ row.now) }
-    ensures want { IfErr result (λ e. e ≡ Want) }
+    ensures want { OnlyWant result }
 {
     match row {
         Some(row) => Ok(Some(row.copy()?)),
@@ -20,7 +20,7 @@ fn copy_row<R: Crdt>(row: &Option<R>) -> Result<Option<R>, Memory>
 
 fn copy_rows<R: Crdt>(rows: &List<R>) -> Result<List<R>, Memory>
     ensures same { IfOk result (λ copied. copied ≡ rows.now) }
-    ensures want { IfErr result (λ e. e ≡ Want) }
+    ensures want { OnlyWant result }
 {
     let mut copied = List::new(rows.allocator());
     for row in rows.as_slice() {
@@ -31,7 +31,7 @@ fn copy_rows<R: Crdt>(rows: &List<R>) -> Result<List<R>, Memory>
 
 fn copy_block(block: &Option<Bytes>) -> Result<Option<Bytes>, Memory>
     ensures same { IfOk result (λ copied. copied ≡ block.now) }
-    ensures want { IfErr result (λ e. e ≡ Want) }
+    ensures want { OnlyWant result }
 {
     match block {
         Some(block) => Ok(Some(block.copy()?)),
@@ -41,7 +41,7 @@ fn copy_block(block: &Option<Bytes>) -> Result<Option<Bytes>, Memory>
 
 fn copy_stored(rows: &List<(Bytes, Option<Bytes>)>) -> Result<List<(Bytes, Option<Bytes>)>, Memory>
     ensures same { IfOk result (λ copied. copied ≡ rows.now) }
-    ensures want { IfErr result (λ e. e ≡ Want) }
+    ensures want { OnlyWant result }
 {
     let mut copied = List::new(rows.allocator());
     for row in rows.as_slice() {
@@ -52,7 +52,7 @@ fn copy_stored(rows: &List<(Bytes, Option<Bytes>)>) -> Result<List<(Bytes, Optio
 
 fn copy_of<R: Crdt>(message: &Message<R>) -> Result<Message<R>, Memory>
     ensures same { IfOk result (λ copied. copied ≡ message.now) }
-    ensures want { IfErr result (λ e. e ≡ Want) }
+    ensures want { OnlyWant result }
 {
     match message {
         Message::Get {
@@ -152,7 +152,7 @@ pub fn send<R: Drop>(
     message: Message<R>,
 ) -> Result<(), Memory>
     ensures sent { OnOk result (Posts from out.old.items out.new.items (to_each (to ∷ []) message)) }
-    ensures want { IfErr result (λ e. e ≡ Want) }
+    ensures want { OnlyWant result }
 {
     out.push(Envelope {
         from,
@@ -170,7 +170,7 @@ pub fn send_each<R: Crdt>(
     message: &Message<R>,
 ) -> Result<(), Memory>
     ensures sent { OnOk result (Posts from out.old.items out.new.items (to_each nodes.now message.now)) }
-    ensures want { IfErr result (λ e. e ≡ Want) }
+    ensures want { OnlyWant result }
 {
     for to in nodes {
         send(out, from, *to, copy_of(message)?)?;

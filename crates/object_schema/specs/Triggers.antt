@@ -15,7 +15,7 @@ use Rattle.crdt_rows.specs.declared.object_row.ObjectRow.{ObjectRow}
 use Rattle.crdt_rows.specs.declared.version_row.VersionRow.{VersionRow}
 use Rattle.crdt_rows.specs.declared.any_row.AnyRow.{AnyRow}
 use Rattle.crdt_rows.specs.declared.any_row.AnyRow.TheVariants as rows
-use Rattle.crdt_rows.specs.Hash.{hash_cmp}
+use Rattle.blake2_hash.specs.Hash.{hash_cmp}
 use Rattle.crdt_rows.specs.ObjectRow.{state_at}
 use Rattle.crdt_rows.specs.Version.{version_cmp}
 use Rattle.crdt_rows.specs.VersionRow.{is_deleted}
