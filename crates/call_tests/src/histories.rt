@@ -24,7 +24,10 @@ fn finished(request: u64, answer: Answer) -> Option<Record> {
 
 fn listed(alloc: Global, key: &str, ts: u64, id: u64) -> Result<Answer, Memory> {
     let mut entries = List::new(alloc);
-    entries.push((Bytes::from_slice(alloc, key.as_bytes())?, Version { ts, id }))?;
+    entries.push((
+        Bytes::from_slice(alloc, key.as_bytes())?,
+        Version { ts, id },
+    ))?;
     Ok(Answer::Listed(entries))
 }
 
@@ -41,9 +44,10 @@ fn began(alloc: Global, request: u64, kind: Kind, key: &str) -> Result<Record, M
 fn record(alloc: Global, told: Told) -> Result<Option<Record>, Memory> {
     match told {
         Told::Began(request, kind, key) => Ok(Some(began(alloc, request, kind, key)?)),
-        Told::Version(request, ts, id) => Ok(
-            finished(request, Answer::Version(Version { ts, id })),
-        ),
+        Told::Version(request, ts, id) => Ok(finished(
+            request,
+            Answer::Version(Version { ts, id }),
+        )),
         Told::Nothing(request) => Ok(finished(request, Answer::None)),
         Told::Listed(request, key, ts, id) => Ok(finished(request, listed(alloc, key, ts, id)?)),
         Told::Superseded(request) => Ok(Some(Record::Ended {

@@ -45,7 +45,11 @@ fn store(alloc: Global) -> Result<Message<AnyRow>, Memory> {
 fn sixty_four_and_what_is_carried(rt: HostRuntime) -> Result<(), Fail> {
     let alloc = rt.alloc();
     let stored = Message::Stored(Tag::Item { number: 1 });
-    for (message, bytes) in [(rows(alloc)?, 64 + 84), (store(alloc)?, 64 + 18), (stored, 64)] {
+    for (message, bytes) in [
+        (rows(alloc)?, 64 + 84),
+        (store(alloc)?, 64 + 18),
+        (stored, 64),
+    ] {
         assert_eq!(rt; size::<S3Schema>(alloc, &message)?, bytes);
     }
     Ok(())

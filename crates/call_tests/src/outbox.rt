@@ -13,7 +13,14 @@ fn an_item_leaves_once_two_of_each_set_have_confirmed(rt: HostRuntime) -> Result
     let mut outbox = Resync::new(rt.alloc());
     let number = outbox.push(Bytes::from_slice(rt.alloc(), b"a")?)?;
     assert_eq!(rt; number, 1);
-    for (node, done) in [(1, false), (1, false), (2, false), (9, false), (4, false), (5, true)] {
+    for (node, done) in [
+        (1, false),
+        (1, false),
+        (2, false),
+        (9, false),
+        (4, false),
+        (5, true),
+    ] {
         outbox.confirm(number, node)?;
         assert_eq!(rt; outbox.done(number, &SETS), done, "after {node}");
     }

@@ -102,35 +102,23 @@ fn inline(alloc: Global) -> Result<State, Memory> {
     Ok(State::Complete(Body::Inline(meta(alloc, 3)?, data)))
 }
 
+// The bytes of an object row with inline data, of which they say this size.
+fn inline_bytes(alloc: Global, size: &[u8]) -> Result<Bytes, Memory> {
+    let mut all = joined(alloc, &[&OBJECT, &FIRST, b"\x03", size, &[0x33; 16], &HEADERS])?;
+    all.extend_from_slice(b"\0\0\0\x03def")?;
+    all.extend_from_slice(&SECOND)?;
+    all.push(1)?;
+    Ok(all)
+}
+
 #[test]
 fn inline_row_bytes(rt: HostRuntime) -> Result<(), Fail> {
     let alloc = rt.alloc();
     let row = object(alloc, inline(alloc)?, State::Aborted)?;
-    let (tail, etag) = (b"\0\0\0\x03def", [0x33; 16]);
-    let size = b"\x03\0\0\0\0\0\0\0\x03";
-    let parts = [
-        OBJECT.as_slice(),
-        &FIRST,
-        size,
-        &etag,
-        &HEADERS,
-        tail,
-        &SECOND,
-        b"\x01",
-    ];
-    assert!(rt; is_spelled(alloc, &row, &parts)?);
-    let size = b"\x03\0\0\0\0\0\0\0\x04";
-    let parts = [
-        OBJECT.as_slice(),
-        &FIRST,
-        size,
-        &etag,
-        &HEADERS,
-        tail,
-        &SECOND,
-        b"\x01",
-    ];
-    assert!(rt; is_not_a_row(alloc, &parts)?, "not its length");
+    let bytes = inline_bytes(alloc, b"\0\0\0\0\0\0\0\x03")?;
+    assert!(rt; is_spelled(alloc, &row, &[bytes.as_slice()])?);
+    let bytes = inline_bytes(alloc, b"\0\0\0\0\0\0\0\x04")?;
+    assert!(rt; is_not_a_row(alloc, &[bytes.as_slice()])?, "not its length");
     Ok(())
 }
 

@@ -1,7 +1,6 @@
 //! Each call of a node that takes memory, with ample memory: a put and a get over three nodes, a layout change with
 //! its round, and what a restart leaves. The messages are passed on by hand.
 ghost use Rattle.std.specs.Prelude.{◌≡◌, None, IsTrue, IfOk};
-ghost use Rattle.layout_roles.specs.Zones.{set_ascends};
 ghost use Rattle.node_parts.specs.Begins.{IsShort};
 ghost use Rattle.node_parts.specs.Contents.{AreBare};
 ghost use Rattle.node_core.specs.Stands.{IsBarePacket};
@@ -10,7 +9,8 @@ use blake2_hash::Hash32;
 use cluster_machine::{Action, LocalEnd};
 use crdt_core::{Bytes, List, Memory};
 use crdt_rows::{AnyRow, Body, ObjectRow, State, Version};
-use layout_roles::{Assignment, Kind, Layout, Role, Roles, Zone};
+use layout_flow::{FlowOrCut, Network};
+use layout_roles::{Kind, Layout, Role, Roles, Zone};
 use node_core::{BeginFault, Envelope, Node, Packet};
 use object_schema::S3Schema;
 use std::alloc::Global;
@@ -21,24 +21,10 @@ const BUCKET: Hash32 = Hash32([0x22; 32]);
 
 type Post = Vec<Envelope<AnyRow>>;
 
-fn everywhere(alloc: Global, set: [u8; 3]) -> Result<Assignment, Memory>
-    requires { IsTrue (set_ascends set) }
-{
-    let mut sets = List::new(alloc);
-    for _i in 0..256u16 {
-        sets.push(set)?;
-    }
-    Ok(Assignment { sets })
-}
-
-// Version 1 has the storage nodes 1, 2, 3, and version 2 the nodes 2, 3, 4.
-fn layout(alloc: Global, version: u32) -> Result<Layout, Fail> {
-    let (nodes, sets) = match version {
-        1 => ([1, 2, 3], everywhere(alloc, [1, 2, 3])?),
-        _ => ([2, 3, 4], everywhere(alloc, [2, 3, 4])?),
-    };
+// Version 1 has the storage nodes 1, 2, 3, and each later one the nodes 2, 3, 4.
+fn roles(alloc: Global, version: u32) -> Result<Roles, Fail> {
     let mut list = List::new(alloc);
-    for node in nodes {
+    for node in if version == 1 { [1, 2, 3] } else { [2, 3, 4] } {
         let zone = Zone(Bytes::from_slice(alloc, b"z")?);
         list.push(Role {
             node,
@@ -46,9 +32,17 @@ fn layout(alloc: Global, version: u32) -> Result<Layout, Fail> {
             kind: Kind::Storage(1000),
         })?;
     }
+    Ok(Roles::from_list(list).ok_or("not in order")?)
+}
+
+fn layout(alloc: Global, version: u32) -> Result<Layout, Fail> {
+    let roles = roles(alloc, version)?;
+    let FlowOrCut::Flow(sets) = Network::new(alloc, &roles, 1, 1)?.max_flow()? else {
+        return Err("no flow".into());
+    };
     Ok(Layout {
         version,
-        roles: Roles::from_list(list).ok_or("not in order")?,
+        roles,
         r: 1,
         size: 1,
         sets,
