@@ -17,7 +17,7 @@ enum Call {
     Put(u8),
     Get(u8),
     Deliver(u64),
-    Drain(u64),
+    Drain(u32),
 }
 
 fn put(alloc: Global, node: u8) -> Result<Event, Memory>
