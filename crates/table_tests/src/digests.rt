@@ -1,5 +1,5 @@
 //! Digests from outside: of the RFC, and of Python's hashlib.
-use blake2_hash::{Blake2b, blake2b, blake2b_256};
+use blake2_hash::{Blake2b, Hash32, blake2b, blake2b_256};
 use std::test::Fail;
 
 const MESSAGE_LEN: usize = 1000;
@@ -70,11 +70,16 @@ fn digests_by_length(rt: HostRuntime) -> Result<(), Fail> {
     Ok(())
 }
 
-#[test]
-fn digest_of_two_pieces(rt: HostRuntime) {
-    let message = message();
+fn in_pieces(message: &[u8]) -> Hash32 {
     let mut hasher = Blake2b::new();
-    hasher.update(&message[..129]);
-    hasher.update(&message[129..]);
-    assert!(rt; hasher.finish() == blake2b_256(&message));
+    for piece in message.chunks(129) {
+        hasher.update(piece);
+    }
+    hasher.finish()
+}
+
+#[test]
+fn digest_of_pieces(rt: HostRuntime) {
+    let message = message();
+    assert!(rt; in_pieces(&message) == blake2b_256(&message));
 }

@@ -15,20 +15,6 @@ fn merge_to<R: Crdt + PartialEq>(a: &R, b: &R, want: &R) -> Result<bool, Memory>
     Ok(left == *want && right == *want)
 }
 
-#[test]
-fn single_values_merge(rt: HostRuntime) -> Result<(), Fail> {
-    assert!(rt; merge_to(&Bool(false), &Bool(true), &Bool(true))?);
-    assert!(rt; merge_to(&Max(7u64), &Max(5), &Max(7))?);
-    assert!(rt;
-        merge_to(
-            &Deletable::Present(Max(9u64)),
-            &Deletable::Deleted,
-            &Deletable::Deleted
-        )?
-    );
-    Ok(())
-}
-
 fn written(ts: u64, v: u64) -> Lww<Max<u64>> {
     Lww { ts, v: Max(v) }
 }
@@ -44,11 +30,25 @@ fn pair(a: u64, b: bool) -> Pair<Max<u64>, Bool> {
     }
 }
 
+// Whether each kind merges as it should.
+fn kinds_merge() -> Result<bool, Memory> {
+    Ok(
+        merge_to(&Bool(false), &Bool(true), &Bool(true))?
+            && merge_to(&Max(7u64), &Max(5), &Max(7))?
+            && merge_to(
+                &Deletable::Present(Max(9u64)),
+                &Deletable::Deleted,
+                &Deletable::Deleted,
+            )?
+            && merge_to(&written(5, 1), &written(5, 4), &written(5, 4))?
+            && merge_to(&keyed(1, 9), &keyed(2, 3), &keyed(2, 3))?
+            && merge_to(&pair(1, true), &pair(2, false), &pair(2, true))?,
+    )
+}
+
 #[test]
-fn values_of_two_parts_merge(rt: HostRuntime) -> Result<(), Fail> {
-    assert!(rt; merge_to(&written(5, 1), &written(5, 4), &written(5, 4))?);
-    assert!(rt; merge_to(&keyed(1, 9), &keyed(2, 3), &keyed(2, 3))?);
-    assert!(rt; merge_to(&pair(1, true), &pair(2, false), &pair(2, true))?);
+fn each_kind_merges(rt: HostRuntime) -> Result<(), Fail> {
+    assert!(rt; kinds_merge()?);
     Ok(())
 }
 
@@ -69,45 +69,52 @@ fn sheet(alloc: Global, name: &str, entries: &[(u8, u64)]) -> Result<Sheet, Memo
     Ok(sheet)
 }
 
-#[test]
-fn nested_maps_merge(rt: HostRuntime) -> Result<(), Fail> {
-    let alloc = rt.alloc();
+// Whether two sheets merge to the third.
+fn sheets_merge(alloc: Global) -> Result<bool, Memory> {
     let first = sheet(alloc, "b", &[(2, 4), (1, 10)])?;
     let second = sheet(alloc, "b", &[(1, 3), (3, 6)])?;
     let want = sheet(alloc, "b", &[(1, 10), (2, 4), (3, 6)])?;
-    assert!(rt; merge_to(&first, &second, &want)?);
-    Ok(())
+    merge_to(&first, &second, &want)
+}
+
+// How many entries the join of two sheets has.
+fn joined(alloc: Global) -> Result<usize, Memory> {
+    let rows = [sheet(alloc, "b", &[(1, 10)])?, sheet(alloc, "a", &[])?];
+    match join(copy_rows(alloc, &rows)?.as_slice())? {
+        Some(all) => Ok(all.len()),
+        None => Ok(0),
+    }
 }
 
 #[test]
-fn rows_join(rt: HostRuntime) -> Result<(), Fail> {
-    let alloc = rt.alloc();
-    let rows = [sheet(alloc, "b", &[(1, 10)])?, sheet(alloc, "a", &[])?];
-    let copies = copy_rows(alloc, &rows)?;
-    let all = join(copies.as_slice())?.ok_or("none")?;
-    assert_eq!(rt; all.len(), 2);
+fn nested_maps_merge(rt: HostRuntime) -> Result<(), Fail> {
+    assert!(rt; sheets_merge(rt.alloc())?);
+    assert_eq!(rt; joined(rt.alloc())?, 2);
     rows_are_ordered::<Sheet>();
     lists_join::<Sheet>();
     maps_join_by_key::<Bytes, Lww<Cells>>();
     Ok(())
 }
 
-#[test]
-fn bytes_grow(rt: HostRuntime) -> Result<(), Fail> {
-    let mut text = Bytes::from_vec(vec![in rt.alloc(); b'a', b'b']?);
+fn grown_bytes(alloc: Global) -> Result<Bytes, Memory> {
+    let mut text = Bytes::from_slice(alloc, b"ab")?;
     text.push(b'c')?;
     text.extend_from_slice(b"de")?;
-    assert_eq!(rt; text.copy()?.as_slice(), b"abcde".as_slice());
-    Ok(())
+    text.copy()
 }
 
-#[test]
-fn lists_grow(rt: HostRuntime) -> Result<(), Fail> {
-    let mut list = List::from_vec(vec![in rt.alloc(); 2u8]?);
+fn grown_list(alloc: Global) -> Result<List<u8>, Memory> {
+    let mut list = List::new(alloc);
     list.push(3)?;
     list.insert(0, 1)?;
     let mut more = list.copy()?;
     list.append(&mut more)?;
-    assert_eq!(rt; list.as_slice(), [1, 2, 3, 1, 2, 3].as_slice());
+    Ok(list)
+}
+
+#[test]
+fn bytes_and_lists_grow(rt: HostRuntime) -> Result<(), Fail> {
+    assert_eq!(rt; grown_bytes(rt.alloc())?.as_slice(), b"abcde".as_slice());
+    assert_eq!(rt; grown_list(rt.alloc())?.as_slice(), [1, 3, 1, 3].as_slice());
     Ok(())
 }

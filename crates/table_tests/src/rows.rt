@@ -1,93 +1,83 @@
-//! Merges of rows in every order, and each call that takes memory once with enough of it.
-use crate::made::{deleted_version, object, reference};
-use blake2_hash::Hash32;
-use crdt_core::{Bytes, Crdt, Deletable, List, Map, Max, Memory};
+//! Merges of rows, and each call that takes memory once with enough of it.
+use crate::made::{Made, Shape, merged};
+use crdt_core::{Crdt, Memory};
 use crdt_rows::{
-    AnyRow, BlockRef, Body, Meta, Part, State, Version, VersionRow, object_rows_join_as_facts,
-    reference_rows_join_as_facts, version_rows_join_as_facts,
+    AnyRow, Version, object_rows_join_as_facts, reference_rows_join_as_facts,
+    version_rows_join_as_facts,
 };
 use std::alloc::Global;
 use std::test::Fail;
 
-// Whether the three merged one after the other are what is wanted.
-fn merge_to<R: Crdt + PartialEq>(a: &R, b: &R, c: &R, want: &R) -> Result<bool, Memory> {
-    let mut all = a.copy()?;
-    all.merge(b)?;
-    all.merge(c)?;
-    Ok(all == *want)
-}
+const UPLOAD: Made = Made::Object(b"a", 5, 1, Shape::Uploading);
 
-fn inline(alloc: Global) -> Result<State, Memory> {
-    let meta = Meta {
-        size: 3,
-        etag: [0; 16],
-        headers: List::new(alloc),
-    };
-    Ok(State::Complete(Body::Inline(meta, Bytes::from_slice(alloc, b"abc")?)))
+const MARKER: Made = Made::Object(b"a", 4, 2, Shape::Marker);
+
+const INLINE: Made = Made::Object(b"a", 6, 3, Shape::Inline);
+
+// How many versions the merged rows of an object have, the greatest timestamp, and the newest complete version.
+fn versions(
+    alloc: Global,
+    first: Made,
+    other: Made,
+) -> Result<(usize, u64, Option<Version>), Memory> {
+    match merged(alloc, first, &[other])? {
+        AnyRow::Object(row) => Ok((
+            row.versions.len(),
+            row.greatest_ts(),
+            row.newest().map(|(version, _)| version),
+        )),
+        _ => Ok((0, 0, None)),
+    }
 }
 
 #[test]
 fn marker_below_upload(rt: HostRuntime) -> Result<(), Fail> {
-    let alloc = rt.alloc();
-    let upload = object(alloc, b"a", 5, 1, State::Uploading)?;
-    let marker = object(alloc, b"a", 4, 2, State::Complete(Body::Marker))?;
-    let mut both = upload.copy()?;
-    both.merge(&marker)?;
-    assert_eq!(rt; (both.versions.len(), both.greatest_ts()), (2, 5));
-    let newest = both.newest().map(|(version, _)| version);
-    assert_eq!(rt; newest, Some(Version { ts: 4, id: 2 }));
-    let inline = object(alloc, b"a", 6, 3, inline(alloc)?)?;
-    assert!(rt; merge_to(&upload, &marker, &inline, &inline)?);
-    assert!(rt; merge_to(&inline, &upload, &marker, &inline)?);
+    let newest = Some(Version { ts: 4, id: 2 });
+    assert!(rt; versions(rt.alloc(), UPLOAD, MARKER)? == (2, 5, newest));
+    assert!(rt; versions(rt.alloc(), MARKER, UPLOAD)? == (2, 5, newest));
     object_rows_join_as_facts();
     Ok(())
 }
 
-fn blocks(alloc: Global, entries: &[(u64, u8)]) -> Result<AnyRow, Memory> {
-    let mut blocks = Map::new(alloc);
-    for (offset, byte) in entries {
-        let part = Part {
-            part: 1,
-            offset: *offset,
-        };
-        let block = BlockRef {
-            hash: Hash32([*byte; 32]),
-            size: 8,
-        };
-        blocks.join_at(part, &Max(block))?;
+// Whether the three are the last one, merged in this order and in the opposite one.
+fn merge_to(
+    alloc: Global,
+    first: Made,
+    second: Made,
+    third: Made,
+    want: Made,
+) -> Result<bool, Memory> {
+    let want = merged(alloc, want, &[])?.copy()?;
+    let forth = merged(alloc, first, &[second, third])?;
+    let back = merged(alloc, third, &[second, first])?;
+    Ok(forth == want && back == want)
+}
+
+const LIVE: Made = Made::Reference(3, 9, false);
+
+const GONE: Made = Made::Reference(3, 9, true);
+
+#[test]
+fn rows_merge(rt: HostRuntime) -> Result<(), Fail> {
+    for (first, second, third, want) in [
+        (UPLOAD, MARKER, INLINE, INLINE),
+        (
+            Made::Blocks(4, &[(0, 1), (8, 5)]),
+            Made::Blocks(4, &[(8, 2), (16, 3)]),
+            Made::Blocks(4, &[]),
+            Made::Blocks(4, &[(0, 1), (8, 5), (16, 3)]),
+        ),
+        (
+            Made::Blocks(4, &[(0, 1)]),
+            Made::Deleted(4),
+            Made::Blocks(4, &[]),
+            Made::Deleted(4),
+        ),
+        (LIVE, GONE, LIVE, GONE),
+    ] {
+        assert!(rt; merge_to(rt.alloc(), first, second, third, want)?);
     }
-    Ok(AnyRow::Version(VersionRow {
-        id: 4,
-        blocks: Deletable::Present(blocks),
-    }))
-}
-
-#[test]
-fn blocks_unite_until_deleted(rt: HostRuntime) -> Result<(), Fail> {
-    let alloc = rt.alloc();
-    let first = blocks(alloc, &[(0, 1), (8, 5)])?;
-    let second = blocks(alloc, &[(8, 2), (16, 3)])?;
-    let both = blocks(alloc, &[(0, 1), (8, 5), (16, 3)])?;
-    assert!(rt; merge_to(&first, &second, &first, &both)?);
-    let deleted = deleted_version(4);
-    assert!(rt; merge_to(&second, &deleted, &first, &deleted)?);
     version_rows_join_as_facts();
-    Ok(())
-}
-
-#[test]
-fn references_stay_deleted(rt: HostRuntime) -> Result<(), Fail> {
-    let (live, deleted) = (reference(3, 9, false), reference(3, 9, true));
-    assert!(rt; merge_to(&live, &deleted, &live, &deleted)?);
     reference_rows_join_as_facts();
-    Ok(())
-}
-
-#[test]
-fn objects_merge_as_rows(rt: HostRuntime) -> Result<(), Fail> {
-    let alloc = rt.alloc();
-    let upload = AnyRow::Object(object(alloc, b"a", 5, 1, State::Uploading)?);
-    let aborted = AnyRow::Object(object(alloc, b"a", 5, 1, State::Aborted)?);
-    assert!(rt; merge_to(&upload, &aborted, &upload, &aborted)?);
     Ok(())
 }
