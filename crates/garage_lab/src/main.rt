@@ -9,6 +9,8 @@
 #![tactic(auto)]
 
 mod asked;
+#[cfg(test)]
+mod grammar;
 mod input;
 mod layout;
 mod run;
@@ -16,6 +18,8 @@ mod schedule;
 mod stop;
 #[cfg(test)]
 mod tests;
+#[cfg(test)]
+mod texts;
 mod transcript;
 
 use crate::run::run;

@@ -7,8 +7,6 @@ mod laws;
 mod network;
 mod rows;
 mod side;
-#[cfg(test)]
-mod tests;
 mod totals;
 
 pub use answer::FlowOrCut;

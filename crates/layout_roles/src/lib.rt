@@ -9,8 +9,6 @@ mod layout;
 mod redundancy;
 mod role;
 mod roles;
-#[cfg(test)]
-mod tests;
 mod vertex;
 
 pub use assignment::{Assignment, PARTITIONS};

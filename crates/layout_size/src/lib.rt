@@ -4,8 +4,6 @@
 mod answer;
 mod fault;
 mod search;
-#[cfg(test)]
-mod tests;
 
 pub use answer::compute;
 pub use fault::LayoutFault;

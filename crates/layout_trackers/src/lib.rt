@@ -20,5 +20,3 @@ pub use laws::{trackers_grow, versions_compare};
 pub use trackers::Trackers;
 pub use which::Which;
 
-#[cfg(test)]
-mod tests;
