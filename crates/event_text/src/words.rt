@@ -1,8 +1,7 @@
 //! A word or a number after one space.
 ghost use Rattle.std.specs.Prelude.{◌≡◌, ◌++◌, decimal, OnOk};
 ghost use Rattle.crdt_core.specs.Outcomes.{OnlyWant};
-ghost use Rattle.text_model.specs.Grammar.{word};
-ghost use Rattle.text_model.specs.Transcript.{number};
+ghost use Rattle.layout_roles.specs.Text.{word, number};
 
 use crdt_core::{Bytes, Memory};
 use itoa::Buffer;

@@ -3,8 +3,7 @@ use Rattle.std.specs.Prelude.{◌≡◌, ℕ, ◌==◌, Bool, true, Option, Some
 use Rattle.std.proofs.Common.{rules}
 use Rattle.std.specs.Cmp.{tied_itself}
 use Rattle.md5.specs.Md5.{md5}
-use Rattle.blake2_hash.specs.Blake2b.{blake2b}
-use Rattle.blake2_hash.specs.declared.digest.Hash32.{Hash32}
+use Rattle.blake2_hash.specs.Hash.{digest_of}
 use Rattle.crdt_core.specs.Map.{map_entries, map_single}
 use Rattle.crdt_rows.specs.declared.version.Version.{Version}
 use Rattle.crdt_rows.specs.declared.body.Meta.{Meta}
@@ -23,13 +22,9 @@ pub record Name : Type 0 where
   pub bucket : List ℕ
   pub key : List ℕ
 
--- the digest of the bucket's name
-abbrev pub bucket_hash : List ℕ → Hash32
-bucket_hash bucket = record { 0 = blake2b 32 bucket }
-
 -- the key of the object's row
 abbrev pub row_key : Name → List ℕ
-row_key name = (bucket_hash name.bucket).0 ++ name.key
+row_key name = (digest_of name.bucket).0 ++ name.key
 
 -- what is said of bytes that are stored without headers
 abbrev pub meta_of : List ℕ → Meta
@@ -50,7 +45,7 @@ sized version bytes = rw (same_number (length bytes)) refl
 -- the row that says that this version is complete, with these bytes
 abbrev pub object : Name → Version → List ℕ → AnyRow
 object name version bytes = rows.Object (record {
-  bucket = bucket_hash name.bucket;
+  bucket = digest_of name.bucket;
   key = name.key;
   versions = map_single version (record { 0 = state_of bytes });
   settled = settled version bytes;

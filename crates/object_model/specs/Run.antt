@@ -30,7 +30,8 @@ use Rattle.cluster_machine.specs.Worlds.{Model, Doing, Done as Effect, does, nex
 use Rattle.object_model.specs.declared.event.Event.{Event}
 use Rattle.object_model.specs.declared.event.Event.TheVariants.{Trio, Bucket, Role, Redundancy, Apply, Tick, Put, Get, Deliver, Drain, Expire, Gossip, Ack, Sync, SyncAck, Clean}
 use Rattle.object_model.specs.declared.event.Numbered.{Numbered}
-use Rattle.object_model.specs.Object.{Name, row_key, bucket_hash, object, greatest_ts, Newest, absent, inline, in_blocks, newest_of}
+use Rattle.blake2_hash.specs.Hash.{digest_of}
+use Rattle.object_model.specs.Object.{Name, row_key, object, greatest_ts, Newest, absent, inline, in_blocks, newest_of}
 
 abbrev pub World : Type 0
 World = Model AnyRow
@@ -116,7 +117,7 @@ is_bucket (b ∷ bs) name = pointwise nat_eq b name || is_bucket bs name
 
 -- the read phase of an object's row
 abbrev pub asks : ℕ → Name → Moving
-asks q name = plainly (step.Phase q (Read 1 (bucket_hash name.bucket) (row_key name)))
+asks q name = plainly (step.Phase q (Read 1 (digest_of name.bucket) (row_key name)))
 
 -- a request begins with its read phase
 abbrev pub opened : State → ℕ → Order → Outcome

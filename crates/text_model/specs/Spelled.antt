@@ -1,5 +1,5 @@
 -- A line spells an event where its words are those of the event, and it spells no second one.
-use Rattle.std.proofs.Common.{◌≡◌, ℕ, ◌^◌, ◌<◌, Bool, true, false, ◌==◌, Some, None, List, [], ◌∷◌, refl, sym, ap, ◌∙◌, arith, rules, append_assoc, append-nil, eqb-true}
+use Rattle.std.proofs.Common.{◌≡◌, ℕ, ◌^◌, ◌<◌, Bool, true, false, ◌==◌, Some, None, List, [], ◌∷◌, refl, sym, ap, ◌∙◌, arith, rules, eqb-true}
 use Rattle.std.specs.Prelude.{⊤, IsTrue, codes, decimal}
 use Rattle.std.specs.List.{All, AllByRecursion, join_with_byte}
 use Rattle.std.specs.Int.{IsInRange}
@@ -15,8 +15,8 @@ use Rattle.layout_roles.specs.declared.redundancy.Redundancy as wanted
 use Rattle.layout_roles.specs.declared.redundancy.Redundancy.TheVariants.{AtLeast, Maximum}
 use Rattle.object_model.specs.declared.event.Event.{Event}
 use Rattle.object_model.specs.declared.event.Event.TheVariants.{Trio, Bucket, Role, Redundancy, Apply, Tick, Put, Get, Deliver, Drain, Expire, Gossip, Ack, Sync, SyncAck, Clean}
-use Rattle.text_model.specs.Grammar.{spelling, Spells, IsAllowed, IsBucketName, IsZone, IsKey, IsCapacity, IsRedundancy, is_bucket_end, is_bucket_byte, is_key_byte, kind_word, redundancy_word}
-use Rattle.text_model.specs.Words.{is_space, words_in, words_of, IsSpelledBy}
+use Rattle.text_model.specs.Grammar.{Spells, IsAllowed, IsBucketName, IsZone, IsKey, IsCapacity, IsRedundancy, is_bucket_end, is_bucket_byte, is_key_byte, kind_word, redundancy_word, words_of}
+use Rattle.text_model.specs.Words.{is_space, words_in, IsSpelledBy}
 
 abbrev NoSpace : List ℕ → Type 0
 NoSpace word = All (λ b. is_space b ≡ false) word
@@ -110,12 +110,6 @@ no_spaces (Sync n) h = named (codes "sync") (search rules) n (omega arith)
 no_spaces (SyncAck n) h = named (codes "syncack") (search rules) n (omega arith)
 no_spaces (Clean n) h = named (codes "clean") (search rules) n (omega arith)
 
-spelling-joined : (e : Event) → spelling e ≡ join_with_byte 32 (words_of e)
-spelling-joined (Role n (Some role)) = simp append-nil
-spelling-joined (Put n bucket key size fill) = simp append_assoc
-spelling-joined (Get n bucket key) = simp append_assoc
-spelling-joined e = refl
-
 words_of_spelling : (e : Event) → IsAllowed e → words_in (join_with_byte 32 (words_of e)) ≡ words_of e
 words_of_spelling Trio h = split_join _ _ (no_spaces Trio h)
 words_of_spelling e h = split_join _ _ (no_spaces e h)
@@ -123,12 +117,12 @@ words_of_spelling e h = split_join _ _ (no_spaces e h)
 -- the words of a line that spells an event
 pub words_spelled : (line : List ℕ) (e : Event) → Spells line e → IsSpelledBy (words_in line) e
 words_spelled line e h =
-    record { spelled = ap words_in (h.spelled ∙ spelling-joined e) ∙ words_of_spelling e h.allowed; allowed = h.allowed }
+    record { spelled = ap words_in h.spelled ∙ words_of_spelling e h.allowed; allowed = h.allowed }
 
 -- a line with the words of an event spells it
 pub line_spelled : (line : List ℕ) (e : Event) → IsSpelledBy (words_in line) e → Spells line e
 line_spelled line e h =
     record {
-      spelled = sym (join_with_byte-slice_split 32 line) ∙ ap (join_with_byte 32) h.spelled ∙ sym (spelling-joined e);
+      spelled = sym (join_with_byte-slice_split 32 line) ∙ ap (join_with_byte 32) h.spelled;
       allowed = h.allowed;
     }

@@ -2,7 +2,7 @@
 use Rattle.std.specs.Prelude.{ℕ, Option, Some, None, List, [], ◌∷◌, ◌++◌, length, flat_map, codes, decimal}
 use Rattle.hex.specs.Hex.{encode_lower}
 use Rattle.layout_roles.specs.declared.cut.Cut.{Cut}
-use Rattle.layout_roles.specs.Text.{layout_text}
+use Rattle.layout_roles.specs.Text.{word, number, layout_text}
 use Rattle.cluster_machine.specs.declared.line.Line.{Line}
 use Rattle.cluster_machine.specs.declared.line.Line.TheVariants.{Layout, Got, Sent, Synced, Done, Listed, Ended}
 use Rattle.cluster_machine.specs.declared.line.SentKind.{SentKind}
@@ -16,15 +16,9 @@ use Rattle.cluster_machine.specs.declared.step.Refusal.TheVariants.{VersionTaken
 use Rattle.cluster_machine.specs.declared.step.Words.{Words}
 use Rattle.cluster_machine.specs.declared.step.Words.TheVariants.{Empty, One, Idle, Two}
 use Rattle.cluster_machine.specs.declared.applied.Applied.{Applied}
-use Rattle.object_model.specs.declared.event.Event.{Event}
-use Rattle.object_model.specs.declared.event.Event.TheVariants as event
 use Rattle.object_model.specs.declared.event.Numbered.{Numbered}
 use Rattle.object_model.specs.Run.{State, Outcome, Turn, start, outcome_of, run}
-use Rattle.text_model.specs.Grammar.{word}
-
--- a number in decimal, after one space
-abbrev pub number : ℕ → List ℕ
-number n = word (decimal n)
+use Rattle.text_model.specs.Grammar.{name_of}
 
 abbrev pub kind_text : SentKind → List ℕ
 kind_text kind.Get = codes "get"
@@ -99,25 +93,6 @@ words_text Empty = []
 words_text (One n) = number n
 words_text (Idle read least) = word (codes "idle") ++ number read ++ number least
 words_text (Two a b) = number a ++ number b
-
--- the first word of an event
-abbrev pub name_of : Event → List ℕ
-name_of event.Trio = codes "trio"
-name_of (event.Bucket _) = codes "bucket"
-name_of (event.Role _ _) = codes "role"
-name_of (event.Redundancy _) = codes "redundancy"
-name_of (event.Apply _) = codes "apply"
-name_of (event.Tick _) = codes "tick"
-name_of (event.Put _ _ _ _ _) = codes "put"
-name_of (event.Get _ _ _) = codes "get"
-name_of (event.Deliver _) = codes "deliver"
-name_of (event.Drain _) = codes "drain"
-name_of (event.Expire _) = codes "expire"
-name_of (event.Gossip _ _) = codes "gossip"
-name_of (event.Ack _) = codes "ack"
-name_of (event.Sync _) = codes "sync"
-name_of (event.SyncAck _) = codes "syncack"
-name_of (event.Clean _) = codes "clean"
 
 -- what an event answers, after its line and name
 abbrev pub answer_text : Option (Refusal Cut) → Words → List ℕ
