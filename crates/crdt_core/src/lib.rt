@@ -33,8 +33,6 @@ mod map;
 mod max;
 mod memory;
 mod pair;
-#[cfg(test)]
-mod tests;
 mod value;
 
 pub use bytes::Bytes;

@@ -8,8 +8,6 @@ mod laws;
 mod network;
 mod rows;
 mod side;
-#[cfg(test)]
-mod tests;
 mod totals;
 mod vertex;
 

@@ -7,8 +7,6 @@ mod layout;
 mod redundancy;
 mod role;
 mod roles;
-#[cfg(test)]
-mod tests;
 
 pub use assignment::{Assignment, PARTITIONS};
 pub use laws::smaller_sizes;

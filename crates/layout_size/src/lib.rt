@@ -5,8 +5,6 @@ mod answer;
 mod certified;
 mod fault;
 mod search;
-#[cfg(test)]
-mod tests;
 
 pub use answer::compute;
 pub use certified::Certified;
