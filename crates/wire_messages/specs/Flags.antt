@@ -4,10 +4,12 @@ use Rattle.std.proofs.Common.{ap, sym, ◌∙◌}
 use Rattle.crdt_core.specs.declared.flag.Bool.{Bool}
 use Rattle.table_schema.specs.Words.{Words}
 
+-- a flag as one byte, 1 if it is up
 abbrev pub spelled : Test → List ℕ
 spelled true = 1 ∷ []
 spelled false = 0 ∷ []
 
+-- the flag that bytes spell, if they spell one
 abbrev pub read_flag : List ℕ → Option Bool
 read_flag [] = None
 read_flag (zero ∷ []) = Some (record { 0 = false })
@@ -15,6 +17,7 @@ read_flag (suc zero ∷ []) = Some (record { 0 = true })
 read_flag (suc (suc n) ∷ []) = None
 read_flag (n ∷ m ∷ ms) = None
 
+-- a schema with one table of one row, a flag
 abbrev pub flag_words : Words Bool
 flag_words = record {
   is_proper = λ r. true;
@@ -29,10 +32,12 @@ flag_words = record {
   read = read_flag;
 }
 
+-- how a flag is spelled, where there is one
 abbrev spelled_of : Option Bool → Option (List ℕ)
 spelled_of None = None
 spelled_of (Some r) = Some (spelled r.0)
 
+-- what bytes are read as, where there are bytes
 abbrev read_of : Option (List ℕ) → Option Bool
 read_of None = None
 read_of (Some bytes) = read_flag bytes
