@@ -6,10 +6,12 @@ use Rattle.crdt_core.specs.Flag.{or_join}
 use Rattle.table_schema.specs.Words.{Words}
 use Rattle.table_schema.specs.Laws.{Same}
 
+-- the key of a flag
 abbrev pub flag_key : Test → List ℕ
 flag_key true = replicate 32 0 ++ 1 ∷ []
 flag_key false = replicate 32 0 ++ 0 ∷ []
 
+-- one table of two flags, one under each key
 abbrev pub flag_words : Words Bool
 flag_words = record {
   is_proper = λ r. true;
