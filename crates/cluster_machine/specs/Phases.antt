@@ -22,6 +22,7 @@ abbrev pub with_node : ℕ → List ℕ → List ℕ
 with_node n [] = n ∷ []
 with_node n (m ∷ ms) = cond (n == m) (m ∷ ms) (cond (nat_lt n m) (n ∷ m ∷ ms) (m ∷ with_node n ms))
 
+-- nodes in order of numbers, each once
 abbrev pub in_order : List ℕ → List ℕ
 in_order [] = []
 in_order (n ∷ ns) = with_node n (in_order ns)
@@ -31,9 +32,11 @@ abbrev pub nodes_of : List (List ℕ) → List ℕ
 nodes_of sets = in_order (flat_map (λ set. set) sets)
 
 module _ {R : Type 0} where
+  -- the open request of this number
   abbrev pub call_at : List (Call R) → ℕ → Option (Call R)
   call_at calls request = find (λ c. c.request == request) calls
 
+  -- without the request of this number
   abbrev pub without_call : ℕ → List (Call R) → List (Call R)
   without_call request calls = filter (λ c. cond (c.request == request) false true) calls
 
@@ -46,6 +49,7 @@ module _ {R L : Type 0} where
   abbrev pub to_each : List ℕ → Message R → List (Post R L)
   to_each nodes m = map (λ n. record { to = n; packet = says m }) nodes
 
+  -- the node with this request as it is now
   abbrev pub calls_now : Node R L → Call R → Node R L
   calls_now x c = record x { calls = with_call c x.calls }
 
@@ -72,9 +76,11 @@ module _ {R L : Type 0} where
   abbrev pub opened : ℕ → ℕ → Node R L → Node R L
   opened request start x = record x { calls = record { request = request; start = start; phases = 0; present = resting } ∷ x.calls }
 
+  -- the node no longer has the request
   abbrev pub closed : ℕ → Node R L → Node R L
   closed request x = record x { calls = without_call request x.calls }
 
+-- a row's bytes, none where it has no spelling
 abbrev pub spelled : Option (List ℕ) → List ℕ
 spelled None = []
 spelled (Some bytes) = bytes
@@ -84,6 +90,7 @@ module _ {R : Type 0} (s : Words R) where
   abbrev pub bytes_of : R → List ℕ
   bytes_of r = spelled (s.spelling r)
 
+  -- the row has bytes
   abbrev pub is_spelled : R → Bool
   is_spelled r = is_some (s.spelling r)
 
@@ -130,6 +137,7 @@ module _ {R : Type 0} (s : Words R) where
         }
 
 module _ {R : Type 0} (join : R → R → R) where
+  -- both answers merged, once there are two
   abbrev pub merged_at : Option (Option R × Option R) → Option (Option R)
   merged_at None = None
   merged_at (Some two) = Some (merged join two)
@@ -138,31 +146,37 @@ module _ {R : Type 0} (join : R → R → R) where
   abbrev pub value_after : Question R → List (ℕ × Option R) → ℕ × Option R → Option (Option R)
   value_after q answers a = merged_at (first_two_at q.set answers a)
 
+  -- an answer came to a read phase
   abbrev pub row_came : {L : Type 0} → Node R L → Call R → ℕ → Option R → Present R → Did R L
   row_came x c from row (asking q answers) = asked x c q answers (from, row) (value_after q answers (from, row))
   row_came x c from row _ = quiet x
 
 module _ {R : Type 0} (join : R → R → R) (s : Words R) where
+  -- the window of both answers, once there are two
   abbrev pub window_at : Option (RangeAnswer R × RangeAnswer R) → Option (Window R)
   window_at None = None
   window_at (Some two) = Some (window join s two)
 
+  -- an answer came to a range phase
   abbrev pub rows_came : {L : Type 0} → Node R L → Call R → ℕ → List R → Bool → Present R → Did R L
   rows_came x c from rows more (scanning q answers) =
       let a : ℕ × RangeAnswer R = (from, record { rows = rows; more = more }) in looked x c q answers a (window_at (first_two_at q.set answers a))
   rows_came x c from rows more _ = quiet x
 
 module _ {R L : Type 0} (k : Layouts L) where
+  -- a confirmation came to a store phase
   abbrev pub stored_came : Node R L → Call R → ℕ → ℕ → Present R → Did R L
   stored_came x c slot from (storing rows slots) =
       let now = with_confirmation slots slot from in stored x c rows now (is_kept now (oldest k.reading x.view))
   stored_came x c slot from _ = quiet x
 
 module _ {R L : Type 0} where
+  -- the block came that was asked for
   abbrev pub block_came : Node R L → Call R → List ℕ → Present R → Did R L
   block_came x c bytes fetching = ended x c (GaveBlock bytes)
   block_came x c bytes _ = quiet x
 
+  -- what an answer does where its request is open and in that phase still
   abbrev pub at_call : Node R L → ℕ → (Call R → Did R L) → Option (Call R) → Did R L
   at_call x phase f None = quiet x
   at_call x phase f (Some c) = cond (c.phases == phase) (f c) (quiet x)

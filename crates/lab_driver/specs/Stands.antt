@@ -21,6 +21,7 @@ use Rattle.lab_driver.specs.declared.lab.Lab.{Lab}
 abbrev pub ordered : Order → Ordered
 ordered o = record { node = o.node; word = o.word; name = record { bucket = o.bucket; key = o.key }; bytes = object_bytes o.size o.fill; version = o.version }
 
+-- the code's lab is this state of the model
 pub record IsLab (lab : Lab) (s : State) : Type 0 where
   pub world : StandsFor any_join words lab.world s.world
   pub buckets : lab.buckets ≡ s.buckets
@@ -70,6 +71,7 @@ pub record DoesStep (new : Lab) (told : Told) (s : State) (st : Step AnyRow) : T
   pub lawful : IsLawfulStep s.world st choice
   pub does : Does new told s (plain s (record { step = st; choice = choice }))
 
+-- whatever state it stood for, it did this step
 abbrev pub PlaysStep : Lab → Lab → Told → Step AnyRow → Type 0
 PlaysStep old new told st = (s : State) → IsLab old s → DoesStep new told s st
 
@@ -79,6 +81,7 @@ pub record LacksRoom (s : State) (st : Step AnyRow) : Type 0 where
   pub lawful : IsLawfulStep s.world st choice
   pub lacks : FitsOutcome s (plain s (record { step = st; choice = choice })) → ⊥
 
+-- whatever state it stood for, this step would not fit
 abbrev pub OverflowsStep : Lab → Step AnyRow → Type 0
 OverflowsStep old st = (s : State) → IsLab old s → LacksRoom s st
 
@@ -88,6 +91,7 @@ pub record DoesEvent (new : Lab) (told : Told) (s : State) (event : Event) : Typ
   pub lawful : IsLawfulEvent s event choice
   pub does : Does new told s (outcome s event choice)
 
+-- whatever state it stood for, it did this event
 abbrev pub PlaysEvent : Lab → Lab → Told → Event → Type 0
 PlaysEvent old new told event = (s : State) → IsLab old s → DoesEvent new told s event
 
@@ -97,5 +101,6 @@ pub record EventLacksRoom (s : State) (event : Event) : Type 0 where
   pub lawful : IsLawfulEvent s event choice
   pub lacks : FitsOutcome s (outcome s event choice) → ⊥
 
+-- whatever state it stood for, this event would not fit
 abbrev pub OverflowsEvent : Lab → Event → Type 0
 OverflowsEvent old event = (s : State) → IsLab old s → EventLacksRoom s event

@@ -30,6 +30,7 @@ row_key name = (digest_of name.bucket).0 ++ name.key
 abbrev pub meta_of : List ℕ → Meta
 meta_of bytes = record { size = length bytes; etag = md5 bytes; headers = [] }
 
+-- the state of a version whose bytes stand in its row
 abbrev pub state_of : List ℕ → State
 state_of bytes = Complete (Inline (meta_of bytes) bytes)
 
@@ -63,15 +64,18 @@ pub data Newest : Type 0 where
   inline : Version → List ℕ → Newest  -- the newest complete version, and its bytes
   in_blocks : Newest
 
+-- what a version's state says of its bytes
 abbrev pub of_state : Version → Option State → Newest
 of_state v (Some (Complete (Inline meta bytes))) = inline v bytes
 of_state v (Some (Complete (Blocks meta hash))) = in_blocks
 of_state v _ = absent
 
+-- what a row says of one of its versions
 abbrev pub of_version : ObjectRow → Option Version → Newest
 of_version r None = absent
 of_version r (Some v) = of_state v (state_at r v)
 
+-- what a row says of its newest version
 abbrev pub newest_of : Option AnyRow → Newest
 newest_of (Some (rows.Object r)) = of_version r (newest r)
 newest_of _ = absent
