@@ -125,7 +125,7 @@ module _ {R : Type 0} (s : Words R) where
     begins kept x c (Fetches hash) =
         let at = read_version k.reading x.view in
         let n = suc c.phases in
-        record (quiet (calls_now x (record c { phases = n; present = fetching }))) {
+        record (quiet (calls_now x (record c { phases = n; present = fetching hash.0 }))) {
           posts = to_each (set_at k x.view at (partition_at hash.0)) (BlockGet c.request n at hash);
         }
 
@@ -160,7 +160,7 @@ module _ {R L : Type 0} (k : Layouts L) where
 
 module _ {R L : Type 0} where
   abbrev pub block_came : Node R L → Call R → List ℕ → Present R → Did R L
-  block_came x c bytes fetching = ended x c (GaveBlock bytes)
+  block_came x c bytes (fetching hash) = ended x c (GaveBlock bytes)
   block_came x c bytes _ = quiet x
 
   abbrev pub at_call : Node R L → ℕ → (Call R → Did R L) → Option (Call R) → Did R L

@@ -15,7 +15,7 @@ module _ {R : Type 0} where
   goes_on_self (asking q answers) = refl
   goes_on_self (scanning q answers) = refl
   goes_on_self (storing rows slots) = refl
-  goes_on_self fetching = tt
+  goes_on_self (fetching hash) = refl
 
   -- a call that is found is there
   pub found_there : (calls : List (Call R)) (request : ℕ) (c : Call R) → call_at calls request ≡ Some c → Has calls c

@@ -17,7 +17,7 @@ GoesOn old resting = ⊤
 GoesOn (asking q before) (asking p after) = p ≡ q
 GoesOn (scanning q before) (scanning p after) = p ≡ q
 GoesOn (storing rows before) (storing others after) = others ≡ rows
-GoesOn fetching fetching = ⊤
+GoesOn (fetching before) (fetching after) = after ≡ before
 GoesOn _ _ = ⊥
 
 -- a request that was open, whose phase goes on
@@ -33,7 +33,7 @@ abbrev pub EndsSo : {R : Type 0} → Present R → PhaseEnd R → List R → Lis
 EndsSo (asking q answers) (GaveRow value) keeps reads = (keeps ≡ []) × (reads ≡ read q value ∷ [])
 EndsSo (scanning q answers) (GaveWindow rows end) keeps reads = (keeps ≡ []) × (reads ≡ scanned q rows end ∷ [])
 EndsSo (storing rows slots) IsKept keeps reads = (keeps ≡ rows) × (reads ≡ [])
-EndsSo fetching (GaveBlock bytes) keeps reads = (keeps ≡ []) × (reads ≡ [])
+EndsSo (fetching hash) (GaveBlock bytes) keeps reads = (keeps ≡ []) × (reads ≡ [])
 EndsSo _ _ keeps reads = ⊥
 
 -- the phase of an open request ended, and that request rests
@@ -60,7 +60,7 @@ abbrev pub Began : {R : Type 0} → List R → Phase R → Present R → Type 0
 Began kept (Read table position key) (asking q answers) = (answers ≡ []) × (q.table ≡ table) × (q.position ≡ position.0) × (q.key ≡ key) × (q.kept ≡ kept)
 Began kept (Range position prefix after) (scanning q answers) = (answers ≡ []) × (q.position ≡ position.0) × (q.prefix ≡ prefix) × (q.after ≡ after) × (q.kept ≡ kept)
 Began kept (Store rows) (storing stored slots) = stored ≡ map (λ r. r.0) rows
-Began kept (Block hash) fetching = ⊤
+Began kept (Block hash) (fetching asked) = asked ≡ hash.0
 Began kept _ _ = ⊥
 
 -- the request has its phase, and each other one is in the phase that it was in

@@ -21,7 +21,7 @@ IsPresent Resting resting = ⊤
 IsPresent (Asking call) (asking question answers) = ReadStands call question.set answers
 IsPresent (Scanning call) (scanning scan answers) = RangeStands call scan.set answers
 IsPresent (Storing call) (storing rows slots) = Stands call slots
-IsPresent Fetching fetching = ⊤
+IsPresent Fetching (fetching hash) = ⊤
 IsPresent _ _ = ⊥
 
 pub record IsCall {S R : Type 0} (c : Call S R) (m : Opened R) : Type 0 where
