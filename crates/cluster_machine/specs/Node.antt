@@ -34,7 +34,7 @@ pub data Present (R : Type 0) : Type 0 where
   asking : Question R → List (ℕ × Option R) → Present R
   scanning : Scan R → List (ℕ × RangeAnswer R) → Present R
   storing : List R → List StoreSlot → Present R
-  fetching : Present R  -- a block
+  fetching : List ℕ → Present R  -- the block with this hash
 
 -- an open request at its coordinator
 pub record Call (R : Type 0) : Type 0 where

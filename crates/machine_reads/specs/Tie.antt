@@ -310,12 +310,20 @@ module _ {R L : Type 0} (join : R → R → R) (s : Words R) (k : Layouts L) (pa
       pub round : IsRoundIn n x.round
       pub later_rounds : (number : ℕ) → x.rounds < number → g.rounds n number ≡ None
 
+  -- a proper row of which the plane kept a store, at its place
+  pub record IsKept (p : State) (r : R) : Type 0 where
+    pub proper : IsTrue (s.is_proper r)
+    pub store : plane.Store Place R
+    pub is_there : Contains p.kept store
+    pub key : store.key ≡ place_of s r
+    pub row : store.row ≡ r
+
   -- the machine's world and the plane's say the same, of nodes, messages, kept rows and reads
   pub record IsTied (w : World R L) (p : State) (g : Issued R L) : Type 0 where
     pub control : Controlled k partitions w p.control
     pub nodes : (n : ℕ) → IsNode p g (length w.requests) n (w.nodes n)
     pub kept : (q : Place) → kept_at both p.kept q ≡ at_place s join w.kept q
-    pub kept_proper : AllByRecursion (λ r. IsTrue (s.is_proper r)) w.kept
+    pub kept_rows : AllByRecursion (IsKept p) w.kept
     pub messages : AllByRecursion (Means p g) w.messages
     pub not_asked : (request phase : ℕ) → length w.requests < request → g.asks request phase ≡ None
     pub not_stored : (request phase slot : ℕ) → length w.requests < request → g.stores request phase slot ≡ None

@@ -22,7 +22,7 @@ IsPresent Resting resting = ⊤
 IsPresent (Asking call) (asking question answers) = ReadStands call question.set answers
 IsPresent (Scanning call) (scanning scan answers) = RangeStands call scan.set answers
 IsPresent (Storing call) (storing rows slots) = Stands call slots
-IsPresent Fetching fetching = ⊤
+IsPresent Fetching (fetching hash) = ⊤
 IsPresent _ _ = ⊥
 
 -- the code's request stands for the model's

@@ -77,14 +77,14 @@ module _ (s : State) (q : ℕ) (order : Order) (there : numbered s.orders q ≡ 
   }
   asks_present (scanning scan answers) b = absurd b
   asks_present (storing rows slots) b = absurd b
-  asks_present fetching b = absurd b
+  asks_present (fetching hash) b = absurd b
 
   stores_present : (version : Version) → order.version ≡ Some version → (p : Present AnyRow) → Began s.world.kept (Store ((object order.name version order.bytes, None) ∷ [])) p → IsPresent s.orders s.history q p
   stores_present version is resting b = absurd b
   stores_present version is (asking question answers) b = absurd b
   stores_present version is (scanning scan answers) b = absurd b
   stores_present version is (storing rows slots) b = record { order = order; version = version; is_there = there; version_is = is; rows_are = b }
-  stores_present version is fetching b = absurd b
+  stores_present version is (fetching hash) b = absurd b
 
   module _ (differ : (n : ℕ) → AreDifferent (s.world.nodes n).calls) where
     pub asks_fine : IsFine s (effect s (asks q order.name))

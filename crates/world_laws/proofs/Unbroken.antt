@@ -56,7 +56,7 @@ module _ {R L : Type 0} (x : Node R L) where
     stay_stored rows slots false = refl
 
     stay_block : (bytes : List ℕ) (p : Present R) → LayoutsStay x (block_came x c bytes p).node
-    stay_block bytes fetching = refl
+    stay_block bytes (fetching hash) = refl
     stay_block bytes _ = refl
 
     stay_row : (join : R → R → R) (from : ℕ) (row : Option R) (p : Present R) → LayoutsStay x (row_came join x c from row p).node
