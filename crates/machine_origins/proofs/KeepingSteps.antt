@@ -3,7 +3,7 @@ use Rattle.std.specs.Prelude.{◌≡◌, ◌≤◌, ℕ, suc, max, Bool, true, f
 use Rattle.std.specs.List.{filter, flat_map}
 use Rattle.std.proofs.Common.{ap, sym, subst, ◌∙◌, inl, arith}
 use Rattle.view_model.specs.View.{is_gapless, newest, read_version, merged, cleaned}
-use Rattle.view_model.specs.Joins.{newest_merged}
+use Rattle.view_model.proofs.Joins.{newest_merged}
 use Rattle.table_schema.specs.Words.{Words, partition_at, partition_of}
 use Rattle.quorum_model.specs.declared.range.RangeAnswer.{RangeAnswer}
 use Rattle.quorum_model.specs.Quorum.{StoreSlot, with_confirmation}

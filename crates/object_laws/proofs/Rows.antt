@@ -26,7 +26,7 @@ use Rattle.table_schema.specs.Laws.{Same}
 use Rattle.object_schema.specs.Laws.{schema_laws}
 use Rattle.object_schema.specs.Schema.{words}
 use Rattle.object_schema.specs.Triggers.{deleted_version, deleted_reference, given_up, released, triggered}
-use Rattle.machine_origins.specs.Origins.{IsInherited}
+use Rattle.machine_origins.proofs.ByOrigin.{IsInherited}
 use Rattle.blake2_hash.specs.Hash.{digest_of}
 use Rattle.object_model.specs.Object.{Name, row_key, state_of, object, Newest, absent, inline, in_blocks, of_state, of_version, newest_of}
 use Rattle.object_model.specs.Run.{Draw}

@@ -2,8 +2,8 @@
 use Rattle.std.specs.Prelude.{◌≡◌, ℕ, suc, Bool, true, false, not, cond, ◌==◌, nat_lt, IsTrue, List, ◌∷◌, ◌++◌, [], Option, Some, None, refl}
 use Rattle.std.proofs.Common.{ap, ◌∙◌}
 use Rattle.view_model.specs.View.{is_gapless, newest, read_version, ack_least, merged, cleaned}
-use Rattle.view_model.specs.Joins.{gapless_merged}
-use Rattle.view_model.specs.Cleans.{gapless_cleaned}
+use Rattle.view_model.proofs.Joins.{gapless_merged}
+use Rattle.view_model.proofs.Cleans.{gapless_cleaned}
 use Rattle.table_schema.specs.Words.{Words}
 use Rattle.quorum_model.specs.declared.range.RangeAnswer.{RangeAnswer}
 use Rattle.quorum_model.specs.Quorum.{StoreSlot, with_confirmation}

@@ -8,7 +8,7 @@ use Rattle.std.proofs.lemmas.List.Folds.{find-append}
 use Rattle.crdt_core.specs.EntryLaws.{and_parts, and_both}
 use Rattle.layout_trackers.specs.Trackers.{trackers_laws}
 use Rattle.view_model.specs.View.{Reading, View, follow, is_gapless, first_version, last_version, from, oldest, newest, merged, Agree}
-use Rattle.view_model.specs.Gapless.{at, Stored, lt_leb, followed, led, leads, below_oldest, none_at_0, above_newest, oldest_least, inside, same, first_is, last_is, at_from, from_none, all_from, left_out, gapless_from}
+use Rattle.view_model.proofs.Gapless.{at, Stored, lt_leb, followed, led, leads, below_oldest, none_at_0, above_newest, oldest_least, inside, same, first_is, last_is, at_from, from_none, all_from, left_out, gapless_from}
 
 le_of : {m n : ℕ} → m < suc n → m ≤ n
 le_of h = omega arith

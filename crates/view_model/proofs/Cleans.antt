@@ -5,7 +5,7 @@ use Rattle.std.proofs.Common.{ap, ap₂, sym, ◌∙◌, arith}
 use Rattle.std.proofs.lemmas.Bool.{eqb-true, eqb-false, leb-true, leb-false, le-leb}
 use Rattle.view_model.specs.View.{Reading, View, follow, is_gapless, last_version, from, newest, least_of, cleaned}
 use Rattle.layout_trackers.specs.declared.which.Which.TheVariants.{SyncAck}
-use Rattle.view_model.specs.Gapless.{at, lt_leb, beyond, followed, led, last_least, inside, above_newest, last_is, at_from, gapless_from, oldest_least}
+use Rattle.view_model.proofs.Gapless.{at, lt_leb, beyond, followed, led, last_least, inside, above_newest, last_is, at_from, gapless_from, oldest_least}
 
 or_true : (a : Bool) → (a || true) ≡ true
 or_true true = refl

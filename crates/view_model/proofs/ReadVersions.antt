@@ -12,9 +12,9 @@ use Rattle.layout_trackers.specs.declared.which.Which.TheVariants.{Sync, SyncAck
 use Rattle.layout_trackers.specs.Trackers.{entry, is_reached}
 use Rattle.layout_trackers.specs.Entries.{Grows, IsNotAbove, joins_grow, raises_grow, never_falls}
 use Rattle.layout_trackers.specs.Reaching.{reached_by}
-use Rattle.view_model.specs.View.{Reading, View, two_have, greatest, follow, is_gapless, first_version, last_version, oldest, newest, version_of, have_synced, is_established, is_readable, read_version, merged, appended, with_entry, Agree}
-use Rattle.view_model.specs.Gapless.{at, oldest_least}
-use Rattle.view_model.specs.Joins.{at_merged, oldest_merged, newest_merged, merged_comm}
+use Rattle.view_model.specs.View.{Reading, View, two_have, greatest, follow, is_gapless, first_version, last_version, oldest, newest, version_of, have_synced, is_established, is_readable, read_version, merged, appended, with_entry, Agree, GrewFrom}
+use Rattle.view_model.proofs.Gapless.{at, oldest_least}
+use Rattle.view_model.proofs.Joins.{at_merged, oldest_merged, newest_merged, merged_comm}
 
 -- ---- the greatest that passes
 
@@ -110,13 +110,6 @@ reached_more which v a b grows e =
     (reached_by which v b).1 (node, y, there, k)
 
 module _ {L : Type 0} (r : Reading L) where
-  -- how a view stands to one that it grew from
-  pub record GrewFrom (a b : View L) : Type 0 where
-    pub entries : Grows a.trackers b.trackers
-    pub oldest_grew : oldest r a ≤ oldest r b
-    pub newest_grew : newest r a ≤ newest r b
-    pub layouts : (i : ℕ) (x : L) → oldest r b ≤ i → at r a.layouts i ≡ Some x → at r b.layouts i ≡ Some x
-
   -- ---- the read version is what its sentence says
 
   pub read_known : (v : View L) → read_version r v ≤ newest r v
@@ -149,14 +142,14 @@ module _ {L : Type 0} (r : Reading L) where
       ap (have_synced r b i) (there x refl)
       ∙ all_more (λ node. leb i (version_of r Sync a node)) (λ node. leb i (version_of r Sync b node)) (λ node. synced_by (oldest r a) (oldest r b) i (entry Sync node a.trackers) (entry Sync node b.trackers) h (grows Sync node)) (r.sets x) e
 
-  established_more : (a b : View L) (i : ℕ) → GrewFrom a b → oldest r b < i → is_established r a i ≡ true → is_established r b i ≡ true
+  established_more : (a b : View L) (i : ℕ) → GrewFrom r a b → oldest r b < i → is_established r a i ≡ true → is_established r b i ≡ true
   established_more a b i grew h e =
       let p = and_parts (nat_lt (oldest r a) i) (have_synced r a i (at r a.layouts (pred i))) e in
       let low : oldest r a < i = ltb-true (oldest r a) i p.0 in
       and_both (nat_lt (oldest r b) i) (have_synced r b i (at r b.layouts (pred i))) (lt-ltb (oldest r b) i h)
       (synced_more a b i (at r a.layouts (pred i)) (at r b.layouts (pred i)) grew.entries low (λ x. grew.layouts (pred i) x (omega arith)) p.1)
 
-  still_readable : (a b : View L) (i : ℕ) → GrewFrom a b → oldest r b < i → is_readable r a i ≡ true → is_readable r b i ≡ true
+  still_readable : (a b : View L) (i : ℕ) → GrewFrom r a b → oldest r b < i → is_readable r a i ≡ true → is_readable r b i ≡ true
   still_readable a b i grew h e =
       let grown = grew.oldest_grew in
       let then : Bool = is_established r b i || is_reached SyncAck i b.trackers in
@@ -167,7 +160,7 @@ module _ {L : Type 0} (r : Reading L) where
       (λ s. or_first (is_established r b i) (is_reached SyncAck i b.trackers) (established_more a b i grew h s))
       (λ s. or_second (is_established r b i) (is_reached SyncAck i b.trackers) (reached_more SyncAck i a.trackers b.trackers grew.entries s))))
 
-  read_by : (a b : View L) (t : Bool) → leb (read_version r a) (oldest r b) ≡ t → is_gapless r a.layouts ≡ true → is_gapless r b.layouts ≡ true → GrewFrom a b → read_version r a ≤ read_version r b
+  read_by : (a b : View L) (t : Bool) → leb (read_version r a) (oldest r b) ≡ t → is_gapless r a.layouts ≡ true → is_gapless r b.layouts ≡ true → GrewFrom r a b → read_version r a ≤ read_version r b
   read_by a b true e f g grew =
       let low : read_version r a ≤ oldest r b = leb-true (read_version r a) (oldest r b) e in
       let next : oldest r b ≤ read_version r b = read_stored b g in
@@ -178,7 +171,7 @@ module _ {L : Type 0} (r : Reading L) where
       let grown = grew.newest_grew in
       read_greatest b (read_version r a) (still_readable a b (read_version r a) grew high (read_readable a f)) (omega arith)
 
-  pub read_grows : (a b : View L) → is_gapless r a.layouts ≡ true → is_gapless r b.layouts ≡ true → GrewFrom a b → read_version r a ≤ read_version r b
+  pub read_grows : (a b : View L) → is_gapless r a.layouts ≡ true → is_gapless r b.layouts ≡ true → GrewFrom r a b → read_version r a ≤ read_version r b
   read_grows a b f g grew = read_by a b (leb (read_version r a) (oldest r b)) refl f g grew
 
   -- ---- merge, raise and append only grow
@@ -187,7 +180,7 @@ module _ {L : Type 0} (r : Reading L) where
   or_kept None q x e = cc
   or_kept (Some y) q x e = e
 
-  pub merged_grew : (a b : View L) → is_gapless r a.layouts ≡ true → is_gapless r b.layouts ≡ true → GrewFrom a (merged r a b)
+  pub merged_grew : (a b : View L) → is_gapless r a.layouts ≡ true → is_gapless r b.layouts ≡ true → GrewFrom r a (merged r a b)
   merged_grew a b f g =
       let o = oldest_merged r a b f g in
       let n = newest_merged r a b f g in
@@ -198,10 +191,10 @@ module _ {L : Type 0} (r : Reading L) where
         layouts = λ i x h e. at_merged r a b i f g ∙ (rw (le-leb (max (oldest r a) (oldest r b)) i (omega arith)) (or_kept (at r a.layouts i) (at r b.layouts i) x e));
       }
 
-  pub merged_grew_other : (a b : View L) → is_gapless r a.layouts ≡ true → is_gapless r b.layouts ≡ true → Agree r a b → GrewFrom b (merged r a b)
-  merged_grew_other a b f g agree = subst (GrewFrom b) (sym (merged_comm r a b f g agree)) (merged_grew b a g f)
+  pub merged_grew_other : (a b : View L) → is_gapless r a.layouts ≡ true → is_gapless r b.layouts ≡ true → Agree r a b → GrewFrom r b (merged r a b)
+  merged_grew_other a b f g agree = subst (GrewFrom r b) (sym (merged_comm r a b f g agree)) (merged_grew b a g f)
 
-  pub raised_grew : (which : Which) (node i : ℕ) (v : View L) → GrewFrom v (with_entry r which node i v)
+  pub raised_grew : (which : Which) (node i : ℕ) (v : View L) → GrewFrom r v (with_entry r which node i v)
   raised_grew which node i v = record {
     entries = raises_grow which node i v.trackers;
     oldest_grew = omega arith;
@@ -235,7 +228,7 @@ module _ {L : Type 0} (r : Reading L) where
   pub newest_appended : (v : View L) (l : L) → newest r (appended r v l) ≡ r.version l
   newest_appended v l = last_of 0 v.layouts l
 
-  pub appended_grew : (v : View L) (l : L) → r.version l ≡ suc (newest r v) → GrewFrom v (appended r v l)
+  pub appended_grew : (v : View L) (l : L) → r.version l ≡ suc (newest r v) → GrewFrom r v (appended r v l)
   appended_grew v l e =
       let n = newest_appended v l in
       record {
