@@ -5,6 +5,7 @@ use Rattle.object_model.specs.declared.event.Event.{Event}
 use Rattle.object_model.specs.declared.event.Event.TheVariants.{Trio, Bucket, Role, Redundancy, Apply, Tick, Put, Get, Deliver, Drain, Expire, Gossip, Ack, Sync, SyncAck, Clean}
 use Rattle.text_model.specs.Grammar.{IsAllowed, role_words, redundancy_word}
 
+-- the byte is a space
 abbrev pub is_space : ℕ → Bool
 is_space b = b == 32
 
