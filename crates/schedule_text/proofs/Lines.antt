@@ -5,7 +5,7 @@ use Rattle.object_model.specs.declared.event.Event.{Event}
 use Rattle.object_model.specs.declared.event.Event.TheVariants.{Role}
 use Rattle.text_model.specs.Grammar.{Spells, words_of}
 use Rattle.text_model.specs.Words.{words_in, IsSpelledBy}
-use Rattle.text_model.specs.Spelled.{words_spelled, line_spelled}
+use Rattle.text_model.proofs.Spelled.{words_spelled, line_spelled}
 use Rattle.schedule_text.specs.declared.fault.LineFault.{LineFault}
 use Rattle.schedule_text.specs.declared.fault.LineFault.TheVariants.{Outside, Memory}
 use Rattle.schedule_text.specs.Reads.{Reads}

@@ -10,6 +10,7 @@ use Rattle.layout_roles.specs.declared.redundancy.Redundancy.TheVariants.{AtLeas
 use Rattle.object_model.specs.declared.event.Event.TheVariants.{Trio, Bucket, Role, Redundancy, Apply, Tick, Put, Get, Deliver, Drain, Expire, Gossip, Ack, Sync, SyncAck, Clean}
 use Rattle.object_model.specs.declared.event.Numbered.{Numbered}
 
+-- the number is in a range
 abbrev pub is_between : ℕ → ℕ → ℕ → Bool
 is_between low high b = nat_le low b && nat_le b high
 
@@ -57,12 +58,15 @@ pub record IsKey (key : List ℕ) : Type 0 where
   pub at_most : length key ≤ 64
   pub bytes : All (λ b. IsTrue (is_key_byte b)) key
 
+-- the number is in a range
 abbrev pub IsFrom : ℕ → ℕ → ℕ → Type 0
 IsFrom low high n = (low ≤ n) × (n ≤ high)
 
+-- a node's number is from 1 to 16
 abbrev pub IsNode : ℕ → Type 0
 IsNode n = IsFrom 1 16 n
 
+-- the word of a role's kind: its capacity in bytes, or gateway
 abbrev pub kind_word : Kind → List ℕ
 kind_word (Storage capacity) = decimal capacity
 kind_word Gateway = codes "gateway"
@@ -72,6 +76,7 @@ abbrev pub role_words : Option (Zone × Kind) → List (List ℕ)
 role_words None = codes "none" ∷ []
 role_words (Some role) = role.0.0 ∷ kind_word role.1 ∷ []
 
+-- the word of a redundancy: a number of zones, or maximum
 abbrev pub redundancy_word : wanted.Redundancy → List ℕ
 redundancy_word (AtLeast r) = decimal r
 redundancy_word Maximum = codes "maximum"
@@ -108,14 +113,17 @@ name_of e = first_word (words_of e)
 abbrev pub spelling : Event → List ℕ
 spelling e = join_with_byte 32 (words_of e)
 
+-- a capacity is from 1 byte to 1 PiB
 abbrev pub IsCapacity : Kind → Type 0
 IsCapacity (Storage capacity) = IsFrom 1 1125899906842624 capacity
 IsCapacity Gateway = ⊤
 
+-- a role is none, or a zone and a capacity
 abbrev pub IsRole : Option (Zone × Kind) → Type 0
 IsRole None = ⊤
 IsRole (Some role) = IsZone role.0.0 × IsCapacity role.1
 
+-- a redundancy is 1, 2 or 3 zones, or the maximum
 abbrev pub IsRedundancy : wanted.Redundancy → Type 0
 IsRedundancy (AtLeast r) = IsFrom 1 3 r
 IsRedundancy Maximum = ⊤
@@ -149,6 +157,7 @@ abbrev pub IsBlank : List ℕ → Type 0
 IsBlank [] = ⊤
 IsBlank (b ∷ bs) = b ≡ 35
 
+-- the byte at the front of the first line
 abbrev pub onto_first : ℕ → List (List ℕ) → List (List ℕ)
 onto_first b [] = (b ∷ []) ∷ []
 onto_first b (l ∷ ls) = (b ∷ l) ∷ ls
@@ -183,5 +192,6 @@ pub data IsFirstBad : ℕ → List (List ℕ) → ℕ → Type 0 where
   after_event : (n k : ℕ) (line : List ℕ) (event : Event) (lines : List (List ℕ)) →
       Spells line event → IsFirstBad (suc n) lines k → IsFirstBad n (line ∷ lines) k
 
+-- line k of the input is the first outside the grammar
 abbrev pub IsFirstBadLine : List ℕ → ℕ → Type 0
 IsFirstBadLine input k = IsFirstBad 1 (lines_of input) k

@@ -4,6 +4,7 @@ use Rattle.std.specs.List.{slice_split}
 use Rattle.object_model.specs.declared.event.Event.{Event}
 use Rattle.text_model.specs.Grammar.{words_of, IsAllowed}
 
+-- the byte is a space
 abbrev pub is_space : ℕ → Bool
 is_space b = b == 32
 

@@ -14,7 +14,7 @@ use Rattle.object_model.specs.declared.event.Event.{Event}
 use Rattle.object_model.specs.declared.event.Event.TheVariants.{Trio, Bucket, Role, Redundancy, Apply, Tick, Put, Get, Deliver, Drain, Expire, Gossip, Ack, Sync, SyncAck, Clean}
 use Rattle.object_model.specs.declared.event.Numbered.{Numbered}
 use Rattle.text_model.specs.Grammar.{spelling, Spells, IsAllowed, IsCapacity, IsRedundancy, is_digit, kind_word, redundancy_word, IsBlank, IsBad, SpellsAll, no_line, blank_line, event_line, IsFirstBad, this_line, after_blank, after_event, IsSchedule, IsFirstBadLine, words_of}
-use Rattle.text_model.specs.Spelled.{words_spelled}
+use Rattle.text_model.proofs.Spelled.{words_spelled}
 
 abbrev number_in : List ℕ → ℕ
 number_in word = digits_value 10 word
