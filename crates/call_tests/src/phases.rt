@@ -68,6 +68,13 @@ fn marker(alloc: Global, key: &[u8]) -> Result<AnyRow, Memory> {
     Ok(AnyRow::Object(ObjectRow::single(alloc, bucket, key, version, state)?))
 }
 
+fn is_a(end: &Option<Bytes>) -> bool {
+    match end {
+        Some(end) => end.as_slice() == b"a".as_slice(),
+        None => false,
+    }
+}
+
 // The window of the first node's answer, `a` and perhaps more, and the third's, `a` and `b`: whether it comes with the
 // second answer, has `a` alone, and ends there.
 fn window_ends_at_a(alloc: Global) -> Result<bool, Memory> {
@@ -79,8 +86,8 @@ fn window_ends_at_a(alloc: Global) -> Result<bool, Memory> {
         return Ok(false);
     }
     match call.answer(alloc, 3, markers(alloc, &[b"a", b"b"])?, false)? {
-        Some((rows, Some(end))) => Ok(rows.len() == 1 && end.as_slice() == b"a".as_slice()),
-        _ => Ok(false),
+        Some((rows, end)) => Ok(rows.len() == 1 && is_a(&end)),
+        None => Ok(false),
     }
 }
 

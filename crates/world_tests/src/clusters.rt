@@ -170,13 +170,14 @@ impl Cluster {
         if !is_bare(&envelope.packet) {
             return Err(Memory::Full);
         }
-        let node = match envelope.to {
-            1 => &mut self.first,
-            2 => &mut self.second,
-            3 => &mut self.third,
-            _ => &mut self.fourth,
+        let (from, packet) = (envelope.from, &envelope.packet);
+        let end = match envelope.to {
+            1 => self.first.on_packet(from, packet, 0, answers)?,
+            2 => self.second.on_packet(from, packet, 0, answers)?,
+            3 => self.third.on_packet(from, packet, 0, answers)?,
+            _ => self.fourth.on_packet(from, packet, 0, answers)?,
         };
-        match node.on_packet(envelope.from, &envelope.packet, 0, answers)? {
+        match end {
             Some((_, end)) => Ok(Some(end)),
             None => Ok(None),
         }
@@ -318,7 +319,7 @@ fn rows_move_to_the_nodes_of_the_next_version(rt: HostRuntime) -> Result<(), Fai
         (3, (2, 2, 1, 1, 1)),
         (4, (2, 2, 2, 0, 1)),
     ] {
-        assert_eq!(rt; figures(rt.alloc(), &ACTIONS[..count])?, wanted);
+        assert_eq!(rt; figures(rt.alloc(), &ACTIONS[..count.min(4)])?, wanted);
     }
     Ok(())
 }
