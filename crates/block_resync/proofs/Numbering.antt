@@ -1,10 +1,13 @@
 -- Items whose numbers ascend: the one with a number, and what stays when items change.
-use Rattle.std.proofs.Common.{◌≡◌, ◌<◌, ◌≤◌, ℕ, zero, suc, ◌+◌, Bool, true, false, ◌&&◌, ◌||◌, ◌==◌, List, [], ◌∷◌, ◌++◌, Some, map, not, cond, get_or, Result, Ok, Err, refl, sym, ap, ◌∙◌, arith}
+use Rattle.std.proofs.Common.{◌≡◌, ◌<◌, ◌≤◌, ℕ, zero, suc, ◌+◌, Bool, true, false, ◌&&◌, ◌==◌, List, [], ◌∷◌, ◌++◌, Some, map, not, cond, get_or, Result, Ok, Err, refl, sym, ap, ◌∙◌, arith}
 use Rattle.std.specs.Prelude.{if◌then◌else◌, slice_get, slice_set, remove, OnOk, OnErr}
 use Rattle.std.specs.List.{AllByRecursion, filter, list_any}
-use Rattle.std.specs.Option.{unwrap_or, is_some}
+use Rattle.std.specs.Option.{is_some}
 use borrow.Author.Tests.{eqb-true, eq-eqb}
-use Rattle.block_resync.specs.Outbox.{numbers, Rises, IsNumbered, item_confirmed, item_forgot, is_among}
+use Rattle.std.proofs.lemmas.Option.{same_Some}
+use Rattle.block_resync.specs.Outbox.{numbers, Rises, IsNumbered, item_confirmed, item_forgot}
+use Rattle.quorum_model.specs.Quorum.{is_among}
+use Rattle.std.proofs.Math.Bool.{or-false}
 use Rattle.crdt_core.specs.declared.memory.Memory.{Memory}
 use Rattle.block_resync.specs.declared.item.Item.{Item}
 
@@ -30,18 +33,16 @@ apart_above a b lt =
       | false ↦ λ e. refl
     ] refl
 
-none_past : (n low : ℕ) (items : List Item) → n ≤ low → Rises low (numbers items) → NoneHas n items
+-- what is at most `low` is no number above it
+pub none_past : (n low : ℕ) (items : List Item) → n ≤ low → Rises low (numbers items) → NoneHas n items
 none_past n low [] le r = tt
 none_past n low (x ∷ xs) le r = (apart x.number n (omega (arith, r.0)), none_past n x.number xs (omega (arith, r.0)) r.1)
-
-some_same : (v w : Item) → Some v ≡ Some w → v ≡ w
-some_same v w e = ap (λ o. unwrap_or o v) e
 
 -- an item is above what is below all
 above_item : (n low : ℕ) (items : List Item) (i : ℕ) (v : Item) → Rises low (numbers items) → slice_get items i ≡ Some v → v.number ≡ n → low < n
 above_item n low [] i v r at_i is = absurd (let no : false ≡ true = ap is_some at_i in cc)
 above_item n low (x ∷ xs) zero v r at_i is =
-    let here : x.number ≡ n = ap (λ k. k.number) (some_same x v at_i) ∙ is in omega (arith, r.0, here)
+    let here : x.number ≡ n = ap (λ k. k.number) (same_Some x v at_i) ∙ is in omega (arith, r.0, here)
 above_item n low (x ∷ xs) (suc i) v r at_i is =
     let later = above_item n x.number xs i v r.1 at_i is in omega (arith, r.0, later)
 
@@ -59,7 +60,7 @@ none_changed f n (x ∷ xs) none =
 pub one_changed : (f : Item → Item) (n low : ℕ) (items : List Item) (i : ℕ) (v y : Item) → Rises low (numbers items) → slice_get items i ≡ Some v → v.number ≡ n → y ≡ f v → slice_set items i y ≡ changed_in f n items
 one_changed f n low [] i v y r at_i is changes = absurd (let no : false ≡ true = ap is_some at_i in cc)
 one_changed f n low (x ∷ xs) zero v y r at_i is changes =
-    let same = some_same x v at_i in
+    let same = same_Some x v at_i in
     let here : x.number ≡ n = ap (λ k. k.number) same ∙ is in
     let first : y ≡ (if x.number == n then f x else x) = changes ∙ ap f (sym same) ∙ rw (eq-eqb x.number n here) refl in
     let rest = none_changed f n xs (none_past n x.number xs (omega (arith, here)) r.1) in
@@ -75,16 +76,12 @@ pub none_found : (q : Item → Bool) (n : ℕ) (items : List Item) → NoneHas n
 none_found q n [] none = refl
 none_found q n (x ∷ xs) none = rw none.0 (none_found q n xs none.1)
 
-or_false : (a : Bool) → (a || false) ≡ a
-or_false true = refl
-or_false false = refl
-
 pub one_found : (q : Item → Bool) (n low : ℕ) (items : List Item) (i : ℕ) (v : Item) → Rises low (numbers items) → slice_get items i ≡ Some v → v.number ≡ n → list_any (λ x. (x.number == n) && q x) items ≡ q v
 one_found q n low [] i v r at_i is = absurd (let no : false ≡ true = ap is_some at_i in cc)
 one_found q n low (x ∷ xs) zero v r at_i is =
-    let same = some_same x v at_i in
+    let same = same_Some x v at_i in
     let here : x.number ≡ n = ap (λ k. k.number) same ∙ is in
-    rw (eq-eqb x.number n here, none_found q n xs (none_past n x.number xs (omega (arith, here)) r.1)) (or_false (q x) ∙ ap q same)
+    rw (eq-eqb x.number n here, none_found q n xs (none_past n x.number xs (omega (arith, here)) r.1)) (or-false (q x) ∙ ap q same)
 one_found q n low (x ∷ xs) (suc i) v r at_i is =
     let later : x.number < n = above_item n x.number xs i v r.1 at_i is in
     rw (apart_above x.number n later) (one_found q n x.number xs i v r.1 at_i is)
@@ -101,7 +98,7 @@ none_left_out n (x ∷ xs) none = rw none.0 (ap (λ t. x ∷ t) (none_left_out n
 pub one_left_out : (n low : ℕ) (items : List Item) (i : ℕ) (v : Item) → Rises low (numbers items) → slice_get items i ≡ Some v → v.number ≡ n → remove items i ≡ left_of n items
 one_left_out n low [] i v r at_i is = absurd (let no : false ≡ true = ap is_some at_i in cc)
 one_left_out n low (x ∷ xs) zero v r at_i is =
-    let here : x.number ≡ n = ap (λ k. k.number) (some_same x v at_i) ∙ is in
+    let here : x.number ≡ n = ap (λ k. k.number) (same_Some x v at_i) ∙ is in
     rw (eq-eqb x.number n here) (sym (none_left_out n xs (none_past n x.number xs (omega (arith, here)) r.1)))
 one_left_out n low (x ∷ xs) (suc i) v r at_i is =
     let later : x.number < n = above_item n x.number xs i v r.1 at_i is in
@@ -136,7 +133,7 @@ numbered_left n top items k = record { rises = rises_left n 0 items k.rises; giv
 pub renumbered : (top : ℕ) (items others : List Item) → numbers others ≡ numbers items → IsNumbered top items → IsNumbered top others
 renumbered top items others same k = record { rises = rw same k.rises; given = rw same k.given }
 
-same_number : (node : ℕ) (x : Item) → (item_confirmed node x).number ≡ x.number
+pub same_number : (node : ℕ) (x : Item) → (item_confirmed node x).number ≡ x.number
 same_number node x =
     elim (is_among node x.confirmed) as (λ b. (if b then x else record x { confirmed = x.confirmed ++ node ∷ [] }).number ≡ x.number) [ true ↦ refl | false ↦ refl ]
 
@@ -146,17 +143,17 @@ forgot_numbers (x ∷ xs) = ap (λ ns. x.number ∷ ns) (forgot_numbers xs)
 
 pub set_same : (items : List Item) (i : ℕ) (v y : Item) → slice_get items i ≡ Some v → y ≡ v → slice_set items i y ≡ items
 set_same [] i v y at_i e = absurd (let no : false ≡ true = ap is_some at_i in cc)
-set_same (x ∷ xs) zero v y at_i e = ap (λ z. z ∷ xs) (e ∙ sym (some_same x v at_i))
+set_same (x ∷ xs) zero v y at_i e = ap (λ z. z ∷ xs) (e ∙ sym (same_Some x v at_i))
 set_same (x ∷ xs) (suc i) v y at_i e = ap (λ t. x ∷ t) (set_same xs i v y at_i e)
 
 pub read_at : (items : List Item) (i : ℕ) (v : Item) → slice_get items i ≡ Some v → v ≡ get_or items i v
 read_at [] i v at_i = refl
-read_at (x ∷ xs) zero v at_i = sym (some_same x v at_i)
+read_at (x ∷ xs) zero v at_i = sym (same_Some x v at_i)
 read_at (x ∷ xs) (suc i) v at_i = read_at xs i v at_i
 
 set_numbers : (items : List Item) (i : ℕ) (v y : Item) → slice_get items i ≡ Some v → y.number ≡ v.number → numbers (slice_set items i y) ≡ numbers items
 set_numbers [] i v y at_i e = absurd (let no : false ≡ true = ap is_some at_i in cc)
-set_numbers (x ∷ xs) zero v y at_i e = ap (λ n. n ∷ numbers xs) (e ∙ ap (λ k. k.number) (sym (some_same x v at_i)))
+set_numbers (x ∷ xs) zero v y at_i e = ap (λ n. n ∷ numbers xs) (e ∙ ap (λ k. k.number) (sym (same_Some x v at_i)))
 set_numbers (x ∷ xs) (suc i) v y at_i e = ap (λ ns. x.number ∷ ns) (set_numbers xs i v y at_i e)
 
 still_numbered : (r : Result (Unit {0}) Memory) (node : ℕ) (v y : Item) → OnOk r (y ≡ item_confirmed node v) → OnErr r (y ≡ v) → y.number ≡ v.number

@@ -18,7 +18,8 @@ rises_by a b k Less e p = rw p (omega arith)
 rises_by a b k Equal e p = rw (p, turned nat_cmp_total k b Less (sym (nat_cmp_total.congr a k b p) ∙ e)) (omega arith)
 rises_by a b k Greater e p = rw (p, turned nat_cmp_total k b Less (nat_cmp_total.trans k a b (turned nat_cmp_total a k Greater p) e)) (omega arith)
 
-number_above : (low : ℕ) (items : List Item) (i : ℕ) (d : Item) → Rises low (numbers items) → i < length items → low < (get_or items i d).number
+-- a number is above what is below all
+pub number_above : (low : ℕ) (items : List Item) (i : ℕ) (d : Item) → Rises low (numbers items) → i < length items → low < (get_or items i d).number
 number_above low [] i d r lt = absurd (omega arith)
 number_above low (x ∷ xs) zero d r lt = r.0
 number_above low (x ∷ xs) (suc i) d r lt =

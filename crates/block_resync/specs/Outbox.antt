@@ -1,9 +1,10 @@
 -- The outbox: a list of numbered items, and what each call makes of it. And which blocks are due.
-use Rattle.std.specs.Prelude.{◌≡◌, ◌<◌, ◌≤◌, ℕ, ◌+◌, ◌-◌, ◌^◌, Bool, not, if◌then◌else◌, ◌==◌, ◌&&◌, List, [], ◌∷◌, ◌++◌, map, nat_le, count_by}
+use Rattle.std.specs.Prelude.{◌≡◌, ◌<◌, ◌≤◌, ℕ, ◌+◌, ◌-◌, ◌^◌, Bool, not, if◌then◌else◌, ◌==◌, ◌&&◌, List, [], ◌∷◌, ◌++◌, map, nat_le}
 use Rattle.std.specs.List.{AllByRecursion, filter, list_all, list_any}
 use Rattle.blake2_hash.specs.declared.digest.Hash32.{Hash32}
 use Rattle.crdt_core.specs.declared.memory.Memory.{Memory}
 use Rattle.crdt_core.specs.declared.memory.Memory.TheVariants.{Want, Full}
+use Rattle.quorum_model.specs.Quorum.{is_among, two_of}
 use Rattle.block_resync.specs.declared.item.Item.{Item}
 
 -- items that wait to be confirmed
@@ -34,14 +35,6 @@ pub record IsNumbered (pushed : ℕ) (items : List Item) : Type 0 where
   pub given : AllByRecursion (λ n. n ≤ pushed) (numbers items)
 
 -- ---- confirmations
-
--- n is one of these nodes
-abbrev pub is_among : ℕ → List ℕ → Bool
-is_among n nodes = list_any (λ m. m == n) nodes
-
--- two nodes of the set are among these
-abbrev pub two_of : List ℕ → List ℕ → Bool
-two_of set nodes = nat_le 2 (count_by (λ n. is_among n nodes) set)
 
 -- two nodes of each set have confirmed the item
 abbrev pub two_of_each : List (List ℕ) → Item → Bool

@@ -1,6 +1,6 @@
 //! Which nodes have confirmed.
 ghost use Rattle.std.specs.Prelude.{◌≡◌};
-ghost use Rattle.block_resync.specs.Outbox.{is_among, two_of};
+ghost use Rattle.quorum_model.specs.Quorum.{is_among, two_of};
 
 /// The node is one of these.
 pub fn is_among(node: u8, nodes: &[u8]) -> bool

@@ -15,10 +15,7 @@ use Rattle.std.proofs.lemmas.List.Sums.{sum_by-cons}
 use Rattle.blake2_hash.specs.declared.digest.Hash32.{Hash32}
 use Rattle.blake2_hash.specs.Hash.{hash_cmp, hash_total, hash_identical, is_hash}
 use Rattle.block_store.specs.Contents.{Contents, block_at, live_count, note_at, placed, without, put, told_dead, idle_notes}
-use Rattle.block_store.proofs.Showing.{same_hash}
-
-abbrev one_at : Hash32 → Hash32 → ℕ
-one_at q k = cond (is_hash q k) 1 0
+use Rattle.block_store.proofs.Showing.{one_at, same_hash}
 
 turned : (h q : Hash32) → is_hash q h ≡ is_hash h q
 turned h q = (eq_by_cmp_equiv hash_total).symm q h

@@ -5,8 +5,7 @@ use Rattle.std.specs.List.{AllByRecursion, filter}
 use Rattle.std.specs.List.Sorted.{IsStrictlySortedBy}
 use Rattle.std.specs.Map.{lookup, remove_entry, set_value, keys_of}
 use Rattle.std.specs.Ordering.{is_eq, match_ordering}
-use Rattle.std.specs.Cmp.{tied_itself, eq_by_cmp_equiv}
-use Rattle.std.specs.declared.cmp.Ordering.{Ordering}
+use Rattle.std.specs.Cmp.{tied_itself, eq_by_cmp_equiv, Equal-is}
 use Rattle.std.specs.declared.cmp.Ordering.TheVariants.{Less, Equal, Greater}
 use Rattle.std.specs.BTreeMap.{insert_entry}
 use Rattle.std.proofs.lemmas.Map.{NonePasses, lookup-none}
@@ -14,6 +13,7 @@ use Rattle.std.proofs.lemmas.Map.Entries.{none_past_head, none_below_head}
 use Rattle.std.proofs.lemmas.Map.Keys.{sorted_head, sorted_tail, IsDistinct-from_sorted}
 use Rattle.std.proofs.lemmas.List.Sums.{sum_by-append}
 use Rattle.std.proofs.lemmas.List.Folds.{sum_by-replicate}
+use Rattle.std.proofs.lemmas.Option.{same_Some}
 use Rattle.blake2_hash.specs.declared.digest.Hash32.{Hash32}
 use Rattle.block_store.specs.declared.shelf.Kept.{Kept}
 use Rattle.blake2_hash.specs.Hash.{hash_cmp, hash_total, hash_identical, is_hash}
@@ -31,13 +31,8 @@ Above h es = AllByRecursion (λ k. hash_cmp h k ≡ Less) (keys_of es)
 abbrev pub count_at : Hash32 → Entries → ℕ
 count_at h es = unwrap_or (option_map (λ k. k.count) (lookup (is_hash h) es)) 0
 
-equal_from : (r : Ordering) → is_eq r ≡ true → r ≡ Equal
-equal_from Less e = cc
-equal_from Equal e = refl
-equal_from Greater e = cc
-
 pub same_hash : (h k : Hash32) → is_hash h k ≡ true → h ≡ k
-same_hash h k e = hash_identical h k (equal_from (hash_cmp h k) e)
+same_hash h k e = hash_identical h k ((Equal-is (hash_cmp h k)).0 e)
 
 -- the other way round
 less_back : (h k : Hash32) → hash_cmp h k ≡ Greater → hash_cmp k h ≡ Less
@@ -48,7 +43,8 @@ greater_back h k e = rw (hash_total.antisymm k h, e) refl
 
 -- ---- counts
 
-abbrev one_at : Hash32 → Hash32 → ℕ
+-- 1 where the hashes are the same
+abbrev pub one_at : Hash32 → Hash32 → ℕ
 one_at h k = cond (is_hash h k) 1 0
 
 count_past : (h : Hash32) (e : Hash32 × Kept) (es : Entries) → is_hash h e.0 ≡ false → count_by (is_hash h) (live_of (e ∷ es)) ≡ count_by (is_hash h) (live_of es)
@@ -109,14 +105,11 @@ notes_inserted h bytes (e ∷ es) n =
 
 -- ---- a reference more, or less
 
-some_same : (v w : Kept) → Some v ≡ Some w → v ≡ w
-some_same v w e = ap (λ o. unwrap_or o v) e
-
 pub blocks_same : (test : Hash32 → Bool) (v w : Kept) (es : Entries) → lookup test es ≡ Some v → w.bytes ≡ v.bytes → blocks_of (set_value test es w) ≡ blocks_of es
 blocks_same test v w [] l e = refl
 blocks_same test v w (x ∷ es) l e =
     elim (test x.0) as (λ b. cond b (Some x.1) (lookup test es) ≡ Some v → blocks_of (cond b ((x.0, w) ∷ es) (x ∷ set_value test es w)) ≡ blocks_of (x ∷ es)) [
-      | true ↦ λ t. ap (λ bytes. (x.0, bytes) ∷ blocks_of es) (e ∙ ap (λ k. k.bytes) (sym (some_same x.1 v t)))
+      | true ↦ λ t. ap (λ bytes. (x.0, bytes) ∷ blocks_of es) (e ∙ ap (λ k. k.bytes) (sym (same_Some x.1 v t)))
       | false ↦ λ t. ap (λ bs. (x.0, x.1.bytes) ∷ bs) (blocks_same test v w es t e)
     ] l
 
@@ -124,7 +117,7 @@ pub notes_same : (test : Hash32 → Bool) (v w : Kept) (es : Entries) → lookup
 notes_same test v w [] l e = refl
 notes_same test v w (x ∷ es) l e =
     elim (test x.0) as (λ b. cond b (Some x.1) (lookup test es) ≡ Some v → notes_of (cond b ((x.0, w) ∷ es) (x ∷ set_value test es w)) ≡ notes_of (x ∷ es)) [
-      | true ↦ λ t. ap (λ n. note_before x.0 n (notes_of es)) (e ∙ ap (λ k. k.note) (sym (some_same x.1 v t)))
+      | true ↦ λ t. ap (λ n. note_before x.0 n (notes_of es)) (e ∙ ap (λ k. k.note) (sym (same_Some x.1 v t)))
       | false ↦ λ t. ap (note_before x.0 x.1.note) (notes_same test v w es t e)
     ] l
 
@@ -159,7 +152,7 @@ counted_up h v w (x ∷ es) s l e =
       | Equal ↦ λ t m.
           let same : h ≡ x.0 = hash_identical h x.0 t in
           let above = sorted_head hash_cmp x.0 (keys_of es) s in
-          rw (e, ← some_same x.1 v m, same) (sym (placed_here x.0 x.1.count es above))
+          rw (e, ← same_Some x.1 v m, same) (sym (placed_here x.0 x.1.count es above))
       | Greater ↦ λ t m.
           ap (λ ks. replicate x.1.count x.0 ++ ks) (counted_up h v w es (sorted_tail hash_cmp x.0 (keys_of es) s) m e)
           ∙ sym (placed_past h x.0 x.1.count (live_of es) (less_back h x.0 t))
@@ -174,7 +167,7 @@ counted_down h v w [] l e = absurd (let f : false ≡ true = ap is_some l in cc)
 counted_down h v w (x ∷ es) l e =
     elim (is_hash h x.0) as (λ b. is_hash h x.0 ≡ b → cond b (Some x.1) (lookup (is_hash h) es) ≡ Some v → live_of (cond b ((x.0, w) ∷ es) (x ∷ set_value (is_hash h) es w)) ≡ without h (live_of (x ∷ es))) [
       | true ↦ λ t m.
-          let count : x.1.count ≡ suc w.count = ap (λ k. k.count) (some_same x.1 v m) ∙ e in
+          let count : x.1.count ≡ suc w.count = ap (λ k. k.count) (same_Some x.1 v m) ∙ e in
           rw (count, t) refl
       | false ↦ λ t m.
           ap (λ ks. replicate x.1.count x.0 ++ ks) (counted_down h v w es m e)

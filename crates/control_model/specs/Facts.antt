@@ -1,6 +1,6 @@
 -- The words in which the laws say what holds of each world that steps lead to, and what each step does.
-use Rattle.std.specs.Prelude.{◌≡◌, ◌⊎◌, ◌<◌, ◌≤◌, ℕ, suc, pred, List, [], ◌∷◌, Some, IsTrue}
-use Rattle.crdt_core.specs.Members.{Has}
+use Rattle.std.specs.Prelude.{◌≡◌, ◌⊎◌, ◌<◌, ◌≤◌, ℕ, suc, pred, List, Some, IsTrue}
+use Rattle.crdt_core.specs.Members.{Has, TwoOf}
 use Rattle.layout_trackers.specs.declared.which.Which.{Which}
 use Rattle.layout_trackers.specs.declared.which.Which.TheVariants.{Ack, SyncAck}
 use Rattle.layout_trackers.specs.Trackers.{counts}
@@ -8,16 +8,6 @@ use Rattle.view_model.specs.View.{Reading, View, is_gapless, oldest, newest, lay
 use Rattle.control_model.specs.Layouts.{IsMember, set_in, is_lawful}
 use Rattle.control_model.specs.World.{Request, Round, World, view_of, layout_of}
 use Rattle.control_model.specs.Steps.{round_of}
-
--- P of one of these
-abbrev pub OneOf : (ℕ → Type 0) → List ℕ → Type 0
-OneOf P [] = ⊥
-OneOf P (n ∷ ns) = P n ⊎ OneOf P ns
-
--- P of two of these, at different places
-abbrev pub TwoOf : (ℕ → Type 0) → List ℕ → Type 0
-TwoOf P [] = ⊥
-TwoOf P (n ∷ ns) = (P n × OneOf P ns) ⊎ TwoOf P ns
 
 -- a node's version in a view, 0 where it has no entry: no version is 0
 abbrev pub entry_of : {L : Type 0} → Which → View L → ℕ → ℕ

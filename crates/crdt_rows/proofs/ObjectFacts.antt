@@ -2,6 +2,7 @@
 use Rattle.std.proofs.Common.{◌≡◌, inl, inr, Bool, true, false, cond, ◌||◌, Option, Some, None, option_map, refl, ap, sym, ◌∙◌, Ordering, Less, Equal, Greater}
 use Rattle.std.specs.Ordering.{is_lt}
 use Rattle.std.specs.Cmp.{tied_itself}
+use Rattle.std.proofs.lemmas.Option.{same_Some}
 use Rattle.crdt_core.specs.declared.max.Max.{Max}
 use Rattle.crdt_core.specs.Lex.{by_order, larger, turned}
 use Rattle.crdt_core.specs.Order.{option_join}
@@ -16,12 +17,12 @@ use Rattle.crdt_rows.specs.Version.{version_cmp, version_total, version_identica
 use Rattle.crdt_rows.specs.Newest.{later, is_older, final_older, final_at_most, newest_final}
 use Rattle.crdt_rows.specs.ObjectRow.{object_key, object_key_cmp, key_total, newest, state_at, object_join, same_row, join-state, join-newest, join-bucket, join-key}
 use Rattle.crdt_rows.specs.Facts.{HasState, IsCurrent, IsObjectJoin, IsNewest}
-use Rattle.crdt_rows.proofs.Said.{picked, none_above, is_picked, inside}
+use Rattle.crdt_rows.proofs.Said.{picked, none_above, is_picked}
 
 -- a version's state in a row is the value that its map has
 pub held : (x : Option (Max State)) (s : State) → option_map (λ m. m.0) x ≡ Some s → x ≡ Some (record { 0 = s })
 held None s e = let no : None ≡ Some s = e in cc
-held (Some m) s e = λ i. Some (record { 0 = inside m.0 s e i })
+held (Some m) s e = λ i. Some (record { 0 = same_Some m.0 s e i })
 
 complete_body : (s : State) → is_complete s ≡ true → (body : Body) × (s ≡ Complete body)
 complete_body Uploading h = let no : false ≡ true = h in cc
@@ -110,7 +111,7 @@ states_decide : (x y : Option (Max State)) → option_map (λ m. m.0) x ≡ opti
 states_decide None None e = refl
 states_decide None (Some n) e = let no : None ≡ Some n.0 = e in cc
 states_decide (Some m) None e = let no : Some m.0 ≡ None = e in cc
-states_decide (Some m) (Some n) e = λ i. Some (record { 0 = inside m.0 n.0 e i })
+states_decide (Some m) (Some n) e = λ i. Some (record { 0 = same_Some m.0 n.0 e i })
 
 -- rows with one key that say the same are one
 pub facts_decide : (a b : ObjectRow) → object_key a ≡ object_key b → ((v : Version) → state_at a v ≡ state_at b v) → a ≡ b
@@ -133,7 +134,7 @@ newest_by r (Some n) e = (
   newest_held r n e,
   λ v body h.
       let most : later version_cmp (Some v) (Some n) ≡ Some n = ap (later version_cmp (Some v)) (sym e) ∙ (at_most r v body h ∙ e) in
-      not_newer n v (version_cmp v n) refl (inside (larger version_cmp v n) n most),
+      not_newer n v (version_cmp v n) refl (same_Some (larger version_cmp v n) n most),
 )
 
 pub newest_is : (r : ObjectRow) → IsNewest (HasState r) (newest r)

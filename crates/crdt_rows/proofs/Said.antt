@@ -1,13 +1,11 @@
 -- The greater of two values of which each may be missing, as what either says.
-use Rattle.std.proofs.Common.{◌≡◌, ◌⊎◌, inl, inr, true, false, Option, Some, None, unwrap_or, refl, ap, sym, subst, ◌∙◌, Ordering, Less, Equal, Greater}
+use Rattle.std.proofs.Common.{◌≡◌, ◌⊎◌, inl, inr, true, false, Option, Some, None, refl, ap, sym, subst, ◌∙◌, Ordering, Less, Equal, Greater}
 use Rattle.std.specs.Ordering.{is_gt}
 use Rattle.std.specs.Cmp.{IsTotalOrder, tied_itself}
+use Rattle.std.proofs.lemmas.Option.{same_Some}
 use Rattle.crdt_core.specs.Orders.{Identifies}
 use Rattle.crdt_core.specs.Lex.{by_order, larger, turned}
 use Rattle.crdt_core.specs.Order.{option_join}
-
-pub inside : {X : Type 0} (x y : X) → Some x ≡ Some y → x ≡ y
-inside x y e = ap (λ o. unwrap_or o x) e
 
 module _ {X : Type 0} {R : X → X → Ordering} (o : IsTotalOrder R) (same : Identifies R) where
   abbrev Said : Option X → Option X → X → Type 0
@@ -28,7 +26,7 @@ module _ {X : Type 0} {R : X → X → Ordering} (o : IsTotalOrder R) (same : Id
   pub picked : (x y : Option X) (z : X) → option_join (larger R) x y ≡ Some z → Said x y z
   picked None y z e = inr e
   picked (Some u) None z e = inl e
-  picked (Some u) (Some t) z e = some_of u t z (pick u t z (R u t) refl (inside (larger R u t) z e))
+  picked (Some u) (Some t) z e = some_of u t z (pick u t z (R u t) refl (same_Some (larger R u t) z e))
 
   left_below : (u t z : X) (r : Ordering) → R u t ≡ r → by_order r t u u ≡ z → is_gt (R u z) ≡ false
   left_below u t z Less p e = ap is_gt (ap (R u) (sym e) ∙ p)
@@ -42,13 +40,13 @@ module _ {X : Type 0} {R : X → X → Ordering} (o : IsTotalOrder R) (same : Id
 
   pub none_above : (x y : Option X) (z : X) → option_join (larger R) x y ≡ Some z → (w : X) → Said x y w → is_gt (R w z) ≡ false
   none_above None y z e w (inl h) = let no : None ≡ Some w = h in cc
-  none_above None y z e w (inr h) = not_above_itself w z (inside w z (sym h ∙ e))
-  none_above (Some u) None z e w (inl h) = not_above_itself w z (inside w z (sym h ∙ e))
+  none_above None y z e w (inr h) = not_above_itself w z (same_Some w z (sym h ∙ e))
+  none_above (Some u) None z e w (inl h) = not_above_itself w z (same_Some w z (sym h ∙ e))
   none_above (Some u) None z e w (inr h) = let no : None ≡ Some w = h in cc
   none_above (Some u) (Some t) z e w (inl h) =
-      subst (λ k. is_gt (R k z) ≡ false) (inside u w h) (left_below u t z (R u t) refl (inside (larger R u t) z e))
+      subst (λ k. is_gt (R k z) ≡ false) (same_Some u w h) (left_below u t z (R u t) refl (same_Some (larger R u t) z e))
   none_above (Some u) (Some t) z e w (inr h) =
-      subst (λ k. is_gt (R k z) ≡ false) (inside t w h) (right_below u t z (R u t) refl (inside (larger R u t) z e))
+      subst (λ k. is_gt (R k z) ≡ false) (same_Some t w h) (right_below u t z (R u t) refl (same_Some (larger R u t) z e))
 
   keep_left : (u t : X) (r : Ordering) → R u t ≡ r → is_gt (R t u) ≡ false → by_order r t u u ≡ u
   keep_left u t Less p h = let no : true ≡ false = ap is_gt (sym (turned o u t Less p)) ∙ h in cc
@@ -67,10 +65,10 @@ module _ {X : Type 0} {R : X → X → Ordering} (o : IsTotalOrder R) (same : Id
   is_picked (Some u) None z (inl e) h = e
   is_picked (Some u) None z (inr e) h = let no : None ≡ Some z = e in cc
   is_picked (Some u) (Some t) z (inl e) h =
-      let mine : u ≡ z = inside u z e in
+      let mine : u ≡ z = same_Some u z e in
       let below : is_gt (R t u) ≡ false = subst (λ k. is_gt (R t k) ≡ false) (sym mine) (h t (inr refl)) in
       ap Some (keep_left u t (R u t) refl below ∙ mine)
   is_picked (Some u) (Some t) z (inr e) h =
-      let mine : t ≡ z = inside t z e in
+      let mine : t ≡ z = same_Some t z e in
       let below : is_gt (R u t) ≡ false = subst (λ k. is_gt (R u k) ≡ false) (sym mine) (h u (inl refl)) in
       ap Some (keep_right u t (R u t) refl below ∙ mine)

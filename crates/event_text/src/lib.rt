@@ -6,12 +6,12 @@
 //! fails only for want of memory.
 #![tactic(auto)]
 
+mod digits;
 mod end;
 mod event;
 mod line;
 mod parts;
 mod told;
-mod words;
 
 pub use end::end_text;
 pub use event::name;

@@ -4,9 +4,10 @@ ghost use Rattle.crdt_core.specs.Outcomes.{OnlyWant};
 ghost use Rattle.layout_roles.specs.Text.{word};
 ghost use Rattle.text_model.specs.Transcript.{kind_text, done_text, end_word, version_text, size_text, digest_text};
 
-use crate::words::{append_digits, append_number, append_word};
+use crate::digits::append_digits;
 use cluster_machine::{DoneWord, EndWord, SentKind};
 use crdt_core::{Bytes, Memory};
+use layout_text::{append_number, append_word};
 
 pub(crate) fn kind_text(kind: SentKind) -> &'static [u8]
     ensures { result.now ≡ kind_text kind }

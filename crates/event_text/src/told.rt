@@ -5,11 +5,12 @@ ghost use Rattle.cluster_machine.specs.declared.step.Refusal.TheVariants.{TooFew
 ghost use Rattle.layout_roles.specs.Text.{word, number};
 ghost use Rattle.text_model.specs.Transcript.{refusal_text, words_text, answer_text, told_text};
 
+use crate::digits::append_digits;
 use crate::line::append_lines;
-use crate::words::{append_digits, append_number, append_word};
 use cluster_machine::Words;
 use cluster_machine::applied::{Line, Refusal};
 use crdt_core::{Bytes, Memory};
+use layout_text::{append_number, append_word};
 use std::alloc::Global;
 
 // A reason with a number.

@@ -17,7 +17,8 @@ use Rattle.garage_lab.specs.Replay.{number_line, IsReplay, whole, number, IsTran
 use Rattle.layout_command.specs.Answer.{IsAnswer as IsLayoutAnswer}
 use Rattle.garage_lab.specs.Answer.{layout_words, replay_words, IsKnown, usage_line, input_line, bad_line_text, IsAnswer, usage, long_input, bad_line, laid_out, replayed, IsStated, Answers, AnswersPrefix, ReplayPrefix, nothing_yet, of_stated, of_events, IsOfReplay, Completes, Says, said, cut_off, unsaid}
 use Rattle.garage_lab.specs.Stop.{status_of, said_of, IsNearly, Halts}
-use Rattle.garage_lab.proofs.Texts.{wrote_more, prefix_more, prefix_all, prefix_none, prefix_kept}
+use Rattle.garage_lab.proofs.Texts.{prefix_none, prefix_kept}
+use Rattle.lab_outside.proofs.Bytes.{wrote_more, wrote_prefix_after, wrote_prefix_whole}
 
 abbrev first_word : List (List ℕ) → List ℕ
 first_word [] = []
@@ -81,7 +82,7 @@ module _ (words : List (List ℕ)) (input : List ℕ) (result : Status) (old new
   usage_text status text (replayed events asked short spells stated) = absurd (other (inr asked))
 
   said_usage : (status : Status) → Says status usage_line result old new faults risen → WrotePrefix old new usage_line
-  said_usage status (said is wrote) = prefix_all old new usage_line wrote
+  said_usage status (said is wrote) = wrote_prefix_whole old new usage_line wrote
   said_usage status (cut_off is rose wrote) = wrote
   said_usage status (unsaid is wrote) = prefix_none old new usage_line wrote
 
@@ -90,7 +91,7 @@ module _ (words : List (List ℕ)) (input : List ℕ) (result : Status) (old new
 
 -- what was written whole is a first part of what is stated
 pub stated_prefix : (input : List ℕ) (status : Status) (old new : Option (List ℕ)) → Answers replay_words input status old new → ReplayPrefix input old new
-stated_prefix input status old new h = of_stated status h.text h.stated (prefix_all old new h.text h.wrote)
+stated_prefix input status old new h = of_stated status h.text h.stated (wrote_prefix_whole old new h.text h.wrote)
 
 -- nothing more was written
 pub replay_kept : (input : List ℕ) (old mid new : Option (List ℕ)) → ReplayPrefix input old mid → Wrote mid new [] → ReplayPrefix input old new
@@ -110,12 +111,12 @@ module _ (input : List ℕ) (status result : Status) (last : List ℕ) (old mid 
   nearly_said (unsaid is wrote) stated = absurd (subst IsStated is stated)
 
   nearly_front : Says status last result mid new faults risen → WrotePrefix mid new last
-  nearly_front (said is wrote) = prefix_all mid new last wrote
+  nearly_front (said is wrote) = wrote_prefix_whole mid new last wrote
   nearly_front (cut_off is rose wrote) = wrote
   nearly_front (unsaid is wrote) = prefix_none mid new last wrote
 
   nearly_prefix : Says status last result mid new faults risen → ReplayPrefix input old new
-  nearly_prefix says = of_stated status (near.front ++ last) near.stated (prefix_more old mid new near.front last near.wrote (nearly_front says))
+  nearly_prefix says = of_stated status (near.front ++ last) near.stated (wrote_prefix_after old mid new near.front last near.wrote (nearly_front says))
 
 front_nil : (front rest : List ℕ) → front ++ rest ≡ [] → front ≡ []
 front_nil [] rest h = refl

@@ -13,17 +13,18 @@ use Rattle.garage_lab.specs.declared.stop.Stop.TheVariants.{Read, Write, Memory,
 use Rattle.garage_lab.specs.Replay.{whole, number, IsTranscribed}
 use Rattle.garage_lab.specs.Answer.{replay_words, IsKnown, input_limit, usage_line, IsAnswer, long_input, bad_line, replayed, IsStated, Answers, AnswersPrefix, ReplayPrefix, nothing_yet, of_stated, of_events, Completes, Says, said, cut_off, unsaid}
 use Rattle.garage_lab.specs.Stop.{status_of, said_of, Halts, IsCutShort, IsPart, of_turns, of_all, IsWhole, IsOfInput, IsOfOutput}
-use Rattle.garage_lab.proofs.Texts.{wrote_nothing, rose_later, rose_earlier}
 use Rattle.garage_lab.proofs.Answering.{OneStatus, AlwaysFresh, stated_prefix, unknown_prefix, stopped_answers, stopped_prefix, done_transcribes, completes}
+use Rattle.lab_outside.proofs.Bytes.{wrote_none}
+use Rattle.lab_outside.proofs.Rose.{rose_before, rose_after}
 
 -- the reading gave up, and nothing was written
 read_halted : (bytes : List ℕ) (old : Option (List ℕ)) (stop : Stop) → IsOfInput stop → ((n : ℕ) → stop ≡ BadLine n → (length bytes ≤ input_limit) × IsFirstBadLine bytes n) → (stop ≡ LongInput → input_limit < length bytes) → Halts bytes stop old old
-read_halted bytes old Read of_input bad long = nothing_yet (wrote_nothing old)
-read_halted bytes old Memory of_input bad long = nothing_yet (wrote_nothing old)
+read_halted bytes old Read of_input bad long = nothing_yet (wrote_none old)
+read_halted bytes old Memory of_input bad long = nothing_yet (wrote_none old)
 read_halted bytes old Write of_input bad long = absurd of_input
 read_halted bytes old Number of_input bad long = absurd of_input
-read_halted bytes old LongInput of_input bad long = record { front = []; wrote = wrote_nothing old; stated = long_input (inr refl) (long refl) refl refl }
-read_halted bytes old (BadLine n) of_input bad long = let h = bad n refl in record { front = []; wrote = wrote_nothing old; stated = bad_line n refl h.0 h.1 refl refl }
+read_halted bytes old LongInput of_input bad long = record { front = []; wrote = wrote_none old; stated = long_input (inr refl) (long refl) refl refl }
+read_halted bytes old (BadLine n) of_input bad long = let h = bad n refl in record { front = []; wrote = wrote_none old; stated = bad_line n refl h.0 h.1 refl refl }
 
 reading_halted : (left : Option (List ℕ)) (old : Option (List ℕ)) (stop : Stop) → IsOfInput stop → ((n : ℕ) → stop ≡ BadLine n → IfSome left (λ bytes. (length bytes ≤ input_limit) × IsFirstBadLine bytes n)) →
     (stop ≡ LongInput → IfSome left (λ bytes. input_limit < length bytes)) → IfSome left (λ bytes. Halts bytes stop old old)
@@ -97,8 +98,8 @@ write_alone Number e = cc
 
 pub halted_fault : (stop : Stop) (result : Status) (mid new : Option (List ℕ)) (before faults risen : ℕ) → Says (status_of stop) (said_of stop) result mid new faults risen → (stop ≡ Write → Rose before faults) →
     before ≤ faults → faults ≤ risen → result ≡ WriteFault → Rose before risen
-halted_fault stop result mid new before faults risen (said is wrote) rose low high e = rose_later before faults risen (rose (write_alone stop (sym is ∙ e))) high
-halted_fault stop result mid new before faults risen (cut_off is later wrote) rose low high e = rose_earlier before faults risen low later
+halted_fault stop result mid new before faults risen (said is wrote) rose low high e = rose_before before faults risen (rose (write_alone stop (sym is ∙ e))) high
+halted_fault stop result mid new before faults risen (cut_off is later wrote) rose low high e = rose_after before faults risen low later
 halted_fault stop result mid new before faults risen (unsaid is wrote) rose low high e = cc
 
 pub some_transcribes : (left : Option (List ℕ)) (words : List (List ℕ)) (result : Status) (old new : Option (List ℕ)) → AlwaysFresh →

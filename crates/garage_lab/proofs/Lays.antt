@@ -12,8 +12,8 @@ use Rattle.garage_lab.specs.declared.stop.Stop.TheVariants.{Read, Write, Memory,
 use Rattle.garage_lab.specs.Layout.{IsPrinted}
 use Rattle.garage_lab.specs.Answer.{layout_words, input_limit, input_line, IsAnswer, usage, long_input, bad_line, laid_out, replayed, IsStated, IsOfLayout, Answers, LayoutPrefix, nothing, begun, Says, said, cut_off, unsaid}
 use Rattle.garage_lab.specs.Stop.{status_of, said_of, IsOfReading}
-use Rattle.garage_lab.proofs.Texts.{prefix_all}
 use Rattle.garage_lab.proofs.Answering.{both_asked, silent_wrote, silent_unstated}
+use Rattle.lab_outside.proofs.Bytes.{wrote_prefix_whole}
 
 -- a text that is stated for a layout of the input was said
 module _ (input : List ℕ) (status result : Status) (text : List ℕ) (old new : Option (List ℕ)) (faults risen : ℕ) (stated : IsAnswer layout_words input status text) where
@@ -23,7 +23,7 @@ module _ (input : List ℕ) (status result : Status) (text : List ℕ) (old new 
   said_answers (unsaid is wrote) h = absurd (subst IsStated is h)
 
   said_prefix : Says status text result old new faults risen → LayoutPrefix input old new
-  said_prefix (said is wrote) = begun status text stated (prefix_all old new text wrote)
+  said_prefix (said is wrote) = begun status text stated (wrote_prefix_whole old new text wrote)
   said_prefix (cut_off is rose wrote) = begun status text stated wrote
   said_prefix (unsaid is wrote) = nothing wrote
 

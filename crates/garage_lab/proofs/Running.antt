@@ -18,8 +18,8 @@ use Rattle.lab_driver.specs.Stands.{IsLab, HasLab, PlaysEvent, OverflowsEvent}
 use Rattle.garage_lab.specs.Replay.{ArePlayed, AreFirst}
 use Rattle.garage_lab.specs.Turning.{turn, TurnsTo, TurnsOne, CannotTurn}
 use Rattle.garage_lab.specs.Stop.{IsCutShort, IsPart, of_turns, of_all, IsWhole}
-use Rattle.garage_lab.proofs.Texts.{wrote_nothing, wrote_more, prefix_more, prefix_all}
 use Rattle.garage_lab.proofs.Replays.{run_push, text_push, events_push, played_push}
+use Rattle.lab_outside.proofs.Bytes.{wrote_none, wrote_more, wrote_prefix_after, wrote_prefix_whole}
 
 -- what the lab plays is a turn, with the text of what it told
 plays_turn : (old new : Lab) (told : Told) (e : Numbered) (text : List ℕ) → PlaysEvent old new told e.event → text ≡ told_text e.line (name_of e.event) told.refused told.words told.lines → TurnsOne old new e text
@@ -62,10 +62,10 @@ pub record Running (lab : Lab) (old now : Option (List ℕ)) (events : List Numb
   pub wrote : Wrote old now (turns_text start turns)
 
 pub running_none : (lab : Lab) (old : Option (List ℕ)) (events : List Numbered) → IsLab lab start → Running lab old old events 0
-running_none lab old events d = record { turns = []; events_are = refl; played = record { lawful = tt; fits = tt }; stands = d; wrote = wrote_nothing old }
+running_none lab old events d = record { turns = []; events_are = refl; played = record { lawful = tt; fits = tt }; stands = d; wrote = wrote_none old }
 
 pub part_none : (old : Option (List ℕ)) (events : List Numbered) → IsPart events old old
-part_none old events = of_turns [] (record { played = record { lawful = tt; fits = tt }; later = events; whole = refl }) (prefix_all old old [] (wrote_nothing old))
+part_none old events = of_turns [] (record { played = record { lawful = tt; fits = tt }; later = events; whole = refl }) (wrote_prefix_whole old old [] (wrote_none old))
 
 module _ (lab : Lab) (old now : Option (List ℕ)) (events : List Numbered) (i : ℕ) (r : Running lab old now events i) where
   pub running_has : HasLab lab
@@ -76,7 +76,7 @@ module _ (lab : Lab) (old now : Option (List ℕ)) (events : List Numbered) (i :
 
   -- what was written when the next event or the end came to nothing
   pub running_part : IsPart events old now
-  running_part = of_turns r.turns are_first (prefix_all old now (turns_text start r.turns) r.wrote)
+  running_part = of_turns r.turns are_first (wrote_prefix_whole old now (turns_text start r.turns) r.wrote)
 
 module _ (lab new : Lab) (old mid now : Option (List ℕ)) (events : List Numbered) (i : ℕ) (next : Numbered) (lt : i < length events) (is : next ≡ get_or events i next) (r : Running lab old mid events i) where
   here : take (i + 1) events ≡ take i events ++ next ∷ []
@@ -118,7 +118,7 @@ module _ (lab new : Lab) (old mid now : Option (List ℕ)) (events : List Number
     pub running_cut : WrotePrefix mid now text → IsPart events old now
     running_cut wrote =
         of_turns more (record { played = more_played; later = drop (i + 1) events; whole = sym (take-append-drop (i + 1) events) ∙ ap (λ es. es ++ drop (i + 1) events) (sym more_are) })
-        (subst (WrotePrefix old now) (sym more_text) (prefix_more old mid now (turns_text start r.turns) text r.wrote wrote))
+        (subst (WrotePrefix old now) (sym more_text) (wrote_prefix_after old mid now (turns_text start r.turns) text r.wrote wrote))
 
   -- after the event there is no room
   pub running_stops : (why : Why) → (why ≡ Want) ⊎ ((why ≡ Full) × CannotTurn lab next) → why ≡ Full → IsCutShort events old mid
@@ -163,4 +163,4 @@ module _ (lab : Lab) (old mid now : Option (List ℕ)) (events : List Numbered) 
     }
 
     pub all_cut : WrotePrefix mid now text → IsPart events old now
-    all_cut wrote = of_all r.turns all_are r.played (prefix_more old mid now (turns_text start r.turns) (end_text r.turns (run start r.turns)) r.wrote (subst (WrotePrefix mid now) end_is wrote))
+    all_cut wrote = of_all r.turns all_are r.played (wrote_prefix_after old mid now (turns_text start r.turns) (end_text r.turns (run start r.turns)) r.wrote (subst (WrotePrefix mid now) end_is wrote))

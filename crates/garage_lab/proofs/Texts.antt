@@ -1,35 +1,14 @@
 -- What was written before and after.
 use Rattle.std.specs.Cmp.Lexicographic.{pointwise, told_text}
 use Rattle.std.specs.String.{string_bytes}
-use Rattle.std.proofs.Common.{◌≢◌, Bool, true, false, IsTrue, nat_eq, get_or, map, String, Global, ◌≡◌, ℕ, ◌+◌, ◌<◌, ◌≤◌, Option, Some, None, List, [], ◌∷◌, ◌++◌, refl, sym, ap, ◌∙◌, subst, append_assoc, append-nil, arith, inl, inr, length, take, IfSome}
+use Rattle.std.proofs.Common.{◌≢◌, Bool, true, false, IsTrue, nat_eq, get_or, map, String, Global, ◌≡◌, ℕ, ◌+◌, ◌<◌, ◌≤◌, Option, Some, None, List, [], ◌∷◌, ◌++◌, refl, sym, ap, ◌∙◌, subst, append_assoc, arith, length, take, IfSome}
 use Rattle.std.proofs.lemmas.List.{length-take}
 use Rattle.lab_outside.specs.Bytes.{Wrote, WrotePrefix}
-use Rattle.lab_outside.specs.Rose.{Rose}
-
-pub wrote_nothing : (o : Option (List ℕ)) → Wrote o o []
-wrote_nothing None = tt
-wrote_nothing (Some w) = sym (append-nil w)
-
-pub wrote_more : (old mid new : Option (List ℕ)) (a b : List ℕ) → Wrote old mid a → Wrote mid new b → Wrote old new (a ++ b)
-wrote_more old mid None a b h k = tt
-wrote_more old None (Some n) a b h k = absurd k
-wrote_more None (Some m) (Some n) a b h k = absurd h
-wrote_more (Some o) (Some m) (Some n) a b h k = k ∙ ap (λ t. t ++ b) h ∙ append_assoc o a b
-
-pub prefix_more : (old mid new : Option (List ℕ)) (a b : List ℕ) → Wrote old mid a → WrotePrefix mid new b → WrotePrefix old new (a ++ b)
-prefix_more old mid new a b h k = record {
-  front = a ++ k.front;
-  rest = k.rest;
-  whole = append_assoc a k.front k.rest ∙ ap (λ t. a ++ t) k.whole;
-  wrote = wrote_more old mid new a k.front h k.wrote;
-}
+use Rattle.lab_outside.proofs.Bytes.{wrote_more}
 
 -- a first part of a text, and more of the text after it
 pub prefix_of : (old new : Option (List ℕ)) (a b text : List ℕ) → a ++ b ≡ text → Wrote old new a → WrotePrefix old new text
 prefix_of old new a b text whole h = record { front = a; rest = b; whole = whole; wrote = h }
-
-pub prefix_all : (old new : Option (List ℕ)) (text : List ℕ) → Wrote old new text → WrotePrefix old new text
-prefix_all old new text h = prefix_of old new text [] text (append-nil text) h
 
 pub prefix_none : (old new : Option (List ℕ)) (text : List ℕ) → Wrote old new [] → WrotePrefix old new text
 prefix_none old new text h = prefix_of old new [] text text refl h
@@ -42,14 +21,6 @@ prefix_kept old mid new text h k = record {
   whole = append_assoc h.front [] h.rest ∙ h.whole;
   wrote = wrote_more old mid new h.front [] h.wrote k;
 }
-
-pub rose_later : (a b c : ℕ) → Rose a b → b ≤ c → Rose a c
-rose_later a b c (inl h) le = inl (omega arith)
-rose_later a b c (inr h) le = inr (omega arith)
-
-pub rose_earlier : (a b c : ℕ) → a ≤ b → Rose b c → Rose a c
-rose_earlier a b c le (inl h) = inl (omega arith)
-rose_earlier a b c le (inr h) = inr h
 
 -- an input that was read to one byte past a limit
 pub longer : (left : Option (List ℕ)) (limit : ℕ) (all : List ℕ) → limit < length all → IfSome left (λ bytes. all ≡ take (limit + 1) bytes) → IfSome left (λ bytes. limit < length bytes)

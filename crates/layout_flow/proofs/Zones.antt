@@ -1,5 +1,5 @@
 -- Each zone has one name, each storage node stands in one zone, and once.
-use Rattle.std.proofs.Common.{◌≡◌, ℕ, ◌+◌, ◌*◌, ◌<◌, ◌≤◌, Bool, true, false, cond, ◌&&◌, ◌||◌, ◌==◌, nat_eq, nat_lt, IsTrue, List, [], ◌∷◌, map, length, get_or, refl, ap, ◌∙◌, inl, inr, arith, le_refl, le_trans, eqb-true, ltb-true}
+use Rattle.std.proofs.Common.{◌≡◌, ℕ, ◌+◌, ◌*◌, ◌<◌, ◌≤◌, Bool, true, false, cond, ◌&&◌, ◌||◌, ◌==◌, nat_lt, IsTrue, List, [], ◌∷◌, map, length, get_or, refl, ap, ◌∙◌, inl, inr, arith, le_refl, le_trans, eqb-true, ltb-true}
 use Rattle.std.specs.List.{sum_by, count_by, filter, fold, list_any, All}
 use Rattle.std.specs.Ordering.{nat_cmp, is_lt}
 use Rattle.std.specs.Cmp.Lexicographic.{slice_cmp}
@@ -10,6 +10,7 @@ use Rattle.std.proofs.lemmas.List.Elements.{All-cons, All-nil}
 use Rattle.layout_roles.specs.declared.role.Role.{Role}
 use Rattle.layout_roles.specs.Zones.{Name, name_of, ascend_from, nodes_ascend, is_storage, storage_nodes, put_in_order, same_name, with_name, zone_names, is_in_zone, nodes_in, zones}
 use Rattle.layout_flow.proofs.Sums.{yes, no, sum_by-agree, sum_by-below, sum_by-swap, sum_by-filter, sum_by-map}
+use Rattle.layout_roles.proofs.Names.{same_true}
 
 -- ---- tests and counts
 
@@ -104,16 +105,6 @@ any_of_one {X} t s (x ∷ xs) one =
     weaker (y ∷ ys) e = let parts = or_parts (t y) (list_any t ys) e in none_of (t y && s y) (list_any (λ y. t y && s y) ys) (both (t y) (s y) parts.0) (weaker ys parts.1)
 
 -- ---- names
-
-pub same_true : (a b : Name) → same_name a b ≡ true → a ≡ b
-same_true [] [] h = refl
-same_true [] (y ∷ ys) h = cc
-same_true (x ∷ xs) [] h = cc
-same_true (x ∷ xs) (y ∷ ys) h =
-    let parts = and_parts (nat_eq x y) (same_name xs ys) h in
-    let first : x ≡ y = eqb-true x y parts.0 in
-    let rest : xs ≡ ys = same_true xs ys parts.1 in
-    cc
 
 pub same_itself : (a : Name) → same_name a a ≡ true
 same_itself a = nat_list_eq_equiv.refl a

@@ -6,7 +6,8 @@ use Rattle.layout_roles.specs.declared.layout.Layout.{Layout}
 use Rattle.layout_trackers.specs.declared.trackers.Trackers.{Trackers}
 use Rattle.layout_trackers.specs.declared.which.Which.TheVariants.{Sync}
 use Rattle.layout_trackers.specs.Trackers.{counts}
-use Rattle.view_model.specs.View.{View, two_have, last_version, oldest, layout_at, have_synced, is_established}
+use Rattle.view_model.specs.View.{View, last_version, oldest, layout_at, have_synced, is_established}
+use Rattle.crdt_core.specs.Members.{two_pass}
 use Rattle.view_model.specs.Layouts.{reading}
 
 pub same_view : (xs ys : List Layout) (s t : Trackers) → xs ≡ ys → s ≡ t → ◌≡◌ {A = View Layout} (record { layouts = xs; trackers = s }) (record { layouts = ys; trackers = t })
@@ -25,11 +26,11 @@ and_first a b e = rw e refl
 
 -- what the sets of the version before say is whether the version is established
 pub established_is : (view : View Layout) (v o : ℕ) (l : Layout) (b : Bool) → o ≡ oldest reading view → o < v → Some l ≡ layout_at reading view (v - 1) →
-    b ≡ list_all (two_have (λ node. leb v (counts o Sync view.trackers node))) l.sets.sets → b ≡ is_established reading view v
+    b ≡ list_all (two_pass (λ node. leb v (counts o Sync view.trackers node))) l.sets.sets → b ≡ is_established reading view v
 established_is view v o l b is_oldest above there e =
     let before : v - 1 ≡ pred v = omega arith in
     let synced = have_synced reading view v (layout_at reading view (pred v)) in
     e
-    ∙ (ap (λ n. list_all (two_have (λ node. leb v (counts n Sync view.trackers node))) l.sets.sets) is_oldest
+    ∙ (ap (λ n. list_all (two_pass (λ node. leb v (counts n Sync view.trackers node))) l.sets.sets) is_oldest
     ∙ (ap (have_synced reading view v) (there ∙ ap (layout_at reading view) before)
     ∙ sym (and_first (nat_lt (oldest reading view) v) synced (lt-ltb (oldest reading view) v (omega arith)))))

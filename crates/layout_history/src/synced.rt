@@ -4,14 +4,14 @@ ghost use Rattle.std.specs.List.{fold, list_all};
 ghost use Rattle.layout_trackers.specs.declared.which.Which.TheVariants.{Sync};
 ghost use Rattle.layout_trackers.specs.Trackers.{counts};
 ghost use Rattle.layout_trackers.specs.Least.{lesser};
-ghost use Rattle.view_model.specs.View.{two_have};
+ghost use Rattle.crdt_core.specs.Members.{two_pass};
 
 use layout_roles::Role;
 use layout_trackers::{Trackers, Which};
 
 // Whether two of the three nodes have synced to version v.
 fn two_synced(trackers: &Trackers, set: &[u8; 3], v: u32, missing: u32) -> bool
-    ensures { result ≡ two_have (λ node. leb v (counts missing Sync trackers.now node)) set.now }
+    ensures { result ≡ two_pass (λ node. leb v (counts missing Sync trackers.now node)) set.now }
 {
     let synced = set
         .iter()
@@ -23,7 +23,7 @@ fn two_synced(trackers: &Trackers, set: &[u8; 3], v: u32, missing: u32) -> bool
 /// Whether two of the three nodes of each set have synced to version v, where one without an entry counts
 /// as of version `missing`.
 pub fn all_synced(trackers: &Trackers, sets: &[[u8; 3]], v: u32, missing: u32) -> bool
-    ensures { result ≡ list_all (two_have (λ node. leb v (counts missing Sync trackers.now node))) sets.now }
+    ensures { result ≡ list_all (two_pass (λ node. leb v (counts missing Sync trackers.now node))) sets.now }
 {
     sets.iter().all(|set| two_synced(trackers, set, v, missing))
 }

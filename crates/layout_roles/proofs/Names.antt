@@ -8,10 +8,12 @@ use Rattle.std.proofs.lemmas.Cmp.{nat_list_eq_equiv}
 use Rattle.std.proofs.lemmas.List.{map-append}
 use Rattle.std.proofs.lemmas.List.Sums.{fold-append}
 use Rattle.std.proofs.lemmas.List.Elements.{filter_more}
+use Rattle.std.proofs.Math.Bool.{or_assoc, or-false}
 use Rattle.layout_roles.specs.declared.role.Role.{Role}
 use Rattle.layout_roles.specs.Zones.{Name, name_of, is_storage, storage_nodes, put_in_order, same_name, with_name, zone_names, is_in_zone}
 
-same_true : (a b : Name) → same_name a b ≡ true → a ≡ b
+-- equal names are the same
+pub same_true : (a b : Name) → same_name a b ≡ true → a ≡ b
 same_true [] [] h = refl
 same_true [] (y ∷ ys) h = cc
 same_true (x ∷ xs) [] h = cc
@@ -20,10 +22,6 @@ same_true (x ∷ xs) (y ∷ ys) h =
     let first : x ≡ y = eqb-true x y parts.0 in
     let rest : xs ≡ ys = same_true xs ys parts.1 in
     cc
-
-or_assoc : (a b c : Bool) → ((a || b) || c) ≡ (a || (b || c))
-or_assoc true b c = refl
-or_assoc false b c = refl
 
 or_swap : (a b c : Bool) → (a || (b || c)) ≡ (b || (a || c))
 or_swap true true c = refl
@@ -56,11 +54,7 @@ any_with n names name =
     absorbed false b h = refl
 
 any_fold : (n : Name) (acc xs : List Name) → list_any (same_name n) (fold with_name acc xs) ≡ (list_any (same_name n) acc || list_any (same_name n) xs)
-any_fold n acc [] = or_false (list_any (same_name n) acc)
-  where
-    or_false : (b : Bool) → b ≡ (b || false)
-    or_false true = refl
-    or_false false = refl
+any_fold n acc [] = sym (or-false (list_any (same_name n) acc))
 any_fold n acc (x ∷ xs) =
     any_fold n (with_name acc x) xs ∙ ap (λ b. b || list_any (same_name n) xs) (any_with n acc x)
     ∙ turned (same_name n x) (list_any (same_name n) acc) (list_any (same_name n) xs)

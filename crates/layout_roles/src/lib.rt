@@ -10,6 +10,7 @@ mod redundancy;
 mod role;
 mod roles;
 mod vertex;
+mod zones;
 
 pub use assignment::{Assignment, PARTITIONS};
 pub use certified::Certified;
@@ -20,3 +21,4 @@ pub use redundancy::Redundancy;
 pub use role::{Kind, Role, Zone};
 pub use roles::Roles;
 pub use vertex::Vertex;
+pub use zones::zone_names;

@@ -8,9 +8,8 @@ ghost use Rattle.layout_roles.specs.Text.{word, is_in_partition, zone_word, vert
 
 use crate::runs::run_length;
 use crate::words::{append_number, append_word};
-use crate::zones::zone_names;
 use crdt_core::{Bytes, List, Memory};
-use layout_roles::{Cut, PARTITIONS, Roles, Vertex};
+use layout_roles::{Cut, PARTITIONS, Roles, Vertex, zone_names};
 use std::alloc::Global;
 
 fn is_in_partition(vertex: &Vertex, partition: u8) -> bool

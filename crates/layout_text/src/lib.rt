@@ -6,6 +6,8 @@
 //! of the flow network for the next size (`cut_lines`), which shows that no greater size is possible. Equal
 //! neighbours share a line: `longest_runs` says that no line could be longer.
 //!
+//! `append_word` and `append_number` write a word or a number after one space.
+//!
 //! Each call gives exactly what the definition of its contract says, and fails else only for want of memory.
 #![tactic(auto)]
 
@@ -18,7 +20,6 @@ mod runs;
 mod sets;
 mod values;
 mod words;
-mod zones;
 
 pub use config::{Config, ConfigFault, FieldName};
 pub use cut::cut_lines;
@@ -26,3 +27,4 @@ pub use laws::longest_runs;
 pub use lines::layout_lines;
 pub use read::read_config;
 pub use sets::set_lines;
+pub use words::{append_number, append_word};

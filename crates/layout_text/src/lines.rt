@@ -6,9 +6,8 @@ ghost use Rattle.layout_roles.specs.Text.{size_line, redundancy_line, layout_tex
 use crate::cut::append_cut;
 use crate::sets::append_sets;
 use crate::words::append_number;
-use crate::zones::zone_names;
 use crdt_core::{Bytes, Memory};
-use layout_roles::{Certified, Roles};
+use layout_roles::{Certified, Roles, zone_names};
 use std::alloc::Global;
 
 #[tactic(auto, unfolding(layout_roles::specs::Text::size_line))]

@@ -6,7 +6,8 @@ ghost use Rattle.layout_roles.specs.Text.{word, number};
 use crdt_core::{Bytes, Memory};
 use itoa::Buffer;
 
-pub(crate) fn append_word(out: &mut Bytes, bytes: &[u8]) -> Result<(), Memory>
+/// A word after one space.
+pub fn append_word(out: &mut Bytes, bytes: &[u8]) -> Result<(), Memory>
     ensures ok { OnOk result (out.new ≡ out.old ++ word bytes.now) }
     ensures want { OnlyWant result }
 {
@@ -14,7 +15,8 @@ pub(crate) fn append_word(out: &mut Bytes, bytes: &[u8]) -> Result<(), Memory>
     out.extend_from_slice(bytes)
 }
 
-pub(crate) fn append_number(out: &mut Bytes, n: u64) -> Result<(), Memory>
+/// A number in decimal after one space.
+pub fn append_number(out: &mut Bytes, n: u64) -> Result<(), Memory>
     ensures ok { OnOk result (out.new ≡ out.old ++ number n) }
     ensures want { OnlyWant result }
 {

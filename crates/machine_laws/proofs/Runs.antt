@@ -3,7 +3,7 @@ use Rattle.std.specs.Prelude.{◌≡◌, ◌≤◌, ◌<◌, ℕ, zero, suc, Boo
 use Rattle.std.specs.Option.{unwrap_or}
 use Rattle.std.specs.List.{AllByRecursion, flat_map}
 use Rattle.std.proofs.Common.{ap, sym, subst, ◌∙◌, arith}
-use Rattle.std.proofs.lemmas.Bool.{eqb-true, leb-false}
+use Rattle.std.proofs.lemmas.Bool.{eqb-true, leb-false, not-false}
 use Rattle.view_model.specs.View.{View, newest, read_version, ack_least}
 use Rattle.control_model.specs.World as control
 use Rattle.control_model.specs.Steps.{Step as Turn, step as turn, run as turn_all}
@@ -33,12 +33,13 @@ use Rattle.cluster_machine.specs.World.{Sent, Mark, Request, World, numbered, cl
 use Rattle.cluster_machine.specs.Step.{most_versions, Choice, given, none_given, Effects, nothing, refusal, only, did, received, at_message, expires, closing, chosen, applies_at, trio_applies, acting, local, begun, beginning, opening, effects}
 use Rattle.cluster_machine.specs.Run.{Move, IsLayout, IsChoice, next, run, IsRun}
 use Rattle.machine_laws.specs.Follows.{Follows, IsShown, IsKnown, Controlled}
-use Rattle.machine_laws.proofs.Controls.{all_append, turned}
+use Rattle.machine_laws.proofs.Controls.{turned}
 use Rattle.machine_laws.proofs.Same.{SaysOnly, Unseen, same_self, unseen_quiet, said_to_each, unseen_hears, unseen_begins}
 use Rattle.machine_laws.proofs.Turning.{stays, ack_turns, sync_ack_turns, clean_turns, view_turns}
 use Rattle.machine_laws.proofs.Requests.{close_turns, restart_turns, open_turns, gossip_turns}
 use Rattle.machine_laws.proofs.Rounding.{Goes, goes_unseen, confirmed_goes, unseen_again, unseen_repairs, may_both, begun_goes}
 use Rattle.machine_laws.proofs.Applying.{install_turns, apply_turns}
+use Rattle.crdt_core.proofs.Each.{all_append}
 
 pub all_at : {X : Type 0} (P : X → Type 0) (xs : List X) (i : ℕ) (x : X) → AllByRecursion P xs → slice_get xs i ≡ Some x → P x
 all_at P [] i x a e = cc
@@ -48,10 +49,6 @@ all_at P (y ∷ ys) (suc i) x a e = all_at P ys i x a.1 e
 pub all_numbered : {X : Type 0} (P : X → Type 0) (xs : List X) (m : ℕ) (x : X) → AllByRecursion P xs → numbered xs m ≡ Some x → P x
 all_numbered P xs zero x a e = cc
 all_numbered P xs (suc m) x a e = all_at P xs m x a e
-
-pub stays_true : (b : Bool) → not b ≡ false → b ≡ true
-stays_true true e = refl
-stays_true false e = cc
 
 -- this node, at its own place
 pub here : {R L : Type 0} (k : Layouts L) (nodes : ℕ → Node R L) (l : L) (n m : ℕ) → only n (appends k (nodes n) l) m ≡ cond (m == n) (Some (appends k (nodes m) l)) None
@@ -208,7 +205,7 @@ module _ {R L A C : Type 0} (join : R → R → R) (s : Words R) (k : Layouts L)
             let top : c.top ≡ w.applied = t.top in
             let known : newest k.reading (w.nodes n).view ≡ w.applied = omega arith in record {
               steps = Turn.Apply n l ∷ [];
-              turns = apply_turns k partitions w c n l _ t is version (stays_true (is_member k (w.nodes n).view n) m) known (λ i. refl) refl refl refl;
+              turns = apply_turns k partitions w c n l _ t is version (not-false (is_member k (w.nodes n).view n) m) known (λ i. refl) refl refl refl;
             })
         | false ↦ (λ none m.
             let low : w.applied < 1 = leb-false 1 w.applied none in

@@ -21,7 +21,7 @@ use Rattle.cluster_machine.specs.Phases.{nodes_of, to_each, calls_now, call_at, 
 use Rattle.cluster_machine.specs.Receives.{answers, where_stored, gives_block, takes, confirms, hears}
 use Rattle.machine_laws.specs.Follows.{in_flight, target_of}
 use Rattle.machine_laws.proofs.Ties.{with_call_flies}
-use Rattle.machine_laws.proofs.Controls.{all_append}
+use Rattle.crdt_core.proofs.Each.{all_append}
 
 module _ {R L : Type 0} where
   pub record Same (x y : Node R L) : Type 0 where

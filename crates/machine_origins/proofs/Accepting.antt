@@ -12,9 +12,10 @@ use Rattle.table_model.specs.RowLaws.{place_total}
 use Rattle.cluster_machine.specs.Layouts.{Layouts, is_given}
 use Rattle.cluster_machine.specs.Node.{Item, Node}
 use Rattle.cluster_machine.specs.Rows.{still, called_for, queue_from, accepts, accepts_read, accepts_all, drops, sees}
-use Rattle.machine_origins.proofs.Lists.{all_append, all_filter}
+use Rattle.machine_origins.proofs.Lists.{all_filter}
 use Rattle.machine_origins.proofs.Good.{IsGood, IsAt, IsFound, Rules, same_at, row_found}
 use Rattle.machine_origins.proofs.Sound.{Asks, ReadsTo, IsNode}
+use Rattle.crdt_core.proofs.Each.{all_append}
 
 module _ {R : Type 0} {join : R → R → R} {s : Words R} {P : R → Type 0} (rules : Rules join s P) where
   -- a merge of rows with the property calls for rows with the property

@@ -14,9 +14,9 @@ use Rattle.cluster_machine.specs.Layouts.{Layouts}
 use Rattle.cluster_machine.specs.Node.{Question, Scan, Present, resting, asking, scanning, storing, fetching, Call, Node, read, quiet}
 use Rattle.cluster_machine.specs.Phases.{with_call, calls_now, asked, looked, stored, merged_at, row_came, window_at, rows_came, stored_came, block_came}
 use Rattle.machine_origins.specs.Origins.{Gave}
-use Rattle.machine_origins.proofs.Lists.{all_append}
 use Rattle.machine_origins.proofs.Good.{IsFound, IsObject, Rules, found_joined, window_has, two_have}
 use Rattle.machine_origins.proofs.Sound.{Asks, IsMessage, IsPresent, IsCall, IsNode, IsDone, call_stays}
+use Rattle.crdt_core.proofs.Each.{all_append}
 
 module _ {R : Type 0} (P Q : Call R → Type 0) (c : Call R) (here : (d : Call R) → P d → d.request ≡ c.request → Q (record d { phases = c.phases; present = c.present })) (others : (d : Call R) → P d → d.request ≢ c.request → Q d) where
   all_with_call : (cs : List (Call R)) → AllByRecursion P cs → AllByRecursion Q (with_call c cs)

@@ -4,9 +4,9 @@ use Rattle.std.specs.Option.{unwrap_or}
 use Rattle.std.specs.List.{AllByRecursion, Contains}
 use Rattle.std.specs.declared.cmp.Ordering.{Ordering}
 use Rattle.std.specs.declared.cmp.Ordering.TheVariants.{Less, Equal, Greater}
-use Rattle.std.specs.Ordering.{is_eq}
 use Rattle.std.proofs.Common.{ap, sym, subst, ◌∙◌}
 use Rattle.std.proofs.lemmas.List.Elements.{All-nil, All-cons, All-filter, All-map, All-weaker}
+use Rattle.std.specs.Cmp.{Equal-is}
 use Rattle.crdt_core.specs.Order.{option_join}
 use Rattle.crdt_core.specs.Orders.{nat_identical, slice_identical}
 use Rattle.table_schema.specs.Words.{Words}
@@ -19,7 +19,8 @@ use Rattle.quorum_model.specs.declared.range.RangeAnswer.{RangeAnswer}
 use Rattle.quorum_model.specs.Window.{keyed, is_within, end_of, both_rows, window}
 use Rattle.range_laws.proofs.Entries.{merged_has}
 use Rattle.range_laws.proofs.Shown.{asked_parts}
-use Rattle.machine_origins.proofs.Lists.{all_append, all_filter, all_take}
+use Rattle.machine_origins.proofs.Lists.{all_filter, all_take}
+use Rattle.crdt_core.proofs.Each.{all_append}
 
 module _ {R : Type 0} (s : Words R) (P : R → Type 0) where
   -- a proper row with the property
@@ -48,11 +49,6 @@ pub record Rules {R : Type 0} (join : R → R → R) (s : Words R) (P : R → Ty
   pub joined : (a b : R) → Same s a b → P a → P b → P (join a b)
   pub called_for : (old r row : R) → Same s old r → P old → P r → Contains (s.triggered old (join old r)) row → P row
 
-equal_is : (o : Ordering) → is_eq o ≡ true → o ≡ Equal
-equal_is Less e = cc
-equal_is Equal e = refl
-equal_is Greater e = cc
-
 module _ {R : Type 0} {join : R → R → R} {s : Words R} {P : R → Type 0} (rules : Rules join s P) where
   good_joined : (a b : R) → Same s a b → IsGood s P a → IsGood s P b → IsGood s P (join a b)
   good_joined a b same p q = record { proper = rules.laws.joined_is_proper a b same; has = rules.joined a b same p.has q.has }
@@ -77,7 +73,7 @@ module _ {R : Type 0} {join : R → R → R} {s : Words R} {P : R → Type 0} (r
       let rest = row_found older table key all.1 in
       elim (is_at s table key r) as (λ b. is_at s table key r ≡ b → IsFound s P table key (cond b (option_join join (row_at join s older table key) (Some r)) (row_at join s older table key))) [
         | true ↦ (λ e.
-            let same = place_identical (table, key) (place s r) (equal_is (place_cmp (table, key) (place s r)) e) in
+            let same = place_identical (table, key) (place s r) ((Equal-is (place_cmp (table, key) (place s r))).0 e) in
             found_joined table key (row_at join s older table key) (Some r) rest (record { good = all.0; table_is = ap (λ p. p.0) (sym same); key_is = ap (λ p. p.1) (sym same) }))
         | false ↦ (λ e. rest)
       ] refl

@@ -1,9 +1,10 @@
 -- A step keeps a node's newest version and its requests' numbers, leaves it without blocks, and sends none.
-use Rattle.std.specs.Prelude.{◌≡◌, ◌⊎◌, ◌≤◌, ◌<◌, ℕ, suc, Bool, true, false, cond, ◌||◌, ◌==◌, leb, map, List, [], ◌∷◌, ◌++◌, Option, Some, None, refl, ⊤}
-use Rattle.std.specs.List.{All, AllByRecursion, filter, flat_map}
+use Rattle.std.specs.Prelude.{◌≡◌, ◌⊎◌, ◌≤◌, ◌<◌, ℕ, suc, Bool, true, false, cond, ◌==◌, leb, map, List, [], ◌∷◌, Option, Some, None, refl, ⊤}
+use Rattle.std.specs.List.{All, filter, flat_map}
 use Rattle.std.proofs.Common.{ap, sym, subst, ◌∙◌, inl, inr, arith}
 use Rattle.std.proofs.lemmas.Bool.{eq-eqb}
 use Rattle.std.proofs.lemmas.List.Elements.{All-nil, All-cons, All-head, All-tail, All-map}
+use Rattle.std.proofs.Math.Bool.{or-true}
 use Rattle.view_model.specs.View.{View, last_version, oldest, newest, cleaned}
 use Rattle.crdt_core.specs.Members.{Has}
 use Rattle.table_schema.specs.Words.{Words, partition_of}
@@ -17,10 +18,7 @@ use Rattle.cluster_machine.specs.Phases.{nodes_of, to_each, with_call, without_c
 use Rattle.cluster_machine.specs.Rounds.{is_complete, rows_at, found, with_its_block, pushes_rows, pushes, synced, goes_on}
 use Rattle.cluster_machine.specs.Keeping.{AreDifferent, IsBare, AreBare, IsBareMessage, ArePosts, AreUpTo}
 use Rattle.machine_origins.proofs.FollowingCalls.{was}
-
-pub all_append : {A : Type 0} (P : A → Type 0) (xs ys : List A) → AllByRecursion P xs → AllByRecursion P ys → AllByRecursion P (xs ++ ys)
-all_append P [] ys a b = b
-all_append P (x ∷ xs) ys a b = (a.0, all_append P xs ys a.1 b)
+use Rattle.crdt_core.proofs.Each.{all_append}
 
 module _ {R : Type 0} where
   abbrev pub numbers_of : List (Call R) → List ℕ
@@ -113,10 +111,6 @@ module _ {R L : Type 0} (k : Layouts L) where
   keeps_cond B x false d e h k = k
 
 -- ---- views
-
-or_true : (b : Bool) → (b || true) ≡ true
-or_true true = refl
-or_true false = refl
 
 module _ {L : Type 0} (k : Layouts L) where
   -- the last version stays where each layout of it does

@@ -25,7 +25,8 @@ use Rattle.cluster_machine.specs.Receives.{answers, where_stored, gives_block, t
 use Rattle.cluster_machine.specs.Acts.{Acted, item_posts, stays, syncs, acts}
 use Rattle.cluster_machine.specs.Keeping.{AreBare, IsBareMessage, IsBarePacket, IsBarePhase, ArePosts, IsUpTo}
 use Rattle.machine_origins.proofs.FollowingSteps.{calls_all, calls_seen, round_begun}
-use Rattle.machine_origins.proofs.KeepingNodes.{all_append, AtMostOneChanges, Stays, Keeps, stays_self, stays_called, keeps_quiet, keeps_cond, newest_cleaned, view_seen, blocks_seen, bare_to_each, one_bare, bare_stores, bare_pushes, blocks_all, view_all, stays_round}
+use Rattle.machine_origins.proofs.KeepingNodes.{AtMostOneChanges, Stays, Keeps, stays_self, stays_called, keeps_quiet, keeps_cond, newest_cleaned, view_seen, blocks_seen, bare_to_each, one_bare, bare_stores, bare_pushes, blocks_all, view_all, stays_round}
+use Rattle.crdt_core.proofs.Each.{all_append}
 
 module _ {R L : Type 0} (k : Layouts L) (x : Node R L) where
   pub keeps_self : Keeps k ⊤ x (quiet x)

@@ -1,18 +1,12 @@
 -- What all elements of a list have, and functions that change at one number.
-use Rattle.std.specs.Prelude.{◌≡◌, ◌≢◌, ℕ, zero, suc, ◌-◌, Bool, true, false, cond, ◌==◌, take, Option, Some, None, slice_get, List, [], ◌∷◌, ◌++◌, length, refl}
+use Rattle.std.specs.Prelude.{◌≡◌, ◌≢◌, ℕ, zero, suc, ◌-◌, Bool, true, false, cond, ◌==◌, take, Some, slice_get, List, [], ◌∷◌, ◌++◌, refl}
 use Rattle.std.specs.Option.{unwrap_or}
 use Rattle.std.specs.List.{AllByRecursion, filter, find}
-use Rattle.std.proofs.Common.{ap, subst, ◌∙◌}
-use Rattle.std.proofs.lemmas.List.{length-set}
+use Rattle.std.proofs.Common.{ap, subst}
 use Rattle.std.proofs.lemmas.Bool.{eqb-true, eqb-false, eq-eqb, ne_eqb}
-use Rattle.cluster_machine.specs.World.{Request, numbered}
-use Rattle.cluster_machine.specs.Step.{shut, shut_one}
+use Rattle.cluster_machine.specs.World.{numbered}
 
 module _ {X : Type 0} (P : X → Type 0) where
-  pub all_append : (xs ys : List X) → AllByRecursion P xs → AllByRecursion P ys → AllByRecursion P (xs ++ ys)
-  all_append [] ys h k = k
-  all_append (x ∷ xs) ys h k = (h.0, all_append xs ys h.1 k)
-
   pub all_parts : (xs ys : List X) → AllByRecursion P (xs ++ ys) → AllByRecursion P xs × AllByRecursion P ys
   all_parts [] ys h = (tt, h)
   all_parts (x ∷ xs) ys h = let rest = all_parts xs ys h.1 in ((h.0, rest.0), rest.1)
@@ -43,18 +37,6 @@ module _ {X : Type 0} (P : X → Type 0) where
         | true ↦ (λ passes g. let same : y ≡ x = ap (λ o. unwrap_or o y) g in (subst P same h.0, subst (λ z. f z ≡ true) same passes))
         | false ↦ (λ fails g. all_found f ys x h.1 g)
       ] refl e
-
-pub all_weaker : {X : Type 0} (P Q : X → Type 0) → ((x : X) → P x → Q x) → (xs : List X) → AllByRecursion P xs → AllByRecursion Q xs
-all_weaker P Q f [] h = tt
-all_weaker P Q f (x ∷ xs) h = (f x h.0, all_weaker P Q f xs h.1)
-
-pub length_shut : (rs : List Request) (qs : List ℕ) → length (shut rs qs) ≡ length rs
-length_shut rs [] = refl
-length_shut rs (q ∷ qs) = length_shut (shut_one rs q (numbered rs q)) qs ∙ one rs q (numbered rs q)
-  where
-    one : (rs : List Request) (q : ℕ) (r : Option Request) → length (shut_one rs q r) ≡ length rs
-    one rs q None = refl
-    one rs q (Some r) = length-set rs (q - 1) (record r { is_open = false })
 
 module _ {X : Type 0} where
   -- a function that has another value at n

@@ -15,9 +15,10 @@ use Rattle.cluster_machine.specs.Node.{Item, Part, Node, Post}
 use Rattle.cluster_machine.specs.Phases.{nodes_of, to_each, spelled, bytes_of, is_spelled, stores}
 use Rattle.cluster_machine.specs.Rounds.{rows_at, with_its_block, pushes, pushes_rows, are_spelled}
 use Rattle.cluster_machine.specs.Acts.{item_posts}
-use Rattle.machine_origins.proofs.Lists.{all_append, all_filter}
+use Rattle.machine_origins.proofs.Lists.{all_filter}
 use Rattle.machine_origins.proofs.Good.{IsGood, Rules, rows_good}
 use Rattle.machine_origins.proofs.Sound.{Asks, ReadsTo, IsMessage, IsPacket}
+use Rattle.crdt_core.proofs.Each.{all_append}
 
 module _ {R : Type 0} {join : R → R → R} {s : Words R} {P : R → Type 0} (rules : Rules join s P) where
   -- the bytes of a row are read as this row

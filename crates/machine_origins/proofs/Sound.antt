@@ -12,8 +12,9 @@ use Rattle.cluster_machine.specs.Node.{Present, asking, scanning, Call, Item, No
 use Rattle.cluster_machine.specs.World.{Sent, World}
 use Rattle.cluster_machine.specs.Step.{Effects, only, sent_by, did, applied, shut}
 use Rattle.machine_origins.specs.Origins.{Gave}
-use Rattle.machine_origins.proofs.Lists.{all_append, all_weaker, length_shut}
 use Rattle.machine_origins.proofs.Good.{IsGood, IsFound, IsObject}
+use Rattle.crdt_core.proofs.Each.{all_append, all_weaker}
+use Rattle.cluster_machine.proofs.Closing.{length_shut}
 
 -- the table and key that a read phase asks for: of a node, a request of its, and a phase of that
 abbrev pub Asks : Type 0

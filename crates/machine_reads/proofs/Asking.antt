@@ -29,7 +29,6 @@ use Rattle.cluster_machine.specs.Receives.{answers as says_to}
 use Rattle.cluster_machine.specs.Kept.{IsOver, GaveKept}
 use Rattle.cluster_machine.specs.World.{World}
 use Rattle.cluster_machine.specs.Step.{sent_by, did}
-use Rattle.machine_laws.proofs.Controls.{all_append}
 use Rattle.machine_laws.proofs.Rounding.{some_same}
 use Rattle.machine_laws.proofs.Same.{Unseen, same_self}
 use Rattle.machine_reads.specs.Places.{Place}
@@ -38,6 +37,7 @@ use Rattle.machine_reads.proofs.Growth.{SameOf, same_of, same_at, node_stays}
 use Rattle.machine_reads.proofs.Leads.{Issues, issues_self, Act, laws_of, grown, Leads}
 use Rattle.machine_reads.proofs.Sees.{all_has, IsHere, read_set_same, read_same, stores_by, flies_by}
 use Rattle.machine_reads.proofs.Called.{called_node, sent_each, quietly}
+use Rattle.crdt_core.proofs.Each.{all_append}
 
 -- two answers of different nodes
 pub record TwoOf {X : Type 0} (P : ℕ × X → Type 0) (two : X × X) : Type 0 where

@@ -16,9 +16,9 @@ use Rattle.cluster_machine.specs.Layouts.{Layouts}
 use Rattle.cluster_machine.specs.Node as machine
 use Rattle.cluster_machine.specs.Node.{Scan, Present, resting, asking, scanning, storing, fetching, Call, Packet, says, shows, Node}
 use Rattle.cluster_machine.specs.World.{Sent}
-use Rattle.machine_laws.proofs.Controls.{all_weaker}
 use Rattle.machine_reads.specs.Places.{Place}
 use Rattle.machine_reads.specs.Tie.{Question, Asked, a_key, a_range, Begun, a_round, a_repair, Issued, both, State, Answered, AtKey, InRange, AnsweredRow, AnsweredRows, IsAsked, IsPushOf, IsPushedOf, MeansTag, MeansDone, MeansMessage, MeansPacket, Means, IsAsking, IsScanning, AreSets, IsSlot, IsStoring, IsPresent, IsCall, IsRound, IsRoundIn, IsNode}
+use Rattle.crdt_core.proofs.Each.{all_weaker}
 
 module _ {R L : Type 0} (join : R → R → R) (s : Words R) (k : Layouts L) (partitions : ℕ) where
   -- the data plane's world and what was issued only grow

@@ -25,12 +25,14 @@ use Rattle.cluster_machine.specs.Phases.{without_call}
 use Rattle.cluster_machine.specs.Kept.{GaveKept}
 use Rattle.cluster_machine.specs.World.{World, Request}
 use Rattle.cluster_machine.specs.Step.{Effects, only, changed, shut, applied}
-use Rattle.machine_laws.proofs.Controls.{all_append, all_weaker, Turns, turned, length_shut}
+use Rattle.machine_laws.proofs.Controls.{Turns, turned}
 use Rattle.machine_reads.specs.Places.{Place, keys, at_place}
 use Rattle.machine_reads.specs.Tie.{Asked, Begun, Issued, both, State, Means, IsCall, IsRoundIn, IsNode, IsKept, IsTied}
 use Rattle.machine_reads.proofs.Placed.{keys_laws}
 use Rattle.machine_reads.proofs.Growth.{Grown, SameAt, same_at, means_grows, node_stays}
 use Rattle.machine_reads.proofs.Logs.{moved_control, moved_log, moved_kept}
+use Rattle.crdt_core.proofs.Each.{all_append, all_weaker}
+use Rattle.cluster_machine.proofs.Closing.{length_shut}
 
 -- what was issued stays issued
 pub record Issues {R L : Type 0} (g h : Issued R L) : Type 0 where

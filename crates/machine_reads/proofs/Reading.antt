@@ -20,7 +20,6 @@ use Rattle.cluster_machine.specs.Phases.{to_each, calls_now, asked, merged_at, v
 use Rattle.cluster_machine.specs.Receives.{is_sendable, gives_row}
 use Rattle.cluster_machine.specs.World.{World}
 use Rattle.cluster_machine.specs.Step.{sent_by, did}
-use Rattle.machine_laws.proofs.Controls.{all_append}
 use Rattle.machine_laws.proofs.Rounding.{some_same}
 use Rattle.machine_laws.proofs.Same.{Unseen, unseen_asked}
 use Rattle.machine_reads.specs.Places.{Place}
@@ -29,6 +28,7 @@ use Rattle.machine_reads.proofs.Placed.{place_of_key}
 use Rattle.machine_reads.proofs.Leads.{Leads, proper_kept}
 use Rattle.machine_reads.proofs.Sees.{IsHere}
 use Rattle.machine_reads.proofs.Asking.{TwoOf, two_found, over_same, call_changes, question_of, asks_begin, asked_answers, two_have}
+use Rattle.crdt_core.proofs.Each.{all_append}
 
 module _ {R L : Type 0} (join : R → R → R) (s : Words R) (k : Layouts L) (partitions : ℕ) (some : 1 ≤ partitions) (joins_well : JoinLaws join) (laws : Laws join s) (A C : Type 0) (w : World R L) (p : State join s k partitions) (g : Issued R L) (sound : IsSound (both join s k partitions) p) (t : IsTied join s k partitions w p g) where
   abbrev Lead : ℕ → Did R L → Type 0

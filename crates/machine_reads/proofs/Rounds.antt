@@ -31,7 +31,6 @@ use Rattle.cluster_machine.specs.Rounds.{confirmed_for, is_complete, open_nodes,
 use Rattle.cluster_machine.specs.World.{World}
 use Rattle.cluster_machine.specs.Step.{did, sent_by}
 use Rattle.machine_laws.specs.Follows.{target_of}
-use Rattle.machine_laws.proofs.Controls.{all_append}
 use Rattle.machine_laws.proofs.Same.{unseen_quiet}
 use Rattle.machine_laws.proofs.Rounding.{some_same, completed, complete_is, unseen_again}
 use Rattle.machine_laws.proofs.Requests.{one_turns}
@@ -44,6 +43,7 @@ use Rattle.machine_reads.proofs.Leads.{issues_self, Act, grown, Leads, by_node}
 use Rattle.machine_reads.proofs.Sets.{two_at}
 use Rattle.machine_reads.proofs.Called.{sent_each, quietly}
 use Rattle.machine_reads.proofs.Storing.{sent_append, read_back}
+use Rattle.crdt_core.proofs.Each.{all_append}
 
 pub all_in : {X : Type 0} (f : X → Bool) (xs : List X) (x : X) → list_all f xs ≡ true → Has xs x → f x ≡ true
 all_in f [] x a h = absurd h

@@ -28,7 +28,7 @@ use Rattle.cluster_machine.specs.Phases.{nodes_of, to_each, calls_now, bytes_of,
 use Rattle.cluster_machine.specs.Kept.{GaveKept}
 use Rattle.cluster_machine.specs.World.{World}
 use Rattle.cluster_machine.specs.Step.{did, sent_by}
-use Rattle.machine_laws.proofs.Controls.{all_append, all_weaker, Turns}
+use Rattle.machine_laws.proofs.Controls.{Turns}
 use Rattle.machine_laws.proofs.Rounding.{some_same}
 use Rattle.machine_laws.proofs.Same.{Unseen, unseen_stored}
 use Rattle.machine_laws.proofs.Turning.{unseen}
@@ -39,6 +39,7 @@ use Rattle.machine_reads.proofs.Leads.{Issues, issues_self, Act, laws_of, grown,
 use Rattle.machine_reads.proofs.Sees.{all_has, newest_same, oldest_same, flies_by}
 use Rattle.machine_reads.proofs.Sets.{all_among_list, two_later, stored_sets_are, stored_count, two_at}
 use Rattle.machine_reads.proofs.Called.{called_node, sent_each, quietly}
+use Rattle.crdt_core.proofs.Each.{all_append, all_weaker}
 
 pub none_is : {X : Type 0} {x : X} → None ≡ Some x → ⊥
 none_is e = cc

@@ -3,7 +3,7 @@ use Rattle.std.specs.Prelude.{◌≡◌, ◌≤◌, ◌<◌, ℕ, suc, Bool, tru
 use Rattle.std.specs.Option.{unwrap_or}
 use Rattle.std.specs.List.{Contains, AllByRecursion, flat_map}
 use Rattle.std.proofs.Common.{ap, sym, subst, ◌∙◌, inl, inr, arith}
-use Rattle.std.proofs.lemmas.Bool.{eqb-true, leb-false, leb-true}
+use Rattle.std.proofs.lemmas.Bool.{eqb-true, leb-false, leb-true, not-false}
 use Rattle.std.proofs.lemmas.List.Elements.{All-contains, All-from_recursion, recursion_from_All}
 use Rattle.crdt_core.specs.EntryLaws.{and_parts}
 use Rattle.crdt_core.specs.Laws.{JoinLaws}
@@ -51,7 +51,7 @@ use Rattle.machine_laws.proofs.Turning.{stays, unseen, ack_turns, sync_ack_turns
 use Rattle.machine_laws.proofs.Requests.{close_turns, restart_turns, open_turns, gossip_turns}
 use Rattle.machine_laws.proofs.Rounding.{may_both}
 use Rattle.machine_laws.proofs.Applying.{install_turns, apply_turns}
-use Rattle.machine_laws.proofs.Runs.{all_numbered, stays_true, here, unseen_works}
+use Rattle.machine_laws.proofs.Runs.{all_numbered, here, unseen_works}
 use Rattle.machine_reads.specs.Places.{Place}
 use Rattle.machine_reads.specs.Tie.{MeansRows, Issued, none_issued, both, State, MeansMessage, MeansPacket, Means, MeansDone, IsPresent, IsCall, IsKept, IsTied}
 use Rattle.machine_reads.specs.Holders.{IsHeld}
@@ -323,7 +323,7 @@ module _ {R L : Type 0} (join : R → R → R) (s : Words R) (k : Layouts L) (pa
               let top : p.control.top ≡ w.applied = t.control.top in
               let known : newest k.reading (w.nodes n).view ≡ w.applied = omega arith in
               only_control join s k partitions some joins_well w p g e (Turn.Apply n l ∷ []) sound t refl
-              (apply_turns k partitions w p.control n l _ t.control is version (stays_true (is_member k (w.nodes n).view n) m) known (λ i. refl) refl refl refl) less refl refl refl (λ q h. tt))
+              (apply_turns k partitions w p.control n l _ t.control is version (not-false (is_member k (w.nodes n).view n) m) known (λ i. refl) refl refl refl) less refl refl refl (λ q h. tt))
           | false ↦ (λ none m.
               let low : w.applied < 1 = leb-false 1 w.applied none in
               let zero_applied : w.applied ≡ 0 = omega arith in

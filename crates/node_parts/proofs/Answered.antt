@@ -7,6 +7,7 @@ use Rattle.std.specs.Map.{lookup, set_value, keys_of}
 use Rattle.std.specs.declared.cmp.Reverse.{Reverse}
 use Rattle.std.proofs.lemmas.Bool.{eq-eqb, eqb-true, ne_eqb, cond-true, cond-false}
 use Rattle.std.proofs.lemmas.Map.Steps.{set_value_same}
+use Rattle.std.proofs.lemmas.Option.{same_Some}
 use Rattle.layout_roles.specs.declared.layout.Layout.{Layout}
 use Rattle.wire_messages.specs.declared.phase.PhaseEnd.{PhaseEnd}
 use Rattle.cluster_machine.specs.Node.{Node, Call as Opened, Did, quiet}
@@ -17,14 +18,11 @@ use Rattle.node_parts.specs.Calls.{IsCall, IsEntry, Took, Heard, ended_with}
 use Rattle.node_parts.proofs.OpenCalls.{newest_first, finds, AreFound, looked_up, call_again, call_written}
 
 module _ {R : Type 0} where
-  pub is_it : (c m : Opened R) → Some c ≡ Some m → c ≡ m
-  is_it c m e = cc
-
   pub request_is : (q : ℕ) (c : Opened R) (ms : List (Opened R)) → call_at ms q ≡ Some c → c.request ≡ q
   request_is q c [] e = cc
   request_is q c (m ∷ ms) e =
       elim (m.request == q) as (λ b. (m.request == q) ≡ b → cond b (Some m) (call_at ms q) ≡ Some c → c.request ≡ q) [
-        | true ↦ λ here is. ap (λ (d : Opened R). d.request) (sym (is_it m c is)) ∙ eqb-true m.request q here
+        | true ↦ λ here is. ap (λ (d : Opened R). d.request) (sym (same_Some m c is)) ∙ eqb-true m.request q here
         | false ↦ λ apart later. request_is q c ms later
       ] refl e
 
@@ -46,7 +44,7 @@ module _ {S R : Type 0} (k : Reverse ℕ) (es : List (Reverse ℕ × Call S R)) 
   heard_by given w c written sorted of there d took =
       let after : d.node.calls ≡ with_call took.after x.calls = ap (λ (n : Node R Layout). n.calls) took.node in
       let all_now : AllZip IsEntry (set_value (finds k) es w) (with_call took.after x.calls) =
-      call_written k w took.after es x.calls sorted all (took.request ∙ of) (λ m other. took.start ∙ ap (λ (n : Opened R). n.start) (is_it c m (sym there ∙ other))) took.is in
+      call_written k w took.after es x.calls sorted all (took.request ∙ of) (λ m other. took.start ∙ ap (λ (n : Opened R). n.start) (same_Some c m (sym there ∙ other))) took.is in
       record {
         calls = subst (λ ns. AllZip IsEntry ns d.node.calls) (sym written) (subst (λ ms. AllZip IsEntry (set_value (finds k) es w) ms) (sym after) all_now);
         rest = took.node ∙ ap (λ cs. record x { calls = cs }) (sym after);

@@ -5,6 +5,7 @@ use Rattle.std.specs.List.{filter, list_all, list_any, AllByRecursion}
 use Rattle.std.specs.Cmp.{nat_eq_equiv}
 use Rattle.std.proofs.Math.Dec.{eqb-suc-zero}
 use Rattle.std.proofs.lemmas.List.{map-append}
+use Rattle.std.proofs.Math.Bool.{or-true}
 use Rattle.quorum_model.specs.Quorum.{is_among, two_of}
 use Rattle.sync_round.specs.Round.{told_for, confirmed, missing, is_complete, open_parts}
 use Rattle.cluster_machine.specs.Node.{Confirmed, Part}
@@ -48,17 +49,13 @@ same_nodes node n p parts told h = sym (own_first node n p parts told ∙ ap (λ
 
 -- ---- of all parts
 
-or_true : (a : Bool) → (a || true) ≡ true
-or_true true = refl
-or_true false = refl
-
 abbrev pub AreAmong : List Part → List Part → Type 0
 AreAmong parts some = AllByRecursion (λ (part : Part). has part.partition parts ≡ true) some
 
 among_more : (first : Part) (parts some : List Part) → AreAmong parts some → AreAmong (first ∷ parts) some
 among_more first parts [] a = tt
 among_more first parts (part ∷ some) a =
-    (ap (λ b. (first.partition == part.partition) || b) a.0 ∙ or_true (first.partition == part.partition), among_more first parts some a.1)
+    (ap (λ b. (first.partition == part.partition) || b) a.0 ∙ or-true (first.partition == part.partition), among_more first parts some a.1)
 
 pub all_among : (parts : List Part) → AreAmong parts parts
 all_among [] = tt

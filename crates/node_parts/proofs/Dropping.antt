@@ -3,6 +3,7 @@ use Rattle.std.proofs.Common.{◌≡◌, ◌<◌, ◌+◌, ℕ, Bool, true, fals
 use Rattle.std.specs.List.{AllByRecursion, AllZip}
 use Rattle.std.proofs.lemmas.Bool.{cases_order}
 use Rattle.std.proofs.lemmas.List.Elements.{recursion_from_All, All-from_recursion}
+use Rattle.std.proofs.Math.Bool.{and-true}
 use Rattle.block_resync.specs.Outbox.{Outbox}
 use Rattle.layout_roles.specs.declared.layout.Layout.{Layout}
 use Rattle.view_model.specs.View.{View}
@@ -15,10 +16,6 @@ use Rattle.cluster_machine.specs.Layouts.{is_given, layouts}
 use Rattle.cluster_machine.specs.Rows.{drops}
 use Rattle.node_parts.specs.declared.contents.Contents.{Contents}
 use Rattle.node_parts.specs.Contents.{IsItem, IsContents, Became}
-
-and_true : (b : Bool) → (b && true) ≡ b
-and_true true = refl
-and_true false = refl
 
 filter_twice : {A : Type 0} (a b : A → Bool) (xs : List A) → filter a (filter b xs) ≡ filter (λ x. b x && a x) xs
 filter_twice a b [] = refl
@@ -41,7 +38,7 @@ module _ (given : ℕ → Bool) where
   lost i p none = elim (cases_order p i) [
     | inl same ↦ rw (le-ltb p i (omega arith), eq-eqb p i same, lt-ltb p (i + 1) (omega arith)) (sym (ap given same ∙ none))
     | inr apart ↦ elim apart [
-      | inl below ↦ rw (lt-ltb p i below, ne_eqb p i (λ e. omega arith), lt-ltb p (i + 1) (omega arith)) (and_true (given p))
+      | inl below ↦ rw (lt-ltb p i below, ne_eqb p i (λ e. omega arith), lt-ltb p (i + 1) (omega arith)) (and-true (given p))
       | inr above ↦ rw (le-ltb p i (omega arith), ne_eqb p i (λ e. omega arith), le-ltb p (i + 1) (omega arith)) refl
     ]
   ]

@@ -6,9 +6,9 @@ use Rattle.std.specs.List.Sorted.{IsStrictlySortedBy}
 use Rattle.std.specs.Map.{lookup, set_value, remove_entry, keys_of, values_of}
 use Rattle.std.specs.BTreeMap.{insert_entry, is_at}
 use Rattle.std.specs.Ordering.{nat_cmp, is_eq}
-use Rattle.std.specs.Cmp.{IsTotalOrder, both_ways}
+use Rattle.std.specs.Cmp.{IsTotalOrder, both_ways, Equal-is}
 use Rattle.std.specs.declared.cmp.Ordering.{Ordering}
-use Rattle.std.specs.declared.cmp.Ordering.TheVariants.{Less, Equal, Greater}
+use Rattle.std.specs.declared.cmp.Ordering.TheVariants.{Equal}
 use Rattle.std.specs.declared.cmp.Reverse.{Reverse}
 use Rattle.std.proofs.lemmas.Bool.{eq-eqb, eqb-true, lt-ltb, cond-true, cond-false}
 use Rattle.std.proofs.lemmas.Cmp.{nat_cmp_total, tied_itself, eq_by_cmp_equiv, on_total, back_total}
@@ -16,6 +16,7 @@ use Rattle.std.proofs.lemmas.List.Elements.{All-head}
 use Rattle.std.proofs.lemmas.Map.{NonePasses, none_passes_from_lookup}
 use Rattle.std.proofs.lemmas.Map.Entries.{none_past_head, lookup_tail}
 use Rattle.std.proofs.lemmas.Map.Keys.{sorted_tail, IsDistinct-from_sorted}
+use Rattle.std.proofs.lemmas.Option.{same_Some}
 use Rattle.crdt_core.specs.Orders.{nat_identical}
 use Rattle.cluster_machine.specs.Node.{Call as Opened}
 use Rattle.cluster_machine.specs.Phases.{call_at, with_call, without_call}
@@ -37,15 +38,10 @@ finds k = is_at (newest_first k)
 abbrev pub numbers_of : List (Reverse ℕ) → List ℕ
 numbers_of keys = map (λ k. k.0) keys
 
-equal_from : (r : Ordering) → is_eq r ≡ true → r ≡ Equal
-equal_from Less e = cc
-equal_from Equal e = refl
-equal_from Greater e = cc
-
 same_number : (a b : ℕ) → is_eq (nat_cmp a b) ≡ (a == b)
 same_number a b =
     both_ways (is_eq (nat_cmp a b)) (a == b)
-    (λ e. eq-eqb a b (nat_identical a b (equal_from (nat_cmp a b) e)))
+    (λ e. eq-eqb a b (nat_identical a b ((Equal-is (nat_cmp a b)).0 e)))
     (λ e. let same = eqb-true a b e in rw (← same, tied_itself nat_cmp_total a) refl)
 
 -- both find nothing, or a call and the one that it stands for
@@ -64,9 +60,6 @@ module _ {R : Type 0} where
 
   phased_apart : (k : Reverse ℕ) (c m : Opened R) → c.request ≡ k.0 → (m.request == k.0) ≡ false → phased c m ≡ m
   phased_apart k c m of apart = cond-false (m.request == c.request) (record m { phases = c.phases; present = c.present }) m (ap (λ n. m.request == n) of ∙ apart)
-
-  some_is : (a b : Opened R) → Some a ≡ Some b → a ≡ b
-  some_is a b e = cc
 
 module _ {S R : Type 0} where
   abbrev AreEntries : List (Reverse ℕ × Call S R) → List (Opened R) → Type 0
@@ -125,7 +118,7 @@ module _ {S R : Type 0} where
   call_again k c (e ∷ es) (m ∷ ms) sorted all of there =
       elim (m.request == k.0) as (λ b. (m.request == k.0) ≡ b → cond b (Some m) (call_at ms k.0) ≡ Some c → with_call c (m ∷ ms) ≡ m ∷ ms) [
         | true ↦ λ here is.
-            let first : phased c m ≡ m = phased_here k c m of here ∙ ap (λ (d : Opened R). record m { phases = d.phases; present = d.present }) (sym (some_is m c is)) in
+            let first : phased c m ≡ m = phased_here k c m of here ∙ ap (λ (d : Opened R). record m { phases = d.phases; present = d.present }) (sym (same_Some m c is)) in
             λ i. first i ∷ rest_stays k c m e es ms sorted all of here i
         | false ↦ λ apart later i. phased_apart k c m of apart i ∷ call_again k c es ms (sorted_tail newest_first e.0 (keys_of es) sorted) all.1 of later i
       ] refl there

@@ -1,6 +1,7 @@
 -- Rows that wait are sent, one item after the other.
 use Rattle.std.proofs.Common.{◌≡◌, ◌<◌, ◌+◌, ℕ, zero, suc, List, [], ◌∷◌, ◌++◌, Option, Some, None, option_map, length, get_or, take, flat_map, refl, sym, ap, ◌∙◌, subst, append_assoc, append-nil, add-one, arith}
 use Rattle.std.specs.List.{AllZip}
+use Rattle.std.proofs.lemmas.Option.{same_Some}
 use Rattle.block_resync.specs.declared.item.Item.{Item}
 use Rattle.layout_roles.specs.declared.layout.Layout.{Layout}
 use Rattle.view_model.specs.Layouts.{reading}
@@ -49,16 +50,13 @@ module _ {R : Type 0} {join : R → R → R} {s : Words R} (laws : Laws join s) 
   store_of v p item = Store (ForItem item.number) (newest reading v) p ((item.row, None) ∷ [])
 
   module _ (items : List Item) (ms : List (Waiting R)) (i : ℕ) (d : Item) (h : AllZip (IsItem s) items ms) (lt : i < length items) where
-    same_place : (a b : ℕ) → Some a ≡ Some b → a ≡ b
-    same_place a b e = cc
-
     sent_next : (from : ℕ) (old mid new : List (Envelope R)) (v : View Layout) (p : ℕ) → Posts from old mid (flat_map (item_posts join s layouts v) (take i ms)) → Some p ≡ option_map (partition_of s) (s.read (get_or items i d).row) →
         Posts from mid new (to_each (nodes_of (stored_sets layouts v p)) (store_of v p (get_or items i d))) → Posts from old new (flat_map (item_posts join s layouts v) (take (i + 1) ms))
     sent_next from old mid new v p sent at one =
         let n = next_of s items ms i d h lt in
         let item = get_or items i d in
         let m = n.here in
-        let place : p ≡ partition_of s m.row = same_place p (partition_of s m.row) (at ∙ read_item laws item m n.is) in
+        let place : p ≡ partition_of s m.row = same_Some p (partition_of s m.row) (at ∙ read_item laws item m n.is) in
         let bytes : item.row ≡ spelled (s.spelling m.row) = sym (ap spelled n.is.row) in
         let posts : to_each (nodes_of (stored_sets layouts v p)) (store_of v p item) ≡ item_posts join s layouts v m =
         λ j. to_each (nodes_of (stored_sets layouts v (place j))) (Store (ForItem (n.is.number j)) (newest reading v) (place j) ((bytes j, None) ∷ [])) in

@@ -1,14 +1,18 @@
 -- Items that wait, in the code and in the model: the one with a number, and what a confirmation makes of them.
-use Rattle.std.proofs.Common.{◌≡◌, ◌<◌, ◌≤◌, ℕ, zero, suc, Bool, true, false, not, cond, if◌then◌else◌, ◌==◌, ◌&&◌, ◌||◌, nat_le, List, [], ◌∷◌, ◌++◌, Some, None, option_map, map, length, get_or, count_by, refl, sym, ap, ◌∙◌, subst, arith, eq-eqb, ne_eqb, eqb-true}
+use Rattle.std.proofs.Common.{◌≡◌, ◌<◌, ℕ, zero, suc, Bool, true, false, not, cond, if◌then◌else◌, ◌==◌, ◌&&◌, ◌||◌, nat_le, List, [], ◌∷◌, ◌++◌, Some, None, option_map, map, length, get_or, count_by, refl, sym, ap, ◌∙◌, subst, arith, eq-eqb, ne_eqb, eqb-true}
 use Rattle.std.specs.List.{AllZip, filter, list_any, list_all}
-use Rattle.block_resync.specs.Outbox.{Outbox, numbers, Rises, item_confirmed, item_forgot, confirmed, dropped, is_done as code_done, is_among as code_among, two_of_each}
+use Rattle.std.proofs.lemmas.Option.{same_Some}
+use Rattle.block_resync.specs.Outbox.{Outbox, numbers, Rises, item_confirmed, item_forgot, confirmed, dropped, is_done as code_done, two_of_each}
+use Rattle.quorum_model.specs.Quorum.{is_among, two_of}
 use Rattle.block_resync.specs.declared.item.Item.{Item}
-use Rattle.block_resync.proofs.Numbering.{NoneHas, none_changed, none_found}
+use Rattle.block_resync.proofs.Numbering.{NoneHas, none_past, none_changed, none_found, same_number}
+use Rattle.block_resync.proofs.Searching.{number_above}
+use Rattle.std.proofs.Math.Bool.{or-false, or-true}
+use Rattle.std.proofs.lemmas.List.Folds.{list_any-append}
 use Rattle.layout_roles.specs.declared.layout.Layout.{Layout}
 use Rattle.view_model.specs.View.{View}
 use Rattle.table_schema.specs.Words.{Words, partition_of}
 use Rattle.table_schema.specs.Laws.{Laws}
-use Rattle.quorum_model.specs.Quorum.{is_among, two_of}
 use Rattle.cluster_machine.specs.Node.{Item as Waiting}
 use Rattle.cluster_machine.specs.Layouts.{stored_sets, layouts}
 use Rattle.cluster_machine.specs.Receives.{item_came, is_done}
@@ -17,27 +21,6 @@ use Rattle.node_parts.specs.Contents.{IsItem, item_at}
 
 below_apart : (a n : ℕ) → a < n → (a == n) ≡ false
 below_apart a n lt = ne_eqb a n (λ e. omega arith)
-
-or_false : (a : Bool) → (a || false) ≡ a
-or_false true = refl
-or_false false = refl
-
-or_true : (a : Bool) → (a || true) ≡ true
-or_true true = refl
-or_true false = refl
-
-or_assoc : (a b c : Bool) → ((a || b) || c) ≡ (a || (b || c))
-or_assoc true b c = refl
-or_assoc false b c = refl
-
-none_past : (n low : ℕ) (items : List Item) → n ≤ low → Rises low (numbers items) → NoneHas n items
-none_past n low [] le r = tt
-none_past n low (x ∷ xs) le r = (ne_eqb x.number n (λ e. omega (arith, r.0)), none_past n x.number xs (omega (arith, r.0)) r.1)
-
-number_above : (low : ℕ) (items : List Item) (i : ℕ) (d : Item) → Rises low (numbers items) → i < length items → low < (get_or items i d).number
-number_above low [] i d r lt = absurd (omega arith)
-number_above low (x ∷ xs) zero d r lt = r.0
-number_above low (x ∷ xs) (suc i) d r lt = let later = number_above x.number xs i d r.1 (omega arith) in omega (arith, r.0, later)
 
 -- ---- the item with a number
 
@@ -64,39 +47,30 @@ module _ {R : Type 0} (s : Words R) where
 
 -- ---- who has confirmed
 
-among_same : (n : ℕ) (nodes : List ℕ) → code_among n nodes ≡ is_among n nodes
-among_same n [] = refl
-among_same n (m ∷ ms) = ap (λ b. (m == n) || b) (among_same n ms)
-
 among_more : (n node : ℕ) (nodes : List ℕ) → is_among n (nodes ++ node ∷ []) ≡ (is_among n nodes || (node == n))
-among_more n node [] = or_false (node == n)
-among_more n node (m ∷ ms) = ap (λ b. (m == n) || b) (among_more n node ms) ∙ sym (or_assoc (m == n) (is_among n ms) (node == n))
+among_more n node nodes = list_any-append (λ m. m == n) nodes (node ∷ []) ∙ ap (λ b. is_among n nodes || b) (or-false (node == n))
 
 -- a node that was there already adds nothing
 among_again : (n node : ℕ) (nodes : List ℕ) → is_among node nodes ≡ true → is_among n nodes ≡ (is_among n nodes || (node == n))
 among_again n node nodes is =
     elim (node == n) as (λ b. (node == n) ≡ b → is_among n nodes ≡ (is_among n nodes || b)) [
-      | true ↦ λ e. ap (λ k. is_among k nodes) (sym (eqb-true node n e)) ∙ is ∙ sym (or_true (is_among n nodes))
-      | false ↦ λ e. sym (or_false (is_among n nodes))
+      | true ↦ λ e. ap (λ k. is_among k nodes) (sym (eqb-true node n e)) ∙ is ∙ sym (or-true (is_among n nodes))
+      | false ↦ λ e. sym (or-false (is_among n nodes))
     ] refl
 
 confirmed_same : (node : ℕ) (x : Item) (nodes : List ℕ) → ((n : ℕ) → is_among n x.confirmed ≡ is_among n nodes) → (n : ℕ) → is_among n (item_confirmed node x).confirmed ≡ is_among n (nodes ++ node ∷ [])
 confirmed_same node x nodes h n =
-    elim (code_among node x.confirmed) as (λ b. code_among node x.confirmed ≡ b → is_among n (if b then x else record x { confirmed = x.confirmed ++ node ∷ [] }).confirmed ≡ is_among n (nodes ++ node ∷ [])) [
-      | true ↦ λ e. h n ∙ (among_again n node nodes (sym (h node) ∙ (sym (among_same node x.confirmed) ∙ e)) ∙ sym (among_more n node nodes))
+    elim (is_among node x.confirmed) as (λ b. is_among node x.confirmed ≡ b → is_among n (if b then x else record x { confirmed = x.confirmed ++ node ∷ [] }).confirmed ≡ is_among n (nodes ++ node ∷ [])) [
+      | true ↦ λ e. h n ∙ (among_again n node nodes (sym (h node) ∙ e) ∙ sym (among_more n node nodes))
       | false ↦ λ e. among_more n node x.confirmed ∙ (ap (λ b. b || (node == n)) (h n) ∙ sym (among_more n node nodes))
     ] refl
 
-number_same : (node : ℕ) (x : Item) → (item_confirmed node x).number ≡ x.number
-number_same node x =
-    elim (code_among node x.confirmed) as (λ b. (if b then x else record x { confirmed = x.confirmed ++ node ∷ [] }).number ≡ x.number) [ true ↦ refl | false ↦ refl ]
-
 row_same : (node : ℕ) (x : Item) → (item_confirmed node x).row ≡ x.row
 row_same node x =
-    elim (code_among node x.confirmed) as (λ b. (if b then x else record x { confirmed = x.confirmed ++ node ∷ [] }).row ≡ x.row) [ true ↦ refl | false ↦ refl ]
+    elim (is_among node x.confirmed) as (λ b. (if b then x else record x { confirmed = x.confirmed ++ node ∷ [] }).row ≡ x.row) [ true ↦ refl | false ↦ refl ]
 
 done_same : (x : Item) (nodes : List ℕ) (sets : List (List ℕ)) → ((n : ℕ) → is_among n x.confirmed ≡ is_among n nodes) → two_of_each sets x ≡ list_all (λ set. two_of set nodes) sets
-done_same x nodes sets h = λ j. list_all (λ set. nat_le 2 (count_by (λ n. (among_same n x.confirmed ∙ h n) j) set)) sets
+done_same x nodes sets h = λ j. list_all (λ set. nat_le 2 (count_by (λ n. h n j) set)) sets
 
 -- ---- an item that a node confirms
 
@@ -133,7 +107,7 @@ module _ (node n : ℕ) (sets : List (List ℕ)) where
 
   after_one : (y : Item) (items : List Item) → (y.number == n) ≡ true → NoneHas n items → (if is_out (y ∷ items) then left (y ∷ items) else y ∷ items) ≡ (if two_of_each sets y then items else y ∷ items)
   after_one y items e none =
-      let out : is_out (y ∷ items) ≡ two_of_each sets y = ap (λ b. (b && two_of_each sets y) || is_out items) e ∙ (ap (λ b. two_of_each sets y || b) (none_found (two_of_each sets) n items none) ∙ or_false (two_of_each sets y)) in
+      let out : is_out (y ∷ items) ≡ two_of_each sets y = ap (λ b. (b && two_of_each sets y) || is_out items) e ∙ (ap (λ b. two_of_each sets y || b) (none_found (two_of_each sets) n items none) ∙ or-false (two_of_each sets y)) in
       let gone : left (y ∷ items) ≡ items = ap (λ b. cond (not b) (y ∷ left items) (left items)) e ∙ none_left items none in
       ap (λ b. if b then left (y ∷ items) else y ∷ items) out ∙ ap (λ l. if two_of_each sets y then l else y ∷ items) gone
 
@@ -141,15 +115,12 @@ module _ (node n : ℕ) (sets : List (List ℕ)) where
   after_here x items e none =
       let y = item_confirmed node x in
       let same : told (x ∷ items) ≡ y ∷ items = (λ j. (if e j then y else x) ∷ none_changed (item_confirmed node) n items none j) in
-      ap (λ l. if is_out l then left l else l) same ∙ after_one y items (ap (λ k. k == n) (number_same node x) ∙ e) none
+      ap (λ l. if is_out l then left l else l) same ∙ after_one y items (ap (λ k. k == n) (same_number node x) ∙ e) none
 
   module _ {R : Type 0} (join : R → R → R) (s : Words R) (v : View Layout) (p : ℕ) (are : sets ≡ stored_sets layouts v p) where
     zip_here : (b : Bool) (x : Item) (m : Waiting R) (xs : List Item) (ms : List (Waiting R)) → IsItem s x m → AllZip (IsItem s) xs ms → AllZip (IsItem s) (if b then xs else x ∷ xs) (cond b ms (m ∷ ms))
     zip_here true x m xs ms is h = h
     zip_here false x m xs ms is h = (is, h)
-
-    same_place : (a b : ℕ) → Some a ≡ Some b → a ≡ b
-    same_place a b e = cc
 
     pub confirms : (low : ℕ) (items : List Item) (ms : List (Waiting R)) → Rises low (numbers items) → AllZip (IsItem s) items ms → Some p ≡ option_map (λ (m : Waiting R). partition_of s m.row) (item_at ms n) →
         AllZip (IsItem s) (after items) (item_came join s layouts v node n ms)
@@ -162,11 +133,11 @@ module _ (node n : ℕ) (sets : List (List ℕ)) where
           | true ↦ λ e.
               let here : (m.number == n) ≡ true = number ∙ e in
               let new : Waiting R = record m { confirmed = m.confirmed ++ node ∷ [] } in
-              let place : p ≡ partition_of s m.row = same_place p (partition_of s m.row) (at ∙ ap (λ b. option_map (λ (w : Waiting R). partition_of s w.row) (cond b (Some m) (item_at ms n))) here) in
+              let place : p ≡ partition_of s m.row = same_Some p (partition_of s m.row) (at ∙ ap (λ b. option_map (λ (w : Waiting R). partition_of s w.row) (cond b (Some m) (item_at ms n))) here) in
               let y = item_confirmed node x in
               let among = confirmed_same node x m.confirmed h.0.confirmed in
               let done : two_of_each sets y ≡ is_done join s layouts v new = done_same y new.confirmed sets among ∙ ap (λ l. list_all (λ set. two_of set new.confirmed) l) (are ∙ ap (stored_sets layouts v) place) in
-              let is : IsItem s y new = record { number = number_same node x ∙ h.0.number; row = h.0.row ∙ ap Some (sym (row_same node x)); confirmed = among } in
+              let is : IsItem s y new = record { number = same_number node x ∙ h.0.number; row = h.0.row ∙ ap Some (sym (row_same node x)); confirmed = among } in
               let past = none_past n x.number xs (omega (arith, eqb-true x.number n e)) r.1 in
               let code : after (x ∷ xs) ≡ (if two_of_each sets y then xs else y ∷ xs) = after_here x xs e past in
               let model : item_came join s layouts v node n (m ∷ ms) ≡ cond (two_of_each sets y) ms (new ∷ ms) = ap (λ b. cond b (cond (is_done join s layouts v new) ms (new ∷ ms)) (m ∷ item_came join s layouts v node n ms)) here ∙ ap (λ b. cond b ms (new ∷ ms)) (sym done) in

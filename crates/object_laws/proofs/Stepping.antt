@@ -1,8 +1,8 @@
 -- A step of the world keeps a state sound where what it adds fits the orders.
-use Rattle.std.specs.Prelude.{◌≡◌, ℕ, ◌-◌, Bool, true, false, ◌==◌, cond, List, [], ◌∷◌, ◌++◌, length, Option, Some, None, refl}
+use Rattle.std.specs.Prelude.{◌≡◌, ℕ, ◌-◌, Bool, true, false, ◌==◌, cond, List, [], ◌∷◌, ◌++◌, length, Some, None}
 use Rattle.std.specs.Option.{unwrap_or}
 use Rattle.std.proofs.Common.{ap, sym, subst, ◌∙◌}
-use Rattle.std.proofs.lemmas.List.{append-nil, length-set}
+use Rattle.std.proofs.lemmas.List.{append-nil}
 use Rattle.std.specs.List.{All, AllByRecursion}
 use Rattle.std.proofs.lemmas.List.Elements.{All-append}
 use Rattle.crdt_rows.specs.declared.any_row.AnyRow.{AnyRow}
@@ -10,8 +10,8 @@ use Rattle.crdt_rows.specs.AnyRow.{any_join}
 use Rattle.layout_roles.specs.declared.layout.Layout.{Layout}
 use Rattle.object_schema.specs.Schema.{words}
 use Rattle.cluster_machine.specs.Node.{Node, Ended}
-use Rattle.cluster_machine.specs.World.{Request, numbered}
-use Rattle.cluster_machine.specs.Step.{only, changed, shut, shut_one}
+use Rattle.cluster_machine.specs.World.{Request}
+use Rattle.cluster_machine.specs.Step.{only, changed, shut}
 use Rattle.machine_origins.specs.Origins.{stored_by}
 use Rattle.cluster_machine.specs.Worlds.{Done as Effect, IsLawfulRun}
 use Rattle.object_model.specs.Run.{State, Moving, doing, effect}
@@ -21,20 +21,13 @@ use Rattle.object_laws.proofs.Grown.{kept_later}
 use Rattle.object_laws.proofs.Reached.{reached_step}
 use Rattle.object_laws.proofs.Calm.{IsCalm}
 use Rattle.object_laws.proofs.Ends.{IsEnd, present_continues, ends_are}
+use Rattle.cluster_machine.proofs.Closing.{length_shut}
 
 -- what is added fits the orders, and no request opens
 pub record IsFine (s : State) (e : Effect AnyRow) : Type 0 where
   pub opens : e.opens ≡ []
   pub presents : (n : ℕ) → ArePresent s.orders s.history (changed e.nodes s.world.nodes n).calls
   pub keeps : AreProper e.keeps
-
-length_shut_one : (requests : List Request) (q : ℕ) (r : Option Request) → length (shut_one requests q r) ≡ length requests
-length_shut_one requests q None = refl
-length_shut_one requests q (Some r) = length-set requests (q - 1) (record r { is_open = false })
-
-length_shut : (requests : List Request) (qs : List ℕ) → length (shut requests qs) ≡ length requests
-length_shut requests [] = refl
-length_shut requests (q ∷ qs) = length_shut (shut_one requests q (numbered requests q)) qs ∙ length_shut_one requests q (numbered requests q)
 
 pub step_sound : (s : State) (m : Moving) → IsSound s → IsLawfulRun any_join words s.world (m ∷ []) → All (IsGood s.draws) (stored_by m.step) → IsFine s (effect s m) → IsSound (doing s m)
 step_sound s m sound lawful stores fine =

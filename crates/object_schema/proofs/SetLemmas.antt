@@ -28,15 +28,12 @@ use Rattle.object_schema.specs.declared.hashes.BlockName.{BlockName}
 use Rattle.object_schema.specs.Names.{name_cmp}
 use Rattle.object_schema.specs.Sets.{keys_of}
 use Rattle.object_schema.specs.Triggers.{with_value, with_values, in_order, versions_that, is_lost, is_newly_aborted, given_up, deleted_version, released, deleted_reference}
+use Rattle.crdt_core.proofs.Tails.{merged_nil}
 
 module _ {K V : Type 0} (R : K → K → Ordering) (j : V → V → V) (k : K) (v : V) where
-  merged_none : (es : List (K × V)) → merged R j es [] ≡ es
-  merged_none [] = refl
-  merged_none (e ∷ es) = refl
-
   keys_by : (e : K × V) (es : List (K × V)) (r : Ordering) → R e.0 k ≡ r → map (λ x. x.0) (merged R j es ((k, v) ∷ [])) ≡ with_value R k (map (λ x. x.0) es) → map (λ x. x.0) (merged R j (e ∷ es) ((k, v) ∷ [])) ≡ with_value R k (e.0 ∷ map (λ x. x.0) es)
   keys_by e es Less p h = rw p (ap (λ (ks : List K). e.0 ∷ ks) h)
-  keys_by e es Equal p h = rw p (ap (λ (fs : List (K × V)). e.0 ∷ map (λ x. x.0) fs) (merged_none es))
+  keys_by e es Equal p h = rw p (ap (λ (fs : List (K × V)). e.0 ∷ map (λ x. x.0) fs) (merged_nil R j es))
   keys_by e es Greater p h = rw p refl
 
   keys_merged : (es : List (K × V)) → map (λ x. x.0) (merged R j es ((k, v) ∷ [])) ≡ with_value R k (map (λ x. x.0) es)

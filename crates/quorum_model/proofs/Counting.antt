@@ -1,27 +1,22 @@
 -- What more confirmations, repeated ones and those of other nodes change.
-use Rattle.std.proofs.Common.{◌≡◌, ℕ, suc, ◌≤◌, ◌+◌, ◌-◌, Bool, true, false, cond, ◌&&◌, ◌||◌, ◌==◌, List, [], ◌∷◌, ◌++◌, drop, refl, sym, ap, ◌∙◌, arith}
+use Rattle.std.proofs.Common.{◌≡◌, ℕ, ◌≤◌, ◌+◌, ◌-◌, Bool, true, false, cond, ◌&&◌, ◌||◌, ◌==◌, List, [], ◌∷◌, ◌++◌, drop, refl, sym, ap, ◌∙◌, arith}
 use Rattle.std.specs.Prelude.{nat_le, count_by, IsTrue, All}
 use Rattle.std.specs.List.{AllByRecursion, list_all}
 use Rattle.std.proofs.lemmas.Bool.Decides.{nat_tests}
 use Rattle.std.proofs.lemmas.List.Sums.{sum_by-cons, AllPass-from_list_all, list_all-from_AllPass}
-use Rattle.std.proofs.lemmas.List.Elements.{All-drop}
+use Rattle.std.proofs.lemmas.List.Elements.{All-drop, recursion_from_All}
+use Rattle.std.proofs.lemmas.List.Folds.{list_any-append}
+use Rattle.std.proofs.Math.Bool.{or-false}
+use Rattle.std.proofs.lemmas.Bool.{or_parts, le-leb, leb-true}
 use Rattle.quorum_model.specs.Quorum.{is_among, two_of, is_some_set, reached}
-
-or_assoc : (a b c : Bool) → (a || (b || c)) ≡ ((a || b) || c)
-or_assoc true b c = refl
-or_assoc false b c = refl
-
-or_false : (a : Bool) → (a || false) ≡ a
-or_false true = refl
-or_false false = refl
+use Rattle.crdt_core.proofs.Each.{all_weaker}
 
 or_left : (a b : Bool) → IsTrue a → IsTrue (a || b)
 or_left true b h = refl
 or_left false b h = cc
 
 pub is_among-append : (m : ℕ) (ns later : List ℕ) → is_among m (ns ++ later) ≡ (is_among m ns || is_among m later)
-is_among-append m [] later = refl
-is_among-append m (x ∷ ns) later = ap (λ b. (x == m) || b) (is_among-append m ns later) ∙ or_assoc (x == m) (is_among m ns) (is_among m later)
+is_among-append m ns later = list_any-append (λ k. k == m) ns later
 
 among_more : (m : ℕ) (ns later : List ℕ) → IsTrue (is_among m ns) → IsTrue (is_among m (ns ++ later))
 among_more m ns later h = rw (is_among-append m ns later) (or_left (is_among m ns) (is_among m later) h)
@@ -43,17 +38,11 @@ count_same p q [] h = refl
 count_same p q (x ∷ xs) h =
     sum_by-cons (λ y. cond (p y) 1 0) x xs ∙ rw (h.0, count_same p q xs h.1) (sym (sum_by-cons (λ y. cond (q y) 1 0) x xs))
 
-le_from : (n m : ℕ) → n ≤ m → IsTrue (nat_le n m)
-le_from n m h = grind (arith, nat_tests)
-
-le_to : (n m : ℕ) → IsTrue (nat_le n m) → n ≤ m
-le_to n m h = grind (arith, nat_tests)
-
 two_more : (set ns later : List ℕ) → IsTrue (two_of set ns) → IsTrue (two_of set (ns ++ later))
 two_more set ns later h =
-    let before = le_to 2 (count_by (λ n. is_among n ns) set) h in
+    let before = leb-true 2 (count_by (λ n. is_among n ns) set) h in
     let more = count_more (λ n. is_among n ns) (λ n. is_among n (ns ++ later)) (λ x. among_more x ns later) set in
-    le_from 2 (count_by (λ n. is_among n (ns ++ later)) set) (omega (arith, before, more))
+    le-leb 2 (count_by (λ n. is_among n (ns ++ later)) set) (omega (arith, before, more))
 
 -- a test that is kept set by set
 all_kept : (p q : List ℕ → Bool) → ((x : List ℕ) → IsTrue (p x) → IsTrue (q x)) → (xs : List (List ℕ)) → IsTrue (list_all p xs) → IsTrue (list_all q xs)
@@ -80,21 +69,13 @@ each_of : {X : Type 0} (P : X → Type 0) → ((x : X) → P x) → (xs : List X
 each_of P h [] = tt
 each_of P h (x ∷ xs) = (h x, each_of P h xs)
 
-each_from : {X : Type 0} (P : X → Type 0) (xs : List X) → All P xs → AllByRecursion P xs
-each_from P [] h = tt
-each_from P (x ∷ xs) h = (h 0 x (omega arith), each_from P xs (λ k d lt. h (suc k) d (omega (arith, lt))))
-
-each_to : {X : Type 0} (P Q : X → Type 0) → ((x : X) → P x → Q x) → (xs : List X) → AllByRecursion P xs → AllByRecursion Q xs
-each_to P Q f [] h = tt
-each_to P Q f (x ∷ xs) h = (f x h.0, each_to P Q f xs h.1)
-
 -- where two lists of nodes give each set that is asked the same two
 same_reached : (first from : ℕ) (sets : List (List ℕ)) (nodes others : List ℕ) → AllByRecursion (λ set. two_of set nodes ≡ two_of set others) (drop (from - first) sets) → reached first sets nodes from ≡ reached first sets others from
 same_reached first from sets nodes others h =
     ap (λ b. is_some_set (drop (from - first) sets) && b) (all_same (λ set. two_of set nodes) (λ set. two_of set others) (drop (from - first) sets) h)
 
 among_other : (node m : ℕ) (ns : List ℕ) → (node == m) ≡ false → is_among m (ns ++ node ∷ []) ≡ is_among m ns
-among_other node m ns e = is_among-append m ns (node ∷ []) ∙ rw e (or_false (is_among m ns))
+among_other node m ns e = is_among-append m ns (node ∷ []) ∙ rw e (or-false (is_among m ns))
 
 same_node : (a b : ℕ) → (a == b) ≡ true → a ≡ b
 same_node a b e = grind (arith, nat_tests)
@@ -111,10 +92,6 @@ reached_again first from node sets nodes h =
     same_reached first from sets (nodes ++ node ∷ []) nodes
     (each_of _ (λ set. ap (nat_le 2) (count_same _ _ set (each_of _ (λ m. among_again node m nodes h) set))) (drop (from - first) sets))
 
-or_sides : (a b : Bool) → (a || b) ≡ false → (a ≡ false) × (b ≡ false)
-or_sides true b e = cc
-or_sides false b e = (refl, e)
-
 unequal : (a b : ℕ) → (a == b) ≡ false → (b == a) ≡ false
 unequal a b e = grind (arith, nat_tests)
 
@@ -122,11 +99,11 @@ unequal a b e = grind (arith, nat_tests)
 among_outside : (node : ℕ) (nodes set : List ℕ) → is_among node set ≡ false → AllByRecursion (λ m. is_among m (nodes ++ node ∷ []) ≡ is_among m nodes) set
 among_outside node nodes [] e = tt
 among_outside node nodes (x ∷ set) e =
-    let sides = or_sides (x == node) (is_among node set) e in
+    let sides = or_parts (x == node) (is_among node set) e in
     (among_other node x nodes (unequal x node sides.0), among_outside node nodes set sides.1)
 
 pub reached_stranger : (first from node : ℕ) (sets : List (List ℕ)) (nodes : List ℕ) → All (λ set. is_among node set ≡ false) sets → reached first sets (nodes ++ node ∷ []) from ≡ reached first sets nodes from
 reached_stranger first from node sets nodes h =
-    let later = each_from (λ set. is_among node set ≡ false) (drop (from - first) sets) (All-drop (λ set. is_among node set ≡ false) (from - first) sets h) in
+    let later = recursion_from_All (λ set. is_among node set ≡ false) (drop (from - first) sets) (All-drop (λ set. is_among node set ≡ false) (from - first) sets h) in
     same_reached first from sets (nodes ++ node ∷ []) nodes
-    (each_to _ (λ set. two_of set (nodes ++ node ∷ []) ≡ two_of set nodes) (λ set e. ap (nat_le 2) (count_same _ _ set (among_outside node nodes set e))) (drop (from - first) sets) later)
+    (all_weaker _ (λ set. two_of set (nodes ++ node ∷ []) ≡ two_of set nodes) (λ set e. ap (nat_le 2) (count_same _ _ set (among_outside node nodes set e))) (drop (from - first) sets) later)

@@ -1,15 +1,15 @@
 -- When a row is kept in each of the sets of consecutive versions.
-use Rattle.std.specs.Prelude.{ℕ, zero, suc, ◌-◌, ◌==◌, Bool, true, false, nat_le, count_by, ◌&&◌, ◌||◌, List, [], ◌∷◌, ◌++◌, drop}
-use Rattle.std.specs.List.{list_all}
+use Rattle.std.specs.Prelude.{ℕ, zero, suc, ◌-◌, ◌==◌, Bool, true, false, ◌&&◌, List, [], ◌∷◌, ◌++◌, drop}
+use Rattle.std.specs.List.{list_all, list_any}
+use Rattle.crdt_core.specs.Members.{two_pass}
 
--- a node is one of these
+-- n is one of these nodes
 abbrev pub is_among : ℕ → List ℕ → Bool
-is_among n [] = false
-is_among n (m ∷ ms) = (m == n) || is_among n ms
+is_among n nodes = list_any (λ m. m == n) nodes
 
 -- two of the places of a set are among these nodes
 abbrev pub two_of : List ℕ → List ℕ → Bool
-two_of set nodes = nat_le 2 (count_by (λ n. is_among n nodes) set)
+two_of set nodes = two_pass (λ n. is_among n nodes) set
 
 -- there is a set at all
 abbrev pub is_some_set : {A : Type 0} → List A → Bool

@@ -1,1 +1,2 @@
+pub mod Confirming
 mod Counting

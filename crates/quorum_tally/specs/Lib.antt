@@ -1,2 +1,2 @@
-pub mod Slot
+pub mod Marks
 pub mod Stands

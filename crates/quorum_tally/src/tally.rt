@@ -4,9 +4,9 @@ ghost use Rattle.std.specs.List.{All};
 ghost use Rattle.crdt_core.specs.Outcomes.{OnlyWant};
 ghost use Rattle.quorum_model.specs.Quorum.{reached};
 ghost use Rattle.quorum_tally.specs.Stands.{Tallies};
-ghost use Rattle.quorum_tally.specs.Slot.{has_two};
+ghost use Rattle.quorum_tally.specs.Marks.{has_two};
 
-use crate::slot::Slot;
+use crate::marks::Marks;
 use crdt_core::Memory;
 use std::alloc::Global;
 
@@ -14,7 +14,7 @@ use std::alloc::Global;
 #[derive(Drop)]
 pub struct Tally {
     first: u32,
-    slots: Vec<Slot>,
+    slots: Vec<Marks>,
 }
 
 impl Tally {
@@ -25,7 +25,7 @@ impl Tally {
     {
         let mut slots = Vec::new(alloc);
         for set in sets {
-            slots.push(Slot::new(set))?;
+            slots.push(Marks::new(set))?;
         }
         Ok(Tally { first, slots })
     }
@@ -53,7 +53,7 @@ impl Tally {
     }
 }
 
-fn each_has_two(slots: &[Slot]) -> bool
+fn each_has_two(slots: &[Marks]) -> bool
     ensures { IsTrue result ↔ All (λ s. IsTrue (has_two s)) slots.now }
 {
     slots.iter().all(|slot| slot.has_two())

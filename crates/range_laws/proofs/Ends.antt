@@ -2,7 +2,7 @@
 use Rattle.std.specs.Prelude.{◌≡◌, ℕ, nat_eq, Bool, true, false, not, List, [], ◌∷◌, ◌++◌, length, drop, Option, Some, None, refl}
 use Rattle.std.specs.List.{starts_with}
 use Rattle.std.proofs.Common.{ap, sym, ◌∙◌}
-use Rattle.std.proofs.lemmas.Bool.{eqb-true}
+use Rattle.std.proofs.lemmas.Bool.{eqb-true, not-true}
 use Rattle.std.proofs.lemmas.Cmp.{nat_list_cmp_total}
 use Rattle.std.specs.declared.cmp.Ordering.{Ordering}
 use Rattle.std.specs.declared.cmp.Ordering.TheVariants.{Less, Equal, Greater}
@@ -12,10 +12,6 @@ use Rattle.crdt_core.specs.EntryLaws.{and_parts}
 use Rattle.quorum_model.specs.Window.{key_cmp, nearer, is_within}
 
 -- ---- the nearer end
-
-pub not_true : (b : Bool) → not b ≡ true → b ≡ false
-not_true true e = cc
-not_true false e = refl
 
 pub not_false : (b : Bool) → b ≡ false → not b ≡ true
 not_false b e = ap not e
@@ -39,11 +35,11 @@ not_both k l h Greater e = ap is_lt e
 nearer_by : (k l key : List ℕ) (b : Bool) → is_lt (key_cmp l k) ≡ b → is_within (nearer (Some k) (Some l)) key ≡ true → (is_within (Some k) key ≡ true) × (is_within (Some l) key ≡ true)
 nearer_by k l key true e h =
     let at_l : is_within (Some l) key ≡ true = rw e at h in
-    let past : is_lt (key_cmp k key) ≡ false = lower l k key (not_both l k e (key_cmp k l) refl) (not_true (is_lt (key_cmp l key)) at_l) in
+    let past : is_lt (key_cmp k key) ≡ false = lower l k key (not_both l k e (key_cmp k l) refl) (not-true (is_lt (key_cmp l key)) at_l) in
     (not_false (is_lt (key_cmp k key)) past, at_l)
 nearer_by k l key false e h =
     let at_k : is_within (Some k) key ≡ true = rw e at h in
-    let past : is_lt (key_cmp l key) ≡ false = lower k l key e (not_true (is_lt (key_cmp k key)) at_k) in
+    let past : is_lt (key_cmp l key) ≡ false = lower k l key e (not-true (is_lt (key_cmp k key)) at_k) in
     (at_k, not_false (is_lt (key_cmp l key)) past)
 
 -- what is within the nearer of two ends is within both

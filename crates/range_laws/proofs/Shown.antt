@@ -4,12 +4,12 @@ use Rattle.std.specs.List.{starts_with}
 use Rattle.std.proofs.Common.{ap, sym, subst, ◌∙◌, arith}
 use Rattle.std.proofs.lemmas.List.{take_all}
 use Rattle.std.proofs.lemmas.List.Elements.{All-nil, All-cons, All-head, All-tail, All-take, All-filter, All-weaker, filter_passes}
-use Rattle.std.proofs.lemmas.Bool.{eqb-true, ltb-false}
+use Rattle.std.proofs.lemmas.Bool.{eqb-true, ltb-false, not-true}
 use Rattle.std.proofs.lemmas.Cmp.{nat_list_cmp_total}
-use Rattle.std.specs.declared.cmp.Ordering.{Ordering}
-use Rattle.std.specs.declared.cmp.Ordering.TheVariants.{Less, Equal, Greater}
-use Rattle.std.specs.Ordering.{nat_cmp, is_lt, is_eq}
+use Rattle.std.specs.declared.cmp.Ordering.TheVariants.{Equal}
+use Rattle.std.specs.Ordering.{nat_cmp, is_lt}
 use Rattle.std.specs.Cmp.Lexicographic.{slice_cmp}
+use Rattle.std.specs.Cmp.{Equal-is}
 use Rattle.crdt_core.specs.Order.{option_join}
 use Rattle.crdt_core.specs.Entries.{is_ascending, value_at, merged}
 use Rattle.crdt_core.specs.EntryLaws.{and_parts, and_both, ascending_merged, value_at-merged}
@@ -21,7 +21,7 @@ use Rattle.quorum_model.specs.Window.{key_cmp, keyed, last_of, nearer, shown_to,
 use Rattle.range_laws.specs.Scans.{answer, window_between}
 use Rattle.range_laws.proofs.Fronts.{find_filter, last_from, last_is, last_has, ascends_filter, ascends_take, front}
 use Rattle.range_laws.proofs.Entries.{Fits, rows_back, keys_ascend, found, merged_fit}
-use Rattle.range_laws.proofs.Ends.{not_true, within_both, begins_with}
+use Rattle.range_laws.proofs.Ends.{within_both, begins_with}
 
 -- ---- where ends lie
 
@@ -40,16 +40,11 @@ whole_back : (position : List ℕ) (end : Option (List ℕ)) → Whole position 
 whole_back position None h = refl
 whole_back position (Some end) h = ap Some h
 
-equal_is : (o : Ordering) → is_eq o ≡ true → o ≡ Equal
-equal_is Less e = cc
-equal_is Equal e = refl
-equal_is Greater e = cc
-
 -- ---- one answer
 
 module _ {R : Type 0} (s : Words R) where
   at_place : (key : List ℕ) (r : R) → is_at s 1 key r ≡ true → (1, key) ≡ place s r
-  at_place key r e = place_identical (1, key) (place s r) (equal_is (place_cmp (1, key) (place s r)) e)
+  at_place key r e = place_identical (1, key) (place s r) ((Equal-is (place_cmp (1, key) (place s r))).0 e)
 
   -- what is at a key that was asked for was asked for
   asked_at : (begin start key : List ℕ) (r : R) → starts_with nat_eq key begin ≡ true → is_lt (slice_cmp nat_cmp start key) ≡ true → is_at s 1 key r ≡ true → is_past s 1 begin start r ≡ true
@@ -75,7 +70,7 @@ module _ {R : Type 0} (s : Words R) where
       let last = last_from x (take m xs) in
       let at_last : is_within (Some (s.key last)) key ≡ true = sym (ap (λ o. is_within (option_map s.key o) key) (last_is x (take m xs))) ∙ h in
       let t : s.table last ≡ 1 = last_has (λ r. s.table r ≡ 1) x (take m xs) (All-take (λ r. s.table r ≡ 1) (suc m) (x ∷ xs) ts) in
-      let apart : is_lt (place_cmp (place s last) (1, key)) ≡ false = ap (λ n. is_lt (place_cmp (n, s.key last) (1, key))) t ∙ not_true (is_lt (key_cmp (s.key last) key)) at_last in
+      let apart : is_lt (place_cmp (place s last) (1, key)) ≡ false = ap (λ n. is_lt (place_cmp (n, s.key last) (1, key))) t ∙ not-true (is_lt (key_cmp (s.key last) key)) at_last in
       front s m x xs (1, key) a apart
 
   -- up to where it ends an answer of one row at least has all that was asked for

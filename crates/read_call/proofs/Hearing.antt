@@ -1,7 +1,6 @@
 -- What one more answer does to a call.
-use Rattle.std.proofs.Common.{◌≡◌, ◌≢◌, ℕ, Bool, true, false, cond, ◌||◌, ◌==◌, Option, Some, None, List, [], ◌∷◌, ◌++◌, refl, sym, ap, ◌∙◌, append-nil, subst, arith, eq-eqb}
+use Rattle.std.proofs.Common.{◌≡◌, ◌≢◌, ℕ, Bool, true, false, cond, ◌==◌, Option, Some, None, List, [], ◌∷◌, ◌++◌, refl, sym, ap, ◌∙◌, append-nil, subst, arith, eq-eqb}
 use Rattle.std.specs.Prelude.{is_some, option_map, if◌then◌else◌}
-use Rattle.std.specs.List.{list_any}
 use Rattle.std.specs.Option.{option_or}
 use Rattle.std.proofs.lemmas.List.Elements.{filter-append}
 use Rattle.std.proofs.lemmas.Bool.Decides.{nat_tests}
@@ -11,10 +10,6 @@ use Rattle.read_call.specs.declared.progress.Progress.{Progress}
 use Rattle.read_call.specs.declared.progress.Progress.TheVariants.{Asked, Answered, Over}
 use Rattle.read_call.specs.Stands.{Waits}
 use Rattle.read_call.specs.Progress.{progress_of, progress_from}
-
-pub among_any : (node : ℕ) (nodes : List ℕ) → list_any (λ y. y == node) nodes ≡ is_among node nodes
-among_any node [] = refl
-among_any node (n ∷ ns) = ap (λ b. (n == node) || b) (among_any node ns)
 
 differs : (a b : ℕ) → a ≢ b → (b == a) ≡ false
 differs a b h = grind (arith, nat_tests)

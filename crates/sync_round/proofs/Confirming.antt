@@ -4,49 +4,27 @@ use Rattle.std.specs.Prelude.{count_by, if◌then◌else◌}
 use Rattle.std.specs.List.{AllByRecursion}
 use Rattle.std.specs.List.Sorted.{IsStrictlySortedBy}
 use Rattle.std.specs.Map.{lookup, set_value, keys_of}
-use Rattle.std.specs.Option.{unwrap_or, is_some}
-use Rattle.std.specs.Ordering.{nat_cmp, is_eq}
-use Rattle.std.specs.Cmp.{both_ways, tied_itself, nat_cmp_total, nat_eq_equiv, eq_by_cmp_equiv}
-use Rattle.std.specs.declared.cmp.Ordering.{Ordering}
-use Rattle.std.specs.declared.cmp.Ordering.TheVariants.{Less, Equal, Greater}
+use Rattle.std.specs.Option.{is_some}
+use Rattle.std.specs.Ordering.{nat_cmp}
+use Rattle.std.specs.Cmp.{both_ways, tied_itself, nat_cmp_total, nat_eq_equiv, eq_by_cmp_equiv, Equal-is}
+use Rattle.std.specs.declared.cmp.Ordering.TheVariants.{Equal}
 use borrow.Author.Tests.{eqb-true, eq-eqb}
+use Rattle.std.proofs.lemmas.Option.{same_Some}
 use Rattle.crdt_core.specs.Orders.{nat_identical}
 use Rattle.sync_round.proofs.Ordering.{shown}
+use Rattle.quorum_tally.proofs.Confirming.{after_right, new_right}
 use Rattle.std.specs.BTreeMap.{is_at}
-use Rattle.std.proofs.lemmas.Bool.{leb-true, le-leb}
+use Rattle.std.proofs.Math.Bool.{or-false}
+use Rattle.std.proofs.lemmas.Bool.{leb-true, le-leb, or_parts}
 use Rattle.std.proofs.lemmas.Map.{NonePasses}
 use Rattle.std.proofs.lemmas.Map.Entries.{none_past_head, sum_by-set_value}
 use Rattle.std.proofs.lemmas.Map.Keys.{sorted_tail, IsDistinct-from_sorted}
 use Rattle.quorum_model.specs.Quorum.{is_among}
 use Rattle.sync_round.specs.Round.{told_for, confirmed, is_asked}
-use Rattle.sync_round.specs.Marks.{Entries, unmarked, mark_after, marks_after, three, nodes_of, has_two, entries_after, lacking_of, IsRight}
-use Rattle.sync_round.specs.declared.marks.Marks.{Marks}
-use Rattle.sync_round.specs.declared.marks.Mark.{Mark}
-
-or_assoc : (a b c : Bool) → (a || (b || c)) ≡ ((a || b) || c)
-or_assoc true b c = refl
-or_assoc false b c = refl
-
-or_false : (a : Bool) → a ≡ (a || false)
-or_false true = refl
-or_false false = refl
-
-is_among-snoc : (m n : ℕ) (ns : List ℕ) → is_among m (ns ++ n ∷ []) ≡ (is_among m ns || (n == m))
-is_among-snoc m n [] = sym (or_false (n == m))
-is_among-snoc m n (x ∷ ns) = ap (λ b. (x == m) || b) (is_among-snoc m n ns) ∙ or_assoc (x == m) (is_among m ns) (n == m)
-
--- whether each node was marked, or is n
-abbrev marked_more : ℕ → List Bool → List ℕ → List Bool
-marked_more n [] ms = []
-marked_more n (b ∷ bs) [] = []
-marked_more n (b ∷ bs) (m ∷ ms) = (b || (n == m)) ∷ marked_more n bs ms
-
-among_more : (n : ℕ) (ns ms : List ℕ) → marked_more n (map (λ m. is_among m ns) ms) ms ≡ map (λ m. is_among m (ns ++ n ∷ [])) ms
-among_more n ns [] = refl
-among_more n ns (m ∷ ms) = λ i. sym (is_among-snoc m n ns) i ∷ among_more n ns ms i
-
-pub after_right : (n : ℕ) (ns : List ℕ) (s : Marks) → IsRight ns s → IsRight (ns ++ n ∷ []) (marks_after n s)
-after_right n ns s r = ap (λ bs. marked_more n bs (nodes_of s)) r ∙ among_more n ns (nodes_of s)
+use Rattle.quorum_tally.specs.Marks.{unmarked, mark_after, marks_after, three, nodes_of, has_two, IsRight}
+use Rattle.sync_round.specs.Parts.{Entries, entries_after, lacking_of}
+use Rattle.quorum_tally.specs.declared.marks.Marks.{Marks}
+use Rattle.quorum_tally.specs.declared.marks.Mark.{Mark}
 
 one_more : (a x : Bool) → cond a 1 0 ≤ cond (a || x) 1 0
 one_more true x = omega arith
@@ -69,15 +47,10 @@ two_kept n s e =
 abbrev pub finds : ℕ → ℕ → Bool
 finds p = is_at (nat_cmp p)
 
-equal_from : (r : Ordering) → is_eq r ≡ true → r ≡ Equal
-equal_from Less e = cc
-equal_from Equal e = refl
-equal_from Greater e = cc
-
 same_number : (p k : ℕ) → finds p k ≡ (p == k)
 same_number p k =
     both_ways (finds p k) (p == k)
-    (λ e. eq-eqb p k (nat_identical p k (equal_from (nat_cmp p k) e)))
+    (λ e. eq-eqb p k (nat_identical p k ((Equal-is (nat_cmp p k)).0 e)))
     (λ e. let same = eqb-true p k e in rw (← same, tied_itself nat_cmp_total p) refl)
 
 abbrev entry_after : ℕ → ℕ → ℕ × Marks → ℕ × Marks
@@ -93,9 +66,6 @@ pub none_marked : (p node : ℕ) (es : Entries) → NonePasses (finds p) es → 
 none_marked p node [] n = refl
 none_marked p node (e ∷ es) n = λ i. entry_kept p node e (sym (same_number p e.0) ∙ n.0) i ∷ none_marked p node es n.1 i
 
-some_same : (v w : Marks) → Some v ≡ Some w → v ≡ w
-some_same v w e = ap (λ o. unwrap_or o v) e
-
 pub one_marked : (p node : ℕ) (v : Marks) (es : Entries) → IsStrictlySortedBy nat_cmp (keys_of es) → lookup (finds p) es ≡ Some v → set_value (finds p) es (marks_after node v) ≡ entries_after p node es
 one_marked p node v [] s l = absurd (let f : false ≡ true = ap is_some l in cc)
 one_marked p node v (e ∷ es) s l =
@@ -103,7 +73,7 @@ one_marked p node v (e ∷ es) s l =
       | true ↦ λ t m.
           let here = sym (same_number p e.0) ∙ t in
           let rest = none_past_head (eq_by_cmp_equiv nat_cmp_total) p e es (IsDistinct-from_sorted nat_cmp (keys_of (e ∷ es)) s) t in
-          let first : (e.0, marks_after node v) ≡ entry_after p node e = ap (λ (w : Marks). (e.0, marks_after node w)) (sym (some_same e.1 v m)) ∙ sym (entry_marked p node e here) in
+          let first : (e.0, marks_after node v) ≡ entry_after p node e = ap (λ (w : Marks). (e.0, marks_after node w)) (sym (same_Some e.1 v m)) ∙ sym (entry_marked p node e here) in
           λ i. first i ∷ sym (none_marked p node es rest) i
       | false ↦ λ t m.
           let apart = sym (same_number p e.0) ∙ t in
@@ -161,24 +131,15 @@ told_after own told p node (e ∷ es) a = (told_entry own told p node e a.0, tol
 
 -- ---- a node that isn't asked
 
-or_first : (a b : Bool) → (a || b) ≡ false → a ≡ false
-or_first true b e = cc
-or_first false b e = refl
-
-or_second : (a b : Bool) → (a || b) ≡ false → b ≡ false
-or_second true b e = cc
-or_second false b e = e
-
 mark_kept : (n : ℕ) (m : Mark) → (m.node == n) ≡ false → mark_after n m ≡ m
-mark_kept n m apart = λ i. record { node = m.node; is_confirmed = (ap (λ b. m.is_confirmed || b) (nat_eq_equiv.symm n m.node ∙ apart) ∙ sym (or_false m.is_confirmed)) i }
+mark_kept n m apart = λ i. record { node = m.node; is_confirmed = (ap (λ b. m.is_confirmed || b) (nat_eq_equiv.symm n m.node ∙ apart) ∙ or-false m.is_confirmed) i }
 
 marks_kept : (n : ℕ) (s : Marks) → is_among n (nodes_of s) ≡ false → marks_after n s ≡ s
 marks_kept n s none =
-    let first = or_first (s.first.node == n) ((s.second.node == n) || ((s.third.node == n) || false)) none in
-    let later = or_second (s.first.node == n) ((s.second.node == n) || ((s.third.node == n) || false)) none in
-    let second = or_first (s.second.node == n) ((s.third.node == n) || false) later in
-    let third = or_first (s.third.node == n) false (or_second (s.second.node == n) ((s.third.node == n) || false) later) in
-    λ i. record { first = mark_kept n s.first first i; second = mark_kept n s.second second i; third = mark_kept n s.third third i }
+    let first = or_parts (s.first.node == n) ((s.second.node == n) || ((s.third.node == n) || false)) none in
+    let second = or_parts (s.second.node == n) ((s.third.node == n) || false) first.1 in
+    let third = or_parts (s.third.node == n) false second.1 in
+    λ i. record { first = mark_kept n s.first first.0 i; second = mark_kept n s.second second.0 i; third = mark_kept n s.third third.0 i }
 
 entry_unasked : (p node : ℕ) (e : ℕ × Marks) → ((p == e.0) && is_among node (nodes_of e.1)) ≡ false → entry_after p node e ≡ e
 entry_unasked p node e =
@@ -190,12 +151,10 @@ entry_unasked p node e =
 pub unasked_same : (p node : ℕ) (es : Entries) → is_asked (map shown es) p node ≡ false → entries_after p node es ≡ es
 unasked_same p node [] none = refl
 unasked_same p node (e ∷ es) none =
-    let first = (p == e.0) && is_among node (nodes_of e.1) in
-    let rest = is_asked (map shown es) p node in
-    λ i. entry_unasked p node e (or_first first rest none) i ∷ unasked_same p node es (or_second first rest none) i
+    let parts = or_parts ((p == e.0) && is_among node (nodes_of e.1)) (is_asked (map shown es) p node) none in
+    λ i. entry_unasked p node e parts.0 i ∷ unasked_same p node es parts.1 i
 
 -- ---- from the start
 
 pub first_right : (own : ℕ) (s : Marks) → s.first ≡ unmarked s.first.node → s.second ≡ unmarked s.second.node → s.third ≡ unmarked s.third.node → IsRight (own ∷ []) (marks_after own s)
-first_right own s a b c =
-    after_right own [] s (λ i. (a i).is_confirmed ∷ (b i).is_confirmed ∷ (c i).is_confirmed ∷ [])
+first_right own s a b c = after_right own [] s (new_right s a b c)

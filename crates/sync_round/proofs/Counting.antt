@@ -1,20 +1,19 @@
 -- What the marks of all partitions say: whether each has two, and which nodes are waited for.
 use Rattle.std.proofs.Common.{◌≡◌, ℕ, suc, ◌+◌, Bool, true, false, cond, ◌&&◌, ◌==◌, List, [], ◌∷◌, map, not, length, refl, ap, ◌∙◌, zero-add, arith}
-use Rattle.std.specs.Prelude.{nat_le, count_by, if◌then◌else◌}
+use Rattle.std.specs.Prelude.{if◌then◌else◌}
 use Rattle.std.specs.List.{filter}
 use Rattle.std.specs.Map.{values_of}
 use Rattle.std.proofs.Math.Dec.{eqb-suc-zero}
 use Rattle.std.proofs.lemmas.List.Sums.{sum_by-append}
-use Rattle.quorum_model.specs.Quorum.{is_among, two_of}
+use Rattle.quorum_model.specs.Quorum.{is_among}
 use Rattle.sync_round.specs.Round.{missing, confirmed, is_complete, open_parts}
-use Rattle.sync_round.specs.Marks.{Entries, three, nodes_of, has_two, missing_of, lacking_of, IsRight}
-use Rattle.sync_round.specs.declared.marks.Marks.{Marks}
-use Rattle.sync_round.specs.declared.marks.Mark.{Mark}
+use Rattle.quorum_tally.specs.Marks.{three, nodes_of, has_two, IsRight}
+use Rattle.sync_round.specs.Parts.{Entries, missing_of, lacking_of}
+use Rattle.quorum_tally.specs.declared.marks.Marks.{Marks}
+use Rattle.quorum_tally.specs.declared.marks.Mark.{Mark}
+use Rattle.quorum_tally.proofs.Confirming.{two_shown}
 use Rattle.sync_round.proofs.Ordering.{shown}
 use Rattle.sync_round.proofs.Confirming.{Told}
-
-two_shown : (nodes : List ℕ) (s : Marks) → IsRight nodes s → has_two s ≡ two_of (nodes_of s) nodes
-two_shown nodes s r = ap (λ bs. nat_le 2 (count_by (λ (b : Bool). b) bs)) r
 
 none_and_rest : (b : Bool) (n : ℕ) → (cond (not b) 1 0 + n == 0) ≡ (b && (n == 0))
 none_and_rest true n = rw (zero-add n) refl

@@ -11,8 +11,9 @@ use Rattle.std.specs.declared.cmp.Ordering.TheVariants.{Less, Equal, Greater}
 use Rattle.std.specs.BTreeMap.{insert_entry}
 use Rattle.std.proofs.lemmas.Map.Keys.{sorted_head, sorted_tail, sorted_from_strictly_increasing}
 use Rattle.sync_round.specs.Round.{ordered_after, by_partition}
-use Rattle.sync_round.specs.Marks.{Entries, IsRight, nodes_of}
-use Rattle.sync_round.specs.declared.marks.Marks.{Marks}
+use Rattle.quorum_tally.specs.Marks.{IsRight, nodes_of}
+use Rattle.sync_round.specs.Parts.{Entries}
+use Rattle.quorum_tally.specs.declared.marks.Marks.{Marks}
 
 abbrev Part : Type 0
 Part = ℕ × List ℕ

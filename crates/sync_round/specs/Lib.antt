@@ -1,3 +1,3 @@
-pub mod Marks
+pub mod Parts
 pub mod Round
 pub mod Stands

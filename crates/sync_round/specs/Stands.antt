@@ -4,7 +4,7 @@ use Rattle.std.specs.Prelude.{◌≡◌, ℕ, List, map}
 use Rattle.std.specs.List.{AllByRecursion}
 use Rattle.sync_round.specs.declared.round.Round.{Round}
 use Rattle.sync_round.specs.Round.{confirmed}
-use Rattle.sync_round.specs.Marks.{IsRight, nodes_of}
+use Rattle.quorum_tally.specs.Marks.{IsRight, nodes_of}
 
 -- a round leads to this version, over these partitions and sets, counts its own node in, and was told these confirmations
 pub record IsRound (r : Round) (target : ℕ) (parts : List (ℕ × List ℕ)) (own : ℕ) (told : List (ℕ × ℕ)) : Type 0 where

@@ -9,7 +9,7 @@
 //! `new` and `open_parts` take memory.
 #![tactic(auto)]
 
-mod marks;
+mod parts;
 mod round;
 
 pub use round::Round;

@@ -2,11 +2,12 @@
 ghost use Rattle.std.specs.Prelude.{◌≡◌, ◌==◌, ℕ, false, List, [], ◌∷◌, ◌++◌, IfOk, map};
 ghost use Rattle.std.specs.List.Sorted.{IsStrictlyIncreasing};
 ghost use Rattle.crdt_core.specs.Outcomes.{OnlyWant};
-ghost use Rattle.sync_round.specs.Marks.{lacking_in};
+ghost use Rattle.sync_round.specs.Parts.{lacking_in};
 ghost use Rattle.sync_round.specs.Round.{by_partition, is_complete, open_parts, is_asked};
 
-use crate::marks::{Marks, confirm_in};
+use crate::parts::{confirm_in, missing};
 use crdt_core::Memory;
+use quorum_tally::Marks;
 use std::alloc::Global;
 use std::collections::BTreeMap;
 
@@ -70,9 +71,9 @@ impl Round {
     {
         let mut open = Vec::new(self.alloc);
         for (p, marks) in &self.parts {
-            let missing = marks.missing(self.alloc)?;
-            if !missing.is_empty() {
-                open.push((*p, missing))?;
+            let waited = missing(self.alloc, *marks)?;
+            if !waited.is_empty() {
+                open.push((*p, waited))?;
             }
         }
         Ok(open)

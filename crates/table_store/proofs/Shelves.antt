@@ -13,6 +13,8 @@ use Rattle.std.specs.Ordering.{nat_cmp, is_eq, ordering_then}
 use Rattle.std.specs.Cmp.Lexicographic.{slice_cmp}
 use Rattle.std.proofs.lemmas.Bool.{eq-eqb}
 use Rattle.std.proofs.lemmas.Cmp.{nat_cmp_total, nat_list_cmp_total, tied_itself}
+use Rattle.std.specs.Cmp.{Equal-is}
+use Rattle.std.proofs.lemmas.Option.{same_Some}
 use Rattle.crdt_core.specs.Orders.{slice_identical, nat_identical}
 use Rattle.table_schema.specs.Words.{Words, partition_at, partition_of}
 use Rattle.table_schema.specs.Laws.{Same, Laws}
@@ -24,14 +26,6 @@ then_not : (o p : Ordering) → is_eq o ≡ false → is_eq (ordering_then o p) 
 then_not Less p h = refl
 then_not Equal p h = cc
 then_not Greater p h = refl
-
-equal_is : (o : Ordering) → is_eq o ≡ true → o ≡ Equal
-equal_is Less e = cc
-equal_is Equal e = refl
-equal_is Greater e = cc
-
-some_is : {R : Type 0} (a b : R) → Some a ≡ Some b → a ≡ b
-some_is a b e = cc
 
 test_agrees : {X Y : Type 0} (f : X → Bool) (g : Y → Bool) (h : X → Y) (xs : List X) → All (λ x. f x ≡ g (h x)) xs → map h (filter f xs) ≡ filter g (map h xs)
 test_agrees f g h [] all = refl
@@ -132,8 +126,8 @@ module _ {R Z : Type 0} where
 
     find_by : (key : List ℕ) (row : R) (e : Vec ℕ Z × Placed R) (rest : Option R) → IsPlaced s n occupied e → (rest ≡ Some row → IsFound s n key row) → (b : Bool) → is_eq (slice_cmp nat_cmp key e.0.items) ≡ b → cond b (Some e.1.row) rest ≡ Some row → IsFound s n key row
     find_by key row e rest p others true h is =
-        let one : e.1.row ≡ row = some_is e.1.row row is in
-        let here : key ≡ e.0.items = slice_identical nat_identical key e.0.items (equal_is _ h) in
+        let one : e.1.row ≡ row = same_Some e.1.row row is in
+        let here : key ≡ e.0.items = slice_identical nat_identical key e.0.items ((Equal-is _).0 h) in
         rw (sym one) (record { proper = p.proper; table_is = p.table_is; key_is = sym p.key_is ∙ sym here })
     find_by key row e rest p others false h is = others is
 

@@ -72,10 +72,6 @@ before_by prefix after key h Less o past = cc
 before_by prefix after key h Equal o past = ap is_le (nat_list_cmp_total.congr prefix after key (tied_back nat_list_cmp_total after prefix o) ∙ h)
 before_by prefix after key h Greater o past = ap is_le (nat_list_cmp_total.trans prefix after key (turned nat_list_cmp_total after prefix Greater o) h)
 
-pub and_true : (b : Bool) → (b && true) ≡ b
-and_true true = refl
-and_true false = refl
-
 and_false : (b : Bool) → false ≡ (b && false)
 and_false true = refl
 and_false false = refl

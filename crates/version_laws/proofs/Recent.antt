@@ -12,12 +12,13 @@ use Rattle.control_model.specs.World.{Request, Round, Node, World, Change, next,
 use Rattle.control_model.specs.Steps.{Step, applies, installs, comes, completes, is_current, may_begin, change, step, round_of}
 use Rattle.crdt_core.specs.Members.{Has}
 use Rattle.control_model.specs.Facts.{read_of}
-use Rattle.version_laws.proofs.Tests.{all_append, all_weaker, all_both, some_at}
+use Rattle.version_laws.proofs.Tests.{all_both, some_at}
 use Rattle.version_laws.proofs.OneView.{ordered, started, grew_at, read_low, read_high, read_below, cleaned_grew, oldest_appended}
 use Rattle.version_laws.proofs.WholeViews.{IsView, IsMessage, IsWhole, Grows, at_each, at_one, IsWholeChange, grows, whole_next}
 use Rattle.version_laws.proofs.WholeSteps.{One, merge_below, merged_view, whole_change, first_top}
 use Rattle.version_laws.proofs.Paced.{IsPaced, nobody_member, zero_or}
 use Rattle.version_laws.proofs.PacedSteps.{clean_passed, cleaned_high, some_newest, without-has}
+use Rattle.crdt_core.proofs.Each.{all_append, all_weaker}
 
 some_both : {A : Type 0} (P Q : A → Type 0) (o : Option A) → IfSome o P → IfSome o Q → IfSome o (λ x. P x × Q x)
 some_both P Q None a b = tt

@@ -4,10 +4,8 @@ use Rattle.std.specs.List.{AllByRecursion, list_all}
 use Rattle.std.proofs.lemmas.Bool.{or_cases, and_parts, leb-true, false≢true}
 use Rattle.std.proofs.lemmas.List.Sums.{sum_by-cons}
 use Rattle.layout_trackers.specs.Least.{least, lesser}
-use Rattle.view_model.specs.View.{two_have}
+use Rattle.crdt_core.specs.Members.{two_pass, Has, OneOf, TwoOf}
 use Rattle.control_model.specs.Layouts.{is_in}
-use Rattle.crdt_core.specs.Members.{Has}
-use Rattle.control_model.specs.Facts.{OneOf, TwoOf}
 
 pub some_is : {A : Type 0} (x y : A) → Some x ≡ Some y → x ≡ y
 some_is x y e = ap (λ o. unwrap_or o x) e
@@ -16,14 +14,6 @@ pub none_is_not : {A : Type 0} (x : A) → None ≡ Some x → ⊥
 none_is_not x e = cc
 
 -- ---- lists
-
-pub all_append : {A : Type 0} (P : A → Type 0) (xs ys : List A) → AllByRecursion P xs → AllByRecursion P ys → AllByRecursion P (xs ++ ys)
-all_append P [] ys a b = b
-all_append P (x ∷ xs) ys a b = (a.0, all_append P xs ys a.1 b)
-
-pub all_weaker : {A : Type 0} (P Q : A → Type 0) → ((x : A) → P x → Q x) → (xs : List A) → AllByRecursion P xs → AllByRecursion Q xs
-all_weaker P Q f [] a = a
-all_weaker P Q f (x ∷ xs) a = (f x a.0, all_weaker P Q f xs a.1)
 
 pub all_both : {A : Type 0} (P Q : A → Type 0) (xs : List A) → AllByRecursion P xs → AllByRecursion Q xs → AllByRecursion (λ x. P x × Q x) xs
 all_both P Q [] a b = tt
@@ -123,7 +113,7 @@ two_by f P h (x ∷ xs) k =
       | false ↦ λ e m. inr (two_by f P h xs (omega arith))
     ] refl (subst (λ n. 2 ≤ n) (count-cons f x xs) k)
 
-pub two_of : (f : ℕ → Bool) (P : ℕ → Type 0) → ((n : ℕ) → IsTrue (f n) → P n) → (xs : List ℕ) → IsTrue (two_have f xs) → TwoOf P xs
+pub two_of : (f : ℕ → Bool) (P : ℕ → Type 0) → ((n : ℕ) → IsTrue (f n) → P n) → (xs : List ℕ) → IsTrue (two_pass f xs) → TwoOf P xs
 two_of f P h xs t = two_by f P h xs (leb-true 2 (count_by f xs) t)
 
 pub two_weaker : (P Q : ℕ → Type 0) → ((n : ℕ) → P n → Q n) → (xs : List ℕ) → TwoOf P xs → TwoOf Q xs

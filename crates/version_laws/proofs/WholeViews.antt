@@ -8,8 +8,8 @@ use Rattle.view_model.specs.View.{Reading, View, oldest, newest, layout_at, read
 use Rattle.control_model.specs.Layouts.{IsMember, is_lawful}
 use Rattle.control_model.specs.World.{Node, Applied, World, Change, next, view_of, layout_of}
 use Rattle.control_model.specs.Facts.{entry_of}
-use Rattle.version_laws.proofs.Tests.{all_append, all_weaker}
 use Rattle.version_laws.proofs.OneView.{Gapless, grew_refl, grew_trans, entries_grew}
+use Rattle.crdt_core.proofs.Each.{all_append, all_weaker}
 
 -- a fact of each node after a change
 pub at_each : {L : Type 0} (w : World L) (c : Change L) (P : ℕ → Node L → Type 0) → ((n : ℕ) → IsTrue (c.who n) → P n (c.node n)) → ((n : ℕ) → P n (w.nodes n)) → (n : ℕ) → P n ((next w c).nodes n)

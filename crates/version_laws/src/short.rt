@@ -4,8 +4,8 @@ ghost use Rattle.std.specs.List.{list_all};
 ghost use Rattle.std.specs.Option.{option_or};
 ghost use Rattle.layout_trackers.specs.declared.which.Which.{Which};
 ghost use Rattle.layout_trackers.specs.declared.which.Which.TheVariants.{Sync, SyncAck};
-ghost use Rattle.view_model.specs.View.{Reading, View, two_have, is_gapless, oldest, newest, layout_at, version_of, members_stored, least_of, have_synced, merged, cleaned, appended, with_entry};
-ghost use Rattle.crdt_core.specs.Members.{Has};
+ghost use Rattle.view_model.specs.View.{Reading, View, is_gapless, oldest, newest, layout_at, version_of, members_stored, least_of, have_synced, merged, cleaned, appended, with_entry};
+ghost use Rattle.crdt_core.specs.Members.{two_pass, Has};
 ghost use Rattle.control_model.specs.Facts.{entry_of};
 
 /// A view as its oldest and newest version, its layout at each version, and its entries, with 0 for a missing
@@ -13,7 +13,7 @@ ghost use Rattle.control_model.specs.Facts.{entry_of};
 /// raise, clean and append do to it.
 pub fn views_in_short<L>()
     ensures missing_as_0 { (r : Reading L) (v : View L) (which : Which) (n i : ℕ) → oldest r v < i → leb i (version_of r which v n) ≡ leb i (entry_of which v n) }
-    ensures synced { (r : Reading L) (v : View L) (i : ℕ) (l : L) → oldest r v < i → have_synced r v i (Some l) ≡ list_all (two_have (λ n. leb i (entry_of Sync v n))) (r.sets l) }
+    ensures synced { (r : Reading L) (v : View L) (i : ℕ) (l : L) → oldest r v < i → have_synced r v i (Some l) ≡ list_all (two_pass (λ n. leb i (entry_of Sync v n))) (r.sets l) }
     ensures least { (r : Reading L) (v : View L) (which : Which) (i m : ℕ) → oldest r v < i → Has (members_stored r v) m → leb i (least_of r which v) ≡ list_all (λ n. leb i (entry_of which v n)) (members_stored r v) }
     ensures merged_layout { (r : Reading L) (a b : View L) → IsTrue (is_gapless r a.layouts) → IsTrue (is_gapless r b.layouts) → (i : ℕ) → layout_at r (merged r a b) i ≡ cond (leb (max (oldest r a) (oldest r b)) i) (option_or (layout_at r a i) (layout_at r b i)) None }
     ensures merged_entry { (r : Reading L) (a b : View L) (which : Which) (n : ℕ) → entry_of which (merged r a b) n ≡ max (entry_of which a n) (entry_of which b n) }

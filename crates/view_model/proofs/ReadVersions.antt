@@ -12,7 +12,8 @@ use Rattle.layout_trackers.specs.declared.which.Which.TheVariants.{Sync, SyncAck
 use Rattle.layout_trackers.specs.Trackers.{entry, is_reached}
 use Rattle.layout_trackers.specs.Entries.{Grows, IsNotAbove, joins_grow, raises_grow, never_falls}
 use Rattle.layout_trackers.specs.Reaching.{reached_by}
-use Rattle.view_model.specs.View.{Reading, View, two_have, greatest, follow, is_gapless, first_version, last_version, oldest, newest, version_of, have_synced, is_established, is_readable, read_version, merged, appended, with_entry, Agree, GrewFrom}
+use Rattle.view_model.specs.View.{Reading, View, greatest, follow, is_gapless, first_version, last_version, oldest, newest, version_of, have_synced, is_established, is_readable, read_version, merged, appended, with_entry, Agree, GrewFrom}
+use Rattle.crdt_core.specs.Members.{two_pass}
 use Rattle.view_model.proofs.Gapless.{at, oldest_least}
 use Rattle.view_model.proofs.Joins.{at_merged, oldest_merged, newest_merged, merged_comm}
 
@@ -78,17 +79,17 @@ counted_from f g h (x ∷ xs) a b k =
 counted_less : (f g : ℕ → Bool) → ((x : ℕ) → f x ≡ true → g x ≡ true) → (xs : List ℕ) → count_by f xs ≤ count_by g xs
 counted_less f g h xs = counted_from f g h xs 0 0 (omega arith)
 
-two_more : (f g : ℕ → Bool) → ((x : ℕ) → f x ≡ true → g x ≡ true) → (set : List ℕ) → two_have f set ≡ true → two_have g set ≡ true
+two_more : (f g : ℕ → Bool) → ((x : ℕ) → f x ≡ true → g x ≡ true) → (set : List ℕ) → two_pass f set ≡ true → two_pass g set ≡ true
 two_more f g h set e =
     let low : 2 ≤ count_by f set = leb-true 2 (count_by f set) e in
     let more : count_by f set ≤ count_by g set = counted_less f g h set in
     le-leb 2 (count_by g set) (omega arith)
 
-all_more : (f g : ℕ → Bool) → ((x : ℕ) → f x ≡ true → g x ≡ true) → (sets : List (List ℕ)) → list_all (two_have f) sets ≡ true → list_all (two_have g) sets ≡ true
+all_more : (f g : ℕ → Bool) → ((x : ℕ) → f x ≡ true → g x ≡ true) → (sets : List (List ℕ)) → list_all (two_pass f) sets ≡ true → list_all (two_pass g) sets ≡ true
 all_more f g h [] e = refl
 all_more f g h (set ∷ sets) e =
-    let p = and_parts (two_have f set) (list_all (two_have f) sets) e in
-    and_both (two_have g set) (list_all (two_have g) sets) (two_more f g h set p.0) (all_more f g h sets p.1)
+    let p = and_parts (two_pass f set) (list_all (two_pass f) sets) e in
+    and_both (two_pass g set) (list_all (two_pass g) sets) (two_more f g h set p.0) (all_more f g h sets p.1)
 
 -- ---- entries that grew
 

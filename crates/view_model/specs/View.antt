@@ -1,7 +1,8 @@
 -- What a node knows of the cluster's layout versions, and what follows from it.
 use Rattle.std.specs.Prelude.{◌≡◌, ◌≤◌, ℕ, zero, suc, pred, max, Bool, true, false, cond, ◌&&◌, ◌||◌, ◌==◌, leb, nat_lt, map, List, [], ◌∷◌, ◌++◌, Option, Some, None}
 use Rattle.std.specs.Option.{unwrap_or}
-use Rattle.std.specs.List.{filter, find, list_all, count_by, flat_map}
+use Rattle.std.specs.List.{filter, find, list_all, flat_map}
+use Rattle.crdt_core.specs.Members.{two_pass}
 use Rattle.layout_trackers.specs.declared.trackers.Trackers.{Trackers}
 use Rattle.layout_trackers.specs.declared.which.Which.{Which}
 use Rattle.layout_trackers.specs.declared.which.Which.TheVariants.{Ack, Sync, SyncAck}
@@ -19,10 +20,6 @@ pub record Reading (L : Type 0) : Type 0 where
 pub record View (L : Type 0) : Type 0 where
   pub layouts : List L
   pub trackers : Trackers
-
--- f at two of the three
-abbrev pub two_have : (ℕ → Bool) → List ℕ → Bool
-two_have f set = leb 2 (count_by f set)
 
 -- the greatest of 1 .. n that passes, or 0
 abbrev pub greatest : (ℕ → Bool) → ℕ → ℕ
@@ -85,7 +82,7 @@ module _ {L : Type 0} (r : Reading L) where
   -- in each partition of this layout two of the three nodes have synced to version i
   abbrev pub have_synced : View L → ℕ → Option L → Bool
   have_synced v i None = false
-  have_synced v i (Some l) = list_all (two_have (λ node. leb i (version_of Sync v node))) (r.sets l)
+  have_synced v i (Some l) = list_all (two_pass (λ node. leb i (version_of Sync v node))) (r.sets l)
 
   -- version i, above the oldest stored, is established: by the sets of the version before it
   abbrev pub is_established : View L → ℕ → Bool

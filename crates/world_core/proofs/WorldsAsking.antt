@@ -1,8 +1,8 @@
 -- Requests and messages of the world: what becomes of one, where it is found and where it isn't.
 use Rattle.std.proofs.Common.{◌≡◌, ◌<◌, ◌≤◌, ◌-◌, ◌^◌, ◌==◌, ℕ, suc, Bool, true, false, not, cond, leb, Option, Some, None, List, [], ◌∷◌, ◌++◌, length, map, reverse, refl, sym, subst, ap, ◌∙◌, append-nil, arith}
 use Rattle.std.specs.List.{All}
-use Rattle.std.proofs.lemmas.Bool.{and_parts, leb-true, eqb-true, eq-eqb, ne_eqb}
-use Rattle.std.proofs.lemmas.List.{length-set, length-append}
+use Rattle.std.proofs.lemmas.Bool.{and_parts, leb-true, eqb-true, eq-eqb, ne_eqb, not-true, not-false}
+use Rattle.std.proofs.lemmas.List.{length-append}
 use Rattle.std.proofs.lemmas.List.Elements.{All-weaker}
 use Rattle.layout_roles.specs.declared.layout.Layout.{Layout}
 use Rattle.layout_roles.specs.declared.cut.Cut.{Cut}
@@ -24,7 +24,7 @@ use Rattle.cluster_machine.specs.Node.{Node}
 use Rattle.cluster_machine.specs.Phases.{closed, opened}
 use Rattle.cluster_machine.specs.Acts.{restarts}
 use Rattle.cluster_machine.specs.World.{Sent, Mark, Request, numbered}
-use Rattle.cluster_machine.specs.Step.{only, nothing, refusal, at_message, expires, closing, restarted, beginning, requests_of, marked, shut, shut_one, changed, applied}
+use Rattle.cluster_machine.specs.Step.{only, nothing, refusal, at_message, expires, closing, restarted, beginning, requests_of, marked, shut, changed, applied}
 use Rattle.node_parts.specs.declared.packet.Envelope.{Envelope}
 use Rattle.cluster_machine.specs.declared.applied.Applied.{Applied}
 use Rattle.cluster_machine.specs.Trio.{trio, stage_trio}
@@ -39,22 +39,7 @@ use Rattle.world_core.specs.Nodes.{AreNodes, BecomesAt, Opens}
 use Rattle.world_core.specs.Stands.{StandsFor, Tells, DoesSo, acts_so, local_so, plainly, nothing_given}
 use Rattle.world_core.proofs.WorldsStand.{refused_report, told_report, is_told, sound_after, stands_of, same_post, same_clocks, same_applied, same_requests, same_few, plays_nothing, plays_refusal}
 use Rattle.world_core.proofs.WorldsDoing.{at_found}
-
-is_false : (b : Bool) → not b ≡ true → b ≡ false
-is_false true e = cc
-is_false false e = refl
-
-is_true : (b : Bool) → not b ≡ false → b ≡ true
-is_true true e = refl
-is_true false e = cc
-
-length_shut_one : (requests : List Request) (q : ℕ) (r : Option Request) → length (shut_one requests q r) ≡ length requests
-length_shut_one requests q None = refl
-length_shut_one requests q (Some r) = length-set requests (q - 1) (record r { is_open = false })
-
-length_shut : (requests : List Request) (qs : List ℕ) → length (shut requests qs) ≡ length requests
-length_shut requests [] = refl
-length_shut requests (q ∷ qs) = length_shut (shut_one requests q (numbered requests q)) qs ∙ length_shut_one requests q (numbered requests q)
+use Rattle.cluster_machine.proofs.Closing.{length_shut}
 
 -- the last version is none of those before
 not_below : (before : ℕ) (ls : List Layout) → follow reading before ls ≡ true → before ≤ last_version reading before ls
@@ -91,10 +76,10 @@ module _ {S R : Type 0} (join : R → R → R) (s : Words R) where
     module _ (found : Asked) (is : Some (asked found) ≡ numbered old.requests number) where
       -- an open request, and one that has ended
       pub open_there : not found.is_open ≡ false → numbered w.requests number ≡ Some (record { coordinator = found.coordinator; is_open = true })
-      open_there open' = there (Some (asked found)) is ∙ ap (λ b. Some (record { coordinator = found.coordinator; is_open = b })) (is_true found.is_open open')
+      open_there open' = there (Some (asked found)) is ∙ ap (λ b. Some (record { coordinator = found.coordinator; is_open = b })) (not-false found.is_open open')
 
       ended_there : not found.is_open ≡ true → numbered w.requests number ≡ Some (record { coordinator = found.coordinator; is_open = false })
-      ended_there over = there (Some (asked found)) is ∙ ap (λ b. Some (record { coordinator = found.coordinator; is_open = b })) (is_false found.is_open over)
+      ended_there over = there (Some (asked found)) is ∙ ap (λ b. Some (record { coordinator = found.coordinator; is_open = b })) (not-true found.is_open over)
 
   -- ---- phases of requests that aren't open
 

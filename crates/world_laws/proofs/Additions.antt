@@ -1,31 +1,20 @@
 -- A world stays sound under what is added to it: nodes that are sound, and messages that are usual.
-use Rattle.std.specs.Prelude.{◌≡◌, ◌≤◌, ℕ, ◌+◌, ◌-◌, Bool, true, false, cond, ◌==◌, IsTrue, List, [], ◌∷◌, ◌++◌, length, Option, Some, None, refl}
+use Rattle.std.specs.Prelude.{◌≡◌, ◌≤◌, ℕ, ◌+◌, ◌-◌, Bool, true, false, cond, ◌==◌, IsTrue, List, [], ◌++◌, length, Some, None, refl}
 use Rattle.std.specs.Option.{unwrap_or}
 use Rattle.std.specs.List.{AllByRecursion}
 use Rattle.std.proofs.Common.{ap, sym, subst, ◌∙◌, arith}
-use Rattle.std.proofs.lemmas.List.{length-set, length-append}
+use Rattle.std.proofs.lemmas.List.{length-append}
 use Rattle.std.proofs.lemmas.List.Elements.{All-weaker}
 use Rattle.layout_roles.specs.declared.layout.Layout.{Layout}
 use Rattle.view_model.specs.Layouts.{reading}
 use Rattle.view_model.specs.View.{newest, is_gapless}
 use Rattle.cluster_machine.specs.Node.{Call, Node, Packet, says, shows}
-use Rattle.cluster_machine.specs.World.{Request, Sent, numbered}
-use Rattle.cluster_machine.specs.Step.{only, changed, shut, shut_one, applied}
+use Rattle.cluster_machine.specs.World.{Sent}
+use Rattle.cluster_machine.specs.Step.{only, changed, shut, applied}
 use Rattle.cluster_machine.specs.Keeping.{AreDifferent, AreUpTo}
-use Rattle.machine_origins.proofs.KeepingNodes.{all_append}
 use Rattle.cluster_machine.specs.Worlds.{Model, Done, IsUsual, IsSound}
-
-pub all_weaker : {A : Type 0} (P Q : A → Type 0) → ((x : A) → P x → Q x) → (xs : List A) → AllByRecursion P xs → AllByRecursion Q xs
-all_weaker P Q f [] h = tt
-all_weaker P Q f (x ∷ xs) h = (f x h.0, all_weaker P Q f xs h.1)
-
-length_shut_one : (requests : List Request) (q : ℕ) (r : Option Request) → length (shut_one requests q r) ≡ length requests
-length_shut_one requests q None = refl
-length_shut_one requests q (Some r) = length-set requests (q - 1) (record r { is_open = false })
-
-length_shut : (requests : List Request) (qs : List ℕ) → length (shut requests qs) ≡ length requests
-length_shut requests [] = refl
-length_shut requests (q ∷ qs) = length_shut (shut_one requests q (numbered requests q)) qs ∙ length_shut_one requests q (numbered requests q)
+use Rattle.crdt_core.proofs.Each.{all_append, all_weaker}
+use Rattle.cluster_machine.proofs.Closing.{length_shut}
 
 module _ {R : Type 0} where
   -- what a sound world says of a node, with so many versions and requests

@@ -5,6 +5,7 @@ use Rattle.std.proofs.Common.{ap, sym, subst, ◌∙◌, arith}
 use Rattle.std.proofs.lemmas.Bool.{eq-eqb, eqb-false}
 use Rattle.std.proofs.lemmas.List.{length-replicate}
 use Rattle.std.proofs.lemmas.List.Elements.{recursion_from_All}
+use Rattle.std.proofs.Math.Bool.{or-true}
 use Rattle.layout_roles.specs.declared.role.Role.{Role}
 use Rattle.layout_roles.specs.declared.redundancy.Redundancy.{Redundancy}
 use Rattle.layout_roles.specs.declared.layout.Layout.{Layout}
@@ -16,14 +17,10 @@ use Rattle.cluster_machine.specs.Layouts.{layouts}
 use Rattle.cluster_machine.specs.declared.applied.Applied.{Applied}
 use Rattle.cluster_machine.specs.Choices.{IsBest}
 use Rattle.cluster_machine.specs.Trio.{trio}
-use Rattle.world_laws.proofs.Additions.{all_weaker}
+use Rattle.crdt_core.proofs.Each.{all_weaker}
 
 abbrev names_of : List Role → List ℕ
 names_of roles = map (λ role. role.node) roles
-
-or_second : (a b : Bool) → b ≡ true → (a || b) ≡ true
-or_second true b e = refl
-or_second false b e = e
 
 -- a role is found where its node is among those that have one
 found_among : (n : ℕ) (roles : List Role) → list_any (λ role. role.node == n) roles ≡ is_among n (names_of roles)
@@ -34,7 +31,7 @@ found_among n (role ∷ roles) = ap (λ b. (role.node == n) || b) (found_among n
 passing_among : (passes : Role → Bool) (roles : List Role) → AllByRecursion (λ n. IsTrue (is_among n (names_of roles))) (names_of (filter passes roles))
 passing_among passes [] = tt
 passing_among passes (role ∷ roles) =
-    let rest = all_weaker _ (λ n. IsTrue (is_among n (names_of (role ∷ roles)))) (λ n is. or_second (role.node == n) (is_among n (names_of roles)) is) (names_of (filter passes roles)) (passing_among passes roles) in
+    let rest = all_weaker _ (λ n. IsTrue (is_among n (names_of (role ∷ roles)))) (λ n is. ap (λ b. (role.node == n) || b) is ∙ or-true (role.node == n)) (names_of (filter passes roles)) (passing_among passes roles) in
     elim (passes role) as (λ b. AllByRecursion (λ n. IsTrue (is_among n (names_of (role ∷ roles)))) (names_of (cond b (role ∷ filter passes roles) (filter passes roles)))) [
       | true ↦ (rw (eq-eqb role.node role.node refl) refl, rest)
       | false ↦ rest

@@ -1,12 +1,13 @@
 use Rattle.std.proofs.Common.{subst, sym, ap, ◌∙◌, refl}
 use Rattle.std.specs.List.{AllZip}
 use Rattle.std.specs.Map.{lookup}
+use Rattle.std.proofs.lemmas.Option.{same_Some}
 use Rattle.cluster_machine.specs.Node.{Call as Opened}
 use Rattle.cluster_machine.specs.Phases.{with_call}
 use Rattle.node_parts.specs.declared.call.Call.{Call}
 use Rattle.node_parts.specs.Calls.{IsEntry}
 use Rattle.node_parts.proofs.OpenCalls.{finds, AreFound, looked_up, call_written, found_call, not_found}
-use Rattle.node_parts.proofs.Answered.{request_is, is_it}
+use Rattle.node_parts.proofs.Answered.{request_is}
 use Rattle.node_parts.proofs.calls.Calls.enter.Goals as goal
 
 pub returns-in-Some : goal.returns-in-Some
@@ -18,7 +19,7 @@ returns-in-Some g c calls m doing are there is =
     (subst (λ o. AreFound (lookup (finds (record { 0 = c.args.request })) es) o) there (looked_up (record { 0 = c.args.request }) es calls are)) in
     subst (λ ns. AllZip IsEntry ns (with_call now calls)) (sym (c.get_mut.follows.holds w).0)
     (call_written (record { 0 = c.args.request }) w now es calls c.get_mut.ensures.ordered are (request_is c.args.request m calls there)
-    (λ n other. ap (λ (d : Opened g.row.S-Row.Denot). d.start) (is_it m n (sym there ∙ other)))
+    (λ n other. ap (λ (d : Opened g.row.S-Row.Denot). d.start) (same_Some m n (sym there ∙ other)))
     (record { start = found.start; phases = refl; present = is }))
 
 pub returns-in_default : goal.returns-in_default

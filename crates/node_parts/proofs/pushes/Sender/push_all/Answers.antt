@@ -1,6 +1,5 @@
 use Rattle.std.proofs.Common.{◌∙◌, sym, arith}
 use Rattle.std.proofs.lemmas.Result.{err_from_is_err_and}
-use Rattle.read_call.proofs.Hearing.{among_any}
 use Rattle.node_parts.proofs.Handing.{causes_more}
 use Rattle.node_parts.proofs.HandingAll.{cannot, not_ours, no_rows, with_rows, at_last}
 use Rattle.node_parts.proofs.pushes.Sender.push_all.Goals.{then-contains+in_ok-others+in_ok-push, then-branch+in_ok-push-2, else-branch, else-contains}
@@ -10,7 +9,7 @@ pub returns-in_err-push-clause-causes : goal.returns-in_err-push-clause-causes
 returns-in_err-push-clause-causes g c =
     let e = err_from_is_err_and c.from_residual-in_err-push.result c.from_residual-in_err-push.ensures.1 in
     let set = c.set.result in
-    let ours = sym (among_any c.args.self.node set) ∙ sym c.contains.ensures.value ∙ c.if-contains.true in
+    let ours = sym c.contains.ensures.value ∙ c.if-contains.true in
     rw (e.1, e.2)
     (causes_more c.in_err-push.field-0.0 (λ none. cannot g.S.Row.Crdt.join g.S.Schema.words c.args.self c.args.table.now c.args.here.now c.args.there.now c.args.out.now.items c.loop-partition.out.items c.loop-partition.parts.items c.loop-partition.partition set c.set.ensures ours none c.loop-partition.invariant) c.in_err-push.ensures.causes)
 
@@ -27,7 +26,7 @@ loop-partition-preserved g c =
     let parts = c.loop-partition.parts.items in
     let p = c.loop-partition.partition in
     let set = c.set.result in
-    let among = sym (among_any from.node set) ∙ sym c.contains.ensures.value in
+    let among = sym c.contains.ensures.value in
     elim c.if-contains.branch [
       | then-contains+in_ok-others+in_ok-push w ↦
           let to = w.set-set.result in

@@ -1,6 +1,6 @@
 use Rattle.std.proofs.Common.{◌≡◌, [], map, take}
 use Rattle.std.specs.List.{AllByRecursion}
-use Rattle.quorum_tally.specs.Slot.{nodes_of, IsRight}
+use Rattle.quorum_tally.specs.Marks.{nodes_of, IsRight}
 use Rattle.quorum_tally.proofs.tally.Tally.new.Given as goal
 
 abbrev pub invariant-loop-set : goal.invariant-loop-set

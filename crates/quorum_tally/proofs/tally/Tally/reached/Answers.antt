@@ -2,7 +2,7 @@ use Rattle.std.proofs.Common.{arith, ◌∙◌, ◌-◌, drop}
 use Rattle.std.specs.Prelude.{◌↔◌, IsTrue}
 use Rattle.std.specs.List.{All}
 use Rattle.std.proofs.lemmas.List.{take_rest}
-use Rattle.quorum_tally.specs.Slot.{has_two}
+use Rattle.quorum_tally.specs.Marks.{has_two}
 use Rattle.quorum_tally.proofs.Counting.{all_from_each, later_sets, none_later}
 use Rattle.quorum_tally.proofs.tally.Tally.reached.Goals as goal
 

@@ -1,9 +1,10 @@
 use Rattle.std.proofs.Common.{◌≡◌, sym, ap, ◌∙◌, ◌+◌, true, false, not}
 use Rattle.std.specs.Prelude.{if◌then◌else◌}
 use Rattle.std.proofs.lemmas.Map.{none_passes_from_lookup}
-use Rattle.sync_round.specs.Marks.{has_two, lacking_of}
+use Rattle.quorum_tally.specs.Marks.{has_two}
+use Rattle.sync_round.specs.Parts.{lacking_of}
 use Rattle.sync_round.proofs.Confirming.{none_marked, one_marked, second_counted, finds}
-use Rattle.sync_round.proofs.marks.confirm_in.Goals as goal
+use Rattle.sync_round.proofs.parts.confirm_in.Goals as goal
 
 pub returns-then-not-had_two-clause-entries : goal.returns-then-not-had_two-clause-entries
 returns-then-not-had_two-clause-entries c =

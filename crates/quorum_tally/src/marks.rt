@@ -1,13 +1,6 @@
-//! The three nodes of a partition's set, and which of them have confirmed.
-ghost use Rattle.std.specs.Prelude.{◌≡◌, ◌+◌, ◌||◌, ◌==◌, false, IfOk, if◌then◌else◌, IsTrue};
-ghost use Rattle.std.specs.Ordering.{nat_cmp};
-ghost use Rattle.std.specs.BTreeMap.{IsOrdered};
-ghost use Rattle.crdt_core.specs.Outcomes.{OnlyWant};
-ghost use Rattle.sync_round.specs.Marks.{unmarked, mark_after, marks_after, nodes_of, has_two, missing_of, entries_after, lacking_in};
-
-use crdt_core::Memory;
-use std::alloc::Global;
-use std::collections::BTreeMap;
+//! The three nodes of a set, and which of them have confirmed.
+ghost use Rattle.std.specs.Prelude.{◌≡◌, ◌||◌, ◌==◌, false};
+ghost use Rattle.quorum_tally.specs.Marks.{unmarked, mark_after, marks_after, nodes_of, has_two};
 
 /// A node of a set, and whether it has confirmed.
 #[derive(Clone, Copy)]
@@ -79,31 +72,5 @@ impl Marks {
             self.third.is_confirmed,
         );
         (a && b) || (a && c) || (b && c)
-    }
-
-    /// The nodes that haven't confirmed.
-    pub fn missing(self, alloc: Global) -> Result<Vec<u8>, Memory>
-        ensures nodes { IfOk result (λ v. v.items ≡ missing_of self) }
-        ensures want { OnlyWant result }
-    {
-        let marks = [self.first, self.second, self.third];
-        let waited = marks.iter().filter(|mark| !mark.is_confirmed);
-        Ok(waited.map(|mark| mark.node).collect(alloc)?)
-    }
-}
-
-/// The node confirms a partition, and the answer is whether it is the second to do so. One that isn't there
-/// changes nothing.
-pub fn confirm_in(parts: &mut BTreeMap<u8, Marks>, p: u8, node: u8) -> bool
-    ensures entries { parts.new.entries ≡ entries_after p node parts.old.entries }
-    ensures second { lacking_in parts.new + (if result then 1 else 0) ≡ lacking_in parts.old }
-{
-    match parts.get_mut(&p) {
-        Some(marks) => {
-            let had_two = marks.has_two();
-            *marks = marks.after(node);
-            !had_two && marks.has_two()
-        }
-        None => false,
     }
 }

@@ -1,11 +1,11 @@
-//! The names of zones.
+//! The names of the zones that have a storage node.
 ghost use Rattle.std.specs.Prelude.{◌≡◌, ◌≤◌, length, IfOk, OnOk};
 ghost use Rattle.std.specs.List.{insert, list_any};
 ghost use Rattle.crdt_core.specs.Outcomes.{OnlyWant};
 ghost use Rattle.layout_roles.specs.Zones.{same_name, put_in_order, with_name, zone_names};
 
+use crate::role::Role;
 use crdt_core::{Bytes, List, Memory, Value};
-use layout_roles::Role;
 use std::alloc::Global;
 use std::cmp::Ordering;
 
@@ -23,6 +23,7 @@ fn place_of(names: &[Bytes], name: &Bytes) -> usize
     names.len()
 }
 
+// Whether the name is there.
 fn has_name(names: &[Bytes], name: &Bytes) -> bool
     ensures { result ≡ list_any (same_name name.now) names.now }
 {
@@ -42,7 +43,7 @@ fn put_name(names: &mut List<Bytes>, name: &Bytes) -> Result<(), Memory>
 }
 
 /// The names of the zones that have a storage node, in order.
-pub(crate) fn zone_names(alloc: Global, roles: &[Role]) -> Result<List<Bytes>, Memory>
+pub fn zone_names(alloc: Global, roles: &[Role]) -> Result<List<Bytes>, Memory>
     ensures names { IfOk result (λ names. names ≡ zone_names roles.now) }
     ensures want { OnlyWant result }
 {

@@ -1,6 +1,0 @@
-use Rattle.std.proofs.Common.{◌≡◌, take}
-use Rattle.layout_roles.specs.Zones.{zone_names}
-use Rattle.layout_flow.proofs.groups.names_of.Given as goal
-
-abbrev pub invariant-loop-role : goal.invariant-loop-role
-invariant-loop-role l = l.names ≡ zone_names (take l.role-index l.roles)
