@@ -1,7 +1,5 @@
 -- Rows of one table and key have the same fields there.
-use Rattle.std.specs.Prelude.{◌≡◌, ℕ, true, List, [], ◌++◌, length, take, drop, Some, refl}
-use Rattle.std.proofs.Common.{ap, sym, ◌∙◌}
-use Rattle.std.proofs.lemmas.List.{take_at, drop_at, append-nil}
+use Rattle.std.specs.Prelude.{◌≡◌}
 use Rattle.crdt_core.specs.EntryLaws.{and_parts}
 use Rattle.crdt_rows.specs.declared.object_row.ObjectRow.{ObjectRow}
 use Rattle.crdt_rows.specs.declared.version_row.VersionRow.{VersionRow}
@@ -10,8 +8,7 @@ use Rattle.crdt_rows.specs.declared.any_row.AnyRow.TheVariants as rows
 use Rattle.crdt_rows.specs.ObjectRow.{object_key}
 use Rattle.crdt_rows.specs.RefRow.{ref_key}
 use Rattle.row_codec.specs.Range.{is_hash, is_eight}
-use Rattle.row_codec.specs.Numbers.{block_length, eight_reads, some_is}
-use Rattle.row_codec.specs.Reading.{eight_at}
+use Rattle.row_codec.specs.Numbers.{block_length}
 use Rattle.row_codec.specs.Spelling.{eight}
 use Rattle.table_schema.specs.Laws.{Same}
 use Rattle.object_schema.specs.Schema.{words}

@@ -1,8 +1,6 @@
 -- What rows show of the rows that store phases began to store, merges and changes hand on.
-use Rattle.std.specs.Prelude.{◌≡◌, ◌⊎◌, ◌↔◌, ℕ, Bool, true, false, cond, not, ◌||◌, List, [], ◌∷◌, Option, Some, None, map, refl}
-use Rattle.std.specs.Option.{unwrap_or}
+use Rattle.std.specs.Prelude.{◌≡◌, ◌⊎◌, ℕ, Bool, true, false, cond, not, ◌||◌, List, [], ◌∷◌, Option, Some, None, map, refl}
 use Rattle.std.specs.List.{All, Contains, AllByRecursion}
-use Rattle.std.specs.Ordering.{is_gt}
 use Rattle.std.proofs.Common.{ap, sym, subst, ◌∙◌, inl, inr}
 use Rattle.std.proofs.lemmas.List.Elements.{All-contains, All-from_recursion}
 use Rattle.blake2_hash.specs.declared.digest.Hash32.{Hash32}
@@ -31,7 +29,7 @@ use Rattle.crdt_rows.specs.Newest.{is_older}
 use Rattle.crdt_rows.specs.State.{state_cmp}
 use Rattle.crdt_rows.specs.Version.{version_cmp}
 use Rattle.crdt_rows.specs.ObjectRow.{object_key, object_key_cmp, key_total, newest, state_at, object_join, join-state}
-use Rattle.crdt_rows.specs.VersionRow.{block_ref_cmp, block_ref_total, gone, block_in, block_at, is_deleted, version_row_join}
+use Rattle.crdt_rows.specs.VersionRow.{gone, block_in, is_deleted, version_row_join}
 use Rattle.crdt_rows.specs.RefRow.{ref_key, ref_row_join}
 use Rattle.crdt_rows.specs.Facts.{HasState, HasBlock, IsObjectJoin, IsBlockJoin, IsNewest}
 use Rattle.table_schema.specs.Laws.{Same}
