@@ -1,2 +1,3 @@
 pub mod Blake2b
 pub mod Hashing
+pub mod Hash

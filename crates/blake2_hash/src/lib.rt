@@ -16,8 +16,6 @@ ghost use Rattle.blake2_hash.specs.Blake2b.{blake2b};
 mod compress;
 mod digest;
 mod hasher;
-#[cfg(test)]
-mod tests;
 
 pub use digest::Hash32;
 pub use hasher::Blake2b;

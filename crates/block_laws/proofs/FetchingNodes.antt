@@ -4,7 +4,7 @@ use Rattle.std.specs.List.{AllByRecursion, filter}
 use Rattle.std.proofs.Common.{ap, sym, subst, ◌∙◌, arith}
 use Rattle.std.proofs.lemmas.Bool.{eqb-true}
 use Rattle.blake2_hash.specs.declared.digest.Hash32.{Hash32}
-use Rattle.control_model.specs.Facts.{Has}
+use Rattle.crdt_core.specs.Members.{Has}
 use Rattle.view_model.specs.View.{oldest, newest, layout_at, read_version, merged, cleaned}
 use Rattle.table_schema.specs.Words.{Words, partition_at}
 use Rattle.quorum_model.specs.Quorum.{StoreSlot, is_kept, with_confirmation}

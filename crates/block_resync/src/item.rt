@@ -1,6 +1,6 @@
 //! An item of the outbox.
-ghost use Rattle.std.specs.Prelude.{◌≡◌, IfErr, OnOk, OnErr};
-ghost use Rattle.crdt_core.specs.declared.memory.Memory.TheVariants.{Want};
+ghost use Rattle.std.specs.Prelude.{◌≡◌, OnOk, OnErr};
+ghost use Rattle.crdt_core.specs.Outcomes.{OnlyWant};
 
 use crate::nodes::{has_two, is_among};
 use crdt_core::{Bytes, List, Memory};
@@ -23,7 +23,7 @@ impl Item {
     pub(crate) fn confirm(&mut self, node: u8) -> Result<(), Memory>
         ensures ok { OnOk result (self.new ≡ item_confirmed node self.old) }
         ensures err { OnErr result (self.new ≡ self.old) }
-        ensures want { IfErr result (λ e. e ≡ Want) }
+        ensures want { OnlyWant result }
     {
         if is_among(node, self.confirmed.as_slice()) {
             return Ok(());

@@ -14,8 +14,6 @@
 mod item;
 mod nodes;
 mod resync;
-#[cfg(test)]
-mod tests;
 
 pub use item::Item;
 pub use resync::Resync;

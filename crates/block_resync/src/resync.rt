@@ -1,7 +1,7 @@
 //! The outbox.
 ghost use Rattle.std.specs.Prelude.{◌≡◌, ◌<◌, ◌+◌, ℕ, length, map, IsTrue, IfOk, IfErr, OnOk, OnErr, IfSome, IfNone, slice_get, if◌then◌else◌, false, ◌==◌};
 ghost use Rattle.std.specs.List.{AllByRecursion};
-ghost use Rattle.crdt_core.specs.declared.memory.Memory.TheVariants.{Want};
+ghost use Rattle.crdt_core.specs.Outcomes.{OnlyWant};
 ghost use Rattle.block_store.specs.Contents.{idle_notes};
 ghost use Rattle.block_resync.specs.Outbox.{numbers, Rises, IsNumbered, empty, item_forgot, pushed_on, confirmed, is_done, dropped, forgot, RefusesPush, due_of};
 
@@ -75,7 +75,7 @@ impl Resync {
     pub fn confirm(&mut self, number: u64, node: u8) -> Result<(), Memory>
         ensures ok { OnOk result (self.new ≡ confirmed self.old number node) }
         ensures err { OnErr result (self.new ≡ self.old) }
-        ensures want { IfErr result (λ e. e ≡ Want) }
+        ensures want { OnlyWant result }
     {
         match place_of(self.items.as_slice(), number) {
             Some(i) => self.items.at_mut(i).confirm(node),
@@ -112,7 +112,7 @@ impl Resync {
     /// milliseconds before `now`, in order.
     pub fn due(&self, blocks: &Blocks, now: u64) -> Result<Vec<Hash32>, Memory>
         ensures hashes { IfOk result (λ v. v.items ≡ due_of now (idle_notes blocks.now)) }
-        ensures want { IfErr result (λ e. e ≡ Want) }
+        ensures want { OnlyWant result }
     {
         let idle = blocks.idle()?;
         let due = idle

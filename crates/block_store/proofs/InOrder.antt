@@ -10,7 +10,7 @@ use Rattle.std.proofs.lemmas.Map.{NonePasses, none_passes_from_lookup}
 use Rattle.std.proofs.lemmas.Map.Made.{keys_of-map_values}
 use Rattle.blake2_hash.specs.declared.digest.Hash32.{Hash32}
 use Rattle.block_store.specs.declared.shelf.Kept.{Kept}
-use Rattle.block_store.specs.Hash.{hash_cmp, is_hash}
+use Rattle.blake2_hash.specs.Hash.{hash_cmp, is_hash}
 use Rattle.block_store.specs.Contents.{IsInOrder, block_at}
 use Rattle.block_store.specs.Shelf.{Entries, contents_of, notes_of, note_before}
 use Rattle.block_store.proofs.Showing.{Sorted, Above, idle_of}

@@ -7,7 +7,7 @@ use Rattle.std.proofs.lemmas.Map.{none_passes_from_lookup}
 use Rattle.std.proofs.lemmas.Map.Made.{lookup-map_values}
 use Rattle.blake2_hash.specs.declared.digest.Hash32.{Hash32}
 use Rattle.block_store.specs.declared.shelf.Kept.{Kept}
-use Rattle.block_store.specs.Hash.{hash_cmp, is_hash}
+use Rattle.blake2_hash.specs.Hash.{hash_cmp, is_hash}
 use Rattle.block_store.specs.Contents.{put, block_at, live_count, told_live, told_dead, deleted}
 use Rattle.block_store.specs.Shelf.{Entries, contents_of, blocks_of}
 use Rattle.block_store.proofs.Showing.{Sorted, count_shown, blocks_inserted, live_inserted, notes_inserted, blocks_same, notes_same, counted_up, counted_down, noted, blocks_removed, live_removed, notes_removed}

@@ -2,9 +2,9 @@
 ghost use Rattle.std.specs.Prelude.{◌≡◌, ◌≤◌, ◌<◌, ◌^◌, ◌==◌, length, IsTrue, is_some, OnOk, OnErr, IfOk, IfErr, option_map};
 ghost use Rattle.std.specs.Map.{keys_of};
 ghost use Rattle.std.specs.List.Sorted.{IsStrictlySortedBy};
-ghost use Rattle.crdt_core.specs.declared.memory.Memory.TheVariants.{Want};
+ghost use Rattle.crdt_core.specs.Outcomes.{OnlyWant};
 ghost use Rattle.block_store.specs.declared.fault.BlockFault.TheVariants.{InUse};
-ghost use Rattle.block_store.specs.Hash.{digest_of, hash_cmp};
+ghost use Rattle.blake2_hash.specs.Hash.{digest_of, hash_cmp};
 ghost use Rattle.block_store.specs.Contents.{empty, block_at, live_count, put, told_live, told_dead, deleted, idle_notes, IsInOrder, RefusesPut};
 
 use crate::fault::BlockFault;
@@ -24,7 +24,7 @@ pub struct Blocks {
 
 impl Model for Blocks {
     ghost use Rattle.std.specs.BTreeMap.{IsOrdered};
-    ghost use Rattle.block_store.specs.Hash.{hash_cmp};
+    ghost use Rattle.blake2_hash.specs.Hash.{hash_cmp};
     ghost use Rattle.block_store.specs.Contents.{Contents};
     ghost use Rattle.block_store.specs.Shelf.{contents};
 
@@ -139,7 +139,7 @@ impl Blocks {
     pub fn idle(&self) -> Result<Vec<(Hash32, u64)>, Memory>
         ensures notes { IfOk result (λ v. v.items ≡ idle_notes self.now) }
         ensures in_order { IfOk result (λ v. IsStrictlySortedBy hash_cmp (keys_of v.items)) }
-        ensures want { IfErr result (λ e. e ≡ Want) }
+        ensures want { OnlyWant result }
     {
         let mut idle = Vec::new(self.alloc);
         for (hash, kept) in &self.shelf {

@@ -2,7 +2,7 @@
 ghost use Rattle.std.specs.Prelude.{◌≡◌, ◌+◌, ◌-◌, ℕ, List, Some, None, ◌==◌, ◌&&◌, is_some, if◌then◌else◌};
 ghost use Rattle.std.specs.Map.{lookup};
 ghost use Rattle.blake2_hash.specs.declared.digest.Hash32.{Hash32};
-ghost use Rattle.block_store.specs.Hash.{is_hash};
+ghost use Rattle.blake2_hash.specs.Hash.{is_hash};
 ghost use Rattle.block_store.specs.Contents.{Contents, IsInOrder, block_at, live_count, note_at, put, told_live, told_dead, deleted, idle_notes};
 
 /// What the calls that take the hash `h` make of the block, the count and the note at a hash `q`, and what

@@ -16,8 +16,6 @@ mod blocks;
 mod fault;
 mod laws;
 mod shelf;
-#[cfg(test)]
-mod tests;
 
 pub use blocks::Blocks;
 pub use fault::BlockFault;

@@ -1,8 +1,7 @@
 //! The map that a block store is made of.
 ghost use Rattle.std.specs.Prelude.{◌≡◌, ◌+◌, ◌-◌, ◌^◌, ◌<◌, ◌≤◌, ◌==◌, IsTrue, is_some, OnOk, OnErr, IfOk, IfErr, Some, if◌then◌else◌};
 ghost use Rattle.std.specs.BTreeMap.{IsOrdered};
-ghost use Rattle.crdt_core.specs.declared.memory.Memory.TheVariants.{Want};
-ghost use Rattle.block_store.specs.Hash.{hash_cmp};
+ghost use Rattle.blake2_hash.specs.Hash.{hash_cmp};
 ghost use Rattle.block_store.specs.Contents.{block_at, live_count, told_live, told_dead};
 ghost use Rattle.block_store.specs.Shelf.{contents};
 

@@ -9,3 +9,8 @@ pub mod World
 pub mod Step
 pub mod Run
 pub mod Kept
+pub mod Keeping
+pub mod Trio
+pub mod Choices
+pub mod Fits
+pub mod Worlds

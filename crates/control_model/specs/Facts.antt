@@ -1,18 +1,13 @@
 -- The words in which the laws say what holds of each world that steps lead to, and what each step does.
 use Rattle.std.specs.Prelude.{◌≡◌, ◌⊎◌, ◌<◌, ◌≤◌, ℕ, suc, pred, List, [], ◌∷◌, Some, IsTrue}
+use Rattle.crdt_core.specs.Members.{Has}
 use Rattle.layout_trackers.specs.declared.which.Which.{Which}
 use Rattle.layout_trackers.specs.declared.which.Which.TheVariants.{Ack, SyncAck}
 use Rattle.layout_trackers.specs.Trackers.{counts}
-use Rattle.view_model.specs.View.{Reading, View, is_gapless, oldest, newest, layout_at, read_version}
-use Rattle.view_model.specs.Reads.{GrewFrom}
+use Rattle.view_model.specs.View.{Reading, View, is_gapless, oldest, newest, layout_at, read_version, GrewFrom}
 use Rattle.control_model.specs.Layouts.{IsMember, set_in, is_lawful}
 use Rattle.control_model.specs.World.{Request, Round, World, view_of, layout_of}
 use Rattle.control_model.specs.Steps.{round_of}
-
--- x is an element
-abbrev pub Has : {A : Type 0} → List A → A → Type 0
-Has [] x = ⊥
-Has (y ∷ ys) x = (y ≡ x) ⊎ Has ys x
 
 -- P of one of these
 abbrev pub OneOf : (ℕ → Type 0) → List ℕ → Type 0

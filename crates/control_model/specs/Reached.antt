@@ -4,7 +4,7 @@ use Rattle.std.proofs.Common.{ap, sym, ◌∙◌, inl, inr}
 use Rattle.view_model.specs.View.{Reading}
 use Rattle.control_model.specs.World.{World, empty}
 use Rattle.control_model.specs.Steps.{Step, step, run}
-use Rattle.control_model.specs.Facts.{Has}
+use Rattle.crdt_core.specs.Members.{Has}
 
 -- an element has a place: a view that was ever sent may be delivered
 pub place_of : {A : Type 0} (xs : List A) (x : A) → Has xs x → (k : ℕ) × (slice_get xs k ≡ Some x)

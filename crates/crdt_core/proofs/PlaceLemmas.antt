@@ -1,6 +1,5 @@
 -- What a write at a key's place does.
-use Rattle.std.proofs.Common.{◌≡◌, ℕ, zero, suc, ◌+◌, ◌<◌, List, [], ◌∷◌, ◌++◌, length, take, drop, get_or, set, true, refl, sym, ap, arith, Ordering, Less, Result, Ok, Err, OnOk, OnErr}
-use Rattle.std.proofs.Common.{Some, None, unwrap_or, slice_get, is_lt, ◌&&◌, false, Equal, Greater, ◌∙◌}
+use Rattle.std.proofs.Common.{◌≡◌, ℕ, zero, suc, ◌+◌, ◌<◌, List, [], ◌∷◌, ◌++◌, length, take, drop, get_or, set, true, refl, sym, ap, arith, Ordering, Less, Result, Ok, Err, OnOk, OnErr, Some, None, unwrap_or, slice_get, is_lt, ◌&&◌, false, Equal, Greater, ◌∙◌}
 use Rattle.std.specs.List.{insert}
 use Rattle.std.specs.Cmp.{IsTotalOrder, tied_back}
 use Rattle.std.proofs.lemmas.List.{take_more}

@@ -13,3 +13,5 @@ pub mod OrderLaws
 pub mod Orders
 pub mod Pair
 pub mod Places
+pub mod Members
+pub mod Outcomes

@@ -1,11 +1,11 @@
 //! Bytes that own their memory, ordered as text is.
-ghost use Rattle.std.specs.Prelude.{◌≡◌, [], ◌∷◌, ◌++◌, ◌==◌, length, nat_eq, Some, slice_get, option_copied, IfOk, IfErr, OnOk, OnErr, take};
+ghost use Rattle.std.specs.Prelude.{◌≡◌, [], ◌∷◌, ◌++◌, ◌==◌, length, nat_eq, Some, slice_get, option_copied, IfOk, OnOk, OnErr, take};
 ghost use Rattle.std.specs.Cmp.{partial_equiv_from_equiv};
 ghost use Rattle.std.specs.Cmp.Lexicographic.{pointwise, slice_cmp, nat_list_eq_equiv, nat_list_cmp_total, texts_po, texts_ties};
 ghost use Rattle.std.specs.Ordering.{nat_cmp};
+ghost use Rattle.crdt_core.specs.Outcomes.{OnlyWant};
 ghost use Rattle.std.proofs.Common.{rules};
 ghost use Rattle.crdt_core.specs.Orders.{slice_identical, nat_identical};
-ghost use Rattle.crdt_core.specs.declared.memory.Memory.TheVariants.{Want};
 
 use crate::memory::Memory;
 use crate::value::Value;
@@ -45,7 +45,7 @@ impl Bytes {
 
     pub fn from_slice(alloc: Global, items: &[u8]) -> Result<Bytes, Memory>
         ensures same { IfOk result (λ b. b ≡ items.now) }
-        ensures want { IfErr result (λ e. e ≡ Want) }
+        ensures want { OnlyWant result }
     {
         Ok(Bytes {
             items: Vec::from_slice(alloc, items)?,
@@ -91,7 +91,7 @@ impl Bytes {
     pub fn push(&mut self, byte: u8) -> Result<(), Memory>
         ensures ok { OnOk result (self.new ≡ self.old ++ byte ∷ []) }
         ensures err { OnErr result (self.new ≡ self.old) }
-        ensures want { IfErr result (λ e. e ≡ Want) }
+        ensures want { OnlyWant result }
     {
         match self.items.push(byte) {
             Ok(()) => Ok(()),
@@ -102,7 +102,7 @@ impl Bytes {
     pub fn extend_from_slice(&mut self, bytes: &[u8]) -> Result<(), Memory>
         ensures ok { OnOk result (self.new ≡ self.old ++ bytes.now) }
         ensures err { OnErr result (self.new ≡ self.old) }
-        ensures want { IfErr result (λ e. e ≡ Want) }
+        ensures want { OnlyWant result }
     {
         match self.items.extend_from_slice(bytes) {
             Ok(()) => Ok(()),

@@ -1,7 +1,7 @@
 //! Values that merge.
-ghost use Rattle.std.specs.Prelude.{◌≡◌, IfOk, IfErr, OnOk, OnErr};
+ghost use Rattle.std.specs.Prelude.{◌≡◌, IfOk, OnOk, OnErr};
+ghost use Rattle.crdt_core.specs.Outcomes.{OnlyWant};
 ghost use Rattle.crdt_core.specs.Laws.{JoinLaws};
-ghost use Rattle.crdt_core.specs.declared.memory.Memory.TheVariants.{Want};
 
 use crate::memory::Memory;
 
@@ -13,13 +13,13 @@ pub trait Crdt: Drop {
     /// An equal value of its own.
     fn copy(&self) -> Result<Self, Memory>
         ensures same { IfOk result (λ x. x ≡ self.now) }
-        ensures want { IfErr result (λ e. e ≡ Want) };
+        ensures want { OnlyWant result };
 
     /// Takes in all that the other value holds.
     fn merge(&mut self, other: &Self) -> Result<(), Memory>
         ensures joined { OnOk result (self.new ≡ join self.old other.now) }
         ensures unchanged { OnErr result (self.new ≡ self.old) }
-        ensures want { IfErr result (λ e. e ≡ Want) };
+        ensures want { OnlyWant result };
 
     ghost join_laws: { JoinLaws join };
 }

@@ -1,7 +1,7 @@
-//! The join of many rows.
-ghost use Rattle.std.specs.Prelude.{◌≡◌, Some, IfOk, IfErr, All};
+//! The join of many rows, and copies of rows.
+ghost use Rattle.std.specs.Prelude.{◌≡◌, Some, IfOk, All};
+ghost use Rattle.crdt_core.specs.Outcomes.{OnlyWant};
 ghost use Rattle.crdt_core.specs.Order.{AtMost, option_join, join_of};
-ghost use Rattle.crdt_core.specs.declared.memory.Memory.TheVariants.{Want};
 
 use crate::crdt::Crdt;
 use crate::list::List;
@@ -12,7 +12,7 @@ use std::alloc::Global;
 pub fn join<R: Crdt>(rows: &[R]) -> Result<Option<R>, Memory>
     ensures joined { IfOk result (λ all. all ≡ join_of R.join rows.now) }
     ensures above { IfOk result (λ all. All (λ row. AtMost (option_join R.join) (Some row) all) rows.now) }
-    ensures want { IfErr result (λ e. e ≡ Want) }
+    ensures want { OnlyWant result }
 {
     let mut all: Option<R> = None;
     for row in rows {
@@ -24,7 +24,7 @@ pub fn join<R: Crdt>(rows: &[R]) -> Result<Option<R>, Memory>
 // The rows so far, joined with one more.
 fn join_one<R: Crdt>(all: Option<R>, row: &R) -> Result<Option<R>, Memory>
     ensures joined { IfOk result (λ more. more ≡ option_join R.join all (Some row.now)) }
-    ensures want { IfErr result (λ e. e ≡ Want) }
+    ensures want { OnlyWant result }
 {
     match all {
         None => Ok(Some(row.copy()?)),
@@ -35,10 +35,21 @@ fn join_one<R: Crdt>(all: Option<R>, row: &R) -> Result<Option<R>, Memory>
     }
 }
 
+/// A copy of the row, if there is one.
+pub fn copy_row<R: Crdt>(row: &Option<R>) -> Result<Option<R>, Memory>
+    ensures same { IfOk result (λ copied. copied ≡ row.now) }
+    ensures want { OnlyWant result }
+{
+    match row {
+        Some(row) => Ok(Some(row.copy()?)),
+        None => Ok(None),
+    }
+}
+
 /// Copies of all rows, in their order.
 pub fn copy_rows<R: Crdt>(alloc: Global, rows: &[R]) -> Result<List<R>, Memory>
     ensures same { IfOk result (λ copies. copies ≡ rows.now) }
-    ensures want { IfErr result (λ e. e ≡ Want) }
+    ensures want { OnlyWant result }
 {
     let mut copies = List::new(alloc);
     for row in rows {

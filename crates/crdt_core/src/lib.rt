@@ -33,15 +33,13 @@ mod map;
 mod max;
 mod memory;
 mod pair;
-#[cfg(test)]
-mod tests;
 mod value;
 
 pub use bytes::Bytes;
 pub use crdt::Crdt;
 pub use deletable::Deletable;
 pub use flag::Bool;
-pub use joins::{copy_rows, join};
+pub use joins::{copy_row, copy_rows, join};
 pub use keyed::Keyed;
 pub use laws::{lists_join, maps_join_by_key, rows_are_ordered};
 pub use list::List;

@@ -1,10 +1,10 @@
 //! A list that owns its memory, ordered as text is.
-ghost use Rattle.std.specs.Prelude.{◌≡◌, ◌↔◌, ◌≤◌, insert, remove, slice_set, ◌<◌, [], ◌∷◌, ◌++◌, ◌==◌, length, IsSome, IfErr, OnOk, OnErr, Some, slice_get, option_copied, take, drop};
+ghost use Rattle.std.specs.Prelude.{◌≡◌, ◌↔◌, ◌≤◌, insert, remove, slice_set, ◌<◌, [], ◌∷◌, ◌++◌, ◌==◌, length, IsSome, OnOk, OnErr, Some, slice_get, option_copied, take, drop};
 ghost use Rattle.std.specs.Option.{option_to_list};
 ghost use Rattle.std.specs.Cmp.Lexicographic.{pointwise, slice_cmp, slice_partial_cmp, lists_equiv, lists_total, lists_ties, lists_per, lists_po, lists_agrees};
 ghost use Rattle.std.specs.Borrow.{Lends, sem};
+ghost use Rattle.crdt_core.specs.Outcomes.{OnlyWant};
 ghost use Rattle.crdt_core.specs.Orders.{slice_identical};
-ghost use Rattle.crdt_core.specs.declared.memory.Memory.TheVariants.{Want};
 
 use crate::memory::Memory;
 use crate::value::Value;
@@ -109,7 +109,7 @@ impl<T> List<T> {
     pub fn append(&mut self, other: &mut List<T>) -> Result<(), Memory>
         ensures ok { OnOk result ((self.new ≡ self.old ++ other.old) × (other.new ≡ [])) }
         ensures err { OnErr result ((self.new ≡ self.old) × (other.new ≡ other.old)) }
-        ensures want { IfErr result (λ e. e ≡ Want) }
+        ensures want { OnlyWant result }
     {
         match self.rows.append(&mut other.rows) {
             Ok(()) => Ok(()),
@@ -122,7 +122,7 @@ impl<T: Drop> List<T> {
     pub fn push(&mut self, row: T) -> Result<(), Memory>
         ensures ok { OnOk result (self.new ≡ self.old ++ row ∷ []) }
         ensures err { OnErr result (self.new ≡ self.old) }
-        ensures want { IfErr result (λ e. e ≡ Want) }
+        ensures want { OnlyWant result }
     {
         match self.rows.push(row) {
             Ok(()) => Ok(()),
@@ -135,7 +135,7 @@ impl<T: Drop> List<T> {
         requires { index ≤ length self.old }
         ensures ok { OnOk result (self.new ≡ insert self.old index row) }
         ensures err { OnErr result (self.new ≡ self.old) }
-        ensures want { IfErr result (λ e. e ≡ Want) }
+        ensures want { OnlyWant result }
     {
         match self.rows.insert(index, row) {
             Ok(()) => Ok(()),

@@ -1,6 +1,6 @@
 //! A map whose values merge key by key.
 ghost use Rattle.std.specs.Prelude.{◌≡◌, ◌+◌, ◌++◌, ◌==◌, [], ◌∷◌, IsTrue, length, IfOk, IfErr, OnOk, OnErr, slice_get, option_copied, option_map};
-ghost use Rattle.crdt_core.specs.declared.memory.Memory.TheVariants.{Want};
+ghost use Rattle.crdt_core.specs.Outcomes.{OnlyWant};
 ghost use Rattle.crdt_core.specs.Entries.{is_ascending, merged};
 ghost use Rattle.crdt_core.specs.Places.{IsAt, IsGap};
 
@@ -85,7 +85,7 @@ impl<K: Value, V: Crdt> Map<K, V> {
     pub fn join_at(&mut self, key: K, v: &V) -> Result<(), Memory>
         ensures joined { OnOk result (self.new ≡ map_join V.join self.old (map_single key v.now)) }
         ensures unchanged { OnErr result (self.new ≡ self.old) }
-        ensures want { IfErr result (λ e. e ≡ Want) }
+        ensures want { OnlyWant result }
     {
         match place(self.entries.as_slice(), &key) {
             Ok(i) => {
@@ -127,7 +127,7 @@ fn place<K: Value, V>(entries: &[(K, V)], key: &K) -> Result<usize, usize>
 
 fn copy_entry<K: Value, V: Crdt>(entry: &(K, V)) -> Result<(K, V), Memory>
     ensures same { IfOk result (λ e. e ≡ entry.now) }
-    ensures want { IfErr result (λ e. e ≡ Want) }
+    ensures want { OnlyWant result }
 {
     Ok((entry.0.copy()?, entry.1.copy()?))
 }
@@ -135,7 +135,7 @@ fn copy_entry<K: Value, V: Crdt>(entry: &(K, V)) -> Result<(K, V), Memory>
 // An entry with our key and the join of both values.
 fn join_entry<K: Value, V: Crdt>(ours: &(K, V), theirs: &(K, V)) -> Result<(K, V), Memory>
     ensures joined { IfOk result (λ e. e ≡ (ours.now.0, V.join ours.now.1 theirs.now.1)) }
-    ensures want { IfErr result (λ e. e ≡ Want) }
+    ensures want { OnlyWant result }
 {
     let key = ours.0.copy()?;
     let mut v = ours.1.copy()?;
@@ -145,7 +145,7 @@ fn join_entry<K: Value, V: Crdt>(ours: &(K, V), theirs: &(K, V)) -> Result<(K, V
 
 fn push_copies<K: Value, V: Crdt>(made: &mut List<(K, V)>, entries: &[(K, V)]) -> Result<(), Memory>
     ensures ok { OnOk result (made.new ≡ made.old ++ entries.now) }
-    ensures want { IfErr result (λ e. e ≡ Want) }
+    ensures want { OnlyWant result }
 {
     for entry in entries {
         made.push(copy_entry(entry)?)?;
@@ -160,7 +160,7 @@ fn merge_entries<K: Value, V: Crdt>(
     theirs: &[(K, V)],
 ) -> Result<List<(K, V)>, Memory>
     ensures merged { IfOk result (λ es. es ≡ merged K.cmp V.join ours.now theirs.now) }
-    ensures want { IfErr result (λ e. e ≡ Want) }
+    ensures want { OnlyWant result }
 {
     let mut made = List::new(alloc);
     let mut i = 0;

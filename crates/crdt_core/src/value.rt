@@ -1,7 +1,7 @@
 //! Values that are ordered and can be copied.
-ghost use Rattle.std.specs.Prelude.{◌≡◌, IfOk, IfErr};
+ghost use Rattle.std.specs.Prelude.{◌≡◌, IfOk};
+ghost use Rattle.crdt_core.specs.Outcomes.{OnlyWant};
 ghost use Rattle.crdt_core.specs.Orders.{Identifies, nat_identical, bool_identical, pair_identical};
-ghost use Rattle.crdt_core.specs.declared.memory.Memory.TheVariants.{Want};
 
 use crate::memory::Memory;
 
@@ -10,7 +10,7 @@ pub trait Value: Ord + Drop {
     /// An equal value of its own.
     fn copy(&self) -> Result<Self, Memory>
         ensures same { IfOk result (λ x. x ≡ self.now) }
-        ensures want { IfErr result (λ e. e ≡ Want) };
+        ensures want { OnlyWant result };
 
     ghost identical: { Identifies Self.cmp };
 }

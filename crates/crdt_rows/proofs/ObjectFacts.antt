@@ -11,9 +11,8 @@ use Rattle.crdt_rows.specs.declared.body.Body.{Body}
 use Rattle.crdt_rows.specs.declared.state.State.{State}
 use Rattle.crdt_rows.specs.declared.state.State.TheVariants.{Uploading, Aborted, Complete}
 use Rattle.crdt_rows.specs.declared.object_row.ObjectRow.{ObjectRow}
-use Rattle.crdt_rows.specs.State.{state_cmp, state_total, state_identical}
+use Rattle.crdt_rows.specs.State.{state_cmp, state_total, state_identical, is_complete}
 use Rattle.crdt_rows.specs.Version.{version_cmp, version_total, version_identical}
-use Rattle.crdt_rows.specs.State.{is_complete}
 use Rattle.crdt_rows.specs.Newest.{later, is_older, final_older, final_at_most, newest_final}
 use Rattle.crdt_rows.specs.ObjectRow.{object_key, object_key_cmp, key_total, newest, state_at, object_join, same_row, join-state, join-newest, join-bucket, join-key}
 use Rattle.crdt_rows.specs.Facts.{HasState, IsCurrent, IsObjectJoin, IsNewest}

@@ -1,7 +1,7 @@
 -- The joins of two version rows and of two reference rows are the joins of their facts.
 use Rattle.std.proofs.Common.{◌≡◌, true, false, ◌||◌, Option, Some, None, option_map, refl, ap, sym, ◌∙◌, Less, Equal}
 use Rattle.std.specs.Ordering.{nat_cmp}
-use Rattle.std.specs.Cmp.{nat_cmp_total, tied_itself}
+use Rattle.std.specs.Cmp.{nat_cmp_total, tied_itself, IsTotalOrder}
 use Rattle.std.specs.declared.cmp.Ord as ord
 use Rattle.std.specs.declared.cmp.PartialEq as partial_eq
 use Rattle.std.specs.declared.cmp.PartialOrd as partial_ord
@@ -14,7 +14,6 @@ use Rattle.crdt_core.specs.Order.{option_join}
 use Rattle.crdt_core.specs.Deletable.{deletable_join}
 use Rattle.crdt_core.specs.Map.{map_get, map_join, map_get-join}
 use Rattle.crdt_core.specs.Max.{max_join}
-use Rattle.std.specs.Cmp.{IsTotalOrder}
 use Rattle.crdt_rows.specs.declared.version_row.Part.{Part}
 use Rattle.crdt_rows.specs.declared.version_row.BlockRef.{BlockRef}
 use Rattle.crdt_rows.specs.declared.version_row.VersionRow.{VersionRow}

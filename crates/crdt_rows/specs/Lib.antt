@@ -3,7 +3,6 @@ pub mod Body
 pub mod Each
 pub mod Facts
 pub mod Fields
-pub mod Hash
 pub mod Newest
 pub mod ObjectRow
 pub mod RefRow

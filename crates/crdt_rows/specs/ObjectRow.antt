@@ -16,14 +16,13 @@ use Rattle.crdt_core.specs.Lex.{larger, lex_join, lex_laws}
 use Rattle.crdt_core.specs.Order.{option_join}
 use Rattle.crdt_core.specs.Max.{max_join, max_laws}
 use Rattle.crdt_core.specs.Map.{map_entries, map_get, map_join}
-use Rattle.crdt_rows.specs.Hash.{hash_cmp, hash_total, hash_identical}
+use Rattle.blake2_hash.specs.Hash.{hash_cmp, hash_total, hash_identical}
 use Rattle.crdt_rows.specs.declared.object_row.ObjectRow.{ObjectRow}
 use Rattle.crdt_rows.specs.declared.version.Version.{Version}
 use Rattle.crdt_rows.specs.declared.state.State.{State}
-use Rattle.crdt_rows.specs.State.{state_cmp, state_total, state_identical}
+use Rattle.crdt_rows.specs.State.{state_cmp, state_total, state_identical, is_complete, is_sized}
 use Rattle.crdt_rows.specs.Version.{version_cmp, version_total, version_identical}
 use Rattle.crdt_rows.specs.Versions.{is_settled_row, is_sized_row, newest_version, complete_either, sized_both}
-use Rattle.crdt_rows.specs.State.{is_complete, is_sized}
 use Rattle.crdt_rows.specs.Newest.{later, is_older}
 use Rattle.crdt_rows.specs.Settled.{kept_map, settled_join, settled_laws, joined_settled, joined_fit, settled_join-map, newest_joined, map_get-settled}
 

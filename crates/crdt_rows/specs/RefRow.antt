@@ -9,7 +9,7 @@ use Rattle.crdt_core.specs.Laws.{JoinLaws, through, through_laws}
 use Rattle.crdt_core.specs.Lex.{lex_join, lex_laws}
 use Rattle.crdt_core.specs.Flag.{or_join, or_laws}
 use Rattle.crdt_rows.specs.declared.ref_row.RefRow.{RefRow}
-use Rattle.crdt_rows.specs.Hash.{hash_cmp, hash_total, hash_identical}
+use Rattle.blake2_hash.specs.Hash.{hash_cmp, hash_total, hash_identical}
 
 -- by the block's digest, then by the version's identifier
 abbrev pub ref_key_cmp : Hash32 × ℕ → Hash32 × ℕ → Ordering

@@ -19,7 +19,7 @@ use Rattle.crdt_core.specs.Max.{max_join, max_laws}
 use Rattle.crdt_rows.specs.declared.version_row.Part.{Part}
 use Rattle.crdt_rows.specs.declared.version_row.BlockRef.{BlockRef}
 use Rattle.crdt_rows.specs.declared.version_row.VersionRow.{VersionRow}
-use Rattle.crdt_rows.specs.Hash.{hash_cmp, hash_total, hash_identical}
+use Rattle.blake2_hash.specs.Hash.{hash_cmp, hash_total, hash_identical}
 
 -- by part, then by offset
 abbrev pub part_cmp : Part → Part → Ordering
@@ -45,6 +45,7 @@ block_ref_identical a b e =
     let both = pair_identical hash_identical nat_identical (a.hash, a.size) (b.hash, b.size) e in
     λ i. record { hash = (both i).0; size = (both i).1 }
 
+-- it is deleted for good
 abbrev pub gone : {V : Type 0} → Deletable V → Bool
 gone (Present v) = false
 gone Deleted = true

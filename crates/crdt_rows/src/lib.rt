@@ -22,8 +22,6 @@ mod laws;
 mod object_row;
 mod ref_row;
 mod state;
-#[cfg(test)]
-mod tests;
 mod version;
 mod version_row;
 

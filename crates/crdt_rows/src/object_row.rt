@@ -1,10 +1,10 @@
 //! The versions of one object.
-ghost use Rattle.std.specs.Prelude.{◌≡◌, IsTrue, OnOk, OnErr, IfErr};
+ghost use Rattle.std.specs.Prelude.{◌≡◌, IsTrue, OnOk, OnErr};
 ghost use Rattle.std.specs.List.{list_any};
+ghost use Rattle.crdt_core.specs.Outcomes.{OnlyWant};
 ghost use Rattle.crdt_core.specs.Entries.{is_ascending};
 ghost use Rattle.crdt_core.specs.Map.{map_entries, map_join};
 ghost use Rattle.crdt_core.specs.Max.{max_join};
-ghost use Rattle.crdt_core.specs.declared.memory.Memory.TheVariants.{Want};
 ghost use Rattle.crdt_rows.specs.Settled.{kept_map};
 ghost use Rattle.crdt_rows.specs.State.{is_complete, state_cmp};
 ghost use Rattle.crdt_rows.specs.Newest.{later};
@@ -48,7 +48,7 @@ impl ObjectRow {
         requires { IsTrue (is_sized state) }
         ensures key { IfOk result (λ row. object_key row ≡ (bucket, key)) }
         ensures versions { IfOk result (λ row. map_entries row.versions ≡ (version, record { 0 = state }) ∷ []) }
-        ensures want { IfErr result (λ e. e ≡ Want) }
+        ensures want { OnlyWant result }
     {
         let mut versions = Map::new(alloc);
         versions.join_at(version, &Max(state))?;
@@ -167,7 +167,7 @@ fn merge_versions(
 ) -> Result<(), Memory>
     ensures joined { OnOk result (ours.new ≡ kept_map newest (map_join (max_join state_cmp) ours.old theirs.now)) }
     ensures unchanged { OnErr result (ours.new ≡ ours.old) }
-    ensures want { IfErr result (λ e. e ≡ Want) }
+    ensures want { OnlyWant result }
 {
     ours.merge(theirs)?;
     if let Some(version) = newest {

@@ -10,8 +10,6 @@ mod end;
 mod event;
 mod line;
 mod parts;
-#[cfg(test)]
-mod tests;
 mod told;
 mod words;
 

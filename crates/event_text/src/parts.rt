@@ -1,7 +1,7 @@
 //! The words that lines are made of.
-ghost use Rattle.std.specs.Prelude.{◌≡◌, ◌++◌, ◌∷◌, decimal, IfErr, OnOk};
-ghost use Rattle.crdt_core.specs.declared.memory.Memory.TheVariants.{Want};
-ghost use Rattle.text_model.specs.Grammar.{word};
+ghost use Rattle.std.specs.Prelude.{◌≡◌, ◌++◌, ◌∷◌, decimal, OnOk};
+ghost use Rattle.crdt_core.specs.Outcomes.{OnlyWant};
+ghost use Rattle.layout_roles.specs.Text.{word};
 ghost use Rattle.text_model.specs.Transcript.{kind_text, done_text, end_word, version_text, size_text, digest_text};
 
 use crate::words::{append_digits, append_number, append_word};
@@ -52,7 +52,7 @@ pub(crate) fn end_word(word: EndWord) -> &'static [u8]
 /// `TS/ID`.
 pub(crate) fn append_stamp(out: &mut Bytes, ts: u64, id: u64) -> Result<(), Memory>
     ensures ok { OnOk result (out.new ≡ out.old ++ word (decimal ts ++ 47 ∷ decimal id)) }
-    ensures want { IfErr result (λ e. e ≡ Want) }
+    ensures want { OnlyWant result }
 {
     append_number(out, ts)?;
     out.push(b'/')?;
@@ -62,7 +62,7 @@ pub(crate) fn append_stamp(out: &mut Bytes, ts: u64, id: u64) -> Result<(), Memo
 /// `TS/ID`, or `none`.
 pub(crate) fn append_version(out: &mut Bytes, version: &Option<(u64, u64)>) -> Result<(), Memory>
     ensures ok { OnOk result (out.new ≡ out.old ++ word (version_text version.now)) }
-    ensures want { IfErr result (λ e. e ≡ Want) }
+    ensures want { OnlyWant result }
 {
     match version {
         None => append_word(out, b"none"),
@@ -72,7 +72,7 @@ pub(crate) fn append_version(out: &mut Bytes, version: &Option<(u64, u64)>) -> R
 
 pub(crate) fn append_size(out: &mut Bytes, size: &Option<u64>) -> Result<(), Memory>
     ensures ok { OnOk result (out.new ≡ out.old ++ size_text size.now) }
-    ensures want { IfErr result (λ e. e ≡ Want) }
+    ensures want { OnlyWant result }
 {
     match size {
         None => Ok(()),
@@ -83,7 +83,7 @@ pub(crate) fn append_size(out: &mut Bytes, size: &Option<u64>) -> Result<(), Mem
 /// Lower-case hexadecimal.
 pub(crate) fn append_digest(out: &mut Bytes, digest: &Option<[u8; 16]>) -> Result<(), Memory>
     ensures ok { OnOk result (out.new ≡ out.old ++ digest_text digest.now) }
-    ensures want { IfErr result (λ e. e ≡ Want) }
+    ensures want { OnlyWant result }
 {
     match digest {
         None => Ok(()),

@@ -1,21 +1,21 @@
 //! The lines of one event.
-ghost use Rattle.std.specs.Prelude.{◌≡◌, ◌++◌, IfOk, IfErr, OnOk};
-ghost use Rattle.crdt_core.specs.declared.memory.Memory.TheVariants.{Want};
+ghost use Rattle.std.specs.Prelude.{◌≡◌, ◌++◌, IfOk, OnOk};
+ghost use Rattle.crdt_core.specs.Outcomes.{OnlyWant};
 ghost use Rattle.cluster_machine.specs.declared.step.Refusal.TheVariants.{TooFewZones};
-ghost use Rattle.text_model.specs.Grammar.{word};
-ghost use Rattle.text_model.specs.Transcript.{number, refusal_text, words_text, answer_text, told_text};
+ghost use Rattle.layout_roles.specs.Text.{word, number};
+ghost use Rattle.text_model.specs.Transcript.{refusal_text, words_text, answer_text, told_text};
 
 use crate::line::append_lines;
 use crate::words::{append_digits, append_number, append_word};
 use cluster_machine::Words;
+use cluster_machine::applied::{Line, Refusal};
 use crdt_core::{Bytes, Memory};
 use std::alloc::Global;
-use world_model::{Line, Refusal};
 
 // A reason with a number.
 fn append_numbered(out: &mut Bytes, reason: &[u8], n: u64) -> Result<(), Memory>
     ensures ok { OnOk result (out.new ≡ out.old ++ word (reason.now ++ number n)) }
-    ensures want { IfErr result (λ e. e ≡ Want) }
+    ensures want { OnlyWant result }
 {
     append_word(out, reason)?;
     append_number(out, n)
@@ -23,7 +23,7 @@ fn append_numbered(out: &mut Bytes, reason: &[u8], n: u64) -> Result<(), Memory>
 
 fn append_too_few_zones(out: &mut Bytes, zones: u8, wanted: u8) -> Result<(), Memory>
     ensures ok { OnOk result (out.new ≡ out.old ++ word (refusal_text (TooFewZones zones wanted))) }
-    ensures want { IfErr result (λ e. e ≡ Want) }
+    ensures want { OnlyWant result }
 {
     append_word(out, b"TooFewZones")?;
     append_number(out, u64::from(zones))?;
@@ -32,7 +32,7 @@ fn append_too_few_zones(out: &mut Bytes, zones: u8, wanted: u8) -> Result<(), Me
 
 fn append_refusal(out: &mut Bytes, refusal: &Refusal) -> Result<(), Memory>
     ensures ok { OnOk result (out.new ≡ out.old ++ word (refusal_text refusal.now)) }
-    ensures want { IfErr result (λ e. e ≡ Want) }
+    ensures want { OnlyWant result }
 {
     match refusal {
         Refusal::VersionTaken(version) => {
@@ -55,7 +55,7 @@ fn append_refusal(out: &mut Bytes, refusal: &Refusal) -> Result<(), Memory>
 
 fn append_words(out: &mut Bytes, words: &Words) -> Result<(), Memory>
     ensures ok { OnOk result (out.new ≡ out.old ++ words_text words.now) }
-    ensures want { IfErr result (λ e. e ≡ Want) }
+    ensures want { OnlyWant result }
 {
     match words {
         Words::Empty => Ok(()),
@@ -74,7 +74,7 @@ fn append_words(out: &mut Bytes, words: &Words) -> Result<(), Memory>
 
 fn append_answer(out: &mut Bytes, refused: &Option<Refusal>, words: &Words) -> Result<(), Memory>
     ensures ok { OnOk result (out.new ≡ out.old ++ word (answer_text refused.now words.now)) }
-    ensures want { IfErr result (λ e. e ≡ Want) }
+    ensures want { OnlyWant result }
 {
     match refused {
         None => {
@@ -99,7 +99,7 @@ pub fn told_text(
     lines: &[Line],
 ) -> Result<Bytes, Memory>
     ensures text { IfOk result (λ t. t ≡ told_text line name.now refused.now words.now lines.now) }
-    ensures want { IfErr result (λ e. e ≡ Want) }
+    ensures want { OnlyWant result }
 {
     let mut out = Bytes::new(alloc);
     append_digits(&mut out, line)?;

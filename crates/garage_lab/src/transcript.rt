@@ -1,7 +1,7 @@
 //! The transcript of a schedule.
 ghost use Rattle.std.specs.Prelude.{◌≡◌, ◌⊎◌, ◌≤◌, ℕ, List, Err, IfOk, OnOk, IfErr, OnErr};
 ghost use Rattle.std.specs.List.{All};
-ghost use Rattle.crdt_core.specs.declared.memory.Memory.TheVariants.{Want, Full};
+ghost use Rattle.crdt_core.specs.Outcomes.{WantOr};
 ghost use Rattle.lab_outside.specs.Rose.{Rose};
 ghost use Rattle.lab_driver.specs.Stands.{HasLab, IsMeantEvent};
 ghost use Rattle.garage_lab.specs.Turning.{TurnsOne, CannotTurn};
@@ -20,7 +20,7 @@ fn event_text(alloc: Global, lab: &mut Lab, next: &Numbered) -> Result<Bytes, Me
     requires lab { HasLab lab.old }
     requires meant { IsMeantEvent next.now.event }
     ensures turns { IfOk result (λ text. TurnsOne lab.old lab.new next.now text) }
-    ensures causes { IfErr result (λ e. (e ≡ Want) ⊎ ((e ≡ Full) × CannotTurn lab.old next.now)) }
+    ensures causes { WantOr result (CannotTurn lab.old next.now) }
 {
     let told = lab.step(&next.event)?;
     told_text(

@@ -6,8 +6,8 @@ use Rattle.object_schema.specs.Schema.{words}
 use Rattle.cluster_machine.specs.declared.line.Line.{Line}
 use Rattle.cluster_machine.specs.declared.step.Words.TheVariants.{Empty}
 use Rattle.cluster_machine.specs.World.{undelivered}
-use Rattle.world_model.specs.declared.applied.Applied.{Applied}
-use Rattle.world_model.specs.Worlds.{FitAll, HaveRoom, run}
+use Rattle.cluster_machine.specs.declared.applied.Applied.{Applied}
+use Rattle.cluster_machine.specs.Worlds.{FitAll, HaveRoom, run}
 use Rattle.object_model.specs.declared.event.Told.{Told}
 use Rattle.object_model.specs.Run.{Moving, State, Outcome, silent, delivers, then_drains, drains}
 use Rattle.object_model.specs.Turns.{FitsOutcome}

@@ -15,7 +15,7 @@ use Rattle.cluster_machine.specs.declared.line.Line.{Line}
 use Rattle.cluster_machine.specs.declared.step.Step.TheVariants.{Phase as Begin}
 use Rattle.cluster_machine.specs.declared.step.Words.TheVariants.{Empty}
 use Rattle.cluster_machine.specs.World.{numbered}
-use Rattle.world_model.specs.declared.applied.Applied.{Applied}
+use Rattle.cluster_machine.specs.declared.applied.Applied.{Applied}
 use Rattle.object_model.specs.declared.event.Told.{Told}
 use Rattle.object_model.specs.Object.{object}
 use Rattle.object_model.specs.Run.{State, Order as Ordered, Answer, Outcome, silent, stored, put_line, drawn, writes, finishes, follow}

@@ -12,7 +12,7 @@ use Rattle.cluster_machine.specs.declared.line.DoneWord.TheVariants.{Put as Word
 use Rattle.cluster_machine.specs.declared.step.Step.TheVariants.{Deliver}
 use Rattle.cluster_machine.specs.Node.{Ended}
 use Rattle.cluster_machine.specs.World.{numbered}
-use Rattle.world_model.specs.Worlds.{next, FitAll, HaveRoom, run}
+use Rattle.cluster_machine.specs.Worlds.{next, FitAll, HaveRoom, run}
 use Rattle.object_model.specs.Object.{Newest, absent, inline, in_blocks, newest_of}
 use Rattle.object_model.specs.Run.{World, Moving, Order, State, Outcome, plainly, effect, doing, gets, follows, follow, goes_on, delivers}
 

@@ -1,20 +1,21 @@
 //! The state of a run as code, and its events.
 ghost use Rattle.std.specs.Prelude.{◌≡◌, [], ◌++◌, ◌^◌, ◌<◌, ◌≤◌, ◌⊎◌, ◌+◌, length, map, slice_get, true, ◌∷◌, IfOk, IfErr, IfSome, IfNone, Some, None};
-ghost use Rattle.crdt_core.specs.declared.memory.Memory.TheVariants.{Want, Full};
+ghost use Rattle.crdt_core.specs.Outcomes.{OnlyWant, WantOr};
+ghost use Rattle.crdt_core.specs.declared.memory.Memory.TheVariants.{Full};
 ghost use Rattle.cluster_machine.specs.declared.step.Words.TheVariants.{Empty};
 ghost use Rattle.wire_messages.specs.declared.phase.PhaseEnd.TheVariants.{Row as Answered, Kept};
 ghost use Rattle.cluster_machine.specs.World.{is_member_at, numbered};
-ghost use Rattle.node_parts.specs.Layouts.{layouts};
-ghost use Rattle.world_model.specs.Worlds.{IsMeant};
+ghost use Rattle.cluster_machine.specs.Layouts.{layouts};
+ghost use Rattle.cluster_machine.specs.Worlds.{IsMeant};
 ghost use Rattle.world_core.specs.Stands.{ended};
-ghost use Rattle.object_model.specs.Run.{State, Answer, start, begins, opened, drawn, writes, finishes, gets, follow, goes_on, delivers, drains, silent, Order as Ordered};
+ghost use Rattle.object_model.specs.Run.{State, Answer, start, begins, opened, drawn, writes, finishes, gets, follow, goes_on, delivers, drains, silent, Order as Ordered, is_bucket as has_bucket};
 ghost use Rattle.object_model.specs.Object.{newest_of};
-ghost use Rattle.object_model.specs.Run.{is_bucket as has_bucket};
 ghost use Rattle.lab_driver.specs.Stands.{ordered, IsMeantEvent};
 
 use crate::newest::{Newest, greatest_ts, read_newest};
 use crate::object::{bucket_of, key_of, row_of};
 use crate::order::{Order, found_line, nothing_line, put_line};
+use cluster_machine::applied::{Line, Refusal};
 use cluster_machine::{DoneWord, Step, Words};
 use crdt_core::{Bytes, List, Memory, Value};
 use crdt_rows::{AnyRow, Version};
@@ -24,7 +25,6 @@ use object_schema::S3Schema;
 use std::alloc::Global;
 use wire_messages::{Phase, PhaseEnd};
 use world_core::World;
-use world_model::{Line, Refusal};
 
 /// A cluster with buckets, and what each request was asked for.
 #[derive(Drop)]
@@ -61,7 +61,7 @@ fn accepted(lines: List<Line>) -> Told
 /// A copy of a role.
 fn copy_role(role: &Option<(Zone, Kind)>) -> Result<Option<(Zone, Kind)>, Memory>
     ensures same { IfOk result (λ copy. copy ≡ role.now) }
-    ensures want { IfErr result (λ e. e ≡ Want) }
+    ensures want { OnlyWant result }
 {
     match role {
         Some((zone, kind)) => Ok(Some((zone.copy()?, *kind))),
@@ -76,7 +76,7 @@ impl Lab {
     /// Nothing has happened.
     pub fn new(alloc: Global) -> Result<Lab, Memory>
         ensures starts { IfOk result (λ lab. IsLab lab start) }
-        ensures want { IfErr result (λ e. e ≡ Want) }
+        ensures want { OnlyWant result }
     {
         Ok(Lab {
             alloc,
@@ -105,7 +105,7 @@ impl Lab {
         requires lab { HasLab self.old }
         requires meant { IsMeantEvent event.now }
         ensures plays { IfOk result (λ told. PlaysEvent self.old self.new told event.now) }
-        ensures causes { IfErr result (λ e. (e ≡ Want) ⊎ ((e ≡ Full) × OverflowsEvent self.old event.now)) }
+        ensures causes { WantOr result (OverflowsEvent self.old event.now) }
     {
         match event {
             Event::Trio => self.plain(Step::Trio),
@@ -144,7 +144,7 @@ impl Lab {
         requires lab { HasLab self.old }
         requires meant { IsMeant step }
         ensures plays { IfOk result (λ told. PlaysStep self.old self.new told step) }
-        ensures causes { IfErr result (λ e. (e ≡ Want) ⊎ ((e ≡ Full) × OverflowsStep self.old step)) }
+        ensures causes { WantOr result (OverflowsStep self.old step) }
     {
         let report = self.world.step(step)?;
         Ok(Told {
@@ -156,7 +156,7 @@ impl Lab {
 
     fn add_bucket(&mut self, name: &Bytes) -> Result<Told, Memory>
         ensures plays { IfOk result (λ told. Plays self.old self.new told (λ s. silent (record s { buckets = s.buckets ++ name.now ∷ [] }))) }
-        ensures want { IfErr result (λ e. e ≡ Want) }
+        ensures want { OnlyWant result }
     {
         self.buckets.push(name.copy()?)?;
         Ok(accepted(List::new(self.alloc)))
@@ -183,7 +183,7 @@ impl Lab {
     fn begins(&mut self, order: Order) -> Result<Told, Memory>
         requires lab { HasLab self.old }
         ensures plays { IfOk result (λ told. Plays self.old self.new told (λ s. begins s order.node (ordered order))) }
-        ensures causes { IfErr result (λ e. (e ≡ Want) ⊎ ((e ≡ Full) × Overflows self.old (λ s. begins s order.node (ordered order)))) }
+        ensures causes { WantOr result (Overflows self.old (λ s. begins s order.node (ordered order))) }
     {
         if !self.world.member(order.node) {
             return Ok(self.refusal(Refusal::NotMember));
@@ -198,7 +198,7 @@ impl Lab {
     fn opened(&mut self, order: Order) -> Result<Told, Memory>
         requires lab { HasLab self.old }
         ensures plays { IfOk result (λ told. PlaysIf (λ s. is_member_at layouts s.world order.node ≡ true) self.old self.new told (λ s. opened s order.node (ordered order))) }
-        ensures causes { IfErr result (λ e. (e ≡ Want) ⊎ ((e ≡ Full) × OverflowsIf (λ s. is_member_at layouts s.world order.node ≡ true) self.old (λ s. opened s order.node (ordered order)))) }
+        ensures causes { WantOr result (OverflowsIf (λ s. is_member_at layouts s.world order.node ≡ true) self.old (λ s. opened s order.node (ordered order))) }
     {
         let phase = Phase::Read {
             table: 1,
@@ -236,7 +236,7 @@ impl Lab {
         requires place { i + 1 ≡ request }
         requires within { i < length self.old.orders }
         ensures plays { IfOk result (λ told. (o : Order) → slice_get self.old.orders i ≡ Some o → Plays self.old self.new told (λ s. writes s request (ordered o) version)) }
-        ensures causes { IfErr result (λ e. (e ≡ Want) ⊎ ((e ≡ Full) × ((o : Order) → slice_get self.old.orders i ≡ Some o → Overflows self.old (λ s. writes s request (ordered o) version)))) }
+        ensures causes { WantOr result ((o : Order) → slice_get self.old.orders i ≡ Some o → Overflows self.old (λ s. writes s request (ordered o) version)) }
     {
         let row = row_of(self.alloc, self.orders.at(i), version)?;
         self.orders.at_mut(i).version = Some(version);
@@ -252,7 +252,7 @@ impl Lab {
     fn finishes(&mut self, request: u64, line: Line) -> Result<Told, Memory>
         requires lab { HasLab self.old }
         ensures plays { IfOk result (λ told. (answer : Answer) → Plays self.old self.new told (λ s. finishes s request answer line)) }
-        ensures causes { IfErr result (λ e. (e ≡ Want) ⊎ ((e ≡ Full) × ((answer : Answer) → Overflows self.old (λ s. finishes s request answer line)))) }
+        ensures causes { WantOr result ((answer : Answer) → Overflows self.old (λ s. finishes s request answer line)) }
     {
         let _ = self.world.step(Step::Close(request))?;
         let mut lines = List::new(self.alloc);
@@ -264,7 +264,7 @@ impl Lab {
     fn gets(&mut self, request: u64, value: &Option<AnyRow>) -> Result<Told, Memory>
         requires lab { HasLab self.old }
         ensures plays { IfOk result (λ told. Plays self.old self.new told (λ s. gets s request (newest_of value.now))) }
-        ensures causes { IfErr result (λ e. (e ≡ Want) ⊎ ((e ≡ Full) × Overflows self.old (λ s. gets s request (newest_of value.now)))) }
+        ensures causes { WantOr result (Overflows self.old (λ s. gets s request (newest_of value.now))) }
     {
         match read_newest(value) {
             Newest::Absent => self.finishes(request, nothing_line(request)),
@@ -281,7 +281,7 @@ impl Lab {
         requires place { i + 1 ≡ request }
         requires within { i < length self.old.orders }
         ensures plays { IfOk result (λ told. (o : Order) → slice_get self.old.orders i ≡ Some o → Plays self.old self.new told (λ s. follow s request (Some (ordered o)) (Answered value.now))) }
-        ensures causes { IfErr result (λ e. (e ≡ Want) ⊎ ((e ≡ Full) × ((o : Order) → slice_get self.old.orders i ≡ Some o → Overflows self.old (λ s. follow s request (Some (ordered o)) (Answered value.now))))) }
+        ensures causes { WantOr result ((o : Order) → slice_get self.old.orders i ≡ Some o → Overflows self.old (λ s. follow s request (Some (ordered o)) (Answered value.now))) }
     {
         let order = self.orders.at(i);
         match order.word {
@@ -302,7 +302,7 @@ impl Lab {
         requires lab { HasLab self.old }
         requires within { i < length self.old.orders }
         ensures plays { IfOk result (λ told. (o : Order) → slice_get self.old.orders i ≡ Some o → Plays self.old self.new told (λ s. follow s request (Some (ordered o)) Kept)) }
-        ensures causes { IfErr result (λ e. (e ≡ Want) ⊎ ((e ≡ Full) × ((o : Order) → slice_get self.old.orders i ≡ Some o → Overflows self.old (λ s. follow s request (Some (ordered o)) Kept)))) }
+        ensures causes { WantOr result ((o : Order) → slice_get self.old.orders i ≡ Some o → Overflows self.old (λ s. follow s request (Some (ordered o)) Kept)) }
     {
         let order = self.orders.at(i);
         match order.word {
@@ -318,7 +318,7 @@ impl Lab {
     fn follow(&mut self, request: u64, end: &PhaseEnd<AnyRow>) -> Result<Told, Memory>
         requires lab { HasLab self.old }
         ensures plays { IfOk result (λ told. Plays self.old self.new told (λ s. follow s request (numbered s.orders request) end.now)) }
-        ensures causes { IfErr result (λ e. (e ≡ Want) ⊎ ((e ≡ Full) × Overflows self.old (λ s. follow s request (numbered s.orders request) end.now))) }
+        ensures causes { WantOr result (Overflows self.old (λ s. follow s request (numbered s.orders request) end.now)) }
     {
         match place(request, self.orders.len()) {
             None => Ok(accepted(List::new(self.alloc))),
@@ -334,7 +334,7 @@ impl Lab {
     fn goes_on(&mut self, ends: &List<(u64, PhaseEnd<AnyRow>)>) -> Result<Told, Memory>
         requires lab { HasLab self.old }
         ensures plays { IfOk result (λ told. Plays self.old self.new told (λ s. goes_on s (map ended ends.now))) }
-        ensures causes { IfErr result (λ e. (e ≡ Want) ⊎ ((e ≡ Full) × Overflows self.old (λ s. goes_on s (map ended ends.now)))) }
+        ensures causes { WantOr result (Overflows self.old (λ s. goes_on s (map ended ends.now))) }
     {
         match ends.get(0) {
             None => Ok(accepted(List::new(self.alloc))),
@@ -346,7 +346,7 @@ impl Lab {
     fn delivers(&mut self, message: u64) -> Result<Told, Memory>
         requires lab { HasLab self.old }
         ensures plays { IfOk result (λ told. Plays self.old self.new told (λ s. delivers s message)) }
-        ensures causes { IfErr result (λ e. (e ≡ Want) ⊎ ((e ≡ Full) × Overflows self.old (λ s. delivers s message))) }
+        ensures causes { WantOr result (Overflows self.old (λ s. delivers s message)) }
     {
         let report = self.world.step(Step::Deliver(message))?;
         let mut told = self.goes_on(&report.ends)?;
@@ -363,7 +363,7 @@ impl Lab {
     fn drains(&mut self, count: u32) -> Result<Told, Memory>
         requires lab { HasLab self.old }
         ensures plays { IfOk result (λ told. Plays self.old self.new told (λ s. drains count s)) }
-        ensures causes { IfErr result (λ e. (e ≡ Want) ⊎ ((e ≡ Full) × Overflows self.old (λ s. drains count s))) }
+        ensures causes { WantOr result (Overflows self.old (λ s. drains count s)) }
     {
         let mut lines = List::new(self.alloc);
         let mut left = count;

@@ -12,8 +12,6 @@ mod lab;
 mod newest;
 mod object;
 mod order;
-#[cfg(test)]
-mod tests;
 
 pub use lab::Lab;
 pub use object_model::{Event, Told};

@@ -1,7 +1,8 @@
 //! The bytes of objects, and their rows.
-ghost use Rattle.std.specs.Prelude.{◌≡◌, ◌++◌, IfOk, IfErr};
-ghost use Rattle.crdt_core.specs.declared.memory.Memory.TheVariants.{Want};
-ghost use Rattle.object_model.specs.Object.{bucket_hash, row_key, object};
+ghost use Rattle.std.specs.Prelude.{◌≡◌, ◌++◌, IfOk};
+ghost use Rattle.crdt_core.specs.Outcomes.{OnlyWant};
+ghost use Rattle.blake2_hash.specs.Hash.{digest_of};
+ghost use Rattle.object_model.specs.Object.{row_key, object};
 ghost use Rattle.object_model.specs.Run.{object_bytes as bytes_of_object};
 ghost use Rattle.lab_driver.specs.Stands.{ordered};
 
@@ -15,7 +16,7 @@ use std::alloc::Global;
 /// `size` bytes: byte i, from 0, is `fill` + i modulo 251.
 pub fn object_bytes(alloc: Global, size: u32, fill: u8) -> Result<Bytes, Memory>
     ensures same { IfOk result (λ bytes. bytes ≡ bytes_of_object size fill) }
-    ensures want { IfErr result (λ e. e ≡ Want) }
+    ensures want { OnlyWant result }
 {
     let mut bytes = Bytes::new(alloc);
     for i in 0..size {
@@ -27,7 +28,7 @@ pub fn object_bytes(alloc: Global, size: u32, fill: u8) -> Result<Bytes, Memory>
 
 /// The digest of a bucket's name.
 pub fn bucket_of(bucket: &Bytes) -> Hash32
-    ensures { result ≡ bucket_hash bucket.now }
+    ensures { result ≡ digest_of bucket.now }
 {
     blake2b_256(bucket.as_slice())
 }
@@ -35,7 +36,7 @@ pub fn bucket_of(bucket: &Bytes) -> Hash32
 /// The key of an object's row: the digest of the bucket's name, and the object's key.
 pub fn key_of(alloc: Global, order: &Order) -> Result<Bytes, Memory>
     ensures is { IfOk result (λ key. key ≡ row_key (ordered order.now).name) }
-    ensures want { IfErr result (λ e. e ≡ Want) }
+    ensures want { OnlyWant result }
 {
     let mut key = Bytes::from_slice(alloc, &bucket_of(&order.bucket).0)?;
     key.extend_from_slice(order.key.as_slice())?;
@@ -45,7 +46,7 @@ pub fn key_of(alloc: Global, order: &Order) -> Result<Bytes, Memory>
 /// The row of an order's object, with its bytes as this version.
 pub fn row_of(alloc: Global, order: &Order, version: Version) -> Result<AnyRow, Memory>
     ensures row { IfOk result (λ row. row ≡ object (ordered order.now).name version (ordered order.now).bytes) }
-    ensures want { IfErr result (λ e. e ≡ Want) }
+    ensures want { OnlyWant result }
 {
     let bytes = object_bytes(alloc, order.size, order.fill)?;
     let meta = Meta {

@@ -1,13 +1,13 @@
 //! What requests were asked for, and what they say when they are done.
-ghost use Rattle.std.specs.Prelude.{◌≡◌, [], IfOk, IfErr, None};
-ghost use Rattle.crdt_core.specs.declared.memory.Memory.TheVariants.{Want};
+ghost use Rattle.std.specs.Prelude.{◌≡◌, [], IfOk, None};
+ghost use Rattle.crdt_core.specs.Outcomes.{OnlyWant};
 ghost use Rattle.object_model.specs.Run.{found_line as line_of_found, nothing_line as line_of_nothing, put_line as line_of_put};
 
 use cluster_machine::DoneWord;
+use cluster_machine::applied::Line;
 use crdt_core::{Bytes, Memory, Value};
 use crdt_rows::Version;
 use md5::{Digest, Md5};
-use world_model::Line;
 
 /// What a request was asked for at its coordinator. A put has its version once it has drawn one.
 #[derive(Drop)]
@@ -29,7 +29,7 @@ impl Order {
     /// To write an object of `size` bytes, the first of which is `fill`.
     pub fn put(node: u8, bucket: &Bytes, key: &Bytes, size: u32, fill: u8) -> Result<Order, Memory>
         ensures asks { IfOk result (λ o. ordered o ≡ record { node = node; word = Put; name = record { bucket = bucket.now; key = key.now }; bytes = object_bytes size fill; version = None }) }
-        ensures want { IfErr result (λ e. e ≡ Want) }
+        ensures want { OnlyWant result }
     {
         Ok(Order {
             node,
@@ -45,7 +45,7 @@ impl Order {
     /// To read an object.
     pub fn get(node: u8, bucket: &Bytes, key: &Bytes) -> Result<Order, Memory>
         ensures asks { IfOk result (λ o. ordered o ≡ record { node = node; word = Get; name = record { bucket = bucket.now; key = key.now }; bytes = []; version = None }) }
-        ensures want { IfErr result (λ e. e ≡ Want) }
+        ensures want { OnlyWant result }
     {
         Ok(Order {
             node,

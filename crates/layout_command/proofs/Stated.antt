@@ -7,13 +7,13 @@ use Rattle.lab_outside.specs.declared.exit.Status.TheVariants.{Done, Refused}
 use Rattle.layout_roles.specs.declared.role.Role.{Role}
 use Rattle.layout_roles.specs.Zones.{storage_nodes, zone_names}
 use Rattle.layout_roles.specs.Fits.{NodeSet, Fits, NoneFits}
-use Rattle.layout_flow.specs.declared.cut.Cut.{Cut}
-use Rattle.layout_size.specs.declared.certified.Certified.{Certified}
+use Rattle.layout_roles.specs.declared.cut.Cut.{Cut}
+use Rattle.layout_roles.specs.declared.certified.Certified.{Certified}
 use Rattle.layout_size.specs.declared.fault.LayoutFault.{LayoutFault}
 use Rattle.layout_size.specs.declared.fault.LayoutFault.TheVariants.{TooFewNodes, TooFewZones, NoAssignment}
 use Rattle.layout_size.specs.Answers.{IfNoAssignment}
-use Rattle.layout_flow.specs.Answers.{IsPrintedCut}
-use Rattle.layout_text.specs.Text.{cut_lines, layout_text}
+use Rattle.layout_roles.specs.Certificates.{IsPrintedCut}
+use Rattle.layout_roles.specs.Text.{cut_lines, layout_text}
 use Rattle.layout_text.specs.declared.config.ConfigFault.{ConfigFault}
 use Rattle.layout_text.specs.Settings.{Settings, said}
 use Rattle.layout_command.specs.Answer.{greatest_node, nodes_line, zones_line, none_line, zones_for, AreEnough, IsLayout, HasNone, IsLaidOut, few_nodes, few_zones, none, layout, IsAnswer, not_text, not_toml, bad_field, laid_out}

@@ -3,16 +3,14 @@ use Rattle.std.specs.Prelude.{◌≡◌, ℕ, ◌+◌, ◌<◌, ◌≤◌, IsUtf
 use Rattle.lab_outside.specs.declared.exit.Status.{Status}
 use Rattle.lab_outside.specs.declared.exit.Status.TheVariants.{Done, Refused}
 use Rattle.layout_roles.specs.Zones.{storage_nodes, zone_names}
-use Rattle.layout_roles.specs.Fits.{IsGreatest, NoneFits}
-use Rattle.layout_flow.specs.Answers.{IsPrintedCut}
-use Rattle.layout_flow.specs.declared.cut.Cut.{Cut}
-use Rattle.layout_size.specs.Answers.{zones_wanted, AreEnough as EnoughFor, IsCertified, ShowsNone}
-use Rattle.layout_size.specs.declared.certified.Certified.{Certified}
+use Rattle.layout_roles.specs.Certificates.{zones_wanted, AreEnough as EnoughFor, IsCertified, ShowsNone}
+use Rattle.layout_roles.specs.declared.cut.Cut.{Cut}
+use Rattle.layout_roles.specs.declared.certified.Certified.{Certified}
 use Rattle.layout_text.specs.declared.config.FieldName.{FieldName}
 use Rattle.layout_text.specs.declared.config.FieldName.TheVariants as field
 use Rattle.layout_text.specs.declared.config.ConfigFault.TheVariants.{NotToml, Field}
 use Rattle.layout_text.specs.Settings.{Settings, said}
-use Rattle.layout_text.specs.Text.{number, line, cut_lines, layout_text}
+use Rattle.layout_roles.specs.Text.{number, line, cut_lines, layout_text}
 
 -- the greatest node
 abbrev pub greatest_node : ℕ
@@ -28,18 +26,23 @@ field_word field.Id = codes "id"
 field_word field.Zone = codes "zone"
 field_word field.Capacity = codes "capacity"
 
+-- the input is no TOML
 unfoldable pub toml_line : List ℕ
 toml_line = line (codes "bad toml")
 
+-- a field is outside its range
 unfoldable pub field_line : FieldName → List ℕ
 field_line name = line (codes "bad field " ++ field_word name)
 
+-- the roles have too few storage nodes
 unfoldable pub nodes_line : ℕ → List ℕ
 nodes_line nodes = line (codes "too few nodes" ++ number nodes)
 
+-- the roles have too few zones for the redundancy
 unfoldable pub zones_line : ℕ → ℕ → List ℕ
 zones_line zones r = line (codes "too few zones" ++ number zones ++ number r)
 
+-- no assignment fits
 unfoldable pub none_line : List ℕ
 none_line = line (codes "no assignment")
 

@@ -8,8 +8,6 @@
 mod laws;
 mod refusals;
 mod reply;
-#[cfg(test)]
-mod tests;
 
 pub use laws::one_status;
 pub use reply::{Reply, answer};

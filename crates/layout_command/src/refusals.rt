@@ -1,13 +1,12 @@
 //! The lines that say why there is no layout.
-ghost use Rattle.std.specs.Prelude.{◌≡◌, ◌++◌, IfOk, IfErr};
-ghost use Rattle.crdt_core.specs.declared.memory.Memory.TheVariants.{Want};
-ghost use Rattle.layout_text.specs.Text.{cut_lines};
+ghost use Rattle.std.specs.Prelude.{◌≡◌, ◌++◌, IfOk};
+ghost use Rattle.crdt_core.specs.Outcomes.{OnlyWant};
+ghost use Rattle.layout_roles.specs.Text.{cut_lines};
 ghost use Rattle.layout_command.specs.Answer.{field_word, toml_line, field_line, nodes_line, zones_line, none_line};
 
 use crdt_core::{Bytes, Memory};
 use itoa::Buffer;
-use layout_flow::Cut;
-use layout_roles::Roles;
+use layout_roles::{Cut, Roles};
 use layout_text::{FieldName, cut_lines};
 use std::alloc::Global;
 
@@ -15,7 +14,7 @@ use std::alloc::Global;
 #[tactic(auto, unfolding(crate::specs::Answer::toml_line))]
 pub(crate) fn bad_toml(alloc: Global) -> Result<Bytes, Memory>
     ensures text { IfOk result (λ text. text ≡ toml_line) }
-    ensures want { IfErr result (λ e. e ≡ Want) }
+    ensures want { OnlyWant result }
 {
     Bytes::from_slice(alloc, b"bad toml\n")
 }
@@ -38,7 +37,7 @@ fn field_word(name: FieldName) -> &'static [u8]
 #[tactic(auto, unfolding(crate::specs::Answer::field_line))]
 pub(crate) fn bad_field(alloc: Global, name: FieldName) -> Result<Bytes, Memory>
     ensures text { IfOk result (λ text. text ≡ field_line name) }
-    ensures want { IfErr result (λ e. e ≡ Want) }
+    ensures want { OnlyWant result }
 {
     let mut text = Bytes::from_slice(alloc, b"bad field ")?;
     text.extend_from_slice(field_word(name))?;
@@ -50,7 +49,7 @@ pub(crate) fn bad_field(alloc: Global, name: FieldName) -> Result<Bytes, Memory>
 #[tactic(auto, unfolding(crate::specs::Answer::nodes_line))]
 pub(crate) fn too_few_nodes(alloc: Global, nodes: u8) -> Result<Bytes, Memory>
     ensures text { IfOk result (λ text. text ≡ nodes_line nodes) }
-    ensures want { IfErr result (λ e. e ≡ Want) }
+    ensures want { OnlyWant result }
 {
     let mut text = Bytes::from_slice(alloc, b"too few nodes ")?;
     text.extend_from_slice(Buffer::new().format(nodes).as_bytes())?;
@@ -62,7 +61,7 @@ pub(crate) fn too_few_nodes(alloc: Global, nodes: u8) -> Result<Bytes, Memory>
 #[tactic(auto, unfolding(crate::specs::Answer::zones_line))]
 pub(crate) fn too_few_zones(alloc: Global, zones: u8, r: u8) -> Result<Bytes, Memory>
     ensures text { IfOk result (λ text. text ≡ zones_line zones r) }
-    ensures want { IfErr result (λ e. e ≡ Want) }
+    ensures want { OnlyWant result }
 {
     let mut text = Bytes::from_slice(alloc, b"too few zones ")?;
     text.extend_from_slice(Buffer::new().format(zones).as_bytes())?;
@@ -76,7 +75,7 @@ pub(crate) fn too_few_zones(alloc: Global, zones: u8, r: u8) -> Result<Bytes, Me
 #[tactic(auto, unfolding(crate::specs::Answer::none_line))]
 pub(crate) fn no_assignment(alloc: Global, cut: &Cut, roles: &Roles) -> Result<Bytes, Memory>
     ensures text { IfOk result (λ text. text ≡ none_line ++ cut_lines roles.now.list cut.now) }
-    ensures want { IfErr result (λ e. e ≡ Want) }
+    ensures want { OnlyWant result }
 {
     let mut text = Bytes::from_slice(alloc, b"no assignment\n")?;
     let lines = cut_lines(alloc, cut, roles)?;

@@ -1,7 +1,7 @@
 //! The command as one call.
-ghost use Rattle.std.specs.Prelude.{◌≡◌, IsUtf8, IfOk, IfErr};
-ghost use Rattle.crdt_core.specs.declared.memory.Memory.TheVariants.{Want};
-ghost use Rattle.layout_size.specs.Answers.{IsRedundancy};
+ghost use Rattle.std.specs.Prelude.{◌≡◌, IsUtf8, IfOk};
+ghost use Rattle.crdt_core.specs.Outcomes.{OnlyWant};
+ghost use Rattle.layout_roles.specs.Certificates.{IsRedundancy};
 ghost use Rattle.layout_text.specs.Settings.{settings_of};
 ghost use Rattle.layout_command.specs.Answer.{IsLaidOut, IsAnswer};
 
@@ -38,7 +38,7 @@ fn refused(text: Bytes) -> Reply
 fn lay_out(alloc: Global, config: &Config) -> Result<Reply, Memory>
     requires { IsRedundancy config.now.redundancy }
     ensures stated { IfOk result (λ reply. IsLaidOut (settings_of config.now) reply.status reply.text) }
-    ensures want { IfErr result (λ e. e ≡ Want) }
+    ensures want { OnlyWant result }
 {
     match compute(alloc, &config.roles, config.redundancy) {
         Ok(certified) => {
@@ -60,7 +60,7 @@ fn lay_out(alloc: Global, config: &Config) -> Result<Reply, Memory>
 // What the command answers to a text.
 fn answer_text(alloc: Global, text: &str) -> Result<Reply, Memory>
     ensures stated { IfOk result (λ reply. IsUtf8 text.now → IsAnswer text.now reply.status reply.text) }
-    ensures want { IfErr result (λ e. e ≡ Want) }
+    ensures want { OnlyWant result }
 {
     match read_config(alloc, text, GREATEST_NODE) {
         Ok(config) => lay_out(alloc, &config),
@@ -73,7 +73,7 @@ fn answer_text(alloc: Global, text: &str) -> Result<Reply, Memory>
 /// What the command answers to an input: the layout of the nodes that it says, or why there is none.
 pub fn answer(alloc: Global, input: &[u8]) -> Result<Reply, Memory>
     ensures stated { IfOk result (λ reply. IsAnswer input.now reply.status reply.text) }
-    ensures want { IfErr result (λ e. e ≡ Want) }
+    ensures want { OnlyWant result }
 {
     match from_utf8(input) {
         Ok(text) => answer_text(alloc, text),

@@ -8,11 +8,11 @@ use Rattle.std.proofs.lemmas.List.FromFn.{length-enumerate_from}
 use Rattle.std.proofs.lemmas.List.Elements.{All-cons, All-append, All-map, All-filter}
 use Rattle.layout_roles.specs.declared.role.Role.{Role}
 use Rattle.layout_roles.specs.Zones.{nodes_ascend, storage_nodes, zone_names, is_in_zone, nodes_in, zones}
-use Rattle.layout_flow.specs.Network.{Edge, edge, zone_edges, partition_edges, node_edge, network_of, partition_vertices, vertices_of}
-use Rattle.layout_flow.specs.Cuts.{Side, IsCut, leaves, weight}
+use Rattle.layout_roles.specs.Network.{Edge, edge, zone_edges, partition_edges, node_edge, network_of, partition_vertices, vertices_of}
+use Rattle.layout_roles.specs.Cuts.{Side, IsCut, leaves, weight}
 use Rattle.layout_flow.specs.Flows.{same_vertex, Flow, carried, out_of, into, IsFlow, value}
-use Rattle.layout_flow.specs.declared.vertex.Vertex.{Vertex}
-use Rattle.layout_flow.specs.declared.vertex.Vertex.TheVariants.{Source, Up, Down, Zone, Node, Sink}
+use Rattle.layout_roles.specs.declared.vertex.Vertex.{Vertex}
+use Rattle.layout_roles.specs.declared.vertex.Vertex.TheVariants.{Source, Up, Down, Zone, Node, Sink}
 use Rattle.layout_flow.proofs.Sums.{yes, no, sum_by-plus, sum_by-agree, sum_by-below, sum_by-swap, sum_by-none, sum_by-map, sum_by-flat_map}
 use Rattle.layout_flow.proofs.Zones.{count-cons, count_times, count_at, stored_once}
 use Rattle.layout_flow.proofs.Printed.{all_parts, zone_at}

@@ -8,10 +8,10 @@ use Rattle.std.proofs.lemmas.List.Elements.{All-head, All-tail, All-cons, All-ap
 use Rattle.layout_roles.specs.declared.role.Role.{Role}
 use Rattle.layout_roles.specs.Zones.{Name, storage_nodes, zone_names, nodes_in, zones}
 use Rattle.layout_roles.specs.Fits.{NodeSet, has_node, load, room}
-use Rattle.layout_flow.specs.Network.{Edge, edge, zone_edges, partition_edges, node_edge, network_of}
+use Rattle.layout_roles.specs.Network.{Edge, edge, zone_edges, partition_edges, node_edge, network_of}
 use Rattle.layout_flow.specs.Flows.{same_vertex, Flow, carried, out_of, into, IsFlow, value}
-use Rattle.layout_flow.specs.declared.vertex.Vertex.{Vertex}
-use Rattle.layout_flow.specs.declared.vertex.Vertex.TheVariants.{Source, Up, Down, Zone, Node, Sink}
+use Rattle.layout_roles.specs.declared.vertex.Vertex.{Vertex}
+use Rattle.layout_roles.specs.declared.vertex.Vertex.TheVariants.{Source, Up, Down, Zone, Node, Sink}
 use Rattle.layout_flow.proofs.Sums.{sum_by-agree, sum_by-swap, sum_by-none, sum_by-enumerate}
 use Rattle.layout_flow.proofs.Zones.{sum_by_zones}
 use Rattle.layout_flow.proofs.Lightest.{is_one, is_two, is_three, one_to_three}

@@ -11,11 +11,11 @@ use Rattle.std.proofs.lemmas.List.Elements.{All-head, All-tail, All-cons, All-ni
 use Rattle.layout_roles.specs.declared.role.Role.{Role}
 use Rattle.layout_roles.specs.Zones.{Name, ascend_from, nodes_ascend, is_storage, storage_nodes, is_in_zone, nodes_in, zones}
 use Rattle.layout_roles.specs.Fits.{NodeSet, has_node, load}
-use Rattle.layout_flow.specs.Network.{network_of}
+use Rattle.layout_roles.specs.Network.{network_of}
 use Rattle.layout_roles.specs.declared.role.Kind.TheVariants.{Gateway}
-use Rattle.layout_flow.specs.Cuts.{Side, leaves, weight}
+use Rattle.layout_roles.specs.Cuts.{Side, leaves, weight}
 use Rattle.layout_flow.specs.Flows.{same_vertex, Flow, IsFlow, value}
-use Rattle.layout_flow.specs.declared.vertex.Vertex.TheVariants.{Source}
+use Rattle.layout_roles.specs.declared.vertex.Vertex.TheVariants.{Source}
 use Rattle.layout_flow.proofs.Bounds.{part_sum, sum_of_edges}
 use Rattle.layout_flow.specs.Totals.{copies_in}
 use Rattle.layout_flow.specs.Closed.{copies_for, all_copies, in_order, column, columns}

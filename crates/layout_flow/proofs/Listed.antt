@@ -11,11 +11,11 @@ use Rattle.std.proofs.lemmas.List.FromFn.{length-enumerate_from, get_or-enumerat
 use Rattle.std.proofs.lemmas.List.Elements.{filter_more, filter-append, All-head, All-tail}
 use Rattle.layout_roles.specs.declared.role.Role.{Role}
 use Rattle.layout_roles.specs.Zones.{Name, name_of, ascend_from, nodes_ascend, is_storage, storage_nodes, put_in_order, same_name, with_name, zone_names, nodes_in, zones}
-use Rattle.layout_flow.specs.Network.{vertices_of, partition_vertices}
+use Rattle.layout_roles.specs.Network.{vertices_of, partition_vertices}
 use Rattle.layout_flow.specs.Closed.{zone_is_held, held, held_zones, held_in, held_in_all, held_list}
 use Rattle.layout_flow.proofs.Printed.{all_parts, zone_at, held_here}
-use Rattle.layout_flow.specs.declared.vertex.Vertex.{Vertex}
-use Rattle.layout_flow.specs.declared.vertex.Vertex.TheVariants.{Source, Up, Down, Zone, Node, Sink}
+use Rattle.layout_roles.specs.declared.vertex.Vertex.{Vertex}
+use Rattle.layout_roles.specs.declared.vertex.Vertex.TheVariants.{Source, Up, Down, Zone, Node, Sink}
 
 range_more : (a n : ℕ) → range_with_len a (suc n) ≡ range_with_len a n ++ (a + n) ∷ []
 range_more a zero = let e : a ≡ a + 0 = omega arith in ap (λ m. m ∷ []) e

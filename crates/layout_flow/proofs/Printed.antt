@@ -9,12 +9,12 @@ use Rattle.std.proofs.lemmas.List.Sums.{get_or-le-sum_by}
 use Rattle.layout_roles.specs.declared.role.Role.{Role}
 use Rattle.layout_roles.specs.Zones.{nodes_ascend, zones}
 use Rattle.layout_roles.specs.Fits.{room}
-use Rattle.layout_flow.specs.Network.{network_of}
-use Rattle.layout_flow.specs.Cuts.{Side, IsCut, weight, IsPrinted}
+use Rattle.layout_roles.specs.Network.{network_of}
+use Rattle.layout_roles.specs.Cuts.{Side, IsCut, weight, IsPrinted}
 use Rattle.layout_flow.specs.Totals.{copies_in}
 use Rattle.layout_flow.specs.Closed.{copies_for, down_is_held, to_zone, zone_is_held, node_is_held, held, printed_side}
-use Rattle.layout_flow.specs.declared.vertex.Vertex.{Vertex}
-use Rattle.layout_flow.specs.declared.vertex.Vertex.TheVariants.{Source, Up, Down, Zone, Node, Sink}
+use Rattle.layout_roles.specs.declared.vertex.Vertex.{Vertex}
+use Rattle.layout_roles.specs.declared.vertex.Vertex.TheVariants.{Source, Up, Down, Zone, Node, Sink}
 use Rattle.layout_flow.proofs.Sums.{sum_by-agree, sum_by-below}
 use Rattle.layout_flow.proofs.Lightest.{mul_below, kept_out, into_zone, lightest, lightest_holds}
 use Rattle.layout_flow.proofs.Zones.{count_at, count_some, any_from_count, any_of_one, zones_once}

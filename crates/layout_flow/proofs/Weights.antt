@@ -8,10 +8,10 @@ use Rattle.std.proofs.lemmas.List.FromFn.{length-range_with_len}
 use Rattle.layout_roles.specs.declared.role.Role.{Role}
 use Rattle.layout_roles.specs.Zones.{storage_nodes, zones}
 use Rattle.layout_roles.specs.Fits.{room}
-use Rattle.layout_flow.specs.Network.{Edge, edge, zone_edges, partition_edges, node_edge, network_of}
-use Rattle.layout_flow.specs.Cuts.{Side, IsCut, leaves, weight}
+use Rattle.layout_roles.specs.Network.{Edge, edge, zone_edges, partition_edges, node_edge, network_of}
+use Rattle.layout_roles.specs.Cuts.{Side, IsCut, leaves, weight}
 use Rattle.layout_flow.specs.Totals.{total, copies_in}
-use Rattle.layout_flow.specs.declared.vertex.Vertex.TheVariants.{Source, Up, Down, Zone, Node, Sink}
+use Rattle.layout_roles.specs.declared.vertex.Vertex.TheVariants.{Source, Up, Down, Zone, Node, Sink}
 use Rattle.layout_flow.proofs.Sums.{yes, no, sum_by-plus, sum_by-agree, sum_by-below, sum_by-tight, sum_by-none, sum_by-scale, sum_by-map, sum_by-flat_map, sum_by-enumerate, sum_by-constant}
 use Rattle.layout_flow.proofs.Lightest.{kept_out, into_zone, lightest}
 use Rattle.layout_flow.proofs.Zones.{sum_by_zones}

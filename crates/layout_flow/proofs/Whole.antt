@@ -5,8 +5,8 @@ use Rattle.std.proofs.lemmas.List.Sums.{list_all-from_AllPass, AllPass-from_list
 use Rattle.layout_roles.specs.declared.role.Role.{Role}
 use Rattle.layout_roles.specs.Zones.{nodes_ascend, is_numbered, set_ascends, zones}
 use Rattle.layout_roles.specs.Fits.{NodeSet, partitions, FitsAll, Fits, SomeFits, NoneFits}
-use Rattle.layout_flow.specs.Network.{network_of, network, vertices_of, vertices}
-use Rattle.layout_flow.specs.Cuts.{Side, IsCut, weight, IsPrinted}
+use Rattle.layout_roles.specs.Network.{network_of, network, vertices_of, vertices}
+use Rattle.layout_roles.specs.Cuts.{Side, IsCut, weight, IsPrinted}
 use Rattle.layout_flow.specs.Closed.{copies_for, down_is_held, to_zone, zone_copies, columns, printed_side, held_list}
 use Rattle.layout_flow.proofs.Printed.{Exact, every_weight, printed_exact}
 use Rattle.layout_flow.specs.Flows.{Flow, IsFlow, IsGreatestFlow, value}

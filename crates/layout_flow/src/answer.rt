@@ -1,6 +1,5 @@
 //! What a greatest flow shows.
-use crate::cut::Cut;
-use layout_roles::Assignment;
+use layout_roles::{Assignment, Cut};
 
 /// What a greatest flow shows.
 #[derive(Debug, Drop)]

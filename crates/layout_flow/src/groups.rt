@@ -1,7 +1,7 @@
 //! Storage nodes, zone by zone in order of names.
-ghost use Rattle.std.specs.Prelude.{◌≡◌, ◌≤◌, length, IfOk, IfErr, OnOk};
+ghost use Rattle.std.specs.Prelude.{◌≡◌, ◌≤◌, length, IfOk, OnOk};
 ghost use Rattle.std.specs.List.{insert, list_any};
-ghost use Rattle.crdt_core.specs.declared.memory.Memory.TheVariants.{Want};
+ghost use Rattle.crdt_core.specs.Outcomes.{OnlyWant};
 ghost use Rattle.layout_roles.specs.Zones.{same_name, put_in_order, with_name, zone_names, nodes_in, zones};
 
 use crdt_core::{Bytes, List, Memory, Value};
@@ -26,7 +26,7 @@ fn place_of(names: &[Bytes], name: &Bytes) -> usize
 // The names of the zones that have a storage node.
 fn names_of(alloc: Global, roles: &[Role]) -> Result<List<Bytes>, Memory>
     ensures names { IfOk result (λ names. names ≡ zone_names roles.now) }
-    ensures want { IfErr result (λ e. e ≡ Want) }
+    ensures want { OnlyWant result }
 {
     let mut names: List<Bytes> = List::new(alloc);
     for role in roles {
@@ -47,7 +47,7 @@ fn has_name(names: &[Bytes], name: &Bytes) -> bool
 // Puts a name among names in order, where it isn't there yet.
 fn put_name(names: &mut List<Bytes>, name: &Bytes) -> Result<(), Memory>
     ensures ok { OnOk result (names.new ≡ with_name names.old name.now) }
-    ensures want { IfErr result (λ e. e ≡ Want) }
+    ensures want { OnlyWant result }
 {
     if !has_name(names.as_slice(), name) {
         let place = place_of(names.as_slice(), name);
@@ -59,7 +59,7 @@ fn put_name(names: &mut List<Bytes>, name: &Bytes) -> Result<(), Memory>
 // The storage nodes of a zone.
 fn nodes_of(alloc: Global, roles: &[Role], name: &Bytes) -> Result<List<Role>, Memory>
     ensures nodes { IfOk result (λ nodes. nodes ≡ nodes_in roles.now name.now) }
-    ensures want { IfErr result (λ e. e ≡ Want) }
+    ensures want { OnlyWant result }
 {
     let mut nodes = List::new(alloc);
     for role in roles {
@@ -73,7 +73,7 @@ fn nodes_of(alloc: Global, roles: &[Role], name: &Bytes) -> Result<List<Role>, M
 /// The storage nodes of each zone, zones in order of names and nodes in order of numbers.
 pub fn by_zone(alloc: Global, roles: &[Role]) -> Result<List<List<Role>>, Memory>
     ensures groups { IfOk result (λ groups. groups ≡ zones roles.now) }
-    ensures want { IfErr result (λ e. e ≡ Want) }
+    ensures want { OnlyWant result }
 {
     let names = names_of(alloc, roles)?;
     let names = names.as_slice();

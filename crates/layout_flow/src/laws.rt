@@ -3,9 +3,9 @@ ghost use Rattle.std.specs.Prelude.{ℕ, List, ◌≡◌, ◌<◌, ◌≤◌, �
 ghost use Rattle.layout_roles.specs.declared.role.Role.{Role};
 ghost use Rattle.layout_roles.specs.Zones.{nodes_ascend};
 ghost use Rattle.layout_roles.specs.Fits.{SomeFits, NoneFits};
-ghost use Rattle.layout_flow.specs.Network.{network};
+ghost use Rattle.layout_roles.specs.Network.{network};
 ghost use Rattle.layout_flow.specs.Flows.{Flow, IsFlow, IsGreatestFlow, value};
-ghost use Rattle.layout_flow.specs.Cuts.{Side, IsCut, IsPrinted, weight};
+ghost use Rattle.layout_roles.specs.Cuts.{Side, IsCut, IsPrinted, weight};
 
 /// A cut that weighs less than three copies of each partition shows that no assignment fits.
 pub fn light_cuts()

@@ -2,19 +2,14 @@
 #![tactic(auto)]
 
 mod answer;
-mod cut;
 mod groups;
 mod laws;
 mod network;
 mod rows;
 mod side;
-#[cfg(test)]
-mod tests;
 mod totals;
-mod vertex;
 
 pub use answer::FlowOrCut;
-pub use cut::Cut;
 pub use laws::{flows, light_cuts};
+pub use layout_roles::{Cut, Vertex};
 pub use network::Network;
-pub use vertex::Vertex;

@@ -1,16 +1,15 @@
 //! The flow network of roles, a redundancy and a partition size.
-ghost use Rattle.std.specs.Prelude.{◌≡◌, ◌<◌, ◌≤◌, ◌↔◌, ◌-◌, min, IsTrue, IfOk, IfErr};
-ghost use Rattle.crdt_core.specs.declared.memory.Memory.TheVariants.{Want};
+ghost use Rattle.std.specs.Prelude.{◌≡◌, ◌<◌, ◌≤◌, ◌↔◌, ◌-◌, min, IsTrue, IfOk};
+ghost use Rattle.crdt_core.specs.Outcomes.{OnlyWant};
 ghost use Rattle.layout_roles.specs.Zones.{zones};
 
 use crate::answer::FlowOrCut;
-use crate::cut::Cut;
 use crate::groups::by_zone;
 use crate::rows::{copies_in_order, sets_of};
 use crate::side::side_of;
 use crate::totals::{ALL_COPIES, copies_of_all};
 use crdt_core::{List, Memory};
-use layout_roles::{Assignment, PARTITIONS, Role, Roles};
+use layout_roles::{Assignment, Cut, PARTITIONS, Role, Roles};
 use std::alloc::Global;
 
 /// The flow network of roles for a redundancy, 1 to 3, and a partition size in bytes.
@@ -30,7 +29,8 @@ pub struct Network {
 
 impl Network {
     ghost use Rattle.layout_roles.specs.Fits.{Fits, SomeFits, NoneFits};
-    ghost use Rattle.layout_flow.specs.Answers.{IsPrintedCut, IfFlow, IfCut};
+    ghost use Rattle.layout_roles.specs.Certificates.{IsPrintedCut};
+    ghost use Rattle.layout_flow.specs.Answers.{IfFlow, IfCut};
     ghost use Rattle.layout_flow.specs.Closed.{copies_for, down_is_held};
 
     pub fn new(alloc: Global, roles: &Roles, r: u8, size: u64) -> Result<Network, Memory>
@@ -40,7 +40,7 @@ impl Network {
         ensures roles { IfOk result (λ network. network.roles ≡ roles.now) }
         ensures redundancy { IfOk result (λ network. network.r ≡ r) }
         ensures size { IfOk result (λ network. network.size ≡ size) }
-        ensures want { IfErr result (λ e. e ≡ Want) }
+        ensures want { OnlyWant result }
     {
         let groups = by_zone(alloc, roles.list.as_slice())?;
         Ok(Network {
@@ -90,7 +90,7 @@ impl Network {
         ensures cut { IfOk result (λ answer. IfCut answer (λ cut. IsPrintedCut self.now.roles.list self.now.r self.now.size cut)) }
         ensures light { IfOk result (λ answer. IfCut answer (λ cut. cut.weight < 768)) }
         ensures none { IfOk result (λ answer. IfCut answer (λ _. NoneFits self.now.roles.list self.now.r self.now.size)) }
-        ensures want { IfErr result (λ e. e ≡ Want) }
+        ensures want { OnlyWant result }
     {
         if self.has_room() {
             Ok(FlowOrCut::Flow(self.flow()?))
@@ -103,7 +103,7 @@ impl Network {
     fn flow(&self) -> Result<Assignment, Memory>
         requires { 768 ≤ copies_for 256 self.now.roles.list self.now.size (4 - self.now.r) }
         ensures fits { IfOk result (λ assignment. Fits self.now.roles.list self.now.r self.now.size assignment.sets) }
-        ensures want { IfErr result (λ e. e ≡ Want) }
+        ensures want { OnlyWant result }
     {
         let alloc = self.groups.allocator();
         let copies = copies_in_order(alloc, self.groups.as_slice(), self.size, 4 - self.r)?;
@@ -125,7 +125,7 @@ impl Network {
         requires { copies_for 256 self.now.roles.list self.now.size (4 - self.now.r) < 768 }
         ensures printed { IfOk result (λ cut. IsPrintedCut self.now.roles.list self.now.r self.now.size cut) }
         ensures light { IfOk result (λ cut. cut.weight < 768) }
-        ensures want { IfErr result (λ e. e ≡ Want) }
+        ensures want { OnlyWant result }
     {
         let down = self.holds_down();
         let each = if down { 4 - self.r } else { 1 };

@@ -1,7 +1,7 @@
 //! An assignment from copies that are laid out in three rows.
-ghost use Rattle.std.specs.Prelude.{◌≡◌, ◌<◌, ◌≤◌, ◌*◌, ◌++◌, take, length, IfOk, IfErr, OnOk};
+ghost use Rattle.std.specs.Prelude.{◌≡◌, ◌<◌, ◌≤◌, ◌*◌, ◌++◌, take, length, IfOk, OnOk};
 ghost use Rattle.std.specs.List.{flat_map};
-ghost use Rattle.crdt_core.specs.declared.memory.Memory.TheVariants.{Want};
+ghost use Rattle.crdt_core.specs.Outcomes.{OnlyWant};
 ghost use Rattle.layout_flow.specs.Closed.{copies_of, zone_copies, in_order, columns};
 
 use crate::totals::ALL_COPIES;
@@ -13,7 +13,7 @@ use std::alloc::Global;
 fn add_copies(copies: &mut List<u8>, role: &Role, size: u64) -> Result<(), Memory>
     requires { 0 < size }
     ensures ok { OnOk result (copies.new ≡ copies.old ++ copies_of 256 size role.now) }
-    ensures want { IfErr result (λ e. e ≡ Want) }
+    ensures want { OnlyWant result }
 {
     let room = role.room(size).min(u64::from(PARTITIONS));
     for _ in 0..room {
@@ -26,7 +26,7 @@ fn add_copies(copies: &mut List<u8>, role: &Role, size: u64) -> Result<(), Memor
 fn copies_of_zone(alloc: Global, zone: &[Role], size: u64, each: u8) -> Result<List<u8>, Memory>
     requires { 0 < size }
     ensures copies { IfOk result (λ copies. copies ≡ zone_copies 256 size each zone.now) }
-    ensures want { IfErr result (λ e. e ≡ Want) }
+    ensures want { OnlyWant result }
 {
     let mut copies = List::new(alloc);
     for role in zone {
@@ -46,7 +46,7 @@ pub fn copies_in_order(
 ) -> Result<List<u8>, Memory>
     requires { 0 < size }
     ensures copies { IfOk result (λ copies. copies ≡ take 768 (flat_map (zone_copies 256 size each) zones.now)) }
-    ensures want { IfErr result (λ e. e ≡ Want) }
+    ensures want { OnlyWant result }
 {
     let mut copies = List::new(alloc);
     for zone in zones {
@@ -79,7 +79,7 @@ fn sorted(first: u8, second: u8, third: u8) -> [u8; 3]
 pub fn sets_of(alloc: Global, copies: &[u8], count: usize) -> Result<List<[u8; 3]>, Memory>
     requires { 3 * count ≤ length copies.now }
     ensures sets { IfOk result (λ sets. sets ≡ columns count copies.now) }
-    ensures want { IfErr result (λ e. e ≡ Want) }
+    ensures want { OnlyWant result }
 {
     let mut sets = List::new(alloc);
     for p in 0..count {

@@ -1,14 +1,13 @@
 //! The source's side of the printed cut.
-ghost use Rattle.std.specs.Prelude.{◌≡◌, ◌<◌, ◌≤◌, ◌*◌, ◌++◌, ◌&&◌, ◌==◌, nat_lt, length, IfOk, IfErr, OnOk};
+ghost use Rattle.std.specs.Prelude.{◌≡◌, ◌<◌, ◌≤◌, ◌*◌, ◌++◌, ◌&&◌, ◌==◌, nat_lt, length, IfOk, OnOk};
 ghost use Rattle.std.specs.List.{list_any};
-ghost use Rattle.crdt_core.specs.declared.memory.Memory.TheVariants.{Want};
+ghost use Rattle.crdt_core.specs.Outcomes.{OnlyWant};
 ghost use Rattle.layout_roles.specs.Fits.{room};
 ghost use Rattle.layout_flow.specs.Closed.{zone_is_held, node_is_held, held_zones, held_in, held_in_all, held_nodes, held_list};
 
 use crate::totals::copies_of_zone;
-use crate::vertex::Vertex;
 use crdt_core::{List, Memory};
-use layout_roles::{PARTITIONS, Role};
+use layout_roles::{PARTITIONS, Role, Vertex};
 use std::alloc::Global;
 
 // Whether keeping a zone out of the side would cost strictly more, where so many copies of each partition
@@ -55,7 +54,7 @@ fn zones_held(alloc: Global, zones: &[List<Role>], size: u64, each: u8) -> Resul
     requires few { each ≤ 3 }
     requires numbered { length zones.now ≤ 256 }
     ensures numbers { IfOk result (λ numbers. numbers ≡ held_zones 256 size each zones.now) }
-    ensures want { IfErr result (λ e. e ≡ Want) }
+    ensures want { OnlyWant result }
 {
     let mut numbers = List::new(alloc);
     for (i, zone) in zones.iter().enumerate() {
@@ -69,7 +68,7 @@ fn zones_held(alloc: Global, zones: &[List<Role>], size: u64, each: u8) -> Resul
 // Adds what the side has of a partition.
 fn add_partition(side: &mut List<Vertex>, down: bool, zones: &[u8], p: u8) -> Result<(), Memory>
     ensures ok { OnOk result (side.new ≡ side.old ++ held_in down zones.now p) }
-    ensures want { IfErr result (λ e. e ≡ Want) }
+    ensures want { OnlyWant result }
 {
     side.push(Vertex::Up(p))?;
     if down {
@@ -90,7 +89,7 @@ fn add_partitions(
 ) -> Result<(), Memory>
     requires { count ≤ 256 }
     ensures ok { OnOk result (side.new ≡ side.old ++ held_in_all count down zones.now) }
-    ensures want { IfErr result (λ e. e ≡ Want) }
+    ensures want { OnlyWant result }
 {
     for p in 0..count {
         add_partition(side, down, zones, p as u8)?;
@@ -109,7 +108,7 @@ fn add_nodes(
     requires some { 0 < size }
     requires few { each ≤ 3 }
     ensures ok { OnOk result (side.new ≡ side.old ++ held_nodes 256 size each zones.now roles.now) }
-    ensures want { IfErr result (λ e. e ≡ Want) }
+    ensures want { OnlyWant result }
 {
     for role in roles {
         if role.is_storage() && holds_node(zones, size, each, role.node) {
@@ -133,7 +132,7 @@ pub fn side_of(
     requires few { each ≤ 3 }
     requires numbered { length zones.now ≤ 256 }
     ensures side { IfOk result (λ side. side ≡ held_list 256 size each down zones.now roles.now) }
-    ensures want { IfErr result (λ e. e ≡ Want) }
+    ensures want { OnlyWant result }
 {
     let numbers = zones_held(alloc, zones, size, each)?;
     let mut side = List::new(alloc);

@@ -6,8 +6,9 @@ use Rattle.std.proofs.lemmas.List.Sums.{sum_by-cons}
 use Rattle.crdt_core.specs.EntryLaws.{and_parts, and_both}
 use Rattle.layout_roles.specs.declared.layout.Layout.{Layout}
 use Rattle.view_model.specs.View.{follow, is_gapless, last_version, from}
-use Rattle.view_model.specs.Gapless.{lt_leb, followed, led}
-use Rattle.layout_history.specs.Known.{reading, has_members, ascends}
+use Rattle.view_model.proofs.Gapless.{lt_leb, followed, led}
+use Rattle.view_model.specs.Layouts.{reading}
+use Rattle.layout_history.specs.Known.{has_members, ascends}
 
 le_ltb : (a b : ℕ) → b ≤ a → nat_lt a b ≡ false
 le_ltb a b h = lt_leb (suc a) b (omega arith)

@@ -7,7 +7,7 @@ use Rattle.layout_trackers.specs.declared.trackers.Trackers.{Trackers}
 use Rattle.layout_trackers.specs.declared.which.Which.TheVariants.{Sync}
 use Rattle.layout_trackers.specs.Trackers.{counts}
 use Rattle.view_model.specs.View.{View, two_have, last_version, oldest, layout_at, have_synced, is_established}
-use Rattle.layout_history.specs.Known.{reading}
+use Rattle.view_model.specs.Layouts.{reading}
 
 pub same_view : (xs ys : List Layout) (s t : Trackers) → xs ≡ ys → s ≡ t → ◌≡◌ {A = View Layout} (record { layouts = xs; trackers = s }) (record { layouts = ys; trackers = t })
 same_view xs ys s t e f = λ i. record { layouts = e i; trackers = f i }

@@ -4,16 +4,8 @@ use Rattle.std.specs.List.{find}
 use Rattle.layout_roles.specs.declared.layout.Layout.{Layout}
 use Rattle.layout_roles.specs.declared.role.Role.{Role}
 use Rattle.layout_roles.specs.declared.role.Kind.{Kind}
-use Rattle.view_model.specs.View.{Reading}
 
--- the members of a layout are the nodes that have a role in it
-abbrev pub reading : Reading Layout
-reading = record {
-  version = λ l. l.version;
-  members = λ l. map (λ role. role.node) l.roles.list;
-  sets = λ l. l.sets.sets;
-}
-
+-- there is a role at all
 abbrev pub is_any : List Role → Bool
 is_any [] = false
 is_any (role ∷ roles) = true
@@ -22,6 +14,7 @@ is_any (role ∷ roles) = true
 abbrev pub has_members : Layout → Bool
 has_members l = is_any l.roles.list
 
+-- the kind of the role that a node has in a layout, if it has one
 abbrev pub kind_among : List Role → ℕ → Option Kind
 kind_among roles node = option_map (λ role. role.kind) (find (λ role. role.node == node) roles)
 

@@ -1,9 +1,10 @@
 //! Lists of layouts in ascending order of versions.
-ghost use Rattle.std.specs.Prelude.{◌≡◌, suc, nat_lt, IsTrue, IfOk, IfErr};
+ghost use Rattle.std.specs.Prelude.{◌≡◌, suc, nat_lt, IsTrue, IfOk};
 ghost use Rattle.std.specs.List.{count_by};
-ghost use Rattle.crdt_core.specs.declared.memory.Memory.TheVariants.{Want};
+ghost use Rattle.crdt_core.specs.Outcomes.{OnlyWant};
 ghost use Rattle.view_model.specs.View.{from};
-ghost use Rattle.layout_history.specs.Known.{reading, ascends, kind_among};
+ghost use Rattle.view_model.specs.Layouts.{reading};
+ghost use Rattle.layout_history.specs.Known.{ascends, kind_among};
 
 use crdt_core::{List, Memory};
 use layout_roles::{Kind, Layout, Role};
@@ -11,7 +12,7 @@ use std::alloc::Global;
 
 pub fn copies_of(alloc: Global, layouts: &[Layout]) -> Result<List<Layout>, Memory>
     ensures same { IfOk result (λ copies. copies ≡ layouts.now) }
-    ensures want { IfErr result (λ e. e ≡ Want) }
+    ensures want { OnlyWant result }
 {
     let mut copies = List::new(alloc);
     for layout in layouts {
@@ -23,7 +24,7 @@ pub fn copies_of(alloc: Global, layouts: &[Layout]) -> Result<List<Layout>, Memo
 /// Copies of the layouts whose versions are above `version`.
 pub fn copies_above(alloc: Global, layouts: &[Layout], version: u32) -> Result<List<Layout>, Memory>
     ensures copied { IfOk result (λ copies. copies ≡ from reading (suc version) layouts.now) }
-    ensures want { IfErr result (λ e. e ≡ Want) }
+    ensures want { OnlyWant result }
 {
     let mut copies = List::new(alloc);
     for layout in layouts {

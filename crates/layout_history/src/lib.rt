@@ -16,8 +16,6 @@
 
 mod layouts;
 mod synced;
-#[cfg(test)]
-mod tests;
 mod view;
 
 pub use view::View;

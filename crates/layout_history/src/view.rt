@@ -1,10 +1,11 @@
 //! A node's view.
-ghost use Rattle.std.specs.Prelude.{◌≡◌, ◌+◌, ℕ, [], None, IsTrue, IfOk, IfErr, OnOk, OnErr, option_copied, slice_get};
+ghost use Rattle.std.specs.Prelude.{◌≡◌, ◌+◌, ℕ, [], None, IsTrue, IfOk, OnOk, OnErr, option_copied, slice_get};
 ghost use Rattle.std.specs.List.{list_all};
 ghost use Rattle.std.specs.Option.{option_and_then};
-ghost use Rattle.crdt_core.specs.declared.memory.Memory.TheVariants.{Want};
+ghost use Rattle.crdt_core.specs.Outcomes.{OnlyWant};
 ghost use Rattle.view_model.specs.View.{is_gapless};
-ghost use Rattle.layout_history.specs.Known.{reading, has_members};
+ghost use Rattle.view_model.specs.Layouts.{reading};
+ghost use Rattle.layout_history.specs.Known.{has_members};
 
 use crate::layouts::{copies_above, copies_of, drop_below, kind_in};
 use crate::synced::{all_synced, least_in};
@@ -161,7 +162,7 @@ impl View {
 
     pub fn copy(&self) -> Result<View, Memory>
         ensures same { IfOk result (λ view. view ≡ self.now) }
-        ensures want { IfErr result (λ e. e ≡ Want) }
+        ensures want { OnlyWant result }
     {
         Ok(View {
             layouts: copies_of(self.layouts.allocator(), self.layouts.as_slice())?,
@@ -173,7 +174,7 @@ impl View {
     pub fn merge(&mut self, other: &View) -> Result<(), Memory>
         ensures merged { OnOk result (known self.new ≡ merged reading (known self.old) (known other.now)) }
         ensures unchanged { OnErr result (self.new ≡ self.old) }
-        ensures want { IfErr result (λ e. e ≡ Want) }
+        ensures want { OnlyWant result }
     {
         let oldest = self.oldest().max(other.oldest());
         let alloc = self.layouts.allocator();
@@ -190,7 +191,7 @@ impl View {
     pub fn raise(&mut self, which: Which, node: u8, v: u32) -> Result<(), Memory>
         ensures raised { OnOk result (known self.new ≡ with_entry reading which node v (known self.old)) }
         ensures unchanged { OnErr result (self.new ≡ self.old) }
-        ensures want { IfErr result (λ e. e ≡ Want) }
+        ensures want { OnlyWant result }
     {
         self.trackers.set_own(which, node, v)
     }
@@ -212,7 +213,7 @@ impl View {
         requires inhabited { IsTrue (has_members layout) }
         ensures appended { OnOk result (known self.new ≡ appended reading (known self.old) layout) }
         ensures unchanged { OnErr result (self.new ≡ self.old) }
-        ensures want { IfErr result (λ e. e ≡ Want) }
+        ensures want { OnlyWant result }
     {
         self.layouts.push(layout)?;
         Ok(())

@@ -1,2 +1,7 @@
 pub mod Fits
 pub mod Zones
+pub mod Network
+pub mod Cuts
+pub mod Certificates
+pub mod Runs
+pub mod Text

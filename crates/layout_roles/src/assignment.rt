@@ -1,6 +1,6 @@
 //! Which nodes keep each partition.
-ghost use Rattle.std.specs.Prelude.{◌≡◌, length, slice_get, Some, IsTrue, IfOk, IfErr};
-ghost use Rattle.crdt_core.specs.declared.memory.Memory.TheVariants.{Want};
+ghost use Rattle.std.specs.Prelude.{◌≡◌, length, slice_get, Some, IsTrue, IfOk};
+ghost use Rattle.crdt_core.specs.Outcomes.{OnlyWant};
 ghost use Rattle.std.specs.List.{list_all};
 ghost use Rattle.layout_roles.specs.Zones.{set_ascends};
 
@@ -27,7 +27,7 @@ impl Assignment {
 
     pub fn copy(&self) -> Result<Assignment, Memory>
         ensures same { IfOk result (λ assignment. assignment ≡ self.now) }
-        ensures want { IfErr result (λ e. e ≡ Want) }
+        ensures want { OnlyWant result }
     {
         let sets = Vec::from_slice(self.sets.allocator(), self.sets.as_slice())?;
         Ok(Assignment {

@@ -1,6 +1,6 @@
 //! A layout version.
-ghost use Rattle.std.specs.Prelude.{◌≡◌, IfOk, IfErr};
-ghost use Rattle.crdt_core.specs.declared.memory.Memory.TheVariants.{Want};
+ghost use Rattle.std.specs.Prelude.{◌≡◌, IfOk};
+ghost use Rattle.crdt_core.specs.Outcomes.{OnlyWant};
 
 use crate::assignment::Assignment;
 use crate::roles::Roles;
@@ -21,7 +21,7 @@ pub struct Layout {
 impl Layout {
     pub fn copy(&self) -> Result<Layout, Memory>
         ensures same { IfOk result (λ layout. layout ≡ self.now) }
-        ensures want { IfErr result (λ e. e ≡ Want) }
+        ensures want { OnlyWant result }
     {
         Ok(Layout {
             version: self.version,

@@ -2,17 +2,21 @@
 #![tactic(auto)]
 
 mod assignment;
+mod certified;
+mod cut;
 mod laws;
 mod layout;
 mod redundancy;
 mod role;
 mod roles;
-#[cfg(test)]
-mod tests;
+mod vertex;
 
 pub use assignment::{Assignment, PARTITIONS};
+pub use certified::Certified;
+pub use cut::Cut;
 pub use laws::smaller_sizes;
 pub use layout::Layout;
 pub use redundancy::Redundancy;
 pub use role::{Kind, Role, Zone};
 pub use roles::Roles;
+pub use vertex::Vertex;

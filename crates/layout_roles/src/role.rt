@@ -1,6 +1,6 @@
 //! What one node does in a layout.
-ghost use Rattle.std.specs.Prelude.{◌≡◌, ◌<◌, IfOk, IfErr};
-ghost use Rattle.crdt_core.specs.declared.memory.Memory.TheVariants.{Want};
+ghost use Rattle.std.specs.Prelude.{◌≡◌, ◌<◌, IfOk};
+ghost use Rattle.crdt_core.specs.Outcomes.{OnlyWant};
 
 use crdt_core::{Bytes, Memory, Value};
 
@@ -11,7 +11,7 @@ pub struct Zone(pub Bytes);
 impl Zone {
     pub fn copy(&self) -> Result<Zone, Memory>
         ensures same { IfOk result (λ zone. zone ≡ self.now) }
-        ensures want { IfErr result (λ e. e ≡ Want) }
+        ensures want { OnlyWant result }
     {
         Ok(Zone(self.0.copy()?))
     }
@@ -64,7 +64,7 @@ impl Role {
 
     pub fn copy(&self) -> Result<Role, Memory>
         ensures same { IfOk result (λ role. role ≡ self.now) }
-        ensures want { IfErr result (λ e. e ≡ Want) }
+        ensures want { OnlyWant result }
     {
         Ok(Role {
             node: self.node,

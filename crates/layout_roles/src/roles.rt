@@ -1,7 +1,7 @@
 //! The roles of all nodes.
-ghost use Rattle.std.specs.Prelude.{◌≡◌, ◌↔◌, ◌&&◌, ◌<◌, not, take, length, IsTrue, IsSome, IfSome, IfOk, IfErr};
+ghost use Rattle.std.specs.Prelude.{◌≡◌, ◌↔◌, ◌&&◌, ◌<◌, not, take, length, IsTrue, IsSome, IfSome, IfOk};
 ghost use Rattle.std.specs.List.{list_all, list_any};
-ghost use Rattle.crdt_core.specs.declared.memory.Memory.TheVariants.{Want};
+ghost use Rattle.crdt_core.specs.Outcomes.{OnlyWant};
 ghost use Rattle.layout_roles.specs.Zones.{nodes_ascend, is_numbered, is_storage, storage_nodes, name_of, zone_names, is_in_zone};
 
 use crate::role::{Role, Zone};
@@ -55,7 +55,7 @@ impl Roles {
 
     pub fn copy(&self) -> Result<Roles, Memory>
         ensures same { IfOk result (λ roles. roles ≡ self.now) }
-        ensures want { IfErr result (λ e. e ≡ Want) }
+        ensures want { OnlyWant result }
     {
         let mut list = List::new(self.list.allocator());
         let roles = self.list.as_slice();

@@ -9,9 +9,9 @@ use Rattle.std.proofs.lemmas.List.Elements.{All-nil, All-cons, All-head, All-tai
 use Rattle.layout_roles.specs.declared.role.Role.{Role}
 use Rattle.layout_roles.specs.Zones.{nodes_ascend, ascend_from, is_numbered, is_storage, capacity_of, storage_nodes, zones}
 use Rattle.layout_roles.specs.Fits.{partitions, NoneFits}
-use Rattle.layout_flow.specs.Network.{Edge, edge, zone_edges, partition_edges, node_edge, network_of, network}
-use Rattle.layout_flow.specs.Cuts.{Side, leaves, weight, IsCut}
-use Rattle.layout_flow.specs.declared.vertex.Vertex.TheVariants.{Source, Up, Down, Zone, Node, Sink}
+use Rattle.layout_roles.specs.Network.{Edge, edge, zone_edges, partition_edges, node_edge, network_of, network}
+use Rattle.layout_roles.specs.Cuts.{Side, leaves, weight, IsCut}
+use Rattle.layout_roles.specs.declared.vertex.Vertex.TheVariants.{Source, Up, Down, Zone, Node, Sink}
 
 -- all vertices but the sink
 abbrev pub all_but_sink : Side

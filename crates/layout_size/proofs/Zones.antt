@@ -6,7 +6,7 @@ use Rattle.std.specs.Cmp.Lexicographic.{slice_cmp}
 use Rattle.layout_roles.specs.declared.redundancy.Redundancy.{Redundancy}
 use Rattle.layout_roles.specs.declared.role.Role.{Role}
 use Rattle.layout_roles.specs.Zones.{Name, name_of, storage_nodes, put_in_order, same_name, with_name}
-use Rattle.layout_size.specs.Answers.{IsRedundancy, zones_wanted}
+use Rattle.layout_roles.specs.Certificates.{IsRedundancy, zones_wanted}
 
 put_some : (names : List Name) (name : Name) → 1 ≤ length (put_in_order names name)
 put_some [] name = omega arith

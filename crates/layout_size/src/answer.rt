@@ -1,19 +1,18 @@
 //! The layout of roles.
 ghost use Rattle.std.specs.Prelude.{ℕ, ◌≡◌, ◌<◌, ◌≤◌, ◌↔◌, ◌+◌, length, List, Result, Err, IsErr, IfOk, IfErr};
-ghost use Rattle.crdt_core.specs.declared.memory.Memory.TheVariants.{Want};
+ghost use Rattle.crdt_core.specs.Outcomes.{OnlyWant};
 ghost use Rattle.layout_roles.specs.declared.role.Role.{Role};
 ghost use Rattle.layout_roles.specs.Zones.{storage_nodes, zone_names};
 ghost use Rattle.layout_roles.specs.Fits.{Fits, SomeFits, NoneFits, IsGreatest};
-ghost use Rattle.layout_flow.specs.Answers.{IsPrintedCut};
+ghost use Rattle.layout_roles.specs.Certificates.{IsPrintedCut, IsRedundancy, zones_wanted};
 ghost use Rattle.layout_size.specs.declared.fault.LayoutFault.{LayoutFault};
-ghost use Rattle.layout_size.specs.Answers.{IsRedundancy, zones_wanted, IfNoAssignment, IsLateFault};
+ghost use Rattle.layout_size.specs.Answers.{IfNoAssignment, IsLateFault};
 
-use crate::certified::Certified;
 use crate::fault::LayoutFault;
 use crate::search::greatest_size;
 use crdt_core::Memory;
-use layout_flow::{Cut, FlowOrCut, Network};
-use layout_roles::{Assignment, Redundancy, Roles};
+use layout_flow::{FlowOrCut, Network};
+use layout_roles::{Assignment, Certified, Cut, Redundancy, Roles};
 use std::alloc::Global;
 
 // How many nodes keep each partition.
@@ -91,7 +90,7 @@ fn certify(mut network: Network) -> Result<Certified, LayoutFault>
 fn assignment_of(network: &Network) -> Result<Assignment, Memory>
     requires { SomeFits network.now.roles.list network.now.r network.now.size }
     ensures fits { IfOk result (λ assignment. Fits network.now.roles.list network.now.r network.now.size assignment.sets) }
-    ensures want { IfErr result (λ e. e ≡ Want) }
+    ensures want { OnlyWant result }
 {
     match network.max_flow()? {
         FlowOrCut::Flow(assignment) => Ok(assignment),
@@ -104,7 +103,7 @@ fn cut_of(network: &Network) -> Result<Cut, Memory>
     requires { NoneFits network.now.roles.list network.now.r network.now.size }
     ensures printed { IfOk result (λ cut. IsPrintedCut network.now.roles.list network.now.r network.now.size cut) }
     ensures light { IfOk result (λ cut. cut.weight < 768) }
-    ensures want { IfErr result (λ e. e ≡ Want) }
+    ensures want { OnlyWant result }
 {
     match network.max_flow()? {
         FlowOrCut::Flow(_) => unreachable!(),

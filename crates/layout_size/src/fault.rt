@@ -2,7 +2,7 @@
 ghost use Rattle.std.specs.Prelude.{◌≡◌};
 
 use crdt_core::Memory;
-use layout_flow::Cut;
+use layout_roles::Cut;
 
 /// Why there is no layout.
 #[derive(Debug, Drop)]

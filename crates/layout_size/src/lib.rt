@@ -2,12 +2,9 @@
 #![tactic(auto)]
 
 mod answer;
-mod certified;
 mod fault;
 mod search;
-#[cfg(test)]
-mod tests;
 
 pub use answer::compute;
-pub use certified::Certified;
 pub use fault::LayoutFault;
+pub use layout_roles::Certified;

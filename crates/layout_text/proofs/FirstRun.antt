@@ -2,7 +2,7 @@
 use Rattle.std.proofs.Common.{◌≡◌, ℕ, zero, suc, ◌+◌, ◌-◌, ◌<◌, ◌≤◌, Bool, true, false, List, [], ◌∷◌, ◌++◌, take, Some, length, drop, get_or, refl, sym, ap, ◌∙◌, arith, append_assoc}
 use Rattle.std.specs.Prelude.{slice_get}
 use Rattle.std.proofs.lemmas.List.{drop_more, drop_all, drop-drop, length-drop, take_all}
-use Rattle.layout_text.specs.Runs.{Run, runs, run_lines}
+use Rattle.layout_roles.specs.Runs.{Run, runs, run_lines}
 
 module _ {A : Type 0} (same : A → A → Bool) where
   -- the first of these runs, so many values longer, from this value on

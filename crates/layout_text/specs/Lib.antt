@@ -1,4 +1,2 @@
 pub mod Values
 pub mod Settings
-pub mod Runs
-pub mod Text

@@ -1,17 +1,16 @@
 //! The lines of a cut.
-ghost use Rattle.std.specs.Prelude.{◌≡◌, ◌++◌, nat_eq, map, flat_map, IfOk, IfErr, OnOk};
+ghost use Rattle.std.specs.Prelude.{◌≡◌, ◌++◌, nat_eq, map, flat_map, IfOk, OnOk};
 ghost use Rattle.std.specs.Cmp.Lexicographic.{pointwise};
 ghost use Rattle.std.specs.List.{range_with_len};
-ghost use Rattle.crdt_core.specs.declared.memory.Memory.TheVariants.{Want};
-ghost use Rattle.layout_text.specs.Runs.{runs, run_lines};
-ghost use Rattle.layout_text.specs.Text.{word, is_in_partition, zone_word, vertex_word, side_words, side_line, side_lines, node_word, cut_line, nodes_line, cut_text, cut_lines};
+ghost use Rattle.crdt_core.specs.Outcomes.{OnlyWant};
+ghost use Rattle.layout_roles.specs.Runs.{runs, run_lines};
+ghost use Rattle.layout_roles.specs.Text.{word, is_in_partition, zone_word, vertex_word, side_words, side_line, side_lines, node_word, cut_line, nodes_line, cut_text, cut_lines};
 
 use crate::runs::run_length;
 use crate::words::{append_number, append_word};
 use crate::zones::zone_names;
 use crdt_core::{Bytes, List, Memory};
-use layout_flow::{Cut, Vertex};
-use layout_roles::{PARTITIONS, Roles};
+use layout_roles::{Cut, PARTITIONS, Roles, Vertex};
 use std::alloc::Global;
 
 fn is_in_partition(vertex: &Vertex, partition: u8) -> bool
@@ -25,7 +24,7 @@ fn is_in_partition(vertex: &Vertex, partition: u8) -> bool
 
 fn append_zone(out: &mut Bytes, names: &[Bytes], zone: u8) -> Result<(), Memory>
     ensures ok { OnOk result (out.new ≡ out.old ++ word (zone_word names.now zone)) }
-    ensures want { IfErr result (λ e. e ≡ Want) }
+    ensures want { OnlyWant result }
 {
     append_word(out, b"z:")?;
     match names.get(usize::from(zone)) {
@@ -36,7 +35,7 @@ fn append_zone(out: &mut Bytes, names: &[Bytes], zone: u8) -> Result<(), Memory>
 
 fn append_vertex(out: &mut Bytes, names: &[Bytes], vertex: &Vertex) -> Result<(), Memory>
     ensures ok { OnOk result (out.new ≡ out.old ++ word (vertex_word names.now vertex.now)) }
-    ensures want { IfErr result (λ e. e ≡ Want) }
+    ensures want { OnlyWant result }
 {
     match vertex {
         Vertex::Up(_) => append_word(out, b"up"),
@@ -54,7 +53,7 @@ fn side_words(
     partition: u8,
 ) -> Result<Bytes, Memory>
     ensures words { IfOk result (λ words. words ≡ side_words names.now side.now partition) }
-    ensures want { IfErr result (λ e. e ≡ Want) }
+    ensures want { OnlyWant result }
 {
     let mut words = Bytes::new(alloc);
     for vertex in side {
@@ -68,7 +67,7 @@ fn side_words(
 // The words of each partition's vertices.
 fn all_words(alloc: Global, names: &[Bytes], side: &[Vertex]) -> Result<List<Bytes>, Memory>
     ensures words { IfOk result (λ all. all ≡ map (side_words names.now side.now) (range_with_len 0 256)) }
-    ensures want { IfErr result (λ e. e ≡ Want) }
+    ensures want { OnlyWant result }
 {
     let mut all = List::new(alloc);
     for partition in 0..PARTITIONS {
@@ -79,7 +78,7 @@ fn all_words(alloc: Global, names: &[Bytes], side: &[Vertex]) -> Result<List<Byt
 
 fn append_side(out: &mut Bytes, first: usize, last: usize, words: &[u8]) -> Result<(), Memory>
     ensures ok { OnOk result (out.new ≡ out.old ++ side_line first last words.now) }
-    ensures want { IfErr result (λ e. e ≡ Want) }
+    ensures want { OnlyWant result }
 {
     if words.is_empty() {
         return Ok(());
@@ -93,7 +92,7 @@ fn append_side(out: &mut Bytes, first: usize, last: usize, words: &[u8]) -> Resu
 
 fn append_runs(out: &mut Bytes, words: &[Bytes]) -> Result<(), Memory>
     ensures ok { OnOk result (out.new ≡ out.old ++ run_lines side_line 0 (runs (pointwise nat_eq) words.now)) }
-    ensures want { IfErr result (λ e. e ≡ Want) }
+    ensures want { OnlyWant result }
 {
     let mut first = 0;
     while first < words.len() {
@@ -104,10 +103,10 @@ fn append_runs(out: &mut Bytes, words: &[Bytes]) -> Result<(), Memory>
     Ok(())
 }
 
-#[tactic(auto, unfolding(crate::specs::Text::side_lines))]
+#[tactic(auto, unfolding(layout_roles::specs::Text::side_lines))]
 fn append_sides(out: &mut Bytes, names: &[Bytes], side: &[Vertex]) -> Result<(), Memory>
     ensures ok { OnOk result (out.new ≡ out.old ++ side_lines names.now side.now) }
-    ensures want { IfErr result (λ e. e ≡ Want) }
+    ensures want { OnlyWant result }
 {
     let words = all_words(out.allocator(), names, side)?;
     append_runs(out, words.as_slice())
@@ -116,7 +115,7 @@ fn append_sides(out: &mut Bytes, names: &[Bytes], side: &[Vertex]) -> Result<(),
 // The nodes of a side.
 fn append_nodes(out: &mut Bytes, side: &[Vertex]) -> Result<(), Memory>
     ensures ok { OnOk result (out.new ≡ out.old ++ flat_map node_word side.now) }
-    ensures want { IfErr result (λ e. e ≡ Want) }
+    ensures want { OnlyWant result }
 {
     for vertex in side {
         match vertex {
@@ -127,20 +126,20 @@ fn append_nodes(out: &mut Bytes, side: &[Vertex]) -> Result<(), Memory>
     Ok(())
 }
 
-#[tactic(auto, unfolding(crate::specs::Text::nodes_line))]
+#[tactic(auto, unfolding(layout_roles::specs::Text::nodes_line))]
 fn append_nodes_line(out: &mut Bytes, side: &[Vertex]) -> Result<(), Memory>
     ensures ok { OnOk result (out.new ≡ out.old ++ nodes_line side.now) }
-    ensures want { IfErr result (λ e. e ≡ Want) }
+    ensures want { OnlyWant result }
 {
     out.extend_from_slice(b"cn")?;
     append_nodes(out, side)?;
     out.push(b'\n')
 }
 
-#[tactic(auto, unfolding(crate::specs::Text::cut_line))]
+#[tactic(auto, unfolding(layout_roles::specs::Text::cut_line))]
 fn append_cut_line(out: &mut Bytes, size: u64, weight: u32) -> Result<(), Memory>
     ensures ok { OnOk result (out.new ≡ out.old ++ cut_line size weight) }
-    ensures want { IfErr result (λ e. e ≡ Want) }
+    ensures want { OnlyWant result }
 {
     out.extend_from_slice(b"cut")?;
     append_number(out, size)?;
@@ -150,7 +149,7 @@ fn append_cut_line(out: &mut Bytes, size: u64, weight: u32) -> Result<(), Memory
 
 pub(crate) fn append_cut(out: &mut Bytes, names: &[Bytes], cut: &Cut) -> Result<(), Memory>
     ensures ok { OnOk result (out.new ≡ out.old ++ cut_text names.now cut.now) }
-    ensures want { IfErr result (λ e. e ≡ Want) }
+    ensures want { OnlyWant result }
 {
     append_cut_line(out, cut.size, cut.weight)?;
     append_sides(out, names, cut.side.as_slice())?;
@@ -161,7 +160,7 @@ pub(crate) fn append_cut(out: &mut Bytes, names: &[Bytes], cut: &Cut) -> Result<
 /// ones on the source's side, then `cn` and the nodes on that side.
 pub fn cut_lines(alloc: Global, cut: &Cut, roles: &Roles) -> Result<Bytes, Memory>
     ensures text { IfOk result (λ text. text ≡ cut_lines roles.now.list cut.now) }
-    ensures want { IfErr result (λ e. e ≡ Want) }
+    ensures want { OnlyWant result }
 {
     let names = zone_names(alloc, roles.list.as_slice())?;
     let mut out = Bytes::new(alloc);

@@ -16,8 +16,6 @@ mod lines;
 mod read;
 mod runs;
 mod sets;
-#[cfg(test)]
-mod tests;
 mod values;
 mod words;
 mod zones;

@@ -1,31 +1,30 @@
 //! The text of a layout.
-ghost use Rattle.std.specs.Prelude.{◌≡◌, ◌++◌, IfOk, IfErr, OnOk};
-ghost use Rattle.crdt_core.specs.declared.memory.Memory.TheVariants.{Want};
-ghost use Rattle.layout_text.specs.Text.{size_line, redundancy_line, layout_text};
+ghost use Rattle.std.specs.Prelude.{◌≡◌, ◌++◌, IfOk, OnOk};
+ghost use Rattle.crdt_core.specs.Outcomes.{OnlyWant};
+ghost use Rattle.layout_roles.specs.Text.{size_line, redundancy_line, layout_text};
 
 use crate::cut::append_cut;
 use crate::sets::append_sets;
 use crate::words::append_number;
 use crate::zones::zone_names;
 use crdt_core::{Bytes, Memory};
-use layout_roles::Roles;
-use layout_size::Certified;
+use layout_roles::{Certified, Roles};
 use std::alloc::Global;
 
-#[tactic(auto, unfolding(crate::specs::Text::size_line))]
+#[tactic(auto, unfolding(layout_roles::specs::Text::size_line))]
 fn append_size(out: &mut Bytes, size: u64) -> Result<(), Memory>
     ensures ok { OnOk result (out.new ≡ out.old ++ size_line size) }
-    ensures want { IfErr result (λ e. e ≡ Want) }
+    ensures want { OnlyWant result }
 {
     out.extend_from_slice(b"size")?;
     append_number(out, size)?;
     out.push(b'\n')
 }
 
-#[tactic(auto, unfolding(crate::specs::Text::redundancy_line))]
+#[tactic(auto, unfolding(layout_roles::specs::Text::redundancy_line))]
 fn append_redundancy(out: &mut Bytes, r: u8) -> Result<(), Memory>
     ensures ok { OnOk result (out.new ≡ out.old ++ redundancy_line r) }
-    ensures want { IfErr result (λ e. e ≡ Want) }
+    ensures want { OnlyWant result }
 {
     out.extend_from_slice(b"redundancy")?;
     append_number(out, u64::from(r))?;
@@ -36,7 +35,7 @@ fn append_redundancy(out: &mut Bytes, r: u8) -> Result<(), Memory>
 /// (`cut_lines`), which shows that no greater partition size is possible.
 pub fn layout_lines(alloc: Global, certified: &Certified, roles: &Roles) -> Result<Bytes, Memory>
     ensures text { IfOk result (λ text. text ≡ layout_text roles.now.list certified.now) }
-    ensures want { IfErr result (λ e. e ≡ Want) }
+    ensures want { OnlyWant result }
 {
     let names = zone_names(alloc, roles.list.as_slice())?;
     let mut out = Bytes::new(alloc);

@@ -1,11 +1,10 @@
 //! A configuration in TOML.
 ghost use Rattle.std.specs.Prelude.{◌≡◌, ◌≤◌, List, [], Some, Ok, IsTrue, IfOk, IfErr, OnOk, IfSome, length, is_some};
 ghost use Rattle.std.specs.List.{insert, list_all};
+ghost use Rattle.crdt_core.specs.Outcomes.{OnlyWant};
 ghost use Rattle.toml.specs.Data.{Members, as_table};
 ghost use Rattle.toml.specs.View.{view, table_view, array_view, items_view};
-ghost use Rattle.crdt_core.specs.declared.memory.Memory.TheVariants.{Want};
-ghost use Rattle.layout_roles.specs.Zones.{nodes_ascend};
-ghost use Rattle.layout_size.specs.Answers.{IsRedundancy};
+ghost use Rattle.layout_roles.specs.Certificates.{IsRedundancy};
 ghost use Rattle.layout_text.specs.declared.config.FieldName.TheVariants as field;
 ghost use Rattle.layout_text.specs.Values.{buckets_of, buckets_in, tables_of, nodes_in};
 ghost use Rattle.layout_text.specs.Settings.{needed, put_role, role_in, roles_in, roles_for, buckets_for, block_size_for, settings_in, said, settings_of, faulted, IsFaultOf, Reads};
@@ -24,7 +23,7 @@ const SERVE: u8 = 16;
 // The names of buckets, each once.
 fn names_of(alloc: Global, values: &[Value]) -> Result<Option<List<Bytes>>, Memory>
     ensures names { IfOk result (λ names. names ≡ buckets_of [] (items_view values.now)) }
-    ensures want { IfErr result (λ e. e ≡ Want) }
+    ensures want { OnlyWant result }
 {
     let mut names: List<Bytes> = List::new(alloc);
     for value in values {
@@ -38,7 +37,7 @@ fn names_of(alloc: Global, values: &[Value]) -> Result<Option<List<Bytes>>, Memo
 
 fn named_buckets(alloc: Global, root: &Table) -> Result<Option<List<Bytes>>, Memory>
     ensures names { IfOk result (λ names. names ≡ buckets_in (table_view root.now)) }
-    ensures want { IfErr result (λ e. e ≡ Want) }
+    ensures want { OnlyWant result }
 {
     match values::array_at(root, "buckets") {
         Some(values) => names_of(alloc, values.as_slice()),
@@ -100,7 +99,7 @@ fn place_of(roles: &[Role], role: &Role) -> usize
 
 fn put(roles: &mut List<Role>, role: Role) -> Result<(), Memory>
     ensures ok { OnOk result (roles.new ≡ put_role roles.old role) }
-    ensures want { IfErr result (λ e. e ≡ Want) }
+    ensures want { OnlyWant result }
 {
     let place = place_of(roles.as_slice(), &role);
     roles.insert(place, role)

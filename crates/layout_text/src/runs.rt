@@ -1,6 +1,6 @@
 //! Runs of equal values.
 ghost use Rattle.std.specs.Prelude.{◌≡◌, ◌<◌, ◌≤◌, ◌∷◌, Some, length, drop, slice_get};
-ghost use Rattle.layout_text.specs.Runs.{runs};
+ghost use Rattle.layout_roles.specs.Runs.{runs};
 
 /// How many values the first run of equal values has.
 pub(crate) fn run_length<T: PartialEq>(values: &[T]) -> usize

@@ -1,7 +1,7 @@
 //! The lines of the sets of partitions.
-ghost use Rattle.std.specs.Prelude.{◌≡◌, ◌++◌, flat_map, IfOk, IfErr, OnOk};
-ghost use Rattle.crdt_core.specs.declared.memory.Memory.TheVariants.{Want};
-ghost use Rattle.layout_text.specs.Text.{number, set_line, set_lines};
+ghost use Rattle.std.specs.Prelude.{◌≡◌, ◌++◌, flat_map, IfOk, OnOk};
+ghost use Rattle.crdt_core.specs.Outcomes.{OnlyWant};
+ghost use Rattle.layout_roles.specs.Text.{number, set_line, set_lines};
 
 use crate::runs::run_length;
 use crate::words::append_number;
@@ -11,7 +11,7 @@ use std::alloc::Global;
 
 fn append_nodes(out: &mut Bytes, set: &[u8; 3]) -> Result<(), Memory>
     ensures ok { OnOk result (out.new ≡ out.old ++ flat_map number set.now) }
-    ensures want { IfErr result (λ e. e ≡ Want) }
+    ensures want { OnlyWant result }
 {
     for node in set {
         append_number(out, u64::from(*node))?;
@@ -21,7 +21,7 @@ fn append_nodes(out: &mut Bytes, set: &[u8; 3]) -> Result<(), Memory>
 
 fn append_set(out: &mut Bytes, first: usize, last: usize, set: &[u8; 3]) -> Result<(), Memory>
     ensures ok { OnOk result (out.new ≡ out.old ++ set_line first last set.now) }
-    ensures want { IfErr result (λ e. e ≡ Want) }
+    ensures want { OnlyWant result }
 {
     out.push(b'p')?;
     append_number(out, first as u64)?;
@@ -30,10 +30,10 @@ fn append_set(out: &mut Bytes, first: usize, last: usize, set: &[u8; 3]) -> Resu
     out.push(b'\n')
 }
 
-#[tactic(auto, unfolding(crate::specs::Text::set_lines))]
+#[tactic(auto, unfolding(layout_roles::specs::Text::set_lines))]
 pub(crate) fn append_sets(out: &mut Bytes, sets: &[[u8; 3]]) -> Result<(), Memory>
     ensures ok { OnOk result (out.new ≡ out.old ++ set_lines sets.now) }
-    ensures want { IfErr result (λ e. e ≡ Want) }
+    ensures want { OnlyWant result }
 {
     let mut first = 0;
     while first < sets.len() {
@@ -47,7 +47,7 @@ pub(crate) fn append_sets(out: &mut Bytes, sets: &[[u8; 3]]) -> Result<(), Memor
 /// `p FIRST LAST A B C` for each longest run of partitions that the nodes A, B and C keep.
 pub fn set_lines(alloc: Global, sets: &Assignment) -> Result<Bytes, Memory>
     ensures text { IfOk result (λ text. text ≡ set_lines sets.now.sets) }
-    ensures want { IfErr result (λ e. e ≡ Want) }
+    ensures want { OnlyWant result }
 {
     let mut out = Bytes::new(alloc);
     append_sets(&mut out, sets.sets.as_slice())?;

@@ -1,14 +1,14 @@
 //! Words and numbers after one space.
-ghost use Rattle.std.specs.Prelude.{◌≡◌, ◌++◌, IfErr, OnOk};
-ghost use Rattle.crdt_core.specs.declared.memory.Memory.TheVariants.{Want};
-ghost use Rattle.layout_text.specs.Text.{word, number};
+ghost use Rattle.std.specs.Prelude.{◌≡◌, ◌++◌, OnOk};
+ghost use Rattle.crdt_core.specs.Outcomes.{OnlyWant};
+ghost use Rattle.layout_roles.specs.Text.{word, number};
 
 use crdt_core::{Bytes, Memory};
 use itoa::Buffer;
 
 pub(crate) fn append_word(out: &mut Bytes, bytes: &[u8]) -> Result<(), Memory>
     ensures ok { OnOk result (out.new ≡ out.old ++ word bytes.now) }
-    ensures want { IfErr result (λ e. e ≡ Want) }
+    ensures want { OnlyWant result }
 {
     out.push(b' ')?;
     out.extend_from_slice(bytes)
@@ -16,7 +16,7 @@ pub(crate) fn append_word(out: &mut Bytes, bytes: &[u8]) -> Result<(), Memory>
 
 pub(crate) fn append_number(out: &mut Bytes, n: u64) -> Result<(), Memory>
     ensures ok { OnOk result (out.new ≡ out.old ++ number n) }
-    ensures want { IfErr result (λ e. e ≡ Want) }
+    ensures want { OnlyWant result }
 {
     append_word(out, Buffer::new().format(n).as_bytes())
 }

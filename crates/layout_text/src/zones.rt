@@ -1,7 +1,7 @@
 //! The names of zones.
-ghost use Rattle.std.specs.Prelude.{◌≡◌, ◌≤◌, length, IfOk, IfErr, OnOk};
+ghost use Rattle.std.specs.Prelude.{◌≡◌, ◌≤◌, length, IfOk, OnOk};
 ghost use Rattle.std.specs.List.{insert, list_any};
-ghost use Rattle.crdt_core.specs.declared.memory.Memory.TheVariants.{Want};
+ghost use Rattle.crdt_core.specs.Outcomes.{OnlyWant};
 ghost use Rattle.layout_roles.specs.Zones.{same_name, put_in_order, with_name, zone_names};
 
 use crdt_core::{Bytes, List, Memory, Value};
@@ -32,7 +32,7 @@ fn has_name(names: &[Bytes], name: &Bytes) -> bool
 // Puts a name among names in order, where it isn't there yet.
 fn put_name(names: &mut List<Bytes>, name: &Bytes) -> Result<(), Memory>
     ensures ok { OnOk result (names.new ≡ with_name names.old name.now) }
-    ensures want { IfErr result (λ e. e ≡ Want) }
+    ensures want { OnlyWant result }
 {
     if !has_name(names.as_slice(), name) {
         let place = place_of(names.as_slice(), name);
@@ -44,7 +44,7 @@ fn put_name(names: &mut List<Bytes>, name: &Bytes) -> Result<(), Memory>
 /// The names of the zones that have a storage node, in order.
 pub(crate) fn zone_names(alloc: Global, roles: &[Role]) -> Result<List<Bytes>, Memory>
     ensures names { IfOk result (λ names. names ≡ zone_names roles.now) }
-    ensures want { IfErr result (λ e. e ≡ Want) }
+    ensures want { OnlyWant result }
 {
     let mut names: List<Bytes> = List::new(alloc);
     for role in roles {

@@ -1,6 +1,6 @@
 //! The three trackers of a node.
-ghost use Rattle.std.specs.Prelude.{◌≡◌, ◌<◌, [], length, map, Some, IfOk, IfErr, OnOk, OnErr};
-ghost use Rattle.crdt_core.specs.declared.memory.Memory.TheVariants.{Want};
+ghost use Rattle.std.specs.Prelude.{◌≡◌, ◌<◌, [], length, map, Some, IfOk, OnOk, OnErr};
+ghost use Rattle.crdt_core.specs.Outcomes.{OnlyWant};
 
 use crate::which::Which;
 use crdt_core::{Crdt, Map, Max, Memory};
@@ -64,7 +64,7 @@ impl Trackers {
         ensures raised { OnOk result (self.new ≡ raised which node v self.old) }
         ensures unchanged { OnErr result (self.new ≡ self.old) }
         ensures never_lowers { Grows self.old self.new }
-        ensures want { IfErr result (λ e. e ≡ Want) }
+        ensures want { OnlyWant result }
     {
         match which {
             Which::Ack => self.ack.join_at(node, &Max(v)),

@@ -7,7 +7,7 @@ use Rattle.layout_trackers.specs.declared.which.Which.TheVariants.{Ack, SyncAck}
 use Rattle.view_model.specs.View.{View, oldest, newest, read_version, merged, cleaned, with_entry}
 use Rattle.control_model.specs.World as control
 use Rattle.control_model.specs.Steps.{Step, step, still as still_to, least_start as least_of_requests, with_view}
-use Rattle.control_model.specs.Facts.{Has}
+use Rattle.crdt_core.specs.Members.{Has}
 use Rattle.control_model.specs.Reached.{place_of}
 use Rattle.table_schema.specs.Words.{Words}
 use Rattle.cluster_machine.specs.Layouts.{Layouts}

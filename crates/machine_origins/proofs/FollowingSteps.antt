@@ -1,7 +1,7 @@
 -- What becomes of the open requests where a message comes, where a node acts, and where a phase begins.
 use Rattle.std.specs.Prelude.{◌≡◌, ℕ, suc, Bool, true, false, not, cond, ◌==◌, leb, nat_lt, map, List, [], ◌∷◌, ◌++◌, Option, Some, None, refl}
 use Rattle.std.proofs.Common.{ap, sym, subst, ◌∙◌, inl, inr}
-use Rattle.control_model.specs.Facts.{Has}
+use Rattle.crdt_core.specs.Members.{Has}
 use Rattle.view_model.specs.View.{View, oldest, newest, layout_at, read_version, merged, cleaned}
 use Rattle.table_schema.specs.Words.{Words}
 use Rattle.quorum_model.specs.declared.range.RangeAnswer.{RangeAnswer}
@@ -23,7 +23,8 @@ use Rattle.cluster_machine.specs.Phases.{call_at, with_call, asked, looked, stor
 use Rattle.cluster_machine.specs.Rounds.{is_complete, synced, goes_on, may_sync, parts_of, begin_round}
 use Rattle.cluster_machine.specs.Receives.{answers, where_stored, gives_block, takes, round_came, confirms, hears, receives}
 use Rattle.cluster_machine.specs.Acts.{Acted, syncs, acts}
-use Rattle.machine_origins.specs.Following.{AreDifferent, GoesOn, EndsSo, Follows, Began, Begins}
+use Rattle.cluster_machine.specs.Keeping.{AreDifferent}
+use Rattle.machine_origins.specs.Following.{GoesOn, EndsSo, Follows, Began, Begins}
 use Rattle.machine_origins.proofs.FollowingCalls.{found_there, was, follows_same, follows_quiet, follows_on, follows_ended}
 
 module _ {R L : Type 0} (x : Node R L) where

@@ -5,7 +5,7 @@ use Rattle.std.proofs.Common.{ap, sym, subst, ◌∙◌, inl, inr, arith}
 use Rattle.std.proofs.lemmas.Bool.{eq-eqb}
 use Rattle.std.proofs.lemmas.List.Elements.{All-nil, All-cons, All-head, All-tail, All-map}
 use Rattle.view_model.specs.View.{View, last_version, oldest, newest, cleaned}
-use Rattle.control_model.specs.Facts.{Has}
+use Rattle.crdt_core.specs.Members.{Has}
 use Rattle.table_schema.specs.Words.{Words, partition_of}
 use Rattle.wire_messages.specs.declared.message.Message.{Message}
 use Rattle.wire_messages.specs.declared.message.Message.TheVariants.{Store}
@@ -15,8 +15,7 @@ use Rattle.cluster_machine.specs.Node.{Call, Present, Node, Part, Block, Round, 
 use Rattle.cluster_machine.specs.Rows.{accepts_read, accepts_all, blocks_after, still, drops, sees}
 use Rattle.cluster_machine.specs.Phases.{nodes_of, to_each, with_call, without_call, calls_now, bytes_of, stores}
 use Rattle.cluster_machine.specs.Rounds.{is_complete, rows_at, found, with_its_block, pushes_rows, pushes, synced, goes_on}
-use Rattle.machine_origins.specs.Following.{AreDifferent}
-use Rattle.machine_origins.specs.Keeping.{IsBare, AreBare, IsBareMessage, ArePosts, AreUpTo}
+use Rattle.cluster_machine.specs.Keeping.{AreDifferent, IsBare, AreBare, IsBareMessage, ArePosts, AreUpTo}
 use Rattle.machine_origins.proofs.FollowingCalls.{was}
 
 pub all_append : {A : Type 0} (P : A → Type 0) (xs ys : List A) → AllByRecursion P xs → AllByRecursion P ys → AllByRecursion P (xs ++ ys)

@@ -3,7 +3,7 @@ use Rattle.std.specs.Prelude.{◌≡◌, ◌≤◌, ℕ, suc, max, Bool, true, f
 use Rattle.std.specs.List.{filter, flat_map}
 use Rattle.std.proofs.Common.{ap, sym, subst, ◌∙◌, inl, arith}
 use Rattle.view_model.specs.View.{is_gapless, newest, read_version, merged, cleaned}
-use Rattle.view_model.specs.Joins.{newest_merged}
+use Rattle.view_model.proofs.Joins.{newest_merged}
 use Rattle.table_schema.specs.Words.{Words, partition_at, partition_of}
 use Rattle.quorum_model.specs.declared.range.RangeAnswer.{RangeAnswer}
 use Rattle.quorum_model.specs.Quorum.{StoreSlot, with_confirmation}
@@ -23,7 +23,7 @@ use Rattle.cluster_machine.specs.Phases.{nodes_of, calls_now, call_at, asked, lo
 use Rattle.cluster_machine.specs.Rounds.{open_nodes, open_parts, goes_on, may_sync, begin_round}
 use Rattle.cluster_machine.specs.Receives.{answers, where_stored, gives_block, takes, round_came, confirms, hears, receives}
 use Rattle.cluster_machine.specs.Acts.{Acted, item_posts, stays, syncs, acts}
-use Rattle.machine_origins.specs.Keeping.{AreBare, IsBareMessage, IsBarePacket, IsBarePhase, ArePosts, IsUpTo}
+use Rattle.cluster_machine.specs.Keeping.{AreBare, IsBareMessage, IsBarePacket, IsBarePhase, ArePosts, IsUpTo}
 use Rattle.machine_origins.proofs.FollowingSteps.{calls_all, calls_seen, round_begun}
 use Rattle.machine_origins.proofs.KeepingNodes.{all_append, AtMostOneChanges, Stays, Keeps, stays_self, stays_called, keeps_quiet, keeps_cond, newest_cleaned, view_seen, blocks_seen, bare_to_each, one_bare, bare_stores, bare_pushes, blocks_all, view_all, stays_round}
 

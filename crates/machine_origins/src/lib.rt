@@ -26,8 +26,8 @@ ghost use Rattle.cluster_machine.specs.World.{empty};
 ghost use Rattle.cluster_machine.specs.Run.{Move, IsRun, run};
 ghost use Rattle.machine_origins.specs.Origins.{stored_in, ComesFrom, Gave};
 ghost use Rattle.view_model.specs.View.{is_gapless, newest};
-ghost use Rattle.machine_origins.specs.Following.{AreDifferent, Follows, Begins};
-ghost use Rattle.machine_origins.specs.Keeping.{IsBarePacket, IsBarePhase, ArePosts, IsUpTo, AreUpTo};
+ghost use Rattle.cluster_machine.specs.Keeping.{AreDifferent, IsBarePacket, IsBarePhase, ArePosts, IsUpTo, AreUpTo};
+ghost use Rattle.machine_origins.specs.Following.{Follows, Begins};
 
 /// In every run of the cluster's machine each row that a read or range phase gave comes from rows that store phases
 /// began to store; a read phase gave a row of its table and key. So a property that all stored rows have, and that

@@ -8,7 +8,7 @@ use Rattle.crdt_core.specs.Laws.{JoinLaws}
 use Rattle.crdt_core.specs.Order.{option_join}
 use Rattle.view_model.specs.View.{read_version}
 use Rattle.control_model.specs.World as control
-use Rattle.control_model.specs.Facts.{Has}
+use Rattle.crdt_core.specs.Members.{Has}
 use Rattle.table_schema.specs.Words.{Words, partition_at}
 use Rattle.quorum_model.specs.Quorum.{is_among}
 use Rattle.quorum_model.specs.Answers.{heard, answer_of_other, first_two, first_two_at}

@@ -10,7 +10,7 @@ use Rattle.layout_trackers.specs.declared.which.Which.TheVariants.{Sync}
 use Rattle.view_model.specs.View.{oldest, newest, read_version, layout_at, with_entry}
 use Rattle.control_model.specs.World as control
 use Rattle.control_model.specs.Steps.{Step, step as turn, may_begin}
-use Rattle.control_model.specs.Facts.{Has}
+use Rattle.crdt_core.specs.Members.{Has}
 use Rattle.table_schema.specs.Words.{Words}
 use Rattle.table_schema.specs.Laws.{Laws}
 use Rattle.quorum_model.specs.Quorum.{is_among}
@@ -23,19 +23,19 @@ use Rattle.plane_laws.proofs.Sound.{IsSound}
 use Rattle.plane_meets.proofs.Quiet.{quiet_happens}
 use Rattle.cluster_machine.specs.Layouts.{Layouts, set_in}
 use Rattle.cluster_machine.specs.Node as machine
-use Rattle.cluster_machine.specs.Node.{Part, Confirmed, Node, Did, quiet}
-use Rattle.cluster_machine.specs.Rounds.{numbered_from, is_complete, open_nodes, is_empty, rows_at, are_spelled, sets_in, parts_of, goes_on, may_sync, begin_round, repairs}
+use Rattle.cluster_machine.specs.Node.{Part, Confirmed, Node}
+use Rattle.cluster_machine.specs.Rounds.{numbered_from, is_complete, open_nodes, is_empty, rows_at, parts_of, begin_round, repairs}
 use Rattle.cluster_machine.specs.World.{World}
-use Rattle.cluster_machine.specs.Step.{Effects, did}
+use Rattle.cluster_machine.specs.Step.{did}
 use Rattle.machine_laws.proofs.Controls.{Turns}
 use Rattle.machine_laws.proofs.Requests.{one_turns}
 use Rattle.machine_laws.proofs.Rounding.{node_after, one_then, completed, complete_is, with_round, round_is, said_pushes, unseen_repairs}
 use Rattle.machine_laws.proofs.Turning.{said_known}
 use Rattle.machine_reads.specs.Places.{Place, keys, at_place}
 use Rattle.machine_reads.specs.Tie.{Issued, Begun, a_round, a_repair, both, State, Means, IsRound, IsNode, IsTied}
-use Rattle.machine_reads.proofs.Growth.{Grown, SameAt, same_at, same_of, calls_stay, round_in_stays}
+use Rattle.machine_reads.proofs.Growth.{Grown, SameAt, round_in_stays}
 use Rattle.machine_reads.proofs.Leads.{Issues, Act, grown, Leads, by_node}
-use Rattle.machine_reads.proofs.Sees.{among_contains, contains_among, newest_same, read_same, read_set_same, set_at_same, oldest_same}
+use Rattle.machine_reads.proofs.Sees.{contains_among, newest_same, read_same, read_set_same, set_at_same}
 use Rattle.machine_reads.proofs.Called.{quietly}
 use Rattle.machine_reads.proofs.Storing.{none_is}
 use Rattle.machine_reads.proofs.Rounds.{Shown, shown_at, pushing, pushing_happens, pushing_same, pushing_has, sent_parts, all_shown, finish_may, complete_may}

@@ -6,10 +6,10 @@ use Rattle.std.proofs.lemmas.Bool.{eqb-true, eq-eqb, ne_eqb, true≢false}
 use Rattle.crdt_core.specs.EntryLaws.{and_parts}
 use Rattle.crdt_core.specs.Laws.{JoinLaws}
 use Rattle.crdt_core.specs.Order.{option_join}
-use Rattle.view_model.specs.View.{newest}
+use Rattle.view_model.specs.View.{newest, with_entry}
 use Rattle.control_model.specs.World as control
 use Rattle.control_model.specs.Steps.{Step}
-use Rattle.control_model.specs.Facts.{Has}
+use Rattle.crdt_core.specs.Members.{Has}
 use Rattle.table_schema.specs.Words.{Words}
 use Rattle.table_schema.specs.Laws.{Laws}
 use Rattle.table_model.specs.Rows.{rows}
@@ -17,7 +17,7 @@ use Rattle.quorum_model.specs.Quorum.{is_among, two_of}
 use Rattle.wire_messages.specs.declared.message.Message.TheVariants.{Store}
 use Rattle.wire_messages.specs.declared.message.Tag.TheVariants.{Round as ForRound}
 use Rattle.plane_model.specs.World as plane
-use Rattle.plane_model.specs.World.{row_at as log_at, row_in, kept_at}
+use Rattle.plane_model.specs.World.{row_at as log_at, row_in}
 use Rattle.plane_model.specs.Action.{moves, pushes, finishes, step, run, Happens, MayFinish, MayMove, HasPushed}
 use Rattle.plane_laws.proofs.Runs.{run_extends}
 use Rattle.plane_laws.proofs.Sets.{contains_here, two_weaker}
@@ -25,7 +25,7 @@ use Rattle.plane_laws.proofs.Sound.{IsSound}
 use Rattle.plane_meets.proofs.Completes.{completes_open}
 use Rattle.cluster_machine.specs.Layouts.{Layouts}
 use Rattle.cluster_machine.specs.Node as machine
-use Rattle.cluster_machine.specs.Node.{Part, Confirmed, Node, Did, Post, quiet}
+use Rattle.cluster_machine.specs.Node.{Part, Confirmed, Node, quiet}
 use Rattle.cluster_machine.specs.Phases.{is_spelled}
 use Rattle.cluster_machine.specs.Rounds.{confirmed_for, is_complete, open_nodes, open_parts, rows_at, with_its_block, pushes as push_posts, pushes_rows, are_spelled, synced, goes_on, again}
 use Rattle.cluster_machine.specs.World.{World}
@@ -36,13 +36,11 @@ use Rattle.machine_laws.proofs.Same.{unseen_quiet}
 use Rattle.machine_laws.proofs.Rounding.{some_same, completed, complete_is, unseen_again}
 use Rattle.machine_laws.proofs.Requests.{one_turns}
 use Rattle.layout_trackers.specs.declared.which.Which.TheVariants.{Sync}
-use Rattle.view_model.specs.View.{with_entry}
 use Rattle.machine_reads.specs.Places.{Place, keys, place_of, at_place}
-use Rattle.machine_reads.specs.Tie.{Issued, Begun, a_round, a_repair, both, State, with_read, rows_read, placed, Means, MeansPushed, HasPart, IsRound, IsRoundIn, IsNode, IsTied}
+use Rattle.machine_reads.specs.Tie.{Issued, Begun, a_round, both, State, with_read, rows_read, placed, Means, MeansPushed, IsRound, IsRoundIn, IsTied}
 use Rattle.machine_reads.proofs.Placed.{rows_at_place, kept_at_place}
 use Rattle.machine_reads.proofs.Growth.{Grown, same_at, calls_stay, node_stays}
 use Rattle.machine_reads.proofs.Leads.{issues_self, Act, grown, Leads, by_node}
-use Rattle.machine_reads.proofs.Sees.{all_has}
 use Rattle.machine_reads.proofs.Sets.{two_at}
 use Rattle.machine_reads.proofs.Called.{sent_each, quietly}
 use Rattle.machine_reads.proofs.Storing.{sent_append, read_back}

@@ -7,7 +7,7 @@ use Rattle.crdt_core.specs.Laws.{JoinLaws}
 use Rattle.crdt_core.specs.Order.{option_join}
 use Rattle.blake2_hash.specs.declared.digest.Hash32.{Hash32}
 use Rattle.view_model.specs.View.{read_version}
-use Rattle.control_model.specs.Facts.{Has}
+use Rattle.crdt_core.specs.Members.{Has}
 use Rattle.table_schema.specs.Words.{Words, partition_at, partition_of}
 use Rattle.table_schema.specs.Laws.{Laws}
 use Rattle.table_model.specs.Rows.{row_at, rows, range, find_row}

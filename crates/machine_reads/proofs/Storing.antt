@@ -9,7 +9,7 @@ use Rattle.crdt_core.specs.Laws.{JoinLaws}
 use Rattle.crdt_core.specs.Order.{option_join}
 use Rattle.view_model.specs.View.{oldest, newest}
 use Rattle.control_model.specs.World as control
-use Rattle.control_model.specs.Facts.{Has}
+use Rattle.crdt_core.specs.Members.{Has}
 use Rattle.table_schema.specs.Words.{Words, partition_of}
 use Rattle.table_schema.specs.Laws.{Laws}
 use Rattle.quorum_model.specs.Quorum.{StoreSlot, is_some_set, reached, is_kept, two_of, with_confirmation}

@@ -26,7 +26,7 @@ use Rattle.machine_laws.proofs.Controls.{Turns}
 use Rattle.machine_laws.proofs.Same.{same_all}
 use Rattle.machine_laws.proofs.Turning.{unseen}
 use Rattle.machine_reads.specs.Places.{Place, keys, place_of, at_place}
-use Rattle.machine_reads.specs.Tie.{Issued, Begun, a_round, a_repair, both, State, with_read, rows_read, placed, MeansTag, MeansDone, MeansPush, MeansStore, IsPush, Means, IsCall, IsRoundIn, IsNode, IsTied}
+use Rattle.machine_reads.specs.Tie.{Issued, Begun, a_round, a_repair, both, State, with_read, rows_read, MeansTag, MeansDone, MeansStore, IsPush, IsCall, IsRoundIn, IsTied}
 use Rattle.machine_reads.proofs.Growth.{same_at, calls_stay, round_in_stays}
 use Rattle.machine_reads.proofs.Logs.{taking, onto, taking_happens, taking_control, taking_kept, taking_log, taking_others, took_own, took_other, taking_over}
 use Rattle.machine_reads.proofs.Leads.{issues_self, Act, grown, Leads, by_node}

@@ -10,7 +10,8 @@ use Rattle.crdt_core.specs.Laws.{JoinLaws}
 use Rattle.view_model.specs.View.{View, newest, read_version, merged, cleaned, ack_least}
 use Rattle.control_model.specs.World as control
 use Rattle.control_model.specs.Steps.{Step as Turn}
-use Rattle.control_model.specs.Facts.{Has, read_of}
+use Rattle.crdt_core.specs.Members.{Has}
+use Rattle.control_model.specs.Facts.{read_of}
 use Rattle.control_model.specs.Reached.{place_of}
 use Rattle.version_laws.proofs.Laws.{safe_at}
 use Rattle.layout_roles.specs.declared.role.Role.{Role}
@@ -36,7 +37,7 @@ use Rattle.cluster_machine.specs.declared.step.Refusal.{Refusal}
 use Rattle.cluster_machine.specs.declared.step.Refusal.TheVariants.{VersionTaken, VersionLimit, NotMember, NoSuchMessage, Lost, NoSuchRequest, AlreadyEnded}
 use Rattle.cluster_machine.specs.Layouts.{Layouts, is_member, has_none, stored_sets, is_given, is_stored}
 use Rattle.cluster_machine.specs.Node.{Call, Item, Round, Node, Did, Packet, says, shows, Present, resting, asking, scanning, storing, fetching, quiet}
-use Rattle.cluster_machine.specs.Phases.{nodes_of, to_each, bytes_of, call_at, calls_now, begins, at_call, in_phase, row_came, rows_came, stored_came, block_came, looked, window_at}
+use Rattle.cluster_machine.specs.Phases.{nodes_of, bytes_of, call_at, begins, at_call, row_came, rows_came, stored_came, block_came}
 use Rattle.cluster_machine.specs.Rounds.{may_sync, begin_round}
 use Rattle.cluster_machine.specs.Rows.{block_at}
 use Rattle.cluster_machine.specs.Receives.{answers, where_stored, gives_block, takes, round_came, item_came, confirms, hears, receives}
@@ -52,7 +53,7 @@ use Rattle.machine_laws.proofs.Rounding.{may_both}
 use Rattle.machine_laws.proofs.Applying.{install_turns, apply_turns}
 use Rattle.machine_laws.proofs.Runs.{all_numbered, stays_true, here, unseen_works}
 use Rattle.machine_reads.specs.Places.{Place}
-use Rattle.machine_reads.specs.Tie.{MeansRows, Issued, none_issued, both, State, MeansMessage, MeansPacket, Means, MeansDone, IsAsking, IsPresent, IsCall, IsNode, IsKept, IsTied}
+use Rattle.machine_reads.specs.Tie.{MeansRows, Issued, none_issued, both, State, MeansMessage, MeansPacket, Means, MeansDone, IsPresent, IsCall, IsKept, IsTied}
 use Rattle.machine_reads.specs.Holders.{IsHeld}
 use Rattle.machine_reads.proofs.Holders.{two_holders}
 use Rattle.machine_reads.proofs.Leads.{Leads, led, Less, less_self, only_control}

@@ -27,7 +27,7 @@ use Rattle.machine_laws.proofs.Controls.{Turns, turned}
 use Rattle.machine_reads.specs.Places.{Place, keys, at_place}
 use Rattle.machine_reads.specs.Tie.{Issued, both, State, IsCall, IsRoundIn, IsNode, IsKept, IsTied}
 use Rattle.machine_reads.proofs.Placed.{kept_at_place, none_at_place}
-use Rattle.machine_reads.proofs.Growth.{same_at, same_of, calls_stay, call_stays, round_in_stays, node_stays, SameOf}
+use Rattle.machine_reads.proofs.Growth.{same_at, calls_stay, round_in_stays, node_stays, SameOf}
 use Rattle.machine_reads.proofs.Logs.{moved_control, moved_log, moved_kept, dropping, dropping_happens, dropping_same, dropping_others, dropping_keeps, dropping_none}
 use Rattle.machine_reads.proofs.Leads.{Issues, issues_self, Act, laws_of, grown, Leads, Less, only_control, by_node, less_self, at_one}
 use Rattle.machine_reads.proofs.Sets.{not_given}

@@ -8,7 +8,7 @@ use Rattle.table_schema.specs.Words.{Words}
 use Rattle.quorum_model.specs.Quorum.{is_among}
 use Rattle.cluster_machine.specs.Node.{Node as Model, Part, Confirmed, Round as Moved}
 use Rattle.cluster_machine.specs.Rounds.{confirmed_for, open_nodes, open_parts, is_empty, pushes, rows_at, are_spelled}
-use Rattle.node_parts.specs.Layouts.{layouts}
+use Rattle.cluster_machine.specs.Layouts.{layouts}
 use Rattle.node_parts.specs.Sets.{others_of}
 use Rattle.node_parts.specs.Rounds.{begun_round, has_any, open_parts_of}
 use Rattle.node_parts.specs.declared.pushes.Sender.{Sender}

@@ -12,17 +12,16 @@ use Rattle.layout_trackers.specs.declared.trackers.Trackers.{Trackers}
 use Rattle.layout_trackers.specs.declared.which.Which.{Which}
 use Rattle.layout_trackers.specs.declared.which.Which.TheVariants.{Ack, Sync, SyncAck}
 use Rattle.layout_trackers.specs.Trackers.{Tracker, entry}
-use Rattle.layout_history.specs.Known.{reading}
+use Rattle.view_model.specs.Layouts.{reading}
 use Rattle.view_model.specs.View.{View, newest, layout_at, is_gapless, merged, cleaned}
-use Rattle.view_model.specs.Reads.{merged_grew}
-use Rattle.view_model.specs.Cleans.{newest_stays}
-use Rattle.view_model.specs.Gapless.{none_at_0, lt_leb}
+use Rattle.view_model.proofs.ReadVersions.{merged_grew}
+use Rattle.view_model.proofs.Cleans.{newest_stays}
+use Rattle.view_model.proofs.Gapless.{none_at_0, lt_leb}
 use Rattle.table_schema.specs.Words.{Words}
 use Rattle.quorum_model.specs.Quorum.{is_among}
-use Rattle.cluster_machine.specs.Layouts.{members_in, is_member}
+use Rattle.cluster_machine.specs.Layouts.{members_in, is_member, layouts}
 use Rattle.cluster_machine.specs.Node.{no_trackers, quiet, Item as Waiting, Node as Model, Call as Opened, Round as Moved}
 use Rattle.node_parts.specs.declared.contents.Contents.{Contents}
-use Rattle.node_parts.specs.Layouts.{layouts}
 use Rattle.node_parts.specs.Contents.{IsContents, IsItem, Became}
 use Rattle.block_resync.specs.declared.item.Item.{Item}
 use Rattle.cluster_machine.specs.Phases.{is_spelled}

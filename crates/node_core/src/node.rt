@@ -1,27 +1,27 @@
 //! A node.
 ghost use Rattle.std.specs.Prelude.{◌≡◌, ◌⊎◌, ◌<◌, ◌≤◌, ◌+◌, ◌^◌, ℕ, Bool, true, false, Option, Some, None, List, [], ◌++◌, suc, reverse, option_map, IfOk, IfErr, OnOk, OnErr, IsTrue};
 ghost use Rattle.std.specs.List.{All};
-ghost use Rattle.crdt_core.specs.declared.memory.Memory.TheVariants.{Want, Full};
+ghost use Rattle.crdt_core.specs.Outcomes.{OnlyWant, WantOr};
 ghost use Rattle.layout_roles.specs.declared.layout.Layout.{Layout};
 ghost use Rattle.layout_history.specs.Views.{known};
-ghost use Rattle.layout_history.specs.Known.{reading, has_members};
+ghost use Rattle.view_model.specs.Layouts.{reading};
+ghost use Rattle.layout_history.specs.Known.{has_members};
 ghost use Rattle.view_model.specs.View.{View as Seen, oldest, newest, read_version, merged};
 ghost use Rattle.table_model.specs.Rows.{row_at, find_row, rows, range};
 ghost use Rattle.wire_messages.specs.declared.message.Message.TheVariants as message;
 ghost use Rattle.wire_messages.specs.declared.message.Tag.TheVariants as tag;
-ghost use Rattle.cluster_machine.specs.Layouts.{is_member};
-ghost use Rattle.cluster_machine.specs.Node.{Node as Model, Round as Moved, Did, quiet, new_node};
-ghost use Rattle.cluster_machine.specs.Rows.{still, sees};
+ghost use Rattle.cluster_machine.specs.Layouts.{is_member, layouts};
+ghost use Rattle.cluster_machine.specs.Node.{Node as Model, Round as Moved, new_node};
+ghost use Rattle.cluster_machine.specs.Rows.{sees};
 ghost use Rattle.cluster_machine.specs.Phases.{opened, closed, call_at};
-ghost use Rattle.cluster_machine.specs.Rounds.{goes_on, may_sync, begin_round, again, repairs};
+ghost use Rattle.cluster_machine.specs.Rounds.{goes_on, may_sync, begin_round, repairs};
 ghost use Rattle.cluster_machine.specs.Receives.{most_rows, answers, round_came, where_stored, gives_row, gives_rows, gives_block, takes, confirms, hears, receives};
-ghost use Rattle.cluster_machine.specs.Acts.{Acted, raises, cleans, syncs, acts, appends, restarts};
+ghost use Rattle.cluster_machine.specs.Acts.{raises, cleans, syncs, acts, appends, restarts};
 ghost use Rattle.cluster_machine.specs.Step.{requests_of};
 ghost use Rattle.node_core.specs.declared.node.BeginFault.TheVariants.{NotMember, Memory as WantsMemory};
-ghost use Rattle.node_parts.specs.Layouts.{layouts};
 ghost use Rattle.node_parts.specs.Posts.{told};
 ghost use Rattle.node_parts.specs.Calls.{ended_with};
-ghost use Rattle.node_parts.specs.Begins.{IsShort};
+ghost use Rattle.cluster_machine.specs.Keeping.{IsShort};
 ghost use Rattle.node_parts.specs.Contents.{AreBare};
 ghost use Rattle.node_parts.specs.Rounds.{IsMoving};
 ghost use Rattle.cluster_machine.specs.declared.step.LocalEnd.TheVariants.{At, Repaired};
@@ -72,7 +72,7 @@ impl<S: Schema> Node<S> {
     /// A node with an empty view, and nothing else.
     pub fn new(alloc: Global, id: u8) -> Result<Node<S>, Memory>
         ensures stands { IfOk result (λ node. StandsFor S.Row.join S.words node id new_node) }
-        ensures want { IfErr result (λ e. e ≡ Want) }
+        ensures want { OnlyWant result }
     {
         Ok(Node {
             id,
@@ -121,7 +121,7 @@ impl<S: Schema> Node<S> {
     ) -> Result<(), Memory>
         requires short { IsShort phase }
         ensures begins { OnOk result ((kept : List S.Row) → Does S.Row.join S.words self.old self.new out.old.items out.new.items None (λ id x. begins_at S.words kept x phase (call_at x.calls request))) }
-        ensures causes { IfErr result (λ e. (e ≡ Want) ⊎ ((e ≡ Full) × ((kept : List S.Row) → Overflows S.Row.join S.words self.old (λ id x. begins_at S.words kept x phase (call_at x.calls request))))) }
+        ensures causes { WantOr result ((kept : List S.Row) → Overflows S.Row.join S.words self.old (λ id x. begins_at S.words kept x phase (call_at x.calls request))) }
     {
         let Some(phases) = self.calls.phases(request) else {
             return Ok(());
@@ -156,7 +156,7 @@ impl<S: Schema> Node<S> {
         out: &mut Vec<Envelope<S::Row>>,
     ) -> Result<(), Memory>
         ensures answers { OnOk result (Does S.Row.join S.words self.now self.now out.old.items out.new.items None (λ id x. answers x from (message.NotHere (tag.Call request phase 0)))) }
-        ensures want { IfErr result (λ e. e ≡ Want) }
+        ensures want { OnlyWant result }
     {
         let tag = Tag::Call {
             request,
@@ -178,7 +178,7 @@ impl<S: Schema> Node<S> {
         out: &mut Vec<Envelope<S::Row>>,
     ) -> Result<(), Memory>
         ensures answers { OnOk result (Does S.Row.join S.words self.now self.now out.old.items out.new.items None (λ id x. where_stored S.Row.join S.words layouts x from request phase at (gives_row S.Row.join S.words layouts x from request phase (row_at S.Row.join S.words x.accepted table key.now)))) }
-        ensures want { IfErr result (λ e. e ≡ Want) }
+        ensures want { OnlyWant result }
     {
         if !is_stored(&self.view, at) {
             return self.not_here(from, request, phase, out);
@@ -205,7 +205,7 @@ impl<S: Schema> Node<S> {
         out: &mut Vec<Envelope<S::Row>>,
     ) -> Result<(), Memory>
         ensures answers { OnOk result (Does S.Row.join S.words self.now self.now out.old.items out.new.items None (λ id x. where_stored S.Row.join S.words layouts x from request phase at (gives_rows S.Row.join S.words layouts x from request phase (range S.words 1 (bucket.now.0 ++ prefix.now) (bucket.now.0 ++ after.now) most_rows (rows S.Row.join S.words x.accepted))))) }
-        ensures want { IfErr result (λ e. e ≡ Want) }
+        ensures want { OnlyWant result }
     {
         if !is_stored(&self.view, at) {
             return self.not_here(from, request, phase, out);
@@ -237,7 +237,7 @@ impl<S: Schema> Node<S> {
         out: &mut Vec<Envelope<S::Row>>,
     ) -> Result<(), Memory>
         ensures answers { OnOk result (Does S.Row.join S.words self.now self.now out.old.items out.new.items None (λ id x. where_stored S.Row.join S.words layouts x from request phase at (gives_block S.Row.join S.words layouts x from request phase None))) }
-        ensures want { IfErr result (λ e. e ≡ Want) }
+        ensures want { OnlyWant result }
     {
         if !is_stored(&self.view, at) {
             return self.not_here(from, request, phase, out);
@@ -257,7 +257,7 @@ impl<S: Schema> Node<S> {
     ) -> Result<(), Memory>
         requires bare { AreBare rows.now }
         ensures takes { OnOk result ((now : ℕ) → Does S.Row.join S.words self.old self.new out.old.items out.new.items None (λ id x. takes S.Row.join S.words layouts id now x from tag named p rows.now)) }
-        ensures causes { IfErr result (λ e. (e ≡ Want) ⊎ ((e ≡ Full) × ((now : ℕ) → Overflows S.Row.join S.words self.old (λ id x. takes S.Row.join S.words layouts id now x from tag named p rows.now)))) }
+        ensures causes { WantOr result ((now : ℕ) → Overflows S.Row.join S.words self.old (λ id x. takes S.Row.join S.words layouts id now x from tag named p rows.now)) }
     {
         let newest = self.view.newest();
         if newest < named {
@@ -273,7 +273,7 @@ impl<S: Schema> Node<S> {
     // A round that is complete closes, and the node has synced to its version.
     fn go_on(&mut self, moving: Moving) -> Result<(), Memory>
         ensures goes_on { OnOk result ((id : ℕ) (x : Model S.Row Layout) (r : Moved) → IsMoving id moving r → StandsApart S.Row.join S.words self.old id x → StandsFor S.Row.join S.words self.new id (goes_on S.Row.join S.words layouts id x r)) }
-        ensures want { IfErr result (λ e. e ≡ Want) }
+        ensures want { OnlyWant result }
     {
         if moving.is_complete() {
             self.view.raise(Which::Sync, self.id, moving.target())?;
@@ -287,7 +287,7 @@ impl<S: Schema> Node<S> {
     // A node confirms a partition of the round with this number, where it is the open one.
     fn confirm_round(&mut self, from: u8, number: u64, p: u8) -> Result<(), Memory>
         ensures confirms { OnOk result (Becomes S.Row.join S.words self.old self.new (λ id x. (round_came S.Row.join S.words layouts id x from number p x.round).node)) }
-        ensures want { IfErr result (λ e. e ≡ Want) }
+        ensures want { OnlyWant result }
     {
         let Some(mut moving) = self.rounds.round.take() else {
             return Ok(());
@@ -303,7 +303,7 @@ impl<S: Schema> Node<S> {
     // A confirmation.
     fn take_stored(&mut self, from: u8, tag: Tag) -> Result<Option<(u64, PhaseEnd<S::Row>)>, Memory>
         ensures confirms { IfOk result (λ given. (out : List (Envelope S.Row)) → Does S.Row.join S.words self.old self.new out out given (λ id x. confirms S.Row.join S.words layouts id x from tag)) }
-        ensures want { IfErr result (λ e. e ≡ Want) }
+        ensures want { OnlyWant result }
     {
         match tag {
             Tag::Call {
@@ -331,7 +331,7 @@ impl<S: Schema> Node<S> {
     // After the view has changed: the round may close, and where the oldest version rose rows are dropped.
     fn look_around(&mut self, before: u32) -> Result<(), Memory>
         ensures sees { OnOk result ((now : ℕ) (id : ℕ) (x : Model S.Row Layout) (v : Seen Layout) → oldest reading x.view ≡ before → StandsButView S.Row.join S.words self.old id x v → StandsFor S.Row.join S.words self.new id (sees S.Row.join S.words layouts id now x v)) }
-        ensures want { IfErr result (λ e. e ≡ Want) }
+        ensures want { OnlyWant result }
     {
         let oldest = self.view.oldest();
         self.rounds.close_below(oldest);
@@ -344,7 +344,7 @@ impl<S: Schema> Node<S> {
     // A whole view comes.
     fn take_view(&mut self, view: &View) -> Result<(), Memory>
         ensures sees { OnOk result ((now : ℕ) → Becomes S.Row.join S.words self.old self.new (λ id x. sees S.Row.join S.words layouts id now x (merged reading x.view (known view.now)))) }
-        ensures want { IfErr result (λ e. e ≡ Want) }
+        ensures want { OnlyWant result }
     {
         let before = self.view.oldest();
         self.view.merge(view)?;
@@ -361,7 +361,7 @@ impl<S: Schema> Node<S> {
     ) -> Result<Option<(u64, PhaseEnd<S::Row>)>, Memory>
         requires bare { IsBarePacket packet.now }
         ensures receives { IfOk result (λ given. Does S.Row.join S.words self.old self.new out.old.items out.new.items given (λ id x. receives S.Row.join S.words layouts id _now x from (told packet.now))) }
-        ensures causes { IfErr result (λ e. (e ≡ Want) ⊎ ((e ≡ Full) × Overflows S.Row.join S.words self.old (λ id x. receives S.Row.join S.words layouts id _now x from (told packet.now)))) }
+        ensures causes { WantOr result (Overflows S.Row.join S.words self.old (λ id x. receives S.Row.join S.words layouts id _now x from (told packet.now))) }
     {
         match packet {
             Packet::Msg(message) => self.on_message(from, message, out),
@@ -380,7 +380,7 @@ impl<S: Schema> Node<S> {
     ) -> Result<Option<(u64, PhaseEnd<S::Row>)>, Memory>
         requires bare { IsBare message.now }
         ensures hears { IfOk result (λ given. (now : ℕ) → Does S.Row.join S.words self.old self.new out.old.items out.new.items given (λ id x. hears S.Row.join S.words layouts id now x from message.now)) }
-        ensures causes { IfErr result (λ e. (e ≡ Want) ⊎ ((e ≡ Full) × ((now : ℕ) → Overflows S.Row.join S.words self.old (λ id x. hears S.Row.join S.words layouts id now x from message.now)))) }
+        ensures causes { WantOr result ((now : ℕ) → Overflows S.Row.join S.words self.old (λ id x. hears S.Row.join S.words layouts id now x from message.now)) }
     {
         match message {
             Message::Get {
@@ -476,7 +476,7 @@ impl<S: Schema> Node<S> {
         out: &mut Vec<Envelope<S::Row>>,
     ) -> Result<Vec<(u8, [u8; 3])>, Memory>
         ensures hands { IfOk result (λ parts. Hands S.Row.join S.words self.now here there round out.old.items out.new.items parts.items) }
-        ensures causes { IfErr result (λ e. (e ≡ Want) ⊎ ((e ≡ Full) × CannotHand S.Row.join S.words self.now here there round)) }
+        ensures causes { WantOr result (CannotHand S.Row.join S.words self.now here there round) }
     {
         match (self.view.layout(here), self.view.layout(there)) {
             (Some(here), Some(there)) => {
@@ -490,7 +490,7 @@ impl<S: Schema> Node<S> {
     // Raises the node's own entry; the version that it has then.
     fn raise(&mut self, which: Which, version: u32) -> Result<LocalEnd, Memory>
         ensures raises { IfOk result (λ how. (out : List (Envelope S.Row)) → Acts S.Row.join S.words self.old self.new out out how (λ id x. raises S.Row.join S.words layouts id x which version)) }
-        ensures want { IfErr result (λ e. e ≡ Want) }
+        ensures want { OnlyWant result }
     {
         self.view.raise(which, self.id, version)?;
         let oldest = self.view.oldest();
@@ -513,7 +513,7 @@ impl<S: Schema> Node<S> {
     fn begin_round(&mut self, at: u32, out: &mut Vec<Envelope<S::Row>>) -> Result<LocalEnd, Memory>
         requires below { at + 1 < 2 ^ 32 }
         ensures begins { IfOk result (λ how. (id : ℕ) (x : Model S.Row Layout) → may_sync S.Row.join S.words layouts id x.view ≡ true → read_version reading x.view ≡ at → StandsFor S.Row.join S.words self.old id x → Done S.Row.join S.words self.new id out.old.items out.new.items None (begin_round S.Row.join S.words layouts id x) × (how ≡ At (suc at))) }
-        ensures causes { IfErr result (λ e. (e ≡ Want) ⊎ ((e ≡ Full) × ((id : ℕ) (x : Model S.Row Layout) → may_sync S.Row.join S.words layouts id x.view ≡ true → read_version reading x.view ≡ at → StandsFor S.Row.join S.words self.old id x → Fits S.words (begin_round S.Row.join S.words layouts id x) → ⊥))) }
+        ensures causes { WantOr result ((id : ℕ) (x : Model S.Row Layout) → may_sync S.Row.join S.words layouts id x.view ≡ true → read_version reading x.view ≡ at → StandsFor S.Row.join S.words self.old id x → Fits S.words (begin_round S.Row.join S.words layouts id x) → ⊥) }
     {
         let target = at + 1;
         let number = self.rounds.next()?;
@@ -527,7 +527,7 @@ impl<S: Schema> Node<S> {
     // Begins a round, or sends again what nobody confirmed in the open one.
     fn sync(&mut self, out: &mut Vec<Envelope<S::Row>>) -> Result<LocalEnd, Memory>
         ensures syncs { IfOk result (λ how. Acts S.Row.join S.words self.old self.new out.old.items out.new.items how (λ id x. syncs S.Row.join S.words layouts id x x.round)) }
-        ensures causes { IfErr result (λ e. (e ≡ Want) ⊎ ((e ≡ Full) × Overflows S.Row.join S.words self.old (λ id x. (syncs S.Row.join S.words layouts id x x.round).did))) }
+        ensures causes { WantOr result (Overflows S.Row.join S.words self.old (λ id x. (syncs S.Row.join S.words layouts id x x.round).did)) }
     {
         match &self.rounds.round {
             Some(moving) => {
@@ -552,7 +552,7 @@ impl<S: Schema> Node<S> {
     // Drops the layout versions that nobody needs.
     fn clean(&mut self) -> Result<LocalEnd, Memory>
         ensures cleans { IfOk result (λ how. (now : ℕ) (out : List (Envelope S.Row)) → Acts S.Row.join S.words self.old self.new out out how (λ id x. cleans S.Row.join S.words layouts id now x)) }
-        ensures want { IfErr result (λ e. e ≡ Want) }
+        ensures want { OnlyWant result }
     {
         let before = self.view.oldest();
         let oldest = self.view.clean();
@@ -564,7 +564,7 @@ impl<S: Schema> Node<S> {
     fn repair(&mut self, out: &mut Vec<Envelope<S::Row>>) -> Result<LocalEnd, Memory>
         requires has_version { 1 ≤ newest reading (view_of self.old) }
         ensures repairs { IfOk result (λ how. (how ≡ Repaired) × Does S.Row.join S.words self.old self.new out.old.items out.new.items None (λ id x. repairs S.Row.join S.words layouts id x)) }
-        ensures causes { IfErr result (λ e. (e ≡ Want) ⊎ ((e ≡ Full) × Overflows S.Row.join S.words self.old (λ id x. repairs S.Row.join S.words layouts id x))) }
+        ensures causes { WantOr result (Overflows S.Row.join S.words self.old (λ id x. repairs S.Row.join S.words layouts id x)) }
     {
         let number = self.rounds.next()?;
         let newest = self.view.newest();
@@ -582,7 +582,7 @@ impl<S: Schema> Node<S> {
     ) -> Result<LocalEnd, Memory>
         requires has_version { 1 ≤ newest reading (view_of self.old) }
         ensures acts { IfOk result (λ how. Acts S.Row.join S.words self.old self.new out.old.items out.new.items how (λ id x. acts S.Row.join S.words layouts id _now x action)) }
-        ensures causes { IfErr result (λ e. (e ≡ Want) ⊎ ((e ≡ Full) × Overflows S.Row.join S.words self.old (λ id x. (acts S.Row.join S.words layouts id _now x action).did))) }
+        ensures causes { WantOr result (Overflows S.Row.join S.words self.old (λ id x. (acts S.Row.join S.words layouts id _now x action).did)) }
     {
         match action {
             Action::Ack => {
@@ -609,7 +609,7 @@ impl<S: Schema> Node<S> {
         requires inhabited { IsTrue (has_members layout) }
         ensures appends { OnOk result (Becomes S.Row.join S.words self.old self.new (λ id x. appends layouts x layout)) }
         ensures unchanged { OnErr result (Becomes S.Row.join S.words self.old self.new (λ id x. x)) }
-        ensures want { IfErr result (λ e. e ≡ Want) }
+        ensures want { OnlyWant result }
     {
         self.view.append(layout)
     }
@@ -619,7 +619,8 @@ impl<S: Schema> Node<S> {
     pub fn restart(&mut self) -> Result<Vec<u64>, Memory>
         ensures restarts { OnOk result (Becomes S.Row.join S.words self.old self.new (λ id x. restarts x)) }
         ensures lost { IfOk result (λ lost. (id : ℕ) (x : Model S.Row Layout) → StandsFor S.Row.join S.words self.old id x → lost.items ≡ reverse (requests_of x.calls)) }
-        ensures want { IfErr result (λ e. e ≡ Want) }
+        ensures unchanged { OnErr result (Becomes S.Row.join S.words self.old self.new (λ id x. x)) }
+        ensures want { OnlyWant result }
     {
         let lost = self.calls.lose_all()?;
         self.rounds.round = None;
@@ -631,7 +632,7 @@ impl<S: Schema> Node<S> {
 // A copy of the row at a key of a table.
 fn row_at_key<S: Schema>(rows: &Table<S>, table: u8, key: &Bytes) -> Result<Option<S::Row>, Memory>
     ensures is { IfOk result (λ row. row ≡ find_row S.words table key.now rows.now) }
-    ensures want { IfErr result (λ e. e ≡ Want) }
+    ensures want { OnlyWant result }
 {
     match rows.get(table, key.as_slice()) {
         Some(row) => Ok(Some(row.copy()?)),
@@ -642,7 +643,7 @@ fn row_at_key<S: Schema>(rows: &Table<S>, table: u8, key: &Bytes) -> Result<Opti
 // A bucket's identifier and what follows it in a row key.
 fn whole_key(alloc: Global, bucket: &Hash32, rest: &Bytes) -> Result<Bytes, Memory>
     ensures is { IfOk result (λ key. key ≡ bucket.now.0 ++ rest.now) }
-    ensures want { IfErr result (λ e. e ≡ Want) }
+    ensures want { OnlyWant result }
 {
     let mut key = Bytes::from_slice(alloc, &bucket.0)?;
     key.extend_from_slice(rest.as_slice())?;

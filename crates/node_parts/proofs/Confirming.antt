@@ -9,11 +9,10 @@ use Rattle.crdt_core.specs.declared.memory.Memory.{Memory}
 use Rattle.table_schema.specs.Words.{Words, partition_of}
 use Rattle.table_schema.specs.Laws.{Laws}
 use Rattle.cluster_machine.specs.Node.{Node, Item as Waiting}
-use Rattle.cluster_machine.specs.Layouts.{stored_sets}
+use Rattle.cluster_machine.specs.Layouts.{stored_sets, layouts}
 use Rattle.cluster_machine.specs.Receives.{item_came}
 use Rattle.node_parts.specs.declared.contents.Contents.{Contents}
 use Rattle.node_parts.specs.Contents.{IsItem, IsContents, item_at}
-use Rattle.node_parts.specs.Layouts.{layouts}
 use Rattle.node_parts.proofs.Waiting.{item_found, confirms, came_to_none, items_after, count_after}
 
 module _ {S R : Type 0} (join : R → R → R) (s : Words R) (v : View Layout) (node number : ℕ) (c : Contents S R) (x : Node R Layout) (same : v ≡ x.view) (h : IsContents join s c x) where

@@ -11,11 +11,10 @@ use Rattle.table_schema.specs.Laws.{Laws}
 use Rattle.table_model.specs.Rows.{AllProper, rows, without}
 use Rattle.table_model.specs.RowLaws.{rows_filter, rows_proper}
 use Rattle.cluster_machine.specs.Node.{Node}
-use Rattle.cluster_machine.specs.Layouts.{is_given}
+use Rattle.cluster_machine.specs.Layouts.{is_given, layouts}
 use Rattle.cluster_machine.specs.Rows.{drops}
 use Rattle.node_parts.specs.declared.contents.Contents.{Contents}
 use Rattle.node_parts.specs.Contents.{IsItem, IsContents, Became}
-use Rattle.node_parts.specs.Layouts.{layouts}
 
 and_true : (b : Bool) → (b && true) ≡ b
 and_true true = refl

@@ -3,7 +3,7 @@ use Rattle.std.proofs.Common.{◌≡◌, ℕ, Option, List, [], ◌++◌, map, r
 use Rattle.std.specs.Prelude.{leb, IsTrue}
 use Rattle.layout_roles.specs.declared.layout.Layout.{Layout}
 use Rattle.layout_history.specs.declared.view.View.{View}
-use Rattle.layout_history.specs.Known.{reading}
+use Rattle.view_model.specs.Layouts.{reading}
 use Rattle.layout_history.specs.Views.{known}
 use Rattle.view_model.specs.View.{View as Known, newest, read_version}
 use Rattle.blake2_hash.specs.declared.digest.Hash32.{Hash32}
@@ -17,13 +17,12 @@ use Rattle.wire_messages.specs.declared.message.Message.{Message}
 use Rattle.wire_messages.specs.declared.message.Message.TheVariants.{Get, Range as Scan, BlockGet}
 use Rattle.wire_messages.specs.declared.phase.Phase.{Phase}
 use Rattle.wire_messages.specs.declared.phase.Phase.TheVariants.{Read, Range, Store, Block}
-use Rattle.cluster_machine.specs.Layouts.{set_at}
+use Rattle.cluster_machine.specs.Layouts.{set_at, layouts}
 use Rattle.cluster_machine.specs.Node.{asking, scanning, storing, fetching}
 use Rattle.cluster_machine.specs.Phases.{to_each, calls_now, stores, slots_of}
 use Rattle.node_parts.specs.declared.begin.Beginning.{Beginning}
 use Rattle.node_parts.specs.declared.call.Present.TheVariants.{Resting, Asking, Scanning, Storing, Fetching}
 use Rattle.node_parts.specs.declared.packet.Envelope.{Envelope}
-use Rattle.node_parts.specs.Layouts.{layouts}
 use Rattle.node_parts.specs.Posts.{posted, Posts}
 use Rattle.node_parts.specs.Begins.{StoresAll, Begins}
 

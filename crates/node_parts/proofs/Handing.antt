@@ -15,7 +15,7 @@ use Rattle.cluster_machine.specs.Rows.{block_at}
 use Rattle.cluster_machine.specs.Rounds.{is_empty, rows_at, found, with_its_block, pushes_rows}
 use Rattle.node_parts.specs.declared.packet.Envelope.{Envelope}
 use Rattle.node_parts.specs.declared.pushes.Sender.{Sender}
-use Rattle.node_parts.specs.Layouts.{layouts}
+use Rattle.cluster_machine.specs.Layouts.{layouts}
 use Rattle.node_parts.specs.Posts.{posted, Posts}
 use Rattle.node_parts.specs.Pushes.{part_of, bare_rows, Sends, Pushes, CannotPush, CannotPushAgain}
 

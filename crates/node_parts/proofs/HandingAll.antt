@@ -14,13 +14,12 @@ use Rattle.std.proofs.lemmas.Option.{slice_get_within, get_or_from_slice_get}
 use Rattle.layout_roles.specs.declared.layout.Layout.{Layout}
 use Rattle.table_schema.specs.Words.{Words}
 use Rattle.quorum_model.specs.Quorum.{is_among}
-use Rattle.cluster_machine.specs.Layouts.{set_in}
+use Rattle.cluster_machine.specs.Layouts.{set_in, layouts}
 use Rattle.cluster_machine.specs.Node.{Node, Part, Post}
 use Rattle.cluster_machine.specs.Phases.{is_spelled}
 use Rattle.cluster_machine.specs.Rounds.{is_empty, rows_at, pushes, pushes_rows, are_spelled, numbered_from}
 use Rattle.node_parts.specs.declared.packet.Envelope.{Envelope}
 use Rattle.node_parts.specs.declared.pushes.Sender.{Sender}
-use Rattle.node_parts.specs.Layouts.{layouts}
 use Rattle.node_parts.specs.Posts.{posted, Posts}
 use Rattle.node_parts.specs.Sets.{others_of}
 use Rattle.node_parts.specs.Pushes.{part_of, Sends, Pushes, CannotPush, moved, PushesAll, CannotPushAll}

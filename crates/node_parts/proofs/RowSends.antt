@@ -5,7 +5,7 @@ use Rattle.std.proofs.lemmas.List.{map-append, take_more, length-take-le}
 use Rattle.std.proofs.lemmas.List.Folds.{list_all_more}
 use Rattle.layout_roles.specs.declared.layout.Layout.{Layout}
 use Rattle.layout_history.specs.declared.view.View.{View}
-use Rattle.layout_history.specs.Known.{reading}
+use Rattle.view_model.specs.Layouts.{reading}
 use Rattle.layout_history.specs.Views.{known}
 use Rattle.view_model.specs.View.{View as Known, oldest, newest}
 use Rattle.table_schema.specs.Words.{Words, partition_of}
@@ -15,12 +15,11 @@ use Rattle.quorum_tally.specs.Stands.{Tallies}
 use Rattle.write_call.specs.Stands.{AreTallies}
 use Rattle.wire_messages.specs.declared.message.Message.TheVariants.{Store}
 use Rattle.wire_messages.specs.declared.message.Tag.TheVariants.{Call}
-use Rattle.cluster_machine.specs.Layouts.{stored_sets}
+use Rattle.cluster_machine.specs.Layouts.{stored_sets, layouts}
 use Rattle.cluster_machine.specs.Node.{Post}
 use Rattle.cluster_machine.specs.Phases.{bytes_of, is_spelled, nodes_of, to_each, stores, slots_of}
 use Rattle.node_parts.specs.declared.begin.Beginning.{Beginning}
 use Rattle.node_parts.specs.declared.packet.Envelope.{Envelope}
-use Rattle.node_parts.specs.Layouts.{layouts}
 use Rattle.node_parts.specs.Posts.{posted, Posts}
 use Rattle.node_parts.specs.Begins.{Stores}
 use Rattle.node_parts.proofs.Posting.{posts_more}

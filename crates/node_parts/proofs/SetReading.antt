@@ -7,8 +7,7 @@ use Rattle.layout_roles.specs.declared.layout.Layout.{Layout}
 use Rattle.layout_roles.specs.declared.role.Role.{Role}
 use Rattle.layout_history.specs.Known.{kind_among, kind_of}
 use Rattle.quorum_model.specs.Quorum.{is_among}
-use Rattle.cluster_machine.specs.Layouts.{members_in}
-use Rattle.node_parts.specs.Layouts.{layouts}
+use Rattle.cluster_machine.specs.Layouts.{members_in, layouts}
 
 pub any_set : {X : Type 0} (test : List ℕ → Bool) (set : X → List ℕ) (xs : List X) → list_any (λ x. test (set x)) xs ≡ list_any test (map set xs)
 any_set test set [] = refl

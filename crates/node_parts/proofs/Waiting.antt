@@ -10,11 +10,10 @@ use Rattle.table_schema.specs.Words.{Words, partition_of}
 use Rattle.table_schema.specs.Laws.{Laws}
 use Rattle.quorum_model.specs.Quorum.{is_among, two_of}
 use Rattle.cluster_machine.specs.Node.{Item as Waiting}
-use Rattle.cluster_machine.specs.Layouts.{stored_sets}
+use Rattle.cluster_machine.specs.Layouts.{stored_sets, layouts}
 use Rattle.cluster_machine.specs.Receives.{item_came, is_done}
 use Rattle.cluster_machine.specs.Acts.{unconfirmed}
 use Rattle.node_parts.specs.Contents.{IsItem, item_at}
-use Rattle.node_parts.specs.Layouts.{layouts}
 
 below_apart : (a n : ℕ) → a < n → (a == n) ≡ false
 below_apart a n lt = ne_eqb a n (λ e. omega arith)

@@ -4,35 +4,22 @@ use Rattle.std.specs.List.{All, list_all}
 use Rattle.layout_roles.specs.declared.layout.Layout.{Layout}
 use Rattle.layout_history.specs.declared.view.View.{View}
 use Rattle.layout_history.specs.Views.{known}
-use Rattle.layout_history.specs.Known.{reading}
-use Rattle.view_model.specs.View.{newest}
-use Rattle.table_schema.specs.Words.{Words}
+use Rattle.view_model.specs.Layouts.{reading}
+use Rattle.view_model.specs.View.{newest, oldest}
+use Rattle.table_schema.specs.Words.{Words, partition_of}
 use Rattle.quorum_tally.specs.declared.tally.Tally.{Tally}
 use Rattle.quorum_tally.specs.Stands.{Tallies}
 use Rattle.write_call.specs.declared.call.WriteCall.{WriteCall}
 use Rattle.write_call.specs.Stands.{Stands}
-use Rattle.view_model.specs.View.{oldest}
-use Rattle.table_schema.specs.Words.{partition_of}
 use Rattle.wire_messages.specs.declared.phase.Phase.{Phase}
-use Rattle.wire_messages.specs.declared.phase.Phase.TheVariants.{Store}
-use Rattle.cluster_machine.specs.Layouts.{stored_sets}
+use Rattle.cluster_machine.specs.Layouts.{stored_sets, layouts}
 use Rattle.cluster_machine.specs.Node.{Node, Call as Opened, Present as Doing, Did}
 use Rattle.cluster_machine.specs.Phases.{is_spelled, calls_now, stores, slots_of, begins}
 use Rattle.node_parts.specs.declared.begin.Beginning.{Beginning}
 use Rattle.node_parts.specs.declared.call.Present.{Present}
 use Rattle.node_parts.specs.declared.packet.Envelope.{Envelope}
-use Rattle.node_parts.specs.Layouts.{layouts}
 use Rattle.node_parts.specs.Posts.{Posts}
 use Rattle.node_parts.specs.Calls.{IsPresent}
-
--- one row or two, without blocks
-pub record AreShort {R : Type 0} (rows : List (R × Option (List ℕ))) : Type 0 where
-  pub few : length rows ≤ 2
-  pub bare : All (λ r. r.1 ≡ None) rows
-
-abbrev pub IsShort : {R : Type 0} → Phase R → Type 0
-IsShort (Store rows) = AreShort rows
-IsShort _ = ⊤
 
 module _ {R : Type 0} (s : Words R) where
   -- a row is sent to the nodes of its stored sets, and nobody has confirmed it
@@ -41,6 +28,7 @@ module _ {R : Type 0} (s : Words R) where
     pub confirmed : Tallies tally (oldest reading (known view)) (stored_sets layouts (known view) (partition_of s row)) []
     pub spelled : is_spelled s row ≡ true
 
+  -- all rows of a store phase were sent, each with its slot
   pub record StoresAll (b : Beginning) (view : View) (rows : List (R × Option (List ℕ))) (old new : List (Envelope R)) (call : WriteCall) : Type 0 where
     pub posts : Posts b.node old new (stores s layouts (known view) b.request b.phase 0 rows)
     pub slots : Stands call (slots_of s layouts (known view) rows)
@@ -61,6 +49,7 @@ module _ {R : Type 0} (s : Words R) where
       (kept : List R) (x : Node R Layout) (c : Opened R) → known view ≡ x.view → IsTrue (leb 1 (newest reading x.view)) → c.request ≡ b.request → suc c.phases ≡ b.phase →
       Began b present old new x c (begins s layouts kept x c phase)
 
+  -- some row of the phase has no bytes
   abbrev pub CannotBegin : Beginning → View → Phase R → Type 0
   CannotBegin b view phase =
       (kept : List R) (x : Node R Layout) (c : Opened R) → known view ≡ x.view → (begins s layouts kept x c phase).is_spelled ≡ false

@@ -1,4 +1,3 @@
-pub mod Layouts
 pub mod Posts
 pub mod Sets
 pub mod Calls

@@ -1,15 +1,15 @@
 //! How a phase of a request begins.
-ghost use Rattle.std.specs.Prelude.{◌≡◌, ◌⊎◌, false, leb, IsTrue, IsSome, IfSome, IfOk, IfErr};
-ghost use Rattle.crdt_core.specs.declared.memory.Memory.TheVariants.{Want, Full};
+ghost use Rattle.std.specs.Prelude.{◌≡◌, ◌⊎◌, false, leb, IsTrue, IsSome, IfSome, IfOk};
+ghost use Rattle.crdt_core.specs.Outcomes.{WantOr};
 ghost use Rattle.std.specs.List.{list_all};
-ghost use Rattle.layout_history.specs.Known.{reading};
+ghost use Rattle.view_model.specs.Layouts.{reading};
 ghost use Rattle.layout_history.specs.Views.{known};
 ghost use Rattle.view_model.specs.View.{newest, read_version};
 ghost use Rattle.table_schema.specs.Words.{partition_at};
-ghost use Rattle.cluster_machine.specs.Layouts.{set_at};
+ghost use Rattle.cluster_machine.specs.Layouts.{set_at, layouts};
 ghost use Rattle.cluster_machine.specs.Phases.{is_spelled};
-ghost use Rattle.node_parts.specs.Layouts.{layouts};
-ghost use Rattle.node_parts.specs.Begins.{AreShort, IsShort, Begins, CannotBegin, Stores, StoresAll};
+ghost use Rattle.cluster_machine.specs.Keeping.{AreShort, IsShort};
+ghost use Rattle.node_parts.specs.Begins.{Begins, CannotBegin, Stores, StoresAll};
 
 use crate::call::Present;
 use crate::packet::Envelope;
@@ -57,7 +57,7 @@ impl Beginning {
         out: &mut Vec<Envelope<S::Row>>,
     ) -> Result<Tally, Memory>
         ensures stores { IfOk result (λ tally. Stores S.words self view.now slot row.now out.old.items out.new.items tally) }
-        ensures causes { IfErr result (λ e. (e ≡ Want) ⊎ ((e ≡ Full) × (is_spelled S.words row.now ≡ false))) }
+        ensures causes { WantOr result (is_spelled S.words row.now ≡ false) }
     {
         let p = partition::<S>(row);
         let sets = stored_sets(self.alloc, view, p)?;
@@ -88,7 +88,7 @@ impl Beginning {
     ) -> Result<WriteCall, Memory>
         requires short { AreShort rows.now }
         ensures stores { IfOk result (λ call. StoresAll S.words self view.now rows.now out.old.items out.new.items call) }
-        ensures causes { IfErr result (λ e. (e ≡ Want) ⊎ ((e ≡ Full) × (list_all (λ r. is_spelled S.words r.0) rows.now ≡ false))) }
+        ensures causes { WantOr result (list_all (λ r. is_spelled S.words r.0) rows.now ≡ false) }
     {
         let mut slots = Vec::new(self.alloc);
         for row in rows {
@@ -107,7 +107,7 @@ impl Beginning {
     ) -> Result<Present<S>, Memory>
         requires short { IsShort phase.now }
         ensures begins { IfOk result (λ present. Begins S.words self view.now phase.now out.old.items out.new.items present) }
-        ensures causes { IfErr result (λ e. (e ≡ Want) ⊎ ((e ≡ Full) × CannotBegin S.words self view.now phase.now)) }
+        ensures causes { WantOr result (CannotBegin S.words self view.now phase.now) }
     {
         let at = view.read_version();
         match phase {

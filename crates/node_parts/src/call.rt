@@ -1,9 +1,9 @@
 //! An open request at its coordinator.
-ghost use Rattle.std.specs.Prelude.{◌≡◌, IfOk, IfErr, OnOk};
-ghost use Rattle.crdt_core.specs.declared.memory.Memory.TheVariants.{Want};
+ghost use Rattle.std.specs.Prelude.{◌≡◌, IfOk, OnOk};
+ghost use Rattle.crdt_core.specs.Outcomes.{OnlyWant};
 ghost use Rattle.node_parts.specs.Calls.{TakesRow, TakesRows, TakesConfirmation, TakesBlock};
 
-use crdt_core::{Bytes, Crdt, List, Memory, Value};
+use crdt_core::{Bytes, List, Memory, Value, copy_row, copy_rows};
 use read_call::{RangeCall, ReadCall};
 use std::alloc::Global;
 use table_schema::Schema;
@@ -32,27 +32,6 @@ pub struct Call<S: Schema> {
     pub present: Present<S>,
 }
 
-fn copy_row<R: Crdt>(row: &Option<R>) -> Result<Option<R>, Memory>
-    ensures same { IfOk result (λ copied. copied ≡ row.now) }
-    ensures want { IfErr result (λ e. e ≡ Want) }
-{
-    match row {
-        Some(row) => Ok(Some(row.copy()?)),
-        None => Ok(None),
-    }
-}
-
-fn copy_rows<R: Crdt>(alloc: Global, rows: &[R]) -> Result<Vec<R>, Memory>
-    ensures same { IfOk result (λ copied. copied.items ≡ rows.now) }
-    ensures want { IfErr result (λ e. e ≡ Want) }
-{
-    let mut copied = Vec::new(alloc);
-    for row in rows {
-        copied.push(row.copy()?)?;
-    }
-    Ok(copied)
-}
-
 impl<S: Schema> Call<S> {
     /// A node answers with the row that it has, if any. A read phase ends with the answer of the second
     /// different node of its set.
@@ -62,7 +41,7 @@ impl<S: Schema> Call<S> {
         row: &Option<S::Row>,
     ) -> Result<Option<PhaseEnd<S::Row>>, Memory>
         ensures takes { IfOk result (λ given. TakesRow S.Row.join self.old self.new from row.now given) }
-        ensures want { IfErr result (λ e. e ≡ Want) }
+        ensures want { OnlyWant result }
     {
         let Present::Asking(call) = &mut self.present else {
             return Ok(None);
@@ -84,12 +63,13 @@ impl<S: Schema> Call<S> {
         more: bool,
     ) -> Result<Option<PhaseEnd<S::Row>>, Memory>
         ensures takes { IfOk result (λ given. TakesRows S.Row.join S.words self.old self.new from rows.now more given) }
-        ensures want { IfErr result (λ e. e ≡ Want) }
+        ensures want { OnlyWant result }
     {
         let Present::Scanning(call) = &mut self.present else {
             return Ok(None);
         };
-        let Some((rows, end)) = call.answer(alloc, from, copy_rows(alloc, rows)?, more)? else {
+        let Some((rows, end)) = call.answer(alloc, from, copy_rows(alloc, rows)?.into_vec(), more)?
+        else {
             return Ok(None);
         };
         self.present = Present::Resting;
@@ -117,7 +97,7 @@ impl<S: Schema> Call<S> {
     /// A node answers with a block, which ends a block phase.
     pub fn take_block(&mut self, bytes: &Bytes) -> Result<Option<PhaseEnd<S::Row>>, Memory>
         ensures takes { IfOk result (λ given. TakesBlock self.old self.new bytes.now given) }
-        ensures want { IfErr result (λ e. e ≡ Want) }
+        ensures want { OnlyWant result }
     {
         let Present::Fetching = self.present else {
             return Ok(None);

@@ -1,7 +1,7 @@
 //! The open requests of a node.
-ghost use Rattle.std.specs.Prelude.{◌≡◌, ◌<◌, ℕ, suc, Option, Some, List, [], ◌∷◌, reverse, option_map, IfOk, IfErr, OnOk, OnErr};
+ghost use Rattle.std.specs.Prelude.{◌≡◌, ◌<◌, ℕ, suc, Option, Some, List, [], ◌∷◌, reverse, option_map, IfOk, OnOk, OnErr};
 ghost use Rattle.std.specs.List.{All};
-ghost use Rattle.crdt_core.specs.declared.memory.Memory.TheVariants.{Want};
+ghost use Rattle.crdt_core.specs.Outcomes.{OnlyWant};
 ghost use Rattle.cluster_machine.specs.Node.{Call as Opened, Present as Doing, resting};
 ghost use Rattle.cluster_machine.specs.Phases.{call_at, with_call, without_call};
 ghost use Rattle.cluster_machine.specs.Acts.{least_start};
@@ -40,7 +40,7 @@ impl<S: Schema> Calls<S> {
         ensures begun { (calls : List (Opened S.Row)) → AreCalls self.old calls → All (λ c. c.request < request) calls →
             OnOk result (AreCalls self.new (record { request = request; start = start; phases = 0; present = resting } ∷ calls)) }
         ensures unchanged { (calls : List (Opened S.Row)) → AreCalls self.old calls → OnErr result (AreCalls self.new calls) }
-        ensures want { IfErr result (λ e. e ≡ Want) }
+        ensures want { OnlyWant result }
     {
         let call = Call {
             start,
@@ -95,7 +95,7 @@ impl<S: Schema> Calls<S> {
         ensures lost { (calls : List (Opened S.Row)) → AreCalls self.old calls → IfOk result (λ lost. lost.items ≡ reverse (requests_of calls)) }
         ensures none { OnOk result (AreCalls self.new []) }
         ensures unchanged { OnErr result (self.new ≡ self.old) }
-        ensures want { IfErr result (λ e. e ≡ Want) }
+        ensures want { OnlyWant result }
     {
         let mut lost = Vec::new(self.alloc);
         for number in self.by_number.keys() {
@@ -115,7 +115,7 @@ impl<S: Schema> Calls<S> {
         row: &Option<S::Row>,
     ) -> Result<Option<PhaseEnd<S::Row>>, Memory>
         ensures hears { IfOk result (λ given. HearsRow S.Row.join self.old self.new from request phase row.now given) }
-        ensures want { IfErr result (λ e. e ≡ Want) }
+        ensures want { OnlyWant result }
     {
         let Some(call) = self.by_number.get_mut(&Reverse(request)) else {
             return Ok(None);
@@ -136,7 +136,7 @@ impl<S: Schema> Calls<S> {
         more: bool,
     ) -> Result<Option<PhaseEnd<S::Row>>, Memory>
         ensures hears { IfOk result (λ given. HearsRows S.Row.join S.words self.old self.new from request phase rows.now more given) }
-        ensures want { IfErr result (λ e. e ≡ Want) }
+        ensures want { OnlyWant result }
     {
         let alloc = self.alloc;
         let Some(call) = self.by_number.get_mut(&Reverse(request)) else {
@@ -177,7 +177,7 @@ impl<S: Schema> Calls<S> {
         bytes: &Bytes,
     ) -> Result<Option<PhaseEnd<S::Row>>, Memory>
         ensures hears { IfOk result (λ given. HearsBlock self.old self.new request phase bytes.now given) }
-        ensures want { IfErr result (λ e. e ≡ Want) }
+        ensures want { OnlyWant result }
     {
         let Some(call) = self.by_number.get_mut(&Reverse(request)) else {
             return Ok(None);

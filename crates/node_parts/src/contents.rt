@@ -1,7 +1,7 @@
 //! What a node has: its rows, and those that wait to be stored at other nodes.
 
-ghost use Rattle.std.specs.Prelude.{◌≡◌, ◌⊎◌, ℕ, Some, [], ◌∷◌, length, map, IsTrue, IfOk, IfErr, OnOk, option_map};
-ghost use Rattle.crdt_core.specs.declared.memory.Memory.TheVariants.{Want, Full};
+ghost use Rattle.std.specs.Prelude.{◌≡◌, ◌⊎◌, ℕ, Some, [], ◌∷◌, length, map, IsTrue, IfOk, OnOk, option_map};
+ghost use Rattle.crdt_core.specs.Outcomes.{OnlyWant, WantOr};
 ghost use Rattle.layout_roles.specs.declared.layout.Layout.{Layout};
 ghost use Rattle.table_schema.specs.Words.{partition_of};
 ghost use Rattle.block_resync.specs.Outbox.{IsNumbered};
@@ -32,7 +32,7 @@ pub struct Contents<S: Schema> {
 impl<S: Schema> Contents<S> {
     pub fn new(alloc: Global) -> Result<Contents<S>, Memory>
         ensures empty { IfOk result (λ contents. IsContents S.Row.join S.words contents new_node) }
-        ensures want { IfErr result (λ e. e ≡ Want) }
+        ensures want { OnlyWant result }
     {
         Ok(Contents {
             table: Table::new(alloc)?,
@@ -45,7 +45,7 @@ impl<S: Schema> Contents<S> {
     fn accept(&mut self, row: &S::Row) -> Result<(), Memory>
         requires { IsTrue (S.words.is_proper row.now) }
         ensures accepts { OnOk result ((now : ℕ) → Turns S.Row.join S.words self.old self.new (λ x. accepts S.Row.join S.words now x row.now None)) }
-        ensures causes { IfErr result (λ e. (e ≡ Want) ⊎ ((e ≡ Full) × ((now : ℕ) → Exceeds S.Row.join S.words self.old (λ x. accepts S.Row.join S.words now x row.now None)))) }
+        ensures causes { WantOr result ((now : ℕ) → Exceeds S.Row.join S.words self.old (λ x. accepts S.Row.join S.words now x row.now None)) }
     {
         let change = self.table.merge_in(row)?;
         for called in change.triggered.as_slice() {
@@ -60,7 +60,7 @@ impl<S: Schema> Contents<S> {
     pub fn accept_all(&mut self, rows: &[(Bytes, Option<Bytes>)]) -> Result<(), Memory>
         requires bare { AreBare rows.now }
         ensures accepts { OnOk result (Accepts S.Row.join S.words self.old self.new rows.now) }
-        ensures causes { IfErr result (λ e. (e ≡ Want) ⊎ ((e ≡ Full) × CannotAccept S.Row.join S.words self.old rows.now)) }
+        ensures causes { WantOr result (CannotAccept S.Row.join S.words self.old rows.now) }
     {
         for stored in rows {
             match S::row_from(self.alloc, stored.0.as_slice()) {
@@ -75,7 +75,7 @@ impl<S: Schema> Contents<S> {
     /// Drops each row whose partition none of the view's sets gives the node.
     pub fn drop_lost(&mut self, view: &View, node: u8) -> Result<(), Memory>
         ensures drops { OnOk result (Drops S.Row.join S.words self.old self.new view.now node) }
-        ensures want { IfErr result (λ e. e ≡ Want) }
+        ensures want { OnlyWant result }
     {
         for p in 0..=255 {
             if !is_given(view, node, p) {
@@ -89,7 +89,7 @@ impl<S: Schema> Contents<S> {
     fn waiting(&self, number: u64) -> Result<Option<u8>, Memory>
         ensures is { IfOk result (λ p. (x : Node S.Row Layout) → IsContents S.Row.join S.words self.now x → p ≡ option_map (λ m. partition_of S.words m.row) (item_at x.items number)) }
         ensures numbered { IsNumbered self.now.outbox.pushed self.now.outbox.items }
-        ensures want { IfErr result (λ e. e ≡ Want) }
+        ensures want { OnlyWant result }
     {
         let items = self.outbox.items();
         match items.binary_search_by(|item| item.number.cmp(&number)) {
@@ -101,7 +101,7 @@ impl<S: Schema> Contents<S> {
     /// A node confirms a row that waits. It waits no longer when two nodes of each of its stored sets have.
     pub fn confirm(&mut self, view: &View, number: u64, node: u8) -> Result<(), Memory>
         ensures confirms { OnOk result (Confirms S.Row.join S.words self.old self.new view.now number node) }
-        ensures want { IfErr result (λ e. e ≡ Want) }
+        ensures want { OnlyWant result }
     {
         let Some(p) = self.waiting(number)? else {
             return Ok(());
@@ -128,7 +128,7 @@ impl<S: Schema> Contents<S> {
     ) -> Result<u64, Memory>
         ensures sent { OnOk result (SendsItems S.Row.join S.words self.now view.now node out.old.items out.new.items) }
         ensures count { IfOk result (λ count. count ≡ length self.now.outbox.items) }
-        ensures want { IfErr result (λ e. e ≡ Want) }
+        ensures want { OnlyWant result }
     {
         let items = self.outbox.items();
         for item in items {
@@ -157,7 +157,7 @@ impl<S: Schema> Contents<S> {
 // The partition of a row that waits.
 fn partition_of<S: Schema>(alloc: Global, item: &Item) -> Result<Option<u8>, Memory>
     ensures is { IfOk result (λ p. p ≡ option_map (partition_of S.words) (S.words.read item.now.row)) }
-    ensures want { IfErr result (λ e. e ≡ Want) }
+    ensures want { OnlyWant result }
 {
     match S::row_from(alloc, item.row.as_slice()) {
         Ok(row) => Ok(Some(partition::<S>(&row))),

@@ -1,37 +1,16 @@
 //! What a node sends.
-ghost use Rattle.std.specs.Prelude.{◌≡◌, [], ◌∷◌, IfOk, IfErr, OnOk};
-ghost use Rattle.crdt_core.specs.declared.memory.Memory.TheVariants.{Want};
+ghost use Rattle.std.specs.Prelude.{◌≡◌, [], ◌∷◌, IfOk, OnOk};
+ghost use Rattle.crdt_core.specs.Outcomes.{OnlyWant};
 ghost use Rattle.cluster_machine.specs.Phases.{to_each};
 ghost use Rattle.node_parts.specs.Posts.{Posts};
 
 use crate::packet::{Envelope, Packet};
-use crdt_core::{Bytes, Crdt, List, Memory, Value};
+use crdt_core::{Bytes, Crdt, List, Memory, Value, copy_row, copy_rows};
 use wire_messages::Message;
-
-fn copy_row<R: Crdt>(row: &Option<R>) -> Result<Option<R>, Memory>
-    ensures same { IfOk result (λ copied. copied ≡ row.now) }
-    ensures want { IfErr result (λ e. e ≡ Want) }
-{
-    match row {
-        Some(row) => Ok(Some(row.copy()?)),
-        None => Ok(None),
-    }
-}
-
-fn copy_rows<R: Crdt>(rows: &List<R>) -> Result<List<R>, Memory>
-    ensures same { IfOk result (λ copied. copied ≡ rows.now) }
-    ensures want { IfErr result (λ e. e ≡ Want) }
-{
-    let mut copied = List::new(rows.allocator());
-    for row in rows.as_slice() {
-        copied.push(row.copy()?)?;
-    }
-    Ok(copied)
-}
 
 fn copy_block(block: &Option<Bytes>) -> Result<Option<Bytes>, Memory>
     ensures same { IfOk result (λ copied. copied ≡ block.now) }
-    ensures want { IfErr result (λ e. e ≡ Want) }
+    ensures want { OnlyWant result }
 {
     match block {
         Some(block) => Ok(Some(block.copy()?)),
@@ -41,7 +20,7 @@ fn copy_block(block: &Option<Bytes>) -> Result<Option<Bytes>, Memory>
 
 fn copy_stored(rows: &List<(Bytes, Option<Bytes>)>) -> Result<List<(Bytes, Option<Bytes>)>, Memory>
     ensures same { IfOk result (λ copied. copied ≡ rows.now) }
-    ensures want { IfErr result (λ e. e ≡ Want) }
+    ensures want { OnlyWant result }
 {
     let mut copied = List::new(rows.allocator());
     for row in rows.as_slice() {
@@ -52,7 +31,7 @@ fn copy_stored(rows: &List<(Bytes, Option<Bytes>)>) -> Result<List<(Bytes, Optio
 
 fn copy_of<R: Crdt>(message: &Message<R>) -> Result<Message<R>, Memory>
     ensures same { IfOk result (λ copied. copied ≡ message.now) }
-    ensures want { IfErr result (λ e. e ≡ Want) }
+    ensures want { OnlyWant result }
 {
     match message {
         Message::Get {
@@ -100,7 +79,7 @@ fn copy_of<R: Crdt>(message: &Message<R>) -> Result<Message<R>, Memory>
         } => Ok(Message::Rows {
             request: *request,
             phase: *phase,
-            rows: copy_rows(rows)?,
+            rows: copy_rows(rows.allocator(), rows.as_slice())?,
             more: *more,
         }),
         Message::Store {
@@ -152,7 +131,7 @@ pub fn send<R: Drop>(
     message: Message<R>,
 ) -> Result<(), Memory>
     ensures sent { OnOk result (Posts from out.old.items out.new.items (to_each (to ∷ []) message)) }
-    ensures want { IfErr result (λ e. e ≡ Want) }
+    ensures want { OnlyWant result }
 {
     out.push(Envelope {
         from,
@@ -170,7 +149,7 @@ pub fn send_each<R: Crdt>(
     message: &Message<R>,
 ) -> Result<(), Memory>
     ensures sent { OnOk result (Posts from out.old.items out.new.items (to_each nodes.now message.now)) }
-    ensures want { IfErr result (λ e. e ≡ Want) }
+    ensures want { OnlyWant result }
 {
     for to in nodes {
         send(out, from, *to, copy_of(message)?)?;

@@ -1,7 +1,7 @@
 //! How a node hands its rows of a partition to other nodes.
-ghost use Rattle.std.specs.Prelude.{◌≡◌, ◌⊎◌, false, map, IfOk, IfErr, OnOk, IsTrue};
+ghost use Rattle.std.specs.Prelude.{◌≡◌, ◌⊎◌, false, map, IfOk, OnOk, IsTrue};
 ghost use Rattle.std.specs.List.{list_all};
-ghost use Rattle.crdt_core.specs.declared.memory.Memory.TheVariants.{Want, Full};
+ghost use Rattle.crdt_core.specs.Outcomes.{WantOr};
 ghost use Rattle.cluster_machine.specs.Phases.{is_spelled};
 ghost use Rattle.node_parts.specs.Pushes.{bare_rows, Pushes, CannotPush, PushesAll, CannotPushAll, PushesAgain, CannotPushAgain};
 
@@ -23,7 +23,7 @@ fn bytes_of_each<S: Schema>(
 ) -> Result<List<(Bytes, Option<Bytes>)>, Memory>
     ensures are { IfOk result (λ stored. stored ≡ bare_rows S.words rows.now) }
     ensures spelled { OnOk result (IsTrue (list_all (is_spelled S.words) rows.now)) }
-    ensures causes { IfErr result (λ e. (e ≡ Want) ⊎ ((e ≡ Full) × (list_all (is_spelled S.words) rows.now ≡ false))) }
+    ensures causes { WantOr result (list_all (is_spelled S.words) rows.now ≡ false) }
 {
     let mut stored = List::new(alloc);
     for row in rows {
@@ -53,7 +53,7 @@ impl Sender {
         out: &mut Vec<Envelope<S::Row>>,
     ) -> Result<bool, Memory>
         ensures pushes { IfOk result (λ is_some. Pushes S.Row.join S.words self table.now p nodes.now out.old.items out.new.items is_some) }
-        ensures causes { IfErr result (λ e. (e ≡ Want) ⊎ ((e ≡ Full) × CannotPush S.Row.join S.words self table.now p)) }
+        ensures causes { WantOr result (CannotPush S.Row.join S.words self table.now p) }
     {
         let rows = table.rows_of(p)?;
         if rows.is_empty() {
@@ -82,7 +82,7 @@ impl Sender {
         out: &mut Vec<Envelope<S::Row>>,
     ) -> Result<Vec<(u8, [u8; 3])>, Memory>
         ensures pushes { IfOk result (λ parts. PushesAll S.Row.join S.words self table.now here.now there.now out.old.items out.new.items parts.items) }
-        ensures causes { IfErr result (λ e. (e ≡ Want) ⊎ ((e ≡ Full) × CannotPushAll S.Row.join S.words self table.now here.now there.now)) }
+        ensures causes { WantOr result (CannotPushAll S.Row.join S.words self table.now here.now there.now) }
     {
         let mut parts = Vec::new(self.alloc);
         for partition in 0..PARTITIONS {
@@ -106,7 +106,7 @@ impl Sender {
         out: &mut Vec<Envelope<S::Row>>,
     ) -> Result<(), Memory>
         ensures pushes { OnOk result (PushesAgain S.Row.join S.words self table.now (map (λ part. (part.0, part.1.items)) parts.now) out.old.items out.new.items) }
-        ensures causes { IfErr result (λ e. (e ≡ Want) ⊎ ((e ≡ Full) × CannotPushAgain S.Row.join S.words self table.now (map (λ part. (part.0, part.1.items)) parts.now))) }
+        ensures causes { WantOr result (CannotPushAgain S.Row.join S.words self table.now (map (λ part. (part.0, part.1.items)) parts.now)) }
     {
         for (p, nodes) in parts {
             let _ = self.push(table, *p, nodes.as_slice(), out)?;

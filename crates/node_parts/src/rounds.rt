@@ -1,12 +1,13 @@
 //! The rounds of a node.
 ghost use Rattle.std.specs.Prelude.{◌≡◌, ◌<◌, ◌≤◌, ◌+◌, ◌^◌, ◌⊎◌, ◌==◌, ℕ, Bool, Option, Some, None, List, ◌++◌, [], ◌∷◌, map, IfOk, IfErr, OnOk, IfSome};
 ghost use Rattle.std.specs.List.Sorted.{IsStrictlyIncreasing};
-ghost use Rattle.crdt_core.specs.declared.memory.Memory.TheVariants.{Want, Full};
-ghost use Rattle.cluster_machine.specs.Node.{Round as Moved, Part};
+ghost use Rattle.crdt_core.specs.Outcomes.{OnlyWant};
+ghost use Rattle.crdt_core.specs.declared.memory.Memory.TheVariants.{Full};
+ghost use Rattle.cluster_machine.specs.Node.{Round as Moved};
 ghost use Rattle.cluster_machine.specs.Rows.{still};
 ghost use Rattle.cluster_machine.specs.Rounds.{is_complete};
 ghost use Rattle.node_parts.specs.Pushes.{part_of};
-ghost use Rattle.node_parts.specs.Rounds.{IsOpen, IsMoving, AreRounds, open_parts_of, begun_round, confirmed_round};
+ghost use Rattle.node_parts.specs.Rounds.{IsMoving, AreRounds, open_parts_of, begun_round, confirmed_round};
 
 use crdt_core::Memory;
 use std::alloc::Global;
@@ -36,7 +37,7 @@ impl Moving {
         node: u8,
     ) -> Result<Moving, Memory>
         ensures begins { IfOk result (λ m. IsStrictlyIncreasing (map (λ part. part.0) parts.items) → IsMoving node m (begun_round number target (map part_of parts.items) node)) }
-        ensures want { IfErr result (λ e. e ≡ Want) }
+        ensures want { OnlyWant result }
     {
         let round = Round::new(alloc, target, parts, node)?;
         Ok(Moving { number, round })
@@ -59,7 +60,7 @@ impl Moving {
     /// Each partition that some node hasn't confirmed, with these nodes.
     pub fn open_parts(&self) -> Result<Vec<(u8, Vec<u8>)>, Memory>
         ensures are { IfOk result (λ parts. (node : ℕ) (r : Moved) → IsMoving node self.now r → map (λ part. (part.0, part.1.items)) parts.items ≡ open_parts_of r) }
-        ensures want { IfErr result (λ e. e ≡ Want) }
+        ensures want { OnlyWant result }
     {
         self.round.open_parts()
     }

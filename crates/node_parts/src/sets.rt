@@ -1,11 +1,10 @@
 //! The sets of a partition in the layout versions that a node stores.
-ghost use Rattle.std.specs.Prelude.{◌≡◌, IfOk, IfErr, OnOk};
-ghost use Rattle.crdt_core.specs.declared.memory.Memory.TheVariants.{Want};
+ghost use Rattle.std.specs.Prelude.{◌≡◌, IfOk, OnOk};
+ghost use Rattle.crdt_core.specs.Outcomes.{OnlyWant};
 ghost use Rattle.layout_history.specs.Views.{known};
 ghost use Rattle.quorum_model.specs.Quorum.{is_among};
-ghost use Rattle.cluster_machine.specs.Layouts.{set_of, stored_sets, is_given, is_member, is_stored};
+ghost use Rattle.cluster_machine.specs.Layouts.{set_of, stored_sets, is_given, is_member, is_stored, layouts};
 ghost use Rattle.cluster_machine.specs.Phases.{nodes_of, with_node};
-ghost use Rattle.node_parts.specs.Layouts.{layouts};
 ghost use Rattle.node_parts.specs.Sets.{others_of};
 
 use crdt_core::Memory;
@@ -16,7 +15,7 @@ use std::alloc::Global;
 /// The three nodes of a partition in each stored version, from the oldest to the newest.
 pub fn stored_sets(alloc: Global, view: &View, p: u8) -> Result<Vec<[u8; 3]>, Memory>
     ensures are { IfOk result (λ sets. sets.items ≡ stored_sets layouts (known view.now) p) }
-    ensures want { IfErr result (λ e. e ≡ Want) }
+    ensures want { OnlyWant result }
 {
     let mut sets = Vec::new(alloc);
     for layout in view.layouts() {
@@ -56,7 +55,7 @@ pub fn is_stored(view: &View, version: u32) -> bool
 // Puts a node in its place among others, in order of nodes and each once.
 fn put_in(nodes: &mut Vec<u8>, node: u8) -> Result<(), Memory>
     ensures put { OnOk result (nodes.new.items ≡ with_node node nodes.old.items) }
-    ensures want { IfErr result (λ e. e ≡ Want) }
+    ensures want { OnlyWant result }
 {
     for place in 0..nodes.len() {
         let other = nodes[place];
@@ -75,7 +74,7 @@ fn put_in(nodes: &mut Vec<u8>, node: u8) -> Result<(), Memory>
 /// The nodes of all these sets, in order and each once.
 pub fn nodes_of(alloc: Global, sets: &[[u8; 3]]) -> Result<Vec<u8>, Memory>
     ensures are { IfOk result (λ nodes. nodes.items ≡ nodes_of sets.now) }
-    ensures want { IfErr result (λ e. e ≡ Want) }
+    ensures want { OnlyWant result }
 {
     let mut nodes = Vec::new(alloc);
     let mut left = sets.len();
@@ -92,7 +91,7 @@ pub fn nodes_of(alloc: Global, sets: &[[u8; 3]]) -> Result<Vec<u8>, Memory>
 /// The nodes of a set other than this one.
 pub fn others_of(alloc: Global, set: &[u8; 3], node: u8) -> Result<Vec<u8>, Memory>
     ensures are { IfOk result (λ others. others.items ≡ others_of node set.now) }
-    ensures want { IfErr result (λ e. e ≡ Want) }
+    ensures want { OnlyWant result }
 {
     Ok(
         set.iter()

@@ -2,12 +2,11 @@
 ghost use Rattle.std.specs.Prelude.{◌≡◌, ◌&&◌, ◌==◌};
 ghost use Rattle.std.specs.List.{list_any};
 ghost use Rattle.layout_roles.specs.Zones.{is_storage};
-ghost use Rattle.layout_history.specs.Known.{reading};
+ghost use Rattle.view_model.specs.Layouts.{reading};
 ghost use Rattle.layout_history.specs.Views.{known};
 ghost use Rattle.view_model.specs.View.{layout_at};
 ghost use Rattle.quorum_model.specs.Quorum.{is_among};
-ghost use Rattle.cluster_machine.specs.Layouts.{storage_in};
-ghost use Rattle.node_parts.specs.Layouts.{layouts};
+ghost use Rattle.cluster_machine.specs.Layouts.{storage_in, layouts};
 
 use layout_history::View;
 use layout_roles::Role;

@@ -16,12 +16,14 @@ use Rattle.cluster_machine.specs.Node.{Present, resting, asking, scanning, stori
 use Rattle.cluster_machine.specs.Phases.{call_at, begins}
 use Rattle.cluster_machine.specs.World.{Request, numbered}
 use Rattle.cluster_machine.specs.Step.{begun, beginning}
-use Rattle.machine_origins.specs.Following.{AreDifferent, Began, Begins}
+use Rattle.cluster_machine.specs.Keeping.{AreDifferent}
+use Rattle.machine_origins.specs.Following.{Began, Begins}
 use Rattle.machine_origins.proofs.FollowingCalls.{found_there}
 use Rattle.machine_origins.proofs.FollowingSteps.{begins_follow}
-use Rattle.node_parts.specs.Layouts.{layouts}
-use Rattle.world_model.specs.Trio.{trio, stage_trio}
-use Rattle.object_model.specs.Object.{Name, row_key, bucket_hash, object}
+use Rattle.cluster_machine.specs.Layouts.{layouts}
+use Rattle.cluster_machine.specs.Trio.{trio, stage_trio}
+use Rattle.blake2_hash.specs.Hash.{digest_of}
+use Rattle.object_model.specs.Object.{Name, row_key, object}
 use Rattle.object_model.specs.Run.{State, Order, Record, began, plainly, effect, asks, stores}
 use Rattle.object_model.specs.Fresh.{IsAcknowledged}
 use Rattle.object_laws.proofs.Sound.{HasKept, IsProper, AreProper, IsPresent, IsSound}
@@ -62,7 +64,7 @@ acknowledged_part before rest name version a =
     record { request = a.request; node = a.node; has_begun = Contains-append_left before rest _ a.has_begun; has_finished = Contains-append_left before rest _ a.has_finished }
 
 module _ (s : State) (q : ℕ) (order : Order) (there : numbered s.orders q ≡ Some order) (sound : IsSound s) where
-  asks_present : (p : Present AnyRow) → Began s.world.kept (Read 1 (bucket_hash order.name.bucket) (row_key order.name)) p → IsPresent s.orders s.history q p
+  asks_present : (p : Present AnyRow) → Began s.world.kept (Read 1 (digest_of order.name.bucket) (row_key order.name)) p → IsPresent s.orders s.history q p
   asks_present resting b = absurd b
   asks_present (asking question answers) b = record {
     order = order;
@@ -86,7 +88,7 @@ module _ (s : State) (q : ℕ) (order : Order) (there : numbered s.orders q ≡ 
 
   module _ (differ : (n : ℕ) → AreDifferent (s.world.nodes n).calls) where
     pub asks_fine : IsFine s (effect s (asks q order.name))
-    asks_fine = phase_fine s sound differ q (Read 1 (bucket_hash order.name.bucket) (row_key order.name)) asks_present
+    asks_fine = phase_fine s sound differ q (Read 1 (digest_of order.name.bucket) (row_key order.name)) asks_present
 
     pub stores_fine : (version : Version) → order.version ≡ Some version → IsFine s (effect s (stores q order version))
     stores_fine version is = phase_fine s sound differ q (Store ((object order.name version order.bytes, None) ∷ [])) (stores_present version is)

@@ -4,7 +4,7 @@ use Rattle.std.specs.Prelude.{◌≡◌, ℕ, Bool, true, false, not, ◌&&◌, 
 use Rattle.std.specs.Option.{unwrap_or}
 use Rattle.std.proofs.Common.{sym, subst, inl, inr}
 use Rattle.std.proofs.lemmas.Bool.{eqb-true}
-use Rattle.control_model.specs.Facts.{Has}
+use Rattle.crdt_core.specs.Members.{Has}
 use Rattle.layout_roles.specs.declared.role.Role.{Role}
 use Rattle.table_schema.specs.Words.{Words}
 use Rattle.cluster_machine.specs.declared.step.Step.{Step}
@@ -17,7 +17,8 @@ use Rattle.cluster_machine.specs.Phases.{without_call, closed}
 use Rattle.cluster_machine.specs.Acts.{acts, appends, restarts}
 use Rattle.cluster_machine.specs.World.{World, Sent, Mark, Request, numbered, clock, is_member_at}
 use Rattle.cluster_machine.specs.Step.{most_versions, Choice, given, none_given, Effects, only, changed, at_message, expires, closing, chosen, applies_at, acting, effects}
-use Rattle.machine_origins.specs.Following.{AreDifferent, Continues, AtMostOne, Follows}
+use Rattle.cluster_machine.specs.Keeping.{AreDifferent}
+use Rattle.machine_origins.specs.Following.{Continues, AtMostOne, Follows}
 use Rattle.machine_origins.proofs.FollowingCalls.{continues_self}
 use Rattle.machine_origins.proofs.FollowingSteps.{follows_receives, follows_acts}
 

@@ -6,16 +6,16 @@ use Rattle.crdt_rows.specs.declared.version.Version.{Version}
 use Rattle.crdt_rows.specs.declared.any_row.AnyRow.{AnyRow}
 use Rattle.crdt_rows.specs.AnyRow.{any_join}
 use Rattle.object_schema.specs.Schema.{words}
-use Rattle.node_parts.specs.Layouts.{layouts}
+use Rattle.cluster_machine.specs.Layouts.{layouts}
 use Rattle.cluster_machine.specs.declared.line.DoneWord.TheVariants.{Put as WordPut, Get as WordGet}
 use Rattle.cluster_machine.specs.declared.line.Line.{Line}
 use Rattle.cluster_machine.specs.declared.step.Refusal.TheVariants.{VersionLimit}
 use Rattle.cluster_machine.specs.declared.step.Step.TheVariants.{Close}
 use Rattle.cluster_machine.specs.Step.{none_given}
 use Rattle.cluster_machine.specs.World.{numbered}
-use Rattle.world_model.specs.declared.applied.Applied.{Applied}
-use Rattle.world_model.specs.Trio.{trio, stage_trio}
-use Rattle.world_model.specs.Worlds.{FitAll}
+use Rattle.cluster_machine.specs.declared.applied.Applied.{Applied}
+use Rattle.cluster_machine.specs.Trio.{trio, stage_trio}
+use Rattle.cluster_machine.specs.Worlds.{FitAll}
 use Rattle.object_model.specs.Object.{Name, object, Newest, absent, inline, in_blocks, newest_of}
 use Rattle.object_model.specs.Run.{State, Order, Answer, stored, found, nothing, began, finished, plainly, effect, finishes, found_line, nothing_line, gets}
 use Rattle.object_laws.proofs.Cuts.{at_cut}

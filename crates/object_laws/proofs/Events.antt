@@ -7,7 +7,7 @@ use Rattle.crdt_rows.specs.declared.any_row.AnyRow.{AnyRow}
 use Rattle.crdt_rows.specs.AnyRow.{any_join}
 use Rattle.table_schema.specs.Words.{Words}
 use Rattle.object_schema.specs.Schema.{words}
-use Rattle.node_parts.specs.Layouts.{layouts}
+use Rattle.cluster_machine.specs.Layouts.{layouts}
 use Rattle.wire_messages.specs.declared.phase.PhaseEnd.{PhaseEnd}
 use Rattle.wire_messages.specs.declared.phase.PhaseEnd.TheVariants.{Row as Answered, Window, Kept, Block}
 use Rattle.cluster_machine.specs.declared.line.DoneWord.{DoneWord}
@@ -18,9 +18,9 @@ use Rattle.cluster_machine.specs.Node.{Ended}
 use Rattle.cluster_machine.specs.Run.{IsStep}
 use Rattle.cluster_machine.specs.World.{is_member_at, numbered, undelivered}
 use Rattle.machine_origins.specs.Origins.{stored_by}
-use Rattle.world_model.specs.Choices.{Decision}
-use Rattle.world_model.specs.Trio.{trio, stage_trio}
-use Rattle.world_model.specs.Worlds.{Model, Doing, next, IsMeant, IsLawful as IsLawfulMove, FitAll, run as world_run}
+use Rattle.cluster_machine.specs.Choices.{Decision}
+use Rattle.cluster_machine.specs.Trio.{trio, stage_trio}
+use Rattle.cluster_machine.specs.Worlds.{Model, Doing, next, IsMeant, IsLawful as IsLawfulMove, FitAll, run as world_run}
 use Rattle.object_model.specs.declared.event.Event.{Event}
 use Rattle.object_model.specs.declared.event.Event.TheVariants.{Trio, Bucket, Role, Redundancy, Apply, Tick, Put, Get, Deliver, Drain, Expire, Gossip, Ack, Sync, SyncAck, Clean}
 use Rattle.object_model.specs.Object.{object, Newest, absent, inline, in_blocks, newest_of}

@@ -8,7 +8,7 @@ use Rattle.crdt_rows.specs.declared.any_row.AnyRow.{AnyRow}
 use Rattle.crdt_rows.specs.AnyRow.{any_join}
 use Rattle.layout_roles.specs.declared.layout.Layout.{Layout}
 use Rattle.object_schema.specs.Schema.{words}
-use Rattle.node_parts.specs.Layouts.{layouts}
+use Rattle.cluster_machine.specs.Layouts.{layouts}
 use Rattle.cluster_machine.specs.declared.line.DoneWord.{DoneWord}
 use Rattle.cluster_machine.specs.declared.line.DoneWord.TheVariants.{Put}
 use Rattle.cluster_machine.specs.declared.step.Step.TheVariants.{Open}
@@ -16,7 +16,7 @@ use Rattle.cluster_machine.specs.Node.{Call, Node}
 use Rattle.cluster_machine.specs.Phases.{opened}
 use Rattle.cluster_machine.specs.World.{Request, numbered, is_member_at}
 use Rattle.cluster_machine.specs.Step.{only, changed}
-use Rattle.world_model.specs.Worlds.{IsLawfulRun, newest_at, next}
+use Rattle.cluster_machine.specs.Worlds.{IsLawfulRun, newest_at, next}
 use Rattle.object_model.specs.Object.{Name}
 use Rattle.object_model.specs.Run.{World, State, Order, stored, Record, began, finished, plainly}
 use Rattle.object_laws.proofs.Places.{numbered_append, numbered_push_cases, numbered_last, numbered_within}

@@ -1,7 +1,7 @@
 -- The invariant of a state that turns lead to.
 use Rattle.std.specs.Prelude.{◌≡◌, ℕ, IsTrue, List, ◌∷◌, [], ◌++◌, length, Some, ⊤}
 use Rattle.std.specs.List.{All, Contains}
-use Rattle.control_model.specs.Facts.{Has}
+use Rattle.crdt_core.specs.Members.{Has}
 use Rattle.crdt_rows.specs.declared.version.Version.{Version}
 use Rattle.crdt_rows.specs.declared.any_row.AnyRow.{AnyRow}
 use Rattle.crdt_rows.specs.AnyRow.{any_join}
@@ -11,7 +11,7 @@ use Rattle.cluster_machine.specs.declared.line.DoneWord.TheVariants.{Put, Get}
 use Rattle.cluster_machine.specs.Node.{Question, Present, resting, asking, scanning, storing, fetching, Call}
 use Rattle.cluster_machine.specs.World.{empty, numbered}
 use Rattle.machine_origins.specs.Origins.{stored_by}
-use Rattle.world_model.specs.Worlds.{IsLawfulRun, run}
+use Rattle.cluster_machine.specs.Worlds.{IsLawfulRun, run}
 use Rattle.object_model.specs.Object.{Name, row_key, object}
 use Rattle.object_model.specs.Run.{World, Moving, Order, Answer, stored, found, nothing, Record, began, finished, Draw, State}
 use Rattle.object_model.specs.Fresh.{IsAcknowledged, IsFresh}

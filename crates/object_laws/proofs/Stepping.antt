@@ -13,7 +13,7 @@ use Rattle.cluster_machine.specs.Node.{Node, Ended}
 use Rattle.cluster_machine.specs.World.{Request, numbered}
 use Rattle.cluster_machine.specs.Step.{only, changed, shut, shut_one}
 use Rattle.machine_origins.specs.Origins.{stored_by}
-use Rattle.world_model.specs.Worlds.{Done as Effect, IsLawfulRun}
+use Rattle.cluster_machine.specs.Worlds.{Done as Effect, IsLawfulRun}
 use Rattle.object_model.specs.Run.{State, Moving, doing, effect}
 use Rattle.object_laws.proofs.Good.{IsGood}
 use Rattle.object_laws.proofs.Sound.{IsProper, AreProper, ArePresent, IsSound}

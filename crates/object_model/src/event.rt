@@ -1,8 +1,8 @@
 //! The events of a schedule, and what each answers.
 use cluster_machine::Words;
+use cluster_machine::applied::{Line, Refusal};
 use crdt_core::{Bytes, List};
 use layout_roles::{Kind, Redundancy, Zone};
-use world_model::{Line, Refusal};
 
 /// A line of a schedule. Nodes are 1 to 16.
 #[derive(Drop)]

@@ -22,7 +22,7 @@ use Rattle.crdt_core.specs.Entries.{merged}
 use Rattle.crdt_core.specs.Map.{map_entries, map_join, map_single, map_join-entries}
 use Rattle.crdt_rows.specs.declared.version.Version.{Version}
 use Rattle.crdt_rows.specs.declared.state.State.{State}
-use Rattle.crdt_rows.specs.Hash.{hash_cmp}
+use Rattle.blake2_hash.specs.Hash.{hash_cmp}
 use Rattle.crdt_rows.specs.Version.{version_cmp}
 use Rattle.object_schema.specs.declared.hashes.BlockName.{BlockName}
 use Rattle.object_schema.specs.Names.{name_cmp}

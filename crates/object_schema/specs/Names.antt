@@ -1,7 +1,7 @@
 -- The order of blocks' hashes as values in a set.
 use Rattle.std.specs.declared.cmp.Ordering.{Ordering}
 use Rattle.crdt_core.specs.Orders.{Identifies}
-use Rattle.crdt_rows.specs.Hash.{hash_cmp, hash_identical}
+use Rattle.blake2_hash.specs.Hash.{hash_cmp, hash_identical}
 use Rattle.object_schema.specs.declared.hashes.BlockName.{BlockName}
 
 -- by the hash

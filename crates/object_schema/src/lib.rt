@@ -17,8 +17,6 @@ mod object_triggers;
 mod place;
 mod schema;
 mod sets;
-#[cfg(test)]
-mod tests;
 mod version_triggers;
 
 pub use schema::S3Schema;

@@ -1,6 +1,6 @@
 //! The rows that a change of an object row calls for.
-ghost use Rattle.std.specs.Prelude.{◌≡◌, [], ◌∷◌, Some, map, IfOk, OnOk, IfErr};
-ghost use Rattle.crdt_core.specs.declared.memory.Memory.TheVariants.{Want};
+ghost use Rattle.std.specs.Prelude.{◌≡◌, [], ◌∷◌, Some, map, IfOk, OnOk};
+ghost use Rattle.crdt_core.specs.Outcomes.{OnlyWant};
 ghost use Rattle.crdt_rows.specs.ObjectRow.{state_at};
 ghost use Rattle.crdt_rows.specs.Version.{version_cmp};
 ghost use Rattle.object_schema.specs.Sets.{keys_of};
@@ -56,7 +56,7 @@ fn add_if_lost(
     new: &ObjectRow,
 ) -> Result<(), Memory>
     ensures ok { OnOk result (keys_of set.new ≡ with_values version_cmp (keys_of set.old) (versions_that (is_lost new.now) (entry.now ∷ []))) }
-    ensures want { IfErr result (λ e. e ≡ Want) }
+    ensures want { OnlyWant result }
 {
     if is_lost(new, entry) {
         return add(set, entry.0);
@@ -70,7 +70,7 @@ fn add_if_newly_aborted(
     old: &ObjectRow,
 ) -> Result<(), Memory>
     ensures ok { OnOk result (keys_of set.new ≡ with_values version_cmp (keys_of set.old) (versions_that (is_newly_aborted old.now) (entry.now ∷ []))) }
-    ensures want { IfErr result (λ e. e ≡ Want) }
+    ensures want { OnlyWant result }
 {
     if is_newly_aborted(old, entry) {
         return add(set, entry.0);
@@ -85,7 +85,7 @@ fn add_lost(
     new: &ObjectRow,
 ) -> Result<(), Memory>
     ensures ok { OnOk result (keys_of set.new ≡ with_values version_cmp (keys_of set.old) (versions_that (is_lost new.now) entries.now)) }
-    ensures want { IfErr result (λ e. e ≡ Want) }
+    ensures want { OnlyWant result }
 {
     for entry in entries {
         add_if_lost(set, entry, new)?;
@@ -100,7 +100,7 @@ fn add_newly_aborted(
     old: &ObjectRow,
 ) -> Result<(), Memory>
     ensures ok { OnOk result (keys_of set.new ≡ with_values version_cmp (keys_of set.old) (versions_that (is_newly_aborted old.now) entries.now)) }
-    ensures want { IfErr result (λ e. e ≡ Want) }
+    ensures want { OnlyWant result }
 {
     for entry in entries {
         add_if_newly_aborted(set, entry, old)?;
@@ -110,7 +110,7 @@ fn add_newly_aborted(
 
 fn deleted_versions(alloc: Global, versions: &[(Version, Bool)]) -> Result<Vec<AnyRow>, Memory>
     ensures are { IfOk result (λ rows. rows.items ≡ map (λ e. deleted_version e.0) versions.now) }
-    ensures want { IfErr result (λ e. e ≡ Want) }
+    ensures want { OnlyWant result }
 {
     let mut rows = Vec::new(alloc);
     for entry in versions {
@@ -128,7 +128,7 @@ pub fn object_triggers(
     new: &ObjectRow,
 ) -> Result<Vec<AnyRow>, Memory>
     ensures are { IfOk result (λ rows. rows.items ≡ map deleted_version (given_up old.now new.now)) }
-    ensures want { IfErr result (λ e. e ≡ Want) }
+    ensures want { OnlyWant result }
 {
     let mut versions = Map::new(alloc);
     add_lost(&mut versions, old.versions.as_slice(), new)?;

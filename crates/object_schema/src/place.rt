@@ -1,6 +1,6 @@
 //! Where a row is kept, and its key there.
-ghost use Rattle.std.specs.Prelude.{◌≡◌, ◌++◌, IsTrue, IfOk, IfErr};
-ghost use Rattle.crdt_core.specs.declared.memory.Memory.TheVariants.{Want};
+ghost use Rattle.std.specs.Prelude.{◌≡◌, ◌++◌, IsTrue, IfOk};
+ghost use Rattle.crdt_core.specs.Outcomes.{OnlyWant};
 ghost use Rattle.row_codec.specs.Range.{is_hash, is_eight};
 ghost use Rattle.row_codec.specs.Reads.{are_bytes};
 ghost use Rattle.row_codec.specs.Spelling.{eight};
@@ -66,7 +66,7 @@ pub fn position(row: &AnyRow) -> Hash32
 
 fn joined(alloc: Global, front: &[u8], back: &[u8]) -> Result<Bytes, Memory>
     ensures is { IfOk result (λ bytes. bytes ≡ front.now ++ back.now) }
-    ensures want { IfErr result (λ e. e ≡ Want) }
+    ensures want { OnlyWant result }
 {
     let mut bytes = Bytes::from_slice(alloc, front)?;
     bytes.extend_from_slice(back)?;
@@ -76,7 +76,7 @@ fn joined(alloc: Global, front: &[u8], back: &[u8]) -> Result<Bytes, Memory>
 /// Bucket and key of an object, a version's identifier, a block's hash and a version's identifier.
 pub fn key(alloc: Global, row: &AnyRow) -> Result<Bytes, Memory>
     ensures is { IfOk result (λ key. key ≡ key_of row.now) }
-    ensures want { IfErr result (λ e. e ≡ Want) }
+    ensures want { OnlyWant result }
 {
     match row {
         AnyRow::Object(row) => joined(alloc, &row.bucket.0, row.key.as_slice()),

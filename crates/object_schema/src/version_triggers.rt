@@ -1,6 +1,6 @@
 //! The rows that a change of a version row calls for.
-ghost use Rattle.std.specs.Prelude.{◌≡◌, map, IfOk, IfErr};
-ghost use Rattle.crdt_core.specs.declared.memory.Memory.TheVariants.{Want};
+ghost use Rattle.std.specs.Prelude.{◌≡◌, map, IfOk};
+ghost use Rattle.crdt_core.specs.Outcomes.{OnlyWant};
 ghost use Rattle.object_schema.specs.Names.{name_cmp};
 ghost use Rattle.object_schema.specs.Sets.{keys_of};
 ghost use Rattle.object_schema.specs.Triggers.{in_order, released, deleted_reference};
@@ -17,7 +17,7 @@ fn hashes_of(
     blocks: &[(Part, Max<BlockRef>)],
 ) -> Result<Map<BlockName, Bool>, Memory>
     ensures are { IfOk result (λ set. keys_of set ≡ in_order name_cmp (map (λ e. record { 0 = e.1.0.hash }) blocks.now)) }
-    ensures want { IfErr result (λ e. e ≡ Want) }
+    ensures want { OnlyWant result }
 {
     let mut set = Map::new(alloc);
     for entry in blocks {
@@ -32,7 +32,7 @@ fn deleted_references(
     hashes: &[(BlockName, Bool)],
 ) -> Result<Vec<AnyRow>, Memory>
     ensures are { IfOk result (λ rows. rows.items ≡ map (λ e. deleted_reference id e.0.0) hashes.now) }
-    ensures want { IfErr result (λ e. e ≡ Want) }
+    ensures want { OnlyWant result }
 {
     let mut rows = Vec::new(alloc);
     for entry in hashes {
@@ -50,7 +50,7 @@ pub fn version_triggers(
     new: &VersionRow,
 ) -> Result<Vec<AnyRow>, Memory>
     ensures are { IfOk result (λ rows. rows.items ≡ map (deleted_reference old.now.id) (released old.now new.now)) }
-    ensures want { IfErr result (λ e. e ≡ Want) }
+    ensures want { OnlyWant result }
 {
     match &new.blocks {
         Deletable::Present(_) => Ok(Vec::new(alloc)),

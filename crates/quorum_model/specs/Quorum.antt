@@ -2,6 +2,7 @@
 use Rattle.std.specs.Prelude.{ℕ, zero, suc, ◌-◌, ◌==◌, Bool, true, false, nat_le, count_by, ◌&&◌, ◌||◌, List, [], ◌∷◌, ◌++◌, drop}
 use Rattle.std.specs.List.{list_all}
 
+-- a node is one of these
 abbrev pub is_among : ℕ → List ℕ → Bool
 is_among n [] = false
 is_among n (m ∷ ms) = (m == n) || is_among n ms
@@ -10,6 +11,7 @@ is_among n (m ∷ ms) = (m == n) || is_among n ms
 abbrev pub two_of : List ℕ → List ℕ → Bool
 two_of set nodes = nat_le 2 (count_by (λ n. is_among n nodes) set)
 
+-- there is a set at all
 abbrev pub is_some_set : {A : Type 0} → List A → Bool
 is_some_set [] = false
 is_some_set (s ∷ ss) = true

@@ -1,5 +1,6 @@
 -- The window of a range phase: the part of the table that both answers show whole.
-use Rattle.std.specs.Prelude.{◌≡◌, ℕ, ◌-◌, Bool, true, not, if◌then◌else◌, Option, Some, None, option_map, List, length, slice_get, map, drop, filter, All, IsTrue}
+use Rattle.std.specs.Prelude.{◌≡◌, ◌++◌, ℕ, nat_eq, ◌-◌, Bool, true, not, if◌then◌else◌, Option, Some, None, option_map, List, length, slice_get, map, drop, filter, All, IsTrue}
+use Rattle.std.specs.List.{starts_with}
 use Rattle.std.specs.Ordering.{nat_cmp, is_lt}
 use Rattle.std.specs.declared.cmp.Ordering.{Ordering}
 use Rattle.std.specs.Cmp.Lexicographic.{slice_cmp}
@@ -17,6 +18,7 @@ pub record Window (R : Type 0) : Type 0 where
 abbrev pub key_cmp : List ℕ → List ℕ → Ordering
 key_cmp a b = slice_cmp nat_cmp a b
 
+-- the last of these, if there are any
 abbrev pub last_of : {A : Type 0} → List A → Option A
 last_of xs = slice_get xs (length xs - 1)
 
@@ -81,3 +83,15 @@ module _ {R : Type 0} (join : R → R → R) (s : Words R) where
   -- what a range phase gives
   abbrev pub window_of : List (ℕ × RangeAnswer R) → Option (Window R)
   window_of answers = option_map window (first_two answers)
+
+-- a window's end as the end of whole row keys
+abbrev pub end_key : List ℕ → Option (List ℕ) → Option (List ℕ)
+end_key position None = None
+end_key position (Some end) = Some (position ++ end)
+
+-- a key that the window names: it begins with the position and the prefix, is greater than the position and `after`,
+-- and is at most the window's end
+pub record IsNamed (position prefix after : List ℕ) (end : Option (List ℕ)) (key : List ℕ) : Type 0 where
+  pub begins : IsTrue (starts_with nat_eq key (position ++ prefix))
+  pub past : IsTrue (is_lt (slice_cmp nat_cmp (position ++ after) key))
+  pub within : IsTrue (is_within (end_key position end) key)

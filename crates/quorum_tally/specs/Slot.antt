@@ -4,6 +4,7 @@ use Rattle.quorum_model.specs.Quorum.{is_among}
 use Rattle.quorum_tally.specs.declared.slot.Mark.{Mark}
 use Rattle.quorum_tally.specs.declared.slot.Slot.{Slot}
 
+-- a node that has not confirmed
 abbrev pub unmarked : ℕ → Mark
 unmarked node = record { node = node; is_confirmed = false }
 
@@ -15,9 +16,11 @@ confirmed node m = record { node = m.node; is_confirmed = m.is_confirmed || (nod
 abbrev pub slot_after : ℕ → Slot → Slot
 slot_after node s = record { first = confirmed node s.first; second = confirmed node s.second; third = confirmed node s.third }
 
+-- the three nodes of a slot's set
 abbrev pub nodes_of : Slot → List ℕ
 nodes_of s = s.first.node ∷ s.second.node ∷ s.third.node ∷ []
 
+-- two of the three have confirmed
 abbrev pub has_two : Slot → Bool
 has_two s =
     (s.first.is_confirmed && s.second.is_confirmed) || ((s.first.is_confirmed && s.third.is_confirmed) || (s.second.is_confirmed && s.third.is_confirmed))

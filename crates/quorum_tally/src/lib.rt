@@ -5,7 +5,5 @@
 
 mod slot;
 mod tally;
-#[cfg(test)]
-mod tests;
 
 pub use tally::Tally;

@@ -1,7 +1,7 @@
 //! The confirmations of one row over the sets of consecutive versions.
-ghost use Rattle.std.specs.Prelude.{◌≡◌, ℕ, List, [], ◌∷◌, ◌++◌, ◌↔◌, IsTrue, IfOk, IfErr};
+ghost use Rattle.std.specs.Prelude.{◌≡◌, ℕ, List, [], ◌∷◌, ◌++◌, ◌↔◌, IsTrue, IfOk};
 ghost use Rattle.std.specs.List.{All};
-ghost use Rattle.crdt_core.specs.declared.memory.Memory.TheVariants.{Want};
+ghost use Rattle.crdt_core.specs.Outcomes.{OnlyWant};
 ghost use Rattle.quorum_model.specs.Quorum.{reached};
 ghost use Rattle.quorum_tally.specs.Stands.{Tallies};
 ghost use Rattle.quorum_tally.specs.Slot.{has_two};
@@ -21,7 +21,7 @@ impl Tally {
     /// No confirmation yet; the sets are those of the versions `first`, `first` + 1 and so on.
     pub fn new(alloc: Global, first: u32, sets: &[[u8; 3]]) -> Result<Tally, Memory>
         ensures stands { IfOk result (λ t. Tallies t first sets.now []) }
-        ensures want { IfErr result (λ e. e ≡ Want) }
+        ensures want { OnlyWant result }
     {
         let mut slots = Vec::new(alloc);
         for set in sets {

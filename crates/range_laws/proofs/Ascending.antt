@@ -10,8 +10,8 @@ use Rattle.table_schema.specs.Words.{Words}
 use Rattle.table_schema.specs.Laws.{Laws}
 use Rattle.table_model.specs.Rows.{is_past, AllProper, rows}
 use Rattle.quorum_model.specs.declared.range.RangeAnswer.{RangeAnswer}
-use Rattle.quorum_model.specs.Window.{IsAscending, Window, key_cmp, keyed, is_within, end_of, both_rows}
-use Rattle.range_laws.specs.Scans.{IsNamed, answer, window_between}
+use Rattle.quorum_model.specs.Window.{IsAscending, Window, key_cmp, keyed, is_within, end_of, both_rows, IsNamed}
+use Rattle.range_laws.specs.Scans.{answer, window_between}
 use Rattle.range_laws.proofs.Entries.{Fits, entries_back, ascending_filter, merged_has}
 use Rattle.range_laws.proofs.Shown.{asked_parts, both_fit, both_ascend, asked, answer_plain, end_back}
 

@@ -17,8 +17,8 @@ use Rattle.table_schema.specs.Words.{Words}
 use Rattle.table_schema.specs.Laws.{Laws}
 use Rattle.table_model.specs.Rows.{place_cmp, place, is_at, is_past, AllProper, row_at, rows, find_row}
 use Rattle.table_model.specs.RowLaws.{place_identical, Ascends, row_found, rows_ascend, rows_proper}
-use Rattle.quorum_model.specs.Window.{key_cmp, keyed, last_of, nearer, shown_to, is_within, rows_within, after_position, end_of}
-use Rattle.range_laws.specs.Scans.{end_key, IsNamed, answer, window_between}
+use Rattle.quorum_model.specs.Window.{key_cmp, keyed, last_of, nearer, shown_to, is_within, rows_within, after_position, end_of, end_key, IsNamed}
+use Rattle.range_laws.specs.Scans.{answer, window_between}
 use Rattle.range_laws.proofs.Fronts.{find_filter, last_from, last_is, last_has, ascends_filter, ascends_take, front}
 use Rattle.range_laws.proofs.Entries.{Fits, rows_back, keys_ascend, found, merged_fit}
 use Rattle.range_laws.proofs.Ends.{not_true, within_both, begins_with}

@@ -13,8 +13,8 @@ ghost use Rattle.crdt_core.specs.Order.{option_join};
 ghost use Rattle.table_schema.specs.Words.{Words};
 ghost use Rattle.table_schema.specs.Laws.{Laws};
 ghost use Rattle.table_model.specs.Rows.{AllProper, row_at, find_row};
-ghost use Rattle.quorum_model.specs.Window.{IsAscending};
-ghost use Rattle.range_laws.specs.Scans.{IsNamed, window_between};
+ghost use Rattle.quorum_model.specs.Window.{IsAscending, IsNamed};
+ghost use Rattle.range_laws.specs.Scans.{window_between};
 
 /// At each key that a window names, its rows show the merge of what both nodes have there. For this an answer must
 /// be allowed one row at least: with none it has no last key, so that it would seem to have shown all.

@@ -8,8 +8,6 @@
 mod progress;
 mod range;
 mod read;
-#[cfg(test)]
-mod tests;
 mod window;
 
 pub use range::RangeCall;

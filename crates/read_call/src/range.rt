@@ -1,6 +1,6 @@
 //! A range phase.
-ghost use Rattle.std.specs.Prelude.{◌≡◌, ℕ, Option, Some, None, List, [], ◌∷◌, ◌++◌, option_map, IfOk, IfErr, OnOk, OnErr};
-ghost use Rattle.crdt_core.specs.declared.memory.Memory.TheVariants.{Want};
+ghost use Rattle.std.specs.Prelude.{◌≡◌, ℕ, Option, Some, None, List, [], ◌∷◌, ◌++◌, option_map, IfOk, OnOk, OnErr};
+ghost use Rattle.crdt_core.specs.Outcomes.{OnlyWant};
 ghost use Rattle.quorum_model.specs.Answers.{first_two_at};
 ghost use Rattle.quorum_model.specs.Window.{window};
 ghost use Rattle.quorum_model.specs.declared.range.RangeAnswer.{RangeAnswer};
@@ -47,7 +47,7 @@ impl<S: Schema> RangeCall<S> {
         ensures stands { (nodes : List ℕ) (answers : List (ℕ × RangeAnswer S.Row)) → RangeStands self.old nodes answers →
             OnOk result (RangeStands self.new nodes (answers ++ (node, record { rows = rows.items; more = more }) ∷ [])) }
         ensures unchanged { OnErr result (self.new ≡ self.old) }
-        ensures want { IfErr result (λ e. e ≡ Want) }
+        ensures want { OnlyWant result }
     {
         if !is_asked(&self.nodes, node) {
             return Ok(None);

@@ -1,7 +1,7 @@
 //! A read phase.
-ghost use Rattle.std.specs.Prelude.{◌≡◌, ℕ, Option, List, [], ◌∷◌, ◌++◌, option_map, IfOk, IfErr, OnOk, OnErr};
+ghost use Rattle.std.specs.Prelude.{◌≡◌, ℕ, Option, List, [], ◌∷◌, ◌++◌, option_map, IfOk, OnOk, OnErr};
+ghost use Rattle.crdt_core.specs.Outcomes.{OnlyWant};
 ghost use Rattle.crdt_core.specs.Order.{option_join};
-ghost use Rattle.crdt_core.specs.declared.memory.Memory.TheVariants.{Want};
 ghost use Rattle.quorum_model.specs.Answers.{merged, first_two_at};
 ghost use Rattle.read_call.specs.Stands.{ReadStands};
 
@@ -35,7 +35,7 @@ impl<R: Crdt> ReadCall<R> {
         ensures stands { (nodes : List ℕ) (answers : List (ℕ × Option R)) → ReadStands self.old nodes answers →
             OnOk result (ReadStands self.new nodes (answers ++ (node, row) ∷ [])) }
         ensures unchanged { OnErr result (self.new ≡ self.old) }
-        ensures want { IfErr result (λ e. e ≡ Want) }
+        ensures want { OnlyWant result }
     {
         if !is_asked(&self.nodes, node) {
             return Ok(None);
@@ -66,7 +66,7 @@ impl<R: Crdt> ReadCall<R> {
 fn take_in<R: Crdt>(have: &mut Option<R>, row: Option<R>) -> Result<(), Memory>
     ensures joined { OnOk result (have.new ≡ option_join R.join have.old row) }
     ensures unchanged { OnErr result (have.new ≡ have.old) }
-    ensures want { IfErr result (λ e. e ≡ Want) }
+    ensures want { OnlyWant result }
 {
     let Some(row) = row else {
         return Ok(());

@@ -1,7 +1,7 @@
 //! The window of two answers to a range phase.
-ghost use Rattle.std.specs.Prelude.{◌≡◌, ◌<◌, ◌≤◌, ℕ, Option, List, [], ◌∷◌, ◌++◌, drop, length, option_map, IsTrue, IfOk, IfErr, OnOk};
+ghost use Rattle.std.specs.Prelude.{◌≡◌, ◌<◌, ◌≤◌, ℕ, Option, List, [], ◌∷◌, ◌++◌, drop, length, option_map, IsTrue, IfOk, OnOk};
+ghost use Rattle.crdt_core.specs.Outcomes.{OnlyWant};
 ghost use Rattle.crdt_core.specs.Entries.{merged};
-ghost use Rattle.crdt_core.specs.declared.memory.Memory.TheVariants.{Want};
 ghost use Rattle.quorum_model.specs.Window.{window, key_cmp, keyed, shown_to, nearer, is_within, rows_within, after_position};
 ghost use Rattle.table_schema.specs.Words.{Words};
 ghost use Rattle.read_call.specs.Stands.{shown};
@@ -21,7 +21,7 @@ pub fn window<S: Schema>(
     second: RangeAnswer<S::Row>,
 ) -> Result<(Vec<S::Row>, Option<Bytes>), Memory>
     ensures is { IfOk result (λ given. shown given ≡ window S.Row.join S.words (first.now, second)) }
-    ensures want { IfErr result (λ e. e ≡ Want) }
+    ensures want { OnlyWant result }
 {
     let end = nearer(shown_to::<S>(alloc, first)?, shown_to::<S>(alloc, &second)?);
     let rows = both_rows::<S>(alloc, first.rows.as_slice(), second.rows.into_vec(), &end)?;
@@ -31,7 +31,7 @@ pub fn window<S: Schema>(
 
 fn shown_to<S: Schema>(alloc: Global, answer: &RangeAnswer<S::Row>) -> Result<Option<Bytes>, Memory>
     ensures is { IfOk result (λ key. key ≡ shown_to S.words answer.now) }
-    ensures want { IfErr result (λ e. e ≡ Want) }
+    ensures want { OnlyWant result }
 {
     if !answer.more {
         return Ok(None);
@@ -61,7 +61,7 @@ fn nearer(first: Option<Bytes>, second: Option<Bytes>) -> Option<Bytes>
 
 fn after_position(alloc: Global, end: Option<Bytes>) -> Result<Option<Bytes>, Memory>
     ensures is { IfOk result (λ key. key ≡ option_map after_position end) }
-    ensures want { IfErr result (λ e. e ≡ Want) }
+    ensures want { OnlyWant result }
 {
     let Some(key) = end else {
         return Ok(None);
@@ -88,7 +88,7 @@ fn both_rows<S: Schema>(
     end: &Option<Bytes>,
 ) -> Result<Vec<S::Row>, Memory>
     ensures are { IfOk result (λ rows. rows.items ≡ rows_within end.now (merged key_cmp S.Row.join (keyed S.words first.now) (keyed S.words second.items))) }
-    ensures want { IfErr result (λ e. e ≡ Want) }
+    ensures want { OnlyWant result }
 {
     let mut waiting = second;
     waiting.reverse();
@@ -126,7 +126,7 @@ fn push_below<S: Schema>(
     ensures below { (y : S.Row) (ys : List (List ℕ × S.Row)) → IfOk result (λ p.
         rows.new.items ++ rows_within end.now (from_next S.Row.join S.words p.is_met (drop p.count first.now) key.now y ys)
         ≡ rows.old.items ++ rows_within end.now (merged key_cmp S.Row.join (keyed S.words (drop start first.now)) ((key.now, y) ∷ ys))) }
-    ensures want { IfErr result (λ e. e ≡ Want) }
+    ensures want { OnlyWant result }
 {
     let mut count = start;
     while count < first.len() {
@@ -166,7 +166,7 @@ fn push_next<R: Crdt>(
     ensures next { (s : Words R) (end : Option (List ℕ)) (key : List ℕ) (ys : List (List ℕ × R)) → is_kept ≡ is_within end key → IfOk result (λ taken.
         rows.new.items ++ rows_within end (merged key_cmp R.join (keyed s (drop taken first.now)) ys)
         ≡ rows.old.items ++ rows_within end (from_next R.join s passed.is_met (drop passed.count first.now) key row ys)) }
-    ensures want { IfErr result (λ e. e ≡ Want) }
+    ensures want { OnlyWant result }
 {
     match (passed.is_met, is_kept) {
         (false, false) => Ok(passed.count),
@@ -192,7 +192,7 @@ fn push_rest<S: Schema>(
     end: &Option<Bytes>,
 ) -> Result<(), Memory>
     ensures rest { OnOk result (rows.new.items ≡ rows.old.items ++ rows_within end.now (keyed S.words rest.now)) }
-    ensures want { IfErr result (λ e. e ≡ Want) }
+    ensures want { OnlyWant result }
 {
     for row in rest {
         let key = S::key(alloc, row)?;
@@ -209,7 +209,7 @@ fn push_copy<S: Schema>(
     row: &S::Row,
 ) -> Result<(), Memory>
     ensures copied { OnOk result (rows.new.items ≡ rows.old.items ++ rows_within end.now ((key.now, row.now) ∷ [])) }
-    ensures want { IfErr result (λ e. e ≡ Want) }
+    ensures want { OnlyWant result }
 {
     if is_within(end, key) {
         rows.push(row.copy()?)?;

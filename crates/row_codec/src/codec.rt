@@ -1,6 +1,7 @@
 //! A row's bytes, and the row of bytes.
 ghost use Rattle.std.specs.Prelude.{◌≡◌, ◌≢◌, ◌⊎◌, ◌↔◌, ℕ, List, false, IsTrue, IfOk, IfErr, Some, None};
-ghost use Rattle.crdt_core.specs.declared.memory.Memory.TheVariants.{Want, Full};
+ghost use Rattle.crdt_core.specs.Outcomes.{WantOr};
+ghost use Rattle.crdt_core.specs.declared.memory.Memory.TheVariants.{Full};
 ghost use Rattle.crdt_rows.specs.declared.any_row.AnyRow.{AnyRow};
 ghost use Rattle.table_schema.specs.declared.schema.RowFault.TheVariants as faults;
 ghost use Rattle.row_codec.specs.Gives.{Gives};
@@ -20,7 +21,7 @@ pub fn encode(alloc: Global, row: &AnyRow) -> Result<Bytes, Memory>
     ensures spelled { IfOk result (λ bytes. bytes ≡ spelled row.now) }
     ensures short { IfOk result (λ bytes. IsTrue (has_bytes row.now)) }
     ensures in_range { IfOk result (λ bytes. IsTrue (in_range row.now)) }
-    ensures causes { IfErr result (λ e. (e ≡ Want) ⊎ ((e ≡ Full) × (has_bytes row.now ≡ false))) }
+    ensures causes { WantOr result (has_bytes row.now ≡ false) }
     ensures full { has_bytes row.now ≡ false → result ≡ Err Full }
 {
     if !row.is_short() {

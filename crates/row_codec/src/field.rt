@@ -1,6 +1,6 @@
 //! A part of a row, its bytes, and how it is read from them.
-ghost use Rattle.std.specs.Prelude.{◌≡◌, ◌++◌, ℕ, Bool, List, Option, IsTrue, OnOk, IfErr};
-ghost use Rattle.crdt_core.specs.declared.memory.Memory.TheVariants.{Want};
+ghost use Rattle.std.specs.Prelude.{◌≡◌, ◌++◌, ℕ, Bool, List, Option, IsTrue, OnOk};
+ghost use Rattle.crdt_core.specs.Outcomes.{OnlyWant};
 ghost use Rattle.row_codec.specs.Gives.{Gives};
 ghost use Rattle.row_codec.specs.Reads.{Reads};
 
@@ -29,7 +29,7 @@ pub trait Field: Drop {
         requires { IsTrue (is_short self.now) }
         ensures ok { OnOk result (out.new ≡ out.old ++ spelled self.now) }
         ensures in_range { OnOk result (IsTrue (in_range self.now)) }
-        ensures want { IfErr result (λ e. e ≡ Want) };
+        ensures want { OnlyWant result };
 
     /// Reads one from the front of bytes, and gives the bytes after it too.
     fn take(alloc: Global, bytes: &[u8]) -> Result<(Self, &[u8]), Fault>

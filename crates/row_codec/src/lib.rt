@@ -26,8 +26,6 @@ mod numbers;
 mod order;
 mod parts;
 mod rows;
-#[cfg(test)]
-mod tests;
 
 pub use codec::{decode, encode, rows_are_read_back};
 pub use order::states_are_ordered_as_bytes;

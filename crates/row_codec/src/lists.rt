@@ -1,7 +1,7 @@
 //! Pairs, and lists of values.
-ghost use Rattle.std.specs.Prelude.{◌≡◌, ◌&&◌, ◌++◌, IsTrue, OnOk, IfErr};
+ghost use Rattle.std.specs.Prelude.{◌≡◌, ◌&&◌, ◌++◌, IsTrue, OnOk};
 ghost use Rattle.std.specs.List.{list_all, flat_map};
-ghost use Rattle.crdt_core.specs.declared.memory.Memory.TheVariants.{Want};
+ghost use Rattle.crdt_core.specs.Outcomes.{OnlyWant};
 ghost use Rattle.row_codec.specs.Gives.{Gives};
 ghost use Rattle.row_codec.specs.Joined.{both_reads, counted_reads};
 ghost use Rattle.row_codec.specs.Parts.{max_reads};
@@ -79,7 +79,7 @@ fn put_each<T: Field>(items: &[T], out: &mut Bytes) -> Result<(), Memory>
     requires { IsTrue (list_all T.is_short items.now) }
     ensures ok { OnOk result (out.new ≡ out.old ++ flat_map T.spelled items.now) }
     ensures in_range { OnOk result (IsTrue (list_all T.in_range items.now)) }
-    ensures want { IfErr result (λ e. e ≡ Want) }
+    ensures want { OnlyWant result }
 {
     for item in items {
         item.put(out)?;
@@ -105,7 +105,7 @@ pub fn put_items<T: Field>(items: &[T], out: &mut Bytes) -> Result<(), Memory>
     requires { IsTrue (are_short T.is_short items.now) }
     ensures ok { OnOk result (out.new ≡ out.old ++ counted T.spelled items.now) }
     ensures in_range { OnOk result (IsTrue (list_all T.in_range items.now)) }
-    ensures want { IfErr result (λ e. e ≡ Want) }
+    ensures want { OnlyWant result }
 {
     (items.len() as u32).put(out)?;
     put_each(items, out)

@@ -1,7 +1,7 @@
 //! Flags, values that may be deleted, and maps.
-ghost use Rattle.std.specs.Prelude.{◌≡◌, ◌&&◌, ◌++◌, true, IsTrue, IfOk, IfErr};
+ghost use Rattle.std.specs.Prelude.{◌≡◌, ◌&&◌, ◌++◌, true, IsTrue, IfOk};
 ghost use Rattle.std.specs.List.{list_all};
-ghost use Rattle.crdt_core.specs.declared.memory.Memory.TheVariants.{Want};
+ghost use Rattle.crdt_core.specs.Outcomes.{OnlyWant};
 ghost use Rattle.crdt_core.specs.Entries.{is_ascending};
 ghost use Rattle.crdt_core.specs.Map.{map_entries};
 ghost use Rattle.row_codec.specs.Range.{are_short, unless_deleted};
@@ -103,7 +103,7 @@ fn are_ascending<K: Value, V>(entries: &[(K, V)]) -> bool
 fn map_of<K: Value, V: Crdt>(alloc: Global, entries: &[(K, V)]) -> Result<Map<K, V>, Memory>
     requires { IsTrue (is_ascending K.cmp entries.now) }
     ensures same { IfOk result (λ m. map_entries m ≡ entries.now) }
-    ensures want { IfErr result (λ e. e ≡ Want) }
+    ensures want { OnlyWant result }
 {
     let mut map = Map::new(alloc);
     for entry in entries {

@@ -1,6 +1,6 @@
 //! Numbers, strings of bytes and digests.
-ghost use Rattle.std.specs.Prelude.{◌≡◌, ◌++◌, true, IsTrue, OnOk, IfErr};
-ghost use Rattle.crdt_core.specs.declared.memory.Memory.TheVariants.{Want};
+ghost use Rattle.std.specs.Prelude.{◌≡◌, ◌++◌, true, IsTrue, OnOk};
+ghost use Rattle.crdt_core.specs.Outcomes.{OnlyWant};
 ghost use Rattle.row_codec.specs.Gives.{Gives};
 ghost use Rattle.row_codec.specs.Numbers.{bytes_reads, four_reads, eight_reads, field_reads};
 ghost use Rattle.row_codec.specs.Parts.{hash_reads};
@@ -32,7 +32,7 @@ fn front<const N: usize>(bytes: &[u8]) -> Result<(&[u8; N], &[u8]), Fault>
 // Writes the bytes at the end.
 fn put_bytes(bytes: &[u8], out: &mut Bytes) -> Result<(), Memory>
     ensures ok { OnOk result (out.new ≡ out.old ++ bytes.now) }
-    ensures want { IfErr result (λ e. e ≡ Want) }
+    ensures want { OnlyWant result }
     ensures in_range { IsTrue (are_bytes bytes.now) }
 {
     out.extend_from_slice(bytes)

@@ -11,8 +11,6 @@ mod names;
 mod numbers;
 mod roles;
 mod schedule;
-#[cfg(test)]
-mod tests;
 
 pub use fault::ScheduleFault;
 pub use object_model::{Event, Numbered};

@@ -11,7 +11,5 @@
 
 mod marks;
 mod round;
-#[cfg(test)]
-mod tests;
 
 pub use round::Round;

@@ -1,9 +1,9 @@
 //! The three nodes of a partition's set, and which of them have confirmed.
-ghost use Rattle.std.specs.Prelude.{◌≡◌, ◌+◌, ◌||◌, ◌==◌, false, IfOk, IfErr, if◌then◌else◌, IsTrue};
+ghost use Rattle.std.specs.Prelude.{◌≡◌, ◌+◌, ◌||◌, ◌==◌, false, IfOk, if◌then◌else◌, IsTrue};
 ghost use Rattle.std.specs.Ordering.{nat_cmp};
 ghost use Rattle.std.specs.BTreeMap.{IsOrdered};
-ghost use Rattle.crdt_core.specs.declared.memory.Memory.TheVariants.{Want};
-ghost use Rattle.sync_round.specs.Marks.{unmarked, mark_after, marks_after, nodes_of, three, has_two, missing_of, entries_after, lacking_in};
+ghost use Rattle.crdt_core.specs.Outcomes.{OnlyWant};
+ghost use Rattle.sync_round.specs.Marks.{unmarked, mark_after, marks_after, nodes_of, has_two, missing_of, entries_after, lacking_in};
 
 use crdt_core::Memory;
 use std::alloc::Global;
@@ -84,7 +84,7 @@ impl Marks {
     /// The nodes that haven't confirmed.
     pub fn missing(self, alloc: Global) -> Result<Vec<u8>, Memory>
         ensures nodes { IfOk result (λ v. v.items ≡ missing_of self) }
-        ensures want { IfErr result (λ e. e ≡ Want) }
+        ensures want { OnlyWant result }
     {
         let marks = [self.first, self.second, self.third];
         let waited = marks.iter().filter(|mark| !mark.is_confirmed);

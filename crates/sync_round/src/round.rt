@@ -1,7 +1,7 @@
 //! A round to a version.
-ghost use Rattle.std.specs.Prelude.{◌≡◌, ◌==◌, ℕ, false, List, [], ◌∷◌, ◌++◌, IfOk, IfErr, map};
+ghost use Rattle.std.specs.Prelude.{◌≡◌, ◌==◌, ℕ, false, List, [], ◌∷◌, ◌++◌, IfOk, map};
 ghost use Rattle.std.specs.List.Sorted.{IsStrictlyIncreasing};
-ghost use Rattle.crdt_core.specs.declared.memory.Memory.TheVariants.{Want};
+ghost use Rattle.crdt_core.specs.Outcomes.{OnlyWant};
 ghost use Rattle.sync_round.specs.Marks.{lacking_in};
 ghost use Rattle.sync_round.specs.Round.{by_partition, is_complete, open_parts, is_asked};
 
@@ -34,7 +34,7 @@ impl Round {
         ensures stands { IfOk result (λ r. IsRound r target (by_partition parts.items) own []) }
         ensures ascending { IsStrictlyIncreasing (map (λ part. part.0) parts.items) →
             IfOk result (λ r. IsRound r target parts.items own []) }
-        ensures want { IfErr result (λ e. e ≡ Want) }
+        ensures want { OnlyWant result }
     {
         let mut marked = BTreeMap::new(alloc);
         for (p, set) in &parts {
@@ -66,7 +66,7 @@ impl Round {
     pub fn open_parts(&self) -> Result<Vec<(u8, Vec<u8>)>, Memory>
         ensures nodes { IfOk result (λ v. (target : ℕ) (parts : List (ℕ × List ℕ)) (own : ℕ) (told : List (ℕ × ℕ)) →
             IsRound self.now target parts own told → map (λ part. (part.0, part.1.items)) v.items ≡ open_parts parts own told) }
-        ensures want { IfErr result (λ e. e ≡ Want) }
+        ensures want { OnlyWant result }
     {
         let mut open = Vec::new(self.alloc);
         for (p, marks) in &self.parts {

@@ -1,6 +1,6 @@
 //! What a schema is.
 ghost use Rattle.std.specs.Prelude.{◌≡◌, ◌⊎◌, IsTrue, IfOk, IfErr, OnOk, OnErr, None, Some, option_map};
-ghost use Rattle.crdt_core.specs.declared.memory.Memory.TheVariants.{Want, Full};
+ghost use Rattle.crdt_core.specs.Outcomes.{OnlyWant, WantOr};
 ghost use Rattle.table_schema.specs.Words.{Words, partition_of};
 ghost use Rattle.table_schema.specs.Laws.{Laws};
 ghost use Rattle.table_schema.specs.declared.schema.RowFault.TheVariants.{NotARow, Memory as WantsMemory};
@@ -39,7 +39,7 @@ pub trait Schema {
     fn key(alloc: Global, row: &Self::Row) -> Result<Bytes, Memory>
         ensures is { IfOk result (λ key. key ≡ words.key row.now) }
         ensures proper { IsTrue (words.is_proper row.now) }
-        ensures want { IfErr result (λ e. e ≡ Want) };
+        ensures want { OnlyWant result };
 
     /// The row says of itself that it was deleted.
     fn tombstone(row: &Self::Row) -> bool
@@ -56,12 +56,12 @@ pub trait Schema {
     /// The rows that a row's change calls for, from what it was to what it is after a merge, in order.
     fn triggers(alloc: Global, old: &Self::Row, new: &Self::Row) -> Result<Vec<Self::Row>, Memory>
         ensures are { IfOk result (λ rows. rows.items ≡ words.triggered old.now new.now) }
-        ensures want { IfErr result (λ e. e ≡ Want) };
+        ensures want { OnlyWant result };
 
     /// The row's bytes. `Full` where a length or a count of the row is too great to be written.
     fn row_bytes(alloc: Global, row: &Self::Row) -> Result<Bytes, Memory>
         ensures are { IfOk result (λ bytes. words.spelling row.now ≡ Some bytes) }
-        ensures causes { IfErr result (λ e. (e ≡ Want) ⊎ ((e ≡ Full) × (words.spelling row.now ≡ None))) };
+        ensures causes { WantOr result (words.spelling row.now ≡ None) };
 
     /// The row that has these bytes.
     fn row_from(alloc: Global, bytes: &[u8]) -> Result<Self::Row, RowFault>

@@ -7,7 +7,7 @@ use Rattle.std.proofs.lemmas.List.{flat_map_more}
 use Rattle.std.proofs.lemmas.List.Elements.{All-head, All-tail, All-filter, filter-append}
 use Rattle.blake2_hash.specs.Blake2b.{blake2b}
 use Rattle.blake2_hash.specs.declared.digest.Hash32.{Hash32}
-use Rattle.table_schema.specs.Words.{Words, partition_of}
+use Rattle.table_schema.specs.Words.{Words}
 use Rattle.table_model.specs.Rows.{rows_in}
 use Rattle.table_model.specs.Root.{Pair, with_byte, every_byte, branch, none_leaf_or_node, value_of, root}
 use Rattle.table_model.specs.Top.{pair_of, pairs_of, root_of, table_roots, roots}

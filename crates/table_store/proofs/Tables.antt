@@ -10,7 +10,7 @@ use Rattle.std.specs.declared.cmp.Ordering.TheVariants.{Less, Equal, Greater}
 use Rattle.std.specs.Ordering.{nat_cmp, is_eq}
 use Rattle.crdt_core.specs.Orders.{nat_identical}
 use Rattle.table_schema.specs.Words.{Words, partition_of}
-use Rattle.table_model.specs.Rows.{place_cmp, row_cmp, place, is_at, merged_in, find_row, is_past, range, rows_in, without, live_blocks}
+use Rattle.table_model.specs.Rows.{row_cmp, place, is_at, merged_in, find_row, is_past, range, rows_in, without, live_blocks}
 use Rattle.table_model.specs.RowLaws.{Above}
 use Rattle.table_store.specs.declared.shelf.Placed.{Placed}
 use Rattle.table_store.specs.Shelf.{is_marked, shelf_rows, shelf_find, in_partition, is_after, window, IsPlaced, AllPlaced, IsSound}

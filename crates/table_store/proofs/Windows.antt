@@ -14,7 +14,7 @@ use Rattle.std.proofs.lemmas.Cmp.{nat_cmp_total, nat_list_cmp_total, tied_itself
 use Rattle.crdt_core.specs.Orders.{nat_identical}
 use Rattle.crdt_core.specs.Lex.{turned}
 use Rattle.table_store.specs.declared.shelf.Placed.{Placed}
-use Rattle.table_store.specs.Shelf.{shelf_rows, begins, is_after, leading, vec_cmp}
+use Rattle.table_store.specs.Shelf.{begins, is_after, leading, vec_cmp}
 
 -- ---- bytes
 

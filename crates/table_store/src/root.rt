@@ -1,7 +1,7 @@
 //! The root of pairs of hashes, from the pairs alone.
-ghost use Rattle.std.specs.Prelude.{◌≡◌, ◌-◌, ◌<◌, ◌≤◌, ◌==◌, ◌++◌, ◌∷◌, filter, slice_index, IfOk, IfErr, OnOk};
+ghost use Rattle.std.specs.Prelude.{◌≡◌, ◌-◌, ◌<◌, ◌≤◌, ◌==◌, ◌++◌, ◌∷◌, filter, slice_index, IfOk, OnOk};
+ghost use Rattle.crdt_core.specs.Outcomes.{OnlyWant};
 ghost use Rattle.blake2_hash.specs.Blake2b.{blake2b};
-ghost use Rattle.crdt_core.specs.declared.memory.Memory.TheVariants.{Want};
 ghost use Rattle.table_model.specs.Root.{branch, none_leaf_or_node, value_of};
 ghost use Rattle.table_store.specs.Pairs.{shown};
 
@@ -16,7 +16,7 @@ pub type Pair = (Hash32, Hash32);
 pub fn pairs_value(alloc: Global, left: u8, pairs: &[Pair]) -> Result<Hash32, Memory>
     requires { left ≤ 32 }
     ensures is { IfOk result (λ value. value.0 ≡ value_of (blake2b 32) left (32 - left) (shown pairs.now)) }
-    ensures want { IfErr result (λ e. e ≡ Want) }
+    ensures want { OnlyWant result }
 {
     if left == 0 {
         return Ok(digest(pairs, &[]));
@@ -37,7 +37,7 @@ pub fn pairs_value(alloc: Global, left: u8, pairs: &[Pair]) -> Result<Hash32, Me
 fn with_byte(alloc: Global, pairs: &[Pair], place: usize, byte: u8) -> Result<Vec<Pair>, Memory>
     requires { place < 32 }
     ensures are { IfOk result (λ some. some.items ≡ filter (λ pair. slice_index pair.0.0 place == byte) pairs.now) }
-    ensures want { IfErr result (λ e. e ≡ Want) }
+    ensures want { OnlyWant result }
 {
     let some: Vec<Pair> = pairs
         .iter()
@@ -55,7 +55,7 @@ fn push_branch(
     value: &Hash32,
 ) -> Result<(), Memory>
     ensures branch { OnOk result (branches.new.items ≡ branches.old.items ++ branch byte (shown pairs.now) value.now.0) }
-    ensures want { IfErr result (λ e. e ≡ Want) }
+    ensures want { OnlyWant result }
 {
     match pairs {
         [] => Ok(()),

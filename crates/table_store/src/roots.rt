@@ -1,11 +1,11 @@
 //! The roots of the rows of one table, by partition.
-ghost use Rattle.std.specs.Prelude.{◌≡◌, ◌==◌, ◌++◌, ◌⊎◌, ℕ, List, false, map, filter, flat_map, IsTrue, IfOk, IfErr, OnOk};
+ghost use Rattle.std.specs.Prelude.{◌≡◌, ◌==◌, ◌++◌, ◌⊎◌, ℕ, List, false, map, filter, flat_map, IsTrue, IfOk, OnOk};
+ghost use Rattle.crdt_core.specs.Outcomes.{OnlyWant, WantOr};
 ghost use Rattle.blake2_hash.specs.Blake2b.{blake2b};
 ghost use Rattle.blake2_hash.specs.Hashing.{Holds};
-ghost use Rattle.crdt_core.specs.declared.memory.Memory.TheVariants.{Want, Full};
 ghost use Rattle.table_model.specs.Root.{every_byte, root};
 ghost use Rattle.table_model.specs.Top.{any_unspelled};
-ghost use Rattle.table_store.specs.Shelf.{shelf_rows, in_partition};
+ghost use Rattle.table_store.specs.Shelf.{shelf_rows};
 ghost use Rattle.table_store.specs.Pairs.{tagged, entry_pair, shelf_roots};
 
 use crate::root::{Pair, pairs_value};
@@ -30,7 +30,7 @@ pub fn take_roots<S: Schema>(
 ) -> Result<(), Memory>
     ensures roots { OnOk result ((m : List ℕ) → Holds hasher.old m → Holds hasher.new (m ++ shelf_roots S.words shelf.now.entries)) }
     ensures written { OnOk result (any_unspelled S.words (shelf_rows shelf.now.entries) ≡ false) }
-    ensures causes { IfErr result (λ e. (e ≡ Want) ⊎ ((e ≡ Full) × IsTrue (any_unspelled S.words (shelf_rows shelf.now.entries)))) }
+    ensures causes { WantOr result (IsTrue (any_unspelled S.words (shelf_rows shelf.now.entries))) }
 {
     let hashes = hashes_of::<S>(alloc, shelf)?;
     take_hashes(alloc, hashes.as_slice(), hasher)?;
@@ -41,7 +41,7 @@ pub fn take_roots<S: Schema>(
 fn hashes_of<S: Schema>(alloc: Global, shelf: &Shelf<S::Row>) -> Result<Vec<Hashed>, Memory>
     ensures are { IfOk result (λ hashes. map tagged hashes.items ≡ map (λ e. (e.1.partition, entry_pair S.words e)) shelf.now.entries) }
     ensures written { OnOk result (any_unspelled S.words (shelf_rows shelf.now.entries) ≡ false) }
-    ensures causes { IfErr result (λ e. (e ≡ Want) ⊎ ((e ≡ Full) × IsTrue (any_unspelled S.words (shelf_rows shelf.now.entries)))) }
+    ensures causes { WantOr result (IsTrue (any_unspelled S.words (shelf_rows shelf.now.entries))) }
 {
     let mut hashes = Vec::new(alloc);
     for (key, placed) in shelf {
@@ -57,7 +57,7 @@ fn hashes_of<S: Schema>(alloc: Global, shelf: &Shelf<S::Row>) -> Result<Vec<Hash
 // Takes in the root of each partition's pairs.
 fn take_hashes(alloc: Global, hashes: &[Hashed], hasher: &mut Blake2b) -> Result<(), Memory>
     ensures roots { OnOk result ((m : List ℕ) → Holds hasher.old m → Holds hasher.new (m ++ flat_map (λ p. root (blake2b 32) (map (λ h. (tagged h).1) (filter (λ h. h.partition == p) hashes.now))) every_byte)) }
-    ensures want { IfErr result (λ e. e ≡ Want) }
+    ensures want { OnlyWant result }
 {
     for p in 0..256u16 {
         let pairs = pairs_in(alloc, hashes, p as u8)?;
@@ -70,7 +70,7 @@ fn take_hashes(alloc: Global, hashes: &[Hashed], hasher: &mut Blake2b) -> Result
 // The pairs of a partition.
 fn pairs_in(alloc: Global, hashes: &[Hashed], p: u8) -> Result<Vec<Pair>, Memory>
     ensures are { IfOk result (λ pairs. pairs.items ≡ map (λ h. h.pair) (filter (λ h. h.partition == p) hashes.now)) }
-    ensures want { IfErr result (λ e. e ≡ Want) }
+    ensures want { OnlyWant result }
 {
     let pairs: Vec<Pair> = hashes
         .iter()

@@ -1,6 +1,6 @@
 //! The rows of one table by their keys.
-ghost use Rattle.std.specs.Prelude.{◌≡◌, ℕ, ◌==◌, ◌++◌, not, Bool, IsTrue, IfOk, IfErr, OnOk, OnErr, option_copied, map, filter, option_to_list};
-ghost use Rattle.crdt_core.specs.declared.memory.Memory.TheVariants.{Want};
+ghost use Rattle.std.specs.Prelude.{◌≡◌, ℕ, ◌==◌, ◌++◌, not, Bool, IsTrue, IfOk, OnOk, OnErr, option_copied, map, filter, option_to_list};
+ghost use Rattle.crdt_core.specs.Outcomes.{OnlyWant};
 ghost use Rattle.table_schema.specs.Words.{partition_of};
 ghost use Rattle.table_model.specs.Rows.{merged_in, live_blocks, change_of};
 ghost use Rattle.table_store.specs.Shelf.{shelf_rows, AllPlaced, shelf_find, merged_with, in_partition, is_marked};
@@ -43,7 +43,7 @@ fn prepare<S: Schema>(
 ) -> Result<Merging<S::Row>, Memory>
     ensures row { IfOk result (λ merging. merging.row ≡ merged_with S.Row.join (option_copied old.entry) row.now) }
     ensures change { IfOk result (λ merging. merging.change ≡ change_of S.Row.join S.words (option_copied old.entry) row.now) }
-    ensures want { IfErr result (λ e. e ≡ Want) }
+    ensures want { OnlyWant result }
 {
     match old {
         None => {
@@ -85,7 +85,7 @@ pub fn merge_into<S: Schema>(
     ensures placed { OnOk result ((table : ℕ) (occupied : List Bool) → S.words.table row.now ≡ table → AllPlaced S.words table occupied shelf.old.entries → IsTrue (is_marked occupied (partition_of S.words row.now)) → AllPlaced S.words table occupied shelf.new.entries) }
     ensures change { IfOk result (λ change. change ≡ change_of S.Row.join S.words (shelf_find (S.words.key row.now) shelf.old.entries) row.now) }
     ensures unchanged { OnErr result (shelf.new.entries ≡ shelf.old.entries) }
-    ensures want { IfErr result (λ e. e ≡ Want) }
+    ensures want { OnlyWant result }
 {
     let key = S::key(alloc, row)?.into_vec();
     let merging = prepare::<S>(alloc, find(shelf, key.as_slice()), row)?;
@@ -100,7 +100,7 @@ pub fn merge_into<S: Schema>(
 /// Appends copies of a partition's rows, in order of their keys.
 pub fn push_partition<R: Crdt>(shelf: &Shelf<R>, p: u8, rows: &mut Vec<R>) -> Result<(), Memory>
     ensures rows { OnOk result (rows.new.items ≡ rows.old.items ++ shelf_rows (filter (in_partition p) shelf.now.entries)) }
-    ensures want { IfErr result (λ e. e ≡ Want) }
+    ensures want { OnlyWant result }
 {
     for (_, placed) in shelf {
         if placed.partition == p {
@@ -117,7 +117,7 @@ pub fn push_blocks<S: Schema>(
     hashes: &mut Vec<Hash32>,
 ) -> Result<(), Memory>
     ensures hashes { OnOk result (map (λ hash. hash.0) hashes.new.items ≡ map (λ hash. hash.0) hashes.old.items ++ live_blocks S.words (shelf_rows (filter (in_partition p) shelf.now.entries))) }
-    ensures want { IfErr result (λ e. e ≡ Want) }
+    ensures want { OnlyWant result }
 {
     for (_, placed) in shelf {
         if placed.partition == p {
@@ -129,7 +129,7 @@ pub fn push_blocks<S: Schema>(
 
 fn push_block<S: Schema>(row: &S::Row, hashes: &mut Vec<Hash32>) -> Result<(), Memory>
     ensures hashes { OnOk result (map (λ hash. hash.0) hashes.new.items ≡ map (λ hash. hash.0) hashes.old.items ++ option_to_list (S.words.live_block row.now)) }
-    ensures want { IfErr result (λ e. e ≡ Want) }
+    ensures want { OnlyWant result }
 {
     if let Some(hash) = S::live_block(row) {
         hashes.push(hash)?;

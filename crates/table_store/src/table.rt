@@ -1,6 +1,6 @@
 //! The rows of a node.
-ghost use Rattle.std.specs.Prelude.{◌≡◌, ◌⊎◌, false, [], length, map, IsTrue, IfOk, IfErr, OnOk, OnErr, IsOk, option_copied};
-ghost use Rattle.crdt_core.specs.declared.memory.Memory.TheVariants.{Want, Full};
+ghost use Rattle.std.specs.Prelude.{◌≡◌, ◌⊎◌, false, [], length, map, IsTrue, IfOk, OnOk, OnErr, IsOk, option_copied};
+ghost use Rattle.crdt_core.specs.Outcomes.{OnlyWant, WantOr};
 ghost use Rattle.table_model.specs.Top.{any_unspelled, top};
 ghost use Rattle.table_model.specs.Rows.{merged_in, change_of, find_row, range, rows_in, without, live_blocks};
 
@@ -75,7 +75,7 @@ impl<S: Schema> Table<S> {
         ensures rows { OnOk result (self.new ≡ merged_in S.Row.join S.words row.now self.old) }
         ensures change { IfOk result (λ change. change ≡ change_of S.Row.join S.words (find_row S.words (S.words.table row.now) (S.words.key row.now) self.old) row.now) }
         ensures unchanged { OnErr result (self.new ≡ self.old) }
-        ensures want { IfErr result (λ e. e ≡ Want) }
+        ensures want { OnlyWant result }
     {
         if self.len() == usize::MAX {
             return Err(Memory::Want);
@@ -110,7 +110,7 @@ impl<S: Schema> Table<S> {
         limit: usize,
     ) -> Result<(Vec<S::Row>, bool), Memory>
         ensures is { IfOk result (λ found. (found.0.items, found.1) ≡ range S.words table prefix.now after.now limit self.now) }
-        ensures want { IfErr result (λ e. e ≡ Want) }
+        ensures want { OnlyWant result }
     {
         match table {
             1 => rows_past(self.alloc, &self.first, prefix, after, limit),
@@ -123,7 +123,7 @@ impl<S: Schema> Table<S> {
     /// The rows of a partition, in order of table, then of key.
     pub fn rows_of(&self, p: u8) -> Result<Vec<S::Row>, Memory>
         ensures are { IfOk result (λ rows. rows.items ≡ rows_in S.words p self.now) }
-        ensures want { IfErr result (λ e. e ≡ Want) }
+        ensures want { OnlyWant result }
     {
         let mut rows = Vec::new(self.alloc);
         if !self.occupied[p as usize] {
@@ -140,7 +140,7 @@ impl<S: Schema> Table<S> {
         ensures rows { OnOk result (self.new ≡ without S.words p self.old) }
         ensures blocks { IfOk result (λ hashes. map (λ hash. hash.0) hashes.items ≡ live_blocks S.words (rows_in S.words p self.old)) }
         ensures unchanged { OnErr result (self.new ≡ self.old) }
-        ensures want { IfErr result (λ e. e ≡ Want) }
+        ensures want { OnlyWant result }
     {
         let mut hashes = Vec::new(self.alloc);
         if !self.occupied[p as usize] {
@@ -160,7 +160,7 @@ impl<S: Schema> Table<S> {
     pub fn top(&self) -> Result<Hash32, Memory>
         ensures is { IfOk result (λ hash. hash.0 ≡ top S.words self.now) }
         ensures written { OnOk result (any_unspelled S.words self.now ≡ false) }
-        ensures causes { IfErr result (λ e. (e ≡ Want) ⊎ ((e ≡ Full) × IsTrue (any_unspelled S.words self.now))) }
+        ensures causes { WantOr result (IsTrue (any_unspelled S.words self.now)) }
     {
         let mut hasher = Blake2b::new();
         take_roots::<S>(self.alloc, &self.first, &mut hasher)?;

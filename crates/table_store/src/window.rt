@@ -1,10 +1,10 @@
 //! A window of the rows of one table.
-ghost use Rattle.std.specs.Prelude.{◌≡◌, ◌&&◌, filter, IfOk, IfErr, ℕ};
+ghost use Rattle.std.specs.Prelude.{◌≡◌, ◌&&◌, filter, IfOk, ℕ};
 ghost use Rattle.std.specs.Global.{Vec};
 ghost use Rattle.std.specs.Ordering.{nat_cmp, is_le, is_lt};
 ghost use Rattle.std.specs.Cmp.Lexicographic.{slice_cmp};
 ghost use Rattle.std.specs.BTreeMap.Range.{is_from_start};
-ghost use Rattle.crdt_core.specs.declared.memory.Memory.TheVariants.{Want};
+ghost use Rattle.crdt_core.specs.Outcomes.{OnlyWant};
 ghost use Rattle.table_store.specs.Shelf.{shelf_rows, begins, is_after, leading, window, vec_cmp};
 
 use crate::shelf::{Placed, Shelf};
@@ -22,7 +22,7 @@ pub fn rows_past<R: Crdt>(
     limit: usize,
 ) -> Result<(Vec<R>, bool), Memory>
     ensures is { IfOk result (λ found. (found.0.items, found.1) ≡ window limit (shelf_rows (filter (is_after prefix.now after.now) shelf.now.entries))) }
-    ensures want { IfErr result (λ e. e ≡ Want) }
+    ensures want { OnlyWant result }
 {
     let start = start_of(alloc, prefix, after)?;
     first_rows(alloc, shelf.range((start, Bound::Unbounded)), prefix, limit)
@@ -31,7 +31,7 @@ pub fn rows_past<R: Crdt>(
 // Where keys begin that are greater than `after` and may have the prefix.
 fn start_of(alloc: Global, prefix: &[u8], after: &[u8]) -> Result<Bound<Vec<u8>>, Memory>
     ensures is { IfOk result (λ start. (key : Vec ℕ) → is_from_start vec_cmp start key ≡ (is_le (slice_cmp nat_cmp prefix.now key.items) && is_lt (slice_cmp nat_cmp after.now key.items))) }
-    ensures want { IfErr result (λ e. e ≡ Want) }
+    ensures want { OnlyWant result }
 {
     if after.cmp(&prefix).is_lt() {
         Ok(Bound::Included(Vec::from_slice(alloc, prefix)?))
@@ -48,7 +48,7 @@ fn first_rows<R: Crdt>(
     limit: usize,
 ) -> Result<(Vec<R>, bool), Memory>
     ensures is { IfOk result (λ found. (found.0.items, found.1) ≡ window limit (shelf_rows (leading (begins prefix.now) entries.entry))) }
-    ensures want { IfErr result (λ e. e ≡ Want) }
+    ensures want { OnlyWant result }
 {
     let mut rows = Vec::new(alloc);
     for (key, placed) in entries {

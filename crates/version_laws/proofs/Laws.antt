@@ -4,7 +4,8 @@ use Rattle.std.specs.Option.{option_and_then}
 use Rattle.view_model.specs.View.{Reading, View, layout_at}
 use Rattle.control_model.specs.World.{World, empty, view_of, layout_of}
 use Rattle.control_model.specs.Steps.{Step, change, step, run}
-use Rattle.control_model.specs.Facts.{Has, Stores, Greatest, Rises, Moves, Travels, Safe, read_of}
+use Rattle.crdt_core.specs.Members.{Has}
+use Rattle.control_model.specs.Facts.{Stores, Greatest, Rises, Moves, Travels, Safe, read_of}
 use Rattle.control_model.specs.Reached.{IsReached}
 use Rattle.version_laws.proofs.Tests.{all_has, has_left, has_right, has_at, none_is_not}
 use Rattle.version_laws.proofs.OneView.{read_low, read_high, read_below}

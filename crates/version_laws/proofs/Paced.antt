@@ -6,7 +6,8 @@ use Rattle.view_model.specs.View.{Reading, oldest, newest, read_version}
 use Rattle.control_model.specs.Layouts.{IsMember}
 use Rattle.control_model.specs.World.{Request, Round, Node, World, Change, next, view_of, layout_of}
 use Rattle.control_model.specs.Steps.{round_of}
-use Rattle.control_model.specs.Facts.{Has, entry_of, read_of}
+use Rattle.crdt_core.specs.Members.{Has}
+use Rattle.control_model.specs.Facts.{entry_of, read_of}
 use Rattle.version_laws.proofs.Tests.{has_right, has_cases}
 use Rattle.version_laws.proofs.OneView.{ordered, read_high, read_below}
 use Rattle.version_laws.proofs.WholeViews.{IsWhole, Grows, same_layout, at_each, IsWholeChange, grows, whole_next}

@@ -5,7 +5,8 @@ use Rattle.view_model.specs.View.{Reading, View, oldest, newest, layout_at}
 use Rattle.control_model.specs.Layouts.{IsMember}
 use Rattle.control_model.specs.World.{Round, World, Change, next, view_of, layout_of}
 use Rattle.control_model.specs.Steps.{round_of}
-use Rattle.control_model.specs.Facts.{Has, TwoOf, entry_of, read_of}
+use Rattle.crdt_core.specs.Members.{Has}
+use Rattle.control_model.specs.Facts.{TwoOf, entry_of, read_of}
 use Rattle.version_laws.proofs.Tests.{two_weaker}
 use Rattle.version_laws.proofs.OneView.{read_high, WhyRead, why_read, established_two, some_member}
 use Rattle.version_laws.proofs.WholeViews.{IsWhole, IsWholeChange, whole_next}

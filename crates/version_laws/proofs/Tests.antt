@@ -6,7 +6,8 @@ use Rattle.std.proofs.lemmas.List.Sums.{sum_by-cons}
 use Rattle.layout_trackers.specs.Least.{least, lesser}
 use Rattle.view_model.specs.View.{two_have}
 use Rattle.control_model.specs.Layouts.{is_in}
-use Rattle.control_model.specs.Facts.{Has, OneOf, TwoOf}
+use Rattle.crdt_core.specs.Members.{Has}
+use Rattle.control_model.specs.Facts.{OneOf, TwoOf}
 
 pub some_is : {A : Type 0} (x y : A) → Some x ≡ Some y → x ≡ y
 some_is x y e = ap (λ o. unwrap_or o x) e

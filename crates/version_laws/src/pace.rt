@@ -5,7 +5,8 @@ ghost use Rattle.view_model.specs.View.{Reading, oldest, newest, layout_at};
 ghost use Rattle.control_model.specs.Layouts.{IsMember};
 ghost use Rattle.control_model.specs.World.{Request, Round, World, view_of, layout_of};
 ghost use Rattle.control_model.specs.Steps.{Step, step, round_of};
-ghost use Rattle.control_model.specs.Facts.{Has, TwoOf, IsRead, IsRecent, IsSet, Open, Greatest, entry_of, read_of};
+ghost use Rattle.crdt_core.specs.Members.{Has};
+ghost use Rattle.control_model.specs.Facts.{TwoOf, IsRead, IsRecent, IsSet, Open, Greatest, entry_of, read_of};
 ghost use Rattle.control_model.specs.Reached.{IsReached};
 
 /// Each member of a version that some node has dropped reads a later one, and each member of a version that

@@ -5,7 +5,8 @@ ghost use Rattle.std.specs.Option.{option_or};
 ghost use Rattle.layout_trackers.specs.declared.which.Which.{Which};
 ghost use Rattle.layout_trackers.specs.declared.which.Which.TheVariants.{Sync, SyncAck};
 ghost use Rattle.view_model.specs.View.{Reading, View, two_have, is_gapless, oldest, newest, layout_at, version_of, members_stored, least_of, have_synced, merged, cleaned, appended, with_entry};
-ghost use Rattle.control_model.specs.Facts.{Has, entry_of};
+ghost use Rattle.crdt_core.specs.Members.{Has};
+ghost use Rattle.control_model.specs.Facts.{entry_of};
 
 /// A view as its oldest and newest version, its layout at each version, and its entries, with 0 for a missing
 /// one: that this says the same as that a missing entry counts as the oldest stored version, and what merge,

@@ -2,12 +2,12 @@
 ghost use Rattle.std.specs.Prelude.{◌≡◌, ◌≤◌, ℕ, Some, IsTrue};
 ghost use Rattle.layout_trackers.specs.declared.which.Which.{Which};
 ghost use Rattle.layout_trackers.specs.declared.which.Which.TheVariants.{Ack, SyncAck};
-ghost use Rattle.view_model.specs.View.{Reading, View, oldest, newest, layout_at};
-ghost use Rattle.view_model.specs.Reads.{GrewFrom};
+ghost use Rattle.view_model.specs.View.{Reading, View, oldest, newest, layout_at, GrewFrom};
 ghost use Rattle.control_model.specs.Layouts.{is_lawful};
 ghost use Rattle.control_model.specs.World.{Round, World, view_of, layout_of};
 ghost use Rattle.control_model.specs.Steps.{Step, step};
-ghost use Rattle.control_model.specs.Facts.{Has, Stores, Travels, entry_of, read_of};
+ghost use Rattle.crdt_core.specs.Members.{Has};
+ghost use Rattle.control_model.specs.Facts.{Stores, Travels, entry_of, read_of};
 ghost use Rattle.control_model.specs.Reached.{IsReached};
 
 /// A node's read version is one that it stores, and a node knows only versions that were applied.

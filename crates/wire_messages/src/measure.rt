@@ -1,6 +1,7 @@
 //! How many bytes a message counts.
 ghost use Rattle.std.specs.Prelude.{◌≡◌, ◌≤◌, ◌⊎◌, ◌+◌, ◌^◌, Some, None, IfOk, IfErr, sum_by};
-ghost use Rattle.crdt_core.specs.declared.memory.Memory.TheVariants.{Want, Full};
+ghost use Rattle.crdt_core.specs.Outcomes.{WantOr};
+ghost use Rattle.crdt_core.specs.declared.memory.Memory.TheVariants.{Full};
 ghost use Rattle.wire_messages.specs.Size.{size, row_length, rows_length, stored_length, block_length, plus, IsTooGreat};
 
 use crate::message::Message;
@@ -12,7 +13,7 @@ use table_schema::Schema;
 /// number is too great.
 pub fn size<S: Schema>(alloc: Global, message: &Message<S::Row>) -> Result<u64, Memory>
     ensures is { IfOk result (λ n. size S.words message.now ≡ Some n) }
-    ensures causes { IfErr result (λ e. (e ≡ Want) ⊎ ((e ≡ Full) × IsTooGreat (size S.words message.now))) }
+    ensures causes { WantOr result (IsTooGreat (size S.words message.now)) }
 {
     match message {
         Message::Get { key, .. } => add(64, key.len()),
@@ -45,7 +46,7 @@ fn add(total: u64, length: usize) -> Result<u64, Memory>
 
 fn row_length<S: Schema>(alloc: Global, row: &S::Row) -> Result<usize, Memory>
     ensures is { IfOk result (λ n. row_length S.words row.now ≡ Some n) }
-    ensures causes { IfErr result (λ e. (e ≡ Want) ⊎ ((e ≡ Full) × (row_length S.words row.now ≡ None))) }
+    ensures causes { WantOr result (row_length S.words row.now ≡ None) }
 {
     let bytes = S::row_bytes(alloc, row)?;
     Ok(bytes.len())
@@ -53,7 +54,7 @@ fn row_length<S: Schema>(alloc: Global, row: &S::Row) -> Result<usize, Memory>
 
 fn add_rows<S: Schema>(alloc: Global, start: u64, rows: &[S::Row]) -> Result<u64, Memory>
     ensures is { IfOk result (λ n. plus (Some start) (rows_length S.words rows.now) ≡ Some n) }
-    ensures causes { IfErr result (λ e. (e ≡ Want) ⊎ ((e ≡ Full) × IsTooGreat (plus (Some start) (rows_length S.words rows.now)))) }
+    ensures causes { WantOr result (IsTooGreat (plus (Some start) (rows_length S.words rows.now))) }
 {
     let mut total = start;
     for row in rows {

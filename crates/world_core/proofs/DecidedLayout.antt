@@ -7,14 +7,14 @@ use Rattle.layout_roles.specs.declared.layout.Layout.{Layout}
 use Rattle.layout_roles.specs.declared.redundancy.Redundancy.{Redundancy}
 use Rattle.layout_roles.specs.Zones.{storage_nodes, zone_names}
 use Rattle.layout_roles.specs.Fits.{NoneFits}
-use Rattle.layout_flow.specs.Answers.{IsPrintedCut}
-use Rattle.layout_flow.specs.declared.cut.Cut.{Cut}
-use Rattle.layout_size.specs.declared.certified.Certified.{Certified}
+use Rattle.layout_roles.specs.Certificates.{IsPrintedCut, zones_wanted, AreEnough, IsCertified, ShowsNone}
+use Rattle.layout_roles.specs.declared.cut.Cut.{Cut}
+use Rattle.layout_roles.specs.declared.certified.Certified.{Certified}
 use Rattle.layout_size.specs.declared.fault.LayoutFault.{LayoutFault}
-use Rattle.layout_size.specs.Answers.{zones_wanted, AreEnough, IsCertified, IfNoAssignment, ShowsNone}
+use Rattle.layout_size.specs.Answers.{IfNoAssignment}
 use Rattle.cluster_machine.specs.Step.{given, none_given}
-use Rattle.world_model.specs.declared.applied.Applied.{Applied}
-use Rattle.world_model.specs.Choices.{Decision, IsComputed}
+use Rattle.cluster_machine.specs.declared.applied.Applied.{Applied}
+use Rattle.cluster_machine.specs.Choices.{Decision, IsComputed}
 use Rattle.world_core.specs.declared.decide.Decided.{Decided}
 use Rattle.world_core.specs.Parts.{decision, IsGiven}
 

@@ -8,7 +8,7 @@ use Rattle.std.specs.List.{AllZip}
 use Rattle.layout_roles.specs.declared.layout.Layout.{Layout}
 use Rattle.table_schema.specs.Words.{Words}
 use Rattle.wire_messages.specs.Size.{plus}
-use Rattle.world_model.specs.Fits.{IsWord}
+use Rattle.cluster_machine.specs.Fits.{IsWord}
 use Rattle.cluster_machine.specs.World.{Sent, Mark, first_waiting, numbered, packet_size, sent_bytes}
 use Rattle.node_parts.specs.declared.packet.Envelope.{Envelope}
 use Rattle.world_core.specs.declared.post.Slot.{Slot}

@@ -7,13 +7,13 @@ use Rattle.layout_roles.specs.declared.layout.Layout.{Layout}
 use Rattle.table_schema.specs.Words.{Words}
 use Rattle.wire_messages.specs.Size.{plus}
 use Rattle.cluster_machine.specs.World.{Sent, Mark, sent_bytes}
-use Rattle.world_model.specs.Fits.{IsWord}
+use Rattle.cluster_machine.specs.Fits.{IsWord}
 use Rattle.world_core.specs.declared.post.Post.{Post}
 use Rattle.world_core.proofs.Posts.{sent_bytes_append, word_left}
 use Rattle.cluster_machine.specs.declared.line.Line.{Line}
 use Rattle.cluster_machine.specs.declared.line.Line.TheVariants.{Sent as WasSent}
 use Rattle.node_parts.specs.declared.packet.Envelope.{Envelope}
-use Rattle.world_model.specs.declared.applied.Applied.{Applied}
+use Rattle.cluster_machine.specs.declared.applied.Applied.{Applied}
 use Rattle.world_core.specs.Parts.{kind_of, lines_from, IsPost, IsSent, IsHeld, AreSent, not_yet}
 
 pub taken : {A : Type 0} (xs ys all : List A) → xs ++ ys ≡ all → length ys ≡ 0 → all ≡ xs

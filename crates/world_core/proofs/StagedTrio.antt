@@ -8,7 +8,7 @@ use Rattle.std.proofs.lemmas.List.{length-replicate}
 use Rattle.layout_roles.specs.declared.roles.Roles.{Roles}
 use Rattle.layout_roles.specs.declared.assignment.Assignment.{Assignment}
 use Rattle.layout_roles.specs.Zones.{nodes_ascend, is_numbered, set_ascends}
-use Rattle.world_model.specs.Trio.{trio, trio_sets, stage_trio}
+use Rattle.cluster_machine.specs.Trio.{trio, trio_sets, stage_trio}
 
 pub trio_whole : (sets : List (List ℕ)) → sets ≡ trio_sets → length sets ≡ 256
 trio_whole sets is = ap length is ∙ length-replicate {A = List ℕ} 256 (1 ∷ 2 ∷ 3 ∷ [])

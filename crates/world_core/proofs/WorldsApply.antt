@@ -4,7 +4,7 @@ use Rattle.std.specs.Option.{unwrap_or}
 use Rattle.std.proofs.lemmas.Bool.{le-leb, lt-leb}
 use Rattle.layout_roles.specs.declared.roles.Roles.{Roles}
 use Rattle.layout_roles.specs.declared.layout.Layout.{Layout}
-use Rattle.layout_flow.specs.declared.cut.Cut.{Cut}
+use Rattle.layout_roles.specs.declared.cut.Cut.{Cut}
 use Rattle.table_schema.specs.Words.{Words}
 use Rattle.quorum_model.specs.Quorum.{is_among}
 use Rattle.cluster_machine.specs.declared.step.Step.TheVariants.{Trio, Apply}
@@ -16,11 +16,11 @@ use Rattle.cluster_machine.specs.declared.step.Words.TheVariants.{Empty, One}
 use Rattle.cluster_machine.specs.Node.{Node as Seen}
 use Rattle.cluster_machine.specs.Acts.{appends}
 use Rattle.cluster_machine.specs.Step.{given, none_given, refusal, applied, trio_applies, most_versions, chosen}
-use Rattle.node_parts.specs.Layouts.{layouts}
-use Rattle.world_model.specs.declared.applied.Applied.{Applied}
-use Rattle.world_model.specs.Choices.{Decision, IsComputed, IsNone}
-use Rattle.world_model.specs.Trio.{trio, stage_trio}
-use Rattle.world_model.specs.Worlds.{Model, Done, newest_at, IsSound, does}
+use Rattle.cluster_machine.specs.Layouts.{layouts}
+use Rattle.cluster_machine.specs.declared.applied.Applied.{Applied}
+use Rattle.cluster_machine.specs.Choices.{Decision, IsComputed, IsNone}
+use Rattle.cluster_machine.specs.Trio.{trio, stage_trio}
+use Rattle.cluster_machine.specs.Worlds.{Model, Done, newest_at, IsSound, does}
 use Rattle.world_core.specs.declared.nodes.Nodes.{Nodes}
 use Rattle.world_core.specs.declared.report.Report.{Report}
 use Rattle.world_core.specs.declared.world.World.{World}

@@ -5,8 +5,8 @@ use Rattle.std.proofs.lemmas.Bool.{and_parts, leb-true, eqb-true, eq-eqb, ne_eqb
 use Rattle.std.proofs.lemmas.List.{length-set, length-append}
 use Rattle.std.proofs.lemmas.List.Elements.{All-weaker}
 use Rattle.layout_roles.specs.declared.layout.Layout.{Layout}
-use Rattle.layout_flow.specs.declared.cut.Cut.{Cut}
-use Rattle.layout_history.specs.Known.{reading}
+use Rattle.layout_roles.specs.declared.cut.Cut.{Cut}
+use Rattle.view_model.specs.Layouts.{reading}
 use Rattle.view_model.specs.View.{View, newest, last_version, follow, is_gapless}
 use Rattle.table_schema.specs.Words.{Words}
 use Rattle.wire_messages.specs.declared.phase.Phase.{Phase}
@@ -19,17 +19,16 @@ use Rattle.cluster_machine.specs.declared.step.Refusal.{Refusal}
 use Rattle.cluster_machine.specs.declared.step.Refusal.TheVariants.{NotMember, NoSuchMessage, Lost as WasLost, NoSuchRequest, AlreadyEnded}
 use Rattle.cluster_machine.specs.declared.step.Step.TheVariants.{Lose, Expire, Restart, Open, Phase as Begin, Close, Repair}
 use Rattle.cluster_machine.specs.declared.step.Words.TheVariants.{Empty, One}
-use Rattle.cluster_machine.specs.Layouts.{is_member}
+use Rattle.cluster_machine.specs.Layouts.{is_member, layouts}
 use Rattle.cluster_machine.specs.Node.{Node}
 use Rattle.cluster_machine.specs.Phases.{closed, opened}
 use Rattle.cluster_machine.specs.Acts.{restarts}
 use Rattle.cluster_machine.specs.World.{Sent, Mark, Request, numbered}
 use Rattle.cluster_machine.specs.Step.{only, nothing, refusal, at_message, expires, closing, restarted, beginning, requests_of, marked, shut, shut_one, changed, applied}
 use Rattle.node_parts.specs.declared.packet.Envelope.{Envelope}
-use Rattle.node_parts.specs.Layouts.{layouts}
-use Rattle.world_model.specs.declared.applied.Applied.{Applied}
-use Rattle.world_model.specs.Trio.{trio, stage_trio}
-use Rattle.world_model.specs.Worlds.{Model, Done, IsSound, does}
+use Rattle.cluster_machine.specs.declared.applied.Applied.{Applied}
+use Rattle.cluster_machine.specs.Trio.{trio, stage_trio}
+use Rattle.cluster_machine.specs.Worlds.{Model, Done, IsSound, does}
 use Rattle.world_core.specs.declared.nodes.Nodes.{Nodes}
 use Rattle.world_core.specs.declared.post.Post.{Post}
 use Rattle.world_core.specs.declared.report.Report.{Report}

@@ -4,7 +4,7 @@ use Rattle.layout_roles.specs.declared.redundancy.Redundancy.{Redundancy}
 use Rattle.layout_roles.specs.declared.roles.Roles.{Roles}
 use Rattle.layout_roles.specs.declared.role.Zone.{Zone}
 use Rattle.layout_roles.specs.declared.role.Kind.{Kind}
-use Rattle.layout_size.specs.Answers.{IsRedundancy}
+use Rattle.layout_roles.specs.Certificates.{IsRedundancy}
 use Rattle.table_schema.specs.Words.{Words}
 use Rattle.cluster_machine.specs.declared.step.Step.TheVariants.{Role as Stage, Redundancy as Spread, Tick, Skew}
 use Rattle.cluster_machine.specs.declared.step.Words.TheVariants.{Empty}

@@ -6,7 +6,7 @@ use Rattle.std.proofs.lemmas.Bool.{le-leb}
 use Rattle.layout_roles.specs.declared.layout.Layout.{Layout}
 use Rattle.layout_trackers.specs.declared.which.Which.TheVariants.{Sync}
 use Rattle.layout_trackers.specs.Trackers.{counts}
-use Rattle.layout_flow.specs.declared.cut.Cut.{Cut}
+use Rattle.layout_roles.specs.declared.cut.Cut.{Cut}
 use Rattle.table_schema.specs.Words.{Words}
 use Rattle.wire_messages.specs.declared.message.Message.{Message}
 use Rattle.wire_messages.specs.declared.message.Message.TheVariants.{Store}
@@ -26,17 +26,17 @@ use Rattle.cluster_machine.specs.Receives.{receives}
 use Rattle.cluster_machine.specs.Acts.{acts}
 use Rattle.cluster_machine.specs.World.{Sent, clock, numbered}
 use Rattle.cluster_machine.specs.Step.{told as says, nothing, refusal, did, received, at_message, begun, beginning, sync_line, marked, applied}
-use Rattle.machine_origins.specs.Keeping as origins
+use Rattle.cluster_machine.specs.Keeping as origins
 use Rattle.node_parts.specs.declared.packet.Packet.{Packet}
 use Rattle.node_parts.specs.declared.packet.Packet.TheVariants.{Msg, View}
 use Rattle.node_parts.specs.declared.packet.Envelope.{Envelope}
-use Rattle.node_parts.specs.Begins.{IsShort}
-use Rattle.node_parts.specs.Layouts.{layouts}
+use Rattle.cluster_machine.specs.Keeping.{IsShort}
+use Rattle.cluster_machine.specs.Layouts.{layouts}
 use Rattle.node_parts.specs.Posts.{told}
 use Rattle.node_core.specs.Stands.{IsBare, IsBarePacket, begins_at, ends_of}
-use Rattle.world_model.specs.declared.applied.Applied.{Applied}
-use Rattle.world_model.specs.Trio.{trio, stage_trio}
-use Rattle.world_model.specs.Worlds.{Model, Done, IsSound, IsUsual, RoomWith, does}
+use Rattle.cluster_machine.specs.declared.applied.Applied.{Applied}
+use Rattle.cluster_machine.specs.Trio.{trio, stage_trio}
+use Rattle.cluster_machine.specs.Worlds.{Model, Done, IsSound, IsUsual, RoomWith, does}
 use Rattle.world_laws.proofs.Additions.{fine_stays_sound}
 use Rattle.world_laws.proofs.Doings.{fine_did, fine_acted}
 use Rattle.world_core.specs.declared.nodes.Nodes.{Nodes}

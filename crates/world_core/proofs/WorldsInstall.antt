@@ -7,16 +7,16 @@ use Rattle.std.specs.List.{IsDistinct, AllByRecursion}
 use Rattle.std.proofs.lemmas.Bool.{eq-eqb, eqb-true, ne_eqb}
 use Rattle.std.proofs.lemmas.Map.Keys.{IsDistinct-head, IsDistinct-tail}
 use Rattle.layout_roles.specs.declared.layout.Layout.{Layout}
-use Rattle.layout_history.specs.Known.{reading}
+use Rattle.view_model.specs.Layouts.{reading}
 use Rattle.view_model.specs.View.{newest}
 use Rattle.table_schema.specs.Words.{Words}
 use Rattle.quorum_model.specs.Quorum.{is_among}
 use Rattle.quorum_model.proofs.Counting.{is_among-append}
 use Rattle.cluster_machine.specs.Node.{Node as Seen}
 use Rattle.cluster_machine.specs.Acts.{appends}
-use Rattle.node_parts.specs.Layouts.{layouts}
+use Rattle.cluster_machine.specs.Layouts.{layouts}
 use Rattle.node_core.specs.declared.node.Node.{Node}
-use Rattle.world_model.specs.Worlds.{Model, installed}
+use Rattle.cluster_machine.specs.Worlds.{Model, installed}
 use Rattle.world_laws.proofs.Steps.{installed_sound}
 use Rattle.world_core.specs.declared.nodes.Nodes.{Nodes}
 use Rattle.world_core.specs.declared.world.World.{World}

@@ -5,7 +5,7 @@ use Rattle.std.proofs.lemmas.Bool.{eq-eqb}
 use Rattle.layout_roles.specs.declared.layout.Layout.{Layout}
 use Rattle.layout_trackers.specs.declared.which.Which.TheVariants.{Sync}
 use Rattle.layout_trackers.specs.Trackers.{counts}
-use Rattle.layout_flow.specs.declared.cut.Cut.{Cut}
+use Rattle.layout_roles.specs.declared.cut.Cut.{Cut}
 use Rattle.table_schema.specs.Words.{Words}
 use Rattle.wire_messages.specs.Size.{plus}
 use Rattle.wire_messages.specs.declared.phase.PhaseEnd.{PhaseEnd}
@@ -17,9 +17,9 @@ use Rattle.cluster_machine.specs.Step.{only, sent_by, sent_from, sync_line, kind
 use Rattle.node_parts.specs.declared.packet.Envelope.{Envelope}
 use Rattle.node_parts.specs.Posts.{posted}
 use Rattle.node_core.specs.Stands.{AreSized, Fits as FitsDid}
-use Rattle.world_model.specs.declared.applied.Applied.{Applied}
-use Rattle.world_model.specs.Fits.{IsWord, FitsNode}
-use Rattle.world_model.specs.Worlds.{Model, Done, IsSound, RoomWith}
+use Rattle.cluster_machine.specs.declared.applied.Applied.{Applied}
+use Rattle.cluster_machine.specs.Fits.{IsWord, FitsNode}
+use Rattle.cluster_machine.specs.Worlds.{Model, Done, IsSound, RoomWith}
 use Rattle.world_core.specs.declared.nodes.Nodes.{Nodes}
 use Rattle.world_core.specs.declared.post.Post.{Post}
 use Rattle.world_core.specs.declared.world.World.{World}

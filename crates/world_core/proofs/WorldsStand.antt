@@ -1,7 +1,7 @@
 -- A world of the code stands for one of the machine where its parts do.
 use Rattle.std.proofs.Common.{◌≡◌, ◌<◌, ◌+◌, ◌^◌, Some, None, List, [], ◌++◌, length, refl, sym, subst, ◌∙◌, append-nil, add-zero}
-use Rattle.layout_flow.specs.declared.cut.Cut.{Cut}
-use Rattle.layout_size.specs.Answers.{IsRedundancy}
+use Rattle.layout_roles.specs.declared.cut.Cut.{Cut}
+use Rattle.layout_roles.specs.Certificates.{IsRedundancy}
 use Rattle.table_schema.specs.Words.{Words}
 use Rattle.cluster_machine.specs.declared.step.Step.{Step}
 use Rattle.cluster_machine.specs.declared.step.Words.{Words as Told}
@@ -9,11 +9,11 @@ use Rattle.cluster_machine.specs.declared.step.Words.TheVariants.{Empty}
 use Rattle.cluster_machine.specs.declared.step.Refusal.{Refusal}
 use Rattle.cluster_machine.specs.declared.line.Line.{Line}
 use Rattle.cluster_machine.specs.Step.{nothing, refusal, applied}
-use Rattle.world_model.specs.declared.applied.Applied.{Applied}
-use Rattle.world_model.specs.Choices.{Decision}
-use Rattle.world_model.specs.Fits.{IsWord}
-use Rattle.world_model.specs.Trio.{trio, stage_trio}
-use Rattle.world_model.specs.Worlds.{Model, Done, IsSound, IsMeant, IsLawfulStep, does}
+use Rattle.cluster_machine.specs.declared.applied.Applied.{Applied}
+use Rattle.cluster_machine.specs.Choices.{Decision}
+use Rattle.cluster_machine.specs.Fits.{IsWord}
+use Rattle.cluster_machine.specs.Trio.{trio, stage_trio}
+use Rattle.cluster_machine.specs.Worlds.{Model, Done, IsSound, IsMeant, IsLawfulStep, does}
 use Rattle.world_laws.proofs.Additions.{fine_stays_sound}
 use Rattle.world_laws.proofs.Steps.{fine_step}
 use Rattle.world_core.specs.declared.report.Report.{Report}

@@ -4,7 +4,7 @@ use Rattle.crdt_core.specs.declared.memory.Memory.{Memory}
 use Rattle.crdt_core.specs.declared.memory.Memory.TheVariants.{Want, Full}
 use Rattle.table_schema.specs.Words.{Words}
 use Rattle.cluster_machine.specs.declared.step.Step.{Step}
-use Rattle.world_model.specs.Worlds.{Model, IsLawfulStep}
+use Rattle.cluster_machine.specs.Worlds.{Model, IsLawfulStep}
 use Rattle.world_core.specs.declared.report.Report.{Report}
 use Rattle.world_core.specs.declared.world.World.{World}
 use Rattle.world_core.specs.Stands.{Steps, Overflows, Plays, Exceeds, nothing_given}

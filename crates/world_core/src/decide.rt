@@ -1,15 +1,15 @@
 //! The layout of the staged roles, or why there is none.
-ghost use Rattle.std.specs.Prelude.{◌≡◌, IfOk, IfErr};
-ghost use Rattle.crdt_core.specs.declared.memory.Memory.TheVariants.{Want};
-ghost use Rattle.layout_size.specs.Answers.{IsRedundancy};
-ghost use Rattle.world_model.specs.Choices.{IsComputed};
+ghost use Rattle.std.specs.Prelude.{◌≡◌, IfOk};
+ghost use Rattle.crdt_core.specs.Outcomes.{OnlyWant};
+ghost use Rattle.layout_roles.specs.Certificates.{IsRedundancy};
+ghost use Rattle.cluster_machine.specs.Choices.{IsComputed};
 ghost use Rattle.world_core.specs.Parts.{decision, IsGiven};
 
+use cluster_machine::applied::{Applied, Refusal};
 use crdt_core::Memory;
-use layout_roles::{Layout, Redundancy, Roles};
-use layout_size::{Certified, LayoutFault, compute};
+use layout_roles::{Certified, Layout, Redundancy, Roles};
+use layout_size::{LayoutFault, compute};
 use std::alloc::Global;
-use world_model::{Applied, Refusal};
 
 /// What an apply is given.
 #[derive(Drop)]
@@ -29,7 +29,7 @@ pub fn decide(
 ) -> Result<Decided, Memory>
     requires { IsRedundancy wanted }
     ensures computed { IfOk result (λ decided. IsComputed roles.now.list wanted version (decision decided)) }
-    ensures want { IfErr result (λ e. e ≡ Want) }
+    ensures want { OnlyWant result }
 {
     match compute(alloc, roles, wanted) {
         Ok(certified) => given(roles, version, certified),
@@ -47,7 +47,7 @@ pub fn decide(
 // The layout with a computed assignment, and what is printed of it.
 fn given(roles: &Roles, version: u32, certified: Certified) -> Result<Decided, Memory>
     ensures given { IfOk result (λ decided. IsGiven roles.now version certified (decision decided)) }
-    ensures want { IfErr result (λ e. e ≡ Want) }
+    ensures want { OnlyWant result }
 {
     let layout = Layout {
         version,

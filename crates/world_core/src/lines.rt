@@ -1,14 +1,14 @@
 //! The kind of a message, and the line of a sync.
-ghost use Rattle.std.specs.Prelude.{◌≡◌, ◌++◌, [], ◌∷◌, cond, leb, OnOk, IfErr};
-ghost use Rattle.crdt_core.specs.declared.memory.Memory.TheVariants.{Want};
+ghost use Rattle.std.specs.Prelude.{◌≡◌, ◌++◌, [], ◌∷◌, cond, leb, OnOk};
+ghost use Rattle.crdt_core.specs.Outcomes.{OnlyWant};
 ghost use Rattle.cluster_machine.specs.declared.line.Line.TheVariants.{Synced};
 ghost use Rattle.world_core.specs.Parts.{kind_of};
 
 use cluster_machine::SentKind;
+use cluster_machine::applied::Line;
 use crdt_core::{List, Memory};
 use node_core::Packet;
 use wire_messages::Message;
-use world_model::Line;
 
 /// The kind of a packet.
 pub fn kind<R>(packet: &Packet<R>) -> SentKind
@@ -35,7 +35,7 @@ pub fn kind<R>(packet: &Packet<R>) -> SentKind
 /// Says that a node raised its own sync, where it rose.
 pub fn push_synced(lines: &mut List<Line>, node: u8, before: u32, after: u32) -> Result<(), Memory>
     ensures pushed { OnOk result (lines.new ≡ lines.old ++ cond (leb after before) [] (Synced node after ∷ [])) }
-    ensures want { IfErr result (λ e. e ≡ Want) }
+    ensures want { OnlyWant result }
 {
     if before < after {
         lines.push(Line::Synced(node, after))?;

@@ -1,27 +1,27 @@
 //! The nodes of the cluster, by their numbers.
-ghost use Rattle.std.specs.Prelude.{◌≡◌, ◌⊎◌, ◌<◌, ◌≤◌, ◌+◌, ℕ, true, false, Option, Some, None, List, reverse, length, IsTrue, IsSome, OnOk, OnErr, IfOk, IfErr};
+ghost use Rattle.std.specs.Prelude.{◌≡◌, ◌⊎◌, ◌<◌, ◌≤◌, ◌+◌, ℕ, true, false, Option, Some, None, List, reverse, length, IsTrue, IsSome, OnOk, OnErr, IfOk};
 ghost use Rattle.std.specs.List.{All};
 ghost use Rattle.std.specs.Ordering.{nat_cmp};
 ghost use Rattle.std.specs.BTreeMap.{get};
-ghost use Rattle.crdt_core.specs.declared.memory.Memory.TheVariants.{Want, Full};
+ghost use Rattle.crdt_core.specs.Outcomes.{OnlyWant, WantOr};
 ghost use Rattle.layout_trackers.specs.declared.which.Which.TheVariants.{Sync};
 ghost use Rattle.layout_trackers.specs.Trackers.{counts};
 ghost use Rattle.layout_roles.specs.declared.layout.Layout.{Layout};
-ghost use Rattle.layout_history.specs.Known.{reading, has_members};
+ghost use Rattle.view_model.specs.Layouts.{reading};
+ghost use Rattle.layout_history.specs.Known.{has_members};
 ghost use Rattle.view_model.specs.View.{newest};
 ghost use Rattle.table_model.specs.Rows.{rows};
 ghost use Rattle.table_model.specs.Top.{top, any_unspelled};
-ghost use Rattle.cluster_machine.specs.Layouts.{is_member};
+ghost use Rattle.cluster_machine.specs.Layouts.{is_member, layouts};
 ghost use Rattle.cluster_machine.specs.Node.{Node as Model, shows, new_node};
-ghost use Rattle.cluster_machine.specs.Phases.{opened, closed, call_at};
+ghost use Rattle.cluster_machine.specs.Phases.{closed, call_at};
 ghost use Rattle.cluster_machine.specs.Receives.{receives};
 ghost use Rattle.cluster_machine.specs.Acts.{acts, appends, restarts};
 ghost use Rattle.cluster_machine.specs.Step.{requests_of};
-ghost use Rattle.node_parts.specs.Layouts.{layouts};
 ghost use Rattle.node_parts.specs.Posts.{told};
-ghost use Rattle.node_parts.specs.Begins.{IsShort};
+ghost use Rattle.cluster_machine.specs.Keeping.{IsShort};
 ghost use Rattle.node_core.specs.Stands.{IsBarePacket, begins_at};
-ghost use Rattle.node_core.specs.declared.node.BeginFault.TheVariants.{NotMember, Memory as WantsMemory};
+ghost use Rattle.node_core.specs.declared.node.BeginFault.TheVariants.{NotMember};
 
 use crate::node_line::NodeLine;
 use blake2_hash::Hash32;
@@ -61,7 +61,7 @@ impl<S: Schema> Nodes<S> {
         ensures same { OnOk result ((xs : ℕ → Model S.Row Layout) → AreNodes S.Row.join S.words self.old xs → AreNodes S.Row.join S.words self.new xs) }
         ensures present { OnOk result (IsSome (get nat_cmp self.new.by_number node)) }
         ensures newest { OnOk result (newest_in self.new node ≡ newest_in self.old node) }
-        ensures want { IfErr result (λ e. e ≡ Want) }
+        ensures want { OnlyWant result }
     {
         if self.by_number.get(&node).is_none() {
             let new = Node::new(self.alloc, node)?;
@@ -105,7 +105,7 @@ impl<S: Schema> Nodes<S> {
     pub fn shown(&self, node: u8) -> Result<Packet<S::Row>, Memory>
         ensures shown { IfOk result (λ packet. (xs : ℕ → Model S.Row Layout) → AreNodes S.Row.join S.words self.now xs → told packet ≡ shows (xs node).view) }
         ensures bare { IfOk result (λ packet. IsBarePacket packet) }
-        ensures want { IfErr result (λ e. e ≡ Want) }
+        ensures want { OnlyWant result }
     {
         let view = match self.by_number.get(&node) {
             Some(found) => found.view().copy()?,
@@ -117,7 +117,7 @@ impl<S: Schema> Nodes<S> {
     /// What the node shows of itself; None where it knows no layout version.
     pub fn line(&self, node: u8) -> Result<Option<NodeLine>, Memory>
         ensures rows { IfOk result (λ line. (xs : ℕ → Model S.Row Layout) → AreNodes S.Row.join S.words self.now xs → IsLineOf S.Row.join S.words node (xs node) line) }
-        ensures causes { IfErr result (λ e. (e ≡ Want) ⊎ ((e ≡ Full) × ((xs : ℕ → Model S.Row Layout) → AreNodes S.Row.join S.words self.now xs → IsTrue (any_unspelled S.words (rows S.Row.join S.words (xs node).accepted))))) }
+        ensures causes { WantOr result ((xs : ℕ → Model S.Row Layout) → AreNodes S.Row.join S.words self.now xs → IsTrue (any_unspelled S.words (rows S.Row.join S.words (xs node).accepted))) }
     {
         match self.by_number.get(&node) {
             None => Ok(None),
@@ -140,7 +140,7 @@ impl<S: Schema> Nodes<S> {
     pub fn open(&mut self, node: u8, request: u64) -> Result<bool, Memory>
         ensures opens { IfOk result (λ member. (xs : ℕ → Model S.Row Layout) → AreNodes S.Row.join S.words self.old xs → All (λ c. c.request < request) (xs node).calls →
             Opens S.Row.join S.words self.new node request xs member) }
-        ensures want { IfErr result (λ e. e ≡ Want) }
+        ensures want { OnlyWant result }
     {
         self.ready(node)?;
         let Some(found) = self.by_number.get_mut(&node) else {
@@ -163,7 +163,7 @@ impl<S: Schema> Nodes<S> {
     ) -> Result<(), Memory>
         requires short { IsShort phase }
         ensures begins { OnOk result ((kept : List S.Row) → DoesAt S.Row.join S.words self.old self.new node out.old.items out.new.items None (λ x. begins_at S.words kept x phase (call_at x.calls request))) }
-        ensures causes { IfErr result (λ e. (e ≡ Want) ⊎ ((e ≡ Full) × ((kept : List S.Row) → OverflowsAt S.Row.join S.words self.old node (λ x. begins_at S.words kept x phase (call_at x.calls request))))) }
+        ensures causes { WantOr result ((kept : List S.Row) → OverflowsAt S.Row.join S.words self.old node (λ x. begins_at S.words kept x phase (call_at x.calls request))) }
     {
         self.ready(node)?;
         let Some(found) = self.by_number.get_mut(&node) else {
@@ -191,7 +191,7 @@ impl<S: Schema> Nodes<S> {
     ) -> Result<Option<(u64, PhaseEnd<S::Row>)>, Memory>
         requires bare { IsBarePacket envelope.now.packet }
         ensures receives { IfOk result (λ given. DoesAt S.Row.join S.words self.old self.new envelope.now.to out.old.items out.new.items given (λ x. receives S.Row.join S.words layouts envelope.now.to now x envelope.now.from (told envelope.now.packet))) }
-        ensures causes { IfErr result (λ e. (e ≡ Want) ⊎ ((e ≡ Full) × OverflowsAt S.Row.join S.words self.old envelope.now.to (λ x. receives S.Row.join S.words layouts envelope.now.to now x envelope.now.from (told envelope.now.packet)))) }
+        ensures causes { WantOr result (OverflowsAt S.Row.join S.words self.old envelope.now.to (λ x. receives S.Row.join S.words layouts envelope.now.to now x envelope.now.from (told envelope.now.packet))) }
     {
         self.ready(envelope.to)?;
         let Some(found) = self.by_number.get_mut(&envelope.to) else {
@@ -211,7 +211,7 @@ impl<S: Schema> Nodes<S> {
     ) -> Result<LocalEnd, Memory>
         requires has_version { 1 ≤ newest_in self.old node }
         ensures acts { IfOk result (λ how. ActsAt S.Row.join S.words self.old self.new node out.old.items out.new.items how (λ x. acts S.Row.join S.words layouts node now x action)) }
-        ensures causes { IfErr result (λ e. (e ≡ Want) ⊎ ((e ≡ Full) × OverflowsAt S.Row.join S.words self.old node (λ x. (acts S.Row.join S.words layouts node now x action).did))) }
+        ensures causes { WantOr result (OverflowsAt S.Row.join S.words self.old node (λ x. (acts S.Row.join S.words layouts node now x action).did)) }
     {
         self.ready(node)?;
         let Some(found) = self.by_number.get_mut(&node) else {
@@ -226,7 +226,7 @@ impl<S: Schema> Nodes<S> {
         requires next { layout.version ≡ newest_in self.old node + 1 }
         requires inhabited { IsTrue (has_members layout) }
         ensures appends { OnOk result (BecomesAt S.Row.join S.words self.old self.new node (λ x. appends layouts x layout)) }
-        ensures want { IfErr result (λ e. e ≡ Want) }
+        ensures want { OnlyWant result }
     {
         self.ready(node)?;
         let Some(found) = self.by_number.get_mut(&node) else {
@@ -240,7 +240,7 @@ impl<S: Schema> Nodes<S> {
     pub fn restart(&mut self, node: u8) -> Result<Vec<u64>, Memory>
         ensures restarts { OnOk result (BecomesAt S.Row.join S.words self.old self.new node (λ x. restarts x)) }
         ensures lost { IfOk result (λ lost. (xs : ℕ → Model S.Row Layout) → AreNodes S.Row.join S.words self.old xs → lost.items ≡ reverse (requests_of (xs node).calls)) }
-        ensures want { IfErr result (λ e. e ≡ Want) }
+        ensures want { OnlyWant result }
     {
         self.ready(node)?;
         let Some(found) = self.by_number.get_mut(&node) else {

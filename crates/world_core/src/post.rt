@@ -1,20 +1,20 @@
 //! Every message that was ever sent, and what became of it.
 ghost use Rattle.std.specs.Prelude.{◌≡◌, ◌⊎◌, ◌<◌, ◌≤◌, ◌^◌, ℕ, suc, Some, None, [], ◌∷◌, ◌++◌, false, true, length, map, OnOk, IfOk, IfErr};
+ghost use Rattle.crdt_core.specs.Outcomes.{WantOr};
 ghost use Rattle.layout_roles.specs.declared.layout.Layout.{Layout};
-ghost use Rattle.crdt_core.specs.declared.memory.Memory.TheVariants.{Want, Full};
 ghost use Rattle.table_schema.specs.Words.{Words};
 ghost use Rattle.cluster_machine.specs.World.{Sent, Mark, numbered, first_waiting, sent_bytes, forgot};
 ghost use Rattle.cluster_machine.specs.Step.{marked};
-ghost use Rattle.world_model.specs.Fits.{IsWord};
+ghost use Rattle.cluster_machine.specs.Fits.{IsWord};
 ghost use Rattle.world_core.specs.Parts.{IsPost, AreSent, IsSent, IsFound, IsMissing, AreGone, IsFirst, packet_bytes, not_yet, lines_from};
 
 use crate::lines::kind;
+use cluster_machine::applied::{Line, Refusal};
 use crdt_core::{List, Memory};
 use node_core::{Envelope, Packet};
 use std::alloc::Global;
 use table_schema::Schema;
 use wire_messages::size;
-use world_model::{Line, Refusal};
 
 /// A message that was sent, unless it was lost since, and whether it was delivered.
 #[derive(Drop)]
@@ -57,7 +57,7 @@ pub struct Post<R> {
 /// How many bytes a packet counts; a view counts 1,600 for each of its versions.
 fn packet_size<S: Schema>(alloc: Global, packet: &Packet<S::Row>) -> Result<u64, Memory>
     ensures is { IfOk result (λ n. packet_bytes S.words packet.now ≡ Some n) }
-    ensures causes { IfErr result (λ e. (e ≡ Want) ⊎ ((e ≡ Full) × (IsWord (packet_bytes S.words packet.now) → ⊥))) }
+    ensures causes { WantOr result (IsWord (packet_bytes S.words packet.now) → ⊥) }
 {
     match packet {
         Packet::Msg(message) => size::<S>(alloc, message),
@@ -167,8 +167,8 @@ pub fn send<S: Schema>(
     ensures sent { OnOk result ((messages : List (Sent S.Row Layout)) (marks : List Mark) (sent : List (Sent S.Row Layout)) → IsPost S.words post.old messages marks → AreSent envelopes.items sent →
         IsPost S.words post.new (messages ++ sent) (marks ++ not_yet sent)) }
     ensures told { OnOk result ((messages : List (Sent S.Row Layout)) (marks : List Mark) → IsPost S.words post.old messages marks → lines.new ≡ lines.old ++ lines_from (suc (length messages)) envelopes.items) }
-    ensures causes { IfErr result (λ e. (e ≡ Want) ⊎ ((e ≡ Full) × ((messages : List (Sent S.Row Layout)) (marks : List Mark) (sent : List (Sent S.Row Layout)) →
-        IsPost S.words post.old messages marks → AreSent envelopes.items sent → IsWord (sent_bytes S.words (messages ++ sent)) → ⊥))) }
+    ensures causes { WantOr result ((messages : List (Sent S.Row Layout)) (marks : List Mark) (sent : List (Sent S.Row Layout)) →
+        IsPost S.words post.old messages marks → AreSent envelopes.items sent → IsWord (sent_bytes S.words (messages ++ sent)) → ⊥) }
 {
     for envelope in envelopes {
         put::<S>(post, alloc, envelope, lines)?;
@@ -187,8 +187,8 @@ fn put<S: Schema>(
         IsPost S.words post.new (messages ++ m ∷ []) (marks ++ not_yet (m ∷ []))) }
     ensures told { OnOk result (lines.new ≡ lines.old ++ lines_from (suc (length post.old.slots.items)) (envelope ∷ [])) }
     ensures more { OnOk result (length post.new.slots.items ≡ suc (length post.old.slots.items)) }
-    ensures causes { IfErr result (λ e. (e ≡ Want) ⊎ ((e ≡ Full) × ((messages : List (Sent S.Row Layout)) (marks : List Mark) (m : Sent S.Row Layout) →
-        IsPost S.words post.old messages marks → IsSent envelope m → IsWord (sent_bytes S.words (messages ++ m ∷ [])) → ⊥))) }
+    ensures causes { WantOr result ((messages : List (Sent S.Row Layout)) (marks : List Mark) (m : Sent S.Row Layout) →
+        IsPost S.words post.old messages marks → IsSent envelope m → IsWord (sent_bytes S.words (messages ++ m ∷ [])) → ⊥) }
 {
     let size = packet_size::<S>(alloc, &envelope.packet)?;
     let Some(bytes) = post.bytes.checked_add(size) else {

@@ -1,8 +1,8 @@
 //! What a step answers.
 use cluster_machine::Words;
+use cluster_machine::applied::{Line, Refusal};
 use crdt_core::List;
 use wire_messages::PhaseEnd;
-use world_model::{Line, Refusal};
 
 /// What a step answers: why it was refused, or its words, what happened, the phases that ended with their requests, in
 /// order, and the requests that a restart lost, ascending.

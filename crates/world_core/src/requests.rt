@@ -1,6 +1,6 @@
 //! The requests that ever began.
-ghost use Rattle.std.specs.Prelude.{◌≡◌, ◌<◌, ◌^◌, suc, true, [], ◌∷◌, ◌++◌, length, option_map, OnOk, OnErr, IfOk, IfErr};
-ghost use Rattle.crdt_core.specs.declared.memory.Memory.TheVariants.{Want};
+ghost use Rattle.std.specs.Prelude.{◌≡◌, ◌<◌, ◌^◌, suc, true, [], ◌∷◌, ◌++◌, length, option_map, OnOk, OnErr, IfOk};
+ghost use Rattle.crdt_core.specs.Outcomes.{OnlyWant};
 ghost use Rattle.cluster_machine.specs.World.{numbered};
 ghost use Rattle.cluster_machine.specs.Step.{shut};
 ghost use Rattle.world_core.specs.Parts.{asked};
@@ -66,7 +66,7 @@ impl Requests {
         ensures begun { OnOk result (self.new ≡ self.old ++ record { coordinator = coordinator; is_open = true } ∷ []) }
         ensures number { IfOk result (λ number. number ≡ suc (length self.old)) }
         ensures small { IfOk result (λ number. number < 2 ^ 64) }
-        ensures want { IfErr result (λ e. e ≡ Want) }
+        ensures want { OnlyWant result }
     {
         self.list.push(Request {
             coordinator,

@@ -1,8 +1,8 @@
 //! The staged roles, and the first layout.
-ghost use Rattle.std.specs.Prelude.{◌≡◌, ◌≤◌, IfOk, IfErr};
-ghost use Rattle.crdt_core.specs.declared.memory.Memory.TheVariants.{Want};
+ghost use Rattle.std.specs.Prelude.{◌≡◌, ◌≤◌, IfOk};
+ghost use Rattle.crdt_core.specs.Outcomes.{OnlyWant};
 ghost use Rattle.cluster_machine.specs.World.{staged as staged_model};
-ghost use Rattle.world_model.specs.Trio.{trio, trio_roles, trio_sets, zone, stage_trio};
+ghost use Rattle.cluster_machine.specs.Trio.{trio, trio_sets, zone, stage_trio};
 
 use crdt_core::{Bytes, List, Memory};
 use layout_roles::{Assignment, Kind, Layout, PARTITIONS, Role, Roles, Zone};
@@ -18,7 +18,7 @@ pub fn staged(
     requires low { 1 ≤ node }
     requires high { node ≤ 64 }
     ensures staged { IfOk result (λ new. new.list ≡ staged_model node role roles.now.list) }
-    ensures want { IfErr result (λ e. e ≡ Want) }
+    ensures want { OnlyWant result }
 {
     let others = roles.list.as_slice();
     let mut list = List::new(alloc);
@@ -44,7 +44,7 @@ pub fn staged(
 // The zone whose name is one letter.
 fn zone_of(alloc: Global, letter: u8) -> Result<Zone, Memory>
     ensures named { IfOk result (λ z. z ≡ zone letter) }
-    ensures want { IfErr result (λ e. e ≡ Want) }
+    ensures want { OnlyWant result }
 {
     Ok(Zone(Bytes::from_slice(alloc, &[letter])?))
 }
@@ -55,7 +55,7 @@ const TRIO_CAPACITY: u64 = 1000;
 /// Stages nodes 1, 2 and 3 in zones a, b and c beside the roles that are staged.
 pub fn with_trio(alloc: Global, roles: &Roles) -> Result<Roles, Memory>
     ensures staged { IfOk result (λ new. new.list ≡ stage_trio roles.now.list) }
-    ensures want { IfErr result (λ e. e ≡ Want) }
+    ensures want { OnlyWant result }
 {
     let kind = Kind::Storage(TRIO_CAPACITY);
     let third = staged(alloc, roles, 3, Some((zone_of(alloc, b'c')?, kind)))?;
@@ -66,7 +66,7 @@ pub fn with_trio(alloc: Global, roles: &Roles) -> Result<Roles, Memory>
 // Every partition lies at nodes 1, 2 and 3.
 fn trio_assignment(alloc: Global) -> Result<Assignment, Memory>
     ensures sets { IfOk result (λ assignment. assignment.sets ≡ trio_sets) }
-    ensures want { IfErr result (λ e. e ≡ Want) }
+    ensures want { OnlyWant result }
 {
     let mut sets = Vec::new(alloc);
     for _ in 0..PARTITIONS {
@@ -80,7 +80,7 @@ fn trio_assignment(alloc: Global) -> Result<Assignment, Memory>
 /// The layout of nodes 1, 2 and 3.
 pub fn trio_layout(alloc: Global) -> Result<Layout, Memory>
     ensures is { IfOk result (λ layout. layout ≡ trio) }
-    ensures want { IfErr result (λ e. e ≡ Want) }
+    ensures want { OnlyWant result }
 {
     let none = Roles {
         list: List::new(alloc),

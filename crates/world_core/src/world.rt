@@ -1,13 +1,14 @@
 //! The cluster, step by step.
 ghost use Rattle.std.specs.Prelude.{◌≡◌, ◌⊎◌, ◌≤◌, ◌+◌, ℕ, nat_eq, leb, not, ◌&&◌, Some, None, [], length, map, option_map, IsTrue, IfOk, IfErr, OnOk};
 ghost use Rattle.std.specs.List.{IsDistinct};
-ghost use Rattle.crdt_core.specs.declared.memory.Memory.TheVariants.{Want, Full};
+ghost use Rattle.crdt_core.specs.Outcomes.{OnlyWant, WantOr};
+ghost use Rattle.crdt_core.specs.declared.memory.Memory.TheVariants.{Full};
 ghost use Rattle.layout_history.specs.Known.{has_members};
-ghost use Rattle.layout_size.specs.Answers.{IsRedundancy};
+ghost use Rattle.layout_roles.specs.Certificates.{IsRedundancy};
 ghost use Rattle.table_model.specs.Rows.{rows};
 ghost use Rattle.table_model.specs.Top.{any_unspelled};
-ghost use Rattle.node_parts.specs.Begins.{IsShort};
-ghost use Rattle.node_parts.specs.Layouts.{layouts};
+ghost use Rattle.cluster_machine.specs.Keeping.{IsShort};
+ghost use Rattle.cluster_machine.specs.Layouts.{layouts};
 ghost use Rattle.node_core.specs.Stands.{ends_of};
 ghost use Rattle.cluster_machine.specs.declared.step.Step.TheVariants as step;
 ghost use Rattle.cluster_machine.specs.declared.step.Words.TheVariants.{Empty};
@@ -15,7 +16,7 @@ ghost use Rattle.cluster_machine.specs.declared.line.Line.TheVariants as line;
 ghost use Rattle.cluster_machine.specs.declared.line.EndWord.TheVariants as word;
 ghost use Rattle.cluster_machine.specs.Step.{told};
 ghost use Rattle.cluster_machine.specs.World.{clock, is_member_at, undelivered, sent_bytes, node_line, forget_delivered, empty};
-ghost use Rattle.world_model.specs.Worlds.{Model, IsMeant, installed};
+ghost use Rattle.cluster_machine.specs.Worlds.{Model, IsMeant, installed};
 ghost use Rattle.world_core.specs.Nodes.{shown_line, newest_in};
 ghost use Rattle.world_core.specs.Stands.{SendsOut, CannotSend, acts_so, local_so, ended};
 
@@ -28,6 +29,7 @@ use crate::post::{Post, send};
 use crate::report::Report;
 use crate::requests::Requests;
 use crate::staging::{staged, trio_layout, with_trio};
+use cluster_machine::applied::{Line, Refusal};
 use cluster_machine::{Action, EndWord, LocalEnd, Step, Words};
 use crdt_core::{List, Memory};
 use layout_roles::{Kind, Layout, Redundancy, Roles, Zone};
@@ -36,7 +38,6 @@ use std::alloc::Global;
 use table_schema::Schema;
 use wire_messages::{Phase, PhaseEnd};
 use world_laws::empty_world_is_sound;
-use world_model::{Line, Refusal};
 
 /// How many layout versions may be applied.
 const MOST_VERSIONS: u32 = 100;
@@ -62,7 +63,7 @@ impl<S: Schema> World<S> {
     /// A world without layout versions, messages and requests, at time 0. Any redundancy is wanted that there can be.
     pub fn new(alloc: Global) -> Result<World<S>, Memory>
         ensures stands { IfOk result (λ world. StandsFor S.Row.join S.words world empty) }
-        ensures want { IfErr result (λ e. e ≡ Want) }
+        ensures want { OnlyWant result }
     {
         empty_world_is_sound::<S::Row>();
         Ok(World {
@@ -87,7 +88,7 @@ impl<S: Schema> World<S> {
         requires inhabited { IsTrue (has_members first) }
         requires each_once { IsDistinct nat_eq nodes.now }
         ensures installed { OnOk result (Turns S.Row.join S.words self.old self.new (λ w. installed w first nodes.now)) }
-        ensures want { IfErr result (λ e. e ≡ Want) }
+        ensures want { OnlyWant result }
     {
         for node in nodes {
             self.nodes.append(*node, first.copy()?)?;
@@ -141,7 +142,7 @@ impl<S: Schema> World<S> {
     /// What a node shows of itself, None where it knows no layout version.
     pub fn node_line(&self, node: u8) -> Result<Option<NodeLine>, Memory>
         ensures line { IfOk result (λ line. (w : Model S.Row) → StandsFor S.Row.join S.words self.now w → option_map shown_line line ≡ node_line S.Row.join S.words layouts w node) }
-        ensures causes { IfErr result (λ e. (e ≡ Want) ⊎ ((e ≡ Full) × ((w : Model S.Row) → StandsFor S.Row.join S.words self.now w → IsTrue (any_unspelled S.words (rows S.Row.join S.words (w.nodes node).accepted))))) }
+        ensures causes { WantOr result ((w : Model S.Row) → StandsFor S.Row.join S.words self.now w → IsTrue (any_unspelled S.words (rows S.Row.join S.words (w.nodes node).accepted))) }
     {
         let line = self.nodes.line(node)?;
         Ok(line)
@@ -160,7 +161,7 @@ impl<S: Schema> World<S> {
         requires stands { IsWorld S.Row.join S.words self.old }
         requires meant { IsMeant step }
         ensures steps { IfOk result (λ report. Steps S.Row.join S.words self.old self.new report step) }
-        ensures causes { IfErr result (λ e. (e ≡ Want) ⊎ ((e ≡ Full) × Overflows S.Row.join S.words self.old step)) }
+        ensures causes { WantOr result (Overflows S.Row.join S.words self.old step) }
     {
         match step {
             Step::Trio => self.trio(),
@@ -223,7 +224,7 @@ impl<S: Schema> World<S> {
     fn trio(&mut self) -> Result<Report<S::Row>, Memory>
         requires stands { IsWorld S.Row.join S.words self.old }
         ensures plays { IfOk result (λ report. Plays S.Row.join S.words self.old self.new report step.Trio) }
-        ensures want { IfErr result (λ e. e ≡ Want) }
+        ensures want { OnlyWant result }
     {
         if self.applied >= 1 {
             return Ok(self.refused(Refusal::VersionTaken(1)));
@@ -241,7 +242,7 @@ impl<S: Schema> World<S> {
         requires low { 1 ≤ node }
         requires high { node ≤ 64 }
         ensures plays { IfOk result (λ report. Plays S.Row.join S.words self.old self.new report (step.Role node role)) }
-        ensures want { IfErr result (λ e. e ≡ Want) }
+        ensures want { OnlyWant result }
     {
         self.roles = staged(self.alloc, &self.roles, node, role)?;
         Ok(self.silent())
@@ -250,7 +251,7 @@ impl<S: Schema> World<S> {
     fn spread(&mut self, wanted: Redundancy) -> Result<Report<S::Row>, Memory>
         requires { IsRedundancy wanted }
         ensures plays { IfOk result (λ report. Plays S.Row.join S.words self.old self.new report (step.Redundancy wanted)) }
-        ensures want { IfErr result (λ e. e ≡ Want) }
+        ensures want { OnlyWant result }
     {
         self.redundancy = wanted;
         Ok(self.silent())
@@ -267,7 +268,7 @@ impl<S: Schema> World<S> {
     fn apply(&mut self, node: u8) -> Result<Report<S::Row>, Memory>
         requires stands { IsWorld S.Row.join S.words self.old }
         ensures steps { IfOk result (λ report. Steps S.Row.join S.words self.old self.new report (step.Apply node)) }
-        ensures want { IfErr result (λ e. e ≡ Want) }
+        ensures want { OnlyWant result }
     {
         if self.is_outside(node) {
             return Ok(self.refused(Refusal::NotMember));
@@ -317,7 +318,7 @@ impl<S: Schema> World<S> {
         lines: &mut List<Line>,
     ) -> Result<(), Memory>
         ensures tells { OnOk result (SendsOut S.Row.join S.words self.old self.new node before out.items lines.old lines.new) }
-        ensures causes { IfErr result (λ e. (e ≡ Want) ⊎ ((e ≡ Full) × CannotSend S.words self.old out.items)) }
+        ensures causes { WantOr result (CannotSend S.words self.old out.items) }
     {
         send::<S>(&mut self.post, self.alloc, out, lines)?;
         push_synced(lines, node, before, self.nodes.synced(node))?;
@@ -327,7 +328,7 @@ impl<S: Schema> World<S> {
     fn deliver(&mut self, message: u64) -> Result<Report<S::Row>, Memory>
         requires stands { IsWorld S.Row.join S.words self.old }
         ensures plays { IfOk result (λ report. Plays S.Row.join S.words self.old self.new report (step.Deliver message)) }
-        ensures causes { IfErr result (λ e. (e ≡ Want) ⊎ ((e ≡ Full) × Exceeds S.Row.join S.words self.old (step.Deliver message))) }
+        ensures causes { WantOr result (Exceeds S.Row.join S.words self.old (step.Deliver message)) }
     {
         let envelope = match self.post.get(message) {
             Ok(envelope) => envelope,
@@ -349,7 +350,7 @@ impl<S: Schema> World<S> {
 
     fn lose(&mut self, message: u64) -> Result<Report<S::Row>, Memory>
         ensures plays { IfOk result (λ report. Plays S.Row.join S.words self.old self.new report (step.Lose message)) }
-        ensures want { IfErr result (λ e. e ≡ Want) }
+        ensures want { OnlyWant result }
     {
         match self.post.get(message) {
             Ok(_) => {
@@ -363,7 +364,7 @@ impl<S: Schema> World<S> {
     // A request that is open ends without an answer.
     fn expire(&mut self, request: u64) -> Result<Report<S::Row>, Memory>
         ensures plays { IfOk result (λ report. Plays S.Row.join S.words self.old self.new report (step.Expire request)) }
-        ensures want { IfErr result (λ e. e ≡ Want) }
+        ensures want { OnlyWant result }
     {
         let Some(found) = self.requests.get(request) else {
             return Ok(self.refused(Refusal::NoSuchRequest));
@@ -383,7 +384,7 @@ impl<S: Schema> World<S> {
 
     fn restart(&mut self, node: u8) -> Result<Report<S::Row>, Memory>
         ensures plays { IfOk result (λ report. Plays S.Row.join S.words self.old self.new report (step.Restart node)) }
-        ensures want { IfErr result (λ e. e ≡ Want) }
+        ensures want { OnlyWant result }
     {
         let lost = self.nodes.restart(node)?;
         self.requests.close_all(&lost);
@@ -396,7 +397,7 @@ impl<S: Schema> World<S> {
     // A node sends its view to another.
     fn gossip(&mut self, from: u8, to: u8) -> Result<Report<S::Row>, Memory>
         ensures plays { IfOk result (λ report. Plays S.Row.join S.words self.old self.new report (step.Gossip from to)) }
-        ensures causes { IfErr result (λ e. (e ≡ Want) ⊎ ((e ≡ Full) × Exceeds S.Row.join S.words self.old (step.Gossip from to))) }
+        ensures causes { WantOr result (Exceeds S.Row.join S.words self.old (step.Gossip from to)) }
     {
         let packet = self.nodes.shown(from)?;
         let mut out = Vec::new(self.alloc);
@@ -411,7 +412,7 @@ impl<S: Schema> World<S> {
     fn acts(&mut self, node: u8, action: Action) -> Result<Report<S::Row>, Memory>
         requires has_version { 1 ≤ newest_in self.old.nodes node }
         ensures plays { IfOk result (λ report. PlaysSo S.Row.join S.words self.old self.new report (acts_so S.Row.join S.words node action)) }
-        ensures causes { IfErr result (λ e. (e ≡ Want) ⊎ ((e ≡ Full) × ExceedsSo S.Row.join S.words self.old (acts_so S.Row.join S.words node action))) }
+        ensures causes { WantOr result (ExceedsSo S.Row.join S.words self.old (acts_so S.Row.join S.words node action)) }
     {
         let before = self.nodes.synced(node);
         let now = self.clocks.now(node);
@@ -425,7 +426,7 @@ impl<S: Schema> World<S> {
     // The same, unless the node knows no layout version.
     fn local(&mut self, node: u8, action: Action) -> Result<Report<S::Row>, Memory>
         ensures plays { IfOk result (λ report. PlaysSo S.Row.join S.words self.old self.new report (local_so S.Row.join S.words node action)) }
-        ensures causes { IfErr result (λ e. (e ≡ Want) ⊎ ((e ≡ Full) × ExceedsSo S.Row.join S.words self.old (local_so S.Row.join S.words node action))) }
+        ensures causes { WantOr result (ExceedsSo S.Row.join S.words self.old (local_so S.Row.join S.words node action)) }
     {
         if self.nodes.newest(node) == 0 {
             return Ok(self.refused(Refusal::NotMember));
@@ -436,7 +437,7 @@ impl<S: Schema> World<S> {
 
     fn repair(&mut self, node: u8) -> Result<Report<S::Row>, Memory>
         ensures plays { IfOk result (λ report. Plays S.Row.join S.words self.old self.new report (step.Repair node)) }
-        ensures causes { IfErr result (λ e. (e ≡ Want) ⊎ ((e ≡ Full) × Exceeds S.Row.join S.words self.old (step.Repair node))) }
+        ensures causes { WantOr result (Exceeds S.Row.join S.words self.old (step.Repair node)) }
     {
         if self.nodes.newest(node) == 0 || !self.nodes.is_member(node) {
             return Ok(self.refused(Refusal::NotMember));
@@ -448,7 +449,7 @@ impl<S: Schema> World<S> {
     // A request begins at a node, its coordinator.
     fn open(&mut self, node: u8) -> Result<Report<S::Row>, Memory>
         ensures plays { IfOk result (λ report. Plays S.Row.join S.words self.old self.new report (step.Open node)) }
-        ensures want { IfErr result (λ e. e ≡ Want) }
+        ensures want { OnlyWant result }
     {
         if !self.nodes.is_member(node) {
             return Ok(self.refused(Refusal::NotMember));
@@ -462,7 +463,7 @@ impl<S: Schema> World<S> {
     fn phase(&mut self, request: u64, phase: Phase<S::Row>) -> Result<Report<S::Row>, Memory>
         requires short { IsShort phase }
         ensures plays { IfOk result (λ report. Plays S.Row.join S.words self.old self.new report (step.Phase request phase)) }
-        ensures causes { IfErr result (λ e. (e ≡ Want) ⊎ ((e ≡ Full) × Exceeds S.Row.join S.words self.old (step.Phase request phase))) }
+        ensures causes { WantOr result (Exceeds S.Row.join S.words self.old (step.Phase request phase)) }
     {
         let Some(found) = self.requests.get(request) else {
             return Ok(self.silent());
@@ -482,7 +483,7 @@ impl<S: Schema> World<S> {
     // A request that has its answer ends.
     fn close(&mut self, request: u64) -> Result<Report<S::Row>, Memory>
         ensures plays { IfOk result (λ report. Plays S.Row.join S.words self.old self.new report (step.Close request)) }
-        ensures want { IfErr result (λ e. e ≡ Want) }
+        ensures want { OnlyWant result }
     {
         let Some(found) = self.requests.get(request) else {
             return Ok(self.silent());
@@ -502,7 +503,7 @@ fn listed<R: Drop>(
     given: Option<(u64, PhaseEnd<R>)>,
 ) -> Result<List<(u64, PhaseEnd<R>)>, Memory>
     ensures ends { IfOk result (λ ends. map ended ends ≡ ends_of given) }
-    ensures want { IfErr result (λ e. e ≡ Want) }
+    ensures want { OnlyWant result }
 {
     let mut ends = List::new(alloc);
     if let Some(end) = given {
@@ -514,7 +515,7 @@ fn listed<R: Drop>(
 // A line for each request that a restart lost.
 fn restart_lines(alloc: Global, lost: &[u64]) -> Result<List<Line>, Memory>
     ensures lines { IfOk result (λ lines. lines ≡ map (λ q. line.Ended q word.Restarted) lost.now) }
-    ensures want { IfErr result (λ e. e ≡ Want) }
+    ensures want { OnlyWant result }
 {
     let mut lines = List::new(alloc);
     for request in lost {

@@ -17,8 +17,6 @@ mod freshness;
 mod pair_count;
 mod read;
 mod record;
-#[cfg(test)]
-mod tests;
 
 pub use freshness::fresh;
 pub use pair_count::pairs;

@@ -6,15 +6,14 @@ use Rattle.std.proofs.Common.{ap, sym, subst, ◌∙◌, arith}
 use Rattle.std.proofs.lemmas.List.{length-set, length-append}
 use Rattle.std.proofs.lemmas.List.Elements.{All-weaker}
 use Rattle.layout_roles.specs.declared.layout.Layout.{Layout}
-use Rattle.layout_history.specs.Known.{reading}
+use Rattle.view_model.specs.Layouts.{reading}
 use Rattle.view_model.specs.View.{newest, is_gapless}
 use Rattle.cluster_machine.specs.Node.{Call, Node, Packet, says, shows}
 use Rattle.cluster_machine.specs.World.{Request, Sent, numbered}
 use Rattle.cluster_machine.specs.Step.{only, changed, shut, shut_one, applied}
-use Rattle.machine_origins.specs.Following.{AreDifferent}
-use Rattle.machine_origins.specs.Keeping.{AreUpTo}
+use Rattle.cluster_machine.specs.Keeping.{AreDifferent, AreUpTo}
 use Rattle.machine_origins.proofs.KeepingNodes.{all_append}
-use Rattle.world_model.specs.Worlds.{Model, Done, IsUsual, IsSound}
+use Rattle.cluster_machine.specs.Worlds.{Model, Done, IsUsual, IsSound}
 
 pub all_weaker : {A : Type 0} (P Q : A → Type 0) → ((x : A) → P x → Q x) → (xs : List A) → AllByRecursion P xs → AllByRecursion Q xs
 all_weaker P Q f [] h = tt

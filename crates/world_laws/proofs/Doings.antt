@@ -3,9 +3,9 @@ use Rattle.std.specs.Prelude.{◌≡◌, ◌≤◌, ℕ, suc, ◌+◌, List, [],
 use Rattle.std.specs.List.{AllByRecursion}
 use Rattle.std.proofs.Common.{ap, sym, subst, ◌∙◌, arith}
 use Rattle.layout_roles.specs.declared.layout.Layout.{Layout}
-use Rattle.layout_history.specs.Known.{reading}
+use Rattle.view_model.specs.Layouts.{reading}
 use Rattle.view_model.specs.View.{newest, is_gapless}
-use Rattle.view_model.specs.Reads.{gapless_appended, newest_appended}
+use Rattle.view_model.proofs.ReadVersions.{gapless_appended, newest_appended}
 use Rattle.table_schema.specs.Words.{Words}
 use Rattle.wire_messages.specs.declared.phase.Phase.{Phase}
 use Rattle.wire_messages.specs.declared.phase.Phase.TheVariants.{Read, Range, Store, Block}
@@ -16,12 +16,11 @@ use Rattle.cluster_machine.specs.Receives.{receives}
 use Rattle.cluster_machine.specs.Acts.{acts, appends}
 use Rattle.cluster_machine.specs.World.{Sent}
 use Rattle.cluster_machine.specs.Step.{only, sent_by}
-use Rattle.machine_origins.specs.Keeping.{IsPost, IsBarePhase, ArePosts}
+use Rattle.cluster_machine.specs.Keeping.{IsPost, IsBarePhase, ArePosts, IsShort}
 use Rattle.machine_origins.proofs.KeepingNodes.{stay_up_to, stay_different}
 use Rattle.machine_origins.proofs.KeepingSteps.{posts_received, newest_received, calls_received, blocks_received, keeps_acts, stays_begins, bare_begins}
-use Rattle.node_parts.specs.Layouts.{layouts}
-use Rattle.node_parts.specs.Begins.{IsShort}
-use Rattle.world_model.specs.Worlds.{Model, Done, IsUsual, IsSound}
+use Rattle.cluster_machine.specs.Layouts.{layouts}
+use Rattle.cluster_machine.specs.Worlds.{Model, Done, IsUsual, IsSound}
 use Rattle.world_laws.proofs.Unbroken.{gapless_received, gapless_acted, view_begun}
 use Rattle.world_laws.proofs.Additions.{IsSoundNode, IsFine, node_of, node_grows, fine_one}
 

@@ -12,10 +12,10 @@ use Rattle.layout_roles.specs.Zones.{is_storage, storage_nodes}
 use Rattle.layout_roles.specs.Fits.{partitions, is_storage_node, IsThree}
 use Rattle.quorum_model.specs.Quorum.{is_among}
 use Rattle.cluster_machine.specs.Run.{IsSet, IsLayout}
-use Rattle.node_parts.specs.Layouts.{layouts}
-use Rattle.world_model.specs.declared.applied.Applied.{Applied}
-use Rattle.world_model.specs.Choices.{IsBest}
-use Rattle.world_model.specs.Trio.{trio}
+use Rattle.cluster_machine.specs.Layouts.{layouts}
+use Rattle.cluster_machine.specs.declared.applied.Applied.{Applied}
+use Rattle.cluster_machine.specs.Choices.{IsBest}
+use Rattle.cluster_machine.specs.Trio.{trio}
 use Rattle.world_laws.proofs.Additions.{all_weaker}
 
 abbrev names_of : List Role → List ℕ

@@ -13,17 +13,16 @@ use Rattle.cluster_machine.specs.declared.step.Action.{Action}
 use Rattle.cluster_machine.specs.declared.step.Step.{Step}
 use Rattle.cluster_machine.specs.declared.step.Step.TheVariants.{Trio, Role as Stage, Redundancy as Spread, Apply, Tick, Skew, Deliver, Lose, Expire, Restart, Gossip, Ack, Sync as Syncs, SyncAck, Clean, Work, Repair, Open, Phase as Begin, Close}
 use Rattle.cluster_machine.specs.declared.step.Action.TheVariants.{Ack as RaiseAck, Sync as GoOn, SyncAck as RaiseSyncAck, Clean as CleanUp, Work as WorkOff, Repair as Mend}
-use Rattle.cluster_machine.specs.Layouts.{has_none}
+use Rattle.cluster_machine.specs.Layouts.{has_none, layouts}
 use Rattle.cluster_machine.specs.Node.{Call, Node}
 use Rattle.cluster_machine.specs.Phases.{call_at, opened, closed}
 use Rattle.cluster_machine.specs.Acts.{acts, appends, restarts}
 use Rattle.cluster_machine.specs.World.{Sent, Mark, Request, numbered, clock, is_member_at}
 use Rattle.cluster_machine.specs.Step.{most_versions, given, none_given, at_message, expires, closing, chosen, applies_at, trio_applies, opening, acting, begun, beginning, effects}
 use Rattle.machine_origins.proofs.KeepingNodes.{different_opened, different_closed}
-use Rattle.node_parts.specs.Layouts.{layouts}
-use Rattle.node_parts.specs.Begins.{IsShort}
-use Rattle.world_model.specs.Choices.{Decision, IsBest}
-use Rattle.world_model.specs.Worlds.{Model, Done, IsMeant, newest_at, comes_to_layout, IsLawfulStep, installed, IsUsual, IsSound}
+use Rattle.cluster_machine.specs.Keeping.{IsShort}
+use Rattle.cluster_machine.specs.Choices.{Decision, IsBest}
+use Rattle.cluster_machine.specs.Worlds.{Model, Done, IsMeant, newest_at, comes_to_layout, IsLawfulStep, installed, IsUsual, IsSound}
 use Rattle.world_laws.proofs.Additions.{IsSoundNode, IsFine, node_of, node_grows, all_usual_more, fine_still, fine_some, fine_one, fine_cond}
 use Rattle.world_laws.proofs.Doings.{fine_did, sound_appended, fine_gossip, fine_received, fine_acted, fine_begun}
 

@@ -2,8 +2,8 @@
 use Rattle.std.specs.Prelude.{◌≡◌, ℕ, suc, Bool, true, false, not, cond, ◌==◌, nat_lt, IsTrue, List, ◌∷◌, ◌++◌, [], Option, Some, None, refl}
 use Rattle.std.proofs.Common.{ap, ◌∙◌}
 use Rattle.view_model.specs.View.{is_gapless, newest, read_version, ack_least, merged, cleaned}
-use Rattle.view_model.specs.Joins.{gapless_merged}
-use Rattle.view_model.specs.Cleans.{gapless_cleaned}
+use Rattle.view_model.proofs.Joins.{gapless_merged}
+use Rattle.view_model.proofs.Cleans.{gapless_cleaned}
 use Rattle.table_schema.specs.Words.{Words}
 use Rattle.quorum_model.specs.declared.range.RangeAnswer.{RangeAnswer}
 use Rattle.quorum_model.specs.Quorum.{StoreSlot, with_confirmation}
@@ -24,7 +24,7 @@ use Rattle.cluster_machine.specs.Phases.{call_at, asked, looked, stored, begins,
 use Rattle.cluster_machine.specs.Rounds.{is_complete, synced, goes_on, may_sync, begin_round}
 use Rattle.cluster_machine.specs.Receives.{where_stored, gives_block, takes, round_came, confirms, hears, receives}
 use Rattle.cluster_machine.specs.Acts.{Acted, syncs, acts}
-use Rattle.machine_origins.specs.Keeping.{IsUpTo}
+use Rattle.cluster_machine.specs.Keeping.{IsUpTo}
 use Rattle.machine_origins.proofs.FollowingSteps.{round_begun}
 use Rattle.machine_origins.proofs.KeepingNodes.{view_seen, view_all}
 

@@ -9,11 +9,11 @@ ghost use Rattle.layout_roles.specs.declared.layout.Layout.{Layout};
 ghost use Rattle.table_schema.specs.Words.{Words};
 ghost use Rattle.cluster_machine.specs.World.{empty};
 ghost use Rattle.cluster_machine.specs.Run.{IsLayout};
-ghost use Rattle.node_parts.specs.Layouts.{layouts};
-ghost use Rattle.world_model.specs.declared.applied.Applied.{Applied};
-ghost use Rattle.world_model.specs.Trio.{trio};
-ghost use Rattle.world_model.specs.Choices.{IsBest};
-ghost use Rattle.world_model.specs.Worlds.{Model, Doing, IsLawful, IsMeant, next, installed, IsSound};
+ghost use Rattle.cluster_machine.specs.Layouts.{layouts};
+ghost use Rattle.cluster_machine.specs.declared.applied.Applied.{Applied};
+ghost use Rattle.cluster_machine.specs.Trio.{trio};
+ghost use Rattle.cluster_machine.specs.Choices.{IsBest};
+ghost use Rattle.cluster_machine.specs.Worlds.{Model, Doing, IsLawful, IsMeant, next, installed, IsSound};
 
 /// Each layout that an apply may be given has for each partition three different nodes that keep copies, and so has
 /// the first one.

@@ -8,10 +8,10 @@ use Rattle.cluster_machine.specs.declared.step.Step.TheVariants.{Apply}
 use Rattle.cluster_machine.specs.World.{is_member_at}
 use Rattle.cluster_machine.specs.Step.{given, none_given, most_versions}
 use Rattle.cluster_machine.specs.Run.{IsChoice, IsRun, run as machine_run}
-use Rattle.node_parts.specs.Layouts.{layouts}
-use Rattle.world_model.specs.Trio.{trio, stage_trio}
-use Rattle.world_model.specs.Choices.{Decision, IsComputed, IsNone}
-use Rattle.world_model.specs.Worlds.{Model, Doing, newest_at, comes_to_layout, IsMeant, IsLawfulStep, IsLawful, IsLawfulRun, IsSound, next, run}
+use Rattle.cluster_machine.specs.Layouts.{layouts}
+use Rattle.cluster_machine.specs.Trio.{trio, stage_trio}
+use Rattle.cluster_machine.specs.Choices.{Decision, IsComputed, IsNone}
+use Rattle.cluster_machine.specs.Worlds.{Model, Doing, newest_at, comes_to_layout, IsMeant, IsLawfulStep, IsLawful, IsLawfulRun, IsSound, next, run}
 use Rattle.world_laws.proofs.Sets.{best_is_layout}
 use Rattle.world_laws.proofs.Additions.{fine_stays_sound}
 use Rattle.world_laws.proofs.Steps.{fine_step}

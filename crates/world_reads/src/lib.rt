@@ -8,15 +8,14 @@ ghost use Rattle.cluster_machine.specs.Node.{Reading};
 ghost use Rattle.cluster_machine.specs.World.{empty};
 ghost use Rattle.cluster_machine.specs.Kept.{KeptReads};
 ghost use Rattle.machine_origins.specs.Origins.{ComesFrom, Gave, stored_in};
-ghost use Rattle.world_model.specs.Worlds.{Doing, IsLawfulRun, run, IsSound};
+ghost use Rattle.cluster_machine.specs.Worlds.{Doing, IsLawfulRun, run, IsSound};
 
-use layout_flow::Cut;
-use layout_roles::Layout;
+use cluster_machine::applied::Applied;
+use layout_roles::{Cut, Layout};
 use machine_origins::every_read_gives_stored_rows;
 use machine_reads::every_run_has_kept_reads;
 use table_schema::Schema;
 use world_laws::empty_world_is_sound;
-use world_model::Applied;
 
 /// Whatever comes, each read and range phase that ended gave at least the join of all rows that were kept before it
 /// began: over every list of steps of a `World<S>`, in which each apply was given what is computed from the staged roles.

@@ -5,7 +5,5 @@
 #![tactic(auto)]
 
 mod call;
-#[cfg(test)]
-mod tests;
 
 pub use call::WriteCall;

@@ -1,5 +1,5 @@
 use Rattle.std.specs.Prelude.{refl}
-use Rattle.world_model.specs.Trio.{trio, stage_trio}
+use Rattle.cluster_machine.specs.Trio.{trio, stage_trio}
 use Rattle.world_laws.proofs.Additions.{fine_stays_sound}
 use Rattle.world_laws.proofs.Steps.{fine_step, installed_sound}
 use Rattle.world_laws.proofs.sound_worlds_stay_sound.Goals as goal

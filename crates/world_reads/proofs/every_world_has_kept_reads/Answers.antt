@@ -2,8 +2,8 @@ use Rattle.std.specs.Prelude.{refl}
 use Rattle.std.proofs.Common.{subst, arith}
 use Rattle.cluster_machine.specs.World.{empty}
 use Rattle.cluster_machine.specs.Kept.{KeptReads}
-use Rattle.node_parts.specs.Layouts.{layouts}
-use Rattle.world_model.specs.Trio.{trio, stage_trio}
+use Rattle.cluster_machine.specs.Layouts.{layouts}
+use Rattle.cluster_machine.specs.Trio.{trio, stage_trio}
 use Rattle.world_laws.proofs.Sets.{trio_is_layout}
 use Rattle.world_reads.proofs.Lawful.{lawful_is_run, same_run}
 use Rattle.world_reads.proofs.every_world_has_kept_reads.Goals as goal

@@ -1,7 +1,7 @@
 use Rattle.std.proofs.Common.{◌≡◌, ◌++◌, List, sym, ap, ◌∙◌, arith, append_assoc}
 use Rattle.std.specs.List.{flat_map, range_with_len}
 use Rattle.layout_flow.specs.Closed.{held_in, held_in_all}
-use Rattle.layout_flow.specs.declared.vertex.Vertex.{Vertex}
+use Rattle.layout_roles.specs.declared.vertex.Vertex.{Vertex}
 use Rattle.layout_flow.proofs.Listed.{held_in_more}
 use Rattle.layout_flow.proofs.side.add_partitions.Goals as goal
 

@@ -1,6 +1,6 @@
 use Rattle.std.proofs.Common.{◌≡◌, suc, take}
 use Rattle.view_model.specs.View.{from}
-use Rattle.layout_history.specs.Known.{reading}
+use Rattle.view_model.specs.Layouts.{reading}
 use Rattle.layout_history.proofs.layouts.copies_above.Given as goal
 
 -- the copies so far

@@ -1,7 +1,7 @@
 use Rattle.std.proofs.Common.{ℕ, ◌≡◌, ◌<◌, sym, subst, arith, IfOk}
 use Rattle.layout_roles.specs.declared.roles.Roles.{Roles}
 use Rattle.layout_roles.specs.Fits.{NoneFits}
-use Rattle.layout_size.specs.Answers.{zones_wanted}
+use Rattle.layout_roles.specs.Certificates.{zones_wanted}
 use Rattle.layout_size.proofs.Zones.{wanted_some}
 use Rattle.layout_size.proofs.answer.compute.Goals as goal
 

@@ -1,7 +1,7 @@
 use Rattle.std.proofs.Common.{◌≡◌, ap, ◌∙◌, map, arith}
 use Rattle.std.specs.List.{range_with_len}
 use Rattle.std.proofs.lemmas.List.FromFn.{map-range_with_len_more}
-use Rattle.layout_text.specs.Text.{side_words}
+use Rattle.layout_roles.specs.Text.{side_words}
 use Rattle.layout_text.proofs.cut.all_words.Goals as goal
 
 pub loop-partition-preserved : goal.loop-partition-preserved

@@ -1,5 +1,5 @@
 use Rattle.std.proofs.Common.{◌≡◌, ◌++◌, take, flat_map}
-use Rattle.layout_text.specs.Text.{node_word}
+use Rattle.layout_roles.specs.Text.{node_word}
 use Rattle.layout_text.proofs.cut.append_nodes.Given as goal
 
 abbrev pub invariant-loop-vertex : goal.invariant-loop-vertex

@@ -1,7 +1,7 @@
 use Rattle.std.proofs.Common.{arith, refl, nat_eq, ◌+◌, ◌++◌}
 use Rattle.std.specs.Cmp.Lexicographic.{pointwise}
 use Rattle.std.proofs.lemmas.List.{length-drop}
-use Rattle.layout_text.specs.Text.{side_line}
+use Rattle.layout_roles.specs.Text.{side_line}
 use Rattle.layout_text.proofs.FirstRun.{rest_text, text_more}
 use Rattle.layout_text.proofs.cut.append_runs.Goals as goal
 

@@ -1,6 +1,6 @@
 use Rattle.std.proofs.Common.{◌≡◌, ◌≤◌, ◌-◌, ◌++◌, length, nat_eq}
 use Rattle.std.specs.Cmp.Lexicographic.{pointwise}
-use Rattle.layout_text.specs.Text.{side_line}
+use Rattle.layout_roles.specs.Text.{side_line}
 use Rattle.layout_text.proofs.FirstRun.{rest_text}
 use Rattle.layout_text.proofs.cut.append_runs.Given as goal
 

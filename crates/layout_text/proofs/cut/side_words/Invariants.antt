@@ -1,5 +1,5 @@
 use Rattle.std.proofs.Common.{◌≡◌, take}
-use Rattle.layout_text.specs.Text.{side_words}
+use Rattle.layout_roles.specs.Text.{side_words}
 use Rattle.layout_text.proofs.cut.side_words.Given as goal
 
 abbrev pub invariant-loop-vertex : goal.invariant-loop-vertex

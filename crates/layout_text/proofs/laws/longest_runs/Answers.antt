@@ -1,6 +1,6 @@
 use Rattle.std.proofs.Common.{◌≡◌, ℕ, suc, Bool, true, false, List, [], ◌∷◌, ◌++◌, nat_eq, replicate, refl, sym, ap, ◌∙◌, subst, arith}
 use Rattle.std.specs.Cmp.Lexicographic.{pointwise, told_text}
-use Rattle.layout_text.specs.Runs.{Run, joined, runs, written_out, AreApart}
+use Rattle.layout_roles.specs.Runs.{Run, joined, runs, written_out, AreApart}
 use Rattle.layout_text.proofs.laws.longest_runs.Goals as goal
 
 abbrev same : List ℕ → List ℕ → Bool

@@ -1,5 +1,5 @@
 use Rattle.std.proofs.Common.{◌≡◌, ◌++◌, take, flat_map}
-use Rattle.layout_text.specs.Text.{number}
+use Rattle.layout_roles.specs.Text.{number}
 use Rattle.layout_text.proofs.sets.append_nodes.Given as goal
 
 abbrev pub invariant-loop-node : goal.invariant-loop-node

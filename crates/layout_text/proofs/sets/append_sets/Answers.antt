@@ -1,7 +1,7 @@
 use Rattle.std.proofs.Common.{arith, refl, nat_eq, get_or, [], ◌+◌, ◌++◌}
 use Rattle.std.specs.Cmp.Lexicographic.{pointwise}
 use Rattle.std.proofs.lemmas.List.{length-drop}
-use Rattle.layout_text.specs.Text.{set_line}
+use Rattle.layout_roles.specs.Text.{set_line}
 use Rattle.layout_text.proofs.FirstRun.{rest_text, text_more, get_or_any}
 use Rattle.layout_text.proofs.sets.append_sets.Goals as goal
 

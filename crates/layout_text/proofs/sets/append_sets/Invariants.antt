@@ -1,6 +1,6 @@
 use Rattle.std.proofs.Common.{◌≡◌, ◌≤◌, ◌-◌, ◌++◌, length, nat_eq}
 use Rattle.std.specs.Cmp.Lexicographic.{pointwise}
-use Rattle.layout_text.specs.Text.{set_line}
+use Rattle.layout_roles.specs.Text.{set_line}
 use Rattle.layout_text.proofs.FirstRun.{rest_text}
 use Rattle.layout_text.proofs.sets.append_sets.Given as goal
 

@@ -3,8 +3,7 @@ use Rattle.std.specs.List.{list_any}
 use Rattle.std.proofs.lemmas.Iterator.{YieldsList-from_slice}
 use Rattle.std.proofs.lemmas.Iterator.Search.{any_from_yields_List}
 use Rattle.quorum_model.specs.Quorum.{is_among}
-use Rattle.cluster_machine.specs.Layouts.{set_of}
-use Rattle.node_parts.specs.Layouts.{layouts}
+use Rattle.cluster_machine.specs.Layouts.{set_of, layouts}
 use Rattle.node_parts.proofs.SetReading.{any_set}
 use Rattle.node_parts.proofs.sets.is_given.Goals as goal
 

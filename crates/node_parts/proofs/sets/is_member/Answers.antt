@@ -1,6 +1,7 @@
 use Rattle.std.proofs.Common.{ap, ◌∙◌}
 use Rattle.std.specs.Option.{is_some, option_and_then}
-use Rattle.layout_history.specs.Known.{reading, kind_of}
+use Rattle.view_model.specs.Layouts.{reading}
+use Rattle.layout_history.specs.Known.{kind_of}
 use Rattle.layout_history.specs.Views.{known}
 use Rattle.view_model.specs.View.{newest, layout_at}
 use Rattle.node_parts.proofs.SetReading.{is_member_of}

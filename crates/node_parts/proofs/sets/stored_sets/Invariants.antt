@@ -1,6 +1,5 @@
 use Rattle.std.proofs.Common.{◌≡◌, map, take}
-use Rattle.cluster_machine.specs.Layouts.{set_of}
-use Rattle.node_parts.specs.Layouts.{layouts}
+use Rattle.cluster_machine.specs.Layouts.{set_of, layouts}
 use Rattle.node_parts.proofs.sets.stored_sets.Given as goal
 
 -- the sets of the layouts so far

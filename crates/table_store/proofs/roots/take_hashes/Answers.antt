@@ -3,7 +3,7 @@ use Rattle.std.proofs.Common.{ap, sym, ◌∙◌, subst, arith, append_assoc}
 use Rattle.std.specs.List.{range_with_len}
 use Rattle.blake2_hash.specs.Blake2b.{blake2b}
 use Rattle.blake2_hash.specs.Hashing.{Holds}
-use Rattle.table_model.specs.Root.{every_byte, root}
+use Rattle.table_model.specs.Root.{root}
 use Rattle.table_store.specs.Pairs.{shown, tagged}
 use Rattle.table_store.proofs.PartitionRoots.{all_bytes, parts_more, shown_pairs}
 use Rattle.table_store.proofs.roots.take_hashes.Goals as goal

@@ -1,7 +1,7 @@
 use Rattle.std.specs.Prelude.{◌≡◌, option_copied}
 use Rattle.std.proofs.Common.{ap, ◌∙◌}
 use Rattle.table_store.specs.declared.shelf.Placed.{Placed}
-use Rattle.table_store.specs.Shelf.{shelf_rows, shelf_find, AllPlaced, merged_with}
+use Rattle.table_store.specs.Shelf.{shelf_rows, shelf_find, merged_with}
 use Rattle.table_store.proofs.Shelves.{merged_here, placed_put, found_is, entry_by}
 use Rattle.table_store.proofs.shelf.merge_into.Goals as goal
 

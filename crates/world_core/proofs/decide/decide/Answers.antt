@@ -1,6 +1,6 @@
 use Rattle.std.proofs.Common.{Err, ap, ◌∙◌}
 use Rattle.world_core.proofs.DecidedLayout.{enough, computed, shows}
-use Rattle.layout_size.specs.Answers.{zones_wanted}
+use Rattle.layout_roles.specs.Certificates.{zones_wanted}
 use Rattle.world_core.proofs.decide.decide.Goals as goal
 
 pub returns-in-Ok-clause-computed : goal.returns-in-Ok-clause-computed

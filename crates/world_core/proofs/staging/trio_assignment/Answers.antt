@@ -1,6 +1,6 @@
 use Rattle.std.proofs.Common.{◌≡◌, [], ◌∷◌, ◌++◌, replicate, ap, ◌∙◌, arith}
 use Rattle.std.proofs.lemmas.List.{replicate_more}
-use Rattle.world_model.specs.Trio.{trio_sets}
+use Rattle.cluster_machine.specs.Trio.{trio_sets}
 use Rattle.world_core.proofs.StagedTrio.{trio_whole, trio_ascends}
 use Rattle.world_core.proofs.staging.trio_assignment.Goals as goal
 

@@ -1,5 +1,5 @@
 use Rattle.std.proofs.Common.{ap, ◌∙◌}
-use Rattle.world_model.specs.Trio.{stage_trio}
+use Rattle.cluster_machine.specs.Trio.{stage_trio}
 use Rattle.world_core.proofs.StagedTrio.{is_trio}
 use Rattle.world_core.proofs.staging.trio_layout.Goals as goal
 

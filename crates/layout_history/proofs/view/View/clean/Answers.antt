@@ -1,9 +1,10 @@
 use Rattle.std.specs.List.{list_all}
 use Rattle.std.proofs.Common.{min, refl, ap, ap₂, sym, ◌∙◌}
 use Rattle.view_model.specs.View.{is_gapless, from, cleaned}
-use Rattle.view_model.specs.Gapless.{gapless_from}
-use Rattle.view_model.specs.Cleans.{cleaned_from}
-use Rattle.layout_history.specs.Known.{reading, has_members}
+use Rattle.view_model.proofs.Gapless.{gapless_from}
+use Rattle.view_model.proofs.Cleans.{cleaned_from}
+use Rattle.view_model.specs.Layouts.{reading}
+use Rattle.layout_history.specs.Known.{has_members}
 use Rattle.layout_history.specs.Views.{known}
 use Rattle.layout_history.proofs.Ascending.{gapless_ascends, inhabited_from}
 use Rattle.layout_history.proofs.Views.{same_view}

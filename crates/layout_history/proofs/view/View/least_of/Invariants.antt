@@ -2,7 +2,7 @@ use Rattle.std.proofs.Common.{◌≡◌, None, map, take}
 use Rattle.std.specs.List.{fold, flat_map}
 use Rattle.layout_trackers.specs.Trackers.{counts}
 use Rattle.layout_trackers.specs.Least.{lesser}
-use Rattle.layout_history.specs.Known.{reading}
+use Rattle.view_model.specs.Layouts.{reading}
 use Rattle.layout_history.proofs.view.View.least_of.Given as goal
 
 -- the least among the members of the layouts so far

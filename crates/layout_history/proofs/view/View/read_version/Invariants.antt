@@ -1,6 +1,6 @@
 use Rattle.std.proofs.Common.{◌≡◌}
 use Rattle.view_model.specs.View.{greatest, is_readable, read_version}
-use Rattle.layout_history.specs.Known.{reading}
+use Rattle.view_model.specs.Layouts.{reading}
 use Rattle.layout_history.specs.Views.{known}
 use Rattle.layout_history.proofs.view.View.read_version.Given as goal
 

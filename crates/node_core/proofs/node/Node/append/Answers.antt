@@ -1,8 +1,8 @@
 use Rattle.std.proofs.Common.{◌≡◌, ◌≤◌, ◌+◌, ap, ◌∙◌, arith}
 use Rattle.layout_roles.specs.declared.layout.Layout.{Layout}
-use Rattle.layout_history.specs.Known.{reading}
+use Rattle.view_model.specs.Layouts.{reading}
 use Rattle.view_model.specs.View.{View, newest, appended}
-use Rattle.view_model.specs.Reads.{newest_appended}
+use Rattle.view_model.proofs.ReadVersions.{newest_appended}
 use Rattle.node_core.proofs.Nodes.{ok_to, same_contents, version_stays}
 use Rattle.node_core.proofs.node.Node.append.Goals as goal
 

@@ -1,12 +1,12 @@
 use Rattle.std.proofs.Common.{◌≡◌, ◌+◌, suc, true, false, Some, map, inl, inr, refl, ap, sym, subst, ◌∙◌, add-one, arith}
 use Rattle.std.proofs.lemmas.Bool.{leb-true}
 use Rattle.std.proofs.lemmas.Result.{err_from_is_err_and}
-use Rattle.layout_history.specs.Known.{reading}
+use Rattle.view_model.specs.Layouts.{reading}
 use Rattle.layout_history.specs.Views.{known}
 use Rattle.view_model.specs.View.{newest, read_version, layout_at, is_gapless}
 use Rattle.cluster_machine.specs.declared.step.LocalEnd.TheVariants.{At}
 use Rattle.cluster_machine.specs.Rounds.{are_spelled, parts_of}
-use Rattle.node_parts.specs.Layouts.{layouts}
+use Rattle.cluster_machine.specs.Layouts.{layouts}
 use Rattle.node_parts.specs.Pushes.{part_of, moved}
 use Rattle.node_parts.specs.Rounds.{IsMoving, begun_round}
 use Rattle.node_core.specs.Stands.{sender_of}

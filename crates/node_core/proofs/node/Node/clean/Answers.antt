@@ -1,10 +1,10 @@
 use Rattle.std.proofs.Common.{◌≡◌, true, ap, sym, subst, ◌∙◌}
-use Rattle.layout_history.specs.Known.{reading}
+use Rattle.view_model.specs.Layouts.{reading}
 use Rattle.layout_history.specs.Views.{known}
 use Rattle.view_model.specs.View.{oldest, is_gapless, cleaned}
 use Rattle.cluster_machine.specs.declared.step.LocalEnd.TheVariants.{At}
 use Rattle.cluster_machine.specs.Rows.{sees}
-use Rattle.node_parts.specs.Layouts.{layouts}
+use Rattle.cluster_machine.specs.Layouts.{layouts}
 use Rattle.node_core.proofs.Nodes.{version_stays, cleaned_newest, silent}
 use Rattle.node_core.proofs.node.Node.clean.Goals as goal
 

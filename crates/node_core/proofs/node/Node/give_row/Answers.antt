@@ -2,10 +2,9 @@ use Rattle.std.proofs.Common.{◌≡◌, true, [], ◌∷◌, ap, sym, subst, �
 use Rattle.table_model.specs.Rows.{row_at, find_row}
 use Rattle.table_model.specs.RowLaws.{row_found}
 use Rattle.wire_messages.specs.declared.message.Message.TheVariants.{Row}
-use Rattle.cluster_machine.specs.Layouts.{is_stored}
+use Rattle.cluster_machine.specs.Layouts.{is_stored, layouts}
 use Rattle.cluster_machine.specs.Phases.{to_each}
 use Rattle.cluster_machine.specs.Receives.{is_sendable}
-use Rattle.node_parts.specs.Layouts.{layouts}
 use Rattle.node_parts.specs.Posts.{Posts}
 use Rattle.node_core.proofs.Nodes.{ok_to}
 use Rattle.node_core.proofs.Replies.{replies, sized_row}

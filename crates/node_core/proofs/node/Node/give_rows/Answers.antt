@@ -2,10 +2,9 @@ use Rattle.std.proofs.Common.{◌≡◌, Bool, true, List, [], ◌∷◌, ◌++�
 use Rattle.std.specs.List.{list_all}
 use Rattle.table_model.specs.Rows.{rows, range}
 use Rattle.wire_messages.specs.declared.message.Message.TheVariants.{Rows}
-use Rattle.cluster_machine.specs.Layouts.{is_stored}
+use Rattle.cluster_machine.specs.Layouts.{is_stored, layouts}
 use Rattle.cluster_machine.specs.Phases.{is_spelled, to_each}
 use Rattle.cluster_machine.specs.Receives.{most_rows}
-use Rattle.node_parts.specs.Layouts.{layouts}
 use Rattle.node_parts.specs.Posts.{Posts}
 use Rattle.node_core.proofs.Nodes.{ok_to}
 use Rattle.node_core.proofs.Replies.{replies, sized_rows}

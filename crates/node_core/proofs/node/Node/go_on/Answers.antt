@@ -1,6 +1,6 @@
 use Rattle.std.proofs.Common.{◌≡◌, true, false, Some, None, sym, ◌∙◌}
 use Rattle.layout_trackers.specs.declared.which.Which.TheVariants.{Sync}
-use Rattle.layout_history.specs.Known.{reading}
+use Rattle.view_model.specs.Layouts.{reading}
 use Rattle.view_model.specs.View.{with_entry}
 use Rattle.cluster_machine.specs.Rounds.{is_complete}
 use Rattle.node_core.proofs.Nodes.{same_contents, version_kept}

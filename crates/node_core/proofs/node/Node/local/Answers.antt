@@ -1,12 +1,12 @@
 use Rattle.std.proofs.Common.{◌≡◌, None, length, refl, ap, sym, subst, ◌∙◌}
 use Rattle.std.specs.List.{filter, flat_map}
 use Rattle.layout_trackers.specs.declared.which.Which.TheVariants.{Ack, SyncAck}
-use Rattle.layout_history.specs.Known.{reading}
+use Rattle.view_model.specs.Layouts.{reading}
 use Rattle.view_model.specs.View.{newest, read_version}
 use Rattle.cluster_machine.specs.declared.step.LocalEnd.TheVariants.{Worked}
 use Rattle.cluster_machine.specs.Node.{Block}
 use Rattle.cluster_machine.specs.Acts.{least_start, raises, item_posts, is_due}
-use Rattle.node_parts.specs.Layouts.{layouts}
+use Rattle.cluster_machine.specs.Layouts.{layouts}
 use Rattle.node_parts.specs.Posts.{Posts}
 use Rattle.node_parts.specs.Contents.{IsItem}
 use Rattle.node_core.specs.Stands.{Done}

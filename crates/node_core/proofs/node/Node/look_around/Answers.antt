@@ -1,8 +1,8 @@
 use Rattle.std.proofs.Common.{◌≡◌, ap, subst, ◌∙◌}
-use Rattle.layout_history.specs.Known.{reading}
+use Rattle.view_model.specs.Layouts.{reading}
 use Rattle.view_model.specs.View.{oldest}
 use Rattle.cluster_machine.specs.Rows.{still, drops}
-use Rattle.node_parts.specs.Layouts.{layouts}
+use Rattle.cluster_machine.specs.Layouts.{layouts}
 use Rattle.node_parts.specs.Contents.{Became}
 use Rattle.node_parts.specs.Rounds.{AreRounds}
 use Rattle.node_core.proofs.Nodes.{with_contents, seen, rose, stayed}

@@ -1,6 +1,6 @@
 use Rattle.std.proofs.Common.{None, subst}
 use Rattle.cluster_machine.specs.Receives.{takes}
-use Rattle.node_parts.specs.Layouts.{layouts}
+use Rattle.cluster_machine.specs.Layouts.{layouts}
 use Rattle.node_core.specs.Stands.{Done}
 use Rattle.node_core.proofs.Nodes.{ok_all}
 use Rattle.node_core.proofs.node.Node.on_message.Goals as goal

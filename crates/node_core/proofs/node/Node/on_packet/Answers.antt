@@ -1,8 +1,8 @@
-use Rattle.layout_history.specs.Known.{reading}
+use Rattle.view_model.specs.Layouts.{reading}
 use Rattle.layout_history.specs.Views.{known}
 use Rattle.view_model.specs.View.{merged}
 use Rattle.cluster_machine.specs.Rows.{sees}
-use Rattle.node_parts.specs.Layouts.{layouts}
+use Rattle.cluster_machine.specs.Layouts.{layouts}
 use Rattle.node_core.proofs.Nodes.{silent}
 use Rattle.node_core.proofs.node.Node.on_packet.Goals as goal
 

@@ -1,10 +1,9 @@
 use Rattle.std.proofs.Common.{◌≡◌, true, ◌∷◌, ap, sym, subst, ◌∙◌}
-use Rattle.layout_history.specs.Known.{reading}
+use Rattle.view_model.specs.Layouts.{reading}
 use Rattle.layout_history.specs.Views.{known}
 use Rattle.view_model.specs.View.{newest, is_gapless}
-use Rattle.cluster_machine.specs.Layouts.{is_member}
+use Rattle.cluster_machine.specs.Layouts.{is_member, layouts}
 use Rattle.cluster_machine.specs.Node.{resting}
-use Rattle.node_parts.specs.Layouts.{layouts}
 use Rattle.node_core.proofs.Nodes.{same_contents, member_has_version}
 use Rattle.node_core.proofs.node.Node.open.Goals as goal
 

@@ -3,7 +3,7 @@ use Rattle.std.specs.List.{AllByRecursion}
 use Rattle.layout_roles.specs.declared.layout.Layout.{Layout}
 use Rattle.cluster_machine.specs.Node.{Node as Model}
 use Rattle.cluster_machine.specs.Phases.{call_at, with_call, calls_now, begins}
-use Rattle.node_parts.specs.Layouts.{layouts}
+use Rattle.cluster_machine.specs.Layouts.{layouts}
 use Rattle.node_parts.specs.Posts.{Posts}
 use Rattle.node_core.specs.Stands.{StandsFor, Done, begins_at}
 use Rattle.node_core.proofs.Nodes.{same_contents}

@@ -1,10 +1,10 @@
 use Rattle.std.proofs.Common.{◌≡◌, ◌≤◌, suc, true, false, Some, inl, inr, refl, ap, sym, subst, ◌∙◌, add-one}
 use Rattle.std.proofs.lemmas.Result.{err_from_is_err_and}
-use Rattle.layout_history.specs.Known.{reading}
+use Rattle.view_model.specs.Layouts.{reading}
 use Rattle.layout_history.specs.Views.{known}
 use Rattle.view_model.specs.View.{newest, layout_at, is_gapless}
 use Rattle.cluster_machine.specs.Rounds.{are_spelled, parts_of}
-use Rattle.node_parts.specs.Layouts.{layouts}
+use Rattle.cluster_machine.specs.Layouts.{layouts}
 use Rattle.node_core.specs.Stands.{sender_of}
 use Rattle.node_core.proofs.Nodes.{same_contents}
 use Rattle.node_core.proofs.Stored.{newest_is_there}

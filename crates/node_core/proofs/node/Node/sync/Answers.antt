@@ -1,11 +1,11 @@
 use Rattle.std.proofs.Common.{◌≡◌, true, false, None, map, inl, inr, refl, ap, sym, subst, ◌∙◌}
 use Rattle.std.proofs.lemmas.Result.{err_from_is_err_and}
-use Rattle.layout_history.specs.Known.{reading}
+use Rattle.view_model.specs.Layouts.{reading}
 use Rattle.view_model.specs.View.{newest}
 use Rattle.cluster_machine.specs.declared.step.LocalEnd.TheVariants.{At}
 use Rattle.cluster_machine.specs.Rounds.{are_spelled, open_parts}
 use Rattle.cluster_machine.specs.Acts.{syncs}
-use Rattle.node_parts.specs.Layouts.{layouts}
+use Rattle.cluster_machine.specs.Layouts.{layouts}
 use Rattle.node_parts.specs.Pushes.{part_of}
 use Rattle.node_parts.specs.Rounds.{IsOpen}
 use Rattle.node_core.specs.Stands.{Done}

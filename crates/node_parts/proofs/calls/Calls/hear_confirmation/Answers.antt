@@ -1,7 +1,7 @@
 use Rattle.std.proofs.Common.{ap, sym}
 use Rattle.cluster_machine.specs.Phases.{stored_came}
 use Rattle.node_parts.specs.declared.calls.Calls.{Calls}
-use Rattle.node_parts.specs.Layouts.{layouts}
+use Rattle.cluster_machine.specs.Layouts.{layouts}
 use Rattle.node_parts.proofs.Answered.{heard_open, heard_late, heard_closed}
 use Rattle.node_parts.proofs.calls.Calls.hear_confirmation.Goals as goal
 

@@ -1,8 +1,7 @@
 use Rattle.std.proofs.Common.{rules, ◌≡◌, ◌+◌, true, false, refl, sym, ap, ◌∙◌, arith}
 use Rattle.layout_history.specs.Views.{known}
 use Rattle.table_model.specs.Rows.{without}
-use Rattle.cluster_machine.specs.Layouts.{is_given}
-use Rattle.node_parts.specs.Layouts.{layouts}
+use Rattle.cluster_machine.specs.Layouts.{is_given, layouts}
 use Rattle.node_parts.proofs.Dropping.{left_at, left_first, left_lost, left_kept, dropped}
 use Rattle.node_parts.proofs.contents.Contents.drop_lost.Goals as goal
 use Rattle.node_parts.proofs.contents.Contents.drop_lost.Goals.{then-not-is_given+in_ok-drop_partition, else-not-is_given}

@@ -1,7 +1,6 @@
 use Rattle.std.proofs.Common.{◌≡◌}
 use Rattle.layout_history.specs.Views.{known}
-use Rattle.cluster_machine.specs.Layouts.{is_given}
-use Rattle.node_parts.specs.Layouts.{layouts}
+use Rattle.cluster_machine.specs.Layouts.{is_given, layouts}
 use Rattle.node_parts.proofs.Dropping.{left_at}
 use Rattle.node_parts.proofs.contents.Contents.drop_lost.Given as goal
 

@@ -2,14 +2,13 @@ use Rattle.std.proofs.Common.{◌≡◌, [], ◌∷◌, ◌++◌, List, Some, No
 use Rattle.std.proofs.lemmas.List.{take_all}
 use Rattle.std.specs.List.{AllZip}
 use Rattle.block_resync.specs.declared.item.Item.{Item}
-use Rattle.layout_history.specs.Known.{reading}
+use Rattle.view_model.specs.Layouts.{reading}
 use Rattle.table_schema.specs.Words.{partition_of}
 use Rattle.view_model.specs.View.{newest}
-use Rattle.cluster_machine.specs.Layouts.{stored_sets}
+use Rattle.cluster_machine.specs.Layouts.{stored_sets, layouts}
 use Rattle.cluster_machine.specs.Phases.{nodes_of}
 use Rattle.cluster_machine.specs.Acts.{item_posts}
 use Rattle.node_parts.specs.Contents.{IsItem}
-use Rattle.node_parts.specs.Layouts.{layouts}
 use Rattle.node_parts.specs.Posts.{Posts}
 use Rattle.node_parts.proofs.Posting.{posts_none}
 use Rattle.node_parts.proofs.SendingItems.{zip_length, sent_with, is_read}

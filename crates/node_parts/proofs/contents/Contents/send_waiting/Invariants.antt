@@ -4,7 +4,7 @@ use Rattle.layout_history.specs.Views.{known}
 use Rattle.cluster_machine.specs.Node.{Node}
 use Rattle.cluster_machine.specs.Acts.{item_posts}
 use Rattle.node_parts.specs.Contents.{IsContents}
-use Rattle.node_parts.specs.Layouts.{layouts}
+use Rattle.cluster_machine.specs.Layouts.{layouts}
 use Rattle.node_parts.specs.Posts.{Posts}
 use Rattle.node_parts.proofs.contents.Contents.send_waiting.Given as goal
 

@@ -1,7 +1,7 @@
 use Rattle.std.proofs.Common.{inl, inr, subst, ◌≤◌}
 use Rattle.std.proofs.lemmas.Result.{err_from_is_err_and}
 use Rattle.cluster_machine.specs.Acts as model
-use Rattle.node_parts.specs.Layouts.{layouts}
+use Rattle.cluster_machine.specs.Layouts.{layouts}
 use Rattle.world_core.proofs.NodesAt.{acts, overflows, newest_there}
 use Rattle.world_core.proofs.nodes.Nodes.act.Goals as goal
 

@@ -1,6 +1,6 @@
 use Rattle.std.proofs.Common.{subst, ◌≡◌, ◌+◌}
 use Rattle.cluster_machine.specs.Acts.{appends}
-use Rattle.node_parts.specs.Layouts.{layouts}
+use Rattle.cluster_machine.specs.Layouts.{layouts}
 use Rattle.world_core.proofs.NodesAt.{became, newest_there}
 use Rattle.world_core.proofs.nodes.Nodes.append.Goals as goal
 

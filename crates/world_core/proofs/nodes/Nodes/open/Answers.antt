@@ -1,4 +1,4 @@
-use Rattle.layout_history.specs.Known.{reading}
+use Rattle.view_model.specs.Layouts.{reading}
 use Rattle.view_model.specs.View.{newest}
 use Rattle.cluster_machine.specs.Phases.{opened}
 use Rattle.world_core.proofs.NodesAt.{stands_at, written, became, same_nodes, with_map, not_want}

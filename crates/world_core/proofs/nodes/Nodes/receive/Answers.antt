@@ -1,7 +1,7 @@
 use Rattle.std.proofs.Common.{inl, inr}
 use Rattle.std.proofs.lemmas.Result.{err_from_is_err_and}
 use Rattle.cluster_machine.specs.Receives.{receives}
-use Rattle.node_parts.specs.Layouts.{layouts}
+use Rattle.cluster_machine.specs.Layouts.{layouts}
 use Rattle.node_parts.specs.Posts.{told}
 use Rattle.world_core.proofs.NodesAt.{does, overflows}
 use Rattle.world_core.proofs.nodes.Nodes.receive.Goals as goal

@@ -1,7 +1,7 @@
 use Rattle.std.proofs.Common.{◌+◌, sym, ap, subst, ◌∙◌, [], ◌∷◌, ◌++◌, arith}
 use Rattle.cluster_machine.specs.declared.line.Line.TheVariants.{Layout}
 use Rattle.cluster_machine.specs.declared.step.Words.TheVariants.{One}
-use Rattle.world_model.specs.Choices.{IsComputed}
+use Rattle.cluster_machine.specs.Choices.{IsComputed}
 use Rattle.world_core.specs.Parts.{decision}
 use Rattle.world_core.proofs.WorldsStand.{told_report}
 use Rattle.world_core.proofs.WorldsApply.{apply_outside, apply_taken, apply_full, apply_refused, apply_given}

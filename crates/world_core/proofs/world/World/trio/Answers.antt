@@ -1,7 +1,7 @@
 use Rattle.std.proofs.Common.{◌≡◌, ℕ, [], ◌∷◌, refl, ap, ◌∙◌, arith}
 use Rattle.layout_roles.specs.declared.layout.Layout.{Layout}
 use Rattle.cluster_machine.specs.Node.{Node as Seen}
-use Rattle.world_model.specs.Trio.{trio}
+use Rattle.cluster_machine.specs.Trio.{trio}
 use Rattle.world_core.specs.Nodes.{AreNodes}
 use Rattle.world_core.proofs.WorldsInstall.{given_to, one_more}
 use Rattle.world_core.proofs.WorldsApply.{none_yet, trio_plays, trio_refused}

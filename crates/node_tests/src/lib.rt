@@ -1,5 +1,0 @@
-//! Tests of nodes over the rows of the object store. It has no code of its own.
-#![tactic(auto)]
-
-#[cfg(test)]
-mod tests;

@@ -1,0 +1,102 @@
+//! What merging, reading and dropping rows gives with ample memory, and `top` against values from outside. Those
+//! were computed by this Python, where a row is (table, partition, key, bytes):
+//!
+//!     H = lambda b: hashlib.blake2b(b, digest_size=32).digest()
+//!     def value(pairs, depth=0):
+//!         if not pairs: return bytes(32)
+//!         if len(pairs) == 1: return H(b'\1' + pairs[0][0] + pairs[0][1])
+//!         out = b'\2'
+//!         for byte in range(256):
+//!             some = [p for p in pairs if p[0][depth] == byte]
+//!             if some: out += bytes([byte]) + value(some, depth + 1)
+//!         return H(out)
+//!     def top(rows): return H(b''.join(value([(H(k), H(r)) for t, q, k, r in rows if (t, q) == (table, p)])
+//!         for table in (1, 2, 3) for p in range(256)))
+use crate::made::{BUCKET, Made, Shape, row};
+use crdt_core::Memory;
+use object_schema::S3Schema;
+use std::alloc::Global;
+use std::test::Fail;
+use table_store::Table;
+
+// The markers of `a`, `b` and `c`, and a reference.
+const ROWS: [Made; 4] = [
+    Made::Object(b"a", 1, 1, Shape::Marker),
+    Made::Object(b"b", 1, 1, Shape::Marker),
+    Made::Object(b"c", 1, 1, Shape::Marker),
+    Made::Reference(0x11, 6, false),
+];
+
+fn table(alloc: Global, rows: &[Made]) -> Result<Table<S3Schema>, Memory> {
+    let mut table = Table::new(alloc)?;
+    for made in rows {
+        table.merge_in(&row(alloc, *made)?)?;
+    }
+    Ok(table)
+}
+
+// How many rows of the bucket come first past a key, at most two, and whether there are more.
+fn past(alloc: Global, key: &[u8]) -> Result<(usize, bool), Memory> {
+    let mut after = Vec::from_slice(alloc, &BUCKET.0)?;
+    after.extend_from_slice(key)?;
+    let (rows, more) = table(alloc, &ROWS)?.range(1, &BUCKET.0, after.as_slice(), 2)?;
+    Ok((rows.len(), more))
+}
+
+#[test]
+fn rows_past_a_key(rt: HostRuntime) -> Result<(), Fail> {
+    for (key, count, more) in [(b"A", 2, true), (b"a", 2, false), (b"b", 1, false)] {
+        assert_eq!(rt; past(rt.alloc(), key)?, (count, more));
+    }
+    Ok(())
+}
+
+// How many rows a partition has, how many blocks were live in it when it is dropped, and how many rows are left.
+fn dropped(alloc: Global, p: u8) -> Result<(usize, usize, usize), Memory> {
+    let mut table = table(alloc, &ROWS)?;
+    let rows = table.rows_of(p)?.len();
+    let blocks = table.drop_partition(p)?.len();
+    Ok((rows, blocks, table.len()))
+}
+
+#[test]
+fn partitions_are_dropped(rt: HostRuntime) -> Result<(), Fail> {
+    assert_eq!(rt; dropped(rt.alloc(), 0x22)?, (3, 0, 1));
+    assert_eq!(rt; dropped(rt.alloc(), 0x11)?, (1, 1, 3));
+    Ok(())
+}
+
+const MERGED: [Made; 3] = [
+    Made::Reference(0x11, 5, false),
+    Made::Reference(0x11, 6, false),
+    Made::Deleted(5),
+];
+
+const BACKWARDS: [Made; 3] = [
+    Made::Deleted(5),
+    Made::Reference(0x11, 6, false),
+    Made::Reference(0x11, 5, false),
+];
+
+const TOPS: [&str; 4] = [
+    "7e1c26a17bd3d7fa395f34897712e0533bd0d69b934e542d6a4a4fb3ce779cda",
+    "f962725a6d977e2d26f99325409bb5a37fe72eb3afd207e47b172394302d7a39",
+    "b7b6989d30f17d17c49276a8d80171528bfc447636c8ad5ce9a8fe8177c12ff5",
+    "778347b0c5f063e5857163bf0559b1c690cdf9bace1175991d698a7050b66462",
+];
+
+#[test]
+fn top_from_outside(rt: HostRuntime) -> Result<(), Fail> {
+    let rows: [(&[Made], &str); 5] = [
+        (&[], TOPS[0]),
+        (&MERGED[..1], TOPS[1]),
+        (&MERGED[..2], TOPS[2]),
+        (&MERGED, TOPS[3]),
+        (&BACKWARDS, TOPS[3]),
+    ];
+    for (made, top) in rows {
+        let found = table(rt.alloc(), made)?.top()?;
+        assert_eq!(rt; hex::encode(rt.alloc(), &found.0)?.as_str(), top);
+    }
+    Ok(())
+}

@@ -1,4 +1,0 @@
-pub mod Trio
-pub mod Choices
-pub mod Fits
-pub mod Worlds
