@@ -11,7 +11,7 @@ use Rattle.table_schema.specs.Laws.{Same}
 use Rattle.table_model.specs.Rows.{row_at}
 use Rattle.object_schema.specs.Schema.{words, key_of}
 use Rattle.object_schema.specs.Laws.{schema_laws}
-use Rattle.machine_origins.proofs.Lists.{all_weaker}
+use Rattle.crdt_core.proofs.Each.{all_weaker}
 use Rattle.machine_origins.proofs.Good.{IsGood, IsFound, Rules, row_found}
 use Rattle.cluster_machine.specs.World.{World}
 use Rattle.machine_reads.specs.Holders.{AreTwo}

@@ -8,7 +8,7 @@ use Rattle.wire_messages.specs.declared.message.Message.TheVariants.{Get, Row, R
 use Rattle.cluster_machine.specs.Node.{Present, fetching, Call, Packet, says, shows, Post, Did}
 use Rattle.cluster_machine.specs.Phases.{with_call}
 use Rattle.cluster_machine.specs.World.{Sent, World}
-use Rattle.machine_origins.proofs.Lists.{all_weaker}
+use Rattle.crdt_core.proofs.Each.{all_weaker}
 use Rattle.block_laws.specs.Blocks.{IsBeside}
 use Rattle.block_laws.specs.Fetched.{GaveItsBlock}
 

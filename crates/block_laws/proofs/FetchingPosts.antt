@@ -11,7 +11,7 @@ use Rattle.cluster_machine.specs.Node.{Item, Part, Node, Post}
 use Rattle.cluster_machine.specs.Phases.{nodes_of, to_each, bytes_of, stores}
 use Rattle.cluster_machine.specs.Rounds.{rows_at, with_its_block, pushes, pushes_rows}
 use Rattle.cluster_machine.specs.Acts.{item_posts}
-use Rattle.machine_origins.proofs.Lists.{all_append}
+use Rattle.crdt_core.proofs.Each.{all_append}
 use Rattle.block_laws.proofs.Fetching.{Asks, IsMessage, IsPacket}
 
 module _ (digest : List ℕ → List ℕ) {R L : Type 0} (join : R → R → R) (s : Words R) (k : Layouts L) (g : Asks) (n : ℕ) where

@@ -23,7 +23,9 @@ use Rattle.cluster_machine.specs.Acts.{Acted, acts, appends, restarts}
 use Rattle.cluster_machine.specs.World.{Sent, Mark, Request, World, numbered, clock, empty}
 use Rattle.cluster_machine.specs.Step.{most_versions, Choice, given, none_given, Effects, nothing, refusal, only, sent_by, did, at_message, expires, closing, chosen, applies_at, trio_applies, acting, begun, beginning, opening, effects, applied, shut}
 use Rattle.cluster_machine.specs.Run.{Move, IsRun, does, next, run}
-use Rattle.machine_origins.proofs.Lists.{all_append, all_filter, all_weaker, all_found, all_numbered, length_shut}
+use Rattle.crdt_core.proofs.Each.{all_append, all_weaker}
+use Rattle.machine_origins.proofs.Lists.{all_filter, all_found, all_numbered}
+use Rattle.cluster_machine.proofs.Closing.{length_shut}
 use Rattle.machine_origins.proofs.FollowingCalls.{found_there}
 use Rattle.machine_origins.proofs.Sound.{counted, counted_is}
 use Rattle.block_laws.specs.Blocks as blocks

@@ -15,7 +15,8 @@ use Rattle.cluster_machine.specs.Step.{only}
 use Rattle.drained_laws.specs.Waiting.{SomeOf, Has}
 use Rattle.drained_laws.specs.Calm.{IsMember}
 use Rattle.drained_laws.specs.Accounts.{Matter, Answers, Carries, IsOnWay, OnWay, IsDue, IsOneRow, IsUsualMessage, IsUsual, Brings, Account, IsSound}
-use Rattle.machine_origins.proofs.Lists.{all_append, all_parts, all_weaker}
+use Rattle.crdt_core.proofs.Each.{all_append, all_weaker}
+use Rattle.machine_origins.proofs.Lists.{all_parts}
 use Rattle.drained_laws.proofs.Waits.{some_left, some_right, some_parts, some_others, some_mapped, all_mapped}
 use Rattle.drained_laws.proofs.Replies.{IsTaken, IsOther, reply, hears_so, usual_replies}
 use Rattle.drained_laws.proofs.Calls.{present_stays}

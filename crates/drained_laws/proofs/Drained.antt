@@ -17,7 +17,7 @@ use Rattle.cluster_machine.specs.World.{World}
 use Rattle.drained_laws.specs.Waiting.{SomeOf, Has, waiting}
 use Rattle.drained_laws.specs.Accounts.{IsDue, Brings, IsPresent, IsAccounted}
 use Rattle.drained_laws.specs.Drained.{AreEqual, accepted_in, NoPhase}
-use Rattle.machine_origins.proofs.Lists.{all_weaker}
+use Rattle.crdt_core.proofs.Each.{all_weaker}
 use Rattle.drained_laws.proofs.Waits.{some_left, some_right, some_parts, all_has}
 use Rattle.drained_laws.proofs.Calls.{present_rests}
 

@@ -20,7 +20,7 @@ use Rattle.cluster_machine.specs.Receives.{most_rows, answers, where_stored, giv
 use Rattle.cluster_machine.specs.World.{Sent}
 use Rattle.drained_laws.specs.Accounts.{confirms, Answers, OnWay, AreThree, IsOwn, IsUsualMessage, IsStoreOf}
 use Rattle.drained_laws.specs.Outboxes.{IsItem, AreItems, IsOutbox, IsAbove, Descend}
-use Rattle.machine_origins.proofs.Lists.{all_append, all_weaker}
+use Rattle.crdt_core.proofs.Each.{all_append, all_weaker}
 use Rattle.drained_laws.proofs.Waits.{some_left, some_right}
 use Rattle.drained_laws.proofs.Views.{sets_one}
 use Rattle.drained_laws.proofs.Calls.{two_of_three}

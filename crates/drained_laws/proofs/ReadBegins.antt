@@ -29,7 +29,7 @@ use Rattle.drained_laws.specs.Waiting.{waiting}
 use Rattle.drained_laws.specs.Accounts.{Carries, IsAccounted}
 use Rattle.drained_laws.specs.Drained.{AreEqual}
 use Rattle.drained_laws.specs.Reading.{AllRead, IsOfRead, HasRead, IsReading}
-use Rattle.machine_origins.proofs.Lists.{all_weaker}
+use Rattle.crdt_core.proofs.Each.{all_weaker}
 use Rattle.drained_laws.proofs.Waits.{all_mapped, sent_wait}
 use Rattle.drained_laws.proofs.Views.{read_one, set_one, all_among}
 use Rattle.drained_laws.proofs.Hearing.{found_with}

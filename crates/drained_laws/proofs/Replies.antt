@@ -20,7 +20,7 @@ use Rattle.cluster_machine.specs.Rows.{block_at, accepts, accepts_read, accepts_
 use Rattle.cluster_machine.specs.Receives.{most_rows, answers, where_stored, gives_row, gives_rows, gives_block, hears}
 use Rattle.drained_laws.specs.Waiting.{SomeOf, Has}
 use Rattle.drained_laws.specs.Accounts.{Matter, reads, scans, confirms as confirming, Asks, Answers, Carries, IsOwn, IsDue, IsUsualMessage, IsStoreOf}
-use Rattle.machine_origins.proofs.Lists.{all_weaker}
+use Rattle.crdt_core.proofs.Each.{all_weaker}
 use Rattle.drained_laws.proofs.Views.{newest_one, stored_one, given_one}
 
 -- what a node answers with in a calm time

@@ -26,7 +26,8 @@ use Rattle.cluster_machine.specs.Run.{IsLayout, IsPhase, IsStep, Move, run, next
 use Rattle.drained_laws.specs.Waiting.{SomeOf, Has, fresh, waiting_among, waiting}
 use Rattle.drained_laws.specs.Calm.{IsMember, IsCalm, IsAtRest, IsCalmRun}
 use Rattle.drained_laws.specs.Accounts.{Carries, IsDue, IsUsualMessage, IsUsual, IsStoreOf, Brings, IsCall, Account, IsSound, IsAccounted}
-use Rattle.machine_origins.proofs.Lists.{all_append, all_parts}
+use Rattle.crdt_core.proofs.Each.{all_append}
+use Rattle.machine_origins.proofs.Lists.{all_parts}
 use Rattle.drained_laws.proofs.Waits.{some_left, some_right, some_mapped, all_mapped, done, all_fresh, taken, sent_wait, forgotten_wait}
 use Rattle.drained_laws.proofs.Hearing.{AllCalls}
 use Rattle.drained_laws.proofs.Deliveries.{sent_at, delivered, calls_more, sends_more}

@@ -30,7 +30,7 @@ use Rattle.drained_laws.specs.Waiting.{Has, fresh, waiting}
 use Rattle.drained_laws.specs.Calm.{IsMember, IsCalm, IsAtRest, IsCalmRun}
 use Rattle.drained_laws.specs.Accounts.{IsAccounted}
 use Rattle.drained_laws.specs.Outboxes.{AreItems, AreOutboxes, IsAbove, AreFrom, HasLeft, Descend, IsDelivery, works_of}
-use Rattle.machine_origins.proofs.Lists.{all_append, all_weaker}
+use Rattle.crdt_core.proofs.Each.{all_append, all_weaker}
 use Rattle.drained_laws.proofs.Waits.{all_mapped}
 use Rattle.drained_laws.proofs.Views.{newest_one, all_among}
 use Rattle.drained_laws.proofs.Deliveries.{one_changes}
