@@ -7,17 +7,20 @@ use Rattle.crdt_core.specs.declared.memory.Memory.TheVariants.{Want, Full}
 use Rattle.quorum_model.specs.Quorum.{is_among, two_of}
 use Rattle.block_resync.specs.declared.item.Item.{Item}
 
+-- items that wait to be confirmed
 pub record Outbox : Type 0 where
   -- how many items were ever pushed, which is the number of the last one
   pub pushed : ℕ
   -- the items that wait, in order of their numbers, each with the nodes that have confirmed it
   pub items : List Item
 
+-- no item was ever pushed
 abbrev pub empty : Outbox
 empty = record { pushed = 0; items = [] }
 
 -- ---- numbers
 
+-- the numbers of items
 abbrev pub numbers : List Item → List ℕ
 numbers items = map (λ x. x.number) items
 
@@ -41,11 +44,13 @@ two_of_each sets x = list_all (λ set. two_of set x.confirmed) sets
 abbrev pub item_confirmed : ℕ → Item → Item
 item_confirmed node x = if is_among node x.confirmed then x else record x { confirmed = x.confirmed ++ node ∷ [] }
 
+-- an item that none has confirmed
 abbrev pub item_forgot : Item → Item
 item_forgot x = record x { confirmed = [] }
 
 -- ---- the calls
 
+-- a row more waits, under the next number
 abbrev pub pushed_on : Outbox → List ℕ → Outbox
 pushed_on o row =
     record {
@@ -61,9 +66,11 @@ confirmed o number node = record o { items = map (λ x. if x.number == number th
 abbrev pub is_done : Outbox → ℕ → List (List ℕ) → Bool
 is_done o number sets = list_any (λ x. (x.number == number) && two_of_each sets x) o.items
 
+-- without the item of this number
 abbrev pub dropped : Outbox → ℕ → Outbox
 dropped o number = record o { items = filter (λ x. not (x.number == number)) o.items }
 
+-- each item waits anew for every confirmation
 abbrev pub forgot : Outbox → Outbox
 forgot o = record o { items = map item_forgot o.items }
 

@@ -10,6 +10,7 @@ use Rattle.block_store.specs.declared.fault.BlockFault.{BlockFault}
 use Rattle.block_store.specs.declared.fault.BlockFault.TheVariants.{WrongHash, InUse, Memory}
 use Rattle.blake2_hash.specs.Hash.{hash_cmp, is_hash, digest_of}
 
+-- blocks, references to them, and notes of blocks that none needs
 pub record Contents : Type 0 where
   -- the blocks by their hashes, each hash once, in order of hashes
   pub blocks : List (Hash32 × List ℕ)
@@ -18,12 +19,15 @@ pub record Contents : Type 0 where
   -- when the references to a block last fell to none, in order of hashes
   pub notes : List (Hash32 × ℕ)
 
+-- nothing is stored
 abbrev pub empty : Contents
 empty = record { blocks = []; live = []; notes = [] }
 
+-- the bytes of a block, if it is there
 abbrev pub block_at : Contents → Hash32 → Option (List ℕ)
 block_at c h = lookup (is_hash h) c.blocks
 
+-- when the references to a block fell to none, if they did
 abbrev pub note_at : Contents → Hash32 → Option ℕ
 note_at c h = lookup (is_hash h) c.notes
 

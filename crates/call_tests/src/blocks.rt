@@ -1,7 +1,7 @@
 //! A block store with ample memory.
 use blake2_hash::Hash32;
 use block_store::{BlockFault, Blocks, calls_by_hash};
-use crdt_core::Bytes;
+use crdt_core::{Bytes, Memory};
 use std::alloc::Global;
 use std::test::Fail;
 
@@ -19,48 +19,88 @@ enum Call {
     Delete,
 }
 
-// What a call on the block `abc` answers.
-fn called(alloc: Global, blocks: &mut Blocks, call: Call) -> Result<Result<(), BlockFault>, Fail> {
+// Whether a call on the block `abc` is refused, and for how many references.
+fn called(alloc: Global, blocks: &mut Blocks, call: Call) -> Result<Option<u64>, Memory> {
     match call {
-        Call::Put => return Ok(blocks.put(&ABC, Bytes::from_slice(alloc, b"abc")?)),
-        Call::Live if blocks.get(&ABC).is_some() && blocks.count(&ABC) < 10 => blocks.live(&ABC),
-        Call::Dead(now) if blocks.count(&ABC) > 0 => blocks.dead(&ABC, now),
-        Call::Delete => return Ok(blocks.delete(&ABC)),
-        _ => return Err("not to be called".into()),
+        Call::Put => match blocks.put(&ABC, Bytes::from_slice(alloc, b"abc")?) {
+            Ok(()) => Ok(None),
+            Err(_) => Err(Memory::Want),
+        },
+        Call::Live if blocks.get(&ABC).is_some() && blocks.count(&ABC) < 10 => {
+            blocks.live(&ABC);
+            Ok(None)
+        }
+        Call::Dead(now) if blocks.count(&ABC) > 0 => {
+            blocks.dead(&ABC, now);
+            Ok(None)
+        }
+        Call::Delete => match blocks.delete(&ABC) {
+            Err(BlockFault::InUse(count)) => Ok(Some(count)),
+            _ => Ok(None),
+        },
+        _ => Err(Memory::Full),
     }
-    Ok(Ok(()))
 }
+
+// The last of these calls, how many references the block has then, and since when none.
+fn after(alloc: Global, calls: &[Call]) -> Result<(Option<u64>, u64, Option<u64>), Memory> {
+    let mut blocks = Blocks::new(alloc);
+    let mut last = None;
+    for call in calls {
+        last = called(alloc, &mut blocks, *call)?;
+    }
+    let note = blocks.idle()?.first().map(|entry| entry.1);
+    Ok((last, blocks.count(&ABC), note))
+}
+
+const CALLS: [Call; 10] = [
+    Call::Put,
+    Call::Live,
+    Call::Live,
+    Call::Delete,
+    Call::Dead(5),
+    Call::Dead(7),
+    Call::Put,
+    Call::Live,
+    Call::Dead(9),
+    Call::Delete,
+];
 
 #[test]
 fn block_counts(rt: HostRuntime) -> Result<(), Fail> {
-    let alloc = rt.alloc();
-    let mut blocks = Blocks::new(alloc);
-    for (call, answer, count, note) in [
-        (Call::Put, Ok(()), 0, None),
-        (Call::Live, Ok(()), 1, None),
-        (Call::Live, Ok(()), 2, None),
-        (Call::Delete, Err(BlockFault::InUse(2)), 2, None),
-        (Call::Dead(5), Ok(()), 1, None),
-        (Call::Dead(7), Ok(()), 0, Some(7)),
-        (Call::Put, Ok(()), 0, Some(7)),
-        (Call::Live, Ok(()), 1, None),
-        (Call::Dead(9), Ok(()), 0, Some(9)),
-        (Call::Delete, Ok(()), 0, None),
+    for (count, last, references, note) in [
+        (1, None, 0, None),
+        (2, None, 1, None),
+        (3, None, 2, None),
+        (4, Some(2), 2, None),
+        (5, None, 1, None),
+        (6, None, 0, Some(7)),
+        (7, None, 0, Some(7)),
+        (8, None, 1, None),
+        (9, None, 0, Some(9)),
+        (10, None, 0, None),
     ] {
-        assert_eq!(rt; called(alloc, &mut blocks, call)?, answer);
-        assert_eq!(rt; blocks.count(&ABC), count);
-        assert_eq!(rt; blocks.idle()?.first().map(|entry| entry.1), note);
+        assert_eq!(rt;
+            after(rt.alloc(), &CALLS[..count.min(10)])?,
+            (last, references, note)
+        );
     }
     calls_by_hash();
     Ok(())
 }
 
+// What a put of `abc` under another name answers, and how many blocks there are then.
+fn misnamed(alloc: Global, named: &Hash32) -> Result<(Option<BlockFault>, usize), Memory> {
+    let mut blocks = Blocks::new(alloc);
+    let fault = blocks.put(named, Bytes::from_slice(alloc, b"abc")?).err();
+    Ok((fault, blocks.len()))
+}
+
 #[test]
 fn block_faults(rt: HostRuntime) -> Result<(), Fail> {
-    let mut blocks = Blocks::new(rt.alloc());
     let named = Hash32([7; 32]);
-    let refused = blocks.put(&named, Bytes::from_slice(rt.alloc(), b"abc")?);
-    assert_eq!(rt; refused, Err(BlockFault::WrongHash { named, found: ABC }));
-    assert_eq!(rt; blocks.len(), 0);
+    let (fault, count) = misnamed(rt.alloc(), &named)?;
+    assert_eq!(rt; fault, Some(BlockFault::WrongHash { named, found: ABC }));
+    assert_eq!(rt; count, 0);
     Ok(())
 }

@@ -41,16 +41,29 @@ fn store(alloc: Global) -> Result<Message<AnyRow>, Memory> {
     })
 }
 
+#[derive(Clone, Copy)]
+enum Kind {
+    Rows,
+    Store,
+    Stored,
+}
+
+fn measured(alloc: Global, kind: Kind) -> Result<u64, Memory> {
+    match kind {
+        Kind::Rows => size::<S3Schema>(alloc, &rows(alloc)?),
+        Kind::Store => size::<S3Schema>(alloc, &store(alloc)?),
+        Kind::Stored => size::<S3Schema>(alloc, &Message::Stored(Tag::Item { number: 1 })),
+    }
+}
+
 #[test]
 fn sixty_four_and_what_is_carried(rt: HostRuntime) -> Result<(), Fail> {
-    let alloc = rt.alloc();
-    let stored = Message::Stored(Tag::Item { number: 1 });
-    for (message, bytes) in [
-        (rows(alloc)?, 64 + 84),
-        (store(alloc)?, 64 + 18),
-        (stored, 64),
+    for (kind, bytes) in [
+        (Kind::Rows, 64 + 84),
+        (Kind::Store, 64 + 18),
+        (Kind::Stored, 64),
     ] {
-        assert_eq!(rt; size::<S3Schema>(alloc, &message)?, bytes);
+        assert_eq!(rt; measured(rt.alloc(), kind)?, bytes);
     }
     Ok(())
 }

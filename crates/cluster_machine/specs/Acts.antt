@@ -36,6 +36,7 @@ abbrev pub least_start : {R : Type 0} → ℕ → List (Call R) → ℕ
 least_start i [] = i
 least_start i (c ∷ cs) = min c.start (least_start i cs)
 
+-- an item that none has confirmed
 abbrev pub unconfirmed : {R : Type 0} → Item R → Item R
 unconfirmed item = record item { confirmed = [] }
 
@@ -45,9 +46,11 @@ module _ {R : Type 0} (join : R → R → R) (s : Words R) where
     abbrev pub is_due : ℕ → Node R L → List ℕ → Bool
     is_due now x hash = (count_of join s x.accepted hash == 0) && is_old now (note_of x.notes hash)
 
+    -- a block that need not go yet
     abbrev pub stays : ℕ → Node R L → Block → Bool
     stays now x b = not (is_due now x b.hash)
 
+    -- the node without the blocks that are due, and without their notes
     abbrev pub without_due : ℕ → Node R L → Node R L
     without_due now x = record x {
       blocks = filter (stays now x) x.blocks;
@@ -61,6 +64,7 @@ module _ {R : Type 0} (join : R → R → R) (s : Words R) where
         let p = partition_of s item.row in
         to_each (nodes_of (stored_sets k v p)) (Store (ForItem item.number) (newest k.reading v) p ((bytes_of s item.row, None) ∷ []))
 
+    -- the node pushes each item of its outbox again, and deletes the blocks that are due
     abbrev pub works : ℕ → Node R L → Acted R L
     works now x = record {
       did = record (quiet (without_due now x)) {
@@ -76,11 +80,13 @@ module _ {R : Type 0} (join : R → R → R) (s : Words R) where
         let v = with_entry k.reading which id i x.view in
         record { did = quiet (record x { view = v }); how = At (version_of k.reading which v id) }
 
+    -- the node drops the versions below the least sync-ack, and the rows that go with them
     abbrev pub cleans : ℕ → ℕ → Node R L → Acted R L
     cleans id now x =
         let v = cleaned k.reading x.view in
         record { did = quiet (sees join s k id now x v); how = At (oldest k.reading v) }
 
+    -- the node goes on with its open round, or begins one to the version after its read one, if it may
     abbrev pub syncs : ℕ → Node R L → Option Round → Acted R L
     syncs id x (Some round) = record { did = again join s k id x round; how = At round.target }
     syncs id x None =
@@ -88,6 +94,7 @@ module _ {R : Type 0} (join : R → R → R) (s : Words R) where
         cond (may_sync join s k id x.view) (record { did = begin_round join s k id x; how = At (suc at) })
         (record { did = quiet x; how = Idle at (ack_least k.reading x.view) })
 
+    -- what the node does when it is told to
     abbrev pub acts : ℕ → ℕ → Node R L → Action → Acted R L
     acts id now x RaiseAck = raises id x Ack (least_start (newest k.reading x.view) x.calls)
     acts id now x GoOn = syncs id x x.round

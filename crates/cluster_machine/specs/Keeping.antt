@@ -14,6 +14,7 @@ use Rattle.cluster_machine.specs.Node.{Call, Packet, says, shows, Post}
 abbrev pub IsBare : {A : Type 0} → A × Option (List ℕ) → Type 0
 IsBare r = r.1 ≡ None
 
+-- rows without blocks
 abbrev pub AreBare : {A : Type 0} → List (A × Option (List ℕ)) → Type 0
 AreBare rows = All IsBare rows
 
@@ -22,6 +23,7 @@ abbrev pub IsBareMessage : {R : Type 0} → Message R → Type 0
 IsBareMessage (Asks tag newest p rows) = AreBare rows
 IsBareMessage _ = ⊤
 
+-- a packet whose rows come without blocks
 abbrev pub IsBarePacket : {R L : Type 0} → Packet R L → Type 0
 IsBarePacket (says m) = IsBareMessage m
 IsBarePacket (shows v) = ⊤
@@ -36,6 +38,7 @@ abbrev pub IsPost : {R L : Type 0} → Packet R L → Type 0
 IsPost (says m) = IsBareMessage m
 IsPost (shows v) = ⊥
 
+-- messages, without blocks
 abbrev pub ArePosts : {R L : Type 0} → List (Post R L) → Type 0
 ArePosts posts = AllByRecursion (λ p. IsPost p.packet) posts
 

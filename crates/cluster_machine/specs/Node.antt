@@ -34,7 +34,7 @@ pub data Present (R : Type 0) : Type 0 where
   asking : Question R → List (ℕ × Option R) → Present R
   scanning : Scan R → List (ℕ × RangeAnswer R) → Present R
   storing : List R → List StoreSlot → Present R
-  fetching : Present R  -- a block
+  fetching : List ℕ → Present R  -- the block with this hash
 
 -- an open request at its coordinator
 pub record Call (R : Type 0) : Type 0 where
@@ -54,20 +54,24 @@ pub record Part : Type 0 where
   pub partition : ℕ
   pub set : List ℕ
 
+-- an open round: where it leads, what it pushes, and who has confirmed
 pub record Round : Type 0 where
   pub number : ℕ
   pub target : ℕ
   pub parts : List Part
   pub confirmed : List Confirmed
 
+-- a block that a node has, under its hash
 pub record Block : Type 0 where
   pub hash : List ℕ
   pub bytes : List ℕ
 
+-- when the rows that need a block fell to none
 pub record Note : Type 0 where
   pub hash : List ℕ
   pub moment : ℕ  -- milliseconds of the node's clock
 
+-- what a node has, and its open requests and round
 pub record Node (R L : Type 0) : Type 0 where
   pub view : View L
   pub accepted : List R  -- the newest first, without those of partitions that it dropped
@@ -84,6 +88,7 @@ pub data Packet (R L : Type 0) : Type 0 where
   says : Message R → Packet R L
   shows : View L → Packet R L
 
+-- a packet that a node sends
 pub record Post (R L : Type 0) : Type 0 where
   pub to : ℕ
   pub packet : Packet R L
@@ -93,6 +98,7 @@ pub data Reading (R : Type 0) : Type 0 where
   read : Question R → Option R → Reading R
   scanned : Scan R → List R → Option (List ℕ) → Reading R
 
+-- a phase of a request has ended, and how
 pub record Ended (R : Type 0) : Type 0 where
   pub request : ℕ
   pub how : PhaseEnd R
@@ -106,6 +112,7 @@ pub record Did (R L : Type 0) : Type 0 where
   pub reads : List (Reading R)
   pub is_spelled : Bool  -- every row that it sends has a spelling
 
+-- trackers without an entry
 abbrev pub no_trackers : Trackers
 no_trackers = record { ack = record { entries = []; ascending = refl }; sync = record { entries = []; ascending = refl }; sync_ack = record { entries = []; ascending = refl } }
 
@@ -114,5 +121,6 @@ module _ {R L : Type 0} where
   abbrev pub quiet : Node R L → Did R L
   quiet x = record { node = x; posts = []; ends = []; keeps = []; reads = []; is_spelled = true }
 
+  -- a node that knows and has nothing
   abbrev pub new_node : Node R L
   new_node = record { view = record { layouts = []; trackers = no_trackers }; accepted = []; blocks = []; notes = []; items = []; queued = 0; calls = []; round = None; rounds = 0 }

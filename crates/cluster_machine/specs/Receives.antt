@@ -25,6 +25,7 @@ module _ {R L : Type 0} where
   answers x to m = record (quiet x) { posts = record { to = to; packet = says m } ∷ [] }
 
 module _ {R : Type 0} (join : R → R → R) (s : Words R) where
+  -- there is no row, or it has bytes
   abbrev pub is_sendable : Option R → Bool
   is_sendable None = true
   is_sendable (Some r) = is_spelled s r
@@ -34,12 +35,15 @@ module _ {R : Type 0} (join : R → R → R) (s : Words R) where
     abbrev pub where_stored : Node R L → ℕ → ℕ → ℕ → ℕ → Did R L → Did R L
     where_stored x from request phase at did = cond (is_stored k x.view at) did (answers x from (NotHere (ForCall request phase 0)))
 
+    -- the node answers a read phase
     abbrev pub gives_row : Node R L → ℕ → ℕ → ℕ → Option R → Did R L
     gives_row x from request phase row = record (answers x from (Row request phase row)) { is_spelled = is_sendable row }
 
+    -- the node answers a range phase
     abbrev pub gives_rows : Node R L → ℕ → ℕ → ℕ → List R × Bool → Did R L
     gives_rows x from request phase found = record (answers x from (Rows request phase found.0 found.1)) { is_spelled = list_all (is_spelled s) found.0 }
 
+    -- the node answers with a block, or that it has none
     abbrev pub gives_block : Node R L → ℕ → ℕ → ℕ → Option (List ℕ) → Did R L
     gives_block x from request phase None = answers x from (NoBlock request phase)
     gives_block x from request phase (Some bytes) = answers x from (Block request phase bytes)
@@ -61,6 +65,7 @@ module _ {R : Type 0} (join : R → R → R) (s : Words R) where
     abbrev pub is_done : View L → Item R → Bool
     is_done v item = list_all (λ set. two_of set item.confirmed) (stored_sets k v (partition_of s item.row))
 
+    -- the item goes on waiting, unless it is done
     abbrev pub kept_item : View L → Item R → List (Item R) → List (Item R)
     kept_item v item items = cond (is_done v item) items (item ∷ items)
 
@@ -69,6 +74,7 @@ module _ {R : Type 0} (join : R → R → R) (s : Words R) where
     item_came v from number [] = []
     item_came v from number (item ∷ items) = cond (item.number == number) (kept_item v (record item { confirmed = item.confirmed ++ from ∷ [] }) items) (item ∷ item_came v from number items)
 
+    -- a confirmation came, for a request, a round or an item of the outbox
     abbrev pub confirms : ℕ → Node R L → ℕ → Tag → Did R L
     confirms id x from (ForCall request phase slot) = in_phase x request phase (λ c. stored_came k x c slot from c.present)
     confirms id x from (ForRound number p) = round_came id x from number p x.round
@@ -89,6 +95,7 @@ module _ {R : Type 0} (join : R → R → R) (s : Words R) where
     hears id now x from (Block request phase bytes) = in_phase x request phase (λ c. block_came x c bytes c.present)
     hears id now x from (NoBlock request phase) = quiet x
 
+    -- what the node does when a packet comes
     abbrev pub receives : ℕ → ℕ → Node R L → ℕ → Packet R L → Did R L
     receives id now x from (says m) = hears id now x from m
     receives id now x from (shows v) = quiet (sees join s k id now x (merged k.reading x.view v))

@@ -8,13 +8,16 @@ use Rattle.table_model.specs.Rows.{row_at, rows, live_blocks}
 use Rattle.cluster_machine.specs.Layouts.{Layouts, is_given}
 use Rattle.cluster_machine.specs.Node.{Node, Item, Block, Note, Round}
 
+-- two strings of bytes are one
 abbrev pub same_bytes : List ℕ → List ℕ → Bool
 same_bytes = pointwise nat_eq
 
+-- this row needs the block of this hash
 abbrev pub is_block : List ℕ → Option (List ℕ) → Bool
 is_block hash None = false
 is_block hash (Some other) = same_bytes hash other
 
+-- the hash is one of these
 abbrev pub hash_among : List ℕ → List (List ℕ) → Bool
 hash_among hash hashes = list_any (same_bytes hash) hashes
 
@@ -23,6 +26,7 @@ abbrev pub block_at : List Block → List ℕ → Option (List ℕ)
 block_at [] hash = None
 block_at (b ∷ bs) hash = cond (same_bytes b.hash hash) (Some b.bytes) (block_at bs hash)
 
+-- a block of this hash is there
 abbrev pub has_block : List Block → List ℕ → Bool
 has_block blocks hash = list_any (λ b. same_bytes b.hash hash) blocks
 
@@ -46,6 +50,7 @@ module _ {R : Type 0} (join : R → R → R) (s : Words R) where
   abbrev pub count_of : List R → List ℕ → ℕ
   count_of accepted hash = count_by (λ r. is_block hash (s.live_block r)) (rows join s accepted)
 
+  -- the block that a row needs, if there is a row
   abbrev pub block_of : Option R → Option (List ℕ)
   block_of None = None
   block_of (Some r) = s.live_block r
@@ -78,6 +83,7 @@ module _ {R : Type 0} (join : R → R → R) (s : Words R) where
   queue_from n (r ∷ rs) = record { number = suc n; row = r; confirmed = [] } ∷ queue_from (suc n) rs
 
   module _ {L : Type 0} where
+    -- the node with these rows at the end of its outbox
     abbrev pub queued : Node R L → List R → Node R L
     queued x rs = record x { items = x.items ++ queue_from x.queued rs; queued = x.queued + length rs }
 
@@ -93,6 +99,7 @@ module _ {R : Type 0} (join : R → R → R) (s : Words R) where
           notes = notes_after accepted x.notes now (lost_block (block_of before) (block_of after));
         }) (called_for before after)
 
+    -- the node accepts a row, if the bytes spelled one
     abbrev pub accepts_read : ℕ → Node R L → Option R → Option (List ℕ) → Node R L
     accepts_read now x None given = x
     accepts_read now x (Some r) given = accepts now x r given

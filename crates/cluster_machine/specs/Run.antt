@@ -12,6 +12,7 @@ use Rattle.cluster_machine.specs.Layouts.{Layouts}
 use Rattle.cluster_machine.specs.World.{World}
 use Rattle.cluster_machine.specs.Step.{Choice, given, none_given, Effects, effects, applied}
 
+-- a step, and what an apply is given in it
 pub record Move (R L A C : Type 0) : Type 0 where
   pub step : Step R
   pub choice : Choice L A C
@@ -21,6 +22,7 @@ module _ {R : Type 0} (s : Words R) where
   abbrev pub IsPosition : ℕ → List ℕ → Type 0
   IsPosition partitions position = partition_at position < partitions
 
+  -- a row that a table takes
   abbrev pub IsProper : R → Type 0
   IsProper r = IsTrue (s.is_proper r)
 
@@ -35,6 +37,7 @@ module _ {R : Type 0} (s : Words R) where
   IsPhase partitions (Store rows) = (1 ≤ length rows) × (length rows ≤ 2) × All (λ r. IsProper r.0 × IsPosition partitions (s.position r.0)) rows
   IsPhase partitions (Block hash) = IsPosition partitions hash.0
 
+  -- a step begins a phase that may begin
   abbrev pub IsStep : ℕ → Step R → Type 0
   IsStep partitions (Begin request phase) = IsPhase partitions phase
   IsStep partitions _ = ⊤
@@ -62,6 +65,7 @@ module _ {L : Type 0} (k : Layouts L) where
   IsChoice partitions w (none_given r) = ⊤
 
 module _ {R L A C : Type 0} (join : R → R → R) (s : Words R) (k : Layouts L) (trio : L) (trio_roles : List Role → List Role) where
+  -- what a step does, with what it is given
   abbrev pub does : World R L → Move R L A C → Effects R L A C
   does w m = effects join s k trio trio_roles w m.step m.choice
 
@@ -69,6 +73,7 @@ module _ {R L A C : Type 0} (join : R → R → R) (s : Words R) (k : Layouts L)
   abbrev pub next : World R L → Move R L A C → World R L
   next w m = applied w (does w m)
 
+  -- the world after steps in order
   abbrev pub run : World R L → List (Move R L A C) → World R L
   run w [] = w
   run w (m ∷ ms) = run (next w m) ms

@@ -61,6 +61,7 @@ pub record Effects (R L A C : Type 0) : Type 0 where
   pub reads : List (Reading R)
   pub is_spelled : Bool  -- every row that is sent has a spelling
 
+-- what kind of message a packet is
 abbrev pub kind_of : {R L : Type 0} → Packet R L → SentKind
 kind_of (says (Get _ _ _ _ _)) = KindGet
 kind_of (says (Row _ _ _)) = KindRow
@@ -79,6 +80,7 @@ kind_of (shows _) = KindView
 abbrev pub only : {R L : Type 0} → ℕ → Node R L → ℕ → Option (Node R L)
 only n x m = cond (m == n) (Some x) None
 
+-- what node n sends becomes messages of now
 abbrev pub sent_by : {R L : Type 0} → World R L → ℕ → List (Post R L) → List (Sent R L)
 sent_by w n posts = map (λ p. record { from = n; to = p.to; packet = p.packet; moment = w.time }) posts
 
@@ -93,12 +95,14 @@ sync_line n old new =
     let before = counts 0 Sync old.trackers n in
     let after = counts 0 Sync new.trackers n in cond (leb after before) [] (Synced n after ∷ [])
 
+-- what a node's own act answers
 abbrev pub told : LocalEnd → Told
 told (At i) = One i
 told (Idle at least) = IdleAt at least
 told (Worked rows blocks) = Two rows blocks
 told Repaired = Empty
 
+-- the numbers of requests
 abbrev pub requests_of : {R : Type 0} → List (Call R) → List ℕ
 requests_of calls = map (λ c. c.request) calls
 
@@ -126,6 +130,7 @@ module _ {R L A C : Type 0} where
     is_spelled = true;
   }
 
+  -- nothing happens, and why
   abbrev pub refusal : World R L → Refusal C → Effects R L A C
   refusal w r = record (nothing w) { refused = Some r }
 
@@ -143,9 +148,11 @@ module _ {R L A C : Type 0} where
         is_spelled = d.is_spelled;
       }
 
+  -- the message is delivered, which stands first in what is told
   abbrev pub received : ℕ → Effects R L A C → Effects R L A C
   received m e = record e { marks = Some (m, record { is_delivered = true; is_lost = false }); tells = Got m ∷ e.tells }
 
+  -- what a message does, where it was sent and is not lost
   abbrev pub at_message : World R L → (Sent R L → Effects R L A C) → Option (Sent R L) → Option Mark → Effects R L A C
   at_message w f None mark = refusal w NoSuchMessage
   at_message w f (Some s) None = refusal w NoSuchMessage
@@ -164,16 +171,19 @@ module _ {R L A C : Type 0} where
     tells = HasEnded q Expired ∷ [];
   }) (refusal w AlreadyEnded)
 
+  -- request q is closed, if it is open
   abbrev pub closing : World R L → ℕ → Option Request → Effects R L A C
   closing w q None = nothing w
   closing w q (Some r) = cond r.is_open (record (nothing w) { nodes = only r.coordinator (closed q (w.nodes r.coordinator)); closes = q ∷ [] }) (nothing w)
 
+  -- the node loses its open requests
   abbrev pub restarted : World R L → ℕ → Effects R L A C
   restarted w n =
       let lost = reverse (requests_of (w.nodes n).calls) in
       record (nothing w) { nodes = only n (restarts (w.nodes n)); lost = lost; closes = lost; tells = map (λ q. HasEnded q Restarted) lost }
 
 module _ {R L A C : Type 0} (join : R → R → R) (s : Words R) (k : Layouts L) (trio : L) (trio_roles : List Role → List Role) where
+  -- the chosen layout is applied, or none is and it is said why
   abbrev pub chosen : World R L → ℕ → ℕ → Choice L A C → Effects R L A C
   chosen w n next (none_given r) = refusal w r
   chosen w n next (given l shown) = record (nothing w) { nodes = only n (appends k (w.nodes n) l); applies = 1; words = One next; tells = Laid shown ∷ [] }
@@ -198,9 +208,11 @@ module _ {R L A C : Type 0} (join : R → R → R) (s : Words R) (k : Layouts L)
   abbrev pub acting : World R L → ℕ → Bool → Acted R L → Effects R L A C
   acting w n is_refused a = cond is_refused (refusal w NotMember) (record (did w n a.did) { words = told a.how })
 
+  -- a node acts, unless it knows no version
   abbrev pub local : World R L → ℕ → Action → Effects R L A C
   local w n a = acting w n (has_none k (w.nodes n).view) (acts join s k n (clock w n) (w.nodes n) a)
 
+  -- a phase of an open request begins
   abbrev pub begun : World R L → ℕ → Phase R → Option (Call R) → Effects R L A C
   begun w n phase None = nothing w
   begun w n phase (Some c) = did w n (begins s k w.kept (w.nodes n) c phase)
@@ -210,6 +222,7 @@ module _ {R L A C : Type 0} (join : R → R → R) (s : Words R) (k : Layouts L)
   beginning w q phase None = nothing w
   beginning w q phase (Some r) = cond r.is_open (begun w r.coordinator phase (call_at (w.nodes r.coordinator).calls q)) (nothing w)
 
+  -- a request opens at node n, if it is a member
   abbrev pub opening : World R L → ℕ → Effects R L A C
   opening w n =
       let q = suc (length w.requests) in
@@ -219,6 +232,7 @@ module _ {R L A C : Type 0} (join : R → R → R) (s : Words R) (k : Layouts L)
         opens = record { coordinator = n; is_open = true } ∷ [];
       }) (refusal w NotMember)
 
+  -- what a step does to the world
   abbrev pub effects : World R L → Step R → Choice L A C → Effects R L A C
   effects w Trio choice = cond (leb 1 w.applied) (refusal w (VersionTaken 1)) (trio_applies w)
   effects w (Stage n role) choice = record (nothing w) { roles = staged n role w.roles }
@@ -241,17 +255,21 @@ module _ {R L A C : Type 0} (join : R → R → R) (s : Words R) (k : Layouts L)
   effects w (Begin q phase) choice = beginning w q phase (numbered w.requests q)
   effects w (Close q) choice = closing w q (numbered w.requests q)
 
+-- each node as it is after the step
 abbrev pub changed : {R L : Type 0} → (ℕ → Option (Node R L)) → (ℕ → Node R L) → ℕ → Node R L
 changed news nodes n = unwrap_or (news n) (nodes n)
 
+-- by how much each clock is off after the step
 abbrev pub skewed : Option (ℕ × ℕ) → (ℕ → ℕ) → ℕ → ℕ
 skewed None skew_of n = skew_of n
 skewed (Some new) skew_of n = cond (n == new.0) new.1 (skew_of n)
 
+-- the marks after the step
 abbrev pub marked : List Mark → Option (ℕ × Mark) → List Mark
 marked marks None = marks
 marked marks (Some m) = slice_set marks (m.0 - 1) m.1
 
+-- request q is no longer open
 abbrev pub shut_one : List Request → ℕ → Option Request → List Request
 shut_one requests q None = requests
 shut_one requests q (Some r) = slice_set requests (q - 1) (record r { is_open = false })
@@ -262,6 +280,7 @@ shut requests [] = requests
 shut requests (q ∷ qs) = shut (shut_one requests q (numbered requests q)) qs
 
 module _ {R L A C : Type 0} where
+  -- the world with what a step does
   abbrev pub applied : World R L → Effects R L A C → World R L
   applied w e = record {
     nodes = changed e.nodes w.nodes;

@@ -22,6 +22,7 @@ use Rattle.cluster_machine.specs.Trio.{trio, stage_trio}
 use Rattle.cluster_machine.specs.Choices.{Decision, IsComputed, IsNone}
 use Rattle.cluster_machine.specs.Fits.{Fits, FitNodes}
 
+-- worlds over the layouts of the code
 abbrev pub Model : Type 0 → Type 0
 Model R = World R Layout
 
@@ -29,6 +30,7 @@ Model R = World R Layout
 abbrev pub Doing : Type 0 → Type 0
 Doing R = Move R Layout Applied Cut
 
+-- what a step does to such a world
 abbrev pub Done : Type 0 → Type 0
 Done R = Effects R Layout Applied Cut
 
@@ -40,6 +42,7 @@ IsMeant (Begin request phase) = IsShort phase
 IsMeant _ = ⊤
 
 module _ {R : Type 0} where
+  -- the newest version that node n knows
   abbrev pub newest_at : Model R → ℕ → ℕ
   newest_at w n = newest reading (w.nodes n).view
 
@@ -53,6 +56,7 @@ module _ {R : Type 0} where
   IsLawfulStep w (Apply n) choice = cond (comes_to_layout w n) (IsComputed w.roles w.redundancy (suc (newest_at w n)) choice) (IsNone choice)
   IsLawfulStep w _ choice = IsNone choice
 
+  -- the step may be taken, and is given what is lawful
   abbrev pub IsLawful : Model R → Doing R → Type 0
   IsLawful w m = IsLawfulStep w m.step m.choice
 
@@ -74,12 +78,15 @@ module _ {R : Type 0} where
     pub different : (n : ℕ) → AreDifferent (w.nodes n).calls
 
 module _ {R : Type 0} (join : R → R → R) (s : Words R) where
+  -- what the step does
   abbrev pub does : Model R → Doing R → Done R
   does w m = effects join s layouts trio stage_trio w m.step m.choice
 
+  -- the world after it
   abbrev pub next : Model R → Doing R → Model R
   next w m = applied w (does w m)
 
+  -- the world after steps in order
   abbrev pub run : Model R → List (Doing R) → Model R
   run w [] = w
   run w (m ∷ ms) = run (next w m) ms
@@ -101,13 +108,16 @@ module _ {R : Type 0} (join : R → R → R) (s : Words R) where
   abbrev pub FitsAfter : Model R → Doing R → Type 0
   FitsAfter w m = FitsWith w (does w m)
 
+  -- what the step does fits the code's numbers
   abbrev pub HasRoom : Model R → Doing R → Type 0
   HasRoom w m = RoomWith w (does w m)
 
+  -- all fits after each of these steps
   abbrev pub FitAll : Model R → List (Doing R) → Type 0
   FitAll w [] = ⊤
   FitAll w (m ∷ ms) = FitsAfter w m × FitAll (next w m) ms
 
+  -- what each of these steps does fits
   abbrev pub HaveRoom : Model R → List (Doing R) → Type 0
   HaveRoom w [] = ⊤
   HaveRoom w (m ∷ ms) = HasRoom w m × HaveRoom (next w m) ms

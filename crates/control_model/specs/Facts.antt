@@ -4,8 +4,7 @@ use Rattle.crdt_core.specs.Members.{Has, TwoOf}
 use Rattle.layout_trackers.specs.declared.which.Which.{Which}
 use Rattle.layout_trackers.specs.declared.which.Which.TheVariants.{Ack, SyncAck}
 use Rattle.layout_trackers.specs.Trackers.{counts}
-use Rattle.view_model.specs.View.{Reading, View, is_gapless, oldest, newest, layout_at, read_version}
-use Rattle.view_model.specs.Reads.{GrewFrom}
+use Rattle.view_model.specs.View.{Reading, View, is_gapless, oldest, newest, layout_at, read_version, GrewFrom}
 use Rattle.control_model.specs.Layouts.{IsMember, set_in, is_lawful}
 use Rattle.control_model.specs.World.{Request, Round, World, view_of, layout_of}
 use Rattle.control_model.specs.Steps.{round_of}

@@ -4,6 +4,7 @@ use Rattle.std.specs.List.{list_all, list_any}
 use Rattle.std.specs.Option.{option_and_then}
 use Rattle.view_model.specs.View.{Reading}
 
+-- a node is one of these
 abbrev pub is_in : ℕ → List ℕ → Bool
 is_in node nodes = list_any (λ n. node == n) nodes
 
@@ -29,6 +30,7 @@ module _ {L : Type 0} (r : Reading L) where
   abbrev pub is_member : ℕ → Option L → Bool
   is_member node layout = is_in node (members_of layout)
 
+  -- a node has a role in a layout that is there
   abbrev pub IsMember : ℕ → Option L → Type 0
   IsMember node layout = IsTrue (is_member node layout)
 

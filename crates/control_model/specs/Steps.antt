@@ -5,6 +5,7 @@ use Rattle.view_model.specs.View.{Reading, View, oldest, newest, layout_at, vers
 use Rattle.control_model.specs.Layouts.{is_member, is_lawful}
 use Rattle.control_model.specs.World.{Request, Round, Node, World, Change, next, nothing, only, unseen, view_of}
 
+-- the events of the control plane
 pub data Step (L : Type 0) : Type 0 where
   Install : (who : ℕ → Bool) (layout : L) → Step L  -- version 1, into the views of these nodes at once; of one node, where it is applied there
   Apply : (node : ℕ) (layout : L) → Step L  -- one version more
@@ -29,18 +30,22 @@ abbrev pub least_start : ℕ → List Request → ℕ
 least_start newest [] = newest
 least_start newest (q ∷ qs) = min q.start (least_start newest qs)
 
+-- requests without that of this number
 abbrev pub without : ℕ → List Request → List Request
 without number [] = []
 without number (q ∷ qs) = cond (q.number == number) (without number qs) (q ∷ without number qs)
 
+-- no round is open
 abbrev pub is_none : Option ℕ → Bool
 is_none None = true
 is_none (Some _) = false
 
+-- node n's round to version i
 abbrev pub round_of : ℕ → ℕ → Round
 round_of n i = record { node = n; version = i }
 
 module _ {L : Type 0} (r : Reading L) where
+  -- version 1 comes into the views of the chosen nodes
   abbrev pub installs : World L → (ℕ → Bool) → L → Change L
   installs w who l = record (nothing w) {
     who = who;
@@ -49,6 +54,7 @@ module _ {L : Type 0} (r : Reading L) where
     applied = λ i. cond (i == 1) (record { layout = Some l; by = 0; origin = unseen }) (w.applied i);
   }
 
+  -- node n applies one version more, and this is its view then
   abbrev pub applies : World L → ℕ → L → View L → Change L
   applies w n l v = record (only w n (record (w.nodes n) { view = v })) {
     top = suc w.top;
@@ -59,6 +65,7 @@ module _ {L : Type 0} (r : Reading L) where
   abbrev pub with_view : Node L → View L → Node L
   with_view x v = record x { view = v; round = still (oldest r v) x.round }
 
+  -- a view that arrives is merged into node n's own
   abbrev pub comes : World L → ℕ → Option (View L) → Change L
   comes w n None = nothing w
   comes w n (Some v) = only w n (with_view (w.nodes n) (merged r (view_of w n) v))
@@ -68,9 +75,11 @@ module _ {L : Type 0} (r : Reading L) where
   completes w n None = nothing w
   completes w n (Some i) = record (only w n (record (w.nodes n) { view = with_entry r Sync n i (view_of w n); round = None })) { completes = round_of n i ∷ [] }
 
+  -- a request begins at node n, with the newest version that it knows
   abbrev pub begins : World L → ℕ → Change L
   begins w n = record (only w n (record (w.nodes n) { requests = record { number = suc w.asked; start = newest r (view_of w n) } ∷ (w.nodes n).requests })) { asked = suc w.asked }
 
+  -- node n opens a round to version i
   abbrev pub begins_round : World L → ℕ → ℕ → Change L
   begins_round w n i = record (only w n (record (w.nodes n) { round = Some i })) { begins = round_of n i ∷ [] }
 
@@ -103,9 +112,11 @@ module _ {L : Type 0} (r : Reading L) where
     change w (Step.Complete n) = completes w n (w.nodes n).round
     change w (Step.Restart n) = only w n (record (w.nodes n) { requests = []; round = None })
 
+    -- what the world is after one event
     abbrev pub step : World L → Step L → World L
     step w s = next w (change w s)
 
+    -- what the world is after events in order
     abbrev pub run : World L → List (Step L) → World L
     run w [] = w
     run w (s ∷ ss) = run (step w s) ss

@@ -13,6 +13,7 @@ pub record Round : Type 0 where
   pub node : ℕ
   pub version : ℕ
 
+-- a node of the control plane
 pub record Node (L : Type 0) : Type 0 where
   pub view : View L
   pub requests : List Request  -- those in flight of which it is the coordinator
@@ -24,6 +25,7 @@ pub record Applied (L : Type 0) : Type 0 where
   pub by : ℕ
   pub origin : View L
 
+-- the nodes, each view and round that ever was, and each version that was applied
 pub record World (L : Type 0) : Type 0 where
   pub nodes : ℕ → Node L
   pub sent : List (View L)  -- each view that was ever sent
@@ -49,6 +51,7 @@ abbrev pub no_trackers : Trackers
 no_trackers = record { ack = record { entries = []; ascending = refl }; sync = record { entries = []; ascending = refl }; sync_ack = record { entries = []; ascending = refl } }
 
 module _ {L : Type 0} where
+  -- the world with what changed
   abbrev pub next : World L → Change L → World L
   next w c = record {
     nodes = λ n. cond (c.who n) (c.node n) (w.nodes n);
@@ -60,6 +63,7 @@ module _ {L : Type 0} where
     asked = c.asked;
   }
 
+  -- no node changes, and nothing is sent, applied or begun
   abbrev pub nothing : World L → Change L
   nothing w = record { who = λ _. false; node = w.nodes; sends = []; top = w.top; applied = w.applied; begins = []; completes = []; asked = w.asked }
 
@@ -71,6 +75,7 @@ module _ {L : Type 0} where
   abbrev pub unseen : View L
   unseen = record { layouts = []; trackers = no_trackers }
 
+  -- no version is applied and no view sent
   abbrev pub empty : World L
   empty = record {
     nodes = λ _. record { view = unseen; requests = []; round = None };
@@ -82,6 +87,7 @@ module _ {L : Type 0} where
     asked = 0;
   }
 
+  -- what node n knows of the versions
   abbrev pub view_of : World L → ℕ → View L
   view_of w n = (w.nodes n).view
 

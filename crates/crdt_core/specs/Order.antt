@@ -20,6 +20,7 @@ join_of join (x ∷ xs) = Some (fold join x xs)
 abbrev pub SameMembers : {R : Type 0} → List R → List R → Type 0
 SameMembers {R} xs ys = (x : R) → Contains xs x ↔ Contains ys x
 
+-- a partial order
 pub record OrderLaws {R : Type 0} (Below : R → R → Type 0) : Type 0 where
   pub reflexive : (a : R) → Below a a
   pub antisymmetric : (a b : R) → Below a b → Below b a → a ≡ b

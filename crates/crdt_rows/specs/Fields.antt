@@ -10,6 +10,7 @@ use Rattle.crdt_core.specs.Orders.{Identifies, nat_identical, pair_identical, sl
 abbrev pub list_cmp : {X : Type 0} → (X → X → Ordering) → List X → List X → Ordering
 list_cmp R a b = ordering_then (nat_cmp (length a) (length b)) (slice_cmp R a b)
 
+-- the order of bytes, the first that differs decides
 abbrev pub bytes_cmp : List ℕ → List ℕ → Ordering
 bytes_cmp = list_cmp nat_cmp
 

@@ -23,6 +23,7 @@ abbrev pub state_cmp : State → State → Ordering
 state_cmp (Complete a) (Complete b) = body_cmp a b
 state_cmp a b = nat_cmp (stage a) (stage b)
 
+-- the upload is done
 abbrev pub is_complete : State → Bool
 is_complete Uploading = false
 is_complete Aborted = false

@@ -45,6 +45,7 @@ block_ref_identical a b e =
     let both = pair_identical hash_identical nat_identical (a.hash, a.size) (b.hash, b.size) e in
     λ i. record { hash = (both i).0; size = (both i).1 }
 
+-- it is deleted for good
 abbrev pub gone : {V : Type 0} → Deletable V → Bool
 gone (Present v) = false
 gone Deleted = true

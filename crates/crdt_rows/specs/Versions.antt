@@ -33,6 +33,7 @@ greatest_ts (e ∷ es) = max e.0.ts (greatest_ts es)
 
 -- ---- what the greater of two states keeps
 
+-- the further of two states, by how they compare
 abbrev larger_by : Ordering → Max State → Max State → Max State
 larger_by r a b = record { 0 = by_order r b.0 a.0 a.0 }
 

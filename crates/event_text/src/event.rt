@@ -1,6 +1,6 @@
 //! The first word of an event.
 ghost use Rattle.std.specs.Prelude.{◌≡◌};
-ghost use Rattle.text_model.specs.Transcript.{name_of};
+ghost use Rattle.text_model.specs.Grammar.{name_of};
 
 use object_model::Event;
 

@@ -1,7 +1,7 @@
 //! The words that lines are made of.
 ghost use Rattle.std.specs.Prelude.{◌≡◌, ◌++◌, ◌∷◌, decimal, OnOk};
 ghost use Rattle.crdt_core.specs.Outcomes.{OnlyWant};
-ghost use Rattle.text_model.specs.Grammar.{word};
+ghost use Rattle.layout_roles.specs.Text.{word};
 ghost use Rattle.text_model.specs.Transcript.{kind_text, done_text, end_word, version_text, size_text, digest_text};
 
 use crate::digits::append_digits;

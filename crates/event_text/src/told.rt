@@ -2,8 +2,8 @@
 ghost use Rattle.std.specs.Prelude.{◌≡◌, ◌++◌, IfOk, OnOk};
 ghost use Rattle.crdt_core.specs.Outcomes.{OnlyWant};
 ghost use Rattle.cluster_machine.specs.declared.step.Refusal.TheVariants.{TooFewZones};
-ghost use Rattle.text_model.specs.Grammar.{word};
-ghost use Rattle.text_model.specs.Transcript.{number, refusal_text, words_text, answer_text, told_text};
+ghost use Rattle.layout_roles.specs.Text.{word, number};
+ghost use Rattle.text_model.specs.Transcript.{refusal_text, words_text, answer_text, told_text};
 
 use crate::digits::append_digits;
 use crate::line::append_lines;

@@ -9,7 +9,7 @@ use Rattle.object_model.specs.Run.{Turn, start, run}
 use Rattle.object_model.specs.Turns.{AreLawful, AllFit}
 use Rattle.object_model.specs.Fresh.{IsFresh}
 use Rattle.text_model.specs.Grammar.{IsSchedule}
-use Rattle.text_model.specs.Unique.{schedule_has_no_bad_line}
+use Rattle.text_model.proofs.Unique.{schedule_has_no_bad_line}
 use Rattle.text_model.specs.Transcript.{turns_text}
 use Rattle.garage_lab.specs.declared.stop.Stop.{Stop}
 use Rattle.garage_lab.specs.declared.stop.Stop.TheVariants.{Read, Write, Memory, LongInput, BadLine, Number}

@@ -11,7 +11,8 @@ use Rattle.object_model.specs.declared.event.Numbered.{Numbered}
 use Rattle.object_model.specs.declared.event.Told.{Told}
 use Rattle.object_model.specs.Run.{State, Turn, outcome_of, start, run}
 use Rattle.object_model.specs.Turns.{events_of}
-use Rattle.text_model.specs.Transcript.{name_of, told_text, turns_text, end_text, end_line}
+use Rattle.text_model.specs.Grammar.{name_of}
+use Rattle.text_model.specs.Transcript.{told_text, turns_text, end_text, end_line}
 use Rattle.lab_driver.specs.declared.lab.Lab.{Lab}
 use Rattle.lab_driver.specs.Stands.{IsLab, HasLab, PlaysEvent, OverflowsEvent}
 use Rattle.garage_lab.specs.Replay.{ArePlayed, AreFirst}

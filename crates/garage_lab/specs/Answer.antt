@@ -11,9 +11,11 @@ use Rattle.object_model.specs.Run.{Turn, start}
 use Rattle.text_model.specs.Transcript.{turns_text}
 use Rattle.garage_lab.specs.Replay.{AreFirst, IsReplay}
 
+-- the words that ask for a layout
 abbrev pub layout_words : List (List ℕ)
 layout_words = codes "layout" ∷ []
 
+-- the words that ask for a replay
 abbrev pub replay_words : List (List ℕ)
 replay_words = codes "replay" ∷ []
 
@@ -25,12 +27,15 @@ IsKnown words = (words ≡ layout_words) ⊎ (words ≡ replay_words)
 abbrev pub input_limit : ℕ
 input_limit = 8388608
 
+-- the words that the program knows
 abbrev pub usage_line : List ℕ
 usage_line = codes "usage: garage_lab layout | replay [--check] | workload N SEED | serve PORT COUNT" ++ 10 ∷ []
 
+-- the input is longer than the program takes
 abbrev pub input_line : List ℕ
 input_line = codes "limit input 8388608" ++ 10 ∷ []
 
+-- the line that is no event, by its number
 abbrev pub bad_line_text : ℕ → List ℕ
 bad_line_text n = codes "bad line " ++ (decimal n ++ 10 ∷ [])
 

@@ -10,6 +10,7 @@ use Rattle.object_model.specs.Fresh.{IsFresh}
 use Rattle.text_model.specs.Grammar.{IsSchedule}
 use Rattle.text_model.specs.Transcript.{turns_text, transcript}
 
+-- a number of the replay would pass the code's
 abbrev pub number_line : List ℕ
 number_line = codes "limit number" ++ 10 ∷ []
 

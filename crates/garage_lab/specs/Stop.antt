@@ -18,18 +18,22 @@ use Rattle.object_model.specs.Turns.{events_of}
 use Rattle.garage_lab.specs.Replay.{number_line, ArePlayed, AreFirst, StopsAfter}
 use Rattle.garage_lab.specs.Answer.{replay_words, input_line, bad_line_text, IsAnswer, ReplayPrefix}
 
+-- why a read of the input stopped
 abbrev pub stop_of_read : ReadStop → Stop
 stop_of_read Failed = Read
 stop_of_read ReadMemory = Memory
 
+-- why the schedule is no schedule
 abbrev pub stop_of_fault : ScheduleFault → Stop
 stop_of_fault (FaultLine n) = BadLine n
 stop_of_fault FaultMemory = Memory
 
+-- why an event could not be done
 abbrev pub stop_of_memory : Why → Stop
 stop_of_memory Want = Memory
 stop_of_memory Full = Number
 
+-- the status of each reason to stop
 abbrev pub status_of : Stop → Status
 status_of Read = ReadFault
 status_of Write = WriteFault
@@ -38,6 +42,7 @@ status_of LongInput = Limit
 status_of (BadLine n) = Refused
 status_of Number = Limit
 
+-- the line that is written of each reason to stop
 abbrev pub said_of : Stop → List ℕ
 said_of Read = []
 said_of Write = []

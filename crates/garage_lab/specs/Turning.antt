@@ -8,6 +8,7 @@ use Rattle.text_model.specs.Transcript.{event_text}
 use Rattle.lab_driver.specs.declared.lab.Lab.{Lab}
 use Rattle.lab_driver.specs.Stands.{IsLab}
 
+-- an event with what an apply in it is given
 abbrev pub turn : Numbered → Decision → Turn
 turn e choice = record { numbered = e; choice = choice }
 
@@ -19,6 +20,7 @@ pub record TurnsTo (new : Lab) (s : State) (e : Numbered) (text : List ℕ) : Ty
   pub fits : Fits s (turn e choice)
   pub text_is : text ≡ event_text e (outcome_of s (turn e choice))
 
+-- whatever state it stood for, it did this event and wrote this
 abbrev pub TurnsOne : Lab → Lab → Numbered → List ℕ → Type 0
 TurnsOne old new e text = (s : State) → IsLab old s → TurnsTo new s e text
 
@@ -28,5 +30,6 @@ pub record LacksRoom (s : State) (e : Numbered) : Type 0 where
   pub lawful : IsLawful s (turn e choice)
   pub lacks : HasRoom s (turn e choice) → ⊥
 
+-- whatever state it stood for, this event would not fit
 abbrev pub CannotTurn : Lab → Numbered → Type 0
 CannotTurn old e = (s : State) → IsLab old s → LacksRoom s e

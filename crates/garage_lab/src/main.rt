@@ -22,6 +22,10 @@ mod tests;
 mod texts;
 mod transcript;
 
+ghost use Rattle.std.specs.Prelude.{◌≡◌};
+ghost use Rattle.std.specs.Process.{exit_status};
+ghost use Rattle.lab_outside.specs.Exit.{code_of};
+
 use crate::run::run;
 use lab_outside::{MemClock, Status, StdSink, StdSource, SureLink};
 use std::alloc::{AllocError, Global};
@@ -42,15 +46,22 @@ fn words(rt: &(impl Env + Alloc<A = Global>)) -> io::Result<Vec<String>> {
     Ok(words)
 }
 
+/// The exit code that goes with a status: its number.
+fn exit_code(status: Status) -> ExitCode
+    ensures { exit_status result ≡ code_of status }
+{
+    ExitCode::from(status.code())
+}
+
 fn main(rt: HostRuntime) -> ExitCode {
     let alloc = rt.alloc();
     let mut input = StdSource::new(rt.reader());
     let mut output = StdSink::new(io::writer(&rt));
     let Ok(words) = words(&rt) else {
-        return ExitCode::from(Status::Memory.code());
+        return exit_code(Status::Memory);
     };
     let Ok((mut link, mut clock)) = unused(alloc) else {
-        return ExitCode::from(Status::Memory.code());
+        return exit_code(Status::Memory);
     };
     let status = run(
         alloc,
@@ -60,5 +71,5 @@ fn main(rt: HostRuntime) -> ExitCode {
         &mut link,
         &mut clock,
     );
-    ExitCode::from(status.code())
+    exit_code(status)
 }

@@ -47,6 +47,7 @@ fn bad_line(alloc: Global, line: u64) -> Result<Bytes, Memory>
 fn stopped<O: Sink>(alloc: Global, output: &mut O, stop: Stop) -> Status
     ensures says { Says (status_of stop) (said_of stop) result (O.written output.old) (O.written output.new) (O.faults output.old) (O.faults output.new) }
     ensures read { IsAfterReading result → IsSaid stop }
+    ensures unwritten { result ≡ Status.ReadFault → (stop ≡ Stop.Read) × (output.new ≡ output.old) }
     ensures counted { O.faults output.old ≤ O.faults output.new }
 {
     match stop {
@@ -69,6 +70,7 @@ fn replay<I: Source, O: Sink>(alloc: Global, input: &mut I, output: &mut O) -> R
     ensures halts { IfErr result (λ stop. IfSome (I.left input.old) (λ bytes. Halts bytes stop (O.written output.old) (O.written output.new))) }
     ensures read { IfErr result IsSaid → IfSome (I.left input.old) (λ bytes. I.left input.new ≡ Some (drop (input_limit + 1) bytes)) }
     ensures read_fault { result ≡ Err Stop.Read → Rose (I.faults input.old) (I.faults input.new) }
+    ensures unwritten { result ≡ Err Stop.Read → output.new ≡ output.old }
     ensures write_fault { result ≡ Err Stop.Write → Rose (O.faults output.old) (O.faults output.new) }
     ensures counted { O.faults output.old ≤ O.faults output.new }
 {
@@ -84,6 +86,7 @@ fn replayed<I: Source, O: Sink>(alloc: Global, input: &mut I, output: &mut O) ->
     ensures read { IsAfterReading result → IfSome (I.left input.old) (λ bytes. I.left input.new ≡ Some (drop (input_limit + 1) bytes)) }
     ensures no_usage { result ≡ Status.Usage → ⊥ }
     ensures read_fault { result ≡ Status.ReadFault → Rose (I.faults input.old) (I.faults input.new) }
+    ensures unwritten { result ≡ Status.ReadFault → output.new ≡ output.old }
     ensures write_fault { result ≡ Status.WriteFault → Rose (O.faults output.old) (O.faults output.new) }
     ensures link_fault { result ≡ Status.LinkFault → ⊥ }
 {
@@ -101,6 +104,7 @@ fn laid_out<I: Source, O: Sink>(alloc: Global, input: &mut I, output: &mut O) ->
     ensures read { IsAfterReading result → IfSome (I.left input.old) (λ bytes. I.left input.new ≡ Some (drop (input_limit + 1) bytes)) }
     ensures no_usage { result ≡ Status.Usage → ⊥ }
     ensures read_fault { result ≡ Status.ReadFault → Rose (I.faults input.old) (I.faults input.new) }
+    ensures unwritten { result ≡ Status.ReadFault → output.new ≡ output.old }
     ensures write_fault { result ≡ Status.WriteFault → Rose (O.faults output.old) (O.faults output.new) }
     ensures link_fault { result ≡ Status.LinkFault → ⊥ }
 {
@@ -127,6 +131,7 @@ fn answer<I: Source, O: Sink>(
     ensures usage_alone { (IsKnown (map string_bytes words.now) → ⊥) → (result ≡ Status.Usage) ⊎ (result ≡ Status.WriteFault) }
     ensures unread { (IsKnown (map string_bytes words.now) → ⊥) → input.new ≡ input.old }
     ensures read_fault { result ≡ Status.ReadFault → Rose (I.faults input.old) (I.faults input.new) }
+    ensures unwritten { result ≡ Status.ReadFault → output.new ≡ output.old }
     ensures write_fault { result ≡ Status.WriteFault → Rose (O.faults output.old) (O.faults output.new) }
     ensures link_fault { result ≡ Status.LinkFault → ⊥ }
 {
@@ -183,10 +188,14 @@ pub fn run<I: Source, O: Sink, L: Link, C: Clock>(
     ensures usage_alone { (IsKnown (map string_bytes words.now) → ⊥) → (result ≡ Status.Usage) ⊎ (result ≡ Status.WriteFault) }
     ensures unread { (IsKnown (map string_bytes words.now) → ⊥) → input.new ≡ input.old }
 
-    // A fault comes only where the count of its object rose in this call.
+    // A fault comes only where the count of its object rose in this call; after a failed read nothing was written.
+    // Link and clock are as before.
     ensures read_fault { result ≡ Status.ReadFault → Rose (I.faults input.old) (I.faults input.new) }
+    ensures unwritten { result ≡ Status.ReadFault → output.new ≡ output.old }
     ensures write_fault { result ≡ Status.WriteFault → Rose (O.faults output.old) (O.faults output.new) }
     ensures link_fault { result ≡ Status.LinkFault → ⊥ }
+    ensures link { _link.new ≡ _link.old }
+    ensures clock { _clock.new ≡ _clock.old }
 {
     fresh_reads();
     one_status();

@@ -1,4 +1,5 @@
 //! Transcript lines written by hand.
+use cluster_machine::applied::{Line, Refusal};
 use cluster_machine::{DoneWord, EndWord, SentKind, Words};
 use crdt_core::{Bytes, List, Memory};
 use event_text::{end_text, line_text, name, told_text};
@@ -6,7 +7,6 @@ use layout_flow::Cut;
 use object_model::Event;
 use std::alloc::Global;
 use std::test::Fail;
-use cluster_machine::applied::{Line, Refusal};
 
 /// The MD5 of `abc` (RFC 1321).
 const ABC: [u8; 16] = [

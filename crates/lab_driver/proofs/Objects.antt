@@ -9,7 +9,8 @@ use Rattle.crdt_rows.specs.declared.state.State.{State}
 use Rattle.crdt_rows.specs.declared.object_row.ObjectRow.{ObjectRow}
 use Rattle.crdt_rows.specs.declared.any_row.AnyRow.TheVariants as rows
 use Rattle.crdt_rows.specs.ObjectRow.{object_key, same_row}
-use Rattle.object_model.specs.Object.{Name, bucket_hash, state_of, object}
+use Rattle.blake2_hash.specs.Hash.{digest_of}
+use Rattle.object_model.specs.Object.{Name, state_of, object}
 use Rattle.object_model.specs.Run.{object_bytes, is_bucket}
 
 -- the first i bytes were made
@@ -37,7 +38,7 @@ any_bucket (b ∷ bs) name = ap (λ t. pointwise nat_eq b name || t) (any_bucket
 
 -- a row with this key and this one version is the object's
 pub the_row : (r : ObjectRow) (name : Name) (version : Version) (bytes : List ℕ) (hash : Hash32) (key : List ℕ) (state : State) → object_key r ≡ (hash, key) →
-    map_entries r.versions ≡ (version, record { 0 = state }) ∷ [] → hash ≡ bucket_hash name.bucket → key ≡ name.key → state ≡ state_of bytes → rows.Object r ≡ object name version bytes
+    map_entries r.versions ≡ (version, record { 0 = state }) ∷ [] → hash ≡ digest_of name.bucket → key ≡ name.key → state ≡ state_of bytes → rows.Object r ≡ object name version bytes
 the_row r name version bytes hash key state at versions is_hash is_key is_state =
     ap rows.Object (same_row r _ (ap (λ k. k.0) at ∙ is_hash) (ap (λ k. k.1) at ∙ is_key)
     (same_map r.versions (map_single version (record { 0 = state_of bytes })) (rw is_state at versions)))

@@ -14,7 +14,8 @@ use Rattle.cluster_machine.specs.World.{Request, is_member_at}
 use Rattle.cluster_machine.specs.Layouts.{layouts}
 use Rattle.cluster_machine.specs.Worlds.{Model, does, next}
 use Rattle.object_model.specs.declared.event.Told.{Told}
-use Rattle.object_model.specs.Object.{Name, bucket_hash, row_key}
+use Rattle.blake2_hash.specs.Hash.{digest_of}
+use Rattle.object_model.specs.Object.{Name, row_key}
 use Rattle.object_model.specs.Run.{State, plainly, opened}
 use Rattle.world_core.specs.declared.world.World.{World}
 use Rattle.world_core.specs.declared.report.Report.{Report}
@@ -28,7 +29,7 @@ IsMember n s = is_member_at layouts s.world n ≡ true
 
 -- the read phase of a row
 abbrev pub reads : Name → Phase AnyRow
-reads name = Read 1 (bucket_hash name.bucket) (row_key name)
+reads name = Read 1 (digest_of name.bucket) (row_key name)
 
 opened_count : (w : Model AnyRow) (n : ℕ) → is_member_at layouts w n ≡ true → length (next any_join words w (plainly (Open n))).requests ≡ suc (length w.requests)
 opened_count w n m =

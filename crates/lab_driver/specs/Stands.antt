@@ -4,6 +4,7 @@ use Rattle.std.specs.List.{AllByRecursion}
 use Rattle.crdt_rows.specs.declared.any_row.AnyRow.{AnyRow}
 use Rattle.crdt_rows.specs.AnyRow.{any_join}
 use Rattle.object_schema.specs.Schema.{words}
+use Rattle.crdt_core.specs.Outcomes as outcomes
 use Rattle.cluster_machine.specs.declared.step.Step.{Step}
 use Rattle.cluster_machine.specs.declared.step.Step.TheVariants as step
 use Rattle.cluster_machine.specs.Choices.{Decision}
@@ -21,6 +22,7 @@ use Rattle.lab_driver.specs.declared.lab.Lab.{Lab}
 abbrev pub ordered : Order → Ordered
 ordered o = record { node = o.node; word = o.word; name = record { bucket = o.bucket; key = o.key }; bytes = object_bytes o.size o.fill; version = o.version }
 
+-- the code's lab is this state of the model
 pub record IsLab (lab : Lab) (s : State) : Type 0 where
   pub world : StandsFor any_join words lab.world s.world
   pub buckets : lab.buckets ≡ s.buckets
@@ -50,7 +52,7 @@ pub record Does (new : Lab) (told : Told) (s : State) (o : Outcome) : Type 0 whe
 
 -- from old to new the code did what this outcome says, whatever state old stood for, and tells it
 abbrev pub Plays : Lab → Lab → Told → (State → Outcome) → Type 0
-Plays old new told f = (s : State) → IsLab old s → Does new told s (f s)
+Plays old new told f = outcomes.Steps IsLab old (λ s. Does new told s (f s))
 
 -- the same, of the states with a property
 abbrev pub PlaysIf : (State → Type 0) → Lab → Lab → Told → (State → Outcome) → Type 0
@@ -58,7 +60,7 @@ PlaysIf Has old new told f = (s : State) → IsLab old s → Has s → Does new 
 
 -- some number or row after this outcome would not fit
 abbrev pub Overflows : Lab → (State → Outcome) → Type 0
-Overflows old f = (s : State) → IsLab old s → FitsOutcome s (f s) → ⊥
+Overflows old f = outcomes.Overflows IsLab old (λ s. FitsOutcome s (f s))
 
 -- the same, of the states with a property
 abbrev pub OverflowsIf : (State → Type 0) → Lab → (State → Outcome) → Type 0
@@ -70,8 +72,9 @@ pub record DoesStep (new : Lab) (told : Told) (s : State) (st : Step AnyRow) : T
   pub lawful : IsLawfulStep s.world st choice
   pub does : Does new told s (plain s (record { step = st; choice = choice }))
 
+-- whatever state it stood for, it did this step
 abbrev pub PlaysStep : Lab → Lab → Told → Step AnyRow → Type 0
-PlaysStep old new told st = (s : State) → IsLab old s → DoesStep new told s st
+PlaysStep old new told st = outcomes.Steps IsLab old (λ s. DoesStep new told s st)
 
 -- with something lawful given there is no room after the step
 pub record LacksRoom (s : State) (st : Step AnyRow) : Type 0 where
@@ -79,8 +82,9 @@ pub record LacksRoom (s : State) (st : Step AnyRow) : Type 0 where
   pub lawful : IsLawfulStep s.world st choice
   pub lacks : FitsOutcome s (plain s (record { step = st; choice = choice })) → ⊥
 
+-- whatever state it stood for, this step would not fit
 abbrev pub OverflowsStep : Lab → Step AnyRow → Type 0
-OverflowsStep old st = (s : State) → IsLab old s → LacksRoom s st
+OverflowsStep old st = outcomes.Steps IsLab old (λ s. LacksRoom s st)
 
 -- the code did this event, which was given something lawful
 pub record DoesEvent (new : Lab) (told : Told) (s : State) (event : Event) : Type 0 where
@@ -88,8 +92,9 @@ pub record DoesEvent (new : Lab) (told : Told) (s : State) (event : Event) : Typ
   pub lawful : IsLawfulEvent s event choice
   pub does : Does new told s (outcome s event choice)
 
+-- whatever state it stood for, it did this event
 abbrev pub PlaysEvent : Lab → Lab → Told → Event → Type 0
-PlaysEvent old new told event = (s : State) → IsLab old s → DoesEvent new told s event
+PlaysEvent old new told event = outcomes.Steps IsLab old (λ s. DoesEvent new told s event)
 
 -- with something lawful given there is no room after the event
 pub record EventLacksRoom (s : State) (event : Event) : Type 0 where
@@ -97,5 +102,6 @@ pub record EventLacksRoom (s : State) (event : Event) : Type 0 where
   pub lawful : IsLawfulEvent s event choice
   pub lacks : FitsOutcome s (outcome s event choice) → ⊥
 
+-- whatever state it stood for, this event would not fit
 abbrev pub OverflowsEvent : Lab → Event → Type 0
-OverflowsEvent old event = (s : State) → IsLab old s → EventLacksRoom s event
+OverflowsEvent old event = outcomes.Steps IsLab old (λ s. EventLacksRoom s event)

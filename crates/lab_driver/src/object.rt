@@ -1,7 +1,8 @@
 //! The bytes of objects, and their rows.
 ghost use Rattle.std.specs.Prelude.{◌≡◌, ◌++◌, IfOk};
 ghost use Rattle.crdt_core.specs.Outcomes.{OnlyWant};
-ghost use Rattle.object_model.specs.Object.{bucket_hash, row_key, object};
+ghost use Rattle.blake2_hash.specs.Hash.{digest_of};
+ghost use Rattle.object_model.specs.Object.{row_key, object};
 ghost use Rattle.object_model.specs.Run.{object_bytes as bytes_of_object};
 ghost use Rattle.lab_driver.specs.Stands.{ordered};
 
@@ -27,7 +28,7 @@ pub fn object_bytes(alloc: Global, size: u32, fill: u8) -> Result<Bytes, Memory>
 
 /// The digest of a bucket's name.
 pub fn bucket_of(bucket: &Bytes) -> Hash32
-    ensures { result ≡ bucket_hash bucket.now }
+    ensures { result ≡ digest_of bucket.now }
 {
     blake2b_256(bucket.as_slice())
 }

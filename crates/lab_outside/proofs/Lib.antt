@@ -1,3 +1,4 @@
 pub mod Rose
 pub mod Bytes
 pub mod Connections
+pub mod Present

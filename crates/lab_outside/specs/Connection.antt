@@ -1,8 +1,9 @@
 -- A connection of a link, and what the calls do to it.
-use Rattle.std.specs.Prelude.{◌≡◌, ℕ, ◌<◌, ◌≤◌, List, [], ◌∷◌, length, take, Option, Some, None, ⊤, Result, IfOk, OnErr, IfSome, IsSomeAnd}
+use Rattle.std.specs.Prelude.{◌≡◌, ℕ, ◌<◌, ◌≤◌, List, [], ◌∷◌, length, take, Option, Some, None, ⊤, Result, IfOk, OnOk, OnErr, IfSome, IsSomeAnd, slice_get}
+use Rattle.std.specs.Option.{option_and_then}
 use Rattle.std.specs.Io.KnownBytes.{Consumes, IsAtEnd}
 use Rattle.lab_outside.specs.Rose.{Rose}
-use Rattle.lab_outside.specs.Bytes.{Wrote}
+use Rattle.lab_outside.specs.Bytes.{Wrote, WrotePrefix}
 
 -- the bytes that its reads have still to give and those that were written, where they are told, and the count of faults of both
 pub record Connection : Type 0 where
@@ -46,3 +47,21 @@ pub record WritesTo {E : Type 0} (result : Result ℕ E) (piece : List ℕ) (c d
   pub counted : c.faults ≤ d.faults
   pub fault : OnErr result (Rose c.faults d.faults)
   pub unread : d.left ≡ c.left
+
+-- the connections to come, those that are past, and the link's own count of faults stay
+pub record Stays (coming_old coming_new : Option (List (List ℕ))) (past_old past_new : List Connection) (faults_old faults_new : ℕ) : Type 0 where
+  pub coming : coming_new ≡ coming_old
+  pub past : past_new ≡ past_old
+  pub faults : faults_new ≡ faults_old
+
+-- all the bytes were written, or a first part of them where the connection's count of faults rose
+pub record WritesWhole {E : Type 0} (result : Result Unit E) (bytes : List ℕ) (c d : Connection) : Type 0 where
+  pub ok : OnOk result (Wrote c.written d.written bytes)
+  pub err : OnErr result (WrotePrefix c.written d.written bytes)
+  pub counted : c.faults ≤ d.faults
+  pub fault : OnErr result (Rose c.faults d.faults)
+  pub unread : d.left ≡ c.left
+
+-- what was written to the i-th of the connections, from 0, where it is told
+abbrev pub written_at : List Connection → ℕ → Option (List ℕ)
+written_at connections i = option_and_then (λ (c : Connection). c.written) (slice_get connections i)

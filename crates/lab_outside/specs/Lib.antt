@@ -9,3 +9,5 @@ pub mod Sure
 pub mod SureConnection
 pub mod SureLink
 pub mod Standard
+pub mod PieceLink
+pub mod Stages

@@ -7,6 +7,7 @@ use Rattle.lab_outside.specs.declared.sure.SureSink.{SureSink}
 abbrev pub bytes_left : SureSource → List ℕ
 bytes_left source = drop source.place source.bytes.items
 
+-- the bytes, unless the flag says there are none
 abbrev pub unless : Bool → List ℕ → Option (List ℕ)
 unless true bytes = None
 unless false bytes = Some bytes

@@ -4,9 +4,11 @@ use Rattle.lab_outside.specs.declared.sure_connection.SureConnection.{SureConnec
 use Rattle.lab_outside.specs.Connection.{Connection}
 use Rattle.lab_outside.specs.Sure.{bytes_left, bytes_written}
 
+-- the connection that it stands for, which never fails
 abbrev pub connection_of : SureConnection → Connection
 connection_of c = record { left = Some (bytes_left c.input); written = bytes_written c.output; faults = 0 }
 
+-- the bytes that it has left to read
 abbrev pub connection_left : SureConnection → List ℕ
 connection_left c = bytes_left c.input
 

@@ -8,8 +8,10 @@ use Rattle.lab_outside.specs.SureConnection.{connection_of, connection_left}
 abbrev pub coming_of : SureLink → List (List ℕ)
 coming_of link = map connection_left link.coming.items
 
+-- the connection of now, if there is one
 abbrev pub present_of : SureLink → Option Connection
 present_of link = option_map connection_of link.present
 
+-- the connections that there were
 abbrev pub past_of : SureLink → List Connection
 past_of link = map connection_of link.past.items

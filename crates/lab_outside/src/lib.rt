@@ -9,18 +9,20 @@
 mod calls;
 mod exit;
 mod memory;
+mod piece_link;
 mod ports;
+mod send;
 mod standard;
 mod sure;
 mod sure_connection;
 mod sure_link;
-#[cfg(test)]
-mod tests;
 mod whole;
 
 pub use crate::exit::Status;
 pub use crate::memory::{MemClock, MemSink, MemSource};
+pub use crate::piece_link::PieceLink;
 pub use crate::ports::{Clock, Failed, Link, Sink, Source};
+pub use crate::send::send_whole;
 pub use crate::standard::{StdSink, StdSource};
 pub use crate::sure::{SureSink, SureSource};
 pub use crate::sure_link::SureLink;

@@ -1,5 +1,5 @@
 // A connection in memory that never fails.
-ghost use Rattle.std.specs.Prelude.{◌≡◌, [], Some, IfOk};
+ghost use Rattle.std.specs.Prelude.{◌≡◌, [], Some, IfOk, option_map};
 
 use crate::ports::{Failed, Sink, Source};
 use crate::sure::{SureSink, SureSource};
@@ -37,5 +37,12 @@ impl SureConnection {
         ensures { WritesTo result from.now (connection_of self.old) (connection_of self.new) }
     {
         self.output.write(from)
+    }
+
+    /// What was written, where it is told.
+    pub fn written(&self) -> Option<&[u8]>
+        ensures { (connection_of self.now).written ≡ option_map (λ bytes. bytes.now) result }
+    {
+        self.output.bytes()
     }
 }

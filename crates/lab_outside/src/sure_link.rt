@@ -1,7 +1,8 @@
 // A link in memory that never fails.
-ghost use Rattle.std.specs.Prelude.{◌≡◌, ◌+◌, ◌≤◌, ◌++◌, [], Some, None, map, Ok, IfOk, IsOk, vec_items, vec_len, vec_capacity, if◌then◌else◌, is_some, option_to_list};
+ghost use Rattle.std.specs.Prelude.{◌≡◌, ◌+◌, ◌<◌, ◌≤◌, ◌++◌, [], Some, None, map, length, Ok, IfOk, IsOk, vec_items, vec_len, vec_capacity, if◌then◌else◌, is_some, option_map, option_to_list};
 ghost use Rattle.std.specs.VecDeque.{deque_len};
 ghost use Rattle.std.proofs.Props.{props};
+ghost use Rattle.lab_outside.specs.Connection.{written_at};
 ghost use Rattle.lab_outside.specs.SureConnection.{AreFresh};
 
 use crate::ports::{Failed, Link};
@@ -37,6 +38,20 @@ impl SureLink {
             present: None,
             past,
         })
+    }
+
+    /// What was written to a connection, counted from 0 in the order in which they came, where it is told.
+    pub fn written(&self, i: usize) -> Option<&[u8]>
+        requires came { i < length (⟦<SureLink as Link>⟧.past self.now ++ option_to_list (⟦<SureLink as Link>⟧.present self.now)) }
+        ensures told { option_map (λ bytes. bytes.now) result ≡ written_at (⟦<SureLink as Link>⟧.past self.now ++ option_to_list (⟦<SureLink as Link>⟧.present self.now)) i }
+    {
+        if i < self.past.len() {
+            return self.past[i].written();
+        }
+        match &self.present {
+            Some(connection) => connection.written(),
+            None => unreachable!(),
+        }
     }
 
     /// Ends the connection that is present, if one is.

@@ -26,18 +26,23 @@ field_word field.Id = codes "id"
 field_word field.Zone = codes "zone"
 field_word field.Capacity = codes "capacity"
 
+-- the input is no TOML
 unfoldable pub toml_line : List ℕ
 toml_line = line (codes "bad toml")
 
+-- a field is outside its range
 unfoldable pub field_line : FieldName → List ℕ
 field_line name = line (codes "bad field " ++ field_word name)
 
+-- the roles have too few storage nodes
 unfoldable pub nodes_line : ℕ → List ℕ
 nodes_line nodes = line (codes "too few nodes" ++ number nodes)
 
+-- the roles have too few zones for the redundancy
 unfoldable pub zones_line : ℕ → ℕ → List ℕ
 zones_line zones r = line (codes "too few zones" ++ number zones ++ number r)
 
+-- no assignment fits
 unfoldable pub none_line : List ℕ
 none_line = line (codes "no assignment")
 

@@ -5,6 +5,7 @@ use Rattle.layout_roles.specs.declared.assignment.Assignment.{Assignment}
 use Rattle.layout_flow.specs.declared.answer.FlowOrCut.{FlowOrCut}
 use Rattle.layout_roles.specs.declared.cut.Cut.{Cut as TheCut}
 
+-- what holds of the answer, be it an assignment or a cut
 abbrev pub MatchAnswer : FlowOrCut → (Assignment → Type 0) → (TheCut → Type 0) → Type 0
 MatchAnswer (FlowOrCut.Flow assignment) P Q = P assignment
 MatchAnswer (FlowOrCut.Cut cut) P Q = Q cut

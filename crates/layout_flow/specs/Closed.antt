@@ -29,6 +29,7 @@ zone_is_held count size each zone = nat_lt (copies_in count size zone) (each * c
 abbrev pub node_is_held : ℕ → ℕ → ℕ → ℕ → List Role → Bool
 node_is_held count size each node zone = zone_is_held count size each zone && list_any (λ role. (role.node == node) && nat_lt (room size role) count) zone
 
+-- which vertices stand on the source's side of the cut
 abbrev pub held : ℕ → List Role → ℕ → ℕ → ℕ → Bool → Side
 held count roles r size each down Source = true
 held count roles r size each down (Up p) = nat_lt p count
@@ -54,10 +55,12 @@ zone_copies count size each zone = take (each * count) (flat_map (copies_of coun
 abbrev pub all_copies : ℕ → List Role → ℕ → ℕ → List ℕ
 all_copies count roles size each = take (3 * count) (flat_map (zone_copies count size each) (zones roles))
 
+-- a node put into a list in order of numbers
 abbrev pub put_node : ℕ → List ℕ → List ℕ
 put_node node [] = node ∷ []
 put_node node (first ∷ rest) = cond (nat_lt node first) (node ∷ first ∷ rest) (first ∷ put_node node rest)
 
+-- three nodes in order of numbers
 abbrev pub in_order : ℕ → ℕ → ℕ → List ℕ
 in_order first second third = put_node third (put_node second (first ∷ []))
 
@@ -65,6 +68,7 @@ in_order first second third = put_node third (put_node second (first ∷ []))
 abbrev pub column : ℕ → List ℕ → ℕ → List ℕ
 column count copies p = in_order (get_or copies p 0) (get_or copies (count + p) 0) (get_or copies (2 * count + p) 0)
 
+-- the sets of all partitions, where each node stands in as many as it has copies
 unfoldable pub columns : ℕ → List ℕ → List (List ℕ)
 columns count copies = map (column count copies) (range_with_len 0 count)
 

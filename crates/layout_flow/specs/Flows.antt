@@ -5,6 +5,7 @@ use Rattle.layout_roles.specs.Network.{Edge}
 use Rattle.layout_roles.specs.declared.vertex.Vertex.{Vertex}
 use Rattle.layout_roles.specs.declared.vertex.Vertex.TheVariants.{Source, Up, Down, Zone, Node, Sink}
 
+-- two vertices are one
 abbrev pub same_vertex : Vertex → Vertex → Bool
 same_vertex Source Source = true
 same_vertex (Up p) (Up q) = p == q
@@ -18,6 +19,7 @@ same_vertex _ _ = false
 abbrev pub Flow : Type 0
 Flow = Vertex → Vertex → ℕ
 
+-- how much of a flow an edge carries
 abbrev pub carried : Flow → Edge → ℕ
 carried flow edge = flow edge.from edge.to
 

@@ -29,8 +29,8 @@ pub struct Network {
 
 impl Network {
     ghost use Rattle.layout_roles.specs.Fits.{Fits, SomeFits, NoneFits};
-    ghost use Rattle.layout_flow.specs.Answers.{IfFlow, IfCut};
     ghost use Rattle.layout_roles.specs.Certificates.{IsPrintedCut};
+    ghost use Rattle.layout_flow.specs.Answers.{IfFlow, IfCut};
     ghost use Rattle.layout_flow.specs.Closed.{copies_for, down_is_held};
 
     pub fn new(alloc: Global, roles: &Roles, r: u8, size: u64) -> Result<Network, Memory>

@@ -6,7 +6,7 @@ use Rattle.std.proofs.lemmas.List.Sums.{sum_by-cons}
 use Rattle.crdt_core.specs.EntryLaws.{and_parts, and_both}
 use Rattle.layout_roles.specs.declared.layout.Layout.{Layout}
 use Rattle.view_model.specs.View.{follow, is_gapless, last_version, from}
-use Rattle.view_model.specs.Gapless.{lt_leb, followed, led}
+use Rattle.view_model.proofs.Gapless.{lt_leb, followed, led}
 use Rattle.view_model.specs.Layouts.{reading}
 use Rattle.layout_history.specs.Known.{has_members, ascends}
 

@@ -5,6 +5,7 @@ use Rattle.layout_roles.specs.declared.layout.Layout.{Layout}
 use Rattle.layout_roles.specs.declared.role.Role.{Role}
 use Rattle.layout_roles.specs.declared.role.Kind.{Kind}
 
+-- there is a role at all
 abbrev pub is_any : List Role → Bool
 is_any [] = false
 is_any (role ∷ roles) = true
@@ -13,6 +14,7 @@ is_any (role ∷ roles) = true
 abbrev pub has_members : Layout → Bool
 has_members l = is_any l.roles.list
 
+-- the kind of the role that a node has in a layout, if it has one
 abbrev pub kind_among : List Role → ℕ → Option Kind
 kind_among roles node = option_map (λ role. role.kind) (find (λ role. role.node == node) roles)
 

@@ -14,6 +14,7 @@ pub record IsCut (side : Side) : Type 0 where
   pub source : IsTrue (side Source)
   pub sink : side Sink ≡ false
 
+-- an edge leads from the cut's side to the other one
 abbrev pub leaves : Side → Edge → Bool
 leaves side edge = side edge.from && not (side edge.to)
 

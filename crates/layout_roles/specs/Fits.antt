@@ -12,9 +12,11 @@ partitions = 256
 abbrev pub NodeSet : Type 0
 NodeSet = List ℕ
 
+-- a node is in a set
 abbrev pub has_node : ℕ → NodeSet → Bool
 has_node node set = list_any (nat_eq node) set
 
+-- a node has a role with capacity
 abbrev pub is_storage_node : List Role → ℕ → Bool
 is_storage_node roles node = list_any (λ role. role.node == node) (storage_nodes roles)
 
@@ -43,6 +45,7 @@ pub record FitsAll (count : ℕ) (roles : List Role) (r size : ℕ) (sets : List
   pub spread : All (λ set. r ≤ length (zones_of roles set)) sets
   pub within : All (λ role. load sets role.node ≤ room size role) (storage_nodes roles)
 
+-- these sets, one for each of the 256 partitions, fit the roles, the redundancy and the partition size
 abbrev pub Fits : List Role → ℕ → ℕ → List NodeSet → Type 0
 Fits = FitsAll partitions
 

@@ -7,11 +7,13 @@ use Rattle.layout_roles.specs.Fits.{room, partitions}
 use Rattle.layout_roles.specs.declared.vertex.Vertex.{Vertex}
 use Rattle.layout_roles.specs.declared.vertex.Vertex.TheVariants.{Source, Up, Down, Zone, Node, Sink}
 
+-- an edge of the network, and how much it carries at most
 pub record Edge : Type 0 where
   pub from : Vertex
   pub to : Vertex
   pub capacity : ℕ
 
+-- the edge between two vertices
 abbrev pub edge : Vertex → Vertex → ℕ → Edge
 edge from to capacity = record { from = from; to = to; capacity = capacity }
 
@@ -21,11 +23,13 @@ zone_edges r p zone =
     edge (Up p) (Zone p zone.0) 1 ∷ edge (Down p) (Zone p zone.0) (3 - r) ∷
     map (λ role. edge (Zone p zone.0) (Node role.node) 1) zone.1
 
+-- the edges of partition p: into its two halves, from them to its zones, and on to nodes
 abbrev pub partition_edges : List Role → ℕ → ℕ → List Edge
 partition_edges roles r p =
     edge Source (Up p) r ∷ edge Source (Down p) (3 - r) ∷
     flat_map (zone_edges r p) (enumerate_from 0 (zones roles))
 
+-- the edge on which a node's copies end: as many as it has room for
 abbrev pub node_edge : ℕ → Role → Edge
 node_edge size role = edge (Node role.node) Sink (room size role)
 
@@ -34,9 +38,11 @@ unfoldable pub network_of : ℕ → List Role → ℕ → ℕ → List Edge
 network_of count roles r size =
     flat_map (partition_edges roles r) (range_with_len 0 count) ++ map (node_edge size) (storage_nodes roles)
 
+-- the network of all 256 partitions
 abbrev pub network : List Role → ℕ → ℕ → List Edge
 network = network_of partitions
 
+-- the vertices of partition p
 abbrev pub partition_vertices : List Role → ℕ → List Vertex
 partition_vertices roles p = Up p ∷ Down p ∷ map (λ zone. Zone p zone.0) (enumerate_from 0 (zones roles))
 
@@ -46,5 +52,6 @@ vertices_of count roles =
     (Source ∷ flat_map (partition_vertices roles) (range_with_len 0 count)) ++
     (map (λ role. Node role.node) (storage_nodes roles) ++ Sink ∷ [])
 
+-- all vertices of the network
 abbrev pub vertices : List Role → List Vertex
 vertices = vertices_of partitions

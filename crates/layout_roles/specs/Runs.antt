@@ -7,6 +7,7 @@ pub record Run (A : Type 0) : Type 0 where
   pub count : ℕ
 
 module _ {A : Type 0} where
+  -- a run of one value
   abbrev pub once : A → Run A
   once x = record { value = x; count = 1 }
 
@@ -15,6 +16,7 @@ module _ {A : Type 0} where
   joined same x [] = once x ∷ []
   joined same x (run ∷ runs) = if same x run.value then record { value = x; count = suc run.count } ∷ runs else once x ∷ run ∷ runs
 
+  -- the runs of a list, in its order
   abbrev pub runs : (A → A → Bool) → List A → List (Run A)
   runs same [] = []
   runs same (x ∷ xs) = joined same x (runs same xs)

@@ -19,6 +19,7 @@ word w = 32 ∷ w
 abbrev pub number : ℕ → List ℕ
 number n = word (decimal n)
 
+-- words with a line feed
 abbrev pub line : List ℕ → List ℕ
 line words = words ++ 10 ∷ []
 
@@ -30,12 +31,14 @@ set_line first last set = line (codes "p" ++ number first ++ number last ++ flat
 unfoldable pub set_lines : List NodeSet → List ℕ
 set_lines sets = run_lines set_line 0 (runs (pointwise nat_eq) sets)
 
+-- the vertex belongs to partition p
 abbrev pub is_in_partition : ℕ → Vertex → Bool
 is_in_partition p (Up q) = q == p
 is_in_partition p (Down q) = q == p
 is_in_partition p (Zone q i) = q == p
 is_in_partition p _ = false
 
+-- how a cut's line names zone i
 abbrev pub zone_word : List Name → ℕ → List ℕ
 zone_word names i = codes "z:" ++ get_or names i []
 
@@ -59,6 +62,7 @@ side_line first last (b ∷ words) = line (codes "c" ++ number first ++ number l
 unfoldable pub side_lines : List Name → List Vertex → List ℕ
 side_lines names side = run_lines side_line 0 (runs (pointwise nat_eq) (map (side_words names side) (range_with_len 0 256)))
 
+-- how a cut's line names a node
 abbrev pub node_word : Vertex → List ℕ
 node_word (Node n) = number n
 node_word _ = []
@@ -71,6 +75,7 @@ cut_line size weight = line (codes "cut" ++ number size ++ number weight)
 unfoldable pub nodes_line : List Vertex → List ℕ
 nodes_line side = line (codes "cn" ++ flat_map node_word side)
 
+-- the lines that print a cut
 abbrev pub cut_text : List Name → Cut → List ℕ
 cut_text names cut = cut_line cut.size cut.weight ++ side_lines names cut.side ++ nodes_line cut.side
 

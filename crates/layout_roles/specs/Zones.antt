@@ -11,6 +11,7 @@ use Rattle.layout_roles.specs.declared.role.Kind.TheVariants.{Storage, Gateway}
 abbrev pub Name : Type 0
 Name = List ℕ
 
+-- the name of a role's zone
 abbrev pub name_of : Role → Name
 name_of role = role.zone.0
 
@@ -32,10 +33,12 @@ abbrev pub set_ascends : List ℕ → Bool
 set_ascends [] = true
 set_ascends (n ∷ ns) = list_all (nat_lt n) ns && set_ascends ns
 
+-- this kind of role stores, a gateway doesn't
 abbrev pub keeps_copies : Kind → Bool
 keeps_copies (Storage capacity) = true
 keeps_copies Gateway = false
 
+-- a role's capacity in bytes, none for a gateway
 abbrev pub bytes_of : Kind → ℕ
 bytes_of (Storage capacity) = capacity
 bytes_of Gateway = 0
@@ -48,6 +51,7 @@ is_storage role = keeps_copies role.kind
 abbrev pub capacity_of : Role → ℕ
 capacity_of role = bytes_of role.kind
 
+-- the roles that store
 abbrev pub storage_nodes : List Role → List Role
 storage_nodes roles = filter is_storage roles
 
@@ -56,6 +60,7 @@ abbrev pub put_in_order : List Name → Name → List Name
 put_in_order [] name = name ∷ []
 put_in_order (first ∷ names) name = cond (is_lt (slice_cmp nat_cmp name first)) (name ∷ first ∷ names) (first ∷ put_in_order names name)
 
+-- two zones have one name
 abbrev pub same_name : Name → Name → Bool
 same_name = pointwise nat_eq
 
@@ -67,6 +72,7 @@ with_name names name = cond (list_any (same_name name) names) names (put_in_orde
 abbrev pub zone_names : List Role → List Name
 zone_names roles = fold with_name [] (map name_of (storage_nodes roles))
 
+-- a role's zone has this name
 abbrev pub is_in_zone : Name → Role → Bool
 is_in_zone name role = same_name (name_of role) name
 

@@ -1,10 +1,11 @@
 //! Worked layouts, each worked out by hand.
+use crdt_core::Memory;
 use lab_outside::Status;
 use layout_command::{answer, one_status};
 use std::alloc::Global;
 use std::test::Fail;
 
-fn answered(alloc: Global, input: &[u8]) -> Result<(Status, Vec<u8>), Fail> {
+fn answered(alloc: Global, input: &[u8]) -> Result<(Status, Vec<u8>), Memory> {
     let reply = answer(alloc, input)?;
     Ok((reply.status, reply.text.into_vec()))
 }

@@ -2,6 +2,7 @@
 ghost use Rattle.std.specs.Prelude.{IfOk};
 ghost use Rattle.layout_roles.specs.Certificates.{IsRedundancy};
 
+use crdt_core::{Bytes, Memory};
 use layout_roles::{Kind, Redundancy};
 use layout_size::{Certified, compute};
 use layout_text::{
@@ -17,43 +18,76 @@ const SERVE: u8 = 16;
 const THREE: &str =
     "redundancy = 2\nblock_size = 7\n[[node]]\nid = 9\nzone = 'c'\ncapacity = 1000\n[[node]]\nid = 1\nzone = 'a'\ncapacity = 1000\ngateway = false\n[[node]]\nid = 2\nzone = 'b'\ncapacity = 1000\nlabel = 'ignored'\n";
 
-fn config(alloc: Global, text: &str, greatest: u8) -> Result<Config, Fail>
+fn config(alloc: Global, text: &str, greatest: u8) -> Result<Config, Memory>
     ensures { IfOk result (λ config. IsRedundancy config.redundancy) }
 {
     match read_config(alloc, text, greatest) {
         Ok(config) => Ok(config),
-        Err(_) => Err(Fail::new("refused")),
+        Err(_) => Err(Memory::Full),
     }
 }
 
-fn computed(alloc: Global, config: &Config) -> Result<Certified, Fail>
+fn computed(alloc: Global, config: &Config) -> Result<Certified, Memory>
     requires { IsRedundancy config.now.redundancy }
 {
     match compute(alloc, &config.roles, config.redundancy) {
         Ok(certified) => Ok(certified),
-        Err(_) => Err(Fail::new("no layout")),
+        Err(_) => Err(Memory::Full),
+    }
+}
+
+#[derive(Clone, Copy)]
+enum Part {
+    Sets,
+    Cut,
+    Whole,
+}
+
+// A part of the layout of the three nodes.
+fn lines(alloc: Global, part: Part) -> Result<Bytes, Memory> {
+    let config = config(alloc, THREE, LAYOUT)?;
+    let certified = computed(alloc, &config)?;
+    match part {
+        Part::Sets => set_lines(alloc, &certified.sets),
+        Part::Cut => cut_lines(alloc, &certified.cut, &config.roles),
+        Part::Whole => layout_lines(alloc, &certified, &config.roles),
     }
 }
 
 #[test]
 fn three_nodes_in_order(rt: HostRuntime) -> Result<(), Fail> {
-    let alloc = rt.alloc();
-    let config = config(alloc, THREE, LAYOUT)?;
-    let certified = computed(alloc, &config)?;
-    let sets = set_lines(alloc, &certified.sets)?;
-    assert_eq!(rt; sets.as_slice(), b"p 0 255 1 2 9\n".as_slice());
-    let cut = cut_lines(alloc, &certified.cut, &config.roles)?;
-    let wanted = b"cut 4 750\nc 0 255 up down z:a z:b z:c\ncn 1 2 9\n".as_slice();
-    assert_eq!(rt; cut.as_slice(), wanted);
-    let all = layout_lines(alloc, &certified, &config.roles)?;
-    let head = b"size 3\nredundancy 2\np 0 255 1 2 9\ncut 4 750\n";
-    assert!(rt; all.as_slice().starts_with(head));
+    let rows: [(Part, &[u8]); 3] = [
+        (Part::Sets, b"p 0 255 1 2 9\n"),
+        (
+            Part::Cut,
+            b"cut 4 750\nc 0 255 up down z:a z:b z:c\ncn 1 2 9\n",
+        ),
+        (
+            Part::Whole,
+            b"size 3\nredundancy 2\np 0 255 1 2 9\ncut 4 750\nc 0 255 up down z:a z:b z:c\ncn 1 2 9\n",
+        ),
+    ];
+    for (part, text) in rows {
+        assert_eq!(rt; lines(rt.alloc(), part)?.as_slice(), text);
+    }
     longest_runs();
     Ok(())
 }
 
 const SERVED: &str =
     "buckets = ['pics', 'a.b-9']\nblock_size = 16\n[[node]]\nid = 16\nzone = 'z9'\ngateway = true\n";
+
+// Whether a configuration has the buckets `pics` and `a.b-9`, and one node in the zone `z9`.
+fn has_names(config: &Config) -> bool {
+    match (config.buckets.as_slice(), config.roles.list.as_slice()) {
+        ([pics, dotted], [role]) => {
+            pics.as_slice() == b"pics".as_slice()
+                && dotted.as_slice() == b"a.b-9".as_slice()
+                && role.zone.0.as_slice() == b"z9".as_slice()
+        }
+        _ => false,
+    }
+}
 
 #[test]
 fn configuration_of_serve(rt: HostRuntime) -> Result<(), Fail> {
@@ -62,18 +96,10 @@ fn configuration_of_serve(rt: HostRuntime) -> Result<(), Fail> {
         (config.redundancy, config.block_size),
         (Redundancy::Maximum, 16)
     );
-    let [pics, dotted] = config.buckets.as_slice() else {
-        return Err(Fail::new("two buckets"));
-    };
-    assert_eq!(rt;
-        (pics.as_slice(), dotted.as_slice()),
-        (b"pics".as_slice(), b"a.b-9".as_slice())
-    );
-    let [role] = config.roles.list.as_slice() else {
-        return Err(Fail::new("one role"));
-    };
-    assert_eq!(rt; role.zone.0.as_slice(), b"z9".as_slice());
-    assert_eq!(rt; (role.node, role.kind), (16, Kind::Gateway));
+    let roles = config.roles.list.as_slice();
+    let node = roles.first().map(|role| (role.node, role.kind));
+    assert_eq!(rt; node, Some((16, Kind::Gateway)));
+    assert!(rt; has_names(&config));
     Ok(())
 }
 

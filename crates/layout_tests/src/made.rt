@@ -1,8 +1,7 @@
 //! Roles that the tests share.
-use crdt_core::{Bytes, List};
+use crdt_core::{Bytes, List, Memory};
 use layout_roles::{Kind, Role, Roles, Zone};
 use std::alloc::Global;
-use std::test::Fail;
 
 /// A node, its zone, and its capacity, 0 for a gateway.
 pub type Row = (u8, &'static [u8], u64);
@@ -30,7 +29,7 @@ pub const BELOW_256: [Row; 3] = [(1, b"a", 255), (2, b"b", 255), (3, b"c", 255)]
 pub const AT_256: [Row; 3] = [(1, b"a", 256), (2, b"b", 256), (3, b"c", 256)];
 
 /// The roles of these nodes, which ascend.
-pub fn roles_of(alloc: Global, rows: &[Row]) -> Result<Roles, Fail> {
+pub fn roles_of(alloc: Global, rows: &[Row]) -> Result<Roles, Memory> {
     let mut list = List::new(alloc);
     for (node, zone, capacity) in rows {
         let kind = match *capacity {
@@ -44,5 +43,5 @@ pub fn roles_of(alloc: Global, rows: &[Row]) -> Result<Roles, Fail> {
             kind,
         })?;
     }
-    Ok(Roles::from_list(list).ok_or("not in order")?)
+    Roles::from_list(list).ok_or(Memory::Full)
 }

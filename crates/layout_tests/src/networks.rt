@@ -1,14 +1,15 @@
 //! Small layouts, by their flow or cut; each number was worked out by hand.
 use crate::made::{AT_256, BELOW_256, EQUAL, Row, TWO_ZONES, UNEQUAL, roles_of};
+use crdt_core::Memory;
 use layout_flow::{FlowOrCut, Network, flows, light_cuts};
 use layout_roles::{Layout, smaller_sizes};
 use std::alloc::Global;
 use std::test::Fail;
 
 // What a network answers: its weight, 768 for a flow, and how many vertices its cut holds, 0 for a flow.
-fn answered(alloc: Global, rows: &[Row], r: u8, size: u64) -> Result<(u32, usize), Fail> {
+fn answered(alloc: Global, rows: &[Row], r: u8, size: u64) -> Result<(u32, usize), Memory> {
     if r < 1 || 3 < r || size < 1 {
-        return Err("no such network".into());
+        return Err(Memory::Full);
     }
     let mut network = Network::new(alloc, &roles_of(alloc, rows)?, r, 1)?;
     network.resize(size);
@@ -52,24 +53,29 @@ fn flows_and_cuts(rt: HostRuntime) -> Result<(), Fail> {
     Ok(())
 }
 
-fn layout(alloc: Global, rows: &[Row]) -> Result<Layout, Fail> {
-    let roles = roles_of(alloc, rows)?;
+// A copy of a layout of three nodes: its version, its number of roles, and the set of its last partition.
+fn copied(alloc: Global) -> Result<(u32, usize, [u8; 3]), Memory> {
+    let roles = roles_of(alloc, &EQUAL)?;
     let FlowOrCut::Flow(sets) = Network::new(alloc, &roles, 2, 3)?.max_flow()? else {
-        return Err("no flow".into());
+        return Err(Memory::Full);
     };
-    Ok(Layout {
+    let layout = Layout {
         version: 7,
         roles,
         r: 2,
         size: 3,
         sets,
-    })
+    };
+    let copy = layout.copy()?;
+    Ok((
+        copy.version,
+        copy.roles.list.len(),
+        copy.sets.copy()?.set(255),
+    ))
 }
 
 #[test]
 fn a_layout_is_copied(rt: HostRuntime) -> Result<(), Fail> {
-    let copy = layout(rt.alloc(), &EQUAL)?.copy()?;
-    assert_eq!(rt; (copy.version, copy.roles.list.len()), (7, 3));
-    assert_eq!(rt; copy.sets.copy()?.set(255), [1, 2, 3]);
+    assert_eq!(rt; copied(rt.alloc())?, (7, 3, [1, 2, 3]));
     Ok(())
 }

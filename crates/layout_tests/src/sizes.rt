@@ -2,6 +2,7 @@
 ghost use Rattle.layout_roles.specs.Certificates.{IsRedundancy};
 
 use crate::made::{AT_256, BELOW_256, EQUAL, GATEWAY, Row, TWO_ZONES, UNEQUAL, roles_of};
+use crdt_core::Memory;
 use layout_roles::Redundancy;
 use layout_size::{LayoutFault, compute};
 use std::alloc::Global;
@@ -30,13 +31,13 @@ fn wanted(r: u8) -> Redundancy
     }
 }
 
-fn computed(alloc: Global, rows: &[Row], r: u8) -> Result<Outcome, Fail> {
+fn computed(alloc: Global, rows: &[Row], r: u8) -> Result<Outcome, Memory> {
     match compute(alloc, &roles_of(alloc, rows)?, wanted(r)) {
         Ok(certified) => Ok(Outcome::Layout(certified.r, certified.size, certified.cut.weight)),
         Err(LayoutFault::TooFewNodes(nodes)) => Ok(Outcome::TooFewNodes(nodes)),
         Err(LayoutFault::TooFewZones(zones, r)) => Ok(Outcome::TooFewZones(zones, r)),
         Err(LayoutFault::NoAssignment(cut)) => Ok(Outcome::NoAssignment(cut.weight)),
-        Err(LayoutFault::Memory) => Err("no memory".into()),
+        Err(LayoutFault::Memory) => Err(Memory::Want),
     }
 }
 

@@ -27,11 +27,16 @@ const BOTH: [(Which, u8, u32); 4] = [
     (Which::SyncAck, 7, 3),
 ];
 
+// Whether the two merge to the third.
+fn merge_to_both(alloc: Global) -> Result<bool, Memory> {
+    let mut merged = raised(alloc, &ONE)?.copy()?;
+    merged.merge(&raised(alloc, &OTHER)?)?;
+    Ok(merged == raised(alloc, &BOTH)?)
+}
+
 #[test]
 fn trackers_merge_node_by_node(rt: HostRuntime) -> Result<(), Fail> {
-    let mut merged = raised(rt.alloc(), &ONE)?.copy()?;
-    merged.merge(&raised(rt.alloc(), &OTHER)?)?;
-    assert!(rt; merged == raised(rt.alloc(), &BOTH)?);
+    assert!(rt; merge_to_both(rt.alloc())?);
     trackers_grow();
     versions_compare();
     Ok(())

@@ -27,10 +27,10 @@ const THIRD: [Row; 4] = [
     (9, b"z", GATEWAY),
 ];
 
-fn layout(alloc: Global, version: u32, rows: &[Row]) -> Result<Layout, Fail> {
+fn layout(alloc: Global, version: u32, rows: &[Row]) -> Result<Layout, Memory> {
     let roles = roles_of(alloc, rows)?;
     let FlowOrCut::Flow(sets) = Network::new(alloc, &roles, 1, 1)?.max_flow()? else {
-        return Err("no flow".into());
+        return Err(Memory::Full);
     };
     Ok(Layout {
         version,
@@ -41,17 +41,16 @@ fn layout(alloc: Global, version: u32, rows: &[Row]) -> Result<Layout, Fail> {
     })
 }
 
-fn append(alloc: Global, view: &mut View, rows: &[Row]) -> Result<(), Fail> {
+fn append(alloc: Global, view: &mut View, rows: &[Row]) -> Result<(), Memory> {
     let layout = layout(alloc, view.newest().wrapping_add(1), rows)?;
     if layout.roles.list.is_empty() || layout.version.checked_sub(1) != Some(view.newest()) {
-        return Err("not the next version".into());
+        return Err(Memory::Full);
     }
-    view.append(layout)?;
-    Ok(())
+    view.append(layout)
 }
 
 // A view with the three versions.
-fn three(alloc: Global) -> Result<View, Fail> {
+fn three(alloc: Global) -> Result<View, Memory> {
     let mut view = View::new(alloc);
     append(alloc, &mut view, &FIRST)?;
     append(alloc, &mut view, &SECOND)?;
@@ -77,44 +76,76 @@ const RAISED: [(Which, u8, u32, u32, u32); 14] = [
     (Which::Sync, 3, 3, 3, 3),
 ];
 
+// The least ack and the read version after these entries were raised.
+fn read(alloc: Global, raised: &[(Which, u8, u32, u32, u32)]) -> Result<(u32, u32), Memory> {
+    let mut view = three(alloc)?;
+    for (which, node, version, _, _) in raised {
+        view.raise(*which, *node, *version)?;
+    }
+    Ok((view.ack_least(), view.read_version()))
+}
+
 #[test]
 fn raised_entries_are_read(rt: HostRuntime) -> Result<(), Fail> {
-    let mut view = three(rt.alloc())?;
-    for (which, node, version, ack_least, read) in RAISED {
-        view.raise(which, node, version)?;
-        assert_eq!(rt; (view.ack_least(), view.read_version()), (ack_least, read));
+    let mut count = 0usize;
+    for (_, _, _, ack_least, read_version) in RAISED {
+        count = count.saturating_add(1).min(14);
+        assert_eq!(rt;
+            read(rt.alloc(), &RAISED[..count])?,
+            (ack_least, read_version)
+        );
     }
     Ok(())
 }
 
-fn raise(view: &mut View, which: Which, nodes: &[u8], version: u32) -> Result<(), Memory> {
-    for node in nodes {
-        view.raise(which, *node, version)?;
+// The view after these nodes read at the version that stands beside each.
+fn reading(alloc: Global, nodes: &[(u8, u32)]) -> Result<View, Memory> {
+    let mut view = three(alloc)?;
+    for (node, version) in nodes {
+        view.raise(Which::SyncAck, *node, *version)?;
     }
-    Ok(())
+    Ok(view)
 }
+
+const READING: [(u8, u32); 8] = [
+    (2, 3),
+    (3, 3),
+    (4, 3),
+    (5, 3),
+    (6, 3),
+    (9, 3),
+    (1, 2),
+    (1, 9),
+];
 
 #[test]
 fn members_of_old_versions_hold_a_clean_back(rt: HostRuntime) -> Result<(), Fail> {
-    let mut view = three(rt.alloc())?;
-    raise(&mut view, Which::SyncAck, &[2, 3, 4, 5, 6, 9], 3)?;
-    assert_eq!(rt; view.clean(), 1);
-    raise(&mut view, Which::SyncAck, &[1], 2)?;
-    assert_eq!(rt; view.clean(), 2);
-    raise(&mut view, Which::SyncAck, &[1], 9)?;
-    assert_eq!(rt; (view.clean(), view.set(3, 1)), (3, Some([4, 5, 6])));
+    for (count, oldest) in [(6, 1), (7, 2), (8, 3)] {
+        let mut view = reading(rt.alloc(), &READING[..count.min(8)])?;
+        assert_eq!(rt; view.clean(), oldest);
+        assert_eq!(rt; (view.oldest(), view.newest()), (oldest, 3));
+    }
     Ok(())
+}
+
+// The oldest and the newest version of two merged views, and what one entry of each is.
+fn merged(alloc: Global) -> Result<(u32, u32, Option<u32>, Option<u32>), Memory> {
+    let mut old = three(alloc)?;
+    old.raise(Which::Ack, 2, 2)?;
+    let mut new = reading(alloc, &READING[..7])?.copy()?;
+    let _ = new.clean();
+    old.merge(&new)?;
+    let ack = old.trackers().get(Which::Ack, 2);
+    Ok((
+        old.oldest(),
+        old.newest(),
+        ack,
+        old.trackers().get(Which::SyncAck, 9),
+    ))
 }
 
 #[test]
 fn merged_views_start_at_the_greater_oldest(rt: HostRuntime) -> Result<(), Fail> {
-    let mut old = three(rt.alloc())?;
-    old.raise(Which::Ack, 2, 2)?;
-    let mut new = old.copy()?;
-    raise(&mut new, Which::SyncAck, &[1, 2, 3, 4, 5, 6, 9], 2)?;
-    assert_eq!(rt; new.clean(), 2);
-    old.merge(&new)?;
-    assert_eq!(rt; (old.oldest(), old.newest(), old.set(1, 0)), (2, 3, None));
-    assert_eq!(rt; old.trackers().get(Which::SyncAck, 9), Some(2));
+    assert_eq!(rt; merged(rt.alloc())?, (2, 3, Some(2), Some(3)));
     Ok(())
 }

@@ -13,6 +13,7 @@ use Rattle.layout_text.specs.declared.config.ConfigFault.TheVariants.{NotToml, F
 use Rattle.layout_text.specs.Values.{redundancy_in, buckets_in, default_block_size, block_size_in, nodes_in, id_in, zone_in, kind_in}
 
 infixl 10 ◌>>=◌
+-- the answer to what a value is given, or the fault that came before it
 abbrev pub ◌>>=◌ : {A B E : Type 0} → Result A E → (A → Result B E) → Result B E
 Ok x >>= f = f x
 Err e >>= f = Err e
@@ -21,6 +22,7 @@ Err e >>= f = Err e
 abbrev pub needed : {A : Type 0} → FieldName → Option A → Result A FieldName
 needed name found = ok_or found name
 
+-- what a configuration says
 pub record Settings : Type 0 where
   pub redundancy : Redundancy
   pub roles : List Role
@@ -31,9 +33,11 @@ pub record Settings : Type 0 where
 abbrev pub is_serve : ℕ → Bool
 is_serve greatest = greatest == 16
 
+-- the buckets, which only a server reads
 abbrev pub buckets_for : ℕ → Members → Option (List (List ℕ))
 buckets_for greatest root = if is_serve greatest then buckets_in root else Some []
 
+-- the block size, which only a server reads
 abbrev pub block_size_for : ℕ → Members → Option ℕ
 block_size_for greatest root = if is_serve greatest then block_size_in root else Some default_block_size
 
@@ -77,6 +81,7 @@ faulted (Err name) = Err (Field name)
 unfoldable pub said : ℕ → List ℕ → Result Settings ConfigFault
 said greatest text = ok_or (parse_document text) NotToml >>= (λ root. faulted (settings_in greatest root))
 
+-- a configuration as its settings
 abbrev pub settings_of : Config → Settings
 settings_of config = record { redundancy = config.redundancy; roles = config.roles.list; buckets = config.buckets; block_size = config.block_size }
 

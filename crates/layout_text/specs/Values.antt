@@ -9,9 +9,11 @@ use Rattle.layout_roles.specs.declared.role.Kind.TheVariants.{Storage, Gateway}
 use Rattle.layout_roles.specs.declared.role.Role.{Role}
 use Rattle.layout_roles.specs.Zones.{same_name}
 
+-- the number is in a range
 abbrev pub is_between : ℕ → ℕ → ℕ → Bool
 is_between low high n = nat_le low n && nat_le n high
 
+-- the value, where it may be kept
 abbrev pub keep_if : {A : Type 0} → Bool → A → Option A
 keep_if true x = Some x
 keep_if false x = None
@@ -21,6 +23,7 @@ abbrev pub read_or : {A : Type 0} → A → (Data → Option A) → Option Data 
 read_or default read None = Some default
 read_or default read (Some value) = read value
 
+-- the number, where it is in a range
 abbrev pub between : ℕ → ℕ → ℤ → Option ℕ
 between low high (pos n) = keep_if (is_between low high n) n
 between low high (negsuc n) = None
@@ -34,6 +37,7 @@ abbrev pub redundancy_of : Data → Option Redundancy
 redundancy_of (string word) = keep_if (same_name word (codes "maximum")) Maximum
 redundancy_of value = option_map AtLeast (number_in 1 3 value)
 
+-- the redundancy of a configuration, or the default
 abbrev pub redundancy_in : Members → Option Redundancy
 redundancy_in root = read_or Maximum redundancy_of (get_member (codes "redundancy") root)
 
@@ -67,9 +71,11 @@ buckets_in root = option_and_then (buckets_of []) (option_and_then as_array (get
 abbrev pub default_block_size : ℕ
 default_block_size = 1048576
 
+-- the block size of a configuration, or the default
 abbrev pub block_size_in : Members → Option ℕ
 block_size_in root = read_or default_block_size (number_in 16 1048576) (get_member (codes "block_size") root)
 
+-- one table more, where there is one
 abbrev pub with_table : Option Members → Option (List Members) → Option (List Members)
 with_table (Some table) (Some tables) = Some (table ∷ tables)
 with_table _ _ = None
@@ -83,6 +89,7 @@ tables_of (item value items) = with_table (as_table value) (tables_of items)
 abbrev pub nodes_in : Members → Option (List Members)
 nodes_in root = option_and_then tables_of (option_and_then as_array (get_member (codes "node") root))
 
+-- a node of this number was given a role already
 abbrev pub is_taken : List Role → ℕ → Bool
 is_taken roles id = list_any (λ role. role.node == id) roles
 
@@ -91,12 +98,15 @@ abbrev pub id_in : ℕ → List Role → Members → Option ℕ
 id_in greatest before node =
     option_and_then (λ id. keep_if (not (is_taken before id)) id) (option_and_then (number_in 1 (min greatest 64)) (get_member (codes "id") node))
 
+-- a zone's name: 1 to 16 bytes that names have
 abbrev pub is_zone_name : List ℕ → Bool
 is_zone_name name = is_between 1 16 (length name) && list_all is_name_byte name
 
+-- the zone's name that a value gives
 abbrev pub zone_of : Data → Option (List ℕ)
 zone_of value = option_and_then (λ name. keep_if (is_zone_name name) name) (as_str value)
 
+-- the zone's name of one node's table
 abbrev pub zone_in : Members → Option (List ℕ)
 zone_in node = option_and_then zone_of (get_member (codes "zone") node)
 

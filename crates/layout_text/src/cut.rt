@@ -102,7 +102,7 @@ fn append_runs(out: &mut Bytes, words: &[Bytes]) -> Result<(), Memory>
     Ok(())
 }
 
-#[tactic(auto, unfolding(crate::specs::Text::side_lines))]
+#[tactic(auto, unfolding(layout_roles::specs::Text::side_lines))]
 fn append_sides(out: &mut Bytes, names: &[Bytes], side: &[Vertex]) -> Result<(), Memory>
     ensures ok { OnOk result (out.new ≡ out.old ++ side_lines names.now side.now) }
     ensures want { OnlyWant result }
@@ -125,7 +125,7 @@ fn append_nodes(out: &mut Bytes, side: &[Vertex]) -> Result<(), Memory>
     Ok(())
 }
 
-#[tactic(auto, unfolding(crate::specs::Text::nodes_line))]
+#[tactic(auto, unfolding(layout_roles::specs::Text::nodes_line))]
 fn append_nodes_line(out: &mut Bytes, side: &[Vertex]) -> Result<(), Memory>
     ensures ok { OnOk result (out.new ≡ out.old ++ nodes_line side.now) }
     ensures want { OnlyWant result }
@@ -135,7 +135,7 @@ fn append_nodes_line(out: &mut Bytes, side: &[Vertex]) -> Result<(), Memory>
     out.push(b'\n')
 }
 
-#[tactic(auto, unfolding(crate::specs::Text::cut_line))]
+#[tactic(auto, unfolding(layout_roles::specs::Text::cut_line))]
 fn append_cut_line(out: &mut Bytes, size: u64, weight: u32) -> Result<(), Memory>
     ensures ok { OnOk result (out.new ≡ out.old ++ cut_line size weight) }
     ensures want { OnlyWant result }

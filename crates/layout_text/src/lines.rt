@@ -10,7 +10,7 @@ use crdt_core::{Bytes, Memory};
 use layout_roles::{Certified, Roles, zone_names};
 use std::alloc::Global;
 
-#[tactic(auto, unfolding(crate::specs::Text::size_line))]
+#[tactic(auto, unfolding(layout_roles::specs::Text::size_line))]
 fn append_size(out: &mut Bytes, size: u64) -> Result<(), Memory>
     ensures ok { OnOk result (out.new ≡ out.old ++ size_line size) }
     ensures want { OnlyWant result }
@@ -20,7 +20,7 @@ fn append_size(out: &mut Bytes, size: u64) -> Result<(), Memory>
     out.push(b'\n')
 }
 
-#[tactic(auto, unfolding(crate::specs::Text::redundancy_line))]
+#[tactic(auto, unfolding(layout_roles::specs::Text::redundancy_line))]
 fn append_redundancy(out: &mut Bytes, r: u8) -> Result<(), Memory>
     ensures ok { OnOk result (out.new ≡ out.old ++ redundancy_line r) }
     ensures want { OnlyWant result }

@@ -30,7 +30,7 @@ fn append_set(out: &mut Bytes, first: usize, last: usize, set: &[u8; 3]) -> Resu
     out.push(b'\n')
 }
 
-#[tactic(auto, unfolding(crate::specs::Text::set_lines))]
+#[tactic(auto, unfolding(layout_roles::specs::Text::set_lines))]
 pub(crate) fn append_sets(out: &mut Bytes, sets: &[[u8; 3]]) -> Result<(), Memory>
     ensures ok { OnOk result (out.new ≡ out.old ++ set_lines sets.now) }
     ensures want { OnlyWant result }

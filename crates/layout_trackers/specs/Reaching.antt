@@ -19,6 +19,7 @@ use Rattle.layout_trackers.specs.declared.which.Which.{Which}
 use Rattle.layout_trackers.specs.Trackers.{tracker, is_reached}
 use Rattle.layout_trackers.specs.Entries.{Reached}
 
+-- nodes with their versions
 abbrev pub Entries : Type 0
 Entries = List (ℕ × Max ℕ)
 

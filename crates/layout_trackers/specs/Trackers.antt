@@ -21,6 +21,7 @@ Tracker = MapOf nat_cmp nat_eq (λ x y. Some (nat_cmp x y)) (Max ℕ)
 abbrev pub tracker_join : Tracker → Tracker → Tracker
 tracker_join = map_join (max_join nat_cmp)
 
+-- one of the three trackers
 abbrev pub tracker : Which → Trackers → Tracker
 tracker Ack t = t.ack
 tracker Sync t = t.sync

@@ -81,7 +81,7 @@ module _ {R L : Type 0} where
   unseen_block x c bytes (asking q as') = unseen_quiet x x (same_self x)
   unseen_block x c bytes (scanning q as') = unseen_quiet x x (same_self x)
   unseen_block x c bytes (storing rs slots) = unseen_quiet x x (same_self x)
-  unseen_block x c bytes fetching = unseen_ended x c _
+  unseen_block x c bytes (fetching hash) = unseen_ended x c _
 
 pub said_to_each : {R : Type 0} (L : Type 0) (nodes : List ℕ) (m : Message R) → SaysOnly {R = R} {L = L} (to_each nodes m)
 said_to_each L [] m = tt
@@ -93,21 +93,21 @@ module _ {R L : Type 0} (join : R → R → R) (s : Words R) (k : Layouts L) whe
   unseen_row x c from row (asking q as') = unseen_asked x c q as' (from, row) (value_after join q as' (from, row))
   unseen_row x c from row (scanning q as') = unseen_quiet x x (same_self x)
   unseen_row x c from row (storing rs slots) = unseen_quiet x x (same_self x)
-  unseen_row x c from row fetching = unseen_quiet x x (same_self x)
+  unseen_row x c from row (fetching hash) = unseen_quiet x x (same_self x)
 
   pub unseen_rows : (x : Node R L) (c : Call R) (from : ℕ) (rs : List R) (more : Bool) (p : Present R) → Unseen x (rows_came join s x c from rs more p)
   unseen_rows x c from rs more resting = unseen_quiet x x (same_self x)
   unseen_rows x c from rs more (asking q as') = unseen_quiet x x (same_self x)
   unseen_rows x c from rs more (scanning q as') = unseen_looked x c q as' _ _
   unseen_rows x c from rs more (storing rs' slots) = unseen_quiet x x (same_self x)
-  unseen_rows x c from rs more fetching = unseen_quiet x x (same_self x)
+  unseen_rows x c from rs more (fetching hash) = unseen_quiet x x (same_self x)
 
   pub unseen_confirmed : (x : Node R L) (c : Call R) (slot from : ℕ) (p : Present R) → Unseen x (stored_came k x c slot from p)
   unseen_confirmed x c slot from resting = unseen_quiet x x (same_self x)
   unseen_confirmed x c slot from (asking q as') = unseen_quiet x x (same_self x)
   unseen_confirmed x c slot from (scanning q as') = unseen_quiet x x (same_self x)
   unseen_confirmed x c slot from (storing rs slots) = unseen_stored x c rs (with_confirmation slots slot from) _
-  unseen_confirmed x c slot from fetching = unseen_quiet x x (same_self x)
+  unseen_confirmed x c slot from (fetching hash) = unseen_quiet x x (same_self x)
 
   pub same_accepts : (now : ℕ) (x : Node R L) (r : R) (given : Option (List ℕ)) → Same x (accepts join s now x r given)
   same_accepts now x r given = record { view = refl; calls = refl; round = refl }
@@ -190,6 +190,6 @@ module _ {R L : Type 0} (join : R → R → R) (s : Words R) (k : Layouts L) whe
     posts = said_stores x.view c.request (suc c.phases) 0 rs;
   }
   unseen_begins kept x c (Fetches hash) = record {
-    same = same_calls x (record c { phases = suc c.phases; present = fetching });
+    same = same_calls x (record c { phases = suc c.phases; present = fetching hash.0 });
     posts = said_to_each L (asked_set x hash.0) (BlockGet c.request (suc c.phases) (read_version k.reading x.view) hash);
   }

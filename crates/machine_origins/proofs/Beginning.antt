@@ -107,7 +107,7 @@ module _ {R : Type 0} {join : R → R → R} {s : Words R} {P : R → Type 0} (r
       stored_all (r ∷ rows) a = (a.0, stored_all rows a.1)
   phase_begins q (Fetches hash) a e =
       plainly (Fetches hash) (record {
-        node = goes_on s P count n g x c i is (suc c.phases) fetching (omega arith) tt;
+        node = goes_on s P count n g x c i is (suc c.phases) (fetching hash.0) (omega arith) tt;
         posts = each_post rules k g n _ (BlockGet c.request (suc c.phases) (read_version k.reading x.view) hash) (λ to. tt);
         reads = tt;
       })

@@ -62,14 +62,14 @@ module _ {R L : Type 0} (s : Words R) (P : R → Type 0) (count n : ℕ) where
           | true ↦ record { node = goes_on c.phases resting (omega arith) tt; posts = tt; reads = tt }
           | false ↦ stays_done (storing rs now) tt
         ]
-    stored_done k slot from fetching = still g x i
+    stored_done k slot from (fetching hash) = still g x i
 
     pub block_done : (bytes : List ℕ) (p : Present R) → IsDone s P g count n (block_came x c bytes p)
     block_done bytes resting = still g x i
     block_done bytes (asking q as') = still g x i
     block_done bytes (scanning q as') = still g x i
     block_done bytes (storing rs slots) = still g x i
-    block_done bytes fetching = record { node = goes_on c.phases resting (omega arith) tt; posts = tt; reads = tt }
+    block_done bytes (fetching hash) = record { node = goes_on c.phases resting (omega arith) tt; posts = tt; reads = tt }
 
 module _ {R : Type 0} (s : Words R) (P : R → Type 0) where
   gave_found : (q : Question R) (value : Option R) → IsFound s P q.table q.key value → Gave s P (read q value)
@@ -98,7 +98,7 @@ module _ {R : Type 0} {join : R → R → R} {s : Words R} {P : R → Type 0} (r
     row_done from row (asking q as') has m = asked_done q as' (from, row) (first_two_at q.set as' (from, row)) has (answer_found s P g from n c.request c.phases q.table q.key row has.0 m) refl
     row_done from row (scanning q as') has m = still s P count n g x i
     row_done from row (storing rs slots) has m = still s P count n g x i
-    row_done from row fetching has m = still s P count n g x i
+    row_done from row (fetching hash) has m = still s P count n g x i
 
     looked_done : (q : Scan R) (as' : List (ℕ × RangeAnswer R)) (a : ℕ × RangeAnswer R) (o : Option (RangeAnswer R × RangeAnswer R)) → AllByRecursion (λ a. AllByRecursion (IsObject s P) a.1.rows) as' → AllByRecursion (IsObject s P) a.1.rows → first_two_at q.set as' a ≡ o →
         IsDone s P g count n (looked x c q as' a (window_at join s o))
@@ -113,4 +113,4 @@ module _ {R : Type 0} {join : R → R → R} {s : Words R} {P : R → Type 0} (r
     rows_done from rs more (asking q as') has m = still s P count n g x i
     rows_done from rs more (scanning q as') has m = looked_done q as' (from, record { rows = rs; more = more }) (first_two_at q.set as' (from, record { rows = rs; more = more })) has m refl
     rows_done from rs more (storing others slots) has m = still s P count n g x i
-    rows_done from rs more fetching has m = still s P count n g x i
+    rows_done from rs more (fetching hash) has m = still s P count n g x i

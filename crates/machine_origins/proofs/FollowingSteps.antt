@@ -59,7 +59,7 @@ module _ {R L : Type 0} (x : Node R L) where
     follows_block bytes (asking q as') e = follows_quiet x
     follows_block bytes (scanning q as') e = follows_quiet x
     follows_block bytes (storing rows slots) e = follows_quiet x
-    follows_block bytes fetching e = follows_ended x differ c there (GaveBlock bytes) [] [] (subst (λ p. EndsSo p (GaveBlock bytes) [] []) (sym e) (refl, refl))
+    follows_block bytes (fetching hash) e = follows_ended x differ c there (GaveBlock bytes) [] [] (subst (λ p. EndsSo p (GaveBlock bytes) [] []) (sym e) (refl, refl))
 
     module _ (join : R → R → R) (s : Words R) (k : Layouts L) where
       pub follows_row : (from : ℕ) (row : Option R) (p : Present R) → c.present ≡ p → Follows x (row_came join x c from row p)
@@ -67,21 +67,21 @@ module _ {R L : Type 0} (x : Node R L) where
       follows_row from row (asking q as') e = follows_asked q as' (from, row) (value_after join q as' (from, row)) e
       follows_row from row (scanning q as') e = follows_quiet x
       follows_row from row (storing rows slots) e = follows_quiet x
-      follows_row from row fetching e = follows_quiet x
+      follows_row from row (fetching hash) e = follows_quiet x
 
       pub follows_rows : (from : ℕ) (rows : List R) (more : Bool) (p : Present R) → c.present ≡ p → Follows x (rows_came join s x c from rows more p)
       follows_rows from rows more resting e = follows_quiet x
       follows_rows from rows more (asking q as') e = follows_quiet x
       follows_rows from rows more (scanning q as') e = follows_looked q as' _ _ e
       follows_rows from rows more (storing others slots) e = follows_quiet x
-      follows_rows from rows more fetching e = follows_quiet x
+      follows_rows from rows more (fetching hash) e = follows_quiet x
 
       pub follows_confirmed : (slot from : ℕ) (p : Present R) → c.present ≡ p → Follows x (stored_came k x c slot from p)
       follows_confirmed slot from resting e = follows_quiet x
       follows_confirmed slot from (asking q as') e = follows_quiet x
       follows_confirmed slot from (scanning q as') e = follows_quiet x
       follows_confirmed slot from (storing rows slots) e = follows_stored rows slots (with_confirmation slots slot from) _ e
-      follows_confirmed slot from fetching e = follows_quiet x
+      follows_confirmed slot from (fetching hash) e = follows_quiet x
 
 module _ {R L : Type 0} (join : R → R → R) (s : Words R) (k : Layouts L) where
   pub calls_read : (now : ℕ) (x : Node R L) (r : Option R) (given : Option (List ℕ)) → (accepts_read join s now x r given).calls ≡ x.calls
@@ -192,4 +192,4 @@ module _ {R L : Type 0} (s : Words R) (k : Layouts L) (kept : List R) (x : Node 
   begins_follow (Read table position key) = begins_with (Read table position key) (suc c.phases) _ (refl, refl, refl, refl, refl) _ refl refl refl refl
   begins_follow (Scans position prefix after) = begins_with (Scans position prefix after) (suc c.phases) _ (refl, refl, refl, refl, refl) _ refl refl refl refl
   begins_follow (Keeps rows) = begins_with (Keeps rows) (suc c.phases) (storing (map (λ r. r.0) rows) (slots_of s k x.view rows)) refl _ refl refl refl refl
-  begins_follow (Fetches hash) = begins_with (Fetches hash) (suc c.phases) fetching tt _ refl refl refl refl
+  begins_follow (Fetches hash) = begins_with (Fetches hash) (suc c.phases) (fetching hash.0) refl _ refl refl refl refl

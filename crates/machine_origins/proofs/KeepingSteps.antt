@@ -3,7 +3,7 @@ use Rattle.std.specs.Prelude.{◌≡◌, ◌≤◌, ℕ, suc, max, Bool, true, f
 use Rattle.std.specs.List.{filter, flat_map}
 use Rattle.std.proofs.Common.{ap, sym, subst, ◌∙◌, inl, arith}
 use Rattle.view_model.specs.View.{is_gapless, newest, read_version, merged, cleaned}
-use Rattle.view_model.specs.Joins.{newest_merged}
+use Rattle.view_model.proofs.Joins.{newest_merged}
 use Rattle.table_schema.specs.Words.{Words, partition_at, partition_of}
 use Rattle.quorum_model.specs.declared.range.RangeAnswer.{RangeAnswer}
 use Rattle.quorum_model.specs.Quorum.{StoreSlot, with_confirmation}
@@ -61,7 +61,7 @@ module _ {R L : Type 0} (k : Layouts L) (x : Node R L) where
     keeps_block bytes (asking q as') = keeps_self
     keeps_block bytes (scanning q as') = keeps_self
     keeps_block bytes (storing rows slots) = keeps_self
-    keeps_block bytes fetching = keeps_called c _ _ refl refl
+    keeps_block bytes (fetching hash) = keeps_called c _ _ refl refl
 
     module _ (join : R → R → R) (s : Words R) where
       pub keeps_row : (from : ℕ) (row : Option R) (p : Present R) → Keeps k ⊤ x (row_came join x c from row p)
@@ -69,21 +69,21 @@ module _ {R L : Type 0} (k : Layouts L) (x : Node R L) where
       keeps_row from row (asking q as') = keeps_asked q as' (from, row) (value_after join q as' (from, row))
       keeps_row from row (scanning q as') = keeps_self
       keeps_row from row (storing rows slots) = keeps_self
-      keeps_row from row fetching = keeps_self
+      keeps_row from row (fetching hash) = keeps_self
 
       pub keeps_rows : (from : ℕ) (rows : List R) (more : Bool) (p : Present R) → Keeps k ⊤ x (rows_came join s x c from rows more p)
       keeps_rows from rows more resting = keeps_self
       keeps_rows from rows more (asking q as') = keeps_self
       keeps_rows from rows more (scanning q as') = keeps_looked q as' _ _
       keeps_rows from rows more (storing others slots) = keeps_self
-      keeps_rows from rows more fetching = keeps_self
+      keeps_rows from rows more (fetching hash) = keeps_self
 
     pub keeps_confirmed : (slot from : ℕ) (p : Present R) → Keeps k ⊤ x (stored_came k x c slot from p)
     keeps_confirmed slot from resting = keeps_self
     keeps_confirmed slot from (asking q as') = keeps_self
     keeps_confirmed slot from (scanning q as') = keeps_self
     keeps_confirmed slot from (storing rows slots) = keeps_stored rows (with_confirmation slots slot from) _
-    keeps_confirmed slot from fetching = keeps_self
+    keeps_confirmed slot from (fetching hash) = keeps_self
 
 module _ {R L : Type 0} (join : R → R → R) (s : Words R) (k : Layouts L) (x : Node R L) where
   keeps_where : (from request phase at : ℕ) (d : Did R L) → Keeps k ⊤ x d → Keeps k ⊤ x (where_stored join s k x from request phase at d)

@@ -11,3 +11,4 @@ pub mod FollowingCalls
 pub mod FollowingSteps
 pub mod KeepingNodes
 pub mod KeepingSteps
+pub mod ByOrigin

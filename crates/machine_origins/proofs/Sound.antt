@@ -29,7 +29,7 @@ abbrev pub counted : {X : Type 0} → List X → ℕ → ℕ
 counted [] n = n
 counted (x ∷ xs) n = suc (counted xs n)
 
-counted_is : {X : Type 0} (xs : List X) (n : ℕ) → counted xs n ≡ n + length xs
+pub counted_is : {X : Type 0} (xs : List X) (n : ℕ) → counted xs n ≡ n + length xs
 counted_is [] n = omega arith
 counted_is (x ∷ xs) n = let rest : counted xs n ≡ n + length xs = counted_is xs n in omega arith
 

@@ -6,6 +6,7 @@ use Rattle.std.proofs.Common.{sym, subst, ◌∙◌, arith}
 use Rattle.view_model.specs.View.{newest}
 use Rattle.layout_roles.specs.declared.role.Role.{Role}
 use Rattle.table_schema.specs.Words.{Words}
+use Rattle.table_model.specs.Rows.{row_at}
 use Rattle.wire_messages.specs.declared.phase.Phase.{Phase}
 use Rattle.cluster_machine.specs.declared.step.Step.{Step}
 use Rattle.cluster_machine.specs.declared.step.Step.TheVariants.{Trio, Role as Stage, Redundancy as Spread, Apply, Tick, Skew, Deliver, Lose, Expire, Restart, Gossip, Ack, Sync as Syncs, SyncAck, Clean, Work, Repair, Open, Phase as Begin, Close}
@@ -22,7 +23,7 @@ use Rattle.cluster_machine.specs.Step.{most_versions, Choice, given, none_given,
 use Rattle.cluster_machine.specs.Run.{Move, IsRun, next, run}
 use Rattle.machine_origins.specs.Origins.{stored_by, stored_in, Gave}
 use Rattle.machine_origins.proofs.Lists.{all_parts, all_filter, all_found, all_numbered}
-use Rattle.machine_origins.proofs.Good.{Rules}
+use Rattle.machine_origins.proofs.Good.{IsFound, Rules, row_found}
 use Rattle.machine_origins.proofs.Sound.{Asks, counted, IsSent, IsCall, IsNode, IsDone, IsSound, Leads, led, node_stays, one_changes, done_leads}
 use Rattle.machine_origins.proofs.Doing.{receives_done, acts_done}
 use Rattle.machine_origins.proofs.Beginning.{phase_begins}
@@ -184,6 +185,15 @@ module _ {R : Type 0} {join : R → R → R} {s : Words R} {P : R → Type 0} (r
         let l = leads A C st.asks w st.sound m.step m.choice parts.0 h.2 in
         stands_after (next join s k trio trio_roles w m) ms (record { asks = l.asks; sound = led s P st.asks w _ st.sound l }) parts.1 h.3
 
-    -- where all rows have the property that a run stores, what its phases gave has it
+    -- where all rows have the property that a run stores, its world stands
+    stands_at : (ms : List (Move R L A C)) → AllByRecursion P (stored_in ms) → IsRun join s k trio trio_roles partitions empty ms → Stands (run join s k trio trio_roles empty ms)
+    stands_at ms a h = stands_after empty ms (record { asks = λ n r p. None; sound = record { nodes = λ n. record { accepted = tt; items = tt; calls = tt }; messages = tt; later = λ n r p late. refl; reads = tt } }) a h
+
+    -- what its phases gave has it
     pub all_gave : (ms : List (Move R L A C)) → AllByRecursion P (stored_in ms) → IsRun join s k trio trio_roles partitions empty ms → AllByRecursion (Gave s P) (run join s k trio trio_roles empty ms).reads
-    all_gave ms a h = (stands_after empty ms (record { asks = λ n r p. None; sound = record { nodes = λ n. record { accepted = tt; items = tt; calls = tt }; messages = tt; later = λ n r p late. refl; reads = tt } }) a h).sound.reads
+    all_gave ms a h = (stands_at ms a h).sound.reads
+
+    -- and what a node has at a table and key
+    pub all_there : (ms : List (Move R L A C)) → AllByRecursion P (stored_in ms) → IsRun join s k trio trio_roles partitions empty ms →
+        (n table : ℕ) (key : List ℕ) → IsFound s P table key (row_at join s ((run join s k trio trio_roles empty ms).nodes n).accepted table key)
+    all_there ms a h n table key = row_found rules ((run join s k trio trio_roles empty ms).nodes n).accepted table key ((stands_at ms a h).sound.nodes n).accepted

@@ -14,6 +14,7 @@ ghost use Rattle.std.specs.List.{Contains};
 ghost use Rattle.layout_roles.specs.declared.role.Role.{Role};
 ghost use Rattle.table_schema.specs.Words.{Words};
 ghost use Rattle.table_schema.specs.Laws.{Laws};
+ghost use Rattle.table_model.specs.Rows.{row_at};
 ghost use Rattle.wire_messages.specs.declared.phase.Phase.{Phase};
 ghost use Rattle.cluster_machine.specs.declared.step.Action.{Action};
 ghost use Rattle.cluster_machine.specs.Layouts.{Layouts};
@@ -35,6 +36,13 @@ pub fn every_read_gives_stored_rows<R, L, A, C>()
     ensures { (join : R → R → R) (s : Words R) (k : Layouts L) (trio : L) (trio_roles : List Role → List Role) (partitions : ℕ) (moves : List (Move R L A C)) →
         Laws join s → IsRun join s k trio trio_roles partitions empty moves →
         (r : Reading R) → Contains (run join s k trio trio_roles empty moves).reads r → Gave s (ComesFrom join s (stored_in moves)) r }
+{}
+
+/// And so does each row that a node has at a table and key.
+pub fn every_node_has_stored_rows<R, L, A, C>()
+    ensures { (join : R → R → R) (s : Words R) (k : Layouts L) (trio : L) (trio_roles : List Role → List Role) (partitions : ℕ) (moves : List (Move R L A C)) →
+        Laws join s → IsRun join s k trio trio_roles partitions empty moves →
+        (n table : ℕ) (key : List ℕ) (row : R) → row_at join s ((run join s k trio trio_roles empty moves).nodes n).accepted table key ≡ Option.Some row → ComesFrom join s (stored_in moves) row }
 {}
 
 /// What a node's open requests are in after a message came, after an action, and after a phase of one began.

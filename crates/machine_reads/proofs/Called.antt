@@ -1,5 +1,5 @@
 -- A call of a node changes, and messages go to several nodes.
-use Rattle.std.specs.Prelude.{◌≡◌, ◌≢◌, ◌≤◌, ◌<◌, ℕ, None, List, [], ◌∷◌, ◌++◌, length, IsTrue, refl}
+use Rattle.std.specs.Prelude.{◌≡◌, ◌≢◌, ◌≤◌, ◌<◌, ℕ, None, List, [], ◌∷◌, ◌++◌, length, refl}
 use Rattle.std.specs.List.{Contains, AllByRecursion}
 use Rattle.std.proofs.Common.{ap, sym, subst, ◌∙◌, arith}
 use Rattle.crdt_core.specs.Laws.{JoinLaws}
@@ -18,7 +18,7 @@ use Rattle.cluster_machine.specs.Step.{sent_by, did}
 use Rattle.machine_laws.proofs.Same.{Unseen}
 use Rattle.machine_laws.proofs.Turning.{unseen}
 use Rattle.machine_reads.specs.Places.{Place, at_place}
-use Rattle.machine_reads.specs.Tie.{Issued, both, State, MeansMessage, Means, IsCall, IsPresent, IsNode, IsTied}
+use Rattle.machine_reads.specs.Tie.{Issued, both, State, MeansMessage, Means, IsCall, IsPresent, IsNode, IsKept, IsTied}
 use Rattle.machine_reads.proofs.Growth.{Grown, SameOf, SameAt, call_stays, round_in_stays}
 use Rattle.machine_reads.proofs.Leads.{Issues, Act, Leads, by_node}
 use Rattle.machine_reads.proofs.Sees.{all_with_call}
@@ -67,5 +67,5 @@ module _ {R L A C : Type 0} (join : R → R → R) (s : Words R) (k : Layouts L)
       (subst (λ c. Rattle.machine_laws.proofs.Controls.Turns k partitions w p.control c (did {A = A} {C = C} w n d)) (sym control) (unseen k partitions w p.control n d t.control u))
       same (λ m q e. ap (λ l. log_at both l m q) log) (λ m. refl) refl node
       (λ q. ap (λ l. Rattle.plane_model.specs.World.kept_at both l q) kept ∙ (t.kept q ∙ ap (λ (ks : List R). at_place s join (ks ++ w.kept) q) (sym keeps)))
-      (subst (AllByRecursion (λ r. IsTrue (s.is_proper r))) (sym keeps) tt)
+      (subst (AllByRecursion (IsKept join s k partitions (run both p acts))) (sym keeps) tt)
       sends not_asked not_stored reads

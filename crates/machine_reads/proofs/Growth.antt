@@ -158,7 +158,7 @@ module _ {R L : Type 0} (join : R → R → R) (s : Words R) (k : Layouts L) (pa
     present_grows n request phase (asking q as') same m = asking_grows request phase q as' m
     present_grows n request phase (scanning q as') same m = scanning_grows request phase q as' m
     present_grows n request phase (storing rs ts) same m = storing_grows n request phase 0 rs ts same m
-    present_grows n request phase fetching same m = tt
+    present_grows n request phase (fetching hash) same m = tt
 
     pub call_stays : (requests more n : ℕ) (c : Call R) → requests ≤ more → SameOf g h c.request → IsCall join s k partitions p g requests n c → IsCall join s k partitions new h more n c
     call_stays requests more n c low same m =

@@ -27,7 +27,7 @@ use Rattle.cluster_machine.specs.World.{World, Request}
 use Rattle.cluster_machine.specs.Step.{Effects, only, changed, shut, applied}
 use Rattle.machine_laws.proofs.Controls.{Turns, turned}
 use Rattle.machine_reads.specs.Places.{Place, keys, at_place}
-use Rattle.machine_reads.specs.Tie.{Asked, Begun, Issued, both, State, Means, IsCall, IsRoundIn, IsNode, IsTied}
+use Rattle.machine_reads.specs.Tie.{Asked, Begun, Issued, both, State, Means, IsCall, IsRoundIn, IsNode, IsKept, IsTied}
 use Rattle.machine_reads.proofs.Placed.{keys_laws}
 use Rattle.machine_reads.proofs.Growth.{Grown, SameAt, same_at, means_grows, node_stays}
 use Rattle.machine_reads.proofs.Logs.{moved_control, moved_log, moved_kept}
@@ -87,6 +87,9 @@ module _ {R L : Type 0} (join : R → R → R) (s : Words R) (k : Layouts L) (pa
         rounds = issues.rounds;
       }
 
+  pub proper_kept : (w : World R L) (p : State join s k partitions) (g : Issued R L) → IsTied join s k partitions w p g → AllByRecursion (λ r. IsTrue (s.is_proper r)) w.kept
+  proper_kept w p g t = all_weaker (IsKept join s k partitions p) (λ r. IsTrue (s.is_proper r)) (λ r h. h.proper) w.kept t.kept_rows
+
   module _ {A C : Type 0} where
     -- the actions that a step is, and what holds after them
     pub record Leads (w : World R L) (p : State join s k partitions) (g : Issued R L) (e : Effects R L A C) : Type 0 where
@@ -97,7 +100,7 @@ module _ {R L : Type 0} (join : R → R → R) (s : Words R) (k : Layouts L) (pa
       pub control : Turns k partitions w p.control (run (both join s k partitions) p acts).control e
       pub nodes : (n : ℕ) → IsNode join s k partitions (run (both join s k partitions) p acts) issued (length w.requests + length e.opens) n (changed e.nodes w.nodes n)
       pub kept : (q : Place) → kept_at (both join s k partitions) (run (both join s k partitions) p acts).kept q ≡ at_place s join (e.keeps ++ w.kept) q
-      pub kept_proper : AllByRecursion (λ r. IsTrue (s.is_proper r)) e.keeps
+      pub kept_rows : AllByRecursion (IsKept join s k partitions (run (both join s k partitions) p acts)) e.keeps
       pub sends : AllByRecursion (Means join s k partitions (run (both join s k partitions) p acts) issued) e.sends
       pub not_asked : (request phase : ℕ) → length w.requests + length e.opens < request → issued.asks request phase ≡ None
       pub not_stored : (request phase slot : ℕ) → length w.requests + length e.opens < request → issued.stores request phase slot ≡ None
@@ -113,7 +116,8 @@ module _ {R L : Type 0} (join : R → R → R) (s : Words R) (k : Layouts L) (pa
           control = turned k partitions w p.control new.control e t.control l.control;
           nodes = λ n. subst (λ count. IsNode join s k partitions new l.issued count n (changed e.nodes w.nodes n)) (sym count) (l.nodes n);
           kept = l.kept;
-          kept_proper = all_append (λ r. IsTrue (s.is_proper r)) e.keeps w.kept l.kept_proper t.kept_proper;
+          kept_rows = all_append (IsKept join s k partitions new) e.keeps w.kept l.kept_rows
+              (all_weaker (IsKept join s k partitions p) (IsKept join s k partitions new) (λ r h. record { proper = h.proper; store = h.store; is_there = up.lists.kept h.store h.is_there; key = h.key; row = h.row }) w.kept t.kept_rows);
           messages = all_append (Means join s k partitions new l.issued) w.messages e.sends (all_weaker _ _ (means_grows join s k partitions p new g l.issued up) w.messages t.messages) l.sends;
           not_asked = λ request phase late. l.not_asked request phase (subst (λ count. count < request) count late);
           not_stored = λ request phase slot late. l.not_stored request phase slot (subst (λ count. count < request) count late);
@@ -170,7 +174,7 @@ module _ {R L : Type 0} (join : R → R → R) (s : Words R) (k : Layouts L) (pa
               (less_node new g (length w.requests) n (w.nodes n) (changed e.nodes w.nodes n) (less n)
               (node_stays join s k partitions p new g g up (length w.requests) (length w.requests) n (w.nodes n) (omega arith) (same_at join s k partitions g (length w.requests) n) (λ q. ap (λ l. log_at both l n q) (moved_log join s k partitions steps p)) (t.nodes n)));
           kept = λ q. ap (λ l. kept_at both l q) (moved_kept join s k partitions steps p) ∙ (t.kept q ∙ ap (λ (ks : List R). at_place s join (ks ++ w.kept) q) (sym keeps));
-          kept_proper = subst (AllByRecursion (λ r. IsTrue (s.is_proper r))) (sym keeps) tt;
+          kept_rows = subst (AllByRecursion (IsKept join s k partitions new)) (sym keeps) tt;
           sends = bare new g;
           not_asked = λ request phase late. t.not_asked request phase (subst (λ count. count < request) count late);
           not_stored = λ request phase slot late. t.not_stored request phase slot (subst (λ count. count < request) count late);
@@ -183,11 +187,11 @@ module _ {R L : Type 0} (join : R → R → R) (s : Words R) (k : Layouts L) (pa
         ((m : ℕ) → m ≢ n → SameAt join s k partitions g h (length w.requests) m) → ((m : ℕ) (q : Place) → m ≢ n → log_at (both join s k partitions) (run (both join s k partitions) p acts).log m q ≡ log_at (both join s k partitions) p.log m q) →
         ((m : ℕ) → changed e.nodes w.nodes m ≡ changed (only n x) w.nodes m) → e.opens ≡ [] →
         IsNode join s k partitions (run (both join s k partitions) p acts) h (length w.requests) n x →
-        ((q : Place) → kept_at (both join s k partitions) (run (both join s k partitions) p acts).kept q ≡ at_place s join (e.keeps ++ w.kept) q) → AllByRecursion (λ r. IsTrue (s.is_proper r)) e.keeps →
+        ((q : Place) → kept_at (both join s k partitions) (run (both join s k partitions) p acts).kept q ≡ at_place s join (e.keeps ++ w.kept) q) → AllByRecursion (IsKept join s k partitions (run (both join s k partitions) p acts)) e.keeps →
         AllByRecursion (Means join s k partitions (run (both join s k partitions) p acts) h) e.sends →
         ((request phase : ℕ) → length w.requests < request → h.asks request phase ≡ None) → ((request phase slot : ℕ) → length w.requests < request → h.stores request phase slot ≡ None) →
         AllByRecursion (GaveKept join s) e.reads → Leads w p g e
-    by_node w p g h n e x acts sound t happens issues turns same log nodes opens here kept proper sends not_asked not_stored reads =
+    by_node w p g h n e x acts sound t happens issues turns same log nodes opens here kept kept_rows sends not_asked not_stored reads =
         let both = both join s k partitions in
         let new = run both p acts in
         let up = grown p g h acts sound happens issues in
@@ -203,7 +207,7 @@ module _ {R L : Type 0} (join : R → R → R) (s : Words R) (k : Layouts L) (pa
               (at_one w.nodes x n (IsNode join s k partitions new h (length w.requests)) here
               (λ i d. node_stays join s k partitions p new g h up (length w.requests) (length w.requests) i (w.nodes i) (omega arith) (same i d) (λ q. log i q d) (t.nodes i)) m));
           kept = kept;
-          kept_proper = proper;
+          kept_rows = kept_rows;
           sends = sends;
           not_asked = λ request phase late. not_asked request phase (subst (λ count. count < request) count late);
           not_stored = λ request phase slot late. not_stored request phase slot (subst (λ count. count < request) count late);

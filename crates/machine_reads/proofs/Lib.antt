@@ -13,4 +13,5 @@ mod Storing
 mod Views
 mod Rounds
 mod Begins
+mod Holders
 mod Tied

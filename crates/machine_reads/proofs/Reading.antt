@@ -25,7 +25,7 @@ use Rattle.machine_laws.proofs.Same.{Unseen, unseen_asked}
 use Rattle.machine_reads.specs.Places.{Place}
 use Rattle.machine_reads.specs.Tie.{Question, a_key, Issued, both, State, AtKey, AnsweredRow, MeansGet, MeansRow, IsAsking, IsTied}
 use Rattle.machine_reads.proofs.Placed.{place_of_key}
-use Rattle.machine_reads.proofs.Leads.{Leads}
+use Rattle.machine_reads.proofs.Leads.{Leads, proper_kept}
 use Rattle.machine_reads.proofs.Sees.{IsHere}
 use Rattle.machine_reads.proofs.Asking.{TwoOf, two_found, over_same, call_changes, question_of, asks_begin, asked_answers, two_have}
 use Rattle.crdt_core.proofs.Each.{all_append}
@@ -46,7 +46,7 @@ module _ {R L : Type 0} (join : R → R → R) (s : Words R) (k : Layouts L) (pa
       let question = question_of join s k partitions some joins_well A C w p g sound t n part in
       let of_part : (r : R) → IsTrue (s.is_proper r) → s.table r ≡ table → s.key r ≡ key → partition_of s r ≡ part = λ r proper e f. ap partition_at (one r proper e f) in
       asks_begin join s k partitions some joins_well A C w p g sound t n c position (λ question. a_key question table key) (asking q []) (Get c.request (suc c.phases) at table key) d has u
-      (λ h e. record { question = question; issued = e; kept = t.kept (part, (table, key)) ∙ place_of_key joins_well laws part table key w.kept t.kept_proper of_part; answered = tt })
+      (λ h e. record { question = question; issued = e; kept = t.kept (part, (table, key)) ∙ place_of_key joins_well laws part table key w.kept (proper_kept join s k partitions some joins_well w p g t) of_part; answered = tt })
       (λ h to is same. record { asked = is; one_partition = λ r proper e f. of_part r proper e f ∙ ap (λ (x : Question R L). x.partition) (sym same) })
 
   pub get_answers : (n from request phase at table : ℕ) (key : List ℕ) → MeansGet join s k partitions p g request phase at table key n → is_stored k (w.nodes n).view at ≡ true →

@@ -32,7 +32,7 @@ use Rattle.machine_laws.proofs.Same.{Unseen, unseen_looked}
 use Rattle.machine_reads.specs.Places.{Place}
 use Rattle.machine_reads.specs.Tie.{a_range, Issued, both, State, InRange, AnsweredRows, MeansRange, MeansRows, IsUnder, IsScanning, IsTied}
 use Rattle.machine_reads.proofs.Placed.{place_of_key}
-use Rattle.machine_reads.proofs.Leads.{Leads}
+use Rattle.machine_reads.proofs.Leads.{Leads, proper_kept}
 use Rattle.machine_reads.proofs.Sees.{IsHere}
 use Rattle.machine_reads.proofs.Asking.{TwoOf, two_found, over_same, call_changes, question_of, asks_begin, asked_answers, two_have}
 use Rattle.crdt_core.proofs.Each.{all_append}
@@ -62,7 +62,7 @@ module _ {R L : Type 0} (join : R → R → R) (s : Words R) (k : Layouts L) (pa
         issued = issued;
         long = long;
         one_partition = of_part;
-        kept = λ key under. t.kept (part, (1, key)) ∙ place_of_key joins_well laws part 1 key w.kept t.kept_proper (key_of q part key of_part under);
+        kept = λ key under. t.kept (part, (1, key)) ∙ place_of_key joins_well laws part 1 key w.kept (proper_kept join s k partitions some joins_well w p g t) (key_of q part key of_part under);
         answered = tt;
       })
       (λ h to asked same. asked)

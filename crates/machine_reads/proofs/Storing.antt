@@ -3,6 +3,7 @@ use Rattle.std.specs.Prelude.{◌≡◌, ◌≢◌, ◌≤◌, ◌<◌, ◌⊎�
 use Rattle.std.specs.List.{Contains, AllByRecursion, list_all}
 use Rattle.std.proofs.Common.{ap, sym, subst, ◌∙◌, inl, inr, arith}
 use Rattle.std.proofs.lemmas.Bool.{eqb-true, eq-eqb, ne_eqb}
+use Rattle.std.proofs.lemmas.List.Elements.{Contains-append_left}
 use Rattle.crdt_core.specs.EntryLaws.{and_parts}
 use Rattle.crdt_core.specs.Laws.{JoinLaws}
 use Rattle.crdt_core.specs.Order.{option_join}
@@ -19,7 +20,7 @@ use Rattle.plane_model.specs.World.{row_at as log_at, kept_at}
 use Rattle.plane_model.specs.Action.{begins_store, keeps, step, run, Happens, MayKeep}
 use Rattle.plane_laws.proofs.Reached.{always_reached}
 use Rattle.plane_laws.proofs.Runs.{run_extends}
-use Rattle.plane_laws.proofs.Sets.{contains_here, two_weaker}
+use Rattle.plane_laws.proofs.Sets.{contains_here, contains_there, two_weaker}
 use Rattle.plane_laws.proofs.Sound.{IsSound}
 use Rattle.cluster_machine.specs.Layouts.{Layouts, stored_sets}
 use Rattle.cluster_machine.specs.Node.{Call, Did, Post, resting, storing}
@@ -32,7 +33,7 @@ use Rattle.machine_laws.proofs.Rounding.{some_same}
 use Rattle.machine_laws.proofs.Same.{Unseen, unseen_stored}
 use Rattle.machine_laws.proofs.Turning.{unseen}
 use Rattle.machine_reads.specs.Places.{Place, keys, place_of, at_place}
-use Rattle.machine_reads.specs.Tie.{Issued, both, State, with_read, MeansStored, Means, IsSlot, IsStoring, IsCall, IsNode, IsTied}
+use Rattle.machine_reads.specs.Tie.{Issued, both, State, with_read, MeansStored, Means, IsSlot, IsStoring, IsCall, IsNode, IsKept, IsTied}
 use Rattle.machine_reads.proofs.Growth.{SameOf, same_of, same_at, call_stays}
 use Rattle.machine_reads.proofs.Leads.{Issues, issues_self, Act, laws_of, grown, Leads, by_node}
 use Rattle.machine_reads.proofs.Sees.{all_has, newest_same, oldest_same, flies_by}
@@ -294,7 +295,7 @@ module _ {R L : Type 0} (join : R → R → R) (s : Words R) (k : Layouts L) (pa
       pub stores : List (plane.Store Place R)
       pub may : AllByRecursion (MayKeep P p) stores
       pub same : (q : Place) (older : List (plane.Store Place R)) (ks : List R) → kept_at P older q ≡ at_place s join ks q → kept_at P (stores ++ older) q ≡ at_place s join (rs ++ ks) q
-      pub proper : AllByRecursion (λ r. IsTrue (s.is_proper r)) rs
+      pub rows : (new : State join s k partitions) → ((x : plane.Store Place R) → Contains stores x → Contains new.kept x) → AllByRecursion (IsKept join s k partitions new) rs
 
     pub kept_one : (n request phase base : ℕ) (c : Call R) (r : R) (x : StoreSlot) → Has (w.nodes n).calls c → g.start request ≡ c.start → (y : IsSlot join s k partitions p g n request phase base r x) → reached x.first x.sets x.nodes (oldest k.reading (w.nodes n).view) ≡ true → MayKeep P p y.store
     kept_one n request phase base c r x has start y e = record {
@@ -316,7 +317,7 @@ module _ {R L : Type 0} (join : R → R → R) (s : Words R) (k : Layouts L) (pa
     }
 
     pub kept_all : (n request phase base : ℕ) (c : Call R) (rs : List R) (ts : List StoreSlot) → Has (w.nodes n).calls c → g.start request ≡ c.start → IsStoring join s k partitions p g n request phase base rs ts → is_kept ts (oldest k.reading (w.nodes n).view) ≡ true → Kept n rs
-    kept_all n request phase base c [] [] has start a e = record { stores = []; may = tt; same = λ q older ks h. h; proper = tt }
+    kept_all n request phase base c [] [] has start a e = record { stores = []; may = tt; same = λ q older ks h. h; rows = λ new f. tt }
     kept_all n request phase base c [] (x ∷ ts) has start a e = absurd a
     kept_all n request phase base c (r ∷ rs) [] has start a e = absurd a
     kept_all n request phase base c (r ∷ rs) (x ∷ ts) has start a e =
@@ -330,7 +331,7 @@ module _ {R L : Type 0} (join : R → R → R) (s : Words R) (k : Layouts L) (pa
               ap (λ key. cond (keys.is_same key q) (option_join join (kept_at P (rest.stores ++ older) q) (Some y.store.row)) (kept_at P (rest.stores ++ older) q)) y.key
               ∙ (ap (λ row. cond (keys.is_same (place_of s r) q) (option_join join (kept_at P (rest.stores ++ older) q) (Some row)) (kept_at P (rest.stores ++ older) q)) y.row
               ∙ ap (λ o. cond (keys.is_same (place_of s r) q) (option_join join o (Some r)) o) (rest.same q older ks h));
-          proper = (y.proper, rest.proper);
+          rows = λ new f. (record { proper = y.proper; store = y.store; is_there = f y.store (contains_here y.store rest.stores); key = y.key; row = y.row }, rest.rows new (λ z c. f z (contains_there y.store rest.stores z c)));
         }
 
     pub confirm_by : (n : ℕ) (c : Call R) (rs : List R) (ts : List StoreSlot) (b : Bool) → Has (w.nodes n).calls c → IsStoring join s k partitions p g n c.request c.phases 0 rs ts → is_kept ts (oldest k.reading (w.nodes n).view) ≡ b → Leads join s k partitions some joins_well {A = A} {C = C} w p g (did w n (stored (w.nodes n) c rs ts b))
@@ -351,6 +352,7 @@ module _ {R L : Type 0} (join : R → R → R) (s : Words R) (k : Layouts L) (pa
         let happens = keeping_happens (turned all.stores) p (all_turned (MayKeep P p) all.stores all.may) in
         let control : new.control ≡ p.control = keeping_control (turned all.stores) p in
         let log : new.log ≡ p.log = keeping_log (turned all.stores) p in
+        let kept_is : new.kept ≡ all.stores ++ p.kept = keeping_kept (turned all.stores) p ∙ onto_turned all.stores p.kept in
         let up = grown join s k partitions some joins_well p g g acts sound happens (issues_self g) in
         by_node join s k partitions some joins_well w p g g n (did w n d) d.node acts sound t happens (issues_self g)
         (subst (λ x. Turns k partitions w p.control x (did {A = A} {C = C} w n d)) (sym control) (unseen k partitions w p.control n d t.control (unseen_stored (w.nodes n) c rs ts true)))
@@ -358,8 +360,8 @@ module _ {R L : Type 0} (join : R → R → R) (s : Words R) (k : Layouts L) (pa
         (called_node join s k partitions p new g g up (length w.requests) n (w.nodes n) (record c { present = resting }) (t.nodes n)
         (call_stays join s k partitions p new g g up (length w.requests) (length w.requests) n (record c { present = resting }) (omega arith) (same_of join s k partitions g c.request) (record { owner = m.owner; start = m.start; begun = m.begun; not_asked = m.not_asked; not_stored = m.not_stored; present = tt }))
         refl (λ r d b o. same_of join s k partitions g r) (λ number. refl) (λ q. ap (λ l. log_at P l n q) log))
-        (λ q. ap (λ l. kept_at P l q) (keeping_kept (turned all.stores) p ∙ onto_turned all.stores p.kept) ∙ all.same q p.kept w.kept (t.kept q))
-        all.proper tt t.not_asked t.not_stored tt
+        (λ q. ap (λ l. kept_at P l q) kept_is ∙ all.same q p.kept w.kept (t.kept q))
+        (all.rows new (λ x c. subst (λ l. Contains l x) (sym kept_is) (Contains-append_left all.stores p.kept x c))) tt t.not_asked t.not_stored tt
 
     -- a node confirms a row
     pub confirm_comes : (n slot from : ℕ) (c : Call R) (rs : List R) (ts : List StoreSlot) → Has (w.nodes n).calls c → IsStoring join s k partitions p g n c.request c.phases 0 rs ts → MeansStored join s k partitions p g c.request c.phases slot from →

@@ -1,7 +1,7 @@
 -- Every step of the machine leads on, and so kept reads holds of every run.
 use Rattle.std.specs.Prelude.{◌≡◌, ◌≤◌, ◌<◌, ℕ, suc, Bool, true, false, not, cond, ◌==◌, ◌&&◌, ◌||◌, leb, nat_lt, Option, Some, None, List, [], ◌∷◌, ◌++◌, length, map, IsTrue, refl}
 use Rattle.std.specs.Option.{unwrap_or}
-use Rattle.std.specs.List.{AllByRecursion, flat_map}
+use Rattle.std.specs.List.{Contains, AllByRecursion, flat_map}
 use Rattle.std.proofs.Common.{ap, sym, subst, ◌∙◌, inl, inr, arith}
 use Rattle.std.proofs.lemmas.Bool.{eqb-true, leb-false, leb-true, not-false}
 use Rattle.std.proofs.lemmas.List.Elements.{All-contains, All-from_recursion, recursion_from_All}
@@ -53,7 +53,9 @@ use Rattle.machine_laws.proofs.Rounding.{may_both}
 use Rattle.machine_laws.proofs.Applying.{install_turns, apply_turns}
 use Rattle.machine_laws.proofs.Runs.{all_numbered, here, unseen_works}
 use Rattle.machine_reads.specs.Places.{Place}
-use Rattle.machine_reads.specs.Tie.{MeansRows, Issued, none_issued, both, State, MeansMessage, MeansPacket, Means, MeansDone, IsPresent, IsCall, IsTied}
+use Rattle.machine_reads.specs.Tie.{MeansRows, Issued, none_issued, both, State, MeansMessage, MeansPacket, Means, MeansDone, IsPresent, IsCall, IsKept, IsTied}
+use Rattle.machine_reads.specs.Holders.{IsHeld}
+use Rattle.machine_reads.proofs.Holders.{two_holders}
 use Rattle.machine_reads.proofs.Leads.{Leads, led, Less, less_self, only_control}
 use Rattle.machine_reads.proofs.Sees.{found_call, all_has, IsHere, reached_of}
 use Rattle.machine_reads.proofs.Called.{sent_each}
@@ -83,7 +85,7 @@ module _ {R L : Type 0} (join : R → R → R) (s : Words R) (k : Layouts L) (pa
     control = record { nodes = l.control.nodes; top = l.control.top; asked = l.control.asked; grows = l.control.grows; sends = l.control.sends; layouts = l.control.layouts };
     nodes = l.nodes;
     kept = l.kept;
-    kept_proper = l.kept_proper;
+    kept_rows = l.kept_rows;
     sends = l.sends;
     not_asked = l.not_asked;
     not_stored = l.not_stored;
@@ -99,7 +101,7 @@ module _ {R L : Type 0} (join : R → R → R) (s : Words R) (k : Layouts L) (pa
     control = record { nodes = l.control.nodes; top = l.control.top; asked = l.control.asked; grows = l.control.grows; sends = l.control.sends; layouts = l.control.layouts };
     nodes = l.nodes;
     kept = l.kept;
-    kept_proper = l.kept_proper;
+    kept_rows = l.kept_rows;
     sends = l.sends;
     not_asked = l.not_asked;
     not_stored = l.not_stored;
@@ -109,10 +111,6 @@ module _ {R L : Type 0} (join : R → R → R) (s : Words R) (k : Layouts L) (pa
   by_test : (b : Bool) (d e : Effects R L A C) → (b ≡ true → d.is_spelled ≡ true → Lead d) → (b ≡ false → e.is_spelled ≡ true → Lead e) → (cond b d e).is_spelled ≡ true → Lead (cond b d e)
   by_test true d e f h = f refl
   by_test false d e f h = h refl
-
-  did_by : (n : ℕ) (b : Bool) (d e : Did R L) → (b ≡ true → d.is_spelled ≡ true → LeadBy n d) → (b ≡ false → e.is_spelled ≡ true → LeadBy n e) → (cond b d e).is_spelled ≡ true → LeadBy n (cond b d e)
-  did_by n true d e f h = f refl
-  did_by n false d e f h = h refl
 
   either : (b : Bool) (d e : Effects R L A C) → Lead d → Lead e → Lead (cond b d e)
   either true d e f h = f
@@ -161,28 +159,28 @@ module _ {R L : Type 0} (join : R → R → R) (s : Words R) (k : Layouts L) (pa
   row_leads n from c row (asking q as') has e m = row_comes join s k partitions some joins_well laws A C w p g sound t is_here n from c q as' row has (present_of n c (asking q as') has e) m
   row_leads n from c row (scanning q as') has e m = still n
   row_leads n from c row (storing rs ts) has e m = still n
-  row_leads n from c row fetching has e m = still n
+  row_leads n from c row (fetching hash) has e m = still n
 
   rows_leads : (n from : ℕ) (c : Call R) (rs : List R) (more : Bool) (x : Present R) → Has (w.nodes n).calls c → c.present ≡ x → MeansRows join s k partitions p g c.request c.phases from (record { rows = rs; more = more }) → LeadBy n (rows_came join s (w.nodes n) c from rs more x)
   rows_leads n from c rs more resting has e m = still n
   rows_leads n from c rs more (asking q as') has e m = still n
   rows_leads n from c rs more (scanning q as') has e m = range_comes join s k partitions some joins_well laws A C w p g sound t is_here n from c q as' (record { rows = rs; more = more }) has (present_of n c (scanning q as') has e) m
   rows_leads n from c rs more (storing rs' ts) has e m = still n
-  rows_leads n from c rs more fetching has e m = still n
+  rows_leads n from c rs more (fetching hash) has e m = still n
 
   stored_leads : (n slot from : ℕ) (c : Call R) (x : Present R) → Has (w.nodes n).calls c → c.present ≡ x → Rattle.machine_reads.specs.Tie.MeansStored join s k partitions p g c.request c.phases slot from → LeadBy n (stored_came k (w.nodes n) c slot from x)
   stored_leads n slot from c resting has e m = still n
   stored_leads n slot from c (asking q as') has e m = still n
   stored_leads n slot from c (scanning q as') has e m = still n
   stored_leads n slot from c (storing rs ts) has e m = confirm_comes join s k partitions some joins_well laws A C w p g sound t n slot from c rs ts has (present_of n c (storing rs ts) has e) m
-  stored_leads n slot from c fetching has e m = still n
+  stored_leads n slot from c (fetching hash) has e m = still n
 
   block_leads : (n : ℕ) (c : Call R) (bytes : List ℕ) (x : Present R) → Has (w.nodes n).calls c → LeadBy n (block_came (w.nodes n) c bytes x)
   block_leads n c bytes resting has = still n
   block_leads n c bytes (asking q as') has = still n
   block_leads n c bytes (scanning q as') has = still n
   block_leads n c bytes (storing rs ts) has = still n
-  block_leads n c bytes fetching has = call_changes join s k partitions some joins_well A C w p g sound t n c (block_came (w.nodes n) c bytes fetching) c.phases resting has (omega arith) tt (unseen_block (w.nodes n) c bytes fetching) refl refl tt tt
+  block_leads n c bytes (fetching hash) has = call_changes join s k partitions some joins_well A C w p g sound t n c (block_came (w.nodes n) c bytes (fetching hash)) c.phases resting has (omega arith) tt (unseen_block (w.nodes n) c bytes (fetching hash)) refl refl tt tt
 
   round_leads : (n from number part : ℕ) (o : Option Round) → (w.nodes n).round ≡ o → Rattle.machine_reads.specs.Tie.MeansPushed join s k partitions p g n number part from → LeadBy n (round_came join s k n (w.nodes n) from number part o)
   round_leads n from number part None e m = still n
@@ -260,7 +258,7 @@ module _ {R L : Type 0} (join : R → R → R) (s : Words R) (k : Layouts L) (pa
       proper_rows [] a = tt
       proper_rows (r ∷ rows) a = (a.0.0, proper_rows rows a.1)
   phase_leads n c (Fetches hash) has is e =
-      call_changes join s k partitions some joins_well A C w p g sound t n c (begins s k w.kept (w.nodes n) c (Fetches hash)) (suc c.phases) fetching has (omega arith) tt (unseen_begins join s k w.kept (w.nodes n) c (Fetches hash)) refl refl
+      call_changes join s k partitions some joins_well A C w p g sound t n c (begins s k w.kept (w.nodes n) c (Fetches hash)) (suc c.phases) (fetching hash.0) has (omega arith) tt (unseen_begins join s k w.kept (w.nodes n) c (Fetches hash)) refl refl
       (sent_each join s k partitions p g w n _ _ (λ to is. tt)) tt
 
   sent_items : (q : State join s k partitions) (h : Issued R L) (n : ℕ) (v : View L) (items : List (Item R)) → AllByRecursion (Means join s k partitions q h) (sent_by w n (flat_map (item_posts join s k v) items))
@@ -420,7 +418,7 @@ module _ {R L : Type 0} (join : R → R → R) (s : Words R) (k : Layouts L) (pa
       control = record { nodes = λ n. record { view = refl; requests = refl; round = refl }; top = refl; asked = refl; sent = tt; layouts = λ i l e. cc };
       nodes = λ n. record { rows = λ q. refl; proper = tt; calls = tt; round = tt; later_rounds = λ number late. refl };
       kept = λ q. refl;
-      kept_proper = tt;
+      kept_rows = tt;
       messages = tt;
       not_asked = λ r ph late. refl;
       not_stored = λ r ph i late. refl;
@@ -453,3 +451,14 @@ module _ {R L : Type 0} (join : R → R → R) (s : Words R) (k : Layouts L) (pa
     keeps_reads moves h r c =
         let rs = (run join s k trio trio_roles empty moves).reads in
         All-contains (GaveKept join s) rs r (All-from_recursion _ rs (stands_after empty moves stands_empty h).tied.reads) c
+
+    -- each row that was kept is held by two nodes
+    pub keeps_holders : (moves : List (Move R L A C)) → IsRun join s k trio trio_roles partitions empty moves →
+        (row : R) → Contains (run join s k trio trio_roles empty moves).kept row → IsHeld join s (run join s k trio trio_roles empty moves) row
+    keeps_holders moves h row c =
+        let P = both join s k partitions in
+        let end = run join s k trio trio_roles empty moves in
+        let st = stands_after empty moves stands_empty h in
+        let sound : IsSound P st.state = subst (IsSound P) st.is_here.is (all_sound P (Rattle.machine_reads.proofs.Leads.laws_of join s k partitions some joins_well) st.is_here.before st.is_here.happens) in
+        two_holders join s k partitions some joins_well laws end st.state st.issued sound st.tied row
+        (All-contains (IsKept join s k partitions st.state) end.kept row (All-from_recursion (IsKept join s k partitions st.state) end.kept st.tied.kept_rows) c)

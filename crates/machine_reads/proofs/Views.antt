@@ -25,7 +25,7 @@ use Rattle.cluster_machine.specs.World.{World}
 use Rattle.cluster_machine.specs.Step.{Effects, only, changed, did, applied}
 use Rattle.machine_laws.proofs.Controls.{Turns, turned}
 use Rattle.machine_reads.specs.Places.{Place, keys, at_place}
-use Rattle.machine_reads.specs.Tie.{Issued, both, State, IsCall, IsRoundIn, IsNode, IsTied}
+use Rattle.machine_reads.specs.Tie.{Issued, both, State, IsCall, IsRoundIn, IsNode, IsKept, IsTied}
 use Rattle.machine_reads.proofs.Placed.{kept_at_place, none_at_place}
 use Rattle.machine_reads.proofs.Growth.{same_at, calls_stay, round_in_stays, node_stays, SameOf}
 use Rattle.machine_reads.proofs.Logs.{moved_control, moved_log, moved_kept, dropping, dropping_happens, dropping_same, dropping_others, dropping_keeps, dropping_none}
@@ -163,7 +163,7 @@ module _ {R L : Type 0} (join : R → R → R) (s : Words R) (k : Layouts L) (pa
             })
             (λ j d. node_stays join s k partitions p new g h up count q j (w.nodes j) (omega arith) (same j) (λ q. refl) (t.nodes j)) i));
         kept = λ z. t.kept z ∙ ap (λ (ks : List R). at_place s join (ks ++ w.kept) z) (sym keeps);
-        kept_proper = subst (AllByRecursion (λ r. IsTrue (s.is_proper r))) (sym keeps) tt;
+        kept_rows = subst (AllByRecursion (IsKept join s k partitions new)) (sym keeps) tt;
         sends = subst (AllByRecursion (Rattle.machine_reads.specs.Tie.Means join s k partitions new h)) (sym sends) tt;
         not_asked = λ r ph late. t.not_asked r ph (omega arith);
         not_stored = λ r ph i late. t.not_stored r ph i (omega arith);

@@ -27,6 +27,7 @@ use Rattle.cluster_machine.specs.World.{Sent, World}
 use Rattle.machine_laws.specs.Follows.{Controlled}
 use Rattle.machine_reads.specs.Places.{Place, keys, place_of, at_place}
 
+-- a question of the data plane, over the machine's views
 abbrev pub Question : Type 0 → Type 0 → Type 0
 Question R L = plane.Question (control.World L) Place R
 
@@ -53,13 +54,16 @@ pub record Issued (R L : Type 0) : Type 0 where
   pub stores : ℕ → ℕ → ℕ → Option (plane.Store Place R)  -- of a request, a phase and a slot
   pub rounds : ℕ → ℕ → Option (Begun R)  -- of a node and a number
 
+-- nothing was begun
 abbrev pub none_issued : {R L : Type 0} → Issued R L
 none_issued = record { owner = λ _. 0; start = λ _. 0; asks = λ _ _. None; stores = λ _ _ _. None; rounds = λ _ _. None }
 
 module _ {R L : Type 0} (join : R → R → R) (s : Words R) (k : Layouts L) (partitions : ℕ) where
+  -- the plane of the machine's views and rows
   abbrev pub both : Plane (control.World L) (Step L) Place R
   both = joint k.reading partitions keys join
 
+  -- worlds of that plane
   abbrev pub State : Type 0
   State = plane.World (control.World L) Place R
 
@@ -68,10 +72,12 @@ module _ {R L : Type 0} (join : R → R → R) (s : Words R) (k : Layouts L) (pa
   with_read None rs = rs
   with_read (Some r) rs = r ∷ rs
 
+  -- the rows that these bytes spell
   abbrev pub rows_read : List (List ℕ × Option (List ℕ)) → List R
   rows_read [] = []
   rows_read (b ∷ bs) = with_read (s.read b.0) (rows_read bs)
 
+  -- a row under its place
   abbrev pub placed : R → plane.Row Place R
   placed r = record { key = place_of s r; row = r }
 
@@ -96,10 +102,12 @@ module _ {R L : Type 0} (join : R → R → R) (s : Words R) (k : Layouts L) (pa
       pub rows_are : (q : Place) → answered.answer.rows q ≡ at_place s join contents q
       pub found_is : found ≡ found_in join s position prefix after most_rows contents
 
+    -- node n answered a question about one key, with this row
     abbrev pub AnsweredRow : Asked R L → ℕ → Option R → Type 0
     AnsweredRow (a_key question table key) n row = AtKey question table key n row
     AnsweredRow (a_range question position prefix after) n row = ⊥
 
+    -- node n answered a question about a range, with these rows
     abbrev pub AnsweredRows : Asked R L → ℕ → RangeAnswer R → Type 0
     AnsweredRows (a_key question table key) n found = ⊥
     AnsweredRows (a_range question position prefix after) n found = InRange question position prefix after n found
@@ -112,23 +120,28 @@ module _ {R L : Type 0} (join : R → R → R) (s : Words R) (k : Layouts L) (pa
       pub version : question.version ≡ at
       pub given : Contains (both.control.set question.control question.version question.partition) to
 
+    -- a phase asks for one key, and all rows of that table and key are in its partition
     pub record MeansGet (request phase at table : ℕ) (key : List ℕ) (to : ℕ) : Type 0 where
       pub asked : IsAsked request phase at (λ question. a_key question table key) to
       pub one_partition : (r : R) → IsTrue (s.is_proper r) → s.table r ≡ table → s.key r ≡ key → partition_of s r ≡ asked.question.partition
 
+    -- a phase asks for a range
     abbrev pub MeansRange : (request phase at : ℕ) (position prefix after : List ℕ) (to : ℕ) → Type 0
     MeansRange request phase at position prefix after to = IsAsked request phase at (λ question. a_range question position prefix after) to
 
+    -- the phase asked for a key, and this row is what the node answered
     pub record MeansRow (request phase from : ℕ) (row : Option R) : Type 0 where
       pub asked : Asked R L
       pub issued : g.asks request phase ≡ Some asked
       pub answered : AnsweredRow asked from row
 
+    -- the phase asked for a range, and these rows are what the node answered
     pub record MeansRows (request phase from : ℕ) (found : RangeAnswer R) : Type 0 where
       pub asked : Asked R L
       pub issued : g.asks request phase ≡ Some asked
       pub answered : AnsweredRows asked from found
 
+    -- a store that was issued, of this one row
     pub record MeansStore (request phase slot named partition : ℕ) (rows : List (List ℕ × Option (List ℕ))) : Type 0 where
       pub store : plane.Store Place R
       pub issued : g.stores request phase slot ≡ Some store
@@ -138,11 +151,13 @@ module _ {R L : Type 0} (join : R → R → R) (s : Words R) (k : Layouts L) (pa
       pub partition_is : partition_of s store.row ≡ partition
       pub rows_are : rows_read rows ≡ store.row ∷ []
 
+    -- that store's row was confirmed by this node
     pub record MeansStored (request phase slot from : ℕ) : Type 0 where
       pub store : plane.Store Place R
       pub issued : g.stores request phase slot ≡ Some store
       pub confirmed : Contains p.stored (record { store = store; node = from })
 
+    -- the round pushed these rows of this partition
     pub record IsPush (round : plane.Round Place R) (partition named : ℕ) (rows : List (List ℕ × Option (List ℕ))) : Type 0 where
       pub push : plane.Push Place R
       pub is_there : Contains p.pushes push
@@ -151,29 +166,35 @@ module _ {R L : Type 0} (join : R → R → R) (s : Words R) (k : Layouts L) (pa
       pub newest : push.newest ≡ named
       pub rows_are : push.rows ≡ map placed (rows_read rows)
 
+    -- a round pushed these rows, and a repair owes nothing
     abbrev pub IsPushOf : Begun R → ℕ → ℕ → List (List ℕ × Option (List ℕ)) → Type 0
     IsPushOf (a_round round) partition named rows = IsPush round partition named rows
     IsPushOf a_repair partition named rows = ⊤
 
+    -- these rows were pushed under a number that this node's rounds have
     pub record MeansPush (from number partition named : ℕ) (rows : List (List ℕ × Option (List ℕ))) : Type 0 where
       pub begun : Begun R
       pub issued : g.rounds from number ≡ Some begun
       pub push : IsPushOf begun partition named rows
 
+    -- the node confirmed the round's partition, and to a repair it owes nothing
     abbrev pub IsPushedOf : Begun R → ℕ → ℕ → Type 0
     IsPushedOf (a_round round) partition node = Contains p.pushed (record { round = round; partition = partition; node = node })
     IsPushedOf a_repair partition node = ⊤
 
+    -- this node confirmed what that number pushed
     pub record MeansPushed (to number partition from : ℕ) : Type 0 where
       pub begun : Begun R
       pub issued : g.rounds to number ≡ Some begun
       pub pushed : IsPushedOf begun partition from
 
+    -- what a message of rows means, by what it is for
     abbrev pub MeansTag : ℕ → ℕ → Tag → ℕ → ℕ → List (List ℕ × Option (List ℕ)) → Type 0
     MeansTag from to (ForCall request phase slot) named partition rows = MeansStore request phase slot named partition rows
     MeansTag from to (ForRound number part) named partition rows = (part ≡ partition) × MeansPush from number partition named rows
     MeansTag from to (ForItem number) named partition rows = ⊤
 
+    -- what a confirmation means, by what it is for
     abbrev pub MeansDone : ℕ → ℕ → Tag → Type 0
     MeansDone from to (ForCall request phase slot) = MeansStored request phase slot from
     MeansDone from to (ForRound number partition) = MeansPushed to number partition from
@@ -189,10 +210,12 @@ module _ {R L : Type 0} (join : R → R → R) (s : Words R) (k : Layouts L) (pa
     MeansMessage from to (HasStored tag) = MeansDone from to tag
     MeansMessage from to _ = ⊤
 
+    -- what a packet means, where a view means nothing here
     abbrev pub MeansPacket : ℕ → ℕ → Packet R L → Type 0
     MeansPacket from to (says m) = MeansMessage from to m
     MeansPacket from to (shows v) = ⊤
 
+    -- what a message means
     abbrev pub Means : Sent R L → Type 0
     Means x = MeansPacket x.from x.to x.packet
 
@@ -233,12 +256,14 @@ module _ {R L : Type 0} (join : R → R → R) (s : Words R) (k : Layouts L) (pa
       pub long : t.first + length t.sets ≡ suc store.newest
       pub confirmed : AllByRecursion (λ m. Contains p.stored (record { store = store; node = m })) t.nodes
 
+    -- each row of a store phase has its slot
     abbrev pub IsStoring : ℕ → ℕ → ℕ → ℕ → List R → List StoreSlot → Type 0
     IsStoring n request phase slot [] [] = ⊤
     IsStoring n request phase slot [] (t ∷ ts) = ⊥
     IsStoring n request phase slot (r ∷ rs) [] = ⊥
     IsStoring n request phase slot (r ∷ rs) (t ∷ ts) = IsSlot n request phase slot r t × IsStoring n request phase (suc slot) rs ts
 
+    -- what a request's phase is in the plane
     abbrev pub IsPresent : ℕ → ℕ → ℕ → Present R → Type 0
     IsPresent n request phase (asking q answers) = IsAsking request phase q answers
     IsPresent n request phase (scanning q answers) = IsScanning request phase q answers
@@ -261,6 +286,7 @@ module _ {R L : Type 0} (join : R → R → R) (s : Words R) (k : Layouts L) (pa
       pub partition_is : part.partition ≡ partition
       pub set_is : part.set ≡ both.control.set p.control target partition
 
+    -- the plane has the node's round: what it pushes, and who confirmed
     pub record IsRound (n : ℕ) (x : machine.Round) : Type 0 where
       pub round : plane.Round Place R
       pub issued : g.rounds n x.number ≡ Some (a_round round)
@@ -271,6 +297,7 @@ module _ {R L : Type 0} (join : R → R → R) (s : Words R) (k : Layouts L) (pa
       pub confirmed : AllByRecursion (λ (c : machine.Confirmed). HasPushed p round c.partition c.node) x.confirmed
       pub parts : (partition : ℕ) → Contains (both.control.set p.control round.from partition) n → ((q : Place) → q.0 ≡ partition → log_at both round.log n q ≡ None) ⊎ HasPart x.parts x.target partition
 
+    -- the plane has the round that is open, if one is
     abbrev pub IsRoundIn : ℕ → Option machine.Round → Type 0
     IsRoundIn n None = ⊤
     IsRoundIn n (Some x) = IsRound n x
@@ -283,11 +310,20 @@ module _ {R L : Type 0} (join : R → R → R) (s : Words R) (k : Layouts L) (pa
       pub round : IsRoundIn n x.round
       pub later_rounds : (number : ℕ) → x.rounds < number → g.rounds n number ≡ None
 
+  -- a proper row of which the plane kept a store, at its place
+  pub record IsKept (p : State) (r : R) : Type 0 where
+    pub proper : IsTrue (s.is_proper r)
+    pub store : plane.Store Place R
+    pub is_there : Contains p.kept store
+    pub key : store.key ≡ place_of s r
+    pub row : store.row ≡ r
+
+  -- the machine's world and the plane's say the same, of nodes, messages, kept rows and reads
   pub record IsTied (w : World R L) (p : State) (g : Issued R L) : Type 0 where
     pub control : Controlled k partitions w p.control
     pub nodes : (n : ℕ) → IsNode p g (length w.requests) n (w.nodes n)
     pub kept : (q : Place) → kept_at both p.kept q ≡ at_place s join w.kept q
-    pub kept_proper : AllByRecursion (λ r. IsTrue (s.is_proper r)) w.kept
+    pub kept_rows : AllByRecursion (IsKept p) w.kept
     pub messages : AllByRecursion (Means p g) w.messages
     pub not_asked : (request phase : ℕ) → length w.requests < request → g.asks request phase ≡ None
     pub not_stored : (request phase slot : ℕ) → length w.requests < request → g.stores request phase slot ≡ None

@@ -14,9 +14,9 @@ use Rattle.layout_trackers.specs.declared.which.Which.TheVariants.{Ack, Sync, Sy
 use Rattle.layout_trackers.specs.Trackers.{Tracker, entry}
 use Rattle.view_model.specs.Layouts.{reading}
 use Rattle.view_model.specs.View.{View, newest, layout_at, is_gapless, merged, cleaned}
-use Rattle.view_model.specs.Reads.{merged_grew}
-use Rattle.view_model.specs.Cleans.{newest_stays}
-use Rattle.view_model.specs.Gapless.{none_at_0, lt_leb}
+use Rattle.view_model.proofs.ReadVersions.{merged_grew}
+use Rattle.view_model.proofs.Cleans.{newest_stays}
+use Rattle.view_model.proofs.Gapless.{none_at_0, lt_leb}
 use Rattle.table_schema.specs.Words.{Words}
 use Rattle.quorum_model.specs.Quorum.{is_among}
 use Rattle.cluster_machine.specs.Layouts.{members_in, is_member, layouts}

@@ -3,8 +3,8 @@ use Rattle.std.proofs.Common.{◌≡◌, ◌≤◌, ℕ, suc, true, List, [], �
 use Rattle.layout_roles.specs.declared.layout.Layout.{Layout}
 use Rattle.view_model.specs.Layouts.{reading}
 use Rattle.view_model.specs.View.{View, newest, layout_at, is_gapless, read_version, first_version, last_version}
-use Rattle.view_model.specs.Gapless.{inside, led, oldest_least}
-use Rattle.view_model.specs.Reads.{read_stored, read_known}
+use Rattle.view_model.proofs.Gapless.{inside, led, oldest_least}
+use Rattle.view_model.proofs.ReadVersions.{read_stored, read_known}
 
 abbrev pub IsThere : View Layout → ℕ → Type 0
 IsThere v i = (l : Layout) × (layout_at reading v i ≡ Some l)

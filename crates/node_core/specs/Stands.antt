@@ -33,6 +33,7 @@ abbrev pub HasVersion : {R : Type 0} → View Layout → List (Opened R) → Typ
 HasVersion v [] = ⊤
 HasVersion v (c ∷ cs) = IsTrue (leb 1 (newest reading v))
 
+-- what the node knows of the versions
 abbrev pub view_of : {S R : Type 0} → Node S R → View Layout
 view_of node = known node.view
 
@@ -40,6 +41,7 @@ view_of node = known node.view
 abbrev pub sender_of : {S R : Type 0} → Node S R → ℕ → Sender
 sender_of node round = record { node = node.id; newest = newest reading (known node.view); round = round; alloc = node.alloc }
 
+-- the code's node is this node of the model
 pub record StandsFor {S R : Type 0} (join : R → R → R) (s : Words R) (c : Node S R) (id : ℕ) (x : Model R Layout) : Type 0 where
   pub id_is : c.id ≡ id
   pub view : known c.view ≡ x.view
@@ -95,6 +97,7 @@ Hands {S} {R} join s node here there round old new parts =
     (id : ℕ) (x : Model R Layout) (l m : Layout) → StandsFor join s node id x → layout_at reading x.view here ≡ Some l → layout_at reading x.view there ≡ Some m →
     PushedAll join s (sender_of node round) l m old new parts x
 
+-- some row that moves from one version to another has no bytes
 abbrev pub CannotHand : {S R : Type 0} → (R → R → R) → Words R → Node S R → ℕ → ℕ → ℕ → Type 0
 CannotHand {S} {R} join s node here there round =
     (id : ℕ) (x : Model R Layout) (l m : Layout) → StandsFor join s node id x → layout_at reading x.view here ≡ Some l → layout_at reading x.view there ≡ Some m →
@@ -127,6 +130,7 @@ abbrev pub IsBare : {R : Type 0} → Message R → Type 0
 IsBare (Store tag newest p rows) = AreBare rows
 IsBare _ = ⊤
 
+-- a packet whose rows come without blocks
 abbrev pub IsBarePacket : {R : Type 0} → Packet R → Type 0
 IsBarePacket (Msg m) = IsBare m
 IsBarePacket (Shown v) = ⊤

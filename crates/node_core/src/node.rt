@@ -619,6 +619,7 @@ impl<S: Schema> Node<S> {
     pub fn restart(&mut self) -> Result<Vec<u64>, Memory>
         ensures restarts { OnOk result (Becomes S.Row.join S.words self.old self.new (λ id x. restarts x)) }
         ensures lost { IfOk result (λ lost. (id : ℕ) (x : Model S.Row Layout) → StandsFor S.Row.join S.words self.old id x → lost.items ≡ reverse (requests_of x.calls)) }
+        ensures unchanged { OnErr result (Becomes S.Row.join S.words self.old self.new (λ id x. x)) }
         ensures want { OnlyWant result }
     {
         let lost = self.calls.lose_all()?;

@@ -67,9 +67,9 @@ module _ {S R : Type 0} (s : Words R) (b : Beginning) (view : View) (old new : L
 
   pub block_begins : (hash : Hash32) (nodes : List ℕ) → Asks b view old new hash.0 nodes (BlockGet b.request b.phase (at (known view)) hash) → Begins s {S = S} b view (Block hash) old new Fetching
   block_begins hash nodes asked kept x c same some request phase = record {
-    doing = fetching;
+    doing = fetching hash.0;
     is = tt;
-    node = λ i. calls_now x (record c { phases = phase i; present = fetching });
+    node = λ i. calls_now x (record c { phases = phase i; present = fetching hash.0 });
     posts = asked.1 ∙ (λ i. map posted old ++ map (λ m. (b.node, m)) (to_each ((sym asked.0 ∙ ap (λ v. set_at layouts v (at v) (partition_at hash.0)) same) i) (BlockGet (sym request i) (sym phase i) (at (same i)) hash)));
     ends = refl;
     spelled = refl;

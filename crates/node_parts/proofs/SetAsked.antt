@@ -8,8 +8,8 @@ use Rattle.layout_history.specs.declared.view.View.{View}
 use Rattle.view_model.specs.Layouts.{reading}
 use Rattle.layout_history.specs.Views.{known}
 use Rattle.view_model.specs.View.{newest, oldest, layout_at, read_version, is_gapless, first_version, last_version}
-use Rattle.view_model.specs.Gapless.{Stored, led, inside, none_is_not}
-use Rattle.view_model.specs.Reads.{read_known, read_stored}
+use Rattle.view_model.proofs.Gapless.{Stored, led, inside, none_is_not}
+use Rattle.view_model.proofs.ReadVersions.{read_known, read_stored}
 use Rattle.cluster_machine.specs.Layouts.{set_in, set_at, layouts}
 
 first_above : (ls : List Layout) → is_gapless reading ls ≡ true → 1 ≤ last_version reading 0 ls → 1 ≤ first_version reading ls

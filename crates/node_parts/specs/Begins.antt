@@ -28,6 +28,7 @@ module _ {R : Type 0} (s : Words R) where
     pub confirmed : Tallies tally (oldest reading (known view)) (stored_sets layouts (known view) (partition_of s row)) []
     pub spelled : is_spelled s row ≡ true
 
+  -- all rows of a store phase were sent, each with its slot
   pub record StoresAll (b : Beginning) (view : View) (rows : List (R × Option (List ℕ))) (old new : List (Envelope R)) (call : WriteCall) : Type 0 where
     pub posts : Posts b.node old new (stores s layouts (known view) b.request b.phase 0 rows)
     pub slots : Stands call (slots_of s layouts (known view) rows)
@@ -48,6 +49,7 @@ module _ {R : Type 0} (s : Words R) where
       (kept : List R) (x : Node R Layout) (c : Opened R) → known view ≡ x.view → IsTrue (leb 1 (newest reading x.view)) → c.request ≡ b.request → suc c.phases ≡ b.phase →
       Began b present old new x c (begins s layouts kept x c phase)
 
+  -- some row of the phase has no bytes
   abbrev pub CannotBegin : Beginning → View → Phase R → Type 0
   CannotBegin b view phase =
       (kept : List R) (x : Node R Layout) (c : Opened R) → known view ≡ x.view → (begins s layouts kept x c phase).is_spelled ≡ false

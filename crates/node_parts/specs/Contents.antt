@@ -47,6 +47,7 @@ pub record KeepsRest {R : Type 0} (x y : Node R Layout) : Type 0 where
   pub round : y.round ≡ x.round
   pub rounds : y.rounds ≡ x.rounds
 
+-- x became y, which has these contents
 pub record Became {S R : Type 0} (join : R → R → R) (s : Words R) (c : Contents S R) (x y : Node R Layout) : Type 0 where
   pub contents : IsContents join s c y
   pub rest : KeepsRest x y
@@ -65,9 +66,11 @@ module _ {S R : Type 0} (join : R → R → R) (s : Words R) where
   abbrev pub Exceeds : Contents S R → (Node R Layout → Node R Layout) → Type 0
   Exceeds old f = (x : Node R Layout) → IsContents join s old x → Holds s (f x) → ⊥
 
+  -- the contents took these rows with their blocks, at any moment
   abbrev pub Accepts : Contents S R → Contents S R → List (List ℕ × Option (List ℕ)) → Type 0
   Accepts old new stored = (now : ℕ) → Turns old new (λ x. accepts_all join s now x stored)
 
+  -- the contents can't take these rows, at any moment
   abbrev pub CannotAccept : Contents S R → List (List ℕ × Option (List ℕ)) → Type 0
   CannotAccept old stored = (now : ℕ) → Exceeds old (λ x. accepts_all join s now x stored)
 

@@ -8,6 +8,7 @@ use Rattle.node_parts.specs.declared.packet.Packet.TheVariants.{Msg, View}
 use Rattle.node_parts.specs.declared.packet.Envelope.{Envelope}
 
 module _ {R : Type 0} where
+  -- the packet in the words of the model
   abbrev pub told : Packet R → Told R Layout
   told (Msg m) = says m
   told (View v) = shows (known v)

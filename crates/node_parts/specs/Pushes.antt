@@ -31,14 +31,17 @@ module _ {R : Type 0} (join : R → R → R) (s : Words R) where
     pub blocks : x.blocks ≡ []
     pub newest_is : newest reading x.view ≡ sender.newest
 
+  -- one partition's rows were pushed to these nodes, or there were none
   pub record Pushed (sender : Sender) (p : ℕ) (nodes : List ℕ) (old new : List (Envelope R)) (is_some : Bool) (x : Node R Layout) : Type 0 where
     pub posts : Posts sender.node old new (pushes join s layouts x sender.round p nodes)
     pub some : is_some ≡ not (is_empty (rows_at join s x p))
     pub spelled : list_all (is_spelled s) (rows_at join s x p) ≡ true
 
+  -- whatever node it is, one partition's rows were pushed to these nodes
   abbrev pub Pushes : Sender → List R → ℕ → List ℕ → List (Envelope R) → List (Envelope R) → Bool → Type 0
   Pushes sender table p nodes old new is_some = (x : Node R Layout) → Sends sender table x → Pushed sender p nodes old new is_some x
 
+  -- some row of the partition has no bytes
   abbrev pub CannotPush : Sender → List R → ℕ → Type 0
   CannotPush sender table p = (x : Node R Layout) → Sends sender table x → list_all (is_spelled s) (rows_at join s x p) ≡ false
 
@@ -46,24 +49,30 @@ module _ {R : Type 0} (join : R → R → R) (s : Words R) where
   abbrev pub moved : Sender → Layout → Layout → Node R Layout → List Part
   moved sender here there x = parts_of join s layouts sender.node x (Some here) (Some there)
 
+  -- each partition that moves was pushed to the nodes that are new to it
   pub record PushedAll (sender : Sender) (here there : Layout) (old new : List (Envelope R)) (parts : List (ℕ × List ℕ)) (x : Node R Layout) : Type 0 where
     pub posts : Posts sender.node old new (flat_map (λ part. pushes join s layouts x sender.round part.partition (others_of sender.node part.set)) (moved sender here there x))
     pub parts_are : map part_of parts ≡ moved sender here there x
     pub ascending : IsStrictlyIncreasing (map (λ part. part.0) parts)
     pub spelled : are_spelled join s layouts x (moved sender here there x) ≡ true
 
+  -- whatever node it is, all that moves was pushed
   abbrev pub PushesAll : Sender → List R → Layout → Layout → List (Envelope R) → List (Envelope R) → List (ℕ × List ℕ) → Type 0
   PushesAll sender table here there old new parts = (x : Node R Layout) → Sends sender table x → PushedAll sender here there old new parts x
 
+  -- some row that moves has no bytes
   abbrev pub CannotPushAll : Sender → List R → Layout → Layout → Type 0
   CannotPushAll sender table here there = (x : Node R Layout) → Sends sender table x → are_spelled join s layouts x (moved sender here there x) ≡ false
 
+  -- each of these partitions was pushed to its nodes again
   pub record PushedAgain (sender : Sender) (parts : List (ℕ × List ℕ)) (old new : List (Envelope R)) (x : Node R Layout) : Type 0 where
     pub posts : Posts sender.node old new (flat_map (λ part. pushes join s layouts x sender.round part.0 part.1) parts)
     pub spelled : are_spelled join s layouts x (map part_of parts) ≡ true
 
+  -- whatever node it is, these partitions were pushed again
   abbrev pub PushesAgain : Sender → List R → List (ℕ × List ℕ) → List (Envelope R) → List (Envelope R) → Type 0
   PushesAgain sender table parts old new = (x : Node R Layout) → Sends sender table x → PushedAgain sender parts old new x
 
+  -- some row of these partitions has no bytes
   abbrev pub CannotPushAgain : Sender → List R → List (ℕ × List ℕ) → Type 0
   CannotPushAgain sender table parts = (x : Node R Layout) → Sends sender table x → are_spelled join s layouts x (map part_of parts) ≡ false

@@ -2,5 +2,6 @@
 use Rattle.std.specs.Prelude.{ℕ, not, ◌==◌, List}
 use Rattle.std.specs.List.{filter}
 
+-- the set without this node
 abbrev pub others_of : ℕ → List ℕ → List ℕ
 others_of node set = filter (λ n. not (n == node)) set

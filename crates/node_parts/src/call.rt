@@ -3,7 +3,7 @@ ghost use Rattle.std.specs.Prelude.{◌≡◌, IfOk, OnOk};
 ghost use Rattle.crdt_core.specs.Outcomes.{OnlyWant};
 ghost use Rattle.node_parts.specs.Calls.{TakesRow, TakesRows, TakesConfirmation, TakesBlock};
 
-use crdt_core::{Bytes, Crdt, List, Memory, Value};
+use crdt_core::{Bytes, List, Memory, Value, copy_row, copy_rows};
 use read_call::{RangeCall, ReadCall};
 use std::alloc::Global;
 use table_schema::Schema;
@@ -30,27 +30,6 @@ pub struct Call<S: Schema> {
     /// How many phases began.
     pub phases: u32,
     pub present: Present<S>,
-}
-
-fn copy_row<R: Crdt>(row: &Option<R>) -> Result<Option<R>, Memory>
-    ensures same { IfOk result (λ copied. copied ≡ row.now) }
-    ensures want { OnlyWant result }
-{
-    match row {
-        Some(row) => Ok(Some(row.copy()?)),
-        None => Ok(None),
-    }
-}
-
-fn copy_rows<R: Crdt>(alloc: Global, rows: &[R]) -> Result<Vec<R>, Memory>
-    ensures same { IfOk result (λ copied. copied.items ≡ rows.now) }
-    ensures want { OnlyWant result }
-{
-    let mut copied = Vec::new(alloc);
-    for row in rows {
-        copied.push(row.copy()?)?;
-    }
-    Ok(copied)
 }
 
 impl<S: Schema> Call<S> {
@@ -89,7 +68,8 @@ impl<S: Schema> Call<S> {
         let Present::Scanning(call) = &mut self.present else {
             return Ok(None);
         };
-        let Some((rows, end)) = call.answer(alloc, from, copy_rows(alloc, rows)?, more)? else {
+        let Some((rows, end)) = call.answer(alloc, from, copy_rows(alloc, rows)?.into_vec(), more)?
+        else {
             return Ok(None);
         };
         self.present = Present::Resting;

@@ -5,29 +5,8 @@ ghost use Rattle.cluster_machine.specs.Phases.{to_each};
 ghost use Rattle.node_parts.specs.Posts.{Posts};
 
 use crate::packet::{Envelope, Packet};
-use crdt_core::{Bytes, Crdt, List, Memory, Value};
+use crdt_core::{Bytes, Crdt, List, Memory, Value, copy_row, copy_rows};
 use wire_messages::Message;
-
-fn copy_row<R: Crdt>(row: &Option<R>) -> Result<Option<R>, Memory>
-    ensures same { IfOk result (λ copied. copied ≡ row.now) }
-    ensures want { OnlyWant result }
-{
-    match row {
-        Some(row) => Ok(Some(row.copy()?)),
-        None => Ok(None),
-    }
-}
-
-fn copy_rows<R: Crdt>(rows: &List<R>) -> Result<List<R>, Memory>
-    ensures same { IfOk result (λ copied. copied ≡ rows.now) }
-    ensures want { OnlyWant result }
-{
-    let mut copied = List::new(rows.allocator());
-    for row in rows.as_slice() {
-        copied.push(row.copy()?)?;
-    }
-    Ok(copied)
-}
 
 fn copy_block(block: &Option<Bytes>) -> Result<Option<Bytes>, Memory>
     ensures same { IfOk result (λ copied. copied ≡ block.now) }
@@ -100,7 +79,7 @@ fn copy_of<R: Crdt>(message: &Message<R>) -> Result<Message<R>, Memory>
         } => Ok(Message::Rows {
             request: *request,
             phase: *phase,
-            rows: copy_rows(rows)?,
+            rows: copy_rows(rows.allocator(), rows.as_slice())?,
             more: *more,
         }),
         Message::Store {

@@ -22,7 +22,8 @@ use Rattle.machine_origins.proofs.FollowingCalls.{found_there}
 use Rattle.machine_origins.proofs.FollowingSteps.{begins_follow}
 use Rattle.cluster_machine.specs.Layouts.{layouts}
 use Rattle.cluster_machine.specs.Trio.{trio, stage_trio}
-use Rattle.object_model.specs.Object.{Name, row_key, bucket_hash, object}
+use Rattle.blake2_hash.specs.Hash.{digest_of}
+use Rattle.object_model.specs.Object.{Name, row_key, object}
 use Rattle.object_model.specs.Run.{State, Order, Record, began, plainly, effect, asks, stores}
 use Rattle.object_model.specs.Fresh.{IsAcknowledged}
 use Rattle.object_laws.proofs.Sound.{HasKept, IsProper, AreProper, IsPresent, IsSound}
@@ -63,7 +64,7 @@ acknowledged_part before rest name version a =
     record { request = a.request; node = a.node; has_begun = Contains-append_left before rest _ a.has_begun; has_finished = Contains-append_left before rest _ a.has_finished }
 
 module _ (s : State) (q : ℕ) (order : Order) (there : numbered s.orders q ≡ Some order) (sound : IsSound s) where
-  asks_present : (p : Present AnyRow) → Began s.world.kept (Read 1 (bucket_hash order.name.bucket) (row_key order.name)) p → IsPresent s.orders s.history q p
+  asks_present : (p : Present AnyRow) → Began s.world.kept (Read 1 (digest_of order.name.bucket) (row_key order.name)) p → IsPresent s.orders s.history q p
   asks_present resting b = absurd b
   asks_present (asking question answers) b = record {
     order = order;
@@ -76,18 +77,18 @@ module _ (s : State) (q : ℕ) (order : Order) (there : numbered s.orders q ≡ 
   }
   asks_present (scanning scan answers) b = absurd b
   asks_present (storing rows slots) b = absurd b
-  asks_present fetching b = absurd b
+  asks_present (fetching hash) b = absurd b
 
   stores_present : (version : Version) → order.version ≡ Some version → (p : Present AnyRow) → Began s.world.kept (Store ((object order.name version order.bytes, None) ∷ [])) p → IsPresent s.orders s.history q p
   stores_present version is resting b = absurd b
   stores_present version is (asking question answers) b = absurd b
   stores_present version is (scanning scan answers) b = absurd b
   stores_present version is (storing rows slots) b = record { order = order; version = version; is_there = there; version_is = is; rows_are = b }
-  stores_present version is fetching b = absurd b
+  stores_present version is (fetching hash) b = absurd b
 
   module _ (differ : (n : ℕ) → AreDifferent (s.world.nodes n).calls) where
     pub asks_fine : IsFine s (effect s (asks q order.name))
-    asks_fine = phase_fine s sound differ q (Read 1 (bucket_hash order.name.bucket) (row_key order.name)) asks_present
+    asks_fine = phase_fine s sound differ q (Read 1 (digest_of order.name.bucket) (row_key order.name)) asks_present
 
     pub stores_fine : (version : Version) → order.version ≡ Some version → IsFine s (effect s (stores q order version))
     stores_fine version is = phase_fine s sound differ q (Store ((object order.name version order.bytes, None) ∷ [])) (stores_present version is)

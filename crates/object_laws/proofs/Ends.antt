@@ -42,14 +42,14 @@ module _ (orders : List Order) (history : List Record) where
   present_goes q (asking o bs) (asking p as') goes h = subst (IsAsking orders history q) (sym goes) h
   present_goes q (scanning o bs) (asking p as') goes h = absurd goes
   present_goes q (storing rows slots) (asking p as') goes h = absurd goes
-  present_goes q fetching (asking p as') goes h = absurd goes
+  present_goes q (fetching hash) (asking p as') goes h = absurd goes
   present_goes q old (scanning p as') goes h = tt
   present_goes q resting (storing rows slots) goes h = absurd goes
   present_goes q (asking o bs) (storing rows slots) goes h = absurd goes
   present_goes q (scanning o bs) (storing rows slots) goes h = absurd goes
   present_goes q (storing others before) (storing rows slots) goes h = subst (IsStoring orders q) (sym goes) h
-  present_goes q fetching (storing rows slots) goes h = absurd goes
-  present_goes q old fetching goes h = tt
+  present_goes q (fetching hash) (storing rows slots) goes h = absurd goes
+  present_goes q old (fetching hash) goes h = tt
 
   pub present_continues : (calls : List (Call AnyRow)) → ArePresent orders history calls → (c : Call AnyRow) → Continues calls c → IsPresent orders history c.request c.present
   present_continues calls are c k =
@@ -76,10 +76,10 @@ module _ (orders : List Order) (history : List Record) where
       subst AreProper (sym (so.0 ∙ h.rows_are)) (All-cons IsProper (object h.order.name h.version h.order.bytes) [] (object_is_proper h.order.name h.version h.order.bytes) (All-nil IsProper)),
     )
     one_end q (storing rows slots) (Block bytes) h so = absurd so
-    one_end q fetching (Answered value) h so = absurd so
-    one_end q fetching (Window rows end) h so = absurd so
-    one_end q fetching Kept h so = absurd so
-    one_end q fetching (Block bytes) h so = (tt, none_proper keeps so.0)
+    one_end q (fetching hash) (Answered value) h so = absurd so
+    one_end q (fetching hash) (Window rows end) h so = absurd so
+    one_end q (fetching hash) Kept h so = absurd so
+    one_end q (fetching hash) (Block bytes) h so = (tt, none_proper keeps so.0)
 
     pub ends_are : (old later : List (Call AnyRow)) (ends : List (Ended AnyRow)) → ArePresent orders history old → AtMostOne old later ends keeps reads →
         AllByRecursion (λ (e : Ended AnyRow). IsEnd orders history (keeps ++ kept) (reads ++ before) e.request e.how) ends × AreProper keeps

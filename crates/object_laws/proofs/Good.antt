@@ -9,7 +9,7 @@ use Rattle.crdt_rows.specs.AnyRow.{any_join}
 use Rattle.object_schema.specs.Schema.{words}
 use Rattle.object_schema.specs.Laws.{schema_laws}
 use Rattle.object_schema.specs.Triggers.{deleted_version, deleted_reference, given_up, released}
-use Rattle.machine_origins.specs.Origins.{IsInherited}
+use Rattle.machine_origins.proofs.ByOrigin.{IsInherited}
 use Rattle.object_model.specs.Object.{object}
 use Rattle.object_model.specs.Run.{Draw}
 use Rattle.object_laws.proofs.Rows.{IsOf, is_inherited, object_is_of, more_draws}

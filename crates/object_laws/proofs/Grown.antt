@@ -64,7 +64,7 @@ present_later old new history keeps q (storing rows slots) h =
       version_is = still.is_later.version h.version h.version_is;
       rows_are = h.rows_are ∙ (λ i. object (sym still.is_later.name i) h.version (sym still.is_later.bytes i) ∷ []);
     }
-present_later old new history keeps q fetching h = tt
+present_later old new history keeps q (fetching hash) h = tt
 
 pub present_told : (orders : List Order) (history : List Record) (x : Record) → IsNew orders x → (q : ℕ) (p : Present AnyRow) → IsPresent orders history q p → IsPresent orders (history ++ x ∷ []) q p
 present_told orders history x new q resting h = tt
@@ -82,7 +82,7 @@ present_told orders history x new q (asking question answers) h =
     }
 present_told orders history x new q (scanning scan answers) h = tt
 present_told orders history x new q (storing rows slots) h = h
-present_told orders history x new q fetching h = tt
+present_told orders history x new q (fetching hash) h = tt
 
 pub drawn_told : (buckets : List (List ℕ)) (history : List Record) (x : Record) (d : Draw) → HasDrawn buckets history d → HasDrawn buckets (history ++ x ∷ []) d
 drawn_told buckets history x d h = record { id_is = h.id_is; node = h.node; has_begun = Contains-append_left history (x ∷ []) _ h.has_begun; bucket = h.bucket }

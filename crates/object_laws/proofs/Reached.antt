@@ -10,7 +10,8 @@ use Rattle.cluster_machine.specs.Node.{Reading}
 use Rattle.cluster_machine.specs.World.{empty}
 use Rattle.cluster_machine.specs.Kept.{KeptReads}
 use Rattle.cluster_machine.specs.Keeping.{AreDifferent}
-use Rattle.machine_origins.specs.Origins.{ComesFrom, Gave, stored_by, stored_in, stored_have, gave_by_origin}
+use Rattle.machine_origins.specs.Origins.{ComesFrom, Gave, stored_by, stored_in}
+use Rattle.machine_origins.proofs.ByOrigin.{stored_have, gave_by_origin}
 use Rattle.cluster_machine.specs.Worlds.{IsLawfulRun, next, run, IsSound}
 use Rattle.object_model.specs.Run.{World, Moving, Draw}
 use Rattle.object_laws.proofs.Good.{IsGood, more_good, good_inherited}

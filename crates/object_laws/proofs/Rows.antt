@@ -26,8 +26,9 @@ use Rattle.table_schema.specs.Laws.{Same}
 use Rattle.object_schema.specs.Laws.{schema_laws}
 use Rattle.object_schema.specs.Schema.{words}
 use Rattle.object_schema.specs.Triggers.{deleted_version, deleted_reference, given_up, released, triggered}
-use Rattle.machine_origins.specs.Origins.{IsInherited}
-use Rattle.object_model.specs.Object.{Name, bucket_hash, row_key, state_of, object, Newest, absent, inline, in_blocks, of_state, of_version, newest_of}
+use Rattle.machine_origins.proofs.ByOrigin.{IsInherited}
+use Rattle.blake2_hash.specs.Hash.{digest_of}
+use Rattle.object_model.specs.Object.{Name, row_key, state_of, object, Newest, absent, inline, in_blocks, of_state, of_version, newest_of}
 use Rattle.object_model.specs.Run.{Draw}
 
 -- a put drew this version of the row's object, to write what the state says
@@ -36,7 +37,7 @@ pub record IsDrawnIn (draws : List Draw) (r : ObjectRow) (v : Version) (s : Stat
   pub drawn : Contains draws draw
   pub version : draw.version ≡ v
   pub state : s ≡ state_of draw.bytes
-  pub bucket : bucket_hash draw.name.bucket ≡ r.bucket
+  pub bucket : digest_of draw.name.bucket ≡ r.bucket
   pub key : draw.name.key ≡ r.key
 
 -- each version of an object's row was drawn, for this object
@@ -57,7 +58,7 @@ pub record FoundIn (draws : List Draw) (name : Name) (v : Version) (written : Li
   pub drawn : Contains draws draw
   pub version : draw.version ≡ v
   pub bytes : draw.bytes ≡ written
-  pub bucket : bucket_hash draw.name.bucket ≡ bucket_hash name.bucket
+  pub bucket : digest_of draw.name.bucket ≡ digest_of name.bucket
   pub key : draw.name.key ≡ name.key
 
 -- ---- object rows of one key
@@ -68,7 +69,7 @@ key_parts a b x y p q e =
     let fronts : a.0 ≡ b.0 = sym (take_at a.0 x 32 p) ∙ (ap (take 32) e ∙ take_at b.0 y 32 q) in
     ((λ i. record { 0 = fronts i }), sym (drop_at a.0 x 32 p) ∙ (ap (drop 32) e ∙ drop_at b.0 y 32 q))
 
-digest_length : (name : List ℕ) → length (bucket_hash name).0 ≡ 32
+digest_length : (name : List ℕ) → length (digest_of name).0 ≡ 32
 digest_length name = length-blake2b 32 name (lit≤ tt)
 
 module _ (a b : ObjectRow) (same : Same words (rows.Object a) (rows.Object b)) where
@@ -169,7 +170,7 @@ module _ (draws : List Draw) (r : ObjectRow) (name : Name) (v : Version) (bytes 
   in_draw : (s : State) (n : Version) (written : List ℕ) → IsDrawnIn draws r n s → bytes_of s ≡ written → inline n written ≡ inline v bytes → FoundIn draws name v bytes
   unfolding version_in bytes_in bytes_of
   in_draw s n written d w e =
-      let parts = key_parts r.bucket (bucket_hash name.bucket) r.key name.key (ap (λ (b : Hash32). length b.0) (sym d.bucket) ∙ digest_length d.draw.name.bucket) (digest_length name.bucket) k in
+      let parts = key_parts r.bucket (digest_of name.bucket) r.key name.key (ap (λ (b : Hash32). length b.0) (sym d.bucket) ∙ digest_length d.draw.name.bucket) (digest_length name.bucket) k in
       record {
         draw = d.draw;
         drawn = d.drawn;

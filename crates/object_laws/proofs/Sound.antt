@@ -88,7 +88,7 @@ IsPresent orders history q resting = ⊤
 IsPresent orders history q (asking question answers) = IsAsking orders history q question
 IsPresent orders history q (scanning scan answers) = ⊤
 IsPresent orders history q (storing rows slots) = IsStoring orders q rows
-IsPresent orders history q fetching = ⊤
+IsPresent orders history q (fetching hash) = ⊤
 
 abbrev pub ArePresent : List Order → List Record → List (Call AnyRow) → Type 0
 ArePresent orders history calls = (c : Call AnyRow) → Has calls c → IsPresent orders history c.request c.present

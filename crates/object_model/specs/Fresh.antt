@@ -34,6 +34,7 @@ pub record IsDrawn (draws : List Draw) (history : List Record) (name : Name) (ve
 abbrev pub NoClash : List (List ℕ) → Type 0
 NoClash names = (a b : List ℕ) → Contains names a → Contains names b → blake2b 32 a ≡ blake2b 32 b → a ≡ b
 
+-- gets are fresh and give what was put
 pub record IsFresh (s : State) : Type 0 where
   -- each finished get covers each version with which a put of its object was acknowledged before it began
   pub newest : (before between after : List Record) (q n : ℕ) (name : Name) (answer : Answer) (version : Version) →

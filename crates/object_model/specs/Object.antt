@@ -3,8 +3,7 @@ use Rattle.std.specs.Prelude.{◌≡◌, ℕ, ◌==◌, Bool, true, Option, Some
 use Rattle.std.proofs.Common.{rules}
 use Rattle.std.specs.Cmp.{tied_itself}
 use Rattle.md5.specs.Md5.{md5}
-use Rattle.blake2_hash.specs.Blake2b.{blake2b}
-use Rattle.blake2_hash.specs.declared.digest.Hash32.{Hash32}
+use Rattle.blake2_hash.specs.Hash.{digest_of}
 use Rattle.crdt_core.specs.Map.{map_entries, map_single}
 use Rattle.crdt_rows.specs.declared.version.Version.{Version}
 use Rattle.crdt_rows.specs.declared.body.Meta.{Meta}
@@ -23,18 +22,15 @@ pub record Name : Type 0 where
   pub bucket : List ℕ
   pub key : List ℕ
 
--- the digest of the bucket's name
-abbrev pub bucket_hash : List ℕ → Hash32
-bucket_hash bucket = record { 0 = blake2b 32 bucket }
-
 -- the key of the object's row
 abbrev pub row_key : Name → List ℕ
-row_key name = (bucket_hash name.bucket).0 ++ name.key
+row_key name = (digest_of name.bucket).0 ++ name.key
 
 -- what is said of bytes that are stored without headers
 abbrev pub meta_of : List ℕ → Meta
 meta_of bytes = record { size = length bytes; etag = md5 bytes; headers = [] }
 
+-- the state of a version whose bytes stand in its row
 abbrev pub state_of : List ℕ → State
 state_of bytes = Complete (Inline (meta_of bytes) bytes)
 
@@ -50,7 +46,7 @@ sized version bytes = rw (same_number (length bytes)) refl
 -- the row that says that this version is complete, with these bytes
 abbrev pub object : Name → Version → List ℕ → AnyRow
 object name version bytes = rows.Object (record {
-  bucket = bucket_hash name.bucket;
+  bucket = digest_of name.bucket;
   key = name.key;
   versions = map_single version (record { 0 = state_of bytes });
   settled = settled version bytes;
@@ -68,15 +64,18 @@ pub data Newest : Type 0 where
   inline : Version → List ℕ → Newest  -- the newest complete version, and its bytes
   in_blocks : Newest
 
+-- what a version's state says of its bytes
 abbrev pub of_state : Version → Option State → Newest
 of_state v (Some (Complete (Inline meta bytes))) = inline v bytes
 of_state v (Some (Complete (Blocks meta hash))) = in_blocks
 of_state v _ = absent
 
+-- what a row says of one of its versions
 abbrev pub of_version : ObjectRow → Option Version → Newest
 of_version r None = absent
 of_version r (Some v) = of_state v (state_at r v)
 
+-- what a row says of its newest version
 abbrev pub newest_of : Option AnyRow → Newest
 newest_of (Some (rows.Object r)) = of_version r (newest r)
 newest_of _ = absent

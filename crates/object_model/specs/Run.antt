@@ -30,11 +30,14 @@ use Rattle.cluster_machine.specs.Worlds.{Model, Doing, Done as Effect, does, nex
 use Rattle.object_model.specs.declared.event.Event.{Event}
 use Rattle.object_model.specs.declared.event.Event.TheVariants.{Trio, Bucket, Role, Redundancy, Apply, Tick, Put, Get, Deliver, Drain, Expire, Gossip, Ack, Sync, SyncAck, Clean}
 use Rattle.object_model.specs.declared.event.Numbered.{Numbered}
-use Rattle.object_model.specs.Object.{Name, row_key, bucket_hash, object, greatest_ts, Newest, absent, inline, in_blocks, newest_of}
+use Rattle.blake2_hash.specs.Hash.{digest_of}
+use Rattle.object_model.specs.Object.{Name, row_key, object, greatest_ts, Newest, absent, inline, in_blocks, newest_of}
 
+-- worlds of the machine over the rows of the object store
 abbrev pub World : Type 0
 World = Model AnyRow
 
+-- steps of those worlds
 abbrev pub Moving : Type 0
 Moving = Doing AnyRow
 
@@ -52,6 +55,7 @@ pub data Answer : Type 0 where
   found : Version → List ℕ → Answer
   nothing : Answer
 
+-- what the history has of a request
 pub data Record : Type 0 where
   began : ℕ → ℕ → DoneWord → Name → Record  -- request, node
   finished : ℕ → Answer → Record
@@ -63,6 +67,7 @@ pub record Draw : Type 0 where
   pub version : Version
   pub bytes : List ℕ
 
+-- the world, the buckets, the orders of its requests, and the history of puts and gets
 pub record State : Type 0 where
   pub world : World
   pub buckets : List (List ℕ)
@@ -70,6 +75,7 @@ pub record State : Type 0 where
   pub history : List Record  -- the oldest first
   pub draws : List Draw  -- the newest first
 
+-- nothing has happened
 abbrev pub start : State
 start = record { world = empty; buckets = []; orders = []; history = []; draws = [] }
 
@@ -82,9 +88,11 @@ pub record Outcome : Type 0 where
   pub words : Words
   pub lines : List (Line Applied)
 
+-- nothing happened and nothing is told
 abbrev pub silent : State → Outcome
 silent s = record { state = s; moves = []; new_versions = []; refused = None; words = Empty; lines = [] }
 
+-- nothing happened, and why
 abbrev pub refusal : State → Refusal Cut → Outcome
 refusal s r = record (silent s) { refused = Some r }
 
@@ -92,6 +100,7 @@ refusal s r = record (silent s) { refused = Some r }
 abbrev pub plainly : Step AnyRow → Moving
 plainly st = record { step = st; choice = none_given VersionLimit }
 
+-- what a step does to the world
 abbrev pub effect : State → Moving → Effect AnyRow
 effect s m = does any_join words s.world m
 
@@ -110,13 +119,14 @@ abbrev pub object_bytes : ℕ → ℕ → List ℕ
 object_bytes zero fill = []
 object_bytes (suc size) fill = fill % 251 ∷ object_bytes size (suc fill)
 
+-- the bucket was made
 abbrev pub is_bucket : List (List ℕ) → List ℕ → Bool
 is_bucket [] name = false
 is_bucket (b ∷ bs) name = pointwise nat_eq b name || is_bucket bs name
 
 -- the read phase of an object's row
 abbrev pub asks : ℕ → Name → Moving
-asks q name = plainly (step.Phase q (Read 1 (bucket_hash name.bucket) (row_key name)))
+asks q name = plainly (step.Phase q (Read 1 (digest_of name.bucket) (row_key name)))
 
 -- a request begins with its read phase
 abbrev pub opened : State → ℕ → Order → Outcome
@@ -137,6 +147,7 @@ opened s n order =
       lines = e.tells;
     }
 
+-- a request begins at node n, if it is a member and the bucket was made
 abbrev pub begins : State → ℕ → Order → Outcome
 begins s n order =
     if is_member_at layouts s.world n then (if is_bucket s.buckets order.name.bucket then opened s n order else refusal s NoSuchBucket) else refusal s NotMember
@@ -176,15 +187,19 @@ finishes s q answer line = record {
   lines = line ∷ [];
 }
 
+-- a version as two numbers
 abbrev pub pair : Version → ℕ × ℕ
 pair v = (v.ts, v.id)
 
+-- the line of a put that finished, with its version
 abbrev pub put_line : ℕ → Version → Line Applied
 put_line q v = Done q WordPut (Some (pair v)) None None
 
+-- the line of a get that found these bytes
 abbrev pub found_line : ℕ → Version → List ℕ → Line Applied
 found_line q v bytes = Done q WordGet (Some (pair v)) (Some (length bytes)) (Some (md5 bytes))
 
+-- the line of a get that found none
 abbrev pub nothing_line : ℕ → Line Applied
 nothing_line q = Done q WordGet None None None
 
@@ -201,10 +216,12 @@ follows s q order WordPut (Some version) Kept = finishes s q (stored version) (p
 follows s q order WordGet version (Answered value) = gets s q (newest_of value)
 follows s q order word version end = silent s
 
+-- what a request does once a phase of it ended
 abbrev pub follow : State → ℕ → Option Order → PhaseEnd AnyRow → Outcome
 follow s q None end = silent s
 follow s q (Some order) end = follows s q order order.word order.version end
 
+-- what requests do once phases of them ended
 abbrev pub goes_on : State → List (Ended AnyRow) → Outcome
 goes_on s [] = silent s
 goes_on s (e ∷ es) = follow s e.request (numbered s.orders e.request) e.how
@@ -219,6 +236,7 @@ delivers s m =
     let d = plainly (step.Deliver m) in
     let e = effect s d in after_step d e (goes_on (doing s d) e.ends)
 
+-- two outcomes one after the other, without a refusal or words of their own
 abbrev pub then_drains : Outcome → Outcome → Outcome
 then_drains first rest = record { state = rest.state; moves = first.moves ++ rest.moves; new_versions = first.new_versions ++ rest.new_versions; refused = None; words = Empty; lines = first.lines ++ rest.lines }
 
@@ -256,12 +274,15 @@ pub record Turn : Type 0 where
   pub numbered : Numbered
   pub choice : Decision
 
+-- what comes of an event, with what an apply in it is given
 abbrev pub outcome_of : State → Turn → Outcome
 outcome_of s t = outcome s t.numbered.event t.choice
 
+-- the state after an event
 abbrev pub after : State → Turn → State
 after s t = (outcome_of s t).state
 
+-- the state after events in order
 abbrev pub run : State → List Turn → State
 run s [] = s
 run s (t ∷ ts) = run (after s t) ts

@@ -20,9 +20,11 @@ IsLawfulEvent s (Role n role) choice = IsMeant {R = AnyRow} (step.Role n role) �
 IsLawfulEvent s (Redundancy wanted) choice = IsMeant {R = AnyRow} (step.Redundancy wanted) × IsNone choice
 IsLawfulEvent s _ choice = IsNone choice
 
+-- the event may happen, and is given what is lawful
 abbrev pub IsLawful : State → Turn → Type 0
 IsLawful s t = IsLawfulEvent s t.numbered.event t.choice
 
+-- each of these events is lawful when it happens
 abbrev pub AreLawful : State → List Turn → Type 0
 AreLawful s [] = ⊤
 AreLawful s (t ∷ ts) = IsLawful s t × AreLawful (after s t) ts
@@ -31,6 +33,7 @@ AreLawful s (t ∷ ts) = IsLawful s t × AreLawful (after s t) ts
 abbrev pub Fits : State → Turn → Type 0
 Fits s t = FitAll any_join words s.world (outcome_of s t).moves
 
+-- all fits after each of these events
 abbrev pub AllFit : State → List Turn → Type 0
 AllFit s [] = ⊤
 AllFit s (t ∷ ts) = Fits s t × AllFit (after s t) ts
@@ -39,6 +42,7 @@ AllFit s (t ∷ ts) = Fits s t × AllFit (after s t) ts
 abbrev pub FitsOutcome : State → Outcome → Type 0
 FitsOutcome s o = HaveRoom any_join words s.world o.moves × AllByRecursion (λ (v : Version). v.ts < 2 ^ 64) o.new_versions
 
+-- what comes of the event fits the code's numbers
 abbrev pub HasRoom : State → Turn → Type 0
 HasRoom s t = FitsOutcome s (outcome_of s t)
 

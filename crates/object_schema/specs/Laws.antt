@@ -63,13 +63,13 @@ hash_first h fits = bytes_each h.0 (block_bytes 32 h.0 fits) 0
 -- ---- keys
 
 -- what stands behind as many bytes is the same where the whole is
-fronts : (a b x y : List ℕ) (n : ℕ) → length a ≡ n → length b ≡ n → a ++ x ≡ b ++ y → (a ≡ b) × (x ≡ y)
+pub fronts : (a b x y : List ℕ) (n : ℕ) → length a ≡ n → length b ≡ n → a ++ x ≡ b ++ y → (a ≡ b) × (x ≡ y)
 fronts a b x y n p q e = (sym (take_at a x n p) ∙ (ap (take n) e ∙ take_at b y n q), sym (drop_at a x n p) ∙ (ap (drop n) e ∙ drop_at b y n q))
 
 eight_alone : (n : ℕ) → is_eight n ≡ true → eight_at (eight n) ≡ Some (n, [])
 eight_alone n h = ap eight_at (sym (append-nil (eight n))) ∙ eight_reads.again n [] h refl
 
-eight_same : (m n : ℕ) → is_eight m ≡ true → is_eight n ≡ true → eight m ≡ eight n → m ≡ n
+pub eight_same : (m n : ℕ) → is_eight m ≡ true → is_eight n ≡ true → eight m ≡ eight n → m ≡ n
 eight_same m n p q e =
     let both : Some (m, []) ≡ Some (n, []) = sym (eight_alone m p) ∙ (ap eight_at e ∙ eight_alone n q) in
     ap (λ (t : ℕ × List ℕ). t.0) (some_is _ _ both)

@@ -42,6 +42,7 @@ only_marker [] = None
 only_marker (e ∷ []) = elim e.1.0 [ Complete Marker ↦ Some (e.0.ts, e.0.id) | _ ↦ None ]
 only_marker (e ∷ f ∷ es) = None
 
+-- time and id of the delete marker that an object row has alone
 abbrev pub marker_of : AnyRow → Option (ℕ × ℕ)
 marker_of (rows.Object r) = only_marker (map_entries r.versions)
 marker_of (rows.Version r) = None
@@ -57,6 +58,7 @@ is_tombstone (rows.Ref r) = r.deleted.0
 abbrev pub block_of : RefRow → Option (List ℕ)
 block_of r = elim r.deleted.0 [ true ↦ None | false ↦ Some r.hash.0 ]
 
+-- the block that a row needs, which only a live reference does
 abbrev pub live_block_of : AnyRow → Option (List ℕ)
 live_block_of (rows.Object r) = None
 live_block_of (rows.Version r) = None

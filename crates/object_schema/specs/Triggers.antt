@@ -47,6 +47,7 @@ has_blocks (Complete Marker) = false
 has_blocks (Complete (Inline m bytes)) = false
 has_blocks (Complete (Blocks m first)) = true
 
+-- the upload was given up
 abbrev pub is_aborted : Option State → Bool
 is_aborted (Some Aborted) = true
 is_aborted other = false
@@ -67,6 +68,7 @@ versions_that test es = map (λ e. e.0) (filter test es)
 abbrev pub given_up : ObjectRow → ObjectRow → List Version
 given_up old new = in_order version_cmp (versions_that (is_lost new) (map_entries old.versions) ++ versions_that (is_newly_aborted old) (map_entries new.versions))
 
+-- the row that ends a version's blocks
 abbrev pub deleted_version : Version → AnyRow
 deleted_version v = rows.Version (record { id = v.id; blocks = Deleted })
 
@@ -76,9 +78,11 @@ deleted_version v = rows.Version (record { id = v.id; blocks = Deleted })
 abbrev pub hashes_of : VersionRow → List Hash32
 hashes_of r = elim r.blocks [ Present m ↦ in_order hash_cmp (map (λ e. e.1.0.hash) (map_entries m)) | Deleted ↦ [] ]
 
+-- the flag that is up
 abbrev pub up : Flag
 up = record { 0 = true }
 
+-- the row that ends a version's need of a block
 abbrev pub deleted_reference : ℕ → Hash32 → AnyRow
 deleted_reference id hash = rows.Ref (record { hash = hash; id = id; deleted = up })
 

@@ -8,6 +8,7 @@ use Rattle.plane_model.specs.Control.{Stores, Gives}
 use Rattle.plane_model.specs.Plane.{Plane}
 use Rattle.plane_model.specs.World.{took, left, Row, Store, Round, Push, Question, Answer, World, Effects, first, nothing, applied, all_took, row_at, row_in}
 
+-- the events of the data plane
 pub data Action (C E K R : Type 0) : Type 0 where
   moves : (event : E) → Action C E K R  -- the control plane steps
   drops : (node partition : ℕ) → Action C E K R
@@ -35,6 +36,7 @@ pub record HasFinished {C K R : Type 0} (w : World C K R) (n s : ℕ) : Type 0 w
   pub from_it : round.from ≡ s
 
 module _ {C E K R : Type 0} (plane : Plane C E K R) where
+  -- what an event adds to each list of the world
   abbrev pub effects : World C K R → Action C E K R → Effects C K R
   effects w (moves e) = nothing
   effects w (drops n p) = record nothing { log = left n p ∷ [] }
@@ -52,13 +54,16 @@ module _ {C E K R : Type 0} (plane : Plane C E K R) where
   effects w (answers q n) = record nothing { answers = record { question = q; node = n; rows = row_at plane w.log n } ∷ [] }
   effects w (ends_read a b) = record nothing { reads = record { question = a.question; rows = λ k. option_join plane.join (a.rows k) (b.rows k) } ∷ [] }
 
+  -- the control plane after an event, which only its own events move
   abbrev pub control_after : World C K R → Action C E K R → C
   control_after w (moves e) = plane.control.step w.control e
   control_after w _ = w.control
 
+  -- the world after one event
   abbrev pub step : World C K R → Action C E K R → World C K R
   step w a = record (applied w (effects w a)) { control = control_after w a }
 
+  -- the world after events in order
   abbrev pub run : World C K R → List (Action C E K R) → World C K R
   run w [] = w
   run w (a ∷ more) = run (step w a) more
@@ -69,6 +74,7 @@ module _ {C E K R : Type 0} (plane : Plane C E K R) where
   abbrev pub MayMove : World C K R → E → Type 0
   MayMove w e = (n s : ℕ) → plane.control.completed (plane.control.step w.control e) n s ≡ true → (plane.control.completed w.control n s ≡ true) ⊎ HasFinished w n s
 
+  -- node n may confirm the row of a store phase: it began, the node knows its newest version, and gives its partition's rows
   pub record MayStore (w : World C K R) (s : Store K R) (n : ℕ) : Type 0 where
     pub began : Contains w.stores s
     pub knows : s.newest ≤ plane.control.newest w.control n
@@ -111,6 +117,7 @@ module _ {C E K R : Type 0} (plane : Plane C E K R) where
     pub one_phase : a.question ≡ b.question
     pub differ : a.node ≢ b.node
 
+  -- when each event may happen
   abbrev pub May : World C K R → Action C E K R → Type 0
   May w (moves e) = MayMove w e
   May w (drops n p) = Gives plane.control w.control n p → ⊥

@@ -6,6 +6,7 @@ use Rattle.std.specs.declared.cmp.Ordering.{Ordering}
 use Rattle.std.specs.declared.cmp.Ordering.TheVariants.{Equal}
 use Rattle.crdt_core.specs.Orders.{Identifies}
 
+-- which keys are one, and in which partition each is
 pub record Keys (K : Type 0) : Type 0 where
   pub is_same : K → K → Bool
   pub partition : K → ℕ

@@ -9,6 +9,7 @@ pub data Entry (K R : Type 0) : Type 0 where
   took : (node : ℕ) (key : K) (row : R) → Entry K R
   left : (node partition : ℕ) → Entry K R
 
+-- a row and its key
 pub record Row (K R : Type 0) : Type 0 where
   pub key : K
   pub row : R
@@ -65,6 +66,7 @@ pub record Read (C K R : Type 0) : Type 0 where
   pub question : Question C K R
   pub rows : K → Option R
 
+-- the control plane's state, the log of rows, and what was begun, sent, confirmed, kept and read
 pub record World (C K R : Type 0) : Type 0 where
   pub control : C
   pub log : List (Entry K R)  -- the newest first, as all lists here
@@ -79,6 +81,7 @@ pub record World (C K R : Type 0) : Type 0 where
   pub answers : List (Answer C K R)  -- what they were answered
   pub reads : List (Read C K R)  -- those that ended
 
+-- the world before anything happened in the data plane
 abbrev pub first : {C K R : Type 0} → C → World C K R
 first c = record { control = c; log = []; stores = []; stored = []; kept = []; rounds = []; pushes = []; pushed = []; finished = []; questions = []; answers = []; reads = [] }
 
@@ -96,9 +99,11 @@ pub record Effects (C K R : Type 0) : Type 0 where
   pub answers : List (Answer C K R)
   pub reads : List (Read C K R)
 
+-- an event that adds nothing
 abbrev pub nothing : {C K R : Type 0} → Effects C K R
 nothing = record { log = []; stores = []; stored = []; kept = []; rounds = []; pushes = []; pushed = []; finished = []; questions = []; answers = []; reads = [] }
 
+-- the world with what an event adds, the newest first
 abbrev pub applied : {C K R : Type 0} → World C K R → Effects C K R → World C K R
 applied w e = record {
   control = w.control;

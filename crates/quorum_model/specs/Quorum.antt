@@ -11,6 +11,7 @@ is_among n nodes = list_any (λ m. m == n) nodes
 abbrev pub two_of : List ℕ → List ℕ → Bool
 two_of set nodes = two_pass (λ n. is_among n nodes) set
 
+-- there is a set at all
 abbrev pub is_some_set : {A : Type 0} → List A → Bool
 is_some_set [] = false
 is_some_set (s ∷ ss) = true

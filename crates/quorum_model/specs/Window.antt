@@ -18,6 +18,7 @@ pub record Window (R : Type 0) : Type 0 where
 abbrev pub key_cmp : List ℕ → List ℕ → Ordering
 key_cmp a b = slice_cmp nat_cmp a b
 
+-- the last of these, if there are any
 abbrev pub last_of : {A : Type 0} → List A → Option A
 last_of xs = slice_get xs (length xs - 1)
 

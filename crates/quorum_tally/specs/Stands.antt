@@ -4,6 +4,7 @@ use Rattle.std.specs.List.{AllByRecursion}
 use Rattle.quorum_tally.specs.declared.tally.Tally.{Tally}
 use Rattle.quorum_tally.specs.Marks.{nodes_of, IsRight}
 
+-- a tally counts from this version on, over these sets, and these nodes have confirmed
 pub record Tallies (t : Tally) (first : ℕ) (sets : List (List ℕ)) (nodes : List ℕ) : Type 0 where
   pub version : t.first ≡ first
   pub sets_of : map nodes_of t.slots.items ≡ sets

@@ -14,9 +14,11 @@ pub record Waits {A : Type 0} (asked : List ℕ) (progress : Progress A) (nodes 
   pub same_nodes : asked ≡ nodes
   pub so_far : progress ≡ progress_of (heard nodes answers)
 
+-- the call asks these nodes for a row, and has these answers
 abbrev pub ReadStands : {R : Type 0} → ReadCall R → List ℕ → List (ℕ × Option R) → Type 0
 ReadStands call nodes answers = Waits call.nodes call.progress nodes answers
 
+-- the call asks these nodes for rows, and has these answers
 abbrev pub RangeStands : {S R : Type 0} → RangeCall S R → List ℕ → List (ℕ × RangeAnswer R) → Type 0
 RangeStands call nodes answers = Waits call.nodes call.progress nodes answers
 

@@ -20,6 +20,7 @@ use Rattle.crdt_rows.specs.Versions.{is_settled_row, is_sized_row}
 use Rattle.row_codec.specs.Numbers.{some_is}
 
 module _ {K V : Type 0} {o : ord.Ghosts K} {p : partial_eq.Ghosts K} {q : partial_ord.Ghosts K} where
+  -- a map of these entries, where their keys ascend
   abbrev pub map_by : (es : List (K × V)) (b : Bool) → is_ascending o.cmp es ≡ b → Option (Map K V o p q)
   map_by es true h = Some (record { entries = es; ascending = h })
   map_by es false h = None
@@ -54,6 +55,7 @@ BlockMap = MapOf part_cmp (λ p q. nat_eq p.part q.part && nat_eq p.offset q.off
 abbrev pub object_parts : ObjectRow → Hash32 × (List ℕ × VersionMap)
 object_parts r = (r.bucket, (r.key, r.versions))
 
+-- an object row of this bucket, key and versions, where they are settled and sized
 abbrev pub object_by : (t : Hash32 × (List ℕ × VersionMap)) (b c : Bool) → is_settled_row (map_entries t.1.1) ≡ b → is_sized_row (map_entries t.1.1) ≡ c → Option ObjectRow
 object_by t true true h g = Some (record { bucket = t.0; key = t.1.0; versions = t.1.1; settled = h; sized = g })
 object_by t true false h g = None

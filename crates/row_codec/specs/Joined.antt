@@ -61,6 +61,7 @@ module _ {X Y : Type 0} {P : X → Bool} {short : X → Bool} {text : X → List
   }
 
 module _ {X : Type 0} {P : X → Bool} {short : X → Bool} {text : X → List ℕ} {x_at : List ℕ → Option (X × List ℕ)} (a : Reads P short text x_at) where
+  -- bytes that begin with the spellings of n values
   record Each (n : ℕ) (bytes : List ℕ) (xs : List X) (rest : List ℕ) : Type 0 where
     count : length xs ≡ n
     begins : Begins (list_all P) (list_all short) (flat_map text) bytes xs rest

@@ -38,12 +38,15 @@ is_four n = nat_lt n (2 ^ 32)
 abbrev pub is_eight : ℕ → Bool
 is_eight n = nat_lt n (2 ^ 64)
 
+-- 32 bytes
 abbrev pub is_hash : Hash32 → Bool
 is_hash h = is_block 32 h.0
 
+-- size, ETag and headers are bytes and numbers of their widths
 abbrev pub meta_in_range : Meta → Bool
 meta_in_range m = is_eight m.size && (is_block 16 m.etag && list_all (λ h. are_bytes h.0 && are_bytes h.1) m.headers)
 
+-- what a state carries is of its width
 abbrev pub state_in_range : State → Bool
 state_in_range Uploading = true
 state_in_range Aborted = true
@@ -51,21 +54,27 @@ state_in_range (Complete Marker) = true
 state_in_range (Complete (Inline m bytes)) = meta_in_range m && are_bytes bytes
 state_in_range (Complete (Blocks m first)) = meta_in_range m && is_hash first
 
+-- a version's time and id each fit 8 bytes
 abbrev pub version_in_range : Version → Bool
 version_in_range v = is_eight v.ts && is_eight v.id
 
+-- a part's number fits 4 bytes, its offset 8
 abbrev pub part_in_range : Part → Bool
 part_in_range p = is_four p.part && is_eight p.offset
 
+-- a block's hash is 32 bytes, its size fits 4
 abbrev pub block_in_range : BlockRef → Bool
 block_in_range b = is_hash b.hash && is_four b.size
 
+-- all of an object row is of its width
 abbrev pub object_in_range : ObjectRow → Bool
 object_in_range r = is_hash r.bucket && (are_bytes r.key && list_all (λ e. version_in_range e.0 && state_in_range e.1.0) (map_entries r.versions))
 
+-- all of a version row is of its width
 abbrev pub version_row_in_range : VersionRow → Bool
 version_row_in_range r = is_eight r.id && unless_deleted (λ m. list_all (λ e. part_in_range e.0 && block_in_range e.1.0) (map_entries m)) r.blocks
 
+-- a reference's hash is 32 bytes, its version's id fits 8
 abbrev pub ref_in_range : RefRow → Bool
 ref_in_range r = is_hash r.hash && is_eight r.id
 
@@ -77,6 +86,7 @@ in_range (rows.Ref r) = ref_in_range r
 
 -- ---- lengths and counts below 2^32
 
+-- short enough for a length of 4 bytes
 abbrev pub is_below : {X : Type 0} → List X → Bool
 is_below xs = nat_lt (length xs) (2 ^ 32)
 
@@ -84,9 +94,11 @@ is_below xs = nat_lt (length xs) (2 ^ 32)
 abbrev pub are_short : {X : Type 0} → (X → Bool) → List X → Bool
 are_short is_short xs = is_below xs && list_all is_short xs
 
+-- the headers are short enough for their lengths
 abbrev pub is_short_meta : Meta → Bool
 is_short_meta m = are_short (λ h. is_below h.0 && is_below h.1) m.headers
 
+-- what a state carries is short enough for its lengths
 abbrev pub is_short_state : State → Bool
 is_short_state Uploading = true
 is_short_state Aborted = true
@@ -94,9 +106,11 @@ is_short_state (Complete Marker) = true
 is_short_state (Complete (Inline m bytes)) = is_short_meta m && is_below bytes
 is_short_state (Complete (Blocks m first)) = is_short_meta m
 
+-- the key, and what each version carries, are short enough for their lengths
 abbrev pub is_short_object : ObjectRow → Bool
 is_short_object r = is_below r.key && are_short (λ e. is_short_state e.1.0) (map_entries r.versions)
 
+-- the blocks are few enough for their count
 abbrev pub is_short_version_row : VersionRow → Bool
 is_short_version_row r = unless_deleted (λ m. are_short (λ e. true) (map_entries m)) r.blocks
 

@@ -70,21 +70,27 @@ tested_at f read bytes = do
 
 -- ---- the parts of rows
 
+-- the hash that bytes begin with
 unfoldable pub hash_at : List ℕ → Option (Hash32 × List ℕ)
 hash_at = made_at (λ b. record { 0 = b }) (bytes_at 32)
 
+-- the version that bytes begin with
 unfoldable pub version_at : List ℕ → Option (Version × List ℕ)
 version_at = made_at (λ t. record { ts = t.0; id = t.1 }) (both_at eight_at eight_at)
 
+-- the part that bytes begin with
 unfoldable pub part_at : List ℕ → Option (Part × List ℕ)
 part_at = made_at (λ t. record { part = t.0; offset = t.1 }) (both_at four_at eight_at)
 
+-- the block's hash and size that bytes begin with
 unfoldable pub block_at : List ℕ → Option (BlockRef × List ℕ)
 block_at = made_at (λ t. record { hash = t.0; size = t.1 }) (both_at hash_at four_at)
 
+-- the value that bytes begin with, as one that grows only
 unfoldable pub max_at : {X : Type 0} → (List ℕ → Option (X × List ℕ)) → List ℕ → Option (Max X × List ℕ)
 max_at = made_at (λ x. record { 0 = x })
 
+-- the size, ETag and headers that bytes begin with
 unfoldable pub meta_at : List ℕ → Option (Meta × List ℕ)
 meta_at = made_at (λ t. record { size = t.0; etag = t.1.0; headers = t.1.1 }) (both_at eight_at (both_at (bytes_at 16) (counted_at (both_at field_at field_at))))
 

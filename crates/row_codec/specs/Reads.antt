@@ -12,6 +12,7 @@ None >>= f = None
 abbrev pub are_bytes : List ℕ → Bool
 are_bytes = list_all (λ b. nat_lt b (2 ^ 8))
 
+-- each number is a byte
 abbrev pub IsBytes : List ℕ → Type 0
 IsBytes bytes = are_bytes bytes ≡ true
 

@@ -29,12 +29,14 @@ use Rattle.row_codec.specs.Built.{BlockMap, map_from, map_there, map_back, objec
 
 -- ---- flags, and values that may be deleted
 
+-- the flag that bytes begin with
 unfoldable pub flag_at : List ℕ → Option (Flag × List ℕ)
 flag_at [] = None
 flag_at (zero ∷ rest) = Some (record { 0 = false }, rest)
 flag_at (suc zero ∷ rest) = Some (record { 0 = true }, rest)
 flag_at (suc (suc n) ∷ rest) = None
 
+-- the value that bytes begin with, or that it is deleted
 unfoldable pub deletable_at : {X : Type 0} → (List ℕ → Option (X × List ℕ)) → List ℕ → Option (Deletable X × List ℕ)
 deletable_at read [] = None
 deletable_at read (zero ∷ rest) = made_at Present read rest
@@ -86,6 +88,7 @@ module _ {X : Type 0} {P : X → Bool} {short : X → Bool} {text : X → List �
 -- ---- maps
 
 module _ {K V : Type 0} {o : ord.Ghosts K} {p : partial_eq.Ghosts K} {q : partial_ord.Ghosts K} where
+  -- the map that bytes begin with, where its keys ascend
   unfoldable pub map_at : (List ℕ → Option (K × List ℕ)) → (List ℕ → Option (V × List ℕ)) → List ℕ → Option (Map K V o p q × List ℕ)
   map_at key_at value_at = tested_at map_from (counted_at (both_at key_at value_at))
 
@@ -96,12 +99,15 @@ module _ {K V : Type 0} {o : ord.Ghosts K} {p : partial_eq.Ghosts K} {q : partia
 
 -- ---- rows
 
+-- the object row that bytes begin with
 unfoldable pub object_at : List ℕ → Option (ObjectRow × List ℕ)
 object_at = tested_at object_from (both_at hash_at (both_at field_at (map_at version_at (max_at state_at))))
 
+-- the version row that bytes begin with
 unfoldable pub version_row_at : List ℕ → Option (VersionRow × List ℕ)
 version_row_at = made_at (λ (t : ℕ × Deletable BlockMap). record { id = t.0; blocks = t.1 }) (both_at eight_at (deletable_at (map_at part_at (max_at block_at))))
 
+-- the reference that bytes begin with
 unfoldable pub reference_at : List ℕ → Option (RefRow × List ℕ)
 reference_at = made_at (λ t. record { hash = t.0; id = t.1.0; deleted = t.1.1 }) (both_at hash_at (both_at eight_at flag_at))
 

@@ -39,6 +39,7 @@ counted spelled xs = four (length xs) ++ flat_map spelled xs
 abbrev pub meta : Meta → List ℕ
 meta m = eight m.size ++ (m.etag ++ counted (λ h. field h.0 ++ field h.1) m.headers)
 
+-- the bytes of a version's state, its kind first
 abbrev pub state : State → List ℕ
 state Uploading = 0 ∷ []
 state Aborted = 1 ∷ []
@@ -58,6 +59,7 @@ part p = four p.part ++ eight p.offset
 abbrev pub block : BlockRef → List ℕ
 block b = b.hash.0 ++ four b.size
 
+-- the bytes of an object row
 abbrev pub object_row : ObjectRow → List ℕ
 object_row r = r.bucket.0 ++ (field r.key ++ counted (λ e. version e.0 ++ state e.1.0) (map_entries r.versions))
 
@@ -66,6 +68,7 @@ abbrev pub deletable : {X : Type 0} → (X → List ℕ) → Deletable X → Lis
 deletable spelled (Present x) = 0 ∷ spelled x
 deletable spelled Deleted = 1 ∷ []
 
+-- the bytes of a version row
 abbrev pub version_row : VersionRow → List ℕ
 version_row r = eight r.id ++ deletable (λ m. counted (λ e. part e.0 ++ block e.1.0) (map_entries m)) r.blocks
 
@@ -73,6 +76,7 @@ version_row r = eight r.id ++ deletable (λ m. counted (λ e. part e.0 ++ block 
 abbrev pub flag : Flag → List ℕ
 flag b = elim b.0 [ true ↦ 1 ∷ [] | false ↦ 0 ∷ [] ]
 
+-- the bytes of a reference
 abbrev pub reference_row : RefRow → List ℕ
 reference_row r = r.hash.0 ++ (eight r.id ++ flag r.deleted)
 

@@ -3,9 +3,9 @@ use Rattle.std.proofs.Common.{◌≡◌, ℕ, ◌≤◌, Some, None, List, lengt
 use Rattle.std.proofs.lemmas.List.{take_all}
 use Rattle.object_model.specs.declared.event.Event.{Event}
 use Rattle.object_model.specs.declared.event.Event.TheVariants.{Role}
-use Rattle.text_model.specs.Grammar.{Spells}
-use Rattle.text_model.specs.Words.{words_in, words_of, IsSpelledBy}
-use Rattle.text_model.specs.Spelled.{words_spelled, line_spelled}
+use Rattle.text_model.specs.Grammar.{Spells, words_of}
+use Rattle.text_model.specs.Words.{words_in, IsSpelledBy}
+use Rattle.text_model.proofs.Spelled.{words_spelled, line_spelled}
 use Rattle.schedule_text.specs.declared.fault.LineFault.{LineFault}
 use Rattle.schedule_text.specs.declared.fault.LineFault.TheVariants.{Outside, Memory}
 use Rattle.schedule_text.specs.Reads.{Reads}

@@ -9,6 +9,7 @@ use Rattle.schedule_text.specs.declared.event_line.Kind.TheVariants.{Trio, Bucke
 abbrev pub texts : List (Bor (List ℕ)) → List (List ℕ)
 texts words = map (λ word. word.now) words
 
+-- the name of an event
 abbrev pub kind_text : Kind → List ℕ
 kind_text Trio = codes "trio"
 kind_text Bucket = codes "bucket"

@@ -14,6 +14,7 @@ abbrev pub ordered_after : List (ℕ × List ℕ) → List (ℕ × List ℕ) →
 ordered_after made [] = made
 ordered_after made (part ∷ parts) = ordered_after (insert_entry nat_cmp made part.0 part.1) parts
 
+-- the sets in order of partitions
 abbrev pub by_partition : List (ℕ × List ℕ) → List (ℕ × List ℕ)
 by_partition parts = ordered_after [] parts
 

@@ -6,6 +6,7 @@ use Rattle.sync_round.specs.declared.round.Round.{Round}
 use Rattle.sync_round.specs.Round.{confirmed}
 use Rattle.quorum_tally.specs.Marks.{IsRight, nodes_of}
 
+-- a round leads to this version, over these partitions and sets, counts its own node in, and was told these confirmations
 pub record IsRound (r : Round) (target : ℕ) (parts : List (ℕ × List ℕ)) (own : ℕ) (told : List (ℕ × ℕ)) : Type 0 where
   pub version : r.target ≡ target
   pub parts_of : map (λ e. (e.0, nodes_of e.1)) r.parts.entries ≡ parts

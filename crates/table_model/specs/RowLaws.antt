@@ -32,6 +32,7 @@ module _ {R : Type 0} (s : Words R) where
   Above p [] = Unit {0}
   Above p (x ∷ xs) = (place_cmp p (place s x) ≡ Less) × Above p xs
 
+  -- rows in order of their places, none twice
   abbrev pub Ascends : List R → Type 0
   Ascends [] = Unit {0}
   Ascends (x ∷ xs) = Above (place s x) xs × Ascends xs

@@ -14,9 +14,11 @@ abbrev pub place_cmp : ℕ × List ℕ → ℕ × List ℕ → Ordering
 place_cmp a b = ordering_then (nat_cmp a.0 b.0) (slice_cmp nat_cmp a.1 b.1)
 
 module _ {R : Type 0} (s : Words R) where
+  -- where a row stands: its table and key
   abbrev pub place : R → ℕ × List ℕ
   place r = (s.table r, s.key r)
 
+  -- the order of rows by their places
   abbrev pub row_cmp : R → R → Ordering
   row_cmp a b = place_cmp (place a) (place b)
 
@@ -24,6 +26,7 @@ module _ {R : Type 0} (s : Words R) where
   abbrev pub is_at : ℕ → List ℕ → R → Bool
   is_at table key r = is_eq (place_cmp (table, key) (place r))
 
+  -- each of these is a row that a table takes
   abbrev pub AllProper : List R → Type 0
   AllProper rows = All (λ r. IsTrue (s.is_proper r)) rows
 
@@ -72,6 +75,7 @@ module _ {R : Type 0} (s : Words R) where
   abbrev pub live_blocks : List R → List (List ℕ)
   live_blocks rows = filter_map s.live_block rows
 
+  -- the row needs a block
   abbrev pub is_live : R → Bool
   is_live r = is_some (s.live_block r)
 

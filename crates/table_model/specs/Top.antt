@@ -19,6 +19,7 @@ module _ {R : Type 0} (s : Words R) where
   abbrev pub pairs_of : ℕ → ℕ → List R → List Pair
   pairs_of table p rows = map pair_of (filter (λ r. s.table r == table) (rows_in s p rows))
 
+  -- the root over one partition of one table
   abbrev pub root_of : ℕ → ℕ → List R → List ℕ
   root_of table p rows = root (blake2b 32) (pairs_of table p rows)
 

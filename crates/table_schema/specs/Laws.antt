@@ -10,6 +10,7 @@ pub record Same {R : Type 0} (s : Words R) (a b : R) : Type 0 where
   pub table : s.table a ≡ s.table b
   pub key : s.key a ≡ s.key b
 
+-- what a schema keeps: one spelling a row, a place that merges don't change, and a block that is needed only while both rows need it
 pub record Laws {R : Type 0} (join : R → R → R) (s : Words R) : Type 0 where
   -- a row has one spelling, and these bytes are read as this row
   pub reads_back : (r : R) (bytes : List ℕ) → (s.read bytes ≡ Some r) ↔ (s.spelling r ≡ Some bytes)

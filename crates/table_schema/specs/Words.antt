@@ -18,5 +18,6 @@ pub record Words (R : Type 0) : Type 0 where
 abbrev pub partition_at : List ℕ → ℕ
 partition_at position = slice_index position 0
 
+-- the partition that a row belongs to
 abbrev pub partition_of : {R : Type 0} → Words R → R → ℕ
 partition_of s r = partition_at (s.position r)

@@ -12,13 +12,16 @@ use Rattle.table_store.specs.Shelf.{in_partition}
 abbrev pub shown_pair : Hash32 × Hash32 → Pair
 shown_pair pair = (pair.0.0, pair.1.0)
 
+-- the pairs of hashes as bytes
 abbrev pub shown : List (Hash32 × Hash32) → List Pair
 shown pairs = map shown_pair pairs
 
+-- a pair with the partition that it belongs to
 abbrev pub tagged : Hashed → ℕ × Pair
 tagged h = (h.partition, shown_pair h.pair)
 
 module _ {R Z : Type 0} (s : Words R) where
+  -- a row's pair: the hashes of its key and of its bytes
   abbrev pub entry_pair : Vec ℕ Z × Placed R → Pair
   entry_pair e = (blake2b 32 e.0.items, blake2b 32 (unwrap_or (s.spelling e.1.row) []))
 

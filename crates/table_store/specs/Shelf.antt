@@ -21,6 +21,7 @@ module _ {R Z : Type 0} where
   shelf_find key [] = None
   shelf_find key (e ∷ es) = if is_eq (slice_cmp nat_cmp key e.0.items) then Some e.1.row else shelf_find key es
 
+  -- the row is in this partition
   abbrev pub in_partition : ℕ → Vec ℕ Z × Placed R → Bool
   in_partition p e = e.1.partition == p
 
@@ -36,9 +37,11 @@ module _ {R Z : Type 0} where
   abbrev pub begins : List ℕ → Vec ℕ Z × Placed R → Bool
   begins prefix e = starts_with nat_eq e.0.items prefix
 
+  -- the row's key begins so and is above this
   abbrev pub is_after : List ℕ → List ℕ → Vec ℕ Z × Placed R → Bool
   is_after prefix after e = begins prefix e && is_lt (slice_cmp nat_cmp after e.0.items)
 
+  -- each row stands in order, where its partition is occupied
   abbrev pub AllPlaced : Words R → ℕ → List Bool → List (Vec ℕ Z × Placed R) → Type 0
   AllPlaced s table occupied es = All (IsPlaced s table occupied) es
 
@@ -56,6 +59,7 @@ leading test (x ∷ xs) = if test x then x ∷ leading test xs else []
 abbrev pub window : {R : Type 0} → ℕ → List R → List R × Bool
 window limit rows = (take limit rows, nat_lt limit (length rows))
 
+-- the order of keys
 abbrev pub vec_cmp : {Z : Type 0} → Vec ℕ Z → Vec ℕ Z → Ordering
 vec_cmp x y = slice_cmp nat_cmp x.items y.items
 

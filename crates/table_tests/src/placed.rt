@@ -2,6 +2,7 @@
 use crate::made::{Made, Shape, merged, row};
 use blake2_hash::blake2b_256;
 use crdt_core::Memory;
+use crdt_rows::AnyRow;
 use object_schema::S3Schema;
 use std::alloc::Global;
 use std::test::Fail;
@@ -11,20 +12,22 @@ fn calls_for<S: Schema>(alloc: Global, old: &S::Row, new: &S::Row) -> Result<Vec
     S::triggers(alloc, old, new)
 }
 
-// Whether a change to a row calls for exactly these two rows.
+// What a change to a row calls for.
+fn changed(alloc: Global, old: &[Made; 2], change: Made) -> Result<Vec<AnyRow>, Memory> {
+    let before = merged(alloc, old[0], &[old[1]])?;
+    let after = merged(alloc, old[0], &[old[1], change])?;
+    calls_for::<S3Schema>(alloc, &before, &after)
+}
+
+// Whether it calls for exactly these two rows.
 fn change_calls_for(
     alloc: Global,
     old: &[Made; 2],
     change: Made,
     want: &[Made; 2],
 ) -> Result<bool, Memory> {
-    let before = merged(alloc, old[0], &[old[1]])?;
-    let after = merged(alloc, old[0], &[old[1], change])?;
-    let found = calls_for::<S3Schema>(alloc, &before, &after)?;
-    match found.as_slice() {
-        [first, second] => Ok(*first == row(alloc, want[0])? && *second == row(alloc, want[1])?),
-        _ => Ok(false),
-    }
+    let want = [row(alloc, want[0])?, row(alloc, want[1])?];
+    Ok(changed(alloc, old, change)?.as_slice() == want.as_slice())
 }
 
 #[test]

@@ -72,6 +72,12 @@ const MERGED: [Made; 3] = [
     Made::Deleted(5),
 ];
 
+const BACKWARDS: [Made; 3] = [
+    Made::Deleted(5),
+    Made::Reference(0x11, 6, false),
+    Made::Reference(0x11, 5, false),
+];
+
 const TOPS: [&str; 4] = [
     "7e1c26a17bd3d7fa395f34897712e0533bd0d69b934e542d6a4a4fb3ce779cda",
     "f962725a6d977e2d26f99325409bb5a37fe72eb3afd207e47b172394302d7a39",
@@ -81,9 +87,16 @@ const TOPS: [&str; 4] = [
 
 #[test]
 fn top_from_outside(rt: HostRuntime) -> Result<(), Fail> {
-    for (count, top) in TOPS.iter().enumerate() {
-        let found = table(rt.alloc(), &MERGED[..count.min(3)])?.top()?;
-        assert_eq!(rt; hex::encode(rt.alloc(), &found.0)?.as_str(), *top);
+    let rows: [(&[Made], &str); 5] = [
+        (&[], TOPS[0]),
+        (&MERGED[..1], TOPS[1]),
+        (&MERGED[..2], TOPS[2]),
+        (&MERGED, TOPS[3]),
+        (&BACKWARDS, TOPS[3]),
+    ];
+    for (made, top) in rows {
+        let found = table(rt.alloc(), made)?.top()?;
+        assert_eq!(rt; hex::encode(rt.alloc(), &found.0)?.as_str(), top);
     }
     Ok(())
 }

@@ -1,6 +1,6 @@
 -- Which event a line of a schedule spells, and which list of events an input spells.
-use Rattle.std.specs.Prelude.{◌≡◌, ℕ, suc, ◌-◌, ◌≤◌, Bool, ◌||◌, ◌&&◌, ◌==◌, nat_le, if◌then◌else◌, IsTrue, ⊤, Option, Some, None, List, [], ◌∷◌, ◌++◌, length, flat_map, codes, decimal, slice_index}
-use Rattle.std.specs.List.{All}
+use Rattle.std.specs.Prelude.{◌≡◌, ℕ, suc, ◌-◌, ◌≤◌, Bool, ◌||◌, ◌&&◌, ◌==◌, nat_le, if◌then◌else◌, IsTrue, ⊤, Option, Some, None, List, [], ◌∷◌, length, codes, decimal, slice_index}
+use Rattle.std.specs.List.{All, join_with_byte}
 use Rattle.object_model.specs.declared.event.Event.{Event}
 use Rattle.layout_roles.specs.declared.role.Zone.{Zone}
 use Rattle.layout_roles.specs.declared.role.Kind.{Kind}
@@ -10,6 +10,7 @@ use Rattle.layout_roles.specs.declared.redundancy.Redundancy.TheVariants.{AtLeas
 use Rattle.object_model.specs.declared.event.Event.TheVariants.{Trio, Bucket, Role, Redundancy, Apply, Tick, Put, Get, Deliver, Drain, Expire, Gossip, Ack, Sync, SyncAck, Clean}
 use Rattle.object_model.specs.declared.event.Numbered.{Numbered}
 
+-- the number is in a range
 abbrev pub is_between : ℕ → ℕ → ℕ → Bool
 is_between low high b = nat_le low b && nat_le b high
 
@@ -57,16 +58,15 @@ pub record IsKey (key : List ℕ) : Type 0 where
   pub at_most : length key ≤ 64
   pub bytes : All (λ b. IsTrue (is_key_byte b)) key
 
+-- the number is in a range
 abbrev pub IsFrom : ℕ → ℕ → ℕ → Type 0
 IsFrom low high n = (low ≤ n) × (n ≤ high)
 
+-- a node's number is from 1 to 16
 abbrev pub IsNode : ℕ → Type 0
 IsNode n = IsFrom 1 16 n
 
--- a word after one space
-abbrev pub word : List ℕ → List ℕ
-word w = 32 ∷ w
-
+-- the word of a role's kind: its capacity in bytes, or gateway
 abbrev pub kind_word : Kind → List ℕ
 kind_word (Storage capacity) = decimal capacity
 kind_word Gateway = codes "gateway"
@@ -76,38 +76,54 @@ abbrev pub role_words : Option (Zone × Kind) → List (List ℕ)
 role_words None = codes "none" ∷ []
 role_words (Some role) = role.0.0 ∷ kind_word role.1 ∷ []
 
+-- the word of a redundancy: a number of zones, or maximum
 abbrev pub redundancy_word : wanted.Redundancy → List ℕ
 redundancy_word (AtLeast r) = decimal r
 redundancy_word Maximum = codes "maximum"
 
--- how an event is spelled: its name and its words, one space apart, numbers in decimal without a leading zero
-abbrev pub spelling : Event → List ℕ
-spelling Trio = codes "trio"
-spelling (Bucket name) = codes "bucket" ++ word name
-spelling (Role n role) = codes "role" ++ word (decimal n) ++ flat_map word (role_words role)
-spelling (Redundancy r) = codes "redundancy" ++ word (redundancy_word r)
-spelling (Apply n) = codes "apply" ++ word (decimal n)
-spelling (Tick ms) = codes "tick" ++ word (decimal ms)
-spelling (Put n bucket key size fill) =
-    codes "put" ++ word (decimal n) ++ word bucket ++ word key ++ word (decimal size) ++ word (decimal fill)
-spelling (Get n bucket key) = codes "get" ++ word (decimal n) ++ word bucket ++ word key
-spelling (Deliver m) = codes "deliver" ++ word (decimal m)
-spelling (Drain n) = codes "drain" ++ word (decimal n)
-spelling (Expire q) = codes "expire" ++ word (decimal q)
-spelling (Gossip from to) = codes "gossip" ++ word (decimal from) ++ word (decimal to)
-spelling (Ack n) = codes "ack" ++ word (decimal n)
-spelling (Sync n) = codes "sync" ++ word (decimal n)
-spelling (SyncAck n) = codes "syncack" ++ word (decimal n)
-spelling (Clean n) = codes "clean" ++ word (decimal n)
+-- the words of an event: its name and what it says, numbers in decimal without a leading zero
+abbrev pub words_of : Event → List (List ℕ)
+words_of Trio = codes "trio" ∷ []
+words_of (Bucket name) = codes "bucket" ∷ name ∷ []
+words_of (Role n role) = codes "role" ∷ decimal n ∷ role_words role
+words_of (Redundancy r) = codes "redundancy" ∷ redundancy_word r ∷ []
+words_of (Apply n) = codes "apply" ∷ decimal n ∷ []
+words_of (Tick ms) = codes "tick" ∷ decimal ms ∷ []
+words_of (Put n bucket key size fill) = codes "put" ∷ decimal n ∷ bucket ∷ key ∷ decimal size ∷ decimal fill ∷ []
+words_of (Get n bucket key) = codes "get" ∷ decimal n ∷ bucket ∷ key ∷ []
+words_of (Deliver m) = codes "deliver" ∷ decimal m ∷ []
+words_of (Drain n) = codes "drain" ∷ decimal n ∷ []
+words_of (Expire q) = codes "expire" ∷ decimal q ∷ []
+words_of (Gossip from to) = codes "gossip" ∷ decimal from ∷ decimal to ∷ []
+words_of (Ack n) = codes "ack" ∷ decimal n ∷ []
+words_of (Sync n) = codes "sync" ∷ decimal n ∷ []
+words_of (SyncAck n) = codes "syncack" ∷ decimal n ∷ []
+words_of (Clean n) = codes "clean" ∷ decimal n ∷ []
 
+-- the first of some words
+abbrev pub first_word : List (List ℕ) → List ℕ
+first_word [] = []
+first_word (w ∷ ws) = w
+
+-- an event's name is the first of its words
+abbrev pub name_of : Event → List ℕ
+name_of e = first_word (words_of e)
+
+-- an event is spelled by its words, one space apart
+abbrev pub spelling : Event → List ℕ
+spelling e = join_with_byte 32 (words_of e)
+
+-- a capacity is from 1 byte to 1 PiB
 abbrev pub IsCapacity : Kind → Type 0
 IsCapacity (Storage capacity) = IsFrom 1 1125899906842624 capacity
 IsCapacity Gateway = ⊤
 
+-- a role is none, or a zone and a capacity
 abbrev pub IsRole : Option (Zone × Kind) → Type 0
 IsRole None = ⊤
 IsRole (Some role) = IsZone role.0.0 × IsCapacity role.1
 
+-- a redundancy is 1, 2 or 3 zones, or the maximum
 abbrev pub IsRedundancy : wanted.Redundancy → Type 0
 IsRedundancy (AtLeast r) = IsFrom 1 3 r
 IsRedundancy Maximum = ⊤
@@ -141,6 +157,7 @@ abbrev pub IsBlank : List ℕ → Type 0
 IsBlank [] = ⊤
 IsBlank (b ∷ bs) = b ≡ 35
 
+-- the byte at the front of the first line
 abbrev pub onto_first : ℕ → List (List ℕ) → List (List ℕ)
 onto_first b [] = (b ∷ []) ∷ []
 onto_first b (l ∷ ls) = (b ∷ l) ∷ ls
@@ -175,5 +192,6 @@ pub data IsFirstBad : ℕ → List (List ℕ) → ℕ → Type 0 where
   after_event : (n k : ℕ) (line : List ℕ) (event : Event) (lines : List (List ℕ)) →
       Spells line event → IsFirstBad (suc n) lines k → IsFirstBad n (line ∷ lines) k
 
+-- line k of the input is the first outside the grammar
 abbrev pub IsFirstBadLine : List ℕ → ℕ → Type 0
 IsFirstBadLine input k = IsFirstBad 1 (lines_of input) k

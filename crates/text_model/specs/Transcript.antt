@@ -2,7 +2,7 @@
 use Rattle.std.specs.Prelude.{ℕ, Option, Some, None, List, [], ◌∷◌, ◌++◌, length, flat_map, codes, decimal}
 use Rattle.hex.specs.Hex.{encode_lower}
 use Rattle.layout_roles.specs.declared.cut.Cut.{Cut}
-use Rattle.layout_roles.specs.Text.{layout_text}
+use Rattle.layout_roles.specs.Text.{word, number, layout_text}
 use Rattle.cluster_machine.specs.declared.line.Line.{Line}
 use Rattle.cluster_machine.specs.declared.line.Line.TheVariants.{Layout, Got, Sent, Synced, Done, Listed, Ended}
 use Rattle.cluster_machine.specs.declared.line.SentKind.{SentKind}
@@ -16,16 +16,11 @@ use Rattle.cluster_machine.specs.declared.step.Refusal.TheVariants.{VersionTaken
 use Rattle.cluster_machine.specs.declared.step.Words.{Words}
 use Rattle.cluster_machine.specs.declared.step.Words.TheVariants.{Empty, One, Idle, Two}
 use Rattle.cluster_machine.specs.declared.applied.Applied.{Applied}
-use Rattle.object_model.specs.declared.event.Event.{Event}
-use Rattle.object_model.specs.declared.event.Event.TheVariants as event
 use Rattle.object_model.specs.declared.event.Numbered.{Numbered}
 use Rattle.object_model.specs.Run.{State, Outcome, Turn, start, outcome_of, run}
-use Rattle.text_model.specs.Grammar.{word}
+use Rattle.text_model.specs.Grammar.{name_of}
 
--- a number in decimal, after one space
-abbrev pub number : ℕ → List ℕ
-number n = word (decimal n)
-
+-- the word of a message's kind
 abbrev pub kind_text : SentKind → List ℕ
 kind_text kind.Get = codes "get"
 kind_text kind.Row = codes "row"
@@ -40,6 +35,7 @@ kind_text kind.Block = codes "block"
 kind_text kind.NoBlock = codes "noblock"
 kind_text kind.View = codes "view"
 
+-- the word of a request's kind
 abbrev pub done_text : DoneWord → List ℕ
 done_text done.Put = codes "put"
 done_text done.Get = codes "get"
@@ -47,6 +43,7 @@ done_text done.Head = codes "head"
 done_text done.Delete = codes "delete"
 done_text done.Copy = codes "copy"
 
+-- the word of how a request ended without an answer
 abbrev pub end_word : EndWord → List ℕ
 end_word Expired = codes "expired"
 end_word Restarted = codes "restarted"
@@ -57,6 +54,7 @@ abbrev pub version_text : Option (ℕ × ℕ) → List ℕ
 version_text None = codes "none"
 version_text (Some v) = decimal v.0 ++ 47 ∷ decimal v.1
 
+-- a size in bytes, nothing where there is none
 abbrev pub size_text : Option ℕ → List ℕ
 size_text None = []
 size_text (Some size) = number size
@@ -81,6 +79,7 @@ line_text (Done q w version size md5) =
 line_text (Listed q keys) = codes "done" ++ number q ++ word (codes "list") ++ number (length keys) ++ 10 ∷ [] ++ flat_map key_line keys
 line_text (Ended q w) = codes "ended" ++ number q ++ word (end_word w) ++ 10 ∷ []
 
+-- the words of a refusal
 abbrev pub refusal_text : Refusal Cut → List ℕ
 refusal_text (VersionTaken v) = codes "VersionTaken" ++ number v
 refusal_text VersionLimit = codes "VersionLimit"
@@ -94,30 +93,12 @@ refusal_text (TooFewNodes nodes) = codes "TooFewNodes" ++ number nodes
 refusal_text (TooFewZones zones r) = codes "TooFewZones" ++ number zones ++ number r
 refusal_text (NoAssignment cut) = codes "NoAssignment" ++ number cut.weight
 
+-- the words that an event answers with
 abbrev pub words_text : Words → List ℕ
 words_text Empty = []
 words_text (One n) = number n
 words_text (Idle read least) = word (codes "idle") ++ number read ++ number least
 words_text (Two a b) = number a ++ number b
-
--- the first word of an event
-abbrev pub name_of : Event → List ℕ
-name_of event.Trio = codes "trio"
-name_of (event.Bucket _) = codes "bucket"
-name_of (event.Role _ _) = codes "role"
-name_of (event.Redundancy _) = codes "redundancy"
-name_of (event.Apply _) = codes "apply"
-name_of (event.Tick _) = codes "tick"
-name_of (event.Put _ _ _ _ _) = codes "put"
-name_of (event.Get _ _ _) = codes "get"
-name_of (event.Deliver _) = codes "deliver"
-name_of (event.Drain _) = codes "drain"
-name_of (event.Expire _) = codes "expire"
-name_of (event.Gossip _ _) = codes "gossip"
-name_of (event.Ack _) = codes "ack"
-name_of (event.Sync _) = codes "sync"
-name_of (event.SyncAck _) = codes "syncack"
-name_of (event.Clean _) = codes "clean"
 
 -- what an event answers, after its line and name
 abbrev pub answer_text : Option (Refusal Cut) → Words → List ℕ
@@ -129,6 +110,7 @@ abbrev pub told_text : ℕ → List ℕ → Option (Refusal Cut) → Words → L
 told_text line name refused words lines =
     (decimal line ++ word name ++ word (answer_text refused words) ++ 10 ∷ []) ++ flat_map line_text lines
 
+-- the lines of one event, with what came of it
 abbrev pub event_text : Numbered → Outcome → List ℕ
 event_text e o = told_text e.line (name_of e.event) o.refused o.words o.lines
 
@@ -141,6 +123,7 @@ turns_text s (t ∷ ts) = event_text t.numbered (outcome_of s t) ++ turns_text (
 abbrev pub end_line : ℕ → ℕ → ℕ → List ℕ
 end_line events requests messages = codes "end" ++ number events ++ number requests ++ number messages ++ 10 ∷ []
 
+-- the last line, with the counts of events, requests and messages
 abbrev pub end_text : List Turn → State → List ℕ
 end_text ts s = end_line (length ts) (length s.world.requests) (length s.world.messages)
 

@@ -10,8 +10,8 @@ use Rattle.layout_trackers.specs.Trackers.{entry}
 use Rattle.layout_trackers.specs.Least.{least, lesser}
 use Rattle.view_model.specs.View.{Reading, View, oldest, newest, layout_at, version_of, members_stored, least_of, have_synced, cleaned}
 use Rattle.crdt_core.specs.Members.{two_pass, Has}
-use Rattle.view_model.specs.Gapless.{at, at_from}
-use Rattle.view_model.specs.Cleans.{cleaned_from}
+use Rattle.view_model.proofs.Gapless.{at, at_from}
+use Rattle.view_model.proofs.Cleans.{cleaned_from}
 use Rattle.control_model.specs.Facts.{entry_of}
 use Rattle.version_laws.proofs.OneView.{Gapless, oldest_cleaned}
 

@@ -10,11 +10,11 @@ use Rattle.layout_trackers.specs.declared.which.Which.TheVariants.{Ack, Sync, Sy
 use Rattle.layout_trackers.specs.Trackers.{entry, is_reached}
 use Rattle.layout_trackers.specs.Entries.{later, IsNotAbove, never_falls, grows_trans, counts-joined, entry-raised, entry-raised_alone, entry-raised_one}
 use Rattle.layout_trackers.specs.Reaching.{reached_by}
-use Rattle.view_model.specs.View.{Reading, View, is_gapless, first_version, last_version, from, oldest, newest, layout_at, version_of, members_stored, least_of, have_synced, is_established, read_version, merged, cleaned, appended, with_entry}
+use Rattle.view_model.specs.View.{Reading, View, is_gapless, first_version, last_version, from, oldest, newest, layout_at, version_of, members_stored, least_of, have_synced, is_established, read_version, merged, cleaned, appended, with_entry, GrewFrom}
 use Rattle.crdt_core.specs.Members.{two_pass, Has, TwoOf}
-use Rattle.view_model.specs.Gapless.{at, Stored, lt_leb, led, below_oldest, above_newest, none_at_0, oldest_least, inside, first_is, at_from, gapless_from}
-use Rattle.view_model.specs.Cleans.{cleaned_from, gapless_cleaned, newest_stays}
-use Rattle.view_model.specs.Reads.{GrewFrom, read_known, read_stored, read_readable, read_grows, gapless_appended, newest_appended}
+use Rattle.view_model.proofs.Gapless.{at, Stored, lt_leb, led, below_oldest, above_newest, none_at_0, oldest_least, inside, first_is, at_from, gapless_from}
+use Rattle.view_model.proofs.Cleans.{cleaned_from, gapless_cleaned, newest_stays}
+use Rattle.view_model.proofs.ReadVersions.{read_known, read_stored, read_readable, read_grows, gapless_appended, newest_appended}
 use Rattle.control_model.specs.Layouts.{is_in, is_set, are_three, IsMember, is_lawful}
 use Rattle.control_model.specs.Facts.{entry_of}
 use Rattle.version_laws.proofs.Tests.{some_is, none_is_not, has_map, has_flat, has_found, is_in-has, list_all-at, least_at, two_of}

@@ -3,8 +3,8 @@ use Rattle.std.proofs.Common.{◌≡◌, ℕ, suc, ◌<◌, ◌≤◌, ◌&&◌,
 use Rattle.std.proofs.lemmas.Bool.{cond_both, and_parts, leb-false}
 use Rattle.layout_trackers.specs.declared.which.Which.TheVariants.{Ack, Sync, SyncAck}
 use Rattle.view_model.specs.View.{Reading, View, oldest, newest, merged, cleaned, appended, with_entry}
-use Rattle.view_model.specs.Joins.{newest_merged}
-use Rattle.view_model.specs.Cleans.{newest_stays}
+use Rattle.view_model.proofs.Joins.{newest_merged}
+use Rattle.view_model.proofs.Cleans.{newest_stays}
 use Rattle.control_model.specs.Layouts.{is_lawful}
 use Rattle.control_model.specs.World.{Round, Node, World, Change, next, nothing, empty, view_of}
 use Rattle.control_model.specs.Steps.{Step, applies, installs, still, with_view, comes, completes, begins, begins_round, is_none, is_current, may_begin, least_start, without, change, step, round_of}

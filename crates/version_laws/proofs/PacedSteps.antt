@@ -5,8 +5,8 @@ use Rattle.std.proofs.lemmas.Bool.{cases_eq, cases_lt, and_parts, cond_both, fal
 use Rattle.layout_trackers.specs.declared.which.Which.{Which}
 use Rattle.layout_trackers.specs.declared.which.Which.TheVariants.{Ack, Sync, SyncAck}
 use Rattle.view_model.specs.View.{Reading, View, oldest, newest, layout_at, version_of, ack_least, read_version, merged, cleaned, appended, with_entry}
-use Rattle.view_model.specs.Joins.{oldest_merged}
-use Rattle.view_model.specs.Cleans.{gapless_cleaned, newest_stays}
+use Rattle.view_model.proofs.Joins.{oldest_merged}
+use Rattle.view_model.proofs.Cleans.{gapless_cleaned, newest_stays}
 use Rattle.control_model.specs.Layouts.{IsMember, is_member, is_lawful}
 use Rattle.control_model.specs.World.{Request, Round, Node, World, next, nothing, empty, view_of, layout_of}
 use Rattle.control_model.specs.Steps.{Step, applies, installs, still, with_view, comes, least_start, without, is_none, completes, is_current, change, step, round_of}

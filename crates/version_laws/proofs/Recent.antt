@@ -3,10 +3,10 @@ use Rattle.std.proofs.Common.{◌≡◌, ℕ, suc, ◌<◌, ◌≤◌, Bool, ◌
 use Rattle.std.specs.List.{AllByRecursion}
 use Rattle.std.proofs.lemmas.Bool.{cases_lt, and_parts, cond_both, false≢true}
 use Rattle.layout_trackers.specs.declared.which.Which.TheVariants.{Sync, SyncAck}
-use Rattle.view_model.specs.View.{Reading, View, oldest, newest, layout_at, read_version, merged, cleaned, appended, with_entry}
-use Rattle.view_model.specs.Joins.{oldest_merged, newest_merged}
-use Rattle.view_model.specs.Cleans.{newest_stays, newest_kept, gapless_cleaned}
-use Rattle.view_model.specs.Reads.{GrewFrom, merged_grew}
+use Rattle.view_model.specs.View.{Reading, View, oldest, newest, layout_at, read_version, merged, cleaned, appended, with_entry, GrewFrom}
+use Rattle.view_model.proofs.Joins.{oldest_merged, newest_merged}
+use Rattle.view_model.proofs.Cleans.{newest_stays, newest_kept, gapless_cleaned}
+use Rattle.view_model.proofs.ReadVersions.{merged_grew}
 use Rattle.control_model.specs.Layouts.{IsMember, is_lawful}
 use Rattle.control_model.specs.World.{Request, Round, Node, World, Change, next, nothing, empty, view_of, layout_of}
 use Rattle.control_model.specs.Steps.{Step, applies, installs, comes, completes, is_current, may_begin, change, step, round_of}

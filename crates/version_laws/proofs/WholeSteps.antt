@@ -3,10 +3,10 @@ use Rattle.std.proofs.Common.{◌≡◌, ℕ, suc, pred, ◌<◌, ◌≤◌, Boo
 use Rattle.std.proofs.lemmas.Bool.{eqb-false, cases_lt, cases_Bool, and_parts, cond_both, cond-true, false≢true}
 use Rattle.layout_trackers.specs.declared.which.Which.{Which}
 use Rattle.layout_trackers.specs.declared.which.Which.TheVariants.{Ack, Sync, SyncAck}
-use Rattle.view_model.specs.View.{Reading, View, oldest, newest, layout_at, read_version, merged, Agree, cleaned, appended, with_entry}
-use Rattle.view_model.specs.Joins.{gapless_merged, oldest_merged, newest_merged}
-use Rattle.view_model.specs.Cleans.{gapless_cleaned, newest_stays}
-use Rattle.view_model.specs.Reads.{GrewFrom, merged_grew, merged_grew_other, raised_grew, appended_grew}
+use Rattle.view_model.specs.View.{Reading, View, oldest, newest, layout_at, read_version, merged, Agree, cleaned, appended, with_entry, GrewFrom}
+use Rattle.view_model.proofs.Joins.{gapless_merged, oldest_merged, newest_merged}
+use Rattle.view_model.proofs.Cleans.{gapless_cleaned, newest_stays}
+use Rattle.view_model.proofs.ReadVersions.{merged_grew, merged_grew_other, raised_grew, appended_grew}
 use Rattle.control_model.specs.Layouts.{IsMember, is_lawful}
 use Rattle.control_model.specs.World.{Request, Round, Node, Applied, World, Change, next, nothing, only, unseen, empty, view_of, layout_of}
 use Rattle.control_model.specs.Steps.{Step, applies, installs, with_view, comes, least_start, without, completes, is_current, may_begin, change, step, round_of}

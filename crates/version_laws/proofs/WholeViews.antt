@@ -4,8 +4,7 @@ use Rattle.std.specs.List.{AllByRecursion}
 use Rattle.std.proofs.lemmas.Bool.{cases_lt, cond_both}
 use Rattle.layout_trackers.specs.declared.which.Which.{Which}
 use Rattle.layout_trackers.specs.declared.which.Which.TheVariants.{Ack, SyncAck}
-use Rattle.view_model.specs.View.{Reading, View, oldest, newest, layout_at, read_version}
-use Rattle.view_model.specs.Reads.{GrewFrom}
+use Rattle.view_model.specs.View.{Reading, View, oldest, newest, layout_at, read_version, GrewFrom}
 use Rattle.control_model.specs.Layouts.{IsMember, is_lawful}
 use Rattle.control_model.specs.World.{Node, Applied, World, Change, next, view_of, layout_of}
 use Rattle.control_model.specs.Facts.{entry_of}

@@ -10,6 +10,7 @@ pub record Plan : Type 0 where
   pub members : List ℕ
   pub sets : List (List ℕ)
 
+-- how a plan is read: as it stands
 abbrev pub plan_reading : Reading Plan
 plan_reading = record { version = λ l. l.version; members = λ l. l.members; sets = λ l. l.sets }
 
@@ -17,9 +18,11 @@ plan_reading = record { version = λ l. l.version; members = λ l. l.members; se
 abbrev pub first_plan : Plan
 first_plan = record { version = 1; members = 1 ∷ 2 ∷ 3 ∷ []; sets = (1 ∷ 2 ∷ 3 ∷ []) ∷ (1 ∷ 2 ∷ 3 ∷ []) ∷ [] }
 
+-- version 2, on nodes 2, 3 and 4 with two partitions
 abbrev pub second_plan : Plan
 second_plan = record { version = 2; members = 2 ∷ 3 ∷ 4 ∷ []; sets = (2 ∷ 3 ∷ 4 ∷ []) ∷ (2 ∷ 3 ∷ 4 ∷ []) ∷ [] }
 
+-- nodes 1, 2 and 3
 abbrev pub is_first : ℕ → Bool
 is_first n = leb 1 n && leb n 3
 
@@ -47,6 +50,7 @@ synchronized = Step.BeginRound 1 ∷ Step.BeginRound 2 ∷ Step.BeginRound 3 ∷
 abbrev pub cleaned_up : List (Step Plan)
 cleaned_up = Step.RaiseSyncAck 1 ∷ Step.RaiseSyncAck 2 ∷ Step.RaiseSyncAck 3 ∷ Step.RaiseSyncAck 4 ∷ (tells 1 7 ++ (tells 2 8 ++ (tells 3 9 ++ (tells 4 10 ++ (Step.Clean 2 ∷ Step.Begin 4 ∷ [])))))
 
+-- what the world is after further events
 abbrev pub goes_on : World Plan → List (Step Plan) → World Plan
 goes_on w steps = run plan_reading 2 w steps
 
@@ -54,6 +58,7 @@ goes_on w steps = run plan_reading 2 w steps
 abbrev pub applied_twice : World Plan
 applied_twice = goes_on empty (Step.Install is_first first_plan ∷ Step.Apply 1 second_plan ∷ Step.Apply 2 second_plan ∷ [])
 
+-- the world once version 2 is applied
 abbrev pub after_apply : World Plan
 after_apply = goes_on empty applied
 
@@ -61,11 +66,14 @@ after_apply = goes_on empty applied
 abbrev pub held_back : World Plan
 held_back = goes_on after_apply (acks ++ (Step.BeginRound 1 ∷ []))
 
+-- the world once every member has acknowledged version 2
 abbrev pub before_reading : World Plan
 before_reading = goes_on after_apply acknowledged
 
+-- the world once version 2 is read
 abbrev pub after_reading : World Plan
 after_reading = goes_on before_reading synchronized
 
+-- the world once version 1 is dropped
 abbrev pub after_cleaning : World Plan
 after_cleaning = goes_on after_reading cleaned_up

@@ -2,8 +2,7 @@
 ghost use Rattle.std.specs.Prelude.{◌≡◌, ◌≤◌, ℕ, Some, IsTrue};
 ghost use Rattle.layout_trackers.specs.declared.which.Which.{Which};
 ghost use Rattle.layout_trackers.specs.declared.which.Which.TheVariants.{Ack, SyncAck};
-ghost use Rattle.view_model.specs.View.{Reading, View, oldest, newest, layout_at};
-ghost use Rattle.view_model.specs.Reads.{GrewFrom};
+ghost use Rattle.view_model.specs.View.{Reading, View, oldest, newest, layout_at, GrewFrom};
 ghost use Rattle.control_model.specs.Layouts.{is_lawful};
 ghost use Rattle.control_model.specs.World.{Round, World, view_of, layout_of};
 ghost use Rattle.control_model.specs.Steps.{Step, step};

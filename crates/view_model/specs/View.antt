@@ -1,5 +1,5 @@
 -- What a node knows of the cluster's layout versions, and what follows from it.
-use Rattle.std.specs.Prelude.{◌≡◌, ℕ, zero, suc, pred, max, Bool, true, false, cond, ◌&&◌, ◌||◌, ◌==◌, leb, nat_lt, map, List, [], ◌∷◌, ◌++◌, Option, Some, None}
+use Rattle.std.specs.Prelude.{◌≡◌, ◌≤◌, ℕ, zero, suc, pred, max, Bool, true, false, cond, ◌&&◌, ◌||◌, ◌==◌, leb, nat_lt, map, List, [], ◌∷◌, ◌++◌, Option, Some, None}
 use Rattle.std.specs.Option.{unwrap_or}
 use Rattle.std.specs.List.{filter, find, list_all, flat_map}
 use Rattle.crdt_core.specs.Members.{two_pass}
@@ -7,6 +7,7 @@ use Rattle.layout_trackers.specs.declared.trackers.Trackers.{Trackers}
 use Rattle.layout_trackers.specs.declared.which.Which.{Which}
 use Rattle.layout_trackers.specs.declared.which.Which.TheVariants.{Ack, Sync, SyncAck}
 use Rattle.layout_trackers.specs.Trackers.{counts, raised, is_reached, trackers_join}
+use Rattle.layout_trackers.specs.Entries.{Grows}
 use Rattle.layout_trackers.specs.Least.{least}
 
 -- what a layout says: its version, the nodes that have a role in it, gateways included, and the three nodes of each partition
@@ -36,10 +37,12 @@ module _ {L : Type 0} (r : Reading L) where
   is_gapless [] = true
   is_gapless (l ∷ ls) = leb 1 (r.version l) && follow (r.version l) ls
 
+  -- the version of the first layout, 0 where there is none
   abbrev pub first_version : List L → ℕ
   first_version [] = 0
   first_version (l ∷ ls) = r.version l
 
+  -- the version of the last layout, or that before them where there is none
   abbrev pub last_version : ℕ → List L → ℕ
   last_version before [] = before
   last_version before (l ∷ ls) = last_version (r.version l) ls
@@ -72,6 +75,7 @@ module _ {L : Type 0} (r : Reading L) where
   abbrev pub least_of : Which → View L → ℕ
   least_of which v = unwrap_or (least (map (version_of which v) (members_stored v))) 0
 
+  -- the version that each member of all stored versions has acknowledged
   abbrev pub ack_least : View L → ℕ
   ack_least v = least_of Ack v
 
@@ -84,6 +88,7 @@ module _ {L : Type 0} (r : Reading L) where
   abbrev pub is_established : View L → ℕ → Bool
   is_established v i = nat_lt (oldest v) i && have_synced v i (layout_at v (pred i))
 
+  -- version i may be read: it is the oldest stored, it is established, or some node told that all have synced to it
   abbrev pub is_readable : View L → ℕ → Bool
   is_readable v i = (i == oldest v) || (is_established v i || is_reached SyncAck i v.trackers)
 
@@ -113,3 +118,10 @@ module _ {L : Type 0} (r : Reading L) where
   -- a node's entry raised to version i
   abbrev pub with_entry : Which → ℕ → ℕ → View L → View L
   with_entry which node i v = record v { trackers = raised which node i v.trackers }
+
+  -- a view that another one grew into: no entry and no end fell, and what the later one still reaches down to it stores
+  pub record GrewFrom (a b : View L) : Type 0 where
+    pub entries : Grows a.trackers b.trackers
+    pub oldest_grew : oldest a ≤ oldest b
+    pub newest_grew : newest a ≤ newest b
+    pub layouts : (i : ℕ) (x : L) → oldest b ≤ i → layout_at a i ≡ Some x → layout_at b i ≡ Some x

@@ -14,10 +14,12 @@ plus None b = None
 plus (Some a) None = None
 plus (Some a) (Some b) = Some (a + b)
 
+-- how many bytes rows count, where each of them has a spelling
 abbrev pub rows_length : {R : Type 0} → Words R → List R → Option ℕ
 rows_length s [] = Some 0
 rows_length s (r ∷ rs) = plus (row_length s r) (rows_length s rs)
 
+-- how many bytes a block counts, none where there is none
 abbrev pub block_length : Option (List ℕ) → ℕ
 block_length None = 0
 block_length (Some block) = length block

@@ -26,7 +26,7 @@ use Rattle.cluster_machine.specs.Receives.{receives}
 use Rattle.cluster_machine.specs.Acts.{acts}
 use Rattle.cluster_machine.specs.World.{Sent, clock, numbered}
 use Rattle.cluster_machine.specs.Step.{told as says, nothing, refusal, did, received, at_message, begun, beginning, sync_line, marked, applied}
-use Rattle.machine_origins.specs.Keeping as origins
+use Rattle.cluster_machine.specs.Keeping as origins
 use Rattle.node_parts.specs.declared.packet.Packet.{Packet}
 use Rattle.node_parts.specs.declared.packet.Packet.TheVariants.{Msg, View}
 use Rattle.node_parts.specs.declared.packet.Envelope.{Envelope}

@@ -28,6 +28,7 @@ abbrev pub IsNodeAt : {S R : Type 0} → (R → R → R) → Words R → Option 
 IsNodeAt join s None n x = x ≡ new_node
 IsNodeAt join s (Some c) n x = StandsFor join s c n x
 
+-- each node of the code is that of the world
 abbrev pub AreNodes : {S R : Type 0} → (R → R → R) → Words R → Nodes S R → (ℕ → Model R Layout) → Type 0
 AreNodes join s nodes xs = (n : ℕ) → IsNodeAt join s (get nat_cmp nodes.by_number n) n (xs n)
 
@@ -36,6 +37,7 @@ abbrev pub newest_of : {S R : Type 0} → Option (Node S R) → ℕ
 newest_of None = 0
 newest_of (Some c) = newest reading (view_of c)
 
+-- the newest version that node n knows
 abbrev pub newest_in : {S R : Type 0} → Nodes S R → ℕ → ℕ
 newest_in nodes n = newest_of (get nat_cmp nodes.by_number n)
 
@@ -55,9 +57,11 @@ module _ {S R : Type 0} (join : R → R → R) (s : Words R) where
   abbrev pub DoesAt : Nodes S R → Nodes S R → ℕ → List (Envelope R) → List (Envelope R) → Option (ℕ × PhaseEnd R) → (Model R Layout → Did R Layout) → Type 0
   DoesAt old new n old_out new_out given f = (xs : ℕ → Model R Layout) → AreNodes join s old xs → DidAt join s new n xs old_out new_out given (f (xs n))
 
+  -- node n acts as the model says, and answers so
   abbrev pub ActsAt : Nodes S R → Nodes S R → ℕ → List (Envelope R) → List (Envelope R) → LocalEnd → (Model R Layout → Acted R Layout) → Type 0
   ActsAt old new n old_out new_out how f = (xs : ℕ → Model R Layout) → AreNodes join s old xs → DidAt join s new n xs old_out new_out None (f (xs n)).did × (how ≡ (f (xs n)).how)
 
+  -- node n became this, and the others stay
   abbrev pub BecomesAt : Nodes S R → Nodes S R → ℕ → (Model R Layout → Model R Layout) → Type 0
   BecomesAt old new n f = (xs : ℕ → Model R Layout) → AreNodes join s old xs → AreNodes join s new (with_node n (f (xs n)) xs)
 
@@ -65,6 +69,7 @@ module _ {S R : Type 0} (join : R → R → R) (s : Words R) where
   abbrev pub OverflowsAt : Nodes S R → ℕ → (Model R Layout → Did R Layout) → Type 0
   OverflowsAt old n f = (xs : ℕ → Model R Layout) → AreNodes join s old xs → Fits s (f (xs n)) → ⊥
 
+-- a line in the words of the machine
 abbrev pub shown_line : NodeLine → machine.NodeLine
 shown_line line = record { node = line.node; rows = line.rows; blocks = line.blocks; top = line.top.0 }
 
@@ -74,6 +79,7 @@ line_of join s n x =
     let there = rows join s x.accepted in
     cond (has_none layouts x.view) None (Some (record { node = n; rows = length there; blocks = length x.blocks; top = top s there }))
 
+-- the line is that of this node
 abbrev pub IsLineOf : {R : Type 0} → (R → R → R) → Words R → ℕ → Model R Layout → Option NodeLine → Type 0
 IsLineOf join s n x line = option_map shown_line line ≡ line_of join s n x
 

@@ -28,6 +28,7 @@ use Rattle.world_core.specs.declared.decide.Decided.TheVariants.{Given, Refused}
 
 -- ---- requests
 
+-- a request in the words of the machine
 abbrev pub asked : Request → machine.Request
 asked r = record { coordinator = r.coordinator; is_open = r.is_open }
 
@@ -37,6 +38,7 @@ asked r = record { coordinator = r.coordinator; is_open = r.is_open }
 abbrev pub NoneLate : ℕ → (ℕ → ℕ) → Type 0
 NoneLate time skew_of = (time < 2 ^ 64) × ((n : ℕ) → time + skew_of n < 2 ^ 64)
 
+-- the time and each node's clock
 pub record AreClocks (c : Clocks) (time : ℕ) (skew_of : ℕ → ℕ) : Type 0 where
   pub time_is : c.time ≡ time
   pub skews : (n : ℕ) → slice_index_or c.skews n 0 ≡ skew_of n
@@ -44,6 +46,7 @@ pub record AreClocks (c : Clocks) (time : ℕ) (skew_of : ℕ → ℕ) : Type 0 
 
 -- ---- layouts
 
+-- what an apply is given, in the words of the machine
 abbrev pub decision : Decided → Decision
 decision (Given l shown) = given l shown
 decision (Refused refusal) = none_given refusal
@@ -56,6 +59,7 @@ IsGiven roles version certified (none_given refusal) = ⊥
 -- ---- messages
 
 module _ {R : Type 0} where
+  -- what kind of message a packet is
   abbrev pub kind_of : Packet R → SentKind
   kind_of packet = kind_told (told packet)
 
@@ -64,17 +68,21 @@ module _ {R : Type 0} where
   lines_from number [] = []
   lines_from number (e ∷ es) = WasSent number (kind_of e.packet) e.from e.to ∷ lines_from (suc number) es
 
+  -- the envelope is this message
   pub record IsSent (e : Envelope R) (m : Sent R Layout) : Type 0 where
     pub from : e.from ≡ m.from
     pub to : e.to ≡ m.to
     pub packet : told e.packet ≡ m.packet
 
+  -- the envelopes are these messages, in order
   abbrev pub AreSent : List (Envelope R) → List (Sent R Layout) → Type 0
   AreSent es ms = AllZip IsSent es ms
 
+  -- what is marked of a message
   abbrev pub mark_of : Slot R → Mark
   mark_of slot = record { is_delivered = slot.is_delivered; is_lost = is_none slot.envelope }
 
+  -- the message waits to be delivered
   abbrev pub is_waiting : Slot R → Bool
   is_waiting slot = not slot.is_delivered && is_some slot.envelope
 
@@ -87,6 +95,7 @@ module _ {R : Type 0} where
   IsHeldIn None m = ⊤
   IsHeldIn (Some e) m = IsSent e m
 
+  -- the slot holds this message, or it is lost
   abbrev pub IsHeld : Slot R → Sent R Layout → Type 0
   IsHeld slot m = IsHeldIn slot.envelope m
 
@@ -104,6 +113,7 @@ module _ {R : Type 0} where
     pub before : AreGone slots n
     pub here : (slot : Slot R) → slice_get slots n ≡ Some slot → is_waiting slot ≡ true
 
+  -- the post holds all messages, those before `kept` lost, with their marks and bytes
   pub record IsPost (s : Words R) (post : Post R) (messages : List (Sent R Layout)) (marks : List Mark) : Type 0 where
     pub marks_are : map mark_of post.slots.items ≡ marks
     pub held : AllZip IsHeld post.slots.items messages
@@ -118,6 +128,7 @@ module _ {R : Type 0} where
   abbrev pub not_yet : List (Sent R Layout) → List Mark
   not_yet sent = map (λ m. record { is_delivered = false; is_lost = false }) sent
 
+  -- how many bytes a packet counts
   abbrev pub packet_bytes : Words R → Packet R → Option ℕ
   packet_bytes s packet = packet_size s (told packet)
 
@@ -130,6 +141,7 @@ module _ {R : Type 0} where
     pub not_lost : mark.is_lost ≡ false
     pub is : IsSent e message
 
+  -- the message was sent and is lost
   pub record IsLost (number : ℕ) (messages : List (Sent R Layout)) (marks : List Mark) : Type 0 where
     pub message : Sent R Layout
     pub mark : Mark
@@ -137,6 +149,7 @@ module _ {R : Type 0} where
     pub is_marked : numbered marks number ≡ Some mark
     pub lost : mark.is_lost ≡ true
 
+  -- why a message can't be delivered: it was never sent, or is lost
   abbrev pub IsMissing : ℕ → List (Sent R Layout) → List Mark → Refusal Cut → Type 0
   IsMissing number messages marks NoSuchMessage = numbered messages number ≡ None
   IsMissing number messages marks Lost = IsLost number messages marks

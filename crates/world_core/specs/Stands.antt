@@ -1,5 +1,6 @@
 -- When a world of the code stands for one of the machine, and when a call does what the machine's step does.
 use Rattle.std.specs.Prelude.{◌≡◌, ℕ, suc, leb, cond, IsTrue, List, [], ◌∷◌, ◌++◌, length, map}
+use Rattle.crdt_core.specs.Outcomes as outcomes
 use Rattle.layout_roles.specs.declared.layout.Layout.{Layout}
 use Rattle.layout_trackers.specs.declared.which.Which.TheVariants.{Sync}
 use Rattle.layout_trackers.specs.Trackers.{counts}
@@ -27,6 +28,7 @@ use Rattle.world_core.specs.declared.world.World.{World}
 use Rattle.world_core.specs.Parts.{AreClocks, IsPost, AreSent, not_yet, lines_from}
 use Rattle.world_core.specs.Nodes.{AreNodes}
 
+-- the code's world is this world of the machine, which is sound and fits
 pub record StandsFor {S R : Type 0} (join : R → R → R) (s : Words R) (c : World S R) (w : Model R) : Type 0 where
   pub nodes : AreNodes join s c.nodes w.nodes
   pub post : IsPost s c.post w.messages w.marks
@@ -43,6 +45,7 @@ pub record StandsFor {S R : Type 0} (join : R → R → R) (s : Words R) (c : Wo
 abbrev pub IsWorld : {S R : Type 0} → (R → R → R) → Words R → World S R → Type 0
 IsWorld {S} {R} join s c = (w : Model R) × StandsFor join s c w
 
+-- a phase that ended, in the words of the machine
 abbrev pub ended : {R : Type 0} → ℕ × PhaseEnd R → Ended R
 ended e = record { request = e.0; how = e.1 }
 
@@ -58,6 +61,7 @@ pub record Tells {R : Type 0} (report : Report R) (e : Done R) : Type 0 where
 abbrev pub nothing_given : Decision
 nothing_given = none_given VersionLimit
 
+-- a step that is given no layout
 abbrev pub plainly : {R : Type 0} → Step R → Doing R
 plainly step = record { step = step; choice = nothing_given }
 
@@ -86,29 +90,31 @@ pub record LacksRoom {R : Type 0} (join : R → R → R) (s : Words R) (w : Mode
 module _ {S R : Type 0} (join : R → R → R) (s : Words R) where
   -- whatever world the code's world stood for, it did this step
   abbrev pub Steps : World S R → World S R → Report R → Step R → Type 0
-  Steps old new report step = (w : Model R) → StandsFor join s old w → Stepped join s new report w step
+  Steps old new report step = outcomes.Steps (StandsFor join s) old (λ w. Stepped join s new report w step)
 
   -- whatever world it stood for, some number or row after this step would not fit
   abbrev pub Overflows : World S R → Step R → Type 0
-  Overflows old step = (w : Model R) → StandsFor join s old w → LacksRoom join s w step
+  Overflows old step = outcomes.Steps (StandsFor join s) old (λ w. LacksRoom join s w step)
 
   -- the same of what effects do
   abbrev pub PlaysSo : World S R → World S R → Report R → (Model R → Done R) → Type 0
-  PlaysSo old new report f = (w : Model R) → StandsFor join s old w → DoesSo join s new report w (f w)
+  PlaysSo old new report f = outcomes.Steps (StandsFor join s) old (λ w. DoesSo join s new report w (f w))
 
+  -- whatever world it stood for, what this does would not fit
   abbrev pub ExceedsSo : World S R → (Model R → Done R) → Type 0
-  ExceedsSo old f = (w : Model R) → StandsFor join s old w → RoomWith join s w (f w) → ⊥
+  ExceedsSo old f = outcomes.Overflows (StandsFor join s) old (λ w. RoomWith join s w (f w))
 
   -- the same of a step that is given no layout
   abbrev pub Plays : World S R → World S R → Report R → Step R → Type 0
   Plays old new report step = PlaysSo old new report (λ w. does join s w (plainly step))
 
+  -- the same of a step that is given no layout
   abbrev pub Exceeds : World S R → Step R → Type 0
   Exceeds old step = ExceedsSo old (λ w. does join s w (plainly step))
 
   -- the same of what no step does
   abbrev pub Turns : World S R → World S R → (Model R → Model R) → Type 0
-  Turns old new f = (w : Model R) → StandsFor join s old w → StandsFor join s new (f w)
+  Turns old new f = outcomes.Steps (StandsFor join s) old (λ w. StandsFor join s new (f w))
 
 -- ---- what a node sends
 

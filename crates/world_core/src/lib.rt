@@ -1,7 +1,7 @@
 //! The cluster over layout versions: its nodes, every message that was ever sent, the time, what is staged, and the
 //! requests.
 //!
-//! A `World` stands for a world of the machine (`cluster_machine`, with the layouts of `world_model`), by `StandsFor` of
+//! A `World` stands for a world of the machine (`cluster_machine`, with the layouts of the code), by `StandsFor` of
 //! specs/Stands.antt. `World::step` is one step of the machine: whatever world it stood for, it stands for the next one,
 //! and its `Report` is what the machine's step answers (`Steps`). An apply computes its layout, and which one is free:
 //! it is lawful. `install` and `forget_delivered` keep the relation too, and the rest reads the world. Rows are known by

@@ -32,32 +32,41 @@ abbrev pub version_before : ℕ → Option (ℕ × Version) → Option Version
 version_before i None = None
 version_before i (Some a) = if nat_lt a.0 i then Some a.1 else None
 
+-- one version is before the other
 abbrev pub is_below : Version → Version → Bool
 is_below v w = is_lt (version_cmp v w)
 
+-- at this place a delete of the key began that may stand at version w or later: none acknowledges it with an earlier one
 abbrev pub deletes_at : List Record → List ℕ → List ℕ → Version → ℕ → Bool
 deletes_at h bucket key w place =
     begins (λ q kind b k. is_delete kind && (same_bytes k key && (same_bytes b bucket && is_none_or (λ a. not (is_below a.1 w)) (acknowledged h place q)))) (slice_get h place)
 
+-- such a delete began before place j
 abbrev pub is_deleted : List Record → ℕ → List ℕ → List ℕ → Version → Bool
 is_deleted h j bucket key w = any_below (deletes_at h bucket key w) j
 
+-- two versions are one
 abbrev pub same_version : Version → Version → Bool
 same_version v w = nat_eq v.ts w.ts && nat_eq v.id w.id
 
+-- at this place a put or copy of the key began whose request's number the version has: none acknowledges it with another one
 abbrev pub writes_at : List Record → List ℕ → List ℕ → Version → ℕ → Bool
 writes_at h bucket key v place =
     begins (λ q kind b k. nat_eq q v.id && (is_source kind && (same_bytes k key && (same_bytes b bucket && is_none_or (λ a. same_version a.1 v) (acknowledged h place q))))) (slice_get h place)
 
+-- such a request began before place j
 abbrev pub is_written : List Record → ℕ → List ℕ → List ℕ → Version → Bool
 is_written h j bucket key v = any_below (writes_at h bucket key v) j
 
+-- the answer shows the key
 abbrev pub shows : List ℕ → Answer → List ℕ → Bool
 shows own answer key = list_any (λ e. same_bytes e.0 key) (shown own answer)
 
+-- the answer shows the key in a version before w
 abbrev pub shows_below : List ℕ → Answer → List ℕ → Version → Bool
 shows_below own answer key w = list_any (λ e. same_bytes e.0 key && is_below e.1 w) (shown own answer)
 
+-- the answer shows no version of the key before w, and it shows the key, or a delete may have taken it
 abbrev pub covers : List Record → ℕ → List ℕ → List ℕ → Answer → List ℕ → Version → Bool
 covers h j bucket own answer key w =
     not (shows_below own answer key w) && (shows own answer key || is_deleted h j bucket key w)
@@ -76,6 +85,7 @@ version_at_of h i bucket key place (Some (Began q node kind b k)) =
 version_at_of h i bucket key place (Some (Finished q answer)) = None
 version_at_of h i bucket key place (Some (Ended q cause)) = None
 
+-- the same, of the record at this place
 abbrev pub version_at : List Record → ℕ → List ℕ → List ℕ → ℕ → Option Version
 version_at h i bucket key place = version_at_of h i bucket key place (slice_get h place)
 
@@ -91,6 +101,7 @@ pub record IsNewestBelow (p : ℕ → Option Version) (n : ℕ) (newest : Option
   pub some : (w : Version) → newest ≡ Some w → (k : ℕ) × (k < n) × (p k ≡ Some w)
   pub above : (w : Version) → newest ≡ Some w → (k : ℕ) (v : Version) → k < n → p k ≡ Some v → is_below w v ≡ false
 
+-- the answer covers each write that was acknowledged before place i
 abbrev pub covers_all : List Record → ℕ → ℕ → Kind → List ℕ → List ℕ → Answer → Bool
 covers_all h i j kind bucket own answer = all_below (covers_at h i j kind bucket own answer) i
 
@@ -98,6 +109,7 @@ covers_all h i j kind bucket own answer = all_below (covers_at h i j kind bucket
 abbrev pub is_written_if_named : List Record → ℕ → Kind → List ℕ → List ℕ → List ℕ × Version → Bool
 is_written_if_named h j kind bucket own e = not (names kind own e.0) || is_written h j bucket e.0 e.1
 
+-- each version that the answer shows of a key that the read names was written
 abbrev pub shows_written : List Record → ℕ → Kind → List ℕ → List ℕ → Answer → Bool
 shows_written h j kind bucket own answer =
     list_all (is_written_if_named h j kind bucket own) (shown own answer)
@@ -116,5 +128,6 @@ owed_of h i (Some (Began q node kind bucket own)) =
 owed_of h i (Some (Finished q answer)) = 0
 owed_of h i (Some (Ended q cause)) = 0
 
+-- the same, of the record at this place
 abbrev pub owed : List Record → ℕ → ℕ
 owed h i = owed_of h i (slice_get h i)

@@ -11,6 +11,7 @@ use Rattle.world_history.specs.declared.record.Answer.TheVariants.{Version as Sh
 use Rattle.world_history.specs.declared.record.Record.{Record}
 use Rattle.world_history.specs.declared.record.Record.TheVariants.{Began, Finished, Ended}
 
+-- the request reads
 abbrev pub is_read : Kind → Bool
 is_read Put = false
 is_read Get = true
@@ -19,6 +20,7 @@ is_read Delete = false
 is_read Copy = false
 is_read Listing = true
 
+-- the request writes
 abbrev pub is_write : Kind → Bool
 is_write Put = true
 is_write Get = false
@@ -27,6 +29,7 @@ is_write Delete = true
 is_write Copy = true
 is_write Listing = false
 
+-- the request lists
 abbrev pub is_list : Kind → Bool
 is_list Put = false
 is_list Get = false
@@ -35,6 +38,7 @@ is_list Delete = false
 is_list Copy = false
 is_list Listing = true
 
+-- the request deletes
 abbrev pub is_delete : Kind → Bool
 is_delete Put = false
 is_delete Get = false
@@ -102,6 +106,7 @@ begins p (Some (Began q node kind bucket key)) = p q kind bucket key
 begins p (Some (Finished q answer)) = false
 begins p (Some (Ended q cause)) = false
 
+-- two strings of bytes are one
 abbrev pub same_bytes : List ℕ → List ℕ → Bool
 same_bytes = pointwise nat_eq
 
@@ -120,5 +125,6 @@ shown own (Showing v) = (own, v) ∷ []
 shown own Nothing = []
 shown own (Listed entries) = entries
 
+-- the answer shows this version of the key
 abbrev pub Shows : List ℕ → Answer → List ℕ → Version → Type 0
 Shows own answer key v = Contains (shown own answer) (key, v)

@@ -5,7 +5,7 @@ use Rattle.std.proofs.Common.{ap, sym, subst, ◌∙◌, arith}
 use Rattle.layout_roles.specs.declared.layout.Layout.{Layout}
 use Rattle.view_model.specs.Layouts.{reading}
 use Rattle.view_model.specs.View.{newest, is_gapless}
-use Rattle.view_model.specs.Reads.{gapless_appended, newest_appended}
+use Rattle.view_model.proofs.ReadVersions.{gapless_appended, newest_appended}
 use Rattle.table_schema.specs.Words.{Words}
 use Rattle.wire_messages.specs.declared.phase.Phase.{Phase}
 use Rattle.wire_messages.specs.declared.phase.Phase.TheVariants.{Read, Range, Store, Block}

@@ -2,8 +2,8 @@
 use Rattle.std.specs.Prelude.{◌≡◌, ℕ, suc, Bool, true, false, not, cond, ◌==◌, nat_lt, IsTrue, List, ◌∷◌, ◌++◌, [], Option, Some, None, refl}
 use Rattle.std.proofs.Common.{ap, ◌∙◌}
 use Rattle.view_model.specs.View.{is_gapless, newest, read_version, ack_least, merged, cleaned}
-use Rattle.view_model.specs.Joins.{gapless_merged}
-use Rattle.view_model.specs.Cleans.{gapless_cleaned}
+use Rattle.view_model.proofs.Joins.{gapless_merged}
+use Rattle.view_model.proofs.Cleans.{gapless_cleaned}
 use Rattle.table_schema.specs.Words.{Words}
 use Rattle.quorum_model.specs.declared.range.RangeAnswer.{RangeAnswer}
 use Rattle.quorum_model.specs.Quorum.{StoreSlot, with_confirmation}
@@ -56,7 +56,7 @@ module _ {R L : Type 0} (x : Node R L) where
     stay_stored rows slots false = refl
 
     stay_block : (bytes : List ℕ) (p : Present R) → LayoutsStay x (block_came x c bytes p).node
-    stay_block bytes fetching = refl
+    stay_block bytes (fetching hash) = refl
     stay_block bytes _ = refl
 
     stay_row : (join : R → R → R) (from : ℕ) (row : Option R) (p : Present R) → LayoutsStay x (row_came join x c from row p).node

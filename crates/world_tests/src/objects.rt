@@ -116,7 +116,7 @@ fn a_get_reads_what_a_put_wrote(rt: HostRuntime) -> Result<(), Fail> {
         (7, (1001, 2), None),
         (9, (1001, 2), Some(300)),
     ] {
-        let found = last_done(rt.alloc(), &CALLS[..count])?;
+        let found = last_done(rt.alloc(), &CALLS[..count.min(9)])?;
         assert_eq!(rt; found, Some((Some(version), size)));
     }
     Ok(())

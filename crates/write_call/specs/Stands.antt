@@ -12,5 +12,6 @@ AreTallies [] (s ∷ ss) = ⊥
 AreTallies (t ∷ ts) [] = ⊥
 AreTallies (t ∷ ts) (s ∷ ss) = Tallies t s.first s.sets s.nodes × AreTallies ts ss
 
+-- the call counts these slots
 abbrev pub Stands : WriteCall → List StoreSlot → Type 0
 Stands call slots = AreTallies call.slots.items slots

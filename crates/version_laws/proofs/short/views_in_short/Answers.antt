@@ -1,4 +1,4 @@
-use Rattle.view_model.specs.Joins.{at_merged}
+use Rattle.view_model.proofs.Joins.{at_merged}
 use Rattle.version_laws.proofs.OneView.{merged_entry, own_entry, other_node, other_kind, oldest_cleaned, at_appended, at_new, newest_new}
 use Rattle.version_laws.proofs.InShort.{missing_as_0, synced_from_0, least_from_0, cleaned_at}
 use Rattle.version_laws.proofs.short.views_in_short.Goals as goal

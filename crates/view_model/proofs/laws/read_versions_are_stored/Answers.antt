@@ -1,4 +1,4 @@
-use Rattle.view_model.specs.Reads.{read_known, read_stored, read_readable, read_greatest}
+use Rattle.view_model.proofs.ReadVersions.{read_known, read_stored, read_readable, read_greatest}
 use Rattle.view_model.proofs.laws.read_versions_are_stored.Goals as goal
 
 pub returns-clause-stored : goal.returns-clause-stored

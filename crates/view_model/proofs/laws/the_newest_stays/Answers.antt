@@ -1,4 +1,4 @@
-use Rattle.view_model.specs.Cleans.{newest_stays, newest_kept, gapless_cleaned}
+use Rattle.view_model.proofs.Cleans.{newest_stays, newest_kept, gapless_cleaned}
 use Rattle.view_model.proofs.laws.the_newest_stays.Goals as goal
 
 pub returns-clause-newest_version : goal.returns-clause-newest_version

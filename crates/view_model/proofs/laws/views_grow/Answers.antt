@@ -1,7 +1,7 @@
 use Rattle.layout_trackers.specs.Entries.{joins_grow, raises_grow}
 use Rattle.view_model.specs.View.{merged, appended, with_entry}
-use Rattle.view_model.specs.Joins.{gapless_merged}
-use Rattle.view_model.specs.Reads.{read_grows, merged_grew, merged_grew_other, raised_grew, appended_grew, gapless_appended}
+use Rattle.view_model.proofs.Joins.{gapless_merged}
+use Rattle.view_model.proofs.ReadVersions.{read_grows, merged_grew, merged_grew_other, raised_grew, appended_grew, gapless_appended}
 use Rattle.view_model.proofs.laws.views_grow.Goals as goal
 
 pub returns-clause-merge_grows : goal.returns-clause-merge_grows

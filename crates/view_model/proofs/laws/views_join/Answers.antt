@@ -1,4 +1,4 @@
-use Rattle.view_model.specs.Joins.{oldest_merged, newest_merged, gapless_merged, merged_comm, merged_assoc, merged_idem}
+use Rattle.view_model.proofs.Joins.{oldest_merged, newest_merged, gapless_merged, merged_comm, merged_assoc, merged_idem}
 use Rattle.view_model.proofs.laws.views_join.Goals as goal
 
 pub returns-clause-oldest_is_greater : goal.returns-clause-oldest_is_greater

@@ -3,7 +3,7 @@ use Rattle.std.proofs.Common.{◌≡◌, suc, true, List, [], ◌∷◌, ◌++�
 use Rattle.crdt_core.specs.EntryLaws.{and_both}
 use Rattle.layout_roles.specs.declared.layout.Layout.{Layout}
 use Rattle.view_model.specs.View.{is_gapless, newest}
-use Rattle.view_model.specs.Reads.{gapless_appended}
+use Rattle.view_model.proofs.ReadVersions.{gapless_appended}
 use Rattle.view_model.specs.Layouts.{reading}
 use Rattle.layout_history.specs.Known.{has_members}
 use Rattle.layout_history.specs.Views.{known}

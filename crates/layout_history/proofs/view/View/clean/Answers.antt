@@ -1,8 +1,8 @@
 use Rattle.std.specs.List.{list_all}
 use Rattle.std.proofs.Common.{min, refl, ap, ap₂, sym, ◌∙◌}
 use Rattle.view_model.specs.View.{is_gapless, from, cleaned}
-use Rattle.view_model.specs.Gapless.{gapless_from}
-use Rattle.view_model.specs.Cleans.{cleaned_from}
+use Rattle.view_model.proofs.Gapless.{gapless_from}
+use Rattle.view_model.proofs.Cleans.{cleaned_from}
 use Rattle.view_model.specs.Layouts.{reading}
 use Rattle.layout_history.specs.Known.{has_members}
 use Rattle.layout_history.specs.Views.{known}

@@ -2,7 +2,7 @@ use Rattle.std.specs.List.{list_all}
 use Rattle.std.proofs.Common.{◌++◌, suc, max, ap, ap₂, ◌∙◌}
 use Rattle.layout_trackers.specs.Trackers.{trackers_join}
 use Rattle.view_model.specs.View.{is_gapless, from, merged, last_version}
-use Rattle.view_model.specs.Joins.{gapless_merged}
+use Rattle.view_model.proofs.Joins.{gapless_merged}
 use Rattle.view_model.specs.Layouts.{reading}
 use Rattle.layout_history.specs.Known.{has_members, ascends}
 use Rattle.layout_history.specs.Views.{known}

@@ -2,7 +2,7 @@ use Rattle.std.proofs.Common.{◌≡◌, ◌≤◌, ◌+◌, ap, ◌∙◌, arit
 use Rattle.layout_roles.specs.declared.layout.Layout.{Layout}
 use Rattle.view_model.specs.Layouts.{reading}
 use Rattle.view_model.specs.View.{View, newest, appended}
-use Rattle.view_model.specs.Reads.{newest_appended}
+use Rattle.view_model.proofs.ReadVersions.{newest_appended}
 use Rattle.node_core.proofs.Nodes.{ok_to, same_contents, version_stays}
 use Rattle.node_core.proofs.node.Node.append.Goals as goal
 

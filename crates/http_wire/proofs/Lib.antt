@@ -1,0 +1,7 @@
+pub mod Takings
+pub mod Cuts
+pub mod Searches
+pub mod Ends
+pub mod Bodies
+pub mod Tolds
+pub mod HeadFacts

@@ -1,0 +1,4 @@
+pub mod Cut
+pub mod Heads
+pub mod Reading
+pub mod Pieces

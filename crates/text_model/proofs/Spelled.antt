@@ -1,0 +1,128 @@
+-- A line spells an event where its words are those of the event, and it spells no second one.
+use Rattle.std.proofs.Common.{◌≡◌, ℕ, ◌^◌, ◌<◌, Bool, true, false, ◌==◌, Some, None, List, [], ◌∷◌, refl, sym, ap, ◌∙◌, arith, rules, eqb-true}
+use Rattle.std.specs.Prelude.{⊤, IsTrue, codes, decimal}
+use Rattle.std.specs.List.{All, AllByRecursion, join_with_byte}
+use Rattle.std.specs.Int.{IsInRange}
+use Rattle.std.specs.Str.Parse.{AllDigits}
+use Rattle.std.proofs.lemmas.Bool.Decides.{nat_tests}
+use Rattle.std.proofs.lemmas.Fmt.{decimal_is_IsNumeral}
+use Rattle.std.proofs.lemmas.Str.Parse.{digit_from_value}
+use Rattle.std.proofs.lemmas.List.Elements.{All-nil, All-cons, All-from_recursion}
+use Rattle.std.proofs.lemmas.List.Splits.{slice_split_none, slice_split_at, join_with_byte-slice_split}
+use Rattle.layout_roles.specs.declared.role.Kind.{Kind}
+use Rattle.layout_roles.specs.declared.role.Kind.TheVariants.{Storage, Gateway}
+use Rattle.layout_roles.specs.declared.redundancy.Redundancy as wanted
+use Rattle.layout_roles.specs.declared.redundancy.Redundancy.TheVariants.{AtLeast, Maximum}
+use Rattle.object_model.specs.declared.event.Event.{Event}
+use Rattle.object_model.specs.declared.event.Event.TheVariants.{Trio, Bucket, Role, Redundancy, Apply, Tick, Put, Get, Deliver, Drain, Expire, Gossip, Ack, Sync, SyncAck, Clean}
+use Rattle.text_model.specs.Grammar.{Spells, IsAllowed, IsBucketName, IsZone, IsKey, IsCapacity, IsRedundancy, is_bucket_end, is_bucket_byte, is_key_byte, kind_word, redundancy_word, words_of}
+use Rattle.text_model.specs.Words.{is_space, words_in, IsSpelledBy}
+
+abbrev NoSpace : List ℕ → Type 0
+NoSpace word = All (λ b. is_space b ≡ false) word
+
+abbrev NoSpaces : List (List ℕ) → Type 0
+NoSpaces [] = ⊤
+NoSpaces (w ∷ ws) = NoSpace w × NoSpaces ws
+
+-- words without a space, joined by spaces, are the words of what they make
+split_join : (w : List ℕ) (ws : List (List ℕ)) → NoSpaces (w ∷ ws) → words_in (join_with_byte 32 (w ∷ ws)) ≡ w ∷ ws
+split_join w [] h = slice_split_none (λ b. is_space b) w h.0
+split_join w (v ∷ vs) h =
+    slice_split_at (λ b. is_space b) w 32 (join_with_byte 32 (v ∷ vs)) h.0 refl ∙ ap (λ ls. w ∷ ls) (split_join v vs h.1)
+
+passes : (p : ℕ → Bool) → p 32 ≡ false → (b : ℕ) → IsTrue (p b) → is_space b ≡ false
+passes p at b h =
+    elim (b == 32) as (λ t. (b == 32) ≡ t → t ≡ false) [
+      | true ↦ λ e. absurd (let same : b ≡ 32 = eqb-true b 32 e in let k : p b ≡ false = ap p same ∙ at in cc)
+      | false ↦ λ e. refl
+    ] refl
+
+bucket_no_space : (name : List ℕ) → IsBucketName name → NoSpace name
+bucket_no_space name h = λ k d inside. passes is_bucket_byte refl _ (h.bytes k d inside)
+
+zone_no_space : (name : List ℕ) → IsZone name → NoSpace name
+zone_no_space name h = λ k d inside. passes is_bucket_end refl _ (h.bytes k d inside)
+
+key_no_space : (key : List ℕ) → IsKey key → NoSpace key
+key_no_space key h = λ k d inside. passes is_key_byte refl _ (h.bytes k d inside)
+
+digit_no_space : (c : ℕ) → IsInRange 48 57 c → is_space c ≡ false
+digit_no_space c h = grind (arith, nat_tests)
+
+digits_no_space : (ds : List ℕ) → AllDigits 10 ds → NoSpace ds
+digits_no_space [] h = All-nil (λ b. is_space b ≡ false)
+digits_no_space (c ∷ cs) h =
+    All-cons (λ b. is_space b ≡ false) c cs (digit_no_space c (digit_from_value c h.0)) (digits_no_space cs h.1)
+
+number_no_space : (n : ℕ) → n < 2 ^ 64 → NoSpace (decimal n)
+number_no_space n h = digits_no_space (decimal n) (decimal_is_IsNumeral n h).0.1
+
+name_no_space : (name : List ℕ) → AllByRecursion (λ b. is_space b ≡ false) name → NoSpace name
+name_no_space name h = All-from_recursion (λ b. is_space b ≡ false) name h
+
+kind_no_space : (k : Kind) → IsCapacity k → NoSpace (kind_word k)
+kind_no_space (Storage capacity) h = number_no_space capacity (omega arith)
+kind_no_space Gateway h = name_no_space (codes "gateway") (search rules)
+
+redundancy_no_space : (r : wanted.Redundancy) → IsRedundancy r → NoSpace (redundancy_word r)
+redundancy_no_space (AtLeast r) h = number_no_space r (omega arith)
+redundancy_no_space Maximum h = name_no_space (codes "maximum") (search rules)
+
+-- a name and a number
+named : (name : List ℕ) → AllByRecursion (λ b. is_space b ≡ false) name → (n : ℕ) → n < 2 ^ 64 → NoSpaces (name ∷ decimal n ∷ [])
+named name h n small = (name_no_space name h, (number_no_space n small, tt))
+
+no_spaces : (e : Event) → IsAllowed e → NoSpaces (words_of e)
+no_spaces Trio h = (name_no_space (codes "trio") (search rules), tt)
+no_spaces (Bucket name) h = (name_no_space (codes "bucket") (search rules), (bucket_no_space name h, tt))
+no_spaces (Role n None) h = (
+  name_no_space (codes "role") (search rules),
+  (number_no_space n (omega arith), (name_no_space (codes "none") (search rules), tt)),
+)
+no_spaces (Role n (Some role)) h = (
+  name_no_space (codes "role") (search rules),
+  (number_no_space n (omega arith), (zone_no_space role.0.0 h.1.0, (kind_no_space role.1 h.1.1, tt))),
+)
+no_spaces (Redundancy r) h = (name_no_space (codes "redundancy") (search rules), (redundancy_no_space r h, tt))
+no_spaces (Apply n) h = named (codes "apply") (search rules) n (omega arith)
+no_spaces (Tick ms) h = named (codes "tick") (search rules) ms (omega arith)
+no_spaces (Put n bucket key size fill) h = (
+  name_no_space (codes "put") (search rules),
+  (
+    number_no_space n (omega arith),
+    (bucket_no_space bucket h.1, (key_no_space key h.2, (number_no_space size (omega arith), (number_no_space fill (omega arith), tt)))),
+  ),
+)
+no_spaces (Get n bucket key) h = (
+  name_no_space (codes "get") (search rules),
+  (number_no_space n (omega arith), (bucket_no_space bucket h.1, (key_no_space key h.2, tt))),
+)
+no_spaces (Deliver m) h = named (codes "deliver") (search rules) m (omega arith)
+no_spaces (Drain n) h = named (codes "drain") (search rules) n (omega arith)
+no_spaces (Expire q) h = named (codes "expire") (search rules) q (omega arith)
+no_spaces (Gossip from to) h = (
+  name_no_space (codes "gossip") (search rules),
+  (number_no_space from (omega arith), (number_no_space to (omega arith), tt)),
+)
+no_spaces (Ack n) h = named (codes "ack") (search rules) n (omega arith)
+no_spaces (Sync n) h = named (codes "sync") (search rules) n (omega arith)
+no_spaces (SyncAck n) h = named (codes "syncack") (search rules) n (omega arith)
+no_spaces (Clean n) h = named (codes "clean") (search rules) n (omega arith)
+
+words_of_spelling : (e : Event) → IsAllowed e → words_in (join_with_byte 32 (words_of e)) ≡ words_of e
+words_of_spelling Trio h = split_join _ _ (no_spaces Trio h)
+words_of_spelling e h = split_join _ _ (no_spaces e h)
+
+-- the words of a line that spells an event
+pub words_spelled : (line : List ℕ) (e : Event) → Spells line e → IsSpelledBy (words_in line) e
+words_spelled line e h =
+    record { spelled = ap words_in h.spelled ∙ words_of_spelling e h.allowed; allowed = h.allowed }
+
+-- a line with the words of an event spells it
+pub line_spelled : (line : List ℕ) (e : Event) → IsSpelledBy (words_in line) e → Spells line e
+line_spelled line e h =
+    record {
+      spelled = sym (join_with_byte-slice_split 32 line) ∙ ap (join_with_byte 32) h.spelled;
+      allowed = h.allowed;
+    }

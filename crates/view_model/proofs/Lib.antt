@@ -1,0 +1,4 @@
+pub mod Gapless
+pub mod Joins
+pub mod Cleans
+pub mod ReadVersions
