@@ -29,16 +29,16 @@ and_both a b p q = rw (p, q) refl
 
 module _ {K V : Type 0} {R : K → K → Ordering} (o : IsTotalOrder R) where
   -- what is no greater than a key that is below the entries is below them
-  below_lower : (q k : K) (es : List (K × V)) → R q k ≡ Less → is_below R k es ≡ true → is_below R q es ≡ true
+  pub below_lower : (q k : K) (es : List (K × V)) → R q k ≡ Less → is_below R k es ≡ true → is_below R q es ≡ true
   below_lower q k [] p h = refl
   below_lower q k (e ∷ es) p h = ap is_lt (o.trans q k e.0 p (less_is (R k e.0) h))
 
-  below_same : (q k : K) (es : List (K × V)) → R q k ≡ Equal → is_below R k es ≡ true → is_below R q es ≡ true
+  pub below_same : (q k : K) (es : List (K × V)) → R q k ≡ Equal → is_below R k es ≡ true → is_below R q es ≡ true
   below_same q k [] p h = refl
   below_same q k (e ∷ es) p h = ap is_lt (o.congr q k e.0 p) ∙ h
 
   -- a key below the entries has no value there
-  below_none : (q : K) (es : List (K × V)) → is_below R q es ≡ true → value_at R q es ≡ None
+  pub below_none : (q : K) (es : List (K × V)) → is_below R q es ≡ true → value_at R q es ≡ None
   below_none q [] h = refl
   below_none q (e ∷ es) h = rw (less_is (R q e.0) h) refl
 

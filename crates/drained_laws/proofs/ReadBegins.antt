@@ -1,12 +1,11 @@
 -- Equal replicas have one row at each key, and a read phase that begins asks them for it.
 use Rattle.std.specs.Prelude.{◌≡◌, ℕ, suc, true, false, cond, ◌==◌, IsTrue, Option, Some, None, List, [], ◌∷◌, ◌++◌, refl}
 use Rattle.std.specs.List.{AllByRecursion}
-use Rattle.std.specs.declared.cmp.Ordering.{Ordering}
-use Rattle.std.specs.declared.cmp.Ordering.TheVariants.{Less, Equal, Greater}
-use Rattle.std.specs.Ordering.{is_eq}
+use Rattle.std.specs.declared.cmp.Ordering.TheVariants.{Equal}
 use Rattle.std.proofs.Common.{ap, sym, subst, ◌∙◌, inl, inr}
 use Rattle.std.proofs.lemmas.Bool.{eq-eqb}
 use Rattle.std.proofs.lemmas.List.Elements.{recursion_from_All}
+use Rattle.std.specs.Cmp.{Equal-is}
 use Rattle.layout_roles.specs.declared.role.Role.{Role}
 use Rattle.blake2_hash.specs.declared.digest.Hash32.{Hash32}
 use Rattle.table_schema.specs.Words.{Words, partition_at, partition_of}
@@ -36,15 +35,10 @@ use Rattle.drained_laws.proofs.Hearing.{found_with}
 use Rattle.drained_laws.proofs.Deliveries.{sent_at, one_changes}
 use Rattle.drained_laws.proofs.Posts.{each_all}
 
-pub is_equal : (o : Ordering) → is_eq o ≡ true → o ≡ Equal
-is_equal Less e = cc
-is_equal Equal e = refl
-is_equal Greater e = cc
-
 module _ {R : Type 0} {join : R → R → R} {s : Words R} (laws : Laws join s) (table p : ℕ) (key : List ℕ) (position : (r : R) → IsTrue (s.is_proper r) → s.table r ≡ table → s.key r ≡ key → partition_of s r ≡ p) where
   here : (r : R) → IsTrue (s.is_proper r) → is_at s table key r ≡ true → (partition_of s r == p) ≡ true
   here r proper e =
-      let same = place_identical (table, key) (place s r) (is_equal (place_cmp (table, key) (place s r)) e) in
+      let same = place_identical (table, key) (place s r) ((Equal-is (place_cmp (table, key) (place s r))).0 e) in
       eq-eqb (partition_of s r) p (position r proper (sym (ap (λ (q : ℕ × List ℕ). q.0) same)) (sym (ap (λ (q : ℕ × List ℕ). q.1) same)))
 
   found_there : (rs : List R) → AllByRecursion (λ r. IsTrue (s.is_proper r)) rs → find_row s table key rs ≡ find_row s table key (rows_in s p rs)

@@ -16,26 +16,15 @@ use Rattle.table_model.specs.Rows.{place_cmp, place, row_cmp, is_at, row_at, mer
 use Rattle.table_model.specs.RowLaws.{place_total, place_identical, joins}
 use Rattle.plane_model.specs.Keys.{KeyLaws, ordered_laws}
 use Rattle.machine_reads.specs.Places.{Place, keys, place_of, at_place}
+use Rattle.crdt_core.specs.OrderLaws.{option_laws}
 
 pub keys_laws : KeyLaws keys
 keys_laws = ordered_laws _ _ (pair_identical nat_identical place_identical) (λ k. tied_itself (then_total (on_total (λ (p : Place). p.0) nat_cmp_total) (on_total (λ (p : Place). p.1) place_total)) k)
 
 module _ {R : Type 0} {join : R → R → R} (laws : JoinLaws join) where
-  option_assoc : (a b c : Option R) → option_join join (option_join join a b) c ≡ option_join join a (option_join join b c)
-  option_assoc None b c = refl
-  option_assoc (Some a) None c = refl
-  option_assoc (Some a) (Some b) None = refl
-  option_assoc (Some a) (Some b) (Some c) = ap Some (laws.associative a b c)
-
-  option_comm : (a b : Option R) → option_join join a b ≡ option_join join b a
-  option_comm None None = refl
-  option_comm None (Some b) = refl
-  option_comm (Some a) None = refl
-  option_comm (Some a) (Some b) = ap Some (laws.commutative a b)
-
   -- one added, then the other, or the other way round
   swapped : (o : Option R) (x r : R) → option_join join (option_join join o (Some r)) (Some x) ≡ option_join join (option_join join o (Some x)) (Some r)
-  swapped o x r = option_assoc o (Some r) (Some x) ∙ (ap (option_join join o) (option_comm (Some r) (Some x)) ∙ sym (option_assoc o (Some x) (Some r)))
+  swapped o x r = (option_laws laws).associative o (Some r) (Some x) ∙ (ap (option_join join o) ((option_laws laws).commutative (Some r) (Some x)) ∙ sym ((option_laws laws).associative o (Some x) (Some r)))
 
 module _ {R : Type 0} {join : R → R → R} {s : Words R} (joins_well : JoinLaws join) (laws : Laws join s) where
   abbrev pub Proper : List R → Type 0
@@ -79,7 +68,7 @@ module _ {R : Type 0} {join : R → R → R} {s : Words R} (joins_well : JoinLaw
       ] refl
     where
       joined : (o : Option R) (x r : R) (b : Bool) → added o (join x r) b ≡ added (added o x b) r b
-      joined o x r true = sym (option_assoc joins_well o (Some x) (Some r))
+      joined o x r true = sym ((option_laws joins_well).associative o (Some x) (Some r))
       joined o x r false = refl
 
       crossed : (o : Option R) (x r : R) (b c : Bool) → added (added o r c) x b ≡ added (added o x b) r c

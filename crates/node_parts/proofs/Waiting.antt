@@ -8,7 +8,6 @@ use Rattle.block_resync.specs.declared.item.Item.{Item}
 use Rattle.block_resync.proofs.Numbering.{NoneHas, none_past, none_changed, none_found, same_number}
 use Rattle.block_resync.proofs.Searching.{number_above}
 use Rattle.std.proofs.Math.Bool.{or-false, or-true}
-use Rattle.std.proofs.lemmas.List.Folds.{list_any-append}
 use Rattle.layout_roles.specs.declared.layout.Layout.{Layout}
 use Rattle.view_model.specs.View.{View}
 use Rattle.table_schema.specs.Words.{Words, partition_of}
@@ -18,6 +17,7 @@ use Rattle.cluster_machine.specs.Layouts.{stored_sets, layouts}
 use Rattle.cluster_machine.specs.Receives.{item_came, is_done}
 use Rattle.cluster_machine.specs.Acts.{unconfirmed}
 use Rattle.node_parts.specs.Contents.{IsItem, item_at}
+use Rattle.quorum_model.proofs.Counting.{is_among-push}
 
 below_apart : (a n : ℕ) → a < n → (a == n) ≡ false
 below_apart a n lt = ne_eqb a n (λ e. omega arith)
@@ -47,9 +47,6 @@ module _ {R : Type 0} (s : Words R) where
 
 -- ---- who has confirmed
 
-among_more : (n node : ℕ) (nodes : List ℕ) → is_among n (nodes ++ node ∷ []) ≡ (is_among n nodes || (node == n))
-among_more n node nodes = list_any-append (λ m. m == n) nodes (node ∷ []) ∙ ap (λ b. is_among n nodes || b) (or-false (node == n))
-
 -- a node that was there already adds nothing
 among_again : (n node : ℕ) (nodes : List ℕ) → is_among node nodes ≡ true → is_among n nodes ≡ (is_among n nodes || (node == n))
 among_again n node nodes is =
@@ -61,8 +58,8 @@ among_again n node nodes is =
 confirmed_same : (node : ℕ) (x : Item) (nodes : List ℕ) → ((n : ℕ) → is_among n x.confirmed ≡ is_among n nodes) → (n : ℕ) → is_among n (item_confirmed node x).confirmed ≡ is_among n (nodes ++ node ∷ [])
 confirmed_same node x nodes h n =
     elim (is_among node x.confirmed) as (λ b. is_among node x.confirmed ≡ b → is_among n (if b then x else record x { confirmed = x.confirmed ++ node ∷ [] }).confirmed ≡ is_among n (nodes ++ node ∷ [])) [
-      | true ↦ λ e. h n ∙ (among_again n node nodes (sym (h node) ∙ e) ∙ sym (among_more n node nodes))
-      | false ↦ λ e. among_more n node x.confirmed ∙ (ap (λ b. b || (node == n)) (h n) ∙ sym (among_more n node nodes))
+      | true ↦ λ e. h n ∙ (among_again n node nodes (sym (h node) ∙ e) ∙ sym (is_among-push n node nodes))
+      | false ↦ λ e. is_among-push n node x.confirmed ∙ (ap (λ b. b || (node == n)) (h n) ∙ sym (is_among-push n node nodes))
     ] refl
 
 row_same : (node : ℕ) (x : Item) → (item_confirmed node x).row ≡ x.row

@@ -18,6 +18,9 @@ or_left false b h = cc
 pub is_among-append : (m : ℕ) (ns later : List ℕ) → is_among m (ns ++ later) ≡ (is_among m ns || is_among m later)
 is_among-append m ns later = list_any-append (λ k. k == m) ns later
 
+pub is_among-push : (m n : ℕ) (ns : List ℕ) → is_among m (ns ++ n ∷ []) ≡ (is_among m ns || (n == m))
+is_among-push m n ns = is_among-append m ns (n ∷ []) ∙ ap (λ b. is_among m ns || b) (or-false (n == m))
+
 among_more : (m : ℕ) (ns later : List ℕ) → IsTrue (is_among m ns) → IsTrue (is_among m (ns ++ later))
 among_more m ns later h = rw (is_among-append m ns later) (or_left (is_among m ns) (is_among m later) h)
 
@@ -75,7 +78,7 @@ same_reached first from sets nodes others h =
     ap (λ b. is_some_set (drop (from - first) sets) && b) (all_same (λ set. two_of set nodes) (λ set. two_of set others) (drop (from - first) sets) h)
 
 among_other : (node m : ℕ) (ns : List ℕ) → (node == m) ≡ false → is_among m (ns ++ node ∷ []) ≡ is_among m ns
-among_other node m ns e = is_among-append m ns (node ∷ []) ∙ rw e (or-false (is_among m ns))
+among_other node m ns e = is_among-push m node ns ∙ rw e (or-false (is_among m ns))
 
 same_node : (a b : ℕ) → (a == b) ≡ true → a ≡ b
 same_node a b e = grind (arith, nat_tests)

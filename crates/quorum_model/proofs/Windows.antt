@@ -11,7 +11,7 @@ use Rattle.crdt_core.specs.Lex.{by_order}
 use Rattle.crdt_core.specs.Order.{option_join}
 use Rattle.crdt_core.specs.Orders.{Identifies, slice_identical, nat_identical}
 use Rattle.crdt_core.specs.Entries.{is_below, is_ascending, value_at, merged}
-use Rattle.crdt_core.specs.EntryLaws.{less_is, and_parts, and_both, ascending_merged, value_at-merged}
+use Rattle.crdt_core.specs.EntryLaws.{less_is, and_parts, and_both, ascending_merged, value_at-merged, below_lower, below_same, below_none}
 use Rattle.table_schema.specs.Words.{Words}
 use Rattle.table_schema.specs.Laws.{Laws, Same}
 use Rattle.quorum_model.specs.declared.range.RangeAnswer.{RangeAnswer}
@@ -20,18 +20,6 @@ use Rattle.quorum_model.specs.Window.{key_cmp, keyed, is_within, end_of, both_ro
 -- ---- entries that a test on their keys lets pass
 
 module _ {K V : Type 0} {R : K → K → Ordering} (o : IsTotalOrder R) where
-  lower : (q k : K) (es : List (K × V)) → R q k ≡ Less → is_below R k es ≡ true → is_below R q es ≡ true
-  lower q k [] p h = refl
-  lower q k (e ∷ es) p h = ap is_lt (o.trans q k e.0 p (less_is (R k e.0) h))
-
-  level : (q k : K) (es : List (K × V)) → R q k ≡ Equal → is_below R k es ≡ true → is_below R q es ≡ true
-  level q k [] p h = refl
-  level q k (e ∷ es) p h = ap is_lt (o.congr q k e.0 p) ∙ h
-
-  none_below : (q : K) (es : List (K × V)) → is_below R q es ≡ true → value_at R q es ≡ None
-  none_below q [] h = refl
-  none_below q (e ∷ es) h = rw (less_is (R q e.0) h) refl
-
   module _ (p : K → Bool) where
     passing_below : (k : K) (es : List (K × V)) → is_below R k es ≡ true → is_ascending R es ≡ true → is_below R k (filter (λ e. p e.0) es) ≡ true
     passing_below k [] h a = refl
@@ -39,7 +27,7 @@ module _ {K V : Type 0} {R : K → K → Ordering} (o : IsTotalOrder R) where
         let parts = and_parts (is_below R e.0 es) (is_ascending R es) a in
         elim (p e.0) as (λ t. is_below R k (cond t (e ∷ filter (λ x. p x.0) es) (filter (λ x. p x.0) es)) ≡ true) [
           | true ↦ h
-          | false ↦ passing_below k es (lower k e.0 es (less_is (R k e.0) h) parts.0) parts.1
+          | false ↦ passing_below k es (below_lower o k e.0 es (less_is (R k e.0) h) parts.0) parts.1
         ]
 
     pub passing_ascends : (es : List (K × V)) → is_ascending R es ≡ true → is_ascending R (filter (λ e. p e.0) es) ≡ true
@@ -60,10 +48,10 @@ module _ {K V : Type 0} {R : K → K → Ordering} (o : IsTotalOrder R) where
           (r : Ordering) → R q e.0 ≡ r → value_at R q (filter (λ x. p x.0) (e ∷ es)) ≡ cond (p q) (by_order r None (Some e.1) (value_at R q es)) None
       value_by q e es a rest Less c =
           let below : is_below R q (e ∷ es) ≡ true = ap is_lt c in
-          none_below q (filter (λ x. p x.0) (e ∷ es)) (passing_below q (e ∷ es) below a) ∙ none_both (p q)
+          below_none o q (filter (λ x. p x.0) (e ∷ es)) (passing_below q (e ∷ es) below a) ∙ none_both (p q)
       value_by q e es a rest Equal c =
           let parts = and_parts (is_below R e.0 es) (is_ascending R es) a in
-          let later : value_at R q (filter (λ x. p x.0) es) ≡ None = none_below q (filter (λ x. p x.0) es) (passing_below q es (level q e.0 es c parts.0) parts.1) in
+          let later : value_at R q (filter (λ x. p x.0) es) ≡ None = below_none o q (filter (λ x. p x.0) es) (passing_below q es (below_same o q e.0 es c parts.0) parts.1) in
           subst (λ k. value_at R q (filter (λ x. p x.0) (e ∷ es)) ≡ cond (p k) (Some e.1) None) (sym (same q e.0 c))
           (elim (p e.0) as (λ t. value_at R q (cond t (e ∷ filter (λ x. p x.0) es) (filter (λ x. p x.0) es)) ≡ cond t (Some e.1) None) [
             | true ↦ rw c refl

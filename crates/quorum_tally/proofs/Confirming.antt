@@ -1,11 +1,10 @@
 -- What marks say of the nodes that confirmed.
 use Rattle.std.proofs.Common.{◌≡◌, ℕ, ◌||◌, ◌==◌, List, [], ◌∷◌, ◌++◌, map, refl, sym, ap, ◌∙◌}
 use Rattle.std.specs.Prelude.{nat_le, count_by, Bool}
-use Rattle.std.proofs.Math.Bool.{or-false}
-use Rattle.std.proofs.lemmas.List.Folds.{list_any-append}
 use Rattle.quorum_model.specs.Quorum.{is_among, two_of}
 use Rattle.quorum_tally.specs.declared.marks.Marks.{Marks}
 use Rattle.quorum_tally.specs.Marks.{unmarked, marks_after, nodes_of, has_two, IsRight}
+use Rattle.quorum_model.proofs.Counting.{is_among-push}
 
 -- whether each node was marked, or is n
 abbrev marked_more : ℕ → List Bool → List ℕ → List Bool
@@ -13,12 +12,9 @@ marked_more n [] ms = []
 marked_more n (b ∷ bs) [] = []
 marked_more n (b ∷ bs) (m ∷ ms) = (b || (n == m)) ∷ marked_more n bs ms
 
-one_more : (m n : ℕ) (ns : List ℕ) → is_among m (ns ++ n ∷ []) ≡ (is_among m ns || (n == m))
-one_more m n ns = list_any-append (λ k. k == m) ns (n ∷ []) ∙ ap (λ b. is_among m ns || b) (or-false (n == m))
-
 among_more : (n : ℕ) (ns ms : List ℕ) → marked_more n (map (λ m. is_among m ns) ms) ms ≡ map (λ m. is_among m (ns ++ n ∷ [])) ms
 among_more n ns [] = refl
-among_more n ns (m ∷ ms) = λ i. sym (one_more m n ns) i ∷ among_more n ns ms i
+among_more n ns (m ∷ ms) = λ i. sym (is_among-push m n ns) i ∷ among_more n ns ms i
 
 -- marks stay right where a node confirms
 pub after_right : (n : ℕ) (ns : List ℕ) (s : Marks) → IsRight ns s → IsRight (ns ++ n ∷ []) (marks_after n s)

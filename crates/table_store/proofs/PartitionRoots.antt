@@ -16,24 +16,19 @@ use Rattle.table_store.specs.declared.roots.Hashed.{Hashed}
 use Rattle.table_store.specs.Shelf.{shelf_rows, in_partition, IsPlaced, AllPlaced, IsSound}
 use Rattle.table_store.specs.Pairs.{shown_pair, shown, tagged, entry_pair, shelf_roots}
 use Rattle.table_store.proofs.Tables.{rows_three}
+use Rattle.crdt_core.proofs.Ranges.{range_more}
 
 -- ---- lists
 
-range_from : (a n : ℕ) → range_with_len a (suc n) ≡ range_with_len a n ++ (a + n) ∷ []
-range_from a zero = let same : a ≡ a + 0 = omega arith in ap (λ b. b ∷ []) same
-range_from a (suc n) =
-    let same : a + 1 + n ≡ a + suc n = omega arith in
-    ap (λ l. a ∷ l) (range_from (a + 1) n ∙ ap (λ b. range_with_len (a + 1) n ++ b ∷ []) same)
-
-range_more : (n : ℕ) → range_with_len 0 (n + 1) ≡ range_with_len 0 n ++ n ∷ []
-range_more n =
+range_up_to : (n : ℕ) → range_with_len 0 (n + 1) ≡ range_with_len 0 n ++ n ∷ []
+range_up_to n =
     let next : n + 1 ≡ suc n = omega arith in
     let same : 0 + n ≡ n = omega arith in
-    ap (range_with_len 0) next ∙ (range_from 0 n ∙ ap (λ b. range_with_len 0 n ++ b ∷ []) same)
+    ap (range_with_len 0) next ∙ (range_more 0 n ∙ ap (λ b. range_with_len 0 n ++ b ∷ []) same)
 
 -- one more item's part
 pub parts_more : (F : ℕ → List ℕ) (n : ℕ) → flat_map F (range_with_len 0 n) ++ F n ≡ flat_map F (range_with_len 0 (n + 1))
-parts_more F n = flat_map_more F [] (range_with_len 0 n) n ∙ ap (flat_map F) (sym (range_more n))
+parts_more F n = flat_map_more F [] (range_with_len 0 n) n ∙ ap (flat_map F) (sym (range_up_to n))
 
 byte_list : range_with_len 0 256 ≡ every_byte
 unfolding every_byte

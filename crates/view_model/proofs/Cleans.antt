@@ -3,25 +3,18 @@ use Rattle.std.specs.Prelude.{◌≡◌, ◌≤◌, ◌<◌, ℕ, zero, suc, min
 use Rattle.std.specs.List.{filter}
 use Rattle.std.proofs.Common.{ap, ap₂, sym, ◌∙◌, arith}
 use Rattle.std.proofs.lemmas.Bool.{eqb-true, eqb-false, leb-true, leb-false, le-leb}
+use Rattle.std.proofs.Math.Bool.{or-true, or-false}
 use Rattle.view_model.specs.View.{Reading, View, follow, is_gapless, last_version, from, newest, least_of, cleaned}
 use Rattle.layout_trackers.specs.declared.which.Which.TheVariants.{SyncAck}
 use Rattle.view_model.proofs.Gapless.{at, lt_leb, beyond, followed, led, last_least, inside, above_newest, last_is, at_from, gapless_from, oldest_least}
-
-or_true : (a : Bool) → (a || true) ≡ true
-or_true true = refl
-or_true false = refl
-
-or_false : (a : Bool) → (a || false) ≡ a
-or_false true = refl
-or_false false = refl
 
 below_both : (v n least : ℕ) (b : Bool) → (v == n) ≡ b → v ≤ n → v < least → b ≡ leb (min least n) v
 below_both v n least true e h k = let same : v ≡ n = eqb-true v n e in sym (le-leb (min least n) v (omega arith))
 below_both v n least false e h k = let low : v < n = beyond v n h (eqb-false v n e) in sym (lt_leb (min least n) v (omega arith))
 
 keep_by : (v n least : ℕ) (b : Bool) → leb least v ≡ b → v ≤ n → ((v == n) || b) ≡ leb (min least n) v
-keep_by v n least true e h = let k : least ≤ v = leb-true least v e in or_true (v == n) ∙ sym (le-leb (min least n) v (omega arith))
-keep_by v n least false e h = or_false (v == n) ∙ below_both v n least (v == n) refl h (leb-false least v e)
+keep_by v n least true e h = let k : least ≤ v = leb-true least v e in or-true (v == n) ∙ sym (le-leb (min least n) v (omega arith))
+keep_by v n least false e h = or-false (v == n) ∙ below_both v n least (v == n) refl h (leb-false least v e)
 
 module _ {L : Type 0} (r : Reading L) where
   kept_follow : (before n least : ℕ) (xs : List L) → follow r before xs ≡ true → last_version r before xs ≤ n → filter (λ l. (r.version l == n) || leb least (r.version l)) xs ≡ from r (min least n) xs
