@@ -3,7 +3,8 @@ use Rattle.std.proofs.Common.{◌≡◌, ◌⊎◌, inl, inr, true, false, Optio
 use Rattle.std.specs.Ordering.{is_gt}
 use Rattle.std.specs.Cmp.{IsTotalOrder, tied_itself}
 use Rattle.crdt_core.specs.Orders.{Identifies}
-use Rattle.crdt_core.specs.Lex.{by_order, larger, turned}
+use Rattle.crdt_core.specs.Lex.{by_order, larger}
+use Rattle.crdt_core.specs.LexLaws.{turned}
 use Rattle.crdt_core.specs.Order.{option_join}
 
 pub inside : {X : Type 0} (x y : X) → Some x ≡ Some y → x ≡ y

@@ -19,4 +19,3 @@ mod which;
 pub use laws::{trackers_grow, versions_compare};
 pub use trackers::Trackers;
 pub use which::Which;
-

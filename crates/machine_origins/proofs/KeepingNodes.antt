@@ -1,5 +1,5 @@
 -- A step keeps a node's newest version and its requests' numbers, leaves it without blocks, and sends none.
-use Rattle.std.specs.Prelude.{◌≡◌, ◌⊎◌, ◌≤◌, ◌<◌, ℕ, suc, Bool, true, false, cond, ◌||◌, ◌==◌, leb, map, List, [], ◌∷◌, ◌++◌, Option, Some, None, refl, ⊤}
+use Rattle.std.specs.Prelude.{◌≡◌, ◌⊎◌, ◌≤◌, ◌<◌, ℕ, suc, Bool, true, false, cond, ◌==◌, leb, map, List, [], ◌∷◌, ◌++◌, Option, Some, None, refl, ⊤}
 use Rattle.std.specs.List.{All, AllByRecursion, filter, flat_map}
 use Rattle.std.proofs.Common.{ap, sym, subst, ◌∙◌, inl, inr, arith}
 use Rattle.std.proofs.lemmas.Bool.{eq-eqb}
@@ -113,10 +113,6 @@ module _ {R L : Type 0} (k : Layouts L) where
   keeps_cond B x false d e h k = k
 
 -- ---- views
-
-or_true : (b : Bool) → (b || true) ≡ true
-or_true true = refl
-or_true false = refl
 
 module _ {L : Type 0} (k : Layouts L) where
   -- the last version stays where each layout of it does

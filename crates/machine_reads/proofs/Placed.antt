@@ -9,12 +9,13 @@ use Rattle.std.proofs.lemmas.Cmp.{nat_cmp_total, on_total, then_total, tied_itse
 use Rattle.std.specs.declared.cmp.Ordering.TheVariants.{Less, Equal, Greater}
 use Rattle.crdt_core.specs.Laws.{JoinLaws}
 use Rattle.crdt_core.specs.Order.{option_join}
-use Rattle.crdt_core.specs.Orders.{nat_identical, pair_identical}
+use Rattle.crdt_core.specs.IdentityLaws.{nat_identical, pair_identical}
 use Rattle.table_schema.specs.Words.{Words, partition_of}
 use Rattle.table_schema.specs.Laws.{Same, Laws}
 use Rattle.table_model.specs.Rows.{place_cmp, place, row_cmp, is_at, row_at, merged_in, rows}
-use Rattle.table_model.specs.RowLaws.{place_total, place_identical, joins}
-use Rattle.plane_model.specs.Keys.{KeyLaws, ordered_laws}
+use Rattle.table_model.proofs.RowLaws.{place_total, place_identical, joins}
+use Rattle.plane_model.specs.Keys.{KeyLaws}
+use Rattle.plane_model.proofs.OrderedKeys.{ordered_laws}
 use Rattle.machine_reads.specs.Places.{Place, keys, place_of, at_place}
 
 pub keys_laws : KeyLaws keys

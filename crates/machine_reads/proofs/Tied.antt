@@ -12,7 +12,7 @@ use Rattle.control_model.specs.World as control
 use Rattle.control_model.specs.Steps.{Step as Turn}
 use Rattle.crdt_core.specs.Members.{Has}
 use Rattle.control_model.specs.Facts.{read_of}
-use Rattle.control_model.specs.Reached.{place_of}
+use Rattle.control_model.proofs.Reaching.{place_of}
 use Rattle.version_laws.proofs.Laws.{safe_at}
 use Rattle.layout_roles.specs.declared.role.Role.{Role}
 use Rattle.table_schema.specs.Words.{Words, partition_of}
@@ -109,10 +109,6 @@ module _ {R L : Type 0} (join : R → R → R) (s : Words R) (k : Layouts L) (pa
   by_test : (b : Bool) (d e : Effects R L A C) → (b ≡ true → d.is_spelled ≡ true → Lead d) → (b ≡ false → e.is_spelled ≡ true → Lead e) → (cond b d e).is_spelled ≡ true → Lead (cond b d e)
   by_test true d e f h = f refl
   by_test false d e f h = h refl
-
-  did_by : (n : ℕ) (b : Bool) (d e : Did R L) → (b ≡ true → d.is_spelled ≡ true → LeadBy n d) → (b ≡ false → e.is_spelled ≡ true → LeadBy n e) → (cond b d e).is_spelled ≡ true → LeadBy n (cond b d e)
-  did_by n true d e f h = f refl
-  did_by n false d e f h = h refl
 
   either : (b : Bool) (d e : Effects R L A C) → Lead d → Lead e → Lead (cond b d e)
   either true d e f h = f

@@ -10,7 +10,8 @@ use Rattle.view_model.specs.View.{Reading, oldest, newest}
 use Rattle.control_model.specs.Layouts.{are_three, is_set, set_in, is_lawful}
 use Rattle.control_model.specs.World.{Round, World, empty, view_of}
 use Rattle.control_model.specs.Steps.{Step, step, run, round_of}
-use Rattle.control_model.specs.Reached.{IsReached, reached_step}
+use Rattle.control_model.specs.Reached.{IsReached}
+use Rattle.control_model.proofs.Reaching.{reached_step}
 use Rattle.crdt_core.specs.Members.{Has}
 use Rattle.control_model.specs.Facts.{TwoOf, InFlight as Flying, Open, Rises as Rose, Moves, Safe, read_of}
 use Rattle.version_laws.proofs.Laws.{safe_at, moves_at}

@@ -10,7 +10,7 @@ use Rattle.std.specs.Cmp.{both_ways, tied_itself, nat_cmp_total, nat_eq_equiv, e
 use Rattle.std.specs.declared.cmp.Ordering.{Ordering}
 use Rattle.std.specs.declared.cmp.Ordering.TheVariants.{Less, Equal, Greater}
 use borrow.Author.Tests.{eqb-true, eq-eqb}
-use Rattle.crdt_core.specs.Orders.{nat_identical}
+use Rattle.crdt_core.specs.IdentityLaws.{nat_identical}
 use Rattle.sync_round.proofs.Ordering.{shown}
 use Rattle.std.specs.BTreeMap.{is_at}
 use Rattle.std.proofs.lemmas.Bool.{leb-true, le-leb}
