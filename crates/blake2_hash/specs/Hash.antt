@@ -2,22 +2,14 @@
 use Rattle.std.specs.Prelude.{ℕ, Bool, List}
 use Rattle.std.specs.declared.cmp.Ordering.{Ordering}
 use Rattle.std.specs.Ordering.{nat_cmp}
-use Rattle.std.specs.Cmp.{IsTotalOrder, on_total}
-use Rattle.std.specs.Cmp.Lexicographic.{slice_cmp, nat_list_cmp_total}
+use Rattle.std.specs.Cmp.Lexicographic.{slice_cmp}
 use Rattle.std.specs.BTreeMap.{is_at}
 use Rattle.blake2_hash.specs.Blake2b.{blake2b}
 use Rattle.blake2_hash.specs.declared.digest.Hash32.{Hash32}
-use Rattle.crdt_core.specs.Orders.{Identifies, nat_identical, slice_identical}
 
 -- by the bytes
 abbrev pub hash_cmp : Hash32 → Hash32 → Ordering
 hash_cmp a b = slice_cmp nat_cmp a.0 b.0
-
-pub hash_total : IsTotalOrder hash_cmp
-hash_total = on_total (λ h. h.0) nat_list_cmp_total
-
-pub hash_identical : Identifies hash_cmp
-hash_identical a b e = λ i. record { 0 = slice_identical nat_identical a.0 b.0 e i }
 
 -- the two are one digest
 abbrev pub is_hash : Hash32 → Hash32 → Bool

@@ -1,3 +1,4 @@
 pub mod Blake2b
 pub mod Hashing
 pub mod Hash
+pub mod HashLaws

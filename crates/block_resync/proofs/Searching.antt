@@ -7,8 +7,8 @@ use Rattle.std.specs.Result.{result_ok}
 use Rattle.std.specs.Cmp.{nat_cmp_total, nat_cmp_is, tied_itself}
 use Rattle.std.proofs.lemmas.Bool.{cases_eq, cases_lt}
 use borrow.Author.Tests.{eqb-true}
-use Rattle.crdt_core.specs.Orders.{nat_identical}
-use Rattle.crdt_core.specs.Lex.{turned}
+use Rattle.crdt_core.specs.IdentityLaws.{nat_identical}
+use Rattle.crdt_core.specs.LexLaws.{turned}
 use Rattle.block_resync.specs.Outbox.{numbers, Rises}
 use Rattle.block_resync.specs.declared.item.Item.{Item}
 use Rattle.block_resync.proofs.Numbering.{NoneHas}

@@ -13,7 +13,8 @@ use Rattle.std.proofs.lemmas.Map.Entries.{lookup-filter-keys}
 use Rattle.std.proofs.lemmas.Map.Keys.{IsDistinct-from_sorted}
 use Rattle.std.proofs.lemmas.List.Sums.{sum_by-cons}
 use Rattle.blake2_hash.specs.declared.digest.Hash32.{Hash32}
-use Rattle.blake2_hash.specs.Hash.{hash_cmp, hash_total, hash_identical, is_hash}
+use Rattle.blake2_hash.specs.Hash.{hash_cmp, is_hash}
+use Rattle.blake2_hash.specs.HashLaws.{hash_total, hash_identical}
 use Rattle.block_store.specs.Contents.{Contents, block_at, live_count, note_at, placed, without, put, told_dead, idle_notes}
 use Rattle.block_store.proofs.Showing.{one_at, same_hash}
 

@@ -16,7 +16,8 @@ use Rattle.std.proofs.lemmas.List.Folds.{sum_by-replicate}
 use Rattle.std.proofs.lemmas.Option.{same_Some}
 use Rattle.blake2_hash.specs.declared.digest.Hash32.{Hash32}
 use Rattle.block_store.specs.declared.shelf.Kept.{Kept}
-use Rattle.blake2_hash.specs.Hash.{hash_cmp, hash_total, hash_identical, is_hash}
+use Rattle.blake2_hash.specs.Hash.{hash_cmp, is_hash}
+use Rattle.blake2_hash.specs.HashLaws.{hash_total, hash_identical}
 use Rattle.block_store.specs.Contents.{placed, without}
 use Rattle.block_store.specs.Shelf.{Entries, blocks_of, live_of, notes_of, note_before}
 

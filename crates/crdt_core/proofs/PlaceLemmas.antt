@@ -1,12 +1,11 @@
 -- What a write at a key's place does.
-use Rattle.std.proofs.Common.{◌≡◌, ℕ, zero, suc, ◌+◌, ◌<◌, List, [], ◌∷◌, ◌++◌, length, take, drop, get_or, set, true, refl, sym, ap, arith, Ordering, Less, Result, Ok, Err, OnOk, OnErr, Some, None, unwrap_or, slice_get, is_lt, ◌&&◌, false, Equal, Greater, ◌∙◌}
+use Rattle.std.proofs.Common.{◌≡◌, ℕ, zero, suc, List, [], ◌∷◌, drop, get_or, set, true, refl, sym, ap, arith, Ordering, Less, Result, Ok, Err, OnOk, OnErr, Some, None, unwrap_or, slice_get, is_lt, ◌&&◌, false, Equal, Greater, ◌∙◌}
 use Rattle.std.specs.List.{insert}
 use Rattle.std.specs.Cmp.{IsTotalOrder, tied_back}
-use Rattle.std.proofs.lemmas.List.{take_more}
-use Rattle.crdt_core.specs.Lex.{turned}
+use Rattle.crdt_core.specs.LexLaws.{turned}
 use Rattle.crdt_core.specs.Entries.{is_below, is_ascending, value_at, entries_from, merged}
 use Rattle.crdt_core.specs.EntryLaws.{and_parts, less_is, ascending_merged}
-use Rattle.crdt_core.specs.Places.{AllBelow, IsAt, IsGap}
+use Rattle.crdt_core.specs.Places.{IsAt, IsGap}
 use Rattle.crdt_core.proofs.Tails.{merged_nil}
 
 module _ {K : Type 0} {R : K → K → Ordering} (o : IsTotalOrder R) (k : K) where
@@ -16,14 +15,6 @@ module _ {K : Type 0} {R : K → K → Ordering} (o : IsTotalOrder R) (k : K) wh
   above_next a b e Greater p h = turned o k b Less (o.trans k a b (turned o a k Greater p) e)
 
 module _ {K V : Type 0} (R : K → K → Ordering) (k : K) where
-  AllBelow-push : (es : List (K × V)) (e : K × V) → AllBelow R k es → R e.0 k ≡ Less → AllBelow R k (es ++ e ∷ [])
-  AllBelow-push [] e h p = (p, tt)
-  AllBelow-push (x ∷ es) e h p = (h.0, AllBelow-push es e h.1 p)
-
-  -- one entry more
-  pub AllBelow-more : (es : List (K × V)) (i : ℕ) (e : K × V) → i < length es → e ≡ get_or es i e → AllBelow R k (take i es) → R e.0 k ≡ Less → AllBelow R k (take (i + 1) es)
-  AllBelow-more es i e within read h p = rw (take_more es i e within, ← read) (AllBelow-push (take i es) e h p)
-
   module _ (j : V → V → V) (v : V) where
     -- the value at the key's place joins with the new one
     pub merged_at : (es : List (K × V)) (i : ℕ) (e : K × V) → IsAt R k es i → e ≡ get_or es i e → merged R j es ((k, v) ∷ []) ≡ set es i (e.0, j e.1 v)

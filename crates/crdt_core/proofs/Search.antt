@@ -4,7 +4,7 @@ use Rattle.std.specs.List.Sorted.{IsSearchInRange, IsBinarySearchResult, IsNonDe
 use Rattle.std.specs.Ordering.{ordering_index}
 use Rattle.std.specs.Cmp.{IsTotalOrder, alike_right}
 use Rattle.std.proofs.lemmas.Bool.{cases_eq}
-use Rattle.crdt_core.specs.Lex.{turned}
+use Rattle.crdt_core.specs.LexLaws.{turned}
 use Rattle.crdt_core.specs.Entries.{is_ascending}
 use Rattle.crdt_core.specs.EntryLaws.{and_parts, less_is}
 use Rattle.crdt_core.specs.Places.{AllBelow, FirstAbove, IsAt, IsGap}

@@ -1,3 +1,4 @@
+-- Laws that impls cite; no definition stands here.
 -- What merging entries does to the value at each key, and from it the laws of a join.
 use Rattle.std.specs.Prelude.{◌≡◌, Bool, true, false, cond, not, ◌&&◌, List, [], ◌∷◌, Option, Some, None, refl}
 use Rattle.std.proofs.Common.{ap, sym, ◌∙◌}
@@ -8,7 +9,8 @@ use Rattle.std.specs.Ordering.{is_lt}
 use Rattle.std.specs.Option.{unwrap_or}
 use Rattle.crdt_core.specs.Orders.{Identifies}
 use Rattle.crdt_core.specs.Laws.{JoinLaws}
-use Rattle.crdt_core.specs.Lex.{by_order, turned, greater_trans}
+use Rattle.crdt_core.specs.Lex.{by_order}
+use Rattle.crdt_core.specs.LexLaws.{turned, greater_trans}
 use Rattle.crdt_core.specs.Order.{option_join}
 use Rattle.crdt_core.specs.OrderLaws.{option_join-none, option_laws}
 use Rattle.crdt_core.specs.Entries.{is_below, is_ascending, value_at, entries_from, merged}

@@ -15,3 +15,7 @@ pub mod Pair
 pub mod Places
 pub mod Members
 pub mod Outcomes
+pub mod IdentityLaws
+pub mod LexLaws
+pub mod TypeLaws
+pub mod MapLaws

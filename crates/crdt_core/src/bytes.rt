@@ -5,7 +5,7 @@ ghost use Rattle.std.specs.Cmp.Lexicographic.{pointwise, slice_cmp, nat_list_eq_
 ghost use Rattle.std.specs.Ordering.{nat_cmp};
 ghost use Rattle.crdt_core.specs.Outcomes.{OnlyWant};
 ghost use Rattle.std.proofs.Common.{rules};
-ghost use Rattle.crdt_core.specs.Orders.{slice_identical, nat_identical};
+ghost use Rattle.crdt_core.specs.IdentityLaws.{slice_identical, nat_identical};
 
 use crate::memory::Memory;
 use crate::value::Value;

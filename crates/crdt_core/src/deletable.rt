@@ -1,5 +1,6 @@
 //! A value that may be deleted for good.
-ghost use Rattle.crdt_core.specs.Deletable.{deletable_join, deletable_laws};
+ghost use Rattle.crdt_core.specs.Deletable.{deletable_join};
+ghost use Rattle.crdt_core.specs.TypeLaws.{deletable_laws};
 
 use crate::crdt::Crdt;
 use crate::memory::Memory;

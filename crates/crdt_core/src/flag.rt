@@ -1,6 +1,7 @@
 //! A flag that stays up once it is raised.
 ghost use Rattle.std.specs.Prelude.{◌≡◌, IsOk};
-ghost use Rattle.crdt_core.specs.Flag.{or_join, or_laws};
+ghost use Rattle.crdt_core.specs.Flag.{or_join};
+ghost use Rattle.crdt_core.specs.TypeLaws.{or_laws};
 
 use crate::crdt::Crdt;
 use crate::memory::Memory;

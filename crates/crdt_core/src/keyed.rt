@@ -1,5 +1,6 @@
 //! A value under a key, which gives way to one under a greater key.
-ghost use Rattle.crdt_core.specs.Keyed.{keyed_join, keyed_laws};
+ghost use Rattle.crdt_core.specs.Keyed.{keyed_join};
+ghost use Rattle.crdt_core.specs.TypeLaws.{keyed_laws};
 
 use crate::crdt::Crdt;
 use crate::memory::Memory;

@@ -4,7 +4,7 @@ ghost use Rattle.std.specs.Option.{option_to_list};
 ghost use Rattle.std.specs.Cmp.Lexicographic.{pointwise, slice_cmp, slice_partial_cmp, lists_equiv, lists_total, lists_ties, lists_per, lists_po, lists_agrees};
 ghost use Rattle.std.specs.Borrow.{Lends, sem};
 ghost use Rattle.crdt_core.specs.Outcomes.{OnlyWant};
-ghost use Rattle.crdt_core.specs.Orders.{slice_identical};
+ghost use Rattle.crdt_core.specs.IdentityLaws.{slice_identical};
 
 use crate::memory::Memory;
 use crate::value::Value;

@@ -1,5 +1,6 @@
 //! The value that was written last.
-ghost use Rattle.crdt_core.specs.Lww.{lww_join, lww_laws};
+ghost use Rattle.crdt_core.specs.Lww.{lww_join};
+ghost use Rattle.crdt_core.specs.TypeLaws.{lww_laws};
 
 use crate::crdt::Crdt;
 use crate::memory::Memory;

@@ -188,7 +188,8 @@ fn merge_entries<K: Value, V: Crdt>(
 }
 
 impl<K: Value, V: Crdt> Crdt for Map<K, V> {
-    ghost use Rattle.crdt_core.specs.Map.{map_join, map_laws};
+    ghost use Rattle.crdt_core.specs.Map.{map_join};
+    ghost use Rattle.crdt_core.specs.MapLaws.{map_laws};
 
     ghost join = { map_join V.join };
 

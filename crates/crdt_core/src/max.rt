@@ -1,5 +1,6 @@
 //! The greatest value seen.
-ghost use Rattle.crdt_core.specs.Max.{max_join, max_laws};
+ghost use Rattle.crdt_core.specs.Max.{max_join};
+ghost use Rattle.crdt_core.specs.TypeLaws.{max_laws};
 
 use crate::crdt::Crdt;
 use crate::memory::Memory;

@@ -1,5 +1,6 @@
 //! Two values that merge side by side.
-ghost use Rattle.crdt_core.specs.Pair.{pair_join, pair_laws};
+ghost use Rattle.crdt_core.specs.Pair.{pair_join};
+ghost use Rattle.crdt_core.specs.TypeLaws.{pair_laws};
 
 use crate::crdt::Crdt;
 use crate::memory::Memory;

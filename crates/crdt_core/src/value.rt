@@ -1,7 +1,8 @@
 //! Values that are ordered and can be copied.
 ghost use Rattle.std.specs.Prelude.{◌≡◌, IfOk};
 ghost use Rattle.crdt_core.specs.Outcomes.{OnlyWant};
-ghost use Rattle.crdt_core.specs.Orders.{Identifies, nat_identical, bool_identical, pair_identical};
+ghost use Rattle.crdt_core.specs.Orders.{Identifies};
+ghost use Rattle.crdt_core.specs.IdentityLaws.{nat_identical, bool_identical, pair_identical};
 
 use crate::memory::Memory;
 

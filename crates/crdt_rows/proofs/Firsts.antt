@@ -6,10 +6,11 @@ use Rattle.std.specs.Cmp.{tied_itself}
 use Rattle.crdt_core.specs.declared.max.Max.{Max}
 use Rattle.crdt_core.specs.Entries.{is_ascending, value_at}
 use Rattle.crdt_rows.specs.declared.version.Version.{Version}
-use Rattle.crdt_rows.specs.Version.{version_cmp, version_total}
+use Rattle.crdt_rows.specs.Version.{version_cmp}
+use Rattle.crdt_rows.specs.FieldLaws.{version_total}
 use Rattle.crdt_rows.specs.Versions.{newest_version, is_settled_row}
 use Rattle.crdt_rows.specs.State.{is_complete}
-use Rattle.crdt_rows.specs.Newest.{newest_first, settled_any}
+use Rattle.crdt_rows.proofs.NewestKeys.{newest_first, settled_any}
 use Rattle.crdt_rows.specs.declared.body.Body.{Body}
 use Rattle.crdt_rows.specs.declared.state.State.{State}
 use Rattle.crdt_rows.specs.declared.state.State.TheVariants.{Uploading, Aborted, Complete}

@@ -3,3 +3,5 @@ mod Lasts
 mod ObjectFacts
 mod RowFacts
 mod Said
+pub mod ObjectJoin
+pub mod NewestKeys

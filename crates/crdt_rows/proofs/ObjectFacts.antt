@@ -4,18 +4,25 @@ use Rattle.std.specs.Ordering.{is_lt}
 use Rattle.std.specs.Cmp.{tied_itself}
 use Rattle.std.proofs.lemmas.Option.{same_Some}
 use Rattle.crdt_core.specs.declared.max.Max.{Max}
-use Rattle.crdt_core.specs.Lex.{by_order, larger, turned}
+use Rattle.crdt_core.specs.Lex.{by_order, larger}
+use Rattle.crdt_core.specs.LexLaws.{turned}
 use Rattle.crdt_core.specs.Order.{option_join}
-use Rattle.crdt_core.specs.Map.{map_entries, map_get, map_get-decides}
+use Rattle.crdt_core.specs.Map.{map_entries, map_get}
+use Rattle.crdt_core.specs.MapLaws.{map_get-decides}
 use Rattle.crdt_rows.specs.declared.version.Version.{Version}
 use Rattle.crdt_rows.specs.declared.body.Body.{Body}
 use Rattle.crdt_rows.specs.declared.state.State.{State}
 use Rattle.crdt_rows.specs.declared.state.State.TheVariants.{Uploading, Aborted, Complete}
 use Rattle.crdt_rows.specs.declared.object_row.ObjectRow.{ObjectRow}
-use Rattle.crdt_rows.specs.State.{state_cmp, state_total, state_identical, is_complete}
-use Rattle.crdt_rows.specs.Version.{version_cmp, version_total, version_identical}
-use Rattle.crdt_rows.specs.Newest.{later, is_older, final_older, final_at_most, newest_final}
-use Rattle.crdt_rows.specs.ObjectRow.{object_key, object_key_cmp, key_total, newest, state_at, object_join, same_row, join-state, join-newest, join-bucket, join-key}
+use Rattle.crdt_rows.specs.State.{state_cmp, is_complete}
+use Rattle.crdt_rows.specs.StateLaws.{state_total, state_identical}
+use Rattle.crdt_rows.specs.Version.{version_cmp}
+use Rattle.crdt_rows.specs.FieldLaws.{version_total, version_identical}
+use Rattle.crdt_rows.specs.Newest.{later, is_older}
+use Rattle.crdt_rows.proofs.NewestKeys.{final_older, final_at_most, newest_final}
+use Rattle.crdt_rows.specs.ObjectRow.{object_key, object_key_cmp, newest, state_at, object_join}
+use Rattle.crdt_rows.specs.ObjectRowLaws.{key_total, same_row}
+use Rattle.crdt_rows.proofs.ObjectJoin.{join-state, join-newest, join-bucket, join-key}
 use Rattle.crdt_rows.specs.Facts.{HasState, IsCurrent, IsObjectJoin, IsNewest}
 use Rattle.crdt_rows.proofs.Said.{picked, none_above, is_picked}
 

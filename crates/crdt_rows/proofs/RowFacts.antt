@@ -12,14 +12,17 @@ use Rattle.crdt_core.specs.declared.max.Max.{Max}
 use Rattle.crdt_core.specs.Lex.{larger}
 use Rattle.crdt_core.specs.Order.{option_join}
 use Rattle.crdt_core.specs.Deletable.{deletable_join}
-use Rattle.crdt_core.specs.Map.{map_get, map_join, map_get-join}
+use Rattle.crdt_core.specs.Map.{map_get, map_join}
+use Rattle.crdt_core.specs.MapLaws.{map_get-join}
 use Rattle.crdt_core.specs.Max.{max_join}
 use Rattle.crdt_rows.specs.declared.version_row.Part.{Part}
 use Rattle.crdt_rows.specs.declared.version_row.BlockRef.{BlockRef}
 use Rattle.crdt_rows.specs.declared.version_row.VersionRow.{VersionRow}
 use Rattle.crdt_rows.specs.declared.ref_row.RefRow.{RefRow}
-use Rattle.crdt_rows.specs.VersionRow.{part_total, block_ref_cmp, block_ref_total, block_ref_identical, gone, block_in, is_deleted, block_at, version_row_join}
-use Rattle.crdt_rows.specs.RefRow.{ref_key, ref_key_cmp, key_total, ref_row_join}
+use Rattle.crdt_rows.specs.VersionRow.{block_ref_cmp, gone, block_in, is_deleted, block_at, version_row_join}
+use Rattle.crdt_rows.specs.FieldLaws.{part_total, block_ref_total, block_ref_identical}
+use Rattle.crdt_rows.specs.RefRow.{ref_key, ref_key_cmp, ref_row_join}
+use Rattle.crdt_rows.specs.RowLaws.{key_total}
 use Rattle.crdt_rows.specs.Facts.{HasBlock, IsBlockJoin}
 use Rattle.crdt_rows.proofs.Said.{picked, none_above, is_picked}
 

@@ -4,7 +4,8 @@ use Rattle.std.specs.Ordering.{is_gt}
 use Rattle.std.specs.Cmp.{IsTotalOrder, tied_itself}
 use Rattle.std.proofs.lemmas.Option.{same_Some}
 use Rattle.crdt_core.specs.Orders.{Identifies}
-use Rattle.crdt_core.specs.Lex.{by_order, larger, turned}
+use Rattle.crdt_core.specs.Lex.{by_order, larger}
+use Rattle.crdt_core.specs.LexLaws.{turned}
 use Rattle.crdt_core.specs.Order.{option_join}
 
 module _ {X : Type 0} {R : X → X → Ordering} (o : IsTotalOrder R) (same : Identifies R) where

@@ -11,3 +11,12 @@ pub mod State
 pub mod Version
 pub mod VersionRow
 pub mod Versions
+pub mod FieldLaws
+pub mod BodyLaws
+pub mod StateLaws
+pub mod EachLaws
+pub mod NewestLaws
+pub mod VersionsLaws
+pub mod SettledLaws
+pub mod ObjectRowLaws
+pub mod RowLaws

@@ -29,7 +29,8 @@ impl AnyRow {
 }
 
 impl Crdt for AnyRow {
-    ghost use Rattle.crdt_rows.specs.AnyRow.{any_join, any_laws};
+    ghost use Rattle.crdt_rows.specs.AnyRow.{any_join};
+    ghost use Rattle.crdt_rows.specs.RowLaws.{any_laws};
 
     ghost join = { any_join };
 

@@ -83,7 +83,8 @@ impl Meta {
 }
 
 impl PartialEq for Meta {
-    ghost use Rattle.crdt_rows.specs.Body.{meta_cmp, meta_total};
+    ghost use Rattle.crdt_rows.specs.Body.{meta_cmp};
+    ghost use Rattle.crdt_rows.specs.BodyLaws.{meta_total};
 
     ghost eq = { eq_by_cmp meta_cmp };
 
@@ -95,13 +96,14 @@ impl PartialEq for Meta {
 }
 
 impl Eq for Meta {
-    ghost use Rattle.crdt_rows.specs.Body.{meta_total};
+    ghost use Rattle.crdt_rows.specs.BodyLaws.{meta_total};
 
     ghost laws = { eq_by_cmp_equiv meta_total };
 }
 
 impl PartialOrd for Meta {
-    ghost use Rattle.crdt_rows.specs.Body.{meta_cmp, meta_total};
+    ghost use Rattle.crdt_rows.specs.Body.{meta_cmp};
+    ghost use Rattle.crdt_rows.specs.BodyLaws.{meta_total};
 
     ghost partial_cmp = { as_partial_cmp meta_cmp };
 
@@ -113,7 +115,8 @@ impl PartialOrd for Meta {
 }
 
 impl Ord for Meta {
-    ghost use Rattle.crdt_rows.specs.Body.{meta_cmp, meta_total};
+    ghost use Rattle.crdt_rows.specs.Body.{meta_cmp};
+    ghost use Rattle.crdt_rows.specs.BodyLaws.{meta_total};
 
     ghost cmp = { meta_cmp };
 
@@ -129,7 +132,7 @@ impl Ord for Meta {
 }
 
 impl Value for Meta {
-    ghost use Rattle.crdt_rows.specs.Body.{meta_identical};
+    ghost use Rattle.crdt_rows.specs.BodyLaws.{meta_identical};
 
     ghost identical = { meta_identical };
 
@@ -178,7 +181,8 @@ impl Body {
 }
 
 impl PartialEq for Body {
-    ghost use Rattle.crdt_rows.specs.Body.{body_cmp, body_total};
+    ghost use Rattle.crdt_rows.specs.Body.{body_cmp};
+    ghost use Rattle.crdt_rows.specs.BodyLaws.{body_total};
 
     ghost eq = { eq_by_cmp body_cmp };
 
@@ -190,13 +194,14 @@ impl PartialEq for Body {
 }
 
 impl Eq for Body {
-    ghost use Rattle.crdt_rows.specs.Body.{body_total};
+    ghost use Rattle.crdt_rows.specs.BodyLaws.{body_total};
 
     ghost laws = { eq_by_cmp_equiv body_total };
 }
 
 impl PartialOrd for Body {
-    ghost use Rattle.crdt_rows.specs.Body.{body_cmp, body_total};
+    ghost use Rattle.crdt_rows.specs.Body.{body_cmp};
+    ghost use Rattle.crdt_rows.specs.BodyLaws.{body_total};
 
     ghost partial_cmp = { as_partial_cmp body_cmp };
 
@@ -208,7 +213,8 @@ impl PartialOrd for Body {
 }
 
 impl Ord for Body {
-    ghost use Rattle.crdt_rows.specs.Body.{body_cmp, body_total};
+    ghost use Rattle.crdt_rows.specs.Body.{body_cmp};
+    ghost use Rattle.crdt_rows.specs.BodyLaws.{body_total};
 
     ghost cmp = { body_cmp };
 
@@ -224,7 +230,7 @@ impl Ord for Body {
 }
 
 impl Value for Body {
-    ghost use Rattle.crdt_rows.specs.Body.{body_identical};
+    ghost use Rattle.crdt_rows.specs.BodyLaws.{body_identical};
 
     ghost identical = { body_identical };
 

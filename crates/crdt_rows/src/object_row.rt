@@ -177,7 +177,8 @@ fn merge_versions(
 }
 
 impl Crdt for ObjectRow {
-    ghost use Rattle.crdt_rows.specs.ObjectRow.{object_join, object_laws};
+    ghost use Rattle.crdt_rows.specs.ObjectRow.{object_join};
+    ghost use Rattle.crdt_rows.specs.ObjectRowLaws.{object_laws};
 
     ghost join = { object_join };
 

@@ -27,7 +27,8 @@ impl RefRow {
 
 impl Crdt for RefRow {
     ghost use Rattle.std.specs.Prelude.{IsOk};
-    ghost use Rattle.crdt_rows.specs.RefRow.{ref_row_join, ref_row_laws};
+    ghost use Rattle.crdt_rows.specs.RefRow.{ref_row_join};
+    ghost use Rattle.crdt_rows.specs.RowLaws.{ref_row_laws};
 
     ghost join = { ref_row_join };
 

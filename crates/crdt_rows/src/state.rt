@@ -2,7 +2,8 @@
 ghost use Rattle.std.specs.Prelude.{◌≡◌, refl};
 ghost use Rattle.std.specs.Cmp.{partial_equiv_from_equiv, partial_order_from_total, eq_by_cmp_equiv};
 ghost use Rattle.std.specs.Ordering.{eq_by_cmp, as_partial_cmp};
-ghost use Rattle.crdt_rows.specs.State.{stage, is_complete, is_sized, state_cmp, state_total, state_identical};
+ghost use Rattle.crdt_rows.specs.State.{stage, is_complete, is_sized, state_cmp};
+ghost use Rattle.crdt_rows.specs.StateLaws.{state_total, state_identical};
 
 use crate::body::Body;
 use crdt_core::{Memory, Value};

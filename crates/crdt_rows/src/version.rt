@@ -1,6 +1,6 @@
 //! The name of one version of an object.
 ghost use Rattle.std.specs.Prelude.{◌≡◌};
-ghost use Rattle.crdt_rows.specs.Version.{version_identical};
+ghost use Rattle.crdt_rows.specs.FieldLaws.{version_identical};
 
 use crdt_core::{Memory, Value};
 

@@ -1,6 +1,6 @@
 //! The blocks of one version of an object.
 ghost use Rattle.std.specs.Prelude.{◌≡◌};
-ghost use Rattle.crdt_rows.specs.VersionRow.{part_identical, block_ref_identical};
+ghost use Rattle.crdt_rows.specs.FieldLaws.{part_identical, block_ref_identical};
 
 use blake2_hash::Hash32;
 use crdt_core::{Crdt, Deletable, Map, Max, Memory, Value};
@@ -53,7 +53,8 @@ impl Value for BlockRef {
 }
 
 impl Crdt for VersionRow {
-    ghost use Rattle.crdt_rows.specs.VersionRow.{version_row_join, version_row_laws};
+    ghost use Rattle.crdt_rows.specs.VersionRow.{version_row_join};
+    ghost use Rattle.crdt_rows.specs.RowLaws.{version_row_laws};
 
     ghost join = { version_row_join };
 

@@ -6,8 +6,8 @@ use Rattle.crdt_core.specs.declared.memory.Memory.TheVariants.{Want, Full}
 use Rattle.schedule_text.specs.declared.fault.ScheduleFault.{ScheduleFault}
 use Rattle.schedule_text.specs.declared.fault.ScheduleFault.TheVariants.{BadLine as FaultLine, Memory as FaultMemory}
 use Rattle.garage_lab.specs.declared.stop.Stop.{Stop}
-use Rattle.garage_lab.specs.declared.stop.Stop.TheVariants.{Read, Write, Memory, LongInput, BadLine, Number}
-use Rattle.garage_lab.specs.Stop.{stop_of_fault, stop_of_memory, IsOfReading, IsOfInput}
+use Rattle.garage_lab.specs.declared.stop.Stop.TheVariants.{BadLine, Number}
+use Rattle.garage_lab.specs.Stop.{stop_of_fault, stop_of_memory}
 
 line_back : (fault : ScheduleFault) (n : ℕ) → stop_of_fault fault ≡ BadLine n → fault ≡ FaultLine n
 line_back (FaultLine m) n e = let same : m ≡ n = cc in ap FaultLine same
@@ -28,11 +28,3 @@ number_back (Err stop) why is e = let same : stop ≡ Number = cc in full_back w
 pub on_err : {A E : Type 0} (r : Result A E) (P : Type 0) → P → OnErr r P
 on_err (Ok x) P h = tt
 on_err (Err e) P h = h
-
-pub reading_is_input : (stop : Stop) → IsOfReading stop → IsOfInput stop
-reading_is_input Read h = tt
-reading_is_input Memory h = tt
-reading_is_input LongInput h = tt
-reading_is_input Write h = absurd h
-reading_is_input (BadLine n) h = absurd h
-reading_is_input Number h = absurd h

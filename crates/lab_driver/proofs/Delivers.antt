@@ -14,7 +14,7 @@ use Rattle.object_model.specs.declared.event.Told.{Told}
 use Rattle.object_model.specs.Run.{State, Outcome, silent, plainly, effect, doing, follow, goes_on, delivers}
 use Rattle.object_model.specs.Turns.{FitsOutcome}
 use Rattle.world_core.specs.declared.report.Report.{Report}
-use Rattle.world_core.specs.Stands.{Steps, ended, Overflows as WorldOverflows}
+use Rattle.world_core.specs.Stands.{Steps, ended}
 use Rattle.lab_driver.specs.declared.lab.Lab.{Lab}
 use Rattle.lab_driver.specs.Stands.{ordered, IsLab, HasLab, Does, Plays, Overflows}
 
@@ -45,9 +45,6 @@ pub goes_on_overflows : (old : Lab) (ends : List (ℕ × PhaseEnd AnyRow)) (q : 
     Overflows old (λ s. follow s q (numbered s.orders q) end) → Overflows old (λ s. goes_on s (map ended ends))
 goes_on_overflows old ends q end is h s d fits = h s d (subst (λ (o : Outcome). FitsOutcome s o) (goes_on_first ends q end is s) fits)
 
-pub step_overflows : (old : Lab) (m : ℕ) → WorldOverflows any_join words old.world (Deliver m) → Overflows old (λ s. delivers s m)
-step_overflows old m full s d fits = (full s.world d.world).lacks fits.0.0
-
 module _ (old mid : Lab) (m : ℕ) (report : Report AnyRow) (steps : Steps any_join words old.world mid.world report (Deliver m)) (buckets : mid.buckets ≡ old.buckets) (orders : mid.orders ≡ old.orders) where
   is_next : (s : State) → IsLab old s → IsLab mid (doing s (plainly (Deliver m)))
   is_next s d = record {
@@ -58,11 +55,6 @@ module _ (old mid : Lab) (m : ℕ) (report : Report AnyRow) (steps : Steps any_j
 
   pub has_next : HasLab old → HasLab mid
   has_next h = (doing h.0 (plainly (Deliver m)), is_next h.0 h.1)
-
-  pub delivered_overflows : Overflows mid (λ s. goes_on s (map ended report.ends)) → Overflows old (λ s. delivers s m)
-  delivered_overflows full s d fits =
-      let here : State = doing s (plainly (Deliver m)) in
-      full here (is_next s d) (subst (λ (es : List (Ended AnyRow)). FitsOutcome here (goes_on here es)) (sym (steps s.world d.world).does.tells.ends) (fits.0.1, fits.1))
 
   pub delivered_plays : (new : Lab) (more : Told) → Plays mid new more (λ s. goes_on s (map ended report.ends)) →
       Plays old new (record { refused = report.refused; words = report.words; lines = report.lines ++ more.lines }) (λ s. delivers s m)

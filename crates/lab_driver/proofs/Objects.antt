@@ -1,14 +1,16 @@
 -- The bytes of an object one by one, its row, and a bucket's name among others.
-use Rattle.std.proofs.Common.{◌≡◌, ℕ, zero, suc, ◌+◌, ◌-◌, ◌%◌, ◌<◌, ◌≤◌, nat_eq, List, [], ◌∷◌, ◌++◌, refl, sym, ap, ◌∙◌, arith, append_assoc, append-nil, ◌||◌}
+use Rattle.std.proofs.Common.{◌≡◌, ℕ, suc, ◌+◌, ◌-◌, ◌%◌, ◌<◌, nat_eq, List, [], ◌∷◌, ◌++◌, refl, ap, ◌∙◌, arith, append_assoc, ◌||◌}
 use Rattle.std.specs.List.{list_any}
 use Rattle.std.specs.Cmp.Lexicographic.{pointwise}
 use Rattle.blake2_hash.specs.declared.digest.Hash32.{Hash32}
-use Rattle.crdt_core.specs.Map.{map_entries, map_single, same_map}
+use Rattle.crdt_core.specs.Map.{map_entries, map_single}
+use Rattle.crdt_core.specs.MapLaws.{same_map}
 use Rattle.crdt_rows.specs.declared.version.Version.{Version}
 use Rattle.crdt_rows.specs.declared.state.State.{State}
 use Rattle.crdt_rows.specs.declared.object_row.ObjectRow.{ObjectRow}
 use Rattle.crdt_rows.specs.declared.any_row.AnyRow.TheVariants as rows
-use Rattle.crdt_rows.specs.ObjectRow.{object_key, same_row}
+use Rattle.crdt_rows.specs.ObjectRow.{object_key}
+use Rattle.crdt_rows.specs.ObjectRowLaws.{same_row}
 use Rattle.blake2_hash.specs.Hash.{digest_of}
 use Rattle.object_model.specs.Object.{Name, state_of, object}
 use Rattle.object_model.specs.Run.{object_bytes, is_bucket}
@@ -20,17 +22,6 @@ more_bytes bytes whole size i fill byte is lt h =
     let left : size - i ≡ suc (size - (i + 1)) = omega arith in
     let next : fill + (i + 1) ≡ suc (fill + i) = omega arith in
     rw (is, next) (append_assoc bytes (((fill + i) % 251) ∷ []) (object_bytes (size - (i + 1)) (suc (fill + i))) ∙ (rw left at h))
-
-pub no_bytes : (size fill : ℕ) → [] ++ object_bytes (size - 0) (fill + 0) ≡ object_bytes size fill
-no_bytes size fill =
-    let left : size - 0 ≡ size = omega arith in
-    let next : fill + 0 ≡ fill = omega arith in
-    rw (left, next) refl
-
-pub all_bytes : (bytes whole : List ℕ) (size i fill : ℕ) → size ≤ i → bytes ++ object_bytes (size - i) (fill + i) ≡ whole → bytes ≡ whole
-all_bytes bytes whole size i fill le h =
-    let left : size - i ≡ zero = omega arith in
-    sym (append-nil bytes) ∙ (rw left at h)
 
 pub any_bucket : (buckets : List (List ℕ)) (name : List ℕ) → is_bucket buckets name ≡ list_any (λ b. pointwise nat_eq b name) buckets
 any_bucket [] name = refl

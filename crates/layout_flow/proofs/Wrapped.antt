@@ -76,10 +76,6 @@ one_below : (b : Bool) (m : ℕ) → (b ≡ true → 1 ≤ m) → cond b 1 0 ≤
 one_below true m some = some refl
 one_below false m some = omega arith
 
-any_from_not_none : (a b : Bool) → (b ≡ false → a ≡ false) → a ≡ true → b ≡ true
-any_from_not_none a true h t = refl
-any_from_not_none a false h t = let f = h refl in cc
-
 zone_any : (n size each : ℕ) (p : Role → Bool) (zone : List Role) → list_any p zone ≡ false → list_any p (zone_roles n size each zone) ≡ false
 zone_any n size each p zone none =
     any_take p (each * n) (flat_map (role_copies n size) zone) (any_flat p (role_copies n size) zone ∙ within zone none)

@@ -16,14 +16,6 @@ le_ltb a b h = lt_leb (suc a) b (omega arith)
 one_more : (n : ℕ) → 1 + n ≡ suc n
 one_more n = omega arith
 
--- what ascends from a version ascends from each lower one
-pub lower : (k n : ℕ) (xs : List Layout) → ascends k xs ≡ true → n ≤ k → ascends n xs ≡ true
-lower k n [] a h = refl
-lower k n (x ∷ xs) a h =
-    let p = and_parts (nat_lt k x.version) (ascends x.version xs) a in
-    let l : k < x.version = ltb-true k x.version p.0 in
-    and_both (nat_lt n x.version) (ascends x.version xs) (lt-ltb n x.version (omega arith)) p.1
-
 pub from_high : (k v : ℕ) (xs : List Layout) → ascends k xs ≡ true → v ≤ suc k → from reading v xs ≡ xs
 from_high k v [] a h = refl
 from_high k v (x ∷ xs) a h =

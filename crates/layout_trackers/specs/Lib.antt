@@ -1,5 +1,4 @@
 pub mod Entries
 pub mod Least
-pub mod LeastLaws
-pub mod Reaching
 pub mod Trackers
+pub mod TrackersLaws

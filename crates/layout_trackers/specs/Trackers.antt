@@ -3,12 +3,9 @@ use Rattle.std.specs.Prelude.{ℕ, Bool, leb, nat_eq, Option, Some, option_map}
 use Rattle.std.specs.Option.{unwrap_or}
 use Rattle.std.specs.List.{list_any}
 use Rattle.std.specs.Ordering.{nat_cmp}
-use Rattle.std.specs.Cmp.{nat_cmp_total}
 use Rattle.crdt_core.specs.declared.max.Max.{Max}
-use Rattle.crdt_core.specs.Laws.{JoinLaws}
-use Rattle.crdt_core.specs.Orders.{nat_identical}
-use Rattle.crdt_core.specs.Max.{max_join, max_laws}
-use Rattle.crdt_core.specs.Map.{MapOf, map_entries, map_get, map_join, map_single, map_laws}
+use Rattle.crdt_core.specs.Max.{max_join}
+use Rattle.crdt_core.specs.Map.{MapOf, map_entries, map_get, map_join, map_single}
 use Rattle.layout_trackers.specs.declared.trackers.Trackers.{Trackers}
 use Rattle.layout_trackers.specs.declared.which.Which.{Which}
 use Rattle.layout_trackers.specs.declared.which.Which.TheVariants.{Ack, Sync, SyncAck}
@@ -52,13 +49,3 @@ abbrev pub raised : Which → ℕ → ℕ → Trackers → Trackers
 raised Ack node v t = record t { ack = tracker_join t.ack (one node v) }
 raised Sync node v t = record t { sync = tracker_join t.sync (one node v) }
 raised SyncAck node v t = record t { sync_ack = tracker_join t.sync_ack (one node v) }
-
-tracker_laws : JoinLaws tracker_join
-tracker_laws = map_laws nat_cmp_total nat_identical (max_laws nat_cmp_total nat_identical)
-
-pub trackers_laws : JoinLaws trackers_join
-trackers_laws = record {
-  commutative = λ a b i. record { ack = tracker_laws.commutative a.ack b.ack i; sync = tracker_laws.commutative a.sync b.sync i; sync_ack = tracker_laws.commutative a.sync_ack b.sync_ack i };
-  associative = λ a b c i. record { ack = tracker_laws.associative a.ack b.ack c.ack i; sync = tracker_laws.associative a.sync b.sync c.sync i; sync_ack = tracker_laws.associative a.sync_ack b.sync_ack c.sync_ack i };
-  idempotent = λ a i. record { ack = tracker_laws.idempotent a.ack i; sync = tracker_laws.idempotent a.sync i; sync_ack = tracker_laws.idempotent a.sync_ack i };
-}

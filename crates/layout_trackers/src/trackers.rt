@@ -103,7 +103,8 @@ impl Trackers {
 }
 
 impl Crdt for Trackers {
-    ghost use Rattle.layout_trackers.specs.Trackers.{trackers_join, trackers_laws};
+    ghost use Rattle.layout_trackers.specs.Trackers.{trackers_join};
+    ghost use Rattle.layout_trackers.specs.TrackersLaws.{trackers_laws};
 
     ghost join = { trackers_join };
 

@@ -8,7 +8,8 @@ use Rattle.view_model.specs.View.{View, newest, read_version, ack_least}
 use Rattle.control_model.specs.World as control
 use Rattle.control_model.specs.Steps.{Step as Turn, step as turn, run as turn_all}
 use Rattle.control_model.specs.Facts.{read_of}
-use Rattle.control_model.specs.Reached.{IsReached, place_of, reached_step, reached_empty}
+use Rattle.control_model.specs.Reached.{IsReached}
+use Rattle.control_model.proofs.Reaching.{place_of, reached_step, reached_empty}
 use Rattle.version_laws.proofs.Laws.{safe_at}
 use Rattle.layout_roles.specs.declared.role.Role.{Role}
 use Rattle.table_schema.specs.Words.{Words, partition_of}

@@ -8,7 +8,7 @@ use Rattle.crdt_core.specs.Order.{option_join}
 use Rattle.view_model.specs.View.{View, oldest}
 use Rattle.table_schema.specs.Words.{Words, partition_of}
 use Rattle.table_model.specs.Rows.{place, row_at}
-use Rattle.table_model.specs.RowLaws.{place_total}
+use Rattle.table_model.proofs.RowLaws.{place_total}
 use Rattle.cluster_machine.specs.Layouts.{Layouts, is_given}
 use Rattle.cluster_machine.specs.Node.{Item, Node}
 use Rattle.cluster_machine.specs.Rows.{still, called_for, queue_from, accepts, accepts_read, accepts_all, drops, sees}

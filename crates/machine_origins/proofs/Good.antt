@@ -8,11 +8,11 @@ use Rattle.std.proofs.Common.{ap, sym, subst, ◌∙◌}
 use Rattle.std.proofs.lemmas.List.Elements.{All-nil, All-cons, All-filter, All-map, All-weaker}
 use Rattle.std.specs.Cmp.{Equal-is}
 use Rattle.crdt_core.specs.Order.{option_join}
-use Rattle.crdt_core.specs.Orders.{nat_identical, slice_identical}
+use Rattle.crdt_core.specs.IdentityLaws.{nat_identical, slice_identical}
 use Rattle.table_schema.specs.Words.{Words}
 use Rattle.table_schema.specs.Laws.{Same, Laws}
 use Rattle.table_model.specs.Rows.{place_cmp, place, row_cmp, is_at, row_at, merged_in, rows, is_past, range}
-use Rattle.table_model.specs.RowLaws.{place_identical, joins}
+use Rattle.table_model.proofs.RowLaws.{place_identical, joins}
 use Rattle.quorum_model.specs.Quorum.{is_among}
 use Rattle.quorum_model.specs.Answers.{heard, answer_of_other, first_two, first_two_at}
 use Rattle.quorum_model.specs.declared.range.RangeAnswer.{RangeAnswer}

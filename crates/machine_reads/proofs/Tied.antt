@@ -12,7 +12,7 @@ use Rattle.control_model.specs.World as control
 use Rattle.control_model.specs.Steps.{Step as Turn}
 use Rattle.crdt_core.specs.Members.{Has}
 use Rattle.control_model.specs.Facts.{read_of}
-use Rattle.control_model.specs.Reached.{place_of}
+use Rattle.control_model.proofs.Reaching.{place_of}
 use Rattle.version_laws.proofs.Laws.{safe_at}
 use Rattle.layout_roles.specs.declared.role.Role.{Role}
 use Rattle.table_schema.specs.Words.{Words, partition_of}

@@ -1,13 +1,14 @@
 -- What stays when a part of a node changes.
-use Rattle.std.proofs.Common.{◌≡◌, ◌≤◌, ◌<◌, ℕ, zero, suc, Bool, true, false, leb, nat_lt, IsTrue, List, [], ◌∷◌, Option, Some, None, is_some, option_map, ◌&&◌, map, append-nil, refl, ap, sym, subst, ◌∙◌, arith, Result, Ok, Err, IfOk, OnOk, OnErr}
+use Rattle.std.proofs.Common.{◌≡◌, ◌≤◌, ◌<◌, ℕ, zero, suc, Bool, true, false, leb, nat_lt, IsTrue, List, [], ◌∷◌, Option, Some, None, is_some, option_map, ◌&&◌, map, append-nil, refl, ap, sym, subst, ◌∙◌, arith, Result, Ok, Err, IfOk, OnOk}
 use Rattle.std.specs.List.{AllZip, filter, list_all}
 use Rattle.std.specs.Cmp.{nat_cmp_total}
 use Rattle.std.proofs.lemmas.Bool.{le-leb, leb-true}
 use Rattle.std.proofs.Math.Nat.{le_trans}
 use Rattle.layout_roles.specs.declared.layout.Layout.{Layout}
 use Rattle.crdt_core.specs.EntryLaws.{and_parts}
-use Rattle.crdt_core.specs.Orders.{nat_identical}
-use Rattle.crdt_core.specs.Map.{map_get, map_get-decides}
+use Rattle.crdt_core.specs.IdentityLaws.{nat_identical}
+use Rattle.crdt_core.specs.Map.{map_get}
+use Rattle.crdt_core.specs.MapLaws.{map_get-decides}
 use Rattle.layout_trackers.specs.declared.trackers.Trackers.{Trackers}
 use Rattle.layout_trackers.specs.declared.which.Which.{Which}
 use Rattle.layout_trackers.specs.declared.which.Which.TheVariants.{Ack, Sync, SyncAck}
@@ -31,7 +32,7 @@ use Rattle.node_core.specs.declared.node.Node.{Node}
 use Rattle.node_parts.specs.declared.rounds.Moving.{Moving}
 use Rattle.node_parts.specs.declared.rounds.Rounds.{Rounds}
 use Rattle.node_parts.specs.Rounds.{IsOpen, IsMoving, AreRounds}
-use Rattle.node_core.specs.Stands.{HasVersion, StandsFor, StandsApart, StandsButView, Done}
+use Rattle.node_core.specs.Stands.{HasVersion, StandsFor, StandsButView, Done}
 use Rattle.node_parts.specs.declared.packet.Envelope.{Envelope}
 use Rattle.node_parts.specs.Posts.{Posts, posted}
 
@@ -42,10 +43,6 @@ ok_to (Err e) p f = tt
 pub ok_all : {A E : Type 0} {P Q : A → Type 0} → (r : Result A E) → IfOk r P → ((a : A) → P a → Q a) → IfOk r Q
 ok_all (Ok a) p f = f a p
 ok_all (Err e) p f = tt
-
-pub err_to : {A E P Q : Type 0} → (r : Result A E) → OnErr r P → (P → Q) → OnErr r Q
-err_to (Ok a) p f = tt
-err_to (Err e) p f = f p
 
 -- contents have nothing to do with the view, the requests and the rounds
 pub same_contents : {S R : Type 0} {join : R → R → R} {s : Words R} {c : Contents S R} (x : Model R Layout) (v : View Layout) (calls : List (Opened R)) (round : Option Moved) (rounds : ℕ) →
@@ -65,13 +62,6 @@ version_kept v t (c ∷ cs) h = h
 pub open_some : {id : ℕ} (m : Moving) (round : Option Moved) → IsOpen id (Some m) round → (r : Moved) × (round ≡ Some r) × IsMoving id m r
 open_some m None is = absurd is
 open_some m (Some r) is = (r, refl, is)
-
-pub open_none : (id : ℕ) (round : Option Moved) → IsOpen id None round → round ≡ None
-open_none id None is = refl
-open_none id (Some r) is = absurd is
-
-pub apart : {S R : Type 0} {join : R → R → R} {s : Words R} {c : Node S R} {id : ℕ} {x : Model R Layout} → StandsFor join s c id x → StandsApart join s c id x
-apart is = record { id_is = is.id_is; view = is.view; contents = is.contents; calls = is.calls; begun = is.rounds.begun; has_version = is.has_version }
 
 -- ---- a view without a version and without an entry
 

@@ -11,7 +11,7 @@ use Rattle.layout_roles.specs.declared.layout.Layout.{Layout}
 use Rattle.table_schema.specs.Words.{Words}
 use Rattle.table_schema.specs.Laws.{Laws}
 use Rattle.table_model.specs.Rows.{AllProper, place, is_at, row_at, rows, merged_in, find_row, change_of}
-use Rattle.table_model.specs.RowLaws.{place_total, row_found}
+use Rattle.table_model.proofs.RowLaws.{place_total, row_found}
 use Rattle.cluster_machine.specs.Node.{Node, Item as Waiting}
 use Rattle.cluster_machine.specs.Phases.{is_spelled}
 use Rattle.cluster_machine.specs.Rows.{accepts, accepts_read, accepts_all, called_for, block_of, blocks_after, queue_from}

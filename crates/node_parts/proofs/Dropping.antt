@@ -10,7 +10,7 @@ use Rattle.view_model.specs.View.{View}
 use Rattle.table_schema.specs.Words.{Words, partition_at, partition_of}
 use Rattle.table_schema.specs.Laws.{Laws}
 use Rattle.table_model.specs.Rows.{AllProper, rows, without}
-use Rattle.table_model.specs.RowLaws.{rows_filter, rows_proper}
+use Rattle.table_model.proofs.RowLaws.{rows_filter, rows_proper}
 use Rattle.cluster_machine.specs.Node.{Node}
 use Rattle.cluster_machine.specs.Layouts.{is_given, layouts}
 use Rattle.cluster_machine.specs.Rows.{drops}

@@ -84,9 +84,6 @@ module _ {R : Type 0} (join : R → R → R) (s : Words R) where
   abbrev pub PushesSoFar : Sender → List R → Layout → Layout → List (Envelope R) → List (Envelope R) → List (ℕ × List ℕ) → ℕ → Type 0
   PushesSoFar sender table here there old new parts p = (x : Node R Layout) → Sends join s sender table x → SoFar sender here there old new parts p x
 
-  pub at_first : (sender : Sender) (table : List R) (here there : Layout) (out : List (Envelope R)) → PushesSoFar sender table here there out out [] 0
-  at_first sender table here there out x sends = record { posts = refl; parts_are = refl; spelled = refl }
-
   -- the next part comes first of those ahead
   ahead_is : (here : Layout) (p : ℕ) (set : List ℕ) → slice_get here.sets.sets p ≡ Some set → numbered_from p (drop p here.sets.sets) ≡ record { partition = p; set = set } ∷ numbered_from (suc p) (drop (suc p) here.sets.sets)
   ahead_is here p set at =

@@ -17,7 +17,7 @@ use Rattle.std.proofs.lemmas.Map.{NonePasses, none_passes_from_lookup}
 use Rattle.std.proofs.lemmas.Map.Entries.{none_past_head, lookup_tail}
 use Rattle.std.proofs.lemmas.Map.Keys.{sorted_tail, IsDistinct-from_sorted}
 use Rattle.std.proofs.lemmas.Option.{same_Some}
-use Rattle.crdt_core.specs.Orders.{nat_identical}
+use Rattle.crdt_core.specs.IdentityLaws.{nat_identical}
 use Rattle.cluster_machine.specs.Node.{Call as Opened}
 use Rattle.cluster_machine.specs.Phases.{call_at, with_call, without_call}
 use Rattle.cluster_machine.specs.Step.{requests_of}

@@ -7,22 +7,27 @@ use Rattle.std.specs.Cmp.{ranked, tied_itself}
 use Rattle.std.proofs.lemmas.List.Elements.{All-nil, All-cons, All-contains, All-weaker}
 use Rattle.crdt_core.specs.Lex.{by_order, larger}
 use Rattle.crdt_core.specs.Order.{AtMost, option_join}
-use Rattle.crdt_core.specs.OrderLaws.{order_laws, option_laws, least_upper_bound, at_most_some}
+use Rattle.crdt_core.specs.OrderLaws.{option_laws}
+use Rattle.crdt_core.proofs.JoinOrder.{order_laws, least_upper_bound, at_most_some}
 use Rattle.crdt_core.specs.Map.{map_entries}
 use Rattle.crdt_rows.specs.declared.version.Version.{Version}
 use Rattle.crdt_rows.specs.declared.object_row.ObjectRow.{ObjectRow}
 use Rattle.crdt_rows.specs.declared.any_row.AnyRow.{AnyRow}
 use Rattle.crdt_rows.specs.declared.any_row.AnyRow.TheVariants as rows
-use Rattle.crdt_rows.specs.AnyRow.{any_join, any_laws}
-use Rattle.crdt_rows.specs.Newest.{later, newest_final}
-use Rattle.crdt_rows.specs.ObjectRow.{newest, state_at, join-newest}
+use Rattle.crdt_rows.specs.AnyRow.{any_join}
+use Rattle.crdt_rows.specs.RowLaws.{any_laws}
+use Rattle.crdt_rows.specs.Newest.{later}
+use Rattle.crdt_rows.proofs.NewestKeys.{newest_final}
+use Rattle.crdt_rows.specs.ObjectRow.{newest, state_at}
+use Rattle.crdt_rows.proofs.ObjectJoin.{join-newest}
 use Rattle.crdt_rows.specs.State.{is_complete}
-use Rattle.crdt_rows.specs.Version.{version_cmp, version_total, version_identical}
-use Rattle.row_codec.specs.Numbers.{some_is}
+use Rattle.crdt_rows.specs.Version.{version_cmp}
+use Rattle.crdt_rows.specs.FieldLaws.{version_total, version_identical}
+use Rattle.row_codec.specs.NumberLaws.{some_is}
 use Rattle.table_schema.specs.Laws.{Same}
 use Rattle.object_schema.specs.Schema.{words}
 use Rattle.table_model.specs.Rows.{AllProper, is_at, row_at}
-use Rattle.table_model.specs.RowLaws.{place_total}
+use Rattle.table_model.proofs.RowLaws.{place_total}
 use Rattle.cluster_machine.specs.Kept.{IsOver}
 use Rattle.object_model.specs.Object.{Name, row_key, object, inline, of_state, of_version, newest_of}
 use Rattle.object_model.specs.Run.{Draw}

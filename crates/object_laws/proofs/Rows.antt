@@ -18,10 +18,13 @@ use Rattle.crdt_rows.specs.declared.object_row.ObjectRow.{ObjectRow}
 use Rattle.crdt_rows.specs.declared.any_row.AnyRow.{AnyRow}
 use Rattle.crdt_rows.specs.declared.any_row.AnyRow.TheVariants as rows
 use Rattle.crdt_rows.specs.AnyRow.{any_join}
-use Rattle.crdt_rows.specs.ObjectRow.{object_key, object_key_cmp, key_total, newest, state_at, object_join, join-state, join-bucket, join-key}
+use Rattle.crdt_rows.specs.ObjectRow.{object_key, object_key_cmp, newest, state_at, object_join}
+use Rattle.crdt_rows.specs.ObjectRowLaws.{key_total}
+use Rattle.crdt_rows.proofs.ObjectJoin.{join-state, join-bucket, join-key}
 use Rattle.crdt_rows.specs.State.{state_cmp}
-use Rattle.crdt_rows.specs.Version.{version_cmp, version_identical}
-use Rattle.row_codec.specs.Numbers.{some_is}
+use Rattle.crdt_rows.specs.Version.{version_cmp}
+use Rattle.crdt_rows.specs.FieldLaws.{version_identical}
+use Rattle.row_codec.specs.NumberLaws.{some_is}
 use Rattle.table_schema.specs.Laws.{Same}
 use Rattle.object_schema.specs.Laws.{schema_laws}
 use Rattle.object_schema.specs.Schema.{words}

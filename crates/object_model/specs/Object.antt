@@ -1,5 +1,5 @@
 -- The row of an object, and what a row says of its newest version.
-use Rattle.std.specs.Prelude.{◌≡◌, ℕ, ◌==◌, Bool, true, Option, Some, None, List, [], ◌∷◌, ◌++◌, length, refl}
+use Rattle.std.specs.Prelude.{◌≡◌, ℕ, ◌==◌, true, Option, Some, None, List, [], ◌∷◌, ◌++◌, length, refl}
 use Rattle.std.proofs.Common.{rules}
 use Rattle.std.specs.Cmp.{tied_itself}
 use Rattle.md5.specs.Md5.{md5}
@@ -14,7 +14,7 @@ use Rattle.crdt_rows.specs.declared.object_row.ObjectRow.{ObjectRow}
 use Rattle.crdt_rows.specs.declared.any_row.AnyRow.{AnyRow}
 use Rattle.crdt_rows.specs.declared.any_row.AnyRow.TheVariants as rows
 use Rattle.crdt_rows.specs.ObjectRow.{newest, state_at}
-use Rattle.crdt_rows.specs.Version.{version_total}
+use Rattle.crdt_rows.specs.FieldLaws.{version_total}
 use Rattle.crdt_rows.specs.Versions.{is_settled_row, is_sized_row, greatest_ts as greatest_of}
 
 -- an object's bucket and key
@@ -34,12 +34,15 @@ meta_of bytes = record { size = length bytes; etag = md5 bytes; headers = [] }
 abbrev pub state_of : List ℕ → State
 state_of bytes = Complete (Inline (meta_of bytes) bytes)
 
+-- Two laws that the next definition needs, and what they stand on: a number is itself.
 same_number : (n : ℕ) → (n == n) ≡ true
 same_number n = search rules
 
+-- one version alone is settled
 pub settled : (version : Version) (bytes : List ℕ) → is_settled_row ((version, record { 0 = state_of bytes }) ∷ []) ≡ true
 settled version bytes = rw (tied_itself version_total version) refl
 
+-- and as long as its size says
 pub sized : (version : Version) (bytes : List ℕ) → is_sized_row ((version, record { 0 = state_of bytes }) ∷ []) ≡ true
 sized version bytes = rw (same_number (length bytes)) refl
 

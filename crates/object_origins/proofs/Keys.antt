@@ -8,7 +8,7 @@ use Rattle.crdt_rows.specs.declared.any_row.AnyRow.TheVariants as rows
 use Rattle.crdt_rows.specs.ObjectRow.{object_key}
 use Rattle.crdt_rows.specs.RefRow.{ref_key}
 use Rattle.row_codec.specs.Range.{is_hash, is_eight}
-use Rattle.row_codec.specs.Numbers.{block_length}
+use Rattle.row_codec.specs.NumberLaws.{block_length}
 use Rattle.row_codec.specs.Spelling.{eight}
 use Rattle.table_schema.specs.Laws.{Same}
 use Rattle.object_schema.specs.Schema.{words}

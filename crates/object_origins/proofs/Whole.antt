@@ -9,7 +9,8 @@ use Rattle.crdt_rows.specs.declared.version_row.BlockRef.{BlockRef}
 use Rattle.crdt_rows.specs.declared.version_row.VersionRow.{VersionRow}
 use Rattle.crdt_rows.specs.declared.any_row.AnyRow.{AnyRow}
 use Rattle.crdt_rows.specs.declared.any_row.AnyRow.TheVariants as rows
-use Rattle.crdt_rows.specs.VersionRow.{block_ref_cmp, block_ref_total, block_at, is_deleted, version_row_join}
+use Rattle.crdt_rows.specs.VersionRow.{block_ref_cmp, block_at, is_deleted, version_row_join}
+use Rattle.crdt_rows.specs.FieldLaws.{block_ref_total}
 use Rattle.crdt_rows.specs.Facts.{HasBlock, IsBlockJoin}
 use Rattle.object_origins.specs.Shown.{KeepsBlock, BlockWasStored, HasOneBlockAtEach, ShowsVersion}
 use Rattle.object_origins.proofs.Shown.{undeleted}

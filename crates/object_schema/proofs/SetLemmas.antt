@@ -1,6 +1,5 @@
 -- Sets of values as loops make them.
-use Rattle.std.proofs.Common.{◌≡◌, ℕ, ◌+◌, ◌<◌, ◌≤◌, Bool, true, false, List, [], ◌∷◌, ◌++◌, length, drop, get_or, map, refl, sym, ap, ◌∙◌}
-use Rattle.std.proofs.lemmas.List.{drop_more, drop_all}
+use Rattle.std.proofs.Common.{◌≡◌, ◌+◌, List, [], ◌∷◌, ◌++◌, map, refl, sym, ap, ◌∙◌}
 use Rattle.std.specs.declared.cmp.Ordering.{Ordering}
 use Rattle.std.specs.declared.cmp.Ordering.TheVariants.{Less, Equal, Greater}
 use Rattle.std.specs.declared.cmp.Ord as ord
@@ -19,7 +18,8 @@ use Rattle.crdt_rows.specs.declared.version_row.BlockRef.{BlockRef}
 use Rattle.crdt_rows.specs.declared.any_row.AnyRow.{AnyRow}
 use Rattle.row_codec.specs.Built.{BlockMap}
 use Rattle.crdt_core.specs.Entries.{merged}
-use Rattle.crdt_core.specs.Map.{map_entries, map_join, map_single, map_join-entries}
+use Rattle.crdt_core.specs.Map.{map_entries, map_join, map_single}
+use Rattle.crdt_core.specs.MapLaws.{map_join-entries}
 use Rattle.crdt_rows.specs.declared.version.Version.{Version}
 use Rattle.crdt_rows.specs.declared.state.State.{State}
 use Rattle.blake2_hash.specs.Hash.{hash_cmp}
@@ -48,38 +48,6 @@ module _ {K : Type 0} (R : K → K → Ordering) where
   pub with_values-append : (xs ks ls : List K) → with_values R xs (ks ++ ls) ≡ with_values R (with_values R xs ks) ls
   with_values-append xs [] ls = refl
   with_values-append xs (k ∷ ks) ls = with_values-append (with_value R k xs) ks ls
-
--- ---- the versions that pass a test
-
-module _ (test : Version × Max State → Bool) where
-  one_by : (x : Version × Max State) (es : List (Version × Max State)) (b : Bool) → test x ≡ b → versions_that test (x ∷ es) ≡ versions_that test (x ∷ []) ++ versions_that test es
-  one_by x es true p = rw p refl
-  one_by x es false p = rw p refl
-
-  pub version_more : (es : List (Version × Max State)) (i : ℕ) (x : Version × Max State) (old new total : List Version) → i < length es → x ≡ get_or es i x → new ≡ with_values version_cmp old (versions_that test (x ∷ [])) → with_values version_cmp old (versions_that test (drop i es)) ≡ total → with_values version_cmp new (versions_that test (drop (i + 1) es)) ≡ total
-  version_more es i x old new total lt is put so_far =
-      let rest = drop (i + 1) es in
-      let front : drop i es ≡ x ∷ rest = drop_more es i x lt ∙ ap (λ (y : Version × Max State). y ∷ rest) (sym is) in
-      ap (λ (ks : List Version). with_values version_cmp ks (versions_that test rest)) put
-      ∙ (sym (with_values-append version_cmp old (versions_that test (x ∷ [])) (versions_that test rest))
-      ∙ (ap (with_values version_cmp old) (sym (one_by x rest (test x) refl))
-      ∙ (ap (λ (fs : List (Version × Max State)). with_values version_cmp old (versions_that test fs)) (sym front) ∙ so_far)))
-
-  pub version_done : (es : List (Version × Max State)) (i : ℕ) (old total : List Version) → length es ≤ i → with_values version_cmp old (versions_that test (drop i es)) ≡ total → old ≡ total
-  version_done es i old total le so_far = ap (λ (fs : List (Version × Max State)). with_values version_cmp old (versions_that test fs)) (sym (drop_all i es le)) ∙ so_far
-
--- ---- values made of entries
-
-module _ {E K : Type 0} (R : K → K → Ordering) (f : E → K) where
-  pub value_more : (es : List E) (i : ℕ) (x : E) (old new total : List K) → i < length es → x ≡ get_or es i x → new ≡ with_value R (f x) old → with_values R old (map f (drop i es)) ≡ total → with_values R new (map f (drop (i + 1) es)) ≡ total
-  value_more es i x old new total lt is put so_far =
-      let rest = drop (i + 1) es in
-      let front : drop i es ≡ x ∷ rest = drop_more es i x lt ∙ ap (λ (y : E). y ∷ rest) (sym is) in
-      ap (λ (ks : List K). with_values R ks (map f rest)) put
-      ∙ (ap (λ (fs : List E). with_values R old (map f fs)) (sym front) ∙ so_far)
-
-  pub value_done : (es : List E) (i : ℕ) (old total : List K) → length es ≤ i → with_values R old (map f (drop i es)) ≡ total → old ≡ total
-  value_done es i old total le so_far = ap (λ (fs : List E). with_values R old (map f fs)) (sym (drop_all i es le)) ∙ so_far
 
 -- what is made of the keys
 pub map_keys : {K V Y : Type 0} (f : K → Y) (es : List (K × V)) → map (λ e. f e.0) es ≡ map f (map (λ e. e.0) es)

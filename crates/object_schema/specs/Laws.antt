@@ -1,3 +1,4 @@
+-- Laws that impls cite; what is defined here serves their proofs alone.
 -- What the schema keeps.
 use Rattle.std.proofs.Common.{◌≡◌, ℕ, zero, suc, ◌<◌, ◌≤◌, Bool, true, false, ◌⊎◌, inl, inr, List, [], ◌∷◌, ◌++◌, length, take, drop, map, Option, Some, None, refl, sym, ap, subst, ◌∙◌, add-one, arith, lit<, lit≤}
 use Rattle.std.specs.Prelude.{◌||◌, slice_index, slice_index_or}
@@ -26,10 +27,12 @@ use Rattle.crdt_rows.specs.Settled.{settled_join}
 use Rattle.crdt_rows.specs.State.{is_complete, is_sized, state_cmp}
 use Rattle.crdt_rows.specs.ObjectRow.{object_key, object_key_cmp, object_join}
 use Rattle.crdt_rows.specs.VersionRow.{block_ref_cmp, version_row_join}
-use Rattle.crdt_rows.specs.RefRow.{ref_key, ref_key_cmp, ref_row_join, key_total}
+use Rattle.crdt_rows.specs.RefRow.{ref_key, ref_key_cmp, ref_row_join}
+use Rattle.crdt_rows.specs.RowLaws.{key_total}
 use Rattle.row_codec.specs.Range.{is_hash, is_eight, in_range}
-use Rattle.row_codec.specs.Numbers.{block_length, block_bytes, bytes_each, eight_reads, some_is}
-use Rattle.row_codec.specs.Rows.{spelling, reads_back, read_takes}
+use Rattle.row_codec.specs.NumberLaws.{block_length, block_bytes, bytes_each, eight_reads, some_is}
+use Rattle.row_codec.specs.Rows.{spelling}
+use Rattle.row_codec.specs.RowLaws.{reads_back, read_takes}
 use Rattle.row_codec.specs.Reading.{eight_at}
 use Rattle.row_codec.specs.Spelling.{eight}
 use Rattle.table_schema.specs.Laws.{Same, Laws}

@@ -3,3 +3,4 @@ pub mod Names
 pub mod Schema
 pub mod Sets
 pub mod Triggers
+pub mod NameLaws

@@ -1,6 +1,6 @@
 //! A block's hash as a value in a set.
 ghost use Rattle.std.specs.Prelude.{◌≡◌};
-ghost use Rattle.object_schema.specs.Names.{name_identical};
+ghost use Rattle.object_schema.specs.NameLaws.{name_identical};
 
 use blake2_hash::Hash32;
 use crdt_core::{Memory, Value};

@@ -45,10 +45,6 @@ w5 = run plane w4 (all_moves completed)
 abbrev w6 : W
 w6 = run plane w5 (all_moves cleaned)
 
--- the members of the sets
-in_1 : (x y : ℕ) → Contains (x ∷ y ∷ []) x
-in_1 x y = contains_here x (y ∷ [])
-
 first_in : (a b c : ℕ) → Contains (a ∷ b ∷ c ∷ []) a
 first_in a b c = contains_here a (b ∷ c ∷ [])
 
@@ -57,9 +53,6 @@ second_in a b c = contains_there a (b ∷ c ∷ []) b (contains_here b (c ∷ []
 
 third_in : (a b c : ℕ) → Contains (a ∷ b ∷ c ∷ []) c
 third_in a b c = contains_there a (b ∷ c ∷ []) c (contains_there b (c ∷ []) c (contains_here c []))
-
-le_11 : 1 ≤ 1
-le_11 = omega arith
 
 stores_at : (w : W) (n : ℕ) → Contains w.stores put_row → 1 ≤ plane.control.newest w.control n → plane.control.oldest w.control n ≤ 1 → Contains (plane.control.set w.control 1 1) n → MayStore plane w put_row n
 stores_at w n began newest oldest given = record { began = began; knows = newest; gives = record { version = 1; stores = record { from_oldest = oldest; to_newest = newest }; given = given } }

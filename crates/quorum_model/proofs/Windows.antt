@@ -9,7 +9,8 @@ use Rattle.std.specs.declared.cmp.Ordering.{Ordering}
 use Rattle.std.specs.declared.cmp.Ordering.TheVariants.{Less, Equal, Greater}
 use Rattle.crdt_core.specs.Lex.{by_order}
 use Rattle.crdt_core.specs.Order.{option_join}
-use Rattle.crdt_core.specs.Orders.{Identifies, slice_identical, nat_identical}
+use Rattle.crdt_core.specs.Orders.{Identifies}
+use Rattle.crdt_core.specs.IdentityLaws.{slice_identical, nat_identical}
 use Rattle.crdt_core.specs.Entries.{is_below, is_ascending, value_at, merged}
 use Rattle.crdt_core.specs.EntryLaws.{less_is, and_parts, and_both, ascending_merged, value_at-merged, below_lower, below_same, below_none}
 use Rattle.table_schema.specs.Words.{Words}

@@ -26,7 +26,3 @@ first_two_at nodes answers a =
 -- two answers to a read phase, merged. A node without the row answers none
 abbrev pub merged : {R : Type 0} → (R → R → R) → Option R × Option R → Option R
 merged join two = option_join join two.0 two.1
-
--- the value of a read phase
-abbrev pub value_of : {R : Type 0} → (R → R → R) → List (ℕ × Option R) → Option (Option R)
-value_of join answers = option_map (merged join) (first_two answers)

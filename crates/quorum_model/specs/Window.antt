@@ -7,7 +7,6 @@ use Rattle.std.specs.Cmp.Lexicographic.{slice_cmp}
 use Rattle.crdt_core.specs.Entries.{merged, is_ascending, value_at}
 use Rattle.table_schema.specs.Words.{Words}
 use Rattle.quorum_model.specs.declared.range.RangeAnswer.{RangeAnswer}
-use Rattle.quorum_model.specs.Answers.{first_two}
 
 -- what a range phase gives: the rows up to the window's end. No end where there are no more rows
 pub record Window (R : Type 0) : Type 0 where
@@ -79,10 +78,6 @@ module _ {R : Type 0} (join : R → R → R) (s : Words R) where
     rows = rows_within (end_of s two) (both_rows two);
     end = option_map after_position (end_of s two);
   }
-
-  -- what a range phase gives
-  abbrev pub window_of : List (ℕ × RangeAnswer R) → Option (Window R)
-  window_of answers = option_map window (first_two answers)
 
 -- a window's end as the end of whole row keys
 abbrev pub end_key : List ℕ → Option (List ℕ) → Option (List ℕ)

@@ -7,7 +7,7 @@ use Rattle.std.proofs.lemmas.Cmp.{nat_list_cmp_total}
 use Rattle.std.specs.declared.cmp.Ordering.{Ordering}
 use Rattle.std.specs.declared.cmp.Ordering.TheVariants.{Less, Equal, Greater}
 use Rattle.std.specs.Ordering.{is_lt}
-use Rattle.crdt_core.specs.Lex.{turned}
+use Rattle.crdt_core.specs.LexLaws.{turned}
 use Rattle.crdt_core.specs.EntryLaws.{and_parts}
 use Rattle.quorum_model.specs.Window.{key_cmp, nearer, is_within}
 

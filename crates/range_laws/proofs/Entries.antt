@@ -6,13 +6,13 @@ use Rattle.std.proofs.lemmas.Cmp.{nat_list_cmp_total}
 use Rattle.std.specs.declared.cmp.Ordering.{Ordering}
 use Rattle.std.specs.declared.cmp.Ordering.TheVariants.{Less, Equal, Greater}
 use Rattle.std.specs.Ordering.{is_lt}
-use Rattle.crdt_core.specs.Orders.{nat_identical, slice_identical}
+use Rattle.crdt_core.specs.IdentityLaws.{nat_identical, slice_identical}
 use Rattle.crdt_core.specs.Entries.{is_below, is_ascending, value_at, merged}
 use Rattle.crdt_core.specs.EntryLaws.{less_is, and_parts, and_both}
 use Rattle.table_schema.specs.Words.{Words}
 use Rattle.table_schema.specs.Laws.{Same, Laws}
 use Rattle.table_model.specs.Rows.{place_cmp, place, find_row}
-use Rattle.table_model.specs.RowLaws.{Above, Ascends}
+use Rattle.table_model.proofs.RowLaws.{Above, Ascends}
 use Rattle.quorum_model.specs.Window.{key_cmp, keyed}
 
 -- a row of the object table beside its key

@@ -5,10 +5,10 @@ use Rattle.std.proofs.lemmas.List.Elements.{All-head, All-tail}
 use Rattle.std.specs.declared.cmp.Ordering.{Ordering}
 use Rattle.std.specs.declared.cmp.Ordering.TheVariants.{Less, Equal, Greater}
 use Rattle.std.specs.Ordering.{is_lt}
-use Rattle.crdt_core.specs.Lex.{turned}
+use Rattle.crdt_core.specs.LexLaws.{turned}
 use Rattle.table_schema.specs.Words.{Words}
 use Rattle.table_model.specs.Rows.{place_cmp, place, is_at, find_row}
-use Rattle.table_model.specs.RowLaws.{place_total, Above, Ascends, above_lower, above_filter, none_above}
+use Rattle.table_model.proofs.RowLaws.{place_total, Above, Ascends, above_lower, above_filter, none_above}
 use Rattle.quorum_model.specs.Window.{last_of}
 
 -- ---- a filter that keeps what is sought

@@ -16,7 +16,7 @@ use Rattle.crdt_core.specs.EntryLaws.{and_parts, and_both, ascending_merged, val
 use Rattle.table_schema.specs.Words.{Words}
 use Rattle.table_schema.specs.Laws.{Laws}
 use Rattle.table_model.specs.Rows.{place_cmp, place, is_at, is_past, AllProper, row_at, rows, find_row}
-use Rattle.table_model.specs.RowLaws.{place_identical, Ascends, row_found, rows_ascend, rows_proper}
+use Rattle.table_model.proofs.RowLaws.{place_identical, Ascends, row_found, rows_ascend, rows_proper}
 use Rattle.quorum_model.specs.Window.{key_cmp, keyed, last_of, nearer, shown_to, is_within, rows_within, after_position, end_of, end_key, IsNamed}
 use Rattle.range_laws.specs.Scans.{answer, window_between}
 use Rattle.range_laws.proofs.Fronts.{find_filter, last_from, last_is, last_has, ascends_filter, ascends_take, front}

@@ -6,7 +6,7 @@ use Rattle.std.proofs.lemmas.List.{drop_all, take_rest, reverse-append}
 use Rattle.std.specs.declared.cmp.Ordering.{Ordering}
 use Rattle.std.specs.declared.cmp.Ordering.TheVariants.{Less, Equal, Greater}
 use Rattle.crdt_core.specs.Lex.{by_order}
-use Rattle.crdt_core.specs.Orders.{slice_identical, nat_identical}
+use Rattle.crdt_core.specs.IdentityLaws.{slice_identical, nat_identical}
 use Rattle.crdt_core.specs.Entries.{merged}
 use Rattle.table_schema.specs.Words.{Words}
 use Rattle.quorum_model.specs.Window.{key_cmp, keyed, is_within, rows_within}
@@ -71,17 +71,6 @@ module _ {R : Type 0} where
       next_none xs i key y ys le = rw (drop_all i xs le) refl
 
       module _ (end : Option (List ℕ)) (key : List ℕ) (y : R) (ys : List (List ℕ × R)) (xs : List R) (i : ℕ) where
-        pub apart_kept : (rows : List R) → true ≡ is_within end key → (rows ++ y ∷ []) ++ rows_within end (merged key_cmp join (keyed s (drop i xs)) ys) ≡ rows ++ rows_within end (from_next join s false (drop i xs) key y ys)
-        apart_kept rows e = rw (sym e) (append_assoc rows (y ∷ []) (rows_within end (merged key_cmp join (keyed s (drop i xs)) ys)))
-
-        pub apart_left : (rows : List R) → false ≡ is_within end key → rows ++ rows_within end (merged key_cmp join (keyed s (drop i xs)) ys) ≡ rows ++ rows_within end (from_next join s false (drop i xs) key y ys)
-        apart_left rows e = rw (sym e) refl
-
-        pub met_kept : (rows : List R) (x both : R) → i < length xs → x ≡ get_or xs i x → both ≡ join x y → true ≡ is_within end key →
-            (rows ++ both ∷ []) ++ rows_within end (merged key_cmp join (keyed s (drop (i + 1) xs)) ys) ≡ rows ++ rows_within end (from_next join s true (drop i xs) key y ys)
-        met_kept rows x both lt is joined e =
-            rw (add-one i, cut xs i x lt is, sym e, joined) (append_assoc rows (join x y ∷ []) (rows_within end (merged key_cmp join (keyed s (drop (suc i) xs)) ys)))
-
         pub met_left : (rows : List R) → i < length xs → false ≡ is_within end key →
             rows ++ rows_within end (merged key_cmp join (keyed s (drop (i + 1) xs)) ys) ≡ rows ++ rows_within end (from_next join s true (drop i xs) key y ys)
         met_left rows lt e =

@@ -8,8 +8,10 @@ use Rattle.std.specs.declared.cmp.Ord as ord
 use Rattle.std.specs.declared.cmp.PartialEq as partial_eq
 use Rattle.std.specs.declared.cmp.PartialOrd as partial_ord
 use Rattle.crdt_core.specs.declared.map.Map.{Map}
-use Rattle.crdt_core.specs.Map.{map_entries, map_join, map_single, map_join-entries}
-use Rattle.row_codec.specs.Built.{map_from, map_there}
+use Rattle.crdt_core.specs.Map.{map_entries, map_join, map_single}
+use Rattle.crdt_core.specs.MapLaws.{map_join-entries}
+use Rattle.row_codec.specs.Built.{map_from}
+use Rattle.row_codec.specs.BuiltLaws.{map_there}
 use Rattle.row_codec.specs.Reading.{counted_at, both_at, tested_at}
 use Rattle.row_codec.specs.Rows.{map_at}
 use Rattle.crdt_core.specs.Entries.{is_below, is_ascending, merged}

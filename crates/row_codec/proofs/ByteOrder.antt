@@ -11,7 +11,7 @@ use Rattle.std.proofs.lemmas.Cmp.{ranked}
 use Rattle.std.proofs.lemmas.Nat.{from_be_bytes-to_be_bytes_4, from_be_bytes-to_be_bytes_8}
 use Rattle.crdt_core.specs.EntryLaws.{and_parts}
 use Rattle.row_codec.specs.Reads.{are_bytes, IsBytes}
-use Rattle.row_codec.specs.Numbers.{four_reads, eight_reads}
+use Rattle.row_codec.specs.NumberLaws.{four_reads, eight_reads}
 use Rattle.row_codec.specs.Range.{is_four, is_eight}
 use Rattle.row_codec.specs.Spelling.{four, eight}
 

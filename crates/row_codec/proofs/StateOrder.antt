@@ -8,10 +8,11 @@ use Rattle.crdt_rows.specs.declared.body.Meta.{Meta}
 use Rattle.crdt_rows.specs.declared.body.Body.TheVariants.{Marker, Inline, Blocks}
 use Rattle.crdt_rows.specs.declared.state.State.{State}
 use Rattle.crdt_rows.specs.declared.state.State.TheVariants.{Uploading, Aborted, Complete}
-use Rattle.crdt_rows.specs.Body.{meta_cmp, then_tied}
+use Rattle.crdt_rows.specs.Body.{meta_cmp}
+use Rattle.crdt_rows.specs.BodyLaws.{then_tied}
 use Rattle.crdt_rows.specs.Fields.{list_cmp, header_cmp}
 use Rattle.crdt_rows.specs.State.{state_cmp}
-use Rattle.row_codec.specs.Numbers.{block_length}
+use Rattle.row_codec.specs.NumberLaws.{block_length}
 use Rattle.row_codec.specs.Range.{is_eight, is_block, is_below, is_short_meta, meta_in_range, state_in_range, is_short_state}
 use Rattle.row_codec.specs.Spelling.{eight, field, meta, state}
 use Rattle.row_codec.proofs.ByteOrder.{eight_order, eight_length}

@@ -8,8 +8,10 @@ use Rattle.row_codec.specs.Reads.{are_bytes}
 use Rattle.row_codec.specs.Range.{in_range, has_bytes}
 use Rattle.row_codec.specs.Spelling.{spelled}
 use Rattle.row_codec.specs.Reading.{both_at, tested_at, hash_at, field_at, version_at, max_at, state_at}
-use Rattle.row_codec.specs.Built.{VersionMap, object_parts, object_from, object_there}
-use Rattle.row_codec.specs.Rows.{map_at, object_at, row_at, read, read_spelled}
+use Rattle.row_codec.specs.Built.{VersionMap, object_parts, object_from}
+use Rattle.row_codec.specs.BuiltLaws.{object_there}
+use Rattle.row_codec.specs.Rows.{map_at, object_at, row_at, read}
+use Rattle.row_codec.specs.RowLaws.{read_spelled}
 
 pub object_taken : (bytes : List ℕ) (bucket : Hash32) (after_bucket key after_key : List ℕ) (versions : VersionMap) (rest : List ℕ) (row : ObjectRow)
     → hash_at bytes ≡ Some (bucket, after_bucket) → field_at after_bucket ≡ Some (key, after_key) → map_at version_at (max_at state_at) after_key ≡ Some (versions, rest)

@@ -1,10 +1,12 @@
 pub mod Built
 pub mod Gives
-pub mod Joined
-pub mod Numbers
-pub mod Parts
 pub mod Range
 pub mod Reading
 pub mod Reads
 pub mod Spelling
 pub mod Rows
+pub mod NumberLaws
+pub mod JoinedLaws
+pub mod PartLaws
+pub mod BuiltLaws
+pub mod RowLaws

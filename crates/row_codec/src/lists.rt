@@ -3,8 +3,8 @@ ghost use Rattle.std.specs.Prelude.{◌≡◌, ◌&&◌, ◌++◌, IsTrue, OnOk}
 ghost use Rattle.std.specs.List.{list_all, flat_map};
 ghost use Rattle.crdt_core.specs.Outcomes.{OnlyWant};
 ghost use Rattle.row_codec.specs.Gives.{Gives};
-ghost use Rattle.row_codec.specs.Joined.{both_reads, counted_reads};
-ghost use Rattle.row_codec.specs.Parts.{max_reads};
+ghost use Rattle.row_codec.specs.JoinedLaws.{both_reads, counted_reads};
+ghost use Rattle.row_codec.specs.PartLaws.{max_reads};
 ghost use Rattle.row_codec.specs.Range.{are_short};
 ghost use Rattle.row_codec.specs.Reading.{both_at, each_at, counted_at, max_at};
 ghost use Rattle.row_codec.specs.Spelling.{counted};

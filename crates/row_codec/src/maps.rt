@@ -5,7 +5,8 @@ ghost use Rattle.crdt_core.specs.Outcomes.{OnlyWant};
 ghost use Rattle.crdt_core.specs.Entries.{is_ascending};
 ghost use Rattle.crdt_core.specs.Map.{map_entries};
 ghost use Rattle.row_codec.specs.Range.{are_short, unless_deleted};
-ghost use Rattle.row_codec.specs.Rows.{flag_at, flag_reads, deletable_at, deletable_reads, map_at, map_reads};
+ghost use Rattle.row_codec.specs.Rows.{flag_at, deletable_at, map_at};
+ghost use Rattle.row_codec.specs.RowLaws.{flag_reads, deletable_reads, map_reads};
 ghost use Rattle.row_codec.specs.Spelling.{counted, deletable, flag};
 
 use crate::fault::Fault;

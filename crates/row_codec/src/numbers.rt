@@ -2,8 +2,8 @@
 ghost use Rattle.std.specs.Prelude.{◌≡◌, ◌++◌, true, IsTrue, OnOk};
 ghost use Rattle.crdt_core.specs.Outcomes.{OnlyWant};
 ghost use Rattle.row_codec.specs.Gives.{Gives};
-ghost use Rattle.row_codec.specs.Numbers.{bytes_reads, four_reads, eight_reads, field_reads};
-ghost use Rattle.row_codec.specs.Parts.{hash_reads};
+ghost use Rattle.row_codec.specs.NumberLaws.{bytes_reads, four_reads, eight_reads, field_reads};
+ghost use Rattle.row_codec.specs.PartLaws.{hash_reads};
 ghost use Rattle.row_codec.specs.Range.{is_block, is_four, is_eight, is_hash, is_below};
 ghost use Rattle.row_codec.specs.Reading.{bytes_at, four_at, eight_at, field_at, hash_at};
 ghost use Rattle.row_codec.specs.Reads.{are_bytes};

@@ -1,6 +1,6 @@
 //! The parts of rows.
 ghost use Rattle.std.specs.Prelude.{true};
-ghost use Rattle.row_codec.specs.Parts.{version_reads, part_reads, block_reads, meta_reads, state_reads};
+ghost use Rattle.row_codec.specs.PartLaws.{version_reads, part_reads, block_reads, meta_reads, state_reads};
 ghost use Rattle.row_codec.specs.Range.{version_in_range, part_in_range, block_in_range, meta_in_range, state_in_range, is_short_meta, is_short_state};
 ghost use Rattle.row_codec.specs.Reading.{version_at, part_at, block_at, meta_at, state_at};
 ghost use Rattle.row_codec.specs.Spelling.{version, part, block, meta, state};

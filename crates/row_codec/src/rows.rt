@@ -1,7 +1,8 @@
 //! The rows of the three tables.
 ghost use Rattle.std.specs.Prelude.{true};
 ghost use Rattle.row_codec.specs.Range.{object_in_range, version_row_in_range, ref_in_range, in_range, is_short_object, is_short_version_row, has_bytes};
-ghost use Rattle.row_codec.specs.Rows.{object_at, object_reads, version_row_at, version_row_reads, reference_at, reference_reads, row_at, row_reads};
+ghost use Rattle.row_codec.specs.Rows.{object_at, version_row_at, reference_at, row_at};
+ghost use Rattle.row_codec.specs.RowLaws.{object_reads, version_row_reads, reference_reads, row_reads};
 ghost use Rattle.row_codec.specs.Spelling.{object_row, version_row, reference_row, spelled};
 
 use crate::fault::Fault;

@@ -12,9 +12,6 @@ pub record Reading (input rest : List ℕ) (number : ℕ) (events : List Numbere
   pub bad : (k : ℕ) → IsFirstBad (suc number) (lines_of rest) k → IsFirstBadLine input k
   pub counted : number + length rest ≤ length input
 
-pub reading_none : (input : List ℕ) → Reading input input 0 []
-reading_none input = record { read = λ more h. h; bad = λ k h. h; counted = omega arith }
-
 module _ (input rest line after : List ℕ) (number : ℕ) (old : List Numbered) (h : Reading input rest number old) (cut : lines_of rest ≡ line ∷ lines_of after) where
   read_blank : IsBlank line → (more : List Numbered) → SpellsAll (suc (suc number)) (lines_of after) more → IsSchedule input (old ++ more)
   read_blank blank more k =

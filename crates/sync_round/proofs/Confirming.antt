@@ -10,7 +10,7 @@ use Rattle.std.specs.Cmp.{both_ways, tied_itself, nat_cmp_total, nat_eq_equiv, e
 use Rattle.std.specs.declared.cmp.Ordering.TheVariants.{Equal}
 use borrow.Author.Tests.{eqb-true, eq-eqb}
 use Rattle.std.proofs.lemmas.Option.{same_Some}
-use Rattle.crdt_core.specs.Orders.{nat_identical}
+use Rattle.crdt_core.specs.IdentityLaws.{nat_identical}
 use Rattle.sync_round.proofs.Ordering.{shown}
 use Rattle.quorum_tally.proofs.Confirming.{after_right, new_right}
 use Rattle.std.specs.BTreeMap.{is_at}

@@ -4,11 +4,12 @@ use Rattle.std.proofs.Common.{ap, sym, ◌∙◌, arith}
 use Rattle.std.proofs.lemmas.List.Elements.{All-nil, All-cons, All-weaker, All-contains, All-contains_itself, All-filter, filter_passes, Contains-append_left, Contains-append_right}
 use Rattle.crdt_core.specs.Laws.{JoinLaws}
 use Rattle.crdt_core.specs.Order.{option_join, join_of, SameMembers}
-use Rattle.crdt_core.specs.OrderLaws.{option_laws, join_of-cons, join_of-members}
+use Rattle.crdt_core.specs.OrderLaws.{option_laws}
+use Rattle.crdt_core.proofs.JoinOrder.{join_of-cons, join_of-members}
 use Rattle.table_schema.specs.Words.{Words}
 use Rattle.table_schema.specs.Laws.{Laws}
 use Rattle.table_model.specs.Rows.{is_at, AllProper, row_at, rows, rows_in}
-use Rattle.table_model.specs.RowLaws.{same_rows, rows_ascend, row_found, rows_of_partition}
+use Rattle.table_model.proofs.RowLaws.{same_rows, rows_ascend, row_found, rows_of_partition}
 
 module _ {X : Type 0} (p : X → Bool) where
   first_kept : (x : X) (xs : List X) → p x ≡ true → Contains (filter p (x ∷ xs)) x

@@ -1,4 +1,3 @@
 pub mod Rows
 pub mod Root
 pub mod Top
-pub mod RowLaws

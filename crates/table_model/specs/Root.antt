@@ -1,6 +1,6 @@
 -- The root of a set of pairs (key hash, row hash) with different key hashes, as a function on prefixes.
-use Rattle.std.specs.Prelude.{ℕ, zero, suc, ◌-◌, ◌==◌, nat_eq, List, [], ◌∷◌, ◌++◌, length, filter, flat_map, replicate, slice_index}
-use Rattle.std.specs.List.{range_with_len, starts_with}
+use Rattle.std.specs.Prelude.{ℕ, zero, suc, ◌==◌, List, [], ◌∷◌, ◌++◌, filter, flat_map, replicate, slice_index}
+use Rattle.std.specs.List.{range_with_len}
 
 -- a key hash and a row hash, of 32 bytes each
 abbrev pub Pair : Type 0
@@ -9,10 +9,6 @@ Pair = List ℕ × List ℕ
 -- the pairs whose key hash has this byte at this place
 abbrev pub with_byte : ℕ → ℕ → List Pair → List Pair
 with_byte place byte pairs = filter (λ pair. slice_index pair.0 place == byte) pairs
-
--- the pairs whose key hash begins with the prefix
-abbrev pub with_prefix : List ℕ → List Pair → List Pair
-with_prefix prefix pairs = filter (λ pair. starts_with nat_eq pair.0 prefix) pairs
 
 -- every byte, ascending
 unfoldable pub every_byte : List ℕ
@@ -36,10 +32,6 @@ module _ (hash : List ℕ → List ℕ) where
   value_of (suc left) depth pairs =
       none_leaf_or_node pairs
       (flat_map (λ byte. branch byte (with_byte depth byte pairs) (value_of left (suc depth) (with_byte depth byte pairs))) every_byte)
-
-  -- the value at a prefix
-  abbrev pub value_at : List ℕ → List Pair → List ℕ
-  value_at prefix pairs = value_of (32 - length prefix) (length prefix) (with_prefix prefix pairs)
 
   -- the value at the empty prefix
   abbrev pub root : List Pair → List ℕ

@@ -1,7 +1,7 @@
 -- One table's shelf: what is found in it, what a merge makes of it, and what a partition takes of it.
-use Rattle.std.specs.Prelude.{◌≡◌, ℕ, ◌==◌, Bool, true, false, cond, not, IsTrue, List, [], ◌∷◌, ◌++◌, Option, Some, None, All, Vec, map, filter, find, option_map, refl}
+use Rattle.std.specs.Prelude.{◌≡◌, ℕ, ◌==◌, Bool, true, false, cond, not, IsTrue, List, [], ◌∷◌, Option, Some, None, All, Vec, map, filter, option_map, refl}
 use Rattle.std.proofs.Common.{ap, sym, ◌∙◌}
-use Rattle.std.proofs.lemmas.List.Elements.{All-nil, All-cons, All-head, All-tail, All-weaker}
+use Rattle.std.proofs.lemmas.List.Elements.{All-cons, All-head, All-tail, All-weaker}
 use Rattle.std.specs.List.{AllByRecursion}
 use Rattle.std.specs.List.Sorted.{IsStrictlySortedBy}
 use Rattle.std.proofs.lemmas.Map.Keys.{sorted_head, sorted_tail}
@@ -15,10 +15,10 @@ use Rattle.std.proofs.lemmas.Bool.{eq-eqb}
 use Rattle.std.proofs.lemmas.Cmp.{nat_cmp_total, nat_list_cmp_total, tied_itself}
 use Rattle.std.specs.Cmp.{Equal-is}
 use Rattle.std.proofs.lemmas.Option.{same_Some}
-use Rattle.crdt_core.specs.Orders.{slice_identical, nat_identical}
+use Rattle.crdt_core.specs.IdentityLaws.{slice_identical, nat_identical}
 use Rattle.table_schema.specs.Words.{Words, partition_at, partition_of}
 use Rattle.table_schema.specs.Laws.{Same, Laws}
-use Rattle.table_model.specs.Rows.{row_cmp, place, is_at, merged_in, find_row, is_past, rows_in, without}
+use Rattle.table_model.specs.Rows.{row_cmp, is_at, merged_in, find_row, is_past, rows_in, without}
 use Rattle.table_store.specs.declared.shelf.Placed.{Placed}
 use Rattle.table_store.specs.Shelf.{is_marked, shelf_rows, shelf_find, in_partition, is_after, IsPlaced, AllPlaced, merged_with, vec_cmp}
 

@@ -1,5 +1,5 @@
 -- The three shelves of a table as one list of rows.
-use Rattle.std.specs.Prelude.{◌≡◌, ℕ, zero, suc, ◌+◌, ◌^◌, ◌<◌, ◌≤◌, ◌==◌, Bool, true, false, cond, not, IsTrue, List, [], ◌∷◌, ◌++◌, Option, Some, None, All, Vec, length, map, filter, filter_map, find, slice_set, slice_index_or, refl}
+use Rattle.std.specs.Prelude.{◌≡◌, ℕ, zero, suc, ◌+◌, ◌^◌, ◌<◌, ◌≤◌, ◌==◌, Bool, true, false, cond, not, IsTrue, List, [], ◌∷◌, ◌++◌, Option, Some, None, Vec, length, filter, find, slice_set, slice_index_or, refl}
 use Rattle.std.proofs.Common.{ap, sym, ◌∙◌, append_assoc, append-nil, arith, get_or-set_same, get_or-set_other}
 use Rattle.std.proofs.lemmas.Bool.{eqb-true, eqb-false, ne_eqb, le-ltb}
 use Rattle.std.proofs.lemmas.List.{take_all}
@@ -8,10 +8,10 @@ use Rattle.std.proofs.lemmas.List.Elements.{All-nil, All-cons, All-head, All-tai
 use Rattle.std.specs.declared.cmp.Ordering.{Ordering}
 use Rattle.std.specs.declared.cmp.Ordering.TheVariants.{Less, Equal, Greater}
 use Rattle.std.specs.Ordering.{nat_cmp, is_eq}
-use Rattle.crdt_core.specs.Orders.{nat_identical}
+use Rattle.crdt_core.specs.IdentityLaws.{nat_identical}
 use Rattle.table_schema.specs.Words.{Words, partition_of}
 use Rattle.table_model.specs.Rows.{row_cmp, place, is_at, merged_in, find_row, is_past, range, rows_in, without, live_blocks}
-use Rattle.table_model.specs.RowLaws.{Above}
+use Rattle.table_model.proofs.RowLaws.{Above}
 use Rattle.table_store.specs.declared.shelf.Placed.{Placed}
 use Rattle.table_store.specs.Shelf.{is_marked, shelf_rows, shelf_find, in_partition, is_after, window, IsPlaced, AllPlaced, IsSound}
 use Rattle.table_store.proofs.Shelves.{found_here, found_elsewhere, partition_here, partition_gone, past_here, past_elsewhere}

@@ -8,8 +8,9 @@ use Rattle.std.proofs.lemmas.List.Folds.{find-append}
 use Rattle.layout_trackers.specs.declared.which.Which.{Which}
 use Rattle.layout_trackers.specs.declared.which.Which.TheVariants.{Ack, Sync, SyncAck}
 use Rattle.layout_trackers.specs.Trackers.{entry, is_reached}
-use Rattle.layout_trackers.specs.Entries.{later, IsNotAbove, never_falls, grows_trans, counts-joined, entry-raised, entry-raised_alone, entry-raised_one}
-use Rattle.layout_trackers.specs.Reaching.{reached_by}
+use Rattle.layout_trackers.specs.Entries.{later, IsNotAbove}
+use Rattle.layout_trackers.proofs.EntriesGrow.{never_falls, grows_trans, counts-joined, entry-raised, entry-raised_alone, entry-raised_one}
+use Rattle.layout_trackers.proofs.Reaching.{reached_by}
 use Rattle.view_model.specs.View.{Reading, View, is_gapless, first_version, last_version, from, oldest, newest, layout_at, version_of, members_stored, least_of, have_synced, is_established, read_version, merged, cleaned, appended, with_entry, GrewFrom}
 use Rattle.crdt_core.specs.Members.{two_pass, Has, TwoOf}
 use Rattle.view_model.proofs.Gapless.{at, Stored, lt_leb, led, below_oldest, above_newest, none_at_0, oldest_least, inside, first_is, at_from, gapless_from}

@@ -6,7 +6,7 @@ use Rattle.std.proofs.lemmas.Bool.{eq-eqb, leb-true, leb-false, le-leb}
 use Rattle.std.proofs.lemmas.List.Elements.{filter-append}
 use Rattle.std.proofs.lemmas.List.Folds.{find-append}
 use Rattle.crdt_core.specs.EntryLaws.{and_parts, and_both}
-use Rattle.layout_trackers.specs.Trackers.{trackers_laws}
+use Rattle.layout_trackers.specs.TrackersLaws.{trackers_laws}
 use Rattle.view_model.specs.View.{Reading, View, follow, is_gapless, first_version, last_version, from, oldest, newest, merged, Agree}
 use Rattle.view_model.proofs.Gapless.{at, Stored, lt_leb, followed, led, leads, below_oldest, none_at_0, above_newest, oldest_least, inside, same, first_is, last_is, at_from, from_none, all_from, left_out, gapless_from}
 
@@ -82,10 +82,6 @@ module _ {L : Type 0} (r : Reading L) where
   cond_same : {A : Type 0} (b : Bool) (x : A) → cond b x x ≡ x
   cond_same true x = refl
   cond_same false x = refl
-
-  or_none : (p : Option L) → option_or p None ≡ p
-  or_none None = refl
-  or_none (Some x) = refl
 
   or_stored : (p q : Option L) (x : L) → p ≡ Some x → option_or p q ≡ p
   or_stored None q x e = cc

@@ -10,8 +10,9 @@ use Rattle.layout_trackers.specs.declared.trackers.Trackers.{Trackers}
 use Rattle.layout_trackers.specs.declared.which.Which.{Which}
 use Rattle.layout_trackers.specs.declared.which.Which.TheVariants.{Sync, SyncAck}
 use Rattle.layout_trackers.specs.Trackers.{entry, is_reached}
-use Rattle.layout_trackers.specs.Entries.{Grows, IsNotAbove, joins_grow, raises_grow, never_falls}
-use Rattle.layout_trackers.specs.Reaching.{reached_by}
+use Rattle.layout_trackers.specs.Entries.{Grows, IsNotAbove}
+use Rattle.layout_trackers.proofs.EntriesGrow.{joins_grow, raises_grow, never_falls}
+use Rattle.layout_trackers.proofs.Reaching.{reached_by}
 use Rattle.view_model.specs.View.{Reading, View, greatest, follow, is_gapless, first_version, last_version, oldest, newest, version_of, have_synced, is_established, is_readable, read_version, merged, appended, with_entry, Agree, GrewFrom}
 use Rattle.crdt_core.specs.Members.{two_pass}
 use Rattle.view_model.proofs.Gapless.{at, oldest_least}

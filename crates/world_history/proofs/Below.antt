@@ -1,5 +1,5 @@
 -- Tests of all numbers below one, as a loop makes them.
-use Rattle.std.proofs.Common.{◌≡◌, ℕ, ◌+◌, ◌-◌, ◌<◌, ◌≤◌, Bool, true, false, inl, inr, refl, sym, subst, ◌∙◌, add-one, arith}
+use Rattle.std.proofs.Common.{◌≡◌, ℕ, ◌-◌, ◌<◌, ◌≤◌, Bool, true, false, inl, inr, refl, sym, subst, ◌∙◌, arith}
 use Rattle.std.proofs.lemmas.Bool.{cases_lt}
 use Rattle.std.specs.Bool.{Decides}
 use Rattle.std.proofs.lemmas.Bool.Decides.{Decides-below_or, Decides-below_and}
@@ -14,17 +14,9 @@ module _ (p : ℕ → Bool) (P : ℕ → Type 0) (each : (k : ℕ) → Decides (
   pub all_below-Decides : Decides (all_below p n) ((k : ℕ) → k < n → P k)
   all_below-Decides = Decides-below_and p P (all_below p) each refl (λ m. refl) n
 
--- one more that fails
-pub any_below_more : (p : ℕ → Bool) (n : ℕ) → any_below p n ≡ false → p n ≡ false → any_below p (n + 1) ≡ false
-any_below_more p n before here = rw (add-one, before, here) refl
-
 -- one that passes
 pub any_below_at : (p : ℕ → Bool) (k n : ℕ) → k < n → p k ≡ true → any_below p n ≡ true
 any_below_at p k n lt here = (any_below-Decides p (λ m. p m ≡ true) (λ m. (λ e. e, λ e. e)) n).1 (k, lt, here)
-
--- one more that passes
-pub all_below_more : (p : ℕ → Bool) (n : ℕ) → all_below p n ≡ true → p n ≡ true → all_below p (n + 1) ≡ true
-all_below_more p n before here = rw (add-one, before, here) refl
 
 -- one that fails
 pub all_below_not : (p : ℕ → Bool) (k n : ℕ) → k < n → p k ≡ false → all_below p n ≡ false

@@ -6,9 +6,10 @@ use Rattle.std.specs.Ordering.{is_lt}
 use Rattle.std.proofs.lemmas.Bool.{and_parts, lt-ltb, ltb-true}
 use Rattle.std.proofs.lemmas.Bool.Decides.{same_from_decides}
 use Rattle.std.proofs.lemmas.Slice.Eq.{bytes_eq-Decides}
-use Rattle.crdt_core.specs.Lex.{turned}
+use Rattle.crdt_core.specs.LexLaws.{turned}
 use Rattle.crdt_rows.specs.declared.version.Version.{Version}
-use Rattle.crdt_rows.specs.Version.{version_cmp, version_identical, version_total}
+use Rattle.crdt_rows.specs.Version.{version_cmp}
+use Rattle.crdt_rows.specs.FieldLaws.{version_identical, version_total}
 use Rattle.world_history.specs.declared.record.Kind.{Kind}
 use Rattle.world_history.specs.declared.record.Kind.TheVariants.{Put, Get, Head, Delete, Copy, List as Listing}
 use Rattle.world_history.specs.declared.record.Answer.{Answer}

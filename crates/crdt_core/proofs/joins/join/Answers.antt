@@ -1,7 +1,7 @@
 use Rattle.std.proofs.Common.{◌≡◌, ◌+◌, [], ◌∷◌, ◌++◌, Some, All, take, ap, sym, subst, ◌∙◌}
 use Rattle.std.proofs.lemmas.List.{take_more, take_all}
 use Rattle.crdt_core.specs.Order.{AtMost, option_join, join_of}
-use Rattle.crdt_core.specs.OrderLaws.{join_of-append, members_below}
+use Rattle.crdt_core.proofs.JoinOrder.{join_of-append, members_below}
 use Rattle.crdt_core.proofs.joins.join.Goals as goal
 
 -- one row more joins with those before it

@@ -1,4 +1,4 @@
-use Rattle.crdt_core.specs.OrderLaws.{join_of-members, join_of-append, members_below, join_least}
+use Rattle.crdt_core.proofs.JoinOrder.{join_of-members, join_of-append, members_below, join_least}
 use Rattle.crdt_core.proofs.laws.lists_join.Goals as goal
 
 pub returns : goal.returns

@@ -1,4 +1,5 @@
-use Rattle.crdt_core.specs.Map.{map_get-decides, map_get-join, map_get-put, map_get-put_other, map_get-from}
+use Rattle.crdt_core.specs.MapLaws.{map_get-decides, map_get-join, map_get-from}
+use Rattle.crdt_core.proofs.MapPuts.{map_get-put, map_get-put_other}
 use Rattle.crdt_core.proofs.laws.maps_join_by_key.Goals as goal
 
 pub returns : goal.returns

@@ -1,4 +1,5 @@
-use Rattle.crdt_core.specs.OrderLaws.{order_laws, least_upper_bound, option_laws, none_least}
+use Rattle.crdt_core.specs.OrderLaws.{option_laws}
+use Rattle.crdt_core.proofs.JoinOrder.{order_laws, least_upper_bound, none_least}
 use Rattle.crdt_core.proofs.laws.rows_are_ordered.Goals as goal
 
 pub returns : goal.returns

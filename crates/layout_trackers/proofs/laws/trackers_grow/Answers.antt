@@ -1,4 +1,4 @@
-use Rattle.layout_trackers.specs.Entries.{entry-joined, entry-raised, entry-raised_alone, entry-raised_one, joins_grow, raises_grow, counts-joined}
+use Rattle.layout_trackers.proofs.EntriesGrow.{entry-joined, entry-raised, entry-raised_alone, entry-raised_one, joins_grow, raises_grow, counts-joined}
 use Rattle.layout_trackers.proofs.laws.trackers_grow.Goals as goal
 
 pub returns-clause-joined : goal.returns-clause-joined

@@ -1,5 +1,5 @@
-use Rattle.layout_trackers.specs.LeastLaws.{least_is_one, least_of_some}
-use Rattle.layout_trackers.specs.Reaching.{reached_by}
+use Rattle.layout_trackers.proofs.LeastLaws.{least_is_one, least_of_some}
+use Rattle.layout_trackers.proofs.Reaching.{reached_by}
 use Rattle.layout_trackers.proofs.laws.versions_compare.Goals as goal
 
 pub returns-clause-least_is_one : goal.returns-clause-least_is_one

@@ -1,5 +1,5 @@
 use Rattle.std.proofs.Common.{arith}
-use Rattle.row_codec.specs.Numbers.{bytes_from}
+use Rattle.row_codec.specs.NumberLaws.{bytes_from}
 use Rattle.object_schema.proofs.place.bytes_in_range.Goals as goal
 
 pub returns : goal.returns

@@ -1,4 +1,4 @@
-use Rattle.row_codec.specs.Rows.{read_takes}
+use Rattle.row_codec.specs.RowLaws.{read_takes}
 use Rattle.row_codec.proofs.codec.decode.Goals as goal
 
 pub returns-in-Ok-clause-spelled : goal.returns-in-Ok-clause-spelled

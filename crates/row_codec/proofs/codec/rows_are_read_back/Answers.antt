@@ -1,4 +1,4 @@
-use Rattle.row_codec.specs.Rows.{reads_back}
+use Rattle.row_codec.specs.RowLaws.{reads_back}
 use Rattle.row_codec.proofs.Whole.{none_reads}
 use Rattle.row_codec.proofs.codec.rows_are_read_back.Goals as goal
 

@@ -1,5 +1,5 @@
 use Rattle.std.proofs.Common.{sym, arith}
-use Rattle.row_codec.specs.Numbers.{bytes_from}
+use Rattle.row_codec.specs.NumberLaws.{bytes_from}
 use Rattle.row_codec.proofs.Whole.{read_is}
 use Rattle.row_codec.proofs.codec.whole.Goals as goal
 

@@ -1,5 +1,5 @@
 use Rattle.std.proofs.Common.{arith}
-use Rattle.row_codec.specs.Numbers.{bytes_from}
+use Rattle.row_codec.specs.NumberLaws.{bytes_from}
 use Rattle.row_codec.proofs.numbers.put_bytes.Goals as goal
 
 pub returns-clause-in_range : goal.returns-clause-in_range

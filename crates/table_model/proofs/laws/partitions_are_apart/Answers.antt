@@ -1,4 +1,4 @@
-use Rattle.table_model.specs.RowLaws.{rows_of_partition, rows_without}
+use Rattle.table_model.proofs.RowLaws.{rows_of_partition, rows_without}
 use Rattle.table_model.proofs.laws.partitions_are_apart.Goals as goal
 
 pub returns : goal.returns

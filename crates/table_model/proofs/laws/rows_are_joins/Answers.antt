@@ -1,4 +1,4 @@
-use Rattle.table_model.specs.RowLaws.{row_found, rows_ascend, strictly_sorted, rows_proper}
+use Rattle.table_model.proofs.RowLaws.{row_found, rows_ascend, strictly_sorted, rows_proper}
 use Rattle.table_model.proofs.Members.{row_is_join}
 use Rattle.table_model.proofs.laws.rows_are_joins.Goals as goal
 

@@ -1,6 +1,6 @@
 use Rattle.std.proofs.Common.{arith}
 use Rattle.control_model.specs.World.{empty}
-use Rattle.control_model.specs.Reached.{reached_empty, reached_run}
+use Rattle.control_model.proofs.Reaching.{reached_empty, reached_run}
 use Rattle.version_laws.specs.Example.{plan_reading, applied, acknowledged, synchronized, cleaned_up, after_apply, before_reading, after_reading}
 use Rattle.version_laws.proofs.example.a_version_is_dropped.Goals as goal
 

@@ -1,4 +1,4 @@
-use Rattle.layout_trackers.specs.Entries.{joins_grow, raises_grow}
+use Rattle.layout_trackers.proofs.EntriesGrow.{joins_grow, raises_grow}
 use Rattle.view_model.specs.View.{merged, appended, with_entry}
 use Rattle.view_model.proofs.Joins.{gapless_merged}
 use Rattle.view_model.proofs.ReadVersions.{read_grows, merged_grew, merged_grew_other, raised_grew, appended_grew, gapless_appended}

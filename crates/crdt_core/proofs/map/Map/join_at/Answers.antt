@@ -1,6 +1,7 @@
 use Rattle.std.proofs.Common.{◌≡◌, set, refl, sym, ◌∙◌}
 use Rattle.std.proofs.lemmas.List.{set-get_or}
-use Rattle.crdt_core.specs.Map.{map_single, same_map, map_join-entries}
+use Rattle.crdt_core.specs.Map.{map_single}
+use Rattle.crdt_core.specs.MapLaws.{same_map, map_join-entries}
 use Rattle.crdt_core.specs.Places.{IsAt, IsGap}
 use Rattle.crdt_core.proofs.PlaceLemmas.{merged_set, merged_gap, ascending_merged_one, ascending_set, read_some, by_result, on_err}
 use Rattle.crdt_core.proofs.map.Map.join_at.Goals as goal

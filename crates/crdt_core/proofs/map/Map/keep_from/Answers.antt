@@ -1,6 +1,6 @@
 use Rattle.std.proofs.Common.{◌≡◌, drop, sym, ◌∙◌}
 use Rattle.crdt_core.specs.Entries.{entries_from}
-use Rattle.crdt_core.specs.Map.{same_map, map_from-entries}
+use Rattle.crdt_core.specs.MapLaws.{same_map, map_from-entries}
 use Rattle.crdt_core.proofs.PlaceLemmas.{from_at, from_gap, ascending_drop}
 use Rattle.crdt_core.proofs.map.Map.keep_from.Goals as goal
 use Rattle.crdt_core.proofs.map.Map.keep_from.Goals.{in-Ok, in-Err}

@@ -1,5 +1,5 @@
 use Rattle.std.proofs.Common.{rules}
-use Rattle.crdt_core.specs.Map.{same_map}
+use Rattle.crdt_core.specs.MapLaws.{same_map}
 use Rattle.crdt_core.proofs.map.MapCrdt.copy.Goals as goal
 
 -- the copy has the same entries

@@ -1,7 +1,8 @@
 use Rattle.std.proofs.Common.{◌≡◌, [], ◌∷◌, OnOk, ap, sym, subst, ◌∙◌}
 use Rattle.crdt_core.specs.Entries.{merged}
 use Rattle.crdt_core.specs.EntryLaws.{ascending_merged}
-use Rattle.crdt_core.specs.Map.{map_join, map_single, same_map, map_join-entries}
+use Rattle.crdt_core.specs.Map.{map_join, map_single}
+use Rattle.crdt_core.specs.MapLaws.{same_map, map_join-entries}
 use Rattle.crdt_core.proofs.Tails.{merged_nil, no_entries, one_entry}
 use Rattle.crdt_core.proofs.map.MapCrdt.merge.Goals as goal
 

@@ -6,7 +6,8 @@ use Rattle.crdt_rows.specs.Settled.{kept_map}
 use Rattle.crdt_rows.specs.State.{state_cmp}
 use Rattle.crdt_rows.specs.Version.{version_cmp}
 use Rattle.crdt_rows.specs.Versions.{is_settled_row, is_sized_row}
-use Rattle.crdt_rows.specs.ObjectRow.{same_row, versions_settled, versions_sized, join-bucket, join-key, join-versions}
+use Rattle.crdt_rows.specs.ObjectRowLaws.{same_row}
+use Rattle.crdt_rows.proofs.ObjectJoin.{versions_settled, versions_sized, join-bucket, join-key, join-versions}
 use Rattle.crdt_rows.proofs.object_row.ObjectRowCrdt.merge.Goals as goal
 
 by_result : {A E P Q C : Type 0} (r : Result A E) → OnOk r P → OnErr r Q → (P → C) → (Q → C) → C

@@ -1,7 +1,8 @@
 use Rattle.std.proofs.Common.{◌≡◌, Result, Ok, Err, OnOk, OnErr, sym, subst}
 use Rattle.layout_trackers.specs.declared.which.Which.TheVariants.{Ack, Sync, SyncAck}
 use Rattle.layout_trackers.specs.Trackers.{Tracker, tracker_join, one}
-use Rattle.layout_trackers.specs.Entries.{Grows, raises_grow, never_falls}
+use Rattle.layout_trackers.specs.Entries.{Grows}
+use Rattle.layout_trackers.proofs.EntriesGrow.{raises_grow, never_falls}
 use Rattle.layout_trackers.proofs.trackers.Trackers.set_own.Goals as goal
 
 -- what holds of the joined tracker and of the old one holds of the new one

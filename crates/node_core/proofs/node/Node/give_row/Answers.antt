@@ -1,6 +1,6 @@
 use Rattle.std.proofs.Common.{◌≡◌, true, [], ◌∷◌, ap, sym, subst, ◌∙◌}
 use Rattle.table_model.specs.Rows.{row_at, find_row}
-use Rattle.table_model.specs.RowLaws.{row_found}
+use Rattle.table_model.proofs.RowLaws.{row_found}
 use Rattle.wire_messages.specs.declared.message.Message.TheVariants.{Row}
 use Rattle.cluster_machine.specs.Layouts.{is_stored, layouts}
 use Rattle.cluster_machine.specs.Phases.{to_each}

@@ -1,3 +1,4 @@
+-- Laws that impls cite; what is defined here serves their proofs alone.
 -- Readers of several values are made of readers of one.
 use Rattle.std.proofs.Common.{◌≡◌, ℕ, zero, suc, Bool, true, List, [], ◌∷◌, ◌++◌, length, Option, Some, refl, sym, ap, subst, ◌∙◌, append_assoc}
 use Rattle.std.specs.Prelude.{◌&&◌}
@@ -7,7 +8,7 @@ use Rattle.row_codec.specs.Reads.{◌>>=◌, IsBytes, Begins, Reads}
 use Rattle.row_codec.specs.Range.{is_below, are_short}
 use Rattle.row_codec.specs.Spelling.{four, counted}
 use Rattle.row_codec.specs.Reading.{four_at, each_at, counted_at, both_at, made_at, tested_at}
-use Rattle.row_codec.specs.Numbers.{bind_some, some_is, bytes_rest, bytes_both, four_bytes, four_reads}
+use Rattle.row_codec.specs.NumberLaws.{bind_some, some_is, bytes_rest, bytes_both, four_bytes, four_reads}
 
 module _ {X Y : Type 0} {P : X → Bool} {Q : Y → Bool} {short_x : X → Bool} {short_y : Y → Bool} {text_x : X → List ℕ} {text_y : Y → List ℕ} {x_at : List ℕ → Option (X × List ℕ)} {y_at : List ℕ → Option (Y × List ℕ)} where
   pub both_reads : Reads P short_x text_x x_at → Reads Q short_y text_y y_at → Reads (λ p. P p.0 && Q p.1) (λ p. short_x p.0 && short_y p.1) (λ p. text_x p.0 ++ text_y p.1) (both_at x_at y_at)

@@ -1,3 +1,4 @@
+-- Laws that impls cite; no definition stands here.
 -- The parts of rows are read as they are spelled.
 use Rattle.std.proofs.Common.{◌≡◌, ℕ, zero, suc, Bool, true, List, [], ◌∷◌, ◌++◌, Option, Some, refl, ap, subst}
 use Rattle.std.specs.Prelude.{◌&&◌}
@@ -10,8 +11,8 @@ use Rattle.row_codec.specs.Reads.{are_bytes, IsBytes, Begins, Reads}
 use Rattle.row_codec.specs.Range.{is_hash, meta_in_range, state_in_range, version_in_range, part_in_range, block_in_range, is_below, is_short_meta, is_short_state}
 use Rattle.row_codec.specs.Spelling.{field, meta, state, version, part, block}
 use Rattle.row_codec.specs.Reading.{field_at, both_at, made_at, hash_at, version_at, part_at, block_at, max_at, meta_at, state_at}
-use Rattle.row_codec.specs.Numbers.{bytes_reads, four_reads, eight_reads, field_reads, bind_some, some_is, byte_rest}
-use Rattle.row_codec.specs.Joined.{both_reads, made_reads, counted_reads}
+use Rattle.row_codec.specs.NumberLaws.{bytes_reads, four_reads, eight_reads, field_reads, bind_some, some_is, byte_rest}
+use Rattle.row_codec.specs.JoinedLaws.{both_reads, made_reads, counted_reads}
 
 pub hash_reads : Reads is_hash (λ h. true) (λ h. h.0) hash_at
 unfolding hash_at

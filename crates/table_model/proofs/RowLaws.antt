@@ -9,8 +9,9 @@ use Rattle.std.specs.declared.cmp.Ordering.TheVariants.{Less, Equal, Greater}
 use Rattle.std.specs.Ordering.{is_eq}
 use Rattle.std.specs.Cmp.{IsTotalOrder}
 use Rattle.std.proofs.lemmas.Cmp.{nat_cmp_total, nat_list_cmp_total, on_total, then_total, tied_back, alike_right}
-use Rattle.crdt_core.specs.Orders.{Identifies, nat_identical, slice_identical, pair_identical}
-use Rattle.crdt_core.specs.Lex.{turned}
+use Rattle.crdt_core.specs.Orders.{Identifies}
+use Rattle.crdt_core.specs.IdentityLaws.{nat_identical, slice_identical, pair_identical}
+use Rattle.crdt_core.specs.LexLaws.{turned}
 use Rattle.crdt_core.specs.Order.{option_join}
 use Rattle.crdt_core.specs.Entries.{is_ascending, is_below, value_at}
 use Rattle.crdt_core.specs.EntryLaws.{and_both, same_entries}

@@ -1,0 +1,3 @@
+pub mod EntriesGrow
+pub mod LeastLaws
+pub mod Reaching
