@@ -28,7 +28,8 @@ use Rattle.crdt_rows.specs.AnyRow.{any_join}
 use Rattle.crdt_rows.specs.Newest.{is_older}
 use Rattle.crdt_rows.specs.State.{state_cmp}
 use Rattle.crdt_rows.specs.Version.{version_cmp}
-use Rattle.crdt_rows.specs.ObjectRow.{object_key, object_key_cmp, key_total, newest, state_at, object_join}
+use Rattle.crdt_rows.specs.ObjectRowLaws.{key_total}
+use Rattle.crdt_rows.specs.ObjectRow.{object_key, object_key_cmp, newest, state_at, object_join}
 use Rattle.crdt_rows.proofs.ObjectJoin.{join-state}
 use Rattle.crdt_rows.specs.VersionRow.{gone, block_in, is_deleted, version_row_join}
 use Rattle.crdt_rows.specs.RefRow.{ref_key, ref_row_join}
