@@ -1,6 +1,6 @@
 //! The bytes of a head, read by `httparse`.
-ghost use Rattle.std.specs.Prelude.{◌≡◌, ◌≤◌, length, map, take, All, IfOk, IfErr};
-ghost use Rattle.crdt_core.specs.declared.memory.Memory.TheVariants.{Want};
+ghost use Rattle.std.specs.Prelude.{◌≡◌, ◌≤◌, length, map, take, All, IfOk};
+ghost use Rattle.crdt_core.specs.Outcomes.{OnlyWant};
 ghost use Rattle.httparse.specs.Spans.{IsRequestWithin, IsHeaderWithin, header_bytes};
 ghost use Rattle.http_wire.specs.Heads.{IsReading, parts_at};
 
@@ -21,7 +21,7 @@ fn headers_at(
 ) -> Result<List<(Bytes, Bytes)>, Memory>
     requires { All (IsHeaderWithin (length front.now)) spans.now }
     ensures headers { IfOk result (λ headers. headers ≡ map (header_bytes front.now) spans.now) }
-    ensures want { IfErr result (λ e. e ≡ Want) }
+    ensures want { OnlyWant result }
 {
     let mut headers = Vec::with_capacity(alloc, spans.len())?;
     for span in spans {
@@ -41,7 +41,7 @@ fn head_at(
 ) -> Result<Head, Memory>
     requires { IsRequestWithin front.now headers.now spans }
     ensures head { IfOk result (λ head. head ≡ parts_at front.now headers.now spans) }
-    ensures want { IfErr result (λ e. e ≡ Want) }
+    ensures want { OnlyWant result }
 {
     let method = Bytes::from_slice(alloc, spans.method.of(front))?;
     let target = Bytes::from_slice(alloc, spans.path.of(front))?;
@@ -57,7 +57,7 @@ fn head_at(
 /// What the bytes of a head say, if they are one.
 pub fn parse(alloc: Global, front: &[u8]) -> Result<Option<Head>, Memory>
     ensures head { IfOk result (IsReading front.now) }
-    ensures want { IfErr result (λ e. e ≡ Want) }
+    ensures want { OnlyWant result }
 {
     let mut headers = [EMPTY_HEADER_SPAN; HEADER_LIMIT];
     match parse_request(front, &mut headers) {

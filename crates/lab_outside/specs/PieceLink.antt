@@ -19,18 +19,22 @@ plan_of link = source_plan link.bytes
 abbrev pub connection_at : MemSource → Connection
 connection_at bytes = record { left = Some (source_left bytes); written = None; faults = source_faults bytes }
 
+-- the connection that is present at this stage
 abbrev pub present_at : Stage → Connection → Option Connection
 present_at Coming c = None
 present_at Present c = Some c
 present_at Past c = None
 
+-- those that are over at this stage
 abbrev pub past_at : Stage → Connection → List Connection
 past_at Coming c = []
 past_at Present c = []
 past_at Past c = c ∷ []
 
+-- the connection that is present
 abbrev pub present_of : PieceLink → Option Connection
 present_of link = present_at link.stage (connection_at link.bytes)
 
+-- those that are over
 abbrev pub past_of : PieceLink → List Connection
 past_of link = past_at link.stage (connection_at link.bytes)

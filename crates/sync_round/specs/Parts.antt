@@ -10,6 +10,7 @@ use Rattle.quorum_tally.specs.Marks.{marks_after, three, has_two}
 abbrev pub missing_of : Marks → List ℕ
 missing_of s = map (λ m. m.node) (filter (λ m. not m.is_confirmed) (three s))
 
+-- partitions with the marks of their sets
 abbrev pub Entries : Type 0
 Entries = List (ℕ × Marks)
 
@@ -21,5 +22,6 @@ entries_after p node es = map (λ e. (e.0, (if p == e.0 then marks_after node e.
 abbrev pub lacking_of : Entries → ℕ
 lacking_of es = count_by (λ s. not (has_two s)) (values_of es)
 
+-- how many partitions of a map lack two confirmations
 abbrev pub lacking_in : BTreeMap ℕ Marks → ℕ
 lacking_in m = lacking_of m.entries

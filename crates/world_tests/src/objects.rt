@@ -2,11 +2,11 @@
 ghost use Rattle.std.specs.Prelude.{IfOk};
 ghost use Rattle.lab_driver.specs.Stands.{HasLab, IsMeantEvent};
 
+use cluster_machine::applied::{Line, Refusal};
 use crdt_core::{Bytes, Memory};
 use lab_driver::{Event, Lab, Told};
 use std::alloc::Global;
 use std::test::Fail;
-use cluster_machine::applied::{Line, Refusal};
 
 // An event: a bucket `pics`, and puts and gets of its key `a`.
 #[derive(Clone, Copy)]
