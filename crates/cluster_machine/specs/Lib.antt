@@ -14,3 +14,4 @@ pub mod Trio
 pub mod Choices
 pub mod Fits
 pub mod Worlds
+pub mod Ties

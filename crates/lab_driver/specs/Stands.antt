@@ -4,7 +4,7 @@ use Rattle.std.specs.List.{AllByRecursion}
 use Rattle.crdt_rows.specs.declared.any_row.AnyRow.{AnyRow}
 use Rattle.crdt_rows.specs.AnyRow.{any_join}
 use Rattle.object_schema.specs.Schema.{words}
-use Rattle.crdt_core.specs.Outcomes as outcomes
+use Rattle.cluster_machine.specs.Ties as ties
 use Rattle.cluster_machine.specs.declared.step.Step.{Step}
 use Rattle.cluster_machine.specs.declared.step.Step.TheVariants as step
 use Rattle.cluster_machine.specs.Choices.{Decision}
@@ -52,7 +52,7 @@ pub record Does (new : Lab) (told : Told) (s : State) (o : Outcome) : Type 0 whe
 
 -- from old to new the code did what this outcome says, whatever state old stood for, and tells it
 abbrev pub Plays : Lab → Lab → Told → (State → Outcome) → Type 0
-Plays old new told f = outcomes.Steps IsLab old (λ s. Does new told s (f s))
+Plays old new told f = ties.Steps IsLab old (λ s. Does new told s (f s))
 
 -- the same, of the states with a property
 abbrev pub PlaysIf : (State → Type 0) → Lab → Lab → Told → (State → Outcome) → Type 0
@@ -60,7 +60,7 @@ PlaysIf Has old new told f = (s : State) → IsLab old s → Has s → Does new 
 
 -- some number or row after this outcome would not fit
 abbrev pub Overflows : Lab → (State → Outcome) → Type 0
-Overflows old f = outcomes.Overflows IsLab old (λ s. FitsOutcome s (f s))
+Overflows old f = ties.Overflows IsLab old (λ s. FitsOutcome s (f s))
 
 -- the same, of the states with a property
 abbrev pub OverflowsIf : (State → Type 0) → Lab → (State → Outcome) → Type 0
@@ -74,7 +74,7 @@ pub record DoesStep (new : Lab) (told : Told) (s : State) (st : Step AnyRow) : T
 
 -- whatever state it stood for, it did this step
 abbrev pub PlaysStep : Lab → Lab → Told → Step AnyRow → Type 0
-PlaysStep old new told st = outcomes.Steps IsLab old (λ s. DoesStep new told s st)
+PlaysStep old new told st = ties.Steps IsLab old (λ s. DoesStep new told s st)
 
 -- with something lawful given there is no room after the step
 pub record LacksRoom (s : State) (st : Step AnyRow) : Type 0 where
@@ -84,7 +84,7 @@ pub record LacksRoom (s : State) (st : Step AnyRow) : Type 0 where
 
 -- whatever state it stood for, this step would not fit
 abbrev pub OverflowsStep : Lab → Step AnyRow → Type 0
-OverflowsStep old st = outcomes.Steps IsLab old (λ s. LacksRoom s st)
+OverflowsStep old st = ties.Steps IsLab old (λ s. LacksRoom s st)
 
 -- the code did this event, which was given something lawful
 pub record DoesEvent (new : Lab) (told : Told) (s : State) (event : Event) : Type 0 where
@@ -94,7 +94,7 @@ pub record DoesEvent (new : Lab) (told : Told) (s : State) (event : Event) : Typ
 
 -- whatever state it stood for, it did this event
 abbrev pub PlaysEvent : Lab → Lab → Told → Event → Type 0
-PlaysEvent old new told event = outcomes.Steps IsLab old (λ s. DoesEvent new told s event)
+PlaysEvent old new told event = ties.Steps IsLab old (λ s. DoesEvent new told s event)
 
 -- with something lawful given there is no room after the event
 pub record EventLacksRoom (s : State) (event : Event) : Type 0 where
@@ -104,4 +104,4 @@ pub record EventLacksRoom (s : State) (event : Event) : Type 0 where
 
 -- whatever state it stood for, this event would not fit
 abbrev pub OverflowsEvent : Lab → Event → Type 0
-OverflowsEvent old event = outcomes.Steps IsLab old (λ s. EventLacksRoom s event)
+OverflowsEvent old event = ties.Steps IsLab old (λ s. EventLacksRoom s event)

@@ -1,6 +1,6 @@
 -- When a world of the code stands for one of the machine, and when a call does what the machine's step does.
 use Rattle.std.specs.Prelude.{◌≡◌, ℕ, suc, leb, cond, IsTrue, List, [], ◌∷◌, ◌++◌, length, map}
-use Rattle.crdt_core.specs.Outcomes as outcomes
+use Rattle.cluster_machine.specs.Ties as ties
 use Rattle.layout_roles.specs.declared.layout.Layout.{Layout}
 use Rattle.layout_trackers.specs.declared.which.Which.TheVariants.{Sync}
 use Rattle.layout_trackers.specs.Trackers.{counts}
@@ -90,19 +90,19 @@ pub record LacksRoom {R : Type 0} (join : R → R → R) (s : Words R) (w : Mode
 module _ {S R : Type 0} (join : R → R → R) (s : Words R) where
   -- whatever world the code's world stood for, it did this step
   abbrev pub Steps : World S R → World S R → Report R → Step R → Type 0
-  Steps old new report step = outcomes.Steps (StandsFor join s) old (λ w. Stepped join s new report w step)
+  Steps old new report step = ties.Steps (StandsFor join s) old (λ w. Stepped join s new report w step)
 
   -- whatever world it stood for, some number or row after this step would not fit
   abbrev pub Overflows : World S R → Step R → Type 0
-  Overflows old step = outcomes.Steps (StandsFor join s) old (λ w. LacksRoom join s w step)
+  Overflows old step = ties.Steps (StandsFor join s) old (λ w. LacksRoom join s w step)
 
   -- the same of what effects do
   abbrev pub PlaysSo : World S R → World S R → Report R → (Model R → Done R) → Type 0
-  PlaysSo old new report f = outcomes.Steps (StandsFor join s) old (λ w. DoesSo join s new report w (f w))
+  PlaysSo old new report f = ties.Steps (StandsFor join s) old (λ w. DoesSo join s new report w (f w))
 
   -- whatever world it stood for, what this does would not fit
   abbrev pub ExceedsSo : World S R → (Model R → Done R) → Type 0
-  ExceedsSo old f = outcomes.Overflows (StandsFor join s) old (λ w. RoomWith join s w (f w))
+  ExceedsSo old f = ties.Overflows (StandsFor join s) old (λ w. RoomWith join s w (f w))
 
   -- the same of a step that is given no layout
   abbrev pub Plays : World S R → World S R → Report R → Step R → Type 0
@@ -114,7 +114,7 @@ module _ {S R : Type 0} (join : R → R → R) (s : Words R) where
 
   -- the same of what no step does
   abbrev pub Turns : World S R → World S R → (Model R → Model R) → Type 0
-  Turns old new f = outcomes.Steps (StandsFor join s) old (λ w. StandsFor join s new (f w))
+  Turns old new f = ties.Steps (StandsFor join s) old (λ w. StandsFor join s new (f w))
 
 -- ---- what a node sends
 
