@@ -1,7 +1,7 @@
 -- Sets of nodes as a flow.
 use Rattle.std.proofs.Common.{◌≡◌, ℕ, zero, suc, ◌+◌, ◌-◌, ◌*◌, ◌<◌, ◌≤◌, min, Bool, true, false, cond, ◌&&◌, ◌==◌, List, [], ◌∷◌, map, length, get_or, refl, sym, ap, ◌∙◌, subst, arith, le_refl}
 use Rattle.std.specs.List.{sum, sum_by, count_by, flat_map, All, enumerate_from, range_with_len}
-use Rattle.std.proofs.lemmas.List.{length-map, take_all}
+use Rattle.std.proofs.lemmas.List.{length-map, get_or-map, take_all}
 use Rattle.std.proofs.lemmas.List.Sums.{sum_by-cons, sum-map, get_or-le-sum_by}
 use Rattle.std.proofs.lemmas.List.FromFn.{length-enumerate_from}
 use Rattle.std.proofs.lemmas.List.Elements.{All-head, All-tail, All-cons, All-append, All-map}
@@ -45,6 +45,12 @@ unfolding ups
 ups_one left [] i = omega arith
 ups_one left (k ∷ ks) zero = omega arith
 ups_one left (k ∷ ks) (suc i) = ups_one (left - min 1 k) ks i
+
+both_at : (left : ℕ) (ks : List ℕ) (i : ℕ) → get_or (ups left ks) i 0 + get_or (downs left ks) i 0 ≡ get_or ks i 0
+unfolding ups downs
+both_at left [] i = refl
+both_at left (k ∷ ks) zero = omega arith
+both_at left (k ∷ ks) (suc i) = both_at (left - min 1 k) ks i
 
 abbrev ones : List ℕ → ℕ
 ones ks = sum_by (λ k. min 1 k) ks
@@ -110,6 +116,9 @@ pub record IsPart (n : ℕ) (roles : List Role) (r size : ℕ) (sets : List Node
   pub three : All (λ set. count_by (in_set set) (storage_nodes roles) ≤ 3) sets
   pub few : (name : Name) → All (λ set. count_by (in_set set) (nodes_in roles name) ≤ 4 - r) sets
   pub within : All (λ role. load sets role.node ≤ room size role) (storage_nodes roles)
+
+counts_at : (roles : List Role) (set : NodeSet) (i : ℕ) → i < length (zones roles) → get_or (counts roles set) i 0 ≡ count_by (in_set set) (get_or (zones roles) i [])
+counts_at roles set i h = get_or-map (λ zone. count_by (in_set set) zone) (zones roles) i [] 0 h
 
 counts_length : (roles : List Role) (set : NodeSet) → length (counts roles set) ≡ length (zones roles)
 counts_length roles set = length-map (zones roles) (λ zone. count_by (in_set set) zone)

@@ -210,7 +210,7 @@ module _ {R L : Type 0} (join : R → R → R) (s : Words R) (k : Layouts L) (pa
           let same : P.control.newest q₂.control n ≡ newest k.reading x.view = ap (λ (y : control.Node L). newest k.reading y.view) (node_after p.control c₁ n (with_round k partitions p.control n) 0 (round_is k partitions p.control n may)) ∙ ap (newest k.reading) (t.control.nodes n).view in
           sent_parts join s k partitions some joins_well laws w n new h (suc x.rounds) (a_round rd) (rounded_here g n (suc x.rounds) (a_round rd)) x (open_nodes round) parts
           (all_shown join s k partitions some joins_well laws w n new q₂ h (suc x.rounds) rd x parts (rounded_here g n (suc x.rounds) (a_round rd)) same
-          (Rattle.machine_laws.proofs.Controls.all_weaker _ _ (λ part c. more _ c) parts (pushing_has join s k partitions some joins_well laws rd x parts q₂)) spelled)
+          (Rattle.crdt_core.proofs.Each.all_weaker _ _ (λ part c. more _ c) parts (pushing_has join s k partitions some joins_well laws rd x parts q₂)) spelled)
 
       stays_open : is_complete round ≡ false → Leads join s k partitions some joins_well {A = A} {C = C} w p g (did w n (begin_round join s k n x))
       stays_open e =
@@ -229,7 +229,7 @@ module _ {R L : Type 0} (join : R → R → R) (s : Words R) (k : Layouts L) (pa
           (subst (IsNode join s k partitions q₃ h (length w.requests) n) (sym node_is) (record {
             rows = λ q. ap (λ l. log_at P l n q) log_is ∙ m.rows q;
             proper = m.proper;
-            calls = Rattle.machine_laws.proofs.Controls.all_weaker _ _ (λ c b. Rattle.machine_reads.proofs.Growth.call_stays join s k partitions p q₃ g h up (length w.requests) (length w.requests) n c (omega arith) (record { owner = refl; start = refl; asks = λ ph. refl; stores = λ ph i. refl }) b) x.calls m.calls;
+            calls = Rattle.crdt_core.proofs.Each.all_weaker _ _ (λ c b. Rattle.machine_reads.proofs.Growth.call_stays join s k partitions p q₃ g h up (length w.requests) (length w.requests) n c (omega arith) (record { owner = refl; start = refl; asks = λ ph. refl; stores = λ ph i. refl }) b) x.calls m.calls;
             round = is_round;
             later_rounds = λ i late. rounded_other g n (suc x.rounds) n i (a_round rd) (inr late) ∙ m.later_rounds i (omega arith);
           }))
@@ -273,7 +273,7 @@ module _ {R L : Type 0} (join : R → R → R) (s : Words R) (k : Layouts L) (pa
           (subst (IsNode join s k partitions new h (length w.requests) n) (sym node_is) (record {
             rows = λ q. ap (λ (z : State join s k partitions). log_at P z.log n q) same_run ∙ (ap (λ l. log_at P l n q) log_is ∙ m.rows q);
             proper = m.proper;
-            calls = Rattle.machine_laws.proofs.Controls.all_weaker _ _ (λ c b. Rattle.machine_reads.proofs.Growth.call_stays join s k partitions p new g h up_all (length w.requests) (length w.requests) n c (omega arith) (record { owner = refl; start = refl; asks = λ ph. refl; stores = λ ph i. refl }) b) x.calls m.calls;
+            calls = Rattle.crdt_core.proofs.Each.all_weaker _ _ (λ c b. Rattle.machine_reads.proofs.Growth.call_stays join s k partitions p new g h up_all (length w.requests) (length w.requests) n c (omega arith) (record { owner = refl; start = refl; asks = λ ph. refl; stores = λ ph i. refl }) b) x.calls m.calls;
             round = tt;
             later_rounds = λ i late. rounded_other g n (suc x.rounds) n i (a_round rd) (inr late) ∙ m.later_rounds i (omega arith);
           }))
@@ -303,7 +303,7 @@ module _ {R L : Type 0} (join : R → R → R) (s : Words R) (k : Layouts L) (pa
         (record {
           rows = m.rows;
           proper = m.proper;
-          calls = Rattle.machine_laws.proofs.Controls.all_weaker _ _ (λ c b. Rattle.machine_reads.proofs.Growth.call_stays join s k partitions p p g h up (length w.requests) (length w.requests) n c (omega arith) (record { owner = refl; start = refl; asks = λ ph. refl; stores = λ ph i. refl }) b) x.calls m.calls;
+          calls = Rattle.crdt_core.proofs.Each.all_weaker _ _ (λ c b. Rattle.machine_reads.proofs.Growth.call_stays join s k partitions p p g h up (length w.requests) (length w.requests) n c (omega arith) (record { owner = refl; start = refl; asks = λ ph. refl; stores = λ ph i. refl }) b) x.calls m.calls;
           round = round_in_stays join s k partitions p p g h up n x.round m.round;
           later_rounds = λ i late. rounded_other g n number n i a_repair (inr late) ∙ m.later_rounds i (omega arith);
         })
