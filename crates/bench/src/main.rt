@@ -1,15 +1,19 @@
 //! Jobs that are timed. `bench JOB ARGUMENTS..` does the job that its first word names, and prints what
-//! comes out and never a time; the scripts `bench/compare` and `bench/replay` take the times.
+//! comes out and never a time; the scripts `bench/compare`, `bench/replay` and `bench/http` take the times.
 //!
 //! - `hash BYTES`: the BLAKE2b digest of 32 bytes, in hexadecimal, of a message of that many bytes,
 //!   of which byte i is i modulo 251.
 //! - `replay`: a schedule of 100,000 events, for `garage_lab replay`.
+//! - `http SIZE COUNT`: reads COUNT heads of 16,384 bytes, each of a connection that gives SIZE bytes at a
+//!   time, and prints how many bytes their targets have.
 #![tactic(auto)]
 
 mod hashing;
+mod heads;
 mod schedule;
 
 use hashing::pattern_digest;
+use heads::targets_read;
 use schedule::schedule;
 use std::alloc::Global;
 use std::process::ExitCode;
@@ -20,6 +24,7 @@ fn main(rt: HostRuntime) -> io::Result<ExitCode> {
     match words.as_slice() {
         [job, byte_count] if job.as_str() == "hash" => hash(&rt, byte_count.as_str()),
         [job] if job.as_str() == "replay" => replay(&rt),
+        [job, size, count] if job.as_str() == "http" => http(&rt, size.as_str(), count.as_str()),
         _ => usage(&rt),
     }
 }
@@ -42,7 +47,27 @@ fn replay(rt: &(impl Print + Alloc<A = Global>)) -> io::Result<ExitCode> {
     Ok(ExitCode::SUCCESS)
 }
 
+fn http(
+    rt: &(impl Print + Eprint + Alloc<A = Global>),
+    size: &str,
+    count: &str,
+) -> io::Result<ExitCode> {
+    match (size.parse::<usize>(), count.parse::<u64>()) {
+        (Ok(size), Ok(count)) if size > 0 => match targets_read(rt.alloc(), size, count) {
+            Ok(sum) => {
+                println!(rt; "{sum}")?;
+                Ok(ExitCode::SUCCESS)
+            }
+            Err(end) => {
+                eprintln!(rt; "a head was not read: {end:?}")?;
+                Ok(ExitCode::from(1))
+            }
+        },
+        _ => usage(rt),
+    }
+}
+
 fn usage(rt: &impl Eprint) -> io::Result<ExitCode> {
-    eprintln!(rt; "usage: bench hash BYTES | replay")?;
+    eprintln!(rt; "usage: bench hash BYTES | replay | http SIZE COUNT")?;
     Ok(ExitCode::from(2))
 }

@@ -1,0 +1,171 @@
+//! Heads, in pieces of any size, at the limits, and after reads that fail.
+use crate::fixtures::{connection, text};
+use http_wire::{Kept, read_body, read_head};
+use std::alloc::{AllocError, Global};
+use std::test::Fail;
+
+// What clients send, and what it says.
+const CLIENTS: [(&[u8], &[u8]); 3] = [
+    (
+        b"GET /pics/a%20b?list-type=2&prefix= HTTP/1.1\r\nHost: localhost:3900\r\nUser-Agent: curl/8.5.0\r\nAccept: */*\r\n\r\n",
+        b"GET /pics/a%20b?list-type=2&prefix= 1[Host=localhost:3900][User-Agent=curl/8.5.0][Accept=*/*]",
+    ),
+    (
+        b"PUT /pics/key HTTP/1.1\r\nHost: 127.0.0.1:3900\r\nAccept-Encoding: identity\r\nUser-Agent: Boto3/1.34.0 md/Botocore#1.34.0\r\nContent-MD5: kAFQmDzST7DWlj99KOF/cg==\r\nExpect: 100-continue\r\nContent-Length: 3\r\n\r\n",
+        b"PUT /pics/key 1[Host=127.0.0.1:3900][Accept-Encoding=identity][User-Agent=Boto3/1.34.0 md/Botocore#1.34.0][Content-MD5=kAFQmDzST7DWlj99KOF/cg==][Expect=100-continue][Content-Length=3]",
+    ),
+    (
+        b"HEAD / HTTP/1.0\nx-amz-meta-a: \t two  words \t\nEmpty:\n\n",
+        b"HEAD / 0[x-amz-meta-a=two  words][Empty=]",
+    ),
+];
+
+#[test]
+fn pieces_of_each_size(rt: HostRuntime) -> Result<(), Fail> {
+    let alloc = rt.alloc();
+    for (bytes, said) in CLIENTS {
+        let mut both = bytes.to_vec(alloc)?;
+        both.extend_from_slice(b"abcGET /next HTTP/1.1\r\n\r\n")?;
+        for size in 1..=both.len() {
+            let mut link = connection(alloc, &both, size, &[])?;
+            let mut kept = Kept::new(alloc);
+            let head = text(alloc, &read_head(alloc, &mut link, &mut kept))?;
+            assert_eq!(rt; head.as_slice(), said, "in pieces of {size}");
+            let body = read_body(alloc, &mut link, &mut kept, 3);
+            assert!(&rt;
+                body.is_ok_and(|body| body.as_slice() == b"abc".as_slice()),
+                "in pieces of {size}"
+            );
+            let next = text(alloc, &read_head(alloc, &mut link, &mut kept))?;
+            assert_eq!(rt;
+                next.as_slice(),
+                b"GET /next 1".as_slice(),
+                "in pieces of {size}"
+            );
+            let last = text(alloc, &read_head(alloc, &mut link, &mut kept))?;
+            assert_eq!(rt;
+                last.as_slice(),
+                b"closed".as_slice(),
+                "in pieces of {size}"
+            );
+        }
+    }
+    Ok(())
+}
+
+// What bytes begin with, and what follows the head; where none ends, all is kept.
+const LINES: [(&[u8], &[u8], &[u8]); 12] = [
+    (b"", b"closed", b""),
+    (b"GET / HTTP/1.1\r\n", b"closed", b"GET / HTTP/1.1\r\n"),
+    (b"\r\n\n\r\n", b"closed", b"\r\n\n\r\n"),
+    (b"GET / HTTP/1.1\n\nrest", b"GET / 1", b"rest"),
+    (b"\n\r\n\nGET / HTTP/1.1\n\nrest", b"GET / 1", b"rest"),
+    (b"GET / HTTP/1.1\nA: b\r\n\nrest", b"GET / 1[A=b]", b"rest"),
+    (b"GET / HTTP/1.1\nA: b\n\r\nrest", b"GET / 1[A=b]", b"rest"),
+    (b"GET / HTTP/1.1\r\n\r\r\n\r\nrest", b"bad", b"rest"),
+    (b"GET / HTTP/2.0\r\n\r\nrest", b"bad", b"rest"),
+    (b"GET /\n\nrest", b"bad", b"rest"),
+    (b"GET / HTTP/1.1\r\nA b\r\n\r\nrest", b"bad", b"rest"),
+    (b"GET / HTTP/1.1\r\n\r\n\r\n", b"GET / 1", b"\r\n"),
+];
+
+#[test]
+fn ends_of_lines(rt: HostRuntime) -> Result<(), Fail> {
+    let alloc = rt.alloc();
+    for (bytes, said, rest) in LINES {
+        let mut link = connection(alloc, bytes, 100, &[])?;
+        let mut kept = Kept::new(alloc);
+        let head = text(alloc, &read_head(alloc, &mut link, &mut kept))?;
+        assert_eq!(rt; head.as_slice(), said);
+        assert_eq!(rt; kept.bytes.as_slice(), rest);
+    }
+    Ok(())
+}
+
+// A head of so many bytes, 23 at least.
+fn long_head(alloc: Global, size: usize) -> Result<Vec<u8>, AllocError> {
+    let mut bytes = Vec::new(alloc);
+    bytes.extend_from_slice(b"GET / HTTP/1.1\r\nA: ")?;
+    bytes.resize(size.saturating_sub(4), b'a')?;
+    bytes.extend_from_slice(b"\r\n\r\n")?;
+    Ok(bytes)
+}
+
+#[test]
+fn as_long_as_a_head_may_be(rt: HostRuntime) -> Result<(), Fail> {
+    let alloc = rt.alloc();
+    for (size, fits) in [(16383, true), (16384, true), (16385, false)] {
+        for piece in [1, 4096, 5000, 20000] {
+            let bytes = long_head(alloc, size)?;
+            assert_eq!(rt; bytes.len(), size);
+            let mut link = connection(alloc, &bytes, piece, &[])?;
+            let mut kept = Kept::new(alloc);
+            let head = read_head(alloc, &mut link, &mut kept);
+            assert_eq!(rt; head.is_ok(), fits, "{size} bytes in pieces of {piece}");
+            if !fits {
+                assert_eq!(rt; text(alloc, &head)?.as_slice(), b"too long".as_slice());
+            }
+        }
+    }
+    Ok(())
+}
+
+// A head of so many headers.
+fn many_headers(alloc: Global, count: usize) -> Result<Vec<u8>, AllocError> {
+    let mut bytes = b"GET / HTTP/1.1\n".to_vec(alloc)?;
+    for _ in 0..count {
+        bytes.extend_from_slice(b"a:b\n")?;
+    }
+    bytes.extend_from_slice(b"\n")?;
+    Ok(bytes)
+}
+
+#[test]
+fn as_many_headers_as_a_head_may_have(rt: HostRuntime) -> Result<(), Fail> {
+    let alloc = rt.alloc();
+    for (count, fits) in [(0, true), (64, true), (65, false)] {
+        let mut link = connection(alloc, &many_headers(alloc, count)?, 100, &[])?;
+        let head = read_head(alloc, &mut link, &mut Kept::new(alloc));
+        assert_eq!(rt;
+            text(alloc, &head)?.as_slice() != b"bad".as_slice(),
+            fits,
+            "{count} headers"
+        );
+        assert_eq!(rt;
+            head.is_ok_and(|head| head.headers.len() == count),
+            fits,
+            "{count} headers"
+        );
+    }
+    Ok(())
+}
+
+#[test]
+fn nothing_is_lost_after_a_read_that_fails(rt: HostRuntime) -> Result<(), Fail> {
+    let alloc = rt.alloc();
+    let bytes = b"GET /a HTTP/1.1\r\n\r\nabc";
+    for size in 1..=4 {
+        for k in 1..=bytes.len() as u64 {
+            let mut link = connection(alloc, bytes, size, &[k])?;
+            let mut kept = Kept::new(alloc);
+            let mut head = text(alloc, &read_head(alloc, &mut link, &mut kept))?;
+            if head.as_slice() == b"failed".as_slice() {
+                head = text(alloc, &read_head(alloc, &mut link, &mut kept))?;
+            }
+            assert_eq!(rt;
+                head.as_slice(),
+                b"GET /a 1".as_slice(),
+                "at read {k} of {size} bytes"
+            );
+            let mut body = read_body(alloc, &mut link, &mut kept, 3);
+            if body.is_err() {
+                body = read_body(alloc, &mut link, &mut kept, 3);
+            }
+            assert!(&rt;
+                body.is_ok_and(|body| body.as_slice() == b"abc".as_slice()),
+                "at read {k} of {size} bytes"
+            );
+        }
+    }
+    Ok(())
+}

@@ -1,0 +1,13 @@
+//! Tests of what the program is connected to, of HTTP over it, and of signatures. It has no code of its own.
+#![tactic(auto)]
+
+#[cfg(test)]
+mod bodies;
+#[cfg(test)]
+mod fixtures;
+#[cfg(test)]
+mod heads;
+#[cfg(test)]
+mod outside;
+#[cfg(test)]
+mod signatures;

@@ -1,0 +1,174 @@
+//! What no clause says: that the calls succeed with ample memory, and that a call which fails leaves the rest.
+use lab_outside::{
+    Clock, Failed, Link, MemClock, MemSink, MemSource, ReadStop, Status, StdSink, StdSource,
+    SureLink, SureSink, SureSource, read_up_to, send_whole, write_whole,
+};
+use std::io;
+use std::io::{ErrorKind, Read};
+use std::test::Fail;
+
+#[test]
+fn kth_read_fails(rt: HostRuntime) -> Result<(), Fail> {
+    for k in 1..=3 {
+        let bytes = b"ten bytes.".to_vec(rt.alloc())?;
+        let mut source = MemSource::new(bytes, [k].to_vec(rt.alloc())?);
+        let first = read_up_to(rt.alloc(), &mut source, 100);
+        if k == 3 {
+            assert_eq!(rt; first?.as_slice(), b"ten bytes.".as_slice());
+        } else {
+            assert_eq!(rt; first.err(), Some(ReadStop::Failed), "at read {k}");
+            let second = read_up_to(rt.alloc(), &mut source, 100)?;
+            let rest = if k == 1 { 10 } else { 0 };
+            assert_eq!(rt; second.len(), rest, "after read {k}");
+        }
+    }
+    Ok(())
+}
+
+#[test]
+fn kth_write_fails(rt: HostRuntime) -> Result<(), Fail> {
+    let written: [(u64, &[u8]); 4] = [
+        (1, b"two three"),
+        (2, b"one three"),
+        (3, b"one two "),
+        (4, b"one two three"),
+    ];
+    for (k, bytes) in written {
+        let mut sink = MemSink::new(rt.alloc(), [k].to_vec(rt.alloc())?);
+        assert_eq!(rt; write_whole(&mut sink, b"one ").is_err(), k == 1);
+        assert_eq!(rt; write_whole(&mut sink, b"two ").is_err(), k == 2);
+        assert_eq!(rt; write_whole(&mut sink, b"three").is_err(), k == 3);
+        assert_eq!(rt; sink.bytes(), bytes, "at write {k}");
+    }
+    Ok(())
+}
+
+#[test]
+fn reads_to_the_end_or_one_past_the_limit(rt: HostRuntime) -> Result<(), Fail> {
+    for (length, limit, count) in [
+        (0, 0, 0),
+        (1, 0, 1),
+        (9999, 10000, 9999),
+        (10000, 9000, 9001),
+    ] {
+        let mut bytes = Vec::new(rt.alloc());
+        bytes.resize(length, 7u8)?;
+        let mut source = SureSource::new(bytes);
+        let all = read_up_to(rt.alloc(), &mut source, limit)?;
+        assert_eq!(rt; all.len(), count, "{length} bytes to {limit}");
+    }
+    Ok(())
+}
+
+#[test]
+fn sure_sink_stops_telling(rt: HostRuntime) -> Result<(), Fail> {
+    let mut sink = SureSink::new(rt.alloc(), 4)?;
+    write_whole(&mut sink, b"abc")?;
+    assert_eq!(rt; sink.bytes(), Some(b"abc".as_slice()));
+    write_whole(&mut sink, b"de")?;
+    assert_eq!(rt; sink.bytes(), None);
+    Ok(())
+}
+
+fn served<L: Link>(link: &mut L) -> Result<u64, Failed> {
+    let mut sum = 0u64;
+    link.open(80)?;
+    for _ in 0..9 {
+        if !link.next()? {
+            break;
+        }
+        let mut piece = [0; 8];
+        let count = link.read(&mut piece)?;
+        send_whole(link, b"answer to ")?;
+        send_whole(link, &piece[..count])?;
+        sum = sum.wrapping_mul(10).wrapping_add(count as u64);
+        link.end();
+    }
+    Ok(sum)
+}
+
+#[test]
+fn connections_come_in_order(rt: HostRuntime) -> Result<(), Fail> {
+    let mut connections = Vec::new(rt.alloc());
+    connections.push(b"abc".to_vec(rt.alloc())?)?;
+    connections.push(b"".to_vec(rt.alloc())?)?;
+    connections.push(b"de".to_vec(rt.alloc())?)?;
+    let mut link = SureLink::new(rt.alloc(), connections, 12)?;
+    assert_eq!(rt; served(&mut link)?, 302);
+    Ok(())
+}
+
+#[test]
+fn sure_link_shows_what_was_written(rt: HostRuntime) -> Result<(), Fail> {
+    let mut connections = Vec::new(rt.alloc());
+    connections.push(b"abc".to_vec(rt.alloc())?)?;
+    let mut link = SureLink::new(rt.alloc(), connections, 13)?;
+    assert!(&rt; link.next() == Ok(true));
+    assert_eq!(rt; link.written(0), Some(b"".as_slice()));
+    send_whole(&mut link, b"answer to ")?;
+    send_whole(&mut link, b"abc")?;
+    assert_eq!(rt; link.written(0), Some(b"answer to abc".as_slice()));
+    Ok(())
+}
+
+fn times<C: Clock>(clock: &mut C) -> [u64; 4] {
+    [clock.now(), clock.now(), clock.now(), clock.now()]
+}
+
+#[test]
+fn last_time_repeats(rt: HostRuntime) -> Result<(), Fail> {
+    let mut clock = MemClock::new([5, 9, 7].to_vec(rt.alloc())?);
+    assert_eq!(rt; times(&mut clock), [5, 9, 7, 7]);
+    Ok(())
+}
+
+/// A reader that is interrupted once.
+#[derive(Drop)]
+struct Interrupted {
+    before: bool,
+}
+
+impl Read for Interrupted {
+    fn read(&mut self, _into: &mut [u8]) -> io::Result<usize> {
+        if self.before {
+            return Ok(0);
+        }
+        self.before = true;
+        Err(io::Error::from(ErrorKind::Interrupted))
+    }
+}
+
+#[test]
+fn an_interruption_is_a_fault(rt: HostRuntime) -> Result<(), Fail> {
+    let mut source = StdSource::new(Interrupted { before: false });
+    let first = read_up_to(rt.alloc(), &mut source, 9);
+    assert_eq!(rt; first.err(), Some(ReadStop::Failed));
+    assert_eq!(rt; read_up_to(rt.alloc(), &mut source, 9)?.len(), 0);
+    Ok(())
+}
+
+#[test]
+fn bytes_pass_through(rt: HostRuntime) -> Result<(), Fail> {
+    let mut source = StdSource::new(b"all of it".as_slice());
+    let all = read_up_to(rt.alloc(), &mut source, 100)?;
+    assert_eq!(rt; all.as_slice(), b"all of it".as_slice());
+    let mut bytes = Vec::new(rt.alloc());
+    write_whole(&mut StdSink::new(&mut bytes), &all)?;
+    assert_eq!(rt; bytes.as_slice(), b"all of it".as_slice());
+    Ok(())
+}
+
+#[test]
+fn standard_input_and_output(rt: HostRuntime) -> Result<(), Fail> {
+    let mut source = StdSource::new(rt.reader());
+    assert_eq!(rt; read_up_to(rt.alloc(), &mut source, 9)?.len(), 0);
+    let mut sink = StdSink::new(io::writer(&rt));
+    write_whole(&mut sink, b"a few bytes\n")?;
+    Ok(())
+}
+
+#[test]
+fn statuses_are_numbered(rt: HostRuntime) {
+    assert_eq!(rt; Status::Done.code(), 0);
+    assert_eq!(rt; Status::Limit.code(), 7);
+}
