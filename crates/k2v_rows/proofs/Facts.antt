@@ -5,7 +5,7 @@ use Rattle.std.specs.declared.cmp.Ordering.{Ordering}
 use Rattle.std.specs.declared.cmp.Ordering.TheVariants.{Less, Equal, Greater}
 use Rattle.std.specs.Ordering.{nat_cmp, is_lt}
 use Rattle.std.specs.List.{list_all}
-use Rattle.std.specs.Cmp.{nat_cmp_total, nat_cmp_is, tied_itself}
+use Rattle.std.specs.Cmp.{nat_cmp_total, tied_itself}
 use Rattle.std.proofs.lemmas.Cmp.{ranked, by_ranked}
 use Rattle.std.proofs.lemmas.Bool.{ltb-true, lt-ltb, le-leb, lt-leb}
 use borrow.Author.Tests.{eq-eqb}
@@ -23,10 +23,9 @@ use Rattle.k2v_rows.specs.declared.writes.Writes.{Writes}
 use Rattle.k2v_rows.specs.declared.k2v_row.K2vRow.{K2vRow}
 use Rattle.k2v_rows.specs.Later.{are_later}
 use Rattle.k2v_rows.specs.Value.{value_cmp}
-use Rattle.k2v_rows.specs.Values.{ValueMap}
 use Rattle.k2v_rows.specs.Writes.{writes_of, writes_join, is_past, past_joined, none_past, join-discard, join-get}
 use Rattle.k2v_rows.specs.Token.{WritesMap, TimeMap, entries_join, discarded, raised}
-use Rattle.k2v_rows.specs.Row.{ItemKey, item_key, item_cmp, item_total, row_join, discard_in, value_in, time_in, discard_at, value_of, time_at, written, can_put, after_put}
+use Rattle.k2v_rows.specs.Row.{item_key, item_cmp, item_total, row_join, discard_in, value_in, time_in, discard_at, value_of, time_at, written, can_put, after_put}
 
 larger_max : (a b : ℕ) → larger nat_cmp a b ≡ max a b
 larger_max a b =

@@ -1,7 +1,7 @@
 -- The last of values in the order of their times has the greatest time.
 use Rattle.std.proofs.Common.{◌≡◌, ℕ, suc, ◌-◌, ◌<◌, ◌≤◌, get_or, true, List, [], ◌∷◌, length, Some, None, unwrap_or, slice_get, Less, refl, ap, sym, subst, ◌∙◌, arith}
 use Rattle.std.specs.Prelude.{max}
-use Rattle.std.specs.Ordering.{nat_cmp, is_lt}
+use Rattle.std.specs.Ordering.{nat_cmp}
 use Rattle.std.specs.Cmp.{nat_cmp_is}
 use Rattle.std.proofs.lemmas.Bool.{ltb-true}
 use Rattle.std.proofs.lemmas.Cmp.{ranked}

@@ -20,7 +20,7 @@ use Rattle.k2v_rows.specs.declared.value.K2vValue.{K2vValue}
 use Rattle.k2v_rows.specs.declared.writes.Writes.{Writes}
 use Rattle.k2v_rows.specs.declared.k2v_row.K2vRow.{K2vRow}
 use Rattle.k2v_rows.specs.Later.{are_later, is_short}
-use Rattle.k2v_rows.specs.Writes.{writes_of, writes_join, writes_laws}
+use Rattle.k2v_rows.specs.Writes.{writes_of, writes_laws}
 use Rattle.k2v_rows.specs.Token.{WritesMap, TimeMap, entries_join, raised, discarded}
 
 -- ---- keys

@@ -1,5 +1,5 @@
 -- Values by their times.
-use Rattle.std.specs.Prelude.{ℕ, suc, nat_eq, Option, Some}
+use Rattle.std.specs.Prelude.{ℕ, suc, nat_eq, Some}
 use Rattle.std.specs.Ordering.{nat_cmp}
 use Rattle.crdt_core.specs.declared.max.Max.{Max}
 use Rattle.crdt_core.specs.Map.{MapOf, map_from}

@@ -1,11 +1,9 @@
 -- The writes of one node, and how two reports of them merge.
-use Rattle.std.specs.Prelude.{◌≡◌, ℕ, suc, Bool, true, false, cond, not, nat_lt, ◌||◌, List, [], ◌∷◌, Option, Some, None, refl}
-use Rattle.std.specs.List.{list_all}
+use Rattle.std.specs.Prelude.{◌≡◌, ℕ, suc, Bool, true, false, cond, not, nat_lt, ◌||◌, List, [], ◌∷◌, Option, None, refl}
 use mathlib.Core.Bool.{Bool-set}
 use mathlib.Core.HLevel.{is_prop→PathP}
 use Rattle.std.proofs.Common.{ap, sym, ◌∙◌, arith, ◌<◌, ◌≤◌}
-use Rattle.std.specs.declared.cmp.Ordering.{Ordering}
-use Rattle.std.specs.declared.cmp.Ordering.TheVariants.{Less, Equal, Greater}
+use Rattle.std.specs.declared.cmp.Ordering.TheVariants.{Less}
 use Rattle.std.specs.Ordering.{nat_cmp, is_lt}
 use Rattle.std.specs.Cmp.{nat_cmp_total}
 use Rattle.std.specs.Cmp.{nat_cmp_is}
@@ -20,8 +18,7 @@ use Rattle.crdt_core.specs.OrderLaws.{option_laws}
 use Rattle.crdt_core.specs.Max.{max_join, max_laws}
 use Rattle.crdt_core.specs.Entries.{entries_from, value_at}
 use Rattle.crdt_core.specs.EntryLaws.{and_parts, and_both}
-use Rattle.crdt_core.specs.Map.{map_entries, map_get, map_join, map_from-entries, map_get-from, map_get-join, map_get-decides, same_map}
-use Rattle.k2v_rows.specs.declared.value.K2vValue.{K2vValue}
+use Rattle.crdt_core.specs.Map.{map_entries, map_get, map_join, map_from-entries, map_get-from, map_get-join, map_get-decides}
 use Rattle.k2v_rows.specs.declared.writes.Writes.{Writes}
 use Rattle.k2v_rows.specs.Later.{are_later, greatest_from}
 use Rattle.k2v_rows.specs.Value.{value_cmp, value_total, value_identical}

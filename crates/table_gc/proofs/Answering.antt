@@ -1,7 +1,6 @@
 -- Where an answer leads, by what its collection is.
-use Rattle.std.proofs.Common.{◌≡◌, ℕ, true, false, cond, Some, None, refl, ap, ◌∙◌}
+use Rattle.std.proofs.Common.{◌≡◌, ℕ, true, false, cond, Some, None, ap}
 use Rattle.table_gc.specs.declared.collection.Collection.{Collection}
-use Rattle.table_gc.specs.declared.collection.GcEnd.{GcEnd}
 use Rattle.table_gc.specs.declared.collection.GcEnd.TheVariants.{Wait}
 use Rattle.table_gc.specs.Rounds.{is_closed}
 use Rattle.table_gc.specs.Collecting.{Open, numbered, end_of, end_at, answer_end, answered, closed, changed, told}

@@ -1,6 +1,3 @@
-use Rattle.std.proofs.Common.{ap, refl, ◌∙◌}
-use Rattle.crdt_core.specs.Map.{map_single}
-use Rattle.k2v_rows.specs.Token.{entries_join}
 use Rattle.k2v_rows.proofs.Tokens.{discarded_is}
 use Rattle.k2v_rows.proofs.k2v_row.raise.Goals as goal
 

@@ -1,7 +1,5 @@
-use Rattle.std.proofs.Common.{◌≡◌, ◌-◌, ◌≤◌, suc, [], length, Some, None, slice_get, subst, sym, ap, ◌∙◌, arith, add-one}
+use Rattle.std.proofs.Common.{◌≡◌, ◌-◌, ◌≤◌, suc, length, Some, None, slice_get, subst, sym, ap, ◌∙◌, arith, add-one}
 use Rattle.std.specs.Cmp.{nat_cmp_total}
-use Rattle.std.specs.Ordering.{nat_cmp}
-use Rattle.crdt_core.specs.Entries.{entries_from}
 use Rattle.crdt_core.specs.Map.{map_entries, map_from, map_from-entries, same_map}
 use Rattle.k2v_rows.specs.Later.{greatest_from}
 use Rattle.k2v_rows.proofs.Lasts.{last_time, no_last, none_later}

@@ -1,6 +1,5 @@
 use Rattle.std.proofs.Common.{ap, ◌∙◌}
 use Rattle.std.specs.Ordering.{nat_cmp}
-use Rattle.crdt_core.specs.declared.max.Max.{Max}
 use Rattle.crdt_core.specs.Entries.{is_ascending}
 use Rattle.k2v_rows.proofs.Tokens.{token_more}
 use Rattle.k2v_rows.proofs.k2v_row.K2vRow.token.Goals as goal

@@ -1,5 +1,4 @@
-use Rattle.std.proofs.Common.{ap, sym, ◌∙◌}
-use Rattle.std.specs.Ordering.{nat_cmp}
+use Rattle.std.proofs.Common.{ap, ◌∙◌}
 use Rattle.crdt_core.specs.Map.{map_entries, map_join}
 use Rattle.crdt_core.specs.Max.{max_join}
 use Rattle.k2v_rows.specs.Later.{are_later}
