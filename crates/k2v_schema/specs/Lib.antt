@@ -1,0 +1,6 @@
+pub mod Gives
+pub mod Range
+pub mod Spelling
+pub mod Reading
+pub mod Schema
+pub mod Laws

@@ -1,0 +1,67 @@
+//! A row's bytes, and the row of bytes.
+ghost use Rattle.std.specs.Prelude.{◌≡◌, ◌≢◌, ◌⊎◌, ◌↔◌, ℕ, List, false, IsTrue, IfOk, IfErr, Some, None};
+ghost use Rattle.crdt_core.specs.Outcomes.{WantOr};
+ghost use Rattle.crdt_core.specs.declared.memory.Memory.TheVariants.{Full};
+ghost use Rattle.k2v_rows.specs.declared.k2v_row.K2vRow.{K2vRow};
+ghost use Rattle.table_schema.specs.declared.schema.RowFault.TheVariants as faults;
+ghost use Rattle.k2v_schema.specs.Gives.{Gives};
+ghost use Rattle.k2v_schema.specs.Range.{in_range, has_bytes};
+ghost use Rattle.k2v_schema.specs.Reading.{read, spelling};
+ghost use Rattle.k2v_schema.specs.Spelling.{spelled};
+
+use crate::fault::Fault;
+use crate::field::Field;
+use crdt_core::{Bytes, Memory};
+use k2v_rows::K2vRow;
+use std::alloc::Global;
+use table_schema::RowFault;
+
+/// The bytes of a row. `Full` where one of its lengths or counts is 2^32 or more.
+pub fn encode(alloc: Global, row: &K2vRow) -> Result<Bytes, Memory>
+    ensures spelled { IfOk result (λ bytes. bytes ≡ spelled row.now) }
+    ensures short { IfOk result (λ bytes. IsTrue (has_bytes row.now)) }
+    ensures in_range { IfOk result (λ bytes. IsTrue (in_range row.now)) }
+    ensures causes { WantOr result (has_bytes row.now ≡ false) }
+    ensures full { has_bytes row.now ≡ false → result ≡ Err Full }
+{
+    if !row.is_short() {
+        return Err(Memory::Full);
+    }
+    let mut out = Bytes::new(alloc);
+    row.put(&mut out)?;
+    Ok(out)
+}
+
+// A row, and nothing after it.
+fn whole(alloc: Global, bytes: &[u8]) -> Result<K2vRow, Fault>
+    ensures { Gives (λ row. row) result (read bytes.now) }
+{
+    let (row, rest) = K2vRow::take(alloc, bytes)?;
+    if !rest.is_empty() {
+        return Err(Fault::NotARow);
+    }
+    Ok(row)
+}
+
+/// The row that has these bytes.
+pub fn decode(alloc: Global, bytes: &[u8]) -> Result<K2vRow, RowFault>
+    ensures spelled { IfOk result (λ row. bytes.now ≡ spelled row) }
+    ensures short { IfOk result (λ row. IsTrue (has_bytes row)) }
+    ensures in_range { IfOk result (λ row. IsTrue (in_range row)) }
+    ensures read { IfOk result (λ row. read bytes.now ≡ Some row) }
+    ensures causes { IfErr result (λ e. (e ≡ faults.Memory) ⊎ ((e ≡ faults.NotARow) × (read bytes.now ≡ None))) }
+{
+    match whole(alloc, bytes) {
+        Ok(row) => Ok(row),
+        Err(Fault::NotARow) => Err(RowFault::NotARow),
+        Err(Fault::Memory) => Err(RowFault::Memory),
+    }
+}
+
+/// What is read from bytes is the row that has them, and none is read where no row has them. So each row has one
+/// string of bytes, and each string is that of one row at most.
+pub fn rows_are_read_back()
+    ensures back { (row : K2vRow) (bytes : List ℕ) → (read bytes ≡ Some row) ↔ (spelling row ≡ Some bytes) }
+    ensures none { (row : K2vRow) (bytes : List ℕ) → read bytes ≡ None →
+        IsTrue (in_range row) → IsTrue (has_bytes row) → bytes ≢ spelled row }
+{}

@@ -1,0 +1,128 @@
+//! Pairs, and lists of values.
+ghost use Rattle.std.specs.Prelude.{◌≡◌, ◌&&◌, ◌++◌, IsTrue, OnOk};
+ghost use Rattle.std.specs.List.{list_all, flat_map};
+ghost use Rattle.crdt_core.specs.Outcomes.{OnlyWant};
+ghost use Rattle.k2v_schema.specs.Gives.{Gives};
+ghost use Rattle.row_codec.specs.JoinedLaws.{both_reads};
+ghost use Rattle.row_codec.specs.PartLaws.{max_reads};
+ghost use Rattle.row_codec.specs.Range.{are_short};
+ghost use Rattle.row_codec.specs.Reading.{both_at, each_at, counted_at, max_at};
+ghost use Rattle.row_codec.specs.Spelling.{counted};
+
+use crate::fault::Fault;
+use crate::field::Field;
+use crate::numbers::{LIMIT, put_count, take_count};
+use crdt_core::{Bytes, List, Max, Memory, Value};
+use std::alloc::Global;
+
+impl<A: Field, B: Field> Field for (A, B) {
+    ghost in_range = { λ p. A.in_range p.0 && B.in_range p.1 };
+
+    ghost is_short = { λ p. A.is_short p.0 && B.is_short p.1 };
+
+    ghost spelled = { λ p. A.spelled p.0 ++ B.spelled p.1 };
+
+    ghost read = { both_at A.read B.read };
+
+    ghost reads = { both_reads A.reads B.reads };
+
+    fn is_short(&self) -> bool {
+        self.0.is_short() && self.1.is_short()
+    }
+
+    fn put(&self, out: &mut Bytes) -> Result<(), Memory> {
+        self.0.put(out)?;
+        self.1.put(out)
+    }
+
+    #[tactic(auto, unfolding(row_codec::specs::Reading::both_at))]
+    fn take(alloc: Global, bytes: &[u8]) -> Result<((A, B), &[u8]), Fault> {
+        let (first, rest) = A::take(alloc, bytes)?;
+        let (second, rest) = B::take(alloc, rest)?;
+        Ok(((first, second), rest))
+    }
+}
+
+impl<T: Value + Field> Field for Max<T> {
+    ghost in_range = { λ m. T.in_range m.0 };
+
+    ghost is_short = { λ m. T.is_short m.0 };
+
+    ghost spelled = { λ m. T.spelled m.0 };
+
+    ghost read = { max_at T.read };
+
+    ghost reads = { max_reads T.reads };
+
+    fn is_short(&self) -> bool {
+        self.0.is_short()
+    }
+
+    fn put(&self, out: &mut Bytes) -> Result<(), Memory> {
+        self.0.put(out)
+    }
+
+    #[tactic(auto, unfolding(row_codec::specs::Reading::max_at, row_codec::specs::Reading::made_at))]
+    fn take(alloc: Global, bytes: &[u8]) -> Result<(Max<T>, &[u8]), Fault> {
+        let (value, rest) = T::take(alloc, bytes)?;
+        Ok((Max(value), rest))
+    }
+}
+
+fn all_short<T: Field>(items: &[T]) -> bool
+    ensures { result ≡ list_all T.is_short items.now }
+{
+    items.iter().all(|item| item.is_short())
+}
+
+fn put_each<T: Field>(items: &[T], out: &mut Bytes) -> Result<(), Memory>
+    requires { IsTrue (list_all T.is_short items.now) }
+    ensures ok { OnOk result (out.new ≡ out.old ++ flat_map T.spelled items.now) }
+    ensures in_range { OnOk result (IsTrue (list_all T.in_range items.now)) }
+    ensures want { OnlyWant result }
+{
+    for item in items {
+        item.put(out)?;
+    }
+    Ok(())
+}
+
+fn take_each<T: Field>(alloc: Global, count: u32, bytes: &[u8]) -> Result<(List<T>, &[u8]), Fault>
+    ensures { Gives (λ x. (x.0, x.1.now)) result (each_at T.read count bytes.now) }
+{
+    let mut items = List::new(alloc);
+    let mut rest = bytes;
+    for _ in 0..count {
+        let (item, after) = T::take(alloc, rest)?;
+        items.push(item)?;
+        rest = after;
+    }
+    Ok((items, rest))
+}
+
+/// Writes a count and each of the items.
+pub fn put_items<T: Field>(items: &[T], out: &mut Bytes) -> Result<(), Memory>
+    requires { IsTrue (are_short T.is_short items.now) }
+    ensures ok { OnOk result (out.new ≡ out.old ++ counted T.spelled items.now) }
+    ensures in_range { OnOk result (IsTrue (list_all T.in_range items.now)) }
+    ensures want { OnlyWant result }
+{
+    put_count(items.len() as u32, out)?;
+    put_each(items, out)
+}
+
+/// Fewer than 2^32 items, each of them short.
+pub fn are_short<T: Field>(items: &[T]) -> bool
+    ensures { result ≡ are_short T.is_short items.now }
+{
+    items.len() < LIMIT && all_short(items)
+}
+
+/// A count and so many items.
+#[tactic(auto, unfolding(row_codec::specs::Reading::counted_at))]
+pub fn take_items<T: Field>(alloc: Global, bytes: &[u8]) -> Result<(List<T>, &[u8]), Fault>
+    ensures { Gives (λ x. (x.0, x.1.now)) result (counted_at T.read bytes.now) }
+{
+    let (count, rest) = take_count(bytes)?;
+    take_each(alloc, count, rest)
+}

@@ -1,0 +1,172 @@
+//! Numbers, strings of bytes and digests.
+ghost use Rattle.std.specs.Prelude.{◌≡◌, ◌++◌, true, IsTrue, OnOk};
+ghost use Rattle.crdt_core.specs.Outcomes.{OnlyWant};
+ghost use Rattle.k2v_schema.specs.Gives.{Gives};
+ghost use Rattle.row_codec.specs.NumberLaws.{eight_reads, field_reads};
+ghost use Rattle.row_codec.specs.PartLaws.{hash_reads};
+ghost use Rattle.row_codec.specs.Range.{is_eight, is_hash, is_below};
+ghost use Rattle.row_codec.specs.Reading.{bytes_at, four_at, eight_at, field_at, hash_at};
+ghost use Rattle.row_codec.specs.Reads.{are_bytes};
+ghost use Rattle.row_codec.specs.Spelling.{four, eight, field};
+ghost use Rattle.k2v_schema.specs.Range.{is_byte};
+ghost use Rattle.k2v_schema.specs.Spelling.{byte};
+ghost use Rattle.k2v_schema.specs.Reading.{byte_at, byte_reads};
+
+use crate::fault::Fault;
+use crate::field::Field;
+use blake2_hash::Hash32;
+use crdt_core::{Bytes, Memory};
+use std::alloc::Global;
+
+/// Lengths and counts from here on have no 4 bytes.
+pub const LIMIT: usize = 1 << 32;
+
+// The first N bytes, and the rest.
+#[tactic(auto, unfolding(row_codec::specs::Reading::bytes_at))]
+fn front<const N: usize>(bytes: &[u8]) -> Result<(&[u8; N], &[u8]), Fault>
+    ensures { Gives (λ x. (x.0.now, x.1.now)) result (bytes_at N bytes.now) }
+{
+    match bytes.split_first_chunk::<N>() {
+        Some((front, rest)) => Ok((front, rest)),
+        None => Err(Fault::NotARow),
+    }
+}
+
+// Writes the bytes at the end.
+fn put_bytes(bytes: &[u8], out: &mut Bytes) -> Result<(), Memory>
+    ensures ok { OnOk result (out.new ≡ out.old ++ bytes.now) }
+    ensures want { OnlyWant result }
+    ensures in_range { IsTrue (are_bytes bytes.now) }
+{
+    out.extend_from_slice(bytes)
+}
+
+/// A count of 4 bytes, the highest first.
+#[tactic(auto, unfolding(row_codec::specs::Spelling::four))]
+pub fn put_count(count: u32, out: &mut Bytes) -> Result<(), Memory>
+    ensures ok { OnOk result (out.new ≡ out.old ++ four count) }
+    ensures want { OnlyWant result }
+{
+    out.extend_from_slice(&count.to_be_bytes())
+}
+
+#[tactic(auto, unfolding(row_codec::specs::Reading::four_at))]
+pub fn take_count(bytes: &[u8]) -> Result<(u32, &[u8]), Fault>
+    ensures { Gives (λ x. (x.0, x.1.now)) result (four_at bytes.now) }
+{
+    let (count, rest) = front::<4>(bytes)?;
+    Ok((u32::from_be_bytes(*count), rest))
+}
+
+impl Field for u8 {
+    ghost in_range = { is_byte };
+
+    ghost is_short = { λ n. true };
+
+    ghost spelled = { byte };
+
+    ghost read = { byte_at };
+
+    ghost reads = { byte_reads };
+
+    fn is_short(&self) -> bool {
+        true
+    }
+
+    fn put(&self, out: &mut Bytes) -> Result<(), Memory> {
+        out.push(*self)
+    }
+
+    #[tactic(auto, unfolding(crate::specs::Reading::byte_at))]
+    fn take(_alloc: Global, bytes: &[u8]) -> Result<(u8, &[u8]), Fault> {
+        match bytes {
+            [first, rest @ ..] => Ok((*first, rest)),
+            [] => Err(Fault::NotARow),
+        }
+    }
+}
+
+impl Field for u64 {
+    ghost in_range = { is_eight };
+
+    ghost is_short = { λ n. true };
+
+    ghost spelled = { eight };
+
+    ghost read = { eight_at };
+
+    ghost reads = { eight_reads };
+
+    fn is_short(&self) -> bool {
+        true
+    }
+
+    #[tactic(auto, unfolding(row_codec::specs::Spelling::eight))]
+    fn put(&self, out: &mut Bytes) -> Result<(), Memory> {
+        out.extend_from_slice(&self.to_be_bytes())
+    }
+
+    #[tactic(auto, unfolding(row_codec::specs::Reading::eight_at))]
+    fn take(_alloc: Global, bytes: &[u8]) -> Result<(u64, &[u8]), Fault> {
+        let (number, rest) = front::<8>(bytes)?;
+        Ok((u64::from_be_bytes(*number), rest))
+    }
+}
+
+impl Field for Hash32 {
+    ghost in_range = { is_hash };
+
+    ghost is_short = { λ h. true };
+
+    ghost spelled = { λ h. h.0 };
+
+    ghost read = { hash_at };
+
+    ghost reads = { hash_reads };
+
+    fn is_short(&self) -> bool {
+        true
+    }
+
+    fn put(&self, out: &mut Bytes) -> Result<(), Memory> {
+        put_bytes(&self.0, out)
+    }
+
+    #[tactic(auto, unfolding(row_codec::specs::Reading::hash_at, row_codec::specs::Reading::made_at))]
+    fn take(_alloc: Global, bytes: &[u8]) -> Result<(Hash32, &[u8]), Fault> {
+        let (block, rest) = front::<32>(bytes)?;
+        Ok((Hash32(*block), rest))
+    }
+}
+
+impl Field for Bytes {
+    ghost in_range = { are_bytes };
+
+    ghost is_short = { is_below };
+
+    ghost spelled = { field };
+
+    ghost read = { field_at };
+
+    ghost reads = { field_reads };
+
+    fn is_short(&self) -> bool {
+        self.len() < LIMIT
+    }
+
+    fn put(&self, out: &mut Bytes) -> Result<(), Memory> {
+        put_count(self.len() as u32, out)?;
+        put_bytes(self.as_slice(), out)
+    }
+
+    #[tactic(auto, unfolding(row_codec::specs::Reading::field_at, row_codec::specs::Reading::bytes_at))]
+    fn take(alloc: Global, bytes: &[u8]) -> Result<(Bytes, &[u8]), Fault> {
+        let (len, rest) = take_count(bytes)?;
+        let len = len as usize;
+        if rest.len() < len {
+            return Err(Fault::NotARow);
+        }
+        let (front, rest) = rest.split_at(len);
+        Ok((Bytes::from_slice(alloc, front)?, rest))
+    }
+}

@@ -1,0 +1,183 @@
+//! The open collections.
+ghost use Rattle.std.specs.Prelude.{◌≡◌, ◌<◌, ◌+◌, [], length, IsTrue, IfOk, IfErr, OnOk, OnErr, IfSome, IfNone, slice_get, option_copied, false, ◌==◌};
+ghost use Rattle.std.specs.List.{AllByRecursion};
+ghost use Rattle.crdt_core.specs.Outcomes.{OnlyWant};
+ghost use Rattle.table_gc.specs.Collecting.{numbers, Rises, IsNumbered, none_open, begun_with, keyed, numbered, missing_in, is_ready, in_second, changed, closed, answer_end, answered, RefusesBegin};
+
+use crate::collection::{Collection, GcEnd};
+use crdt_core::{Bytes, List, Memory};
+use std::alloc::Global;
+use std::marker::Model;
+
+/// The collections of a node that are open.
+#[derive(Drop)]
+pub struct Collections {
+    begun: u64,
+    list: List<Collection>,
+}
+
+impl Model for Collections {
+    ghost use Rattle.table_gc.specs.Collecting.{Open, IsNumbered};
+
+    ghost Value = { Open };
+
+    ghost view = { λ c. record { begun = c.begun; collections = c.list } };
+
+    ghost invariant = { λ c. IsNumbered c.begun c.list };
+}
+
+impl Collections {
+    pub fn new(alloc: Global) -> Collections
+        ensures { result ≡ none_open }
+    {
+        Collections {
+            begun: 0,
+            list: List::new(alloc),
+        }
+    }
+
+    /// Begins a collection of the row with this key and these bytes at the node `own`, whose newest layout version
+    /// is `newest`, and answers its number. The node itself has confirmed round 1.
+    pub fn begin(&mut self, key: Bytes, row: Bytes, own: u8, newest: u32) -> Result<u64, Memory>
+        ensures number { IfOk result (λ n. n ≡ self.old.begun + 1) }
+        ensures ok { OnOk result (self.new ≡ begun_with self.old key row own newest) }
+        ensures err { OnErr result (self.new ≡ self.old) }
+        ensures refused { IfErr result (RefusesBegin self.old.begun) }
+    {
+        if self.begun == u64::MAX {
+            return Err(Memory::Full);
+        }
+        let number = self.begun + 1;
+        let alloc = self.list.allocator();
+        let mut first = List::new(alloc);
+        first.push((own, newest))?;
+        let again = List::new(alloc);
+        self.list.push(Collection {
+            number,
+            key,
+            round: 1,
+            row,
+            own,
+            newest,
+            ready: None,
+            first,
+            again,
+        })?;
+        self.begun = number;
+        Ok(number)
+    }
+
+    /// The first open collection of the row with this key.
+    pub fn of(&self, key: &[u8]) -> Option<&Collection>
+        ensures { option_copied result ≡ keyed key.now self.now }
+    {
+        self.list
+            .as_slice()
+            .iter()
+            .find(|collection| collection.key.as_slice() == key)
+    }
+
+    /// The open collections in order of their numbers.
+    pub fn all(&self) -> &[Collection]
+        ensures all { result.now ≡ self.now.collections }
+        ensures numbered { IsNumbered self.now.begun self.now.collections }
+    {
+        self.list.as_slice()
+    }
+
+    /// The nodes from 1 to 16 that haven't confirmed the open round of the collection with this number, in order.
+    pub fn missing(&self, number: u64) -> Result<Vec<u8>, Memory>
+        ensures nodes { IfOk result (λ v. v.items ≡ missing_in number self.now) }
+        ensures want { OnlyWant result }
+    {
+        let alloc = self.list.allocator();
+        match place_of(self.list.as_slice(), number) {
+            Some(i) => self.list.at(i).missing(alloc),
+            None => Ok(Vec::new(alloc)),
+        }
+    }
+
+    /// Whether round 2 of the collection with this number may begin: it is open, all 16 nodes have confirmed round 1,
+    /// and round 2 hasn't begun.
+    pub fn is_ready(&self, number: u64) -> bool
+        ensures { result ≡ is_ready (numbered number self.now) }
+    {
+        match place_of(self.list.as_slice(), number) {
+            Some(i) => self.list.at(i).is_ready(),
+            None => false,
+        }
+    }
+
+    /// Begins round 2 of the collection with this number, which the own node confirms.
+    pub fn second(&mut self, number: u64) -> Result<(), Memory>
+        requires { IsTrue (is_ready (numbered number self.old)) }
+        ensures ok { OnOk result (self.new ≡ changed in_second number self.old) }
+        ensures err { OnErr result (self.new ≡ self.old) }
+        ensures want { OnlyWant result }
+    {
+        match place_of(self.list.as_slice(), number) {
+            Some(i) => self.list.at_mut(i).second(),
+            None => Ok(()),
+        }
+    }
+
+    /// Takes an answer to a round of the collection with this number: the node confirms it and says that `newest`
+    /// is its newest layout version. `now` is the own clock in milliseconds.
+    pub fn tombed(
+        &mut self,
+        number: u64,
+        round: u8,
+        node: u8,
+        newest: u32,
+        now: u64,
+    ) -> Result<GcEnd, Memory>
+        ensures end { IfOk result (λ e. e ≡ answer_end number round node newest self.old) }
+        ensures ok { OnOk result (self.new ≡ answered number round node newest now self.old) }
+        ensures err { OnErr result (self.new ≡ self.old) }
+        ensures want { OnlyWant result }
+    {
+        match place_of(self.list.as_slice(), number) {
+            Some(i) => {
+                let end = self.list.at(i).end_of(round, node, newest);
+                if end.is_closed() {
+                    let _ = self.list.remove(i);
+                    return Ok(end);
+                }
+                self.list.at_mut(i).told(round, node, newest, now)?;
+                Ok(end)
+            }
+            None => Ok(GcEnd::Wait),
+        }
+    }
+
+    /// Closes the collection with this number. Where it isn't open, nothing changes.
+    pub fn close(&mut self, number: u64)
+        ensures { self.new ≡ closed number self.old }
+    {
+        match place_of(self.list.as_slice(), number) {
+            Some(i) => {
+                let _ = self.list.remove(i);
+            }
+            None => {}
+        }
+    }
+
+    /// Closes all collections, as a restart does. Their numbers don't come again.
+    pub fn clear(&mut self)
+        ensures { self.new ≡ record self.old { collections = [] } }
+    {
+        self.list.truncate(0);
+    }
+}
+
+// Where the collection with this number stands.
+fn place_of(collections: &[Collection], number: u64) -> Option<usize>
+    requires { Rises 0 (numbers collections.now) }
+    ensures in_range { IfSome result (λ i. i < length collections.now) }
+    ensures found { IfSome result (λ i. IfSome (slice_get collections.now i) (λ c. c.number ≡ number)) }
+    ensures absent { IfNone result (AllByRecursion (λ c. (c.number == number) ≡ false) collections.now) }
+{
+    collections
+        .binary_search_by(|collection| collection.number.cmp(&number))
+        .ok()
+}
