@@ -29,6 +29,7 @@ use Rattle.k2v_rows.specs.Token.{WritesMap, TimeMap, entries_join, raised, disca
 
 -- ---- keys
 
+-- what names an item: bucket, partition key, sort key
 abbrev pub ItemKey : Type 0
 ItemKey = Hash32 × (List ℕ × List ℕ)
 

@@ -5,6 +5,7 @@ use Rattle.crdt_core.specs.declared.max.Max.{Max}
 use Rattle.crdt_core.specs.Map.{MapOf, map_from}
 use Rattle.k2v_rows.specs.declared.value.K2vValue.{K2vValue}
 
+-- values by their times
 abbrev pub ValueMap : Type 0
 ValueMap = MapOf nat_cmp nat_eq (λ m n. Some (nat_cmp m n)) (Max K2vValue)
 

@@ -13,10 +13,12 @@ use Rattle.k2v_rows.specs.declared.k2v_row.K2vRow.{K2vRow}
 abbrev pub is_byte : ℕ → Bool
 is_byte n = nat_lt n (2 ^ 8)
 
+-- a value's bytes are bytes
 abbrev pub value_in_range : K2vValue → Bool
 value_in_range Deleted = true
 value_in_range (Value bytes) = are_bytes bytes
 
+-- each number of one node's writes is in its type's range
 abbrev pub writes_in_range : Writes → Bool
 writes_in_range w = is_eight w.discard.0 && list_all (λ e. is_eight e.0 && value_in_range e.1.0) (map_entries w.values)
 
@@ -26,10 +28,12 @@ in_range r = is_hash r.bucket && (are_bytes r.pk && (are_bytes r.sk && list_all 
 
 -- ---- lengths and counts below 2^32
 
+-- 4 bytes say how long the value is
 abbrev pub is_short_value : K2vValue → Bool
 is_short_value Deleted = true
 is_short_value (Value bytes) = is_below bytes
 
+-- 4 bytes say how many values there are, and how long each is
 abbrev pub are_short_writes : Writes → Bool
 are_short_writes w = are_short (λ e. is_short_value e.1.0) (map_entries w.values)
 

@@ -31,6 +31,7 @@ use Rattle.k2v_schema.specs.Spelling.{byte, value, writes, spelled}
 
 -- ---- bytes
 
+-- the first byte, and the rest
 unfoldable pub byte_at : List ℕ → Option (ℕ × List ℕ)
 byte_at [] = None
 byte_at (b ∷ rest) = Some (b, rest)
@@ -79,6 +80,7 @@ value_reads = record { bytes = value_bytes; takes = value_takes; again = value_a
 
 -- ---- the writes of a node
 
+-- what one node's writes are made of
 abbrev pub writes_parts : Writes → ℕ × ValueMap
 writes_parts w = (w.discard.0, w.values)
 
@@ -104,6 +106,7 @@ writes_there w = writes_there_by w (are_later w.discard.0 (map_entries w.values)
 writes_back : (t : ℕ × ValueMap) (w : Writes) → writes_from t ≡ Some w → writes_parts w ≡ t
 writes_back t w e = writes_back_by t (are_later t.0 (map_entries t.1)) refl w e
 
+-- one node's writes, and the bytes behind them
 unfoldable pub writes_at : List ℕ → Option (Writes × List ℕ)
 writes_at = tested_at writes_from (both_at eight_at (map_at eight_at (max_at value_at)))
 
@@ -113,9 +116,11 @@ writes_reads = tested_reads writes_from writes_parts writes_there writes_back (b
 
 -- ---- rows
 
+-- what a row is made of
 abbrev pub RowParts : Type 0
 RowParts = Hash32 × (List ℕ × (List ℕ × WritesMap))
 
+-- the parts of a row
 abbrev pub row_parts : K2vRow → RowParts
 row_parts r = (r.bucket, (r.pk, (r.sk, r.entries)))
 
@@ -145,6 +150,7 @@ row_back t r e = row_back_by t (is_short t.1.0) refl r e
 abbrev rest_of : K2vRow → List ℕ
 rest_of r = r.bucket.0 ++ (field r.pk ++ (field r.sk ++ counted (λ e. byte e.0 ++ writes e.1) (map_entries r.entries)))
 
+-- the row behind the table's byte, and the bytes behind it
 unfoldable pub rest_at : List ℕ → Option (K2vRow × List ℕ)
 rest_at = tested_at row_from (both_at hash_at (both_at field_at (both_at field_at (map_at byte_at writes_at))))
 

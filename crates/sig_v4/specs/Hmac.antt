@@ -2,6 +2,7 @@
 use Rattle.std.specs.Prelude.{ℕ, ◌-◌, nat_lt, if◌then◌else◌, List, ◌++◌, length, map, replicate, bit_xor}
 use Rattle.sha2.specs.Sha256.{sha256}
 
+-- the bytes of a block of SHA-256
 abbrev pub block_size : ℕ
 block_size = 64
 

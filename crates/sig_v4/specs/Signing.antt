@@ -16,5 +16,6 @@ text_to_sign time date region request = codes "AWS4-HMAC-SHA256\n" ++ time ++ co
 abbrev pub signing_key : List ℕ → List ℕ → List ℕ → List ℕ
 signing_key secret date region = hmac (hmac (hmac (hmac (codes "AWS4" ++ secret) date) region) (codes "s3")) (codes "aws4_request")
 
+-- the keyed digest of the text under the key for the day, the region and the service, in hexadecimal
 abbrev pub signature : List ℕ → List ℕ → List ℕ → List ℕ → List ℕ
 signature secret date region text = encode_lower (hmac (signing_key secret date region) text)

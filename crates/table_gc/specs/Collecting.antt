@@ -7,14 +7,17 @@ use Rattle.crdt_core.specs.declared.memory.Memory.TheVariants.{Want, Full}
 use Rattle.table_gc.specs.declared.collection.Collection.{Collection}
 use Rattle.table_gc.specs.declared.collection.GcEnd.{GcEnd}
 use Rattle.table_gc.specs.declared.collection.GcEnd.TheVariants.{Wait, Closed, Complete}
-use Rattle.table_gc.specs.Rounds.{is_among, given, is_changed, is_closed}
+use Rattle.quorum_model.specs.Quorum.{is_among}
+use Rattle.table_gc.specs.Rounds.{given, is_changed, is_closed}
 
+-- the open collections of a node
 pub record Open : Type 0 where
   -- how many collections ever began, which is the number of the last one
   pub begun : ℕ
   -- those that are open, in order of their numbers
   pub collections : List Collection
 
+-- none has begun
 abbrev pub none_open : Open
 none_open = record { begun = 0; collections = [] }
 
@@ -57,6 +60,7 @@ missing_of c =
 
 -- ---- numbers
 
+-- the numbers of some collections
 abbrev pub numbers : List Collection → List ℕ
 numbers cs = map (λ c. c.number) cs
 
@@ -94,6 +98,7 @@ opened number key row own newest = record {
   again = [];
 }
 
+-- one more is open, with the next number
 abbrev pub begun_with : Open → List ℕ → List ℕ → ℕ → ℕ → Open
 begun_with o key row own newest = record {
   begun = o.begun + 1;
@@ -113,6 +118,7 @@ abbrev pub end_at : ℕ → ℕ → ℕ → Option Collection → GcEnd
 end_at round node newest None = Wait
 end_at round node newest (Some c) = end_of round node newest c
 
+-- where an answer to the collection with this number leads
 abbrev pub answer_end : ℕ → ℕ → ℕ → ℕ → Open → GcEnd
 answer_end number round node newest o = end_at round node newest (numbered number o)
 
@@ -139,6 +145,7 @@ abbrev pub missing_at : Option Collection → List ℕ
 missing_at None = []
 missing_at (Some c) = missing_of c
 
+-- the nodes that haven't confirmed the open round of the collection with this number; none where it isn't open
 abbrev pub missing_in : ℕ → Open → List ℕ
 missing_in number o = missing_at (numbered number o)
 

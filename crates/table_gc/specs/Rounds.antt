@@ -1,11 +1,8 @@
 -- Which nodes have confirmed a round, what each gave, and where answers lead.
 use Rattle.std.specs.Prelude.{ℕ, ◌==◌, Bool, true, false, not, List, Option, Some, None, option_map}
-use Rattle.std.specs.List.{list_any, find}
+use Rattle.std.specs.List.{find}
 use Rattle.table_gc.specs.declared.collection.GcEnd.{GcEnd}
 use Rattle.table_gc.specs.declared.collection.GcEnd.TheVariants.{Wait, Closed, Complete}
-
-abbrev pub is_among : ℕ → List ℕ → Bool
-is_among node nodes = list_any (λ n. n == node) nodes
 
 -- the newest layout version that the node gave first
 abbrev pub given : ℕ → List (ℕ × ℕ) → Option ℕ
@@ -16,6 +13,7 @@ abbrev pub is_changed : Option ℕ → ℕ → Bool
 is_changed None newest = true
 is_changed (Some first) newest = not (first == newest)
 
+-- the collection is closed
 abbrev pub is_closed : GcEnd → Bool
 is_closed Wait = false
 is_closed Closed = true

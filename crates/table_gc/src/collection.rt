@@ -1,7 +1,8 @@
 //! One collection.
 ghost use Rattle.std.specs.Prelude.{◌≡◌, OnOk, OnErr, IfOk};
 ghost use Rattle.crdt_core.specs.Outcomes.{OnlyWant};
-ghost use Rattle.table_gc.specs.Rounds.{is_among, given};
+ghost use Rattle.quorum_model.specs.Quorum.{is_among};
+ghost use Rattle.table_gc.specs.Rounds.{given};
 
 use crdt_core::{Bytes, List, Memory};
 use std::alloc::Global;
