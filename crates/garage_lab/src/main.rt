@@ -13,13 +13,13 @@ mod asked;
 mod grammar;
 mod input;
 mod layout;
+#[cfg(test)]
+mod line_texts;
 mod run;
 mod schedule;
 mod stop;
 #[cfg(test)]
 mod tests;
-#[cfg(test)]
-mod texts;
 mod transcript;
 
 ghost use Rattle.std.specs.Prelude.{◌≡◌};
