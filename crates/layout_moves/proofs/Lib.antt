@@ -1,0 +1,5 @@
+pub mod Chosen
+mod Limit
+mod Near
+mod Swaps
+mod Weak
