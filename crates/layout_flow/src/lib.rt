@@ -15,6 +15,7 @@ mod vertex;
 
 pub use answer::FlowOrCut;
 pub use cut::Cut;
+pub use groups::by_zone;
 pub use laws::{flows, light_cuts};
 pub use network::Network;
 pub use vertex::Vertex;

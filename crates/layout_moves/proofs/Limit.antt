@@ -79,7 +79,7 @@ few_moves n roles old sets whole threes =
     bit false = omega arith
 
 -- where no term is below that of the other sum, one that is above it by c counts
-gap_at : {X : Type 0} (f g : X → ℕ) (c : ℕ) (xs : List X) → All (λ x. f x ≤ g x) xs → (k : ℕ) (d : X) → k < length xs → f (get_or xs k d) + c ≤ g (get_or xs k d) → sum_by f xs + c ≤ sum_by g xs
+pub gap_at : {X : Type 0} (f g : X → ℕ) (c : ℕ) (xs : List X) → All (λ x. f x ≤ g x) xs → (k : ℕ) (d : X) → k < length xs → f (get_or xs k d) + c ≤ g (get_or xs k d) → sum_by f xs + c ≤ sum_by g xs
 gap_at f g c [] le k d h gap = absurd (omega arith)
 gap_at f g c (x ∷ xs) le zero d h gap =
     let a = sum_by-cons f x xs in

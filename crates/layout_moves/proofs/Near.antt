@@ -4,18 +4,34 @@ use Rattle.std.specs.List.{sum_by, count_by, filter, list_any, All}
 use Rattle.std.proofs.Math.Nat.{mul-le-mul_left}
 use Rattle.std.proofs.lemmas.List.{get_or_default}
 use Rattle.std.proofs.lemmas.Bool.{cases_Bool, cases_lt, cond-true, cond-false, and_from, or_cases, eq-eqb}
-use Rattle.std.proofs.lemmas.List.Sums.{sum_by-cons}
+use Rattle.std.proofs.lemmas.List.Sums.{sum_by-cons, get_or-le-sum_by}
 use Rattle.std.proofs.lemmas.List.Folds.{list_any_at}
 use Rattle.std.proofs.lemmas.List.Elements.{All-head, All-tail, All-cons, All-nil, All-filter}
 use Rattle.layout_roles.specs.declared.role.Role.{Role}
 use Rattle.layout_roles.specs.Zones.{nodes_ascend, storage_nodes, zones}
 use Rattle.layout_roles.specs.Fits.{NodeSet, has_node, IsThree}
 use Rattle.layout_flow.proofs.Sums.{yes, no, sum_by-plus, sum_by-agree, sum_by-below, sum_by-constant}
-use Rattle.layout_flow.proofs.Zones.{count-cons, sum_by_zones}
+use Rattle.layout_flow.proofs.Zones.{count-cons, count_some, any_from_count, sum_by_zones}
 use Rattle.layout_flow.proofs.Spread.{in_set, three_chosen}
 use Rattle.layout_flow.proofs.Lightest.{mul_below}
 use Rattle.layout_moves.specs.Prices.{kept, lies, IsBase, is_open, may_take, IsCheap, dearest, level}
 use Rattle.layout_moves.proofs.Chosen.{sum_in_set}
+
+pub or_left : (a b : Bool) → a ≡ true → (a || b) ≡ true
+or_left true b e = refl
+or_left false b e = cc
+
+pub or_right : (a b : Bool) → b ≡ true → (a || b) ≡ true
+or_right true b e = refl
+or_right false b e = e
+
+-- a node of a zone is a storage node
+pub zone_stored : (roles : List Role) (i node : ℕ) → i < length (zones roles) → lies (get_or (zones roles) i []) node ≡ true → list_any (λ role. role.node == node) (storage_nodes roles) ≡ true
+zone_stored roles i node inside t =
+    let here = count_some (λ role. role.node == node) (get_or (zones roles) i []) t in
+    let below = get_or-le-sum_by (λ z. count_by (λ role. role.node == node) z) (zones roles) i [] inside in
+    let all = sum_by_zones (λ role. cond (role.node == node) 1 0) roles in
+    any_from_count (λ role. role.node == node) (storage_nodes roles) (omega arith)
 
 -- ---- the dearest
 
@@ -51,22 +67,14 @@ has_filter test node (n ∷ ns) t h =
       | inl same ↦
           let e : node ≡ n = eqb-true node n same in
           let tn : test n ≡ true = ap test (sym e) ∙ t in
-          rw (cond-true (test n) (n ∷ filter test ns) (filter test ns) tn) (left (nat_eq node n) (has_node node (filter test ns)) same)
+          rw (cond-true (test n) (n ∷ filter test ns) (filter test ns) tn) (or_left (nat_eq node n) (has_node node (filter test ns)) same)
       | inr more ↦
           let ih = has_filter test node ns t more in
           elim (test n) as (λ b. has_node node (cond b (n ∷ filter test ns) (filter test ns)) ≡ true) [
-            | true ↦ right (nat_eq node n) (has_node node (filter test ns)) ih
+            | true ↦ or_right (nat_eq node n) (has_node node (filter test ns)) ih
             | false ↦ ih
           ]
     ]
-  where
-    left : (a b : Bool) → a ≡ true → (a || b) ≡ true
-    left true b e = refl
-    left false b e = cc
-
-    right : (a b : Bool) → b ≡ true → (a || b) ≡ true
-    right true b e = refl
-    right false b e = e
 
 filter_below : (asks : ℕ → ℕ) (test : ℕ → Bool) (most : ℕ) (nodes : List ℕ) → All (λ n. test n ≡ true → asks n ≤ most) nodes → dearest asks (filter test nodes) ≤ most
 filter_below asks test most [] all = omega arith
@@ -98,18 +106,18 @@ takes each set out zones i node less opened there apart =
     let some = list_any_at test zones i [] less (and_from (is_open each set out (get_or zones i [])) (lies (get_or zones i []) node) opened there) in
     and_from (list_any test zones) (not (has_node node set)) some (ap not apart)
 
-pub is_level : (slack each : ℕ) (asks : ℕ → ℕ) (set : NodeSet) (zones : List (List Role)) → IsCheap slack each zones asks set → All (IsLevel slack each asks set) zones
-is_level slack each asks set zones cheap i d less' =
-    let zone = get_or zones i d in
+pub is_level : (slack each : ℕ) (asks : ℕ → ℕ) (set : NodeSet) (zs : List (List Role)) → IsCheap slack each zs asks set → All (IsLevel slack each asks set) zs
+is_level slack each asks set zs cheap i d less' =
+    let zone = get_or zs i d in
     at zone (same i d less')
   where
-    same : (i : ℕ) (d : List Role) → i < length zones → (out node : ℕ) → is_open each set out (get_or zones i d) ≡ true → lies (get_or zones i d) node ≡ true → has_node node set ≡ false → IsTrue (may_take each set out zones node)
+    same : (i : ℕ) (d : List Role) → i < length zs → (out node : ℕ) → is_open each set out (get_or zs i d) ≡ true → lies (get_or zs i d) node ≡ true → has_node node set ≡ false → IsTrue (may_take each set out zs node)
     same i d less out node opened there apart =
-        let e = get_or_default zones i d [] less in
-        takes each set out zones i node less (ap (λ (z : List Role). is_open each set out z) (sym e) ∙ opened) (ap (λ (z : List Role). lies z node) (sym e) ∙ there) apart
+        let e = get_or_default zs i d [] less in
+        takes each set out zs i node less (ap (λ (z : List Role). is_open each set out z) (sym e) ∙ opened) (ap (λ (z : List Role). lies z node) (sym e) ∙ there) apart
 
-    at : (zone : List Role) → ((out node : ℕ) → is_open each set out zone ≡ true → lies zone node ≡ true → has_node node set ≡ false → IsTrue (may_take each set out zones node)) → IsLevel slack each asks set zone
-    at zone takes =
+    at : (zone : List Role) → ((out node : ℕ) → is_open each set out zone ≡ true → lies zone node ≡ true → has_node node set ≡ false → IsTrue (may_take each set out zs node)) → IsLevel slack each asks set zone
+    at zone can =
         let inner = filter_below asks (lies zone) (dearest asks set) set (λ k d h e. dearest_bounds asks set k d h) in
         elim (cases_Bool (nat_lt (kept set zone) each)) [
           | inl little ↦
@@ -119,7 +127,7 @@ is_level slack each asks set zones cheap i d less' =
                 within = λ k d h t. let e = bounds_has asks (get_or zone k d).node set t in omega arith;
                 above = λ k d h t.
                     let node = (get_or zone k d).node in
-                    let e = dearest_least asks (asks node + slack) set (λ j u g. cheap j u g node (takes (get_or set j u) node (left (nat_lt (kept set zone) each) (lies zone (get_or set j u)) little) (lies_at zone k d h) t)) in
+                    let e = dearest_least asks (asks node + slack) set (λ j u g. cheap j u g node (can (get_or set j u) node (or_left (nat_lt (kept set zone) each) (lies zone (get_or set j u)) little) (lies_at zone k d h) t)) in
                     omega arith;
                 full = λ _. omega arith;
               }
@@ -130,19 +138,11 @@ is_level slack each asks set zones cheap i d less' =
                 within = λ k d h t. let e = bounds_has asks (get_or zone k d).node (filter (lies zone) set) (has_filter (lies zone) (get_or zone k d).node set (lies_at zone k d h) t) in omega arith;
                 above = λ k d h t.
                     let node = (get_or zone k d).node in
-                    let e = filter_below asks (lies zone) (asks node + slack) set (λ j u g there. cheap j u g node (takes (get_or set j u) node (right (nat_lt (kept set zone) each) (lies zone (get_or set j u)) there) (lies_at zone k d h) t)) in
+                    let e = filter_below asks (lies zone) (asks node + slack) set (λ j u g there. cheap j u g node (can (get_or set j u) node (or_right (nat_lt (kept set zone) each) (lies zone (get_or set j u)) there) (lies_at zone k d h) t)) in
                     omega arith;
                 full = λ few. let ge = ltb-false (kept set zone) each much in absurd (omega arith);
               }
         ]
-
-    left : (a b : Bool) → a ≡ true → (a || b) ≡ true
-    left true b e = refl
-    left false b e = cc
-
-    right : (a b : Bool) → b ≡ true → (a || b) ≡ true
-    right true b e = refl
-    right false b e = e
 
 -- ---- one zone
 

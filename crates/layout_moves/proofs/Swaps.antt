@@ -31,7 +31,7 @@ place_of test (x ∷ xs) d t =
     ]
 
 -- two different places
-two_below : {X : Type 0} (f : X → ℕ) (xs : List X) (i j : ℕ) (d : X) → i < j → j < length xs → f (get_or xs i d) + f (get_or xs j d) ≤ sum_by f xs
+pub two_below : {X : Type 0} (f : X → ℕ) (xs : List X) (i j : ℕ) (d : X) → i < j → j < length xs → f (get_or xs i d) + f (get_or xs j d) ≤ sum_by f xs
 two_below f [] i j d less inside = absurd (omega arith)
 two_below f (x ∷ xs) zero zero d less inside = absurd (omega arith)
 two_below f (x ∷ xs) (suc i) zero d less inside = absurd (omega arith)
@@ -209,7 +209,7 @@ taken_at roles each set out new few t =
       few = few p.at [] p.inside;
     }
 
-lacks : (each : ℕ) (set : NodeSet) (out : ℕ) (zs : List (List Role)) (new : ℕ) → IsTrue (may_take each set out zs new) → has_node new set ≡ false
+pub lacks : (each : ℕ) (set : NodeSet) (out : ℕ) (zs : List (List Role)) (new : ℕ) → IsTrue (may_take each set out zs new) → has_node new set ≡ false
 lacks each set out zs new t =
     let parts = and_parts (list_any (λ zone. is_open each set out zone && lies zone new) zs) (not (has_node new set)) t in
     flip (has_node new set) parts.1
@@ -322,6 +322,7 @@ swap_cheap roles each asks set out new after ascend s cheap gap k d h node t =
                     elim (cases_lt (kept set z) (each + here z u)) [
                       | inl opened ↦ old_node u v t.at hasu lack t.inside zl opened
                       | inr shut ↦
+                          let oo = le_trans (get_or-le-sum_by (λ zone. here zone out) (zones roles) t.at [] t.inside) (zones_once out roles ascend) in
                           let c1 = old_node out v t.at had lack t.inside zl (omega arith) in
                           let opens = elim aparts as (λ _. kept set y < each + here y u) [
                             | one e ↦

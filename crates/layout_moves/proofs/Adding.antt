@@ -1,0 +1,103 @@
+-- One element more of what loops have added up.
+use Rattle.std.proofs.Common.{◌≡◌, ℕ, zero, suc, ◌+◌, ◌*◌, ◌<◌, ◌≤◌, max, Bool, true, false, cond, not, IsTrue, List, [], ◌∷◌, ◌++◌, map, length, get_or, take, replicate, refl, sym, ap, ◌∙◌, subst, inl, inr, arith, append_assoc}
+use Rattle.std.specs.Prelude.{ℤ}
+use Rattle.std.specs.List.{sum_by, filter, flat_map, All, range_with_len, enumerate_from}
+use Rattle.std.proofs.lemmas.Bool.{cases_lt, cond-true, cond-false}
+use Rattle.std.proofs.lemmas.List.{take_more, map-append, length-map, get_or-map, get_or-replicate, length-replicate, take_all}
+use Rattle.std.proofs.lemmas.List.Elements.{filter-append}
+use Rattle.std.proofs.lemmas.Grind.{flat_map-append}
+use Rattle.std.proofs.lemmas.List.Sums.{sum_by-cons, sum_by-append}
+use Rattle.std.proofs.lemmas.List.FromFn.{map-range_with_len_more, get_or-enumerate_from, length-enumerate_from}
+use Rattle.std.proofs.lemmas.List.Recursion.{max_push}
+use Rattle.layout_roles.specs.declared.role.Role.{Role}
+use Rattle.layout_roles.specs.Zones.{zones, storage_nodes, is_storage}
+use Rattle.layout_flow.specs.declared.vertex.Vertex.{Vertex}
+use Rattle.layout_flow.specs.declared.vertex.Vertex.TheVariants.{Zone}
+use Rattle.layout_moves.specs.Prices.{dearest}
+use Rattle.layout_moves.specs.Moves.{Potentials}
+use Rattle.layout_moves.specs.Listing.{with_potential, partition_listing}
+
+-- ---- the dearest
+
+pub dearest_more : (asks : ℕ → ℕ) (nodes : List ℕ) (i d : ℕ) → i < length nodes → dearest asks (take (i + 1) nodes) ≡ max (dearest asks (take i nodes)) (asks (get_or nodes i d))
+dearest_more asks nodes i d h =
+    ap (dearest asks) (take_more nodes i d h) ∙ max_push (dearest asks) asks refl (λ _ _. refl) (take i nodes) (get_or nodes i d)
+
+pub dearest_more_yes : (asks : ℕ → ℕ) (test : ℕ → Bool) (nodes : List ℕ) (i d : ℕ) → i < length nodes → test (get_or nodes i d) ≡ true →
+    dearest asks (filter test (take (i + 1) nodes)) ≡ max (dearest asks (filter test (take i nodes))) (asks (get_or nodes i d))
+dearest_more_yes asks test nodes i d h t =
+    let x = get_or nodes i d in
+    ap (λ (xs : List ℕ). dearest asks (filter test xs)) (take_more nodes i d h)
+    ∙ ap (dearest asks) (filter-append test (take i nodes) (x ∷ []) ∙ ap (λ (ys : List ℕ). filter test (take i nodes) ++ ys) (cond-true (test x) (x ∷ []) [] t))
+    ∙ max_push (dearest asks) asks refl (λ _ _. refl) (filter test (take i nodes)) x
+
+pub dearest_more_no : (asks : ℕ → ℕ) (test : ℕ → Bool) (nodes : List ℕ) (i d : ℕ) → i < length nodes → test (get_or nodes i d) ≡ false →
+    dearest asks (filter test (take (i + 1) nodes)) ≡ dearest asks (filter test (take i nodes))
+dearest_more_no asks test nodes i d h t =
+    let x = get_or nodes i d in
+    ap (λ (xs : List ℕ). dearest asks (filter test xs)) (take_more nodes i d h)
+    ∙ ap (dearest asks) (filter-append test (take i nodes) (x ∷ []) ∙ ap (λ (ys : List ℕ). filter test (take i nodes) ++ ys) (cond-false (test x) (x ∷ []) [] t) ∙ append_nil (filter test (take i nodes)))
+  where
+    append_nil : (xs : List ℕ) → xs ++ [] ≡ xs
+    append_nil [] = refl
+    append_nil (x ∷ xs) = ap (λ ys. x ∷ ys) (append_nil xs)
+
+-- ---- ranges
+
+pub range_push : (a n : ℕ) → range_with_len a (n + 1) ≡ range_with_len a n ++ (a + n) ∷ []
+range_push a n = sym (same (range_with_len a (n + 1))) ∙ map-range_with_len_more (λ m. m) a n (a + n) refl ∙ ap (λ (xs : List ℕ). xs ++ (a + n) ∷ []) (same (range_with_len a n))
+  where
+    same : (xs : List ℕ) → map (λ m. m) xs ≡ xs
+    same [] = refl
+    same (x ∷ xs) = ap (λ ys. x ∷ ys) (same xs)
+
+pub sum_push : (f : ℕ → ℕ) (n : ℕ) → sum_by f (range_with_len 0 (n + 1)) ≡ sum_by f (range_with_len 0 n) + f n
+sum_push f n =
+    let e : 0 + n ≡ n = omega arith in
+    let r = ap (λ (xs : List ℕ). sum_by f xs) (range_push 0 n ∙ ap (λ m. range_with_len 0 n ++ m ∷ []) e) in
+    let a = sum_by-append f (range_with_len 0 n) (n ∷ []) in
+    let b = sum_by-cons f n [] in
+    omega arith
+
+pub parts_push : {X : Type 0} (f : ℕ → List X) (n : ℕ) → flat_map f (range_with_len 0 (n + 1)) ≡ flat_map f (range_with_len 0 n) ++ f n
+parts_push {X} f n =
+    let e : 0 + n ≡ n = omega arith in
+    ap (flat_map f) (range_push 0 n ∙ ap (λ m. range_with_len 0 n ++ m ∷ []) e) ∙ flat_map-append f (range_with_len 0 n) (n ∷ []) ∙ ap (λ (xs : List X). flat_map f (range_with_len 0 n) ++ xs) (append_nil (f n))
+  where
+    append_nil : (xs : List X) → xs ++ [] ≡ xs
+    append_nil [] = refl
+    append_nil (x ∷ xs) = ap (λ ys. x ∷ ys) (append_nil xs)
+
+-- ---- zones by number
+
+pub zone_entry : (potential : Potentials) (roles : List Role) (p i : ℕ) → i < length (zones roles) →
+    map (λ zone. with_potential potential (Zone p zone.0)) (take (i + 1) (enumerate_from 0 (zones roles)))
+    ≡ map (λ zone. with_potential potential (Zone p zone.0)) (take i (enumerate_from 0 (zones roles))) ++ with_potential potential (Zone p i) ∷ []
+zone_entry potential roles p i h =
+    let zs = enumerate_from 0 (zones roles) in
+    let entry : ℕ × List Role → Vertex × ℤ = λ zone. with_potential potential (Zone p zone.0) in
+    let n : 0 + i ≡ i = omega arith in
+    let at : get_or zs i (i, []) ≡ (0 + i, get_or (zones roles) i []) = get_or-enumerate_from 0 (zones roles) i (i, []) h in
+    ap (map entry) (take_more zs i (i, []) (omega (arith, length-enumerate_from 0 (zones roles))))
+    ∙ map-append entry (take i zs) (get_or zs i (i, []) ∷ [])
+    ∙ ap (λ (z : ℕ × List Role). map entry (take i zs) ++ entry z ∷ []) at
+    ∙ ap (λ m. map entry (take i zs) ++ with_potential potential (Zone p m) ∷ []) n
+
+pub all_entries : (potential : Potentials) (roles : List Role) (p i : ℕ) → length (zones roles) ≤ i →
+    map (λ zone. with_potential potential (Zone p zone.0)) (take i (enumerate_from 0 (zones roles))) ≡ map (λ zone. with_potential potential (Zone p zone.0)) (enumerate_from 0 (zones roles))
+all_entries potential roles p i h =
+    ap (map (λ (zone : ℕ × List Role). with_potential potential (Zone p zone.0))) (take_all i (enumerate_from 0 (zones roles)) (omega (arith, length-enumerate_from 0 (zones roles))))
+
+-- ---- conditions on storage nodes
+
+pub all_storage : (P : Role → Type 0) (roles : List Role) → All (λ role. is_storage role ≡ true → P role) roles → All P (storage_nodes roles)
+all_storage P roles all k d h = at roles all k d h
+  where
+    at : (rs : List Role) → All (λ role. is_storage role ≡ true → P role) rs → (k : ℕ) (d : Role) → k < length (filter is_storage rs) → P (get_or (filter is_storage rs) k d)
+    at [] all k d h = absurd (omega arith)
+    at (role ∷ rs) all k d h = by (is_storage role) refl k h
+      where
+        by : (b : Bool) → is_storage role ≡ b → (k : ℕ) → k < length (cond b (role ∷ filter is_storage rs) (filter is_storage rs)) → P (get_or (cond b (role ∷ filter is_storage rs) (filter is_storage rs)) k d)
+        by true e zero h = all 0 d (omega arith) e
+        by true e (suc k) h = at rs (λ j u g. all (suc j) u (omega arith)) k d (omega arith)
+        by false e k h = at rs (λ j u g. all (suc j) u (omega arith)) k d h
