@@ -1,10 +1,11 @@
 -- One element more of what loops have added up.
-use Rattle.std.proofs.Common.{◌≡◌, ℕ, zero, suc, ◌+◌, ◌*◌, ◌<◌, ◌≤◌, max, Bool, true, false, cond, not, IsTrue, List, [], ◌∷◌, ◌++◌, map, length, get_or, take, replicate, refl, sym, ap, ◌∙◌, subst, inl, inr, arith, append_assoc}
+use Rattle.std.proofs.Common.{◌≡◌, ℕ, zero, suc, ◌+◌, ◌*◌, ◌<◌, ◌≤◌, max, Bool, true, false, cond, not, ◌&&◌, ◌==◌, nat_lt, IsTrue, List, [], ◌∷◌, ◌++◌, map, length, get_or, take, replicate, refl, sym, ap, ◌∙◌, subst, inl, inr, arith, append_assoc, ltb-false}
 use Rattle.std.specs.Prelude.{ℤ}
 use Rattle.std.specs.List.{sum_by, filter, flat_map, All, range_with_len, enumerate_from}
-use Rattle.std.proofs.lemmas.Bool.{cases_lt, cond-true, cond-false}
+use Rattle.std.proofs.lemmas.Bool.{cond-true, cond-false, and_from, eq-eqb}
+use Rattle.std.proofs.lemmas.List.Folds.{list_any_at}
 use Rattle.std.proofs.lemmas.List.{take_more, map-append, length-map, get_or-map, get_or-replicate, length-replicate, take_all}
-use Rattle.std.proofs.lemmas.List.Elements.{filter-append}
+use Rattle.std.proofs.lemmas.List.Elements.{filter-append, All-nil, All-cons, All-append, All-head, All-tail}
 use Rattle.std.proofs.lemmas.Grind.{flat_map-append}
 use Rattle.std.proofs.lemmas.List.Sums.{sum_by-cons, sum_by-append}
 use Rattle.std.proofs.lemmas.List.FromFn.{map-range_with_len_more, get_or-enumerate_from, length-enumerate_from}
@@ -13,6 +14,8 @@ use Rattle.layout_roles.specs.declared.role.Role.{Role}
 use Rattle.layout_roles.specs.Zones.{zones, storage_nodes, is_storage}
 use Rattle.layout_flow.specs.declared.vertex.Vertex.{Vertex}
 use Rattle.layout_flow.specs.declared.vertex.Vertex.TheVariants.{Zone}
+use Rattle.layout_roles.specs.Fits.{NodeSet, load, room}
+use Rattle.layout_moves.specs.Auction.{is_over}
 use Rattle.layout_moves.specs.Prices.{dearest}
 use Rattle.layout_moves.specs.Moves.{Potentials}
 use Rattle.layout_moves.specs.Listing.{with_potential, partition_listing}
@@ -90,14 +93,26 @@ all_entries potential roles p i h =
 
 -- ---- conditions on storage nodes
 
+storage_by : (P : Role → Type 0) (role : Role) (rs : List Role) (b : Bool) → (b ≡ true → P role) → All P rs → All P (cond b (role ∷ rs) rs)
+storage_by P role rs true first rest = All-cons P role rs (first refl) rest
+storage_by P role rs false first rest = rest
+
 pub all_storage : (P : Role → Type 0) (roles : List Role) → All (λ role. is_storage role ≡ true → P role) roles → All P (storage_nodes roles)
-all_storage P roles all k d h = at roles all k d h
-  where
-    at : (rs : List Role) → All (λ role. is_storage role ≡ true → P role) rs → (k : ℕ) (d : Role) → k < length (filter is_storage rs) → P (get_or (filter is_storage rs) k d)
-    at [] all k d h = absurd (omega arith)
-    at (role ∷ rs) all k d h = by (is_storage role) refl k h
-      where
-        by : (b : Bool) → is_storage role ≡ b → (k : ℕ) → k < length (cond b (role ∷ filter is_storage rs) (filter is_storage rs)) → P (get_or (cond b (role ∷ filter is_storage rs) (filter is_storage rs)) k d)
-        by true e zero h = all 0 d (omega arith) e
-        by true e (suc k) h = at rs (λ j u g. all (suc j) u (omega arith)) k d (omega arith)
-        by false e k h = at rs (λ j u g. all (suc j) u (omega arith)) k d h
+all_storage P [] all = All-nil P
+all_storage P (role ∷ rs) all =
+    storage_by P role (filter is_storage rs) (is_storage role) (All-head (λ role. is_storage role ≡ true → P role) role rs all) (all_storage P rs (All-tail (λ role. is_storage role ≡ true → P role) role rs all))
+
+pub all_more : {X : Type 0} (P : X → Type 0) (xs : List X) (i : ℕ) (x : X) → i < length xs → x ≡ get_or xs i x → All P (take i xs) → P x → All P (take (i + 1) xs)
+all_more P xs i x h e all px =
+    subst (All P) (sym (take_more xs i x h)) (All-append P (take i xs) (get_or xs i x ∷ []) all (All-cons P (get_or xs i x) [] (subst P e px) (All-nil P)))
+
+-- a storage node that isn't too full, and one that is
+pub not_full : (a : Bool) (room load : ℕ) → (a && nat_lt room load) ≡ false → a ≡ true → load ≤ room
+not_full true room load e t = ltb-false room load e
+not_full false room load e t = cc
+
+pub over_here : (roles : List Role) (size : ℕ) (sets : List NodeSet) (i : ℕ) (role : Role) → i < length roles → role ≡ get_or roles i role → (is_storage role && nat_lt (room size role) (load sets role.node)) ≡ true → is_over roles size sets role.node ≡ true
+over_here roles size sets i role h e full =
+    let test : Role → Bool = λ other. (is_storage other && nat_lt (room size other) (load sets other.node)) && (other.node == role.node) in
+    let here : test role ≡ true = and_from (is_storage role && nat_lt (room size role) (load sets role.node)) (role.node == role.node) full (eq-eqb role.node role.node refl) in
+    list_any_at test roles i role h (subst (λ other. test other ≡ true) e here)

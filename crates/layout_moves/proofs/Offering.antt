@@ -94,11 +94,11 @@ role_lacked test set node lacked n =
     apart a b true s e f = cc
 
 -- one more role of a zone
-pub role_more : (test : ℕ → Bool) (set : NodeSet) (zone : List Role) (i : ℕ) (d : Role) → i < length zone → (n : ℕ) →
-    (test n || (lies (take (i + 1) zone) n && not (has_node n set))) ≡ ((test n || (lies (take i zone) n && not (has_node n set))) || (((get_or zone i d).node == n) && not (has_node n set)))
-role_more test set zone i d h n =
-    ap (λ b. test n || (b && not (has_node n set))) (list_any_more (λ role. role.node == n) zone i d h)
-    ∙ by (test n) (lies (take i zone) n) ((get_or zone i d).node == n) (not (has_node n set))
+pub role_more : (test : ℕ → Bool) (set : NodeSet) (zone : List Role) (i : ℕ) (role : Role) → i < length zone → role ≡ get_or zone i role → (n : ℕ) →
+    (test n || (lies (take (i + 1) zone) n && not (has_node n set))) ≡ ((test n || (lies (take i zone) n && not (has_node n set))) || ((role.node == n) && not (has_node n set)))
+role_more test set zone i role h e n =
+    ap (λ b. test n || (b && not (has_node n set))) (list_any_more (λ role. role.node == n) zone i role h ∙ ap (λ (r : Role). lies (take i zone) n || (r.node == n)) (sym e))
+    ∙ by (test n) (lies (take i zone) n) (role.node == n) (not (has_node n set))
   where
     by : (a l b s : Bool) → (a || ((l || b) && s)) ≡ ((a || (l && s)) || (b && s))
     by true l b s = refl
@@ -127,17 +127,25 @@ no_roles test set n = by (test n)
     by true = refl
     by false = refl
 
-pub zone_more : (each : ℕ) (set : NodeSet) (out : ℕ) (zs : List (List Role)) (i : ℕ) (d : List Role) → i < length zs → (n : ℕ) →
-    may_take each set out (take (i + 1) zs) n ≡ (may_take each set out (take i zs) n || ((is_open each set out (get_or zs i d) && lies (get_or zs i d) n) && not (has_node n set)))
-zone_more each set out zs i d h n =
-    ap (λ b. b && not (has_node n set)) (list_any_more (λ zone. is_open each set out zone && lies zone n) zs i d h)
-    ∙ by (list_any (λ zone. is_open each set out zone && lies zone n) (take i zs)) (is_open each set out (get_or zs i d) && lies (get_or zs i d) n) (not (has_node n set))
+pub zone_more : (each : ℕ) (set : NodeSet) (out : ℕ) (zs : List (List Role)) (i : ℕ) (zone : List Role) → i < length zs → zone ≡ get_or zs i zone → (n : ℕ) →
+    may_take each set out (take (i + 1) zs) n ≡ (may_take each set out (take i zs) n || ((is_open each set out zone && lies zone n) && not (has_node n set)))
+zone_more each set out zs i zone h e n =
+    let test : List Role → Bool = λ z. is_open each set out z && lies z n in
+    ap (λ b. b && not (has_node n set)) (list_any_more test zs i zone h ∙ ap (λ (z : List Role). list_any test (take i zs) || test z) (sym e))
+    ∙ by (list_any test (take i zs)) (test zone) (not (has_node n set))
   where
     by : (a b s : Bool) → ((a || b) && s) ≡ ((a && s) || (b && s))
     by true b true = refl
     by true true false = refl
     by true false false = refl
     by false b s = refl
+
+-- no zone yet
+pub none_yet : (each : ℕ) (set : NodeSet) (out : ℕ) (asks : ℕ → ℕ) → IsCheapest (may_take each set out []) asks None
+none_yet each set out asks = record { least = λ n t. never t; made = tt }
+  where
+    never : false ≡ true → ⊥
+    never e = cc
 
 -- what the best offer says of the move of a copy
 pub least_at : (test : ℕ → Bool) (asks : ℕ → ℕ) (best : Option Offer) (offer : Offer) → best ≡ Some offer → IsCheapest test asks best → (node : ℕ) → IsTrue (test node) → offer.price ≤ asks node
@@ -182,19 +190,11 @@ pub bid_made : (fee : ℕ) (zs : List (List Role)) (each : ℕ) (old sets : List
     ((node : ℕ) → IsTrue (may_take each (set_at sets i) out zs node) → asked fee (set_at old i) prices bid.node ≤ asked fee (set_at old i) prices node) →
     IsLeastBid fee zs each old sets prices out (i + 1) after
 bid_made fee zs each old sets prices out i best after bid is kept new one at needs least =
-    bid_next fee zs each old sets prices out i best after is kept made
-    (λ has node t. new (asked fee (set_at old i) prices out) (asked fee (set_at old i) prices node) (let l = least node t in let e = needs.2 in omega arith))
-  where
-    P : Bid → Type 0
-    P b = (b.partition < i + 1) × Needs fee zs each old sets prices out b.partition b.node b.rise
-
-    this : P bid
-    unfolding P
-    this = (omega arith, subst (λ q. Needs fee zs each old sets prices out q bid.node bid.rise) (sym at) needs)
-
-    made : IfSome after (λ b. (b.partition < i + 1) × Needs fee zs each old sets prices out b.partition b.node b.rise)
-    unfolding P
-    made = elim one [
+    let this : (bid.partition < i + 1) × Needs fee zs each old sets prices out bid.partition bid.node bid.rise =
+    (omega arith, subst (λ q. Needs fee zs each old sets prices out q bid.node bid.rise) (sym at) needs) in
+    let made : IfSome after (λ b. (b.partition < i + 1) × Needs fee zs each old sets prices out b.partition b.node b.rise) = elim one [
       | inl e ↦ subst (λ o. IfSome o (λ b. (b.partition < i + 1) × Needs fee zs each old sets prices out b.partition b.node b.rise)) (sym e) (weaker fee zs each old sets prices out i best is.made)
       | inr e ↦ subst (λ o. IfSome o (λ b. (b.partition < i + 1) × Needs fee zs each old sets prices out b.partition b.node b.rise)) (sym e) this
-    ]
+    ] in
+    bid_next fee zs each old sets prices out i best after is kept made
+    (λ has node t. new (asked fee (set_at old i) prices out) (asked fee (set_at old i) prices node) (let l = least node t in let e = needs.2 in omega arith))

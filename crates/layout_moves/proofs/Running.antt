@@ -163,3 +163,28 @@ fits_from roles r size sets low great ascend whole bases within = record {
   spread = λ k d h. spread_from_few roles (get_or sets k d) r low great ascend (bases k d h).three (few_anywhere roles (get_or sets k d) (4 - r) (bases k d h).few);
   within = within;
 }
+
+-- ---- between slices and lists
+
+pub cheap_moved : (roles : List Role) (r : ℕ) (old sets sets' : List NodeSet) (prices prices' : List ℕ) (groups : List (List Role)) → sets' ≡ sets → prices' ≡ prices → groups ≡ zones roles → length sets ≡ 256 →
+    ((p : ℕ) → p < 256 → IsCheap 1 (4 - r) (zones roles) (asked 66 (set_at old p) prices) (set_at sets p)) →
+    (p : ℕ) → p < length sets' → IsCheap 1 (4 - r) groups (asked 66 (set_at old p) prices') (set_at sets' p)
+cheap_moved roles r old sets sets' prices prices' groups e f g whole cheap p less =
+    let len = ap (λ (xs : List NodeSet). length xs) e in
+    subst (λ (zs : List (List Role)). IsCheap 1 (4 - r) zs (asked 66 (set_at old p) prices') (set_at sets' p)) (sym g)
+    (subst (λ (xs : List ℕ). IsCheap 1 (4 - r) (zones roles) (asked 66 (set_at old p) xs) (set_at sets' p)) (sym f)
+    (subst (λ (xs : List NodeSet). IsCheap 1 (4 - r) (zones roles) (asked 66 (set_at old p) prices) (set_at xs p)) (sym e) (cheap p (omega arith))))
+
+pub bid_moved : (roles : List Role) (r : ℕ) (old sets sets' : List NodeSet) (prices prices' : List ℕ) (groups : List (List Role)) (out : ℕ) (best : Option Bid) → sets' ≡ sets → prices' ≡ prices → groups ≡ zones roles → length sets ≡ 256 →
+    IsLeastBid 66 groups (4 - r) old sets' prices' out (length sets') best → IsLeastBid 66 (zones roles) (4 - r) old sets prices out 256 best
+bid_moved roles r old sets sets' prices prices' groups out best e f g whole is =
+    let len : length sets' ≡ 256 = ap (λ (xs : List NodeSet). length xs) e ∙ whole in
+    subst (λ n. IsLeastBid 66 (zones roles) (4 - r) old sets prices out n best) len
+    (subst (λ (xs : List NodeSet). IsLeastBid 66 (zones roles) (4 - r) old xs prices out (length sets') best) e
+    (subst (λ (xs : List ℕ). IsLeastBid 66 (zones roles) (4 - r) old sets' xs out (length sets') best) f
+    (subst (λ (zs : List (List Role)). IsLeastBid 66 zs (4 - r) old sets' prices' out (length sets') best) g is)))
+
+pub stepped_to : (roles : List Role) (r size : ℕ) (old sets : List NodeSet) (prices : List ℕ) (sets' sets'' : List NodeSet) (prices' prices'' : List ℕ) → sets'' ≡ sets' → prices'' ≡ prices' →
+    Stepped roles r size old sets prices sets' prices' → Stepped roles r size old sets prices sets'' prices''
+stepped_to roles r size old sets prices sets' sets'' prices' prices'' e f step =
+    subst (λ (xs : List NodeSet). Stepped roles r size old sets prices xs prices'') (sym e) (subst (λ (xs : List ℕ). Stepped roles r size old sets prices sets' xs) (sym f) step)

@@ -6,5 +6,5 @@ use Rattle.layout_moves.proofs.offers.with_zone.Given as goal
 
 abbrev pub invariant-loop-role : goal.invariant-loop-role
 invariant-loop-role l =
-    (test : ℕ → Bool) → IsCheapest test (asked l.fee l.old l.prices) l.start →
+    (test : ℕ → Bool) → IsCheapest test (asked l.fee l.old l.prices) l.fn.start →
     IsCheapest (λ node. test node || (lies (take l.role-index l.zone) node && not (has_node node l.set))) (asked l.fee l.old l.prices) l.best

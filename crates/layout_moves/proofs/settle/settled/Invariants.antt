@@ -4,8 +4,8 @@ use Rattle.layout_roles.specs.Zones.{set_ascends}
 use Rattle.layout_moves.specs.Prices.{IsBase, asked}
 use Rattle.layout_moves.proofs.settle.settled.Given as goal
 
-abbrev pub invariant-loop : goal.invariant-loop
-invariant-loop l = record { base : IsBase l.roles.list l.each l.set; ascends : IsTrue (set_ascends l.set) }
+abbrev pub invariant-loop-set : goal.invariant-loop-set
+invariant-loop-set l = record { base : IsBase l.roles.list l.each l.set; ascends : IsTrue (set_ascends l.set) }
 
-abbrev pub decreases-loop : goal.decreases-loop
-decreases-loop l = sum_by (asked l.fee l.old l.prices) l.set
+abbrev pub decreases-loop-set : goal.decreases-loop-set
+decreases-loop-set l = sum_by (asked l.fee l.old l.prices) l.set
