@@ -10,6 +10,6 @@ pub mod Printed
 pub mod Spread
 pub mod Sums
 mod Weights
-mod Whole
+pub mod Whole
 pub mod Wrapped
 pub mod Zones

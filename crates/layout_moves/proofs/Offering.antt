@@ -11,7 +11,9 @@ use Rattle.layout_moves.specs.Prices.{may_take, is_open, lies, asked}
 use Rattle.layout_moves.specs.Offers.{AtMost, IsCheapest, Needs, RisesAtMost, IsLeastBid}
 use Rattle.layout_moves.specs.declared.offers.Offer.{Offer}
 use Rattle.layout_moves.specs.declared.bids.Bid.{Bid}
+use Rattle.layout_moves.specs.Prices.{IsCheap}
 use Rattle.layout_moves.proofs.Near.{or_left, or_right}
+use Rattle.layout_moves.proofs.Steps.{Found, found}
 
 -- no copy of some nodes of the set could move to a node that asks less by more than 1
 abbrev pub CheapSoFar : ℕ → List (List Role) → (ℕ → ℕ) → NodeSet → List ℕ → Type 0
@@ -198,3 +200,12 @@ bid_made fee zs each old sets prices out i best after bid is kept new one at nee
     ] in
     bid_next fee zs each old sets prices out i best after is kept made
     (λ has node t. new (asked fee (set_at old i) prices out) (asked fee (set_at old i) prices node) (let l = least node t in let e = needs.2 in omega arith))
+
+-- a cheap set at one of its nodes
+pub cheap_has : (each : ℕ) (zs : List (List Role)) (asks : ℕ → ℕ) (set : NodeSet) (out : ℕ) → IsCheap 1 each zs asks set → has_node out set ≡ true → (node : ℕ) → IsTrue (may_take each set out zs node) → asks out ≤ asks node + 1
+cheap_has each zs asks set out cheap has node t =
+    let f = found (nat_eq out) set has in
+    let same : out ≡ get_or set f.at 0 = eqb-true out f.item f.passes ∙ sym (f.is 0) in
+    let c = cheap f.at 0 f.inside node (subst (λ n. IsTrue (may_take each set n zs node)) same t) in
+    let e = ap asks same in
+    omega arith

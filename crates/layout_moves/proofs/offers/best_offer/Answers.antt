@@ -17,6 +17,6 @@ loop-zone-preserved c =
     let before : ℕ → Bool = may_take c.args.each set c.args.out (take i groups) in
     let item = c.zone-item.result in
     let same : zone ≡ item = c.as_slice.ensures in
-    recast (λ n. before n || ((is_open c.args.each set c.args.out zone && lies zone n) && not (has_node n set))) (may_take c.args.each set c.args.out (take (i + 1) groups)) (asked c.args.fee c.args.old.now c.args.prices.now) c.with_zone.result
+    recast (λ n. before n || ((is_open c.args.each set c.args.out zone && lies zone n) && not (has_node n set))) (may_take c.args.each set c.args.out (take (i + 1) groups)) (asked c.args.fee c.args.old.now c.args.prices.now) c.with_zone-best.result
     (λ n. zone_more c.args.each set c.args.out groups i item c.loop-zone-test.true c.zone-item.is n ∙ ap (λ (z : List Role). before n || ((is_open c.args.each set c.args.out z && lies z n) && not (has_node n set))) (sym same))
-    (c.with_zone.ensures before c.loop-zone.invariant)
+    (c.with_zone-best.ensures before c.loop-zone.invariant)

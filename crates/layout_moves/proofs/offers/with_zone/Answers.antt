@@ -19,8 +19,8 @@ loop-role-preserved c = λ test is.
     let i = c.loop-role.role-index in
     let role = c.role-item.result in
     let before : ℕ → Bool = λ n. test n || (lies (take i zone) n && not (has_node n set)) in
-    recast (λ n. before n || ((role.node == n) && not (has_node n set))) (λ n. test n || (lies (take (i + 1) zone) n && not (has_node n set))) (asked c.args.fee c.args.old.now c.args.prices.now) c.with_role.result
-    (role_more test set zone i role c.loop-role-test.true c.role-item.is) (c.with_role.ensures before (c.loop-role.invariant test is))
+    recast (λ n. before n || ((role.node == n) && not (has_node n set))) (λ n. test n || (lies (take (i + 1) zone) n && not (has_node n set))) (asked c.args.fee c.args.old.now c.args.prices.now) c.with_role-best.result
+    (role_more test set zone i role c.loop-role-test.true c.role-item.is) (c.with_role-best.ensures before (c.loop-role.invariant test is))
 
 pub returns : goal.returns
 returns c = λ test is.

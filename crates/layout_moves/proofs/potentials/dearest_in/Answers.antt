@@ -12,9 +12,9 @@ loop-node-preserved c =
     let i = c.loop-node.node-index in
     elim c.if-lies_in.branch [
       | then-lies_in w ↦
-          let more = dearest_more_yes asks (lies zone) set i 0 c.loop-node-test.true (sym c.lies_in.ensures ∙ w.if-lies_in.true) in
+          let more = dearest_more_yes asks (lies zone) set i 0 (omega arith) (sym c.lies_in.ensures ∙ w.if-lies_in.true) in
           record { dearest = omega arith; small = omega arith }
       | else-lies_in w ↦
-          let more = dearest_more_no asks (lies zone) set i 0 c.loop-node-test.true (sym c.lies_in.ensures ∙ w.if-lies_in.false) in
+          let more = dearest_more_no asks (lies zone) set i 0 (omega arith) (sym c.lies_in.ensures ∙ w.if-lies_in.false) in
           record { dearest = omega arith; small = omega arith }
     ]
