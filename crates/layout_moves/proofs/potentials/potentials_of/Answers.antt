@@ -1,6 +1,8 @@
-use Rattle.std.proofs.Common.{◌≡◌, ◌++◌, [], ◌∷◌, List, sym, ap, ◌∙◌, arith, append_assoc}
+use Rattle.std.proofs.Common.{◌≡◌, ◌++◌, [], ◌∷◌, List, sym, ap, ◌∙◌, arith, rules, append_assoc}
 use Rattle.std.specs.Prelude.{ℕ, ℤ, pos, ◌-ℤ◌}
-use Rattle.std.proofs.lemmas.Int.{ints}
+use mir.Syntax.{w64}
+use mir.Val.{SFits}
+use Rattle.std.proofs.lemmas.Int.{ints, to_z-of_z}
 use Rattle.std.specs.List.{flat_map, range_with_len}
 use Rattle.layout_flow.specs.declared.vertex.Vertex.{Vertex}
 use Rattle.layout_flow.specs.declared.vertex.Vertex.TheVariants.{Sink}
@@ -25,7 +27,8 @@ returns-clause-listed c =
     let potentials = potential roles c.args.each c.args.old.now c.args.sets.now c.args.prices.now c.args.top in
     let end : c.loop-p.p ≡ 256 = omega arith in
     let parts : c.loop-p.list ≡ flat_map (partition_listing potentials roles) (range_with_len 0 256) = c.loop-p.invariant ∙ ap (λ n. flat_map (partition_listing potentials roles) (range_with_len 0 n)) end in
-    let zero : c.below.result ≡ pos c.args.top = c.below.ensures ∙ less_none c.args.top in
+    let fits : SFits w64 c.below.result = search rules in
+    let zero = to_z-of_z w64 c.below.result fits ∙ c.below.ensures ∙ less_none c.args.top in
     c.in_ok-push.ensures.ok
     ∙ ap (λ z. c.add_nodes.new.list ++ (Sink, z) ∷ []) zero
     ∙ ap (λ (xs : List (Vertex × ℤ)). xs ++ (Sink, pos c.args.top) ∷ []) (c.in_ok-add_nodes.ensures.ok ∙ ap (λ (xs : List (Vertex × ℤ)). xs ++ node_listing potentials roles) parts)
