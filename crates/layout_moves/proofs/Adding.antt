@@ -1,10 +1,10 @@
 -- One element more of what loops have added up.
-use Rattle.std.proofs.Common.{◌≡◌, ℕ, zero, suc, ◌+◌, ◌*◌, ◌<◌, ◌≤◌, max, Bool, true, false, cond, not, ◌&&◌, ◌==◌, nat_lt, IsTrue, List, [], ◌∷◌, ◌++◌, map, length, get_or, take, replicate, refl, sym, ap, ◌∙◌, subst, inl, inr, arith, append_assoc, ltb-false}
+use Rattle.std.proofs.Common.{◌≡◌, ℕ, ◌+◌, ◌<◌, ◌≤◌, max, Bool, true, false, cond, ◌&&◌, ◌==◌, nat_lt, List, [], ◌∷◌, ◌++◌, map, length, get_or, take, refl, sym, ap, ◌∙◌, subst, arith, ltb-false}
 use Rattle.std.specs.Prelude.{ℤ}
 use Rattle.std.specs.List.{sum_by, filter, flat_map, All, range_with_len, enumerate_from}
 use Rattle.std.proofs.lemmas.Bool.{cond-true, cond-false, and_from, eq-eqb}
 use Rattle.std.proofs.lemmas.List.Folds.{list_any_at}
-use Rattle.std.proofs.lemmas.List.{take_more, map-append, length-map, get_or-map, get_or-replicate, length-replicate, take_all}
+use Rattle.std.proofs.lemmas.List.{take_more, map-append, take_all}
 use Rattle.std.proofs.lemmas.List.Elements.{filter-append, All-nil, All-cons, All-append, All-head, All-tail}
 use Rattle.std.proofs.lemmas.Grind.{flat_map-append}
 use Rattle.std.proofs.lemmas.List.Sums.{sum_by-cons, sum_by-append}
@@ -18,7 +18,7 @@ use Rattle.layout_roles.specs.Fits.{NodeSet, load, room}
 use Rattle.layout_moves.specs.Auction.{is_over}
 use Rattle.layout_moves.specs.Prices.{dearest}
 use Rattle.layout_moves.specs.Moves.{Potentials}
-use Rattle.layout_moves.specs.Listing.{with_potential, partition_listing}
+use Rattle.layout_moves.specs.Listing.{with_potential}
 
 -- ---- the dearest
 

@@ -1,20 +1,18 @@
 -- Sums over the nodes of a set, over zones and over partitions.
-use Rattle.std.proofs.Common.{◌≡◌, ℕ, zero, suc, ◌+◌, ◌-◌, ◌*◌, ◌<◌, ◌≤◌, min, Bool, true, false, cond, ◌==◌, nat_eq, IsTrue, List, [], ◌∷◌, length, get_or, take, refl, sym, ap, ◌∙◌, subst, inl, inr, arith, eqb-true}
+use Rattle.std.proofs.Common.{◌≡◌, ℕ, zero, suc, ◌+◌, ◌-◌, ◌*◌, ◌≤◌, min, Bool, true, false, cond, ◌==◌, nat_eq, IsTrue, List, [], ◌∷◌, length, get_or, sym, ap, ◌∙◌, subst, inl, inr, arith, eqb-true}
 use Rattle.std.specs.List.{sum_by, count_by, All, range_with_len, enumerate_from}
 use Rattle.std.proofs.lemmas.Bool.{cases_Bool}
 use Rattle.std.proofs.lemmas.List.{take_all}
-use Rattle.std.proofs.lemmas.List.FromFn.{length-range_with_len}
 use Rattle.std.proofs.lemmas.List.Sums.{sum_by-cons}
 use Rattle.std.proofs.lemmas.List.Elements.{All-head, All-tail}
 use Rattle.layout_roles.specs.declared.role.Role.{Role}
 use Rattle.layout_roles.specs.Zones.{nodes_ascend, storage_nodes, zones}
 use Rattle.layout_roles.specs.Fits.{NodeSet, has_node, load, IsThree}
-use Rattle.layout_flow.proofs.Sums.{yes, no, sum_by-agree, sum_by-swap, sum_by-constant, sum_by-enumerate, sum_by-below}
+use Rattle.layout_flow.proofs.Sums.{no, sum_by-agree, sum_by-swap, sum_by-constant, sum_by-enumerate}
 use Rattle.layout_flow.proofs.Zones.{count_times, count_some, stored_once, sum_by_zones}
 use Rattle.layout_flow.proofs.Spread.{in_set, distinct_once, any_as_count, three_chosen}
 use Rattle.layout_flow.proofs.Lies.{sum_by_places}
 use Rattle.layout_flow.proofs.Lightest.{is_one, is_two, is_three, one_to_three}
-use Rattle.layout_flow.proofs.Printed.{all_parts}
 use Rattle.layout_moves.specs.Moves.{set_at}
 
 -- ---- the nodes of a set

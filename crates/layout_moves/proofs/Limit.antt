@@ -1,5 +1,5 @@
 -- How high a price can rise while an assignment fits.
-use Rattle.std.proofs.Common.{◌≡◌, ℕ, zero, suc, ◌+◌, ◌-◌, ◌*◌, ◌<◌, ◌≤◌, Bool, true, false, cond, not, IsTrue, List, [], ◌∷◌, length, get_or, refl, sym, ap, ◌∙◌, inl, inr, arith, le_refl, le_trans}
+use Rattle.std.proofs.Common.{◌≡◌, ℕ, zero, suc, ◌+◌, ◌-◌, ◌*◌, ◌<◌, ◌≤◌, Bool, true, false, cond, not, IsTrue, List, [], ◌∷◌, length, get_or, refl, ap, inl, inr, arith, le_refl}
 use Rattle.std.specs.List.{sum_by, count_by, All, range_with_len}
 use Rattle.std.proofs.Math.Nat.{mul-le-mul_left}
 use Rattle.std.proofs.lemmas.Bool.{cases_lt}
@@ -16,7 +16,7 @@ use Rattle.layout_flow.proofs.Lightest.{mul_below}
 use Rattle.layout_flow.proofs.Printed.{all_parts}
 use Rattle.layout_moves.specs.Moves.{set_at, new_nodes, moves_of}
 use Rattle.layout_moves.specs.Prices.{IsBase, IsCheap, asked, AreCovered}
-use Rattle.layout_moves.proofs.Chosen.{loads, threes_length, range_sum}
+use Rattle.layout_moves.proofs.Chosen.{loads, threes_length}
 use Rattle.layout_moves.proofs.Near.{cheap_near}
 
 -- what all copies ask

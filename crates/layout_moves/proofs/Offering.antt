@@ -1,5 +1,5 @@
 -- The cheapest offers and bids, as a search goes on.
-use Rattle.std.proofs.Common.{◌≡◌, ℕ, ◌+◌, ◌<◌, ◌≤◌, Bool, true, false, not, ◌&&◌, ◌||◌, ◌==◌, nat_eq, IsTrue, List, [], ◌∷◌, ◌++◌, length, get_or, take, refl, sym, ap, ◌∙◌, subst, ◌⊎◌, inl, inr, arith, le_refl, le_trans, eqb-true}
+use Rattle.std.proofs.Common.{◌≡◌, ℕ, ◌+◌, ◌<◌, ◌≤◌, Bool, true, false, not, ◌&&◌, ◌||◌, ◌==◌, nat_eq, IsTrue, List, [], length, get_or, take, refl, sym, ap, ◌∙◌, subst, ◌⊎◌, inl, inr, arith, eqb-true}
 use Rattle.std.specs.Prelude.{Option, Some, None, IfSome}
 use Rattle.std.specs.List.{All, list_any}
 use Rattle.std.proofs.lemmas.Bool.{cases_Bool, cases_lt, or_cases, eq-eqb, eqb-false, ne_eqb}
@@ -13,7 +13,7 @@ use Rattle.layout_moves.specs.declared.offers.Offer.{Offer}
 use Rattle.layout_moves.specs.declared.bids.Bid.{Bid}
 use Rattle.layout_moves.specs.Prices.{IsCheap}
 use Rattle.layout_moves.proofs.Near.{or_left, or_right}
-use Rattle.layout_moves.proofs.Steps.{Found, found}
+use Rattle.layout_moves.proofs.Steps.{found}
 
 -- no copy of some nodes of the set could move to a node that asks less by more than 1
 abbrev pub CheapSoFar : ℕ → List (List Role) → (ℕ → ℕ) → NodeSet → List ℕ → Type 0

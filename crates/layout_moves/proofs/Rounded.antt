@@ -1,21 +1,21 @@
 -- Prices that are rounded to whole moves: sets that were cheap within 1 are cheap.
-use Rattle.std.proofs.Common.{◌≡◌, ℕ, zero, suc, ◌+◌, ◌-◌, ◌*◌, ◌/◌, ◌%◌, ◌<◌, ◌≤◌, Bool, true, false, cond, ◌&&◌, ◌==◌, nat_lt, nat_eq, IsTrue, List, [], ◌∷◌, map, length, get_or, refl, sym, ap, ◌∙◌, subst, inl, inr, arith, le_refl, ltb-true, ltb-false, leb-true, eqb-true}
-use Rattle.std.specs.List.{sum_by, count_by, list_all, list_any, All, range_with_len}
-use Rattle.std.proofs.lemmas.Bool.{cases_Bool, eq-eqb, eqb-false, and_parts}
+use Rattle.std.proofs.Common.{◌≡◌, ℕ, zero, suc, ◌+◌, ◌-◌, ◌/◌, ◌%◌, ◌<◌, ◌≤◌, Bool, true, false, cond, ◌&&◌, ◌==◌, nat_lt, nat_eq, IsTrue, List, [], ◌∷◌, map, length, get_or, ap, inl, inr, arith, ltb-true, ltb-false, eqb-true}
+use Rattle.std.specs.List.{sum_by, count_by, list_all, range_with_len}
+use Rattle.std.proofs.lemmas.Bool.{cases_Bool, eq-eqb, eqb-false}
 use Rattle.std.proofs.lemmas.List.{get_or-map}
 use Rattle.std.proofs.lemmas.List.FromFn.{length-range_with_len}
 use Rattle.std.proofs.lemmas.List.Sums.{sum_by-cons, AllPass-from_list_all}
 use Rattle.std.proofs.lemmas.List.Elements.{All-filter}
 use Rattle.layout_roles.specs.declared.role.Role.{Role}
-use Rattle.layout_roles.specs.Zones.{nodes_ascend, is_numbered, is_storage, storage_nodes, zones}
+use Rattle.layout_roles.specs.Zones.{is_numbered, is_storage, storage_nodes, zones}
 use Rattle.layout_roles.specs.Fits.{NodeSet, has_node, is_storage_node}
 use Rattle.layout_flow.proofs.Sums.{yes, no, sum_by-swap, sum_by-below, sum_by-constant}
 use Rattle.layout_flow.proofs.Zones.{count-cons}
 use Rattle.layout_flow.proofs.Printed.{all_parts}
 use Rattle.layout_moves.specs.Moves.{set_at}
-use Rattle.layout_moves.specs.Prices.{IsBase, IsCheap, asked, may_take, dearest, AreCovered}
+use Rattle.layout_moves.specs.Prices.{IsBase, IsCheap, asked, dearest}
 use Rattle.layout_moves.specs.Auction.{IsPriced}
-use Rattle.layout_moves.proofs.Steps.{Found, found, numbered_below, taker_stored}
+use Rattle.layout_moves.proofs.Steps.{found, numbered_below, taker_stored}
 use Rattle.layout_moves.proofs.Certificate.{Settled}
 
 -- ---- a shift that no price hits

@@ -1,25 +1,24 @@
 -- One step of the auction, its beginning and its end.
-use Rattle.std.proofs.Common.{◌≡◌, ℕ, ◌+◌, ◌-◌, ◌*◌, ◌^◌, ◌<◌, ◌≤◌, Bool, true, false, cond, not, ◌&&◌, ◌==◌, nat_eq, nat_lt, IsTrue, List, [], ◌∷◌, length, get_or, refl, sym, ap, ◌∙◌, subst, inl, inr, arith, le_refl, eqb-true}
-use Rattle.std.specs.Prelude.{Option, Some, None, IfSome, ℤ, pos}
-use Rattle.std.specs.List.{sum_by, count_by, list_any, list_all, filter, All}
+use Rattle.std.proofs.Common.{◌≡◌, ℕ, ◌+◌, ◌-◌, ◌^◌, ◌<◌, ◌≤◌, Bool, true, false, cond, ◌==◌, IsTrue, List, [], length, get_or, sym, ap, ◌∙◌, subst, inl, inr, arith, eqb-true}
+use Rattle.std.specs.Prelude.{Option, Some, None, IfSome}
+use Rattle.std.specs.List.{count_by, list_any, list_all, All}
 use Rattle.std.proofs.Math.ListN.{set}
-use Rattle.std.proofs.lemmas.Bool.{cases_Bool, cases_lt, and_parts, eqb-false, ltb-false}
-use Rattle.std.proofs.lemmas.List.{get_or_default, get_or-map, length-map}
+use Rattle.std.proofs.lemmas.Bool.{cases_Bool}
+use Rattle.std.proofs.lemmas.List.{get_or-map, length-map}
 use Rattle.std.proofs.lemmas.List.Elements.{All-filter}
 use Rattle.layout_roles.specs.declared.role.Role.{Role}
 use Rattle.layout_roles.specs.Zones.{Name, name_of, nodes_ascend, is_numbered, is_storage, storage_nodes, zone_names, same_name, is_in_zone, nodes_in, zones, set_ascends}
-use Rattle.layout_roles.specs.Fits.{NodeSet, has_node, load, room, partitions, is_storage_node, IsThree, FitsAll, Fits}
+use Rattle.layout_roles.specs.Fits.{NodeSet, has_node, load, room, partitions, is_storage_node, Fits}
 use Rattle.layout_flow.proofs.Sums.{no, sum_by-filter, sum_by-agree, sum_by-none}
 use Rattle.layout_flow.proofs.Zones.{count_none, same_true, zone_once}
 use Rattle.layout_flow.proofs.Spread.{in_set, spread_from_few}
 use Rattle.layout_moves.specs.Moves.{set_at}
-use Rattle.layout_moves.specs.Prices.{kept, IsBase, IsCheap, IsSwap, asked, may_take, AreCovered}
+use Rattle.layout_moves.specs.Prices.{kept, IsBase, IsCheap, IsSwap, asked}
 use Rattle.layout_moves.specs.Auction.{highest, IsPriced, is_over, unrest}
 use Rattle.layout_moves.specs.Offers.{Needs, RisesAtMost, IsLeastBid}
 use Rattle.layout_moves.specs.declared.bids.Bid.{Bid}
 use Rattle.layout_moves.proofs.Swaps.{lacks}
-use Rattle.layout_moves.proofs.Limit.{base_of_fits}
-use Rattle.layout_moves.proofs.Steps.{Found, found, Over, over_at, Allowed, raised, Risen, risen, Moved, moved, numbered_below, taker_stored, price_same, price_other}
+use Rattle.layout_moves.proofs.Steps.{found, Over, over_at, Allowed, raised, risen, moved, numbered_below, taker_stored, price_same, price_other}
 
 -- ---- one step
 
@@ -74,7 +73,7 @@ pub step_none : (roles : List Role) (r size : ℕ) (old sets other : List NodeSe
 step_none roles r size old sets other prices out best great ascend numbered fits priced over is e =
     let o = over_at roles size sets out over in
     let allowed : Allowed roles r old sets prices out 1 = λ p less has node t.
-        absurd (subst (λ b. RisesAtMost b (asked 66 (set_at old p) prices out) (asked 66 (set_at old p) prices node)) e (is.least p less has node t)) in
+    absurd (subst (λ b. RisesAtMost b (asked 66 (set_at old p) prices out) (asked 66 (set_at old p) prices node)) e (is.least p less has node t)) in
     let risen = risen roles r size old sets other prices out 1 great ascend numbered fits priced o allowed in
     record { priced = risen.priced; nearer = let n = risen.nearer in omega arith }
 
@@ -84,7 +83,7 @@ pub step_some : (roles : List Role) (r size : ℕ) (old sets other : List NodeSe
 step_some roles r size old sets other prices out best bid after great ascend numbered fits priced over is e swap rising =
     let o = over_at roles size sets out over in
     let allowed : Allowed roles r old sets prices out bid.rise = λ p less has node t.
-        subst (λ b. RisesAtMost b (asked 66 (set_at old p) prices out) (asked 66 (set_at old p) prices node)) e (is.least p less has node t) in
+    subst (λ b. RisesAtMost b (asked 66 (set_at old p) prices out) (asked 66 (set_at old p) prices node)) e (is.least p less has node t) in
     let rise = risen roles r size old sets other prices out bid.rise great ascend numbered fits priced o allowed in
     let made = subst (λ b. IfSome b (λ bid. (bid.partition < 256) × Needs 66 (zones roles) (4 - r) old sets prices out bid.partition bid.node bid.rise)) e is.made in
     let needs = made.1 in

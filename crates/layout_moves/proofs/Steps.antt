@@ -1,27 +1,25 @@
 -- A price that rises and a copy that moves keep where the auction stands, and bring it nearer to its end.
-use Rattle.std.proofs.Common.{◌≡◌, ℕ, zero, suc, ◌+◌, ◌-◌, ◌*◌, ◌<◌, ◌≤◌, Bool, true, false, cond, not, ◌&&◌, ◌==◌, nat_eq, nat_lt, IsTrue, List, [], ◌∷◌, length, get_or, refl, sym, ap, ◌∙◌, subst, inl, inr, arith, le_refl, le_trans, eqb-true, ltb-true, leb-true}
+use Rattle.std.proofs.Common.{◌≡◌, ℕ, suc, ◌+◌, ◌-◌, ◌*◌, ◌<◌, ◌≤◌, Bool, true, false, cond, not, ◌&&◌, ◌==◌, nat_eq, nat_lt, IsTrue, List, [], ◌∷◌, length, get_or, refl, sym, ap, ◌∙◌, subst, inl, inr, arith, le_refl, eqb-true, ltb-true, leb-true}
 use Rattle.std.specs.List.{sum_by, count_by, list_any, list_all, filter, All, range_with_len, IsDistinct}
 use Rattle.std.proofs.Math.ListN.{set}
-use Rattle.std.proofs.Math.Nat.{mul-le-mul_left}
 use Rattle.std.proofs.lemmas.Bool.{cases_Bool, cases_lt, and_parts, and_from, or_cases, eq-eqb, eqb-false}
-use Rattle.std.proofs.lemmas.List.{get_or-set_same, get_or-set_other, length-set, get_or_default}
+use Rattle.std.proofs.lemmas.List.{get_or-set_same, get_or-set_other, length-set}
 use Rattle.std.proofs.lemmas.List.FromFn.{length-range_with_len, get_or-range_with_len}
-use Rattle.std.proofs.lemmas.List.Sums.{sum_by-set, sum_by-cons, length-filter, count_by-le-length, get_or-le-sum_by, AllPass-from_list_all, list_all-from_AllPass}
+use Rattle.std.proofs.lemmas.List.Sums.{sum_by-set, length-filter, count_by-le-length, get_or-le-sum_by, AllPass-from_list_all, list_all-from_AllPass}
 use Rattle.std.proofs.lemmas.List.Elements.{All-head, All-tail, All-filter}
 use Rattle.layout_roles.specs.declared.role.Role.{Role}
 use Rattle.layout_roles.specs.Zones.{nodes_ascend, ascend_from, is_numbered, is_storage, storage_nodes, zones, set_ascends}
 use Rattle.layout_roles.specs.Fits.{NodeSet, has_node, load, room, partitions, is_storage_node, IsThree, Fits}
-use Rattle.layout_flow.proofs.Sums.{yes, no, sum_by-plus, sum_by-agree, sum_by-below, sum_by-constant}
-use Rattle.layout_flow.proofs.Zones.{count_times, count_some, count-cons, stored_once, sum_by_zones, any_from_count}
+use Rattle.layout_flow.proofs.Sums.{yes, sum_by-plus, sum_by-agree, sum_by-below}
+use Rattle.layout_flow.proofs.Zones.{count_times, stored_once}
 use Rattle.layout_flow.proofs.Spread.{distinct_once, any_as_count}
 use Rattle.layout_flow.proofs.Lightest.{mul_below}
 use Rattle.layout_flow.proofs.Printed.{all_parts}
 use Rattle.layout_moves.specs.Moves.{set_at, moves_of}
 use Rattle.layout_moves.specs.Prices.{IsBase, IsCheap, IsSwap, asked, may_take, is_open, lies, AreCovered}
 use Rattle.layout_moves.specs.Auction.{highest, IsPriced, is_over, left_to_rise, unrest}
-use Rattle.layout_moves.proofs.Chosen.{loads}
 use Rattle.layout_moves.proofs.Near.{or_left, or_right, zone_stored}
-use Rattle.layout_moves.proofs.Swaps.{Place, place_of, two_below, lacks, Swapped, swap_base, swap_cheap, rise_cheap}
+use Rattle.layout_moves.proofs.Swaps.{place_of, two_below, lacks, Swapped, swap_base, swap_cheap, rise_cheap}
 use Rattle.layout_moves.proofs.Limit.{all_asked, asked_is, gap_at, limit}
 
 -- ---- few nodes
@@ -269,11 +267,11 @@ risen roles r size old sets other prices node rise great ascend numbered fits pr
     let few = few_nodes roles ascend numbered in
     let lim = limit 256 66 1 roles r size old sets other after great ascend priced.whole priced.bases cheap covered fits in
     let low : All (λ role. get_or after role.node 0 ≤ 67072) nodes = λ k d h.
-        let role = get_or nodes k d in
-        elim (cases_Bool (role.node == node)) [
-          | inl same ↦ let l = lim k d h (all_over roles size sets node ascend over k d h (eqb-true role.node node same)) in omega arith
-          | inr apart ↦ let e = new.others role.node (eqb-false role.node node apart) in let l = priced.low k d h in omega arith
-        ] in
+    let role = get_or nodes k d in
+    elim (cases_Bool (role.node == node)) [
+      | inl same ↦ let l = lim k d h (all_over roles size sets node ascend over k d h (eqb-true role.node node same)) in omega arith
+      | inr apart ↦ let e = new.others role.node (eqb-false role.node node apart) in let l = priced.low k d h in omega arith
+    ] in
     record {
       priced = record {
         whole = priced.whole;

@@ -1,7 +1,7 @@
 -- A set in which one node takes another's place.
-use Rattle.std.proofs.Common.{◌≡◌, ℕ, ◌+◌, ◌<◌, ◌≤◌, Bool, true, false, cond, ◌||◌, nat_eq, nat_lt, IsTrue, List, [], ◌∷◌, length, get_or, refl, sym, ap, ◌∙◌, subst, inl, inr, arith, eqb-true}
-use Rattle.std.specs.List.{sum_by, count_by, list_any, IsDistinct, AllByRecursion}
-use Rattle.std.proofs.lemmas.Bool.{cases_Bool, eq-eqb, ne_eqb}
+use Rattle.std.proofs.Common.{◌≡◌, ℕ, ◌+◌, ◌<◌, Bool, true, false, cond, ◌||◌, nat_eq, nat_lt, IsTrue, List, [], ◌∷◌, length, get_or, refl, sym, ap, arith, eqb-true}
+use Rattle.std.specs.List.{sum_by, IsDistinct, AllByRecursion}
+use Rattle.std.proofs.lemmas.Bool.{eq-eqb, ne_eqb}
 use Rattle.std.proofs.lemmas.List.Sums.{sum_by-cons, get_or-le-sum_by}
 use Rattle.layout_roles.specs.Zones.{set_ascends}
 use Rattle.layout_roles.specs.Fits.{NodeSet, has_node}

@@ -1,16 +1,15 @@
 -- What stays where one node's copy gives way to another's, and where a price rises.
-use Rattle.std.proofs.Common.{◌≡◌, ℕ, zero, suc, ◌+◌, ◌-◌, ◌*◌, ◌<◌, ◌≤◌, Bool, true, false, cond, not, ◌&&◌, ◌||◌, ◌==◌, nat_eq, nat_lt, IsTrue, List, [], ◌∷◌, length, get_or, refl, sym, ap, ◌∙◌, inl, inr, arith, le_refl, le_trans, ltb-true, ltb-false, eqb-true}
+use Rattle.std.proofs.Common.{◌≡◌, ℕ, zero, suc, ◌+◌, ◌<◌, ◌≤◌, Bool, true, false, cond, not, ◌&&◌, ◌||◌, ◌==◌, nat_eq, nat_lt, IsTrue, List, [], ◌∷◌, length, get_or, refl, sym, ap, ◌∙◌, inl, inr, arith, le_refl, le_trans, ltb-true, eqb-true}
 use Rattle.std.specs.List.{sum_by, count_by, list_any, All, IsDistinct}
 use Rattle.std.proofs.lemmas.List.{get_or_default}
-use Rattle.std.proofs.lemmas.Bool.{cases_Bool, cases_lt, and_from, and_parts, or_cases, eq-eqb, lt-ltb, eqb-false}
+use Rattle.std.proofs.lemmas.Bool.{cases_Bool, cases_lt, and_parts, or_cases, eq-eqb, lt-ltb, eqb-false}
 use Rattle.std.proofs.lemmas.List.Sums.{sum_by-cons, get_or-le-sum_by}
-use Rattle.std.proofs.lemmas.List.Elements.{All-nil, All-cons}
 use Rattle.layout_roles.specs.declared.role.Role.{Role}
-use Rattle.layout_roles.specs.Zones.{nodes_ascend, storage_nodes, zones}
+use Rattle.layout_roles.specs.Zones.{nodes_ascend, zones}
 use Rattle.layout_roles.specs.Fits.{NodeSet, has_node, is_storage_node, IsThree}
 use Rattle.layout_flow.proofs.Sums.{yes, no, sum_by-swap, sum_by-agree, sum_by-constant}
-use Rattle.layout_flow.proofs.Zones.{count_some, count_none, any_from_count, none_from_count, count-cons, zones_once}
-use Rattle.layout_flow.proofs.Spread.{in_set, distinct_once, any_as_count}
+use Rattle.layout_flow.proofs.Zones.{count_some, count_none, any_from_count, none_from_count, zones_once}
+use Rattle.layout_flow.proofs.Spread.{distinct_once, any_as_count}
 use Rattle.layout_flow.proofs.Wrapped.{distinct_from_counts}
 use Rattle.layout_moves.specs.Prices.{kept, lies, IsBase, is_open, may_take, IsCheap, IsSwap}
 use Rattle.layout_moves.proofs.Near.{takes}

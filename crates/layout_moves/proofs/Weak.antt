@@ -1,5 +1,5 @@
 -- No bound of potentials is above the moves of an assignment that fits.
-use Rattle.std.proofs.Common.{◌≡◌, ℕ, ◌+◌, ◌-◌, ◌*◌, ◌<◌, ◌≤◌, min, Bool, true, false, cond, not, IsTrue, List, [], ◌∷◌, map, length, get_or, refl, sym, ap, ◌∙◌, inl, inr, arith}
+use Rattle.std.proofs.Common.{◌≡◌, ℕ, ◌+◌, ◌-◌, ◌*◌, ◌<◌, ◌≤◌, min, Bool, true, false, cond, not, IsTrue, List, [], ◌∷◌, length, get_or, refl, ap, inl, inr, arith}
 use Rattle.std.specs.Prelude.{ℤ, pos, negsuc, ◌-ℤ◌, ◌*ℤ◌, ◌≤ℤ◌}
 use borrow.Author.Differences.{up, down}
 use Rattle.std.proofs.lemmas.Int.{ints}
@@ -10,9 +10,9 @@ use Rattle.std.proofs.lemmas.List.FromFn.{length-range_with_len}
 use Rattle.std.proofs.lemmas.List.Sums.{sum_by-cons}
 use Rattle.std.proofs.lemmas.List.Elements.{All-map}
 use Rattle.layout_roles.specs.declared.role.Role.{Role}
-use Rattle.layout_roles.specs.Zones.{Name, nodes_ascend, storage_nodes, zone_names, nodes_in, zones}
+use Rattle.layout_roles.specs.Zones.{nodes_ascend, storage_nodes, zone_names, nodes_in, zones}
 use Rattle.layout_roles.specs.Fits.{NodeSet, has_node, load, room, partitions, IsThree, FitsAll, Fits}
-use Rattle.layout_flow.specs.Network.{Edge, edge, node_edge, network_of, network}
+use Rattle.layout_flow.specs.Network.{Edge, network_of, network}
 use Rattle.layout_flow.specs.declared.vertex.Vertex.{Vertex}
 use Rattle.layout_flow.specs.declared.vertex.Vertex.TheVariants.{Source, Up, Down, Zone, Node, Sink}
 use Rattle.layout_flow.proofs.Sums.{yes, no, sum_by-plus, sum_by-agree, sum_by-below, sum_by-constant, sum_by-enumerate}
@@ -21,7 +21,7 @@ use Rattle.layout_flow.proofs.Spread.{in_set, few_in_zone}
 use Rattle.layout_flow.proofs.Lightest.{mul_below}
 use Rattle.layout_flow.proofs.Bounds.{part_sum, sum_of_edges}
 use Rattle.layout_flow.proofs.Printed.{all_parts}
-use Rattle.layout_moves.specs.Moves.{set_at, new_nodes, moves_of, moves, cost_between, cost, Potentials, positive, gain, bound}
+use Rattle.layout_moves.specs.Moves.{set_at, new_nodes, moves_of, moves, cost_between, Potentials, positive, gain, bound}
 use Rattle.layout_moves.proofs.Chosen.{sum_in_set, zones_of_set, zones_with_some, loads, threes_length}
 
 -- ---- one zone, and all zones

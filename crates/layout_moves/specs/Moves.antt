@@ -1,12 +1,12 @@
 -- What an assignment moves, and what potentials show of every assignment that fits.
-use Rattle.std.specs.Prelude.{◌≡◌, ℕ, ℤ, pos, negsuc, ◌-ℤ◌, ◌*ℤ◌, ◌*◌, Bool, not, cond, get_or, List, [], ◌∷◌}
+use Rattle.std.specs.Prelude.{ℕ, ℤ, pos, negsuc, ◌-ℤ◌, ◌*ℤ◌, ◌*◌, not, cond, get_or, List, [], ◌∷◌}
 use Rattle.std.specs.List.{sum_by, count_by, range_with_len}
 use Rattle.layout_roles.specs.declared.role.Role.{Role}
 use Rattle.layout_roles.specs.Fits.{NodeSet, has_node, partitions}
 use Rattle.layout_flow.specs.Network.{Edge, network}
 use Rattle.layout_flow.specs.Flows.{same_vertex}
 use Rattle.layout_flow.specs.declared.vertex.Vertex.{Vertex}
-use Rattle.layout_flow.specs.declared.vertex.Vertex.TheVariants.{Source, Up, Down, Zone, Node, Sink}
+use Rattle.layout_flow.specs.declared.vertex.Vertex.TheVariants.{Source, Zone, Node, Sink}
 
 -- the set that an assignment gives a partition
 abbrev pub set_at : List NodeSet → ℕ → NodeSet

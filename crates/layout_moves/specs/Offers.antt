@@ -1,5 +1,5 @@
 -- The cheapest of what nodes ask.
-use Rattle.std.specs.Prelude.{◌≡◌, ℕ, ◌+◌, ◌<◌, ◌≤◌, Bool, IsTrue, Option, Some, None, IfSome, get_or, length, List, []}
+use Rattle.std.specs.Prelude.{◌≡◌, ℕ, ◌+◌, ◌<◌, ◌≤◌, Bool, IsTrue, Option, Some, None, IfSome, List}
 use Rattle.layout_roles.specs.declared.role.Role.{Role}
 use Rattle.layout_roles.specs.Fits.{NodeSet, has_node}
 use Rattle.layout_moves.specs.Moves.{set_at}

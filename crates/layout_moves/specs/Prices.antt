@@ -1,10 +1,9 @@
 -- Prices of nodes, and sets that are cheap at them.
-use Rattle.std.specs.Prelude.{◌≡◌, ℕ, ℤ, pos, ◌-ℤ◌, ◌+◌, ◌-◌, ◌*◌, ◌<◌, ◌≤◌, Bool, not, cond, ◌&&◌, ◌||◌, ◌==◌, nat_lt, IsTrue, max, get_or, length, List, [], ◌∷◌}
-use Rattle.std.specs.List.{sum_by, count_by, list_any, list_all, filter, All}
+use Rattle.std.specs.Prelude.{◌≡◌, ℕ, pos, ◌-ℤ◌, ◌+◌, ◌<◌, ◌≤◌, Bool, not, cond, ◌&&◌, ◌||◌, ◌==◌, nat_lt, IsTrue, max, get_or, List, [], ◌∷◌}
+use Rattle.std.specs.List.{sum_by, count_by, list_any, filter, All}
 use Rattle.layout_roles.specs.declared.role.Role.{Role}
-use Rattle.layout_roles.specs.Zones.{storage_nodes, zones, set_ascends}
+use Rattle.layout_roles.specs.Zones.{storage_nodes, zones}
 use Rattle.layout_roles.specs.Fits.{NodeSet, has_node, load, room, IsThree}
-use Rattle.layout_flow.specs.declared.vertex.Vertex.{Vertex}
 use Rattle.layout_flow.specs.declared.vertex.Vertex.TheVariants.{Source, Up, Down, Zone, Node, Sink}
 use Rattle.layout_moves.specs.Moves.{set_at, Potentials}
 

@@ -24,9 +24,7 @@ fn lesser(best: Option<Bid>, bid: Bid) -> Option<Bid>
     ensures new { (low high : ℕ) → low + bid.rise ≤ high + 1 → RisesAtMost result low high }
     ensures one { (result ≡ best) ⊎ (result ≡ Some bid) }
 {
-    let Some(before) = best else {
-        return Some(bid)
-    };
+    let Some(before) = best else { return Some(bid) };
     if bid.rise < before.rise {
         return Some(bid);
     }

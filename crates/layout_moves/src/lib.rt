@@ -14,7 +14,7 @@ mod rounding;
 mod sets;
 mod settle;
 
-pub use fault::MoveFault;
 pub use answer::fewest;
+pub use fault::MoveFault;
 pub use laws::potentials_bound;
 pub use moved::Moved;

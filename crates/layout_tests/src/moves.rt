@@ -84,7 +84,12 @@ fn one_node_replaced(rt: HostRuntime) {
 // Node 3 has room for 166 partitions of 3 bytes, so 90 of its 256 copies move.
 #[test]
 fn capacity_forces_moves(rt: HostRuntime) {
-    let new: [(u8, &[u8], u64); 4] = [(1, b"a", 1000), (2, b"b", 1000), (3, b"c", 500), (4, b"c", 500)];
+    let new: [(u8, &[u8], u64); 4] = [
+        (1, b"a", 1000),
+        (2, b"b", 1000),
+        (3, b"c", 500),
+        (4, b"c", 500),
+    ];
     assert!(rt; moves_between(rt.alloc(), &TRIO, &new, 3) == Ok(Change::Moves(90)));
 }
 

@@ -41,8 +41,8 @@ returns-clause-bound c =
     let six = c.as_slice-6.ensures in
     let len = ap (λ (xs : List NodeSet). length xs) five in
     let topped : (p : ℕ) → p < 256 → dearest (asked 1 (set_at old p) exact) (set_at sets p) ≤ top = λ p less.
-        subst (λ (xs : List ℕ). dearest (asked 1 (set_at old p) xs) (set_at sets p) ≤ top) six
-        (subst (λ (xs : List NodeSet). dearest (asked 1 (set_at old p) c.as_slice-6.result.now) (set_at xs p) ≤ top) five (c.top_of-top.ensures.topped p (let w = priced.whole in omega arith))) in
+    subst (λ (xs : List ℕ). dearest (asked 1 (set_at old p) xs) (set_at sets p) ≤ top) six
+    (subst (λ (xs : List NodeSet). dearest (asked 1 (set_at old p) c.as_slice-6.result.now) (set_at xs p) ≤ top) five (c.top_of-top.ensures.topped p (let w = priced.whole in omega arith))) in
     let ended : Ended roles.list c.args.r c.args.size old sets prices exact shift top = record {
       priced = priced;
       within = c.hold_auction.ensures.within;
@@ -73,8 +73,8 @@ returns-clause-fewest c = λ other fits.
     let six = c.as_slice-6.ensures in
     let len = ap (λ (xs : List NodeSet). length xs) five in
     let topped : (p : ℕ) → p < 256 → dearest (asked 1 (set_at old p) exact) (set_at sets p) ≤ top = λ p less.
-        subst (λ (xs : List ℕ). dearest (asked 1 (set_at old p) xs) (set_at sets p) ≤ top) six
-        (subst (λ (xs : List NodeSet). dearest (asked 1 (set_at old p) c.as_slice-6.result.now) (set_at xs p) ≤ top) five (c.top_of-top.ensures.topped p (let w = priced.whole in omega arith))) in
+    subst (λ (xs : List ℕ). dearest (asked 1 (set_at old p) xs) (set_at sets p) ≤ top) six
+    (subst (λ (xs : List NodeSet). dearest (asked 1 (set_at old p) c.as_slice-6.result.now) (set_at xs p) ≤ top) five (c.top_of-top.ensures.topped p (let w = priced.whole in omega arith))) in
     let ended : Ended roles.list c.args.r c.args.size old sets prices exact shift top = record {
       priced = priced;
       within = c.hold_auction.ensures.within;

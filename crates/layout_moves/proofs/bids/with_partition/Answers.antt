@@ -1,4 +1,4 @@
-use Rattle.std.proofs.Common.{◌≡◌, ℕ, ◌+◌, ◌-◌, ◌≤◌, true, sym, refl, ◌∙◌, arith}
+use Rattle.std.proofs.Common.{◌≡◌, ◌+◌, ◌-◌, true, sym, refl, ◌∙◌, arith}
 use Rattle.layout_roles.specs.Fits.{has_node}
 use Rattle.layout_moves.specs.Moves.{set_at}
 use Rattle.layout_moves.specs.Prices.{asked, may_take}

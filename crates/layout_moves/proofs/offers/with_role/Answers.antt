@@ -1,4 +1,4 @@
-use Rattle.std.proofs.Common.{ℕ, Bool, ◌||◌, ◌&&◌, ◌==◌, not, nat_eq, sym, ◌∙◌}
+use Rattle.std.proofs.Common.{◌||◌, ◌&&◌, ◌==◌, not, nat_eq, sym, ◌∙◌}
 use Rattle.layout_roles.specs.Fits.{has_node}
 use Rattle.layout_moves.specs.Prices.{asked}
 use Rattle.layout_moves.proofs.Offering.{recast, role_had, role_lacked}

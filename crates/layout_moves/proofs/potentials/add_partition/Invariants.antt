@@ -1,4 +1,4 @@
-use Rattle.std.proofs.Common.{◌≡◌, ◌++◌, [], ◌∷◌, map, take}
+use Rattle.std.proofs.Common.{◌≡◌, ◌++◌, ◌∷◌, map, take}
 use Rattle.std.specs.List.{enumerate_from}
 use Rattle.layout_roles.specs.Zones.{zones}
 use Rattle.layout_flow.specs.declared.vertex.Vertex.TheVariants.{Up, Down, Zone}

@@ -1,4 +1,4 @@
-use Rattle.std.proofs.Common.{◌≡◌, ℕ, List, length, get_or, IsTrue, sym, ◌∙◌, subst, arith}
+use Rattle.std.proofs.Common.{◌≡◌, ℕ, List, length, get_or, IsTrue, sym, subst, arith}
 use Rattle.layout_roles.specs.Zones.{set_ascends}
 use Rattle.layout_moves.specs.Prices.{IsSwap}
 use Rattle.layout_moves.proofs.Swapping.{swap_third, third_out, order_ascends, differ, apart_at}
