@@ -224,7 +224,7 @@ ends_once n roles r size ascend =
 
 -- ---- a flow against a cut
 
-same_true : (v w : Vertex) → same_vertex v w ≡ true → v ≡ w
+pub same_true : (v w : Vertex) → same_vertex v w ≡ true → v ≡ w
 same_true Source Source e = refl
 same_true (Up p) (Up q) e = ap Up (eqb-true p q e)
 same_true (Down p) (Down q) e = ap Down (eqb-true p q e)

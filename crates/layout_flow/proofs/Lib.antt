@@ -1,15 +1,15 @@
-mod Bounds
+pub mod Bounds
 mod Carry
 mod Duality
 mod Fitted
 mod Greatest
-mod Lies
-mod Lightest
+pub mod Lies
+pub mod Lightest
 mod Listed
-mod Printed
-mod Spread
-mod Sums
+pub mod Printed
+pub mod Spread
+pub mod Sums
 mod Weights
-mod Whole
-mod Wrapped
-mod Zones
+pub mod Whole
+pub mod Wrapped
+pub mod Zones

@@ -10,6 +10,7 @@ mod side;
 mod totals;
 
 pub use answer::FlowOrCut;
+pub use groups::by_zone;
 pub use laws::{flows, light_cuts};
 pub use layout_roles::{Cut, Vertex};
 pub use network::Network;

@@ -9,6 +9,8 @@ mod configs;
 #[cfg(test)]
 mod made;
 #[cfg(test)]
+mod moves;
+#[cfg(test)]
 mod networks;
 #[cfg(test)]
 mod sizes;

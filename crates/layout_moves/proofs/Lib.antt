@@ -1,0 +1,14 @@
+mod Adding
+mod Certificate
+pub mod Chosen
+mod Ending
+mod Limit
+mod Listed
+mod Near
+mod Offering
+mod Rounded
+mod Running
+mod Steps
+mod Swapping
+mod Swaps
+mod Weak

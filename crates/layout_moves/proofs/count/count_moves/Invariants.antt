@@ -1,0 +1,7 @@
+use Rattle.std.proofs.Common.{◌≡◌, ◌*◌, ◌≤◌}
+use Rattle.std.specs.List.{sum_by, range_with_len}
+use Rattle.layout_moves.specs.Moves.{set_at, new_nodes}
+use Rattle.layout_moves.proofs.count.count_moves.Given as goal
+
+abbrev pub invariant-loop-p : goal.invariant-loop-p
+invariant-loop-p l = record { within : l.count ≤ 3 * l.p; count : l.count ≡ sum_by (λ p. new_nodes (set_at l.old p) (set_at l.sets p)) (range_with_len 0 l.p) }
