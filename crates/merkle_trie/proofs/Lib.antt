@@ -1,0 +1,6 @@
+pub mod Changes
+pub mod Children
+pub mod Maps
+pub mod Prefixes
+pub mod Values
+pub mod Ways

@@ -1,0 +1,4 @@
+pub mod Sets
+pub mod Slots
+pub mod Stands
+pub mod Trees
