@@ -2,5 +2,6 @@ pub mod Changes
 pub mod Children
 pub mod Maps
 pub mod Prefixes
+pub mod Shown
 pub mod Values
 pub mod Ways

@@ -124,3 +124,37 @@ prefix_none pairs = filter_all (λ pair. starts pair.0 []) pairs (λ k d lt. ref
 -- the first bytes, with one more
 pub take_next : (key : List ℕ) (n : ℕ) → n < length key → take (n + 1) key ≡ take n key ++ slice_index key n ∷ []
 take_next key n h = take_more key n 0 h
+
+take_twice : {X : Type 0} (a b : ℕ) (xs : List X) → a ≤ b → take a (take b xs) ≡ take a xs
+take_twice zero b xs h = refl
+take_twice (suc a) zero xs h = absurd (omega arith)
+take_twice (suc a) (suc b) [] h = refl
+take_twice (suc a) (suc b) (x ∷ xs) h = ap (λ l. x ∷ l) (take_twice a b xs (omega arith))
+
+-- what begins with a longer beginning of a text begins with a shorter one
+pub begins_less : (text prefix other : List ℕ) (depth : ℕ) → starts text prefix ≡ true → depth ≤ length prefix → depth ≤ length text → starts other prefix ≡ true → starts other (take depth text) ≡ true
+begins_less text prefix other depth s le fits t =
+    let p = starts_is text prefix s in
+    let q = starts_is other prefix t in
+    let len = length-take-le depth text fits in
+    starts_from other (take depth text)
+    (ap (λ n. take n other) len ∙ (sym (take_twice depth (length prefix) other le) ∙ (ap (take depth) (q ∙ sym p) ∙ take_twice depth (length prefix) text le)))
+
+-- the pairs with a prefix are among those with the beginning of it
+pub prefix_within : (prefix : List ℕ) (depth : ℕ) (pairs : List Pair) → depth ≤ length prefix → with_prefix prefix pairs ≡ with_prefix prefix (with_prefix (take depth prefix) pairs)
+prefix_within prefix depth pairs le =
+    filter_same (λ pair. starts pair.0 prefix) (λ pair. starts pair.0 (take depth prefix) && starts pair.0 prefix) pairs
+    (λ k d lt. within (slice_index_or pairs k d).0 (starts (slice_index_or pairs k d).0 prefix) refl)
+    ∙ filter_and (λ pair. starts pair.0 (take depth prefix)) (λ pair. starts pair.0 prefix) pairs
+  where
+    within : (key : List ℕ) (b : Bool) → starts key prefix ≡ b → starts key prefix ≡ (starts key (take depth prefix) && starts key prefix)
+    within key true h = sym (ap (λ b. b && starts key prefix) (begins_less prefix prefix key depth (starts_from prefix prefix (take_all (length prefix) prefix (omega arith))) le le h))
+    within key false h = h ∙ sym (ap (λ b. starts key (take depth prefix) && b) h ∙ elim (starts key (take depth prefix)) as (λ b. (b && false) ≡ false) [ true ↦ refl | false ↦ refl ])
+
+-- nothing begins with a longer text
+pub starts_long : (key prefix : List ℕ) → length key < length prefix → starts key prefix ≡ false
+starts_long key prefix h =
+    false_from_ne_true (starts key prefix) (λ s.
+    let same = ap length (starts_is key prefix s) in
+    let all = ap length (take_all (length prefix) key (omega arith)) in
+    omega (arith, h, same, all))

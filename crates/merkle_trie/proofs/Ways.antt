@@ -15,7 +15,7 @@ use Rattle.merkle_trie.specs.Sets.{is_key, removed, put}
 use Rattle.merkle_trie.specs.Slots.{entries_at, leaf, slot_at, slot_in, slot_of, summary, with_slot}
 use Rattle.merkle_trie.specs.Stands.{IsHash, IsSet, NodesAre, IsPath, children_in, changed_by}
 use Rattle.merkle_trie.specs.Trees.{IsTree, LeadsTo, IsClimb, goes_on, is_above, is_lone, is_text}
-use Rattle.merkle_trie.proofs.Prefixes.{starts, starts_is, starts_from, starts_take, starts_more, same_is, same_from, same_itself, other_from, other_is, length-filter-le, take_next}
+use Rattle.merkle_trie.proofs.Prefixes.{starts, begins_less, starts_is, starts_from, starts_take, starts_more, same_is, same_from, same_itself, other_from, other_is, length-filter-le, take_next}
 use Rattle.merkle_trie.proofs.Changes.{IsLone, slot_none, slot_lone, slot_node, changed_other, set_changed, gone, put_alone, removed_alone, removed_here, removed_none}
 use Rattle.merkle_trie.proofs.Values.{slot_summary, entries_alone, length-entries, entries_slot, entries_with, entries_same}
 
@@ -134,21 +134,6 @@ fewer f g (x ∷ xs) h = fewer_by (f x) refl (g x) refl (fewer f g xs h)
     fewer_by true p false q rest = absurd (both_ways (g x) q (h x p))
     fewer_by false p true q rest = omega (arith, rest)
     fewer_by false p false q rest = rest
-
-take_twice : {X : Type 0} (a b : ℕ) (xs : List X) → a ≤ b → take a (take b xs) ≡ take a xs
-take_twice zero b xs h = refl
-take_twice (suc a) zero xs h = absurd (omega arith)
-take_twice (suc a) (suc b) [] h = refl
-take_twice (suc a) (suc b) (x ∷ xs) h = ap (λ l. x ∷ l) (take_twice a b xs (omega arith))
-
--- what begins with a longer beginning of the key hash begins with a shorter one
-begins_less : (key prefix other : List ℕ) (depth : ℕ) → starts key prefix ≡ true → depth ≤ length prefix → depth ≤ length key → starts other prefix ≡ true → starts other (take depth key) ≡ true
-begins_less key prefix other depth s le fits t =
-    let p = starts_is key prefix s in
-    let q = starts_is other prefix t in
-    let len = length-take-le depth key fits in
-    starts_from other (take depth key)
-    (ap (λ n. take n other) len ∙ (sym (take_twice depth (length prefix) other le) ∙ (ap (take depth) (q ∙ sym p) ∙ take_twice depth (length prefix) key le)))
 
 module _ (hash : List ℕ → List ℕ) (pairs later : List Pair) (key : List ℕ) (key_is : IsHash key)
     (others : (prefix : List ℕ) → starts key prefix ≡ false → with_prefix prefix later ≡ with_prefix prefix pairs) where

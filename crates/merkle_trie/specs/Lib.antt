@@ -1,3 +1,4 @@
+pub mod Keeping
 pub mod Sets
 pub mod Slots
 pub mod Stands

@@ -1,5 +1,5 @@
 -- What a trie keeps of the pairs with one prefix, and of the pairs with each next byte.
-use Rattle.std.specs.Prelude.{ℕ, suc, ◌-◌, ◌==◌, nat_lt, Bool, false, if◌then◌else◌, List, [], ◌∷◌, ◌++◌, Option, Some, None, length, flat_map}
+use Rattle.std.specs.Prelude.{ℕ, suc, ◌-◌, ◌==◌, nat_lt, Bool, false, if◌then◌else◌, List, [], ◌∷◌, ◌++◌, Option, Some, None, length, flat_map, replicate}
 use Rattle.blake2_hash.specs.declared.digest.Hash32.{Hash32}
 use Rattle.merkle_trie.specs.declared.slot.Slot.{Slot}
 use Rattle.merkle_trie.specs.declared.slot.Child.{Child}
@@ -30,6 +30,11 @@ abbrev pub with_slot : ℕ → Option Slot → List Child → List Child
 with_slot byte slot [] = entry byte slot
 with_slot byte slot (c ∷ cs) =
     if nat_lt c.byte byte then c ∷ with_slot byte slot cs else entry byte slot ++ (if c.byte == byte then cs else c ∷ cs)
+
+-- the value of the pairs of a slot
+abbrev pub value_in : Option Slot → List ℕ
+value_in None = replicate 32 0
+value_in (Some slot) = slot.value.0
 
 -- what the children add to the bytes that a node's value is the hash of
 abbrev pub child_bytes : List Child → List ℕ

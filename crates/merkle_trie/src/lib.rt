@@ -17,5 +17,7 @@ mod change;
 mod hasher;
 mod slot;
 mod tree;
+mod trie;
 
 pub use hasher::{Blake, Hasher};
+pub use trie::Trie;

@@ -1,9 +1,11 @@
 //! The slots of a set of pairs: that of all pairs, and the children of each prefix that two pairs or more have.
-ghost use Rattle.std.specs.Prelude.{◌≡◌, ◌≢◌, ℕ, ◌+◌, ◌<◌, ◌≤◌, ◌∷◌, [], List, Some, IfOk, IfErr, OnOk, OnErr, false, length, slice_index, take};
+ghost use Rattle.std.specs.Prelude.{◌≡◌, ◌≢◌, ℕ, ◌+◌, ◌<◌, ◌≤◌, ◌∷◌, [], List, Some, IfOk, IfErr, OnOk, OnErr, None, false, nat_eq, nat_lt, if◌then◌else◌, length, map, slice_index, take};
+ghost use Rattle.std.specs.List.{starts_with};
+ghost use Rattle.merkle_trie.specs.Sets.{children_at};
 ghost use Rattle.crdt_core.specs.declared.memory.Memory.TheVariants.{Want};
 ghost use Rattle.merkle_trie.specs.declared.slot.Child.{Child};
 ghost use Rattle.table_model.specs.Root.{Pair};
-ghost use Rattle.merkle_trie.specs.Slots.{slot_in, summary, with_slot};
+ghost use Rattle.merkle_trie.specs.Slots.{slot_at, slot_in, summary, with_slot};
 ghost use Rattle.merkle_trie.specs.Stands.{children_in, changed_by};
 ghost use Rattle.merkle_trie.specs.Trees.{IsTree, LeadsTo, IsClimb, is_above, is_lone};
 
@@ -58,6 +60,44 @@ impl Tree {
                 }
                 Ok(())
             }
+        }
+    }
+
+    /// The slot of the pairs with the prefix.
+    pub fn find(&self, prefix: &[u8]) -> Option<Slot>
+        ensures { (hash : List ℕ → List ℕ) (pairs : List Pair) → IsTree hash self.now pairs → result ≡ slot_at hash prefix.now pairs }
+    {
+        if prefix.len() > 32 {
+            return None;
+        }
+        let mut slot = self.top;
+        for depth in 0..prefix.len() {
+            match slot {
+                None => return None,
+                Some(here) => match here.only {
+                    Some(only) => return slot_under(here, &only, prefix),
+                    None => slot = slot_below(&self.nodes, &prefix[..depth], prefix[depth]),
+                },
+            }
+        }
+        slot
+    }
+
+    /// Each byte that some pair has next after the prefix, ascending, with the value there.
+    pub fn children(&self, alloc: Global, prefix: &[u8]) -> Result<Vec<(u8, Hash32)>, Memory>
+        ensures are { IfOk result (λ children. (hash : List ℕ → List ℕ) (pairs : List Pair) → IsTree hash self.now pairs →
+            map (λ child. (child.0, child.1.0)) children.items ≡ children_at hash prefix.now pairs) }
+        ensures want { IfErr result (λ e. e ≡ Want) }
+    {
+        match self.find(prefix) {
+            None => Ok(Vec::new(alloc)),
+            Some(slot) => match slot.only {
+                Some(only) => only_child(alloc, &only, prefix.len(), slot.value),
+                None => match self.nodes.get(prefix) {
+                    Some(children) => child_values(alloc, children.as_slice()),
+                    None => Ok(Vec::new(alloc)),
+                },
+            },
         }
     }
 
@@ -184,6 +224,45 @@ pub fn slot_below(nodes: &Nodes, prefix: &[u8], byte: u8) -> Option<Slot>
         Some(children) => child_slot(children, byte),
         None => None,
     }
+}
+
+// The slot of one pair, where it has the prefix.
+fn slot_under(slot: Slot, only: &Hash32, prefix: &[u8]) -> Option<Slot>
+    ensures { result ≡ (if starts_with nat_eq only.now.0 prefix.now then Some slot else None) }
+{
+    if only.0.starts_with(prefix) {
+        Some(slot)
+    } else {
+        None
+    }
+}
+
+// The next byte of one pair, and its value.
+fn only_child(
+    alloc: Global,
+    only: &Hash32,
+    depth: usize,
+    value: Hash32,
+) -> Result<Vec<(u8, Hash32)>, Memory>
+    ensures are { IfOk result (λ children. children.items ≡ (if nat_lt depth 32 then (slice_index only.now.0 depth, value) ∷ [] else [])) }
+    ensures want { IfErr result (λ e. e ≡ Want) }
+{
+    let mut children = Vec::new(alloc);
+    if depth < 32 {
+        children.push((only.0[depth], value))?;
+    }
+    Ok(children)
+}
+
+fn child_values(alloc: Global, children: &[Child]) -> Result<Vec<(u8, Hash32)>, Memory>
+    ensures are { IfOk result (λ values. values.items ≡ map (λ c. (c.byte, c.slot.value)) children.now) }
+    ensures want { IfErr result (λ e. e ≡ Want) }
+{
+    let values: Vec<(u8, Hash32)> = children
+        .iter()
+        .map(|child| (child.byte, child.slot.value))
+        .collect(alloc)?;
+    Ok(values)
 }
 
 // Puts a slot one level up, and gives the slot that follows there.
