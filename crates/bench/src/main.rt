@@ -1,25 +1,32 @@
 //! Jobs that are timed. `bench JOB ARGUMENTS..` does the job that its first word names, and prints what
-//! comes out and never a time; the scripts `bench/compare` and `bench/replay` take the times.
+//! comes out and never a time; the scripts `bench/compare`, `bench/replay` and `bench/trie` take the times.
 //!
 //! - `hash BYTES`: the BLAKE2b digest of 32 bytes, in hexadecimal, of a message of that many bytes,
 //!   of which byte i is i modulo 251.
+//! - `trie PAIRS CHANGES`: the root of a trie of that many pairs, in hexadecimal, after that many changes that were
+//!   settled one after the other.
 //! - `replay`: a schedule of 100,000 events, for `garage_lab replay`.
 #![tactic(auto)]
 
 mod hashing;
 mod schedule;
+mod tries;
 
 use hashing::pattern_digest;
 use schedule::schedule;
 use std::alloc::Global;
 use std::process::ExitCode;
 use std::{env, io};
+use tries::changed_root;
 
 fn main(rt: HostRuntime) -> io::Result<ExitCode> {
     let words: Vec<String> = env::args(&rt)?.skip(1).collect(rt.alloc())?;
     match words.as_slice() {
         [job, byte_count] if job.as_str() == "hash" => hash(&rt, byte_count.as_str()),
         [job] if job.as_str() == "replay" => replay(&rt),
+        [job, pairs, changes] if job.as_str() == "trie" => {
+            trie(&rt, pairs.as_str(), changes.as_str())
+        }
         _ => usage(&rt),
     }
 }
@@ -35,6 +42,27 @@ fn hash(rt: &(impl Print + Eprint + Alloc), byte_count: &str) -> io::Result<Exit
     }
 }
 
+fn trie(
+    rt: &(impl Print + Eprint + Alloc<A = Global>),
+    pairs: &str,
+    changes: &str,
+) -> io::Result<ExitCode> {
+    let (Ok(pair_count), Ok(change_count)) = (pairs.parse::<u64>(), changes.parse::<u64>()) else {
+        return usage(rt);
+    };
+    match changed_root(rt.alloc(), pair_count, change_count) {
+        Ok(root) => {
+            let text = hex::encode(rt.alloc(), &root.0)?;
+            println!(rt; "{text}")?;
+            Ok(ExitCode::SUCCESS)
+        }
+        Err(_) => {
+            eprintln!(rt; "out of memory")?;
+            Ok(ExitCode::FAILURE)
+        }
+    }
+}
+
 fn replay(rt: &(impl Print + Alloc<A = Global>)) -> io::Result<ExitCode> {
     for line in schedule(rt.alloc())? {
         println!(rt; "{line}")?;
@@ -43,6 +71,6 @@ fn replay(rt: &(impl Print + Alloc<A = Global>)) -> io::Result<ExitCode> {
 }
 
 fn usage(rt: &impl Eprint) -> io::Result<ExitCode> {
-    eprintln!(rt; "usage: bench hash BYTES | replay")?;
+    eprintln!(rt; "usage: bench hash BYTES | trie PAIRS CHANGES | replay")?;
     Ok(ExitCode::from(2))
 }

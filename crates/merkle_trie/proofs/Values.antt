@@ -14,8 +14,16 @@ use Rattle.merkle_trie.specs.Stands.{IsHash, IsSet}
 use Rattle.merkle_trie.proofs.Children.{given, given_same, given_with, given_slot, given_none, length-given}
 use Rattle.merkle_trie.proofs.Prefixes.{starts, prefix_more}
 
-all_bytes : every_byte ≡ range_with_len 0 256
-unfolding every_byte
+-- how many bytes there are, not to be counted out in proofs
+pub full : ℕ
+full = 256
+
+pub full_is : full ≡ 256
+unfolding full
+full_is = refl
+
+pub all_bytes : every_byte ≡ range_with_len 0 full
+unfolding every_byte full
 all_bytes = refl
 
 value_one : (hash : List ℕ → List ℕ) (left depth : ℕ) (pair : Pair) → value_of hash left depth (pair ∷ []) ≡ hash (1 ∷ pair.0 ++ pair.1)
@@ -45,11 +53,11 @@ module _ (hash : List ℕ → List ℕ) (left depth : ℕ) where
   unfolding value_of
   value_suc pairs = refl
 
-  value_many : (first second : Pair) (rest : List Pair) (cs : List Child) → cs ≡ given (slot_under (first ∷ second ∷ rest)) 0 256 →
+  value_many : (first second : Pair) (rest : List Pair) (cs : List Child) → cs ≡ given (slot_under (first ∷ second ∷ rest)) 0 full →
       hash (2 ∷ child_bytes cs) ≡ value_of hash (suc left) depth (first ∷ second ∷ rest)
   value_many first second rest cs is =
       let pairs = first ∷ second ∷ rest in
-      ap (λ l. hash (2 ∷ l)) (ap child_bytes is ∙ (bytes_given pairs 0 256 ∙ ap (flat_map (λ byte. branch byte (with_byte depth byte pairs) (value_of hash left (suc depth) (with_byte depth byte pairs)))) (sym all_bytes)))
+      ap (λ l. hash (2 ∷ l)) (ap child_bytes is ∙ (bytes_given pairs 0 full ∙ ap (flat_map (λ byte. branch byte (with_byte depth byte pairs) (value_of hash left (suc depth) (with_byte depth byte pairs)))) (sym all_bytes)))
       ∙ sym (value_suc pairs)
 
   -- ---- one pair
@@ -57,12 +65,12 @@ module _ (hash : List ℕ → List ℕ) (left depth : ℕ) where
   under_one : (pair : Pair) (b : ℕ) → b ≢ slice_index pair.0 depth → None ≡ slot_under (pair ∷ []) b
   under_one pair b h = sym (ap (λ t. slot_of hash left (suc depth) (cond t (pair ∷ []) [])) (ne_eqb (slice_index pair.0 depth) b (λ e. h (sym e))))
 
-  given_one : (pair : Pair) → slice_index pair.0 depth < 256 → given (slot_under (pair ∷ [])) 0 256 ≡ record { byte = slice_index pair.0 depth; slot = leaf hash pair.0 pair.1 } ∷ []
+  given_one : (pair : Pair) → slice_index pair.0 depth < 256 → given (slot_under (pair ∷ [])) 0 full ≡ record { byte = slice_index pair.0 depth; slot = leaf hash pair.0 pair.1 } ∷ []
   given_one pair h =
       let byte = slice_index pair.0 depth in
       let at : slot_under (pair ∷ []) byte ≡ Some (leaf hash pair.0 pair.1) = ap (λ t. slot_of hash left (suc depth) (cond t (pair ∷ []) [])) (eq-eqb byte byte refl) in
-      sym (given_with (λ b. None) (slot_under (pair ∷ [])) byte (under_one pair) 0 256 (omega arith) (omega (arith, h)))
-      ∙ (ap (with_slot byte (slot_under (pair ∷ []) byte)) (given_none (λ b. None) 0 256 (λ b. refl)) ∙ ap (entry byte) at)
+      sym (given_with (λ b. None) (slot_under (pair ∷ [])) byte (under_one pair) 0 full (omega arith) (omega (arith, h, full_is)))
+      ∙ (ap (with_slot byte (slot_under (pair ∷ []) byte)) (given_none (λ b. None) 0 full (λ b. refl)) ∙ ap (entry byte) at)
 
   -- ---- two pairs or more
 
@@ -98,16 +106,16 @@ module _ (hash : List ℕ → List ℕ) (left depth : ℕ) where
       by_only (Some only) e = absurd (lone c only refl e)
   summary_many (c ∷ d ∷ cs) none lone = refl
 
-  not_empty : (first : Pair) (rest : List Pair) → slice_index first.0 depth < 256 → given (slot_under (first ∷ rest)) 0 256 ≡ [] → ⊥
+  not_empty : (first : Pair) (rest : List Pair) → slice_index first.0 depth < 256 → given (slot_under (first ∷ rest)) 0 full ≡ [] → ⊥
   not_empty first rest h is =
       let byte = slice_index first.0 depth in
       let some = slot_some first (with_byte depth byte rest) in
       let at : slot_under (first ∷ rest) byte ≡ Some some.0 =
       ap (λ t. slot_of hash left (suc depth) (cond t (first ∷ with_byte depth byte rest) (with_byte depth byte rest))) (eq-eqb byte byte refl) ∙ some.1 in
-      let found : None ≡ Some some.0 = ap (λ cs. slot_in cs byte) (sym is) ∙ (given_slot (slot_under (first ∷ rest)) byte 0 256 (omega arith) (omega (arith, h)) ∙ at) in
+      let found : None ≡ Some some.0 = ap (λ cs. slot_in cs byte) (sym is) ∙ (given_slot (slot_under (first ∷ rest)) byte 0 full (omega arith) (omega (arith, h, full_is)) ∙ at) in
       cc
 
-  not_lone : (first second : Pair) (rest : List Pair) → slice_index first.0 depth < 256 → slice_index second.0 depth < 256 → NotLone (given (slot_under (first ∷ second ∷ rest)) 0 256)
+  not_lone : (first second : Pair) (rest : List Pair) → slice_index first.0 depth < 256 → slice_index second.0 depth < 256 → NotLone (given (slot_under (first ∷ second ∷ rest)) 0 full)
   not_lone first second rest h g e only is o =
       let pairs = first ∷ second ∷ rest in
       let byte = slice_index first.0 depth in
@@ -115,7 +123,7 @@ module _ (hash : List ℕ → List ℕ) (left depth : ℕ) where
       let some = slot_some first (with_byte depth byte (second ∷ rest)) in
       let at : slot_under pairs byte ≡ Some some.0 =
       ap (λ t. slot_of hash left (suc depth) (cond t (first ∷ with_byte depth byte (second ∷ rest)) (with_byte depth byte (second ∷ rest)))) (eq-eqb byte byte refl) ∙ some.1 in
-      let found : slot_in (e ∷ []) byte ≡ Some some.0 = ap (λ cs. slot_in cs byte) (sym is) ∙ (given_slot (slot_under pairs) byte 0 256 (omega arith) (omega (arith, h)) ∙ at) in
+      let found : slot_in (e ∷ []) byte ≡ Some some.0 = ap (λ cs. slot_in cs byte) (sym is) ∙ (given_slot (slot_under pairs) byte 0 full (omega arith) (omega (arith, h, full_is)) ∙ at) in
       let one = single_slot e byte some.0 found in
       elim (cases_eq byte other) [
         | inl same ↦
@@ -126,21 +134,21 @@ module _ (hash : List ℕ → List ℕ) (left depth : ℕ) where
             let next = slot_some second (with_byte depth other rest) in
             let at-other : slot_under pairs other ≡ Some next.0 =
             (λ i. slot_of hash left (suc depth) (cond (ne_eqb byte other apart i) (first ∷ cond (eq-eqb other other refl i) (second ∷ with_byte depth other rest) (with_byte depth other rest)) (cond (eq-eqb other other refl i) (second ∷ with_byte depth other rest) (with_byte depth other rest)))) ∙ next.1 in
-            let found-other : slot_in (e ∷ []) other ≡ Some next.0 = ap (λ cs. slot_in cs other) (sym is) ∙ (given_slot (slot_under pairs) other 0 256 (omega arith) (omega (arith, g)) ∙ at-other) in
+            let found-other : slot_in (e ∷ []) other ≡ Some next.0 = ap (λ cs. slot_in cs other) (sym is) ∙ (given_slot (slot_under pairs) other 0 full (omega arith) (omega (arith, g, full_is)) ∙ at-other) in
             apart (sym one.0 ∙ (single_slot e other next.0 found-other).0)
       ]
     where
       lone_node : (slot : Slot) (value : List ℕ) → Some slot ≡ Some (node value) → slot ≡ e.slot → ⊥
       lone_node slot value p q = cc
 
-  pub summary_is : (pairs : List Pair) → All (λ pair. slice_index pair.0 depth < 256) pairs → summary hash (given (slot_under pairs) 0 256) ≡ slot_of hash (suc left) depth pairs
-  summary_is [] all = ap (summary hash) (given_none (slot_under []) 0 256 (λ b. refl))
+  pub summary_is : (pairs : List Pair) → All (λ pair. slice_index pair.0 depth < 256) pairs → summary hash (given (slot_under pairs) 0 full) ≡ slot_of hash (suc left) depth pairs
+  summary_is [] all = ap (summary hash) (given_none (slot_under []) 0 full (λ b. refl))
   summary_is (pair ∷ []) all = ap (summary hash) (given_one pair (All-head (λ p. slice_index p.0 depth < 256) pair [] all))
   summary_is (first ∷ second ∷ rest) all =
       let h = All-head (λ p. slice_index p.0 depth < 256) first (second ∷ rest) all in
       let g = All-head (λ p. slice_index p.0 depth < 256) second rest (All-tail (λ p. slice_index p.0 depth < 256) first (second ∷ rest) all) in
-      summary_many (given (slot_under (first ∷ second ∷ rest)) 0 256) (not_empty first (second ∷ rest) h) (not_lone first second rest h g)
-      ∙ ap (λ v. Some (node v)) (value_many first second rest (given (slot_under (first ∷ second ∷ rest)) 0 256) refl)
+      summary_many (given (slot_under (first ∷ second ∷ rest)) 0 full) (not_empty first (second ∷ rest) h) (not_lone first second rest h g)
+      ∙ ap (λ v. Some (node v)) (value_many first second rest (given (slot_under (first ∷ second ∷ rest)) 0 full) refl)
 
 module _ (hash : List ℕ → List ℕ) (prefix : List ℕ) (pairs : List Pair) (short : length prefix < 32) (all : All (λ pair. IsHash pair.0) pairs) where
   slot_next : (byte : ℕ) → slot_at hash (prefix ++ byte ∷ []) pairs ≡ slot_under hash (31 - length prefix) (length prefix) (with_prefix prefix pairs) byte
@@ -149,10 +157,10 @@ module _ (hash : List ℕ → List ℕ) (prefix : List ℕ) (pairs : List Pair) 
       let left : 32 - length (prefix ++ byte ∷ []) ≡ 31 - length prefix = omega (arith, length-append prefix (byte ∷ [])) in
       λ i. slot_of hash (left i) (len i) (prefix_more prefix byte pairs short all i)
 
-  entries_are : entries_at hash prefix pairs ≡ given (slot_under hash (31 - length prefix) (length prefix) (with_prefix prefix pairs)) 0 256
+  entries_are : entries_at hash prefix pairs ≡ given (slot_under hash (31 - length prefix) (length prefix) (with_prefix prefix pairs)) 0 full
   entries_are =
       ap (flat_map (λ byte. entry byte (slot_at hash (prefix ++ byte ∷ []) pairs))) all_bytes
-      ∙ given_same (λ byte. slot_at hash (prefix ++ byte ∷ []) pairs) (slot_under hash (31 - length prefix) (length prefix) (with_prefix prefix pairs)) 0 256 (λ b le. slot_next b)
+      ∙ given_same (λ byte. slot_at hash (prefix ++ byte ∷ []) pairs) (slot_under hash (31 - length prefix) (length prefix) (with_prefix prefix pairs)) 0 full (λ b le. slot_next b)
 
   next_bytes : All (λ pair. slice_index pair.0 (length prefix) < 256) (with_prefix prefix pairs)
   next_bytes = λ k d lt. let is = All-filter (λ pair. starts pair.0 prefix) (λ pair. IsHash pair.0) pairs all k d lt in is.bytes_are (length prefix) 0 (omega (arith, is.len, short))
@@ -167,27 +175,27 @@ module _ (hash : List ℕ → List ℕ) (prefix : List ℕ) (pairs : List Pair) 
   -- the children of one pair
   pub entries_alone : (pair : Pair) → with_prefix prefix pairs ≡ pair ∷ [] → entries_at hash prefix pairs ≡ record { byte = slice_index pair.0 (length prefix); slot = leaf hash pair.0 pair.1 } ∷ []
   entries_alone pair is =
-      entries_are ∙ (ap (λ ps. given (slot_under hash (31 - length prefix) (length prefix) ps) 0 256) is
-      ∙ given_one hash (31 - length prefix) (length prefix) pair (All-head (λ p. slice_index p.0 (length prefix) < 256) pair [] (subst (All (λ p. slice_index p.0 (length prefix) < 256)) is next_bytes)))
+      entries_are ∙ (ap (λ ps. given (slot_under hash (31 - length prefix) (length prefix) ps) 0 full) is
+      ∙ given_one hash (31 - length prefix) (length prefix) pair (All-head (λ p. slice_index p.0 (length prefix) < 256) pair [] (let P : List Pair → Type 0 = λ ps. All (λ p. slice_index p.0 (length prefix) < 256) ps in subst P is next_bytes)))
 
 module _ (hash : List ℕ → List ℕ) (prefix : List ℕ) where
   pub length-entries : (pairs : List Pair) → length (entries_at hash prefix pairs) ≤ 256
   length-entries pairs =
       let same = ap length (ap (flat_map (λ byte. entry byte (slot_at hash (prefix ++ byte ∷ []) pairs))) all_bytes) in
-      let few = length-given (λ byte. slot_at hash (prefix ++ byte ∷ []) pairs) 0 256 in
-      omega (arith, same, few)
+      let few = length-given (λ byte. slot_at hash (prefix ++ byte ∷ []) pairs) 0 full in
+      omega (arith, same, few, full_is)
 
   pub entries_slot : (pairs : List Pair) (byte : ℕ) → byte < 256 → slot_in (entries_at hash prefix pairs) byte ≡ slot_at hash (prefix ++ byte ∷ []) pairs
   entries_slot pairs byte h =
       ap (λ bs. slot_in (flat_map (λ b. entry b (slot_at hash (prefix ++ b ∷ []) pairs)) bs) byte) all_bytes
-      ∙ given_slot (λ b. slot_at hash (prefix ++ b ∷ []) pairs) byte 0 256 (omega arith) (omega (arith, h))
+      ∙ given_slot (λ b. slot_at hash (prefix ++ b ∷ []) pairs) byte 0 full (omega arith) (omega (arith, h, full_is))
 
   -- the children after a change of the pairs with one next byte
   pub entries_with : (pairs later : List Pair) (byte : ℕ) → byte < 256 → ((b : ℕ) → b ≢ byte → slot_at hash (prefix ++ b ∷ []) pairs ≡ slot_at hash (prefix ++ b ∷ []) later) →
       with_slot byte (slot_at hash (prefix ++ byte ∷ []) later) (entries_at hash prefix pairs) ≡ entries_at hash prefix later
   entries_with pairs later byte h others =
       ap (λ bs. with_slot byte (slot_at hash (prefix ++ byte ∷ []) later) (flat_map (λ b. entry b (slot_at hash (prefix ++ b ∷ []) pairs)) bs)) all_bytes
-      ∙ (given_with (λ b. slot_at hash (prefix ++ b ∷ []) pairs) (λ b. slot_at hash (prefix ++ b ∷ []) later) byte others 0 256 (omega arith) (omega (arith, h))
+      ∙ (given_with (λ b. slot_at hash (prefix ++ b ∷ []) pairs) (λ b. slot_at hash (prefix ++ b ∷ []) later) byte others 0 full (omega arith) (omega (arith, h, full_is))
       ∙ ap (flat_map (λ b. entry b (slot_at hash (prefix ++ b ∷ []) later))) (sym all_bytes))
 
   pub entries_same : (pairs later : List Pair) → ((b : ℕ) → slot_at hash (prefix ++ b ∷ []) pairs ≡ slot_at hash (prefix ++ b ∷ []) later) → entries_at hash prefix pairs ≡ entries_at hash prefix later

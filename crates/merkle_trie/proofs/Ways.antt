@@ -12,7 +12,7 @@ use Rattle.merkle_trie.specs.declared.tree.Tree.{Tree}
 use Rattle.merkle_trie.specs.declared.tree.Place.{Place}
 use Rattle.table_model.specs.Root.{Pair, with_prefix}
 use Rattle.merkle_trie.specs.Sets.{is_key, removed, put}
-use Rattle.merkle_trie.specs.Slots.{entries_at, leaf, slot_at, slot_in, slot_of, summary, with_slot}
+use Rattle.merkle_trie.specs.Slots.{entries_at, entry, leaf, slot_at, slot_in, slot_of, summary, with_slot}
 use Rattle.merkle_trie.specs.Stands.{IsHash, IsSet, NodesAre, IsPath, children_in, changed_by}
 use Rattle.merkle_trie.specs.Trees.{IsTree, LeadsTo, IsClimb, goes_on, is_above, is_lone, is_text}
 use Rattle.merkle_trie.proofs.Prefixes.{starts, begins_less, starts_is, starts_from, starts_take, starts_more, same_is, same_from, same_itself, other_from, other_is, length-filter-le, take_next}
@@ -59,7 +59,7 @@ module _ (hash : List ℕ → List ℕ) (key : List ℕ) (key_is : IsHash key) w
         let lone = slot_lone hash _ _ (with_prefix (take depth key) pairs) here one is only in
         let len : length (take depth key) ≡ depth = let l = key_is.len in length-take-le depth key (omega (arith, l)) in
         alone here one is only
-        ∙ ap Some ((λ i. record { byte = slice_index (ap (λ k. k.0) lone.only_is i) (sym len i); slot = lone.slot_is i } ∷ [])
+        ∙ ap Some ((λ i. entry (slice_index (lone.only_is i).0 (sym len i)) (Some (lone.slot_is i)))
         ∙ sym (entries_alone hash (take depth key) pairs (short depth lt) set.hashes lone.pair lone.pairs_are))
 
   pub down_nodes : {Z : Type 0} (old new : BTreeMap (Vec ℕ Z) (List Child)) (pairs : List Pair) (prefix : List ℕ) → NodesAre hash old pairs →

@@ -1,3 +1,4 @@
+pub mod Equal
 pub mod Keeping
 pub mod Sets
 pub mod Slots

@@ -10,14 +10,16 @@
 //! pairs there are. A settled trie lends what it has: `root`, and `node`, `children` and `only` at a prefix.
 //!
 //! The contracts say which set a trie `Keeps`: `new` keeps the empty one, and each call leads from the set before to
-//! the one after. `sets_have_one_value` says that the order of a list of pairs doesn't count.
+//! the one after. `equal_values_show_pairs` says what equal values of two tries tell, where no digests clash.
 #![tactic(auto)]
 
 mod change;
 mod hasher;
+mod laws;
 mod slot;
 mod tree;
 mod trie;
 
 pub use hasher::{Blake, Hasher};
+pub use laws::equal_values_show_pairs;
 pub use trie::Trie;
