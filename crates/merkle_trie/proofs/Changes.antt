@@ -46,7 +46,7 @@ changed_other key prefix None pairs h = removed_other key prefix pairs h
 changed_other key prefix (Some row) pairs h = put_other key row.0 prefix pairs h
 
 -- the pair with a key hash has it
-gone : (key : List ℕ) (pairs : List Pair) → length key ≡ 32 → All (λ pair. IsHash pair.0) pairs → removed key (with_prefix key pairs) ≡ []
+pub gone : (key : List ℕ) (pairs : List Pair) → length key ≡ 32 → All (λ pair. IsHash pair.0) pairs → removed key (with_prefix key pairs) ≡ []
 gone key pairs h all =
     filter_no (λ pair. not (is_key key pair)) (with_prefix key pairs)
     (λ i d lt. ap not (same_from key (slice_index_or (with_prefix key pairs) i d).0

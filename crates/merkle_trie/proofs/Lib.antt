@@ -1,6 +1,7 @@
 pub mod Changes
 pub mod Children
 pub mod Maps
+pub mod Outcomes
 pub mod Prefixes
 pub mod Showing
 pub mod Shown

@@ -6,7 +6,7 @@ use Rattle.std.specs.Cmp.Lexicographic.{pointwise, same_text, other_text}
 use Rattle.std.proofs.lemmas.Bool.{eq-eqb, ne_eqb, eqb-true, eqb-false, cases_Bool, and_parts, both_ways, false_from_ne_true}
 use Rattle.std.proofs.lemmas.Cmp.{nat_list_eq_equiv}
 use Rattle.std.proofs.lemmas.List.{take_more, take_all, take-append-le, length-take-le}
-use Rattle.std.proofs.lemmas.List.Elements.{All-head, All-tail}
+use Rattle.std.proofs.lemmas.List.Elements.{All-head, All-tail, All-from_get_or}
 use Rattle.table_model.specs.Root.{Pair, with_byte, with_prefix}
 use Rattle.merkle_trie.specs.Stands.{IsHash}
 
@@ -158,3 +158,7 @@ starts_long key prefix h =
     let same = ap length (starts_is key prefix s) in
     let all = ap length (take_all (length prefix) key (omega arith)) in
     omega (arith, h, same, all))
+
+-- what a type says of 32 bytes
+pub hash_is : (bytes : List ℕ) → length bytes ≡ 32 → ((i : ℕ) → slice_index bytes i < 256) → IsHash bytes
+hash_is bytes len low = record { len = len; bytes_are = All-from_get_or (λ b. b < 256) bytes 0 (λ i lt. low i) }

@@ -141,11 +141,11 @@ module _ (hash : List ℕ → List ℕ) (len : (bytes : List ℕ) → length (ha
   Narrow (suc left) depth pairs = (byte : ℕ) → Narrow left (suc depth) (with_byte depth byte pairs)
 
   -- with the value at hand, one level down
-  record IsShown (left depth : ℕ) (ours theirs : List Pair) : Type 0 where
-    keys : All (λ pair. IsHash pair.0) ours
-    their_keys : All (λ pair. IsHash pair.0) theirs
-    clear : NoClash hash (inputs_of hash left depth ours) (inputs_of hash left depth theirs)
-    same : value_of hash left depth ours ≡ value_of hash left depth theirs
+  pub record IsShown (left depth : ℕ) (ours theirs : List Pair) : Type 0 where
+    pub keys : All (λ pair. IsHash pair.0) ours
+    pub their_keys : All (λ pair. IsHash pair.0) theirs
+    pub clear : NoClash hash (inputs_of hash left depth ours) (inputs_of hash left depth theirs)
+    pub same : value_of hash left depth ours ≡ value_of hash left depth theirs
 
   leaf_same : (a b : Pair) → IsHash a.0 → IsHash b.0 → 1 ∷ a.0 ++ a.1 ≡ 1 ∷ b.0 ++ b.1 → b ≡ a
   leaf_same a b h g e =
@@ -191,21 +191,21 @@ module _ (hash : List ℕ → List ℕ) (len : (bytes : List ℕ) → length (ha
   node_input zero depth first second rest = ([], ([], (refl, refl)))
   node_input (suc left) depth first second rest = (all_parts left depth (first ∷ second ∷ rest), (below_inputs left depth (first ∷ second ∷ rest), (refl, refl)))
 
-  head_of : {P : List ℕ → Type 0} (inputs : List (List ℕ)) (x : List ℕ) (below : List (List ℕ)) → inputs ≡ x ∷ below → All P inputs → P x
-  head_of {P} inputs x below is all = let Q : List (List ℕ) → Type 0 = λ xs. All P xs in All-head P x below (subst Q is all)
+  head_of : (P : List ℕ → Type 0) (inputs : List (List ℕ)) (x : List ℕ) (below : List (List ℕ)) → inputs ≡ x ∷ below → All P inputs → P x
+  head_of P inputs x below is all = let Q : List (List ℕ) → Type 0 = λ xs. All P xs in All-head P x below (subst Q is all)
 
   -- the first inputs of both are one where the values are
   first_inputs : (left depth : ℕ) (ours theirs : List Pair) (x y : List ℕ) (xs ys : List (List ℕ)) → IsShown left depth ours theirs →
       inputs_of hash left depth ours ≡ x ∷ xs → value_of hash left depth ours ≡ hash x → inputs_of hash left depth theirs ≡ y ∷ ys → value_of hash left depth theirs ≡ hash y → x ≡ y
   first_inputs left depth ours theirs x y xs ys shown i v j w =
-      let all : All (λ z. hash x ≡ hash z → x ≡ z) (inputs_of hash left depth theirs) = head_of {P = λ u. All (λ z. hash u ≡ hash z → u ≡ z) (inputs_of hash left depth theirs)} _ x xs i shown.clear.apart in
-      head_of {P = λ z. hash x ≡ hash z → x ≡ z} _ y ys j all (sym v ∙ (shown.same ∙ w))
+      let all : All (λ z. hash x ≡ hash z → x ≡ z) (inputs_of hash left depth theirs) = head_of (λ u. All (λ z. hash u ≡ hash z → u ≡ z) (inputs_of hash left depth theirs)) _ x xs i shown.clear.apart in
+      head_of (λ z. hash x ≡ hash z → x ≡ z) _ y ys j all (sym v ∙ (shown.same ∙ w))
 
   tags_apart : (xs ys : List ℕ) → 1 ∷ xs ≡ 2 ∷ ys → ⊥
   tags_apart xs ys e = let same = (cons_same 1 2 xs ys e).0 in absurd (omega (arith, same))
 
   mutual_none : (left depth : ℕ) (ours : List Pair) (x : List ℕ) (xs : List (List ℕ)) → IsShown left depth ours [] → inputs_of hash left depth ours ≡ x ∷ xs → value_of hash left depth ours ≡ hash x → ⊥
-  mutual_none left depth ours x xs shown i v = head_of {P = λ u. hash u ≢ replicate 32 0} _ x xs i shown.clear.ours_some (sym v ∙ (shown.same ∙ no_value left depth))
+  mutual_none left depth ours x xs shown i v = head_of (λ u. hash u ≢ replicate 32 0) _ x xs i shown.clear.ours_some (sym v ∙ (shown.same ∙ no_value left depth))
 
   part_keys : (left depth byte : ℕ) (pairs : List Pair) → All (λ pair. IsHash pair.0) pairs → All (λ pair. IsHash pair.0) (with_byte depth byte pairs)
   part_keys left depth byte pairs all = All-filter (λ pair. slice_index pair.0 depth == byte) (λ pair. IsHash pair.0) pairs all
@@ -292,7 +292,7 @@ module _ (hash : List ℕ → List ℕ) (len : (bytes : List ℕ) → length (ha
 
   narrow_at : (left : ℕ) (prefix : List ℕ) (pairs : List Pair) → left + length prefix ≡ 32 → IsSet pairs → Narrow left (length prefix) (with_prefix prefix pairs)
   narrow_at zero prefix pairs fits set = set.apart prefix fits
-  narrow_at (suc left) prefix pairs fits set byte =
+  narrow_at (suc left) prefix pairs fits set = λ byte.
       let next : length (prefix ++ byte ∷ []) ≡ suc (length prefix) = let l = length-append prefix (byte ∷ []) in omega (arith, l) in
       let inner = narrow_at left (prefix ++ byte ∷ []) pairs (omega (arith, next, fits)) set in
       subst_narrow left (length (prefix ++ byte ∷ [])) (suc (length prefix)) (with_prefix (prefix ++ byte ∷ []) pairs) (with_byte (length prefix) byte (with_prefix prefix pairs)) next

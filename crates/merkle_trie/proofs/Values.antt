@@ -91,17 +91,17 @@ module _ (hash : List ℕ → List ℕ) (left depth : ℕ) where
   -- what a slot is of, where its first pair is known
   slot_some : (pair : Pair) (pairs : List Pair) → (slot : Slot) × (slot_of hash left (suc depth) (pair ∷ pairs) ≡ Some slot)
   slot_some pair [] = (leaf hash pair.0 pair.1, refl)
-  slot_some pair (next ∷ pairs) = (node (value_of hash left (suc depth) (pair ∷ next ∷ pairs)), refl)
+  slot_some pair (next ∷ pairs) = (node hash (value_of hash left (suc depth) (pair ∷ next ∷ pairs)), refl)
 
   -- no one child stands for one pair
   abbrev NotLone : List Child → Type 0
   NotLone cs = (e : Child) (only : Hash32) → cs ≡ e ∷ [] → e.slot.only ≡ Some only → ⊥
 
-  summary_many : (cs : List Child) → (cs ≡ [] → ⊥) → NotLone cs → summary hash cs ≡ Some (node (hash (2 ∷ child_bytes cs)))
+  summary_many : (cs : List Child) → (cs ≡ [] → ⊥) → NotLone cs → summary hash cs ≡ Some (node hash (hash (2 ∷ child_bytes cs)))
   summary_many [] none lone = absurd (none refl)
   summary_many (c ∷ []) none lone = by_only c.slot.only refl
     where
-      by_only : (o : Option Hash32) → c.slot.only ≡ o → summary hash (c ∷ []) ≡ Some (node (hash (2 ∷ child_bytes (c ∷ []))))
+      by_only : (o : Option Hash32) → c.slot.only ≡ o → summary hash (c ∷ []) ≡ Some (node hash (hash (2 ∷ child_bytes (c ∷ []))))
       by_only None e = ap (λ o. Some (lone_summary hash o c)) e
       by_only (Some only) e = absurd (lone c only refl e)
   summary_many (c ∷ d ∷ cs) none lone = refl
@@ -127,7 +127,7 @@ module _ (hash : List ℕ → List ℕ) (left depth : ℕ) where
       let one = single_slot e byte some.0 found in
       elim (cases_eq byte other) [
         | inl same ↦
-            let many : slot_under pairs byte ≡ Some (node (value_of hash left (suc depth) (first ∷ second ∷ with_byte depth byte rest))) =
+            let many : slot_under pairs byte ≡ Some (node hash (value_of hash left (suc depth) (first ∷ second ∷ with_byte depth byte rest))) =
             λ i. slot_of hash left (suc depth) (cond (eq-eqb byte byte refl i) (first ∷ cond (eq-eqb other byte (sym same) i) (second ∷ with_byte depth byte rest) (with_byte depth byte rest)) (cond (eq-eqb other byte (sym same) i) (second ∷ with_byte depth byte rest) (with_byte depth byte rest))) in
             lone_node some.0 _ (sym at ∙ many) (sym one.1)
         | inr apart ↦
@@ -138,7 +138,7 @@ module _ (hash : List ℕ → List ℕ) (left depth : ℕ) where
             apart (sym one.0 ∙ (single_slot e other next.0 found-other).0)
       ]
     where
-      lone_node : (slot : Slot) (value : List ℕ) → Some slot ≡ Some (node value) → slot ≡ e.slot → ⊥
+      lone_node : (slot : Slot) (value : List ℕ) → Some slot ≡ Some (node hash value) → slot ≡ e.slot → ⊥
       lone_node slot value p q = cc
 
   pub summary_is : (pairs : List Pair) → All (λ pair. slice_index pair.0 depth < 256) pairs → summary hash (given (slot_under pairs) 0 full) ≡ slot_of hash (suc left) depth pairs
@@ -148,7 +148,7 @@ module _ (hash : List ℕ → List ℕ) (left depth : ℕ) where
       let h = All-head (λ p. slice_index p.0 depth < 256) first (second ∷ rest) all in
       let g = All-head (λ p. slice_index p.0 depth < 256) second rest (All-tail (λ p. slice_index p.0 depth < 256) first (second ∷ rest) all) in
       summary_many (given (slot_under (first ∷ second ∷ rest)) 0 full) (not_empty first (second ∷ rest) h) (not_lone first second rest h g)
-      ∙ ap (λ v. Some (node v)) (value_many first second rest (given (slot_under (first ∷ second ∷ rest)) 0 full) refl)
+      ∙ ap (λ v. Some (node hash v)) (value_many first second rest (given (slot_under (first ∷ second ∷ rest)) 0 full) refl)
 
 module _ (hash : List ℕ → List ℕ) (prefix : List ℕ) (pairs : List Pair) (short : length prefix < 32) (all : All (λ pair. IsHash pair.0) pairs) where
   slot_next : (byte : ℕ) → slot_at hash (prefix ++ byte ∷ []) pairs ≡ slot_under hash (31 - length prefix) (length prefix) (with_prefix prefix pairs) byte

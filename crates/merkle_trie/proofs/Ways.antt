@@ -23,12 +23,12 @@ none_some : {X : Type 0} (x : X) → None ≡ Some x → ⊥
 none_some x e = cc
 
 is_some_not : {X : Type 0} (o : Option X) → IsSome o → o ≡ None → ⊥
-is_some_not None h e = h
+is_some_not None h e = cc
 is_some_not (Some x) h e = cc
 
 some_is : {X : Type 0} (o : Option X) (x : X) → o ≡ Some x → IsSome o
 some_is None x e = absurd (none_some x e)
-some_is (Some y) x e = tt
+some_is (Some y) x e = refl
 
 -- first bytes of different lengths differ
 apart_len : (key : List ℕ) (a b : ℕ) → a < b → b ≤ length key → take a key ≢ take b key
@@ -245,6 +245,9 @@ module _ (hash : List ℕ → List ℕ) (pairs later : List Pair) (key : List �
               nodes_are = λ prefix lt-prefix two. same prefix ∙ was.start at prefix lt-prefix two;
             }
       ]
+
+pub climb_level : (hash : List ℕ → List ℕ) (tree : Tree) (pairs later : List Pair) (key : List ℕ) (depth a b : ℕ) (slot : Option Slot) → a ≡ b → IsClimbing hash tree pairs later key depth a slot → IsClimbing hash tree pairs later key depth b slot
+climb_level hash tree pairs later key depth a b slot e is = let P : ℕ → Type 0 = λ n. IsClimbing hash tree pairs later key depth n slot in subst P e is
 
 -- ---- a change
 

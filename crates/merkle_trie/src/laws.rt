@@ -1,5 +1,5 @@
 //! Laws of values at prefixes. No body does anything: each is called for its contract.
-ghost use Rattle.std.specs.Prelude.{◌≡◌, ℕ, List, All, length};
+ghost use Rattle.std.specs.Prelude.{◌≡◌, ◌≤◌, ℕ, List, All, length};
 ghost use Rattle.table_model.specs.Root.{Pair, value_at, with_prefix};
 ghost use Rattle.merkle_trie.specs.Equal.{Has, NoClash, inputs_at};
 ghost use Rattle.merkle_trie.specs.Stands.{IsSet};

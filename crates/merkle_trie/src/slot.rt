@@ -1,5 +1,5 @@
 //! What a trie keeps of the pairs with one prefix.
-ghost use Rattle.std.specs.Prelude.{◌≡◌, ◌+◌, ◌<◌, ◌≤◌, ◌∷◌, ◌++◌, length, IfErr, OnOk, OnErr, None, take, nat_lt, slice_get};
+ghost use Rattle.std.specs.Prelude.{◌≡◌, ℕ, slice_index, ◌+◌, ◌<◌, ◌≤◌, ◌∷◌, ◌++◌, length, IfErr, OnOk, OnErr, None, take, nat_lt, slice_get};
 ghost use Rattle.std.specs.List.{prefix_len};
 ghost use Rattle.crdt_core.specs.declared.memory.Memory.TheVariants.{Want};
 ghost use Rattle.merkle_trie.specs.Slots.{has_byte, slot_in, with_slot, child_bytes, leaf, summary};
@@ -31,6 +31,8 @@ const BRANCH_LEN: usize = 1 + 33 * 256;
 /// The slot of one pair.
 pub fn leaf_slot<H: Hasher>(key: &Hash32, row: &Hash32, hasher: &mut H) -> Slot
     ensures slot { result ≡ leaf H.digest key.now.0 row.now.0 }
+    ensures key_len { length key.now.0 ≡ 32 }
+    ensures key_bytes { (i : ℕ) → slice_index key.now.0 i < 256 }
     ensures counted { H.count hasher.new ≤ H.count hasher.old + 1 }
 {
     let mut input = [0; LEAF_LEN];

@@ -1,7 +1,7 @@
 //! The slots of a set of pairs: that of all pairs, and the children of each prefix that two pairs or more have.
 ghost use Rattle.std.specs.Prelude.{◌≡◌, ◌≢◌, ℕ, ◌+◌, ◌<◌, ◌≤◌, ◌∷◌, [], List, Some, IfOk, IfErr, OnOk, OnErr, None, false, nat_eq, nat_lt, if◌then◌else◌, length, map, slice_index, take};
 ghost use Rattle.std.specs.List.{starts_with};
-ghost use Rattle.merkle_trie.specs.Sets.{children_at};
+ghost use Rattle.merkle_trie.specs.Sets.{children_at, put, removed};
 ghost use Rattle.crdt_core.specs.declared.memory.Memory.TheVariants.{Want};
 ghost use Rattle.merkle_trie.specs.declared.slot.Child.{Child};
 ghost use Rattle.table_model.specs.Root.{Pair};
@@ -47,20 +47,53 @@ impl Tree {
         ensures counted { H.count hasher.new ≤ H.count hasher.old + 33 }
         ensures want { IfErr result (λ e. e ≡ Want) }
     {
-        let place = self.descend(alloc, key, row.is_some())?;
         match row {
             Some(row) => {
-                let leaf = leaf_slot(key, &row, hasher);
-                self.climb(key, place.depth, Some(leaf), hasher)?;
+                self.put_pair(alloc, key, &row, hasher)?;
                 Ok(())
             }
             None => {
-                if is_lone(place.slot, key) {
-                    self.climb(key, place.depth, None, hasher)?;
-                }
+                self.remove_pair(alloc, key, hasher)?;
                 Ok(())
             }
         }
+    }
+
+    fn put_pair<H: Hasher>(
+        &mut self,
+        alloc: Global,
+        key: &Hash32,
+        row: &Hash32,
+        hasher: &mut H,
+    ) -> Result<(), Memory>
+        ensures ok { OnOk result ((pairs : List Pair) → IsTree H.digest self.old pairs → IsTree H.digest self.new (put key.now.0 row.now.0 pairs)) }
+        ensures err { OnErr result ((pairs : List Pair) → IsTree H.digest self.old pairs → IsTree H.digest self.new pairs) }
+        ensures counted { H.count hasher.new ≤ H.count hasher.old + 33 }
+        ensures want { IfErr result (λ e. e ≡ Want) }
+    {
+        let place = self.descend(alloc, key, true)?;
+        let leaf = leaf_slot(key, row, hasher);
+        self.climb(key, place.depth, Some(leaf), hasher)?;
+        Ok(())
+    }
+
+    fn remove_pair<H: Hasher>(
+        &mut self,
+        alloc: Global,
+        key: &Hash32,
+        hasher: &mut H,
+    ) -> Result<(), Memory>
+        ensures ok { OnOk result ((pairs : List Pair) → IsTree H.digest self.old pairs → IsTree H.digest self.new (removed key.now.0 pairs)) }
+        ensures err { OnErr result ((pairs : List Pair) → IsTree H.digest self.old pairs → IsTree H.digest self.new pairs) }
+        ensures counted { H.count hasher.new ≤ H.count hasher.old + 33 }
+        ensures want { IfErr result (λ e. e ≡ Want) }
+    {
+        let place = self.descend(alloc, key, false)?;
+        if !is_lone(place.slot, key) {
+            return Ok(());
+        }
+        self.climb(key, place.depth, None, hasher)?;
+        Ok(())
     }
 
     /// The slot of the pairs with the prefix.
@@ -92,9 +125,15 @@ impl Tree {
         match self.find(prefix) {
             None => Ok(Vec::new(alloc)),
             Some(slot) => match slot.only {
-                Some(only) => only_child(alloc, &only, prefix.len(), slot.value),
+                Some(only) => {
+                    let children = only_child(alloc, &only, prefix.len(), slot.value)?;
+                    Ok(children)
+                }
                 None => match self.nodes.get(prefix) {
-                    Some(children) => child_values(alloc, children.as_slice()),
+                    Some(children) => {
+                        let values = child_values(alloc, children.as_slice())?;
+                        Ok(values)
+                    }
                     None => Ok(Vec::new(alloc)),
                 },
             },
@@ -147,7 +186,9 @@ impl Tree {
 
 // The slot is that of the one pair with this key hash.
 fn is_lone(slot: Option<Slot>, key: &Hash32) -> bool
-    ensures { result ≡ is_lone slot key.now.0 }
+    ensures is { result ≡ is_lone slot key.now.0 }
+    ensures key_len { length key.now.0 ≡ 32 }
+    ensures key_bytes { (i : ℕ) → slice_index key.now.0 i < 256 }
 {
     match slot {
         Some(slot) => match slot.only {
@@ -186,6 +227,8 @@ fn step_down(
     ensures next { IfOk result (λ next. (children : List Child) → children_in nodes.new (take depth key.now.0) ≡ Some children → next ≡ slot_in children (slice_index key.now.0 depth)) }
     ensures others { (prefix : List ℕ) → prefix ≢ take depth key.now.0 → children_in nodes.new prefix ≡ children_in nodes.old prefix }
     ensures err { OnErr result ((prefix : List ℕ) → children_in nodes.new prefix ≡ children_in nodes.old prefix) }
+    ensures key_len { length key.now.0 ≡ 32 }
+    ensures key_bytes { (i : ℕ) → slice_index key.now.0 i < 256 }
     ensures want { IfErr result (λ e. e ≡ Want) }
 {
     if let Some(slot) = slot {

@@ -4,6 +4,7 @@ ghost use Rattle.crdt_core.specs.declared.memory.Memory.TheVariants.{Want};
 ghost use Rattle.table_model.specs.Root.{Pair, root, value_at};
 ghost use Rattle.merkle_trie.specs.Sets.{children_at, only_at, put, removed};
 ghost use Rattle.merkle_trie.specs.Keeping.{Keeps, IsUnchanged, queued};
+ghost use Rattle.merkle_trie.specs.Slots.{value_in};
 
 use crate::change::Change;
 use crate::hasher::{Blake, Hasher};
@@ -114,7 +115,8 @@ impl<H: Hasher> Trie<H> {
             map (λ child. (child.0, child.1.0)) children.items ≡ children_at H.digest prefix.now pairs) }
         ensures want { IfErr result (λ e. e ≡ Want) }
     {
-        self.tree.children(self.alloc, prefix)
+        let children = self.tree.children(self.alloc, prefix)?;
+        Ok(children)
     }
 
     /// The key hash of the pair with the prefix, where exactly one has it.

@@ -1,6 +1,7 @@
 use Rattle.std.specs.Prelude.{◌≡◌, Bool, true, false, insert, remove, slice_get, slice_set}
 use Rattle.std.proofs.Common.{ap, sym, ◌∙◌}
 use Rattle.merkle_trie.specs.Slots.{has_byte, place_of, with_slot}
+use Rattle.merkle_trie.proofs.Outcomes.{on_err}
 use Rattle.merkle_trie.proofs.Children.{place_at, told_there, set_there, insert_missing, remove_there, keep_missing, slot_missing, there_within}
 use Rattle.merkle_trie.proofs.slot.set_slot.Goals as goal
 
@@ -23,7 +24,7 @@ returns-in_ok-insert-in-Some-2-clause-ok c =
 pub returns-in_err-insert-in-Some-2-clause-absent : goal.returns-in_err-insert-in-Some-2-clause-absent
 returns-in_err-insert-in-Some-2-clause-absent c =
     let cs = c.args.children.now in
-    slot_missing c.args.byte cs (told_there c.args.byte cs c.as_slice.result.now c.as_slice-2.result.now c.place-place.result c.is_at-is_there.result false c.as_slice.ensures c.as_slice-2.ensures c.place-place.ensures.is c.is_at-is_there.ensures c.if-is_there.false)
+    on_err c.from_residual.result _ (slot_missing c.args.byte cs (told_there c.args.byte cs c.as_slice.result.now c.as_slice-2.result.now c.place-place.result c.is_at-is_there.result false c.as_slice.ensures c.as_slice-2.ensures c.place-place.ensures.is c.is_at-is_there.ensures c.if-is_there.false))
 
 pub returns-in-None-clause-ok : goal.returns-in-None-clause-ok
 returns-in-None-clause-ok c =
