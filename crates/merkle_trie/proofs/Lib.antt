@@ -1,6 +1,8 @@
+pub mod Alike
 pub mod Changes
 pub mod Children
 pub mod Maps
+pub mod Narrowing
 pub mod Outcomes
 pub mod Prefixes
 pub mod Showing

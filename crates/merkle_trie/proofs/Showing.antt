@@ -7,7 +7,8 @@ use Rattle.std.proofs.lemmas.List.Elements.{All-nil, All-cons, All-head, All-tai
 use Rattle.table_model.specs.Root.{Pair, branch, every_byte, none_leaf_or_node, value_of, value_at, with_byte, with_prefix}
 use Rattle.merkle_trie.specs.Equal.{Has, inputs_in, inputs_of, inputs_at, NoClash}
 use Rattle.merkle_trie.specs.Stands.{IsHash, IsSet}
-use Rattle.merkle_trie.proofs.Prefixes.{starts, prefix_more}
+use Rattle.merkle_trie.proofs.Narrowing.{Narrow, narrow_at, has_filter}
+use Rattle.merkle_trie.proofs.Prefixes.{starts}
 use Rattle.merkle_trie.proofs.Values.{full, full_is, all_bytes}
 
 -- ---- lists
@@ -93,14 +94,6 @@ parts_same F G p q a (suc n) e b le lt =
 
 -- ---- members
 
-has_filter : (f : Pair → Bool) (pairs : List Pair) (pair : Pair) → Has (filter f pairs) pair → Has pairs pair
-has_filter f [] pair h = h
-has_filter f (first ∷ pairs) pair h =
-    (elim (f first) as (λ b. Has (cond b (first ∷ filter f pairs) (filter f pairs)) pair → (first ≡ pair) ⊎ Has pairs pair) [
-      | true ↦ λ g. elim g [ inl e ↦ inl e | inr rest ↦ inr (has_filter f pairs pair rest) ]
-      | false ↦ λ g. inr (has_filter f pairs pair g)
-    ]) h
-
 -- each is among those with its own byte
 own_byte : (depth : ℕ) (pairs : List Pair) (P : Pair → Type 0) → All (λ pair. slice_index pair.0 depth < 256) pairs → ((byte : ℕ) → byte < 256 → All P (with_byte depth byte pairs)) → All P pairs
 own_byte depth [] P low h = All-nil P
@@ -134,11 +127,6 @@ module _ (hash : List ℕ → List ℕ) (len : (bytes : List ℕ) → length (ha
   branch_part : (byte : ℕ) (pairs : List Pair) (value : List ℕ) → length value ≡ 32 → IsPart byte (branch byte pairs value)
   branch_part byte [] value h = inl refl
   branch_part byte (pair ∷ pairs) value h = inr (value, h, refl)
-
-  -- pairs that end before their key hashes do are one at most
-  abbrev Narrow : ℕ → ℕ → List Pair → Type 0
-  Narrow zero depth pairs = length pairs ≤ 1
-  Narrow (suc left) depth pairs = (byte : ℕ) → Narrow left (suc depth) (with_byte depth byte pairs)
 
   -- with the value at hand, one level down
   pub record IsShown (left depth : ℕ) (ours theirs : List Pair) : Type 0 where
@@ -289,20 +277,6 @@ module _ (hash : List ℕ → List ℕ) (len : (bytes : List ℕ) → length (ha
       below byte lt part (inr same) rest = rest (shown_part left depth a b us c d cs byte lt shown part same)
 
   -- ---- at a prefix
-
-  narrow_at : (left : ℕ) (prefix : List ℕ) (pairs : List Pair) → left + length prefix ≡ 32 → IsSet pairs → Narrow left (length prefix) (with_prefix prefix pairs)
-  narrow_at zero prefix pairs fits set = set.apart prefix fits
-  narrow_at (suc left) prefix pairs fits set = λ byte.
-      let next : length (prefix ++ byte ∷ []) ≡ suc (length prefix) = let l = length-append prefix (byte ∷ []) in omega (arith, l) in
-      let inner = narrow_at left (prefix ++ byte ∷ []) pairs (omega (arith, next, fits)) set in
-      subst_narrow left (length (prefix ++ byte ∷ [])) (suc (length prefix)) (with_prefix (prefix ++ byte ∷ []) pairs) (with_byte (length prefix) byte (with_prefix prefix pairs)) next
-      (prefix_more prefix byte pairs (omega (arith, fits)) set.hashes) inner
-    where
-      subst_narrow : (left d e : ℕ) (xs ys : List Pair) → d ≡ e → xs ≡ ys → Narrow left d xs → Narrow left e ys
-      subst_narrow left d e xs ys p q h =
-          let P : ℕ → Type 0 = λ n. Narrow left n xs in
-          let Q : List Pair → Type 0 = λ zs. Narrow left e zs in
-          subst Q q (subst P p h)
 
   pub shows_at : (prefix : List ℕ) (ours theirs : List Pair) → length prefix ≤ 32 → IsSet ours → IsSet theirs → NoClash hash (inputs_at hash prefix ours) (inputs_at hash prefix theirs) →
       value_at hash prefix ours ≡ value_at hash prefix theirs → All (λ pair. Has theirs pair) (with_prefix prefix ours)

@@ -13,3 +13,10 @@ pub fn equal_values_show_pairs()
         value_at hash prefix ours ≡ value_at hash prefix theirs →
         All (λ pair. Has theirs pair) (with_prefix prefix ours) }
 {}
+
+/// Sets with the same members have one value at each prefix: the order of a list of pairs doesn't count.
+pub fn sets_have_one_value()
+    ensures { (hash : List ℕ → List ℕ) (prefix : List ℕ) (ours theirs : List Pair) → length prefix ≤ 32 → IsSet ours → IsSet theirs →
+        ((pair : Pair) → Has ours pair → Has theirs pair) → ((pair : Pair) → Has theirs pair → Has ours pair) →
+        value_at hash prefix ours ≡ value_at hash prefix theirs }
+{}

@@ -10,7 +10,8 @@
 //! pairs there are. A settled trie lends what it has: `root`, and `node`, `children` and `only` at a prefix.
 //!
 //! The contracts say which set a trie `Keeps`: `new` keeps the empty one, and each call leads from the set before to
-//! the one after. `equal_values_show_pairs` says what equal values of two tries tell, where no digests clash.
+//! the one after. `sets_have_one_value` says that the order of a list of pairs doesn't count, and
+//! `equal_values_show_pairs` what equal values of two sets tell, where no digests clash.
 #![tactic(auto)]
 
 mod change;
@@ -21,5 +22,5 @@ mod tree;
 mod trie;
 
 pub use hasher::{Blake, Hasher};
-pub use laws::equal_values_show_pairs;
+pub use laws::{equal_values_show_pairs, sets_have_one_value};
 pub use trie::Trie;
