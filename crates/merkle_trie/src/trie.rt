@@ -83,10 +83,10 @@ impl<H: Hasher> Trie<H> {
         ensures counted { H.count hasher.new ≤ H.count hasher.old + 33 * queued self.old }
         ensures want { IfErr result (λ e. e ≡ Want) }
     {
+        let alloc = self.alloc;
         while let Some(change) = self.queue.front() {
             let change = *change;
-            self.tree
-                .change(self.alloc, &change.key, change.row, hasher)?;
+            self.tree.change(alloc, &change.key, change.row, hasher)?;
             let _ = self.queue.pop_front();
         }
         Ok(())
