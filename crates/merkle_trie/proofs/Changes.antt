@@ -54,7 +54,7 @@ gone key pairs h all =
 
 -- ---- the set stays one
 
-set_removed : (key : List ℕ) (pairs : List Pair) → IsSet pairs → IsSet (removed key pairs)
+pub set_removed : (key : List ℕ) (pairs : List Pair) → IsSet pairs → IsSet (removed key pairs)
 set_removed key pairs set = record {
   hashes = All-filter (λ pair. not (is_key key pair)) (λ pair. IsHash pair.0) pairs set.hashes;
   apart = λ other h.

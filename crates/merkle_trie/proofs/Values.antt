@@ -139,7 +139,7 @@ module _ (hash : List ℕ → List ℕ) (left depth : ℕ) where
       ]
     where
       lone_node : (slot : Slot) (value : List ℕ) → Some slot ≡ Some (node hash value) → slot ≡ e.slot → ⊥
-      lone_node slot value p q = cc
+      lone_node slot value p q = let same : slot ≡ node hash value = cc in let none : e.slot.only ≡ None = ap (λ s. s.only) (sym q ∙ same) in let clash : None ≡ Some only = sym none ∙ o in cc
 
   pub summary_is : (pairs : List Pair) → All (λ pair. slice_index pair.0 depth < 256) pairs → summary hash (given (slot_under pairs) 0 full) ≡ slot_of hash (suc left) depth pairs
   summary_is [] all = ap (summary hash) (given_none (slot_under []) 0 full (λ b. refl))

@@ -5,6 +5,7 @@ use Rattle.std.specs.Cmp.Lexicographic.{pointwise}
 use Rattle.std.specs.BTreeMap.{BTreeMap}
 use Rattle.std.proofs.lemmas.Bool.{cases_Bool, cases_lt, ne_eqb, both_ways}
 use Rattle.std.proofs.lemmas.List.{length-take-le, take_all}
+use Rattle.std.proofs.lemmas.List.Elements.{All-head, All-filter}
 use Rattle.blake2_hash.specs.declared.digest.Hash32.{Hash32}
 use Rattle.merkle_trie.specs.declared.slot.Slot.{Slot}
 use Rattle.merkle_trie.specs.declared.slot.Child.{Child}
@@ -16,7 +17,7 @@ use Rattle.merkle_trie.specs.Slots.{entries_at, entry, leaf, slot_at, slot_in, s
 use Rattle.merkle_trie.specs.Stands.{IsHash, IsSet, NodesAre, IsPath, children_in, changed_by}
 use Rattle.merkle_trie.specs.Trees.{IsTree, LeadsTo, IsClimb, goes_on, is_above, is_lone, is_text}
 use Rattle.merkle_trie.proofs.Prefixes.{starts, begins_less, starts_is, starts_from, starts_take, starts_more, same_is, same_from, same_itself, other_from, other_is, length-filter-le, take_next}
-use Rattle.merkle_trie.proofs.Changes.{IsLone, slot_none, slot_lone, slot_node, changed_other, set_changed, gone, put_alone, removed_alone, removed_here, removed_none}
+use Rattle.merkle_trie.proofs.Changes.{IsLone, slot_none, slot_lone, slot_node, changed_other, set_changed, set_removed, gone, put_alone, removed_alone, removed_here, removed_none}
 use Rattle.merkle_trie.proofs.Values.{slot_summary, entries_alone, length-entries, entries_slot, entries_with, entries_same}
 
 none_some : {X : Type 0} (x : X) → None ≡ Some x → ⊥
@@ -38,15 +39,12 @@ apart_len key a b h le e =
     let same = ap length e in
     omega (arith, p, q, same)
 
-module _ (hash : List ℕ → List ℕ) (key : List ℕ) (key_is : IsHash key) where
-  byte_at : (n : ℕ) → n < 32 → slice_index key n < 256
-  byte_at n h = key_is.bytes_are n 0 (let len = key_is.len in omega (arith, len))
-
+module _ (hash : List ℕ → List ℕ) (key : List ℕ) (key_len : length key ≡ 32) where
   next_at : (n : ℕ) (pairs : List Pair) → n < 32 → slot_at hash (take n key ++ slice_index key n ∷ []) pairs ≡ slot_at hash (take (n + 1) key) pairs
-  next_at n pairs h = ap (λ p. slot_at hash p pairs) (sym (take_next key n (let len = key_is.len in omega (arith, len))))
+  next_at n pairs h = ap (λ p. slot_at hash p pairs) (sym (take_next key n (omega (arith, key_len))))
 
   short : (n : ℕ) → n < 32 → length (take n key) < 32
-  short n h = let len = key_is.len in let is = length-take-le n key (omega (arith, len)) in omega (arith, is)
+  short n h = let is = length-take-le n key (omega (arith, key_len)) in omega (arith, is)
 
   -- what a level on the way down says of the children there
   module _ {Z : Type 0} (old new : BTreeMap (Vec ℕ Z) (List Child)) (pairs : List Pair) (set : IsSet pairs) (depth : ℕ) (lt : depth < 32)
@@ -57,7 +55,7 @@ module _ (hash : List ℕ → List ℕ) (key : List ℕ) (key_is : IsHash key) w
     here_by here None is only = kept here is only ∙ nodes_are (take depth key) (short depth lt) (slot_node hash _ _ (with_prefix (take depth key) pairs) here is only)
     here_by here (Some one) is only =
         let lone = slot_lone hash _ _ (with_prefix (take depth key) pairs) here one is only in
-        let len : length (take depth key) ≡ depth = let l = key_is.len in length-take-le depth key (omega (arith, l)) in
+        let len : length (take depth key) ≡ depth = length-take-le depth key (omega (arith, key_len)) in
         alone here one is only
         ∙ ap Some ((λ i. entry (slice_index (lone.only_is i).0 (sym len i)) (Some (lone.slot_is i)))
         ∙ sym (entries_alone hash (take depth key) pairs (short depth lt) set.hashes lone.pair lone.pairs_are))
@@ -75,7 +73,7 @@ module _ (hash : List ℕ → List ℕ) (key : List ℕ) (key_is : IsHash key) w
       ((other : List ℕ) → other ≢ take depth key → children_in new other ≡ children_in old other) → IsPath hash new pairs key (depth + 1)
   down_path old new pairs depth lt path here some others n h =
       elim (cases_lt n depth) [
-        | inl below ↦ (others (take n key) (apart_len key n depth below (let len = key_is.len in omega (arith, len))) ∙ (path n below).0, (path n below).1)
+        | inl below ↦ (others (take n key) (apart_len key n depth below (omega (arith, key_len))) ∙ (path n below).0, (path n below).1)
         | inr above ↦
             let same : depth ≡ n = omega arith in
             let P : ℕ → Type 0 = λ m. (children_in new (take m key) ≡ Some (entries_at hash (take m key) pairs)) × IsSome (slot_at hash (take m key) pairs) in
@@ -83,18 +81,18 @@ module _ (hash : List ℕ → List ℕ) (key : List ℕ) (key_is : IsHash key) w
       ]
 
   -- one level further down
-  pub leads_on : (old new : Tree) (pairs : List Pair) (depth : ℕ) (slot next : Option Slot) (makes_way : Bool) → depth < 32 →
+  pub leads_on : (old new : Tree) (pairs : List Pair) (depth : ℕ) (slot next : Option Slot) (makes_way : Bool) → depth < 32 → slice_index key depth < 256 →
       is_above slot key makes_way ≡ true → new.top ≡ old.top → LeadsTo hash old pairs key (record { depth = depth; slot = slot }) →
       ((here : Slot) (only : Hash32) → slot ≡ Some here → here.only ≡ Some only → children_in new.nodes (take depth key) ≡ Some (record { byte = slice_index only.0 depth; slot = here } ∷ [])) →
       ((here : Slot) → slot ≡ Some here → here.only ≡ None → children_in new.nodes (take depth key) ≡ children_in old.nodes (take depth key)) →
       ((children : List Child) → children_in new.nodes (take depth key) ≡ Some children → next ≡ slot_in children (slice_index key depth)) →
       ((other : List ℕ) → other ≢ take depth key → children_in new.nodes other ≡ children_in old.nodes other) →
       LeadsTo hash new pairs key (record { depth = depth + 1; slot = next })
-  leads_on old new pairs depth None next makes_way lt above top leads alone kept below others = absurd (false_true above)
+  leads_on old new pairs depth None next makes_way lt low above top leads alone kept below others = absurd (false_true above)
     where
       false_true : false ≡ true → ⊥
       false_true e = cc
-  leads_on old new pairs depth (Some here) next makes_way lt above top leads alone kept below others =
+  leads_on old new pairs depth (Some here) next makes_way lt low above top leads alone kept below others =
       let is : slot_at hash (take depth key) pairs ≡ Some here = sym leads.slot_is in
       let at = here_by old.nodes new.nodes pairs leads.tree_is.set depth lt leads.tree_is.nodes_are
       (λ there only e o. alone there only (leads.slot_is ∙ e) o) (λ there e o. kept there (leads.slot_is ∙ e) o) here here.only is refl in
@@ -104,7 +102,7 @@ module _ (hash : List ℕ → List ℕ) (key : List ℕ) (key_is : IsHash key) w
           top_is = top ∙ leads.tree_is.top_is;
           nodes_are = down_nodes old.nodes new.nodes pairs (take depth key) leads.tree_is.nodes_are at others;
         };
-        slot_is = below (entries_at hash (take depth key) pairs) at ∙ (entries_slot hash (take depth key) pairs (slice_index key depth) (byte_at depth lt) ∙ next_at depth pairs lt);
+        slot_is = below (entries_at hash (take depth key) pairs) at ∙ (entries_slot hash (take depth key) pairs (slice_index key depth) low ∙ next_at depth pairs lt);
         path = down_path old.nodes new.nodes pairs depth lt leads.path at (some_is _ here is) others;
       }
 
@@ -115,6 +113,9 @@ same_tree hash old new pairs top same is = record {
   top_is = top ∙ is.top_is;
   nodes_are = λ prefix lt two. same prefix ∙ is.nodes_are prefix lt two;
 }
+
+byte_at : (key : List ℕ) → IsHash key → (n : ℕ) → n < 32 → slice_index key n < 256
+byte_at key key_is n h = key_is.bytes_are n 0 (let len = key_is.len in omega (arith, len))
 
 -- ---- up
 
@@ -175,10 +176,10 @@ module _ (hash : List ℕ → List ℕ) (pairs later : List Pair) (key : List �
       let lt : left < 32 = omega arith in
       let prefix-len : length prefix ≡ left = length-take-le left key (omega (arith, len, lt)) in
       let children = was.path left (omega arith) in
-      let slot-is : slot ≡ slot_at hash (prefix ++ byte ∷ []) later = was.slot_is ∙ sym (next_at hash key key_is left later lt) in
+      let slot-is : slot ≡ slot_at hash (prefix ++ byte ∷ []) later = was.slot_is ∙ sym (next_at hash key key_is.len left later lt) in
       let with : with_slot byte slot (entries_at hash prefix pairs) ≡ entries_at hash prefix later =
       ap (λ s. with_slot byte s (entries_at hash prefix pairs)) slot-is
-      ∙ entries_with hash prefix pairs later byte (byte_at hash key key_is left lt)
+      ∙ entries_with hash prefix pairs later byte (byte_at key key_is left lt)
       (λ b apart. off_way (prefix ++ b ∷ [])
       (starts_more prefix key b (omega (arith, prefix-len, len, lt)) ∙ (ap (λ t. t && (slice_index key (length prefix) == b)) (starts_take key left (omega (arith, len, lt)))
       ∙ (ap (λ n. slice_index key n == b) prefix-len ∙ ne_eqb byte b (λ e. apart (sym e)))))) in
@@ -234,7 +235,7 @@ module _ (hash : List ℕ → List ℕ) (pairs later : List Pair) (key : List �
   climb_stays start old new depth left slot first le fits climb was top same absent =
       let lt : left < 32 = omega arith in
       let none : slot_at hash (take (left + 1) key) pairs ≡ None =
-      sym (next_at hash key key_is left pairs lt) ∙ (sym (entries_slot hash (take left key) pairs (slice_index key left) (byte_at hash key key_is left lt)) ∙ absent (entries_at hash (take left key) pairs) (was.path left (omega arith)).0) in
+      sym (next_at hash key key_is.len left pairs lt) ∙ (sym (entries_slot hash (take left key) pairs (slice_index key left) (byte_at key key_is left lt)) ∙ absent (entries_at hash (take left key) pairs) (was.path left (omega arith)).0) in
       elim (cases_lt (left + 1) depth) [
         | inl below ↦ absurd (is_some_not _ (climb.path (left + 1) below).1 none)
         | inr above ↦
@@ -251,12 +252,12 @@ climb_level hash tree pairs later key depth a b slot e is = let P : ℕ → Type
 
 -- ---- a change
 
-module _ (hash : List ℕ → List ℕ) (tree : Tree) (pairs : List Pair) (key : List ℕ) (key_is : IsHash key) (place : Place) (le : place.depth ≤ 32) (leads : LeadsTo hash tree pairs key place) where
+module _ (hash : List ℕ → List ℕ) (tree : Tree) (pairs : List Pair) (key : List ℕ) (key_len : length key ≡ 32) (place : Place) (le : place.depth ≤ 32) (leads : LeadsTo hash tree pairs key place) where
   on_way : starts key (take place.depth key) ≡ true
-  on_way = starts_take key place.depth (let len = key_is.len in omega (arith, len, le))
+  on_way = starts_take key place.depth (omega (arith, key_len, le))
 
   whole_key : place.depth ≡ 32 → take place.depth key ≡ key
-  whole_key e = let len = key_is.len in take_all place.depth key (omega (arith, len, e))
+  whole_key e = take_all place.depth key (omega (arith, key_len, e))
 
   clear_by : (slot : Option Slot) → slot_at hash (take place.depth key) pairs ≡ slot → is_above slot key true ≡ false → removed key (with_prefix (take place.depth key) pairs) ≡ []
   clear_by None is h = ap (removed key) (slot_none hash _ _ (with_prefix (take place.depth key) pairs) is)
@@ -281,11 +282,11 @@ module _ (hash : List ℕ → List ℕ) (tree : Tree) (pairs : List Pair) (key :
   clear ends =
       elim (cases_lt place.depth 32) [
         | inl below ↦ clear_by place.slot (sym leads.slot_is) (ends below)
-        | inr above ↦ ap (λ p. removed key (with_prefix p pairs)) (whole_key (omega arith)) ∙ gone key pairs key_is.len leads.tree_is.set.hashes
+        | inr above ↦ ap (λ p. removed key (with_prefix p pairs)) (whole_key (omega arith)) ∙ gone key pairs key_len leads.tree_is.set.hashes
       ]
 
-  pub climb_put : (row : Hash32) → (place.depth < 32 → is_above place.slot key true ≡ false) → IsClimb hash tree pairs (put key row.0 pairs) key place.depth (Some (leaf hash key row.0))
-  climb_put row ends =
+  pub climb_put : IsHash key → (row : Hash32) → (place.depth < 32 → is_above place.slot key true ≡ false) → IsClimb hash tree pairs (put key row.0 pairs) key place.depth (Some (leaf hash key row.0))
+  climb_put key_is row ends =
       let one = put_alone key row.0 (take place.depth key) pairs on_way (clear ends) in
       record {
         tree_is = leads.tree_is;
@@ -296,6 +297,19 @@ module _ (hash : List ℕ → List ℕ) (tree : Tree) (pairs : List Pair) (key :
         few = let e = ap length one in omega (arith, e);
         slot_is = sym (ap (slot_of hash (32 - length (take place.depth key)) (length (take place.depth key))) one);
       }
+
+  -- the key hash of the one pair at the place
+  lone_hash : (slot : Option Slot) → slot_at hash (take place.depth key) pairs ≡ slot → is_lone slot key ≡ true → IsHash key
+  lone_hash None is h = cc
+  lone_hash (Some here) is h = by_only here.only refl h
+    where
+      by_only : (o : Option Hash32) → here.only ≡ o → is_text o key ≡ true → IsHash key
+      by_only None e g = cc
+      by_only (Some only) e g =
+          let lone = slot_lone hash _ _ (with_prefix (take place.depth key) pairs) here only is e in
+          let P : List Pair → Type 0 = λ ps. All (λ pair. IsHash pair.0) ps in
+          let hashes = subst P lone.pairs_are (All-filter (λ pair. starts pair.0 (take place.depth key)) (λ pair. IsHash pair.0) pairs leads.tree_is.set.hashes) in
+          subst IsHash (sym (ap (λ h. h.0) lone.only_is) ∙ same_is only.0 key g) (All-head (λ pair. IsHash pair.0) lone.pair [] hashes)
 
   lone_here : (slot : Option Slot) → slot_at hash (take place.depth key) pairs ≡ slot → is_lone slot key ≡ true → removed key (with_prefix (take place.depth key) pairs) ≡ []
   lone_here None is h = cc
@@ -313,8 +327,8 @@ module _ (hash : List ℕ → List ℕ) (tree : Tree) (pairs : List Pair) (key :
       record {
         tree_is = leads.tree_is;
         path = leads.path;
-        key_is = key_is;
-        set = set_changed key None pairs key_is leads.tree_is.set;
+        key_is = lone_hash place.slot (sym leads.slot_is) h;
+        set = set_removed key pairs leads.tree_is.set;
         others = λ prefix s. changed_other key prefix None pairs s;
         few = let e = ap length none in omega (arith, e);
         slot_is = sym (ap (slot_of hash (32 - length (take place.depth key)) (length (take place.depth key))) none);
@@ -333,7 +347,7 @@ module _ (hash : List ℕ → List ℕ) (tree : Tree) (pairs : List Pair) (key :
           elim (cases_lt place.depth 32) [
             | inl below ↦ absurd (true_false (stops below))
             | inr above ↦
-                let few = leads.tree_is.set.apart key key_is.len in
+                let few = leads.tree_is.set.apart key key_len in
                 let same = ap (λ p. length (with_prefix p pairs)) (whole_key (omega arith)) in
                 absurd (omega (arith, few, same, two))
           ]

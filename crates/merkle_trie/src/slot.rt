@@ -50,6 +50,7 @@ fn append(input: &mut [u8], at: usize, bytes: &[u8]) -> usize
     requires { at + length bytes.now ≤ length input.old }
     ensures end { result ≡ at + length bytes.now }
     ensures written { take result input.new ≡ take at input.old ++ bytes.now }
+    ensures are_bytes { (i : ℕ) → slice_index bytes.now i < 256 }
 {
     let end = at + bytes.len();
     input[at..end].copy_from_slice(bytes);

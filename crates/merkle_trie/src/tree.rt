@@ -89,7 +89,7 @@ impl Tree {
         ensures want { IfErr result (λ e. e ≡ Want) }
     {
         let place = self.descend(alloc, key, false)?;
-        if !is_lone(place.slot, key) {
+        if !is_lone(place.slot, &key.0) {
             return Ok(());
         }
         self.climb(key, place.depth, None, hasher)?;
@@ -185,14 +185,13 @@ impl Tree {
 }
 
 // The slot is that of the one pair with this key hash.
-fn is_lone(slot: Option<Slot>, key: &Hash32) -> bool
-    ensures is { result ≡ is_lone slot key.now.0 }
-    ensures key_len { length key.now.0 ≡ 32 }
-    ensures key_bytes { (i : ℕ) → slice_index key.now.0 i < 256 }
+fn is_lone(slot: Option<Slot>, key: &[u8; 32]) -> bool
+    ensures is { result ≡ is_lone slot key.now }
+    ensures key_len { length key.now ≡ 32 }
 {
     match slot {
         Some(slot) => match slot.only {
-            Some(only) => only == *key,
+            Some(only) => only.0 == *key,
             None => false,
         },
         None => false,
@@ -228,7 +227,7 @@ fn step_down(
     ensures others { (prefix : List ℕ) → prefix ≢ take depth key.now.0 → children_in nodes.new prefix ≡ children_in nodes.old prefix }
     ensures err { OnErr result ((prefix : List ℕ) → children_in nodes.new prefix ≡ children_in nodes.old prefix) }
     ensures key_len { length key.now.0 ≡ 32 }
-    ensures key_bytes { (i : ℕ) → slice_index key.now.0 i < 256 }
+    ensures key_byte { slice_index key.now.0 depth < 256 }
     ensures want { IfErr result (λ e. e ≡ Want) }
 {
     if let Some(slot) = slot {

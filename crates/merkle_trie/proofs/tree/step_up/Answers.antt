@@ -1,6 +1,6 @@
 use Rattle.std.proofs.Common.{ap, sym, ◌∙◌}
 use Rattle.merkle_trie.proofs.Maps.{found, set_other, set_same}
-use Rattle.std.specs.Prelude.{option_copied_mut, take}
+use Rattle.std.specs.Prelude.{take}
 use Rattle.merkle_trie.proofs.tree.step_up.Goals as goal
 
 pub returns-in-Ok-clause-others : goal.returns-in-Ok-clause-others
