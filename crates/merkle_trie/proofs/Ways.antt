@@ -20,6 +20,9 @@ use Rattle.merkle_trie.proofs.Prefixes.{starts, begins_less, starts_is, starts_f
 use Rattle.merkle_trie.proofs.Changes.{IsLone, slot_none, slot_lone, slot_node, changed_other, set_changed, set_removed, gone, put_alone, removed_alone, removed_here, removed_none}
 use Rattle.merkle_trie.proofs.Values.{slot_summary, entries_alone, length-entries, entries_slot, entries_with, entries_same}
 
+false_not_true : false ≡ true → ⊥
+false_not_true e = cc
+
 none_some : {X : Type 0} (x : X) → None ≡ Some x → ⊥
 none_some x e = cc
 
@@ -300,11 +303,11 @@ module _ (hash : List ℕ → List ℕ) (tree : Tree) (pairs : List Pair) (key :
 
   -- the key hash of the one pair at the place
   lone_hash : (slot : Option Slot) → slot_at hash (take place.depth key) pairs ≡ slot → is_lone slot key ≡ true → IsHash key
-  lone_hash None is h = cc
+  lone_hash None is h = absurd (false_not_true h)
   lone_hash (Some here) is h = by_only here.only refl h
     where
       by_only : (o : Option Hash32) → here.only ≡ o → is_text o key ≡ true → IsHash key
-      by_only None e g = cc
+      by_only None e g = absurd (false_not_true g)
       by_only (Some only) e g =
           let lone = slot_lone hash _ _ (with_prefix (take place.depth key) pairs) here only is e in
           let P : List Pair → Type 0 = λ ps. All (λ pair. IsHash pair.0) ps in
