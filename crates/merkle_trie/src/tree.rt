@@ -227,7 +227,7 @@ fn step_down(
     ensures others { (prefix : List ℕ) → prefix ≢ take depth key.now.0 → children_in nodes.new prefix ≡ children_in nodes.old prefix }
     ensures err { OnErr result ((prefix : List ℕ) → children_in nodes.new prefix ≡ children_in nodes.old prefix) }
     ensures key_len { length key.now.0 ≡ 32 }
-    ensures key_byte { slice_index key.now.0 depth < 256 }
+    ensures key_byte { OnOk result (slice_index key.now.0 depth < 256) }
     ensures want { IfErr result (λ e. e ≡ Want) }
 {
     if let Some(slot) = slot {
