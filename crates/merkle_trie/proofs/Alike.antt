@@ -1,5 +1,5 @@
 -- Sets with the same members have the same values.
-use Rattle.std.specs.Prelude.{◌≡◌, ℕ, zero, suc, ◌+◌, ◌-◌, ◌≤◌, ◌==◌, ◌⊎◌, Bool, true, List, [], ◌∷◌, ◌++◌, length, filter, flat_map, slice_index, refl}
+use Rattle.std.specs.Prelude.{◌≡◌, ℕ, zero, suc, ◌+◌, ◌-◌, ◌≤◌, ◌==◌, Bool, List, [], ◌∷◌, ◌++◌, length, filter, flat_map, slice_index, refl}
 use Rattle.std.proofs.Common.{ap, sym, ◌∙◌, subst, inl, inr, arith}
 use Rattle.table_model.specs.Root.{Pair, branch, every_byte, value_of, value_at, with_byte, with_prefix}
 use Rattle.merkle_trie.specs.Equal.{Has}

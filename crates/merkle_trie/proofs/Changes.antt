@@ -1,17 +1,16 @@
 -- Sets of pairs after a change: what has a prefix, and that the set stays one.
-use Rattle.std.specs.Prelude.{◌≡◌, ◌≢◌, ℕ, zero, suc, ◌+◌, ◌-◌, ◌<◌, ◌≤◌, ◌==◌, ◌&&◌, not, nat_eq, Bool, true, false, cond, List, [], ◌∷◌, ◌++◌, Option, Some, None, All, length, filter, take, slice_index_or, refl}
-use Rattle.std.proofs.Common.{ap, sym, ◌∙◌, subst, inl, inr, arith}
-use Rattle.std.specs.Cmp.Lexicographic.{pointwise}
-use Rattle.std.proofs.lemmas.Bool.{cases_Bool, both_ways, true≢false}
+use Rattle.std.specs.Prelude.{◌≡◌, ℕ, ◌≤◌, ◌&&◌, not, Bool, true, false, cond, List, [], ◌∷◌, Option, Some, None, All, length, filter, slice_index_or, refl}
+use Rattle.std.proofs.Common.{ap, sym, ◌∙◌, inl, inr, arith}
+use Rattle.std.proofs.lemmas.Bool.{cases_Bool, both_ways}
 use Rattle.std.proofs.lemmas.List.{take_all}
-use Rattle.std.proofs.lemmas.List.Elements.{All-head, All-tail, All-cons, All-filter, All-weaker, filter_passes}
+use Rattle.std.proofs.lemmas.List.Elements.{All-cons, All-filter, All-weaker, filter_passes}
 use Rattle.blake2_hash.specs.declared.digest.Hash32.{Hash32}
 use Rattle.merkle_trie.specs.declared.slot.Slot.{Slot}
 use Rattle.table_model.specs.Root.{Pair, with_prefix}
 use Rattle.merkle_trie.specs.Sets.{is_key, removed, put}
 use Rattle.merkle_trie.specs.Slots.{leaf, slot_of}
 use Rattle.merkle_trie.specs.Stands.{IsHash, IsSet, changed_by}
-use Rattle.merkle_trie.proofs.Prefixes.{starts, starts_is, starts_from, same_is, same_from, other_from, filter_and, filter_same, filter_swap, filter_all, filter_no, length-filter-le}
+use Rattle.merkle_trie.proofs.Prefixes.{starts, starts_is, same_is, same_from, other_from, filter_and, filter_same, filter_swap, filter_all, filter_no, length-filter-le}
 
 cons_nil : {X : Type 0} (x : X) (xs : List X) → x ∷ xs ≡ [] → ⊥
 cons_nil x xs e = cc

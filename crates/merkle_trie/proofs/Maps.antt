@@ -1,6 +1,6 @@
 -- The children that are kept at a prefix, after the map of all of them changes at one.
 use Rattle.std.specs.Prelude.{◌≡◌, ◌≢◌, ℕ, nat_eq, Bool, true, false, cond, List, [], ◌∷◌, Option, Some, None, Vec, refl}
-use Rattle.std.proofs.Common.{ap, sym, ◌∙◌, inl, inr, subst}
+use Rattle.std.proofs.Common.{ap, sym, ◌∙◌, inl, inr}
 use Rattle.std.specs.Map.{lookup, remove_entry, set_value}
 use Rattle.std.specs.BTreeMap.{insert_entry}
 use Rattle.std.specs.declared.cmp.Ordering.{Ordering}

@@ -1,6 +1,6 @@
 -- Members of sets, and that a set has one pair at most where its key hashes end.
 use Rattle.std.specs.Prelude.{◌≡◌, ℕ, zero, suc, ◌+◌, ◌≤◌, ◌==◌, ◌⊎◌, Bool, true, false, cond, List, [], ◌∷◌, ◌++◌, length, filter, slice_index, refl}
-use Rattle.std.proofs.Common.{sym, subst, inl, inr, arith, length-append}
+use Rattle.std.proofs.Common.{subst, inl, inr, arith, length-append}
 use Rattle.std.proofs.lemmas.Bool.{eq-eqb}
 use Rattle.table_model.specs.Root.{Pair, with_byte, with_prefix}
 use Rattle.merkle_trie.specs.Equal.{Has}

@@ -1,11 +1,11 @@
 -- Equal values show equal pairs.
-use Rattle.std.specs.Prelude.{◌≡◌, ◌≢◌, ℕ, zero, suc, ◌+◌, ◌-◌, ◌<◌, ◌≤◌, ◌==◌, ◌⊎◌, Bool, true, false, cond, List, [], ◌∷◌, ◌++◌, All, length, filter, flat_map, replicate, slice_index, slice_index_or, refl}
-use Rattle.std.proofs.Common.{ap, sym, ◌∙◌, subst, inl, inr, arith, length-append}
+use Rattle.std.specs.Prelude.{◌≡◌, ◌≢◌, ℕ, zero, suc, ◌+◌, ◌-◌, ◌<◌, ◌≤◌, ◌==◌, ◌⊎◌, Bool, true, false, cond, List, [], ◌∷◌, ◌++◌, All, length, flat_map, replicate, slice_index, refl}
+use Rattle.std.proofs.Common.{ap, sym, ◌∙◌, subst, inl, inr, arith}
 use Rattle.std.specs.List.{range_with_len}
 use Rattle.std.proofs.lemmas.Bool.{eq-eqb, cases_lt}
-use Rattle.std.proofs.lemmas.List.Elements.{All-nil, All-cons, All-head, All-tail, All-filter, All-append, All-weaker}
-use Rattle.table_model.specs.Root.{Pair, branch, every_byte, none_leaf_or_node, value_of, value_at, with_byte, with_prefix}
-use Rattle.merkle_trie.specs.Equal.{Has, inputs_in, inputs_of, inputs_at, NoClash}
+use Rattle.std.proofs.lemmas.List.Elements.{All-nil, All-cons, All-head, All-tail, All-filter, All-weaker}
+use Rattle.table_model.specs.Root.{Pair, branch, every_byte, value_of, value_at, with_byte, with_prefix}
+use Rattle.merkle_trie.specs.Equal.{Has, inputs_of, inputs_at, NoClash}
 use Rattle.merkle_trie.specs.Stands.{IsHash, IsSet}
 use Rattle.merkle_trie.proofs.Narrowing.{Narrow, narrow_at, has_filter}
 use Rattle.merkle_trie.proofs.Prefixes.{starts}

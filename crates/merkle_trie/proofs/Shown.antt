@@ -1,5 +1,5 @@
 -- What a settled trie shows: values, children and key hashes at prefixes.
-use Rattle.std.specs.Prelude.{◌≡◌, ℕ, zero, suc, ◌+◌, ◌-◌, ◌<◌, ◌≤◌, nat_eq, nat_lt, Bool, true, false, cond, List, [], ◌∷◌, ◌++◌, Option, Some, None, All, length, map, flat_map, option_map, take, drop, slice_index, slice_index_or, refl}
+use Rattle.std.specs.Prelude.{◌≡◌, ℕ, zero, suc, ◌+◌, ◌-◌, ◌<◌, ◌≤◌, nat_lt, Bool, true, false, cond, List, [], ◌∷◌, ◌++◌, Option, Some, None, All, length, map, flat_map, option_map, take, drop, slice_index, slice_index_or, refl}
 use Rattle.std.proofs.Common.{ap, sym, ◌∙◌, get_or, inl, inr, arith, length-append}
 use Rattle.std.proofs.lemmas.Bool.{lt-ltb, le-ltb, cases_lt}
 use Rattle.std.proofs.lemmas.List.{length-take-le}
@@ -15,7 +15,7 @@ use Rattle.merkle_trie.specs.Slots.{entry, entries_at, leaf, slot_at, slot_in, s
 use Rattle.merkle_trie.specs.Stands.{IsHash, IsSet, after, changed, children_in}
 use Rattle.merkle_trie.specs.Trees.{IsTree}
 use Rattle.merkle_trie.proofs.Prefixes.{starts, starts_long, prefix_none, prefix_within, take_next, filter_no}
-use Rattle.merkle_trie.proofs.Changes.{IsLone, slot_none, slot_lone, slot_node}
+use Rattle.merkle_trie.proofs.Changes.{slot_none, slot_lone, slot_node}
 use Rattle.merkle_trie.proofs.Values.{entries_alone, entries_slot}
 
 module _ (hash : List ℕ → List ℕ) where

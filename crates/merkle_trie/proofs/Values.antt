@@ -1,16 +1,15 @@
 -- The slot of the pairs with a prefix is that of its children.
-use Rattle.std.specs.Prelude.{◌≡◌, ◌≢◌, ℕ, zero, suc, ◌+◌, ◌-◌, ◌<◌, ◌≤◌, ◌==◌, nat_lt, Bool, true, false, cond, List, [], ◌∷◌, ◌++◌, Option, Some, None, All, length, filter, flat_map, slice_index, slice_index_or, refl}
-use Rattle.std.proofs.Common.{ap, sym, ◌∙◌, subst, inl, inr, arith, append-nil, append_assoc, length-append}
+use Rattle.std.specs.Prelude.{◌≡◌, ◌≢◌, ℕ, zero, suc, ◌+◌, ◌-◌, ◌<◌, ◌≤◌, ◌==◌, nat_lt, Bool, true, false, cond, List, [], ◌∷◌, ◌++◌, Option, Some, None, All, length, flat_map, slice_index, refl}
+use Rattle.std.proofs.Common.{ap, sym, ◌∙◌, subst, inl, inr, arith, length-append}
 use Rattle.std.specs.List.{range_with_len}
 use Rattle.std.proofs.lemmas.Bool.{eq-eqb, ne_eqb, eqb-true, cases_eq}
 use Rattle.std.proofs.lemmas.List.Elements.{All-head, All-tail, All-filter}
-use Rattle.std.proofs.lemmas.Grind.{flat_map-append}
 use Rattle.blake2_hash.specs.declared.digest.Hash32.{Hash32}
 use Rattle.merkle_trie.specs.declared.slot.Slot.{Slot}
 use Rattle.merkle_trie.specs.declared.slot.Child.{Child}
 use Rattle.table_model.specs.Root.{Pair, branch, every_byte, none_leaf_or_node, value_of, with_byte, with_prefix}
 use Rattle.merkle_trie.specs.Slots.{child_bytes, entries_at, entry, leaf, lone_summary, node, slot_at, slot_in, slot_of, summary, with_slot}
-use Rattle.merkle_trie.specs.Stands.{IsHash, IsSet}
+use Rattle.merkle_trie.specs.Stands.{IsHash}
 use Rattle.merkle_trie.proofs.Children.{given, given_same, given_with, given_slot, given_none, length-given}
 use Rattle.merkle_trie.proofs.Prefixes.{starts, prefix_more}
 

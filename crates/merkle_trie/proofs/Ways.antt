@@ -1,6 +1,6 @@
 -- The way down to a key hash, and the way up after a change.
-use Rattle.std.specs.Prelude.{◌≡◌, ◌≢◌, ℕ, zero, suc, ◌+◌, ◌-◌, ◌<◌, ◌≤◌, ◌==◌, ◌&&◌, nat_eq, not, Bool, true, false, cond, List, [], ◌∷◌, ◌++◌, Option, Some, None, IsSome, All, Vec, length, filter, take, slice_index, refl}
-use Rattle.std.proofs.Common.{ap, sym, ◌∙◌, subst, inl, inr, arith, length-append}
+use Rattle.std.specs.Prelude.{◌≡◌, ◌≢◌, ℕ, ◌+◌, ◌-◌, ◌<◌, ◌≤◌, ◌==◌, ◌&&◌, nat_eq, not, Bool, true, false, cond, List, [], ◌∷◌, ◌++◌, Option, Some, None, IsSome, All, Vec, length, filter, take, slice_index, refl}
+use Rattle.std.proofs.Common.{ap, sym, ◌∙◌, subst, inl, inr, arith}
 use Rattle.std.specs.Cmp.Lexicographic.{pointwise}
 use Rattle.std.specs.BTreeMap.{BTreeMap}
 use Rattle.std.proofs.lemmas.Bool.{cases_Bool, cases_lt, ne_eqb, both_ways}
@@ -14,10 +14,10 @@ use Rattle.merkle_trie.specs.declared.tree.Place.{Place}
 use Rattle.table_model.specs.Root.{Pair, with_prefix}
 use Rattle.merkle_trie.specs.Sets.{is_key, removed, put}
 use Rattle.merkle_trie.specs.Slots.{entries_at, entry, leaf, slot_at, slot_in, slot_of, summary, with_slot}
-use Rattle.merkle_trie.specs.Stands.{IsHash, IsSet, NodesAre, IsPath, children_in, changed_by}
+use Rattle.merkle_trie.specs.Stands.{IsHash, IsSet, NodesAre, IsPath, children_in}
 use Rattle.merkle_trie.specs.Trees.{IsTree, LeadsTo, IsClimb, goes_on, is_above, is_lone, is_text}
-use Rattle.merkle_trie.proofs.Prefixes.{starts, begins_less, starts_is, starts_from, starts_take, starts_more, same_is, same_from, same_itself, other_from, other_is, length-filter-le, take_next}
-use Rattle.merkle_trie.proofs.Changes.{IsLone, slot_none, slot_lone, slot_node, changed_other, set_changed, set_removed, gone, put_alone, removed_alone, removed_here, removed_none}
+use Rattle.merkle_trie.proofs.Prefixes.{starts, begins_less, starts_is, starts_take, starts_more, same_is, other_from, other_is, take_next}
+use Rattle.merkle_trie.proofs.Changes.{slot_none, slot_lone, slot_node, changed_other, set_changed, set_removed, gone, put_alone, removed_alone, removed_here, removed_none}
 use Rattle.merkle_trie.proofs.Values.{slot_summary, entries_alone, length-entries, entries_slot, entries_with, entries_same}
 
 false_not_true : false ≡ true → ⊥

@@ -1,11 +1,9 @@
 -- Which set of pairs a trie holds.
-use Rattle.std.specs.Prelude.{◌≡◌, ◌≢◌, ℕ, ◌<◌, ◌≤◌, false, nat_eq, List, [], ◌∷◌, Option, Some, None, IsSome, All, Vec, length, take}
-use Rattle.std.specs.List.{starts_with}
+use Rattle.std.specs.Prelude.{◌≡◌, ℕ, ◌<◌, ◌≤◌, List, [], ◌∷◌, Option, Some, None, IsSome, All, Vec, length, take}
 use Rattle.std.specs.Ordering.{nat_cmp}
 use Rattle.std.specs.Cmp.Lexicographic.{slice_cmp}
 use Rattle.std.specs.BTreeMap.{BTreeMap, get_by}
 use Rattle.blake2_hash.specs.declared.digest.Hash32.{Hash32}
-use Rattle.merkle_trie.specs.declared.slot.Slot.{Slot}
 use Rattle.merkle_trie.specs.declared.slot.Child.{Child}
 use Rattle.merkle_trie.specs.declared.change.Change.{Change}
 use Rattle.merkle_trie.specs.Sets.{put, removed}

@@ -1,5 +1,5 @@
 -- The slots of a set of pairs, and where a key hash leads among them.
-use Rattle.std.specs.Prelude.{◌≡◌, ℕ, ◌≤◌, ◌&&◌, Bool, true, false, not, nat_eq, List, [], Option, Some, None, Vec, length, take}
+use Rattle.std.specs.Prelude.{◌≡◌, ℕ, ◌≤◌, ◌&&◌, Bool, true, false, not, nat_eq, List, [], Option, Some, None, length, take}
 use Rattle.std.specs.List.{starts_with}
 use Rattle.std.specs.Cmp.Lexicographic.{pointwise}
 use Rattle.blake2_hash.specs.declared.digest.Hash32.{Hash32}

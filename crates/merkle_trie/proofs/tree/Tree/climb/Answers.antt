@@ -1,4 +1,4 @@
-use Rattle.std.specs.Prelude.{◌≡◌, ℕ, ◌+◌, ◌-◌, List, refl}
+use Rattle.std.specs.Prelude.{◌+◌, ◌-◌, List, refl}
 use Rattle.std.proofs.Common.{arith}
 use Rattle.table_model.specs.Root.{Pair}
 use Rattle.merkle_trie.specs.declared.tree.Tree.{Tree}

@@ -1,4 +1,4 @@
-use Rattle.std.specs.Prelude.{◌≡◌, ℕ, ◌-◌, ◌≤◌, List}
+use Rattle.std.specs.Prelude.{ℕ, ◌-◌, ◌≤◌, List}
 use Rattle.table_model.specs.Root.{Pair}
 use Rattle.merkle_trie.specs.Trees.{IsTree, LeadsTo}
 use Rattle.merkle_trie.proofs.tree.Tree.descend.Given as goal

@@ -1,4 +1,4 @@
-use Rattle.std.specs.Prelude.{◌≡◌, ℕ, ◌≤◌, List, length, take}
+use Rattle.std.specs.Prelude.{◌≡◌, ℕ, List, take}
 use Rattle.table_model.specs.Root.{Pair}
 use Rattle.merkle_trie.specs.Slots.{slot_at}
 use Rattle.merkle_trie.specs.Trees.{IsTree}

@@ -1,4 +1,4 @@
-use Rattle.std.specs.Prelude.{◌≡◌, List, Some}
+use Rattle.std.specs.Prelude.{List, Some}
 use Rattle.std.proofs.Common.{sym, subst}
 use Rattle.table_model.specs.Root.{Pair}
 use Rattle.merkle_trie.specs.declared.slot.Slot.{Slot}

@@ -1,8 +1,8 @@
-use Rattle.std.specs.Prelude.{◌≡◌, List, None, true, false}
+use Rattle.std.specs.Prelude.{List}
 use Rattle.std.proofs.Common.{sym, ◌∙◌}
 use Rattle.table_model.specs.Root.{Pair}
 use Rattle.merkle_trie.specs.Sets.{removed}
-use Rattle.merkle_trie.specs.Trees.{IsTree, IsClimb}
+use Rattle.merkle_trie.specs.Trees.{IsTree}
 use Rattle.merkle_trie.proofs.Outcomes.{on_err}
 use Rattle.merkle_trie.proofs.Ways.{climb_removed, tree_absent}
 use Rattle.merkle_trie.proofs.tree.Tree.remove_pair.Goals as goal
