@@ -1,8 +1,11 @@
 //! Jobs that are timed. `bench JOB ARGUMENTS..` does the job that its first word names, and prints what
-//! comes out and never a time; the scripts `bench/compare`, `bench/replay` and `bench/http` take the times.
+//! comes out and never a time; the scripts `bench/compare`, `bench/replay`, `bench/http` and `bench/trie` take the
+//! times.
 //!
 //! - `hash BYTES`: the BLAKE2b digest of 32 bytes, in hexadecimal, of a message of that many bytes,
 //!   of which byte i is i modulo 251.
+//! - `trie PAIRS CHANGES`: the root of a trie of that many pairs, in hexadecimal, after that many changes that were
+//!   settled one after the other.
 //! - `replay`: a schedule of 100,000 events, for `garage_lab replay`.
 //! - `http SIZE COUNT`: reads COUNT heads of 16,384 bytes, each of a connection that gives SIZE bytes at a
 //!   time, and prints how many bytes their targets have.
@@ -11,6 +14,7 @@
 mod hashing;
 mod heads;
 mod schedule;
+mod tries;
 
 use hashing::pattern_digest;
 use heads::targets_read;
@@ -18,6 +22,7 @@ use schedule::schedule;
 use std::alloc::Global;
 use std::process::ExitCode;
 use std::{env, io};
+use tries::changed_root;
 
 fn main(rt: HostRuntime) -> io::Result<ExitCode> {
     let words: Vec<String> = env::args(&rt)?.skip(1).collect(rt.alloc())?;
@@ -25,6 +30,9 @@ fn main(rt: HostRuntime) -> io::Result<ExitCode> {
         [job, byte_count] if job.as_str() == "hash" => hash(&rt, byte_count.as_str()),
         [job] if job.as_str() == "replay" => replay(&rt),
         [job, size, count] if job.as_str() == "http" => http(&rt, size.as_str(), count.as_str()),
+        [job, pairs, changes] if job.as_str() == "trie" => {
+            trie(&rt, pairs.as_str(), changes.as_str())
+        }
         _ => usage(&rt),
     }
 }
@@ -37,6 +45,27 @@ fn hash(rt: &(impl Print + Eprint + Alloc), byte_count: &str) -> io::Result<Exit
             Ok(ExitCode::SUCCESS)
         }
         Err(_) => usage(rt),
+    }
+}
+
+fn trie(
+    rt: &(impl Print + Eprint + Alloc<A = Global>),
+    pairs: &str,
+    changes: &str,
+) -> io::Result<ExitCode> {
+    let (Ok(pair_count), Ok(change_count)) = (pairs.parse::<u64>(), changes.parse::<u64>()) else {
+        return usage(rt);
+    };
+    match changed_root(rt.alloc(), pair_count, change_count) {
+        Ok(root) => {
+            let text = hex::encode(rt.alloc(), &root.0)?;
+            println!(rt; "{text}")?;
+            Ok(ExitCode::SUCCESS)
+        }
+        Err(_) => {
+            eprintln!(rt; "out of memory")?;
+            Ok(ExitCode::FAILURE)
+        }
     }
 }
 
@@ -68,6 +97,6 @@ fn http(
 }
 
 fn usage(rt: &impl Eprint) -> io::Result<ExitCode> {
-    eprintln!(rt; "usage: bench hash BYTES | replay | http SIZE COUNT")?;
+    eprintln!(rt; "usage: bench hash BYTES | replay | http SIZE COUNT | trie PAIRS CHANGES")?;
     Ok(ExitCode::from(2))
 }

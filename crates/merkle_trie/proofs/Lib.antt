@@ -1,0 +1,11 @@
+pub mod Alike
+pub mod Changes
+pub mod Children
+pub mod Maps
+pub mod Narrowing
+pub mod Outcomes
+pub mod Prefixes
+pub mod Showing
+pub mod Shown
+pub mod Values
+pub mod Ways
