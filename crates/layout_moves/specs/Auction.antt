@@ -11,6 +11,7 @@ use Rattle.layout_moves.specs.Prices.{IsBase, IsCheap, asked, AreCovered}
 unfoldable pub highest : ℕ
 highest = 67072
 
+-- sets that are cheap at the prices: a set of three in each partition, a price for each node of 1 to 64 that isn't above the highest, and no node with a price has room left
 pub record IsPriced (roles : List Role) (r size : ℕ) (old sets : List NodeSet) (prices : List ℕ) : Type 0 where
   pub whole : length sets ≡ 256
   pub rows : length prices ≡ 65

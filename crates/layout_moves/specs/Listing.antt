@@ -7,6 +7,7 @@ use Rattle.layout_roles.specs.declared.vertex.Vertex.{Vertex}
 use Rattle.layout_roles.specs.declared.vertex.Vertex.TheVariants.{Up, Down, Zone, Node, Sink}
 use Rattle.layout_moves.specs.Moves.{Potentials}
 
+-- a vertex with its potential
 abbrev pub with_potential : Potentials → Vertex → Vertex × ℤ
 with_potential potential vertex = (vertex, potential vertex)
 
@@ -15,6 +16,7 @@ abbrev pub partition_listing : Potentials → List Role → ℕ → List (Vertex
 partition_listing potential roles p =
     with_potential potential (Up p) ∷ with_potential potential (Down p) ∷ map (λ zone. with_potential potential (Zone p zone.0)) (enumerate_from 0 (zones roles))
 
+-- the storage nodes with their potentials
 abbrev pub node_listing : Potentials → List Role → List (Vertex × ℤ)
 node_listing potential roles = map (λ role. with_potential potential (Node role.node)) (storage_nodes roles)
 

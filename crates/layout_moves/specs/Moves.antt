@@ -20,6 +20,7 @@ new_nodes old set = count_by (λ node. not (has_node node old)) set
 unfoldable pub moves_of : ℕ → List NodeSet → List NodeSet → ℕ
 moves_of count old sets = sum_by (λ p. new_nodes (set_at old p) (set_at sets p)) (range_with_len 0 count)
 
+-- how many pairs of partition and node the old assignment hasn't
 abbrev pub moves : List NodeSet → List NodeSet → ℕ
 moves = moves_of partitions
 
@@ -28,6 +29,7 @@ abbrev pub cost_between : List NodeSet → Vertex → Vertex → ℕ
 cost_between old (Zone p i) (Node node) = cond (has_node node (set_at old p)) 0 1
 cost_between old _ _ = 0
 
+-- what a copy costs along an edge
 abbrev pub cost : List NodeSet → Edge → ℕ
 cost old edge = cost_between old edge.from edge.to
 

@@ -11,6 +11,7 @@ use Rattle.layout_moves.specs.Moves.{set_at, Potentials}
 abbrev pub kept : NodeSet → List Role → ℕ
 kept set zone = count_by (λ role. has_node role.node set) zone
 
+-- the node lies in the zone
 abbrev pub lies : List Role → ℕ → Bool
 lies zone node = list_any (λ role. role.node == node) zone
 

@@ -10,6 +10,7 @@ module _ {H : Type 0} where
   abbrev pub queued : Trie H → ℕ
   queued trie = length trie.queue.items
 
+  -- neither the slots nor the waiting changes are others
   abbrev pub IsUnchanged : Trie H → Trie H → Type 0
   IsUnchanged old new = (new.tree ≡ old.tree) × (new.queue.items ≡ old.queue.items)
 

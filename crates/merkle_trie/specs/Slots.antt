@@ -42,9 +42,11 @@ abbrev pub child_bytes : List Child → List ℕ
 child_bytes children = flat_map (λ c. c.byte ∷ c.slot.value.0) children
 
 module _ (hash : List ℕ → List ℕ) where
+  -- the slot of one pair
   abbrev pub leaf : List ℕ → List ℕ → Slot
   leaf key row = record { value = record { 0 = hash (1 ∷ key ++ row) }; only = Some (record { 0 = key }) }
 
+  -- the slot of more than one pair
   abbrev pub node : List ℕ → Slot
   node value = record { value = record { 0 = value }; only = None }
 
@@ -54,6 +56,7 @@ module _ (hash : List ℕ → List ℕ) where
   slot_of left depth (pair ∷ []) = Some (leaf pair.0 pair.1)
   slot_of left depth (pair ∷ next ∷ pairs) = Some (node (value_of hash left depth (pair ∷ next ∷ pairs)))
 
+  -- the slot of the pairs with a prefix
   abbrev pub slot_at : List ℕ → List Pair → Option Slot
   slot_at prefix pairs = slot_of (32 - length prefix) (length prefix) (with_prefix prefix pairs)
 

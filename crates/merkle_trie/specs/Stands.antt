@@ -25,6 +25,7 @@ abbrev pub changed_by : List ℕ → Option Hash32 → List Pair → List Pair
 changed_by key None pairs = removed key pairs
 changed_by key (Some row) pairs = put key row.0 pairs
 
+-- the set after a change
 abbrev pub changed : Change → List Pair → List Pair
 changed change pairs = changed_by change.key.0 change.row pairs
 

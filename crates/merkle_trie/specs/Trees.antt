@@ -11,6 +11,7 @@ use Rattle.merkle_trie.specs.Sets.{with_prefix}
 use Rattle.merkle_trie.specs.Slots.{slot_at}
 use Rattle.merkle_trie.specs.Stands.{IsHash, IsSet, NodesAre, IsPath}
 
+-- one pair is left, and it has this key hash
 abbrev pub is_text : Option Hash32 → List ℕ → Bool
 is_text None key = false
 is_text (Some only) key = pointwise nat_eq only.0 key
@@ -20,6 +21,7 @@ abbrev pub is_lone : Option Slot → List ℕ → Bool
 is_lone None key = false
 is_lone (Some slot) key = is_text slot.only key
 
+-- more than one pair is left, or the one pair makes way for another key hash
 abbrev pub goes_on : Option Hash32 → List ℕ → Bool → Bool
 goes_on None key makes_way = true
 goes_on (Some only) key makes_way = makes_way && not (pointwise nat_eq only.0 key)
