@@ -11,7 +11,7 @@ use Rattle.layout_roles.specs.Zones.{Name, name_of, nodes_ascend, is_numbered, i
 use Rattle.layout_roles.specs.Fits.{NodeSet, has_node, load, room, partitions, is_storage_node, Fits}
 use Rattle.layout_flow.proofs.Sums.{no, sum_by-filter, sum_by-agree, sum_by-none}
 use Rattle.layout_flow.proofs.Zones.{count_none, zone_once}
-use Rattle.layout_flow.proofs.Bounds.{same_true}
+use Rattle.layout_roles.proofs.Names.{same_true}
 use Rattle.layout_flow.proofs.Spread.{in_set, spread_from_few}
 use Rattle.layout_moves.specs.Moves.{set_at}
 use Rattle.layout_moves.specs.Prices.{kept, IsBase, IsCheap, IsSwap, asked}
