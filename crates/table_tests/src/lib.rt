@@ -1,5 +1,5 @@
-//! Tests of rows and of the tables that keep them: digests, merges, row bytes, rows as the cluster sees them, items,
-//! collections of delete markers, and tries. It has no code of its own.
+//! Tests of rows and of the tables that keep them: digests, merges, row bytes, rows as the cluster sees them, items, and
+//! collections of delete markers. It has no code of its own.
 #![tactic(auto)]
 
 #[cfg(test)]
@@ -20,5 +20,3 @@ mod row_bytes;
 mod rows;
 #[cfg(test)]
 mod tables;
-#[cfg(test)]
-mod tries;
