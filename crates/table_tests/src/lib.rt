@@ -1,13 +1,9 @@
-//! Tests of rows and of the tables that keep them: digests, merges, row bytes, rows as the cluster sees them, items, and
-//! collections of delete markers. It has no code of its own.
+//! Tests of rows and of the tables that keep them: digests, merges, row bytes, rows as the cluster sees them. It has
+//! no code of its own.
 #![tactic(auto)]
 
 #[cfg(test)]
-mod collections;
-#[cfg(test)]
 mod digests;
-#[cfg(test)]
-mod items;
 #[cfg(test)]
 mod made;
 #[cfg(test)]
