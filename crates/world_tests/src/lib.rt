@@ -1,7 +1,5 @@
-//! Tests of nodes and of the world, over the rows of the object store. It has no code of its own.
+//! Tests of the world, over the rows of the object store. It has no code of its own.
 #![tactic(auto)]
 
-#[cfg(test)]
-mod clusters;
 #[cfg(test)]
 mod times;
