@@ -1,0 +1,5 @@
+//! Tests of nodes over the rows of the object store. It has no code of its own.
+#![tactic(auto)]
+
+#[cfg(test)]
+mod tests;

@@ -1,0 +1,314 @@
+//! Each call of a node that takes memory, with ample memory: a put and a get over three nodes, a layout change with
+//! its round, and what a restart leaves. The messages are passed on by hand.
+ghost use Rattle.std.specs.Prelude.{◌≡◌, None, IsTrue, IfOk};
+ghost use Rattle.layout_roles.specs.Zones.{set_ascends};
+ghost use Rattle.cluster_machine.specs.Keeping.{IsShort};
+ghost use Rattle.node_parts.specs.Contents.{AreBare};
+ghost use Rattle.node_core.specs.Stands.{IsBarePacket};
+
+use blake2_hash::Hash32;
+use cluster_machine::{Action, LocalEnd};
+use crdt_core::{Bytes, List, Memory};
+use crdt_rows::{AnyRow, Body, ObjectRow, State, Version};
+use layout_roles::{Assignment, Kind, Layout, Role, Roles, Zone};
+use node_core::{BeginFault, Envelope, Node, Packet};
+use object_schema::S3Schema;
+use std::alloc::Global;
+use std::test::Fail;
+use wire_messages::{Message, Phase, PhaseEnd};
+
+const BUCKET: Hash32 = Hash32([0x22; 32]);
+
+type Post = Vec<Envelope<AnyRow>>;
+
+fn everywhere(alloc: Global, set: [u8; 3]) -> Result<Assignment, Memory>
+    requires { IsTrue (set_ascends set) }
+{
+    let mut sets = List::new(alloc);
+    for _i in 0..256u16 {
+        sets.push(set)?;
+    }
+    Ok(Assignment { sets })
+}
+
+// Version 1 has the storage nodes 1, 2, 3, and version 2 the nodes 2, 3, 4.
+fn layout(alloc: Global, version: u32) -> Result<Layout, Fail> {
+    let (nodes, sets) = match version {
+        1 => ([1, 2, 3], everywhere(alloc, [1, 2, 3])?),
+        _ => ([2, 3, 4], everywhere(alloc, [2, 3, 4])?),
+    };
+    let mut list = List::new(alloc);
+    for node in nodes {
+        let zone = Zone(Bytes::from_slice(alloc, b"z")?);
+        list.push(Role {
+            node,
+            zone,
+            kind: Kind::Storage(1000),
+        })?;
+    }
+    Ok(Layout {
+        version,
+        roles: Roles::from_list(list).ok_or("not in order")?,
+        r: 1,
+        size: 1,
+        sets,
+    })
+}
+
+fn append(alloc: Global, node: &mut Node<S3Schema>, version: u32) -> Result<(), Fail> {
+    let layout = layout(alloc, version)?;
+    if layout.roles.list.is_empty() || layout.version.checked_sub(1) != Some(node.view().newest()) {
+        return Err("not the next version".into());
+    }
+    node.append(layout)?;
+    Ok(())
+}
+
+fn node(alloc: Global, id: u8) -> Result<Node<S3Schema>, Fail> {
+    let mut node = Node::new(alloc, id)?;
+    append(alloc, &mut node, 1)?;
+    Ok(node)
+}
+
+fn marker(alloc: Global, ts: u64) -> Result<AnyRow, Memory> {
+    let state = State::Complete(Body::Marker);
+    if !state.is_sized() {
+        return Err(Memory::Full);
+    }
+    let key = Bytes::from_slice(alloc, b"a")?;
+    let row = ObjectRow::single(alloc, BUCKET, key, Version { ts, id: ts }, state)?;
+    Ok(AnyRow::Object(row))
+}
+
+fn store(alloc: Global, row: AnyRow) -> Result<Phase<AnyRow>, Memory>
+    ensures short { IfOk result IsShort }
+{
+    let mut rows = List::new(alloc);
+    rows.push((row, None))?;
+    Ok(Phase::Store { rows })
+}
+
+fn read(alloc: Global) -> Result<Phase<AnyRow>, Memory>
+    ensures short { IfOk result IsShort }
+{
+    let mut key = Bytes::from_slice(alloc, &BUCKET.0)?;
+    key.extend_from_slice(b"a")?;
+    Ok(Phase::Read {
+        table: 1,
+        position: BUCKET,
+        key,
+    })
+}
+
+fn scan(alloc: Global) -> Phase<AnyRow>
+    ensures short { IsShort result }
+{
+    Phase::Range {
+        position: BUCKET,
+        prefix: Bytes::new(alloc),
+        after: Bytes::new(alloc),
+    }
+}
+
+fn has_no_block(row: &(Bytes, Option<Bytes>)) -> bool
+    ensures { IsTrue result → row.now.1 ≡ None }
+{
+    match row.1 {
+        Some(_) => false,
+        None => true,
+    }
+}
+
+fn have_no_blocks(rows: &[(Bytes, Option<Bytes>)]) -> bool
+    ensures { IsTrue result → AreBare rows.now }
+{
+    rows.iter().all(|row| has_no_block(row))
+}
+
+fn is_bare(packet: &Packet<AnyRow>) -> bool
+    ensures { IsTrue result → IsBarePacket packet.now }
+{
+    match packet {
+        Packet::Msg(Message::Store { rows, .. }) => have_no_blocks(rows.as_slice()),
+        _ => true,
+    }
+}
+
+// Nodes 1 to 4.
+#[derive(Drop)]
+struct Cluster {
+    first: Node<S3Schema>,
+    second: Node<S3Schema>,
+    third: Node<S3Schema>,
+    fourth: Node<S3Schema>,
+    alloc: Global,
+}
+
+fn act(node: &mut Node<S3Schema>, action: Action, out: &mut Post) -> Result<LocalEnd, Fail> {
+    if node.view().newest() < 1 {
+        return Err("no version".into());
+    }
+    Ok(node.local(action, 0, out)?)
+}
+
+// The node's view, on its way to node `to`.
+fn shown(node: &Node<S3Schema>, from: u8, to: u8) -> Result<Envelope<AnyRow>, Memory> {
+    Ok(Envelope {
+        from,
+        to,
+        packet: Packet::View(node.view().copy()?),
+    })
+}
+
+impl Cluster {
+    fn new(alloc: Global) -> Result<Cluster, Fail> {
+        Ok(Cluster {
+            first: node(alloc, 1)?,
+            second: node(alloc, 2)?,
+            third: node(alloc, 3)?,
+            fourth: node(alloc, 4)?,
+            alloc,
+        })
+    }
+
+    // Gives each packet to its receiver, and the answers too, ten times; how the last phase that ended did.
+    fn deliver(&mut self, out: Post) -> Result<Option<PhaseEnd<AnyRow>>, Fail> {
+        let mut ended = None;
+        let mut waiting = out;
+        for _round in 0..10 {
+            let mut answers = Vec::new(self.alloc);
+            for envelope in &waiting {
+                if !is_bare(&envelope.packet) {
+                    return Err("a block".into());
+                }
+                let (from, packet) = (envelope.from, &envelope.packet);
+                let end = match envelope.to {
+                    1 => self.first.on_packet(from, packet, 0, &mut answers)?,
+                    2 => self.second.on_packet(from, packet, 0, &mut answers)?,
+                    3 => self.third.on_packet(from, packet, 0, &mut answers)?,
+                    _ => self.fourth.on_packet(from, packet, 0, &mut answers)?,
+                };
+                if let Some((_, end)) = end {
+                    ended = Some(end);
+                }
+            }
+            waiting = answers;
+        }
+        Ok(ended)
+    }
+
+    // Each node acts, and shows its view to each other one.
+    fn act_all(&mut self, action: Action) -> Result<(), Fail> {
+        let mut out = Vec::new(self.alloc);
+        let _ = act(&mut self.first, action, &mut out)?;
+        let _ = act(&mut self.second, action, &mut out)?;
+        let _ = act(&mut self.third, action, &mut out)?;
+        let _ = act(&mut self.fourth, action, &mut out)?;
+        let _ = self.deliver(out)?;
+        let mut views = Vec::new(self.alloc);
+        for to in 1..=4 {
+            views.push(shown(&self.first, 1, to)?)?;
+            views.push(shown(&self.second, 2, to)?)?;
+            views.push(shown(&self.third, 3, to)?)?;
+            views.push(shown(&self.fourth, 4, to)?)?;
+        }
+        let _ = self.deliver(views)?;
+        Ok(())
+    }
+
+    // Node 1 stores the marker.
+    fn put(&mut self) -> Result<(), Fail> {
+        let mut out = Vec::new(self.alloc);
+        if self.first.open(1).is_err() {
+            return Err("not open".into());
+        }
+        let phase = store(self.alloc, marker(self.alloc, 5)?)?;
+        self.first.phase(1, phase, &mut out)?;
+        match self.deliver(out)? {
+            Some(PhaseEnd::Kept) => {
+                self.first.close(1);
+                Ok(())
+            }
+            _ => Err("not kept".into()),
+        }
+    }
+}
+
+#[test]
+fn a_marker_is_stored_read_and_listed(rt: HostRuntime) -> Result<(), Fail> {
+    let alloc = rt.alloc();
+    let mut cluster = Cluster::new(alloc)?;
+    cluster.put()?;
+    assert!(rt; cluster.second.open(2).is_ok());
+    let mut out = Vec::new(alloc);
+    cluster.second.phase(2, read(alloc)?, &mut out)?;
+    assert_eq!(rt; out.len(), 3);
+    let Some(PhaseEnd::Row(Some(AnyRow::Object(row)))) = cluster.deliver(out)? else {
+        return Err("no row".into());
+    };
+    assert_eq!(rt; row.greatest_ts(), 5);
+    let mut out = Vec::new(alloc);
+    cluster.second.phase(2, scan(alloc), &mut out)?;
+    let Some(PhaseEnd::Window { rows, end }) = cluster.deliver(out)? else {
+        return Err("no window".into());
+    };
+    assert_eq!(rt; rows.len(), 1);
+    assert!(rt; end.is_none());
+    assert!(rt; cluster.fourth.open(3) == Err(BeginFault::NotMember));
+    Ok(())
+}
+
+#[test]
+fn rows_move_to_the_nodes_of_the_next_version(rt: HostRuntime) -> Result<(), Fail> {
+    let alloc = rt.alloc();
+    let mut cluster = Cluster::new(alloc)?;
+    cluster.put()?;
+    append(alloc, &mut cluster.first, 2)?;
+    append(alloc, &mut cluster.second, 2)?;
+    append(alloc, &mut cluster.third, 2)?;
+    append(alloc, &mut cluster.fourth, 2)?;
+    cluster.act_all(Action::Ack)?;
+    assert_eq!(rt; cluster.second.view().ack_least(), 2);
+    assert_eq!(rt; cluster.fourth.table().len(), 0);
+    cluster.act_all(Action::Sync)?;
+    assert_eq!(rt; cluster.fourth.table().len(), 1);
+    assert_eq!(rt; cluster.fourth.view().read_version(), 2);
+    cluster.act_all(Action::SyncAck)?;
+    assert_eq!(rt; cluster.first.table().len(), 1);
+    cluster.act_all(Action::Clean)?;
+    assert_eq!(rt; cluster.fourth.view().oldest(), 2);
+    assert_eq!(rt; cluster.first.table().len(), 0);
+    let mut out = Vec::new(alloc);
+    let idle = act(&mut cluster.second, Action::Sync, &mut out)?;
+    assert_eq!(rt;
+        idle,
+        LocalEnd::Idle {
+            read: 2,
+            ack_least: 2
+        }
+    );
+    Ok(())
+}
+
+#[test]
+fn a_restart_loses_requests_and_a_repair_pushes_rows(rt: HostRuntime) -> Result<(), Fail> {
+    let alloc = rt.alloc();
+    let mut cluster = Cluster::new(alloc)?;
+    cluster.put()?;
+    assert!(rt; cluster.first.open(4).is_ok());
+    assert!(rt; cluster.first.open(7).is_ok());
+    let mut out = Vec::new(alloc);
+    cluster.first.phase(7, read(alloc)?, &mut out)?;
+    assert_eq!(rt; cluster.first.restart()?.as_slice(), [4, 7].as_slice());
+    assert!(rt; cluster.deliver(out)?.is_none());
+    let mut out = Vec::new(alloc);
+    assert_eq!(rt;
+        act(&mut cluster.first, Action::Repair, &mut out)?,
+        LocalEnd::Repaired
+    );
+    assert_eq!(rt; out.len(), 2);
+    let mut out = Vec::new(alloc);
+    let worked = act(&mut cluster.first, Action::Work, &mut out)?;
+    assert_eq!(rt; worked, LocalEnd::Worked { rows: 0, blocks: 0 });
+    Ok(())
+}
