@@ -1,0 +1,5 @@
+pub mod Blocks
+pub mod Rows
+pub mod Says
+pub mod Flow
+pub mod Next

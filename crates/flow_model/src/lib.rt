@@ -1,0 +1,17 @@
+//! Requests as flows: what a client asks of the store, and what a request does phase by phase.
+//!
+//! An `Order` is what a client asks. A request for it begins with a `Flow` and a first phase (`started` of
+//! specs/Flow); whenever its phase has ended, `next` of specs/Next says what it does: go on with another phase
+//! (`More`), go on waiting (`Wait`), or end (`End`). Nothing here knows of nodes, messages or quorums; the
+//! coordinator's clock is all that a flow is told of its cluster.
+//!
+//! In specs/: the rows that requests store (`Rows`), the blocks that bytes are cut into (`Blocks`), what a row says
+//! of its object and a version row of its blocks (`Says`), and the two functions (`Flow`, `Next`). The types are
+//! shared by the definitions and by the code that does what they say.
+#![tactic(auto)]
+
+mod flow;
+mod order;
+
+pub use flow::{Aim, Content, Flow, FlowEnd, FlowStep, Name, Stage, Wish};
+pub use order::Order;
