@@ -2,11 +2,11 @@
 use Rattle.std.proofs.Common.{◌≡◌, ℕ, zero, suc, ◌<◌, ◌≤◌, Bool, true, false, ◌&&◌, cond, List, Option, Some, None, is_some, nat_lt, length, slice_get, inl, inr, refl, ap, sym, ◌∙◌, arith}
 use Rattle.std.proofs.lemmas.Bool.{cases_lt, le-ltb, and_right}
 use Rattle.crdt_rows.specs.declared.version.Version.{Version}
-use Rattle.world_history.specs.declared.record.Kind.{Kind}
-use Rattle.world_history.specs.declared.record.Record.{Record}
-use Rattle.world_history.specs.declared.record.Record.TheVariants.{Began, Finished, Ended}
-use Rattle.world_history.specs.Record.{is_read, is_write, finish, acknowledged, is_some_with, begins, names, same_bytes}
-use Rattle.world_history.specs.Pairs.{is_owed, is_pair, sum_below, count_below, pair_count}
+use Rattle.history_model.specs.declared.record.Kind.{Kind}
+use Rattle.history_model.specs.declared.record.Record.{Record}
+use Rattle.history_model.specs.declared.record.Record.TheVariants.{Began, Finished, Ended}
+use Rattle.history_model.specs.Record.{is_read, is_write, finish, acknowledged, is_some_with, begins, names, same_bytes}
+use Rattle.history_model.specs.Pairs.{is_owed, is_pair, sum_below, count_below, pair_count}
 use Rattle.world_history.specs.Checks.{owed_of, owed}
 use Rattle.world_history.proofs.Places.{acknowledged-later}
 

@@ -6,12 +6,12 @@ use Rattle.std.proofs.lemmas.Bool.Decides.{Decides-like, Decides-eqb, Decides-an
 use Rattle.std.proofs.lemmas.Option.{slice_get_within}
 use Rattle.std.proofs.lemmas.Slice.Eq.{bytes_eq-Decides}
 use Rattle.crdt_rows.specs.declared.version.Version.{Version}
-use Rattle.world_history.specs.declared.record.Kind.{Kind}
-use Rattle.world_history.specs.declared.record.Answer.{Answer}
-use Rattle.world_history.specs.declared.record.Record.{Record}
-use Rattle.world_history.specs.declared.record.Record.TheVariants.{Began}
-use Rattle.world_history.specs.Record.{is_read, is_write, is_delete, is_source, finish, acknowledged, BeganAt, names, shown, Shows}
-use Rattle.world_history.specs.Fresh.{Below, IsRead, IsAcknowledged, IsDeleted, IsWritten, Covers, IsFreshRead, Fresh}
+use Rattle.history_model.specs.declared.record.Kind.{Kind}
+use Rattle.history_model.specs.declared.record.Answer.{Answer}
+use Rattle.history_model.specs.declared.record.Record.{Record}
+use Rattle.history_model.specs.declared.record.Record.TheVariants.{Began}
+use Rattle.history_model.specs.Record.{is_read, is_write, is_delete, is_source, finish, acknowledged, BeganAt, names, shown, Shows}
+use Rattle.history_model.specs.Fresh.{Below, IsRead, IsAcknowledged, IsDeleted, IsWritten, Covers, IsFreshRead, Fresh}
 use Rattle.world_history.specs.Checks.{all_below, deletes_at, is_deleted, writes_at, is_written, shows, shows_below, covers, covers_at, covers_all, is_written_if_named, shows_written, fresh_at}
 use Rattle.world_history.proofs.Below.{any_below-Decides, all_below-Decides}
 use Rattle.world_history.proofs.Places.{acknowledged-later}

@@ -10,13 +10,13 @@ use Rattle.crdt_core.specs.LexLaws.{turned}
 use Rattle.crdt_rows.specs.declared.version.Version.{Version}
 use Rattle.crdt_rows.specs.Version.{version_cmp}
 use Rattle.crdt_rows.specs.FieldLaws.{version_identical, version_total}
-use Rattle.world_history.specs.declared.record.Kind.{Kind}
-use Rattle.world_history.specs.declared.record.Kind.TheVariants.{Put, Get, Head, Delete, Copy, List as Listing}
-use Rattle.world_history.specs.declared.record.Answer.{Answer}
-use Rattle.world_history.specs.declared.record.Record.{Record}
-use Rattle.world_history.specs.declared.record.Record.TheVariants.{Began, Finished, Ended}
-use Rattle.world_history.specs.Record.{is_write, is_list, acknowledged, names, same_bytes}
-use Rattle.world_history.specs.Fresh.{Below, IsAcknowledged, Covers}
+use Rattle.history_model.specs.declared.record.Kind.{Kind}
+use Rattle.history_model.specs.declared.record.Kind.TheVariants.{Put, Get, Head, Delete, Copy, List as Listing}
+use Rattle.history_model.specs.declared.record.Answer.{Answer}
+use Rattle.history_model.specs.declared.record.Record.{Record}
+use Rattle.history_model.specs.declared.record.Record.TheVariants.{Began, Finished, Ended}
+use Rattle.history_model.specs.Record.{is_write, is_list, acknowledged, names, same_bytes}
+use Rattle.history_model.specs.Fresh.{Below, IsAcknowledged, Covers}
 use Rattle.world_history.specs.Checks.{is_below, covers, covers_all, version_before, version_at_of, version_at, newer_of, IsNewestBelow}
 use Rattle.world_history.proofs.Parts.{is_below-Decides}
 use Rattle.world_history.proofs.Places.{acknowledged-later}

@@ -8,11 +8,11 @@ use Rattle.std.proofs.lemmas.Bool.Decides.{Decides-by_and, Decides-like, Decides
 use Rattle.std.proofs.lemmas.List.Elements.{All-contains, Contains-get_or}
 use Rattle.std.proofs.lemmas.List.Folds.{Any-from_list_any, list_any-from_Any}
 use Rattle.crdt_rows.specs.declared.version.Version.{Version}
-use Rattle.world_history.specs.declared.record.Kind.{Kind}
-use Rattle.world_history.specs.declared.record.Record.{Record}
-use Rattle.world_history.specs.declared.record.Record.TheVariants.{Began, Finished, Ended}
-use Rattle.world_history.specs.Record.{begins, is_some_with}
-use Rattle.world_history.specs.Fresh.{Below}
+use Rattle.history_model.specs.declared.record.Kind.{Kind}
+use Rattle.history_model.specs.declared.record.Record.{Record}
+use Rattle.history_model.specs.declared.record.Record.TheVariants.{Began, Finished, Ended}
+use Rattle.history_model.specs.Record.{begins, is_some_with}
+use Rattle.history_model.specs.Fresh.{Below}
 use Rattle.world_history.specs.Checks.{is_none_or, is_below, same_version}
 
 -- a test decides that it passes

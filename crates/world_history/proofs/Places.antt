@@ -2,9 +2,9 @@
 use Rattle.std.proofs.Common.{◌≡◌, ℕ, ◌+◌, ◌<◌, List, Option, Some, None, option_map, ap, arith}
 use Rattle.std.proofs.lemmas.Option.{option_and_then_some}
 use Rattle.crdt_rows.specs.declared.version.Version.{Version}
-use Rattle.world_history.specs.declared.record.Answer.{Answer}
-use Rattle.world_history.specs.declared.record.Record.{Record}
-use Rattle.world_history.specs.Record.{version_of, next, finish_at, finish, acknowledged}
+use Rattle.history_model.specs.declared.record.Answer.{Answer}
+use Rattle.history_model.specs.declared.record.Record.{Record}
+use Rattle.history_model.specs.Record.{version_of, next, finish_at, finish, acknowledged}
 
 mapped : {A B : Type 0} (f : A → B) (o : Option A) (y : B) → option_map f o ≡ Some y → (x : A) × (f x ≡ y)
 mapped f None y e = cc

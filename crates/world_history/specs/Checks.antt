@@ -5,12 +5,12 @@ use Rattle.std.specs.List.{list_any, list_all}
 use Rattle.std.specs.Ordering.{is_lt}
 use Rattle.crdt_rows.specs.declared.version.Version.{Version}
 use Rattle.crdt_rows.specs.Version.{version_cmp}
-use Rattle.world_history.specs.declared.record.Kind.{Kind}
-use Rattle.world_history.specs.declared.record.Answer.{Answer}
-use Rattle.world_history.specs.declared.record.Record.{Record}
-use Rattle.world_history.specs.declared.record.Record.TheVariants.{Began, Finished, Ended}
-use Rattle.world_history.specs.Record.{is_read, is_write, is_delete, is_source, finish, acknowledged, names, shown, is_some_with, begins, same_bytes}
-use Rattle.world_history.specs.Pairs.{is_owed, count_below}
+use Rattle.history_model.specs.declared.record.Kind.{Kind}
+use Rattle.history_model.specs.declared.record.Answer.{Answer}
+use Rattle.history_model.specs.declared.record.Record.{Record}
+use Rattle.history_model.specs.declared.record.Record.TheVariants.{Began, Finished, Ended}
+use Rattle.history_model.specs.Record.{is_read, is_write, is_delete, is_source, finish, acknowledged, names, shown, is_some_with, begins, same_bytes}
+use Rattle.history_model.specs.Pairs.{is_owed, count_below}
 
 -- some number below n passes
 abbrev pub any_below : (ℕ → Bool) → ℕ → Bool

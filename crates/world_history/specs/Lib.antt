@@ -1,5 +1,2 @@
 pub mod Checks
 pub mod Finish
-pub mod Fresh
-pub mod Pairs
-pub mod Record

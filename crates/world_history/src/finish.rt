@@ -1,9 +1,9 @@
 //! Where a request finished, and with what.
 ghost use Rattle.std.specs.Prelude.{◌≡◌, ◌==◌, ◌<◌, length, option_map, position};
-ghost use Rattle.world_history.specs.Record.{request_of, next, finish, acknowledged};
+ghost use Rattle.history_model.specs.Record.{request_of, next, finish, acknowledged};
 ghost use Rattle.world_history.specs.Finish.{lent_finish};
 
-use crate::record::{Answer, Record};
+use history_model::{Answer, Record};
 use crdt_rows::Version;
 
 // The place of the first record that speaks of a request.

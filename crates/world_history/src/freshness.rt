@@ -1,11 +1,11 @@
 //! Whether each finished read of a history is fresh.
 ghost use Rattle.std.specs.Prelude.{◌≡◌, ◌<◌, ◌↔◌, length, IsTrue};
 ghost use Rattle.world_history.specs.Checks.{all_below, fresh_at};
-ghost use Rattle.world_history.specs.Fresh.{Fresh};
+ghost use Rattle.history_model.specs.Fresh.{Fresh};
 
 use crate::finish::finish;
 use crate::read::Read;
-use crate::record::{History, Record};
+use history_model::{History, Record};
 
 // Whether the read that began at this place, if one did and finished, is fresh.
 fn fresh_at(records: &[Record], i: usize) -> bool

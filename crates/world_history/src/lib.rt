@@ -16,8 +16,7 @@ mod finish;
 mod freshness;
 mod pair_count;
 mod read;
-mod record;
 
 pub use freshness::fresh;
 pub use pair_count::pairs;
-pub use record::{Answer, Cause, History, Kind, Record};
+pub use history_model::{Answer, Cause, History, Kind, Record};

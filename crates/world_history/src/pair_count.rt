@@ -1,11 +1,11 @@
 //! How much there is to check in a history.
 ghost use Rattle.std.specs.Prelude.{◌≡◌, ◌<◌, ◌-◌, ◌^◌, ◌≤◌, length, min};
-ghost use Rattle.world_history.specs.Pairs.{is_owed, count_below, pair_count};
+ghost use Rattle.history_model.specs.Pairs.{is_owed, count_below, pair_count};
 ghost use Rattle.world_history.specs.Checks.{owed};
 
 use crate::finish::{acknowledged, finish};
 use crate::read::names;
-use crate::record::{History, Kind, Record};
+use history_model::{History, Kind, Record};
 use crdt_core::Bytes;
 
 // Whether a write of a key that the read names began at this place, and was acknowledged before place i.

@@ -1,11 +1,11 @@
 //! A finished read, and what it owes.
 ghost use Rattle.std.specs.Prelude.{◌≡◌, ◌<◌, ◌≤◌, length};
-ghost use Rattle.world_history.specs.Record.{names};
+ghost use Rattle.history_model.specs.Record.{names};
 ghost use Rattle.world_history.specs.Checks.{deletes_at, is_deleted, writes_at, is_written, shows, shows_below, covers, covers_at, covers_all, version_at, newer_of, IsNewestBelow, is_written_if_named, shows_written};
 ghost use Rattle.std.specs.List.{list_all};
 
 use crate::finish::acknowledged;
-use crate::record::{Answer, Kind, Record};
+use history_model::{Answer, Kind, Record};
 use crdt_core::Bytes;
 use crdt_rows::Version;
 

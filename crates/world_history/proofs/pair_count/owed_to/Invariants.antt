@@ -1,5 +1,5 @@
 use Rattle.std.proofs.Common.{◌≡◌, ◌≤◌}
-use Rattle.world_history.specs.Pairs.{is_owed, count_below}
+use Rattle.history_model.specs.Pairs.{is_owed, count_below}
 use Rattle.world_history.proofs.pair_count.owed_to.Given as goal
 
 abbrev pub invariant-loop-place : goal.invariant-loop-place

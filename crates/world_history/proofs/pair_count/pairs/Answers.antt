@@ -1,5 +1,5 @@
 use Rattle.std.proofs.Common.{◌≡◌, ◌^◌, ◌-◌, length, min, ap, ◌∙◌, arith}
-use Rattle.world_history.specs.Pairs.{sum_below, pair_count}
+use Rattle.history_model.specs.Pairs.{sum_below, pair_count}
 use Rattle.world_history.specs.Checks.{owed}
 use Rattle.world_history.proofs.Counts.{owed-pairs}
 use Rattle.world_history.proofs.pair_count.pairs.Goals as goal

@@ -1,5 +1,5 @@
 use Rattle.std.proofs.Common.{◌≡◌, ◌^◌, ◌-◌, min}
-use Rattle.world_history.specs.Pairs.{sum_below}
+use Rattle.history_model.specs.Pairs.{sum_below}
 use Rattle.world_history.specs.Checks.{owed}
 use Rattle.world_history.proofs.pair_count.pairs.Given as goal
 

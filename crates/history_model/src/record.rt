@@ -1,6 +1,6 @@
 //! What a history consists of.
 ghost use Rattle.std.specs.Prelude.{◌≡◌};
-ghost use Rattle.world_history.specs.Record.{request_of, is_read, is_write, is_list, is_delete, is_source};
+ghost use Rattle.history_model.specs.Record.{request_of, is_read, is_write, is_list, is_delete, is_source};
 
 use crdt_core::{Bytes, List};
 use crdt_rows::Version;
@@ -62,7 +62,8 @@ pub enum Record {
 pub struct History(pub List<Record>);
 
 impl Kind {
-    pub(crate) fn is_read(self) -> bool
+    /// Whether it shows what is there and changes nothing.
+    pub fn is_read(self) -> bool
         ensures { result ≡ is_read self }
     {
         match self {
@@ -71,7 +72,8 @@ impl Kind {
         }
     }
 
-    pub(crate) fn is_write(self) -> bool
+    /// Whether it makes a version.
+    pub fn is_write(self) -> bool
         ensures { result ≡ is_write self }
     {
         match self {
@@ -80,7 +82,8 @@ impl Kind {
         }
     }
 
-    pub(crate) fn is_list(self) -> bool
+    /// Whether it shows keys of a bucket.
+    pub fn is_list(self) -> bool
         ensures { result ≡ is_list self }
     {
         match self {
@@ -89,7 +92,8 @@ impl Kind {
         }
     }
 
-    pub(crate) fn is_delete(self) -> bool
+    /// Whether it makes a delete marker.
+    pub fn is_delete(self) -> bool
         ensures { result ≡ is_delete self }
     {
         match self {
@@ -98,8 +102,8 @@ impl Kind {
         }
     }
 
-    // Whether it makes versions that a read can show.
-    pub(crate) fn is_source(self) -> bool
+    /// Whether it makes versions that a read can show.
+    pub fn is_source(self) -> bool
         ensures { result ≡ is_source self }
     {
         match self {
@@ -110,8 +114,8 @@ impl Kind {
 }
 
 impl Record {
-    // The number of the request that it speaks of.
-    pub(crate) fn request(&self) -> u64
+    /// The number of the request that it speaks of.
+    pub fn request(&self) -> u64
         ensures { result ≡ request_of self.now }
     {
         match self {

@@ -1,8 +1,8 @@
 -- How many pairs there are of a finished read and a write that it owes something.
 use Rattle.std.specs.Prelude.{ℕ, zero, suc, ◌+◌, nat_lt, Bool, ◌&&◌, if◌then◌else◌, is_some, List, length, slice_get}
-use Rattle.world_history.specs.declared.record.Kind.{Kind}
-use Rattle.world_history.specs.declared.record.Record.{Record}
-use Rattle.world_history.specs.Record.{is_read, is_write, finish, acknowledged, is_some_with, begins, same_bytes, names}
+use Rattle.history_model.specs.declared.record.Kind.{Kind}
+use Rattle.history_model.specs.declared.record.Record.{Record}
+use Rattle.history_model.specs.Record.{is_read, is_write, finish, acknowledged, is_some_with, begins, same_bytes, names}
 
 -- at place b a write began of a key that the read names, and was acknowledged before place i
 abbrev pub is_owed : List Record → ℕ → Kind → List ℕ → List ℕ → ℕ → Bool

@@ -3,10 +3,10 @@ use Rattle.std.specs.Prelude.{◌≡◌, ℕ, ◌<◌, IsTrue, Some, List}
 use Rattle.std.specs.declared.cmp.Ordering.TheVariants.{Less}
 use Rattle.crdt_rows.specs.declared.version.Version.{Version}
 use Rattle.crdt_rows.specs.Version.{version_cmp}
-use Rattle.world_history.specs.declared.record.Kind.{Kind}
-use Rattle.world_history.specs.declared.record.Answer.{Answer}
-use Rattle.world_history.specs.declared.record.Record.{Record}
-use Rattle.world_history.specs.Record.{is_read, is_write, is_delete, is_source, finish, acknowledged, BeganAt, names, Shows}
+use Rattle.history_model.specs.declared.record.Kind.{Kind}
+use Rattle.history_model.specs.declared.record.Answer.{Answer}
+use Rattle.history_model.specs.declared.record.Record.{Record}
+use Rattle.history_model.specs.Record.{is_read, is_write, is_delete, is_source, finish, acknowledged, BeganAt, names, Shows}
 
 -- v is older than w: by timestamp, and at a tie by identifier
 abbrev pub Below : Version → Version → Type 0

@@ -4,12 +4,12 @@ use Rattle.std.specs.List.{starts_with}
 use Rattle.std.specs.Option.{option_and_then}
 use Rattle.std.specs.Cmp.Lexicographic.{pointwise}
 use Rattle.crdt_rows.specs.declared.version.Version.{Version}
-use Rattle.world_history.specs.declared.record.Kind.{Kind}
-use Rattle.world_history.specs.declared.record.Kind.TheVariants.{Put, Get, Head, Delete, Copy, List as Listing}
-use Rattle.world_history.specs.declared.record.Answer.{Answer}
-use Rattle.world_history.specs.declared.record.Answer.TheVariants.{Version as Showing, None as Nothing, Listed}
-use Rattle.world_history.specs.declared.record.Record.{Record}
-use Rattle.world_history.specs.declared.record.Record.TheVariants.{Began, Finished, Ended}
+use Rattle.history_model.specs.declared.record.Kind.{Kind}
+use Rattle.history_model.specs.declared.record.Kind.TheVariants.{Put, Get, Head, Delete, Copy, List as Listing}
+use Rattle.history_model.specs.declared.record.Answer.{Answer}
+use Rattle.history_model.specs.declared.record.Answer.TheVariants.{Version as Showing, None as Nothing, Listed}
+use Rattle.history_model.specs.declared.record.Record.{Record}
+use Rattle.history_model.specs.declared.record.Record.TheVariants.{Began, Finished, Ended}
 
 -- the request reads
 abbrev pub is_read : Kind → Bool

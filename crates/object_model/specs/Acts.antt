@@ -1,0 +1,71 @@
+-- What may happen in a run, and the run of a list of it.
+use Rattle.std.specs.Prelude.{ℕ, ⊤, List, [], ◌∷◌, ◌++◌, map}
+use Rattle.crdt_rows.specs.declared.any_row.AnyRow.{AnyRow}
+use Rattle.crdt_rows.specs.AnyRow.{any_join}
+use Rattle.object_schema.specs.Schema.{words}
+use Rattle.cluster_machine.specs.declared.step.Step.{Step}
+use Rattle.cluster_machine.specs.declared.step.Step.TheVariants.{Deliver, Expire, Restart, Open, Phase, Close}
+use Rattle.cluster_machine.specs.Worlds.{Done as Effect, IsMeant, IsLawful, FitAll}
+use Rattle.history_model.specs.declared.record.Cause.TheVariants.{Expired, Restarted}
+use Rattle.history_model.specs.declared.record.Record.{Record}
+use Rattle.history_model.specs.declared.record.Record.TheVariants.{Ended}
+use Rattle.flow_model.specs.declared.order.Order.{Order}
+use Rattle.object_model.specs.Run.{Moving, State, Outcome, silent, effect, doing, begins, delivers, drains}
+
+-- a step of the world, a request at a node, a delivery, deliveries up to a number, a bucket, or a size of blocks
+pub data Act : Type 0 where
+  moves : Moving → Act
+  asks : ℕ → Order → Act
+  delivery : ℕ → Act
+  drain : ℕ → Act
+  adds : List ℕ → Act
+  cuts : ℕ → Act
+
+-- what the history has of requests that end by a step of the world
+abbrev pub endings : Step AnyRow → Effect AnyRow → List Record
+endings (Expire q) e = map (λ q. Ended q Expired) e.closes
+endings (Restart n) e = map (λ q. Ended q Restarted) e.lost
+endings st e = []
+
+-- one step and its lines are all
+abbrev pub plain : State → Moving → Outcome
+plain s m =
+    let e = effect s m in
+    record { state = record (doing s m) { history = s.history ++ endings m.step e }; moves = m ∷ []; new_versions = []; refused = e.refused; words = e.words; lines = e.tells }
+
+-- what comes of an act
+abbrev pub acted : State → Act → Outcome
+acted s (moves m) = plain s m
+acted s (asks n order) = begins s n order
+acted s (delivery m) = delivers s m
+acted s (drain n) = drains n s
+acted s (adds name) = silent (record s { buckets = s.buckets ++ name ∷ [] })
+acted s (cuts block) = silent (record s { block = block })
+
+-- the state after acts in order
+abbrev pub after_acts : State → List Act → State
+after_acts s [] = s
+after_acts s (a ∷ as') = after_acts (acted s a).state as'
+
+-- requests begin, go on and finish by themselves, and a delivery is an act of its own: no other step of the world is one of theirs
+abbrev pub IsOuter : Step AnyRow → Type 0
+IsOuter (Deliver m) = ⊥
+IsOuter (Open n) = ⊥
+IsOuter (Phase q phase) = ⊥
+IsOuter (Close q) = ⊥
+IsOuter st = ⊤
+
+-- the act may happen: a step of the world meets its conditions and is given what is lawful
+abbrev pub IsLawfulAct : State → Act → Type 0
+IsLawfulAct s (moves m) = IsOuter m.step × IsMeant m.step × IsLawful s.world m
+IsLawfulAct s a = ⊤
+
+-- each of these acts may happen when it does
+abbrev pub AreLawfulActs : State → List Act → Type 0
+AreLawfulActs s [] = ⊤
+AreLawfulActs s (a ∷ as') = IsLawfulAct s a × AreLawfulActs (acted s a).state as'
+
+-- after each step of the world every number fits, and every row that is sent has a spelling
+abbrev pub ActsFit : State → List Act → Type 0
+ActsFit s [] = ⊤
+ActsFit s (a ∷ as') = FitAll any_join words s.world (acted s a).moves × ActsFit (acted s a).state as'
