@@ -10,7 +10,7 @@ use Rattle.object_model.specs.Run.{State, is_bucket}
 use Rattle.object_model.specs.Fresh.{NoClash}
 use Rattle.object_laws.proofs.Sound.{IsSound}
 
-same_bytes : (xs ys : List ℕ) → pointwise nat_eq xs ys ≡ true → xs ≡ ys
+pub same_bytes : (xs ys : List ℕ) → pointwise nat_eq xs ys ≡ true → xs ≡ ys
 same_bytes [] [] e = refl
 same_bytes [] (y ∷ ys) e = cc
 same_bytes (x ∷ xs) [] e = cc

@@ -45,7 +45,7 @@ pub record CoversIn (value : Option AnyRow) (w : Version) : Type 0 where
 -- ---- members of a row
 
 module _ (table : ℕ) (key : List ℕ) where
-  abbrev Below : List AnyRow → AnyRow → Type 0
+  abbrev pub Below : List AnyRow → AnyRow → Type 0
   Below kept x = is_at words table key x ≡ true → AtMost (option_join any_join) (Some x) (row_at any_join words kept table key)
 
   first_below : (r : AnyRow) (older : List AnyRow) → Below (r ∷ older) r
@@ -56,7 +56,7 @@ module _ (table : ℕ) (key : List ℕ) where
   grown false r at = (option_laws any_laws).idempotent at
 
   -- each member at a place is at most the row there
-  members_below : (kept : List AnyRow) → All (Below kept) kept
+  pub members_below : (kept : List AnyRow) → All (Below kept) kept
   members_below [] = All-nil (Below [])
   members_below (r ∷ older) =
       let at = row_at any_join words older table key in
@@ -87,7 +87,7 @@ row_newest : AnyRow → Option Version
 row_newest (rows.Object r) = newest r
 row_newest _ = None
 
-apart : {A : Type 0} (m n : ℕ) → m < n → m ≡ n → A
+pub apart : {A : Type 0} (m n : ℕ) → m < n → m ≡ n → A
 apart m n lt e = absurd (omega arith)
 
 later_is : (r : ObjectRow) (b : AnyRow) → Same words (rows.Object r) b → AtMost any_join b (rows.Object r) → later version_cmp (newest r) (row_newest b) ≡ newest r

@@ -13,7 +13,7 @@ use Rattle.object_laws.proofs.Grown.{IsLater, Keeps, same_later, asked_later, pr
 use Rattle.object_laws.proofs.Reached.{reached_draws}
 
 -- the only element of a list
-only : {A : Type 0} (x y : A) → Contains (x ∷ []) y → x ≡ y
+pub only : {A : Type 0} (x y : A) → Contains (x ∷ []) y → x ≡ y
 only x y c = All-contains (λ z. x ≡ z) (x ∷ []) y (All-cons (λ z. x ≡ z) x [] refl (All-nil (λ z. x ≡ z))) c
 
 -- a request has its version now

@@ -43,7 +43,7 @@ use Rattle.object_laws.proofs.Beginning.{asks_fine, stores_fine}
 use Rattle.object_laws.proofs.Ending.{put_fresh, put_kept, finishes_keeps, gets_keeps}
 
 -- steps that fit, in two parts
-fit_parts : {R : Type 0} (join : R → R → R) (ws : Words R) (w : Model R) (first rest : List (Doing R)) → FitAll join ws w (first ++ rest) → FitAll join ws w first × FitAll join ws (world_run join ws w first) rest
+pub fit_parts : {R : Type 0} (join : R → R → R) (ws : Words R) (w : Model R) (first rest : List (Doing R)) → FitAll join ws w (first ++ rest) → FitAll join ws w first × FitAll join ws (world_run join ws w first) rest
 fit_parts join ws w [] rest fits = (tt, fits)
 fit_parts join ws w (m ∷ first) rest fits = let more = fit_parts join ws (next join ws w m) first rest fits.1 in ((fits.0, more.0), more.1)
 

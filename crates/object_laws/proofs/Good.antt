@@ -40,7 +40,7 @@ none : (row : AnyRow) → Contains [] row → IsOther row
 none row c = absurd (omega (arith, c.1))
 
 -- no row of an object is called for
-called_other : (old new row : AnyRow) → Contains (words.triggered old new) row → IsOther row
+pub called_other : (old new row : AnyRow) → Contains (words.triggered old new) row → IsOther row
 called_other (Object a) (Object b) row c = others deleted_version (λ v e. omega (arith, e)) (given_up a b) row c
 called_other (Object a) (Version b) row c = none row c
 called_other (Object a) (Ref b) row c = none row c

@@ -17,11 +17,11 @@ use Rattle.object_model.specs.Run.{World, Moving, Draw}
 use Rattle.object_laws.proofs.Good.{IsGood, more_good, good_inherited}
 use Rattle.object_laws.proofs.Sound.{IsReached}
 
-run_more : (w : World) (moves : List Moving) (m : Moving) → run any_join words w (moves ++ m ∷ []) ≡ next any_join words (run any_join words w moves) m
+pub run_more : (w : World) (moves : List Moving) (m : Moving) → run any_join words w (moves ++ m ∷ []) ≡ next any_join words (run any_join words w moves) m
 run_more w [] m = refl
 run_more w (first ∷ moves) m = run_more (next any_join words w first) moves m
 
-lawful_more : (w : World) (moves : List Moving) (m : Moving) → IsLawfulRun any_join words w moves → IsLawfulRun any_join words (run any_join words w moves) (m ∷ []) → IsLawfulRun any_join words w (moves ++ m ∷ [])
+pub lawful_more : (w : World) (moves : List Moving) (m : Moving) → IsLawfulRun any_join words w moves → IsLawfulRun any_join words (run any_join words w moves) (m ∷ []) → IsLawfulRun any_join words w (moves ++ m ∷ [])
 lawful_more w [] m h k = k
 lawful_more w (first ∷ moves) m h k = (h.0, h.1, h.2, h.3, lawful_more (next any_join words w first) moves m h.4 k)
 

@@ -67,16 +67,16 @@ pub record FoundIn (draws : List Draw) (name : Name) (v : Version) (written : Li
 -- ---- object rows of one key
 
 -- a row's key tells bucket and key
-key_parts : (a b : Hash32) (x y : List ℕ) → length a.0 ≡ 32 → length b.0 ≡ 32 → a.0 ++ x ≡ b.0 ++ y → (a ≡ b) × (x ≡ y)
+pub key_parts : (a b : Hash32) (x y : List ℕ) → length a.0 ≡ 32 → length b.0 ≡ 32 → a.0 ++ x ≡ b.0 ++ y → (a ≡ b) × (x ≡ y)
 key_parts a b x y p q e =
     let fronts : a.0 ≡ b.0 = sym (take_at a.0 x 32 p) ∙ (ap (take 32) e ∙ take_at b.0 y 32 q) in
     ((λ i. record { 0 = fronts i }), sym (drop_at a.0 x 32 p) ∙ (ap (drop 32) e ∙ drop_at b.0 y 32 q))
 
-digest_length : (name : List ℕ) → length (digest_of name).0 ≡ 32
+pub digest_length : (name : List ℕ) → length (digest_of name).0 ≡ 32
 digest_length name = length-blake2b 32 name (lit≤ tt)
 
 module _ (a b : ObjectRow) (same : Same words (rows.Object a) (rows.Object b)) where
-  one_key : object_key a ≡ object_key b
+  pub one_key : object_key a ≡ object_key b
   one_key =
       let parts = key_parts a.bucket b.bucket a.key b.key (schema_laws.position_is_32_bytes (rows.Object a) same.first_proper) (schema_laws.position_is_32_bytes (rows.Object b) same.second_proper) same.key in
       λ i. (parts.0 i, parts.1 i)
@@ -87,7 +87,7 @@ module _ (a b : ObjectRow) (same : Same words (rows.Object a) (rows.Object b)) w
 
 -- ---- merged rows, and rows that are called for
 
-unless_older : (old : Bool) (x : Option State) (s : State) → cond old None x ≡ Some s → x ≡ Some s
+pub unless_older : (old : Bool) (x : Option State) (s : State) → cond old None x ≡ Some s → x ≡ Some s
 unless_older true x s e = let no : None ≡ Some s = e in cc
 unless_older false x s e = e
 
@@ -97,7 +97,7 @@ one_by a b s Equal e = inl e
 one_by a b s Greater e = inl e
 
 -- the greater of two states is one of them
-one_of : (x y : Option State) (s : State) → option_join (larger state_cmp) x y ≡ Some s → (x ≡ Some s) ⊎ (y ≡ Some s)
+pub one_of : (x y : Option State) (s : State) → option_join (larger state_cmp) x y ≡ Some s → (x ≡ Some s) ⊎ (y ≡ Some s)
 one_of None y s e = inr e
 one_of (Some a) None s e = inl e
 one_of (Some a) (Some b) s e = one_by a b s (state_cmp a b) e
@@ -136,7 +136,7 @@ module _ (draws : List Draw) where
 
 -- ---- the row of a put
 
-only_state : (o : Ordering) (x : Max State) (s : State) → option_map (λ m. m.0) (by_order o None (Some x) None) ≡ Some s → (o ≡ Equal) × (s ≡ x.0)
+pub only_state : (o : Ordering) (x : Max State) (s : State) → option_map (λ m. m.0) (by_order o None (Some x) None) ≡ Some s → (o ≡ Equal) × (s ≡ x.0)
 only_state Less x s e = let no : None ≡ Some s = e in cc
 only_state Equal x s e = (refl, sym (some_is x.0 s e))
 only_state Greater x s e = let no : None ≡ Some s = e in cc

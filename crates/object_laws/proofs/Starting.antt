@@ -8,11 +8,11 @@ use Rattle.object_model.specs.Run.{found, began, finished, start}
 use Rattle.object_laws.proofs.Cuts.{at_cut}
 use Rattle.object_laws.proofs.Sound.{IsSound}
 
-no_entry : {A : Type 0} (q : ℕ) (x : A) → numbered [] q ≡ Some x → ⊥
+pub no_entry : {A : Type 0} (q : ℕ) (x : A) → numbered [] q ≡ Some x → ⊥
 no_entry zero x h = cc
 no_entry (suc i) x h = cc
 
-none_in : {A : Type 0} (x : A) → Contains [] x → ⊥
+pub none_in : {A : Type 0} (x : A) → Contains [] x → ⊥
 none_in x c = omega (arith, c.1)
 
 pub start_sound : IsSound start

@@ -1,76 +1,47 @@
--- Fresh reads: what each finished get, head and list owes to the writes that were acknowledged before it began.
-use Rattle.std.specs.Prelude.{◌≡◌, ◌≤◌, ℕ, IsTrue, Some, List}
+-- Fresh reads: what an answered get owes to the puts that were acknowledged before it began.
+use Rattle.std.specs.Prelude.{◌≡◌, ◌⊎◌, ◌<◌, ◌≤◌, ℕ, List, ◌∷◌, ◌++◌}
 use Rattle.std.specs.List.{Contains}
 use Rattle.blake2_hash.specs.Blake2b.{blake2b}
-use Rattle.blake2_hash.specs.Hash.{digest_of}
 use Rattle.crdt_rows.specs.declared.version.Version.{Version}
-use Rattle.crdt_rows.specs.declared.object_row.ObjectRow.{ObjectRow}
-use Rattle.crdt_rows.specs.declared.any_row.AnyRow.{AnyRow}
-use Rattle.crdt_rows.specs.declared.any_row.AnyRow.TheVariants as rows
-use Rattle.wire_messages.specs.declared.phase.PhaseEnd.{PhaseEnd}
-use Rattle.wire_messages.specs.declared.phase.PhaseEnd.TheVariants.{Row, Window, Kept, Block}
-use Rattle.history_model.specs.declared.record.Kind.{Kind}
-use Rattle.history_model.specs.declared.record.Answer.{Answer}
-use Rattle.history_model.specs.declared.record.Record.{Record}
-use Rattle.history_model.specs.Record.{is_read, is_source, finish, BeganAt, names, Shows}
-use Rattle.history_model.specs.Fresh.{Below, IsAcknowledged}
-use Rattle.flow_model.specs.Says.{said_by, marked}
-use Rattle.object_model.specs.Run.{Draw, Saw, State}
+use Rattle.cluster_machine.specs.declared.line.DoneWord.TheVariants.{Put, Get}
+use Rattle.object_model.specs.Object.{Name}
+use Rattle.object_model.specs.Run.{State, Answer, stored, found, nothing, Record, began, finished, Draw}
 
--- a phase gave this row
-abbrev pub Gave : PhaseEnd AnyRow → AnyRow → Type 0
-Gave (Row value) r = value ≡ Some r
-Gave (Window rs end) r = Contains rs r
-Gave Kept r = ⊥
-Gave (Block bytes) r = ⊥
+-- b is not older than a: by timestamp, then by identifier
+abbrev pub IsUpTo : Version → Version → Type 0
+IsUpTo a b = (a.ts < b.ts) ⊎ ((a.ts ≡ b.ts) × (a.id ≤ b.id))
 
--- a phase of request q gave the object's row, whose newest complete version is a delete marker that is not below w
-pub record IsMarked (saw : List Saw) (q : ℕ) (bucket key : List ℕ) (w : Version) : Type 0 where
-  pub end : PhaseEnd AnyRow
-  pub was_seen : Contains saw (record { request = q; end = end })
-  pub row : ObjectRow
-  pub gave : Gave end (rows.Object row)
-  pub bucket_is : row.bucket ≡ digest_of bucket
-  pub key_is : row.key ≡ key
-  pub version : Version
-  pub says : said_by row ≡ marked version
-  pub not_below : ¬ Below version w
+-- a put of this object finished with this version
+pub record IsAcknowledged (history : List Record) (name : Name) (version : Version) : Type 0 where
+  pub request : ℕ
+  pub node : ℕ
+  pub has_begun : Contains history (began request node Put name)
+  pub has_finished : Contains history (finished request (stored version))
 
--- what request q shows of the key covers w: each version that it shows isn't below, and if it shows none, a marker explains it
-pub record Covers (saw : List Saw) (q : ℕ) (bucket own : List ℕ) (answer : Answer) (key : List ℕ) (w : Version) : Type 0 where
-  pub versions : (v : Version) → Shows own answer key v → ¬ Below v w
-  pub none : ((v : Version) → ¬ Shows own answer key v) → IsMarked saw q bucket key w
+-- the answer is a version that is not below this one
+abbrev pub Covers : Answer → Version → Type 0
+Covers (stored v) w = ⊥
+Covers (found v bytes) w = IsUpTo w v
+Covers nothing w = ⊥
 
--- before place j the request with the version's identifier, a put or copy of this object, drew this version
-pub record IsDrawn (s : State) (j : ℕ) (bucket key : List ℕ) (version : Version) : Type 0 where
-  pub draw : Draw
-  pub drawn : Contains s.draws draw
-  pub version_is : draw.version ≡ version
-  pub request_is : draw.request ≡ version.id
-  pub name_is : draw.name ≡ record { bucket = bucket; key = key }
-  pub kind : Kind
-  pub is_source : IsTrue (is_source kind)
-  pub place : ℕ
-  pub began : BeganAt s.history place version.id kind bucket key
-  pub before : draw.moment ≤ j
+-- this version was drawn by the request with its identifier, a put of this object, which wrote these bytes
+pub record IsDrawn (draws : List Draw) (history : List Record) (name : Name) (version : Version) (bytes : List ℕ) : Type 0 where
+  pub node : ℕ
+  pub has_begun : Contains history (began version.id node Put name)
+  pub draw : Contains draws (record { request = version.id; name = name; version = version; bytes = bytes })
 
 -- no two of these names have one digest
 abbrev pub NoClash : List (List ℕ) → Type 0
 NoClash names = (a b : List ℕ) → Contains names a → Contains names b → blake2b 32 a ≡ blake2b 32 b → a ≡ b
 
--- request q, which read this key of this bucket, began at place i and finished at place j with this answer
-pub record IsRead (h : List Record) (i j q : ℕ) (kind : Kind) (bucket own : List ℕ) (answer : Answer) : Type 0 where
-  pub reads : IsTrue (is_read kind)
-  pub began : BeganAt h i q kind bucket own
-  pub finished : finish h i q ≡ Some (j, answer)
-
--- what a read owes
-pub record IsFreshRead (s : State) (i j q : ℕ) (kind : Kind) (bucket own : List ℕ) (answer : Answer) : Type 0 where
-  -- for each key that it names, it covers each version with which a write of it was acknowledged before it began
-  pub covers : (key : List ℕ) (w : Version) → IsTrue (names kind own key) → IsAcknowledged s.history i bucket key w → Covers s.saw q bucket own answer key w
-  -- where the buckets' names have different digests, each version that it shows for a key that it names was drawn before it finished, by a put or copy of that key
-  pub written : NoClash s.buckets → (key : List ℕ) (v : Version) → IsTrue (names kind own key) → Shows own answer key v → IsDrawn s j bucket key v
-
--- each finished read is fresh
-abbrev pub IsFresh : State → Type 0
-IsFresh s = (i j q : ℕ) (kind : Kind) (bucket own : List ℕ) (answer : Answer) → IsRead s.history i j q kind bucket own answer → IsFreshRead s i j q kind bucket own answer
+-- gets are fresh and give what was put
+pub record IsFresh (s : State) : Type 0 where
+  -- each finished get covers each version with which a put of its object was acknowledged before it began
+  pub newest : (before between after : List Record) (q n : ℕ) (name : Name) (answer : Answer) (version : Version) →
+      s.history ≡ before ++ began q n Get name ∷ between ++ finished q answer ∷ after →
+      IsAcknowledged before name version → Covers answer version
+  -- where the buckets' names have different digests, what a finished get found was written by a put of its object that
+  -- began before the get finished
+  pub written : NoClash s.buckets → (before after : List Record) (q n : ℕ) (name : Name) (version : Version) (bytes : List ℕ) →
+      s.history ≡ before ++ finished q (found version bytes) ∷ after →
+      Contains before (began q n Get name) → IsDrawn s.draws before name version bytes

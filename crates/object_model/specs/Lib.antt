@@ -1,7 +1,4 @@
-pub mod Orders
-pub mod Answers
+pub mod Object
 pub mod Run
-pub mod Acts
-pub mod Events
 pub mod Turns
 pub mod Fresh

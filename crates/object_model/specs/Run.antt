@@ -1,14 +1,15 @@
--- The state of a run, and what requests do in it.
-use Rattle.std.specs.Prelude.{ℕ, zero, suc, ◌-◌, Bool, true, false, ◌&&◌, ◌||◌, nat_eq, if◌then◌else◌, Option, Some, None, List, [], ◌∷◌, ◌++◌, length, slice_set}
+-- The run of a schedule: its state, one event, and a list of turns.
+use Rattle.std.specs.Prelude.{◌≡◌, ℕ, zero, suc, ◌-◌, ◌%◌, max, Bool, true, false, ◌||◌, nat_eq, if◌then◌else◌, Option, Some, None, List, [], ◌∷◌, ◌++◌, length, slice_set}
 use Rattle.std.specs.Cmp.Lexicographic.{pointwise}
+use Rattle.md5.specs.Md5.{md5}
 use Rattle.layout_roles.specs.declared.cut.Cut.{Cut}
 use Rattle.crdt_rows.specs.declared.version.Version.{Version}
 use Rattle.crdt_rows.specs.declared.any_row.AnyRow.{AnyRow}
 use Rattle.crdt_rows.specs.AnyRow.{any_join}
 use Rattle.object_schema.specs.Schema.{words}
-use Rattle.wire_messages.specs.declared.phase.Phase.{Phase}
+use Rattle.wire_messages.specs.declared.phase.Phase.TheVariants.{Read, Store}
 use Rattle.wire_messages.specs.declared.phase.PhaseEnd.{PhaseEnd}
-use Rattle.wire_messages.specs.declared.phase.PhaseEnd.TheVariants.{Row}
+use Rattle.wire_messages.specs.declared.phase.PhaseEnd.TheVariants.{Row as Answered, Kept}
 use Rattle.cluster_machine.specs.declared.step.Step.{Step}
 use Rattle.cluster_machine.specs.declared.step.Step.TheVariants as step
 use Rattle.cluster_machine.specs.declared.step.Refusal.{Refusal}
@@ -16,28 +17,21 @@ use Rattle.cluster_machine.specs.declared.step.Refusal.TheVariants.{VersionLimit
 use Rattle.cluster_machine.specs.declared.step.Words.{Words}
 use Rattle.cluster_machine.specs.declared.step.Words.TheVariants.{Empty, One}
 use Rattle.cluster_machine.specs.declared.line.Line.{Line}
+use Rattle.cluster_machine.specs.declared.line.Line.TheVariants.{Done}
+use Rattle.cluster_machine.specs.declared.line.DoneWord.{DoneWord}
+use Rattle.cluster_machine.specs.declared.line.DoneWord.TheVariants.{Put as WordPut, Get as WordGet}
 use Rattle.cluster_machine.specs.Node.{Ended}
 use Rattle.cluster_machine.specs.World.{empty, clock, is_member_at, numbered, undelivered}
 use Rattle.cluster_machine.specs.Step.{none_given}
 use Rattle.cluster_machine.specs.Layouts.{layouts}
 use Rattle.cluster_machine.specs.declared.applied.Applied.{Applied}
-use Rattle.cluster_machine.specs.Worlds.{Model, Doing, Done as Effect, does, next as world_after}
-use Rattle.history_model.specs.declared.record.Kind.{Kind}
-use Rattle.history_model.specs.declared.record.Record.{Record}
-use Rattle.history_model.specs.declared.record.Record.TheVariants.{Began}
-use Rattle.flow_model.specs.declared.order.Order.{Order}
-use Rattle.flow_model.specs.declared.flow.Name.{Name}
-use Rattle.flow_model.specs.declared.flow.Wish.{Wish}
-use Rattle.flow_model.specs.declared.flow.Stage.{Stage}
-use Rattle.flow_model.specs.declared.flow.Stage.TheVariants.{Drawing}
-use Rattle.flow_model.specs.declared.flow.Flow.{Flow}
-use Rattle.flow_model.specs.declared.flow.FlowStep.{FlowStep}
-use Rattle.flow_model.specs.declared.flow.FlowStep.TheVariants.{More, Wait, End}
-use Rattle.flow_model.specs.declared.flow.FlowEnd.{FlowEnd}
-use Rattle.flow_model.specs.Flow.{started}
-use Rattle.flow_model.specs.Next.{drawn, next}
-use Rattle.object_model.specs.Orders.{kind_of, name_of, buckets_of}
-use Rattle.object_model.specs.Answers.{record_of, line_of}
+use Rattle.cluster_machine.specs.Choices.{Decision}
+use Rattle.cluster_machine.specs.Worlds.{Model, Doing, Done as Effect, does, next}
+use Rattle.object_model.specs.declared.event.Event.{Event}
+use Rattle.object_model.specs.declared.event.Event.TheVariants.{Trio, Bucket, Role, Redundancy, Apply, Tick, Put, Get, Deliver, Drain, Expire, Gossip, Ack, Sync, SyncAck, Clean}
+use Rattle.object_model.specs.declared.event.Numbered.{Numbered}
+use Rattle.blake2_hash.specs.Hash.{digest_of}
+use Rattle.object_model.specs.Object.{Name, row_key, object, greatest_ts, Newest, absent, inline, in_blocks, newest_of}
 
 -- worlds of the machine over the rows of the object store
 abbrev pub World : Type 0
@@ -47,45 +41,49 @@ World = Model AnyRow
 abbrev pub Moving : Type 0
 Moving = Doing AnyRow
 
--- what a request does, for which object, at which node, and what it waits for; nothing once it has ended by itself
-pub record Asked : Type 0 where
+-- what a request was asked for, at which node; a put has its version once it has drawn one
+pub record Order : Type 0 where
   pub node : ℕ
-  pub kind : Kind
+  pub word : DoneWord
   pub name : Name
-  pub flow : Option Flow
+  pub bytes : List ℕ
+  pub version : Option Version
 
--- a write drew its version, to make this of its object, when the history had so many records
+-- how a request finished
+pub data Answer : Type 0 where
+  stored : Version → Answer
+  found : Version → List ℕ → Answer
+  nothing : Answer
+
+-- what the history has of a request
+pub data Record : Type 0 where
+  began : ℕ → ℕ → DoneWord → Name → Record  -- request, node
+  finished : ℕ → Answer → Record
+
+-- a put drew its version, to write these bytes
 pub record Draw : Type 0 where
   pub request : ℕ
   pub name : Name
   pub version : Version
-  pub wish : Wish
-  pub moment : ℕ
+  pub bytes : List ℕ
 
--- a phase of a request ended, and what it gave
-pub record Saw : Type 0 where
-  pub request : ℕ
-  pub end : PhaseEnd AnyRow
-
--- the world, the buckets and the size of blocks, the requests, and the history: what was begun and how it ended, which versions were drawn, and what phases gave
+-- the world, the buckets, the orders of its requests, and the history of puts and gets
 pub record State : Type 0 where
   pub world : World
   pub buckets : List (List ℕ)
-  pub block : ℕ
-  pub asked : List Asked  -- request q at place q - 1
+  pub orders : List Order  -- of request q at place q - 1
   pub history : List Record  -- the oldest first
   pub draws : List Draw  -- the newest first
-  pub saw : List Saw  -- the newest first
 
--- nothing has happened; blocks have a mebibyte
+-- nothing has happened
 abbrev pub start : State
-start = record { world = empty; buckets = []; block = 1048576; asked = []; history = []; draws = []; saw = [] }
+start = record { world = empty; buckets = []; orders = []; history = []; draws = [] }
 
--- the state after something happened, the steps of the world that it was, and what it told
+-- the state after an event, the steps of the world that it was, and what it told
 pub record Outcome : Type 0 where
   pub state : State
   pub moves : List Moving
-  pub new_versions : List Version  -- that writes drew
+  pub new_versions : List Version  -- that puts drew
   pub refused : Option (Refusal Cut)
   pub words : Words
   pub lines : List (Line Applied)
@@ -108,115 +106,125 @@ effect s m = does any_join words s.world m
 
 -- the state after a step of the world
 abbrev pub doing : State → Moving → State
-doing s m = record s { world = world_after any_join words s.world m }
+doing s m = record s { world = next any_join words s.world m }
+
+-- one step and its lines are all that the event is
+abbrev pub plain : State → Moving → Outcome
+plain s m =
+    let e = effect s m in
+    record { state = doing s m; moves = m ∷ []; new_versions = []; refused = e.refused; words = e.words; lines = e.tells }
+
+-- the bytes of an object: size many, the first one fill, modulo 251
+abbrev pub object_bytes : ℕ → ℕ → List ℕ
+object_bytes zero fill = []
+object_bytes (suc size) fill = fill % 251 ∷ object_bytes size (suc fill)
 
 -- the bucket was made
 abbrev pub is_bucket : List (List ℕ) → List ℕ → Bool
 is_bucket [] name = false
 is_bucket (b ∷ bs) name = pointwise nat_eq b name || is_bucket bs name
 
--- each of these buckets was made
-abbrev pub are_buckets : List (List ℕ) → List (List ℕ) → Bool
-are_buckets buckets [] = true
-are_buckets buckets (name ∷ names) = is_bucket buckets name && are_buckets buckets names
+-- the read phase of an object's row
+abbrev pub asks : ℕ → Name → Moving
+asks q name = plainly (step.Phase q (Read 1 (digest_of name.bucket) (row_key name)))
 
--- the step by which a phase of request q begins
-abbrev pub phases : ℕ → Phase AnyRow → Moving
-phases q phase = plainly (step.Phase q phase)
-
--- what a request is at first
-abbrev pub new_request : ℕ → Order → Flow → Asked
-new_request n order flow = record { node = n; kind = kind_of order; name = name_of order; flow = Some flow }
-
--- the history says that it began
-abbrev pub began_with : ℕ → ℕ → Order → Record
-began_with q n order = let name = name_of order in Began q n (kind_of order) name.bucket name.key
-
--- a request begins with its first phase
+-- a request begins with its read phase
 abbrev pub opened : State → ℕ → Order → Outcome
 opened s n order =
     let q = suc (length s.world.requests) in
-    let first = started order q s.block in
     let opens = plainly (step.Open n) in
     let here = doing s opens in
-    let e = effect here (phases q first.1) in
+    let e = effect here (asks q order.name) in
     record {
-      state = record (doing here (phases q first.1)) {
-        asked = s.asked ++ new_request n order first.0 ∷ [];
-        history = s.history ++ began_with q n order ∷ [];
+      state = record (doing here (asks q order.name)) {
+        orders = s.orders ++ order ∷ [];
+        history = s.history ++ began q n order.word order.name ∷ [];
       };
-      moves = opens ∷ phases q first.1 ∷ [];
+      moves = opens ∷ asks q order.name ∷ [];
       new_versions = [];
       refused = None;
       words = One q;
       lines = e.tells;
     }
 
--- a request begins at node n, if it is a member and the buckets that are named were made
+-- a request begins at node n, if it is a member and the bucket was made
 abbrev pub begins : State → ℕ → Order → Outcome
 begins s n order =
-    if is_member_at layouts s.world n then (if are_buckets s.buckets (buckets_of order) then opened s n order else refusal s NoSuchBucket) else refusal s NotMember
+    if is_member_at layouts s.world n then (if is_bucket s.buckets order.name.bucket then opened s n order else refusal s NoSuchBucket) else refusal s NotMember
 
--- the request waits for this now
-abbrev pub set_flow : State → ℕ → Asked → Option Flow → List Asked
-set_flow s q asked flow = slice_set s.asked (q - 1) (record asked { flow = flow })
+-- the version that a put draws when its read phase ends
+abbrev pub drawn : State → ℕ → Order → Option AnyRow → Version
+drawn s q order value = record { ts = max (clock s.world order.node) (suc (greatest_ts value)); id = q }
 
--- the draws of a request that waits so when its phase ends at this time of its coordinator's clock: a write that has read its object's row draws its version
-abbrev pub draws_of : State → ℕ → Stage → PhaseEnd AnyRow → ℕ → List Draw
-draws_of s q (Drawing name wish) (Row value) now = record { request = q; name = name; version = drawn q value now; wish = wish; moment = length s.history } ∷ []
-draws_of s q stage end now = []
+-- the store phase of an object's row
+abbrev pub stores : ℕ → Order → Version → Moving
+stores q order version = plainly (step.Phase q (Store ((object order.name version order.bytes, None) ∷ [])))
 
--- the versions of draws
-abbrev pub versions_drawn : List Draw → List Version
-versions_drawn [] = []
-versions_drawn (d ∷ ds) = d.version ∷ versions_drawn ds
-
--- a request goes on with its next phase
-abbrev pub goes : State → ℕ → Asked → List Draw → Flow → Phase AnyRow → Outcome
-goes s q asked draws flow phase =
-    let e = effect s (phases q phase) in
+-- a put goes on with its store phase
+abbrev pub writes : State → ℕ → Order → Version → Outcome
+writes s q order version =
+    let e = effect s (stores q order version) in
     record {
-      state = record (doing s (phases q phase)) { asked = set_flow s q asked (Some flow); draws = draws ++ s.draws };
-      moves = phases q phase ∷ [];
-      new_versions = versions_drawn draws;
+      state = record (doing s (stores q order version)) {
+        orders = slice_set s.orders (q - 1) (record order { version = Some version });
+        draws = record { request = q; name = order.name; version = version; bytes = order.bytes } ∷ s.draws;
+      };
+      moves = stores q order version ∷ [];
+      new_versions = version ∷ [];
       refused = None;
       words = Empty;
       lines = e.tells;
     }
 
--- a request is done
-abbrev pub finishes : State → ℕ → Asked → FlowEnd → Outcome
-finishes s q asked end = record {
-  state = record (doing s (plainly (step.Close q))) { asked = set_flow s q asked None; history = s.history ++ record_of q end ∷ [] };
+-- a request finishes
+abbrev pub finishes : State → ℕ → Answer → Line Applied → Outcome
+finishes s q answer line = record {
+  state = record (doing s (plainly (step.Close q))) { history = s.history ++ finished q answer ∷ [] };
   moves = plainly (step.Close q) ∷ [];
   new_versions = [];
   refused = None;
   words = Empty;
-  lines = line_of q asked.kind end ∷ [];
+  lines = line ∷ [];
 }
 
--- a request does what its flow says
-abbrev pub takes : State → ℕ → Asked → List Draw → FlowStep → Outcome
-takes s q asked draws (More flow phase) = goes s q asked draws flow phase
-takes s q asked draws (Wait flow) = silent (record s { asked = set_flow s q asked (Some flow) })
-takes s q asked draws (End end) = finishes s q asked end
+-- a version as two numbers
+abbrev pub pair : Version → ℕ × ℕ
+pair v = (v.ts, v.id)
 
--- what a request does once a phase of it gave this
-abbrev pub follows : State → ℕ → Asked → PhaseEnd AnyRow → Option Flow → Outcome
-follows s q asked end None = silent s
-follows s q asked end (Some flow) =
-    let now = clock s.world asked.node in
-    takes (record s { saw = record { request = q; end = end } ∷ s.saw }) q asked (draws_of s q flow.stage end now) (next flow end now)
+-- the line of a put that finished, with its version
+abbrev pub put_line : ℕ → Version → Line Applied
+put_line q v = Done q WordPut (Some (pair v)) None None
 
--- the same, of a request that may never have been asked for
-abbrev pub follow : State → ℕ → Option Asked → PhaseEnd AnyRow → Outcome
+-- the line of a get that found these bytes
+abbrev pub found_line : ℕ → Version → List ℕ → Line Applied
+found_line q v bytes = Done q WordGet (Some (pair v)) (Some (length bytes)) (Some (md5 bytes))
+
+-- the line of a get that found none
+abbrev pub nothing_line : ℕ → Line Applied
+nothing_line q = Done q WordGet None None None
+
+-- a get finishes, unless the object is kept in blocks
+abbrev pub gets : State → ℕ → Newest → Outcome
+gets s q absent = finishes s q nothing (nothing_line q)
+gets s q (inline v bytes) = finishes s q (found v bytes) (found_line q v bytes)
+gets s q in_blocks = silent s
+
+-- what a request does when its phase ended
+abbrev pub follows : State → ℕ → Order → DoneWord → Option Version → PhaseEnd AnyRow → Outcome
+follows s q order WordPut None (Answered value) = writes s q order (drawn s q order value)
+follows s q order WordPut (Some version) Kept = finishes s q (stored version) (put_line q version)
+follows s q order WordGet version (Answered value) = gets s q (newest_of value)
+follows s q order word version end = silent s
+
+-- what a request does once a phase of it ended
+abbrev pub follow : State → ℕ → Option Order → PhaseEnd AnyRow → Outcome
 follow s q None end = silent s
-follow s q (Some asked) end = follows s q asked end asked.flow
+follow s q (Some order) end = follows s q order order.word order.version end
 
 -- what requests do once phases of them ended
 abbrev pub goes_on : State → List (Ended AnyRow) → Outcome
 goes_on s [] = silent s
-goes_on s (e ∷ es) = follow s e.request (numbered s.asked e.request) e.how
+goes_on s (e ∷ es) = follow s e.request (numbered s.orders e.request) e.how
 
 -- an outcome before which this step was done
 abbrev pub after_step : Moving → Effect AnyRow → Outcome → Outcome
@@ -239,3 +247,42 @@ drains (suc n) s = elim (undelivered s.world) as (λ o. Outcome) [
   | None ↦ silent s
   | Some m ↦ let o = delivers s m in then_drains o (drains n o.state)
 ]
+
+-- an event; an apply is given the choice
+abbrev pub outcome : State → Event → Decision → Outcome
+outcome s Trio choice = plain s (plainly step.Trio)
+outcome s (Bucket name) choice = silent (record s { buckets = s.buckets ++ name ∷ [] })
+outcome s (Role n role) choice = plain s (plainly (step.Role n role))
+outcome s (Redundancy wanted) choice = plain s (plainly (step.Redundancy wanted))
+outcome s (Apply n) choice = plain s (record { step = step.Apply n; choice = choice })
+outcome s (Tick ms) choice = plain s (plainly (step.Tick ms))
+outcome s (Put n bucket key size fill) choice =
+    begins s n (record { node = n; word = WordPut; name = record { bucket = bucket; key = key }; bytes = object_bytes size fill; version = None })
+outcome s (Get n bucket key) choice =
+    begins s n (record { node = n; word = WordGet; name = record { bucket = bucket; key = key }; bytes = []; version = None })
+outcome s (Deliver m) choice = delivers s m
+outcome s (Drain n) choice = drains n s
+outcome s (Expire q) choice = plain s (plainly (step.Expire q))
+outcome s (Gossip from to) choice = plain s (plainly (step.Gossip from to))
+outcome s (Ack n) choice = plain s (plainly (step.Ack n))
+outcome s (Sync n) choice = plain s (plainly (step.Sync n))
+outcome s (SyncAck n) choice = plain s (plainly (step.SyncAck n))
+outcome s (Clean n) choice = plain s (plainly (step.Clean n))
+
+-- an event of a schedule, and what it is given
+pub record Turn : Type 0 where
+  pub numbered : Numbered
+  pub choice : Decision
+
+-- what comes of an event, with what an apply in it is given
+abbrev pub outcome_of : State → Turn → Outcome
+outcome_of s t = outcome s t.numbered.event t.choice
+
+-- the state after an event
+abbrev pub after : State → Turn → State
+after s t = (outcome_of s t).state
+
+-- the state after events in order
+abbrev pub run : State → List Turn → State
+run s [] = s
+run s (t ∷ ts) = run (after s t) ts

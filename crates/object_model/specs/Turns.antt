@@ -11,8 +11,7 @@ use Rattle.cluster_machine.specs.Worlds.{IsMeant, IsLawfulStep, FitAll, HaveRoom
 use Rattle.object_model.specs.declared.event.Event.{Event}
 use Rattle.object_model.specs.declared.event.Event.TheVariants.{Role, Redundancy, Apply}
 use Rattle.object_model.specs.declared.event.Numbered.{Numbered}
-use Rattle.object_model.specs.Run.{State, Outcome}
-use Rattle.object_model.specs.Events.{Turn, outcome_of, after}
+use Rattle.object_model.specs.Run.{State, Outcome, Turn, outcome_of, after}
 
 -- an apply that computes a layout is given what is computed from the staged roles, and no other event is given one; roles and redundancies are in their ranges
 abbrev pub IsLawfulEvent : State → Event → Decision → Type 0

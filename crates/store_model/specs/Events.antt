@@ -6,8 +6,8 @@ use Rattle.flow_model.specs.declared.order.Order.TheVariants as order
 use Rattle.object_model.specs.declared.event.Event.{Event}
 use Rattle.object_model.specs.declared.event.Event.TheVariants.{Trio, Bucket, Role, Redundancy, Apply, Tick, Put, Get, Deliver, Drain, Expire, Gossip, Ack, Sync, SyncAck, Clean}
 use Rattle.object_model.specs.declared.event.Numbered.{Numbered}
-use Rattle.object_model.specs.Run.{State, Outcome, plainly}
-use Rattle.object_model.specs.Acts.{Act, moves, asks, delivery, drain, adds, acted}
+use Rattle.store_model.specs.Run.{State, Outcome, plainly}
+use Rattle.store_model.specs.Acts.{Act, moves, asks, delivery, drain, adds, acted}
 
 -- the bytes of an object of a schedule: size many, the first one fill, modulo 251
 abbrev pub object_bytes : ℕ → ℕ → List ℕ

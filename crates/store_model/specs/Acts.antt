@@ -10,7 +10,7 @@ use Rattle.history_model.specs.declared.record.Cause.TheVariants.{Expired, Resta
 use Rattle.history_model.specs.declared.record.Record.{Record}
 use Rattle.history_model.specs.declared.record.Record.TheVariants.{Ended}
 use Rattle.flow_model.specs.declared.order.Order.{Order}
-use Rattle.object_model.specs.Run.{Moving, State, Outcome, silent, effect, doing, begins, delivers, drains}
+use Rattle.store_model.specs.Run.{Moving, State, Outcome, silent, effect, doing, begins, delivers, drains}
 
 -- a step of the world, a request at a node, a delivery, deliveries up to a number, a bucket, or a size of blocks
 pub data Act : Type 0 where

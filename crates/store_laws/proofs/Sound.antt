@@ -1,0 +1,210 @@
+-- The invariant of a state that acts lead to.
+use Rattle.std.specs.Prelude.{◌≡◌, ◌≤◌, ℕ, false, IsTrue, List, ◌∷◌, [], ◌++◌, length, Option, Some, ⊤}
+use Rattle.std.specs.List.{All, Contains}
+use Rattle.crdt_core.specs.Members.{Has}
+use Rattle.crdt_rows.specs.declared.version.Version.{Version}
+use Rattle.crdt_rows.specs.declared.any_row.AnyRow.{AnyRow}
+use Rattle.crdt_rows.specs.AnyRow.{any_join}
+use Rattle.object_schema.specs.Schema.{words}
+use Rattle.cluster_machine.specs.Node.{Question, Present, resting, asking, scanning, storing, fetching, Call}
+use Rattle.cluster_machine.specs.World.{empty, numbered}
+use Rattle.machine_origins.specs.Origins.{stored_by}
+use Rattle.cluster_machine.specs.Worlds.{IsLawfulRun, run}
+use Rattle.history_model.specs.declared.record.Kind.{Kind}
+use Rattle.history_model.specs.declared.record.Kind.TheVariants as kind
+use Rattle.history_model.specs.declared.record.Answer.{Answer}
+use Rattle.history_model.specs.declared.record.Answer.TheVariants as answer
+use Rattle.history_model.specs.declared.record.Record.{Record}
+use Rattle.history_model.specs.declared.record.Record.TheVariants.{Began, Finished}
+use Rattle.history_model.specs.Record.{is_read, is_write, is_source, names, Shows}
+use Rattle.flow_model.specs.declared.flow.Name.{Name}
+use Rattle.flow_model.specs.declared.flow.Wish.{Wish}
+use Rattle.flow_model.specs.declared.flow.Wish.TheVariants as wish
+use Rattle.flow_model.specs.declared.flow.Aim.{Aim}
+use Rattle.flow_model.specs.declared.flow.Aim.TheVariants as aim
+use Rattle.flow_model.specs.declared.flow.Stage.{Stage}
+use Rattle.flow_model.specs.declared.flow.Stage.TheVariants.{Drawing, Completing, Looking}
+use Rattle.flow_model.specs.declared.flow.Flow.{Flow}
+use Rattle.flow_model.specs.Blocks.{is_long}
+use Rattle.flow_model.specs.Rows.{row_key, complete}
+use Rattle.store_model.specs.Run.{World, Moving, Asked, Draw, Saw, State}
+use Rattle.store_model.specs.Fresh.{Covers, NoClash, IsFresh}
+use Rattle.store_laws.proofs.Good.{IsGood}
+
+-- the world is one that lawful steps lead to, and each row that they began to store is good
+pub record IsReached (draws : List Draw) (w : World) : Type 0 where
+  pub moves : List Moving
+  pub lawful : IsLawfulRun any_join words empty moves
+  pub is : w ≡ run any_join words empty moves
+  pub stores : All (λ (m : Moving). All (IsGood draws) (stored_by m.step)) moves
+
+-- the record that a request began
+abbrev pub began : ℕ → ℕ → Kind → Name → Record
+began q n kind name = Began q n kind name.bucket name.key
+
+-- request q was asked for, to do this with this object
+pub record IsAsked (asked : List Asked) (q : ℕ) (kind : Kind) (name : Name) : Type 0 where
+  pub one : Asked
+  pub is_there : numbered asked q ≡ Some one
+  pub kind_is : one.kind ≡ kind
+  pub name_is : one.name ≡ name
+
+-- the history tells of each request that was asked for, and of no other; the names' buckets are there
+pub record IsTold (buckets : List (List ℕ)) (asked : List Asked) (history : List Record) : Type 0 where
+  pub began_asked : (q n : ℕ) (kind : Kind) (name : Name) → Contains history (began q n kind name) → IsAsked asked q kind name
+  pub finished_asked : (q : ℕ) (answer : Answer) → Contains history (Finished q answer) → (a : Asked) × (numbered asked q ≡ Some a)
+  pub asked_began : (q : ℕ) (a : Asked) → numbered asked q ≡ Some a → (n : ℕ) × Contains history (began q n a.kind a.name)
+  pub bucket_there : (q : ℕ) (a : Asked) → numbered asked q ≡ Some a → Contains buckets a.name.bucket
+
+-- requests of this kind may wish so: a delete makes a marker, a put or copy gives bytes, few enough to lie in the row
+abbrev pub IsWishOf : Kind → Wish → Type 0
+IsWishOf kind wish.Marker = IsTrue (is_write kind)
+IsWishOf kind (wish.Content c) = IsTrue (is_source kind) × (is_long c.body ≡ false)
+
+-- a write that has begun drew this, for an object in one of the buckets
+pub record HasDrawn (buckets : List (List ℕ)) (history : List Record) (d : Draw) : Type 0 where
+  pub id_is : d.version.id ≡ d.request
+  pub node : ℕ
+  pub kind : Kind
+  pub fits : IsWishOf kind d.wish
+  pub has_begun : Contains history (began d.request node kind d.name)
+  pub bucket : Contains buckets d.name.bucket
+  pub moment : d.moment ≤ length history
+
+-- a write of this object was acknowledged with this version
+pub record WasAcknowledged (history : List Record) (name : Name) (version : Version) : Type 0 where
+  pub request : ℕ
+  pub node : ℕ
+  pub kind : Kind
+  pub writes : IsTrue (is_write kind)
+  pub has_begun : Contains history (began request node kind name)
+  pub has_finished : Contains history (Finished request (answer.Version version))
+
+-- the row that says that this version of this object is complete is among these
+pub record HasKept (kept : List AnyRow) (name : Name) (version : Version) : Type 0 where
+  pub block : ℕ
+  pub wish : Wish
+  pub is_there : Contains kept (complete name version block wish)
+
+-- each version that was acknowledged is among these
+abbrev pub HasAcknowledged : List AnyRow → List Record → Type 0
+HasAcknowledged kept history = (name : Name) (version : Version) → WasAcknowledged history name version → HasKept kept name version
+
+abbrev pub IsProper : AnyRow → Type 0
+IsProper row = IsTrue (words.is_proper row)
+
+abbrev pub AreProper : List AnyRow → Type 0
+AreProper rows = All IsProper rows
+
+-- the question is for the object's row
+abbrev pub AsksRow : Name → Question AnyRow → Type 0
+AsksRow name question = (question.table ≡ 1) × (question.key ≡ row_key name)
+
+-- a request that waits so has asked this
+abbrev pub AsksFor : Stage → Question AnyRow → Type 0
+AsksFor (Drawing name wish) question = AsksRow name question
+AsksFor (Looking name aim) question = AsksRow name question
+AsksFor stage question = ⊤
+
+-- the rows are the one that completes a version that this request drew
+pub record Completes (draws : List Draw) (q : ℕ) (version : Version) (rows : List AnyRow) : Type 0 where
+  pub draw : Draw
+  pub drawn : Contains draws draw
+  pub request_is : draw.request ≡ q
+  pub version_is : draw.version ≡ version
+  pub block : ℕ
+  pub rows_are : rows ≡ complete draw.name draw.version block draw.wish ∷ []
+
+-- a request that waits so stores these rows
+abbrev pub StoresFor : List Draw → ℕ → Stage → List AnyRow → Type 0
+StoresFor draws q (Completing version meta) rows = Completes draws q version rows
+StoresFor draws q stage rows = ⊤
+
+-- a request at this node waits so
+pub record WaitsAt (asked : List Asked) (n q : ℕ) : Type 0 where
+  pub one : Asked
+  pub is_there : numbered asked q ≡ Some one
+  pub node_is : one.node ≡ n
+  pub flow : Flow
+  pub flow_is : one.flow ≡ Some flow
+
+-- all that was acknowledged before request q began is among these
+abbrev pub HasBefore : List Record → ℕ → List AnyRow → Type 0
+HasBefore history q kept =
+    (before after : List Record) (n : ℕ) (kind : Kind) (name : Name) → history ≡ before ++ began q n kind name ∷ after → HasAcknowledged kept before
+
+-- request q asks, and all that was acknowledged before it began was kept before its read phase began
+pub record IsAsking (asked : List Asked) (history : List Record) (n q : ℕ) (question : Question AnyRow) : Type 0 where
+  pub waits : WaitsAt asked n q
+  pub asks : AsksFor waits.flow.stage question
+  pub proper : AreProper question.kept
+  pub has : HasBefore history q question.kept
+
+-- request q stores what it waits for
+pub record IsStoring (asked : List Asked) (draws : List Draw) (n q : ℕ) (rows : List AnyRow) : Type 0 where
+  pub waits : WaitsAt asked n q
+  pub stores : StoresFor draws q waits.flow.stage rows
+  pub proper : AreProper rows
+
+abbrev pub IsPresent : List Asked → List Draw → List Record → ℕ → ℕ → Present AnyRow → Type 0
+IsPresent asked draws history n q resting = ⊤
+IsPresent asked draws history n q (asking question answers) = IsAsking asked history n q question
+IsPresent asked draws history n q (scanning scan answers) = ⊤
+IsPresent asked draws history n q (storing rows slots) = IsStoring asked draws n q rows
+IsPresent asked draws history n q (fetching hash) = ⊤
+
+abbrev pub ArePresent : List Asked → List Draw → List Record → ℕ → List (Call AnyRow) → Type 0
+ArePresent asked draws history n calls = (c : Call AnyRow) → Has calls c → IsPresent asked draws history n c.request c.present
+
+-- the version was drawn by now, by a put or copy of this object
+pub record DrewHere (s : State) (name : Name) (version : Version) : Type 0 where
+  pub draw : Draw
+  pub drawn : Contains s.draws draw
+  pub version_is : draw.version ≡ version
+  pub request_is : draw.request ≡ version.id
+  pub name_is : draw.name ≡ name
+  pub node : ℕ
+  pub kind : Kind
+  pub is_source : IsTrue (is_source kind)
+  pub has_begun : Contains s.history (began version.id node kind name)
+
+-- what request q owes if it finishes now with this answer
+pub record IsFreshEnd (s : State) (q : ℕ) (answer : Answer) : Type 0 where
+  pub covers : (before after : List Record) (n : ℕ) (kind : Kind) (name : Name) (key : List ℕ) (w : Version) → IsTrue (is_read kind) → s.history ≡ before ++ began q n kind name ∷ after →
+      IsTrue (names kind name.key key) → WasAcknowledged before (record { bucket = name.bucket; key = key }) w → Covers s.saw q name.bucket name.key answer key w
+  pub written : NoClash s.buckets → (n : ℕ) (kind : Kind) (name : Name) (key : List ℕ) (v : Version) → IsTrue (is_read kind) → Contains s.history (began q n kind name) →
+      IsTrue (names kind name.key key) → Shows name.key answer key v → DrewHere s (record { bucket = name.bucket; key = key }) v
+
+-- a request of this kind for this object reads so
+abbrev pub IsAimOf : Asked → Aim → Type 0
+IsAimOf a aim.Get = a.kind ≡ kind.Get
+IsAimOf a aim.Head = a.kind ≡ kind.Head
+IsAimOf a (aim.Copy name headers) = (a.kind ≡ kind.Copy) × (name ≡ a.name)
+
+-- a read that gives what it finds asks for its own object
+abbrev pub LooksAt : Asked → Aim → Name → Type 0
+LooksAt a aim.Get name = name ≡ a.name
+LooksAt a aim.Head name = name ≡ a.name
+LooksAt a (aim.Copy new headers) name = ⊤
+
+-- request q waits as its kind does; nothing is kept in blocks, and no list has begun
+abbrev pub IsStage : ℕ → Asked → Stage → Type 0
+IsStage q a (Drawing name wish) = (name ≡ a.name) × IsWishOf a.kind wish
+IsStage q a (Completing version meta) = IsTrue (is_write a.kind)
+IsStage q a (Looking name aim) = IsAimOf a aim × LooksAt a aim name
+IsStage q a _ = ⊥
+
+-- each request waits as its kind does
+abbrev pub AreStages : List Asked → Type 0
+AreStages asked = (q : ℕ) (a : Asked) (flow : Flow) → numbered asked q ≡ Some a → a.flow ≡ Some flow → (flow.id ≡ q) × IsStage q a flow.stage
+
+pub record IsSound (s : State) : Type 0 where
+  pub reached : IsReached s.draws s.world
+  pub lengths : length s.asked ≡ length s.world.requests
+  pub told : IsTold s.buckets s.asked s.history
+  pub presents : (n : ℕ) → ArePresent s.asked s.draws s.history n (s.world.nodes n).calls
+  pub stages : AreStages s.asked
+  pub drawn : (d : Draw) → Contains s.draws d → HasDrawn s.buckets s.history d
+  pub acknowledged : HasAcknowledged s.world.kept s.history
+  pub proper : AreProper s.world.kept
+  pub fresh : IsFresh s

@@ -1,0 +1,6 @@
+pub mod Orders
+pub mod Answers
+pub mod Run
+pub mod Acts
+pub mod Events
+pub mod Fresh
