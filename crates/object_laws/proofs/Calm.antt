@@ -2,7 +2,7 @@
 -- most one phase ends.
 use Rattle.std.specs.Prelude.{◌≡◌, ℕ, Bool, true, false, not, ◌&&◌, ◌||◌, ◌==◌, cond, leb, List, [], ◌∷◌, Option, Some, None, refl, ⊤}
 use Rattle.std.specs.Option.{unwrap_or}
-use Rattle.std.proofs.Common.{sym, subst, inl, inr}
+use Rattle.std.proofs.Common.{rules, ap, sym, subst, ◌∙◌, inl, inr}
 use Rattle.std.proofs.lemmas.Bool.{eqb-true}
 use Rattle.crdt_core.specs.Members.{Has}
 use Rattle.layout_roles.specs.declared.role.Role.{Role}
@@ -28,6 +28,10 @@ IsCalmStep (Open n) = ⊥
 IsCalmStep (Begin q phase) = ⊥
 IsCalmStep _ = ⊤
 
+-- a number is itself
+same_number : (n : ℕ) → (n == n) ≡ true
+same_number n = search rules
+
 there_closed : {R : Type 0} (q : ℕ) (calls : List (Call R)) (c : Call R) → Has (without_call q calls) c → Has calls c
 there_closed q [] c h = h
 there_closed q (d ∷ calls) c h =
@@ -42,13 +46,12 @@ module _ {R L A C : Type 0} where
     pub opens : e.opens ≡ []
     pub calls : (n : ℕ) (c : Call R) → Has (changed e.nodes w.nodes n).calls c → Continues (w.nodes n).calls c
     pub node : ℕ
-    pub later : List (Call R)
-    pub ends : AtMostOne (w.nodes node).calls later e.ends e.keeps e.reads
+    pub ends : AtMostOne (w.nodes node).calls (changed e.nodes w.nodes node).calls e.ends e.keeps e.reads
 
   -- nodes change, whose requests go on
   calm_some : (w : World R L) (e : Effects R L A C) (b : ℕ → Bool) (new : ℕ → Node R L) → ((n : ℕ) → e.nodes n ≡ cond (b n) (Some (new n)) None) → e.opens ≡ [] →
-      ((n : ℕ) → b n ≡ true → (c : Call R) → Has (new n).calls c → Continues (w.nodes n).calls c) → (node : ℕ) (later : List (Call R)) → AtMostOne (w.nodes node).calls later e.ends e.keeps e.reads → IsCalm w e
-  calm_some w e b new some opens goes node later ends = record {
+      ((n : ℕ) → b n ≡ true → (c : Call R) → Has (new n).calls c → Continues (w.nodes n).calls c) → (node : ℕ) → AtMostOne (w.nodes node).calls (changed e.nodes w.nodes node).calls e.ends e.keeps e.reads → IsCalm w e
+  calm_some w e b new some opens goes node ends = record {
     opens = opens;
     calls = λ n. subst (λ o. (c : Call R) → Has (unwrap_or o (w.nodes n)).calls c → Continues (w.nodes n).calls c) (sym (some n))
         (elim (b n) as (λ v. b n ≡ v → (c : Call R) → Has (unwrap_or (cond v (Some (new n)) None) (w.nodes n)).calls c → Continues (w.nodes n).calls c) [
@@ -56,23 +59,27 @@ module _ {R L A C : Type 0} where
           | false ↦ (λ t. continues_self (w.nodes n))
         ] refl);
     node = node;
-    later = later;
     ends = ends;
   }
 
   -- no node changes
-  calm_still : (w : World R L) (e : Effects R L A C) → ((n : ℕ) → e.nodes n ≡ None) → e.opens ≡ [] → AtMostOne (w.nodes 0).calls [] e.ends e.keeps e.reads → IsCalm w e
-  calm_still w e still opens ends = calm_some w e (λ n. false) w.nodes still opens (λ n t c h. cc) 0 [] ends
+  calm_still : (w : World R L) (e : Effects R L A C) → ((n : ℕ) → e.nodes n ≡ None) → e.opens ≡ [] → AtMostOne (w.nodes 0).calls (changed e.nodes w.nodes 0).calls e.ends e.keeps e.reads → IsCalm w e
+  calm_still w e still opens ends = calm_some w e (λ n. false) w.nodes still opens (λ n t c h. cc) 0 ends
+
+  -- what a node that changes alone has become
+  here : (w : World R L) (e : Effects R L A C) (n : ℕ) (y : Node R L) → ((m : ℕ) → e.nodes m ≡ only n y m) → changed e.nodes w.nodes n ≡ y
+  here w e n y one = ap (λ o. unwrap_or o (w.nodes n)) (one n ∙ ap (λ b. cond b (Some y) None) (same_number n))
 
   calm_one : (w : World R L) (e : Effects R L A C) (n : ℕ) (y : Node R L) → ((m : ℕ) → e.nodes m ≡ only n y m) → e.opens ≡ [] →
-      ((c : Call R) → Has y.calls c → Continues (w.nodes n).calls c) → (later : List (Call R)) → AtMostOne (w.nodes n).calls later e.ends e.keeps e.reads → IsCalm w e
-  calm_one w e n y one opens goes later ends =
-      calm_some w e (λ m. m == n) (λ m. y) one opens (λ m t. subst (λ l. (c : Call R) → Has y.calls c → Continues (w.nodes l).calls c) (sym (eqb-true m n t)) goes) n later ends
+      ((c : Call R) → Has y.calls c → Continues (w.nodes n).calls c) → AtMostOne (w.nodes n).calls y.calls e.ends e.keeps e.reads → IsCalm w e
+  calm_one w e n y one opens goes ends =
+      calm_some w e (λ m. m == n) (λ m. y) one opens (λ m t. subst (λ l. (c : Call R) → Has y.calls c → Continues (w.nodes l).calls c) (sym (eqb-true m n t)) goes) n
+      (subst (λ (x : Node R L). AtMostOne (w.nodes n).calls x.calls e.ends e.keeps e.reads) (sym (here w e n y one)) ends)
 
   -- a node did this, and nothing else happened
   calm_did : (w : World R L) (e : Effects R L A C) (n : ℕ) (d : Did R L) → ((m : ℕ) → e.nodes m ≡ only n d.node m) → e.opens ≡ [] → e.ends ≡ d.ends → e.keeps ≡ d.keeps → e.reads ≡ d.reads → Follows (w.nodes n) d → IsCalm w e
   calm_did w e n d one opens ends keeps reads f =
-      calm_one w e n d.node one opens f.calls d.node.calls (rw (ends, keeps, reads) f.ends)
+      calm_one w e n d.node one opens f.calls (rw (ends, keeps, reads) f.ends)
 
   calm_cond : (w : World R L) (b : Bool) (d e : Effects R L A C) → IsCalm w d → IsCalm w e → IsCalm w (cond b d e)
   calm_cond w true d e h k = h
@@ -83,8 +90,8 @@ module _ {R L A C : Type 0} where
   calm_message w f (Some m) None is = calm_still w _ (λ n. refl) refl (refl, refl)
   calm_message w f (Some m) (Some mark) is = calm_cond w mark.is_lost _ _ (calm_still w _ (λ n. refl) refl (refl, refl)) (is m)
 
-  calm_closes : (w : World R L) (q n : ℕ) (e : Effects R L A C) → ((m : ℕ) → e.nodes m ≡ only n (closed q (w.nodes n)) m) → e.opens ≡ [] → AtMostOne (w.nodes n).calls [] e.ends e.keeps e.reads → IsCalm w e
-  calm_closes w q n e one opens ends = calm_one w e n (closed q (w.nodes n)) one opens (λ c h. continues_self (w.nodes n) c (there_closed q (w.nodes n).calls c h)) [] ends
+  calm_closes : (w : World R L) (q n : ℕ) (e : Effects R L A C) → ((m : ℕ) → e.nodes m ≡ only n (closed q (w.nodes n)) m) → e.opens ≡ [] → AtMostOne (w.nodes n).calls (closed q (w.nodes n)).calls e.ends e.keeps e.reads → IsCalm w e
+  calm_closes w q n e one opens ends = calm_one w e n (closed q (w.nodes n)) one opens (λ c h. continues_self (w.nodes n) c (there_closed q (w.nodes n).calls c h)) ends
 
   calm_expires : (w : World R L) (q : ℕ) (o : Option Request) → IsCalm w (expires {A = A} {C = C} w q o)
   calm_expires w q None = calm_still w _ (λ n. refl) refl (refl, refl)
@@ -101,11 +108,11 @@ module _ {R L A C : Type 0} (join : R → R → R) (s : Words R) (k : Layouts L)
 
   calm_chosen : (n next : ℕ) (choice : Choice L A C) → IsCalm w (chosen join s k trio stage w n next choice)
   calm_chosen n next (none_given refusal) = calm_still w _ (λ m. refl) refl (refl, refl)
-  calm_chosen n next (given l shown) = calm_one w _ n (appends k (w.nodes n) l) (λ m. refl) refl (continues_self (w.nodes n)) [] (refl, refl)
+  calm_chosen n next (given l shown) = calm_one w _ n (appends k (w.nodes n) l) (λ m. refl) refl (continues_self (w.nodes n)) (refl, refl)
 
   calm_applies : (n : ℕ) (choice : Choice L A C) → IsCalm w (applies_at join s k trio stage w n choice)
   calm_applies n choice =
-      let still : (e : Effects R L A C) → ((m : ℕ) → e.nodes m ≡ None) → e.opens ≡ [] → AtMostOne (w.nodes 0).calls [] e.ends e.keeps e.reads → IsCalm w e = calm_still w in
+      let still : (e : Effects R L A C) → ((m : ℕ) → e.nodes m ≡ None) → e.opens ≡ [] → AtMostOne (w.nodes 0).calls (changed e.nodes w.nodes 0).calls e.ends e.keeps e.reads → IsCalm w e = calm_still w in
       calm_cond w (leb 1 w.applied && not (is_member_at k w n)) _ _ (still _ (λ m. refl) refl (refl, refl))
       (calm_cond w (leb _ w.applied) _ _ (still _ (λ m. refl) refl (refl, refl))
       (calm_cond w (leb most_versions w.applied) _ _ (still _ (λ m. refl) refl (refl, refl)) (calm_chosen n _ choice)))
@@ -113,7 +120,7 @@ module _ {R L A C : Type 0} (join : R → R → R) (s : Words R) (k : Layouts L)
   pub calm_step : ((n : ℕ) → AreDifferent (w.nodes n).calls) → (step : Step R) (choice : Choice L A C) → IsCalmStep step → IsCalm w (effects join s k trio stage w step choice)
   calm_step differ Trio choice is =
       calm_cond w (leb 1 w.applied) _ _ (calm_still w _ (λ m. refl) refl (refl, refl))
-      (calm_some w _ (λ n. (n == 1) || ((n == 2) || (n == 3))) (λ n. appends k (w.nodes n) trio) (λ n. refl) refl (λ n t. continues_self (w.nodes n)) 0 [] (refl, refl))
+      (calm_some w _ (λ n. (n == 1) || ((n == 2) || (n == 3))) (λ n. appends k (w.nodes n) trio) (λ n. refl) refl (λ n t. continues_self (w.nodes n)) 0 (refl, refl))
   calm_step differ (Stage n role) choice is = calm_still w _ (λ m. refl) refl (refl, refl)
   calm_step differ (Spread r) choice is = calm_still w _ (λ m. refl) refl (refl, refl)
   calm_step differ (Apply n) choice is = calm_applies n choice
@@ -124,8 +131,8 @@ module _ {R L A C : Type 0} (join : R → R → R) (s : Words R) (k : Layouts L)
       (λ sent. calm_did w _ sent.to _ (λ n. refl) refl refl refl refl (follows_receives join s k (w.nodes sent.to) (differ sent.to) sent.to (clock w sent.to) sent.from sent.packet))
   calm_step differ (Lose m) choice is = calm_message w _ (numbered w.messages m) (numbered w.marks m) (λ sent. calm_still w _ (λ n. refl) refl (refl, refl))
   calm_step differ (Expire q) choice is = calm_expires w q (numbered w.requests q)
-  calm_step differ (Restart n) choice is = calm_one w _ n (restarts (w.nodes n)) (λ m. refl) refl (λ c h. absurd h) [] (refl, refl)
-  calm_step differ (Gossip from to) choice is = calm_one w _ from (w.nodes from) (λ m. refl) refl (continues_self (w.nodes from)) [] (refl, refl)
+  calm_step differ (Restart n) choice is = calm_one w _ n (restarts (w.nodes n)) (λ m. refl) refl (λ c h. absurd h) (refl, refl)
+  calm_step differ (Gossip from to) choice is = calm_one w _ from (w.nodes from) (λ m. refl) refl (continues_self (w.nodes from)) (refl, refl)
   calm_step differ (Ack n) choice is = calm_acting n (has_none k (w.nodes n).view) RaiseAck
   calm_step differ (Syncs n) choice is = calm_acting n (has_none k (w.nodes n).view) GoOn
   calm_step differ (SyncAck n) choice is = calm_acting n (has_none k (w.nodes n).view) RaiseSyncAck

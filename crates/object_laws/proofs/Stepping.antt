@@ -66,7 +66,7 @@ fine_cond s false d e h k = k
 
 module _ (s : State) (e : Effect AnyRow) (sound : IsSound s) (calm : IsCalm s.world e) where
   calm_both : AllByRecursion (λ (x : Ended AnyRow). IsEnd s.orders s.history (e.keeps ++ s.world.kept) (e.reads ++ s.world.reads) x.request x.how) e.ends × AreProper e.keeps
-  calm_both = ends_are s.orders s.history s.world.kept s.world.reads e.keeps e.reads (s.world.nodes calm.node).calls calm.later e.ends (sound.presents calm.node) calm.ends
+  calm_both = ends_are s.orders s.history s.world.kept s.world.reads e.keeps e.reads (s.world.nodes calm.node).calls (changed e.nodes s.world.nodes calm.node).calls e.ends (sound.presents calm.node) calm.ends
 
   -- a calm step, and the phase that ended in it
   pub calm_fine : IsFine s e

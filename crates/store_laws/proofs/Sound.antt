@@ -167,6 +167,7 @@ pub record DrewHere (s : State) (name : Name) (version : Version) : Type 0 where
   pub kind : Kind
   pub is_source : IsTrue (is_source kind)
   pub has_begun : Contains s.history (began version.id node kind name)
+  pub moment : draw.moment ≤ length s.history
 
 -- what request q owes if it finishes now with this answer
 pub record IsFreshEnd (s : State) (q : ℕ) (answer : Answer) : Type 0 where

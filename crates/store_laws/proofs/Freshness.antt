@@ -1,0 +1,145 @@
+-- Reads stay fresh as the history grows by a record: of a request that began, finished or ended.
+use Rattle.std.proofs.Common.{◌≡◌, ◌⊎◌, inl, inr, ℕ, suc, ◌+◌, ◌<◌, ◌≤◌, Some, List, [], ◌∷◌, ◌++◌, length, take, drop, refl, sym, ap, ◌∙◌, subst, arith}
+use Rattle.std.specs.Prelude.{IsTrue, slice_get}
+use Rattle.std.specs.List.{Contains}
+use Rattle.std.proofs.lemmas.List.{length_push, append-nil}
+use Rattle.std.proofs.lemmas.List.Elements.{Contains-append_left}
+use Rattle.std.proofs.lemmas.Option.{get_or_from_slice_get}
+use Rattle.crdt_rows.specs.declared.version.Version.{Version}
+use Rattle.history_model.specs.declared.record.Kind.{Kind}
+use Rattle.history_model.specs.declared.record.Answer.{Answer}
+use Rattle.history_model.specs.declared.record.Answer.TheVariants as answer
+use Rattle.history_model.specs.declared.record.Record.{Record}
+use Rattle.history_model.specs.declared.record.Record.TheVariants.{Began, Finished}
+use Rattle.history_model.specs.Record.{is_read, names, finish, acknowledged, BeganAt, Shows}
+use Rattle.history_model.specs.Fresh.{IsAcknowledged}
+use Rattle.flow_model.specs.declared.flow.Name.{Name}
+use Rattle.store_model.specs.Run.{Draw, Saw, State}
+use Rattle.store_model.specs.Fresh.{IsMarked, Covers, IsDrawn, NoClash, IsRead, IsFreshRead, IsFresh}
+use Rattle.object_laws.proofs.Places.{get_append, get_push_cases}
+use Rattle.store_laws.proofs.Records.{stands, in_front, finish_is, finish_cases, acknowledged_is, split, old_at, began_before, acknowledged_before}
+use Rattle.store_laws.proofs.Sound.{began, WasAcknowledged, DrewHere, IsFreshEnd}
+
+-- ---- what was seen and drawn stays so
+
+pub marked_later : (old new : List Saw) → ((x : Saw) → Contains old x → Contains new x) → (q : ℕ) (bucket key : List ℕ) (w : Version) → IsMarked old q bucket key w → IsMarked new q bucket key w
+marked_later old new more q bucket key w m = record {
+  end = m.end;
+  was_seen = more _ m.was_seen;
+  row = m.row;
+  gave = m.gave;
+  bucket_is = m.bucket_is;
+  key_is = m.key_is;
+  version = m.version;
+  says = m.says;
+  not_below = m.not_below;
+}
+
+pub covers_later : (old new : List Saw) → ((x : Saw) → Contains old x → Contains new x) → (q : ℕ) (bucket own : List ℕ) (a : Answer) (key : List ℕ) (w : Version) → Covers old q bucket own a key w → Covers new q bucket own a key w
+covers_later old new more q bucket own a key w c = record { versions = c.versions; none = λ no. marked_later old new more q bucket key w (c.none no) }
+
+module _ (s t : State) (rest : List Record) (history : t.history ≡ s.history ++ rest) (draws : (d : Draw) → Contains s.draws d → Contains t.draws d) where
+  pub drawn_later : (j : ℕ) (bucket key : List ℕ) (v : Version) → IsDrawn s j bucket key v → IsDrawn t j bucket key v
+  drawn_later j bucket key v d = record {
+    draw = d.draw;
+    drawn = draws d.draw d.drawn;
+    version_is = d.version_is;
+    request_is = d.request_is;
+    name_is = d.name_is;
+    kind = d.kind;
+    is_source = d.is_source;
+    place = d.place;
+    began = (d.began.0, ap (λ h. slice_get h d.place) history ∙ get_append s.history rest d.place _ d.began.1);
+    before = d.before;
+  }
+
+-- a state with the same records, and more buckets, draws and sights
+pub fresh_later : (s t : State) → t.history ≡ s.history → ((n : List ℕ) → Contains s.buckets n → Contains t.buckets n) → ((d : Draw) → Contains s.draws d → Contains t.draws d) →
+    ((x : Saw) → Contains s.saw x → Contains t.saw x) → IsFresh s → IsFresh t
+fresh_later s t history buckets draws saw fresh i j q kind bucket own a r =
+    let old : IsFreshRead s i j q kind bucket own a = fresh i j q kind bucket own a (subst (λ h. IsRead h i j q kind bucket own a) history r) in
+    record {
+      covers = λ key w named ack. covers_later s.saw t.saw saw q bucket own a key w (old.covers key w named (subst (λ h. IsAcknowledged h i bucket key w) history ack));
+      written = λ clash key v named shows. drawn_later s t [] (history ∙ sym (append-nil s.history)) draws j bucket key v (old.written (λ a b c d e. clash a b (buckets a c) (buckets b d) e) key v named shows);
+    }
+
+-- ---- a record more
+
+module _ (h : List Record) (x : Record) where
+  longer : length (h ++ x ∷ []) ≡ length h + 1
+  longer = length_push h x
+
+  -- what was acknowledged before a place of the list was so before the new record
+  pub acknowledged_old : (i : ℕ) (bucket key : List ℕ) (w : Version) → i ≤ length h → IsAcknowledged (h ++ x ∷ []) i bucket key w → IsAcknowledged h i bucket key w
+  acknowledged_old i bucket key w low a =
+      let is = acknowledged_is (h ++ x ∷ []) a.place a.request a.end w a.finished in
+      let before = a.before in
+      let after = is.1 in
+      record {
+        request = a.request;
+        kind = a.kind;
+        place = a.place;
+        end = a.end;
+        writes = a.writes;
+        began = (a.began.0, old_at h x a.place _ (omega arith) a.began.1);
+        finished = acknowledged_before h x a.place a.request a.end w (omega arith) a.finished;
+        before = a.before;
+      }
+
+-- what was acknowledged before a place is in the part of the list before it
+pub was_acknowledged : (h : List Record) (i : ℕ) (bucket key : List ℕ) (w : Version) → i ≤ length h → IsAcknowledged h i bucket key w → WasAcknowledged (take i h) (record { bucket = bucket; key = key }) w
+was_acknowledged h i bucket key w within a =
+    let is = acknowledged_is h a.place a.request a.end w a.finished in
+    let before = a.before in
+    let after = is.1 in
+    record {
+      request = a.request;
+      node = a.began.0;
+      kind = a.kind;
+      writes = a.writes;
+      has_begun = in_front h a.place i _ a.began.1 (omega arith) within;
+      has_finished = in_front h a.end i _ is.0 a.before within;
+    }
+
+-- fresh, if what the new record finishes is
+pub fresh_told : (s : State) (x : Record) → IsFresh s → ((q : ℕ) (a : Answer) → x ≡ Finished q a → IsFreshEnd s q a) → IsFresh (record s { history = s.history ++ x ∷ [] })
+fresh_told s x fresh ends i j q kind bucket own a r =
+    let h : List Record = s.history in
+    let t : State = record s { history = h ++ x ∷ [] } in
+    let is = finish_is (h ++ x ∷ []) i q j a r.finished in
+    let low : i < length h = began_before h x i j q a r.finished in
+    let began_at : slice_get h i ≡ Some (Began q r.began.0 kind bucket own) = old_at h x i _ low r.began.1 in
+    elim (finish_cases h x i q j a low r.finished) [
+      | inl old ↦
+          let was : IsFreshRead s i j q kind bucket own a = fresh i j q kind bucket own a (record { reads = r.reads; began = (r.began.0, began_at); finished = old }) in
+          record {
+            covers = λ key w named ack. was.covers key w named (acknowledged_old h x i bucket key w (omega arith) ack);
+            written = λ clash key v named shows. drawn_later s t (x ∷ []) refl (λ d c. c) j bucket key v (was.written clash key v named shows);
+          }
+      | inr new ↦
+          let end : IsFreshEnd s q a = ends q a new.1 in
+          let name : Name = record { bucket = bucket; key = own } in
+          let here : Contains h (began q r.began.0 kind name) = (i, low, get_or_from_slice_get h i _ _ began_at) in
+          record {
+            covers = λ key w named ack.
+                end.covers (take i h) (drop (suc i) h) r.began.0 kind name key w r.reads (split h i _ began_at) named
+                (was_acknowledged h i bucket key w (omega arith) (acknowledged_old h x i bucket key w (omega arith) ack));
+            written = λ clash key v named shows.
+                let d : DrewHere s (record { bucket = bucket; key = key }) v = end.written clash r.began.0 kind name key v r.reads here named shows in
+                let begins = stands h _ d.has_begun in
+                let moment = d.moment in
+                let j_is = new.0 in
+                record {
+                  draw = d.draw;
+                  drawn = d.drawn;
+                  version_is = d.version_is;
+                  request_is = d.request_is;
+                  name_is = d.name_is;
+                  kind = d.kind;
+                  is_source = d.is_source;
+                  place = begins.0;
+                  began = (d.node, get_append h (x ∷ []) begins.0 _ begins.1);
+                  before = omega arith;
+                };
+          }
+    ]
