@@ -1,5 +1,5 @@
 -- Worlds with the layouts of the code: a step, which steps are lawful, lawful runs, and what every world of a run keeps.
-use Rattle.std.specs.Prelude.{◌≡◌, ◌≤◌, ℕ, suc, Bool, not, ◌&&◌, leb, cond, IsTrue, List, [], ◌∷◌, length, ⊤}
+use Rattle.std.specs.Prelude.{◌≤◌, ℕ, suc, Bool, not, ◌&&◌, leb, cond, IsTrue, List, [], ◌∷◌, length, ⊤}
 use Rattle.std.specs.List.{AllByRecursion}
 use Rattle.layout_roles.specs.declared.layout.Layout.{Layout}
 use Rattle.view_model.specs.Layouts.{reading}
@@ -15,7 +15,7 @@ use Rattle.cluster_machine.specs.Acts.{appends}
 use Rattle.cluster_machine.specs.World.{World, Sent, is_member_at}
 use Rattle.cluster_machine.specs.Step.{most_versions, Effects, effects, applied}
 use Rattle.cluster_machine.specs.Run.{Move, IsStep}
-use Rattle.cluster_machine.specs.Keeping.{AreDifferent, IsBarePacket, IsUpTo, AreUpTo, IsShort}
+use Rattle.cluster_machine.specs.Keeping.{AreDifferent, IsUpTo, AreUpTo, IsShort}
 use Rattle.cluster_machine.specs.Layouts.{layouts}
 use Rattle.cluster_machine.specs.declared.applied.Applied.{Applied}
 use Rattle.cluster_machine.specs.Trio.{trio, stage_trio}
@@ -34,7 +34,7 @@ Doing R = Move R Layout Applied Cut
 abbrev pub Done : Type 0 → Type 0
 Done R = Effects R Layout Applied Cut
 
--- what World's calls are given: roles of nodes 1 to 64, redundancies of one to three zones, phases of at most two rows without blocks
+-- what World's calls are given: roles of nodes 1 to 64, redundancies of one to three zones, phases of at most two rows
 abbrev pub IsMeant : {R : Type 0} → Step R → Type 0
 IsMeant (Stage node role) = (1 ≤ node) × (node ≤ 64)
 IsMeant (Spread wanted) = IsRedundancy wanted
@@ -64,16 +64,15 @@ module _ {R : Type 0} where
   abbrev pub installed : Model R → Layout → List ℕ → Model R
   installed w first nodes = record w { nodes = λ n. cond (is_among n nodes) (appends layouts (w.nodes n) first) (w.nodes n); applied = 1 }
 
-  -- a message comes without blocks, and a view without a gap, with no version above this one
+  -- a view comes without a gap, with no version above this one
   abbrev pub IsUsual : ℕ → Packet R Layout → Type 0
-  IsUsual version packet = IsBarePacket packet × IsUpTo layouts version packet
+  IsUsual version packet = IsUpTo layouts version packet
 
-  -- no node and no view on its way knows of a version that was not applied, blocks are nowhere, and the numbers of open requests were given, each once
+  -- no node and no view on its way knows of a version that was not applied, and the numbers of open requests were given, each once
   pub record IsSound (w : Model R) : Type 0 where
     pub versions : (n : ℕ) → newest_at w n ≤ w.applied
     pub gapless : (n : ℕ) → IsTrue (is_gapless reading (w.nodes n).view.layouts)
     pub messages : AllByRecursion (λ (m : Sent R Layout). IsUsual w.applied m.packet) w.messages
-    pub blocks : (n : ℕ) → (w.nodes n).blocks ≡ []
     pub requests : (n : ℕ) → AreUpTo (length w.requests) (w.nodes n).calls
     pub different : (n : ℕ) → AreDifferent (w.nodes n).calls
 

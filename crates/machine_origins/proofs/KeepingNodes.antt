@@ -1,10 +1,9 @@
--- A step keeps a node's newest version and its requests' numbers, leaves it without blocks, and sends none.
-use Rattle.std.specs.Prelude.{◌≡◌, ◌⊎◌, ◌≤◌, ◌<◌, ℕ, suc, Bool, true, false, cond, ◌==◌, leb, map, List, [], ◌∷◌, Option, Some, None, refl, ⊤}
+-- A step keeps a node's newest version and its requests' numbers, and sends messages alone.
+use Rattle.std.specs.Prelude.{◌≡◌, ◌⊎◌, ◌≤◌, ◌<◌, ℕ, suc, Bool, true, false, cond, ◌==◌, leb, map, List, [], ◌∷◌, Option, Some, None, refl}
 use Rattle.std.specs.List.{All, filter, flat_map}
 use Rattle.std.proofs.Common.{ap, sym, subst, ◌∙◌, inl, inr, arith}
 use Rattle.std.proofs.lemmas.Bool.{eq-eqb}
 use Rattle.std.proofs.lemmas.List.Elements.{All-nil, All-cons, All-head, All-tail, All-map}
-use Rattle.std.proofs.Math.Bool.{or-true}
 use Rattle.view_model.specs.View.{View, last_version, oldest, newest, cleaned}
 use Rattle.crdt_core.specs.Members.{Has}
 use Rattle.table_schema.specs.Words.{Words, partition_of}
@@ -12,11 +11,11 @@ use Rattle.wire_messages.specs.declared.message.Message.{Message}
 use Rattle.wire_messages.specs.declared.message.Message.TheVariants.{Store}
 use Rattle.wire_messages.specs.declared.message.Tag.TheVariants.{Call as ForCall, Round as ForRound}
 use Rattle.cluster_machine.specs.Layouts.{Layouts, stored_sets}
-use Rattle.cluster_machine.specs.Node.{Call, Present, Node, Part, Block, Round, Did, quiet}
-use Rattle.cluster_machine.specs.Rows.{accepts_read, accepts_all, blocks_after, still, drops, sees}
+use Rattle.cluster_machine.specs.Node.{Call, Present, Node, Part, Round, Did, quiet}
+use Rattle.cluster_machine.specs.Rows.{accepts_read, accepts_all, still, drops, sees}
 use Rattle.cluster_machine.specs.Phases.{nodes_of, to_each, with_call, without_call, calls_now, bytes_of, stores}
-use Rattle.cluster_machine.specs.Rounds.{is_complete, rows_at, found, with_its_block, pushes_rows, pushes, synced, goes_on}
-use Rattle.cluster_machine.specs.Keeping.{AreDifferent, IsBare, AreBare, IsBareMessage, ArePosts, AreUpTo}
+use Rattle.cluster_machine.specs.Rounds.{is_complete, rows_at, with_its_block, pushes_rows, pushes, synced, goes_on}
+use Rattle.cluster_machine.specs.Keeping.{AreDifferent, ArePosts, AreUpTo}
 use Rattle.machine_origins.proofs.FollowingCalls.{was}
 use Rattle.crdt_core.proofs.Each.{all_append}
 
@@ -87,28 +86,27 @@ module _ {R : Type 0} where
   different_closed request calls differ d e at_d at_e same = differ d e (has_filter _ calls d at_d) (has_filter _ calls e at_e) same
 
 module _ {R L : Type 0} (k : Layouts L) where
-  -- from x to y, where B holds
-  pub record Stays (B : Type 0) (x y : Node R L) : Type 0 where
+  -- from x to y
+  pub record Stays (x y : Node R L) : Type 0 where
     pub newest_stays : newest k.reading y.view ≡ newest k.reading x.view
     pub calls : AtMostOneChanges x.calls y.calls
-    pub blocks : B → x.blocks ≡ [] → y.blocks ≡ []
 
-  pub record Keeps (B : Type 0) (x : Node R L) (d : Did R L) : Type 0 where
-    pub stays : Stays B x d.node
-    pub posts : x.blocks ≡ [] → ArePosts d.posts
+  pub record Keeps (x : Node R L) (d : Did R L) : Type 0 where
+    pub stays : Stays x d.node
+    pub posts : ArePosts d.posts
 
-  pub stays_self : (B : Type 0) (x : Node R L) → Stays B x x
-  stays_self B x = record { newest_stays = refl; calls = inl refl; blocks = λ b e. e }
+  pub stays_self : (x : Node R L) → Stays x x
+  stays_self x = record { newest_stays = refl; calls = inl refl }
 
-  pub keeps_quiet : (B : Type 0) (x y : Node R L) → Stays B x y → Keeps B x (quiet y)
-  keeps_quiet B x y h = record { stays = h; posts = λ e. tt }
+  pub keeps_quiet : (x y : Node R L) → Stays x y → Keeps x (quiet y)
+  keeps_quiet x y h = record { stays = h; posts = tt }
 
-  pub stays_called : (B : Type 0) (x : Node R L) (c : Call R) (n : ℕ) (p : Present R) → Stays B x (calls_now x (record c { phases = n; present = p }))
-  stays_called B x c n p = record { newest_stays = refl; calls = inr (record c { phases = n; present = p }, refl); blocks = λ b e. e }
+  pub stays_called : (x : Node R L) (c : Call R) (n : ℕ) (p : Present R) → Stays x (calls_now x (record c { phases = n; present = p }))
+  stays_called x c n p = record { newest_stays = refl; calls = inr (record c { phases = n; present = p }, refl) }
 
-  pub keeps_cond : (B : Type 0) (x : Node R L) (b : Bool) (d e : Did R L) → Keeps B x d → Keeps B x e → Keeps B x (cond b d e)
-  keeps_cond B x true d e h k = h
-  keeps_cond B x false d e h k = k
+  pub keeps_cond : (x : Node R L) (b : Bool) (d e : Did R L) → Keeps x d → Keeps x e → Keeps x (cond b d e)
+  keeps_cond x true d e h k = h
+  keeps_cond x false d e h k = k
 
 -- ---- views
 
@@ -134,69 +132,43 @@ module _ {R L : Type 0} (join : R → R → R) (s : Words R) (k : Layouts L) (id
   pub view_seen : (sees join s k id now x v).view ≡ v
   view_seen = elim (leb (oldest k.reading v) (oldest k.reading x.view)) as (λ b. (cond b new (drops join s k id now new)).view ≡ v) [ true ↦ refl | false ↦ refl ]
 
-  pub blocks_seen : (sees join s k id now x v).blocks ≡ x.blocks
-  blocks_seen = elim (leb (oldest k.reading v) (oldest k.reading x.view)) as (λ b. (cond b new (drops join s k id now new)).blocks ≡ x.blocks) [ true ↦ refl | false ↦ refl ]
-
 -- ---- posts
 
-pub bare_to_each : {R : Type 0} (L : Type 0) (nodes : List ℕ) (m : Message R) → IsBareMessage m → ArePosts {R = R} {L = L} (to_each nodes m)
-bare_to_each L [] m h = tt
-bare_to_each L (n ∷ nodes) m h = (h, bare_to_each L nodes m h)
-
-pub one_bare : (bytes : List ℕ) (given : Option (List ℕ)) → given ≡ None → AreBare ((bytes, given) ∷ [])
-one_bare bytes given e = All-cons IsBare (bytes, given) [] e (All-nil IsBare)
+pub posts_to_each : {R : Type 0} (L : Type 0) (nodes : List ℕ) (m : Message R) → ArePosts {R = R} {L = L} (to_each nodes m)
+posts_to_each L [] m = tt
+posts_to_each L (n ∷ nodes) m = (tt, posts_to_each L nodes m)
 
 module _ {R L : Type 0} (s : Words R) (k : Layouts L) where
-  pub bare_stores : (v : View L) (request phase slot : ℕ) (rows : List (R × Option (List ℕ))) → AreBare rows → ArePosts (stores s k v request phase slot rows)
-  bare_stores v request phase slot [] h = tt
-  bare_stores v request phase slot (r ∷ rows) h =
+  pub stores_posts : (v : View L) (request phase slot : ℕ) (rows : List (R × Option (List ℕ))) → ArePosts (stores s k v request phase slot rows)
+  stores_posts v request phase slot [] = tt
+  stores_posts v request phase slot (r ∷ rows) =
       let p = partition_of s r.0 in
       let m : Message R = Store (ForCall request phase slot) (newest k.reading v) p ((bytes_of s r.0, r.1) ∷ []) in
       all_append _ (to_each (nodes_of (stored_sets k v p)) m) (stores s k v request phase (suc slot) rows)
-      (bare_to_each L (nodes_of (stored_sets k v p)) m (one_bare (bytes_of s r.0) r.1 (All-head IsBare r rows h)))
-      (bare_stores v request phase (suc slot) rows (All-tail IsBare r rows h))
+      (posts_to_each L (nodes_of (stored_sets k v p)) m)
+      (stores_posts v request phase (suc slot) rows)
 
 module _ {R L : Type 0} (join : R → R → R) (s : Words R) (k : Layouts L) where
-  module _ (x : Node R L) (e : x.blocks ≡ []) where
-    none_found : (o : Option (List ℕ)) → found join s x o ≡ None
-    none_found None = refl
-    none_found (Some hash) = rw e refl
+  module _ (x : Node R L) where
+    rows_posts : (number p : ℕ) (nodes : List ℕ) (rows : List R) → ArePosts (pushes_rows join s k x number p nodes rows)
+    rows_posts number p nodes [] = tt
+    rows_posts number p nodes (r ∷ rows) = posts_to_each L nodes (Store (ForRound number p) (newest k.reading x.view) p (map (with_its_block join s x) (r ∷ rows)))
 
-    bare_rows : (rows : List R) → AreBare (map (with_its_block join s x) rows)
-    bare_rows rows = All-map IsBare (with_its_block join s x) rows (λ i d lt. none_found _)
-
-    bare_pushes_rows : (number p : ℕ) (nodes : List ℕ) (rows : List R) → ArePosts (pushes_rows join s k x number p nodes rows)
-    bare_pushes_rows number p nodes [] = tt
-    bare_pushes_rows number p nodes (r ∷ rows) = bare_to_each L nodes (Store (ForRound number p) (newest k.reading x.view) p (map (with_its_block join s x) (r ∷ rows))) (bare_rows (r ∷ rows))
-
-    pub bare_pushes : (number : ℕ) (nodes : Part → List ℕ) (parts : List Part) → ArePosts (flat_map (λ part. pushes join s k x number part.partition (nodes part)) parts)
-    bare_pushes number nodes [] = tt
-    bare_pushes number nodes (part ∷ parts) =
-        all_append _ (pushes join s k x number part.partition (nodes part)) _ (bare_pushes_rows number part.partition (nodes part) (rows_at join s x part.partition)) (bare_pushes number nodes parts)
+    pub pushes_posts : (number : ℕ) (nodes : Part → List ℕ) (parts : List Part) → ArePosts (flat_map (λ part. pushes join s k x number part.partition (nodes part)) parts)
+    pushes_posts number nodes [] = tt
+    pushes_posts number nodes (part ∷ parts) =
+        all_append _ (pushes join s k x number part.partition (nodes part)) _ (rows_posts number part.partition (nodes part) (rows_at join s x part.partition)) (pushes_posts number nodes parts)
 
   -- a round goes on or closes
-  pub stays_round : (id : ℕ) (x y : Node R L) (round : Round) → Stays k ⊤ x y → Stays k ⊤ x (goes_on join s k id y round)
-  stays_round id x y round h = elim (is_complete round) as (λ b. Stays k ⊤ x (cond b (synced join s k id y round) (record y { round = Some round }))) [
-    | true ↦ record { newest_stays = h.newest_stays; calls = h.calls; blocks = h.blocks }
-    | false ↦ record { newest_stays = h.newest_stays; calls = h.calls; blocks = h.blocks }
+  pub stays_round : (id : ℕ) (x y : Node R L) (round : Round) → Stays k x y → Stays k x (goes_on join s k id y round)
+  stays_round id x y round h = elim (is_complete round) as (λ b. Stays k x (cond b (synced join s k id y round) (record y { round = Some round }))) [
+    | true ↦ record { newest_stays = h.newest_stays; calls = h.calls }
+    | false ↦ record { newest_stays = h.newest_stays; calls = h.calls }
   ]
 
 -- ---- rows that come
 
-module _ {R : Type 0} (join : R → R → R) (s : Words R) where
-  no_block_after : (blocks : List Block) (needed given : Option (List ℕ)) → given ≡ None → blocks_after join s blocks needed given ≡ blocks
-  no_block_after blocks None given e = refl
-  no_block_after blocks (Some hash) given e = rw e refl
-
 module _ {R L : Type 0} (join : R → R → R) (s : Words R) where
-  blocks_read : (now : ℕ) (x : Node R L) (r : Option R) (given : Option (List ℕ)) → given ≡ None → (accepts_read join s now x r given).blocks ≡ x.blocks
-  blocks_read now x None given e = refl
-  blocks_read now x (Some r) given e = no_block_after join s x.blocks _ given e
-
-  pub blocks_all : (now : ℕ) (x : Node R L) (rows : List (List ℕ × Option (List ℕ))) → AreBare rows → (accepts_all join s now x rows).blocks ≡ x.blocks
-  blocks_all now x [] h = refl
-  blocks_all now x (r ∷ rows) h = blocks_all now (accepts_read join s now x (s.read r.0) r.1) rows (All-tail IsBare r rows h) ∙ blocks_read now x (s.read r.0) r.1 (All-head IsBare r rows h)
-
   view_read : (now : ℕ) (x : Node R L) (r : Option R) (given : Option (List ℕ)) → (accepts_read join s now x r given).view ≡ x.view
   view_read now x None given = refl
   view_read now x (Some r) given = refl

@@ -1,5 +1,5 @@
 -- What each handler of a node keeps.
-use Rattle.std.specs.Prelude.{◌≡◌, ◌≤◌, ℕ, suc, max, Bool, true, false, not, cond, ◌==◌, nat_lt, IsTrue, List, [], ◌∷◌, ◌++◌, Option, Some, None, refl, ⊤}
+use Rattle.std.specs.Prelude.{◌≡◌, ◌≤◌, ℕ, suc, max, Bool, true, false, not, cond, ◌==◌, nat_lt, IsTrue, List, [], ◌∷◌, ◌++◌, Option, Some, None, refl}
 use Rattle.std.specs.List.{filter, flat_map}
 use Rattle.std.proofs.Common.{ap, sym, subst, ◌∙◌, inl, arith}
 use Rattle.view_model.specs.View.{is_gapless, newest, read_version, merged, cleaned}
@@ -22,41 +22,41 @@ use Rattle.cluster_machine.specs.Rows.{accepts_all, block_at, sees}
 use Rattle.cluster_machine.specs.Phases.{nodes_of, calls_now, call_at, asked, looked, stored, bytes_of, begins, value_after, row_came, rows_came, stored_came, block_came, at_call}
 use Rattle.cluster_machine.specs.Rounds.{open_nodes, open_parts, goes_on, may_sync, begin_round}
 use Rattle.cluster_machine.specs.Receives.{answers, where_stored, gives_block, takes, round_came, confirms, hears, receives}
-use Rattle.cluster_machine.specs.Acts.{Acted, item_posts, stays, syncs, acts}
-use Rattle.cluster_machine.specs.Keeping.{AreBare, IsBareMessage, IsBarePacket, IsBarePhase, ArePosts, IsUpTo}
+use Rattle.cluster_machine.specs.Acts.{Acted, item_posts, syncs, acts}
+use Rattle.cluster_machine.specs.Keeping.{ArePosts, IsUpTo}
 use Rattle.machine_origins.proofs.FollowingSteps.{calls_all, calls_seen, round_begun}
-use Rattle.machine_origins.proofs.KeepingNodes.{AtMostOneChanges, Stays, Keeps, stays_self, stays_called, keeps_quiet, keeps_cond, newest_cleaned, view_seen, blocks_seen, bare_to_each, one_bare, bare_stores, bare_pushes, blocks_all, view_all, stays_round}
+use Rattle.machine_origins.proofs.KeepingNodes.{AtMostOneChanges, Stays, Keeps, stays_self, stays_called, keeps_quiet, keeps_cond, newest_cleaned, view_seen, posts_to_each, stores_posts, pushes_posts, view_all, stays_round}
 use Rattle.crdt_core.proofs.Each.{all_append}
 
 module _ {R L : Type 0} (k : Layouts L) (x : Node R L) where
-  pub keeps_self : Keeps k ⊤ x (quiet x)
-  keeps_self = keeps_quiet k ⊤ x x (stays_self k ⊤ x)
+  pub keeps_self : Keeps k x (quiet x)
+  keeps_self = keeps_quiet k x x (stays_self k x)
 
   -- a call changes, and nothing is sent
-  pub keeps_called : (c : Call R) (p : Present R) (d : Did R L) → d.node ≡ calls_now x (record c { present = p }) → d.posts ≡ [] → Keeps k ⊤ x d
-  keeps_called c p d node posts = record { stays = rw node (stays_called k ⊤ x c c.phases p); posts = λ e. rw posts tt }
+  pub keeps_called : (c : Call R) (p : Present R) (d : Did R L) → d.node ≡ calls_now x (record c { present = p }) → d.posts ≡ [] → Keeps k x d
+  keeps_called c p d node posts = record { stays = rw node (stays_called k x c c.phases p); posts = rw posts tt }
 
-  pub keeps_answer : (B : Type 0) (y : Node R L) (to : ℕ) (m : Message R) → IsBareMessage m → Stays k B x y → Keeps k B x (answers y to m)
-  keeps_answer B y to m bare h = record { stays = h; posts = λ e. (bare, tt) }
+  pub keeps_answer : (y : Node R L) (to : ℕ) (m : Message R) → Stays k x y → Keeps k x (answers y to m)
+  keeps_answer y to m h = record { stays = h; posts = (tt, tt) }
 
-  pub keeps_at_call : (phase : ℕ) (f : Call R → Did R L) (o : Option (Call R)) → ((c : Call R) → Keeps k ⊤ x (f c)) → Keeps k ⊤ x (at_call x phase f o)
+  pub keeps_at_call : (phase : ℕ) (f : Call R → Did R L) (o : Option (Call R)) → ((c : Call R) → Keeps k x (f c)) → Keeps k x (at_call x phase f o)
   keeps_at_call phase f None h = keeps_self
-  keeps_at_call phase f (Some c) h = keeps_cond k ⊤ x (c.phases == phase) (f c) (quiet x) (h c) keeps_self
+  keeps_at_call phase f (Some c) h = keeps_cond k x (c.phases == phase) (f c) (quiet x) (h c) keeps_self
 
   module _ (c : Call R) where
-    keeps_asked : (q : Question R) (as' : List (ℕ × Option R)) (a : ℕ × Option R) (value : Option (Option R)) → Keeps k ⊤ x (asked x c q as' a value)
+    keeps_asked : (q : Question R) (as' : List (ℕ × Option R)) (a : ℕ × Option R) (value : Option (Option R)) → Keeps k x (asked x c q as' a value)
     keeps_asked q as' a None = keeps_called c _ _ refl refl
     keeps_asked q as' a (Some value) = keeps_called c _ _ refl refl
 
-    keeps_looked : (q : Scan R) (as' : List (ℕ × RangeAnswer R)) (a : ℕ × RangeAnswer R) (w : Option (Window R)) → Keeps k ⊤ x (looked x c q as' a w)
+    keeps_looked : (q : Scan R) (as' : List (ℕ × RangeAnswer R)) (a : ℕ × RangeAnswer R) (w : Option (Window R)) → Keeps k x (looked x c q as' a w)
     keeps_looked q as' a None = keeps_called c _ _ refl refl
     keeps_looked q as' a (Some w) = keeps_called c _ _ refl refl
 
-    keeps_stored : (rows : List R) (slots : List StoreSlot) (b : Bool) → Keeps k ⊤ x (stored x c rows slots b)
+    keeps_stored : (rows : List R) (slots : List StoreSlot) (b : Bool) → Keeps k x (stored x c rows slots b)
     keeps_stored rows slots false = keeps_called c _ _ refl refl
     keeps_stored rows slots true = keeps_called c _ _ refl refl
 
-    pub keeps_block : (bytes : List ℕ) (p : Present R) → Keeps k ⊤ x (block_came x c bytes p)
+    pub keeps_block : (bytes : List ℕ) (p : Present R) → Keeps k x (block_came x c bytes p)
     keeps_block bytes resting = keeps_self
     keeps_block bytes (asking q as') = keeps_self
     keeps_block bytes (scanning q as') = keeps_self
@@ -64,21 +64,21 @@ module _ {R L : Type 0} (k : Layouts L) (x : Node R L) where
     keeps_block bytes (fetching hash) = keeps_called c _ _ refl refl
 
     module _ (join : R → R → R) (s : Words R) where
-      pub keeps_row : (from : ℕ) (row : Option R) (p : Present R) → Keeps k ⊤ x (row_came join x c from row p)
+      pub keeps_row : (from : ℕ) (row : Option R) (p : Present R) → Keeps k x (row_came join x c from row p)
       keeps_row from row resting = keeps_self
       keeps_row from row (asking q as') = keeps_asked q as' (from, row) (value_after join q as' (from, row))
       keeps_row from row (scanning q as') = keeps_self
       keeps_row from row (storing rows slots) = keeps_self
       keeps_row from row (fetching hash) = keeps_self
 
-      pub keeps_rows : (from : ℕ) (rows : List R) (more : Bool) (p : Present R) → Keeps k ⊤ x (rows_came join s x c from rows more p)
+      pub keeps_rows : (from : ℕ) (rows : List R) (more : Bool) (p : Present R) → Keeps k x (rows_came join s x c from rows more p)
       keeps_rows from rows more resting = keeps_self
       keeps_rows from rows more (asking q as') = keeps_self
       keeps_rows from rows more (scanning q as') = keeps_looked q as' _ _
       keeps_rows from rows more (storing others slots) = keeps_self
       keeps_rows from rows more (fetching hash) = keeps_self
 
-    pub keeps_confirmed : (slot from : ℕ) (p : Present R) → Keeps k ⊤ x (stored_came k x c slot from p)
+    pub keeps_confirmed : (slot from : ℕ) (p : Present R) → Keeps k x (stored_came k x c slot from p)
     keeps_confirmed slot from resting = keeps_self
     keeps_confirmed slot from (asking q as') = keeps_self
     keeps_confirmed slot from (scanning q as') = keeps_self
@@ -86,39 +86,37 @@ module _ {R L : Type 0} (k : Layouts L) (x : Node R L) where
     keeps_confirmed slot from (fetching hash) = keeps_self
 
 module _ {R L : Type 0} (join : R → R → R) (s : Words R) (k : Layouts L) (x : Node R L) where
-  keeps_where : (from request phase at : ℕ) (d : Did R L) → Keeps k ⊤ x d → Keeps k ⊤ x (where_stored join s k x from request phase at d)
-  keeps_where from request phase at d h = keeps_cond k ⊤ x (is_stored k x.view at) d _ h (keeps_answer k x ⊤ x from _ tt (stays_self k ⊤ x))
+  keeps_where : (from request phase at : ℕ) (d : Did R L) → Keeps k x d → Keeps k x (where_stored join s k x from request phase at d)
+  keeps_where from request phase at d h = keeps_cond k x (is_stored k x.view at) d _ h (keeps_answer k x x from _ (stays_self k x))
 
-  keeps_gives_block : (from request phase : ℕ) (b : Option (List ℕ)) → Keeps k ⊤ x (gives_block join s k x from request phase b)
-  keeps_gives_block from request phase None = keeps_answer k x ⊤ x from _ tt (stays_self k ⊤ x)
-  keeps_gives_block from request phase (Some bytes) = keeps_answer k x ⊤ x from _ tt (stays_self k ⊤ x)
+  keeps_gives_block : (from request phase : ℕ) (b : Option (List ℕ)) → Keeps k x (gives_block join s k x from request phase b)
+  keeps_gives_block from request phase None = keeps_answer k x x from _ (stays_self k x)
+  keeps_gives_block from request phase (Some bytes) = keeps_answer k x x from _ (stays_self k x)
 
-  keeps_takes : (id now from : ℕ) (tag : Tag) (named p : ℕ) (rows : List (List ℕ × Option (List ℕ))) → Keeps k (AreBare rows) x (takes join s k id now x from tag named p rows)
+  keeps_takes : (id now from : ℕ) (tag : Tag) (named p : ℕ) (rows : List (List ℕ × Option (List ℕ))) → Keeps k x (takes join s k id now x from tag named p rows)
   keeps_takes id now from tag named p rows =
-      let B = AreBare rows in
-      keeps_cond k B x (nat_lt (newest k.reading x.view) named) _ _ (keeps_answer k x B x from _ tt (stays_self k B x))
-      (keeps_cond k B x (not (is_given k x.view id p)) _ _ (keeps_answer k x B x from _ tt (stays_self k B x))
-      (keeps_answer k x B (accepts_all join s now x rows) from _ tt (record {
+      keeps_cond k x (nat_lt (newest k.reading x.view) named) _ _ (keeps_answer k x x from _ (stays_self k x))
+      (keeps_cond k x (not (is_given k x.view id p)) _ _ (keeps_answer k x x from _ (stays_self k x))
+      (keeps_answer k x (accepts_all join s now x rows) from _ (record {
         newest_stays = ap (newest k.reading) (view_all join s now x rows);
         calls = inl (calls_all join s k now x rows);
-        blocks = λ bare e. blocks_all join s now x rows bare ∙ e;
       })))
 
-  keeps_round : (id from number p : ℕ) (o : Option Round) → Keeps k ⊤ x (round_came join s k id x from number p o)
+  keeps_round : (id from number p : ℕ) (o : Option Round) → Keeps k x (round_came join s k id x from number p o)
   keeps_round id from number p None = keeps_self k x
   keeps_round id from number p (Some round) =
       let now : Round = record round { confirmed = round.confirmed ++ record { partition = p; node = from } ∷ [] } in
-      keeps_cond k ⊤ x (round.number == number) (quiet (goes_on join s k id x now)) (quiet x) (keeps_quiet k ⊤ x (goes_on join s k id x now) (stays_round join s k id x x now (stays_self k ⊤ x))) (keeps_self k x)
+      keeps_cond k x (round.number == number) (quiet (goes_on join s k id x now)) (quiet x) (keeps_quiet k x (goes_on join s k id x now) (stays_round join s k id x x now (stays_self k x))) (keeps_self k x)
 
-  keeps_confirms : (id from : ℕ) (tag : Tag) → Keeps k ⊤ x (confirms join s k id x from tag)
+  keeps_confirms : (id from : ℕ) (tag : Tag) → Keeps k x (confirms join s k id x from tag)
   keeps_confirms id from (ForCall request phase slot) = keeps_at_call k x phase _ (call_at x.calls request) (λ c. keeps_confirmed k x c slot from c.present)
   keeps_confirms id from (ForRound number p) = keeps_round id from number p x.round
-  keeps_confirms id from (ForItem number) = keeps_quiet k ⊤ x _ (record { newest_stays = refl; calls = inl refl; blocks = λ b e. e })
+  keeps_confirms id from (ForItem number) = keeps_quiet k x _ (record { newest_stays = refl; calls = inl refl })
 
-  pub keeps_hears : (id now from : ℕ) (m : Message R) → Keeps k (IsBareMessage m) x (hears join s k id now x from m)
-  keeps_hears id now from (Get request phase at table key) = keeps_where from request phase at _ (record { stays = stays_self k ⊤ x; posts = λ e. (tt, tt) })
+  pub keeps_hears : (id now from : ℕ) (m : Message R) → Keeps k x (hears join s k id now x from m)
+  keeps_hears id now from (Get request phase at table key) = keeps_where from request phase at _ (record { stays = stays_self k x; posts = (tt, tt) })
   keeps_hears id now from (Row request phase row) = keeps_at_call k x phase _ (call_at x.calls request) (λ c. keeps_row k x c join s from row c.present)
-  keeps_hears id now from (Range request phase at bucket prefix after) = keeps_where from request phase at _ (record { stays = stays_self k ⊤ x; posts = λ e. (tt, tt) })
+  keeps_hears id now from (Range request phase at bucket prefix after) = keeps_where from request phase at _ (record { stays = stays_self k x; posts = (tt, tt) })
   keeps_hears id now from (Rows request phase found more) = keeps_at_call k x phase _ (call_at x.calls request) (λ c. keeps_rows k x c join s from found more c.present)
   keeps_hears id now from (Store tag named p rows) = keeps_takes id now from tag named p rows
   keeps_hears id now from (Stored tag) = keeps_confirms id from tag
@@ -135,70 +133,65 @@ module _ {R L : Type 0} (join : R → R → R) (s : Words R) (k : Layouts L) (x 
       let most : max (newest k.reading x.view) (newest k.reading v) ≤ n = (let other = h.1 in omega arith) in
       subst (λ a. a ≤ n) (sym (ap (newest k.reading) (view_seen join s k id now x (merged k.reading x.view v)) ∙ both)) most
 
-  pub posts_received : (id now from : ℕ) (packet : Packet R L) → x.blocks ≡ [] → ArePosts (receives join s k id now x from packet).posts
-  posts_received id now from (says m) e = (keeps_hears id now from m).posts e
-  posts_received id now from (shows v) e = tt
+  pub posts_received : (id now from : ℕ) (packet : Packet R L) → ArePosts (receives join s k id now x from packet).posts
+  posts_received id now from (says m) = (keeps_hears id now from m).posts
+  posts_received id now from (shows v) = tt
 
   pub calls_received : (id now from : ℕ) (packet : Packet R L) → AtMostOneChanges x.calls (receives join s k id now x from packet).node.calls
   calls_received id now from (says m) = (keeps_hears id now from m).stays.calls
   calls_received id now from (shows v) = inl (calls_seen join s k id now x (merged k.reading x.view v))
 
-  pub blocks_received : (id now from : ℕ) (packet : Packet R L) → IsBarePacket packet → x.blocks ≡ [] → (receives join s k id now x from packet).node.blocks ≡ []
-  blocks_received id now from (says m) bare e = (keeps_hears id now from m).stays.blocks bare e
-  blocks_received id now from (shows v) bare e = blocks_seen join s k id now x (merged k.reading x.view v) ∙ e
-
-  keeps_acted : (b : Bool) (d e : Acted R L) → Keeps k ⊤ x d.did → Keeps k ⊤ x e.did → Keeps k ⊤ x (cond b d e).did
+  keeps_acted : (b : Bool) (d e : Acted R L) → Keeps k x d.did → Keeps k x e.did → Keeps k x (cond b d e).did
   keeps_acted true d e h k = h
   keeps_acted false d e h k = k
 
-  keeps_begun : (id : ℕ) → Keeps k ⊤ x (begin_round join s k id x)
+  keeps_begun : (id : ℕ) → Keeps k x (begin_round join s k id x)
   keeps_begun id =
       let round = round_begun join s k id x in record {
-        stays = stays_round join s k id x (record x { rounds = suc x.rounds }) round (record { newest_stays = refl; calls = inl refl; blocks = λ b e. e });
-        posts = λ e. bare_pushes join s k x e round.number (open_nodes round) round.parts;
+        stays = stays_round join s k id x (record x { rounds = suc x.rounds }) round (record { newest_stays = refl; calls = inl refl });
+        posts = pushes_posts join s k x round.number (open_nodes round) round.parts;
       }
 
-  keeps_syncs : (id : ℕ) (o : Option Round) → Keeps k ⊤ x (syncs join s k id x o).did
-  keeps_syncs id (Some round) = record { stays = stays_self k ⊤ x; posts = λ e. bare_pushes join s k x e round.number (open_nodes round) (open_parts round) }
+  keeps_syncs : (id : ℕ) (o : Option Round) → Keeps k x (syncs join s k id x o).did
+  keeps_syncs id (Some round) = record { stays = stays_self k x; posts = pushes_posts join s k x round.number (open_nodes round) (open_parts round) }
   keeps_syncs id None = keeps_acted (may_sync join s k id x.view) _ _ (keeps_begun id) (keeps_self k x)
 
-  bare_items : (items : List (Item R)) → ArePosts (flat_map (item_posts join s k x.view) items)
-  bare_items [] = tt
-  bare_items (item ∷ items) =
+  posts_items : (items : List (Item R)) → ArePosts (flat_map (item_posts join s k x.view) items)
+  posts_items [] = tt
+  posts_items (item ∷ items) =
       let p = partition_of s item.row in
       let m : Message R = Store (ForItem item.number) (newest k.reading x.view) p ((bytes_of s item.row, None) ∷ []) in
-      all_append _ (item_posts join s k x.view item) _ (bare_to_each L (nodes_of (stored_sets k x.view p)) m (one_bare (bytes_of s item.row) None refl)) (bare_items items)
+      all_append _ (item_posts join s k x.view item) _ (posts_to_each L (nodes_of (stored_sets k x.view p)) m) (posts_items items)
 
-  pub keeps_acts : (id now : ℕ) (action : Action) → Keeps k ⊤ x (acts join s k id now x action).did
-  keeps_acts id now RaiseAck = keeps_quiet k ⊤ x _ (record { newest_stays = refl; calls = inl refl; blocks = λ b e. e })
+  pub keeps_acts : (id now : ℕ) (action : Action) → Keeps k x (acts join s k id now x action).did
+  keeps_acts id now RaiseAck = keeps_quiet k x _ (record { newest_stays = refl; calls = inl refl })
   keeps_acts id now GoOn = keeps_syncs id x.round
-  keeps_acts id now RaiseSyncAck = keeps_quiet k ⊤ x _ (record { newest_stays = refl; calls = inl refl; blocks = λ b e. e })
+  keeps_acts id now RaiseSyncAck = keeps_quiet k x _ (record { newest_stays = refl; calls = inl refl })
   keeps_acts id now Clean =
       let v = cleaned k.reading x.view in
-      keeps_quiet k ⊤ x (sees join s k id now x v) (record {
+      keeps_quiet k x (sees join s k id now x v) (record {
         newest_stays = ap (newest k.reading) (view_seen join s k id now x v) ∙ newest_cleaned k x.view;
         calls = inl (calls_seen join s k id now x v);
-        blocks = λ b e. blocks_seen join s k id now x v ∙ e;
       })
   keeps_acts id now Work = record {
-    stays = record { newest_stays = refl; calls = inl refl; blocks = λ b e. subst (λ bs. filter (stays join s now x) bs ≡ []) (sym e) refl };
-    posts = λ e. bare_items x.items;
+    stays = record { newest_stays = refl; calls = inl refl };
+    posts = posts_items x.items;
   }
   keeps_acts id now Repair = record {
-    stays = record { newest_stays = refl; calls = inl refl; blocks = λ b e. e };
-    posts = λ e. bare_pushes join s k x e (suc x.rounds) (λ part. filter (λ n. not (n == id)) part.set) _;
+    stays = record { newest_stays = refl; calls = inl refl };
+    posts = pushes_posts join s k x (suc x.rounds) (λ part. filter (λ n. not (n == id)) part.set) _;
   }
 
 module _ {R L : Type 0} (s : Words R) (k : Layouts L) (kept : List R) (x : Node R L) (c : Call R) where
   -- a call's phase begins
-  pub stays_begins : (phase : Phase R) → Stays k ⊤ x (begins s k kept x c phase).node
-  stays_begins (Read table position key) = stays_called k ⊤ x c _ _
-  stays_begins (Scans position prefix after) = stays_called k ⊤ x c _ _
-  stays_begins (Saves rows) = stays_called k ⊤ x c _ _
-  stays_begins (Fetches hash) = stays_called k ⊤ x c _ _
+  pub stays_begins : (phase : Phase R) → Stays k x (begins s k kept x c phase).node
+  stays_begins (Read table position key) = stays_called k x c _ _
+  stays_begins (Scans position prefix after) = stays_called k x c _ _
+  stays_begins (Saves rows) = stays_called k x c _ _
+  stays_begins (Fetches hash) = stays_called k x c _ _
 
-  pub bare_begins : (phase : Phase R) → IsBarePhase phase → ArePosts (begins s k kept x c phase).posts
-  bare_begins (Read table position key) h = bare_to_each L (set_at k x.view (read_version k.reading x.view) (partition_at position.0)) _ tt
-  bare_begins (Scans position prefix after) h = bare_to_each L (set_at k x.view (read_version k.reading x.view) (partition_at position.0)) _ tt
-  bare_begins (Saves rows) h = bare_stores s k x.view c.request (suc c.phases) 0 rows h
-  bare_begins (Fetches hash) h = bare_to_each L (set_at k x.view (read_version k.reading x.view) (partition_at hash.0)) _ tt
+  pub begins_posts : (phase : Phase R) → ArePosts (begins s k kept x c phase).posts
+  begins_posts (Read table position key) = posts_to_each L (set_at k x.view (read_version k.reading x.view) (partition_at position.0)) _
+  begins_posts (Scans position prefix after) = posts_to_each L (set_at k x.view (read_version k.reading x.view) (partition_at position.0)) _
+  begins_posts (Saves rows) = stores_posts s k x.view c.request (suc c.phases) 0 rows
+  begins_posts (Fetches hash) = posts_to_each L (set_at k x.view (read_version k.reading x.view) (partition_at hash.0)) _

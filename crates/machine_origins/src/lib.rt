@@ -4,7 +4,8 @@
 //! `every_read_gives_stored_rows` says that each row that a read gives comes from rows that store phases began to store,
 //! by merges and by what merges call for; and that a read phase gives a row of the table and key that it asked
 //! for. `phases_follow` says of what a node does which of its requests' phases go on and which end. `handlers_keep` says
-//! what holds of a node and of its packets whatever it does: no blocks, and no version or request above a number.
+//! what holds of a node whatever it does: it sends messages alone, and knows no version or request above a number.
+//! `handlers_stay_bare` says that a node without blocks sends none.
 //!
 //! `R` is what a row is, `L` what a layout is, `A` what is printed of one, `C` what shows that there is none.
 #![tactic(auto)]
@@ -26,7 +27,8 @@ ghost use Rattle.cluster_machine.specs.World.{empty};
 ghost use Rattle.cluster_machine.specs.Run.{Move, IsRun, run};
 ghost use Rattle.machine_origins.specs.Origins.{stored_in, ComesFrom, Gave};
 ghost use Rattle.view_model.specs.View.{is_gapless, newest};
-ghost use Rattle.cluster_machine.specs.Keeping.{AreDifferent, IsBarePacket, IsBarePhase, ArePosts, IsUpTo, AreUpTo};
+ghost use Rattle.cluster_machine.specs.Keeping.{AreDifferent, ArePosts, IsUpTo, AreUpTo};
+ghost use Rattle.cluster_machine.specs.Bare.{IsBarePacket, IsBarePhase, AreBarePosts};
 ghost use Rattle.machine_origins.specs.Following.{Follows, Begins};
 
 /// In every run of the cluster's machine each row that a read or range phase gave comes from rows that store phases
@@ -53,26 +55,34 @@ pub fn phases_follow<R, L>()
         AreDifferent x.calls → call_at x.calls request ≡ Option.Some c → Begins kept x c phase (begins s k kept x c phase) }
 {}
 
-/// After a message came, after an action, and after a phase began: a node without blocks sent none and is still without;
-/// its newest version and its requests' numbers are still at most a number, and no two of its requests have one number,
-/// nor have they after one was opened or closed.
+/// After a message came, after an action, and after a phase began: a node sent messages alone; its newest version and its
+/// requests' numbers are still at most a number, and no two of its requests have one number, nor have they after one was
+/// opened or closed.
 pub fn handlers_keep<R, L>()
-    ensures received_posts { (join : R → R → R) (s : Words R) (k : Layouts L) (id now from : ℕ) (x : Node R L) (packet : Packet R L) → x.blocks ≡ [] → ArePosts (receives join s k id now x from packet).posts }
+    ensures received_posts { (join : R → R → R) (s : Words R) (k : Layouts L) (id now from : ℕ) (x : Node R L) (packet : Packet R L) → ArePosts (receives join s k id now x from packet).posts }
     ensures received_versions { (join : R → R → R) (s : Words R) (k : Layouts L) (id now from : ℕ) (x : Node R L) (packet : Packet R L) (n : ℕ) →
         IsTrue (is_gapless k.reading x.view.layouts) → newest k.reading x.view ≤ n → IsUpTo k n packet → newest k.reading (receives join s k id now x from packet).node.view ≤ n }
     ensures received_requests { (join : R → R → R) (s : Words R) (k : Layouts L) (id now from : ℕ) (x : Node R L) (packet : Packet R L) (n : ℕ) → AreUpTo n x.calls → AreUpTo n (receives join s k id now x from packet).node.calls }
     ensures received_different { (join : R → R → R) (s : Words R) (k : Layouts L) (id now from : ℕ) (x : Node R L) (packet : Packet R L) → AreDifferent x.calls → AreDifferent (receives join s k id now x from packet).node.calls }
-    ensures received_without_blocks { (join : R → R → R) (s : Words R) (k : Layouts L) (id now from : ℕ) (x : Node R L) (packet : Packet R L) → IsBarePacket packet → x.blocks ≡ [] → (receives join s k id now x from packet).node.blocks ≡ [] }
-    ensures acted_posts { (join : R → R → R) (s : Words R) (k : Layouts L) (id now : ℕ) (x : Node R L) (action : Action) → x.blocks ≡ [] → ArePosts (acts join s k id now x action).did.posts }
+    ensures acted_posts { (join : R → R → R) (s : Words R) (k : Layouts L) (id now : ℕ) (x : Node R L) (action : Action) → ArePosts (acts join s k id now x action).did.posts }
     ensures acted_versions { (join : R → R → R) (s : Words R) (k : Layouts L) (id now : ℕ) (x : Node R L) (action : Action) (n : ℕ) → newest k.reading x.view ≤ n → newest k.reading (acts join s k id now x action).did.node.view ≤ n }
     ensures acted_requests { (join : R → R → R) (s : Words R) (k : Layouts L) (id now : ℕ) (x : Node R L) (action : Action) (n : ℕ) → AreUpTo n x.calls → AreUpTo n (acts join s k id now x action).did.node.calls }
     ensures acted_different { (join : R → R → R) (s : Words R) (k : Layouts L) (id now : ℕ) (x : Node R L) (action : Action) → AreDifferent x.calls → AreDifferent (acts join s k id now x action).did.node.calls }
-    ensures acted_without_blocks { (join : R → R → R) (s : Words R) (k : Layouts L) (id now : ℕ) (x : Node R L) (action : Action) → x.blocks ≡ [] → (acts join s k id now x action).did.node.blocks ≡ [] }
-    ensures begun_posts { (s : Words R) (k : Layouts L) (kept : List R) (x : Node R L) (c : Call R) (phase : Phase R) → IsBarePhase phase → ArePosts (begins s k kept x c phase).posts }
+    ensures begun_posts { (s : Words R) (k : Layouts L) (kept : List R) (x : Node R L) (c : Call R) (phase : Phase R) → ArePosts (begins s k kept x c phase).posts }
     ensures begun_versions { (s : Words R) (k : Layouts L) (kept : List R) (x : Node R L) (c : Call R) (phase : Phase R) (n : ℕ) → newest k.reading x.view ≤ n → newest k.reading (begins s k kept x c phase).node.view ≤ n }
     ensures begun_requests { (s : Words R) (k : Layouts L) (kept : List R) (x : Node R L) (c : Call R) (phase : Phase R) (n : ℕ) → AreUpTo n x.calls → AreUpTo n (begins s k kept x c phase).node.calls }
     ensures begun_different { (s : Words R) (k : Layouts L) (kept : List R) (x : Node R L) (c : Call R) (phase : Phase R) → AreDifferent x.calls → AreDifferent (begins s k kept x c phase).node.calls }
-    ensures begun_without_blocks { (s : Words R) (k : Layouts L) (kept : List R) (x : Node R L) (c : Call R) (phase : Phase R) → x.blocks ≡ [] → (begins s k kept x c phase).node.blocks ≡ [] }
     ensures opened_different { (request start : ℕ) (x : Node R L) (n : ℕ) → AreUpTo n x.calls → n < request → AreDifferent x.calls → AreDifferent (opened request start x).calls }
     ensures closed_different { (request : ℕ) (x : Node R L) → AreDifferent x.calls → AreDifferent (closed request x).calls }
+{}
+
+/// After a message came, after an action, and after a phase began: a node without blocks sent none, whatever came, and is
+/// still without where what came had none.
+pub fn handlers_stay_bare<R, L>()
+    ensures received_posts { (join : R → R → R) (s : Words R) (k : Layouts L) (id now from : ℕ) (x : Node R L) (packet : Packet R L) → x.blocks ≡ [] → AreBarePosts (receives join s k id now x from packet).posts }
+    ensures received_blocks { (join : R → R → R) (s : Words R) (k : Layouts L) (id now from : ℕ) (x : Node R L) (packet : Packet R L) → IsBarePacket packet → x.blocks ≡ [] → (receives join s k id now x from packet).node.blocks ≡ [] }
+    ensures acted_posts { (join : R → R → R) (s : Words R) (k : Layouts L) (id now : ℕ) (x : Node R L) (action : Action) → x.blocks ≡ [] → AreBarePosts (acts join s k id now x action).did.posts }
+    ensures acted_blocks { (join : R → R → R) (s : Words R) (k : Layouts L) (id now : ℕ) (x : Node R L) (action : Action) → x.blocks ≡ [] → (acts join s k id now x action).did.node.blocks ≡ [] }
+    ensures begun_posts { (s : Words R) (k : Layouts L) (kept : List R) (x : Node R L) (c : Call R) (phase : Phase R) → IsBarePhase phase → AreBarePosts (begins s k kept x c phase).posts }
+    ensures begun_blocks { (s : Words R) (k : Layouts L) (kept : List R) (x : Node R L) (c : Call R) (phase : Phase R) → x.blocks ≡ [] → (begins s k kept x c phase).node.blocks ≡ [] }
 {}

@@ -21,12 +21,11 @@ module _ {R : Type 0} where
   pub record IsSoundNode (versions requests : ℕ) (x : Node R Layout) : Type 0 where
     pub version : newest reading x.view ≤ versions
     pub gapless : IsTrue (is_gapless reading x.view.layouts)
-    pub blocks : x.blocks ≡ []
     pub numbers : AreUpTo requests x.calls
     pub different : AreDifferent x.calls
 
   pub node_of : (w : Model R) → IsSound w → (n : ℕ) → IsSoundNode w.applied (length w.requests) (w.nodes n)
-  node_of w h n = record { version = h.versions n; gapless = h.gapless n; blocks = h.blocks n; numbers = h.requests n; different = h.different n }
+  node_of w h n = record { version = h.versions n; gapless = h.gapless n; numbers = h.requests n; different = h.different n }
 
   pub up_to_more : (a b : ℕ) (calls : List (Call R)) → a ≤ b → AreUpTo a calls → AreUpTo b calls
   up_to_more a b calls low h = All-weaker (λ c. c.request ≤ a) (λ c. c.request ≤ b) (λ c is. omega arith) calls h
@@ -35,14 +34,13 @@ module _ {R : Type 0} where
   node_grows v r versions requests x low below h = let is = h.version in record {
     version = omega arith;
     gapless = h.gapless;
-    blocks = h.blocks;
     numbers = up_to_more r requests x.calls below h.numbers;
     different = h.different;
   }
 
   usual_more : (v versions : ℕ) (p : Packet R Layout) → v ≤ versions → IsUsual v p → IsUsual versions p
-  usual_more v versions (says m) low h = h
-  usual_more v versions (shows view) low h = let is = h.1.1 in (h.0, (h.1.0, omega arith))
+  usual_more v versions (says m) low h = tt
+  usual_more v versions (shows view) low h = let is = h.1 in (h.0, omega arith)
 
   pub all_usual_more : (v versions : ℕ) (ms : List (Sent R Layout)) → v ≤ versions → AllByRecursion (λ m. IsUsual v m.packet) ms → AllByRecursion (λ m. IsUsual versions m.packet) ms
   all_usual_more v versions ms low h = all_weaker _ _ (λ m is. usual_more v versions m.packet low is) ms h
@@ -61,7 +59,6 @@ module _ {R : Type 0} where
         versions = λ n. (fine.nodes n).version;
         gapless = λ n. (fine.nodes n).gapless;
         messages = all_append _ w.messages e.sends (all_usual_more w.applied (w.applied + e.applies) w.messages low h.messages) (all_usual_more w.applied (w.applied + e.applies) e.sends low fine.sends);
-        blocks = λ n. (fine.nodes n).blocks;
         requests = λ n. subst (λ r. AreUpTo r (changed e.nodes w.nodes n).calls) (sym count) (fine.nodes n).numbers;
         different = λ n. (fine.nodes n).different;
       }

@@ -8,7 +8,6 @@ use Rattle.view_model.specs.View.{newest, is_gapless}
 use Rattle.view_model.proofs.ReadVersions.{gapless_appended, newest_appended}
 use Rattle.table_schema.specs.Words.{Words}
 use Rattle.wire_messages.specs.declared.phase.Phase.{Phase}
-use Rattle.wire_messages.specs.declared.phase.Phase.TheVariants.{Read, Range, Store, Block}
 use Rattle.cluster_machine.specs.declared.step.Action.{Action}
 use Rattle.cluster_machine.specs.Node.{Call, Node, Packet, says, shows, Post, Did, quiet}
 use Rattle.cluster_machine.specs.Phases.{begins}
@@ -16,9 +15,9 @@ use Rattle.cluster_machine.specs.Receives.{receives}
 use Rattle.cluster_machine.specs.Acts.{acts, appends}
 use Rattle.cluster_machine.specs.World.{Sent}
 use Rattle.cluster_machine.specs.Step.{only, sent_by}
-use Rattle.cluster_machine.specs.Keeping.{IsPost, IsBarePhase, ArePosts, IsShort}
+use Rattle.cluster_machine.specs.Keeping.{IsPost, ArePosts}
 use Rattle.machine_origins.proofs.KeepingNodes.{stay_up_to, stay_different}
-use Rattle.machine_origins.proofs.KeepingSteps.{posts_received, newest_received, calls_received, blocks_received, keeps_acts, stays_begins, bare_begins}
+use Rattle.machine_origins.proofs.KeepingSteps.{posts_received, newest_received, calls_received, keeps_acts, stays_begins, begins_posts}
 use Rattle.cluster_machine.specs.Layouts.{layouts}
 use Rattle.cluster_machine.specs.Worlds.{Model, Done, IsUsual, IsSound}
 use Rattle.world_laws.proofs.Unbroken.{gapless_received, gapless_acted, view_begun}
@@ -30,7 +29,7 @@ module _ {R : Type 0} where
     pub posts : AllByRecursion (λ p. IsUsual w.applied p.packet) d.posts
 
   usual_post : (version : ℕ) (p : Packet R Layout) → IsPost p → IsUsual version p
-  usual_post version (says m) h = (h, tt)
+  usual_post version (says m) h = tt
   usual_post version (shows v) h = absurd h
 
   usual_posts : (version : ℕ) (posts : List (Post R Layout)) → ArePosts posts → AllByRecursion (λ p. IsUsual version p.packet) posts
@@ -53,7 +52,6 @@ module _ {R : Type 0} where
       let grown = node_grows v r v requests x (omega arith) below h in record {
         version = subst (λ n. n ≤ versions) (sym (newest_appended reading x.view l)) low;
         gapless = gapless_appended reading x.view l h.gapless next;
-        blocks = h.blocks;
         numbers = grown.numbers;
         different = h.different;
       }
@@ -61,20 +59,19 @@ module _ {R : Type 0} where
   module _ (w : Model R) (h : IsSound w) where
     -- the node sends its view
     pub fine_gossip : (from to : ℕ) → IsFineDid w (record (quiet (w.nodes from)) { posts = record { to = to; packet = shows (w.nodes from).view } ∷ [] })
-    fine_gossip from to = record { node = node_of w h from; posts = ((tt, (h.gapless from, h.versions from)), tt) }
+    fine_gossip from to = record { node = node_of w h from; posts = ((h.gapless from, h.versions from), tt) }
 
     module _ (join : R → R → R) (s : Words R) where
       pub fine_received : (n now from : ℕ) (packet : Packet R Layout) → IsUsual w.applied packet → IsFineDid w (receives join s layouts n now (w.nodes n) from packet)
       fine_received n now from packet usual =
           let x = w.nodes n in record {
             node = record {
-              version = newest_received join s layouts x n now from packet w.applied (h.gapless n) (h.versions n) usual.1;
-              gapless = gapless_received join s layouts x n now from packet w.applied (h.gapless n) usual.1;
-              blocks = blocks_received join s layouts x n now from packet usual.0 (h.blocks n);
+              version = newest_received join s layouts x n now from packet w.applied (h.gapless n) (h.versions n) usual;
+              gapless = gapless_received join s layouts x n now from packet w.applied (h.gapless n) usual;
               numbers = stay_up_to (length w.requests) x.calls _ (calls_received join s layouts x n now from packet) (h.requests n);
               different = stay_different x.calls _ (calls_received join s layouts x n now from packet) (h.different n);
             };
-            posts = usual_posts w.applied _ (posts_received join s layouts x n now from packet (h.blocks n));
+            posts = usual_posts w.applied _ (posts_received join s layouts x n now from packet);
           }
 
       pub fine_acted : (n now : ℕ) (action : Action) → IsFineDid w (acts join s layouts n now (w.nodes n) action).did
@@ -85,30 +82,22 @@ module _ {R : Type 0} where
             node = record {
               version = subst (λ a. a ≤ w.applied) (sym keeps.stays.newest_stays) (h.versions n);
               gapless = gapless_acted join s layouts x n now action (h.gapless n);
-              blocks = keeps.stays.blocks tt (h.blocks n);
               numbers = stay_up_to (length w.requests) x.calls _ keeps.stays.calls (h.requests n);
               different = stay_different x.calls _ keeps.stays.calls (h.different n);
             };
-            posts = usual_posts w.applied _ (keeps.posts (h.blocks n));
+            posts = usual_posts w.applied _ keeps.posts;
           }
 
-    bare_phase : (phase : Phase R) → IsShort phase → IsBarePhase phase
-    bare_phase (Read table position key) is = tt
-    bare_phase (Range position prefix after) is = tt
-    bare_phase (Store rows) is = is.bare
-    bare_phase (Block hash) is = tt
-
-    pub fine_begun : (s : Words R) (n : ℕ) (c : Call R) (phase : Phase R) → IsShort phase → IsFineDid w (begins s layouts w.kept (w.nodes n) c phase)
-    fine_begun s n c phase short =
+    pub fine_begun : (s : Words R) (n : ℕ) (c : Call R) (phase : Phase R) → IsFineDid w (begins s layouts w.kept (w.nodes n) c phase)
+    fine_begun s n c phase =
         let x = w.nodes n in
         let stays = stays_begins s layouts w.kept x c phase in
         record {
           node = record {
             version = subst (λ a. a ≤ w.applied) (sym stays.newest_stays) (h.versions n);
             gapless = ap (λ v. is_gapless reading v.layouts) (view_begun s layouts w.kept x c phase) ∙ h.gapless n;
-            blocks = stays.blocks tt (h.blocks n);
             numbers = stay_up_to (length w.requests) x.calls _ stays.calls (h.requests n);
             different = stay_different x.calls _ stays.calls (h.different n);
           };
-          posts = usual_posts w.applied _ (bare_begins s layouts w.kept x c phase (bare_phase phase short));
+          posts = usual_posts w.applied _ (begins_posts s layouts w.kept x c phase);
         }

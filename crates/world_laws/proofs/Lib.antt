@@ -3,3 +3,4 @@ pub mod Additions
 pub mod Doings
 pub mod Steps
 pub mod Sets
+pub mod Bareness

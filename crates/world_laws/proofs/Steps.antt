@@ -20,14 +20,13 @@ use Rattle.cluster_machine.specs.Acts.{acts, appends, restarts}
 use Rattle.cluster_machine.specs.World.{Sent, Mark, Request, numbered, clock, is_member_at}
 use Rattle.cluster_machine.specs.Step.{most_versions, given, none_given, at_message, expires, closing, chosen, applies_at, trio_applies, opening, acting, begun, beginning, effects}
 use Rattle.machine_origins.proofs.KeepingNodes.{different_opened, different_closed}
-use Rattle.cluster_machine.specs.Keeping.{IsShort}
 use Rattle.cluster_machine.specs.Choices.{Decision, IsBest}
-use Rattle.cluster_machine.specs.Worlds.{Model, Done, IsMeant, newest_at, comes_to_layout, IsLawfulStep, installed, IsUsual, IsSound}
+use Rattle.cluster_machine.specs.Worlds.{Model, Done, newest_at, comes_to_layout, IsLawfulStep, installed, IsUsual, IsSound}
 use Rattle.world_laws.proofs.Additions.{IsSoundNode, IsFine, node_of, node_grows, all_usual_more, fine_still, fine_some, fine_one, fine_cond}
 use Rattle.world_laws.proofs.Doings.{fine_did, sound_appended, fine_gossip, fine_received, fine_acted, fine_begun}
 
 -- P of what is there
-abbrev IfThere : {A : Type 0} → (A → Type 0) → Option A → Type 0
+abbrev pub IfThere : {A : Type 0} → (A → Type 0) → Option A → Type 0
 IfThere P None = ⊤
 IfThere P (Some a) = P a
 
@@ -36,7 +35,7 @@ there P [] i h = tt
 there P (x ∷ xs) zero h = h.0
 there P (x ∷ xs) (suc i) h = there P xs i h.1
 
-numbered_there : {A : Type 0} (P : A → Type 0) (xs : List A) (m : ℕ) → AllByRecursion P xs → IfThere P (numbered xs m)
+pub numbered_there : {A : Type 0} (P : A → Type 0) (xs : List A) (m : ℕ) → AllByRecursion P xs → IfThere P (numbered xs m)
 numbered_there P xs zero h = tt
 numbered_there P xs (suc m) h = there P xs m h
 
@@ -49,16 +48,15 @@ module _ {R : Type 0} where
       let grown = node_grows v r versions requests x low (omega arith) h in record {
         version = grown.version;
         gapless = h.gapless;
-        blocks = h.blocks;
         numbers = All-cons (λ c. c.request ≤ requests) _ x.calls below grown.numbers;
         different = different_opened r _ x.calls h.numbers (omega arith) h.different;
       }
 
   sound_closed : (v r q : ℕ) (x : Node R Layout) → IsSoundNode v r x → IsSoundNode v r (closed q x)
-  sound_closed v r q x h = record { version = h.version; gapless = h.gapless; blocks = h.blocks; numbers = All-filter _ (λ c. c.request ≤ r) x.calls h.numbers; different = different_closed q x.calls h.different }
+  sound_closed v r q x h = record { version = h.version; gapless = h.gapless; numbers = All-filter _ (λ c. c.request ≤ r) x.calls h.numbers; different = different_closed q x.calls h.different }
 
   sound_restarted : (v r : ℕ) (x : Node R Layout) → IsSoundNode v r x → IsSoundNode v r (restarts x)
-  sound_restarted v r x h = record { version = h.version; gapless = h.gapless; blocks = h.blocks; numbers = All-nil (λ c. c.request ≤ r); different = λ c d at_c at_d same. absurd at_c }
+  sound_restarted v r x h = record { version = h.version; gapless = h.gapless; numbers = All-nil (λ c. c.request ≤ r); different = λ c d at_c at_d same. absurd at_c }
 
 module _ {R : Type 0} (w : Model R) (h : IsSound w) where
   -- a node that is sound with the versions and requests of now
@@ -86,13 +84,13 @@ module _ {R : Type 0} (w : Model R) (h : IsSound w) where
     fine_acting : (n : ℕ) (is_refused : Bool) (action : Action) → IsFine w (acting join s layouts first stage w n is_refused (acts join s layouts n (clock w n) (w.nodes n) action))
     fine_acting n is_refused action = fine_cond w is_refused _ _ (λ t. fine_still w _ h (λ m. refl) refl) (λ t. fine_did w _ n _ h (λ m. refl) refl (fine_acted w h join s n (clock w n) action))
 
-    fine_call : (n : ℕ) (phase : Phase R) (o : Option (Call R)) → IsShort phase → IsFine w (begun join s layouts first stage w n phase o)
-    fine_call n phase None short = fine_still w _ h (λ m. refl) refl
-    fine_call n phase (Some c) short = fine_did w _ n _ h (λ m. refl) refl (fine_begun w h s n c phase short)
+    fine_call : (n : ℕ) (phase : Phase R) (o : Option (Call R)) → IsFine w (begun join s layouts first stage w n phase o)
+    fine_call n phase None = fine_still w _ h (λ m. refl) refl
+    fine_call n phase (Some c) = fine_did w _ n _ h (λ m. refl) refl (fine_begun w h s n c phase)
 
-    fine_beginning : (q : ℕ) (phase : Phase R) (o : Option Request) → IsShort phase → IsFine w (beginning join s layouts first stage w q phase o)
-    fine_beginning q phase None short = fine_still w _ h (λ m. refl) refl
-    fine_beginning q phase (Some r) short = fine_cond w r.is_open _ _ (λ t. fine_call r.coordinator phase (call_at (w.nodes r.coordinator).calls q) short) (λ t. fine_still w _ h (λ m. refl) refl)
+    fine_beginning : (q : ℕ) (phase : Phase R) (o : Option Request) → IsFine w (beginning join s layouts first stage w q phase o)
+    fine_beginning q phase None = fine_still w _ h (λ m. refl) refl
+    fine_beginning q phase (Some r) = fine_cond w r.is_open _ _ (λ t. fine_call r.coordinator phase (call_at (w.nodes r.coordinator).calls q)) (λ t. fine_still w _ h (λ m. refl) refl)
 
     -- a layout that is given has the version after those that were applied
     fine_chosen : (n : ℕ) (choice : Decision) → comes_to_layout w n ≡ true → leb (suc (newest_at w n)) w.applied ≡ false → IsLawfulStep w (Apply n) choice →
@@ -129,31 +127,31 @@ module _ {R : Type 0} (w : Model R) (h : IsSound w) where
         (sound_opened w.applied (length w.requests) start (w.nodes n) (node_of w h n) (w.applied + 0) (length w.requests + 1) (omega arith) (omega arith)))
         (λ t. fine_still w _ h (λ m. refl) refl)
 
-    pub fine_step : first.version ≡ 1 → (step : Step R) (choice : Decision) → IsMeant step → IsLawfulStep w step choice → IsFine w (effects join s layouts first stage w step choice)
-    fine_step one Trio choice meant lawful = fine_cond w (leb 1 w.applied) _ _ (λ t. fine_still w _ h (λ m. refl) refl) (λ t. fine_trio one t)
-    fine_step one (Stage n role) choice meant lawful = fine_still w _ h (λ m. refl) refl
-    fine_step one (Spread r) choice meant lawful = fine_still w _ h (λ m. refl) refl
-    fine_step one (Apply n) choice meant lawful = fine_applies n choice lawful
-    fine_step one (Tick ms) choice meant lawful = fine_still w _ h (λ m. refl) refl
-    fine_step one (Skew n ms) choice meant lawful = fine_still w _ h (λ m. refl) refl
-    fine_step one (Deliver m) choice meant lawful =
+    pub fine_step : first.version ≡ 1 → (step : Step R) (choice : Decision) → IsLawfulStep w step choice → IsFine w (effects join s layouts first stage w step choice)
+    fine_step one Trio choice lawful = fine_cond w (leb 1 w.applied) _ _ (λ t. fine_still w _ h (λ m. refl) refl) (λ t. fine_trio one t)
+    fine_step one (Stage n role) choice lawful = fine_still w _ h (λ m. refl) refl
+    fine_step one (Spread r) choice lawful = fine_still w _ h (λ m. refl) refl
+    fine_step one (Apply n) choice lawful = fine_applies n choice lawful
+    fine_step one (Tick ms) choice lawful = fine_still w _ h (λ m. refl) refl
+    fine_step one (Skew n ms) choice lawful = fine_still w _ h (λ m. refl) refl
+    fine_step one (Deliver m) choice lawful =
         fine_message _ (numbered w.messages m) (numbered w.marks m) (numbered_there _ w.messages m h.messages)
         (λ sent usual. fine_did w _ sent.to _ h (λ n. refl) refl (fine_received w h join s sent.to (clock w sent.to) sent.from sent.packet usual))
-    fine_step one (Lose m) choice meant lawful =
+    fine_step one (Lose m) choice lawful =
         fine_message _ (numbered w.messages m) (numbered w.marks m) (numbered_there _ w.messages m h.messages) (λ sent usual. fine_still w _ h (λ n. refl) refl)
-    fine_step one (Expire q) choice meant lawful = fine_expires q (numbered w.requests q)
-    fine_step one (Restart n) choice meant lawful =
+    fine_step one (Expire q) choice lawful = fine_expires q (numbered w.requests q)
+    fine_step one (Restart n) choice lawful =
         fine_one w _ n (restarts (w.nodes n)) h (λ m. refl) tt (sound_later 0 0 (restarts (w.nodes n)) (sound_restarted w.applied (length w.requests) (w.nodes n) (node_of w h n)))
-    fine_step one (Gossip from to) choice meant lawful = fine_did w _ from _ h (λ m. refl) refl (fine_gossip w h from to)
-    fine_step one (Ack n) choice meant lawful = fine_acting n (has_none layouts (w.nodes n).view) RaiseAck
-    fine_step one (Syncs n) choice meant lawful = fine_acting n (has_none layouts (w.nodes n).view) GoOn
-    fine_step one (SyncAck n) choice meant lawful = fine_acting n (has_none layouts (w.nodes n).view) RaiseSyncAck
-    fine_step one (Clean n) choice meant lawful = fine_acting n (has_none layouts (w.nodes n).view) CleanUp
-    fine_step one (Work n) choice meant lawful = fine_acting n (has_none layouts (w.nodes n).view) WorkOff
-    fine_step one (Repair n) choice meant lawful = fine_acting n (not (is_member_at layouts w n)) Mend
-    fine_step one (Open n) choice meant lawful = fine_opening n
-    fine_step one (Begin q phase) choice meant lawful = fine_beginning q phase (numbered w.requests q) meant
-    fine_step one (Close q) choice meant lawful = fine_closing q (numbered w.requests q)
+    fine_step one (Gossip from to) choice lawful = fine_did w _ from _ h (λ m. refl) refl (fine_gossip w h from to)
+    fine_step one (Ack n) choice lawful = fine_acting n (has_none layouts (w.nodes n).view) RaiseAck
+    fine_step one (Syncs n) choice lawful = fine_acting n (has_none layouts (w.nodes n).view) GoOn
+    fine_step one (SyncAck n) choice lawful = fine_acting n (has_none layouts (w.nodes n).view) RaiseSyncAck
+    fine_step one (Clean n) choice lawful = fine_acting n (has_none layouts (w.nodes n).view) CleanUp
+    fine_step one (Work n) choice lawful = fine_acting n (has_none layouts (w.nodes n).view) WorkOff
+    fine_step one (Repair n) choice lawful = fine_acting n (not (is_member_at layouts w n)) Mend
+    fine_step one (Open n) choice lawful = fine_opening n
+    fine_step one (Begin q phase) choice lawful = fine_beginning q phase (numbered w.requests q)
+    fine_step one (Close q) choice lawful = fine_closing q (numbered w.requests q)
 
   -- a first layout, where none was applied
   pub installed_sound : (first : Layout) (nodes : List ℕ) → w.applied ≡ 0 → first.version ≡ 1 → IsSound (installed w first nodes)
@@ -168,7 +166,6 @@ module _ {R : Type 0} (w : Model R) (h : IsSound w) where
         versions = λ n. (node n).version;
         gapless = λ n. (node n).gapless;
         messages = all_usual_more w.applied 1 w.messages (omega arith) h.messages;
-        blocks = λ n. (node n).blocks;
         requests = λ n. (node n).numbers;
         different = λ n. (node n).different;
       }

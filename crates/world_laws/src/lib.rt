@@ -13,7 +13,8 @@ ghost use Rattle.cluster_machine.specs.Layouts.{layouts};
 ghost use Rattle.cluster_machine.specs.declared.applied.Applied.{Applied};
 ghost use Rattle.cluster_machine.specs.Trio.{trio};
 ghost use Rattle.cluster_machine.specs.Choices.{IsBest};
-ghost use Rattle.cluster_machine.specs.Worlds.{Model, Doing, IsLawful, IsMeant, next, installed, IsSound};
+ghost use Rattle.cluster_machine.specs.Worlds.{Model, Doing, IsLawful, next, installed, IsSound};
+ghost use Rattle.cluster_machine.specs.Bare.{IsBareStep, IsBareWorld};
 
 /// Each layout that an apply may be given has for each partition three different nodes that keep copies, and so has
 /// the first one.
@@ -27,9 +28,16 @@ pub fn empty_world_is_sound<R>()
     ensures { IsSound (empty {R = R} {L = Layout}) }
 {}
 
-/// A sound world stays sound: no node knows of a version that was not applied, nobody has a block, and open requests have
-/// numbers that were given.
+/// A sound world stays sound: no node knows of a version that was not applied, and open requests have numbers that were
+/// given.
 pub fn sound_worlds_stay_sound<R>()
-    ensures stepped { (join : R → R → R) (s : Words R) (w : Model R) (m : Doing R) → IsSound w → IsMeant m.step → IsLawful w m → IsSound (next join s w m) }
+    ensures stepped { (join : R → R → R) (s : Words R) (w : Model R) (m : Doing R) → IsSound w → IsLawful w m → IsSound (next join s w m) }
     ensures installed { (w : Model R) (first : Layout) (nodes : List ℕ) → IsSound w → w.applied ≡ 0 → first.version ≡ 1 → IsSound (installed w first nodes) }
+{}
+
+/// Where no row was stored with a block nobody has one, and no message brings one.
+pub fn bare_worlds_stay_bare<R>()
+    ensures begun { IsBareWorld (empty {R = R} {L = Layout}) }
+    ensures stepped { (join : R → R → R) (s : Words R) (w : Model R) (m : Doing R) → IsBareWorld w → IsBareStep m.step → IsBareWorld (next join s w m) }
+    ensures installed { (w : Model R) (first : Layout) (nodes : List ℕ) → IsBareWorld w → IsBareWorld (installed w first nodes) }
 {}

@@ -11,7 +11,7 @@ use Rattle.cluster_machine.specs.Run.{IsChoice, IsRun, run as machine_run}
 use Rattle.cluster_machine.specs.Layouts.{layouts}
 use Rattle.cluster_machine.specs.Trio.{trio, stage_trio}
 use Rattle.cluster_machine.specs.Choices.{Decision, IsComputed, IsNone}
-use Rattle.cluster_machine.specs.Worlds.{Model, Doing, newest_at, comes_to_layout, IsMeant, IsLawfulStep, IsLawful, IsLawfulRun, IsSound, next, run}
+use Rattle.cluster_machine.specs.Worlds.{Model, Doing, newest_at, comes_to_layout, IsLawfulStep, IsLawful, IsLawfulRun, IsSound, next, run}
 use Rattle.world_laws.proofs.Sets.{best_is_layout}
 use Rattle.world_laws.proofs.Additions.{fine_stays_sound}
 use Rattle.world_laws.proofs.Steps.{fine_step}
@@ -51,18 +51,18 @@ module _ {R : Type 0} where
   lawful_taken w _ choice sound lawful = none_taken w choice lawful
 
 module _ {R : Type 0} (join : R → R → R) (s : Words R) where
-  sound_next : (w : Model R) (m : Doing R) → IsSound w → IsMeant m.step → IsLawful w m → IsSound (next join s w m)
-  sound_next w m sound meant lawful = fine_stays_sound w _ sound (fine_step w sound join s trio stage_trio refl m.step m.choice meant lawful)
+  sound_next : (w : Model R) (m : Doing R) → IsSound w → IsLawful w m → IsSound (next join s w m)
+  sound_next w m sound lawful = fine_stays_sound w _ sound (fine_step w sound join s trio stage_trio refl m.step m.choice lawful)
 
   -- every world of a lawful run is sound
   pub sound_after : (w : Model R) (moves : List (Doing R)) → IsSound w → IsLawfulRun join s w moves → IsSound (run join s w moves)
   sound_after w [] sound h = sound
-  sound_after w (m ∷ moves) sound h = sound_after (next join s w m) moves (sound_next w m sound h.0 h.2) h.4
+  sound_after w (m ∷ moves) sound h = sound_after (next join s w m) moves (sound_next w m sound h.2) h.4
 
   -- and the run is one of the machine
   pub lawful_is_run : (w : Model R) (moves : List (Doing R)) → IsSound w → IsLawfulRun join s w moves → IsRun join s layouts trio stage_trio 256 w moves
   lawful_is_run w [] sound h = tt
-  lawful_is_run w (m ∷ moves) sound h = (h.1, lawful_taken w m.step m.choice sound h.2, h.3, lawful_is_run (next join s w m) moves (sound_next w m sound h.0 h.2) h.4)
+  lawful_is_run w (m ∷ moves) sound h = (h.1, lawful_taken w m.step m.choice sound h.2, h.3, lawful_is_run (next join s w m) moves (sound_next w m sound h.2) h.4)
 
   -- both runs lead to one world
   pub same_run : (w : Model R) (moves : List (Doing R)) → machine_run join s layouts trio stage_trio w moves ≡ run join s w moves
