@@ -29,7 +29,7 @@ use Rattle.object_model.specs.Fresh.{IsAcknowledged}
 use Rattle.object_laws.proofs.Sound.{HasKept, IsProper, AreProper, IsPresent, IsSound}
 use Rattle.object_laws.proofs.Stepping.{IsFine, fine_still, fine_one, fine_cond}
 
-found_request : (calls : List (Call AnyRow)) (q : ℕ) (c : Call AnyRow) → call_at calls q ≡ Some c → c.request ≡ q
+pub found_request : (calls : List (Call AnyRow)) (q : ℕ) (c : Call AnyRow) → call_at calls q ≡ Some c → c.request ≡ q
 found_request [] q c e = cc
 found_request (d ∷ calls) q c e =
     elim (d.request == q) as (λ b. (d.request == q) ≡ b → cond b (Some d) (call_at calls q) ≡ Some c → c.request ≡ q) [

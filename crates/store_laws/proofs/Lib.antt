@@ -1,7 +1,15 @@
+pub mod Beginning
 pub mod Covering
+pub mod Ends
+pub mod Flows
 pub mod Freshness
 pub mod Good
+pub mod Grown
+pub mod Opening
 pub mod Placing
+pub mod Reached
 pub mod Records
 pub mod Rows
 pub mod Sound
+pub mod Stepping
+pub mod Values

@@ -58,4 +58,4 @@ stores_is_step q name version block w = (
 )
 
 pub stores_is_meant : (q : ℕ) (r : AnyRow) → IsMeant (phases q (stores r)).step
-stores_is_meant q r = record { few = lit≤ tt; bare = All-cons (λ r. r.1 ≡ None) (r, None) [] refl (All-nil _) }
+stores_is_meant q r = lit≤ tt

@@ -186,6 +186,14 @@ pub record FoundIn (draws : List Draw) (name : Name) (v : Version) (body : List 
   pub bucket : digest_of draw.name.bucket ≡ digest_of name.bucket
   pub key : draw.name.key ≡ name.key
 
+module _ (draws : List Draw) (r : ObjectRow) (name : Name) where
+  -- what is said of an object, where nothing is kept in blocks
+  abbrev pub IsFound : says.Said → Type 0
+  IsFound says.none = ⊤
+  IsFound (says.marked v) = (r.bucket ≡ digest_of name.bucket) × (r.key ≡ name.key)
+  IsFound (says.inline v meta body) = FoundIn draws name v body
+  IsFound (says.in_blocks v meta first) = ⊥
+
 module _ (draws : List Draw) (r : ObjectRow) (name : Name) (h : IsOf draws (rows.Object r)) (k : words.key (rows.Object r) ≡ row_key name) where
   -- the row is of this object
   pub same_object : (b : List ℕ) → digest_of b ≡ r.bucket → (r.bucket ≡ digest_of name.bucket) × (r.key ≡ name.key)
@@ -198,15 +206,8 @@ module _ (draws : List Draw) (r : ObjectRow) (name : Name) (h : IsOf draws (rows
       let parts = same_object d.draw.name.bucket d.bucket in
       record { draw = d.draw; drawn = d.drawn; version = d.version; content = found.0; wish_is = found.1; body_is = found.2; bucket = d.bucket ∙ parts.0; key = d.key ∙ parts.1 }
 
-  -- what is said of an object, where nothing is kept in blocks
-  abbrev pub IsFound : says.Said → Type 0
-  IsFound says.none = ⊤
-  IsFound (says.marked v) = (r.bucket ≡ digest_of name.bucket) × (r.key ≡ name.key)
-  IsFound (says.inline v meta body) = FoundIn draws name v body
-  IsFound (says.in_blocks v meta first) = ⊥
-
   module _ (short : (d : Draw) → Contains draws d → IsShortWish d.wish) where
-    found_in : (n : Version) (o : Option State) → state_at r n ≡ o → IsFound (says.of_state n o)
+    found_in : (n : Version) (o : Option State) → state_at r n ≡ o → IsFound draws r name (says.of_state n o)
     found_in n None at = tt
     found_in n (Some Uploading) at = tt
     found_in n (Some Aborted) at = tt
@@ -214,9 +215,9 @@ module _ (draws : List Draw) (r : ObjectRow) (name : Name) (h : IsOf draws (rows
     found_in n (Some (Complete (Inline meta body))) at = in_state n meta body at
     found_in n (Some (Complete (Blocks meta first))) at = let d = h n (Complete (Blocks meta first)) at in blocks_of meta first d.draw.wish (short d.draw d.drawn) d.says
 
-    found_at : (n : Option Version) → IsFound (says.of_version r n)
+    found_at : (n : Option Version) → IsFound draws r name (says.of_version r n)
     found_at None = tt
     found_at (Some n) = found_in n (state_at r n) refl
 
-    pub found : IsFound (says.said_by r)
+    pub found : IsFound draws r name (says.said_by r)
     found = found_at (newest r)

@@ -120,6 +120,12 @@ abbrev pub StoresFor : List Draw → ℕ → Stage → List AnyRow → Type 0
 StoresFor draws q (Completing version meta) rows = Completes draws q version rows
 StoresFor draws q stage rows = ⊤
 
+-- a request was asked for at this node
+pub record AskedAt (asked : List Asked) (n q : ℕ) : Type 0 where
+  pub one : Asked
+  pub is_there : numbered asked q ≡ Some one
+  pub node_is : one.node ≡ n
+
 -- a request at this node waits so
 pub record WaitsAt (asked : List Asked) (n q : ℕ) : Type 0 where
   pub one : Asked
@@ -147,11 +153,11 @@ pub record IsStoring (asked : List Asked) (draws : List Draw) (n q : ℕ) (rows 
   pub proper : AreProper rows
 
 abbrev pub IsPresent : List Asked → List Draw → List Record → ℕ → ℕ → Present AnyRow → Type 0
-IsPresent asked draws history n q resting = ⊤
+IsPresent asked draws history n q resting = AskedAt asked n q
 IsPresent asked draws history n q (asking question answers) = IsAsking asked history n q question
-IsPresent asked draws history n q (scanning scan answers) = ⊤
+IsPresent asked draws history n q (scanning scan answers) = WaitsAt asked n q
 IsPresent asked draws history n q (storing rows slots) = IsStoring asked draws n q rows
-IsPresent asked draws history n q (fetching hash) = ⊤
+IsPresent asked draws history n q (fetching hash) = WaitsAt asked n q
 
 abbrev pub ArePresent : List Asked → List Draw → List Record → ℕ → List (Call AnyRow) → Type 0
 ArePresent asked draws history n calls = (c : Call AnyRow) → Has calls c → IsPresent asked draws history n c.request c.present

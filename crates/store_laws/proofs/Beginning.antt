@@ -1,0 +1,113 @@
+-- The phases of requests: what a request is in whose phase has begun.
+use Rattle.std.specs.Prelude.{◌≡◌, ℕ, true, false, ◌==◌, cond, List, [], ◌∷◌, ◌++◌, Option, Some, None, refl}
+use Rattle.std.specs.Option.{unwrap_or}
+use Rattle.std.specs.List.{All}
+use Rattle.std.proofs.Common.{ap, sym, subst, ◌∙◌, inl, inr}
+use Rattle.std.proofs.lemmas.Bool.{eqb-true}
+use Rattle.std.proofs.lemmas.List.Elements.{All-nil, All-cons, Contains-append_left}
+use Rattle.crdt_rows.specs.declared.version.Version.{Version}
+use Rattle.crdt_rows.specs.declared.any_row.AnyRow.{AnyRow}
+use Rattle.crdt_rows.specs.AnyRow.{any_join}
+use Rattle.layout_roles.specs.declared.layout.Layout.{Layout}
+use Rattle.object_schema.specs.Schema.{words}
+use Rattle.wire_messages.specs.declared.phase.Phase.{Phase}
+use Rattle.wire_messages.specs.declared.phase.Phase.TheVariants.{Store}
+use Rattle.cluster_machine.specs.declared.step.Step.TheVariants.{Phase as Begin}
+use Rattle.cluster_machine.specs.Node.{Question, Present, resting, asking, scanning, storing, fetching, Call, Node, Did}
+use Rattle.cluster_machine.specs.Phases.{call_at, begins}
+use Rattle.cluster_machine.specs.World.{Request, numbered}
+use Rattle.cluster_machine.specs.Step.{begun, beginning}
+use Rattle.cluster_machine.specs.Keeping.{AreDifferent}
+use Rattle.machine_origins.specs.Following.{Began, Begins}
+use Rattle.machine_origins.proofs.FollowingCalls.{found_there}
+use Rattle.machine_origins.proofs.FollowingSteps.{begins_follow}
+use Rattle.cluster_machine.specs.Layouts.{layouts}
+use Rattle.cluster_machine.specs.Trio.{trio, stage_trio}
+use Rattle.history_model.specs.declared.record.Kind.{Kind}
+use Rattle.history_model.specs.declared.record.Record.{Record}
+use Rattle.flow_model.specs.declared.flow.Name.{Name}
+use Rattle.flow_model.specs.declared.flow.Flow.{Flow}
+use Rattle.flow_model.specs.Flow.{asks_for}
+use Rattle.flow_model.specs.Next.{stores}
+use Rattle.store_model.specs.Run.{State, Asked, phases, effect}
+use Rattle.object_laws.proofs.Beginning.{found_request}
+use Rattle.store_laws.proofs.Sound.{began, WasAcknowledged, HasKept, IsProper, AreProper, AsksRow, AsksFor, StoresFor, HasBefore, AskedAt, WaitsAt, IsPresent, IsSound}
+use Rattle.store_laws.proofs.Ends.{asked_of}
+use Rattle.store_laws.proofs.Grown.{IsStill}
+use Rattle.store_laws.proofs.Stepping.{IsFine, fine_still, fine_one, fine_cond}
+
+-- what was acknowledged in a part of the history
+acknowledged_part : (before rest : List Record) (name : Name) (version : Version) → WasAcknowledged before name version → WasAcknowledged (before ++ rest) name version
+acknowledged_part before rest name version a = record {
+  request = a.request;
+  node = a.node;
+  kind = a.kind;
+  writes = a.writes;
+  has_begun = Contains-append_left before rest _ a.has_begun;
+  has_finished = Contains-append_left before rest _ a.has_finished;
+}
+
+module _ (s : State) (sound : IsSound s) (differ : (n : ℕ) → AreDifferent (s.world.nodes n).calls) (q : ℕ) (a : Asked) (flow : Flow) (at : numbered s.asked q ≡ Some a) (flow_is : a.flow ≡ Some flow) where
+  still_at : (n : ℕ) → AskedAt s.asked n q → IsStill s.asked n q flow
+  still_at n h =
+      let some_is : Some h.one ≡ Some a = sym h.is_there ∙ at in
+      let one_is : h.one ≡ a = cc in
+      record { waits = record { one = h.one; is_there = h.is_there; node_is = h.node_is; flow = flow; flow_is = ap (λ (b : Asked). b.flow) one_is ∙ flow_is }; flow_is = refl }
+
+  module _ (phase : Phase AnyRow) (is : (n : ℕ) → IsStill s.asked n q flow → (p : Present AnyRow) → Began s.world.kept phase p → IsPresent s.asked s.draws s.history n q p) where
+    call_fine : (n : ℕ) (o : Option (Call AnyRow)) → call_at (s.world.nodes n).calls q ≡ o → IsFine s (begun any_join words layouts trio stage_trio s.world n phase o)
+    call_fine n None e = fine_still s _ sound (λ m. refl) refl (All-nil IsProper)
+    call_fine n (Some c) e =
+        let x : Node AnyRow Layout = s.world.nodes n in
+        let d : Did AnyRow Layout = begins words layouts s.world.kept x c phase in
+        let has = found_there x.calls q c e in
+        let b : Begins s.world.kept x c phase d = begins_follow words layouts s.world.kept x c (differ n) has phase in
+        let request : c.request ≡ q = found_request x.calls q c e in
+        let here : AskedAt s.asked n q = subst (AskedAt s.asked n) request (asked_of s.asked s.draws s.history n c.request c.present (sound.presents n c has)) in
+        fine_one s _ n d.node sound (λ m. refl) refl (subst (λ ks. AreProper ks) (sym b.ends.1) (All-nil IsProper)) (λ f h. elim (b.calls f h) [
+          | inl old ↦ sound.presents n f old
+          | inr new ↦ subst (λ r. IsPresent s.asked s.draws s.history n r f.present) (sym (new.0 ∙ request)) (is n (still_at n here) f.present new.2)
+        ])
+
+    request_fine : (o : Option Request) → IsFine s (beginning any_join words layouts trio stage_trio s.world q phase o)
+    request_fine None = fine_still s _ sound (λ m. refl) refl (All-nil IsProper)
+    request_fine (Some r) = fine_cond s r.is_open _ _ (call_fine r.coordinator _ refl) (fine_still s _ sound (λ m. refl) refl (All-nil IsProper))
+
+    pub phase_fine : IsFine s (effect s (phases q phase))
+    phase_fine = request_fine (numbered s.world.requests q)
+
+  -- what was acknowledged before a request began is kept
+  kept_before : HasBefore s.history q s.world.kept
+  kept_before before rest n kind name cut k version a =
+      sound.acknowledged k version (subst (λ (h : List Record). WasAcknowledged h k version) (sym cut) (acknowledged_part before (began q n kind name ∷ rest) k version a))
+
+  module _ (name : Name) (asks : (question : Question AnyRow) → AsksRow name question → AsksFor flow.stage question) where
+    asks_present : (n : ℕ) → IsStill s.asked n q flow → (p : Present AnyRow) → Began s.world.kept (asks_for name) p → IsPresent s.asked s.draws s.history n q p
+    asks_present n still resting b = absurd b
+    asks_present n still (asking question answers) b = record {
+      waits = still.waits;
+      asks = subst (λ (f : Flow). AsksFor f.stage question) (sym still.flow_is) (asks question (b.1, b.3));
+      proper = subst AreProper (sym b.4) sound.proper;
+      has = subst (HasBefore s.history q) (sym b.4) kept_before;
+    }
+    asks_present n still (scanning scan answers) b = absurd b
+    asks_present n still (storing rows slots) b = absurd b
+    asks_present n still (fetching hash) b = absurd b
+
+    pub asks_fine : IsFine s (effect s (phases q (asks_for name)))
+    asks_fine = phase_fine (asks_for name) asks_present
+
+  module _ (row : AnyRow) (proper : IsProper row) (is_stored : StoresFor s.draws q flow.stage (row ∷ [])) where
+    stores_present : (n : ℕ) → IsStill s.asked n q flow → (p : Present AnyRow) → Began s.world.kept (stores row) p → IsPresent s.asked s.draws s.history n q p
+    stores_present n still resting b = absurd b
+    stores_present n still (asking question answers) b = absurd b
+    stores_present n still (scanning scan answers) b = absurd b
+    stores_present n still (storing rows slots) b = record {
+      waits = still.waits;
+      stores = subst (λ (f : Flow). StoresFor s.draws q f.stage rows) (sym still.flow_is) (subst (StoresFor s.draws q flow.stage) (sym b) is_stored);
+      proper = subst AreProper (sym b) (All-cons IsProper row [] proper (All-nil IsProper));
+    }
+    stores_present n still (fetching hash) b = absurd b
+
+    pub stores_fine : IsFine s (effect s (phases q (stores row)))
+    stores_fine = phase_fine (stores row) stores_present

@@ -1,0 +1,78 @@
+-- A request that waits for something else, and a write that draws its version, keep a state sound.
+use Rattle.std.proofs.Common.{◌≡◌, inl, inr, ℕ, ◌-◌, Option, Some, None, List, [], ◌∷◌, ◌++◌, length, slice_set, refl, sym, ap, ◌∙◌, subst}
+use Rattle.std.proofs.lemmas.List.{length-set}
+use Rattle.std.specs.List.{Contains}
+use Rattle.std.proofs.lemmas.List.Elements.{Contains-append_cases, Contains-append_right}
+use Rattle.cluster_machine.specs.World.{numbered}
+use Rattle.history_model.specs.declared.record.Record.{Record}
+use Rattle.flow_model.specs.declared.flow.Flow.{Flow}
+use Rattle.store_model.specs.Run.{State, Asked, Draw, Saw, set_flow}
+use Rattle.object_laws.proofs.Places.{numbered_set_cases}
+use Rattle.store_laws.proofs.Sound.{began, HasDrawn, IsStage, IsSound}
+use Rattle.store_laws.proofs.Freshness.{fresh_later}
+use Rattle.store_laws.proofs.Grown.{Rests, presents_set, present_drawn, asked_set}
+use Rattle.store_laws.proofs.Reached.{reached_draws}
+
+-- the request waits for this, and drew these versions
+abbrev pub waiting : State → ℕ → Asked → Option Flow → List Draw → State
+waiting s q a flow newer = record s { asked = set_flow s q a flow; draws = newer ++ s.draws }
+
+-- what a request may wait for
+abbrev pub MayWait : ℕ → Asked → Option Flow → Type 0
+MayWait q a flow = (f : Flow) → flow ≡ Some f → (f.id ≡ q) × IsStage q a f.stage
+
+pub waiting_sound : (s : State) (q : ℕ) (a : Asked) (flow : Option Flow) (newer : List Draw) → numbered s.asked q ≡ Some a → Rests s q → MayWait q a flow →
+    ((d : Draw) → Contains newer d → HasDrawn s.buckets s.history d) → IsSound s → IsSound (waiting s q a flow newer)
+waiting_sound s q a flow newer at rests may drawn sound =
+    let new : Asked = record a { flow = flow } in
+    let asked : List Asked = slice_set s.asked (q - 1) new in
+    record {
+      reached = reached_draws s.draws newer s.world sound.reached;
+      lengths = length-set s.asked (q - 1) new ∙ sound.lengths;
+      told = record {
+        began_asked = λ p m kind name c. asked_set s.asked q a flow at p kind name (sound.told.began_asked p m kind name c);
+        finished_asked = λ p answer c.
+            let was = sound.told.finished_asked p answer c in
+            let there = asked_set s.asked q a flow at p was.0.kind was.0.name (record { one = was.0; is_there = was.1; kind_is = refl; name_is = refl }) in
+            (there.one, there.is_there);
+        asked_began = λ p o h. elim (numbered_set_cases s.asked q p a new o at h) [
+          | inl e ↦
+              let begin = sound.told.asked_began q a at in
+              (begin.0, subst (λ (y : Record). Contains s.history y) (λ i. began (sym e.0 i) begin.0 (e.1 i).kind (e.1 i).name) begin.1)
+          | inr old ↦ sound.told.asked_began p o old
+        ];
+        bucket_there = λ p o h. elim (numbered_set_cases s.asked q p a new o at h) [
+          | inl e ↦ subst (λ (o : Asked). Contains s.buckets o.name.bucket) e.1 (sound.told.bucket_there q a at)
+          | inr old ↦ sound.told.bucket_there p o old
+        ];
+      };
+      presents = λ n c h. present_drawn asked s.draws newer s.history n c.request c.present (presents_set s q a new at refl rests sound.presents n c h);
+      stages = λ p o f there is. elim (numbered_set_cases s.asked q p a new o at there) [
+        | inl e ↦
+            let flow_is : flow ≡ Some f = ap (λ (o : Asked). o.flow) e.1 ∙ is in
+            let m = may f flow_is in
+            (m.0 ∙ sym e.0, subst (λ (o : Asked). IsStage p o f.stage) e.1 (subst (λ (r : ℕ). IsStage r a f.stage) (sym e.0) m.1))
+        | inr old ↦ sound.stages p o f old is
+      ];
+      drawn = λ d c. elim (Contains-append_cases newer s.draws d c) [
+        | inl one ↦ drawn d one
+        | inr old ↦ sound.drawn d old
+      ];
+      acknowledged = sound.acknowledged;
+      proper = sound.proper;
+      fresh = fresh_later s (waiting s q a flow newer) refl (λ n c. c) (λ d c. Contains-append_right newer s.draws d c) (λ x c. c) sound.fresh;
+    }
+
+-- a phase that ended was seen
+pub saw_sound : (s : State) (x : Saw) → IsSound s → IsSound (record s { saw = x ∷ s.saw })
+saw_sound s x sound = record {
+  reached = sound.reached;
+  lengths = sound.lengths;
+  told = sound.told;
+  presents = sound.presents;
+  stages = sound.stages;
+  drawn = sound.drawn;
+  acknowledged = sound.acknowledged;
+  proper = sound.proper;
+  fresh = fresh_later s (record s { saw = x ∷ s.saw }) refl (λ n c. c) (λ d c. c) (λ y c. Contains-append_right (x ∷ []) s.saw y c) sound.fresh;
+}

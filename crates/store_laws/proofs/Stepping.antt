@@ -1,0 +1,121 @@
+-- A step of the world keeps a state sound where what it adds fits the requests.
+use Rattle.std.specs.Prelude.{◌≡◌, ℕ, Bool, true, false, ◌==◌, cond, List, [], ◌∷◌, ◌++◌, length, Some, None, refl}
+use Rattle.std.specs.Option.{unwrap_or}
+use Rattle.std.proofs.Common.{◌⊎◌, inl, inr, ap, sym, subst, ◌∙◌}
+use Rattle.std.proofs.lemmas.Bool.{eqb-true, eqb-false}
+use Rattle.std.proofs.lemmas.List.{append-nil}
+use Rattle.std.specs.List.{All, AllByRecursion}
+use Rattle.std.proofs.lemmas.List.Elements.{All-append}
+use Rattle.crdt_core.specs.Members.{Has}
+use Rattle.crdt_core.proofs.Each.{all_weaker}
+use Rattle.crdt_rows.specs.declared.any_row.AnyRow.{AnyRow}
+use Rattle.crdt_rows.specs.AnyRow.{any_join}
+use Rattle.layout_roles.specs.declared.layout.Layout.{Layout}
+use Rattle.object_schema.specs.Schema.{words}
+use Rattle.cluster_machine.specs.Node.{Present, resting, asking, scanning, storing, fetching, Call, Node, Ended}
+use Rattle.cluster_machine.specs.World.{Request, numbered}
+use Rattle.cluster_machine.specs.Step.{only, changed, shut}
+use Rattle.machine_origins.specs.Origins.{stored_by}
+use Rattle.cluster_machine.specs.Worlds.{Done as Effect, IsLawfulRun}
+use Rattle.cluster_machine.proofs.Closing.{length_shut}
+use Rattle.store_model.specs.Run.{State, Moving, Asked, doing, effect}
+use Rattle.object_laws.proofs.Calm.{IsCalm}
+use Rattle.store_laws.proofs.Good.{IsGood}
+use Rattle.store_laws.proofs.Sound.{IsProper, AreProper, WaitsAt, IsPresent, ArePresent, IsSound}
+use Rattle.store_laws.proofs.Freshness.{fresh_later}
+use Rattle.store_laws.proofs.Grown.{kept_later}
+use Rattle.store_laws.proofs.Reached.{reached_step}
+use Rattle.store_laws.proofs.Ends.{IsEnd, present_continues, ends_are}
+
+-- what is added fits the requests, and none opens
+pub record IsFine (s : State) (e : Effect AnyRow) : Type 0 where
+  pub opens : e.opens ≡ []
+  pub presents : (n : ℕ) → ArePresent s.asked s.draws s.history n (changed e.nodes s.world.nodes n).calls
+  pub keeps : AreProper e.keeps
+
+pub step_sound : (s : State) (m : Moving) → IsSound s → IsLawfulRun any_join words s.world (m ∷ []) → All (IsGood s.draws) (stored_by m.step) → IsFine s (effect s m) → IsSound (doing s m)
+step_sound s m sound lawful stores fine =
+    let e : Effect AnyRow = effect s m in
+    let shut_now : List Request = shut s.world.requests e.closes in
+    let requests : shut_now ++ e.opens ≡ shut_now = ap (λ (o : List Request). shut_now ++ o) fine.opens ∙ append-nil shut_now in
+    record {
+      reached = reached_step s.draws s.world m sound.reached lawful stores;
+      lengths = sound.lengths ∙ sym (ap (λ (rs : List Request). length rs) requests ∙ length_shut s.world.requests e.closes);
+      told = sound.told;
+      presents = fine.presents;
+      stages = sound.stages;
+      drawn = sound.drawn;
+      acknowledged = kept_later s.world.kept e.keeps s.history sound.acknowledged;
+      proper = All-append IsProper e.keeps s.world.kept fine.keeps sound.proper;
+      fresh = fresh_later s (doing s m) refl (λ n c. c) (λ d c. c) (λ x c. c) sound.fresh;
+    }
+
+pub fine_still : (s : State) (e : Effect AnyRow) → IsSound s → ((n : ℕ) → e.nodes n ≡ None) → e.opens ≡ [] → AreProper e.keeps → IsFine s e
+fine_still s e sound still opens keeps = record {
+  opens = opens;
+  presents = λ n. subst (λ o. ArePresent s.asked s.draws s.history n (unwrap_or o (s.world.nodes n)).calls) (sym (still n)) (sound.presents n);
+  keeps = keeps;
+}
+
+pub fine_one : (s : State) (e : Effect AnyRow) (n : ℕ) (y : Node AnyRow Layout) → IsSound s → ((m : ℕ) → e.nodes m ≡ only n y m) → e.opens ≡ [] → AreProper e.keeps → ArePresent s.asked s.draws s.history n y.calls → IsFine s e
+fine_one s e n y sound one opens keeps are = record {
+  opens = opens;
+  presents = λ m. subst (λ o. ArePresent s.asked s.draws s.history m (unwrap_or o (s.world.nodes m)).calls) (sym (one m))
+      (elim (m == n) as (λ b. (m == n) ≡ b → ArePresent s.asked s.draws s.history m (unwrap_or (cond b (Some y) None) (s.world.nodes m)).calls) [
+        | true ↦ (λ t. subst (λ k. ArePresent s.asked s.draws s.history k y.calls) (sym (eqb-true m n t)) are)
+        | false ↦ (λ f. sound.presents m)
+      ] refl);
+  keeps = keeps;
+}
+
+pub fine_cond : (s : State) (b : Bool) (d e : Effect AnyRow) → IsFine s d → IsFine s e → IsFine s (cond b d e)
+fine_cond s true d e h k = h
+fine_cond s false d e h k = k
+
+module _ (s : State) (e : Effect AnyRow) (sound : IsSound s) (calm : IsCalm s.world e) where
+  calm_both : AllByRecursion (λ (x : Ended AnyRow). IsEnd s.asked s.draws s.history (e.keeps ++ s.world.kept) (e.reads ++ s.world.reads) x.request x.how ×
+      WaitsAt s.asked calm.node x.request × ((c : Call AnyRow) → Has (changed e.nodes s.world.nodes calm.node).calls c → c.request ≡ x.request → c.present ≡ resting)) e.ends × AreProper e.keeps
+  calm_both = ends_are s.asked s.draws s.history calm.node s.world.kept s.world.reads e.keeps e.reads (s.world.nodes calm.node).calls (changed e.nodes s.world.nodes calm.node).calls e.ends (sound.presents calm.node) calm.ends
+
+  -- a calm step, and the phase that ended in it
+  pub calm_fine : IsFine s e
+  calm_fine = record {
+    opens = calm.opens;
+    presents = λ n c h. present_continues s.asked s.draws s.history n (s.world.nodes n).calls (sound.presents n) c (calm.calls n c h);
+    keeps = calm_both.1;
+  }
+
+  rests_or_waits : (n q : ℕ) (p : Present AnyRow) → IsPresent s.asked s.draws s.history n q p → (p ≡ resting) ⊎ WaitsAt s.asked n q
+  rests_or_waits n q resting h = inl refl
+  rests_or_waits n q (asking question answers) h = inr h.waits
+  rests_or_waits n q (scanning scan answers) h = inr h
+  rests_or_waits n q (storing rows slots) h = inr h.waits
+  rests_or_waits n q (fetching hash) h = inr h
+
+  one_node : (n m q : ℕ) → WaitsAt s.asked n q → WaitsAt s.asked m q → n ≡ m
+  one_node n m q w v =
+      let some_is : Some w.one ≡ Some v.one = sym w.is_there ∙ v.is_there in
+      let one_is : w.one ≡ v.one = cc in
+      sym w.node_is ∙ (ap (λ (a : Asked). a.node) one_is ∙ v.node_is)
+
+  abbrev pub IsDoneAt : ℕ → Type 0
+  IsDoneAt q = WaitsAt s.asked calm.node q × ((c : Call AnyRow) → Has (changed e.nodes s.world.nodes calm.node).calls c → c.request ≡ q → c.present ≡ resting)
+
+  -- the request whose phase ended rests wherever it is open
+  rests_now : (q : ℕ) → IsDoneAt q → (n : ℕ) (c : Call AnyRow) → Has (changed e.nodes s.world.nodes n).calls c → c.request ≡ q → c.present ≡ resting
+  rests_now q done n c has is =
+      elim (n == calm.node) as (λ b. (n == calm.node) ≡ b → c.present ≡ resting) [
+        | true ↦ (λ t. done.1 c (subst (λ m. Has (changed e.nodes s.world.nodes m).calls c) (eqb-true n calm.node t) has) is)
+        | false ↦ (λ f. elim (rests_or_waits n c.request c.present (calm_fine.presents n c has)) [
+            | inl rests ↦ rests
+            | inr waits ↦ absurd (eqb-false n calm.node f (one_node n calm.node q (subst (WaitsAt s.asked n) is waits) done.0))
+          ])
+      ] refl
+
+  abbrev pub IsEnded : Ended AnyRow → Type 0
+  IsEnded x = IsEnd s.asked s.draws s.history (e.keeps ++ s.world.kept) (e.reads ++ s.world.reads) x.request x.how ×
+      ((n : ℕ) (c : Call AnyRow) → Has (changed e.nodes s.world.nodes n).calls c → c.request ≡ x.request → c.present ≡ resting)
+
+  -- the phases that ended in a calm step, and their requests rest
+  pub calm_ends : AllByRecursion IsEnded e.ends
+  calm_ends = all_weaker _ IsEnded (λ x h. (h.0, rests_now x.request (h.1, h.2))) e.ends calm_both.0
