@@ -1,8 +1,12 @@
+pub mod Acting
 pub mod Beginning
 pub mod Covering
+pub mod Enders
 pub mod Ends
+pub mod Finishing
 pub mod Flows
 pub mod Freshness
+pub mod Going
 pub mod Good
 pub mod Grown
 pub mod Opening

@@ -1,0 +1,184 @@
+-- How requests finish, and what they owe when they do.
+use Rattle.std.proofs.Common.{◌≡◌, inl, inr, ℕ, zero, suc, ◌≤◌, Bool, true, false, ◌&&◌, Option, Some, None, List, [], ◌∷◌, ◌++◌, length, if◌then◌else◌, refl, sym, ap, ◌∙◌, subst, arith}
+use Rattle.std.specs.Prelude.{IsTrue}
+use Rattle.std.specs.Option.{unwrap_or}
+use Rattle.std.specs.List.{All, AllByRecursion, Contains}
+use Rattle.std.proofs.lemmas.List.Elements.{All-nil, All-cons, All-contains}
+use Rattle.crdt_core.specs.EntryLaws.{and_parts}
+use Rattle.crdt_rows.specs.declared.version.Version.{Version}
+use Rattle.crdt_rows.specs.declared.body.Meta.{Meta}
+use Rattle.crdt_rows.specs.declared.any_row.AnyRow.{AnyRow}
+use Rattle.crdt_rows.specs.AnyRow.{any_join}
+use Rattle.object_schema.specs.Schema.{words}
+use Rattle.cluster_machine.specs.Layouts.{layouts}
+use Rattle.wire_messages.specs.declared.phase.PhaseEnd.{PhaseEnd}
+use Rattle.wire_messages.specs.declared.phase.PhaseEnd.TheVariants.{Row as Answered, Window, Kept, Block}
+use Rattle.cluster_machine.specs.declared.step.Refusal.TheVariants.{NotMember, NoSuchBucket, VersionLimit}
+use Rattle.cluster_machine.specs.declared.step.Step.{Step}
+use Rattle.cluster_machine.specs.declared.step.Step.TheVariants as step
+use Rattle.cluster_machine.specs.Node.{Ended}
+use Rattle.cluster_machine.specs.Run.{IsStep}
+use Rattle.cluster_machine.specs.World.{clock, is_member_at, numbered, undelivered}
+use Rattle.cluster_machine.specs.Trio.{trio, stage_trio}
+use Rattle.machine_origins.specs.Origins.{stored_by}
+use Rattle.cluster_machine.specs.Worlds.{IsMeant, IsLawful, FitAll, run as world_run}
+use Rattle.history_model.specs.declared.record.Kind.{Kind}
+use Rattle.history_model.specs.declared.record.Kind.TheVariants as kind
+use Rattle.history_model.specs.declared.record.Answer.{Answer}
+use Rattle.history_model.specs.declared.record.Answer.TheVariants as answer
+use Rattle.history_model.specs.declared.record.Cause.TheVariants.{Expired, Restarted}
+use Rattle.history_model.specs.declared.record.Record.TheVariants.{Finished}
+use Rattle.history_model.specs.Record.{is_read, is_write, is_source, names}
+use Rattle.flow_model.specs.declared.order.Order.{Order}
+use Rattle.flow_model.specs.declared.order.Order.TheVariants as order
+use Rattle.flow_model.specs.declared.flow.Name.{Name}
+use Rattle.flow_model.specs.declared.flow.Content.{Content}
+use Rattle.flow_model.specs.declared.flow.Wish.{Wish}
+use Rattle.flow_model.specs.declared.flow.Wish.TheVariants as wish
+use Rattle.flow_model.specs.declared.flow.Aim.{Aim}
+use Rattle.flow_model.specs.declared.flow.Aim.TheVariants as aim
+use Rattle.flow_model.specs.declared.flow.Stage.{Stage}
+use Rattle.flow_model.specs.declared.flow.Stage.TheVariants.{Drawing, Uploading, Completing, Looking, Opening, Gathering, Listing}
+use Rattle.flow_model.specs.declared.flow.Flow.{Flow}
+use Rattle.flow_model.specs.declared.flow.FlowEnd.{FlowEnd}
+use Rattle.flow_model.specs.declared.flow.FlowEnd.TheVariants.{Stored, Found, Nothing, Listed, Superseded}
+use Rattle.flow_model.specs.Blocks.{is_long}
+use Rattle.flow_model.specs.Rows.{meta_of, complete}
+use Rattle.flow_model.specs.Says.{Said, none, marked, inline, in_blocks, said_of}
+use Rattle.flow_model.specs.Flow.{asks_for}
+use Rattle.flow_model.specs.Next.{drawn, stores, next}
+use Rattle.store_model.specs.Orders.{kind_of, name_of, buckets_of}
+use Rattle.store_model.specs.Answers.{record_of}
+use Rattle.store_model.specs.Run.{Moving, State, start, Asked, Draw, Saw, Outcome, silent, refusal, plainly, effect, doing, is_bucket, are_buckets, phases, new_request, opened, begins, goes, finishes, takes, follows, follow, goes_on, delivers, then_drains, drains}
+use Rattle.store_model.specs.Acts.{Act, moves, asks, delivery, drain, adds, cuts, endings, plain, acted, after_acts, IsOuter, IsLawfulAct, AreLawfulActs, ActsFit}
+use Rattle.store_model.specs.Fresh.{IsFresh}
+use Rattle.object_laws.proofs.Buckets.{bucket_in, same_bytes}
+use Rattle.object_laws.proofs.Cuts.{at_cut}
+use Rattle.object_laws.proofs.Starting.{none_in}
+use Rattle.object_laws.proofs.Calm.{IsCalm, IsCalmStep, calm_step}
+use Rattle.object_laws.proofs.Events.{fit_parts}
+use Rattle.object_laws.proofs.Reached.{EveryWorld}
+use Rattle.store_laws.specs.Small.{IsSmall, AreSmall}
+use Rattle.store_laws.proofs.Good.{IsGood, complete_is_good}
+use Rattle.store_laws.proofs.Placing.{asks_is_step, asks_is_meant, stores_is_step, stores_is_meant, complete_is_placed}
+use Rattle.store_laws.proofs.Sound.{began, IsAsked, IsWishOf, HasDrawn, HasKept, AsksRow, AsksFor, Completes, StoresFor, WaitsAt, IsFreshEnd, IsStage, IsSound}
+use Rattle.store_laws.proofs.Reached.{reached_different}
+use Rattle.store_laws.proofs.Grown.{Rests}
+use Rattle.store_laws.proofs.Ends.{IsEnd, HasRead, HasStored}
+use Rattle.store_laws.proofs.Stepping.{step_sound, calm_fine, calm_ends, IsEnded}
+use Rattle.store_laws.proofs.Beginning.{asks_fine, stores_fine}
+use Rattle.store_laws.proofs.Opening.{opening, opened_sound, new_there}
+use Rattle.store_laws.proofs.Flows.{waiting, MayWait, waiting_sound, saw_sound}
+use Rattle.store_laws.proofs.Finishing.{IsEndOf, told_sound, ended_sound}
+use Rattle.store_laws.proofs.Values.{inline_found, never_in_blocks, none_end, marked_end, found_end}
+
+-- a source of versions writes
+pub source_writes : (k : Kind) → IsTrue (is_source k) → IsTrue (is_write k)
+source_writes kind.Put h = refl
+source_writes kind.Get h = cc
+source_writes kind.Head h = cc
+source_writes kind.Delete h = cc
+source_writes kind.Copy h = refl
+source_writes kind.List h = cc
+
+pub wish_writes : (k : Kind) (w : Wish) → IsWishOf k w → IsTrue (is_write k)
+wish_writes k wish.Marker h = h
+wish_writes k (wish.Content c) h = source_writes k h.0
+
+-- a write doesn't read
+write_reads_not : (k : Kind) → IsTrue (is_write k) → IsTrue (is_read k) → ⊥
+write_reads_not kind.Put w r = cc
+write_reads_not kind.Get w r = cc
+write_reads_not kind.Head w r = cc
+write_reads_not kind.Delete w r = cc
+write_reads_not kind.Copy w r = cc
+write_reads_not kind.List w r = cc
+
+module _ (every : EveryWorld) where
+  pub is_calm : (s : State) (m : Moving) → IsCalmStep m.step → IsSound s → IsCalm s.world (effect s m)
+  is_calm s m calm sound = calm_step any_join words layouts trio stage_trio s.world (reached_different every s.draws s.world sound.reached) m.step m.choice calm
+
+  module _ (s : State) (q : ℕ) (a : Asked) (at : numbered s.asked q ≡ Some a) (rests : Rests s q) where
+    none_waits : MayWait q a None
+    none_waits f e = cc
+
+    never_begins : (end : FlowEnd) (p n : ℕ) (k : Kind) (name : Name) → record_of q end ≡ began p n k name → ⊥
+    never_begins (Stored version meta) p n k name e = cc
+    never_begins (Found version meta body) p n k name e = cc
+    never_begins Nothing p n k name e = cc
+    never_begins (Listed rows) p n k name e = cc
+    never_begins (Superseded id) p n k name e = cc
+
+    -- a request that finishes with what it owes
+    pub finishes_keeps : (end : FlowEnd) → FitAll any_join words s.world (finishes s q a end).moves → ((n : ℕ) (x : Answer) → record_of q end ≡ Finished n x → IsEndOf s n x) →
+        IsSound s → IsSound (finishes s q a end).state
+    finishes_keeps end fits ends sound =
+        let told : State = record s { history = s.history ++ record_of q end ∷ [] } in
+        let is_told : IsSound told = told_sound s (record_of q end) (never_begins end) ends sound in
+        let waits : State = waiting told q a None [] in
+        let now : IsSound waits = waiting_sound told q a None [] at rests none_waits (λ d c. absurd (none_in d c)) is_told in
+        step_sound waits (plainly (step.Close q)) now (tt, tt, tt, fits.0.1, tt) (All-nil (IsGood waits.draws)) (calm_fine waits (effect waits (plainly (step.Close q))) now (is_calm waits (plainly (step.Close q)) tt now))
+
+    -- how a request ends that finishes with this answer
+    pub one_end : (x y : Answer) (n : ℕ) → IsEndOf s q x → Finished q x ≡ Finished n y → IsEndOf s n y
+    one_end x y n end e =
+        let q_is : q ≡ n = cc in
+        let x_is : x ≡ y = cc in
+        subst (λ (m : ℕ). IsEndOf s m y) q_is (subst (λ (z : Answer). IsEndOf s q z) x_is end)
+
+    -- the kind of a request that a record says
+    pub kind_told : (k : Kind) (name : Name) → IsAsked s.asked q k name → (a.kind ≡ k) × (a.name ≡ name)
+    kind_told k name asked =
+        let some_is : Some asked.one ≡ Some a = sym asked.is_there ∙ at in
+        let one_is : asked.one ≡ a = cc in
+        (ap (λ (b : Asked). b.kind) (sym one_is) ∙ asked.kind_is, ap (λ (b : Asked). b.name) (sym one_is) ∙ asked.name_is)
+
+    -- a write owes nothing as a read
+    pub write_end : IsSound s → IsTrue (is_write a.kind) → (x : Answer) → IsFreshEnd s q x
+    write_end sound writes x = record {
+      covers = λ before after n k name key w reads cut named ack.
+          let is = kind_told k name (sound.told.began_asked q n k name (at_cut s.history before after (began q n k name) cut)) in
+          absurd (write_reads_not k (subst (λ (k : Kind). IsTrue (is_write k)) is.0 writes) reads);
+      written = λ clash n k name key v reads begun named shows.
+          let is = kind_told k name (sound.told.began_asked q n k name begun) in
+          absurd (write_reads_not k (subst (λ (k : Kind). IsTrue (is_write k)) is.0 writes) reads);
+    }
+
+    -- a read acknowledges nothing
+    pub read_end : (x : Answer) → IsTrue (is_read a.kind) → IsFreshEnd s q x → IsEndOf s q x
+    read_end x reads fresh = record {
+      one = a;
+      is_there = at;
+      fresh = fresh;
+      kept = λ version k name e writes asked. absurd (write_reads_not k writes (subst (λ (k : Kind). IsTrue (is_read k)) (kind_told k name asked).0 reads));
+    }
+
+    -- a write that gives up acknowledges nothing
+    pub nothing_end : IsSound s → IsTrue (is_write a.kind) → IsEndOf s q answer.None
+    nothing_end sound writes = record { one = a; is_there = at; fresh = write_end sound writes answer.None; kept = λ version k name e w asked. cc }
+
+    -- a write's version is kept
+    pub stored_end : (flow : Flow) (version : Version) (meta : Option Meta) → a.flow ≡ Some flow → flow.stage ≡ Completing version meta → IsSound s → IsTrue (is_write a.kind) →
+        HasStored s.asked s.draws s.world.kept q → IsEndOf s q (answer.Version version)
+    stored_end flow version meta flow_is stage_is sound writes h = record {
+      one = a;
+      is_there = at;
+      fresh = write_end sound writes (answer.Version version);
+      kept = λ v k name e w asked.
+          let waits : WaitsAt s.asked h.node q = h.is_storing.waits in
+          let some_is : Some waits.one ≡ Some a = sym waits.is_there ∙ at in
+          let one_is : waits.one ≡ a = cc in
+          let flows : Some waits.flow ≡ Some flow = sym waits.flow_is ∙ (ap (λ (b : Asked). b.flow) one_is ∙ flow_is) in
+          let same : waits.flow ≡ flow = cc in
+          let c : Completes s.draws q version h.rows = subst (λ (g : Stage). StoresFor s.draws q g h.rows) (ap (λ (f : Flow). f.stage) same ∙ stage_is) h.is_storing.stores in
+          let d = sound.drawn c.draw c.drawn in
+          let told = kind_told d.kind c.draw.name (subst (λ (m : ℕ). IsAsked s.asked m d.kind c.draw.name) c.request_is (sound.told.began_asked c.draw.request d.node d.kind c.draw.name d.has_begun)) in
+          let name_is : c.draw.name ≡ name = sym told.1 ∙ (kind_told k name asked).1 in
+          let version_is : c.draw.version ≡ v = c.version_is ∙ (cc) in
+          record {
+            block = c.block;
+            wish = c.draw.wish;
+            is_there = subst (λ (r : AnyRow). Contains s.world.kept r) (λ i. complete (name_is i) (version_is i) c.block c.draw.wish)
+                (h.are_there (complete c.draw.name c.draw.version c.block c.draw.wish) (subst (λ (rs : List AnyRow). Contains rs (complete c.draw.name c.draw.version c.block c.draw.wish)) (sym c.rows_are) (0, omega arith, refl)));
+          };
+    }
