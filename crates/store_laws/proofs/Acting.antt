@@ -1,36 +1,21 @@
--- What each act keeps, up to the run of a list of acts.
-use Rattle.std.proofs.Common.{◌≡◌, inl, inr, ℕ, zero, suc, ◌≤◌, Bool, true, false, ◌&&◌, Option, Some, None, List, [], ◌∷◌, ◌++◌, length, if◌then◌else◌, refl, sym, ap, ◌∙◌, subst, arith}
+-- What a request does whose phase ended keeps a state sound, whatever it waits for.
+use Rattle.std.proofs.Common.{◌≡◌, ℕ, true, false, Option, Some, None, List, [], ◌∷◌, length, refl, sym, ap, ◌∙◌, subst, arith}
 use Rattle.std.specs.Prelude.{IsTrue}
 use Rattle.std.specs.Option.{unwrap_or}
-use Rattle.std.specs.List.{All, AllByRecursion, Contains}
-use Rattle.std.proofs.lemmas.List.Elements.{All-nil, All-cons, All-contains}
-use Rattle.crdt_core.specs.EntryLaws.{and_parts}
+use Rattle.std.specs.List.{Contains}
 use Rattle.crdt_rows.specs.declared.version.Version.{Version}
 use Rattle.crdt_rows.specs.declared.body.Meta.{Meta}
 use Rattle.crdt_rows.specs.declared.any_row.AnyRow.{AnyRow}
 use Rattle.crdt_rows.specs.AnyRow.{any_join}
 use Rattle.object_schema.specs.Schema.{words}
-use Rattle.cluster_machine.specs.Layouts.{layouts}
 use Rattle.wire_messages.specs.declared.phase.PhaseEnd.{PhaseEnd}
 use Rattle.wire_messages.specs.declared.phase.PhaseEnd.TheVariants.{Row as Answered, Window, Kept, Block}
-use Rattle.cluster_machine.specs.declared.step.Refusal.TheVariants.{NotMember, NoSuchBucket, VersionLimit}
-use Rattle.cluster_machine.specs.declared.step.Step.{Step}
-use Rattle.cluster_machine.specs.declared.step.Step.TheVariants as step
-use Rattle.cluster_machine.specs.Node.{Ended}
-use Rattle.cluster_machine.specs.Run.{IsStep}
-use Rattle.cluster_machine.specs.World.{clock, is_member_at, numbered, undelivered}
-use Rattle.cluster_machine.specs.Trio.{trio, stage_trio}
-use Rattle.machine_origins.specs.Origins.{stored_by}
-use Rattle.cluster_machine.specs.Worlds.{IsMeant, IsLawful, FitAll, run as world_run}
+use Rattle.cluster_machine.specs.World.{clock, numbered}
+use Rattle.cluster_machine.specs.Worlds.{FitAll}
 use Rattle.history_model.specs.declared.record.Kind.{Kind}
 use Rattle.history_model.specs.declared.record.Kind.TheVariants as kind
-use Rattle.history_model.specs.declared.record.Answer.{Answer}
 use Rattle.history_model.specs.declared.record.Answer.TheVariants as answer
-use Rattle.history_model.specs.declared.record.Cause.TheVariants.{Expired, Restarted}
-use Rattle.history_model.specs.declared.record.Record.TheVariants.{Finished}
 use Rattle.history_model.specs.Record.{is_read, is_write, is_source, names}
-use Rattle.flow_model.specs.declared.order.Order.{Order}
-use Rattle.flow_model.specs.declared.order.Order.TheVariants as order
 use Rattle.flow_model.specs.declared.flow.Name.{Name}
 use Rattle.flow_model.specs.declared.flow.Content.{Content}
 use Rattle.flow_model.specs.declared.flow.Wish.{Wish}
@@ -39,44 +24,22 @@ use Rattle.flow_model.specs.declared.flow.Aim.{Aim}
 use Rattle.flow_model.specs.declared.flow.Aim.TheVariants as aim
 use Rattle.flow_model.specs.declared.flow.Stage.{Stage}
 use Rattle.flow_model.specs.declared.flow.Stage.TheVariants.{Drawing, Uploading, Completing, Looking, Opening, Gathering, Listing}
-use Rattle.flow_model.specs.declared.flow.Flow.{Flow}
 use Rattle.flow_model.specs.declared.flow.FlowStep.{FlowStep}
-use Rattle.flow_model.specs.declared.flow.FlowEnd.{FlowEnd}
-use Rattle.flow_model.specs.declared.flow.FlowEnd.TheVariants.{Stored, Found, Nothing, Listed, Superseded}
+use Rattle.flow_model.specs.declared.flow.FlowEnd.TheVariants.{Stored, Found, Nothing}
 use Rattle.flow_model.specs.Blocks.{is_long}
-use Rattle.flow_model.specs.Rows.{meta_of, uploading, complete}
+use Rattle.flow_model.specs.Rows.{meta_of, uploading}
 use Rattle.flow_model.specs.Says.{Said, none, marked, inline, in_blocks, said_of}
-use Rattle.flow_model.specs.Flow.{asks_for}
-use Rattle.flow_model.specs.Next.{drawn, stores, more, found, looked, writes, completes, next}
-use Rattle.store_model.specs.Orders.{kind_of, name_of, buckets_of}
-use Rattle.store_model.specs.Answers.{record_of}
-use Rattle.store_model.specs.Run.{Moving, State, start, Asked, Draw, Saw, Outcome, silent, refusal, plainly, effect, doing, is_bucket, are_buckets, phases, new_request, opened, begins, set_flow, goes, finishes, takes, follows, follow, goes_on, delivers, then_drains, drains}
-use Rattle.store_model.specs.Acts.{Act, moves, asks, delivery, drain, adds, cuts, endings, plain, acted, after_acts, IsOuter, IsLawfulAct, AreLawfulActs, ActsFit}
-use Rattle.store_model.specs.Fresh.{IsFresh}
-use Rattle.object_laws.proofs.Buckets.{bucket_in, same_bytes}
-use Rattle.object_laws.proofs.Drawing.{only}
-use Rattle.object_laws.proofs.Places.{numbered_set_here}
-use Rattle.object_laws.proofs.Cuts.{at_cut}
-use Rattle.object_laws.proofs.Starting.{none_in}
-use Rattle.object_laws.proofs.Calm.{IsCalm, IsCalmStep, calm_step}
-use Rattle.object_laws.proofs.Events.{fit_parts}
+use Rattle.flow_model.specs.Next.{drawn, stores, more, found, looked, writes, completes}
+use Rattle.store_model.specs.Run.{State, Asked, Draw, set_flow, takes, follows}
+use Rattle.object_laws.proofs.Buckets.{same_bytes}
 use Rattle.object_laws.proofs.Reached.{EveryWorld}
-use Rattle.store_laws.specs.Small.{IsSmall, AreSmall}
-use Rattle.store_laws.proofs.Good.{IsGood, complete_is_good}
-use Rattle.store_laws.proofs.Placing.{asks_is_step, asks_is_meant, stores_is_step, stores_is_meant, complete_is_placed}
-use Rattle.store_laws.proofs.Sound.{began, IsAsked, IsWishOf, HasDrawn, HasKept, AsksRow, AsksFor, Completes, StoresFor, WaitsAt, IsFreshEnd, IsStage, IsSound}
-use Rattle.store_laws.proofs.Reached.{reached_different}
+use Rattle.store_laws.proofs.Sound.{IsWishOf, IsStage, IsSound}
 use Rattle.store_laws.proofs.Grown.{Rests}
-use Rattle.store_laws.proofs.Ends.{IsEnd, HasRead, HasStored}
-use Rattle.store_laws.proofs.Stepping.{step_sound, calm_fine, calm_ends, IsEnded}
-use Rattle.store_laws.proofs.Beginning.{asks_fine, stores_fine}
-use Rattle.store_laws.proofs.Opening.{opening, opened_sound, new_there}
-use Rattle.store_laws.proofs.Flows.{waiting, MayWait, waiting_sound, saw_sound}
-use Rattle.store_laws.proofs.Finishing.{IsEndOf, told_sound, ended_sound}
+use Rattle.store_laws.proofs.Ends.{IsEnd, HasRead}
+use Rattle.store_laws.proofs.Flows.{saw_sound}
+use Rattle.store_laws.proofs.Finishing.{IsEndOf}
 use Rattle.store_laws.proofs.Values.{inline_found, never_in_blocks, none_end, marked_end, found_end}
-
-use Rattle.store_laws.proofs.Enders.{is_calm, finishes_keeps, one_end, kind_told, source_writes, wish_writes, read_end, nothing_end, stored_end}
-
+use Rattle.store_laws.proofs.Enders.{finishes_keeps, one_end, read_end, nothing_end, stored_end}
 use Rattle.store_laws.proofs.Going.{flow_of, waits_keeps, writes_keeps, draws_keeps}
 
 -- a get or head names its own key
@@ -139,12 +102,12 @@ module _ (every : EveryWorld) (s : State) (q : ℕ) (a : Asked) (at : numbered s
 -- ---- a phase ended
 
 module _ (every : EveryWorld) (s : State) (q : ℕ) (a : Asked) (at : numbered s.asked q ≡ Some a) (rests : Rests s q) (block : ℕ) (sound : IsSound s) where
-  abbrev Keeps : Stage → PhaseEnd AnyRow → Type 0
+  abbrev pub Keeps : Stage → PhaseEnd AnyRow → Type 0
   Keeps stage end =
       a.flow ≡ Some (flow_of q block stage) → IsStage q a stage → FitAll any_join words s.world (follows s q a end (Some (flow_of q block stage))).moves →
       IsEnd s.asked s.draws s.history s.world.kept s.world.reads q end → IsSound (follows s q a end (Some (flow_of q block stage))).state
 
-  abbrev seeing : PhaseEnd AnyRow → State
+  abbrev pub seeing : PhaseEnd AnyRow → State
   seeing end = record s { saw = record { request = q; end = end } ∷ s.saw }
 
   seen_sound : (end : PhaseEnd AnyRow) → IsSound (seeing end)
@@ -154,7 +117,7 @@ module _ (every : EveryWorld) (s : State) (q : ℕ) (a : Asked) (at : numbered s
   goes_waiting stage end flow_is = waits_keeps every (seeing end) q a at rests block stage flow_is (seen_sound end)
 
   -- what a flow's step keeps, an equal one keeps
-  abbrev StepKeeps : State → List Draw → FlowStep → Type 0
+  abbrev pub StepKeeps : State → List Draw → FlowStep → Type 0
   StepKeeps now ds st = FitAll any_join words now.world (takes now q a ds st).moves → IsSound (takes now q a ds st).state
 
   -- few bytes are stored at once
@@ -175,7 +138,7 @@ module _ (every : EveryWorld) (s : State) (q : ℕ) (a : Asked) (at : numbered s
   drawing_keeps name (wish.Content c) value flow_is stage fits end = content_keeps name c value stage.0 stage.1 flow_is stage fits end
 
   -- a request whose phase ended so
-  stage_keeps : (stage : Stage) (end : PhaseEnd AnyRow) → Keeps stage end
+  pub stage_keeps : (stage : Stage) (end : PhaseEnd AnyRow) → Keeps stage end
   stage_keeps (Drawing name w) (Answered value) flow_is stage fits end = drawing_keeps name w value flow_is stage fits end
   stage_keeps (Drawing name w) (Window rows more) flow_is stage fits end = goes_waiting (Drawing name w) (Window rows more) flow_is
   stage_keeps (Drawing name w) Kept flow_is stage fits end = goes_waiting (Drawing name w) Kept flow_is

@@ -1,9 +1,6 @@
 -- The phases of requests: what a request is in whose phase has begun.
-use Rattle.std.specs.Prelude.{◌≡◌, ℕ, true, false, ◌==◌, cond, List, [], ◌∷◌, ◌++◌, Option, Some, None, refl}
-use Rattle.std.specs.Option.{unwrap_or}
-use Rattle.std.specs.List.{All}
+use Rattle.std.specs.Prelude.{◌≡◌, ℕ, List, [], ◌∷◌, ◌++◌, Option, Some, None, refl}
 use Rattle.std.proofs.Common.{ap, sym, subst, ◌∙◌, inl, inr}
-use Rattle.std.proofs.lemmas.Bool.{eqb-true}
 use Rattle.std.proofs.lemmas.List.Elements.{All-nil, All-cons, Contains-append_left}
 use Rattle.crdt_rows.specs.declared.version.Version.{Version}
 use Rattle.crdt_rows.specs.declared.any_row.AnyRow.{AnyRow}
@@ -11,8 +8,6 @@ use Rattle.crdt_rows.specs.AnyRow.{any_join}
 use Rattle.layout_roles.specs.declared.layout.Layout.{Layout}
 use Rattle.object_schema.specs.Schema.{words}
 use Rattle.wire_messages.specs.declared.phase.Phase.{Phase}
-use Rattle.wire_messages.specs.declared.phase.Phase.TheVariants.{Store}
-use Rattle.cluster_machine.specs.declared.step.Step.TheVariants.{Phase as Begin}
 use Rattle.cluster_machine.specs.Node.{Question, Present, resting, asking, scanning, storing, fetching, Call, Node, Did}
 use Rattle.cluster_machine.specs.Phases.{call_at, begins}
 use Rattle.cluster_machine.specs.World.{Request, numbered}
@@ -23,7 +18,6 @@ use Rattle.machine_origins.proofs.FollowingCalls.{found_there}
 use Rattle.machine_origins.proofs.FollowingSteps.{begins_follow}
 use Rattle.cluster_machine.specs.Layouts.{layouts}
 use Rattle.cluster_machine.specs.Trio.{trio, stage_trio}
-use Rattle.history_model.specs.declared.record.Kind.{Kind}
 use Rattle.history_model.specs.declared.record.Record.{Record}
 use Rattle.flow_model.specs.declared.flow.Name.{Name}
 use Rattle.flow_model.specs.declared.flow.Flow.{Flow}
@@ -31,7 +25,7 @@ use Rattle.flow_model.specs.Flow.{asks_for}
 use Rattle.flow_model.specs.Next.{stores}
 use Rattle.store_model.specs.Run.{State, Asked, phases, effect}
 use Rattle.object_laws.proofs.Beginning.{found_request}
-use Rattle.store_laws.proofs.Sound.{began, WasAcknowledged, HasKept, IsProper, AreProper, AsksRow, AsksFor, StoresFor, HasBefore, AskedAt, WaitsAt, IsPresent, IsSound}
+use Rattle.store_laws.proofs.Sound.{began, WasAcknowledged, IsProper, AreProper, AsksRow, AsksFor, StoresFor, HasBefore, AskedAt, IsPresent, IsSound}
 use Rattle.store_laws.proofs.Ends.{asked_of}
 use Rattle.store_laws.proofs.Grown.{IsStill}
 use Rattle.store_laws.proofs.Stepping.{IsFine, fine_still, fine_one, fine_cond}

@@ -1,22 +1,18 @@
 -- Reads stay fresh as the history grows by a record: of a request that began, finished or ended.
-use Rattle.std.proofs.Common.{◌≡◌, ◌⊎◌, inl, inr, ℕ, suc, ◌+◌, ◌<◌, ◌≤◌, Some, List, [], ◌∷◌, ◌++◌, length, take, drop, refl, sym, ap, ◌∙◌, subst, arith}
-use Rattle.std.specs.Prelude.{IsTrue, slice_get}
+use Rattle.std.proofs.Common.{◌≡◌, inl, inr, ℕ, suc, ◌+◌, ◌<◌, ◌≤◌, Some, List, [], ◌∷◌, ◌++◌, length, take, drop, refl, sym, ap, ◌∙◌, subst, arith}
+use Rattle.std.specs.Prelude.{slice_get}
 use Rattle.std.specs.List.{Contains}
 use Rattle.std.proofs.lemmas.List.{length_push, append-nil}
-use Rattle.std.proofs.lemmas.List.Elements.{Contains-append_left}
 use Rattle.std.proofs.lemmas.Option.{get_or_from_slice_get}
 use Rattle.crdt_rows.specs.declared.version.Version.{Version}
-use Rattle.history_model.specs.declared.record.Kind.{Kind}
 use Rattle.history_model.specs.declared.record.Answer.{Answer}
-use Rattle.history_model.specs.declared.record.Answer.TheVariants as answer
 use Rattle.history_model.specs.declared.record.Record.{Record}
 use Rattle.history_model.specs.declared.record.Record.TheVariants.{Began, Finished}
-use Rattle.history_model.specs.Record.{is_read, names, finish, acknowledged, BeganAt, Shows}
 use Rattle.history_model.specs.Fresh.{IsAcknowledged}
 use Rattle.flow_model.specs.declared.flow.Name.{Name}
 use Rattle.store_model.specs.Run.{Draw, Saw, State}
-use Rattle.store_model.specs.Fresh.{IsMarked, Covers, IsDrawn, NoClash, IsRead, IsFreshRead, IsFresh}
-use Rattle.object_laws.proofs.Places.{get_append, get_push_cases}
+use Rattle.store_model.specs.Fresh.{IsMarked, Covers, IsDrawn, IsRead, IsFreshRead, IsFresh}
+use Rattle.object_laws.proofs.Places.{get_append}
 use Rattle.store_laws.proofs.Records.{stands, in_front, finish_is, finish_cases, acknowledged_is, split, old_at, began_before, acknowledged_before}
 use Rattle.store_laws.proofs.Sound.{began, WasAcknowledged, DrewHere, IsFreshEnd}
 

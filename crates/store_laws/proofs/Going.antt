@@ -1,80 +1,36 @@
 -- What a request does whose phase ended keeps a state sound.
-use Rattle.std.proofs.Common.{◌≡◌, inl, inr, ℕ, zero, suc, ◌≤◌, Bool, true, false, ◌&&◌, Option, Some, None, List, [], ◌∷◌, ◌++◌, length, if◌then◌else◌, refl, sym, ap, ◌∙◌, subst, arith}
-use Rattle.std.specs.Prelude.{IsTrue}
-use Rattle.std.specs.Option.{unwrap_or}
-use Rattle.std.specs.List.{All, AllByRecursion, Contains}
-use Rattle.std.proofs.lemmas.List.Elements.{All-nil, All-cons, All-contains}
-use Rattle.crdt_core.specs.EntryLaws.{and_parts}
+use Rattle.std.proofs.Common.{◌≡◌, ℕ, Option, Some, [], ◌∷◌, length, refl, sym, ap, ◌∙◌, subst, arith}
+use Rattle.std.specs.List.{Contains}
+use Rattle.std.proofs.lemmas.List.Elements.{All-nil, All-cons}
 use Rattle.crdt_rows.specs.declared.version.Version.{Version}
 use Rattle.crdt_rows.specs.declared.body.Meta.{Meta}
 use Rattle.crdt_rows.specs.declared.any_row.AnyRow.{AnyRow}
 use Rattle.crdt_rows.specs.AnyRow.{any_join}
 use Rattle.object_schema.specs.Schema.{words}
-use Rattle.cluster_machine.specs.Layouts.{layouts}
-use Rattle.wire_messages.specs.declared.phase.PhaseEnd.{PhaseEnd}
-use Rattle.wire_messages.specs.declared.phase.PhaseEnd.TheVariants.{Row as Answered, Window, Kept, Block}
-use Rattle.cluster_machine.specs.declared.step.Refusal.TheVariants.{NotMember, NoSuchBucket, VersionLimit}
-use Rattle.cluster_machine.specs.declared.step.Step.{Step}
-use Rattle.cluster_machine.specs.declared.step.Step.TheVariants as step
-use Rattle.cluster_machine.specs.Node.{Ended}
-use Rattle.cluster_machine.specs.Run.{IsStep}
-use Rattle.cluster_machine.specs.World.{clock, is_member_at, numbered, undelivered}
-use Rattle.cluster_machine.specs.Trio.{trio, stage_trio}
-use Rattle.machine_origins.specs.Origins.{stored_by}
-use Rattle.cluster_machine.specs.Worlds.{IsMeant, IsLawful, FitAll, run as world_run}
-use Rattle.history_model.specs.declared.record.Kind.{Kind}
-use Rattle.history_model.specs.declared.record.Kind.TheVariants as kind
-use Rattle.history_model.specs.declared.record.Answer.{Answer}
-use Rattle.history_model.specs.declared.record.Answer.TheVariants as answer
-use Rattle.history_model.specs.declared.record.Cause.TheVariants.{Expired, Restarted}
-use Rattle.history_model.specs.declared.record.Record.TheVariants.{Finished}
-use Rattle.history_model.specs.Record.{is_read, is_write, is_source, names}
-use Rattle.flow_model.specs.declared.order.Order.{Order}
-use Rattle.flow_model.specs.declared.order.Order.TheVariants as order
+use Rattle.cluster_machine.specs.World.{numbered}
+use Rattle.cluster_machine.specs.Worlds.{FitAll}
 use Rattle.flow_model.specs.declared.flow.Name.{Name}
-use Rattle.flow_model.specs.declared.flow.Content.{Content}
 use Rattle.flow_model.specs.declared.flow.Wish.{Wish}
-use Rattle.flow_model.specs.declared.flow.Wish.TheVariants as wish
-use Rattle.flow_model.specs.declared.flow.Aim.{Aim}
-use Rattle.flow_model.specs.declared.flow.Aim.TheVariants as aim
 use Rattle.flow_model.specs.declared.flow.Stage.{Stage}
-use Rattle.flow_model.specs.declared.flow.Stage.TheVariants.{Drawing, Uploading, Completing, Looking, Opening, Gathering, Listing}
+use Rattle.flow_model.specs.declared.flow.Stage.TheVariants.{Drawing, Completing}
 use Rattle.flow_model.specs.declared.flow.Flow.{Flow}
-use Rattle.flow_model.specs.declared.flow.FlowEnd.{FlowEnd}
-use Rattle.flow_model.specs.declared.flow.FlowEnd.TheVariants.{Stored, Found, Nothing, Listed, Superseded}
-use Rattle.flow_model.specs.Blocks.{is_long}
-use Rattle.flow_model.specs.Rows.{meta_of, complete}
-use Rattle.flow_model.specs.Says.{Said, none, marked, inline, in_blocks, said_of}
+use Rattle.flow_model.specs.Rows.{complete}
 use Rattle.flow_model.specs.Flow.{asks_for}
-use Rattle.flow_model.specs.Next.{drawn, stores, next}
-use Rattle.store_model.specs.Orders.{kind_of, name_of, buckets_of}
-use Rattle.store_model.specs.Answers.{record_of}
-use Rattle.store_model.specs.Run.{Moving, State, start, Asked, Draw, Saw, Outcome, silent, refusal, plainly, effect, doing, is_bucket, are_buckets, phases, new_request, opened, begins, set_flow, goes, finishes, takes, follows, follow, goes_on, delivers, then_drains, drains}
-use Rattle.store_model.specs.Acts.{Act, moves, asks, delivery, drain, adds, cuts, endings, plain, acted, after_acts, IsOuter, IsLawfulAct, AreLawfulActs, ActsFit}
-use Rattle.store_model.specs.Fresh.{IsFresh}
-use Rattle.object_laws.proofs.Buckets.{bucket_in, same_bytes}
+use Rattle.flow_model.specs.Next.{drawn, stores}
+use Rattle.store_model.specs.Run.{State, Asked, Draw, Outcome, phases, set_flow, goes}
 use Rattle.object_laws.proofs.Drawing.{only}
 use Rattle.object_laws.proofs.Places.{numbered_set_here}
-use Rattle.object_laws.proofs.Cuts.{at_cut}
 use Rattle.object_laws.proofs.Starting.{none_in}
-use Rattle.object_laws.proofs.Calm.{IsCalm, IsCalmStep, calm_step}
-use Rattle.object_laws.proofs.Events.{fit_parts}
 use Rattle.object_laws.proofs.Reached.{EveryWorld}
-use Rattle.store_laws.specs.Small.{IsSmall, AreSmall}
 use Rattle.store_laws.proofs.Good.{IsGood, complete_is_good}
 use Rattle.store_laws.proofs.Placing.{asks_is_step, asks_is_meant, stores_is_step, stores_is_meant, complete_is_placed}
-use Rattle.store_laws.proofs.Sound.{began, IsAsked, IsWishOf, HasDrawn, HasKept, AsksRow, AsksFor, Completes, StoresFor, WaitsAt, IsFreshEnd, IsStage, IsSound}
+use Rattle.store_laws.proofs.Sound.{began, IsWishOf, HasDrawn, IsStage, IsSound}
 use Rattle.store_laws.proofs.Reached.{reached_different}
 use Rattle.store_laws.proofs.Grown.{Rests}
-use Rattle.store_laws.proofs.Ends.{IsEnd, HasRead, HasStored}
-use Rattle.store_laws.proofs.Stepping.{step_sound, calm_fine, calm_ends, IsEnded}
+use Rattle.store_laws.proofs.Stepping.{step_sound}
 use Rattle.store_laws.proofs.Beginning.{asks_fine, stores_fine}
-use Rattle.store_laws.proofs.Opening.{opening, opened_sound, new_there}
-use Rattle.store_laws.proofs.Flows.{waiting, MayWait, waiting_sound, saw_sound}
-use Rattle.store_laws.proofs.Finishing.{IsEndOf, told_sound, ended_sound}
-use Rattle.store_laws.proofs.Values.{inline_found, never_in_blocks, none_end, marked_end, found_end}
-
-use Rattle.store_laws.proofs.Enders.{is_calm, finishes_keeps, one_end, kind_told, source_writes, wish_writes, read_end, nothing_end, stored_end}
+use Rattle.store_laws.proofs.Flows.{waiting, waiting_sound}
+use Rattle.store_laws.proofs.Enders.{wish_writes}
 
 -- the flow with its number
 abbrev pub flow_of : ℕ → ℕ → Stage → Flow

@@ -1,4 +1,5 @@
 pub mod Acting
+pub mod Acts
 pub mod Beginning
 pub mod Covering
 pub mod Enders
@@ -15,5 +16,6 @@ pub mod Reached
 pub mod Records
 pub mod Rows
 pub mod Sound
+pub mod Starting
 pub mod Stepping
 pub mod Values

@@ -16,17 +16,14 @@ use Rattle.cluster_machine.specs.Phases.{opened}
 use Rattle.cluster_machine.specs.World.{Request, numbered, is_member_at}
 use Rattle.cluster_machine.specs.Step.{only, changed}
 use Rattle.cluster_machine.specs.Worlds.{IsLawfulRun, newest_at, next}
-use Rattle.history_model.specs.declared.record.Kind.{Kind}
-use Rattle.history_model.specs.declared.record.Answer.{Answer}
 use Rattle.history_model.specs.declared.record.Answer.TheVariants as answer
 use Rattle.history_model.specs.declared.record.Record.{Record}
 use Rattle.history_model.specs.declared.record.Record.TheVariants.{Finished}
-use Rattle.flow_model.specs.declared.flow.Name.{Name}
 use Rattle.flow_model.specs.declared.flow.Flow.{Flow}
 use Rattle.store_model.specs.Run.{World, State, Asked, plainly}
 use Rattle.object_laws.proofs.Places.{numbered_append, numbered_push_cases, numbered_last, numbered_within}
 use Rattle.store_laws.proofs.Good.{IsGood}
-use Rattle.store_laws.proofs.Sound.{began, IsAsked, IsTold, WasAcknowledged, HasAcknowledged, AreProper, IsPresent, ArePresent, IsStage, IsSound}
+use Rattle.store_laws.proofs.Sound.{began, IsTold, HasAcknowledged, AreProper, IsPresent, ArePresent, IsStage, IsSound}
 use Rattle.store_laws.proofs.Freshness.{fresh_later, fresh_told}
 use Rattle.store_laws.proofs.Grown.{IsNew, pushed_still, pushed_at, present_asked, present_told, drawn_told, asked_told}
 use Rattle.store_laws.proofs.Reached.{reached_step}

@@ -1,6 +1,6 @@
 -- The phases of requests are steps of the world.
-use Rattle.std.proofs.Common.{◌≡◌, ℕ, true, ◌<◌, ◌^◌, List, [], ◌∷◌, None, refl, sym, subst, lit≤}
-use Rattle.std.specs.Prelude.{All, IsTrue}
+use Rattle.std.proofs.Common.{◌≡◌, ℕ, true, ◌<◌, [], refl, sym, subst, lit≤}
+use Rattle.std.specs.Prelude.{IsTrue}
 use Rattle.std.proofs.lemmas.List.Elements.{All-nil, All-cons}
 use Rattle.blake2_hash.specs.Blake2b.{blake2b}
 use Rattle.blake2_hash.proofs.Digests.{length-blake2b}

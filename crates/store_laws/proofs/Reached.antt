@@ -1,5 +1,5 @@
 -- What holds of a world that lawful steps lead to.
-use Rattle.std.specs.Prelude.{◌≡◌, ℕ, List, [], ◌∷◌, ◌++◌}
+use Rattle.std.specs.Prelude.{ℕ, List, [], ◌∷◌, ◌++◌}
 use Rattle.std.proofs.Common.{ap, sym, subst, ◌∙◌}
 use Rattle.std.specs.List.{All, Contains}
 use Rattle.std.proofs.lemmas.List.Elements.{All-push, All-weaker}
@@ -12,7 +12,7 @@ use Rattle.cluster_machine.specs.Kept.{KeptReads}
 use Rattle.cluster_machine.specs.Keeping.{AreDifferent}
 use Rattle.machine_origins.specs.Origins.{Gave, stored_by, stored_in}
 use Rattle.machine_origins.proofs.ByOrigin.{stored_have, gave_by_origin}
-use Rattle.cluster_machine.specs.Worlds.{IsLawfulRun, next, run}
+use Rattle.cluster_machine.specs.Worlds.{IsLawfulRun, next}
 use Rattle.store_model.specs.Run.{World, Moving, Draw}
 use Rattle.object_laws.proofs.Reached.{EveryWorld, run_more, lawful_more}
 use Rattle.store_laws.proofs.Good.{IsGood, more_good, good_inherited}

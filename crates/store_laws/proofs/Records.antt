@@ -1,13 +1,13 @@
 -- How requests finish in a list of records that grew at its end.
 use Rattle.std.proofs.Common.{◌≡◌, ◌⊎◌, inl, inr, ℕ, zero, suc, ◌+◌, ◌<◌, ◌≤◌, Bool, true, false, ◌==◌, cond, Option, Some, None, option_map, List, [], ◌∷◌, ◌++◌, length, take, drop, get_or, refl, sym, ap, ◌∙◌, subst, arith}
-use Rattle.std.specs.Prelude.{IsTrue, nat_lt, slice_get, position}
+use Rattle.std.specs.Prelude.{nat_lt, slice_get, position}
 use Rattle.std.specs.Option.{option_and_then}
 use Rattle.std.specs.List.{Contains, position_or_len}
 use Rattle.std.proofs.lemmas.Bool.{ltb-true, ltb-false, lt-ltb, eqb-true, eqb-false}
 use Rattle.std.proofs.lemmas.List.{length_push, length-drop, length-take-le, drop-append-le, get_or-drop, get_or-take}
 use Rattle.std.proofs.lemmas.List.Folds.{position_or_len_push}
 use Rattle.std.proofs.lemmas.List.Quantifiers.{position-Some}
-use Rattle.std.proofs.lemmas.Option.{slice_get_within, slice_get_read, slice_get-get_or, get_or_from_slice_get, option_and_then_some}
+use Rattle.std.proofs.lemmas.Option.{slice_get_read, slice_get-get_or, get_or_from_slice_get, option_and_then_some}
 use Rattle.crdt_rows.specs.declared.version.Version.{Version}
 use Rattle.row_codec.specs.NumberLaws.{some_is}
 use Rattle.object_laws.proofs.Places.{get_append, get_last}
@@ -170,7 +170,6 @@ acknowledged_is h i q j v e = option_and_then_some (λ f. option_map (λ v. (f.0
     let answer_is : f.1 ≡ answer.Version v = version_by f.1 m.0 m.1 ∙ ap answer.Version version_is in
     let is = finish_is h i q f.0 f.1 finished in
     (sym (ap (slice_get h) place_is) ∙ (is.1 ∙ ap (λ a. Some (Finished q a)) answer_is), subst (λ n. i < n) place_is is.2))
-
 
 -- a list at a place: what is before it, what stands there, and what is after it
 pub split : {A : Type 0} (xs : List A) (i : ℕ) (x : A) → slice_get xs i ≡ Some x → xs ≡ take i xs ++ x ∷ drop (suc i) xs

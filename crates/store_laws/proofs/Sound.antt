@@ -1,5 +1,5 @@
 -- The invariant of a state that acts lead to.
-use Rattle.std.specs.Prelude.{◌≡◌, ◌≤◌, ℕ, false, IsTrue, List, ◌∷◌, [], ◌++◌, length, Option, Some, ⊤}
+use Rattle.std.specs.Prelude.{◌≡◌, ◌≤◌, ℕ, false, IsTrue, List, ◌∷◌, [], ◌++◌, length, Some, ⊤}
 use Rattle.std.specs.List.{All, Contains}
 use Rattle.crdt_core.specs.Members.{Has}
 use Rattle.crdt_rows.specs.declared.version.Version.{Version}
@@ -27,7 +27,7 @@ use Rattle.flow_model.specs.declared.flow.Stage.TheVariants.{Drawing, Completing
 use Rattle.flow_model.specs.declared.flow.Flow.{Flow}
 use Rattle.flow_model.specs.Blocks.{is_long}
 use Rattle.flow_model.specs.Rows.{row_key, complete}
-use Rattle.store_model.specs.Run.{World, Moving, Asked, Draw, Saw, State}
+use Rattle.store_model.specs.Run.{World, Moving, Asked, Draw, State}
 use Rattle.store_model.specs.Fresh.{Covers, NoClash, IsFresh}
 use Rattle.store_laws.proofs.Good.{IsGood}
 

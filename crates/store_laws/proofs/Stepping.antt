@@ -13,7 +13,7 @@ use Rattle.crdt_rows.specs.AnyRow.{any_join}
 use Rattle.layout_roles.specs.declared.layout.Layout.{Layout}
 use Rattle.object_schema.specs.Schema.{words}
 use Rattle.cluster_machine.specs.Node.{Present, resting, asking, scanning, storing, fetching, Call, Node, Ended}
-use Rattle.cluster_machine.specs.World.{Request, numbered}
+use Rattle.cluster_machine.specs.World.{Request}
 use Rattle.cluster_machine.specs.Step.{only, changed, shut}
 use Rattle.machine_origins.specs.Origins.{stored_by}
 use Rattle.cluster_machine.specs.Worlds.{Done as Effect, IsLawfulRun}
@@ -107,9 +107,9 @@ module _ (s : State) (e : Effect AnyRow) (sound : IsSound s) (calm : IsCalm s.wo
       elim (n == calm.node) as (λ b. (n == calm.node) ≡ b → c.present ≡ resting) [
         | true ↦ (λ t. done.1 c (subst (λ m. Has (changed e.nodes s.world.nodes m).calls c) (eqb-true n calm.node t) has) is)
         | false ↦ (λ f. elim (rests_or_waits n c.request c.present (calm_fine.presents n c has)) [
-            | inl rests ↦ rests
-            | inr waits ↦ absurd (eqb-false n calm.node f (one_node n calm.node q (subst (WaitsAt s.asked n) is waits) done.0))
-          ])
+          | inl rests ↦ rests
+          | inr waits ↦ absurd (eqb-false n calm.node f (one_node n calm.node q (subst (WaitsAt s.asked n) is waits) done.0))
+        ])
       ] refl
 
   abbrev pub IsEnded : Ended AnyRow → Type 0

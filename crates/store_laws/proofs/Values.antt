@@ -1,5 +1,5 @@
 -- What a read of an object's row gives: versions that writes drew, and none below what was acknowledged before.
-use Rattle.std.proofs.Common.{◌≡◌, ℕ, true, false, Option, Some, None, List, [], ◌∷◌, ◌++◌, refl, sym, ap, ◌∙◌, subst, arith}
+use Rattle.std.proofs.Common.{◌≡◌, ℕ, Option, Some, None, List, ◌∷◌, ◌++◌, refl, sym, ap, ◌∙◌, subst, arith}
 use Rattle.std.specs.Prelude.{IsTrue}
 use Rattle.std.specs.List.{Contains}
 use Rattle.blake2_hash.specs.declared.digest.Hash32.{Hash32}
@@ -12,37 +12,32 @@ use Rattle.crdt_rows.specs.declared.any_row.AnyRow.TheVariants as rows
 use Rattle.crdt_rows.specs.AnyRow.{any_join}
 use Rattle.table_model.specs.Rows.{row_at}
 use Rattle.object_schema.specs.Schema.{words}
-use Rattle.wire_messages.specs.declared.phase.PhaseEnd.{PhaseEnd}
 use Rattle.wire_messages.specs.declared.phase.PhaseEnd.TheVariants.{Row as Answered}
 use Rattle.cluster_machine.specs.Node.{read}
 use Rattle.cluster_machine.specs.Kept.{IsOver}
 use Rattle.cluster_machine.specs.World.{numbered}
 use Rattle.machine_origins.specs.Origins.{Gave as HasGiven}
 use Rattle.history_model.specs.declared.record.Kind.{Kind}
-use Rattle.history_model.specs.declared.record.Kind.TheVariants as kind
-use Rattle.history_model.specs.declared.record.Answer.{Answer}
 use Rattle.history_model.specs.declared.record.Answer.TheVariants as answer
 use Rattle.history_model.specs.declared.record.Record.{Record}
-use Rattle.history_model.specs.Record.{is_read, is_write, is_source, names, same_bytes as are_same, Shows}
+use Rattle.history_model.specs.Record.{names}
 use Rattle.history_model.specs.Fresh.{Below}
 use Rattle.flow_model.specs.declared.flow.Name.{Name}
 use Rattle.flow_model.specs.declared.flow.Wish.{Wish}
 use Rattle.flow_model.specs.declared.flow.Wish.TheVariants as wish
 use Rattle.flow_model.specs.declared.flow.Flow.{Flow}
-use Rattle.flow_model.specs.Blocks.{is_long}
-use Rattle.flow_model.specs.Rows.{row_key, complete}
+use Rattle.flow_model.specs.Rows.{row_key}
 use Rattle.flow_model.specs.Says.{Said, none, marked, inline, in_blocks, said_by, said_of}
-use Rattle.store_model.specs.Run.{Asked, Draw, Saw, State}
-use Rattle.store_model.specs.Fresh.{IsMarked, Covers, NoClash}
+use Rattle.store_model.specs.Run.{Asked, Draw, State}
+use Rattle.store_model.specs.Fresh.{NoClash}
 use Rattle.object_laws.proofs.Cuts.{at_cut}
-use Rattle.object_laws.proofs.Buckets.{same_bytes}
 use Rattle.object_laws.proofs.Drawing.{only}
 use Rattle.object_laws.proofs.Starting.{none_in}
 use Rattle.object_laws.proofs.Reached.{EveryWorld}
-use Rattle.store_laws.proofs.Rows.{IsOf, IsValue, IsShortWish, IsFound, FoundIn, found}
-use Rattle.store_laws.proofs.Covering.{IsSaid, CoversIn, CoversRow, CoversValue, covers}
+use Rattle.store_laws.proofs.Rows.{IsValue, IsShortWish, IsFound, FoundIn, found}
+use Rattle.store_laws.proofs.Covering.{IsSaid, CoversIn, CoversRow, covers}
 use Rattle.store_laws.proofs.Good.{IsGood}
-use Rattle.store_laws.proofs.Sound.{began, IsAsked, IsWishOf, HasDrawn, WasAcknowledged, HasKept, AsksRow, AsksFor, DrewHere, IsFreshEnd, IsSound}
+use Rattle.store_laws.proofs.Sound.{began, IsWishOf, WasAcknowledged, HasKept, AsksRow, AsksFor, DrewHere, IsFreshEnd, IsSound}
 use Rattle.store_laws.proofs.Reached.{reached_kept, reached_good}
 use Rattle.store_laws.proofs.Ends.{HasRead}
 

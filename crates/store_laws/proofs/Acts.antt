@@ -1,0 +1,223 @@
+-- What each act keeps, up to the run of a list of acts.
+use Rattle.std.proofs.Common.{◌≡◌, ℕ, zero, suc, true, false, ◌&&◌, Option, Some, None, List, [], ◌∷◌, ◌++◌, length, if◌then◌else◌, refl, sym, ap, ◌∙◌, subst}
+use Rattle.std.specs.List.{All, AllByRecursion, Contains}
+use Rattle.std.proofs.lemmas.List.Elements.{All-nil}
+use Rattle.crdt_core.specs.EntryLaws.{and_parts}
+use Rattle.crdt_rows.specs.declared.any_row.AnyRow.{AnyRow}
+use Rattle.crdt_rows.specs.AnyRow.{any_join}
+use Rattle.object_schema.specs.Schema.{words}
+use Rattle.cluster_machine.specs.Layouts.{layouts}
+use Rattle.wire_messages.specs.declared.phase.PhaseEnd.{PhaseEnd}
+use Rattle.cluster_machine.specs.declared.step.Refusal.TheVariants.{NotMember, NoSuchBucket}
+use Rattle.cluster_machine.specs.declared.step.Step.{Step}
+use Rattle.cluster_machine.specs.declared.step.Step.TheVariants as step
+use Rattle.cluster_machine.specs.Node.{Question, Ended}
+use Rattle.cluster_machine.specs.Run.{IsStep}
+use Rattle.cluster_machine.specs.World.{clock, is_member_at, numbered, undelivered}
+use Rattle.machine_origins.specs.Origins.{stored_by}
+use Rattle.cluster_machine.specs.Worlds.{Done as Effect, IsMeant, IsLawful, FitAll, run as world_run}
+use Rattle.history_model.specs.declared.record.Cause.TheVariants.{Expired, Restarted}
+use Rattle.flow_model.specs.declared.order.Order.{Order}
+use Rattle.flow_model.specs.declared.order.Order.TheVariants as order
+use Rattle.flow_model.specs.declared.flow.Name.{Name}
+use Rattle.flow_model.specs.declared.flow.Wish.TheVariants as wish
+use Rattle.flow_model.specs.declared.flow.Aim.TheVariants as aim
+use Rattle.flow_model.specs.declared.flow.Stage.{Stage}
+use Rattle.flow_model.specs.declared.flow.Stage.TheVariants.{Drawing, Looking}
+use Rattle.flow_model.specs.declared.flow.Flow.{Flow}
+use Rattle.flow_model.specs.declared.flow.FlowStep.{FlowStep}
+use Rattle.flow_model.specs.declared.flow.FlowStep.TheVariants.{More, Wait, End}
+use Rattle.flow_model.specs.Flow.{asks_for}
+use Rattle.flow_model.specs.Next.{next}
+use Rattle.store_model.specs.Orders.{buckets_of}
+use Rattle.store_model.specs.Run.{Moving, State, start, Asked, Draw, Outcome, silent, refusal, plainly, effect, doing, is_bucket, are_buckets, phases, new_request, opened, begins, draws_of, takes, follows, follow, goes_on, delivers, then_drains, drains}
+use Rattle.store_model.specs.Acts.{Act, moves, asks, delivery, drain, adds, cuts, endings, plain, acted, after_acts, IsOuter, IsLawfulAct, AreLawfulActs, ActsFit}
+use Rattle.store_model.specs.Fresh.{IsFresh}
+use Rattle.object_laws.proofs.Buckets.{bucket_in}
+use Rattle.object_laws.proofs.Calm.{IsCalmStep}
+use Rattle.object_laws.proofs.Events.{fit_parts}
+use Rattle.object_laws.proofs.Reached.{EveryWorld}
+use Rattle.store_laws.specs.Small.{IsSmall, IsSmallAct, AreSmall}
+use Rattle.store_laws.proofs.Good.{IsGood}
+use Rattle.store_laws.proofs.Placing.{asks_is_step, asks_is_meant}
+use Rattle.store_laws.proofs.Sound.{AsksRow, AsksFor, IsStage, IsSound}
+use Rattle.store_laws.proofs.Reached.{reached_different}
+use Rattle.store_laws.proofs.Grown.{Rests}
+use Rattle.store_laws.proofs.Ends.{IsEnd}
+use Rattle.store_laws.proofs.Stepping.{step_sound, calm_fine, calm_ends}
+use Rattle.store_laws.proofs.Beginning.{asks_fine}
+use Rattle.store_laws.proofs.Opening.{opening, opened_sound, new_there}
+use Rattle.store_laws.proofs.Finishing.{ended_sound}
+use Rattle.store_laws.proofs.Enders.{is_calm}
+use Rattle.store_laws.proofs.Starting.{start_sound, bucket_sound, block_sound}
+use Rattle.store_laws.proofs.Going.{flow_of}
+use Rattle.store_laws.proofs.Acting.{stage_keeps}
+
+module _ (every : EveryWorld) where
+  -- ---- deliveries
+
+  module _ (s : State) (q : ℕ) (a : Asked) (at : numbered s.asked q ≡ Some a) (rests : Rests s q) (sound : IsSound s) (end : PhaseEnd AnyRow) where
+    abbrev pub FlowKeeps : Option Flow → Type 0
+    FlowKeeps flow = FitAll any_join words s.world (follows s q a end flow).moves → IsSound (follows s q a end flow).state
+
+    flow_keeps : (flow : Option Flow) → a.flow ≡ flow → IsEnd s.asked s.draws s.history s.world.kept s.world.reads q end → FlowKeeps flow
+    flow_keeps None flow_is h fits = sound
+    flow_keeps (Some flow) flow_is h fits =
+        let stage = sound.stages q a flow at flow_is in
+        let numbered_so : flow ≡ flow_of q flow.block flow.stage = (λ i. record { id = stage.0 i; block = flow.block; stage = flow.stage }) in
+        subst (λ (f : Flow). FlowKeeps (Some f)) (sym numbered_so)
+        (λ fits. stage_keeps every s q a at rests flow.block sound flow.stage end (flow_is ∙ ap Some numbered_so) stage.1 fits h) fits
+
+  follow_keeps : (s : State) (q : ℕ) (asked : Option Asked) (end : PhaseEnd AnyRow) → numbered s.asked q ≡ asked → Rests s q → FitAll any_join words s.world (follow s q asked end).moves → IsSound s →
+      IsEnd s.asked s.draws s.history s.world.kept s.world.reads q end → IsSound (follow s q asked end).state
+  follow_keeps s q None end at rests fits sound h = sound
+  follow_keeps s q (Some a) end at rests fits sound h = flow_keeps s q a at rests sound end a.flow refl h fits
+
+  goes_on_keeps : (s : State) (ends : List (Ended AnyRow)) → FitAll any_join words s.world (goes_on s ends).moves → IsSound s →
+      AllByRecursion (λ (e : Ended AnyRow). IsEnd s.asked s.draws s.history s.world.kept s.world.reads e.request e.how × Rests s e.request) ends → IsSound (goes_on s ends).state
+  goes_on_keeps s [] fits sound h = sound
+  goes_on_keeps s (e ∷ es) fits sound h = follow_keeps s e.request (numbered s.asked e.request) e.how refl h.0.1 fits sound h.0.0
+
+  delivers_keeps : (s : State) (m : ℕ) → FitAll any_join words s.world (delivers s m).moves → IsSound s → IsSound (delivers s m).state
+  delivers_keeps s m fits sound =
+      let d : Moving = plainly (step.Deliver m) in
+      let calm = is_calm every s d tt sound in
+      goes_on_keeps (doing s d) (effect s d).ends fits.1
+      (step_sound s d sound (tt, tt, tt, fits.0.1, tt) (All-nil (IsGood s.draws)) (calm_fine s (effect s d) sound calm))
+      (calm_ends s (effect s d) sound calm)
+
+  -- the steps of an outcome lead to its world
+  takes_leads : (s : State) (q : ℕ) (a : Asked) (ds : List Draw) (st : FlowStep) → world_run any_join words s.world (takes s q a ds st).moves ≡ (takes s q a ds st).state.world
+  takes_leads s q a ds (More flow phase) = refl
+  takes_leads s q a ds (Wait flow) = refl
+  takes_leads s q a ds (End end) = refl
+
+  follows_leads : (s : State) (q : ℕ) (a : Asked) (end : PhaseEnd AnyRow) (flow : Option Flow) → world_run any_join words s.world (follows s q a end flow).moves ≡ (follows s q a end flow).state.world
+  follows_leads s q a end None = refl
+  follows_leads s q a end (Some flow) =
+      let now = clock s.world a.node in
+      takes_leads (record s { saw = record { request = q; end = end } ∷ s.saw }) q a (draws_of s q flow.stage end now) (next flow end now)
+
+  follow_leads : (s : State) (q : ℕ) (asked : Option Asked) (end : PhaseEnd AnyRow) → world_run any_join words s.world (follow s q asked end).moves ≡ (follow s q asked end).state.world
+  follow_leads s q None end = refl
+  follow_leads s q (Some a) end = follows_leads s q a end a.flow
+
+  goes_on_leads : (s : State) (ends : List (Ended AnyRow)) → world_run any_join words s.world (goes_on s ends).moves ≡ (goes_on s ends).state.world
+  goes_on_leads s [] = refl
+  goes_on_leads s (e ∷ es) = follow_leads s e.request (numbered s.asked e.request) e.how
+
+  drains_keeps : (n : ℕ) (s : State) → FitAll any_join words s.world (drains n s).moves → IsSound s → IsSound (drains n s).state
+  drains_keeps zero s fits sound = sound
+  drains_keeps (suc n) s fits sound =
+      elim (undelivered s.world) as (λ o. FitAll any_join words s.world (elim o as (λ o. Outcome) [ None ↦ silent s | Some m ↦ let o = delivers s m in then_drains o (drains n o.state) ]).moves →
+      IsSound (elim o as (λ o. Outcome) [ None ↦ silent s | Some m ↦ let o = delivers s m in then_drains o (drains n o.state) ]).state) [
+        | None ↦ λ fits. sound
+        | Some m ↦ λ fits.
+            let first : Outcome = delivers s m in
+            let parts = fit_parts any_join words s.world first.moves (drains n first.state).moves fits in
+            let leads : world_run any_join words s.world first.moves ≡ first.state.world = goes_on_leads (doing s (plainly (step.Deliver m))) (effect s (plainly (step.Deliver m))).ends in
+            drains_keeps n first.state (subst (λ w. FitAll any_join words w (drains n first.state).moves) leads parts.1) (delivers_keeps s m parts.0 sound)
+      ] fits
+
+  -- ---- requests
+
+  -- a request opens and asks for an object's row
+  opens_keeps : (s : State) (a : Asked) (stage : Stage) (name : Name) → (let q = suc (length s.world.requests) in a.flow ≡ Some (flow_of q s.block stage) → IsStage q a stage →
+      ((question : Question AnyRow) → AsksRow name question → AsksFor stage question) → is_member_at layouts s.world a.node ≡ true → Contains s.buckets a.name.bucket →
+      FitAll any_join words s.world (plainly (step.Open a.node) ∷ phases q (asks_for name) ∷ []) → IsSound s → IsSound (doing (opening s a) (phases q (asks_for name))))
+  opens_keeps s a stage name flow_is is_stage asks_so member bucket fits sound =
+      let q : ℕ = suc (length s.world.requests) in
+      let flow : Flow = flow_of q s.block stage in
+      let now : State = opening s a in
+      let is_open : IsSound now = opened_sound s a flow flow_is refl is_stage member bucket (tt, tt, tt, fits.0.1, tt) sound in
+      step_sound now (phases q (asks_for name)) is_open (asks_is_meant q name, asks_is_step q name, tt, fits.1.0.1, tt) (All-nil (IsGood s.draws))
+      (asks_fine now is_open (reached_different every now.draws now.world is_open.reached) q a flow (new_there s a sound) flow_is name asks_so)
+
+  opened_keeps : (s : State) (n : ℕ) (o : Order) → IsSmall o → is_member_at layouts s.world n ≡ true → are_buckets s.buckets (buckets_of o) ≡ true → FitAll any_join words s.world (opened s n o).moves → IsSound s → IsSound (opened s n o).state
+  opened_keeps s n (order.Put bucket key body headers) small member buckets fits sound =
+      let name : Name = record { bucket = bucket; key = key } in
+      opens_keeps s (new_request n (order.Put bucket key body headers) _) (Drawing name (wish.Content (record { body = body; headers = headers }))) name refl (refl, (refl, small)) (λ question h. h) member
+      (bucket_in s.buckets bucket (and_parts (is_bucket s.buckets bucket) true buckets).0) fits sound
+  opened_keeps s n (order.Get bucket key) small member buckets fits sound =
+      let name : Name = record { bucket = bucket; key = key } in
+      opens_keeps s (new_request n (order.Get bucket key) _) (Looking name aim.Get) name refl (refl, refl) (λ question h. h) member (bucket_in s.buckets bucket (and_parts (is_bucket s.buckets bucket) true buckets).0) fits sound
+  opened_keeps s n (order.Head bucket key) small member buckets fits sound =
+      let name : Name = record { bucket = bucket; key = key } in
+      opens_keeps s (new_request n (order.Head bucket key) _) (Looking name aim.Head) name refl (refl, refl) (λ question h. h) member (bucket_in s.buckets bucket (and_parts (is_bucket s.buckets bucket) true buckets).0) fits sound
+  opened_keeps s n (order.Delete bucket key) small member buckets fits sound =
+      let name : Name = record { bucket = bucket; key = key } in
+      opens_keeps s (new_request n (order.Delete bucket key) _) (Drawing name wish.Marker) name refl (refl, refl) (λ question h. h) member (bucket_in s.buckets bucket (and_parts (is_bucket s.buckets bucket) true buckets).0) fits sound
+  opened_keeps s n (order.Copy from_bucket from_key bucket key headers) small member buckets fits sound =
+      let name : Name = record { bucket = from_bucket; key = from_key } in
+      let new : Name = record { bucket = bucket; key = key } in
+      let both = and_parts (is_bucket s.buckets from_bucket) (is_bucket s.buckets bucket && true) buckets in
+      opens_keeps s (new_request n (order.Copy from_bucket from_key bucket key headers) _) (Looking name (aim.Copy new headers)) name refl ((refl, refl), tt) (λ question h. h) member
+      (bucket_in s.buckets bucket (and_parts (is_bucket s.buckets bucket) true both.1).0) fits sound
+  opened_keeps s n (order.List bucket prefix) small member buckets fits sound = absurd small
+
+  begins_keeps : (s : State) (n : ℕ) (o : Order) → IsSmall o → FitAll any_join words s.world (begins s n o).moves → IsSound s → IsSound (begins s n o).state
+  begins_keeps s n o small fits sound =
+      elim (is_member_at layouts s.world n) as (λ b. is_member_at layouts s.world n ≡ b →
+      FitAll any_join words s.world (if b then (if are_buckets s.buckets (buckets_of o) then opened s n o else refusal s NoSuchBucket) else refusal s NotMember).moves →
+      IsSound (if b then (if are_buckets s.buckets (buckets_of o) then opened s n o else refusal s NoSuchBucket) else refusal s NotMember).state) [
+        | true ↦ λ member. elim (are_buckets s.buckets (buckets_of o)) as (λ b. are_buckets s.buckets (buckets_of o) ≡ b →
+            FitAll any_join words s.world (if b then opened s n o else refusal s NoSuchBucket).moves → IsSound (if b then opened s n o else refusal s NoSuchBucket).state) [
+              | true ↦ λ buckets fits. opened_keeps s n o small member buckets fits sound
+              | false ↦ λ _ fits. sound
+            ] refl
+        | false ↦ λ _ fits. sound
+      ] refl fits
+
+  -- ---- other acts
+
+  -- steps of the world that are acts of their own: no request begins or goes on in them
+  outer_calm : (st : Step AnyRow) → IsOuter st → IsCalmStep st × IsStep words 256 st × (stored_by st ≡ [])
+  outer_calm step.Trio h = (tt, tt, refl)
+  outer_calm (step.Role n role) h = (tt, tt, refl)
+  outer_calm (step.Redundancy wanted) h = (tt, tt, refl)
+  outer_calm (step.Apply n) h = (tt, tt, refl)
+  outer_calm (step.Tick ms) h = (tt, tt, refl)
+  outer_calm (step.Skew n ms) h = (tt, tt, refl)
+  outer_calm (step.Deliver m) h = absurd h
+  outer_calm (step.Lose m) h = (tt, tt, refl)
+  outer_calm (step.Expire q) h = (tt, tt, refl)
+  outer_calm (step.Restart n) h = (tt, tt, refl)
+  outer_calm (step.Gossip from to) h = (tt, tt, refl)
+  outer_calm (step.Ack n) h = (tt, tt, refl)
+  outer_calm (step.Sync n) h = (tt, tt, refl)
+  outer_calm (step.SyncAck n) h = (tt, tt, refl)
+  outer_calm (step.Clean n) h = (tt, tt, refl)
+  outer_calm (step.Work n) h = (tt, tt, refl)
+  outer_calm (step.Repair n) h = (tt, tt, refl)
+  outer_calm (step.Open n) h = absurd h
+  outer_calm (step.Phase q phase) h = absurd h
+  outer_calm (step.Close q) h = absurd h
+
+  none_ended : (s : State) → IsSound s → IsSound (record s { history = s.history ++ [] })
+  none_ended s sound = ended_sound Expired [] s sound
+
+  endings_keep : (s : State) (st : Step AnyRow) (e : Effect AnyRow) → IsSound s → IsSound (record s { history = s.history ++ endings st e })
+  endings_keep s (step.Expire q) e sound = ended_sound Expired e.closes s sound
+  endings_keep s (step.Restart n) e sound = ended_sound Restarted e.lost s sound
+  endings_keep s _ e sound = none_ended s sound
+
+  plain_keeps : (s : State) (m : Moving) → IsOuter m.step → IsMeant m.step → IsLawful s.world m → FitAll any_join words s.world (m ∷ []) → IsSound s → IsSound (plain s m).state
+  plain_keeps s m outer meant lawful fits sound =
+      let calm = outer_calm m.step outer in
+      endings_keep (doing s m) m.step (effect s m)
+      (step_sound s m sound (meant, calm.1, lawful, fits.0.1, tt) (subst (All (IsGood s.draws)) (sym calm.2) (All-nil (IsGood s.draws))) (calm_fine s (effect s m) sound (is_calm every s m calm.0 sound)))
+
+  act_keeps : (s : State) (a : Act) → IsSmallAct a → IsLawfulAct s a → FitAll any_join words s.world (acted s a).moves → IsSound s → IsSound (acted s a).state
+  act_keeps s (moves m) small lawful fits sound = plain_keeps s m lawful.0 lawful.1 lawful.2 fits sound
+  act_keeps s (asks n o) small lawful fits sound = begins_keeps s n o small fits sound
+  act_keeps s (delivery m) small lawful fits sound = delivers_keeps s m fits sound
+  act_keeps s (drain n) small lawful fits sound = drains_keeps n s fits sound
+  act_keeps s (adds name) small lawful fits sound = bucket_sound s name sound
+  act_keeps s (cuts block) small lawful fits sound = block_sound s block sound
+
+  acts_keep : (s : State) (as' : List Act) → AreSmall as' → AreLawfulActs s as' → ActsFit s as' → IsSound s → IsSound (after_acts s as')
+  acts_keep s [] small lawful fit sound = sound
+  acts_keep s (a ∷ as') small lawful fit sound = acts_keep (acted s a).state as' small.1 lawful.1 fit.1 (act_keeps s a small.0 lawful.0 fit.0 sound)
+
+  pub acts_fresh : (as' : List Act) → AreSmall as' → AreLawfulActs start as' → ActsFit start as' → IsFresh (after_acts start as')
+  acts_fresh as' small lawful fit = (acts_keep start as' small lawful fit start_sound).fresh
