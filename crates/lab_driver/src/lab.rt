@@ -6,6 +6,7 @@ ghost use Rattle.cluster_machine.specs.declared.step.Words.TheVariants.{Empty};
 ghost use Rattle.wire_messages.specs.declared.phase.PhaseEnd.TheVariants.{Row as Answered, Kept};
 ghost use Rattle.cluster_machine.specs.World.{is_member_at, numbered};
 ghost use Rattle.cluster_machine.specs.Layouts.{layouts};
+ghost use Rattle.cluster_machine.specs.Bare.{IsBareStep};
 ghost use Rattle.cluster_machine.specs.Worlds.{IsMeant};
 ghost use Rattle.world_core.specs.Stands.{ended};
 ghost use Rattle.object_model.specs.Run.{State, Answer, start, begins, opened, drawn, writes, finishes, gets, follow, goes_on, delivers, drains, silent, Order as Ordered, is_bucket as has_bucket};
@@ -143,6 +144,7 @@ impl Lab {
     fn plain(&mut self, step: Step<AnyRow>) -> Result<Told, Memory>
         requires lab { HasLab self.old }
         requires meant { IsMeant step }
+        requires bare { IsBareStep step }
         ensures plays { IfOk result (λ told. PlaysStep self.old self.new told step) }
         ensures causes { WantOr result (OverflowsStep self.old step) }
     {

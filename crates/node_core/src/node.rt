@@ -21,6 +21,7 @@ ghost use Rattle.cluster_machine.specs.Step.{requests_of};
 ghost use Rattle.node_core.specs.declared.node.BeginFault.TheVariants.{NotMember, Memory as WantsMemory};
 ghost use Rattle.node_parts.specs.Posts.{told};
 ghost use Rattle.node_parts.specs.Calls.{ended_with};
+ghost use Rattle.cluster_machine.specs.Bare.{IsBarePhase};
 ghost use Rattle.cluster_machine.specs.Keeping.{IsShort};
 ghost use Rattle.node_parts.specs.Contents.{AreBare};
 ghost use Rattle.node_parts.specs.Rounds.{IsMoving};
@@ -120,6 +121,7 @@ impl<S: Schema> Node<S> {
         out: &mut Vec<Envelope<S::Row>>,
     ) -> Result<(), Memory>
         requires short { IsShort phase }
+        requires bare { IsBarePhase phase }
         ensures begins { OnOk result ((kept : List S.Row) → Does S.Row.join S.words self.old self.new out.old.items out.new.items None (λ id x. begins_at S.words kept x phase (call_at x.calls request))) }
         ensures causes { WantOr result ((kept : List S.Row) → Overflows S.Row.join S.words self.old (λ id x. begins_at S.words kept x phase (call_at x.calls request))) }
     {

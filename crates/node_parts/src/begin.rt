@@ -9,6 +9,7 @@ ghost use Rattle.table_schema.specs.Words.{partition_at};
 ghost use Rattle.cluster_machine.specs.Layouts.{set_at, layouts};
 ghost use Rattle.cluster_machine.specs.Phases.{is_spelled};
 ghost use Rattle.cluster_machine.specs.Keeping.{AreShort, IsShort};
+ghost use Rattle.cluster_machine.specs.Bare.{AreBare, IsBarePhase};
 ghost use Rattle.node_parts.specs.Begins.{Begins, CannotBegin, Stores, StoresAll};
 
 use crate::call::Present;
@@ -87,6 +88,7 @@ impl Beginning {
         out: &mut Vec<Envelope<S::Row>>,
     ) -> Result<WriteCall, Memory>
         requires short { AreShort rows.now }
+        requires bare { AreBare rows.now }
         ensures stores { IfOk result (λ call. StoresAll S.words self view.now rows.now out.old.items out.new.items call) }
         ensures causes { WantOr result (list_all (λ r. is_spelled S.words r.0) rows.now ≡ false) }
     {
@@ -106,6 +108,7 @@ impl Beginning {
         out: &mut Vec<Envelope<S::Row>>,
     ) -> Result<Present<S>, Memory>
         requires short { IsShort phase.now }
+        requires bare { IsBarePhase phase.now }
         ensures begins { IfOk result (λ present. Begins S.words self view.now phase.now out.old.items out.new.items present) }
         ensures causes { WantOr result (CannotBegin S.words self view.now phase.now) }
     {

@@ -2,6 +2,7 @@
 //! its round, and what a restart leaves. The messages are passed on by hand.
 ghost use Rattle.std.specs.Prelude.{◌≡◌, None, IsTrue, IfOk};
 ghost use Rattle.layout_roles.specs.Zones.{set_ascends};
+ghost use Rattle.cluster_machine.specs.Bare.{IsBarePhase};
 ghost use Rattle.cluster_machine.specs.Keeping.{IsShort};
 ghost use Rattle.node_parts.specs.Contents.{AreBare};
 ghost use Rattle.node_core.specs.Stands.{IsBarePacket};
@@ -82,6 +83,7 @@ fn marker(alloc: Global, ts: u64) -> Result<AnyRow, Memory> {
 
 fn store(alloc: Global, row: AnyRow) -> Result<Phase<AnyRow>, Memory>
     ensures short { IfOk result IsShort }
+    ensures bare { IfOk result IsBarePhase }
 {
     let mut rows = List::new(alloc);
     rows.push((row, None))?;
@@ -90,6 +92,7 @@ fn store(alloc: Global, row: AnyRow) -> Result<Phase<AnyRow>, Memory>
 
 fn read(alloc: Global) -> Result<Phase<AnyRow>, Memory>
     ensures short { IfOk result IsShort }
+    ensures bare { IfOk result IsBarePhase }
 {
     let mut key = Bytes::from_slice(alloc, &BUCKET.0)?;
     key.extend_from_slice(b"a")?;
@@ -102,6 +105,7 @@ fn read(alloc: Global) -> Result<Phase<AnyRow>, Memory>
 
 fn scan(alloc: Global) -> Phase<AnyRow>
     ensures short { IsShort result }
+    ensures bare { IsBarePhase result }
 {
     Phase::Range {
         position: BUCKET,

@@ -20,13 +20,13 @@ use Rattle.cluster_machine.specs.Layouts.{layouts}
 use Rattle.cluster_machine.specs.declared.applied.Applied.{Applied}
 use Rattle.cluster_machine.specs.Choices.{Decision, IsComputed, IsNone}
 use Rattle.cluster_machine.specs.Trio.{trio, stage_trio}
-use Rattle.cluster_machine.specs.Worlds.{Model, Done, newest_at, IsSound, does}
+use Rattle.cluster_machine.specs.Worlds.{Model, Done, newest_at, does}
 use Rattle.world_core.specs.declared.nodes.Nodes.{Nodes}
 use Rattle.world_core.specs.declared.report.Report.{Report}
 use Rattle.world_core.specs.declared.world.World.{World}
 use Rattle.world_core.specs.Nodes.{newest_in, AreNodes, BecomesAt}
 use Rattle.world_core.specs.Stands.{StandsFor, IsWorld, DoesSo, Stepped, Plays, nothing_given}
-use Rattle.world_core.proofs.WorldsStand.{stands_of, sound_after, same_post, same_clocks, same_requests, same_few, refused_report, told_report, is_told, plays_refusal}
+use Rattle.world_core.proofs.WorldsStand.{stands_of, sound_after, same_post, same_clocks, same_requests, same_few, refused_report, told_report, is_told, plays_refusal, IsBareSound, bare_sound}
 use Rattle.world_core.proofs.WorldsInstall.{nat_eq_flips, given_to, none_known, same_at_each}
 
 any_of : {R : Type 0} (x y : Seen R Layout) (a b c d e f : Bool) → a ≡ d → b ≡ e → c ≡ f → cond (a || (b || (c || false))) y x ≡ unwrap_or (cond (d || (e || f)) (Some y) None) x
@@ -56,9 +56,9 @@ module _ {R : Type 0} (w : Model R) (n : ℕ) where
   abbrev way : (R → R → R) → Words R → Decision → Bool → Bool → Bool → Done R
   way join s choice a b c = cond a (refusal w NotMember) (cond b (refusal w (VersionTaken (suc (newest_at w n)))) (cond c (refusal w VersionLimit) (chosen join s layouts trio stage_trio w n (suc (newest_at w n)) choice)))
 
-  sound_given : (join : R → R → R) (s : Words R) (choice : Decision) → IsSound w → outside ≡ false → taken ≡ false → full ≡ false → may choice false false false → IsSound (applied w (way join s choice false false false))
+  sound_given : (join : R → R → R) (s : Words R) (choice : Decision) → IsBareSound w → outside ≡ false → taken ≡ false → full ≡ false → may choice false false false → IsBareSound (applied w (way join s choice false false false))
   sound_given join s choice sound e f g lawful =
-      at_tests (λ a b c. IsSound (applied w (way join s choice a b c))) false false false outside taken full (sym e) (sym f) (sym g)
+      at_tests (λ a b c. IsBareSound (applied w (way join s choice a b c))) false false false outside taken full (sym e) (sym f) (sym g)
       (sound_after join s w (Apply n) choice sound tt (at_tests (may choice) outside taken full false false false e f g lawful))
 
 module _ {S R : Type 0} (join : R → R → R) (s : Words R) where
@@ -74,7 +74,7 @@ module _ {S R : Type 0} (join : R → R → R) (s : Words R) where
       AreNodes join s now (given_to (1 ∷ 2 ∷ 3 ∷ []) trio w.nodes) → leb 1 w.applied ≡ false → DoesSo join s (record c { nodes = now; roles = roles; applied = 1 }) report w (trio_applies join s layouts trio stage_trio w)
   trio_does c now roles report w h is low new are free =
       let same = h.applied in
-      let sound = subst (λ (b : Bool). IsSound (applied w (cond b (refusal {A = Applied} {C = Cut} w (VersionTaken 1)) (trio_applies join s layouts trio stage_trio w)))) free (sound_after join s w Trio nothing_given h.sound tt tt) in
+      let sound = subst (λ (b : Bool). IsBareSound (applied w (cond b (refusal {A = Applied} {C = Cut} w (VersionTaken 1)) (trio_applies join s layouts trio stage_trio w)))) free (sound_after join s w Trio nothing_given (bare_sound h) tt tt) in
       record {
         stands = stands_of join s (record c { nodes = now; roles = roles; applied = 1 }) _ (record {
           nodes = same_at_each join s now _ _ (λ m. any_of (w.nodes m) (appends layouts (w.nodes m) trio) (1 == m) (2 == m) (3 == m) (m == 1) (m == 2) (m == 3) (nat_eq_flips 1 m) (nat_eq_flips 2 m) (nat_eq_flips 3 m)) are;
@@ -167,7 +167,7 @@ module _ {S R : Type 0} (join : R → R → R) (s : Words R) where
                 applied = ap (λ a. a + 1) h.applied;
                 requests = same_requests join s c w h;
                 few = same_few join s c w h;
-                sound = sound_given w n join s choice h.sound inside free room lawful;
+                sound = sound_given w n join s choice (bare_sound h) inside free room lawful;
               });
               tells = is_told report (One (newest + 1)) (Laid shown ∷ []) _ is refl (ap One next) refl refl refl;
               spelled = refl;

@@ -28,7 +28,7 @@ use Rattle.cluster_machine.specs.Step.{only, nothing, refusal, at_message, expir
 use Rattle.node_parts.specs.declared.packet.Envelope.{Envelope}
 use Rattle.cluster_machine.specs.declared.applied.Applied.{Applied}
 use Rattle.cluster_machine.specs.Trio.{trio, stage_trio}
-use Rattle.cluster_machine.specs.Worlds.{Model, Done, IsSound, does}
+use Rattle.cluster_machine.specs.Worlds.{Model, Done, does}
 use Rattle.world_core.specs.declared.nodes.Nodes.{Nodes}
 use Rattle.world_core.specs.declared.post.Post.{Post}
 use Rattle.world_core.specs.declared.report.Report.{Report}
@@ -37,7 +37,7 @@ use Rattle.world_core.specs.declared.world.World.{World}
 use Rattle.world_core.specs.Parts.{IsPost, IsFound, IsMissing, asked}
 use Rattle.world_core.specs.Nodes.{AreNodes, BecomesAt, Opens}
 use Rattle.world_core.specs.Stands.{StandsFor, Tells, DoesSo, acts_so, local_so, plainly, nothing_given}
-use Rattle.world_core.proofs.WorldsStand.{refused_report, told_report, is_told, sound_after, stands_of, same_post, same_clocks, same_applied, same_requests, same_few, plays_nothing, plays_refusal}
+use Rattle.world_core.proofs.WorldsStand.{refused_report, told_report, is_told, sound_after, stands_of, same_post, same_clocks, same_applied, same_requests, same_few, plays_nothing, plays_refusal, IsBareSound, bare_sound}
 use Rattle.world_core.proofs.WorldsDoing.{at_found}
 use Rattle.cluster_machine.proofs.Closing.{length_shut}
 
@@ -116,7 +116,7 @@ module _ {S R : Type 0} (join : R → R → R) (s : Words R) where
           applied = same_applied join s old w h;
           requests = same_requests join s old w h;
           few = same_few join s old w h;
-          sound = subst (λ e. IsSound (applied w e)) same (sound_after join s w (Lose number) nothing_given h.sound tt tt);
+          sound = subst (λ e. IsBareSound (applied w e)) same (sound_after join s w (Lose number) nothing_given (bare_sound h) tt tt);
         });
         tells = is_told report Empty [] e is refl refl refl refl refl;
         spelled = refl;
@@ -126,7 +126,7 @@ module _ {S R : Type 0} (join : R → R → R) (s : Words R) where
 
   -- nothing is sent, and these requests are shut and opened
   turned : (old : World S R) (w : Model R) (nodes : Nodes S R) (requests : List Request) (f : ℕ → Option (Node R Layout)) (closes : List ℕ) (opens : List Request) → StandsFor join s old w → AreNodes join s nodes (changed f w.nodes) →
-      requests ≡ shut w.requests closes ++ opens → length (shut w.requests closes ++ opens) < 2 ^ 64 → IsSound (applied w (record (nothing {A = Applied} {C = Cut} w) { nodes = f; closes = closes; opens = opens })) →
+      requests ≡ shut w.requests closes ++ opens → length (shut w.requests closes ++ opens) < 2 ^ 64 → IsBareSound (applied w (record (nothing {A = Applied} {C = Cut} w) { nodes = f; closes = closes; opens = opens })) →
       StandsFor join s (record old { nodes = nodes; requests = requests }) (applied w (record (nothing {A = Applied} {C = Cut} w) { nodes = f; closes = closes; opens = opens }))
   turned old w nodes requests f closes opens h are now few sound = stands_of join s (record old { nodes = nodes; requests = requests }) _ (record {
     nodes = are;
@@ -143,7 +143,7 @@ module _ {S R : Type 0} (join : R → R → R) (s : Words R) where
 
   -- requests are shut, and none is opened
   shuts : (old : World S R) (w : Model R) (nodes : Nodes S R) (requests : List Request) (n : ℕ) (x : Node R Layout) (closes : List ℕ) → StandsFor join s old w → AreNodes join s nodes (changed (only n x) w.nodes) →
-      requests ≡ shut old.requests closes → IsSound (applied w (record (nothing {A = Applied} {C = Cut} w) { nodes = only n x; closes = closes })) →
+      requests ≡ shut old.requests closes → IsBareSound (applied w (record (nothing {A = Applied} {C = Cut} w) { nodes = only n x; closes = closes })) →
       StandsFor join s (record old { nodes = nodes; requests = requests }) (applied w (record (nothing {A = Applied} {C = Cut} w) { nodes = only n x; closes = closes }))
   shuts old w nodes requests n x closes h are now sound =
       let few : length (shut w.requests closes ++ []) < 2 ^ 64 = subst (λ k. k < 2 ^ 64) (sym (ap length (append-nil (shut w.requests closes)) ∙ length_shut w.requests closes)) h.fits.requests in
@@ -171,7 +171,7 @@ module _ {S R : Type 0} (join : R → R → R) (s : Words R) where
             let e : Done R = record (nothing w) { nodes = only found.coordinator x; closes = number ∷ []; tells = HasEnded number Expired ∷ [] } in
             let same : does join s w (plainly (Expire number)) ≡ e = ap (expires w number) (open_there old w number h found is open') in
             subst (DoesSo join s (record old { nodes = nodes; requests = requests }) report w) (sym same) (record {
-              stands = shuts old w nodes requests found.coordinator x (number ∷ []) h (becomes w.nodes h.nodes) now (subst (λ e. IsSound (applied w e)) same (sound_after join s w (Expire number) nothing_given h.sound tt tt));
+              stands = shuts old w nodes requests found.coordinator x (number ∷ []) h (becomes w.nodes h.nodes) now (subst (λ e. IsBareSound (applied w e)) same (sound_after join s w (Expire number) nothing_given (bare_sound h) tt tt));
               tells = is_told report Empty lines e is_report refl refl (told ∙ ap (λ ls. ls ++ HasEnded number Expired ∷ []) none) refl refl;
               spelled = refl;
             })
@@ -182,7 +182,7 @@ module _ {S R : Type 0} (join : R → R → R) (s : Words R) where
             let e : Done R = record (nothing w) { nodes = only found.coordinator x; closes = number ∷ [] } in
             let same : does join s w (plainly (Close number)) ≡ e = ap (closing w number) (open_there old w number h found is open') in
             subst (DoesSo join s (record old { nodes = nodes; requests = requests }) report w) (sym same) (record {
-              stands = shuts old w nodes requests found.coordinator x (number ∷ []) h (becomes w.nodes h.nodes) now (subst (λ e. IsSound (applied w e)) same (sound_after join s w (Close number) nothing_given h.sound tt tt));
+              stands = shuts old w nodes requests found.coordinator x (number ∷ []) h (becomes w.nodes h.nodes) now (subst (λ e. IsBareSound (applied w e)) same (sound_after join s w (Close number) nothing_given (bare_sound h) tt tt));
               tells = is_told report Empty [] e is_report refl refl refl refl refl;
               spelled = refl;
             })
@@ -194,7 +194,7 @@ module _ {S R : Type 0} (join : R → R → R) (s : Words R) where
   restarts_it old w n nodes requests lost a b d lines bare h becomes are is_a is_b is_d now told is =
       let all = reverse (requests_of (w.nodes n).calls) in
       record {
-        stands = shuts old w nodes requests n (restarts (w.nodes n)) all h (becomes w.nodes h.nodes) (now ∙ ap (shut old.requests) (is_a ∙ are)) (sound_after join s w (Restart n) nothing_given h.sound tt tt);
+        stands = shuts old w nodes requests n (restarts (w.nodes n)) all h (becomes w.nodes h.nodes) (now ∙ ap (shut old.requests) (is_a ∙ are)) (sound_after join s w (Restart n) nothing_given (bare_sound h) tt tt);
         tells = subst (λ r. Tells (record r { lost = d }) (restarted w n)) (sym is) (record { refused = refl; words = refl; lines = told ∙ ap (map (λ q. HasEnded q Restarted)) (is_b ∙ are); ends = refl; lost = is_d ∙ are });
         spelled = refl;
       }
@@ -233,7 +233,7 @@ module _ {S R : Type 0} (join : R → R → R) (s : Words R) where
         subst (λ k. AreNodes join s nodes (changed (only n (opened k (newest reading (w.nodes n).view) (w.nodes n))) w.nodes)) is_q (begun_there nodes number b member_there (opens w.nodes h.nodes below)) in
         let few : length (w.requests ++ one) < 2 ^ 64 = omega (arith, length-append w.requests one, is_q, small) in
         subst (DoesSo join s (record old { nodes = nodes; requests = requests }) report w) (sym same) (record {
-          stands = turned old w nodes requests (only n x) [] one h are (now ∙ ap (λ rs. rs ++ one) h.requests) few (subst (λ e. IsSound (applied w e)) same (sound_after join s w (Open n) nothing_given h.sound tt tt));
+          stands = turned old w nodes requests (only n x) [] one h are (now ∙ ap (λ rs. rs ++ one) h.requests) few (subst (λ e. IsBareSound (applied w e)) same (sound_after join s w (Open n) nothing_given (bare_sound h) tt tt));
           tells = is_told report (One number) empty opens_now told refl (ap One is_q) none refl refl;
           spelled = refl;
         })

@@ -14,7 +14,7 @@ use Rattle.world_core.specs.declared.world.World.{World}
 use Rattle.world_core.specs.declared.clocks.Clocks.{Clocks}
 use Rattle.world_core.specs.Parts.{AreClocks, NoneLate}
 use Rattle.world_core.specs.Stands.{Plays, Exceeds, nothing_given}
-use Rattle.world_core.proofs.WorldsStand.{stands_of, sound_after, same_post, same_clocks, same_applied, same_requests, same_few, told_report, is_told}
+use Rattle.world_core.proofs.WorldsStand.{stands_of, sound_after, same_post, same_clocks, same_applied, same_requests, same_few, told_report, is_told, bare_sound}
 
 module _ {S R : Type 0} (join : R → R → R) (s : Words R) (c : World S R) (report : Report R) (is : report ≡ told_report Empty []) where
   pub staged_plays : (node : ℕ) (role : Option (Zone × Kind)) (roles : Roles) → (1 ≤ node) × (node ≤ 64) → roles.list ≡ staged node role c.roles.list → Plays join s c (record c { roles = roles }) report (Stage node role)
@@ -29,7 +29,7 @@ module _ {S R : Type 0} (join : R → R → R) (s : Words R) (c : World S R) (re
       applied = same_applied join s c w h;
       requests = same_requests join s c w h;
       few = same_few join s c w h;
-      sound = sound_after join s w (Stage node role) nothing_given h.sound numbered tt;
+      sound = sound_after join s w (Stage node role) nothing_given (bare_sound h) tt tt;
     });
     tells = is_told report Empty [] _ is refl refl refl refl refl;
     spelled = refl;
@@ -47,7 +47,7 @@ module _ {S R : Type 0} (join : R → R → R) (s : Words R) (c : World S R) (re
       applied = same_applied join s c w h;
       requests = same_requests join s c w h;
       few = same_few join s c w h;
-      sound = sound_after join s w (Spread wanted) nothing_given h.sound one tt;
+      sound = sound_after join s w (Spread wanted) nothing_given (bare_sound h) tt tt;
     });
     tells = is_told report Empty [] _ is refl refl refl refl refl;
     spelled = refl;
@@ -65,7 +65,7 @@ module _ {S R : Type 0} (join : R → R → R) (s : Words R) (c : World S R) (re
       applied = same_applied join s c w h;
       requests = same_requests join s c w h;
       few = same_few join s c w h;
-      sound = sound_after join s w (Tick ms) nothing_given h.sound tt tt;
+      sound = sound_after join s w (Tick ms) nothing_given (bare_sound h) tt tt;
     });
     tells = is_told report Empty [] _ is refl refl refl refl refl;
     spelled = refl;
@@ -84,7 +84,7 @@ module _ {S R : Type 0} (join : R → R → R) (s : Words R) (c : World S R) (re
       applied = same_applied join s c w h;
       requests = same_requests join s c w h;
       few = same_few join s c w h;
-      sound = sound_after join s w (Skew node ms) nothing_given h.sound tt tt;
+      sound = sound_after join s w (Skew node ms) nothing_given (bare_sound h) tt tt;
     });
     tells = is_told report Empty [] _ is refl refl refl refl refl;
     spelled = refl;

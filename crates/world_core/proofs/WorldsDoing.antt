@@ -26,19 +26,20 @@ use Rattle.cluster_machine.specs.Receives.{receives}
 use Rattle.cluster_machine.specs.Acts.{acts}
 use Rattle.cluster_machine.specs.World.{Sent, clock, numbered}
 use Rattle.cluster_machine.specs.Step.{told as says, nothing, refusal, did, received, at_message, begun, beginning, sync_line, marked, applied}
-use Rattle.cluster_machine.specs.Keeping as origins
+use Rattle.cluster_machine.specs.Bare as machine
+use Rattle.cluster_machine.specs.Bare.{IsBarePhase}
 use Rattle.node_parts.specs.declared.packet.Packet.{Packet}
 use Rattle.node_parts.specs.declared.packet.Packet.TheVariants.{Msg, View}
 use Rattle.node_parts.specs.declared.packet.Envelope.{Envelope}
-use Rattle.cluster_machine.specs.Keeping.{IsShort}
 use Rattle.cluster_machine.specs.Layouts.{layouts}
 use Rattle.node_parts.specs.Posts.{told}
 use Rattle.node_core.specs.Stands.{IsBare, IsBarePacket, begins_at, ends_of}
 use Rattle.cluster_machine.specs.declared.applied.Applied.{Applied}
 use Rattle.cluster_machine.specs.Trio.{trio, stage_trio}
-use Rattle.cluster_machine.specs.Worlds.{Model, Done, IsSound, IsUsual, RoomWith, does}
+use Rattle.cluster_machine.specs.Worlds.{Model, Done, RoomWith, does}
 use Rattle.world_laws.proofs.Additions.{fine_stays_sound}
 use Rattle.world_laws.proofs.Doings.{fine_did, fine_acted}
+use Rattle.world_laws.proofs.Bareness.{bare_after, bare_acted}
 use Rattle.world_core.specs.declared.nodes.Nodes.{Nodes}
 use Rattle.world_core.specs.declared.post.Post.{Post}
 use Rattle.world_core.specs.declared.report.Report.{Report}
@@ -47,7 +48,7 @@ use Rattle.world_core.specs.Parts.{IsPost, IsFound}
 use Rattle.world_core.specs.Nodes.{AreNodes, DidAt, DoesAt, ActsAt, OverflowsAt, with_node}
 use Rattle.world_core.specs.Stands.{StandsFor, Tells, DoesSo, SendsOut, CannotSend, acts_so, plainly, nothing_given, ended}
 use Rattle.world_core.proofs.NodesAt.{same_at}
-use Rattle.world_core.proofs.WorldsStand.{told_report, is_told, sound_after}
+use Rattle.world_core.proofs.WorldsStand.{told_report, is_told, sound_after, IsBareSound, bare_sound}
 use Rattle.world_core.proofs.WorldsSending.{Acted, acted_stands, acted_lines, acted_spelled, at_itself, node_full, post_full, after}
 
 all_at : {A : Type 0} (P : A → Type 0) (xs : List A) (i : ℕ) (x : A) → AllByRecursion P xs → slice_get xs i ≡ Some x → P x
@@ -60,11 +61,11 @@ all_numbered P xs zero x h e = cc
 all_numbered P xs (suc n) x h e = all_at P xs n x h e
 
 module _ {R : Type 0} where
-  bare_message : (m : Message R) → origins.IsBareMessage m → IsBare m
+  bare_message : (m : Message R) → machine.IsBareMessage m → IsBare m
   bare_message (Store tag newest p rows) h = h
   bare_message _ h = tt
 
-  bare_packet : (p : Packet R) → origins.IsBarePacket (told p) → IsBarePacket p
+  bare_packet : (p : Packet R) → machine.IsBarePacket (told p) → IsBarePacket p
   bare_packet (Msg m) h = bare_message m h
   bare_packet (View v) h = tt
 
@@ -78,7 +79,7 @@ module _ {R : Type 0} where
 module _ {S R : Type 0} (join : R → R → R) (s : Words R) where
   -- a node did d in a step, which is told with these words
   did_so : {old new : World S R} {w : Model R} {nodes : Nodes S R} {n before : ℕ} {out : List (Envelope R)} {d : Did R Layout} {all : List (Line Applied)} → Acted join s old new w nodes old.post n before out None d w.marks [] all →
-      (words : Told) (report : Report R) → IsSound (after w n d w.marks) → report ≡ told_report words all → DoesSo join s new report w (record (did w n d) { words = words })
+      (words : Told) (report : Report R) → IsBareSound (after w n d w.marks) → report ≡ told_report words all → DoesSo join s new report w (record (did w n d) { words = words })
   did_so h words report sound is = record { stands = acted_stands join s h sound; tells = is_told report words _ _ is refl refl (acted_lines join s h) h.did.ends refl; spelled = acted_spelled join s h }
 
   -- ---- an action
@@ -105,7 +106,10 @@ module _ {S R : Type 0} (join : R → R → R) (s : Words R) where
           let it : Acted join s old new w nodes old.post n before out None a.did w.marks [] all =
           record { stands = h; marked = h.post; did = done.0; synced = synced; sends = subst (λ ls. SendsOut join s (record old { nodes = nodes }) new n before out ls all) no_lines sends } in
           let e = acts_so join s n action w in
-          did_so it (says a.how) report (fine_stays_sound w e h.sound (fine_did w e n a.did h.sound (λ m. refl) refl (fine_acted w h.sound join s n (clock w n) action)))
+          did_so it (says a.how) report (record {
+            sound = fine_stays_sound w e h.sound (fine_did w e n a.did h.sound (λ m. refl) refl (fine_acted w h.sound join s n (clock w n) action));
+            bare = bare_after w e h.bare (bare_acted w h.bare join s e n action (λ m. refl) refl);
+          })
           (is ∙ ap (λ ws. told_report ws all) (are ∙ ap says done.1))
 
   -- ---- a view that is sent
@@ -130,7 +134,7 @@ module _ {S R : Type 0} (join : R → R → R) (s : Words R) where
     gossip_does new before first all report synced no_lines sends is =
         let it : Acted join s old new w old.nodes old.post from before out None shows_it w.marks [] all =
         record { stands = h; marked = h.post; did = view_shown; synced = synced; sends = subst (λ ls. SendsOut join s old new from before out ls all) no_lines sends } in
-        did_so it Empty report (sound_after join s w (Gossip from to) nothing_given h.sound tt tt) is
+        did_so it Empty report (sound_after join s w (Gossip from to) nothing_given (bare_sound h) tt tt) is
 
   -- ---- a phase
 
@@ -148,14 +152,14 @@ module _ {S R : Type 0} (join : R → R → R) (s : Words R) where
       begun_sent_full (Some c) did cannot = post_full join s (record old { nodes = nodes }) w (begun_now (Some c)) n out _ w.marks h.post did.posts cannot refl
 
       begun_does : (new : World S R) (before : ℕ) (all : List (Line Applied)) (report : Report R) (o : Option (Call R)) → DidAt join s nodes n w.nodes [] out None (begins_at s w.kept (w.nodes n) phase o) →
-          before ≡ counts 0 Sync (w.nodes n).view.trackers n → SendsOut join s (record old { nodes = nodes }) new n before out [] all → report ≡ told_report Empty all → IsSound (applied w (begun_now o)) →
+          before ≡ counts 0 Sync (w.nodes n).view.trackers n → SendsOut join s (record old { nodes = nodes }) new n before out [] all → report ≡ told_report Empty all → IsBareSound (applied w (begun_now o)) →
           DoesSo join s new report w (begun_now o)
       begun_does new before all report None done synced sends is sound =
           let x = w.nodes n in
           let it : Acted join s old new w nodes old.post n before out None (quiet x) w.marks [] all = record { stands = h; marked = h.post; did = done; synced = synced; sends = sends } in
           let same : applied {A = Applied} {C = Cut} w (did w n (quiet x)) ≡ applied {A = Applied} {C = Cut} w (nothing w) = (λ i. record (applied {A = Applied} {C = Cut} w (nothing w)) { nodes = still n w.nodes i }) in
           record {
-            stands = subst (StandsFor join s new) same (acted_stands join s it (subst IsSound (sym same) sound));
+            stands = subst (StandsFor join s new) same (acted_stands join s it (subst IsBareSound (sym same) sound));
             tells = is_told report Empty all (nothing w) is refl refl (acted_lines join s it ∙ no_sync n x) refl refl;
             spelled = refl;
           }
@@ -164,7 +168,7 @@ module _ {S R : Type 0} (join : R → R → R) (s : Words R) where
           did_so it Empty report sound is
 
   -- a phase of an open request begins
-  module _ (old : World S R) (w : Model R) (number n : ℕ) (phase : Phase R) (short : IsShort phase) (h : StandsFor join s old w) (found : numbered w.requests number ≡ Some (record { coordinator = n; is_open = true })) where
+  module _ (old : World S R) (w : Model R) (number n : ℕ) (phase : Phase R) (bare : IsBarePhase phase) (h : StandsFor join s old w) (found : numbered w.requests number ≡ Some (record { coordinator = n; is_open = true })) where
     abbrev call : Option (Call R)
     call = call_at (w.nodes n).calls number
 
@@ -186,7 +190,7 @@ module _ {S R : Type 0} (join : R → R → R) (s : Words R) where
       phase_does new before first all report synced no_lines sends is =
           subst (DoesSo join s new report w) (sym begun_is)
           (begun_does old w n phase h nodes out new before all report call phase_done synced (subst (λ ls. SendsOut join s (record old { nodes = nodes }) new n before out ls all) no_lines sends) is
-          (subst (λ e. IsSound (applied w e)) begun_is (sound_after join s w (Begin number phase) nothing_given h.sound short tt)))
+          (subst (λ e. IsBareSound (applied w e)) begun_is (sound_after join s w (Begin number phase) nothing_given (bare_sound h) bare tt)))
 
   -- ---- a message that comes
 
@@ -198,7 +202,7 @@ module _ {S R : Type 0} (join : R → R → R) (s : Words R) where
     is_message = found.is_there ∙ ap Some (λ i. record { from = sym found.is.from i; to = sym found.is.to i; packet = sym found.is.packet i; moment = found.message.moment })
 
     pub bare_found : IsBarePacket envelope.packet
-    bare_found = bare_packet envelope.packet (all_numbered (λ m. IsUsual w.applied m.packet) w.messages number message h.sound.messages is_message).0
+    bare_found = bare_packet envelope.packet (all_numbered (λ (m : Sent R Layout). machine.IsBarePacket m.packet) w.messages number message h.bare.messages is_message)
 
     -- a message that wasn't lost is there
     pub at_found : (f : Sent R Layout → Done R) → at_message w f (numbered w.messages number) (numbered w.marks number) ≡ f message
@@ -243,7 +247,7 @@ module _ {S R : Type 0} (join : R → R → R) (s : Words R) where
               sends = subst (λ ls. SendsOut join s (record old { nodes = nodes; post = post }) new envelope.to before out ls all) (got ∙ ap (λ ls. ls ++ Got number ∷ []) no_lines) sends;
             } in
             subst (DoesSo join s new (record bare { ends = ends }) w) (sym came_is) (record {
-              stands = acted_stands join s it (subst (λ e. IsSound (applied w e)) came_is (sound_after join s w (Deliver number) nothing_given h.sound tt tt));
+              stands = acted_stands join s it (subst (λ e. IsBareSound (applied w e)) came_is (sound_after join s w (Deliver number) nothing_given (bare_sound h) tt tt));
               tells = subst (λ r. Tells (record r { ends = ends }) came) (sym is) (record { refused = refl; words = refl; lines = acted_lines join s it; ends = ended_so ∙ sym received_it.ends; lost = refl });
               spelled = acted_spelled join s it;
             })

@@ -18,6 +18,7 @@ use Rattle.cluster_machine.specs.Layouts.{layouts}
 use Rattle.node_core.specs.declared.node.Node.{Node}
 use Rattle.cluster_machine.specs.Worlds.{Model, installed}
 use Rattle.world_laws.proofs.Steps.{installed_sound}
+use Rattle.world_laws.proofs.Bareness.{bare_installed}
 use Rattle.world_core.specs.declared.nodes.Nodes.{Nodes}
 use Rattle.world_core.specs.declared.world.World.{World}
 use Rattle.world_core.specs.Nodes.{newest_of, newest_in, IsNodeAt, AreNodes, BecomesAt, with_node}
@@ -108,4 +109,5 @@ module _ {S R : Type 0} (join : R → R → R) (s : Words R) where
         requests = h.requests;
         fits = record { time = h.fits.time; clocks = h.fits.clocks; messages = h.fits.messages; requests = h.fits.requests; bytes = h.fits.bytes };
         sound = installed_sound w h.sound first nodes none one;
+        bare = bare_installed w h.bare first nodes;
       })

@@ -13,9 +13,11 @@ use Rattle.cluster_machine.specs.declared.applied.Applied.{Applied}
 use Rattle.cluster_machine.specs.Choices.{Decision}
 use Rattle.cluster_machine.specs.Fits.{IsWord}
 use Rattle.cluster_machine.specs.Trio.{trio, stage_trio}
-use Rattle.cluster_machine.specs.Worlds.{Model, Done, IsSound, IsMeant, IsLawfulStep, does}
+use Rattle.cluster_machine.specs.Bare.{IsBareStep, IsBareWorld}
+use Rattle.cluster_machine.specs.Worlds.{Model, Done, IsSound, IsLawfulStep, does}
 use Rattle.world_laws.proofs.Additions.{fine_stays_sound}
 use Rattle.world_laws.proofs.Steps.{fine_step}
+use Rattle.world_laws.proofs.Bareness.{bare_after, bare_step}
 use Rattle.world_core.specs.declared.report.Report.{Report}
 use Rattle.world_core.specs.declared.world.World.{World}
 use Rattle.world_core.specs.Parts.{AreClocks, IsPost}
@@ -35,11 +37,19 @@ module _ {R : Type 0} where
   is_told report words lines e is refused word line ends lost =
       subst (λ r. Tells r e) (sym is) (record { refused = sym refused; words = word; lines = line; ends = sym ends; lost = sym lost })
 
-  -- a lawful step keeps the world sound
-  pub sound_after : (join : R → R → R) (s : Words R) (w : Model R) (step : Step R) (choice : Decision) → IsSound w → IsMeant step → IsLawfulStep w step choice → IsSound (applied w (does join s w (record { step = step; choice = choice })))
-  sound_after join s w step choice sound meant lawful = fine_stays_sound w _ sound (fine_step w sound join s trio stage_trio refl step choice meant lawful)
+  -- a world that is sound, and has no blocks
+  pub record IsBareSound (w : Model R) : Type 0 where
+    pub sound : IsSound w
+    pub bare : IsBareWorld w
 
--- all parts stand for those of the world, which is sound; the numbers fit, as the parts and the count of requests say
+  -- a lawful step that stores no blocks keeps the world so
+  pub sound_after : (join : R → R → R) (s : Words R) (w : Model R) (step : Step R) (choice : Decision) → IsBareSound w → IsBareStep step → IsLawfulStep w step choice → IsBareSound (applied w (does join s w (record { step = step; choice = choice })))
+  sound_after join s w step choice h bare lawful = record {
+    sound = fine_stays_sound w _ h.sound (fine_step w h.sound join s trio stage_trio refl step choice lawful);
+    bare = bare_after w _ h.bare (bare_step w h.bare join s trio stage_trio step choice bare);
+  }
+
+-- all parts stand for those of the world, which is sound and has no blocks; the numbers fit, as the parts and the count of requests say
 pub record PartsStand {S R : Type 0} (join : R → R → R) (s : Words R) (c : World S R) (w : Model R) : Type 0 where
   pub nodes : AreNodes join s c.nodes w.nodes
   pub post : IsPost s c.post w.messages w.marks
@@ -50,7 +60,10 @@ pub record PartsStand {S R : Type 0} (join : R → R → R) (s : Words R) (c : W
   pub applied : c.applied ≡ w.applied
   pub requests : c.requests ≡ w.requests
   pub few : length w.requests < 2 ^ 64
-  pub sound : IsSound w
+  pub sound : IsBareSound w
+
+pub bare_sound : {S R : Type 0} {join : R → R → R} {s : Words R} {c : World S R} {w : Model R} → StandsFor join s c w → IsBareSound w
+bare_sound h = record { sound = h.sound; bare = h.bare }
 
 module _ {S R : Type 0} (join : R → R → R) (s : Words R) where
   pub stands_of : (c : World S R) (w : Model R) → PartsStand join s c w → StandsFor join s c w
@@ -70,7 +83,8 @@ module _ {S R : Type 0} (join : R → R → R) (s : Words R) where
       requests = h.few;
       bytes = subst IsWord (sym h.post.bytes) h.post.small;
     };
-    sound = h.sound;
+    sound = h.sound.sound;
+    bare = h.sound.bare;
   }
 
   module _ (c : World S R) (w : Model R) (h : StandsFor join s c w) where

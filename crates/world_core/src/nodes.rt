@@ -19,6 +19,7 @@ ghost use Rattle.cluster_machine.specs.Receives.{receives};
 ghost use Rattle.cluster_machine.specs.Acts.{acts, appends, restarts};
 ghost use Rattle.cluster_machine.specs.Step.{requests_of};
 ghost use Rattle.node_parts.specs.Posts.{told};
+ghost use Rattle.cluster_machine.specs.Bare.{IsBarePhase};
 ghost use Rattle.cluster_machine.specs.Keeping.{IsShort};
 ghost use Rattle.node_core.specs.Stands.{IsBarePacket, begins_at};
 ghost use Rattle.node_core.specs.declared.node.BeginFault.TheVariants.{NotMember};
@@ -162,6 +163,7 @@ impl<S: Schema> Nodes<S> {
         out: &mut Vec<Envelope<S::Row>>,
     ) -> Result<(), Memory>
         requires short { IsShort phase }
+        requires bare { IsBarePhase phase }
         ensures begins { OnOk result ((kept : List S.Row) → DoesAt S.Row.join S.words self.old self.new node out.old.items out.new.items None (λ x. begins_at S.words kept x phase (call_at x.calls request))) }
         ensures causes { WantOr result ((kept : List S.Row) → OverflowsAt S.Row.join S.words self.old node (λ x. begins_at S.words kept x phase (call_at x.calls request))) }
     {

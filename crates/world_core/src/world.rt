@@ -7,6 +7,7 @@ ghost use Rattle.layout_history.specs.Known.{has_members};
 ghost use Rattle.layout_roles.specs.Certificates.{IsRedundancy};
 ghost use Rattle.table_model.specs.Rows.{rows};
 ghost use Rattle.table_model.specs.Top.{any_unspelled};
+ghost use Rattle.cluster_machine.specs.Bare.{IsBarePhase, IsBareStep};
 ghost use Rattle.cluster_machine.specs.Keeping.{IsShort};
 ghost use Rattle.cluster_machine.specs.Layouts.{layouts};
 ghost use Rattle.node_core.specs.Stands.{ends_of};
@@ -160,6 +161,7 @@ impl<S: Schema> World<S> {
     pub fn step(&mut self, step: Step<S::Row>) -> Result<Report<S::Row>, Memory>
         requires stands { IsWorld S.Row.join S.words self.old }
         requires meant { IsMeant step }
+        requires bare { IsBareStep step }
         ensures steps { IfOk result (λ report. Steps S.Row.join S.words self.old self.new report step) }
         ensures causes { WantOr result (Overflows S.Row.join S.words self.old step) }
     {
@@ -462,6 +464,7 @@ impl<S: Schema> World<S> {
     // A phase of an open request begins at its coordinator.
     fn phase(&mut self, request: u64, phase: Phase<S::Row>) -> Result<Report<S::Row>, Memory>
         requires short { IsShort phase }
+        requires bare { IsBarePhase phase }
         ensures plays { IfOk result (λ report. Plays S.Row.join S.words self.old self.new report (step.Phase request phase)) }
         ensures causes { WantOr result (Exceeds S.Row.join S.words self.old (step.Phase request phase)) }
     {

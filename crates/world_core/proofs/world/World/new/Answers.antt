@@ -14,5 +14,5 @@ returns-clause-stands g c =
       applied = refl;
       requests = c.new-5.ensures;
       few = omega arith;
-      sound = c.empty_world_is_sound.ensures;
+      sound = record { sound = c.empty_world_is_sound.ensures; bare = record { messages = tt; blocks = λ n. refl } };
     })
