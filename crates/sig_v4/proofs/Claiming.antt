@@ -1,5 +1,5 @@
 -- A claim, from what was read on the way.
-use Rattle.std.proofs.Common.{◌≡◌, ℕ, Bool, true, false, List, Option, Some, None, Result, Ok, Err, codes, refl}
+use Rattle.std.proofs.Common.{◌≡◌, ℕ, true, false, List, Some, Ok, Err, codes, refl}
 use Rattle.sig_request.specs.Texts.{parts}
 use Rattle.sig_v4.specs.declared.refusal.Refusal.TheVariants.{Malformed}
 use Rattle.sig_v4.specs.declared.claim.Authorization.{Authorization}

@@ -1,5 +1,5 @@
 -- The check of a signed request: which key signed it, or the first refusal that applies.
-use Rattle.std.specs.Prelude.{ℕ, Bool, true, false, not, List, [], slice_get, Option, Some, None, Result, Ok, Err, ◌≡◌, ⊤}
+use Rattle.std.specs.Prelude.{ℕ, Bool, true, false, not, List, [], slice_get, Option, Result, Ok, Err, ◌≡◌, ⊤}
 use Rattle.std.specs.Option.{ok_or, option_map_or}
 use Rattle.std.specs.List.{position_from}
 use Rattle.layout_roles.specs.Zones.{same_name}
