@@ -1,4 +1,4 @@
-//! Tests of what the program is connected to, of HTTP over it, and of signatures. It has no code of its own.
+//! Tests of what the program is connected to, and of HTTP over it. It has no code of its own.
 #![tactic(auto)]
 
 #[cfg(test)]
@@ -9,5 +9,3 @@ mod fixtures;
 mod heads;
 #[cfg(test)]
 mod outside;
-#[cfg(test)]
-mod signatures;

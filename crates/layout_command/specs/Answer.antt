@@ -25,6 +25,8 @@ field_word field.Node = codes "node"
 field_word field.Id = codes "id"
 field_word field.Zone = codes "zone"
 field_word field.Capacity = codes "capacity"
+field_word field.Region = codes "region"
+field_word field.Key = codes "key"
 
 -- the input is no TOML
 unfoldable pub toml_line : List ℕ

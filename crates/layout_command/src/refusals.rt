@@ -30,6 +30,8 @@ fn field_word(name: FieldName) -> &'static [u8]
         FieldName::Id => b"id",
         FieldName::Zone => b"zone",
         FieldName::Capacity => b"capacity",
+        FieldName::Region => b"region",
+        FieldName::Key => b"key",
     }
 }
 

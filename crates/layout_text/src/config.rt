@@ -27,6 +27,8 @@ pub enum FieldName {
     Id,
     Zone,
     Capacity,
+    Region,
+    Key,
 }
 
 /// Why there is no configuration.

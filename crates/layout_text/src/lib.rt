@@ -6,6 +6,8 @@
 //! of the flow network for the next size (`cut_lines`), which shows that no greater size is possible. Equal
 //! neighbours share a line: `longest_runs` says that no line could be longer.
 //!
+//! `read_access` reads which keys may sign requests, and for which region.
+//!
 //! `append_word` and `append_number` write a word or a number after one space.
 //!
 //! Each call gives exactly what the definition of its contract says, and fails else only for want of memory.
@@ -13,6 +15,7 @@
 
 mod config;
 mod cut;
+mod keys;
 mod laws;
 mod lines;
 mod read;
@@ -23,6 +26,7 @@ mod words;
 
 pub use config::{Config, ConfigFault, FieldName};
 pub use cut::cut_lines;
+pub use keys::{Access, Key, read_access};
 pub use laws::longest_runs;
 pub use lines::layout_lines;
 pub use read::read_config;

@@ -74,7 +74,7 @@ pub(crate) fn redundancy(root: &Table) -> Option<Redundancy>
     }
 }
 
-fn is_name_byte(byte: u8) -> bool
+pub(crate) fn is_name_byte(byte: u8) -> bool
     ensures { result ≡ is_name_byte byte }
 {
     matches!(byte, b'a'..=b'z' | b'0'..=b'9')
@@ -118,7 +118,8 @@ pub(crate) fn bucket_of<'a>(before: &[Bytes], value: &'a Value) -> Option<&'a st
     }
 }
 
-fn has_name(names: &[Bytes], name: &[u8]) -> bool
+/// Whether one of the names is this.
+pub(crate) fn has_name(names: &[Bytes], name: &[u8]) -> bool
     ensures { result ≡ list_any (same_name name.now) names.now }
 {
     names.iter().any(|other| name == other.as_slice())

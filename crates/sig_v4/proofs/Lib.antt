@@ -1,1 +1,4 @@
 pub mod Masks
+pub mod Same
+pub mod Due
+pub mod Claiming

@@ -1,2 +1,5 @@
 pub mod Hmac
 pub mod Signing
+pub mod Dates
+pub mod Claims
+pub mod Checks

@@ -1,12 +1,20 @@
-//! AWS Signature Version 4, as S3 requests are signed by it: the keyed digest and the signature of a text.
+//! AWS Signature Version 4, as S3 requests are signed by it: which key signed a request, or why it is refused.
 //!
 //! `hmac_sha256` is HMAC (RFC 2104) over SHA-256. `text_to_sign` puts a request's time, scope and digest under
-//! one another, and `signature` signs a text under a secret, for a day and a region. No text that these calls
-//! give has a secret in it.
+//! one another, and `signature` signs a text under a secret, for a day and a region. `check` reads the head of a
+//! request: what it claims (`claim`), when (`dates`), and whether its signature is that of its canonical form; it
+//! answers the place of the key, or the first refusal that applies. No text that these calls give has a secret in
+//! it.
 #![tactic(auto)]
 
+mod checked;
+mod claim;
+mod dates;
 mod mac;
+mod refusal;
 mod signing;
 
+pub use crate::checked::check;
 pub use crate::mac::hmac_sha256;
+pub use crate::refusal::Refusal;
 pub use crate::signing::{signature, text_to_sign};
