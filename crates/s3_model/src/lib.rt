@@ -9,9 +9,11 @@
 mod ask;
 mod fault;
 mod page;
+mod place;
 mod reply;
 
 pub use crate::ask::{Ask, Range};
 pub use crate::fault::{AskFault, Code, S3Fault};
 pub use crate::page::{After, Entry, ListAsk, Page};
+pub use crate::place::Place;
 pub use crate::reply::Reply;
