@@ -1,8 +1,7 @@
 -- The headers of a request: which aren't served, what length they announce, and which are stored with an object.
-use Rattle.std.specs.Prelude.{ℕ, Bool, true, false, not, ◌&&◌, ◌||◌, nat_lt, List, [], ◌∷◌, map, filter, codes, bytes_eq, Option, Some, None, is_none, option_and_then, unwrap_or, if◌then◌else◌}
+use Rattle.std.specs.Prelude.{ℕ, Bool, false, not, ◌&&◌, ◌||◌, List, [], ◌∷◌, map, filter, codes, bytes_eq, Option, Some, None, option_and_then, unwrap_or, if◌then◌else◌}
 use Rattle.std.specs.List.{list_any, list_all}
 use Rattle.std.specs.Str.{str_to_ascii_lowercase}
-use Rattle.http_wire.specs.declared.head.Head.{Head}
 use Rattle.s3_model.specs.Words.{is_word, begins_word, holds_word, header, all_values, is_said}
 use Rattle.s3_model.specs.Numbers.{is_number, number_in, digit_limit}
 use Rattle.s3_model.specs.Targets.{is_question}

@@ -5,5 +5,6 @@ pub mod Ranges
 pub mod Targets
 pub mod Headers
 pub mod Lists
+pub mod Connections
 pub mod Asks
 pub mod Sources

@@ -1,5 +1,5 @@
 -- Ranges of bytes: what a Range header asks, and which bytes of an object that is.
-use Rattle.std.specs.Prelude.{ℕ, ◌-◌, Bool, ◌==◌, ◌&&◌, ◌||◌, nat_eq, nat_lt, nat_le, min, List, [], ◌∷◌, length, drop, codes, Option, Some, None, option_map, option_and_then, if◌then◌else◌}
+use Rattle.std.specs.Prelude.{ℕ, ◌-◌, Bool, ◌==◌, ◌||◌, nat_eq, nat_lt, nat_le, min, List, [], ◌∷◌, drop, codes, Option, Some, None, option_map, if◌then◌else◌}
 use Rattle.std.specs.List.{list_any, starts_with, before_first, after_first}
 use Rattle.s3_model.specs.declared.ask.Range.{Range}
 use Rattle.s3_model.specs.declared.ask.Range.TheVariants.{Between, From, Last}

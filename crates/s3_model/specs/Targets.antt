@@ -1,5 +1,5 @@
 -- What the target of a request says: its path names a place, its query gives parameters (RFC 3986, section 3).
-use Rattle.std.specs.Prelude.{ℕ, Bool, true, not, ◌||◌, ◌==◌, nat_eq, List, [], ◌∷◌, drop, map, filter, codes, bytes_eq, if◌then◌else◌}
+use Rattle.std.specs.Prelude.{ℕ, Bool, true, not, ◌||◌, ◌==◌, nat_eq, List, [], ◌∷◌, drop, map, filter_map, codes, bytes_eq, Option, Some, None, if◌then◌else◌}
 use Rattle.std.specs.List.{starts_with, before_first, after_first, slice_split}
 use Rattle.std.specs.Str.{is_utf8}
 use Rattle.percent_encoding.specs.Percent.{percent_decode}
@@ -71,6 +71,14 @@ parameter_of piece = (query_text (before_first is_equals piece), query_text (aft
 abbrev pub is_ignored : List ℕ × List ℕ → Bool
 is_ignored parameter = bytes_eq parameter.0 (codes "x-id")
 
--- the parameters of a query, which stand between `&`; an empty piece is none
+-- the parameter, unless it is ignored
+abbrev pub if_heeded : List ℕ × List ℕ → Option (List ℕ × List ℕ)
+if_heeded parameter = if is_ignored parameter then None else Some parameter
+
+-- the parameter that a piece of a query gives; an empty piece gives none
+abbrev pub parameter_in : List ℕ → Option (List ℕ × List ℕ)
+parameter_in piece = if is_empty piece then None else if_heeded (parameter_of piece)
+
+-- the parameters of a query, whose pieces stand between `&`
 abbrev pub parameters_of : List ℕ → List (List ℕ × List ℕ)
-parameters_of query = filter (λ p. not (is_ignored p)) (map parameter_of (filter (λ piece. not (is_empty piece)) (slice_split is_and query)))
+parameters_of query = filter_map parameter_in (slice_split is_and query)
