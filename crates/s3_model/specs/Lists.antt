@@ -54,11 +54,11 @@ list_with bucket parameters (Some max) (Some url) None = BadList bucket
 list_with bucket parameters (Some max) (Some url) (Some after) =
     let delimiter = first_named parameters (codes "delimiter") in
     Listing bucket
-      (record { prefix = unwrap_or (first_named parameters (codes "prefix")) []; delimiter = unwrap_or delimiter []; after = after; max = max })
-      delimiter url (first_named parameters (codes "continuation-token")) (first_named parameters (codes "start-after"))
+    (record { prefix = unwrap_or (first_named parameters (codes "prefix")) []; delimiter = unwrap_or delimiter []; after = after; max = max })
+    delimiter url (first_named parameters (codes "continuation-token")) (first_named parameters (codes "start-after"))
 
 -- what the parameters of a list ask of a bucket
 abbrev pub list_of : List ℕ → List (List ℕ × List ℕ) → Ask
 list_of bucket parameters =
     list_with bucket parameters (max_of (first_named parameters (codes "max-keys"))) (url_of (first_named parameters (codes "encoding-type")))
-      (after_of (first_named parameters (codes "continuation-token")) (first_named parameters (codes "start-after")))
+    (after_of (first_named parameters (codes "continuation-token")) (first_named parameters (codes "start-after")))

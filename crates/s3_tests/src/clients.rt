@@ -18,7 +18,10 @@ const SIGNED: [(&[u8], &[u8]); 4] = [
         b"Delete pics a+b",
     ),
     // boto3, head_bucket.
-    (b"HEAD /pics HTTP/1.1\r\nHost: localhost:3900\r\n\r\n", b"HeadBucket pics"),
+    (
+        b"HEAD /pics HTTP/1.1\r\nHost: localhost:3900\r\n\r\n",
+        b"HeadBucket pics",
+    ),
 ];
 
 const AWSCLI: [(&[u8], &[u8]); 3] = [
@@ -90,7 +93,12 @@ const OTHERS: [(&[u8], &[u8]); 6] = [
 #[test]
 fn what_clients_ask(rt: HostRuntime) -> Result<(), Fail> {
     let alloc = rt.alloc();
-    for table in [SIGNED.as_slice(), AWSCLI.as_slice(), CURL.as_slice(), OTHERS.as_slice()] {
+    for table in [
+        SIGNED.as_slice(),
+        AWSCLI.as_slice(),
+        CURL.as_slice(),
+        OTHERS.as_slice(),
+    ] {
         for (head, asks) in table {
             let asked = asked(alloc, head)?;
             assert_eq!(rt; asked.as_slice(), *asks);

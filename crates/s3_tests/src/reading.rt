@@ -82,20 +82,28 @@ fn text(alloc: Global, answer: &Result<Ask, AskFault>) -> Result<Vec<u8>, AllocE
         Ok(Ask::ListBuckets) => add(&mut text, &[b"ListBuckets"])?,
         Ok(Ask::HeadBucket(bucket)) => add(&mut text, &[b"HeadBucket", bucket.as_slice()])?,
         Ok(Ask::BadList(bucket)) => add(&mut text, &[b"BadList", bucket.as_slice()])?,
-        Ok(Ask::List {
-            bucket,
-            ask,
-            delimiter,
-            url,
-            token,
-            start_after,
-        }) => {
+        Ok(
+            Ask::List {
+                bucket,
+                ask,
+                delimiter,
+                url,
+                token,
+                start_after,
+            },
+        ) => {
             let max = format!(in alloc; "{}", ask.max)?;
             add(
                 &mut text,
-                &[b"List", bucket.as_slice(), b"prefix", ask.prefix.as_slice(), b"by", or_none(
-                    delimiter,
-                ), max.as_bytes()],
+                &[
+                    b"List",
+                    bucket.as_slice(),
+                    b"prefix",
+                    ask.prefix.as_slice(),
+                    b"by",
+                    or_none(delimiter),
+                    max.as_bytes(),
+                ],
             )?;
             match &ask.after {
                 After::Key(key) => add(&mut text, &[b"after", key.as_slice()])?,
@@ -103,41 +111,71 @@ fn text(alloc: Global, answer: &Result<Ask, AskFault>) -> Result<Vec<u8>, AllocE
             }
             add(
                 &mut text,
-                &[if *url { b"url" } else { b"plain" }, or_none(token), or_none(start_after)],
+                &[
+                    if *url { b"url" } else { b"plain" },
+                    or_none(token),
+                    or_none(start_after),
+                ],
             )?;
         }
         Ok(Ask::Get { bucket, key, range }) => {
             let range = range_text(alloc, range)?;
-            add(&mut text, &[b"Get", bucket.as_slice(), key.as_slice(), &range])?;
+            add(
+                &mut text,
+                &[b"Get", bucket.as_slice(), key.as_slice(), &range],
+            )?;
         }
         Ok(Ask::Head { bucket, key, range }) => {
             let range = range_text(alloc, range)?;
-            add(&mut text, &[b"Head", bucket.as_slice(), key.as_slice(), &range])?;
+            add(
+                &mut text,
+                &[b"Head", bucket.as_slice(), key.as_slice(), &range],
+            )?;
         }
         Ok(Ask::Delete { bucket, key }) => {
             add(&mut text, &[b"Delete", bucket.as_slice(), key.as_slice()])?;
         }
-        Ok(Ask::Put {
-            bucket,
-            key,
-            length,
-            md5,
-            headers,
-        }) => {
+        Ok(
+            Ask::Put {
+                bucket,
+                key,
+                length,
+                md5,
+                headers,
+            },
+        ) => {
             let length = format!(in alloc; "{length}")?;
             add(
                 &mut text,
-                &[b"Put", bucket.as_slice(), key.as_slice(), length.as_bytes(), or_none(md5), b""],
+                &[
+                    b"Put",
+                    bucket.as_slice(),
+                    key.as_slice(),
+                    length.as_bytes(),
+                    or_none(md5),
+                    b"",
+                ],
             )?;
             add_headers(&mut text, headers)?;
         }
-        Ok(Ask::Copy {
-            from,
-            bucket,
-            key,
-            headers,
-        }) => {
-            add(&mut text, &[b"Copy", from.as_slice(), bucket.as_slice(), key.as_slice(), b""])?;
+        Ok(
+            Ask::Copy {
+                from,
+                bucket,
+                key,
+                headers,
+            },
+        ) => {
+            add(
+                &mut text,
+                &[
+                    b"Copy",
+                    from.as_slice(),
+                    bucket.as_slice(),
+                    key.as_slice(),
+                    b"",
+                ],
+            )?;
             if let Some(headers) = headers {
                 add_headers(&mut text, headers)?;
             }

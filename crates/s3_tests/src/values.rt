@@ -11,15 +11,42 @@ use std::test::Fail;
 
 // A Range header, the size of an object, and the first and the last place that are sent.
 const RANGES: [(&[u8], &[u8]); 9] = [
-    (b"GET /b/k HTTP/1.1\r\nRange: bytes=0-0\r\n\r\n", b"Get b k 0-0"),
-    (b"GET /b/k HTTP/1.1\r\nrange: bytes=3-\r\n\r\n", b"Get b k 3-"),
-    (b"HEAD /b/k HTTP/1.1\r\nRange: bytes=-1\r\n\r\n", b"Head b k -1"),
-    (b"GET /b/k HTTP/1.1\r\nRange: bytes=-0\r\nRange: bytes=0-\r\n\r\n", b"Get b k -0"),
-    (b"GET /b/k HTTP/1.1\r\nRange: bytes=3-2\r\n\r\n", b"Get b k all"),
-    (b"GET /b/k HTTP/1.1\r\nRange: Bytes=0-0\r\n\r\n", b"Get b k all"),
-    (b"GET /b/k HTTP/1.1\r\nRange: bytes=0-1,3-4\r\n\r\n", b"Get b k all"),
-    (b"GET /b/k HTTP/1.1\r\nRange: bytes=5\r\n\r\n", b"Get b k all"),
-    (b"GET /b/k HTTP/1.1\r\nRange: bytes=-\r\n\r\n", b"Get b k all"),
+    (
+        b"GET /b/k HTTP/1.1\r\nRange: bytes=0-0\r\n\r\n",
+        b"Get b k 0-0",
+    ),
+    (
+        b"GET /b/k HTTP/1.1\r\nrange: bytes=3-\r\n\r\n",
+        b"Get b k 3-",
+    ),
+    (
+        b"HEAD /b/k HTTP/1.1\r\nRange: bytes=-1\r\n\r\n",
+        b"Head b k -1",
+    ),
+    (
+        b"GET /b/k HTTP/1.1\r\nRange: bytes=-0\r\nRange: bytes=0-\r\n\r\n",
+        b"Get b k -0",
+    ),
+    (
+        b"GET /b/k HTTP/1.1\r\nRange: bytes=3-2\r\n\r\n",
+        b"Get b k all",
+    ),
+    (
+        b"GET /b/k HTTP/1.1\r\nRange: Bytes=0-0\r\n\r\n",
+        b"Get b k all",
+    ),
+    (
+        b"GET /b/k HTTP/1.1\r\nRange: bytes=0-1,3-4\r\n\r\n",
+        b"Get b k all",
+    ),
+    (
+        b"GET /b/k HTTP/1.1\r\nRange: bytes=5\r\n\r\n",
+        b"Get b k all",
+    ),
+    (
+        b"GET /b/k HTTP/1.1\r\nRange: bytes=-\r\n\r\n",
+        b"Get b k all",
+    ),
 ];
 
 const SPANS: [(Range, u64, Option<(u64, u64)>); 12] = [
@@ -51,18 +78,54 @@ fn ranges_and_what_they_are(rt: HostRuntime) -> Result<(), Fail> {
 }
 
 const LISTS: [(&[u8], &[u8]); 13] = [
-    (b"GET /b/?list-type=2 HTTP/1.1\r\n\r\n", b"List b prefix  by none 1000 after  plain none none"),
-    (b"GET /b?list-type=2&start-after=k HTTP/1.1\r\n\r\n", b"List b prefix  by none 1000 after k plain none k"),
-    (b"GET /b?list-type=2&max-keys=0&delimiter= HTTP/1.1\r\n\r\n", b"List b prefix  by  0 after  plain none none"),
-    (b"GET /b?list-type=2&max-keys=999999999 HTTP/1.1\r\n\r\n", b"List b prefix  by none 1000 after  plain none none"),
-    (b"GET /b?list-type=2&max-keys=1000000000 HTTP/1.1\r\n\r\n", b"BadList b"),
-    (b"GET /b?list-type=2&max-keys= HTTP/1.1\r\n\r\n", b"BadList b"),
-    (b"GET /b?list-type=2&max-keys=-1 HTTP/1.1\r\n\r\n", b"BadList b"),
-    (b"GET /b?list-type=2&encoding-type=URL HTTP/1.1\r\n\r\n", b"BadList b"),
-    (b"GET /b?list-type=2&continuation-token=6b6A HTTP/1.1\r\n\r\n", b"List b prefix  by none 1000 after j plain 6b6A none"),
-    (b"GET /b?list-type=2&continuation-token=6b6 HTTP/1.1\r\n\r\n", b"BadList b"),
-    (b"GET /b?list-type=2&continuation-token=616a HTTP/1.1\r\n\r\n", b"BadList b"),
-    (b"GET /b?list-type=2&continuation-token= HTTP/1.1\r\n\r\n", b"BadList b"),
+    (
+        b"GET /b/?list-type=2 HTTP/1.1\r\n\r\n",
+        b"List b prefix  by none 1000 after  plain none none",
+    ),
+    (
+        b"GET /b?list-type=2&start-after=k HTTP/1.1\r\n\r\n",
+        b"List b prefix  by none 1000 after k plain none k",
+    ),
+    (
+        b"GET /b?list-type=2&max-keys=0&delimiter= HTTP/1.1\r\n\r\n",
+        b"List b prefix  by  0 after  plain none none",
+    ),
+    (
+        b"GET /b?list-type=2&max-keys=999999999 HTTP/1.1\r\n\r\n",
+        b"List b prefix  by none 1000 after  plain none none",
+    ),
+    (
+        b"GET /b?list-type=2&max-keys=1000000000 HTTP/1.1\r\n\r\n",
+        b"BadList b",
+    ),
+    (
+        b"GET /b?list-type=2&max-keys= HTTP/1.1\r\n\r\n",
+        b"BadList b",
+    ),
+    (
+        b"GET /b?list-type=2&max-keys=-1 HTTP/1.1\r\n\r\n",
+        b"BadList b",
+    ),
+    (
+        b"GET /b?list-type=2&encoding-type=URL HTTP/1.1\r\n\r\n",
+        b"BadList b",
+    ),
+    (
+        b"GET /b?list-type=2&continuation-token=6b6A HTTP/1.1\r\n\r\n",
+        b"List b prefix  by none 1000 after j plain 6b6A none",
+    ),
+    (
+        b"GET /b?list-type=2&continuation-token=6b6 HTTP/1.1\r\n\r\n",
+        b"BadList b",
+    ),
+    (
+        b"GET /b?list-type=2&continuation-token=616a HTTP/1.1\r\n\r\n",
+        b"BadList b",
+    ),
+    (
+        b"GET /b?list-type=2&continuation-token= HTTP/1.1\r\n\r\n",
+        b"BadList b",
+    ),
     (
         b"GET /b?&&list-type=2&prefix=a%26b%3dc&prefix=z&x-id=ListObjectsV2 HTTP/1.1\r\n\r\n",
         b"List b prefix a&b=c by none 1000 after  plain none none",
@@ -125,11 +188,36 @@ fn digests_of_bodies(rt: HostRuntime) -> Result<(), Fail> {
 
 // A head, its announced length, whether its connection closes, and whether its client waits.
 const CONNECTIONS: [(&[u8], u64, bool, bool); 5] = [
-    (b"PUT /b/k HTTP/1.1\r\nContent-Length: 07\r\nExpect: 100-Continue\r\n\r\n", 7, false, true),
-    (b"PUT /b/k HTTP/1.0\r\nContent-Length: 3\r\nExpect: 100-continue\r\n\r\n", 3, true, false),
-    (b"GET /b/k HTTP/1.1\r\nConnection: keep-alive\r\nconnection: Keep-Alive, Close\r\n\r\n", 0, true, false),
-    (b"GET /b/k HTTP/1.1\r\nConnection: keep-alive\r\nExpect: 100\r\n\r\n", 0, false, false),
-    (b"GET /b/k HTTP/1.1\r\nContent-Length: x\r\n\r\n", 0, false, false),
+    (
+        b"PUT /b/k HTTP/1.1\r\nContent-Length: 07\r\nExpect: 100-Continue\r\n\r\n",
+        7,
+        false,
+        true,
+    ),
+    (
+        b"PUT /b/k HTTP/1.0\r\nContent-Length: 3\r\nExpect: 100-continue\r\n\r\n",
+        3,
+        true,
+        false,
+    ),
+    (
+        b"GET /b/k HTTP/1.1\r\nConnection: keep-alive\r\nconnection: Keep-Alive, Close\r\n\r\n",
+        0,
+        true,
+        false,
+    ),
+    (
+        b"GET /b/k HTTP/1.1\r\nConnection: keep-alive\r\nExpect: 100\r\n\r\n",
+        0,
+        false,
+        false,
+    ),
+    (
+        b"GET /b/k HTTP/1.1\r\nContent-Length: x\r\n\r\n",
+        0,
+        false,
+        false,
+    ),
 ];
 
 #[test]
