@@ -1,0 +1,10 @@
+pub mod Words
+pub mod Numbers
+pub mod Faults
+pub mod Ranges
+pub mod Targets
+pub mod Headers
+pub mod Lists
+pub mod Connections
+pub mod Asks
+pub mod Sources

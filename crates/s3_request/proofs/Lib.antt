@@ -1,0 +1,4 @@
+pub mod Lists
+pub mod Digits
+pub mod Kept
+pub mod Lengths
