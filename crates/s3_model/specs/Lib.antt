@@ -7,3 +7,9 @@ pub mod Headers
 pub mod Lists
 pub mod Asks
 pub mod Sources
+pub mod Page
+pub mod Dates
+pub mod Xml
+pub mod Lines
+pub mod Bodies
+pub mod Answer

@@ -1,0 +1,45 @@
+-- The head of an answer: its status line and its header lines (RFC 9112), each ended by CR LF.
+use Rattle.std.specs.Prelude.{ℕ, length, ◌+◌, Bool, true, false, not, List, [], ◌∷◌, ◌++◌, codes, decimal, bytes_eq, flat_map, filter, unwrap_or}
+use Rattle.http.specs.StatusCode.{reason_phrase}
+use Rattle.hex.specs.Hex.{encode_lower}
+use Rattle.s3_model.specs.Dates.{http_date}
+
+-- a header's line
+abbrev pub header_line : List ℕ → List ℕ → List ℕ
+header_line name value = name ++ codes ": " ++ value ++ codes "\r\n"
+
+-- the status line of a code, with its phrase
+abbrev pub status_line : ℕ → List ℕ
+status_line code = codes "HTTP/1.1 " ++ decimal code ++ codes " " ++ unwrap_or (reason_phrase code) [] ++ codes "\r\n"
+
+-- how many bytes the body has, or the one that HEAD leaves out
+abbrev pub length_line : ℕ → List ℕ
+length_line length = header_line (codes "Content-Length") (decimal length)
+
+-- a digest in lower-case hexadecimal, in quotes
+abbrev pub etag_line : List ℕ → List ℕ
+etag_line digest = header_line (codes "ETag") (codes "\"" ++ encode_lower digest ++ codes "\"")
+
+-- a stored header is the Content-Type
+abbrev pub is_type : List ℕ × List ℕ → Bool
+is_type h = bytes_eq h.0 (codes "content-type")
+
+-- the lines of an object's stored headers: the Content-Type first, then the others as they are stored
+abbrev pub stored_lines : List (List ℕ × List ℕ) → List ℕ
+stored_lines headers =
+    flat_map (λ h. header_line (codes "Content-Type") h.1) (filter is_type headers)
+    ++ flat_map (λ h. header_line h.0 h.1) (filter (λ h. not (is_type h)) headers)
+
+-- where the connection closes after the answer
+abbrev pub close_line : Bool → List ℕ
+close_line true = header_line (codes "Connection") (codes "close")
+close_line false = []
+
+-- the head of an answer: the status, the date of the request, these lines, whether the connection closes, and an empty line
+abbrev pub head_of : ℕ → ℕ → List ℕ → Bool → List ℕ
+head_of status now lines close = status_line status ++ header_line (codes "Date") (http_date now) ++ lines ++ close_line close ++ codes "\r\n"
+
+-- an answer whose body is XML
+abbrev pub xml_answer : ℕ → ℕ → Bool → List ℕ → List ℕ
+xml_answer status now close body =
+    head_of status now (length_line (length body) ++ header_line (codes "Content-Type") (codes "application/xml")) close ++ body
