@@ -2,7 +2,7 @@
 use Rattle.std.specs.Prelude.{ℕ, zero, suc, ◌+◌, ◌/◌, ◌%◌, min, nat_lt, if◌then◌else◌, List, [], ◌∷◌, ◌++◌, codes}
 use Rattle.httpdate.specs.declared.parts.Parts.{Parts}
 use Rattle.httpdate.specs.Calendar.{days_in_month, weekday}
-use Rattle.httpdate.specs.Text.{two_digits, four_digits, time_of_day, imf_fixdate}
+use Rattle.httpdate.specs.Text.{two_digits, four_digits, imf_fixdate}
 
 -- a day of the calendar
 pub record Day : Type 0 where
@@ -41,11 +41,17 @@ abbrev pub three_digits : ℕ → List ℕ
 three_digits n = (48 + n / 100) ∷ two_digits (n % 100)
 
 -- year, month and day, with hyphens
-abbrev pub date_digits : Parts → List ℕ
-date_digits p = four_digits p.year ++ codes "-" ++ two_digits p.mon ++ codes "-" ++ two_digits p.day
+abbrev pub day_digits : Day → List ℕ
+day_digits x = four_digits x.year ++ codes "-" ++ two_digits x.mon ++ codes "-" ++ two_digits x.day
+
+-- hour, minute and second of a day's second, with colons
+abbrev pub clock_digits : ℕ → List ℕ
+clock_digits time = two_digits (time / 3600) ++ codes ":" ++ two_digits (time % 3600 / 60) ++ codes ":" ++ two_digits (time % 3600 % 60)
+
+-- the day and the clock so many seconds after the first of 1970
+abbrev pub second_digits : ℕ → List ℕ
+second_digits secs = day_digits (day_after (secs / 86400)) ++ codes "T" ++ clock_digits (secs % 86400)
 
 -- a time in milliseconds as lists write it: `2023-11-14T22:13:20.000Z`
 unfoldable pub list_time : ℕ → List ℕ
-list_time ms =
-    let p = parts_of (min ms last_time / 1000) in
-    date_digits p ++ codes "T" ++ time_of_day p ++ codes "." ++ three_digits (min ms last_time % 1000) ++ codes "Z"
+list_time ms = second_digits (min ms last_time / 1000) ++ codes "." ++ three_digits (min ms last_time % 1000) ++ codes "Z"

@@ -41,8 +41,7 @@ url_byte b = if is_plain b then b ∷ [] else 37 ∷ upper_digit (b / 16) ∷ up
 
 -- a text, percent-encoded where this is asked
 abbrev pub written : Bool → List ℕ → List ℕ
-written true text = flat_map url_byte text
-written false text = text
+written url text = if url then flat_map url_byte text else text
 
 -- the tags of an element
 abbrev pub open_tag : List ℕ → List ℕ
