@@ -1,5 +1,5 @@
 //! The answer to an ask.
-ghost use Rattle.std.specs.Prelude.{◌≡◌, IfOk, option_copied};
+ghost use Rattle.std.specs.Prelude.{◌≡◌, IfOk, Some, option_copied};
 ghost use Rattle.crdt_core.specs.Outcomes.{OnlyWant};
 ghost use Rattle.s3_model.specs.Answer as answers;
 
@@ -83,27 +83,19 @@ fn copied(
     xml_answer(alloc, 200, now, close, body.as_slice())
 }
 
-fn listed(
-    alloc: Global,
-    ask: Option<&Ask>,
-    page: &Page,
-    now: u64,
-    close: bool,
-) -> Result<Bytes, Memory>
-    ensures text { IfOk result (λ t. t ≡ answers.page_text (option_copied ask.entry) page.now now close) }
+fn listed(alloc: Global, ask: &Ask, page: &Page, now: u64, close: bool) -> Result<Bytes, Memory>
+    ensures text { IfOk result (λ t. t ≡ answers.page_text (Some ask.now) page.now now close) }
     ensures want { OnlyWant result }
 {
     match ask {
-        Some(
-            Ask::List {
-                bucket,
-                ask,
-                delimiter,
-                url,
-                token,
-                start_after,
-            },
-        ) => {
+        Ask::List {
+            bucket,
+            ask,
+            delimiter,
+            url,
+            token,
+            start_after,
+        } => {
             let listing = Listing {
                 bucket,
                 ask,
@@ -116,6 +108,22 @@ fn listed(
             xml_answer(alloc, 200, now, close, body.as_slice())
         }
         _ => Ok(Bytes::new(alloc)),
+    }
+}
+
+fn listed_if_asked(
+    alloc: Global,
+    ask: Option<&Ask>,
+    page: &Page,
+    now: u64,
+    close: bool,
+) -> Result<Bytes, Memory>
+    ensures text { IfOk result (λ t. t ≡ answers.page_text (option_copied ask.entry) page.now now close) }
+    ensures want { OnlyWant result }
+{
+    match ask {
+        Some(ask) => listed(alloc, ask, page, now, close),
+        None => Ok(Bytes::new(alloc)),
     }
 }
 
@@ -163,7 +171,7 @@ pub fn answer(
         Reply::Stored(_, digest) => stored(alloc, digest, now, close),
         Reply::Deleted => deleted(alloc, now, close),
         Reply::Copied(version, digest) => copied(alloc, *version, digest, now, close),
-        Reply::Page(page) => listed(alloc, ask, page, now, close),
+        Reply::Page(page) => listed_if_asked(alloc, ask, page, now, close),
         Reply::Refused { fault, path, head } => {
             refused(alloc, *fault, path.as_slice(), *head, now, close)
         }
