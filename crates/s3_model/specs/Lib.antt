@@ -8,3 +8,9 @@ pub mod Lists
 pub mod Connections
 pub mod Asks
 pub mod Sources
+pub mod Page
+pub mod Dates
+pub mod Xml
+pub mod Lines
+pub mod Bodies
+pub mod Answer

@@ -1,0 +1,4 @@
+pub mod Days
+pub mod Walks
+pub mod Appends
+pub mod Phrases

@@ -1,0 +1,21 @@
+//! The bytes of answers of the S3 API (Amazon S3 API reference; RFC 9112 for their heads).
+//!
+//! `answer` takes what was asked, what is replied, the time of the request in milliseconds since 1970, and whether
+//! the connection closes after the answer. It gives exactly the bytes of s3_model's `answer_text`: the status line,
+//! the header lines in their order, and the body, which is the object's bytes or XML. It fails only for want of memory.
+//!
+//! Dates of headers are written by `httpdate`. The times of lists are written here, from the same calendar.
+#![tactic(auto)]
+
+mod bodies;
+mod civil;
+mod dates;
+mod digits;
+mod found;
+mod lines;
+mod list;
+mod reply;
+mod url;
+mod xml;
+
+pub use crate::reply::answer;
