@@ -1,0 +1,5 @@
+pub mod Cut
+pub mod Going
+pub mod Later
+pub mod Merged
+pub mod Nothing

@@ -1,0 +1,4 @@
+pub mod Choices
+pub mod ObjectRows
+pub mod Shown
+pub mod Whole

@@ -1,0 +1,45 @@
+//! The blocks that bytes are cut into.
+ghost use Rattle.std.specs.Prelude.{◌≡◌, ◌*◌, ◌≤◌, true, false, MatchOption, length, take, drop};
+ghost use Rattle.blake2_hash.specs.Hash.{digest_of};
+ghost use Rattle.flow_model.specs.Blocks.{has_piece, is_long};
+
+use blake2_hash::{Hash32, blake2b_256};
+
+// Objects of so many bytes and more are kept in blocks.
+const INLINE_LIMIT: usize = 3072;
+
+/// The name of a bucket or a block, which is the digest of its bytes.
+pub fn hash_of(bytes: &[u8]) -> Hash32
+    ensures { result ≡ digest_of bytes.now }
+{
+    blake2b_256(bytes)
+}
+
+/// The bytes are kept in blocks.
+pub fn is_long(body: &[u8]) -> bool
+    ensures { result ≡ is_long body.now }
+{
+    body.len() >= INLINE_LIMIT
+}
+
+/// Where block `i` begins, in bytes from 0; none where there is no such block.
+pub fn offset_of(block: u32, body: &[u8], i: u64) -> Option<u64>
+    ensures { MatchOption result (has_piece block body.now i ≡ false) (λ offset. (has_piece block body.now i ≡ true) × (offset ≡ i * block)) }
+{
+    let offset = i.checked_mul(u64::from(block))?;
+    if offset < body.len() as u64 {
+        return Some(offset);
+    }
+    None
+}
+
+/// The block that begins there: as many bytes as a block has, the last one the rest.
+pub fn piece_at(block: u32, body: &[u8], offset: usize) -> &[u8]
+    requires { offset ≤ length body.now }
+    ensures piece { result.now ≡ take block (drop offset body.now) }
+    ensures size { length result.now ≤ block }
+{
+    let rest = &body[offset..];
+    let size = rest.len().min(block as usize);
+    &rest[..size]
+}

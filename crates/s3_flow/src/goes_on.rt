@@ -1,0 +1,125 @@
+//! What a request does when its phase has ended.
+ghost use Rattle.std.specs.Prelude.{◌≡◌, ◌<◌, ℕ, IfOk};
+ghost use Rattle.crdt_core.specs.Outcomes.{OnlyWant, WantOr};
+ghost use Rattle.wire_messages.specs.declared.phase.PhaseEnd.TheVariants as end_of;
+ghost use Rattle.flow_model.specs.Next.{goes_on, next};
+ghost use Rattle.s3_flow.specs.Overdrawn.{IsOverdrawn};
+
+use crate::reads::{gathers, lists, looked, opened};
+use crate::request::Request;
+use crate::writes::{drawn, uploads, writes};
+use crdt_core::{Bytes, List, Memory};
+use crdt_rows::AnyRow;
+use flow_model::{Flow, FlowEnd, FlowStep, Stage};
+use std::alloc::Global;
+use wire_messages::PhaseEnd;
+
+// A row was read.
+fn after_row(
+    alloc: Global,
+    request: Request,
+    stage: Stage,
+    value: Option<AnyRow>,
+    now: u64,
+) -> Result<FlowStep, Memory>
+    ensures is { IfOk result (λ step. step ≡ goes_on request.id request.block stage (end_of.Row value) now) }
+    ensures causes { WantOr result (IsOverdrawn request.id stage (end_of.Row value) now) }
+    ensures never_past { IfOk result (λ step. IsOverdrawn request.id stage (end_of.Row value) now → ⊥) }
+{
+    match stage {
+        Stage::Drawing { name, wish } => {
+            let version = drawn(request.id, &value, now)?;
+            writes(alloc, request, name, version, wish)
+        }
+        Stage::Looking { name: _, aim } => looked(alloc, request, aim, &value),
+        Stage::Opening { version, meta, aim } => {
+            opened(alloc, request, aim, version, meta, &value)
+        }
+        other => Ok(request.waits(other)),
+    }
+}
+
+// A window of rows was read.
+fn after_window(
+    alloc: Global,
+    request: Request,
+    stage: Stage,
+    others: List<AnyRow>,
+    end: Option<Bytes>,
+) -> Result<FlowStep, Memory>
+    ensures is { (now : ℕ) → IfOk result (λ step. step ≡ goes_on request.id request.block stage (end_of.Window others end) now) }
+    ensures want { OnlyWant result }
+{
+    match stage {
+        Stage::Listing {
+            bucket,
+            prefix,
+            rows,
+        } => lists(alloc, request, bucket, prefix, rows, others, end),
+        other => Ok(request.waits(other)),
+    }
+}
+
+// What was stored is kept.
+fn after_kept(alloc: Global, request: Request, stage: Stage) -> Result<FlowStep, Memory>
+    requires { 0 < request.block }
+    ensures is { (now : ℕ) → IfOk result (λ step. step ≡ goes_on request.id request.block stage end_of.Kept now) }
+    ensures want { OnlyWant result }
+{
+    match stage {
+        Stage::Uploading {
+            name,
+            version,
+            content,
+            stored,
+        } => uploads(alloc, request, name, version, content, stored),
+        Stage::Completing { version, meta } => {
+            Ok(FlowStep::End(FlowEnd::Stored { version, meta }))
+        }
+        other => Ok(request.waits(other)),
+    }
+}
+
+// A block was read.
+fn after_block(
+    alloc: Global,
+    request: Request,
+    stage: Stage,
+    bytes: Bytes,
+) -> Result<FlowStep, Memory>
+    ensures is { (now : ℕ) → IfOk result (λ step. step ≡ goes_on request.id request.block stage (end_of.Block bytes) now) }
+    ensures want { OnlyWant result }
+{
+    match stage {
+        Stage::Gathering {
+            version,
+            meta,
+            aim,
+            left,
+            mut body,
+        } => {
+            body.extend_from_slice(bytes.as_slice())?;
+            gathers(alloc, request, aim, version, meta, left, body)
+        }
+        other => Ok(request.waits(other)),
+    }
+}
+
+/// What a request does when its phase has ended, at this time of its coordinator's clock in milliseconds. With an end
+/// of another kind than it waits for it waits on. `Full` is answered exactly where a write would draw a timestamp of
+/// 2^64.
+pub fn next(alloc: Global, flow: Flow, end: PhaseEnd<AnyRow>, now: u64) -> Result<FlowStep, Memory>
+    requires { 0 < flow.block }
+    ensures is { IfOk result (λ step. step ≡ next flow end now) }
+    ensures causes { WantOr result (IsOverdrawn flow.id flow.stage end now) }
+    ensures never_past { IfOk result (λ step. IsOverdrawn flow.id flow.stage end now → ⊥) }
+{
+    let Flow { id, block, stage } = flow;
+    let request = Request { id, block };
+    match end {
+        PhaseEnd::Row(value) => after_row(alloc, request, stage, value, now),
+        PhaseEnd::Window { rows, end } => after_window(alloc, request, stage, rows, end),
+        PhaseEnd::Kept => after_kept(alloc, request, stage),
+        PhaseEnd::Block(bytes) => after_block(alloc, request, stage, bytes),
+    }
+}
