@@ -161,12 +161,11 @@ of_computed : (roles : List Role) (wanted : Redundancy) (version : ℕ) → AreS
 of_computed roles wanted version h (few_nodes few) = (none_given (TooFewNodes (length (storage_nodes roles))), (refl, few))
 of_computed roles wanted version h (few_zones enough few) = (none_given (TooFewZones (length (zone_names roles)) (zones_wanted wanted roles)), (enough, refl, refl, few))
 of_computed roles wanted version h (none cut enough shows) = (none_given (NoAssignment cut), (enough, shows))
-of_computed roles wanted version h (layout certified enough is) =
-    (
-      given (record { version = version; roles = record { list = roles; ascending = h.ascend; numbered = h.numbered }; r = certified.r; size = certified.size; sets = certified.sets })
+of_computed roles wanted version h (layout certified enough is) = (
+  given (record { version = version; roles = record { list = roles; ascending = h.ascend; numbered = h.numbered }; r = certified.r; size = certified.size; sets = certified.sets })
       (record { certified = certified; roles = record { list = roles; ascending = h.ascend; numbered = h.numbered } }),
-      record { version_is = refl; roles_are = refl; shown_roles = refl; redundancy = refl; size = refl; sets = refl; enough = enough; certified = is },
-    )
+  record { version_is = refl; roles_are = refl; shown_roles = refl; redundancy = refl; size = refl; sets = refl; enough = enough; certified = is },
+)
 
 -- an apply may be given something
 pub apply_lawful : (w : Model AnyRow) (n : ℕ) → AreStaged w.roles w.redundancy → (choice : Decision) × IsLawfulStep w (Apply n) choice
