@@ -90,7 +90,7 @@ module _ (input : List ℕ) (old new : Option (List ℕ)) (text : List ℕ) (wro
   printed (lays_out settings u h e) = settled settings u h e
 
   prints : (asked : Option Command) → asked ≡ Some Layout → IsAnswer asked input Done text → IsPrinted input old new
-  prints asked asks (usage none e w) = cc
+  prints asked asks (usage unasked e w) = cc
   prints asked asks (long_input is long e w) = cc
   prints asked asks (bad_line n is short bad e w) = cc
   prints asked asks (laid_out is short says) = printed says

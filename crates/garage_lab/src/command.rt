@@ -1,5 +1,5 @@
 //! The command that the words after the program's name ask for.
-ghost use Rattle.std.specs.Prelude.{◌≡◌, string_bytes};
+ghost use Rattle.std.specs.Prelude.{◌≡◌};
 ghost use Rattle.garage_lab.specs.Command.{command_named, asked_by};
 
 use std::alloc::Global;

@@ -1,3 +1,4 @@
+use Rattle.std.proofs.lemmas.Bool.{ltb-true, ltb-false}
 use Rattle.std.proofs.Common.{inl, inr, arith}
 use Rattle.std.proofs.lemmas.Result.{err_from_is_err_and}
 use Rattle.schedule_text.proofs.Inverse.{get_unread, get_read, get_few}
@@ -16,6 +17,6 @@ returns c =
 pub returns-in_default : goal.returns-in_default
 returns-in_default c =
     elim c.in_default.branch [
-      | in_default-via-then-words-lt3 w ↦ get_few c.args.words.now (inl (omega (arith, w)))
-      | in_default-via-else-words-lt3+else-words-lt4 w ↦ get_few c.args.words.now (inr (omega (arith, w)))
+      | in_default-via-then-words-lt3 w ↦ get_few c.args.words.now (inl (omega (arith, ltb-true, ltb-false)))
+      | in_default-via-else-words-lt3+else-words-lt4 w ↦ get_few c.args.words.now (inr (omega (arith, ltb-true, ltb-false)))
     ]
