@@ -1,6 +1,5 @@
--- One status is stated for words and an input, but for a replay's layouts; and what follows for the calls that give it.
-use Rattle.std.specs.Cmp.Lexicographic.{told_text}
-use Rattle.std.proofs.Common.{false, codes, ◌≡◌, ℕ, Option, List, [], ◌∷◌, ◌++◌, refl, sym, ap, ◌∙◌, subst, arith, ◌⊎◌, inl, inr}
+-- One status is stated for what is asked and an input, but for a replay's layouts; and what follows for the calls that give it.
+use Rattle.std.proofs.Common.{◌≡◌, ℕ, Option, Some, None, IsSome, List, [], ◌∷◌, ◌++◌, refl, sym, ap, ◌∙◌, subst, arith, ◌⊎◌, inl, inr}
 use Rattle.lab_outside.specs.declared.exit.Status.{Status}
 use Rattle.lab_outside.specs.declared.exit.Status.TheVariants.{Done, Refused, Usage, ReadFault, WriteFault, LinkFault, Memory as MemoryStatus, Limit}
 use Rattle.lab_outside.specs.Bytes.{Wrote, WrotePrefix}
@@ -8,32 +7,34 @@ use Rattle.object_model.specs.declared.event.Numbered.{Numbered}
 use Rattle.object_model.specs.Run.{Turn, start, run}
 use Rattle.object_model.specs.Turns.{AreLawful, AllFit}
 use Rattle.object_model.specs.Fresh.{IsFresh}
-use Rattle.text_model.specs.Grammar.{IsSchedule}
-use Rattle.text_model.proofs.Unique.{schedule_has_no_bad_line}
+use Rattle.text_model.specs.Reading.{Reading, schedule, bad_line as first_bad, reading, IsSchedule}
 use Rattle.text_model.specs.Transcript.{turns_text}
+use Rattle.garage_lab.specs.declared.command.Command.{Command}
+use Rattle.garage_lab.specs.declared.command.Command.TheVariants.{Layout, Replay}
 use Rattle.garage_lab.specs.declared.stop.Stop.{Stop}
 use Rattle.garage_lab.specs.declared.stop.Stop.TheVariants.{Read, Write, Memory, LongInput, BadLine, Number}
 use Rattle.garage_lab.specs.Replay.{number_line, IsReplay, whole, number, IsTranscribed}
 use Rattle.layout_command.specs.Answer.{IsAnswer as IsLayoutAnswer}
-use Rattle.garage_lab.specs.Answer.{layout_words, replay_words, IsKnown, usage_line, input_line, bad_line_text, IsAnswer, usage, long_input, bad_line, laid_out, replayed, IsStated, Answers, AnswersPrefix, ReplayPrefix, nothing_yet, of_stated, of_events, IsOfReplay, Completes, Says, said, cut_off, unsaid}
+use Rattle.garage_lab.specs.Answer.{usage_line, input_line, bad_line_text, IsAnswer, usage, long_input, bad_line, laid_out, replayed, IsStated, Answers, AnswersPrefix, ReplayPrefix, nothing_yet, of_stated, of_events, IsOfReplay, Completes, IsAnswered, Says, said, cut_off, unsaid}
 use Rattle.garage_lab.specs.Stop.{status_of, said_of, IsNearly, Halts}
 use Rattle.garage_lab.proofs.Texts.{prefix_none, prefix_kept}
 use Rattle.lab_outside.proofs.Bytes.{wrote_more, wrote_prefix_after, wrote_prefix_whole}
 
-abbrev first_word : List (List ℕ) → List ℕ
-first_word [] = []
-first_word (word ∷ words) = word
-
--- replay is another word than layout
-pub replay_is_other : replay_words ≡ layout_words → ⊥
-replay_is_other e = told_text (codes "replay") (codes "layout") false refl (ap first_word e)
+-- no command and some command
+none_or_some : (asked : Option Command) → asked ≡ None → IsSome asked → ⊥
+none_or_some None e h = cc
+none_or_some (Some c) e h = cc
 
 -- one status is stated for a layout, whichever sets are chosen
 abbrev pub OneStatus : Type 0
 OneStatus = (input : List ℕ) (first second : Status) (text other : List ℕ) → IsLayoutAnswer input first text → IsLayoutAnswer input second other → first ≡ second
 
-pub both_asked : (words : List (List ℕ)) → words ≡ layout_words → words ≡ replay_words → ⊥
-both_asked words h k = replay_is_other (sym k ∙ h)
+pub both_asked : (asked : Option Command) → asked ≡ Some Layout → asked ≡ Some Replay → ⊥
+both_asked asked h k = let other : Some Layout ≡ Some Replay = sym h ∙ k in cc
+
+-- a text is a schedule or has a bad line, and not both
+one_reading : (r : Reading) (events : List Numbered) (n : ℕ) → r ≡ schedule events → r ≡ first_bad n → ⊥
+one_reading r events n h k = cc
 
 -- a replay ends with Done or Limit
 of_replay : (events : List Numbered) (status : Status) (text : List ℕ) → IsReplay events status text → IsOfReplay status
@@ -41,56 +42,56 @@ of_replay events status text (whole turns are played e w) = subst IsOfReplay (sy
 of_replay events status text (number before stops e w) = subst IsOfReplay (sym e) tt
 
 -- one status is stated, but for what a replay's layouts decide
-abbrev pub Agree : List (List ℕ) → Status → Status → Type 0
-Agree words s t = (s ≡ t) ⊎ ((words ≡ replay_words) × IsOfReplay s × IsOfReplay t)
+abbrev pub Agree : Option Command → Status → Status → Type 0
+Agree asked s t = (s ≡ t) ⊎ ((asked ≡ Some Replay) × IsOfReplay s × IsOfReplay t)
 
-module _ (one : OneStatus) (words : List (List ℕ)) (input : List ℕ) (s t : Status) (a b : List ℕ) where
-  pub statuses_agree : IsAnswer words input s a → IsAnswer words input t b → Agree words s t
-  statuses_agree (usage other e w) (usage also d v) = inl (e ∙ sym d)
-  statuses_agree (usage other e w) (long_input asked long d v) = absurd (other asked)
-  statuses_agree (usage other e w) (bad_line n asked short bad d v) = absurd (other (inr asked))
-  statuses_agree (usage other e w) (laid_out asked short says) = absurd (other (inl asked))
-  statuses_agree (usage other e w) (replayed events asked short spells stated) = absurd (other (inr asked))
-  statuses_agree (long_input asked long e w) (usage other d v) = absurd (other asked)
-  statuses_agree (long_input asked long e w) (long_input also more d v) = inl (e ∙ sym d)
-  statuses_agree (long_input asked long e w) (bad_line n also short bad d v) = absurd (omega arith)
-  statuses_agree (long_input asked long e w) (laid_out also short says) = absurd (omega arith)
-  statuses_agree (long_input asked long e w) (replayed events also short spells stated) = absurd (omega arith)
-  statuses_agree (bad_line n asked short bad e w) (usage other d v) = absurd (other (inr asked))
-  statuses_agree (bad_line n asked short bad e w) (long_input also long d v) = absurd (omega arith)
-  statuses_agree (bad_line n asked short bad e w) (bad_line m also more worse d v) = inl (e ∙ sym d)
-  statuses_agree (bad_line n asked short bad e w) (laid_out also more says) = absurd (both_asked words also asked)
-  statuses_agree (bad_line n asked short bad e w) (replayed events also more spells stated) = absurd (schedule_has_no_bad_line input events n spells bad)
-  statuses_agree (laid_out asked short says) (usage other d v) = absurd (other (inl asked))
-  statuses_agree (laid_out asked short says) (long_input also long d v) = absurd (omega arith)
-  statuses_agree (laid_out asked short says) (bad_line n also more bad d v) = absurd (both_asked words asked also)
-  statuses_agree (laid_out asked short says) (laid_out also more too) = inl (one input s t a b says too)
-  statuses_agree (laid_out asked short says) (replayed events also more spells stated) = absurd (both_asked words asked also)
-  statuses_agree (replayed events asked short spells stated) (usage other d v) = absurd (other (inr asked))
-  statuses_agree (replayed events asked short spells stated) (long_input also long d v) = absurd (omega arith)
-  statuses_agree (replayed events asked short spells stated) (bad_line n also more bad d v) = absurd (schedule_has_no_bad_line input events n spells bad)
-  statuses_agree (replayed events asked short spells stated) (laid_out also more says) = absurd (both_asked words also asked)
-  statuses_agree (replayed events asked short spells stated) (replayed others also more spell too) = inr (asked, of_replay events s a stated, of_replay others t b too)
+module _ (one : OneStatus) (asked : Option Command) (input : List ℕ) (s t : Status) (a b : List ℕ) where
+  pub statuses_agree : IsAnswer asked input s a → IsAnswer asked input t b → Agree asked s t
+  statuses_agree (usage none e w) (usage also d v) = inl (e ∙ sym d)
+  statuses_agree (usage none e w) (long_input is long d v) = absurd (none_or_some asked none is)
+  statuses_agree (usage none e w) (bad_line n is short bad d v) = cc
+  statuses_agree (usage none e w) (laid_out is short says) = cc
+  statuses_agree (usage none e w) (replayed events is short spells stated) = cc
+  statuses_agree (long_input is long e w) (usage none d v) = absurd (none_or_some asked none is)
+  statuses_agree (long_input is long e w) (long_input also more d v) = inl (e ∙ sym d)
+  statuses_agree (long_input is long e w) (bad_line n also short bad d v) = absurd (omega arith)
+  statuses_agree (long_input is long e w) (laid_out also short says) = absurd (omega arith)
+  statuses_agree (long_input is long e w) (replayed events also short spells stated) = absurd (omega arith)
+  statuses_agree (bad_line n is short bad e w) (usage none d v) = cc
+  statuses_agree (bad_line n is short bad e w) (long_input also long d v) = absurd (omega arith)
+  statuses_agree (bad_line n is short bad e w) (bad_line m also more worse d v) = inl (e ∙ sym d)
+  statuses_agree (bad_line n is short bad e w) (laid_out also more says) = absurd (both_asked asked also is)
+  statuses_agree (bad_line n is short bad e w) (replayed events also more spells stated) = absurd (one_reading (reading input) events n spells bad)
+  statuses_agree (laid_out is short says) (usage none d v) = cc
+  statuses_agree (laid_out is short says) (long_input also long d v) = absurd (omega arith)
+  statuses_agree (laid_out is short says) (bad_line n also more bad d v) = absurd (both_asked asked is also)
+  statuses_agree (laid_out is short says) (laid_out also more too) = inl (one input s t a b says too)
+  statuses_agree (laid_out is short says) (replayed events also more spells stated) = absurd (both_asked asked is also)
+  statuses_agree (replayed events is short spells stated) (usage none d v) = cc
+  statuses_agree (replayed events is short spells stated) (long_input also long d v) = absurd (omega arith)
+  statuses_agree (replayed events is short spells stated) (bad_line n also more bad d v) = absurd (one_reading (reading input) events n spells bad)
+  statuses_agree (replayed events is short spells stated) (laid_out also more says) = absurd (both_asked asked also is)
+  statuses_agree (replayed events is short spells stated) (replayed others also more spell too) = inr (is, of_replay events s a stated, of_replay others t b too)
 
--- only the usage is stated for words that ask for nothing known
-module _ (words : List (List ℕ)) (input : List ℕ) (result : Status) (old new : Option (List ℕ)) (faults risen : ℕ) (other : IsKnown words → ⊥) where
-  usage_text : (status : Status) (text : List ℕ) → IsAnswer words input status text → text ≡ usage_line
+-- only the usage is stated for words that ask for no command
+module _ (asked : Option Command) (input : List ℕ) (result : Status) (old new : Option (List ℕ)) (faults risen : ℕ) (none : asked ≡ None) where
+  usage_text : (status : Status) (text : List ℕ) → IsAnswer asked input status text → text ≡ usage_line
   usage_text status text (usage also e w) = w
-  usage_text status text (long_input asked long e w) = absurd (other asked)
-  usage_text status text (bad_line n asked short bad e w) = absurd (other (inr asked))
-  usage_text status text (laid_out asked short says) = absurd (other (inl asked))
-  usage_text status text (replayed events asked short spells stated) = absurd (other (inr asked))
+  usage_text status text (long_input is long e w) = absurd (none_or_some asked none is)
+  usage_text status text (bad_line n is short bad e w) = cc
+  usage_text status text (laid_out is short says) = cc
+  usage_text status text (replayed events is short spells stated) = cc
 
   said_usage : (status : Status) → Says status usage_line result old new faults risen → WrotePrefix old new usage_line
   said_usage status (said is wrote) = wrote_prefix_whole old new usage_line wrote
   said_usage status (cut_off is rose wrote) = wrote
   said_usage status (unsaid is wrote) = prefix_none old new usage_line wrote
 
-  pub unknown_prefix : (status : Status) → Says status usage_line result old new faults risen → AnswersPrefix words input old new
+  pub unknown_prefix : (status : Status) → Says status usage_line result old new faults risen → AnswersPrefix asked input old new
   unknown_prefix status says also text stated = subst (WrotePrefix old new) (sym (usage_text also text stated)) (said_usage status says)
 
 -- what was written whole is a first part of what is stated
-pub stated_prefix : (input : List ℕ) (status : Status) (old new : Option (List ℕ)) → Answers replay_words input status old new → ReplayPrefix input old new
+pub stated_prefix : (input : List ℕ) (status : Status) (old new : Option (List ℕ)) → Answers (Some Replay) input status old new → ReplayPrefix input old new
 stated_prefix input status old new h = of_stated status h.text h.stated (wrote_prefix_whole old new h.text h.wrote)
 
 -- nothing more was written
@@ -101,10 +102,10 @@ replay_kept input old mid new (of_events events turns short spells first begun) 
 
 -- the last text of a replay that gave up
 module _ (input : List ℕ) (status result : Status) (last : List ℕ) (old mid new : Option (List ℕ)) (faults risen : ℕ) (near : IsNearly input status last old mid) where
-  nearly_said : Says status last result mid new faults risen → IsStated result → Answers replay_words input result old new
+  nearly_said : Says status last result mid new faults risen → IsStated result → Answers (Some Replay) input result old new
   nearly_said (said is wrote) stated = record {
     text = near.front ++ last;
-    stated = subst (λ (s : Status). IsAnswer replay_words input s (near.front ++ last)) (sym is) near.stated;
+    stated = subst (λ (s : Status). IsAnswer (Some Replay) input s (near.front ++ last)) (sym is) near.stated;
     wrote = wrote_more old mid new near.front last near.wrote wrote;
   }
   nearly_said (cut_off is rose wrote) stated = absurd (subst IsStated is stated)
@@ -138,14 +139,14 @@ module _ (status result : Status) (mid new : Option (List ℕ)) (faults risen : 
   silent_unstated (unsaid is wrote) never stated = subst IsStated is stated
 
 module _ (input : List ℕ) (status result : Status) (old mid new : Option (List ℕ)) (faults risen : ℕ) (prefix : ReplayPrefix input old mid) (never : IsStated status → ⊥) where
-  silent_said : Says status [] result mid new faults risen → IsStated result → Answers replay_words input result old new
+  silent_said : Says status [] result mid new faults risen → IsStated result → Answers (Some Replay) input result old new
   silent_said says stated = absurd (silent_unstated status result mid new faults risen says never stated)
 
   silent_prefix : Says status [] result mid new faults risen → ReplayPrefix input old new
   silent_prefix says = replay_kept input old mid new prefix (silent_wrote status result mid new faults risen says)
 
 module _ (input : List ℕ) (result : Status) (old mid new : Option (List ℕ)) (faults risen : ℕ) where
-  pub stopped_answers : (stop : Stop) → Halts input stop old mid → Says (status_of stop) (said_of stop) result mid new faults risen → IsStated result → Answers replay_words input result old new
+  pub stopped_answers : (stop : Stop) → Halts input stop old mid → Says (status_of stop) (said_of stop) result mid new faults risen → IsStated result → Answers (Some Replay) input result old new
   stopped_answers Read h says = silent_said input ReadFault result old mid new faults risen h (λ x. x) says
   stopped_answers Write h says = silent_said input WriteFault result old mid new faults risen h (λ x. x) says
   stopped_answers Memory h says = silent_said input MemoryStatus result old mid new faults risen h (λ x. x) says
@@ -166,31 +167,35 @@ abbrev pub AlwaysFresh : Type 0
 AlwaysFresh = (turns : List Turn) → AreLawful start turns → AllFit start turns → IsFresh (run start turns)
 
 -- what Done of a replay says
-transcribed : (words : List (List ℕ)) (input : List ℕ) (old new : Option (List ℕ)) → words ≡ replay_words → AlwaysFresh → (text : List ℕ) → Wrote old new text → IsAnswer words input Done text → IsTranscribed input old new
-transcribed words input old new asks fresh text wrote (usage other e w) = cc
-transcribed words input old new asks fresh text wrote (long_input asked long e w) = cc
-transcribed words input old new asks fresh text wrote (bad_line n asked short bad e w) = cc
-transcribed words input old new asks fresh text wrote (laid_out asked short says) = absurd (both_asked words asked asks)
-transcribed words input old new asks fresh text wrote (replayed events asked short spells (whole turns are played e w)) =
+transcribed : (asked : Option Command) (input : List ℕ) (old new : Option (List ℕ)) → asked ≡ Some Replay → AlwaysFresh → (text : List ℕ) → Wrote old new text → IsAnswer asked input Done text → IsTranscribed input old new
+transcribed asked input old new asks fresh text wrote (usage none e w) = cc
+transcribed asked input old new asks fresh text wrote (long_input is long e w) = cc
+transcribed asked input old new asks fresh text wrote (bad_line n is short bad e w) = cc
+transcribed asked input old new asks fresh text wrote (laid_out is short says) = absurd (both_asked asked is asks)
+transcribed asked input old new asks fresh text wrote (replayed events is short spells (whole turns are played e w)) =
     record { turns = turns; schedule = subst (IsSchedule input) (sym are) spells; played = played; wrote = subst (Wrote old new) w wrote; fresh = fresh turns played.lawful played.fits }
-transcribed words input old new asks fresh text wrote (replayed events asked short spells (number before stops e w)) = cc
+transcribed asked input old new asks fresh text wrote (replayed events is short spells (number before stops e w)) = cc
 
-pub done_transcribes : (words : List (List ℕ)) (input : List ℕ) (old new : Option (List ℕ)) → words ≡ replay_words → AlwaysFresh → Answers words input Done old new → IsTranscribed input old new
-done_transcribes words input old new asks fresh h = transcribed words input old new asks fresh h.text h.wrote h.stated
+pub done_transcribes : (asked : Option Command) (input : List ℕ) (old new : Option (List ℕ)) → asked ≡ Some Replay → AlwaysFresh → Answers asked input Done old new → IsTranscribed input old new
+done_transcribes asked input old new asks fresh h = transcribed asked input old new asks fresh h.text h.wrote h.stated
 
-agree_completes : (words : List (List ℕ)) (result status : Status) → Agree words result status → Completes words status result
-agree_completes words result status (inl same) = inl same
-agree_completes words result status (inr h) = inr (inr (h.0, h.2, h.1))
+agree_completes : (asked : Option Command) (result status : Status) → Agree asked result status → Completes asked status result
+agree_completes asked result status (inl same) = inl same
+agree_completes asked result status (inr h) = inr (inr (h.0, h.2, h.1))
 
--- the stated answer comes where no fault does, or one that other layouts bring
-pub completes : OneStatus → (words : List (List ℕ)) (input : List ℕ) (result : Status) (old new : Option (List ℕ)) (Reads Writes : Type 0) → (IsStated result → Answers words input result old new) →
-    (result ≡ ReadFault → Reads) → (result ≡ WriteFault → Writes) → (result ≡ LinkFault → ⊥) →
-    (status : Status) (text : List ℕ) → IsAnswer words input status text → (Reads → ⊥) → (Writes → ⊥) → Completes words status result
-completes one words input Done old new R W answers reads writes links status text stated r w = let h = answers tt in agree_completes words Done status (statuses_agree one words input Done status h.text text h.stated stated)
-completes one words input Refused old new R W answers reads writes links status text stated r w = let h = answers tt in agree_completes words Refused status (statuses_agree one words input Refused status h.text text h.stated stated)
-completes one words input Usage old new R W answers reads writes links status text stated r w = let h = answers tt in agree_completes words Usage status (statuses_agree one words input Usage status h.text text h.stated stated)
-completes one words input Limit old new R W answers reads writes links status text stated r w = let h = answers tt in agree_completes words Limit status (statuses_agree one words input Limit status h.text text h.stated stated)
-completes one words input ReadFault old new R W answers reads writes links status text stated r w = absurd (r (reads refl))
-completes one words input WriteFault old new R W answers reads writes links status text stated r w = absurd (w (writes refl))
-completes one words input LinkFault old new R W answers reads writes links status text stated r w = absurd (links refl)
-completes one words input MemoryStatus old new R W answers reads writes links status text stated r w = inr (inl refl)
+module _ (asked : Option Command) (input : List ℕ) (old new : Option (List ℕ)) (Reads Writes : Type 0) (no_read : Reads → ⊥) (no_write : Writes → ⊥) where
+  -- where no fault comes, what is stated was written whole, or memory was wanting
+  pub is_answered : (result : Status) → (IsStated result → Answers asked input result old new) → (result ≡ ReadFault → Reads) → (result ≡ WriteFault → Writes) → (result ≡ LinkFault → ⊥) → IsAnswered asked input result old new
+  is_answered Done answers reads writes links = inl (answers tt)
+  is_answered Refused answers reads writes links = inl (answers tt)
+  is_answered Usage answers reads writes links = inl (answers tt)
+  is_answered Limit answers reads writes links = inl (answers tt)
+  is_answered ReadFault answers reads writes links = absurd (no_read (reads refl))
+  is_answered WriteFault answers reads writes links = absurd (no_write (writes refl))
+  is_answered LinkFault answers reads writes links = absurd (links refl)
+  is_answered MemoryStatus answers reads writes links = inr refl
+
+-- the stated answer comes then, or one that other layouts bring
+pub completes : OneStatus → (asked : Option Command) (input : List ℕ) (result : Status) (old new : Option (List ℕ)) → IsAnswered asked input result old new → (status : Status) (text : List ℕ) → IsAnswer asked input status text → Completes asked status result
+completes one asked input result old new (inl h) status text stated = agree_completes asked result status (statuses_agree one asked input result status h.text text h.stated stated)
+completes one asked input result old new (inr want) status text stated = inr (inl want)

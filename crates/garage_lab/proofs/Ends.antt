@@ -1,19 +1,21 @@
 -- How the calls of a replay end, where the source tells its bytes.
-use Rattle.std.proofs.Common.{◌≡◌, ℕ, ◌<◌, ◌≤◌, Option, Some, None, Result, Ok, Err, IfErr, List, [], length, refl, sym, ap, ◌∙◌, subst, inr, IfSome}
+use Rattle.std.proofs.Common.{◌≡◌, ℕ, ◌<◌, ◌≤◌, Option, Some, None, Result, Ok, Err, IfErr, List, [], length, refl, sym, ap, ◌∙◌, subst, IfSome}
 use Rattle.std.specs.Result.{IsErrAnd, OnErr, OnOk}
 use Rattle.lab_outside.specs.declared.exit.Status.{Status}
 use Rattle.lab_outside.specs.declared.exit.Status.TheVariants.{Done, ReadFault, WriteFault, LinkFault}
 use Rattle.lab_outside.specs.Rose.{Rose}
 use Rattle.object_model.specs.declared.event.Numbered.{Numbered}
 use Rattle.object_model.specs.Run.{start}
-use Rattle.text_model.specs.Grammar.{IsSchedule, IsFirstBadLine}
+use Rattle.text_model.specs.Reading.{IsSchedule, IsFirstBadLine}
 use Rattle.text_model.specs.Transcript.{transcript, turns_text}
+use Rattle.garage_lab.specs.declared.command.Command.{Command}
+use Rattle.garage_lab.specs.declared.command.Command.TheVariants.{Replay}
 use Rattle.garage_lab.specs.declared.stop.Stop.{Stop}
 use Rattle.garage_lab.specs.declared.stop.Stop.TheVariants.{Read, Write, Memory, LongInput, BadLine, Number}
 use Rattle.garage_lab.specs.Replay.{whole, number, IsTranscribed}
-use Rattle.garage_lab.specs.Answer.{replay_words, IsKnown, input_limit, usage_line, IsAnswer, long_input, bad_line, replayed, IsStated, Answers, AnswersPrefix, ReplayPrefix, nothing_yet, of_stated, of_events, Completes, Says, said, cut_off, unsaid}
+use Rattle.garage_lab.specs.Answer.{input_limit, usage_line, IsAnswer, long_input, bad_line, replayed, IsStated, Answers, AnswersPrefix, ReplayPrefix, nothing_yet, of_stated, of_events, Completes, IsAnswered, Says, said, cut_off, unsaid}
 use Rattle.garage_lab.specs.Stop.{status_of, said_of, Halts, IsCutShort, IsPart, of_turns, of_all, IsWhole, IsOfInput, IsOfOutput}
-use Rattle.garage_lab.proofs.Answering.{OneStatus, AlwaysFresh, stated_prefix, unknown_prefix, stopped_answers, stopped_prefix, done_transcribes, completes}
+use Rattle.garage_lab.proofs.Answering.{OneStatus, AlwaysFresh, stated_prefix, unknown_prefix, stopped_answers, stopped_prefix, done_transcribes, is_answered, completes}
 use Rattle.lab_outside.proofs.Bytes.{wrote_none}
 use Rattle.lab_outside.proofs.Rose.{rose_before, rose_after}
 
@@ -23,7 +25,7 @@ read_halted bytes old Read of_input bad long = nothing_yet (wrote_none old)
 read_halted bytes old Memory of_input bad long = nothing_yet (wrote_none old)
 read_halted bytes old Write of_input bad long = absurd of_input
 read_halted bytes old Number of_input bad long = absurd of_input
-read_halted bytes old LongInput of_input bad long = record { front = []; wrote = wrote_none old; stated = long_input (inr refl) (long refl) refl refl }
+read_halted bytes old LongInput of_input bad long = record { front = []; wrote = wrote_none old; stated = long_input refl (long refl) refl refl }
 read_halted bytes old (BadLine n) of_input bad long = let h = bad n refl in record { front = []; wrote = wrote_none old; stated = bad_line n refl h.0 h.1 refl refl }
 
 reading_halted : (left : Option (List ℕ)) (old : Option (List ℕ)) (stop : Stop) → IsOfInput stop → ((n : ℕ) → stop ≡ BadLine n → IfSome left (λ bytes. (length bytes ≤ input_limit) × IsFirstBadLine bytes n)) →
@@ -53,7 +55,7 @@ module _ (bytes : List ℕ) (events : List Numbered) (short : length bytes ≤ i
   write_halted Number of_output cut part =
       let h = cut refl in record { front = turns_text start h.before; wrote = h.wrote; stated = replayed events refl short spells (number h.before h.stops refl refl) }
 
-  write_answers : IsWhole events old new → Answers replay_words bytes Done old new
+  write_answers : IsWhole events old new → Answers (Some Replay) bytes Done old new
   write_answers h = record { text = transcript h.turns; stated = replayed events refl short spells (whole h.turns h.events_are h.played refl refl); wrote = h.wrote }
 
 pub write_halts : {A : Type 0} (left : Option (List ℕ)) (old new : Option (List ℕ)) (events listed : List Numbered) (r : Result A Stop) → listed ≡ events → IfSome left (λ bytes. (length bytes ≤ input_limit) × IsSchedule bytes events) →
@@ -65,22 +67,22 @@ write_halts (Some bytes) old new events listed (Err stop) same spells of_output 
     write_halted bytes listed spells.0 (subst (IsSchedule bytes) (sym same) spells.1) old new stop of_output (λ e. cut (ap Err e)) part
 
 pub write_done : {A : Type 0} (left : Option (List ℕ)) (old new : Option (List ℕ)) (events listed : List Numbered) (r : Result A Stop) → listed ≡ events → IfSome left (λ bytes. (length bytes ≤ input_limit) × IsSchedule bytes events) →
-    OnOk r (IsWhole listed old new) → OnOk r (IfSome left (λ bytes. Answers replay_words bytes Done old new))
+    OnOk r (IsWhole listed old new) → OnOk r (IfSome left (λ bytes. Answers (Some Replay) bytes Done old new))
 write_done left old new events listed (Err stop) same spells all = tt
 write_done None old new events listed (Ok x) same spells all = tt
 write_done (Some bytes) old new events listed (Ok x) same spells all = write_answers bytes listed spells.0 (subst (IsSchedule bytes) (sym same) spells.1) old new all
 
-pub done_prefix : (left : Option (List ℕ)) (status : Status) (old new : Option (List ℕ)) → IfSome left (λ bytes. Answers replay_words bytes status old new) → IfSome left (λ bytes. ReplayPrefix bytes old new)
+pub done_prefix : (left : Option (List ℕ)) (status : Status) (old new : Option (List ℕ)) → IfSome left (λ bytes. Answers (Some Replay) bytes status old new) → IfSome left (λ bytes. ReplayPrefix bytes old new)
 done_prefix None status old new h = tt
 done_prefix (Some bytes) status old new h = stated_prefix bytes status old new h
 
-pub some_unknown : (left : Option (List ℕ)) (words : List (List ℕ)) (status result : Status) (old new : Option (List ℕ)) (faults risen : ℕ) → Says status usage_line result old new faults risen → (IsKnown words → ⊥) →
-    IfSome left (λ bytes. AnswersPrefix words bytes old new)
-some_unknown None words status result old new faults risen says other = tt
-some_unknown (Some bytes) words status result old new faults risen says other = unknown_prefix words bytes result old new faults risen other status says
+pub some_unknown : (left : Option (List ℕ)) (asked : Option Command) (status result : Status) (old new : Option (List ℕ)) (faults risen : ℕ) → Says status usage_line result old new faults risen → asked ≡ None →
+    IfSome left (λ bytes. AnswersPrefix asked bytes old new)
+some_unknown None asked status result old new faults risen says none = tt
+some_unknown (Some bytes) asked status result old new faults risen says none = unknown_prefix asked bytes result old new faults risen none status says
 
 module _ (stop : Stop) (result : Status) (old mid new : Option (List ℕ)) (faults risen : ℕ) (says : Says (status_of stop) (said_of stop) result mid new faults risen) where
-  pub halted_answers : (left : Option (List ℕ)) → IfSome left (λ bytes. Halts bytes stop old mid) → IsStated result → IfSome left (λ bytes. Answers replay_words bytes result old new)
+  pub halted_answers : (left : Option (List ℕ)) → IfSome left (λ bytes. Halts bytes stop old mid) → IsStated result → IfSome left (λ bytes. Answers (Some Replay) bytes result old new)
   halted_answers None h stated = tt
   halted_answers (Some bytes) h stated = stopped_answers bytes result old mid new faults risen stop h says stated
 
@@ -102,15 +104,21 @@ halted_fault stop result mid new before faults risen (said is wrote) rose low hi
 halted_fault stop result mid new before faults risen (cut_off is later wrote) rose low high e = rose_after before faults risen low later
 halted_fault stop result mid new before faults risen (unsaid is wrote) rose low high e = cc
 
-pub some_transcribes : (left : Option (List ℕ)) (words : List (List ℕ)) (result : Status) (old new : Option (List ℕ)) → AlwaysFresh →
-    (IsStated result → IfSome left (λ bytes. Answers words bytes result old new)) → words ≡ replay_words → result ≡ Done → IfSome left (λ bytes. IsTranscribed bytes old new)
-some_transcribes None words result old new fresh answers asks e = tt
-some_transcribes (Some bytes) words result old new fresh answers asks e =
-    let P : Status → Type 0 = λ s. IsStated s → Answers words bytes s old new in
-    done_transcribes words bytes old new asks fresh (subst P e answers tt)
+pub some_transcribes : (left : Option (List ℕ)) (asked : Option Command) (result : Status) (old new : Option (List ℕ)) → AlwaysFresh →
+    (IsStated result → IfSome left (λ bytes. Answers asked bytes result old new)) → asked ≡ Some Replay → result ≡ Done → IfSome left (λ bytes. IsTranscribed bytes old new)
+some_transcribes None asked result old new fresh answers asks e = tt
+some_transcribes (Some bytes) asked result old new fresh answers asks e =
+    let P : Status → Type 0 = λ s. IsStated s → Answers asked bytes s old new in
+    done_transcribes asked bytes old new asks fresh (subst P e answers tt)
 
-pub some_completes : OneStatus → (left : Option (List ℕ)) (words : List (List ℕ)) (result : Status) (old new : Option (List ℕ)) (Reads Writes : Type 0) → (IsStated result → IfSome left (λ bytes. Answers words bytes result old new)) →
-    (result ≡ ReadFault → Reads) → (result ≡ WriteFault → Writes) → (result ≡ LinkFault → ⊥) →
-    IfSome left (λ bytes. (status : Status) (text : List ℕ) → IsAnswer words bytes status text → (Reads → ⊥) → (Writes → ⊥) → Completes words status result)
-some_completes one None words result old new R W answers reads writes links = tt
-some_completes one (Some bytes) words result old new R W answers reads writes links = completes one words bytes result old new R W answers reads writes links
+module _ (asked : Option Command) (result : Status) (old new : Option (List ℕ)) (Reads Writes : Type 0) (reads : result ≡ ReadFault → Reads) (writes : result ≡ WriteFault → Writes) (links : result ≡ LinkFault → ⊥) where
+  pub some_answered : (left : Option (List ℕ)) → (IsStated result → IfSome left (λ bytes. Answers asked bytes result old new)) →
+      IfSome left (λ bytes. (Reads → ⊥) → (Writes → ⊥) → IsAnswered asked bytes result old new)
+  some_answered None answers = tt
+  some_answered (Some bytes) answers = λ r w. is_answered asked bytes old new Reads Writes r w result answers reads writes links
+
+  pub some_completes : OneStatus → (left : Option (List ℕ)) → (IsStated result → IfSome left (λ bytes. Answers asked bytes result old new)) →
+      IfSome left (λ bytes. (status : Status) (text : List ℕ) → IsAnswer asked bytes status text → (Reads → ⊥) → (Writes → ⊥) → Completes asked status result)
+  some_completes one None answers = tt
+  some_completes one (Some bytes) answers = λ status text stated r w.
+      completes one asked bytes result old new (is_answered asked bytes old new Reads Writes r w result answers reads writes links) status text stated

@@ -1,5 +1,5 @@
 -- How a layout ends, where the source tells its bytes.
-use Rattle.std.proofs.Common.{◌≡◌, ℕ, ◌<◌, ◌≤◌, Option, Some, None, List, length, refl, sym, ◌∙◌, subst, inl, IfSome, Ok}
+use Rattle.std.proofs.Common.{◌≡◌, ℕ, ◌<◌, ◌≤◌, Option, Some, None, List, length, refl, sym, ◌∙◌, subst, IfSome, Ok}
 use Rattle.std.specs.Prelude.{IsUtf8}
 use Rattle.lab_outside.specs.declared.exit.Status.{Status}
 use Rattle.lab_outside.specs.declared.exit.Status.TheVariants.{Done, ReadFault, WriteFault, Memory as MemoryStatus, Limit}
@@ -7,18 +7,20 @@ use Rattle.lab_outside.specs.Rose.{Rose}
 use Rattle.lab_outside.specs.Bytes.{Wrote}
 use Rattle.layout_text.specs.Settings.{Settings, said as said_in}
 use Rattle.layout_command.specs.Answer.{greatest_node, IsLaidOut, few_nodes, few_zones, none, layout, IsAnswer as IsLayoutAnswer, not_text, not_toml, bad_field, laid_out as lays_out}
+use Rattle.garage_lab.specs.declared.command.Command.{Command}
+use Rattle.garage_lab.specs.declared.command.Command.TheVariants.{Layout}
 use Rattle.garage_lab.specs.declared.stop.Stop.{Stop}
 use Rattle.garage_lab.specs.declared.stop.Stop.TheVariants.{Read, Write, Memory, LongInput, BadLine, Number}
 use Rattle.garage_lab.specs.Layout.{IsPrinted}
-use Rattle.garage_lab.specs.Answer.{layout_words, input_limit, input_line, IsAnswer, usage, long_input, bad_line, laid_out, replayed, IsStated, IsOfLayout, Answers, LayoutPrefix, nothing, begun, Says, said, cut_off, unsaid}
+use Rattle.garage_lab.specs.Answer.{input_limit, input_line, IsAnswer, usage, long_input, bad_line, laid_out, replayed, IsStated, IsOfLayout, Answers, LayoutPrefix, nothing, begun, Says, said, cut_off, unsaid}
 use Rattle.garage_lab.specs.Stop.{status_of, said_of, IsOfReading}
 use Rattle.garage_lab.proofs.Answering.{both_asked, silent_wrote, silent_unstated}
 use Rattle.lab_outside.proofs.Bytes.{wrote_prefix_whole}
 
 -- a text that is stated for a layout of the input was said
-module _ (input : List ℕ) (status result : Status) (text : List ℕ) (old new : Option (List ℕ)) (faults risen : ℕ) (stated : IsAnswer layout_words input status text) where
-  said_answers : Says status text result old new faults risen → IsStated result → Answers layout_words input result old new
-  said_answers (said is wrote) h = record { text = text; stated = subst (λ (s : Status). IsAnswer layout_words input s text) (sym is) stated; wrote = wrote }
+module _ (input : List ℕ) (status result : Status) (text : List ℕ) (old new : Option (List ℕ)) (faults risen : ℕ) (stated : IsAnswer (Some Layout) input status text) where
+  said_answers : Says status text result old new faults risen → IsStated result → Answers (Some Layout) input result old new
+  said_answers (said is wrote) h = record { text = text; stated = subst (λ (s : Status). IsAnswer (Some Layout) input s text) (sym is) stated; wrote = wrote }
   said_answers (cut_off is rose wrote) h = absurd (subst IsStated is h)
   said_answers (unsaid is wrote) h = absurd (subst IsStated is h)
 
@@ -29,7 +31,7 @@ module _ (input : List ℕ) (status result : Status) (text : List ℕ) (old new 
 
 -- what is answered to an input that was read
 module _ (status result : Status) (text : List ℕ) (old new : Option (List ℕ)) (faults risen : ℕ) (says : Says status text result old new faults risen) where
-  pub reply_answers : (left : Option (List ℕ)) → IfSome left (λ bytes. (length bytes ≤ input_limit) × IsLayoutAnswer bytes status text) → IsStated result → IfSome left (λ bytes. Answers layout_words bytes result old new)
+  pub reply_answers : (left : Option (List ℕ)) → IfSome left (λ bytes. (length bytes ≤ input_limit) × IsLayoutAnswer bytes status text) → IsStated result → IfSome left (λ bytes. Answers (Some Layout) bytes result old new)
   reply_answers None h stated = tt
   reply_answers (Some bytes) h stated = said_answers bytes status result text old new faults risen (laid_out refl h.0 h.1) says stated
 
@@ -46,10 +48,10 @@ module _ (status result : Status) (text : List ℕ) (old new : Option (List ℕ)
 
 -- what is answered where reading the input gave up
 module _ (result : Status) (old new : Option (List ℕ)) (faults risen : ℕ) where
-  halted_stated : (bytes : List ℕ) (stop : Stop) → IsOfReading stop → (stop ≡ LongInput → input_limit < length bytes) → Says (status_of stop) (said_of stop) result old new faults risen → IsStated result → Answers layout_words bytes result old new
+  halted_stated : (bytes : List ℕ) (stop : Stop) → IsOfReading stop → (stop ≡ LongInput → input_limit < length bytes) → Says (status_of stop) (said_of stop) result old new faults risen → IsStated result → Answers (Some Layout) bytes result old new
   halted_stated bytes Read of_reading long says stated = absurd (silent_unstated ReadFault result old new faults risen says (λ h. h) stated)
   halted_stated bytes Memory of_reading long says stated = absurd (silent_unstated MemoryStatus result old new faults risen says (λ h. h) stated)
-  halted_stated bytes LongInput of_reading long says stated = said_answers bytes Limit result input_line old new faults risen (long_input (inl refl) (long refl) refl refl) says stated
+  halted_stated bytes LongInput of_reading long says stated = said_answers bytes Limit result input_line old new faults risen (long_input refl (long refl) refl refl) says stated
   halted_stated bytes Write of_reading long says stated = absurd of_reading
   halted_stated bytes (BadLine n) of_reading long says stated = absurd of_reading
   halted_stated bytes Number of_reading long says stated = absurd of_reading
@@ -57,13 +59,13 @@ module _ (result : Status) (old new : Option (List ℕ)) (faults risen : ℕ) wh
   halted_begun : (bytes : List ℕ) (stop : Stop) → IsOfReading stop → (stop ≡ LongInput → input_limit < length bytes) → Says (status_of stop) (said_of stop) result old new faults risen → LayoutPrefix bytes old new
   halted_begun bytes Read of_reading long says = nothing (silent_wrote ReadFault result old new faults risen says)
   halted_begun bytes Memory of_reading long says = nothing (silent_wrote MemoryStatus result old new faults risen says)
-  halted_begun bytes LongInput of_reading long says = said_prefix bytes Limit result input_line old new faults risen (long_input (inl refl) (long refl) refl refl) says
+  halted_begun bytes LongInput of_reading long says = said_prefix bytes Limit result input_line old new faults risen (long_input refl (long refl) refl refl) says
   halted_begun bytes Write of_reading long says = absurd of_reading
   halted_begun bytes (BadLine n) of_reading long says = absurd of_reading
   halted_begun bytes Number of_reading long says = absurd of_reading
 
   pub halted_lays : (left : Option (List ℕ)) (stop : Stop) → IsOfReading stop → (stop ≡ LongInput → IfSome left (λ bytes. input_limit < length bytes)) → Says (status_of stop) (said_of stop) result old new faults risen → IsStated result →
-      IfSome left (λ bytes. Answers layout_words bytes result old new)
+      IfSome left (λ bytes. Answers (Some Layout) bytes result old new)
   halted_lays None stop of_reading long says stated = tt
   halted_lays (Some bytes) stop of_reading long says stated = halted_stated bytes stop of_reading long says stated
 
@@ -87,17 +89,17 @@ module _ (input : List ℕ) (old new : Option (List ℕ)) (text : List ℕ) (wro
   printed (bad_field name u h e w) = cc
   printed (lays_out settings u h e) = settled settings u h e
 
-  prints : (words : List (List ℕ)) → words ≡ layout_words → IsAnswer words input Done text → IsPrinted input old new
-  prints words asks (usage other e w) = cc
-  prints words asks (long_input asked long e w) = cc
-  prints words asks (bad_line n asked short bad e w) = cc
-  prints words asks (laid_out asked short says) = printed says
-  prints words asks (replayed events asked short spells stated) = absurd (both_asked words asks asked)
+  prints : (asked : Option Command) → asked ≡ Some Layout → IsAnswer asked input Done text → IsPrinted input old new
+  prints asked asks (usage unasked e w) = cc
+  prints asked asks (long_input is long e w) = cc
+  prints asked asks (bad_line n is short bad e w) = cc
+  prints asked asks (laid_out is short says) = printed says
+  prints asked asks (replayed events is short spells stated) = absurd (both_asked asked asks is)
 
-pub some_prints : (left : Option (List ℕ)) (words : List (List ℕ)) (result : Status) (old new : Option (List ℕ)) → (IsStated result → IfSome left (λ bytes. Answers words bytes result old new)) → words ≡ layout_words → result ≡ Done →
+pub some_prints : (left : Option (List ℕ)) (asked : Option Command) (result : Status) (old new : Option (List ℕ)) → (IsStated result → IfSome left (λ bytes. Answers asked bytes result old new)) → asked ≡ Some Layout → result ≡ Done →
     IfSome left (λ bytes. IsPrinted bytes old new)
-some_prints None words result old new answers asks e = tt
-some_prints (Some bytes) words result old new answers asks e =
-    let P : Status → Type 0 = λ s. IsStated s → Answers words bytes s old new in
+some_prints None asked result old new answers asks e = tt
+some_prints (Some bytes) asked result old new answers asks e =
+    let P : Status → Type 0 = λ s. IsStated s → Answers asked bytes s old new in
     let h = subst P e answers tt in
-    prints bytes old new h.text h.wrote words asks h.stated
+    prints bytes old new h.text h.wrote asked asks h.stated

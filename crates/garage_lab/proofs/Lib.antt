@@ -5,3 +5,6 @@ pub mod Running
 pub mod Answering
 pub mod Ends
 pub mod Lays
+pub mod Staged
+pub mod Lawful
+pub mod Stating

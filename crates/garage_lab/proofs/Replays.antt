@@ -1,5 +1,5 @@
 -- The turns of a replay one by one, and that the events of a schedule are meant.
-use Rattle.std.proofs.Common.{◌≡◌, ℕ, zero, suc, List, [], ◌∷◌, ◌++◌, refl, sym, ap, ◌∙◌, append_assoc, append-nil, arith}
+use Rattle.std.proofs.Common.{◌≡◌, ℕ, List, [], ◌∷◌, ◌++◌, refl, sym, ap, ◌∙◌, append_assoc, append-nil, arith}
 use Rattle.std.specs.List.{All}
 use Rattle.layout_roles.specs.declared.redundancy.Redundancy.TheVariants.{AtLeast, Maximum}
 use Rattle.object_model.specs.declared.event.Event.{Event}
@@ -7,7 +7,9 @@ use Rattle.object_model.specs.declared.event.Event.TheVariants.{Trio, Bucket, Ro
 use Rattle.object_model.specs.declared.event.Numbered.{Numbered}
 use Rattle.object_model.specs.Run.{State, Turn, outcome_of, after, start, run}
 use Rattle.object_model.specs.Turns.{IsLawful, AreLawful, Fits, AllFit, events_of}
-use Rattle.text_model.specs.Grammar.{IsAllowed, SpellsAll, no_line, blank_line, event_line}
+use Rattle.text_model.specs.Grammar.{IsAllowed}
+use Rattle.text_model.specs.Reading.{IsSchedule}
+use Rattle.text_model.proofs.Schedules.{schedule_allowed}
 use Rattle.text_model.specs.Transcript.{event_text, turns_text}
 use Rattle.lab_driver.specs.Stands.{IsMeantEvent}
 use Rattle.garage_lab.specs.Replay.{ArePlayed}
@@ -57,8 +59,5 @@ allowed_is_meant (SyncAck n) h = tt
 allowed_is_meant (Clean n) h = tt
 
 -- the events of a schedule are meant
-pub spelled_are_meant : (n : ℕ) (lines : List (List ℕ)) (events : List Numbered) → SpellsAll n lines events → All (λ (e : Numbered). IsMeantEvent e.event) events
-spelled_are_meant _ _ _ (no_line n) k d lt = absurd (omega arith)
-spelled_are_meant _ _ _ (blank_line n line lines events blank h) k d lt = spelled_are_meant (suc n) lines events h k d lt
-spelled_are_meant _ _ _ (event_line n line event lines events spells h) zero d lt = allowed_is_meant event spells.allowed
-spelled_are_meant _ _ _ (event_line n line event lines events spells h) (suc k) d lt = spelled_are_meant (suc n) lines events h k d (omega arith)
+pub schedule_is_meant : (input : List ℕ) (events : List Numbered) → IsSchedule input events → All (λ (e : Numbered). IsMeantEvent e.event) events
+schedule_is_meant input events h k d lt = allowed_is_meant _ (schedule_allowed input events h k d lt)

@@ -12,11 +12,11 @@ use Rattle.object_model.specs.declared.event.Told.{Told}
 use Rattle.object_model.specs.Run.{State, Turn, outcome_of, start, run}
 use Rattle.object_model.specs.Turns.{events_of}
 use Rattle.text_model.specs.Grammar.{name_of}
-use Rattle.text_model.specs.Transcript.{told_text, turns_text, end_text, end_line}
+use Rattle.text_model.specs.Transcript.{told_text, turns_text, tail_text}
 use Rattle.lab_driver.specs.declared.lab.Lab.{Lab}
 use Rattle.lab_driver.specs.Stands.{IsLab, HasLab, PlaysEvent, OverflowsEvent}
 use Rattle.garage_lab.specs.Replay.{ArePlayed, AreFirst}
-use Rattle.garage_lab.specs.Turning.{turn, TurnsTo, TurnsOne, CannotTurn}
+use Rattle.garage_lab.specs.Turning.{turn, TurnsTo, TurnsOne, CannotTurn, TellsTail}
 use Rattle.garage_lab.specs.Stop.{IsCutShort, IsPart, of_turns, of_all, IsWhole}
 use Rattle.garage_lab.proofs.Replays.{run_push, text_push, events_push, played_push}
 use Rattle.lab_outside.proofs.Bytes.{wrote_none, wrote_more, wrote_prefix_after, wrote_prefix_whole}
@@ -147,20 +147,17 @@ module _ (lab : Lab) (old mid now : Option (List ℕ)) (events : List Numbered) 
   count_turns : length events ≡ length r.turns
   count_turns = ap length (sym all_are) ∙ length-map r.turns (λ (t : Turn). t.numbered)
 
-  module _ (requests messages count : ℕ) (text : List ℕ) (count_is : count ≡ length events) (asked : (s : State) → IsLab lab s → requests ≡ length s.world.requests) (sent : (s : State) → IsLab lab s → messages ≡ length s.world.messages)
-      (is : text ≡ end_line count requests messages) where
-    end_is : text ≡ end_text r.turns (run start r.turns)
-    end_is =
-        let s = run start r.turns in
-        is ∙ ap (λ n. end_line n requests messages) (count_is ∙ count_turns) ∙ ap (λ n. end_line (length r.turns) n messages) (asked s r.stands) ∙ ap (λ n. end_line (length r.turns) (length s.world.requests) n) (sent s r.stands)
+  module _ (text : List ℕ) (tells : TellsTail lab (length events) text) where
+    tail_is : text ≡ tail_text (length r.turns) (run start r.turns)
+    tail_is = tells (run start r.turns) r.stands ∙ ap (λ n. tail_text n (run start r.turns)) count_turns
 
     pub all_whole : Wrote mid now text → IsWhole events old now
     all_whole wrote = record {
       turns = r.turns;
       events_are = all_are;
       played = r.played;
-      wrote = wrote_more old mid now (turns_text start r.turns) (end_text r.turns (run start r.turns)) r.wrote (subst (Wrote mid now) end_is wrote);
+      wrote = wrote_more old mid now (turns_text start r.turns) (tail_text (length r.turns) (run start r.turns)) r.wrote (subst (Wrote mid now) tail_is wrote);
     }
 
     pub all_cut : WrotePrefix mid now text → IsPart events old now
-    all_cut wrote = of_all r.turns all_are r.played (wrote_prefix_after old mid now (turns_text start r.turns) (end_text r.turns (run start r.turns)) r.wrote (subst (WrotePrefix mid now) end_is wrote))
+    all_cut wrote = of_all r.turns all_are r.played (wrote_prefix_after old mid now (turns_text start r.turns) (tail_text (length r.turns) (run start r.turns)) r.wrote (subst (WrotePrefix mid now) tail_is wrote))

@@ -1,9 +1,9 @@
 -- What was written before and after.
-use Rattle.std.specs.Cmp.Lexicographic.{pointwise, told_text}
 use Rattle.std.specs.String.{string_bytes}
-use Rattle.std.proofs.Common.{◌≢◌, Bool, true, false, IsTrue, nat_eq, get_or, map, String, Global, ◌≡◌, ℕ, ◌+◌, ◌<◌, ◌≤◌, Option, Some, None, List, [], ◌∷◌, ◌++◌, refl, sym, ap, ◌∙◌, subst, append_assoc, arith, length, take, IfSome}
+use Rattle.std.proofs.Common.{◌⊎◌, inl, inr, get_or, String, Global, ◌≡◌, ℕ, ◌+◌, ◌<◌, ◌≤◌, Option, Some, None, List, [], ◌∷◌, ◌++◌, refl, sym, ap, ◌∙◌, subst, append_assoc, arith, length, take, IfSome}
 use Rattle.std.proofs.lemmas.List.{length-take}
 use Rattle.lab_outside.specs.Bytes.{Wrote, WrotePrefix}
+use Rattle.garage_lab.specs.Command.{command_named, asked_by}
 use Rattle.lab_outside.proofs.Bytes.{wrote_more}
 
 -- a first part of a text, and more of the text after it
@@ -38,14 +38,13 @@ pub of_all : (P : List ℕ → Type 0) (left : Option (List ℕ)) (limit : ℕ) 
 of_all P None limit all read p = tt
 of_all P (Some bytes) limit all read p = (read.0, subst P read.1 p)
 
--- one word, and whether it is a certain one
-pub one_word : (words : List (String Global)) (word : String Global) (text asked : List ℕ) (b : Bool) → 1 ≤ length words → length words < 2 → word ≡ get_or words 0 word → text ≡ string_bytes word → b ≡ pointwise nat_eq text asked →
-    (IsTrue b → map string_bytes words ≡ asked ∷ []) × (map string_bytes words ≡ asked ∷ [] → IsTrue b)
-one_word [] word text asked b some few is says test = absurd (omega arith)
-one_word (w ∷ v ∷ ws) word text asked b some few is says test = absurd (omega arith)
-one_word (w ∷ []) word text asked true some few is says test =
-    let same : text ≡ asked = told_text text asked true test in
-    (λ _. ap (λ t. t ∷ []) (ap string_bytes (sym is) ∙ sym says ∙ same), λ _. refl)
-one_word (w ∷ []) word text asked false some few is says test =
-    let differ : text ≢ asked = told_text text asked false test in
-    (λ e. cc, λ e. absurd (differ (let first : string_bytes w ≡ asked = cc in says ∙ ap string_bytes is ∙ first)))
+-- one word names a command, and no word or more than one ask for none
+pub one_word : (words : List (String Global)) (word : String Global) → 1 ≤ length words → length words < 2 → word ≡ get_or words 0 word → command_named (string_bytes word) ≡ asked_by words
+one_word [] word some few is = absurd (omega arith)
+one_word (w ∷ v ∷ ws) word some few is = absurd (omega arith)
+one_word (w ∷ []) word some few is = ap (λ v. command_named (string_bytes v)) is
+
+pub other_words : (words : List (String Global)) → (length words < 1) ⊎ (2 ≤ length words) → None ≡ asked_by words
+other_words [] other = refl
+other_words (w ∷ []) other = absurd (elim other [ inl few ↦ omega arith | inr more ↦ omega arith ])
+other_words (w ∷ v ∷ ws) other = refl

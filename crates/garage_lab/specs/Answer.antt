@@ -1,27 +1,17 @@
--- What the program answers: the status and the text that are stated for its words and its input.
-use Rattle.std.specs.Prelude.{◌≡◌, ◌⊎◌, ℕ, ◌<◌, ◌≤◌, ⊤, List, [], ◌∷◌, ◌++◌, length, codes, decimal, Option}
+-- What the program answers: the status and the text that are stated for what is asked and its input.
+use Rattle.std.specs.Prelude.{◌≡◌, ◌⊎◌, ℕ, ◌<◌, ◌≤◌, ⊤, List, [], ◌∷◌, ◌++◌, length, codes, decimal, Option, Some, None, IsSome}
 use Rattle.lab_outside.specs.declared.exit.Status.{Status}
 use Rattle.lab_outside.specs.declared.exit.Status.TheVariants.{Done, Refused, Usage, ReadFault, WriteFault, LinkFault, Memory, Limit}
 use Rattle.lab_outside.specs.Rose.{Rose}
 use Rattle.lab_outside.specs.Bytes.{Wrote, WrotePrefix}
 use Rattle.object_model.specs.declared.event.Numbered.{Numbered}
-use Rattle.text_model.specs.Grammar.{IsSchedule, IsFirstBadLine}
+use Rattle.text_model.specs.Reading.{IsSchedule, IsFirstBadLine}
 use Rattle.layout_command.specs.Answer.{IsAnswer as IsLayoutAnswer}
 use Rattle.object_model.specs.Run.{Turn, start}
 use Rattle.text_model.specs.Transcript.{turns_text}
+use Rattle.garage_lab.specs.declared.command.Command.{Command}
+use Rattle.garage_lab.specs.declared.command.Command.TheVariants.{Layout, Replay}
 use Rattle.garage_lab.specs.Replay.{AreFirst, IsReplay}
-
--- the words that ask for a layout
-abbrev pub layout_words : List (List ℕ)
-layout_words = codes "layout" ∷ []
-
--- the words that ask for a replay
-abbrev pub replay_words : List (List ℕ)
-replay_words = codes "replay" ∷ []
-
--- these words ask for something, and what they ask for has an input
-abbrev pub IsKnown : List (List ℕ) → Type 0
-IsKnown words = (words ≡ layout_words) ⊎ (words ≡ replay_words)
 
 -- how many bytes the input may have
 abbrev pub input_limit : ℕ
@@ -39,13 +29,13 @@ input_line = codes "limit input 8388608" ++ 10 ∷ []
 abbrev pub bad_line_text : ℕ → List ℕ
 bad_line_text n = codes "bad line " ++ (decimal n ++ 10 ∷ [])
 
--- the status and the text that are stated for words and an input, in the order in which their causes come; which greatest assignments are given is free
-pub data IsAnswer (words : List (List ℕ)) (input : List ℕ) (status : Status) (text : List ℕ) : Type 0 where
-  usage : (IsKnown words → ⊥) → status ≡ Usage → text ≡ usage_line → IsAnswer words input status text
-  long_input : IsKnown words → input_limit < length input → status ≡ Limit → text ≡ input_line → IsAnswer words input status text
-  bad_line : (n : ℕ) → words ≡ replay_words → length input ≤ input_limit → IsFirstBadLine input n → status ≡ Refused → text ≡ bad_line_text n → IsAnswer words input status text
-  laid_out : words ≡ layout_words → length input ≤ input_limit → IsLayoutAnswer input status text → IsAnswer words input status text
-  replayed : (events : List Numbered) → words ≡ replay_words → length input ≤ input_limit → IsSchedule input events → IsReplay events status text → IsAnswer words input status text
+-- the status and the text that are stated for a command, or for words that ask for none, and an input, in the order in which their causes come; which greatest assignments are given is free
+pub data IsAnswer (asked : Option Command) (input : List ℕ) (status : Status) (text : List ℕ) : Type 0 where
+  usage : asked ≡ None → status ≡ Usage → text ≡ usage_line → IsAnswer asked input status text
+  long_input : IsSome asked → input_limit < length input → status ≡ Limit → text ≡ input_line → IsAnswer asked input status text
+  bad_line : (n : ℕ) → asked ≡ Some Replay → length input ≤ input_limit → IsFirstBadLine input n → status ≡ Refused → text ≡ bad_line_text n → IsAnswer asked input status text
+  laid_out : asked ≡ Some Layout → length input ≤ input_limit → IsLayoutAnswer input status text → IsAnswer asked input status text
+  replayed : (events : List Numbered) → asked ≡ Some Replay → length input ≤ input_limit → IsSchedule input events → IsReplay events status text → IsAnswer asked input status text
 
 -- the statuses that come with a whole text
 abbrev pub IsStated : Status → Type 0
@@ -58,7 +48,7 @@ IsStated WriteFault = ⊥
 IsStated LinkFault = ⊥
 IsStated Memory = ⊥
 
--- the statuses that are answered to known words only when the input was read
+-- the statuses that are answered to a command only when the input was read
 abbrev pub IsAfterReading : Status → Type 0
 IsAfterReading Done = ⊤
 IsAfterReading Refused = ⊤
@@ -80,25 +70,25 @@ IsOfLayout LinkFault = ⊥
 IsOfLayout Memory = ⊥
 IsOfLayout Limit = ⊥
 
--- this status is stated for the words and the input, and the text with it was written
-pub record Answers (words : List (List ℕ)) (input : List ℕ) (status : Status) (old new : Option (List ℕ)) : Type 0 where
+-- this status is stated for what is asked and the input, and the text with it was written
+pub record Answers (asked : Option Command) (input : List ℕ) (status : Status) (old new : Option (List ℕ)) : Type 0 where
   pub text : List ℕ
-  pub stated : IsAnswer words input status text
+  pub stated : IsAnswer asked input status text
   pub wrote : Wrote old new text
 
--- a first part of the text that is stated for the words and the input was written, and no more
-abbrev pub AnswersPrefix : List (List ℕ) → List ℕ → Option (List ℕ) → Option (List ℕ) → Type 0
-AnswersPrefix words input old new = (status : Status) (text : List ℕ) → IsAnswer words input status text → WrotePrefix old new text
+-- a first part of the text that is stated for what is asked and the input was written, and no more
+abbrev pub AnswersPrefix : Option Command → List ℕ → Option (List ℕ) → Option (List ℕ) → Type 0
+AnswersPrefix asked input old new = (status : Status) (text : List ℕ) → IsAnswer asked input status text → WrotePrefix old new text
 
 -- nothing was written, or a first part of one text that is stated for a layout of the input, and no more
 pub data LayoutPrefix (input : List ℕ) (old new : Option (List ℕ)) : Type 0 where
   nothing : Wrote old new [] → LayoutPrefix input old new
-  begun : (status : Status) (text : List ℕ) → IsAnswer layout_words input status text → WrotePrefix old new text → LayoutPrefix input old new
+  begun : (status : Status) (text : List ℕ) → IsAnswer (Some Layout) input status text → WrotePrefix old new text → LayoutPrefix input old new
 
 -- what was written when a replay of the input ended or gave up: nothing, or a first part of one text that is stated, or of what the first events tell with lawful layouts
 pub data ReplayPrefix (input : List ℕ) (old new : Option (List ℕ)) : Type 0 where
   nothing_yet : Wrote old new [] → ReplayPrefix input old new
-  of_stated : (status : Status) (text : List ℕ) → IsAnswer replay_words input status text → WrotePrefix old new text → ReplayPrefix input old new
+  of_stated : (status : Status) (text : List ℕ) → IsAnswer (Some Replay) input status text → WrotePrefix old new text → ReplayPrefix input old new
   of_events : (events : List Numbered) (turns : List Turn) → length input ≤ input_limit → IsSchedule input events → AreFirst events turns → WrotePrefix old new (turns_text start turns) → ReplayPrefix input old new
 
 -- the statuses of a replay of events, which the free layouts may decide
@@ -108,8 +98,12 @@ IsOfReplay Limit = ⊤
 IsOfReplay _ = ⊥
 
 -- where this status is stated, it is answered, or memory was wanting; a replay may end with the status that other layouts bring
-abbrev pub Completes : List (List ℕ) → Status → Status → Type 0
-Completes words status result = (result ≡ status) ⊎ (result ≡ Memory) ⊎ ((words ≡ replay_words) × IsOfReplay status × IsOfReplay result)
+abbrev pub Completes : Option Command → Status → Status → Type 0
+Completes asked status result = (result ≡ status) ⊎ (result ≡ Memory) ⊎ ((asked ≡ Some Replay) × IsOfReplay status × IsOfReplay result)
+
+-- the status and the whole text that are stated were written, or memory was wanting
+abbrev pub IsAnswered : Option Command → List ℕ → Status → Option (List ℕ) → Option (List ℕ) → Type 0
+IsAnswered asked input result old new = Answers asked input result old new ⊎ (result ≡ Memory)
 
 -- it ends with this status and this text written, unless a write fails or memory is wanting
 pub data Says (status : Status) (text : List ℕ) (result : Status) (old new : Option (List ℕ)) (faults risen : ℕ) : Type 0 where

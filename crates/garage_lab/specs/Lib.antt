@@ -1,3 +1,4 @@
+pub mod Command
 pub mod Replay
 pub mod Turning
 pub mod Layout

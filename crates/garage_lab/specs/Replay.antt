@@ -7,7 +7,7 @@ use Rattle.object_model.specs.declared.event.Numbered.{Numbered}
 use Rattle.object_model.specs.Run.{Turn, start, run}
 use Rattle.object_model.specs.Turns.{IsLawful, AreLawful, AllFit, HasRoom, events_of}
 use Rattle.object_model.specs.Fresh.{IsFresh}
-use Rattle.text_model.specs.Grammar.{IsSchedule}
+use Rattle.text_model.specs.Reading.{IsSchedule}
 use Rattle.text_model.specs.Transcript.{turns_text, transcript}
 
 -- a number of the replay would pass the code's

@@ -1,5 +1,5 @@
 -- Why a command gave up: the status and the last text that go with it, and what was written before.
-use Rattle.std.specs.Prelude.{◌≡◌, ℕ, ⊤, List, [], ◌++◌, Option}
+use Rattle.std.specs.Prelude.{◌≡◌, ℕ, ⊤, List, [], ◌++◌, Option, Some}
 use Rattle.crdt_core.specs.declared.memory.Memory.{Memory as Why}
 use Rattle.crdt_core.specs.declared.memory.Memory.TheVariants.{Want, Full}
 use Rattle.lab_outside.specs.declared.exit.Status.{Status}
@@ -16,7 +16,8 @@ use Rattle.object_model.specs.Run.{start, Turn}
 use Rattle.text_model.specs.Transcript.{turns_text, transcript}
 use Rattle.object_model.specs.Turns.{events_of}
 use Rattle.garage_lab.specs.Replay.{number_line, ArePlayed, AreFirst, StopsAfter}
-use Rattle.garage_lab.specs.Answer.{replay_words, input_line, bad_line_text, IsAnswer, ReplayPrefix}
+use Rattle.garage_lab.specs.declared.command.Command.TheVariants.{Replay}
+use Rattle.garage_lab.specs.Answer.{input_line, bad_line_text, IsAnswer, ReplayPrefix}
 
 -- why a read of the input stopped
 abbrev pub stop_of_read : ReadStop → Stop
@@ -55,7 +56,7 @@ said_of Number = number_line
 pub record IsNearly (input : List ℕ) (status : Status) (last : List ℕ) (old new : Option (List ℕ)) : Type 0 where
   pub front : List ℕ
   pub wrote : Wrote old new front
-  pub stated : IsAnswer replay_words input status (front ++ last)
+  pub stated : IsAnswer (Some Replay) input status (front ++ last)
 
 -- what was written when a replay of this input gave up
 abbrev pub Halts : List ℕ → Stop → Option (List ℕ) → Option (List ℕ) → Type 0

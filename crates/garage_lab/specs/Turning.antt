@@ -1,10 +1,10 @@
--- What one event of a replay does in the code.
+-- What one event of a replay does in the code, and what is told at the end.
 use Rattle.std.specs.Prelude.{◌≡◌, ℕ, List}
 use Rattle.cluster_machine.specs.Choices.{Decision}
 use Rattle.object_model.specs.declared.event.Numbered.{Numbered}
 use Rattle.object_model.specs.Run.{State, Turn, outcome_of}
 use Rattle.object_model.specs.Turns.{IsLawful, Fits, HasRoom}
-use Rattle.text_model.specs.Transcript.{event_text}
+use Rattle.text_model.specs.Transcript.{event_text, tail_text}
 use Rattle.lab_driver.specs.declared.lab.Lab.{Lab}
 use Rattle.lab_driver.specs.Stands.{IsLab}
 
@@ -33,3 +33,7 @@ pub record LacksRoom (s : State) (e : Numbered) : Type 0 where
 -- whatever state it stood for, this event would not fit
 abbrev pub CannotTurn : Lab → Numbered → Type 0
 CannotTurn old e = (s : State) → IsLab old s → LacksRoom s e
+
+-- whatever state the lab stands for, this is the tail after so many events
+abbrev pub TellsTail : Lab → ℕ → List ℕ → Type 0
+TellsTail lab events text = (s : State) → IsLab lab s → text ≡ tail_text events s

@@ -3,15 +3,17 @@
 //!
 //! `run` is the program: it takes the words after the program's name, the outside as a source, a sink, a
 //! link and a clock, and answers the status with which the program ends. Its contract says which text is
-//! written for which input, and why each other answer comes. `asked` tells the commands apart, and `input`
+//! written for which input, and why each other answer comes. `command` tells the commands apart, and `input`
 //! reads the input. For a replay `schedule` reads the events and `transcript` writes what they told; `layout`
-//! reads a configuration and computes what is answered. `stop` is why any of them gave up.
+//! reads a configuration and computes what is answered. `stop` is why any of them gave up, and `laws` says that
+//! no input is without a stated answer.
 #![tactic(auto)]
 
-mod asked;
+mod command;
 #[cfg(test)]
 mod grammar;
 mod input;
+mod laws;
 mod layout;
 #[cfg(test)]
 mod line_texts;

@@ -1,15 +1,16 @@
 //! The program as one call.
-ghost use Rattle.std.specs.Prelude.{◌≡◌, ◌⊎◌, ◌+◌, ◌≤◌, ℕ, List, map, drop, Some, IfOk, OnOk, IfErr, IfSome};
-ghost use Rattle.std.specs.String.{string_bytes};
+ghost use Rattle.std.specs.Prelude.{◌≡◌, ◌⊎◌, ◌+◌, ◌≤◌, ℕ, List, drop, Some, None, IsSome, IfOk, OnOk, IfErr, IfSome};
 ghost use Rattle.std.specs.Io.KnownBytes.{IsAtEnd};
 ghost use Rattle.crdt_core.specs.Outcomes.{OnlyWant};
 ghost use Rattle.lab_outside.specs.Rose.{Rose};
 ghost use Rattle.garage_lab.specs.Replay.{IsTranscribed};
 ghost use Rattle.garage_lab.specs.Layout.{IsPrinted};
-ghost use Rattle.garage_lab.specs.Answer.{layout_words, replay_words, IsKnown, input_limit, bad_line_text, IsAnswer, IsStated, IsAfterReading, Answers, AnswersPrefix, LayoutPrefix, ReplayPrefix, Completes, Says};
+ghost use Rattle.garage_lab.specs.Command.{asked_by};
+ghost use Rattle.garage_lab.specs.Answer.{input_limit, bad_line_text, IsAnswer, IsStated, IsAfterReading, Answers, AnswersPrefix, LayoutPrefix, ReplayPrefix, Completes, IsAnswered, Says};
 ghost use Rattle.garage_lab.specs.Stop.{status_of, said_of, Halts, IsSaid};
 
-use crate::asked::{Asked, asked_by};
+use crate::command::{Command, asked_by};
+use crate::laws::some_answer_is_stated;
 use crate::layout::read_layout;
 use crate::schedule::read_schedule;
 use crate::stop::Stop;
@@ -65,7 +66,7 @@ fn stopped<O: Sink>(alloc: Global, output: &mut O, stop: Stop) -> Status
 
 /// Reads a schedule, and writes its transcript.
 fn replay<I: Source, O: Sink>(alloc: Global, input: &mut I, output: &mut O) -> Result<(), Stop>
-    ensures done { OnOk result (IfSome (I.left input.old) (λ bytes. Answers replay_words bytes Status.Done (O.written output.old) (O.written output.new))) }
+    ensures done { OnOk result (IfSome (I.left input.old) (λ bytes. Answers (Some Command.Replay) bytes Status.Done (O.written output.old) (O.written output.new))) }
     ensures end { OnOk result (IsAtEnd (I.left input.new)) }
     ensures halts { IfErr result (λ stop. IfSome (I.left input.old) (λ bytes. Halts bytes stop (O.written output.old) (O.written output.new))) }
     ensures read { IfErr result IsSaid → IfSome (I.left input.old) (λ bytes. I.left input.new ≡ Some (drop (input_limit + 1) bytes)) }
@@ -80,7 +81,7 @@ fn replay<I: Source, O: Sink>(alloc: Global, input: &mut I, output: &mut O) -> R
 
 /// Replays the schedule that the input spells, and says how that ended.
 fn replayed<I: Source, O: Sink>(alloc: Global, input: &mut I, output: &mut O) -> Status
-    ensures answers { IsStated result → IfSome (I.left input.old) (λ bytes. Answers replay_words bytes result (O.written output.old) (O.written output.new)) }
+    ensures answers { IsStated result → IfSome (I.left input.old) (λ bytes. Answers (Some Command.Replay) bytes result (O.written output.old) (O.written output.new)) }
     ensures prefix { IfSome (I.left input.old) (λ bytes. ReplayPrefix bytes (O.written output.old) (O.written output.new)) }
     ensures end { result ≡ Status.Done → IsAtEnd (I.left input.new) }
     ensures read { IsAfterReading result → IfSome (I.left input.old) (λ bytes. I.left input.new ≡ Some (drop (input_limit + 1) bytes)) }
@@ -98,7 +99,7 @@ fn replayed<I: Source, O: Sink>(alloc: Global, input: &mut I, output: &mut O) ->
 
 /// Prints the layout of the nodes that the input says, or why there is none.
 fn laid_out<I: Source, O: Sink>(alloc: Global, input: &mut I, output: &mut O) -> Status
-    ensures answers { IsStated result → IfSome (I.left input.old) (λ bytes. Answers layout_words bytes result (O.written output.old) (O.written output.new)) }
+    ensures answers { IsStated result → IfSome (I.left input.old) (λ bytes. Answers (Some Command.Layout) bytes result (O.written output.old) (O.written output.new)) }
     ensures prefix { IfSome (I.left input.old) (λ bytes. LayoutPrefix bytes (O.written output.old) (O.written output.new)) }
     ensures end { result ≡ Status.Done → IsAtEnd (I.left input.new) }
     ensures read { IsAfterReading result → IfSome (I.left input.old) (λ bytes. I.left input.new ≡ Some (drop (input_limit + 1) bytes)) }
@@ -121,24 +122,24 @@ fn answer<I: Source, O: Sink>(
     input: &mut I,
     output: &mut O,
 ) -> Status
-    ensures answers { IsStated result → IfSome (I.left input.old) (λ bytes. Answers (map string_bytes words.now) bytes result (O.written output.old) (O.written output.new)) }
-    ensures prefix { (IsKnown (map string_bytes words.now) → ⊥) → IfSome (I.left input.old) (λ bytes. AnswersPrefix (map string_bytes words.now) bytes (O.written output.old) (O.written output.new)) }
-    ensures replay_prefix { map string_bytes words.now ≡ replay_words → IfSome (I.left input.old) (λ bytes. ReplayPrefix bytes (O.written output.old) (O.written output.new)) }
-    ensures layout_prefix { map string_bytes words.now ≡ layout_words → IfSome (I.left input.old) (λ bytes. LayoutPrefix bytes (O.written output.old) (O.written output.new)) }
+    ensures answers { IsStated result → IfSome (I.left input.old) (λ bytes. Answers (asked_by words.now) bytes result (O.written output.old) (O.written output.new)) }
+    ensures prefix { asked_by words.now ≡ None → IfSome (I.left input.old) (λ bytes. AnswersPrefix (asked_by words.now) bytes (O.written output.old) (O.written output.new)) }
+    ensures replay_prefix { asked_by words.now ≡ Some Command.Replay → IfSome (I.left input.old) (λ bytes. ReplayPrefix bytes (O.written output.old) (O.written output.new)) }
+    ensures layout_prefix { asked_by words.now ≡ Some Command.Layout → IfSome (I.left input.old) (λ bytes. LayoutPrefix bytes (O.written output.old) (O.written output.new)) }
     ensures end { result ≡ Status.Done → IsAtEnd (I.left input.new) }
-    ensures read { IsKnown (map string_bytes words.now) → IsAfterReading result → IfSome (I.left input.old) (λ bytes. I.left input.new ≡ Some (drop (input_limit + 1) bytes)) }
-    ensures usage { result ≡ Status.Usage → IsKnown (map string_bytes words.now) → ⊥ }
-    ensures usage_alone { (IsKnown (map string_bytes words.now) → ⊥) → (result ≡ Status.Usage) ⊎ (result ≡ Status.WriteFault) }
-    ensures unread { (IsKnown (map string_bytes words.now) → ⊥) → input.new ≡ input.old }
+    ensures read { IsSome (asked_by words.now) → IsAfterReading result → IfSome (I.left input.old) (λ bytes. I.left input.new ≡ Some (drop (input_limit + 1) bytes)) }
+    ensures usage { result ≡ Status.Usage → asked_by words.now ≡ None }
+    ensures usage_alone { asked_by words.now ≡ None → (result ≡ Status.Usage) ⊎ (result ≡ Status.WriteFault) }
+    ensures unread { asked_by words.now ≡ None → input.new ≡ input.old }
     ensures read_fault { result ≡ Status.ReadFault → Rose (I.faults input.old) (I.faults input.new) }
     ensures unwritten { result ≡ Status.ReadFault → output.new ≡ output.old }
     ensures write_fault { result ≡ Status.WriteFault → Rose (O.faults output.old) (O.faults output.new) }
     ensures link_fault { result ≡ Status.LinkFault → ⊥ }
 {
     match asked_by(words) {
-        Asked::Layout => laid_out(alloc, input, output),
-        Asked::Replay => replayed(alloc, input, output),
-        Asked::Unknown => {
+        Some(Command::Layout) => laid_out(alloc, input, output),
+        Some(Command::Replay) => replayed(alloc, input, output),
+        None => {
             let usage =
                 b"usage: garage_lab layout | replay [--check] | workload N SEED | serve PORT COUNT\n";
             ends(output, usage, Status::Usage)
@@ -158,35 +159,37 @@ pub fn run<I: Source, O: Sink, L: Link, C: Clock>(
     // After Done of a replay what was written is the whole transcript of the events that all the input's bytes
     // spell, with the layouts that it prints: each is computed from what was staged, an assignment of the greatest
     // partition size, with its printed cut. The answered gets of that very run are fresh.
-    ensures done { map string_bytes words.now ≡ replay_words → result ≡ Status.Done → IfSome (I.left input.old) (λ bytes. IsTranscribed bytes (O.written output.old) (O.written output.new)) }
+    ensures done { asked_by words.now ≡ Some Command.Replay → result ≡ Status.Done → IfSome (I.left input.old) (λ bytes. IsTranscribed bytes (O.written output.old) (O.written output.new)) }
 
     // After Done of a layout what was written is the text of an assignment of the greatest partition size for
     // the nodes that the input says, with the cut that shows that no greater size has any.
-    ensures laid_out { map string_bytes words.now ≡ layout_words → result ≡ Status.Done → IfSome (I.left input.old) (λ bytes. IsPrinted bytes (O.written output.old) (O.written output.new)) }
+    ensures laid_out { asked_by words.now ≡ Some Command.Layout → result ≡ Status.Done → IfSome (I.left input.old) (λ bytes. IsPrinted bytes (O.written output.old) (O.written output.new)) }
 
-    // After Done the source was read to its end. Known words read to the end of the input, or to the first byte
-    // past its limit, before they bring anything but ReadFault and Memory.
+    // After Done the source was read to its end. A command reads to the end of the input, or to the first byte
+    // past its limit, before it brings anything but ReadFault and Memory.
     ensures end { result ≡ Status.Done → IsAtEnd (I.left input.new) }
-    ensures read { IsKnown (map string_bytes words.now) → IsAfterReading result → IfSome (I.left input.old) (λ bytes. I.left input.new ≡ Some (drop (input_limit + 1) bytes)) }
+    ensures read { IsSome (asked_by words.now) → IsAfterReading result → IfSome (I.left input.old) (λ bytes. I.left input.new ≡ Some (drop (input_limit + 1) bytes)) }
 
-    // Done, Refused, Usage and Limit come with the status and the whole text that are stated for the words and
-    // the input. Whatever the status, what was written is a first part of the text that is stated; of a layout's
+    // Done, Refused, Usage and Limit come with the status and the whole text that are stated for what the words
+    // ask and the input. Whatever the status, what was written is a first part of the text that is stated; of a layout's
     // texts, which differ by the sets that are chosen, it is a first part of one, and for a replay, whose applies
     // choose sets, it is a first part of one or of what the first events tell.
-    ensures answers { IsStated result → IfSome (I.left input.old) (λ bytes. Answers (map string_bytes words.now) bytes result (O.written output.old) (O.written output.new)) }
-    ensures prefix { (IsKnown (map string_bytes words.now) → ⊥) → IfSome (I.left input.old) (λ bytes. AnswersPrefix (map string_bytes words.now) bytes (O.written output.old) (O.written output.new)) }
-    ensures replay_prefix { map string_bytes words.now ≡ replay_words → IfSome (I.left input.old) (λ bytes. ReplayPrefix bytes (O.written output.old) (O.written output.new)) }
-    ensures layout_prefix { map string_bytes words.now ≡ layout_words → IfSome (I.left input.old) (λ bytes. LayoutPrefix bytes (O.written output.old) (O.written output.new)) }
+    ensures answers { IsStated result → IfSome (I.left input.old) (λ bytes. Answers (asked_by words.now) bytes result (O.written output.old) (O.written output.new)) }
+    ensures prefix { asked_by words.now ≡ None → IfSome (I.left input.old) (λ bytes. AnswersPrefix (asked_by words.now) bytes (O.written output.old) (O.written output.new)) }
+    ensures replay_prefix { asked_by words.now ≡ Some Command.Replay → IfSome (I.left input.old) (λ bytes. ReplayPrefix bytes (O.written output.old) (O.written output.new)) }
+    ensures layout_prefix { asked_by words.now ≡ Some Command.Layout → IfSome (I.left input.old) (λ bytes. LayoutPrefix bytes (O.written output.old) (O.written output.new)) }
 
-    // The stated answer comes, or memory was wanting, where no count of faults rises. A replay of events may end with
-    // Done or Limit as the layouts decide that were chosen.
-    ensures complete { IfSome (I.left input.old) (λ bytes. (status : Status) (text : List ℕ) → IsAnswer (map string_bytes words.now) bytes status text →
-        (Rose (I.faults input.old) (I.faults input.new) → ⊥) → (Rose (O.faults output.old) (O.faults output.new) → ⊥) → Completes (map string_bytes words.now) status result) }
+    // Where no count of faults rises, a status and the whole text that are stated come, or memory was wanting. One
+    // status is stated, but that a replay of events may end with Done or Limit, as the layouts decide that were chosen.
+    ensures answered { IfSome (I.left input.old) (λ bytes. (Rose (I.faults input.old) (I.faults input.new) → ⊥) → (Rose (O.faults output.old) (O.faults output.new) → ⊥) →
+        IsAnswered (asked_by words.now) bytes result (O.written output.old) (O.written output.new)) }
+    ensures complete { IfSome (I.left input.old) (λ bytes. (status : Status) (text : List ℕ) → IsAnswer (asked_by words.now) bytes status text →
+        (Rose (I.faults input.old) (I.faults input.new) → ⊥) → (Rose (O.faults output.old) (O.faults output.new) → ⊥) → Completes (asked_by words.now) status result) }
 
-    // Words that ask for nothing known bring Usage, with nothing read; no other words do.
-    ensures usage { result ≡ Status.Usage → IsKnown (map string_bytes words.now) → ⊥ }
-    ensures usage_alone { (IsKnown (map string_bytes words.now) → ⊥) → (result ≡ Status.Usage) ⊎ (result ≡ Status.WriteFault) }
-    ensures unread { (IsKnown (map string_bytes words.now) → ⊥) → input.new ≡ input.old }
+    // Words that ask for no command bring Usage, with nothing read; no other words do.
+    ensures usage { result ≡ Status.Usage → asked_by words.now ≡ None }
+    ensures usage_alone { asked_by words.now ≡ None → (result ≡ Status.Usage) ⊎ (result ≡ Status.WriteFault) }
+    ensures unread { asked_by words.now ≡ None → input.new ≡ input.old }
 
     // A fault comes only where the count of its object rose in this call; after a failed read nothing was written.
     // Link and clock are as before.
@@ -199,5 +202,6 @@ pub fn run<I: Source, O: Sink, L: Link, C: Clock>(
 {
     fresh_reads();
     one_status();
+    some_answer_is_stated();
     answer(alloc, words, input, output)
 }

@@ -1,10 +1,10 @@
 //! The transcript of a schedule.
 ghost use Rattle.std.specs.Prelude.{◌≡◌, ◌⊎◌, ◌≤◌, ℕ, List, Err, IfOk, OnOk, IfErr, OnErr};
 ghost use Rattle.std.specs.List.{All};
-ghost use Rattle.crdt_core.specs.Outcomes.{WantOr};
+ghost use Rattle.crdt_core.specs.Outcomes.{OnlyWant, WantOr};
 ghost use Rattle.lab_outside.specs.Rose.{Rose};
 ghost use Rattle.lab_driver.specs.Stands.{HasLab, IsMeantEvent};
-ghost use Rattle.garage_lab.specs.Turning.{TurnsOne, CannotTurn};
+ghost use Rattle.garage_lab.specs.Turning.{TurnsOne, CannotTurn, TellsTail};
 ghost use Rattle.garage_lab.specs.Stop.{IsOfOutput, IsCutShort, IsPart, IsWhole};
 
 use crate::stop::Stop;
@@ -33,7 +33,15 @@ fn event_text(alloc: Global, lab: &mut Lab, next: &Numbered) -> Result<Bytes, Me
     )
 }
 
-/// Writes what each event tells, when the event is whole, and the last line.
+/// What is written after so many events: the last line.
+fn tail_text(alloc: Global, lab: &Lab, events: usize) -> Result<Bytes, Memory>
+    ensures text { IfOk result (TellsTail lab.now events) }
+    ensures want { OnlyWant result }
+{
+    end_text(alloc, events as u64, lab.requests(), lab.messages())
+}
+
+/// Writes what each event tells, when the event is whole, and the tail of the run.
 pub fn write_transcript<O: Sink>(
     alloc: Global,
     output: &mut O,
@@ -52,7 +60,7 @@ pub fn write_transcript<O: Sink>(
         let text = event_text(alloc, &mut lab, next)?;
         write_whole(output, text.as_slice())?;
     }
-    let end = end_text(alloc, events.len() as u64, lab.requests(), lab.messages())?;
-    write_whole(output, end.as_slice())?;
+    let tail = tail_text(alloc, &lab, events.len())?;
+    write_whole(output, tail.as_slice())?;
     Ok(())
 }

@@ -1,1 +1,3 @@
 pub mod Stated
+pub mod Computed
+pub mod Configured

@@ -11,3 +11,9 @@ pub fn one_status()
 {
     smaller_sizes();
 }
+
+/// A status and a text are stated for every input: roles and a redundancy in their ranges have a greatest
+/// layout with its cut, or a cause for which there is none.
+pub fn every_configuration_is_answered()
+    ensures { (input : List ℕ) → (status : Status) × ((text : List ℕ) × IsAnswer input status text) }
+{}

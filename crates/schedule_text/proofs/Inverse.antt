@@ -1,8 +1,10 @@
 -- What an event with given words is.
-use Rattle.std.proofs.Common.{◌≡◌, ℕ, ◌<◌, ◌≤◌, List, [], ◌∷◌, length, Bor, slice_index_or, refl, ◌∙◌, ap, arith, codes, decimal, Option, Some, None, Err}
+use Rattle.std.proofs.Common.{◌≡◌, ℕ, suc, false, sym, ◌⊎◌, inl, inr, ◌<◌, ◌≤◌, List, [], ◌∷◌, length, Bor, slice_index_or, refl, ◌∙◌, ap, arith, codes, decimal, Option, Some, None, Err}
+use Rattle.std.specs.Cmp.Lexicographic.{told_text}
+use Rattle.std.proofs.lemmas.List.{length-map}
 use Rattle.object_model.specs.declared.event.Event.{Event}
 use Rattle.object_model.specs.declared.event.Event.TheVariants.{Trio, Bucket, Role, Redundancy, Apply, Tick, Put, Get, Deliver, Drain, Expire, Gossip, Ack, Sync, SyncAck, Clean}
-use Rattle.text_model.specs.Grammar.{IsFrom}
+use Rattle.text_model.specs.Grammar.{IsFrom, words_of, first_word}
 use Rattle.text_model.specs.Words.{IsSpelledBy}
 use Rattle.schedule_text.specs.declared.fault.LineFault.{LineFault}
 use Rattle.schedule_text.specs.declared.fault.LineFault.TheVariants.{Outside, Memory}
@@ -49,16 +51,30 @@ put_parts : (n bucket key size fill : List ℕ) (e : Event) → IsSpelledBy (cod
 put_parts n bucket key size fill (Put m b k s f) h =
     let e = h.spelled in
     record {
-      place = ((m, b, k), (cc, h.allowed.0, cc, h.allowed.1, cc, h.allowed.2));
-      size_is = (s, (cc, h.allowed.3));
-      fill_is = (f, (cc, h.allowed.4));
+      place = ((m, b, k), (cc, h.allowed.0, cc, h.allowed.1.0, cc, h.allowed.1.1.0));
+      size_is = (s, (cc, h.allowed.1.1.1.0));
+      fill_is = (f, (cc, h.allowed.1.1.1.1));
     }
 put_parts n bucket key size fill e h = absurd (let s = h.spelled in cc)
 
 get_parts : (n bucket key : List ℕ) (e : Event) → IsSpelledBy (codes "get" ∷ n ∷ bucket ∷ key ∷ []) e → (p : ℕ × List ℕ × List ℕ) × IsPlace n bucket key p
 get_parts n bucket key (Get m b k) h =
-    let e = h.spelled in ((m, b, k), (cc, h.allowed.0, cc, h.allowed.1, cc, h.allowed.2))
+    let e = h.spelled in ((m, b, k), (cc, h.allowed.0, cc, h.allowed.1.0, cc, h.allowed.1.1))
 get_parts n bucket key e h = absurd (let s = h.spelled in cc)
+
+get_words : (ws : List (List ℕ)) (e : Event) → codes "get" ∷ ws ≡ words_of e → length ws ≡ 3
+get_words ws (Get m b k) h = let n : suc (length ws) ≡ 4 = ap length h in omega arith
+get_words ws e h = absurd (told_text (codes "get") (first_word (words_of e)) false refl (ap first_word h))
+
+put_words : (ws : List (List ℕ)) (e : Event) → codes "put" ∷ ws ≡ words_of e → length ws ≡ 5
+put_words ws (Put m b k s f) h = let n : suc (length ws) ≡ 6 = ap length h in omega arith
+put_words ws e h = absurd (told_text (codes "put") (first_word (words_of e)) false refl (ap first_word h))
+
+get_length : (words : Words) (e : Event) → IsSpelledBy (codes "get" ∷ texts words) e → length words ≡ 3
+get_length words e h = sym (length-map words (λ (word : Bor (List ℕ)). word.now)) ∙ get_words (texts words) e h.spelled
+
+put_length : (words : Words) (e : Event) → IsSpelledBy (codes "put" ∷ texts words) e → length words ≡ 5
+put_length words e h = sym (length-map words (λ (word : Bor (List ℕ)). word.now)) ∙ put_words (texts words) e h.spelled
 
 abbrev IsPutOf : Words → Event → Type 0
 IsPutOf words = IsSpelledBy (codes "put" ∷ texts words)
@@ -70,6 +86,12 @@ module _ (words : Words) where
   abbrev PlaceOf : ℕ × List ℕ × List ℕ → Type 0
   PlaceOf = IsPlace (at words 0) (at words 1) (at words 2)
 
+  pub get_few : (length words < 3) ⊎ (4 ≤ length words) → (e : Event) → IsGetOf words e → ⊥
+  get_few few e h = elim few [ inl x ↦ omega (arith, get_length words e h) | inr x ↦ omega (arith, get_length words e h) ]
+
+  pub put_few : (length words < 5) ⊎ (6 ≤ length words) → (e : Event) → IsPutOf words e → ⊥
+  put_few few e h = elim few [ inl x ↦ omega (arith, put_length words e h) | inr x ↦ omega (arith, put_length words e h) ]
+
   get_has : 3 ≤ length words → length words < 4 → (e : Event) → IsGetOf words e → (p : ℕ × List ℕ × List ℕ) × PlaceOf p
   get_has low high e h = get_parts _ _ _ e (rw (three words low high) at h)
 
@@ -78,7 +100,7 @@ module _ (words : Words) where
 
   pub get_read : 3 ≤ length words → length words < 4 → (m : ℕ) (b k : List ℕ) → PlaceOf (m, b, k) → IsGetOf words (Get m b k)
   get_read low high m b k h =
-      record { spelled = ap (λ ws. codes "get" ∷ ws) (three words low high) ∙ cc; allowed = (h.1, h.3, h.5) }
+      record { spelled = ap (λ ws. codes "get" ∷ ws) (three words low high) ∙ cc; allowed = (h.1, (h.3, h.5)) }
 
   put_has : 5 ≤ length words → length words < 6 → (e : Event) → IsPutOf words e → IsPut (at words 0) (at words 1) (at words 2) (at words 3) (at words 4)
   put_has low high e h = put_parts _ _ _ _ _ e (rw (five words low high) at h)
@@ -98,7 +120,7 @@ module _ (words : Words) where
   put_read low high m b k s f h i j =
       record {
         spelled = ap (λ ws. codes "put" ∷ ws) (five words low high) ∙ cc;
-        allowed = (h.1, h.3, h.5, i.1, j.1);
+        allowed = (h.1, (h.3, (h.5, (i.1, j.1))));
       }
 
 -- the first word of an event is that of a kind

@@ -1,7 +1,8 @@
 -- The words of a line, and what the first one says.
-use Rattle.std.specs.Prelude.{◌≡◌, ℕ, List, codes, decimal, map}
+use Rattle.std.specs.Prelude.{◌≡◌, ℕ, List, codes, decimal, map, IsTrue}
 use Rattle.std.specs.Borrow.{Bor}
-use Rattle.text_model.specs.Grammar.{IsNode, IsBucketName, IsKey}
+use Rattle.layout_text.specs.Values.{is_bucket_name}
+use Rattle.text_model.specs.Grammar.{IsFrom, is_key}
 use Rattle.schedule_text.specs.declared.event_line.Kind.{Kind}
 use Rattle.schedule_text.specs.declared.event_line.Kind.TheVariants.{Trio, Bucket, Role, Redundancy, Apply, Tick, Put, Get, Deliver, Drain, Expire, Gossip, Ack, Sync, SyncAck, Clean}
 
@@ -31,4 +32,4 @@ kind_text Clean = codes "clean"
 -- a node, a bucket and a key that three words name
 abbrev pub IsPlace : List ℕ → List ℕ → List ℕ → ℕ × List ℕ × List ℕ → Type 0
 IsPlace at bucket key place =
-    (at ≡ decimal place.0) × IsNode place.0 × (place.1 ≡ bucket) × IsBucketName place.1 × (place.2 ≡ key) × IsKey place.2
+    (at ≡ decimal place.0) × IsFrom 1 16 place.0 × (place.1 ≡ bucket) × IsTrue (is_bucket_name place.1) × (place.2 ≡ key) × IsTrue (is_key place.2)

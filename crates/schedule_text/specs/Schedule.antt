@@ -1,10 +1,15 @@
 -- What a line adds to the events.
-use Rattle.std.specs.Prelude.{◌≡◌, ◌⊎◌, ℕ, List, [], ◌∷◌, ◌++◌}
+use Rattle.std.specs.Prelude.{◌≡◌, ◌⊎◌, ℕ, IsTrue, IsFalse, List, [], ◌∷◌, ◌++◌}
 use Rattle.object_model.specs.declared.event.Event.{Event}
 use Rattle.object_model.specs.declared.event.Numbered.{Numbered}
-use Rattle.text_model.specs.Grammar.{Spells, IsBlank}
+use Rattle.text_model.specs.Grammar.{Spells, is_blank}
 
 -- line n adds the event that it spells, or nothing where it is blank
 abbrev pub AddsEvent : ℕ → List ℕ → List Numbered → List Numbered → Type 0
 AddsEvent n line old new =
-    (IsBlank line × (new ≡ old)) ⊎ ((e : Event) × Spells line e × (new ≡ old ++ record { line = n; event = e } ∷ []))
+    (IsTrue (is_blank line) × (new ≡ old)) ⊎ ((e : Event) × IsFalse (is_blank line) × Spells line e × (new ≡ old ++ record { line = n; event = e } ∷ []))
+
+-- a line outside the grammar: it isn't blank, and spells no event
+pub record IsBad (line : List ℕ) : Type 0 where
+  pub not_blank : IsFalse (is_blank line)
+  pub no_event : (event : Event) → Spells line event → ⊥

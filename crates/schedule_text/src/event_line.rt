@@ -1,6 +1,6 @@
 //! The event that a line spells.
 ghost use Rattle.std.specs.Prelude.{◌≡◌, [], ◌∷◌, codes, decimal, take, IfOk};
-ghost use Rattle.text_model.specs.Grammar.{Spells, IsNode};
+ghost use Rattle.text_model.specs.Grammar.{Spells, IsFrom};
 ghost use Rattle.text_model.specs.Words.{words_in, IsSpelledBy};
 ghost use Rattle.schedule_text.specs.Reads.{Finds, Reads};
 ghost use Rattle.schedule_text.specs.Kinds.{kind_text, texts, IsPlace};
@@ -115,7 +115,7 @@ fn redundancy(words: &[&[u8]]) -> Result<Event, LineFault>
 
 /// The node that one word names, where there is one.
 fn node_word(words: &[&[u8]]) -> Result<u8, LineFault>
-    ensures { Reads (λ n. (texts words.now ≡ decimal n ∷ []) × IsNode n) result }
+    ensures { Reads (λ n. (texts words.now ≡ decimal n ∷ []) × IsFrom 1 16 n) result }
 {
     match *words {
         [at] => node(at),

@@ -1,6 +1,8 @@
 //! Words that are names.
 ghost use Rattle.std.specs.Prelude.{◌≡◌, ◌↔◌, IsTrue};
-ghost use Rattle.text_model.specs.Grammar.{is_bucket_end, is_bucket_byte, is_key_byte, IsBucketName, IsZone, IsKey};
+ghost use Rattle.std.specs.List.{list_all};
+ghost use Rattle.layout_text.specs.Values.{is_between, is_name_byte, is_bucket_byte, is_bucket_name, is_zone_name};
+ghost use Rattle.text_model.specs.Grammar.{is_key_byte, is_key};
 ghost use Rattle.schedule_text.specs.Reads.{Reads};
 
 use crate::fault::LineFault;
@@ -14,8 +16,8 @@ pub(crate) fn is(word: &[u8], name: &[u8]) -> bool
     word == name
 }
 
-fn is_bucket_end(byte: u8) -> bool
-    ensures { result ≡ is_bucket_end byte }
+fn is_name_byte(byte: u8) -> bool
+    ensures { result ≡ is_name_byte byte }
 {
     matches!(byte, b'a'..=b'z' | b'0'..=b'9')
 }
@@ -23,7 +25,7 @@ fn is_bucket_end(byte: u8) -> bool
 fn is_bucket_byte(byte: u8) -> bool
     ensures { result ≡ is_bucket_byte byte }
 {
-    is_bucket_end(byte) || byte == b'-' || byte == b'.'
+    is_name_byte(byte) || byte == b'-' || byte == b'.'
 }
 
 fn is_key_byte(byte: u8) -> bool
@@ -32,36 +34,59 @@ fn is_key_byte(byte: u8) -> bool
     matches!(byte, b'a'..=b'z' | b'A'..=b'Z' | b'0'..=b'9' | b'.' | b'_' | b'/' | b'-')
 }
 
+fn is_between(n: usize, low: usize, high: usize) -> bool
+    ensures { result ≡ is_between low high n }
+{
+    low <= n && n <= high
+}
+
+fn are_bucket_bytes(word: &[u8]) -> bool
+    ensures { result ≡ list_all is_bucket_byte word.now }
+{
+    word.iter().all(|byte| is_bucket_byte(*byte))
+}
+
+fn are_zone_bytes(word: &[u8]) -> bool
+    ensures { result ≡ list_all is_name_byte word.now }
+{
+    word.iter().all(|byte| is_name_byte(*byte))
+}
+
+fn are_key_bytes(word: &[u8]) -> bool
+    ensures { result ≡ list_all is_key_byte word.now }
+{
+    word.iter().all(|byte| is_key_byte(*byte))
+}
+
 fn is_bucket_name(word: &[u8]) -> bool
-    ensures { IsTrue result ↔ IsBucketName word.now }
+    ensures { result ≡ is_bucket_name word.now }
 {
     match word {
         [first, .., last] => {
-            3 <= word.len()
-                && word.len() <= 63
-                && is_bucket_end(*first)
-                && is_bucket_end(*last)
-                && word.iter().all(|byte| is_bucket_byte(*byte))
+            is_between(word.len(), 3, 63)
+                && are_bucket_bytes(word)
+                && is_name_byte(*first)
+                && is_name_byte(*last)
         }
         _ => false,
     }
 }
 
-fn is_zone(word: &[u8]) -> bool
-    ensures { IsTrue result ↔ IsZone word.now }
+fn is_zone_name(word: &[u8]) -> bool
+    ensures { result ≡ is_zone_name word.now }
 {
-    1 <= word.len() && word.len() <= 16 && word.iter().all(|byte| is_bucket_end(*byte))
+    is_between(word.len(), 1, 16) && are_zone_bytes(word)
 }
 
 fn is_key(word: &[u8]) -> bool
-    ensures { IsTrue result ↔ IsKey word.now }
+    ensures { result ≡ is_key word.now }
 {
-    1 <= word.len() && word.len() <= 64 && word.iter().all(|byte| is_key_byte(*byte))
+    is_between(word.len(), 1, 64) && are_key_bytes(word)
 }
 
 /// A bucket's name has 3 to 63 lower-case letters, digits, `-` and `.`, the first and the last a letter or digit.
 pub(crate) fn bucket_name(alloc: Global, word: &[u8]) -> Result<Bytes, LineFault>
-    ensures { Reads (λ name. (name ≡ word.now) × IsBucketName name) result }
+    ensures { Reads (λ name. (name ≡ word.now) × IsTrue (is_bucket_name name)) result }
 {
     if !is_bucket_name(word) {
         return Err(LineFault::Outside);
@@ -71,9 +96,9 @@ pub(crate) fn bucket_name(alloc: Global, word: &[u8]) -> Result<Bytes, LineFault
 
 /// A zone's name has 1 to 16 lower-case letters and digits.
 pub(crate) fn zone_name(alloc: Global, word: &[u8]) -> Result<Bytes, LineFault>
-    ensures { Reads (λ name. (name ≡ word.now) × IsZone name) result }
+    ensures { Reads (λ name. (name ≡ word.now) × IsTrue (is_zone_name name)) result }
 {
-    if !is_zone(word) {
+    if !is_zone_name(word) {
         return Err(LineFault::Outside);
     }
     Ok(Bytes::from_slice(alloc, word)?)
@@ -81,7 +106,7 @@ pub(crate) fn zone_name(alloc: Global, word: &[u8]) -> Result<Bytes, LineFault>
 
 /// A key has 1 to 64 letters, digits, `.`, `_`, `/` and `-`.
 pub(crate) fn object_key(alloc: Global, word: &[u8]) -> Result<Bytes, LineFault>
-    ensures { Reads (λ key. (key ≡ word.now) × IsKey key) result }
+    ensures { Reads (λ key. (key ≡ word.now) × IsTrue (is_key key)) result }
 {
     if !is_key(word) {
         return Err(LineFault::Outside);

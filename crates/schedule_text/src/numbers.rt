@@ -1,6 +1,6 @@
 //! Words that are numbers.
 ghost use Rattle.std.specs.Prelude.{◌≡◌, ◌<◌, ◌^◌, decimal};
-ghost use Rattle.text_model.specs.Grammar.{IsFrom, IsNode};
+ghost use Rattle.text_model.specs.Grammar.{IsFrom};
 ghost use Rattle.schedule_text.specs.Reads.{Finds, Reads};
 
 use crate::fault::LineFault;
@@ -34,7 +34,7 @@ pub(crate) fn number(word: &[u8], low: u64, high: u64) -> Result<u64, LineFault>
 
 /// A node's number.
 pub(crate) fn node(word: &[u8]) -> Result<u8, LineFault>
-    ensures { Reads (λ n. (word.now ≡ decimal n) × IsNode n) result }
+    ensures { Reads (λ n. (word.now ≡ decimal n) × IsFrom 1 16 n) result }
 {
     Ok(number(word, 1, 16)? as u8)
 }

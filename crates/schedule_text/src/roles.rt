@@ -1,6 +1,6 @@
 //! Words that say what a node does, and in how many zones the copies lie.
 ghost use Rattle.std.specs.Prelude.{◌≡◌};
-ghost use Rattle.text_model.specs.Grammar.{kind_word, redundancy_word, role_words, IsCapacity, IsRedundancy, IsRole};
+ghost use Rattle.text_model.specs.Grammar.{kind_word, redundancy_word, role_words, IsIn, capacity_range, redundancy_range, role_range};
 ghost use Rattle.schedule_text.specs.Reads.{Reads};
 ghost use Rattle.schedule_text.specs.Kinds.{texts};
 
@@ -12,7 +12,7 @@ use std::alloc::Global;
 
 /// A capacity in bytes, 1 to 2^50, or `gateway`.
 fn kind(word: &[u8]) -> Result<Kind, LineFault>
-    ensures { Reads (λ kind. (word.now ≡ kind_word kind) × IsCapacity kind) result }
+    ensures { Reads (λ kind. (word.now ≡ kind_word kind) × IsIn (capacity_range kind)) result }
 {
     if is(word, b"gateway") {
         return Ok(Kind::Gateway);
@@ -22,7 +22,7 @@ fn kind(word: &[u8]) -> Result<Kind, LineFault>
 
 /// A zone and a capacity, or `none`.
 pub(crate) fn role_of(alloc: Global, words: &[&[u8]]) -> Result<Option<(Zone, Kind)>, LineFault>
-    ensures { Reads (λ role. (texts words.now ≡ role_words role) × IsRole role) result }
+    ensures { Reads (λ role. (texts words.now ≡ role_words role) × IsIn (role_range role)) result }
 {
     match *words {
         [word] if is(word, b"none") => Ok(None),
@@ -33,7 +33,7 @@ pub(crate) fn role_of(alloc: Global, words: &[&[u8]]) -> Result<Option<(Zone, Ki
 
 /// At least 1, 2 or 3 zones, or `maximum`.
 pub(crate) fn wanted(word: &[u8]) -> Result<Redundancy, LineFault>
-    ensures { Reads (λ wanted. (word.now ≡ redundancy_word wanted) × IsRedundancy wanted) result }
+    ensures { Reads (λ wanted. (word.now ≡ redundancy_word wanted) × IsIn (redundancy_range wanted)) result }
 {
     if is(word, b"maximum") {
         return Ok(Redundancy::Maximum);

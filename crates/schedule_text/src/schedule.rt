@@ -1,7 +1,8 @@
 //! The lines of a schedule, one by one.
-ghost use Rattle.std.specs.Prelude.{◌≡◌, ◌↔◌, ◌==◌, ◌<◌, ℕ, ◌∷◌, length, position, IsTrue, IfOk, OnOk};
-ghost use Rattle.text_model.specs.Grammar.{lines_of, IsBlank, IsBad, IsSchedule, IsFirstBadLine};
-ghost use Rattle.schedule_text.specs.Schedule.{AddsEvent};
+ghost use Rattle.std.specs.Prelude.{◌≡◌, ◌==◌, ◌<◌, ℕ, ◌∷◌, length, position, IsTrue, IfOk, OnOk};
+ghost use Rattle.text_model.specs.Grammar.{lines_of, is_blank};
+ghost use Rattle.text_model.specs.Reading.{IsSchedule, IsFirstBadLine};
+ghost use Rattle.schedule_text.specs.Schedule.{AddsEvent, IsBad};
 
 use crate::event_line::event_line;
 use crate::fault::{LineFault, ScheduleFault};
@@ -29,7 +30,7 @@ fn cut(text: &[u8]) -> (&[u8], &[u8])
 
 /// An empty line or a comment.
 fn is_blank(line: &[u8]) -> bool
-    ensures { IsTrue result ↔ IsBlank line.now }
+    ensures { result ≡ is_blank line.now }
 {
     match line {
         [] => true,

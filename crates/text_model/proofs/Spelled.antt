@@ -1,9 +1,10 @@
--- A line spells an event where its words are those of the event, and it spells no second one.
-use Rattle.std.proofs.Common.{◌≡◌, ℕ, ◌^◌, ◌<◌, Bool, true, false, ◌==◌, Some, None, List, [], ◌∷◌, refl, sym, ap, ◌∙◌, arith, rules, eqb-true}
+-- A line spells an event where its words are those of the event.
+use Rattle.std.proofs.Common.{◌≡◌, ℕ, ◌^◌, ◌<◌, Bool, true, false, ◌==◌, length, Some, None, List, [], ◌∷◌, refl, sym, ap, ◌∙◌, arith, rules, eqb-true}
 use Rattle.std.specs.Prelude.{⊤, IsTrue, codes, decimal}
-use Rattle.std.specs.List.{All, AllByRecursion, join_with_byte}
+use Rattle.std.specs.List.{All, AllByRecursion, list_all, join_with_byte}
 use Rattle.std.specs.Int.{IsInRange}
 use Rattle.std.specs.Str.Parse.{AllDigits}
+use Rattle.std.proofs.lemmas.Bool.{and_parts}
 use Rattle.std.proofs.lemmas.Bool.Decides.{nat_tests}
 use Rattle.std.proofs.lemmas.Fmt.{decimal_is_IsNumeral}
 use Rattle.std.proofs.lemmas.Str.Parse.{digit_from_value}
@@ -15,7 +16,8 @@ use Rattle.layout_roles.specs.declared.redundancy.Redundancy as wanted
 use Rattle.layout_roles.specs.declared.redundancy.Redundancy.TheVariants.{AtLeast, Maximum}
 use Rattle.object_model.specs.declared.event.Event.{Event}
 use Rattle.object_model.specs.declared.event.Event.TheVariants.{Trio, Bucket, Role, Redundancy, Apply, Tick, Put, Get, Deliver, Drain, Expire, Gossip, Ack, Sync, SyncAck, Clean}
-use Rattle.text_model.specs.Grammar.{Spells, IsAllowed, IsBucketName, IsZone, IsKey, IsCapacity, IsRedundancy, is_bucket_end, is_bucket_byte, is_key_byte, kind_word, redundancy_word, words_of}
+use Rattle.layout_text.specs.Values.{is_between, is_name_byte, is_bucket_byte, is_bucket_name, is_zone_name}
+use Rattle.text_model.specs.Grammar.{Spells, IsAllowed, IsIn, capacity_range, redundancy_range, is_key, is_key_byte, kind_word, redundancy_word, words_of}
 use Rattle.text_model.specs.Words.{is_space, words_in, IsSpelledBy}
 
 abbrev NoSpace : List ℕ → Type 0
@@ -38,14 +40,22 @@ passes p at b h =
       | false ↦ λ e. refl
     ] refl
 
-bucket_no_space : (name : List ℕ) → IsBucketName name → NoSpace name
-bucket_no_space name h = λ k d inside. passes is_bucket_byte refl _ (h.bytes k d inside)
+-- a name of bytes none of which is a space
+all_no_space : (p : ℕ → Bool) → p 32 ≡ false → (name : List ℕ) → list_all p name ≡ true → NoSpace name
+all_no_space p at [] h = All-nil (λ b. is_space b ≡ false)
+all_no_space p at (b ∷ bs) h =
+    All-cons (λ b. is_space b ≡ false) b bs (passes p at b ((and_parts (p b) (list_all p bs) h).0)) (all_no_space p at bs ((and_parts (p b) (list_all p bs) h).1))
 
-zone_no_space : (name : List ℕ) → IsZone name → NoSpace name
-zone_no_space name h = λ k d inside. passes is_bucket_end refl _ (h.bytes k d inside)
+bucket_no_space : (name : List ℕ) → IsTrue (is_bucket_name name) → NoSpace name
+bucket_no_space name h =
+    let rest = and_parts (is_between 3 63 (length name)) _ h in
+    all_no_space is_bucket_byte refl name (and_parts (list_all is_bucket_byte name) _ rest.1).0
 
-key_no_space : (key : List ℕ) → IsKey key → NoSpace key
-key_no_space key h = λ k d inside. passes is_key_byte refl _ (h.bytes k d inside)
+zone_no_space : (name : List ℕ) → IsTrue (is_zone_name name) → NoSpace name
+zone_no_space name h = all_no_space is_name_byte refl name (and_parts (is_between 1 16 (length name)) _ h).1
+
+key_no_space : (key : List ℕ) → IsTrue (is_key key) → NoSpace key
+key_no_space key h = all_no_space is_key_byte refl key (and_parts (is_between 1 64 (length key)) _ h).1
 
 digit_no_space : (c : ℕ) → IsInRange 48 57 c → is_space c ≡ false
 digit_no_space c h = grind (arith, nat_tests)
@@ -61,11 +71,11 @@ number_no_space n h = digits_no_space (decimal n) (decimal_is_IsNumeral n h).0.1
 name_no_space : (name : List ℕ) → AllByRecursion (λ b. is_space b ≡ false) name → NoSpace name
 name_no_space name h = All-from_recursion (λ b. is_space b ≡ false) name h
 
-kind_no_space : (k : Kind) → IsCapacity k → NoSpace (kind_word k)
+kind_no_space : (k : Kind) → IsIn (capacity_range k) → NoSpace (kind_word k)
 kind_no_space (Storage capacity) h = number_no_space capacity (omega arith)
 kind_no_space Gateway h = name_no_space (codes "gateway") (search rules)
 
-redundancy_no_space : (r : wanted.Redundancy) → IsRedundancy r → NoSpace (redundancy_word r)
+redundancy_no_space : (r : wanted.Redundancy) → IsIn (redundancy_range r) → NoSpace (redundancy_word r)
 redundancy_no_space (AtLeast r) h = number_no_space r (omega arith)
 redundancy_no_space Maximum h = name_no_space (codes "maximum") (search rules)
 
@@ -91,12 +101,12 @@ no_spaces (Put n bucket key size fill) h = (
   name_no_space (codes "put") (search rules),
   (
     number_no_space n (omega arith),
-    (bucket_no_space bucket h.1, (key_no_space key h.2, (number_no_space size (omega arith), (number_no_space fill (omega arith), tt)))),
+    (bucket_no_space bucket h.1.0, (key_no_space key h.1.1.0, (number_no_space size (omega arith), (number_no_space fill (omega arith), tt)))),
   ),
 )
 no_spaces (Get n bucket key) h = (
   name_no_space (codes "get") (search rules),
-  (number_no_space n (omega arith), (bucket_no_space bucket h.1, (key_no_space key h.2, tt))),
+  (number_no_space n (omega arith), (bucket_no_space bucket h.1.0, (key_no_space key h.1.1, tt))),
 )
 no_spaces (Deliver m) h = named (codes "deliver") (search rules) m (omega arith)
 no_spaces (Drain n) h = named (codes "drain") (search rules) n (omega arith)

@@ -1,70 +1,30 @@
--- Which event a line of a schedule spells, and which list of events an input spells.
-use Rattle.std.specs.Prelude.{◌≡◌, ℕ, suc, ◌-◌, ◌≤◌, Bool, ◌||◌, ◌&&◌, ◌==◌, nat_le, if◌then◌else◌, IsTrue, ⊤, Option, Some, None, List, [], ◌∷◌, length, codes, decimal, slice_index}
-use Rattle.std.specs.List.{All, join_with_byte}
+-- Which event a line of a schedule spells, and the lines of an input.
+use Rattle.std.specs.Prelude.{◌≡◌, ℕ, ◌≤◌, Bool, true, ◌||◌, ◌&&◌, ◌==◌, if◌then◌else◌, IsTrue, ⊤, Option, Some, None, List, [], ◌∷◌, length, codes, decimal}
+use Rattle.std.specs.List.{list_all, join_with_byte}
 use Rattle.object_model.specs.declared.event.Event.{Event}
+use Rattle.layout_text.specs.Values.{is_between, is_name_byte, is_bucket_name, is_zone_name}
 use Rattle.layout_roles.specs.declared.role.Zone.{Zone}
 use Rattle.layout_roles.specs.declared.role.Kind.{Kind}
 use Rattle.layout_roles.specs.declared.role.Kind.TheVariants.{Storage, Gateway}
 use Rattle.layout_roles.specs.declared.redundancy.Redundancy as wanted
 use Rattle.layout_roles.specs.declared.redundancy.Redundancy.TheVariants.{AtLeast, Maximum}
 use Rattle.object_model.specs.declared.event.Event.TheVariants.{Trio, Bucket, Role, Redundancy, Apply, Tick, Put, Get, Deliver, Drain, Expire, Gossip, Ack, Sync, SyncAck, Clean}
-use Rattle.object_model.specs.declared.event.Numbered.{Numbered}
-
--- the number is in a range
-abbrev pub is_between : ℕ → ℕ → ℕ → Bool
-is_between low high b = nat_le low b && nat_le b high
 
 -- 0 to 9
 abbrev pub is_digit : ℕ → Bool
 is_digit b = is_between 48 57 b
 
--- a to z
-abbrev pub is_lower : ℕ → Bool
-is_lower b = is_between 97 122 b
-
 -- A to Z
 abbrev pub is_upper : ℕ → Bool
 is_upper b = is_between 65 90 b
 
--- a to z, 0 to 9
-abbrev pub is_bucket_end : ℕ → Bool
-is_bucket_end b = is_lower b || is_digit b
-
--- these, - and .
-abbrev pub is_bucket_byte : ℕ → Bool
-is_bucket_byte b = is_bucket_end b || ((b == 45) || (b == 46))
-
 -- letters, digits, . _ / -
 abbrev pub is_key_byte : ℕ → Bool
-is_key_byte b = is_lower b || (is_upper b || (is_digit b || ((b == 46) || ((b == 95) || ((b == 47) || (b == 45))))))
+is_key_byte b = is_name_byte b || (is_upper b || ((b == 46) || ((b == 95) || ((b == 47) || (b == 45)))))
 
--- 3 to 63 bytes, the first and the last a letter or digit
-pub record IsBucketName (name : List ℕ) : Type 0 where
-  pub at_least : 3 ≤ length name
-  pub at_most : length name ≤ 63
-  pub bytes : All (λ b. IsTrue (is_bucket_byte b)) name
-  pub first : IsTrue (is_bucket_end (slice_index name 0))
-  pub last : IsTrue (is_bucket_end (slice_index name (length name - 1)))
-
--- a zone's name: 1 to 16 bytes
-pub record IsZone (name : List ℕ) : Type 0 where
-  pub at_least : 1 ≤ length name
-  pub at_most : length name ≤ 16
-  pub bytes : All (λ b. IsTrue (is_bucket_end b)) name
-
--- 1 to 64 bytes
-pub record IsKey (key : List ℕ) : Type 0 where
-  pub at_least : 1 ≤ length key
-  pub at_most : length key ≤ 64
-  pub bytes : All (λ b. IsTrue (is_key_byte b)) key
-
--- the number is in a range
-abbrev pub IsFrom : ℕ → ℕ → ℕ → Type 0
-IsFrom low high n = (low ≤ n) × (n ≤ high)
-
--- a node's number is from 1 to 16
-abbrev pub IsNode : ℕ → Type 0
-IsNode n = IsFrom 1 16 n
+-- an object's key: 1 to 64 bytes
+abbrev pub is_key : List ℕ → Bool
+is_key key = is_between 1 64 (length key) && list_all is_key_byte key
 
 -- the word of a role's kind: its capacity in bytes, or gateway
 abbrev pub kind_word : Kind → List ℕ
@@ -113,39 +73,69 @@ name_of e = first_word (words_of e)
 abbrev pub spelling : Event → List ℕ
 spelling e = join_with_byte 32 (words_of e)
 
+-- what a word of an event has to be; the names of buckets and zones are those of a configuration
+pub data Range : Type 0 where
+  anything : Range
+  number : ℕ → ℕ → ℕ → Range  -- at least, at most, the number
+  bucket : List ℕ → Range
+  zone : List ℕ → Range
+  key : List ℕ → Range
+  both : Range → Range → Range
+
+-- a node's number is from 1 to 16
+abbrev pub node_range : ℕ → Range
+node_range n = number 1 16 n
+
 -- a capacity is from 1 byte to 1 PiB
-abbrev pub IsCapacity : Kind → Type 0
-IsCapacity (Storage capacity) = IsFrom 1 1125899906842624 capacity
-IsCapacity Gateway = ⊤
+abbrev pub capacity_range : Kind → Range
+capacity_range (Storage capacity) = number 1 1125899906842624 capacity
+capacity_range Gateway = anything
 
 -- a role is none, or a zone and a capacity
-abbrev pub IsRole : Option (Zone × Kind) → Type 0
-IsRole None = ⊤
-IsRole (Some role) = IsZone role.0.0 × IsCapacity role.1
+abbrev pub role_range : Option (Zone × Kind) → Range
+role_range None = anything
+role_range (Some role) = both (zone role.0.0) (capacity_range role.1)
 
 -- a redundancy is 1, 2 or 3 zones, or the maximum
-abbrev pub IsRedundancy : wanted.Redundancy → Type 0
-IsRedundancy (AtLeast r) = IsFrom 1 3 r
-IsRedundancy Maximum = ⊤
+abbrev pub redundancy_range : wanted.Redundancy → Range
+redundancy_range (AtLeast r) = number 1 3 r
+redundancy_range Maximum = anything
+
+-- the ranges of an event's words
+abbrev pub range_of : Event → Range
+range_of Trio = anything
+range_of (Bucket name) = bucket name
+range_of (Role n role) = both (node_range n) (role_range role)
+range_of (Redundancy r) = redundancy_range r
+range_of (Apply n) = node_range n
+range_of (Tick ms) = number 0 86400000 ms
+range_of (Put n name object size fill) = both (node_range n) (both (bucket name) (both (key object) (both (number 0 3071 size) (number 0 250 fill))))
+range_of (Get n name object) = both (node_range n) (both (bucket name) (key object))
+range_of (Deliver m) = number 1 4294967295 m
+range_of (Drain n) = number 1 1000000 n
+range_of (Expire q) = number 1 4294967295 q
+range_of (Gossip from to) = both (node_range from) (node_range to)
+range_of (Ack n) = node_range n
+range_of (Sync n) = node_range n
+range_of (SyncAck n) = node_range n
+range_of (Clean n) = node_range n
+
+-- the number is in a range
+abbrev pub IsFrom : ℕ → ℕ → ℕ → Type 0
+IsFrom low high n = (low ≤ n) × (n ≤ high)
+
+-- what has to be so is so
+abbrev pub IsIn : Range → Type 0
+IsIn anything = ⊤
+IsIn (number low high n) = IsFrom low high n
+IsIn (bucket name) = IsTrue (is_bucket_name name)
+IsIn (zone name) = IsTrue (is_zone_name name)
+IsIn (key name) = IsTrue (is_key name)
+IsIn (both a b) = IsIn a × IsIn b
 
 -- the words of an event are in their ranges
 abbrev pub IsAllowed : Event → Type 0
-IsAllowed Trio = ⊤
-IsAllowed (Bucket name) = IsBucketName name
-IsAllowed (Role n role) = IsNode n × IsRole role
-IsAllowed (Redundancy r) = IsRedundancy r
-IsAllowed (Apply n) = IsNode n
-IsAllowed (Tick ms) = IsFrom 0 86400000 ms
-IsAllowed (Put n bucket key size fill) = IsNode n × IsBucketName bucket × IsKey key × IsFrom 0 3071 size × IsFrom 0 250 fill
-IsAllowed (Get n bucket key) = IsNode n × IsBucketName bucket × IsKey key
-IsAllowed (Deliver m) = IsFrom 1 4294967295 m
-IsAllowed (Drain n) = IsFrom 1 1000000 n
-IsAllowed (Expire q) = IsFrom 1 4294967295 q
-IsAllowed (Gossip from to) = IsNode from × IsNode to
-IsAllowed (Ack n) = IsNode n
-IsAllowed (Sync n) = IsNode n
-IsAllowed (SyncAck n) = IsNode n
-IsAllowed (Clean n) = IsNode n
+IsAllowed e = IsIn (range_of e)
 
 -- a line spells an event
 pub record Spells (line : List ℕ) (event : Event) : Type 0 where
@@ -153,9 +143,9 @@ pub record Spells (line : List ℕ) (event : Event) : Type 0 where
   pub allowed : IsAllowed event
 
 -- an empty line, or one that begins with #: no event
-abbrev pub IsBlank : List ℕ → Type 0
-IsBlank [] = ⊤
-IsBlank (b ∷ bs) = b ≡ 35
+abbrev pub is_blank : List ℕ → Bool
+is_blank [] = true
+is_blank (b ∷ bs) = b == 35
 
 -- the byte at the front of the first line
 abbrev pub onto_first : ℕ → List (List ℕ) → List (List ℕ)
@@ -166,32 +156,3 @@ onto_first b (l ∷ ls) = (b ∷ l) ∷ ls
 abbrev pub lines_of : List ℕ → List (List ℕ)
 lines_of [] = []
 lines_of (b ∷ bs) = if b == 10 then [] ∷ lines_of bs else onto_first b (lines_of bs)
-
--- these lines, the first of which has number n, spell these events in order
-pub data SpellsAll : ℕ → List (List ℕ) → List Numbered → Type 0 where
-  no_line : (n : ℕ) → SpellsAll n [] []
-  blank_line : (n : ℕ) (line : List ℕ) (lines : List (List ℕ)) (events : List Numbered) →
-      IsBlank line → SpellsAll (suc n) lines events → SpellsAll n (line ∷ lines) events
-  event_line : (n : ℕ) (line : List ℕ) (event : Event) (lines : List (List ℕ)) (events : List Numbered) →
-      Spells line event → SpellsAll (suc n) lines events → SpellsAll n (line ∷ lines) (record { line = n; event = event } ∷ events)
-
--- the input is a schedule, and these are its events
-abbrev pub IsSchedule : List ℕ → List Numbered → Type 0
-IsSchedule input events = SpellsAll 1 (lines_of input) events
-
--- a line outside the grammar
-pub record IsBad (line : List ℕ) : Type 0 where
-  pub not_blank : IsBlank line → ⊥
-  pub no_event : (event : Event) → Spells line event → ⊥
-
--- line k of these lines, the first of which has number n, is the first outside the grammar
-pub data IsFirstBad : ℕ → List (List ℕ) → ℕ → Type 0 where
-  this_line : (n : ℕ) (line : List ℕ) (lines : List (List ℕ)) → IsBad line → IsFirstBad n (line ∷ lines) n
-  after_blank : (n k : ℕ) (line : List ℕ) (lines : List (List ℕ)) →
-      IsBlank line → IsFirstBad (suc n) lines k → IsFirstBad n (line ∷ lines) k
-  after_event : (n k : ℕ) (line : List ℕ) (event : Event) (lines : List (List ℕ)) →
-      Spells line event → IsFirstBad (suc n) lines k → IsFirstBad n (line ∷ lines) k
-
--- line k of the input is the first outside the grammar
-abbrev pub IsFirstBadLine : List ℕ → ℕ → Type 0
-IsFirstBadLine input k = IsFirstBad 1 (lines_of input) k

@@ -1,3 +1,4 @@
 pub mod Grammar
 pub mod Transcript
 pub mod Words
+pub mod Reading

@@ -123,10 +123,10 @@ turns_text s (t ∷ ts) = event_text t.numbered (outcome_of s t) ++ turns_text (
 abbrev pub end_line : ℕ → ℕ → ℕ → List ℕ
 end_line events requests messages = codes "end" ++ number events ++ number requests ++ number messages ++ 10 ∷ []
 
--- the last line, with the counts of events, requests and messages
-abbrev pub end_text : List Turn → State → List ℕ
-end_text ts s = end_line (length ts) (length s.world.requests) (length s.world.messages)
+-- what is written after so many events that led to this state: the last line
+abbrev pub tail_text : ℕ → State → List ℕ
+tail_text events s = end_line events (length s.world.requests) (length s.world.messages)
 
--- the whole transcript of turns
+-- the whole transcript of turns: what they told one by one, and the tail of the run
 abbrev pub transcript : List Turn → List ℕ
-transcript ts = turns_text start ts ++ end_text ts (run start ts)
+transcript ts = turns_text start ts ++ tail_text (length ts) (run start ts)

@@ -1,8 +1,8 @@
 use Rattle.std.proofs.Common.{ap, Err}
 use Rattle.garage_lab.specs.Answer.{input_limit}
-use Rattle.text_model.specs.Grammar.{IsSchedule, IsFirstBadLine, lines_of}
+use Rattle.text_model.specs.Reading.{IsSchedule, IsFirstBadLine}
 use Rattle.garage_lab.proofs.Texts.{of_all}
-use Rattle.garage_lab.proofs.Replays.{spelled_are_meant}
+use Rattle.garage_lab.proofs.Replays.{schedule_is_meant}
 use Rattle.garage_lab.proofs.Stops.{bad_line_back}
 use Rattle.garage_lab.proofs.schedule.read_schedule.Goals as goal
 
@@ -16,4 +16,4 @@ returns-clause-schedule g c =
     of_all (λ bytes. IsSchedule bytes c.in_ok-events.events) (g.I.Source.left c.args.input.now) input_limit c.in_ok-text.text.items c.in_ok-text.ensures.bytes (rw c.deref.ensures.value at c.in_ok-events.ensures.events)
 
 pub returns-clause-meant : goal.returns-clause-meant
-returns-clause-meant g c = spelled_are_meant 1 (lines_of c.deref.result.now) c.in_ok-events.events c.in_ok-events.ensures.events
+returns-clause-meant g c = schedule_is_meant c.deref.result.now c.in_ok-events.events c.in_ok-events.ensures.events

@@ -1,4 +1,4 @@
-use Rattle.std.proofs.Common.{arith, refl}
+use Rattle.std.proofs.Common.{arith}
 use Rattle.garage_lab.proofs.Running.{running_none, part_none, running_has, running_part, running_more, running_cut, running_stops, all_whole, all_cut}
 use Rattle.garage_lab.proofs.Stops.{number_back, on_err}
 use Rattle.garage_lab.proofs.transcript.write_transcript.Goals as goal
@@ -36,17 +36,17 @@ loop-next-preserved g c = record {
   counted = omega (arith, c.loop-next.invariant.counted, c.in_ok-write_whole.ensures.counted);
 }
 
-pub returns-in_err-end-clause-part : goal.returns-in_err-end-clause-part
-returns-in_err-end-clause-part g c =
-    on_err c.from_residual-in_err-end.result _ (running_part c.loop-next.lab (g.O.Sink.written c.args.output.now) (g.O.Sink.written c.loop-next.output) c.args.events.now c.loop-next.next-index c.loop-next.invariant.running)
+pub returns-in_err-tail-clause-part : goal.returns-in_err-tail-clause-part
+returns-in_err-tail-clause-part g c =
+    on_err c.from_residual-in_err-tail.result _ (running_part c.loop-next.lab (g.O.Sink.written c.args.output.now) (g.O.Sink.written c.loop-next.output) c.args.events.now c.loop-next.next-index c.loop-next.invariant.running)
 
 pub returns-in_err-write_whole-2-clause-part : goal.returns-in_err-write_whole-2-clause-part
 returns-in_err-write_whole-2-clause-part g c =
     on_err c.from_residual-in_err-write_whole-2.result _ (
     all_cut c.loop-next.lab (g.O.Sink.written c.args.output.now) (g.O.Sink.written c.loop-next.output) (g.O.Sink.written c.write_whole-2.new.output) c.args.events.now c.loop-next.next-index c.loop-next.invariant.running
-    c.loop-next-test.false c.requests.result c.messages.result _ c.in_ok-end.end refl c.requests.ensures c.messages.ensures c.in_ok-end.ensures.text (rw c.as_slice-2.ensures at c.in_err-write_whole-2.ensures.err))
+    c.loop-next-test.false c.in_ok-tail.tail c.in_ok-tail.ensures.text (rw c.as_slice-2.ensures at c.in_err-write_whole-2.ensures.err))
 
 pub returns-clause-whole : goal.returns-clause-whole
 returns-clause-whole g c =
     all_whole c.loop-next.lab (g.O.Sink.written c.args.output.now) (g.O.Sink.written c.loop-next.output) (g.O.Sink.written c.write_whole-2.new.output) c.args.events.now c.loop-next.next-index c.loop-next.invariant.running
-    c.loop-next-test.false c.requests.result c.messages.result _ c.in_ok-end.end refl c.requests.ensures c.messages.ensures c.in_ok-end.ensures.text (rw c.as_slice-2.ensures at c.in_ok-write_whole-2.ensures.ok)
+    c.loop-next-test.false c.in_ok-tail.tail c.in_ok-tail.ensures.text (rw c.as_slice-2.ensures at c.in_ok-write_whole-2.ensures.ok)

@@ -1,0 +1,37 @@
+//! The command that the words after the program's name ask for.
+ghost use Rattle.std.specs.Prelude.{◌≡◌};
+ghost use Rattle.garage_lab.specs.Command.{command_named, asked_by};
+
+use std::alloc::Global;
+
+/// What the program does with its input.
+#[derive(Clone, Copy, Debug, PartialEq, Eq)]
+pub enum Command {
+    /// Writes the layout of a configuration.
+    Layout,
+    /// Writes the transcript of a schedule.
+    Replay,
+}
+
+/// The command of this name.
+fn command_named(name: &str) -> Option<Command>
+    ensures { result ≡ command_named name.now }
+{
+    if name == "layout" {
+        Some(Command::Layout)
+    } else if name == "replay" {
+        Some(Command::Replay)
+    } else {
+        None
+    }
+}
+
+/// The command that these words ask for, if they ask for any.
+pub fn asked_by(words: &[String]) -> Option<Command>
+    ensures { result ≡ asked_by words.now }
+{
+    match words {
+        [name] => command_named(name.as_str()),
+        _ => None,
+    }
+}

@@ -1,0 +1,108 @@
+-- What an input spells: the events of a schedule, or the first line outside the grammar.
+use Rattle.std.specs.Prelude.{◌≡◌, ℕ, suc, Bool, true, false, ◌&&◌, if◌then◌else◌, Option, Some, None, List, [], ◌∷◌, codes, bytes_eq}
+use Rattle.std.specs.Str.Parse.{digits_value}
+use Rattle.layout_roles.specs.declared.role.Kind.{Kind}
+use Rattle.layout_roles.specs.declared.role.Kind.TheVariants.{Storage, Gateway}
+use Rattle.layout_roles.specs.declared.redundancy.Redundancy as wanted
+use Rattle.layout_roles.specs.declared.redundancy.Redundancy.TheVariants.{AtLeast, Maximum}
+use Rattle.object_model.specs.declared.event.Event.{Event}
+use Rattle.object_model.specs.declared.event.Event.TheVariants.{Trio, Bucket, Role, Redundancy, Apply, Tick, Put, Get, Deliver, Drain, Expire, Gossip, Ack, Sync, SyncAck, Clean}
+use Rattle.object_model.specs.declared.event.Numbered.{Numbered}
+use Rattle.layout_text.specs.Values.{is_between, is_bucket_name, is_zone_name}
+use Rattle.text_model.specs.Grammar.{is_digit, is_key, Range, anything, number, bucket, zone, key, both, range_of, spelling, is_blank, lines_of}
+use Rattle.text_model.specs.Words.{words_in}
+
+-- the number that a word's digits say
+abbrev pub number_in : List ℕ → ℕ
+number_in word = digits_value 10 word
+
+-- a word begins with a digit
+abbrev pub is_number : List ℕ → Bool
+is_number [] = false
+is_number (b ∷ bs) = is_digit b
+
+-- a capacity, or that a node is a gateway
+abbrev pub kind_in : List ℕ → Kind
+kind_in word = if is_number word then Storage (number_in word) else Gateway
+
+-- a number of zones, or the maximum
+abbrev pub redundancy_in : List ℕ → wanted.Redundancy
+redundancy_in word = if is_number word then AtLeast (number_in word) else Maximum
+
+-- the one event that words can be those of
+abbrev pub candidate : List (List ℕ) → Option Event
+candidate (w ∷ []) = Some Trio
+candidate (w ∷ a ∷ []) =
+    if bytes_eq w (codes "bucket") then Some (Bucket a)
+    else if bytes_eq w (codes "redundancy") then Some (Redundancy (redundancy_in a))
+    else if bytes_eq w (codes "apply") then Some (Apply (number_in a))
+    else if bytes_eq w (codes "tick") then Some (Tick (number_in a))
+    else if bytes_eq w (codes "deliver") then Some (Deliver (number_in a))
+    else if bytes_eq w (codes "drain") then Some (Drain (number_in a))
+    else if bytes_eq w (codes "expire") then Some (Expire (number_in a))
+    else if bytes_eq w (codes "ack") then Some (Ack (number_in a))
+    else if bytes_eq w (codes "sync") then Some (Sync (number_in a))
+    else if bytes_eq w (codes "syncack") then Some (SyncAck (number_in a))
+    else Some (Clean (number_in a))
+candidate (w ∷ a ∷ b ∷ []) =
+    if bytes_eq w (codes "role") then Some (Role (number_in a) None) else Some (Gossip (number_in a) (number_in b))
+candidate (w ∷ n ∷ a ∷ b ∷ []) =
+    if bytes_eq w (codes "role") then Some (Role (number_in n) (Some (record { 0 = a }, kind_in b)))
+    else Some (Get (number_in n) a b)
+candidate (w ∷ n ∷ name ∷ object ∷ size ∷ fill ∷ []) = Some (Put (number_in n) name object (number_in size) (number_in fill))
+candidate _ = None
+
+-- whether what has to be so is so
+abbrev pub is_in : Range → Bool
+is_in anything = true
+is_in (number low high n) = is_between low high n
+is_in (bucket name) = is_bucket_name name
+is_in (zone name) = is_zone_name name
+is_in (key name) = is_key name
+is_in (both a b) = is_in a && is_in b
+
+-- the event, where the line spells it
+abbrev pub where_spelled : List ℕ → Event → Option Event
+where_spelled line e = if bytes_eq line (spelling e) && is_in (range_of e) then Some e else None
+
+-- the event where it is the one that the line spells
+abbrev pub spelled_by : List ℕ → Option Event → Option Event
+spelled_by line None = None
+spelled_by line (Some e) = where_spelled line e
+
+-- the event that a line spells, where it spells one
+unfoldable pub event_of : List ℕ → Option Event
+event_of line = spelled_by line (candidate (words_in line))
+
+-- what a text spells
+pub data Reading : Type 0 where
+  schedule : List Numbered → Reading  -- these events
+  bad_line : ℕ → Reading  -- no events, and this is the first line outside the grammar
+
+-- an event, and what the lines after it spell
+abbrev pub event_before : Numbered → Reading → Reading
+event_before e (schedule es) = schedule (e ∷ es)
+event_before e (bad_line k) = bad_line k
+
+-- line n spells this event or none, and the lines after it spell the rest
+abbrev pub line_before : ℕ → Option Event → Reading → Reading
+line_before n None rest = bad_line n
+line_before n (Some e) rest = event_before (record { line = n; event = e }) rest
+
+-- what these lines spell, the first of which has number n
+abbrev pub reading_from : ℕ → List (List ℕ) → Reading
+reading_from n [] = schedule []
+reading_from n (line ∷ lines) =
+    if is_blank line then reading_from (suc n) lines else line_before n (event_of line) (reading_from (suc n) lines)
+
+-- what an input spells
+abbrev pub reading : List ℕ → Reading
+reading input = reading_from 1 (lines_of input)
+
+-- the input is a schedule, and these are its events
+abbrev pub IsSchedule : List ℕ → List Numbered → Type 0
+IsSchedule input events = reading input ≡ schedule events
+
+-- line k of the input is the first outside the grammar
+abbrev pub IsFirstBadLine : List ℕ → ℕ → Type 0
+IsFirstBadLine input k = reading input ≡ bad_line k
