@@ -10,12 +10,13 @@ use Rattle.layout_roles.specs.Fits.{NodeSet, Fits, NoneFits}
 use Rattle.layout_roles.specs.declared.cut.Cut.{Cut}
 use Rattle.layout_roles.specs.declared.certified.Certified.{Certified}
 use Rattle.layout_size.specs.declared.fault.LayoutFault.{LayoutFault}
-use Rattle.layout_size.specs.declared.fault.LayoutFault.TheVariants.{TooFewNodes, TooFewZones, NoAssignment}
+use Rattle.layout_size.specs.declared.fault.LayoutFault.TheVariants.{TooFewNodes, TooFewZones, NoAssignment, Memory}
 use Rattle.layout_size.specs.Answers.{IfNoAssignment}
 use Rattle.layout_roles.specs.Certificates.{IsPrintedCut}
 use Rattle.layout_roles.specs.Text.{cut_lines, layout_text}
 use Rattle.layout_text.specs.declared.config.ConfigFault.{ConfigFault}
 use Rattle.layout_text.specs.Settings.{Settings, said}
+use Rattle.layout_command.specs.Reasons.{reason_text, IsTold}
 use Rattle.layout_command.specs.Answer.{greatest_node, nodes_line, zones_line, none_line, zones_for, AreEnough, IsLayout, HasNone, IsLaidOut, few_nodes, few_zones, none, layout, IsAnswer, not_text, not_toml, bad_field, laid_out}
 
 -- what `compute` says of a lack of nodes and of zones
@@ -59,6 +60,15 @@ module _ (settings : Settings) (r : Result Certified LayoutFault) (nodes : Nodes
 
   pub stated_layout : (certified : Certified) → r ≡ Ok certified → IsLayout settings certified → status ≡ Done → text ≡ layout_text settings.roles certified → IsLaidOut settings status text
   stated_layout certified e is done wrote = layout certified (are_enough settings r nodes zones (λ n k. cc) (λ z m k. cc)) is done wrote
+
+  -- each reason as it is told
+  pub stated_reason : (fault : LayoutFault) → r ≡ Err fault → IsTold fault → status ≡ Refused → text ≡ reason_text settings.roles fault →
+      IfErr r (λ fault. IfNoAssignment fault (λ _. NoneFits settings.roles (zones_for settings) 1)) → IfErr r (λ fault. IfNoAssignment fault (λ cut. IsPrintedCut settings.roles (zones_for settings) 1 cut)) →
+      IfErr r (λ fault. IfNoAssignment fault (λ cut. cut.weight < 768)) → IsLaidOut settings status text
+  stated_reason (TooFewNodes n) e told is wrote no_fit printed light = stated_nodes n e is wrote
+  stated_reason (TooFewZones z k) e told is wrote no_fit printed light = stated_zones z k e is wrote
+  stated_reason (NoAssignment cut) e told is wrote no_fit printed light = stated_none cut e is wrote no_fit printed light
+  stated_reason Memory e told is wrote no_fit printed light = absurd told
 
 abbrev pub SmallerSizes : Type 0
 SmallerSizes = (roles : List Role) (r small great : ℕ) (sets : List NodeSet) → 0 < small → small ≤ great → Fits roles r great sets → Fits roles r small sets

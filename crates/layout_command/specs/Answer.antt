@@ -25,6 +25,7 @@ field_word field.Node = codes "node"
 field_word field.Id = codes "id"
 field_word field.Zone = codes "zone"
 field_word field.Capacity = codes "capacity"
+field_word field.Old = codes "old"
 
 -- the input is no TOML
 unfoldable pub toml_line : List ℕ

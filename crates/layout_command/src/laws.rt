@@ -2,12 +2,20 @@
 ghost use Rattle.std.specs.Prelude.{ℕ, List, ◌≡◌};
 ghost use Rattle.lab_outside.specs.declared.exit.Status.{Status};
 ghost use Rattle.layout_command.specs.Answer.{IsAnswer};
+ghost use Rattle.layout_command.specs.Moves.{IsMovesAnswer};
 
 use layout_roles::smaller_sizes;
 
 /// One status is stated for an input, whichever greatest assignment is given.
 pub fn one_status()
     ensures { (input : List ℕ) (first second : Status) (text other : List ℕ) → IsAnswer input first text → IsAnswer input second other → first ≡ second }
+{
+    smaller_sizes();
+}
+
+/// One status is stated for an input with `--moves`, whichever of the best assignments is given.
+pub fn one_moves_status()
+    ensures { (input : List ℕ) (first second : Status) (text other : List ℕ) → IsMovesAnswer input first text → IsMovesAnswer input second other → first ≡ second }
 {
     smaller_sizes();
 }

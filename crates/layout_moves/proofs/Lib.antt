@@ -6,6 +6,7 @@ mod Limit
 mod Listed
 mod Near
 mod Offering
+mod Ordered
 mod Rounded
 mod Running
 mod Steps

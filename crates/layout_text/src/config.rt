@@ -27,6 +27,8 @@ pub enum FieldName {
     Id,
     Zone,
     Capacity,
+    /// The tables of the old sets, which are looked at after all others.
+    Old,
 }
 
 /// Why there is no configuration.
