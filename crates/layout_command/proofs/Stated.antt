@@ -70,6 +70,10 @@ module _ (settings : Settings) (r : Result Certified LayoutFault) (nodes : Nodes
   stated_reason (NoAssignment cut) e told is wrote no_fit printed light = stated_none cut e is wrote no_fit printed light
   stated_reason Memory e told is wrote no_fit printed light = absurd told
 
+-- where something is computed there are nodes and zones enough
+pub enough_ok : (settings : Settings) (r : Result Certified LayoutFault) → NodesCause settings r → ZonesCause settings r → (certified : Certified) → r ≡ Ok certified → AreEnough settings
+enough_ok settings r nodes zones certified e = are_enough settings r nodes zones (λ n k. cc) (λ z m k. cc)
+
 abbrev pub SmallerSizes : Type 0
 SmallerSizes = (roles : List Role) (r small great : ℕ) (sets : List NodeSet) → 0 < small → small ≤ great → Fits roles r great sets → Fits roles r small sets
 
@@ -79,7 +83,7 @@ module _ (smaller : SmallerSizes) where
       has.none certified.sets.sets
       (subst (λ r. Fits settings.roles r 1 certified.sets.sets) is.redundancy (smaller settings.roles certified.r 1 certified.size certified.sets.sets (omega arith) (omega (arith, is.some)) is.greatest.fits))
 
-  laid_status : (settings : Settings) (s t : Status) (a b : List ℕ) → IsLaidOut settings s a → IsLaidOut settings t b → s ≡ t
+  pub laid_status : (settings : Settings) (s t : Status) (a b : List ℕ) → IsLaidOut settings s a → IsLaidOut settings t b → s ≡ t
   laid_status settings s t a b (few_nodes few e w) (few_nodes also d v) = e ∙ sym d
   laid_status settings s t a b (few_nodes few e w) (few_zones all less d v) = e ∙ sym d
   laid_status settings s t a b (few_nodes few e w) (none cut all is d v) = e ∙ sym d
@@ -97,7 +101,7 @@ module _ (smaller : SmallerSizes) where
   laid_status settings s t a b (layout certified enough is e w) (none cut also has d v) = absurd (not_both settings certified cut is has)
   laid_status settings s t a b (layout certified enough is e w) (layout other also has d v) = e ∙ sym d
 
-  same_settings : (reading : Result Settings ConfigFault) (one two : Settings) → reading ≡ Ok one → reading ≡ Ok two → one ≡ two
+  pub same_settings : (reading : Result Settings ConfigFault) (one two : Settings) → reading ≡ Ok one → reading ≡ Ok two → one ≡ two
   same_settings reading one two h k = cc
 
   pub answer_status : (input : List ℕ) (s t : Status) (a b : List ℕ) → IsAnswer input s a → IsAnswer input t b → s ≡ t

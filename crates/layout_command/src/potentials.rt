@@ -20,11 +20,7 @@ fn append_potential(out: &mut Bytes, potential: i64) -> Result<(), Memory>
 }
 
 // The potentials of a partition's vertices.
-fn partition_words(
-    alloc: Global,
-    entries: &[(Vertex, i64)],
-    partition: u8,
-) -> Result<Bytes, Memory>
+fn partition_words(alloc: Global, entries: &[(Vertex, i64)], partition: u8) -> Result<Bytes, Memory>
     ensures words { IfOk result (λ words. words ≡ partition_words entries.now partition) }
     ensures want { OnlyWant result }
 {

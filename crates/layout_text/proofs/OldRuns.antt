@@ -1,16 +1,21 @@
 -- The old sets, run by run.
-use Rattle.std.proofs.Common.{◌≡◌, ℕ, zero, suc, ◌+◌, ◌<◌, Bool, true, false, ◌&&◌, IsTrue, List, [], ◌∷◌, ◌++◌, Option, Some, None, option_and_then, length, drop, get_or, replicate, refl, sym, ap, ◌∙◌, subst, arith}
+use Rattle.std.proofs.Common.{◌≡◌, ℕ, zero, suc, ◌+◌, ◌<◌, Bool, true, false, ◌&&◌, IsTrue, List, [], ◌∷◌, ◌++◌, Option, Some, None, Result, Ok, Err, option_and_then, length, drop, get_or, replicate, refl, sym, ap, ◌∙◌, subst, arith}
 use Rattle.std.specs.List.{list_all}
 use Rattle.std.proofs.lemmas.Bool.{and_from}
 use Rattle.std.proofs.lemmas.List.{drop_more}
 use Rattle.std.proofs.lemmas.List.Folds.{list_all-append}
-use Rattle.toml.specs.Data.{as_table}
+use Rattle.std.specs.Option.{ok_or}
+use Rattle.toml.specs.Data.{Members, as_table}
+use Rattle.toml.specs.Parse.{parse_document}
 use Rattle.toml.specs.View.{view, items_view}
 use Rattle.toml.specs.declared.value.Value.{Value}
 use Rattle.layout_roles.specs.Fits.{NodeSet}
 use Rattle.layout_roles.specs.Zones.{set_ascends}
 use Rattle.layout_text.specs.declared.old.OldRun.{OldRun}
-use Rattle.layout_text.specs.Old.{nodes_of, run_from, sets_of}
+use Rattle.layout_text.specs.declared.config.FieldName.TheVariants as field
+use Rattle.layout_text.specs.declared.config.ConfigFault.TheVariants.{NotToml}
+use Rattle.layout_text.specs.Settings.{◌>>=◌, Settings, needed, faulted, settings_in, said}
+use Rattle.layout_text.specs.Old.{nodes_of, run_from, sets_of, old_in, said_old}
 
 -- only three nodes are a set
 pub only_three : (values : List Value) → (length values ≡ 3 → ⊥) → None ≡ nodes_of (items_view values)
@@ -39,3 +44,16 @@ rest_more values i value sets run whole inside is found before =
     let next : sets_of sets (items_view (value ∷ drop (i + 1) values)) ≡ sets_of (sets ++ replicate run.count run.set) (items_view (drop (i + 1) values)) =
     ap (λ (r : Option OldRun). option_and_then (λ run. sets_of (sets ++ replicate run.count run.set) (items_view (drop (i + 1) values))) r) found in
     sym next ∙ sym (ap (λ (vs : List Value). sets_of sets (items_view vs)) here) ∙ before
+
+-- a text of settings is a document
+pub is_document : (greatest : ℕ) (input : List ℕ) (settings : Settings) → said greatest input ≡ Ok settings → said_old input ≡ Err NotToml → ⊥
+unfolding said said_old
+is_document greatest input settings h k = by (parse_document input) h k
+  where
+    other : (found : Option (List NodeSet)) → faulted (needed field.Old found) ≡ Err NotToml → ⊥
+    other None k = cc
+    other (Some sets) k = cc
+
+    by : (document : Option Members) → (ok_or document NotToml >>= (λ root. faulted (settings_in greatest root))) ≡ Ok settings → (ok_or document NotToml >>= (λ root. faulted (needed field.Old (old_in root)))) ≡ Err NotToml → ⊥
+    by None h k = cc
+    by (Some root) h k = other (old_in root) k

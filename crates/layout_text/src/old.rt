@@ -53,7 +53,9 @@ fn nodes(values: &[Value]) -> Option<[u8; 3]>
     ensures nodes { result ≡ nodes_of (items_view values.now) }
     ensures ascends { IfSome result (λ set. IsTrue (set_ascends set)) }
 {
-    let [first, second, third] = values else { return None };
+    let [first, second, third] = values else {
+        return None
+    };
     set(node(first)?, node(second)?, node(third)?)
 }
 
