@@ -2,6 +2,7 @@ mod Adding
 mod Certificate
 pub mod Chosen
 mod Ending
+mod Heading
 mod Limit
 mod Listed
 mod Near

@@ -11,6 +11,7 @@ ghost use Rattle.layout_moves.specs.Answers.{IfNoAssignment};
 use crate::auction::{FEE, hold_auction};
 use crate::count::count_moves;
 use crate::fault::MoveFault;
+use crate::head_start::head_start;
 use crate::laws::potentials_bound;
 use crate::moved::Moved;
 use crate::potentials::{potentials_of, top_of};
@@ -90,6 +91,7 @@ fn improved(
     let mut sets = start.sets;
     let mut prices = no_prices(alloc)?;
     settle_all(roles, groups, 4 - r, &mut sets, FEE, old, prices.as_slice());
+    head_start(roles, r, size, groups, old, &mut sets, &mut prices)?;
     hold_auction(roles, r, size, groups, old, &mut sets, &mut prices);
     let shift = shift_of(prices.as_slice());
     let prices = whole_prices(alloc, prices.as_slice(), shift)?;
