@@ -1,23 +1,27 @@
 //! Jobs that are timed. `bench JOB ARGUMENTS..` does the job that its first word names, and prints what
-//! comes out and never a time; the scripts `bench/compare`, `bench/replay`, `bench/http` and `bench/trie` take the
-//! times.
+//! comes out and never a time; the scripts `bench/compare`, `bench/replay`, `bench/http`, `bench/trie` and
+//! `bench/moves` take the times.
 //!
 //! - `hash BYTES`: the BLAKE2b digest of 32 bytes, in hexadecimal, of a message of that many bytes,
 //!   of which byte i is i modulo 251.
 //! - `trie PAIRS CHANGES`: the root of a trie of that many pairs, in hexadecimal, after that many changes that were
 //!   settled one after the other.
 //! - `replay`: a schedule of 100,000 events, for `garage_lab replay`.
+//! - `moves`: what `layout --moves` answers to the configuration on standard input.
 //! - `http SIZE COUNT`: reads COUNT heads of 16,384 bytes, each of a connection that gives SIZE bytes at a
 //!   time, and prints how many bytes their targets have.
 #![tactic(auto)]
 
 mod hashing;
 mod heads;
+mod moves;
 mod schedule;
 mod tries;
 
 use hashing::pattern_digest;
 use heads::targets_read;
+use lab_outside::{StdSink, StdSource, write_whole};
+use moves::answered_moves;
 use schedule::schedule;
 use std::alloc::Global;
 use std::process::ExitCode;
@@ -29,6 +33,7 @@ fn main(rt: HostRuntime) -> io::Result<ExitCode> {
     match words.as_slice() {
         [job, byte_count] if job.as_str() == "hash" => hash(&rt, byte_count.as_str()),
         [job] if job.as_str() == "replay" => replay(&rt),
+        [job] if job.as_str() == "moves" => fewest_moves(&rt),
         [job, size, count] if job.as_str() == "http" => http(&rt, size.as_str(), count.as_str()),
         [job, pairs, changes] if job.as_str() == "trie" => {
             trie(&rt, pairs.as_str(), changes.as_str())
@@ -76,6 +81,19 @@ fn replay(rt: &(impl Print + Alloc<A = Global>)) -> io::Result<ExitCode> {
     Ok(ExitCode::SUCCESS)
 }
 
+fn fewest_moves(rt: &HostRuntime) -> io::Result<ExitCode> {
+    let mut input = StdSource::new(rt.reader());
+    let mut output = StdSink::new(io::writer(rt));
+    let Some(text) = answered_moves(rt.alloc(), &mut input) else {
+        eprintln!(rt; "no answer")?;
+        return Ok(ExitCode::FAILURE);
+    };
+    match write_whole(&mut output, text.as_slice()) {
+        Ok(()) => Ok(ExitCode::SUCCESS),
+        Err(_) => Ok(ExitCode::FAILURE),
+    }
+}
+
 fn http(
     rt: &(impl Print + Eprint + Alloc<A = Global>),
     size: &str,
@@ -97,6 +115,8 @@ fn http(
 }
 
 fn usage(rt: &impl Eprint) -> io::Result<ExitCode> {
-    eprintln!(rt; "usage: bench hash BYTES | replay | http SIZE COUNT | trie PAIRS CHANGES")?;
+    eprintln!(rt;
+        "usage: bench hash BYTES | replay | moves | http SIZE COUNT | trie PAIRS CHANGES"
+    )?;
     Ok(ExitCode::from(2))
 }

@@ -1,3 +1,4 @@
 pub mod Stated
 pub mod Computed
 pub mod Configured
+pub mod StatedMoves

@@ -10,12 +10,13 @@ use Rattle.layout_roles.specs.Fits.{NodeSet, Fits, NoneFits}
 use Rattle.layout_roles.specs.declared.cut.Cut.{Cut}
 use Rattle.layout_roles.specs.declared.certified.Certified.{Certified}
 use Rattle.layout_size.specs.declared.fault.LayoutFault.{LayoutFault}
-use Rattle.layout_size.specs.declared.fault.LayoutFault.TheVariants.{TooFewNodes, TooFewZones, NoAssignment}
+use Rattle.layout_size.specs.declared.fault.LayoutFault.TheVariants.{TooFewNodes, TooFewZones, NoAssignment, Memory}
 use Rattle.layout_size.specs.Answers.{IfNoAssignment}
 use Rattle.layout_roles.specs.Certificates.{IsPrintedCut}
 use Rattle.layout_roles.specs.Text.{cut_lines, layout_text}
 use Rattle.layout_text.specs.declared.config.ConfigFault.{ConfigFault}
 use Rattle.layout_text.specs.Settings.{Settings, said}
+use Rattle.layout_command.specs.Reasons.{reason_text, IsTold}
 use Rattle.layout_command.specs.Answer.{greatest_node, nodes_line, zones_line, none_line, zones_for, AreEnough, IsLayout, HasNone, IsLaidOut, few_nodes, few_zones, none, layout, IsAnswer, not_text, not_toml, bad_field, laid_out}
 
 -- what `compute` says of a lack of nodes and of zones
@@ -60,6 +61,19 @@ module _ (settings : Settings) (r : Result Certified LayoutFault) (nodes : Nodes
   pub stated_layout : (certified : Certified) → r ≡ Ok certified → IsLayout settings certified → status ≡ Done → text ≡ layout_text settings.roles certified → IsLaidOut settings status text
   stated_layout certified e is done wrote = layout certified (are_enough settings r nodes zones (λ n k. cc) (λ z m k. cc)) is done wrote
 
+  -- each reason as it is told
+  pub stated_reason : (fault : LayoutFault) → r ≡ Err fault → IsTold fault → status ≡ Refused → text ≡ reason_text settings.roles fault →
+      IfErr r (λ fault. IfNoAssignment fault (λ _. NoneFits settings.roles (zones_for settings) 1)) → IfErr r (λ fault. IfNoAssignment fault (λ cut. IsPrintedCut settings.roles (zones_for settings) 1 cut)) →
+      IfErr r (λ fault. IfNoAssignment fault (λ cut. cut.weight < 768)) → IsLaidOut settings status text
+  stated_reason (TooFewNodes n) e told is wrote no_fit printed light = stated_nodes n e is wrote
+  stated_reason (TooFewZones z k) e told is wrote no_fit printed light = stated_zones z k e is wrote
+  stated_reason (NoAssignment cut) e told is wrote no_fit printed light = stated_none cut e is wrote no_fit printed light
+  stated_reason Memory e told is wrote no_fit printed light = absurd told
+
+-- where something is computed there are nodes and zones enough
+pub enough_ok : (settings : Settings) (r : Result Certified LayoutFault) → NodesCause settings r → ZonesCause settings r → (certified : Certified) → r ≡ Ok certified → AreEnough settings
+enough_ok settings r nodes zones certified e = are_enough settings r nodes zones (λ n k. cc) (λ z m k. cc)
+
 abbrev pub SmallerSizes : Type 0
 SmallerSizes = (roles : List Role) (r small great : ℕ) (sets : List NodeSet) → 0 < small → small ≤ great → Fits roles r great sets → Fits roles r small sets
 
@@ -69,7 +83,7 @@ module _ (smaller : SmallerSizes) where
       has.none certified.sets.sets
       (subst (λ r. Fits settings.roles r 1 certified.sets.sets) is.redundancy (smaller settings.roles certified.r 1 certified.size certified.sets.sets (omega arith) (omega (arith, is.some)) is.greatest.fits))
 
-  laid_status : (settings : Settings) (s t : Status) (a b : List ℕ) → IsLaidOut settings s a → IsLaidOut settings t b → s ≡ t
+  pub laid_status : (settings : Settings) (s t : Status) (a b : List ℕ) → IsLaidOut settings s a → IsLaidOut settings t b → s ≡ t
   laid_status settings s t a b (few_nodes few e w) (few_nodes also d v) = e ∙ sym d
   laid_status settings s t a b (few_nodes few e w) (few_zones all less d v) = e ∙ sym d
   laid_status settings s t a b (few_nodes few e w) (none cut all is d v) = e ∙ sym d
@@ -87,7 +101,7 @@ module _ (smaller : SmallerSizes) where
   laid_status settings s t a b (layout certified enough is e w) (none cut also has d v) = absurd (not_both settings certified cut is has)
   laid_status settings s t a b (layout certified enough is e w) (layout other also has d v) = e ∙ sym d
 
-  same_settings : (reading : Result Settings ConfigFault) (one two : Settings) → reading ≡ Ok one → reading ≡ Ok two → one ≡ two
+  pub same_settings : (reading : Result Settings ConfigFault) (one two : Settings) → reading ≡ Ok one → reading ≡ Ok two → one ≡ two
   same_settings reading one two h k = cc
 
   pub answer_status : (input : List ℕ) (s t : Status) (a b : List ℕ) → IsAnswer input s a → IsAnswer input t b → s ≡ t

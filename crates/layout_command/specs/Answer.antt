@@ -27,6 +27,7 @@ field_word field.Zone = codes "zone"
 field_word field.Capacity = codes "capacity"
 field_word field.Region = codes "region"
 field_word field.Key = codes "key"
+field_word field.Old = codes "old"
 
 -- the input is no TOML
 unfoldable pub toml_line : List ℕ

@@ -1,1 +1,3 @@
 pub mod Answer
+pub mod Moves
+pub mod Reasons

@@ -2,6 +2,7 @@
 ghost use Rattle.std.specs.Prelude.{ℕ, List, ◌≡◌};
 ghost use Rattle.lab_outside.specs.declared.exit.Status.{Status};
 ghost use Rattle.layout_command.specs.Answer.{IsAnswer};
+ghost use Rattle.layout_command.specs.Moves.{IsMovesAnswer};
 
 use layout_roles::smaller_sizes;
 
@@ -17,3 +18,10 @@ pub fn one_status()
 pub fn every_configuration_is_answered()
     ensures { (input : List ℕ) → (status : Status) × ((text : List ℕ) × IsAnswer input status text) }
 {}
+
+/// One status is stated for an input with `--moves`, whichever of the best assignments is given.
+pub fn one_moves_status()
+    ensures { (input : List ℕ) (first second : Status) (text other : List ℕ) → IsMovesAnswer input first text → IsMovesAnswer input second other → first ≡ second }
+{
+    smaller_sizes();
+}

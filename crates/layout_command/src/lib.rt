@@ -4,11 +4,19 @@
 //! greatest partition size for it, and writes the layout with its cut, or the line that says why there is
 //! none. Which greatest assignment is printed is free; `one_status` says that the status isn't, and
 //! `every_configuration_is_answered` that each input has an answer.
+//!
+//! `moves_answer` is the command with `--moves`: the configuration gives the sets of an older layout too, and of the
+//! greatest assignments one is printed that moves the fewest copies from them, with their number and with potentials
+//! of the flow network, which show that no assignment of that size moves fewer. Its status is one as well
+//! (`one_moves_status`).
 #![tactic(auto)]
 
 mod laws;
+mod moves;
+mod potentials;
 mod refusals;
 mod reply;
 
-pub use laws::{every_configuration_is_answered, one_status};
+pub use laws::{every_configuration_is_answered, one_moves_status, one_status};
+pub use moves::moves_answer;
 pub use reply::{Reply, answer};

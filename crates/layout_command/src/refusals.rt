@@ -3,10 +3,12 @@ ghost use Rattle.std.specs.Prelude.{◌≡◌, ◌++◌, IfOk};
 ghost use Rattle.crdt_core.specs.Outcomes.{OnlyWant};
 ghost use Rattle.layout_roles.specs.Text.{cut_lines};
 ghost use Rattle.layout_command.specs.Answer.{field_word, toml_line, field_line, nodes_line, zones_line, none_line};
+ghost use Rattle.layout_command.specs.Reasons.{reason_text, IsTold};
 
 use crdt_core::{Bytes, Memory};
 use itoa::Buffer;
 use layout_roles::{Cut, Roles};
+use layout_size::LayoutFault;
 use layout_text::{FieldName, cut_lines};
 use std::alloc::Global;
 
@@ -32,6 +34,7 @@ fn field_word(name: FieldName) -> &'static [u8]
         FieldName::Capacity => b"capacity",
         FieldName::Region => b"region",
         FieldName::Key => b"key",
+        FieldName::Old => b"old",
     }
 }
 
@@ -47,9 +50,9 @@ pub(crate) fn bad_field(alloc: Global, name: FieldName) -> Result<Bytes, Memory>
     Ok(text)
 }
 
-/// So many storage nodes are fewer than three.
+// So many storage nodes are fewer than three.
 #[tactic(auto, unfolding(crate::specs::Answer::nodes_line))]
-pub(crate) fn too_few_nodes(alloc: Global, nodes: u8) -> Result<Bytes, Memory>
+fn too_few_nodes(alloc: Global, nodes: u8) -> Result<Bytes, Memory>
     ensures text { IfOk result (λ text. text ≡ nodes_line nodes) }
     ensures want { OnlyWant result }
 {
@@ -59,9 +62,9 @@ pub(crate) fn too_few_nodes(alloc: Global, nodes: u8) -> Result<Bytes, Memory>
     Ok(text)
 }
 
-/// So many zones with storage nodes are fewer than r.
+// So many zones with storage nodes are fewer than r.
 #[tactic(auto, unfolding(crate::specs::Answer::zones_line))]
-pub(crate) fn too_few_zones(alloc: Global, zones: u8, r: u8) -> Result<Bytes, Memory>
+fn too_few_zones(alloc: Global, zones: u8, r: u8) -> Result<Bytes, Memory>
     ensures text { IfOk result (λ text. text ≡ zones_line zones r) }
     ensures want { OnlyWant result }
 {
@@ -73,9 +76,9 @@ pub(crate) fn too_few_zones(alloc: Global, zones: u8, r: u8) -> Result<Bytes, Me
     Ok(text)
 }
 
-/// No assignment fits partitions of one byte, as the cut shows.
+// No assignment fits partitions of one byte, as the cut shows.
 #[tactic(auto, unfolding(crate::specs::Answer::none_line))]
-pub(crate) fn no_assignment(alloc: Global, cut: &Cut, roles: &Roles) -> Result<Bytes, Memory>
+fn no_assignment(alloc: Global, cut: &Cut, roles: &Roles) -> Result<Bytes, Memory>
     ensures text { IfOk result (λ text. text ≡ none_line ++ cut_lines roles.now.list cut.now) }
     ensures want { OnlyWant result }
 {
@@ -83,4 +86,18 @@ pub(crate) fn no_assignment(alloc: Global, cut: &Cut, roles: &Roles) -> Result<B
     let lines = cut_lines(alloc, cut, roles)?;
     text.extend_from_slice(lines.as_slice())?;
     Ok(text)
+}
+
+/// Why nothing is laid out.
+pub(crate) fn reason(alloc: Global, roles: &Roles, fault: &LayoutFault) -> Result<Bytes, Memory>
+    ensures text { IfOk result (λ text. text ≡ reason_text roles.now.list fault.now) }
+    ensures told { IfOk result (λ _. IsTold fault.now) }
+    ensures want { OnlyWant result }
+{
+    match fault {
+        LayoutFault::TooFewNodes(nodes) => too_few_nodes(alloc, *nodes),
+        LayoutFault::TooFewZones(zones, r) => too_few_zones(alloc, *zones, *r),
+        LayoutFault::NoAssignment(cut) => no_assignment(alloc, cut, roles),
+        LayoutFault::Memory => Err(Memory::Want),
+    }
 }

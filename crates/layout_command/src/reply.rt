@@ -5,16 +5,16 @@ ghost use Rattle.layout_roles.specs.Certificates.{IsRedundancy};
 ghost use Rattle.layout_text.specs.Settings.{settings_of};
 ghost use Rattle.layout_command.specs.Answer.{IsLaidOut, IsAnswer};
 
-use crate::refusals::{bad_field, bad_toml, no_assignment, too_few_nodes, too_few_zones};
+use crate::refusals::{bad_field, bad_toml, reason};
 use crdt_core::{Bytes, Memory};
 use lab_outside::Status;
-use layout_size::{LayoutFault, compute};
+use layout_size::compute;
 use layout_text::{Config, ConfigFault, layout_lines, read_config};
 use std::alloc::Global;
 use std::str::from_utf8;
 
 // The greatest node of a layout.
-const GREATEST_NODE: u8 = 64;
+pub(crate) const GREATEST_NODE: u8 = 64;
 
 /// What the command answers.
 #[derive(Debug, Drop)]
@@ -24,7 +24,8 @@ pub struct Reply {
     pub text: Bytes,
 }
 
-fn refused(text: Bytes) -> Reply
+/// The answer where there is no layout, with the reason.
+pub(crate) fn refused(text: Bytes) -> Reply
     ensures status { result.status ≡ Status.Refused }
     ensures text { result.text ≡ text }
 {
@@ -48,12 +49,7 @@ fn lay_out(alloc: Global, config: &Config) -> Result<Reply, Memory>
                 text,
             })
         }
-        Err(LayoutFault::TooFewNodes(nodes)) => Ok(refused(too_few_nodes(alloc, nodes)?)),
-        Err(LayoutFault::TooFewZones(zones, r)) => Ok(refused(too_few_zones(alloc, zones, r)?)),
-        Err(LayoutFault::NoAssignment(cut)) => {
-            Ok(refused(no_assignment(alloc, &cut, &config.roles)?))
-        }
-        Err(LayoutFault::Memory) => Err(Memory::Want),
+        Err(fault) => Ok(refused(reason(alloc, &config.roles, &fault)?)),
     }
 }
 

@@ -11,7 +11,8 @@ use Rattle.std.proofs.lemmas.List.Elements.{All-map, All-cons, All-nil, All-head
 use Rattle.layout_roles.specs.declared.role.Role.{Role}
 use Rattle.layout_roles.specs.Zones.{Name, nodes_ascend, storage_nodes, set_ascends, is_in_zone, nodes_in, zones}
 use Rattle.layout_roles.specs.Fits.{NodeSet, has_node, is_storage_node, IsThree, FitsAll, load, room, zones_of}
-use Rattle.layout_flow.specs.Closed.{copies_for, all_copies, put_node, in_order, column, columns}
+use Rattle.layout_roles.specs.Sets.{put_node, in_order}
+use Rattle.layout_flow.specs.Closed.{copies_for, all_copies, column, columns}
 use Rattle.layout_flow.proofs.Sums.{yes, no, sum_by-plus, sum_by-agree, sum_by-below, sum_by-map, sum_by-flat_map}
 use Rattle.layout_flow.proofs.Lightest.{OneToThree, is_one, is_two, is_three, one_to_three}
 use Rattle.layout_flow.proofs.Zones.{count_some, sum_by_zones, stored_once}

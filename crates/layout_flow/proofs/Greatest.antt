@@ -18,7 +18,8 @@ use Rattle.layout_flow.specs.Flows.{same_vertex, Flow, IsFlow, value}
 use Rattle.layout_roles.specs.declared.vertex.Vertex.TheVariants.{Source}
 use Rattle.layout_flow.proofs.Bounds.{part_sum, sum_of_edges}
 use Rattle.layout_flow.specs.Totals.{copies_in}
-use Rattle.layout_flow.specs.Closed.{copies_for, all_copies, in_order, column, columns}
+use Rattle.layout_roles.specs.Sets.{in_order}
+use Rattle.layout_flow.specs.Closed.{copies_for, all_copies, column, columns}
 use Rattle.layout_flow.proofs.Sums.{no, sum_by-plus, sum_by-agree, sum_by-below, sum_by-swap, sum_by-map, sum_by-none, sum_by-constant}
 use Rattle.layout_flow.proofs.Lightest.{one_to_three}
 use Rattle.layout_flow.proofs.Zones.{count_none, count_some, count_at, stored_once}

@@ -12,7 +12,8 @@ use Rattle.layout_roles.specs.declared.role.Role.{Role}
 use Rattle.layout_roles.specs.Zones.{Name, name_of, nodes_ascend, storage_nodes, same_name, set_ascends, zone_names, is_in_zone, nodes_in, zones}
 use Rattle.layout_roles.specs.Fits.{is_storage_node, room}
 use Rattle.layout_flow.specs.Totals.{copies_in}
-use Rattle.layout_flow.specs.Closed.{copies_for, copies_of, zone_copies, all_copies, put_node, in_order}
+use Rattle.layout_roles.specs.Sets.{put_node, in_order}
+use Rattle.layout_flow.specs.Closed.{copies_for, copies_of, zone_copies, all_copies}
 use Rattle.layout_flow.proofs.Sums.{yes, no, sum_by-agree, sum_by-below, sum_by-map, sum_by-filter}
 use Rattle.layout_roles.proofs.Names.{same_true}
 use Rattle.layout_flow.proofs.Zones.{count-cons, count_none, count_some, count_at, count_filter, any_from_count, any_of_one, names_once, stored_once, zones_once}

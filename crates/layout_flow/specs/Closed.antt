@@ -3,6 +3,7 @@ use Rattle.std.specs.Prelude.{ℕ, ◌+◌, ◌-◌, ◌*◌, Bool, true, false,
 use Rattle.std.specs.List.{list_any, filter, flat_map, range_with_len, enumerate_from}
 use Rattle.layout_roles.specs.declared.role.Role.{Role}
 use Rattle.layout_roles.specs.Zones.{storage_nodes, zones}
+use Rattle.layout_roles.specs.Sets.{in_order}
 use Rattle.layout_roles.specs.Fits.{room}
 use Rattle.layout_roles.specs.Cuts.{Side}
 use Rattle.layout_flow.specs.Totals.{total, copies_in}
@@ -54,15 +55,6 @@ zone_copies count size each zone = take (each * count) (flat_map (copies_of coun
 -- all copies in order of zones and nodes, cut to three of each partition
 abbrev pub all_copies : ℕ → List Role → ℕ → ℕ → List ℕ
 all_copies count roles size each = take (3 * count) (flat_map (zone_copies count size each) (zones roles))
-
--- a node put into a list in order of numbers
-abbrev pub put_node : ℕ → List ℕ → List ℕ
-put_node node [] = node ∷ []
-put_node node (first ∷ rest) = cond (nat_lt node first) (node ∷ first ∷ rest) (first ∷ put_node node rest)
-
--- three nodes in order of numbers
-abbrev pub in_order : ℕ → ℕ → ℕ → List ℕ
-in_order first second third = put_node third (put_node second (first ∷ []))
 
 -- the copies stand in three rows, and a partition's set in one column
 abbrev pub column : ℕ → List ℕ → ℕ → List ℕ

@@ -2,11 +2,11 @@
 ghost use Rattle.std.specs.Prelude.{◌≡◌, ◌<◌, ◌≤◌, ◌*◌, ◌++◌, take, length, IfOk, OnOk};
 ghost use Rattle.std.specs.List.{flat_map};
 ghost use Rattle.crdt_core.specs.Outcomes.{OnlyWant};
-ghost use Rattle.layout_flow.specs.Closed.{copies_of, zone_copies, in_order, columns};
+ghost use Rattle.layout_flow.specs.Closed.{copies_of, zone_copies, columns};
 
 use crate::totals::ALL_COPIES;
 use crdt_core::{List, Memory};
-use layout_roles::{PARTITIONS, Role};
+use layout_roles::{PARTITIONS, Role, in_order};
 use std::alloc::Global;
 
 // Adds a node's copies: one for each partition that it has room for.
@@ -57,24 +57,6 @@ pub fn copies_in_order(
     Ok(copies)
 }
 
-// Three nodes in order of numbers.
-fn sorted(first: u8, second: u8, third: u8) -> [u8; 3]
-    ensures { result ≡ in_order first second third }
-{
-    let (low, high) = if second < first {
-        (second, first)
-    } else {
-        (first, second)
-    };
-    if third < low {
-        [third, low, high]
-    } else if third < high {
-        [low, third, high]
-    } else {
-        [low, high, third]
-    }
-}
-
 /// The columns of three rows of copies, each as a set in order.
 pub fn sets_of(alloc: Global, copies: &[u8], count: usize) -> Result<List<[u8; 3]>, Memory>
     requires { 3 * count ≤ length copies.now }
@@ -83,7 +65,7 @@ pub fn sets_of(alloc: Global, copies: &[u8], count: usize) -> Result<List<[u8; 3
 {
     let mut sets = List::new(alloc);
     for p in 0..count {
-        sets.push(sorted(copies[p], copies[count + p], copies[2 * count + p]))?;
+        sets.push(in_order(copies[p], copies[count + p], copies[2 * count + p]))?;
     }
     Ok(sets)
 }

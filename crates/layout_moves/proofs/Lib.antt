@@ -2,10 +2,12 @@ mod Adding
 mod Certificate
 pub mod Chosen
 mod Ending
+mod Heading
 mod Limit
 mod Listed
 mod Near
 mod Offering
+mod Ordered
 mod Rounded
 mod Running
 mod Steps

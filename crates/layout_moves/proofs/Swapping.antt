@@ -5,7 +5,7 @@ use Rattle.std.proofs.lemmas.Bool.{eq-eqb, ne_eqb}
 use Rattle.std.proofs.lemmas.List.Sums.{sum_by-cons, get_or-le-sum_by}
 use Rattle.layout_roles.specs.Zones.{set_ascends}
 use Rattle.layout_roles.specs.Fits.{NodeSet, has_node}
-use Rattle.layout_flow.specs.Closed.{put_node, in_order}
+use Rattle.layout_roles.specs.Sets.{put_node, in_order}
 use Rattle.layout_flow.proofs.Sums.{yes}
 use Rattle.layout_flow.proofs.Zones.{count_none}
 use Rattle.layout_flow.proofs.Spread.{distinct_once}

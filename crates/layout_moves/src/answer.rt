@@ -1,14 +1,17 @@
 //! The assignment that moves the fewest copies.
-ghost use Rattle.std.specs.Prelude.{ℕ, pos, ◌≡◌, ◌<◌, ◌≤◌, length, List, IsErr, IfOk, IfErr, get_or};
+ghost use Rattle.std.specs.Prelude.{ℕ, pos, ◌≡◌, ◌<◌, ◌≤◌, ◌∷◌, length, map, List, IsErr, IfOk, IfErr, get_or};
 ghost use Rattle.crdt_core.specs.Outcomes.{OnlyWant};
 ghost use Rattle.layout_roles.specs.Fits.{NodeSet, Fits, NoneFits};
 ghost use Rattle.layout_roles.specs.Certificates.{IsPrintedCut};
+ghost use Rattle.layout_roles.specs.Network.{vertices};
+ghost use Rattle.layout_roles.specs.declared.vertex.Vertex.TheVariants.{Source};
 ghost use Rattle.layout_moves.specs.Moves.{moves, bound, potentials};
 ghost use Rattle.layout_moves.specs.Answers.{IfNoAssignment};
 
 use crate::auction::{FEE, hold_auction};
 use crate::count::count_moves;
 use crate::fault::MoveFault;
+use crate::head_start::head_start;
 use crate::laws::potentials_bound;
 use crate::moved::Moved;
 use crate::potentials::{potentials_of, top_of};
@@ -32,6 +35,7 @@ pub fn fewest(roles: &Roles, r: u8, size: u64, old: &Assignment) -> Result<Moved
     ensures moves { IfOk result (λ moved. moved.moves ≡ moves old.now.sets moved.sets.sets) }
     ensures bound { IfOk result (λ moved. bound roles.now.list r size old.now.sets (potentials moved.potentials) ≡ pos moved.moves) }
     ensures fewest { IfOk result (λ moved. (sets : List NodeSet) → Fits roles.now.list r size sets → moved.moves ≤ moves old.now.sets sets) }
+    ensures listed { IfOk result (λ moved. Source ∷ map (λ entry. entry.0) moved.potentials ≡ vertices roles.now.list) }
     ensures none { IfErr result (λ fault. IfNoAssignment fault (λ _. NoneFits roles.now.list r size)) }
     ensures none_cut { IfErr result (λ fault. IfNoAssignment fault (λ cut. IsPrintedCut roles.now.list r size cut)) }
     ensures none_light { IfErr result (λ fault. IfNoAssignment fault (λ cut. cut.weight < 768)) }
@@ -76,6 +80,7 @@ fn improved(
     ensures moves { IfOk result (λ moved. moved.moves ≡ moves old.now.sets moved.sets.sets) }
     ensures bound { IfOk result (λ moved. bound roles.now.list r size old.now.sets (potentials moved.potentials) ≡ pos moved.moves) }
     ensures fewest { IfOk result (λ moved. (sets : List NodeSet) → Fits roles.now.list r size sets → moved.moves ≤ moves old.now.sets sets) }
+    ensures listed { IfOk result (λ moved. Source ∷ map (λ entry. entry.0) moved.potentials ≡ vertices roles.now.list) }
     ensures want { OnlyWant result }
 {
     potentials_bound();
@@ -86,6 +91,7 @@ fn improved(
     let mut sets = start.sets;
     let mut prices = no_prices(alloc)?;
     settle_all(roles, groups, 4 - r, &mut sets, FEE, old, prices.as_slice());
+    head_start(roles, r, size, groups, old, &mut sets, &mut prices)?;
     hold_auction(roles, r, size, groups, old, &mut sets, &mut prices);
     let shift = shift_of(prices.as_slice());
     let prices = whole_prices(alloc, prices.as_slice(), shift)?;

@@ -21,8 +21,8 @@ fn is_too_full(role: &Role, size: u64, sets: &[[u8; 3]]) -> bool
     role.is_storage() && role.room(size) < load_of(sets, role.node) as u64
 }
 
-// The first storage node that keeps more partitions than it has room for.
-fn overloaded(roles: &Roles, size: u64, sets: &[[u8; 3]]) -> Option<u8>
+/// The first storage node that keeps more partitions than it has room for.
+pub fn overloaded(roles: &Roles, size: u64, sets: &[[u8; 3]]) -> Option<u8>
     requires { 0 < size }
     ensures some { IfSome result (λ node. IsTrue (is_over roles.now.list size sets.now node)) }
     ensures none { result ≡ None → All (λ role. load sets.now role.node ≤ room size role) (storage_nodes roles.now.list) }

@@ -3,10 +3,9 @@ ghost use Rattle.std.specs.Prelude.{◌≡◌, ℕ, IsTrue, false, nat_eq};
 ghost use Rattle.std.specs.List.{IsDistinct};
 ghost use Rattle.layout_roles.specs.Zones.{set_ascends};
 ghost use Rattle.layout_roles.specs.Fits.{has_node, load};
-ghost use Rattle.layout_flow.specs.Closed.{in_order};
 ghost use Rattle.layout_moves.specs.Prices.{kept, lies, is_open, IsSwap};
 
-use layout_roles::Role;
+use layout_roles::{Role, in_order};
 
 /// Whether a set has a node.
 pub fn has(set: &[u8; 3], node: u8) -> bool
@@ -55,24 +54,6 @@ pub fn opens(each: u8, set: &[u8; 3], out: u8, zone: &[Role]) -> bool
     kept_in(set, zone) < usize::from(each) || lies_in(zone, out)
 }
 
-// Three nodes in order of numbers.
-fn sorted(first: u8, second: u8, third: u8) -> [u8; 3]
-    ensures { result ≡ in_order first second third }
-{
-    let (low, high) = if second < first {
-        (second, first)
-    } else {
-        (first, second)
-    };
-    if third < low {
-        [third, low, high]
-    } else if third < high {
-        [low, third, high]
-    } else {
-        [low, high, third]
-    }
-}
-
 /// The set with one of its nodes in another's place.
 pub fn swapped(set: [u8; 3], out: u8, new: u8) -> [u8; 3]
     requires { IsTrue (has_node out set) }
@@ -80,10 +61,10 @@ pub fn swapped(set: [u8; 3], out: u8, new: u8) -> [u8; 3]
     ensures ascends { IsDistinct nat_eq set → has_node new set ≡ false → IsTrue (set_ascends result) }
 {
     if set[0] == out {
-        return sorted(new, set[1], set[2]);
+        return in_order(new, set[1], set[2]);
     }
     if set[1] == out {
-        return sorted(set[0], new, set[2]);
+        return in_order(set[0], new, set[2]);
     }
-    sorted(set[0], set[1], new)
+    in_order(set[0], set[1], new)
 }

@@ -40,8 +40,8 @@ fn gain_at(
     None
 }
 
-// A move within the set that is cheaper by more than 1.
-fn gain(
+/// A move within the set that is cheaper by more than 1.
+pub fn gain(
     groups: &[List<Role>],
     each: u8,
     set: &[u8; 3],

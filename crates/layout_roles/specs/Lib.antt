@@ -1,5 +1,6 @@
 pub mod Fits
 pub mod Zones
+pub mod Sets
 pub mod Network
 pub mod Cuts
 pub mod Certificates

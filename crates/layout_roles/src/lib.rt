@@ -9,6 +9,7 @@ mod layout;
 mod redundancy;
 mod role;
 mod roles;
+mod sets;
 mod vertex;
 mod zones;
 
@@ -20,5 +21,6 @@ pub use layout::Layout;
 pub use redundancy::Redundancy;
 pub use role::{Kind, Role, Zone};
 pub use roles::Roles;
+pub use sets::in_order;
 pub use vertex::Vertex;
 pub use zones::zone_names;

@@ -1,3 +1,3 @@
 mod Bound
 mod Moved
-mod Zones
+pub mod Zones

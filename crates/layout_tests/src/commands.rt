@@ -1,12 +1,17 @@
 //! Worked layouts, each worked out by hand.
 use crdt_core::Memory;
 use lab_outside::Status;
-use layout_command::{answer, one_status};
+use layout_command::{answer, moves_answer, one_status};
 use std::alloc::Global;
 use std::test::Fail;
 
-fn answered(alloc: Global, input: &[u8]) -> Result<(Status, Vec<u8>), Memory> {
-    let reply = answer(alloc, input)?;
+/// What `layout` answers to an input, or `layout --moves`.
+pub fn answered_by(alloc: Global, input: &[u8], moves: bool) -> Result<(Status, Vec<u8>), Memory> {
+    let reply = if moves {
+        moves_answer(alloc, input)?
+    } else {
+        answer(alloc, input)?
+    };
     Ok((reply.status, reply.text.into_vec()))
 }
 
@@ -29,7 +34,7 @@ fn whole_layouts(rt: HostRuntime) -> Result<(), Fail> {
         (capacity_at_256, of_256),
     ];
     for (input, wanted) in rows {
-        let (status, text) = answered(rt.alloc(), input)?;
+        let (status, text) = answered_by(rt.alloc(), input, false)?;
         assert_eq!(rt; status, Status::Done);
         assert_eq!(rt; text.as_slice(), wanted);
     }
@@ -57,7 +62,7 @@ fn layouts_with_free_sets(rt: HostRuntime) -> Result<(), Fail> {
         ),
     ];
     for (input, head, cut) in rows {
-        let (status, text) = answered(rt.alloc(), input)?;
+        let (status, text) = answered_by(rt.alloc(), input, false)?;
         assert_eq!(rt; status, Status::Done);
         assert!(rt; text.starts_with(head));
         assert!(rt; text.ends_with(cut));
@@ -103,7 +108,7 @@ fn refusals(rt: HostRuntime) -> Result<(), Fail> {
         ),
     ];
     for (input, wanted) in rows {
-        let (status, text) = answered(rt.alloc(), input)?;
+        let (status, text) = answered_by(rt.alloc(), input, false)?;
         assert_eq!(rt; status, Status::Refused);
         assert_eq!(rt; text.as_slice(), wanted);
     }

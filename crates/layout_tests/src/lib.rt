@@ -11,6 +11,8 @@ mod made;
 #[cfg(test)]
 mod moves;
 #[cfg(test)]
+mod moves_commands;
+#[cfg(test)]
 mod networks;
 #[cfg(test)]
 mod sizes;

@@ -1,3 +1,4 @@
 pub mod Tables
 pub mod Roles
 pub mod FirstRun
+pub mod OldRuns

@@ -1,3 +1,4 @@
 pub mod Values
 pub mod Settings
 pub mod Keys
+pub mod Old

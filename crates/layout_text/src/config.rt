@@ -29,6 +29,8 @@ pub enum FieldName {
     Capacity,
     Region,
     Key,
+    /// The tables of the old sets, which are looked at after all others.
+    Old,
 }
 
 /// Why there is no configuration.

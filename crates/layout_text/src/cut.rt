@@ -12,7 +12,8 @@ use crdt_core::{Bytes, List, Memory};
 use layout_roles::{Cut, PARTITIONS, Roles, Vertex, zone_names};
 use std::alloc::Global;
 
-fn is_in_partition(vertex: &Vertex, partition: u8) -> bool
+/// Whether a vertex belongs to a partition.
+pub fn is_in_partition(vertex: &Vertex, partition: u8) -> bool
     ensures { result ≡ is_in_partition partition vertex.now }
 {
     match vertex {

@@ -3,7 +3,7 @@ ghost use Rattle.std.specs.Prelude.{◌≡◌, ◌<◌, ◌≤◌, ◌∷◌, So
 ghost use Rattle.layout_roles.specs.Runs.{runs};
 
 /// How many values the first run of equal values has.
-pub(crate) fn run_length<T: PartialEq>(values: &[T]) -> usize
+pub fn run_length<T: PartialEq>(values: &[T]) -> usize
     requires { 0 < length values.now }
     ensures some { 0 < result }
     ensures within { result ≤ length values.now }

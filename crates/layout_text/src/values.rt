@@ -1,5 +1,5 @@
 //! The values of a configuration's keys.
-ghost use Rattle.std.specs.Prelude.{◌≡◌, ◌<◌, ◌-◌, ◌&&◌, length, slice_index, option_map, option_copied, option_and_then};
+ghost use Rattle.std.specs.Prelude.{◌≡◌, ◌<◌, ◌≤◌, ◌-◌, IfSome, ◌&&◌, length, slice_index, option_map, option_copied, option_and_then};
 ghost use Rattle.std.specs.List.{list_all, list_any};
 ghost use Rattle.toml.specs.Data.{get_member, as_array};
 ghost use Rattle.toml.specs.View.{view, array_view, table_view};
@@ -35,15 +35,17 @@ pub(crate) fn array_at<'a>(table: &'a Table, key: &str) -> Option<&'a Array>
 }
 
 fn between(low: u64, high: u64, n: i64) -> Option<u64>
-    ensures { result ≡ between low high n }
+    ensures number { result ≡ between low high n }
+    ensures range { IfSome result (λ n. (low ≤ n) × (n ≤ high)) }
 {
     let n = u64::try_from(n).ok()?;
     if low <= n && n <= high { Some(n) } else { None }
 }
 
-// A whole number from `low` to `high`.
-fn number_in(value: &Value, low: u64, high: u64) -> Option<u64>
-    ensures { result ≡ number_in low high (view value.now) }
+/// A whole number from `low` to `high`.
+pub(crate) fn number_in(value: &Value, low: u64, high: u64) -> Option<u64>
+    ensures number { result ≡ number_in low high (view value.now) }
+    ensures range { IfSome result (λ n. (low ≤ n) × (n ≤ high)) }
 {
     match value.as_integer() {
         Some(n) => between(low, high, n),

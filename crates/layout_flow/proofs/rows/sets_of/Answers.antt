@@ -9,7 +9,7 @@ loop-p-preserved c =
     let p = c.loop-p.p in
     let copies = c.args.copies.now in
     let more = map-range_with_len_more (column c.args.count copies) 0 p p (omega arith) in
-    c.in_ok-push.ensures.ok ∙ (λ i. c.loop-p.invariant i ++ c.sorted.ensures i ∷ []) ∙ sym more
+    c.in_ok-push.ensures.ok ∙ (λ i. c.loop-p.invariant i ++ c.in_order.ensures.nodes i ∷ []) ∙ sym more
 
 pub returns-clause-sets : goal.returns-clause-sets
 unfolding columns

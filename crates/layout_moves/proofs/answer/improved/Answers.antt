@@ -1,5 +1,5 @@
-use Rattle.std.proofs.Common.{◌≡◌, ℕ, ◌+◌, ◌-◌, ◌/◌, ◌%◌, ◌<◌, ◌≤◌, nat_lt, IsTrue, List, length, map, sym, ap, ◌∙◌, subst, arith}
-use Rattle.std.specs.Prelude.{pos}
+use Rattle.std.proofs.Common.{◌≡◌, ℕ, ◌+◌, ◌-◌, ◌/◌, ◌%◌, ◌<◌, ◌≤◌, nat_lt, IsTrue, List, ◌∷◌, length, map, sym, ap, ◌∙◌, subst, arith}
+use Rattle.std.specs.Prelude.{ℤ, pos}
 use Rattle.std.specs.List.{list_all}
 use Rattle.layout_roles.specs.declared.role.Role.{Role}
 use Rattle.layout_roles.specs.Zones.{zones}
@@ -10,6 +10,9 @@ use Rattle.layout_moves.specs.Prices.{asked, dearest, potential}
 use Rattle.layout_moves.specs.Listing.{listing}
 use Rattle.layout_moves.proofs.Limit.{base_of_fits}
 use Rattle.layout_moves.proofs.Ending.{Ended, ended_fits, ended_bound, fewest_from}
+use Rattle.layout_roles.specs.declared.vertex.Vertex.{Vertex}
+use Rattle.layout_roles.specs.declared.vertex.Vertex.TheVariants.{Source}
+use Rattle.layout_moves.proofs.Ordered.{in_vertex_order}
 use Rattle.layout_moves.proofs.answer.improved.Goals as goal
 
 pub settle_all-requires-clause-bases : goal.settle_all-requires-clause-bases
@@ -90,3 +93,10 @@ returns-clause-fewest c = λ other fits.
     let bounded : bound roles.list c.args.r c.args.size c.args.old.now.sets (potentials c.in_ok-potentials.potentials) ≡ pos c.count_moves-moves.result =
     subst (λ (xs : List NodeSet). bound roles.list c.args.r c.args.size xs (potentials c.in_ok-potentials.potentials) ≡ pos c.count_moves-moves.result) c.as_slice-old.ensures (whole ∙ ap pos (sym count)) in
     fewest_from roles.list c.args.r c.args.size c.args.old.now.sets other c.in_ok-potentials.potentials c.count_moves-moves.result c.requires.low c.requires.high roles.ascending bounded fits
+
+pub returns-clause-listed : goal.returns-clause-listed
+unfolding partitions
+returns-clause-listed c =
+    let roles = c.args.roles.now.list in
+    let one = potential roles (4 - c.args.r) c.as_slice-old.result.now c.as_slice-7.result.now c.as_slice-8.result.now c.top_of-top.result in
+    ap (λ (list : List (Vertex × ℤ)). Source ∷ map (λ entry. entry.0) list) c.in_ok-potentials.ensures.listed ∙ in_vertex_order 256 one roles
