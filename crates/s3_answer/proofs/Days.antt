@@ -1,10 +1,9 @@
 -- Each second's date is a date of the calendar, and HTTP writes it so.
 use Rattle.std.proofs.Common.{◌≡◌, ℕ, zero, suc, ◌+◌, ◌-◌, ◌*◌, ◌/◌, ◌%◌, ◌<◌, ◌≤◌, ◌⊎◌, inl, inr, Bool, true, false, nat_lt, if◌then◌else◌, refl, sym, ap, ◌∙◌, subst, arith}
 use Rattle.std.proofs.lemmas.Bool.{ltb-true, ltb-false, cond-true, cond-false, cases_Bool, cases_lt}
-use Rattle.httpdate.specs.declared.parts.Parts.{Parts}
 use Rattle.httpdate.specs.declared.date.HttpDate.{HttpDate}
-use Rattle.httpdate.specs.Calendar.{is_leap_year, days_in_year, days_in_month, days_of_years, days_of_months, days_from_civil, weekday, IsCivilDate}
-use Rattle.httpdate.specs.Valid.{IsValid, is_valid, parts_secs}
+use Rattle.httpdate.specs.Calendar.{days_in_year, days_in_month, days_of_years, days_of_months, days_from_civil, weekday}
+use Rattle.httpdate.specs.Valid.{IsValid, parts_secs}
 use Rattle.httpdate.specs.Text.{imf_fixdate}
 use Rattle.httpdate.specs.Date.{unix_secs, date_text}
 use Rattle.httpdate.proofs.CalendarLemmas.{days_of_months_more, days_of_months_all, days_from_civil_year}

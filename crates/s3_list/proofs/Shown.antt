@@ -1,8 +1,8 @@
 -- An entry more on a page.
 use Rattle.std.proofs.Common.{◌≡◌, ℕ, suc, ◌+◌, ◌-◌, ◌<◌, ◌≤◌, Bool, true, false, not, ◌&&◌, ◌==◌, nat_lt, if◌then◌else◌, Option, Some, List, [], ◌∷◌, ◌++◌, length, take, drop, get_or, refl, sym, ap, ◌∙◌, subst, arith, append_assoc, length-append, drop-cons, add-one}
-use Rattle.std.proofs.lemmas.List.{take_at, take_all, get_or_push, length_push, append-nil}
+use Rattle.std.proofs.lemmas.List.{take_at, get_or_push, length_push}
 use Rattle.std.proofs.lemmas.Option.{slice_get-get_or}
-use Rattle.std.proofs.lemmas.Bool.{lt-ltb, le-ltb}
+use Rattle.std.proofs.lemmas.Bool.{lt-ltb}
 use Rattle.std.specs.List.{filter_map, cons_option, slice_get}
 use Rattle.crdt_rows.specs.declared.object_row.ObjectRow.{ObjectRow}
 use Rattle.s3_model.specs.declared.page.ListAsk.{ListAsk}
@@ -45,16 +45,6 @@ full max all shown come e new room so =
     let over : nat_lt max (length all) ≡ true = lt-ltb max (length all) longer in
     let page : List Entry → Bool → Page = λ es b. record { entries = es; truncated = b && not (max == 0) } in
     sym (ap (λ es. page es (nat_lt max (length all))) front ∙ ap (page shown) over)
-
--- none is to come
-pub done : (max : ℕ) (all shown : List Entry) → IsSoFar max all shown [] → record { entries = shown; truncated = false } ≡ page_from max all
-done max all shown so =
-    let same : shown ≡ all = sym (append-nil shown) ∙ so.whole in
-    let few : length all ≤ max = subst (λ (es : List Entry). length es ≤ max) same so.few in
-    let front : take max all ≡ all = take_all max all few in
-    let over : nat_lt max (length all) ≡ false = le-ltb max (length all) few in
-    let page : List Entry → Bool → Page = λ es b. record { entries = es; truncated = b && not (max == 0) } in
-    sym (ap (λ es. page es (nat_lt max (length all))) (front ∙ sym same) ∙ ap (page shown) over)
 
 -- the next row's entry is the next one, if it has one
 pub next_row : (ask : ListAsk) (rows : List ObjectRow) (i : ℕ) (row : ObjectRow) → i < length rows → row ≡ get_or rows i row →

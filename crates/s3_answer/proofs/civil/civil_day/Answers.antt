@@ -1,4 +1,4 @@
-use Rattle.std.proofs.Common.{◌≡◌, ℕ, ◌+◌, ◌-◌, sym, ap, ◌∙◌}
+use Rattle.std.proofs.Common.{ℕ, ◌+◌, ◌-◌, sym, ap, ◌∙◌}
 use Rattle.httpdate.specs.Calendar.{days_of_years}
 use Rattle.s3_model.specs.Dates.{Day}
 use Rattle.s3_answer.proofs.Walks.{day_is}

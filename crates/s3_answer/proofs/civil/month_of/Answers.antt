@@ -1,4 +1,4 @@
-use Rattle.std.proofs.Common.{◌≡◌, ℕ, ◌≤◌, sym, ◌∙◌, arith}
+use Rattle.std.proofs.Common.{◌≡◌, ◌≤◌, sym, ◌∙◌, arith}
 use Rattle.s3_answer.proofs.Walks.{no_months, month_more}
 use Rattle.s3_answer.proofs.civil.month_of.Goals as goal
 

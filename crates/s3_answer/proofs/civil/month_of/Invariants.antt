@@ -1,4 +1,4 @@
-use Rattle.std.proofs.Common.{◌≡◌, ℕ, ◌+◌, ◌-◌, ◌≤◌}
+use Rattle.std.proofs.Common.{◌≡◌, ◌+◌, ◌-◌, ◌≤◌}
 use Rattle.httpdate.specs.Calendar.{days_of_months}
 use Rattle.s3_answer.proofs.civil.month_of.Given as goal
 

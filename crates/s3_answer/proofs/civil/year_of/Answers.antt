@@ -1,4 +1,4 @@
-use Rattle.std.proofs.Common.{◌≡◌, ℕ, ◌≤◌, sym, ◌∙◌, arith}
+use Rattle.std.proofs.Common.{◌≡◌, ◌≤◌, sym, ◌∙◌, arith}
 use Rattle.s3_answer.proofs.Walks.{no_years, year_more}
 use Rattle.s3_answer.proofs.civil.year_of.Goals as goal
 

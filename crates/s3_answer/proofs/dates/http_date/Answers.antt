@@ -1,4 +1,4 @@
-use Rattle.std.proofs.Common.{◌≡◌, ℕ, sym, ap, ◌∙◌}
+use Rattle.std.proofs.Common.{ℕ, sym, ap, ◌∙◌}
 use Rattle.httpdate.specs.Text.{imf_fixdate}
 use Rattle.s3_model.specs.Dates.{parts_of, http_date}
 use Rattle.s3_answer.proofs.Days.{dates_written}
