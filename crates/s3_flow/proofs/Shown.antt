@@ -1,5 +1,5 @@
 -- What a list shows of a window, row by row.
-use Rattle.std.proofs.Common.{◌≡◌, Bool, true, false, List, [], ◌∷◌, ◌++◌, refl}
+use Rattle.std.proofs.Common.{◌≡◌, List, [], ◌∷◌, ◌++◌, refl}
 use Rattle.crdt_rows.specs.declared.any_row.AnyRow.{AnyRow}
 use Rattle.crdt_rows.specs.declared.any_row.AnyRow.TheVariants as rows
 use Rattle.std.proofs.lemmas.List.Elements.{filter-append}
