@@ -28,6 +28,7 @@ use Rattle.plane_model.specs.Action.{run as act_all}
 use Rattle.plane_laws.proofs.Runs.{run_append, happens_append}
 use Rattle.plane_laws.proofs.Sound.{IsSound}
 use Rattle.plane_laws.proofs.Steps.{all_sound}
+use Rattle.quorum_model.specs.Quorum.{is_among}
 use Rattle.cluster_machine.specs.declared.step.Step.{Step}
 use Rattle.cluster_machine.specs.declared.step.Step.TheVariants.{Trio, Role as Stage, Redundancy as Spread, Apply, Tick, Skew, Deliver, Lose, Expire, Restart, Gossip, Ack, Sync as Syncs, SyncAck, Clean, Work, Repair, Open, Phase as Begin, Close}
 use Rattle.cluster_machine.specs.declared.step.Action.{Action}
@@ -304,7 +305,7 @@ module _ {R L : Type 0} (join : R → R → R) (s : Words R) (k : Layouts L) (pa
     trio_leads e =
         let low : w.applied < 1 = leb-false 1 w.applied e in
         let none : w.applied ≡ 0 = omega arith in
-        let who : ℕ → Bool = λ n. (n == 1) || ((n == 2) || (n == 3)) in
+        let who : ℕ → Bool = λ n. is_among n (k.reading.members trio) in
         only_control join s k partitions some joins_well w p g (trio_applies join s k trio trio_roles w) (Turn.Install who trio ∷ []) sound t refl
         (install_turns k partitions w p.control who trio _ t.control is_trio is_first none (λ m. refl) refl refl refl) (installed_less who trio) refl refl refl (λ q h. tt)
 

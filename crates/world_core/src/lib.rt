@@ -17,6 +17,7 @@
 
 mod clocks;
 mod decide;
+mod first;
 mod lines;
 mod node_line;
 mod nodes;

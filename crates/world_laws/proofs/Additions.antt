@@ -12,6 +12,7 @@ use Rattle.cluster_machine.specs.Node.{Call, Node, Packet, says, shows}
 use Rattle.cluster_machine.specs.World.{Sent}
 use Rattle.cluster_machine.specs.Step.{only, changed, shut, applied}
 use Rattle.cluster_machine.specs.Keeping.{AreDifferent, AreUpTo}
+use Rattle.cluster_machine.specs.Choices.{AreGreatest}
 use Rattle.cluster_machine.specs.Worlds.{Model, Done, IsUsual, IsSound}
 use Rattle.crdt_core.proofs.Each.{all_append, all_weaker}
 use Rattle.cluster_machine.proofs.Closing.{length_shut}
@@ -21,12 +22,13 @@ module _ {R : Type 0} where
   pub record IsSoundNode (versions requests : ℕ) (x : Node R Layout) : Type 0 where
     pub version : newest reading x.view ≤ versions
     pub gapless : IsTrue (is_gapless reading x.view.layouts)
+    pub greatest : AreGreatest x.view.layouts
     pub blocks : x.blocks ≡ []
     pub numbers : AreUpTo requests x.calls
     pub different : AreDifferent x.calls
 
   pub node_of : (w : Model R) → IsSound w → (n : ℕ) → IsSoundNode w.applied (length w.requests) (w.nodes n)
-  node_of w h n = record { version = h.versions n; gapless = h.gapless n; blocks = h.blocks n; numbers = h.requests n; different = h.different n }
+  node_of w h n = record { version = h.versions n; gapless = h.gapless n; greatest = h.greatest n; blocks = h.blocks n; numbers = h.requests n; different = h.different n }
 
   pub up_to_more : (a b : ℕ) (calls : List (Call R)) → a ≤ b → AreUpTo a calls → AreUpTo b calls
   up_to_more a b calls low h = All-weaker (λ c. c.request ≤ a) (λ c. c.request ≤ b) (λ c is. omega arith) calls h
@@ -35,6 +37,7 @@ module _ {R : Type 0} where
   node_grows v r versions requests x low below h = let is = h.version in record {
     version = omega arith;
     gapless = h.gapless;
+    greatest = h.greatest;
     blocks = h.blocks;
     numbers = up_to_more r requests x.calls below h.numbers;
     different = h.different;
@@ -42,7 +45,7 @@ module _ {R : Type 0} where
 
   usual_more : (v versions : ℕ) (p : Packet R Layout) → v ≤ versions → IsUsual v p → IsUsual versions p
   usual_more v versions (says m) low h = h
-  usual_more v versions (shows view) low h = let is = h.1.1 in (h.0, (h.1.0, omega arith))
+  usual_more v versions (shows view) low h = let is = h.1.1 in (h.0, (h.1.0, omega arith), h.2)
 
   pub all_usual_more : (v versions : ℕ) (ms : List (Sent R Layout)) → v ≤ versions → AllByRecursion (λ m. IsUsual v m.packet) ms → AllByRecursion (λ m. IsUsual versions m.packet) ms
   all_usual_more v versions ms low h = all_weaker _ _ (λ m is. usual_more v versions m.packet low is) ms h
@@ -60,6 +63,7 @@ module _ {R : Type 0} where
       record {
         versions = λ n. (fine.nodes n).version;
         gapless = λ n. (fine.nodes n).gapless;
+        greatest = λ n. (fine.nodes n).greatest;
         messages = all_append _ w.messages e.sends (all_usual_more w.applied (w.applied + e.applies) w.messages low h.messages) (all_usual_more w.applied (w.applied + e.applies) e.sends low fine.sends);
         blocks = λ n. (fine.nodes n).blocks;
         requests = λ n. subst (λ r. AreUpTo r (changed e.nodes w.nodes n).calls) (sym count) (fine.nodes n).numbers;

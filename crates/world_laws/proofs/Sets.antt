@@ -10,12 +10,12 @@ use Rattle.layout_roles.specs.declared.role.Role.{Role}
 use Rattle.layout_roles.specs.declared.redundancy.Redundancy.{Redundancy}
 use Rattle.layout_roles.specs.declared.layout.Layout.{Layout}
 use Rattle.layout_roles.specs.Zones.{is_storage, storage_nodes}
-use Rattle.layout_roles.specs.Fits.{partitions, is_storage_node, IsThree}
+use Rattle.layout_roles.specs.Fits.{partitions, is_storage_node, IsThree, IsGreatest}
 use Rattle.quorum_model.specs.Quorum.{is_among}
 use Rattle.cluster_machine.specs.Run.{IsSet, IsLayout}
 use Rattle.cluster_machine.specs.Layouts.{layouts}
 use Rattle.cluster_machine.specs.declared.applied.Applied.{Applied}
-use Rattle.cluster_machine.specs.Choices.{IsBest}
+use Rattle.cluster_machine.specs.Choices.{HasGreatest, IsFirst, IsBest}
 use Rattle.cluster_machine.specs.Trio.{trio}
 use Rattle.crdt_core.proofs.Each.{all_weaker}
 
@@ -77,25 +77,19 @@ best_is_layout roles wanted version l shown one best =
       members = members_there l;
     }
 
-all_same : {A : Type 0} (P : A → Type 0) (n : ℕ) (x : A) → P x → AllByRecursion P (replicate n x)
-all_same P zero x h = tt
-all_same P (suc n) x h = (h, all_same P n x h)
+-- its assignment is the greatest
+pub best_is_greatest : (roles : List Role) (wanted : Redundancy) (version : ℕ) (l : Layout) (shown : Applied) → IsBest roles wanted version l shown → HasGreatest l
+best_is_greatest roles wanted version l shown best =
+    let greatest = best.certified.greatest in
+    subst (λ rs. IsGreatest rs l.r l.size l.sets.sets) (sym best.roles_are)
+    (subst (λ r. IsGreatest roles r l.size l.sets.sets) (sym best.redundancy)
+    (subst (λ n. IsGreatest roles shown.certified.r n l.sets.sets) (sym best.size)
+    (subst (λ sets. IsGreatest roles shown.certified.r shown.certified.size sets) (sym best.sets) greatest)))
 
--- so many times one set
-one_set_is_layout : (l : Layout) (count : ℕ) (set : List ℕ) → 1 ≤ l.version → l.sets.sets ≡ replicate count set → IsSet layouts l set → IsLayout layouts count l
-one_set_is_layout l count set one same is = record {
-  version = one;
-  count = ap length same ∙ length-replicate count set;
-  sets = subst (AllByRecursion (IsSet layouts l)) (sym same) (all_same (IsSet layouts l) count set is);
-  members = members_there l;
-}
-
-pub trio_is_layout : IsLayout layouts 256 trio
-trio_is_layout = one_set_is_layout trio 256 (1 ∷ 2 ∷ 3 ∷ []) (omega arith) refl (record {
-  one = 1;
-  two = 2;
-  three = 3;
-  are = refl;
-  differ = (λ e. omega arith, λ e. omega arith, λ e. omega arith);
-  keep_copies = (refl, (refl, (refl, tt)));
-})
+-- a greatest layout of version 1 is a layout of the machine, and has members
+pub first_is_layout : (l : Layout) → IsFirst l → IsLayout layouts 256 l
+unfolding partitions
+first_is_layout l is =
+    let fits = is.greatest.fits in
+    let one = is.version in
+    record { version = omega arith; count = fits.whole; sets = are_sets l l.sets.sets fits.threes; members = members_there l }

@@ -21,9 +21,10 @@ use Rattle.cluster_machine.specs.World.{Sent, Mark, Request, numbered, clock, is
 use Rattle.cluster_machine.specs.Step.{most_versions, given, none_given, at_message, expires, closing, chosen, applies_at, trio_applies, opening, acting, begun, beginning, effects}
 use Rattle.machine_origins.proofs.KeepingNodes.{different_opened, different_closed}
 use Rattle.cluster_machine.specs.Keeping.{IsShort}
-use Rattle.cluster_machine.specs.Choices.{Decision, IsBest}
+use Rattle.cluster_machine.specs.Choices.{Decision, IsFirst, IsBest}
 use Rattle.cluster_machine.specs.Worlds.{Model, Done, IsMeant, newest_at, comes_to_layout, IsLawfulStep, installed, IsUsual, IsSound}
-use Rattle.world_laws.proofs.Additions.{IsSoundNode, IsFine, node_of, node_grows, all_usual_more, fine_still, fine_some, fine_one, fine_cond}
+use Rattle.world_laws.proofs.Sets.{best_is_greatest}
+use Rattle.world_laws.proofs.Additions.{IsSoundNode, IsFine, node_of, node_grows, fine_stays_sound, fine_still, fine_some, fine_one, fine_cond}
 use Rattle.world_laws.proofs.Doings.{fine_did, sound_appended, fine_gossip, fine_received, fine_acted, fine_begun}
 
 -- P of what is there
@@ -49,16 +50,17 @@ module _ {R : Type 0} where
       let grown = node_grows v r versions requests x low (omega arith) h in record {
         version = grown.version;
         gapless = h.gapless;
+        greatest = h.greatest;
         blocks = h.blocks;
         numbers = All-cons (λ c. c.request ≤ requests) _ x.calls below grown.numbers;
         different = different_opened r _ x.calls h.numbers (omega arith) h.different;
       }
 
   sound_closed : (v r q : ℕ) (x : Node R Layout) → IsSoundNode v r x → IsSoundNode v r (closed q x)
-  sound_closed v r q x h = record { version = h.version; gapless = h.gapless; blocks = h.blocks; numbers = All-filter _ (λ c. c.request ≤ r) x.calls h.numbers; different = different_closed q x.calls h.different }
+  sound_closed v r q x h = record { version = h.version; gapless = h.gapless; greatest = h.greatest; blocks = h.blocks; numbers = All-filter _ (λ c. c.request ≤ r) x.calls h.numbers; different = different_closed q x.calls h.different }
 
   sound_restarted : (v r : ℕ) (x : Node R Layout) → IsSoundNode v r x → IsSoundNode v r (restarts x)
-  sound_restarted v r x h = record { version = h.version; gapless = h.gapless; blocks = h.blocks; numbers = All-nil (λ c. c.request ≤ r); different = λ c d at_c at_d same. absurd at_c }
+  sound_restarted v r x h = record { version = h.version; gapless = h.gapless; greatest = h.greatest; blocks = h.blocks; numbers = All-nil (λ c. c.request ≤ r); different = λ c d at_c at_d same. absurd at_c }
 
 module _ {R : Type 0} (w : Model R) (h : IsSound w) where
   -- a node that is sound with the versions and requests of now
@@ -104,7 +106,7 @@ module _ {R : Type 0} (w : Model R) (h : IsSound w) where
         let above : w.applied < suc (newest_at w n) = leb-false (suc (newest_at w n)) w.applied free in
         let below = h.versions n in
         fine_one w _ n (appends layouts (w.nodes n) l) h (λ m. refl) tt
-        (sound_appended w.applied (length w.requests) (w.nodes n) l (node_of w h n) next (w.applied + 1) (length w.requests + 0) (omega arith) (omega arith))
+        (sound_appended w.applied (length w.requests) (w.nodes n) l (node_of w h n) (best_is_greatest w.roles w.redundancy (suc (newest_at w n)) l shown best) next (w.applied + 1) (length w.requests + 0) (omega arith) (omega arith))
 
     fine_applies : (n : ℕ) (choice : Decision) → IsLawfulStep w (Apply n) choice → IsFine w (applies_at join s layouts first stage w n choice)
     fine_applies n choice lawful =
@@ -115,11 +117,11 @@ module _ {R : Type 0} (w : Model R) (h : IsSound w) where
         (λ b. fine_cond w (leb most_versions w.applied) _ _ (λ t. fine_still w _ h (λ m. refl) refl)
         (λ c. fine_chosen n choice (none_refused is_other is_taken (leb most_versions w.applied) a b c) b lawful)))
 
-    fine_trio : first.version ≡ 1 → leb 1 w.applied ≡ false → IsFine w (trio_applies join s layouts first stage w)
-    fine_trio one free =
-        let none : w.applied < 1 = leb-false 1 w.applied free in
-        fine_some w _ (λ n. (n == 1) || ((n == 2) || (n == 3))) (λ n. appends layouts (w.nodes n) first) h (λ n. refl) tt
-        (λ n. let below = h.versions n in sound_appended w.applied (length w.requests) (w.nodes n) first (node_of w h n) (omega arith) (w.applied + 1) (length w.requests + 0) (omega arith) (omega arith))
+    pub fine_first : IsFirst first → w.applied < 1 → IsFine w (trio_applies join s layouts first stage w)
+    fine_first is none =
+        let one = is.version in
+        fine_some w _ (λ n. is_among n (layouts.reading.members first)) (λ n. appends layouts (w.nodes n) first) h (λ n. refl) tt
+        (λ n. let below = h.versions n in sound_appended w.applied (length w.requests) (w.nodes n) first (node_of w h n) is.greatest (omega arith) (w.applied + 1) (length w.requests + 0) (omega arith) (omega arith))
 
     fine_opening : (n : ℕ) → IsFine w (opening join s layouts first stage w n)
     fine_opening n =
@@ -129,46 +131,32 @@ module _ {R : Type 0} (w : Model R) (h : IsSound w) where
         (sound_opened w.applied (length w.requests) start (w.nodes n) (node_of w h n) (w.applied + 0) (length w.requests + 1) (omega arith) (omega arith)))
         (λ t. fine_still w _ h (λ m. refl) refl)
 
-    pub fine_step : first.version ≡ 1 → (step : Step R) (choice : Decision) → IsMeant step → IsLawfulStep w step choice → IsFine w (effects join s layouts first stage w step choice)
-    fine_step one Trio choice meant lawful = fine_cond w (leb 1 w.applied) _ _ (λ t. fine_still w _ h (λ m. refl) refl) (λ t. fine_trio one t)
-    fine_step one (Stage n role) choice meant lawful = fine_still w _ h (λ m. refl) refl
-    fine_step one (Spread r) choice meant lawful = fine_still w _ h (λ m. refl) refl
-    fine_step one (Apply n) choice meant lawful = fine_applies n choice lawful
-    fine_step one (Tick ms) choice meant lawful = fine_still w _ h (λ m. refl) refl
-    fine_step one (Skew n ms) choice meant lawful = fine_still w _ h (λ m. refl) refl
-    fine_step one (Deliver m) choice meant lawful =
+    pub fine_step : IsFirst first → (step : Step R) (choice : Decision) → IsMeant step → IsLawfulStep w step choice → IsFine w (effects join s layouts first stage w step choice)
+    fine_step is Trio choice meant lawful = fine_cond w (leb 1 w.applied) _ _ (λ t. fine_still w _ h (λ m. refl) refl) (λ t. fine_first is (leb-false 1 w.applied t))
+    fine_step is (Stage n role) choice meant lawful = fine_still w _ h (λ m. refl) refl
+    fine_step is (Spread r) choice meant lawful = fine_still w _ h (λ m. refl) refl
+    fine_step is (Apply n) choice meant lawful = fine_applies n choice lawful
+    fine_step is (Tick ms) choice meant lawful = fine_still w _ h (λ m. refl) refl
+    fine_step is (Skew n ms) choice meant lawful = fine_still w _ h (λ m. refl) refl
+    fine_step is (Deliver m) choice meant lawful =
         fine_message _ (numbered w.messages m) (numbered w.marks m) (numbered_there _ w.messages m h.messages)
         (λ sent usual. fine_did w _ sent.to _ h (λ n. refl) refl (fine_received w h join s sent.to (clock w sent.to) sent.from sent.packet usual))
-    fine_step one (Lose m) choice meant lawful =
+    fine_step is (Lose m) choice meant lawful =
         fine_message _ (numbered w.messages m) (numbered w.marks m) (numbered_there _ w.messages m h.messages) (λ sent usual. fine_still w _ h (λ n. refl) refl)
-    fine_step one (Expire q) choice meant lawful = fine_expires q (numbered w.requests q)
-    fine_step one (Restart n) choice meant lawful =
+    fine_step is (Expire q) choice meant lawful = fine_expires q (numbered w.requests q)
+    fine_step is (Restart n) choice meant lawful =
         fine_one w _ n (restarts (w.nodes n)) h (λ m. refl) tt (sound_later 0 0 (restarts (w.nodes n)) (sound_restarted w.applied (length w.requests) (w.nodes n) (node_of w h n)))
-    fine_step one (Gossip from to) choice meant lawful = fine_did w _ from _ h (λ m. refl) refl (fine_gossip w h from to)
-    fine_step one (Ack n) choice meant lawful = fine_acting n (has_none layouts (w.nodes n).view) RaiseAck
-    fine_step one (Syncs n) choice meant lawful = fine_acting n (has_none layouts (w.nodes n).view) GoOn
-    fine_step one (SyncAck n) choice meant lawful = fine_acting n (has_none layouts (w.nodes n).view) RaiseSyncAck
-    fine_step one (Clean n) choice meant lawful = fine_acting n (has_none layouts (w.nodes n).view) CleanUp
-    fine_step one (Work n) choice meant lawful = fine_acting n (has_none layouts (w.nodes n).view) WorkOff
-    fine_step one (Repair n) choice meant lawful = fine_acting n (not (is_member_at layouts w n)) Mend
-    fine_step one (Open n) choice meant lawful = fine_opening n
-    fine_step one (Begin q phase) choice meant lawful = fine_beginning q phase (numbered w.requests q) meant
-    fine_step one (Close q) choice meant lawful = fine_closing q (numbered w.requests q)
+    fine_step is (Gossip from to) choice meant lawful = fine_did w _ from _ h (λ m. refl) refl (fine_gossip w h from to)
+    fine_step is (Ack n) choice meant lawful = fine_acting n (has_none layouts (w.nodes n).view) RaiseAck
+    fine_step is (Syncs n) choice meant lawful = fine_acting n (has_none layouts (w.nodes n).view) GoOn
+    fine_step is (SyncAck n) choice meant lawful = fine_acting n (has_none layouts (w.nodes n).view) RaiseSyncAck
+    fine_step is (Clean n) choice meant lawful = fine_acting n (has_none layouts (w.nodes n).view) CleanUp
+    fine_step is (Work n) choice meant lawful = fine_acting n (has_none layouts (w.nodes n).view) WorkOff
+    fine_step is (Repair n) choice meant lawful = fine_acting n (not (is_member_at layouts w n)) Mend
+    fine_step is (Open n) choice meant lawful = fine_opening n
+    fine_step is (Begin q phase) choice meant lawful = fine_beginning q phase (numbered w.requests q) meant
+    fine_step is (Close q) choice meant lawful = fine_closing q (numbered w.requests q)
 
   -- a first layout, where none was applied
-  pub installed_sound : (first : Layout) (nodes : List ℕ) → w.applied ≡ 0 → first.version ≡ 1 → IsSound (installed w first nodes)
-  installed_sound first nodes none one =
-      let node : (n : ℕ) → IsSoundNode 1 (length w.requests) (cond (is_among n nodes) (appends layouts (w.nodes n) first) (w.nodes n)) = (λ n.
-      let below = h.versions n in
-      elim (is_among n nodes) as (λ b. IsSoundNode 1 (length w.requests) (cond b (appends layouts (w.nodes n) first) (w.nodes n))) [
-        | true ↦ sound_appended w.applied (length w.requests) (w.nodes n) first (node_of w h n) (omega arith) 1 (length w.requests) (omega arith) (omega arith)
-        | false ↦ node_grows w.applied (length w.requests) 1 (length w.requests) (w.nodes n) (omega arith) (omega arith) (node_of w h n)
-      ]) in
-      record {
-        versions = λ n. (node n).version;
-        gapless = λ n. (node n).gapless;
-        messages = all_usual_more w.applied 1 w.messages (omega arith) h.messages;
-        blocks = λ n. (node n).blocks;
-        requests = λ n. (node n).numbers;
-        different = λ n. (node n).different;
-      }
+  pub installed_sound : (join : R → R → R) (s : Words R) (first : Layout) → w.applied ≡ 0 → IsFirst first → IsSound (installed join s w first)
+  installed_sound join s first none is = fine_stays_sound w _ h (fine_first join s first (λ roles. roles) is (omega arith))

@@ -14,7 +14,8 @@ use Rattle.cluster_machine.specs.Choices.{Decision, IsComputed, IsNone}
 use Rattle.cluster_machine.specs.Worlds.{Model, Doing, newest_at, comes_to_layout, IsMeant, IsLawfulStep, IsLawful, IsLawfulRun, IsSound, next, run}
 use Rattle.world_laws.proofs.Sets.{best_is_layout}
 use Rattle.world_laws.proofs.Additions.{fine_stays_sound}
-use Rattle.world_laws.proofs.Steps.{fine_step}
+use Rattle.world_laws.proofs.TrioGreatest.{trio_is_first}
+use Rattle.world_laws.proofs.Steps.{fine_step, installed_sound}
 
 -- an apply that comes to a layout is at a node with the newest version that was applied
 newest_known : (is_refused is_last : Bool) (newest applied : ℕ) → (not is_refused && (not (leb (suc newest) applied) && not is_last)) ≡ true → newest ≤ applied → newest ≡ applied
@@ -52,7 +53,7 @@ module _ {R : Type 0} where
 
 module _ {R : Type 0} (join : R → R → R) (s : Words R) where
   sound_next : (w : Model R) (m : Doing R) → IsSound w → IsMeant m.step → IsLawful w m → IsSound (next join s w m)
-  sound_next w m sound meant lawful = fine_stays_sound w _ sound (fine_step w sound join s trio stage_trio refl m.step m.choice meant lawful)
+  sound_next w m sound meant lawful = fine_stays_sound w _ sound (fine_step w sound join s trio stage_trio trio_is_first m.step m.choice meant lawful)
 
   -- every world of a lawful run is sound
   pub sound_after : (w : Model R) (moves : List (Doing R)) → IsSound w → IsLawfulRun join s w moves → IsSound (run join s w moves)

@@ -6,7 +6,7 @@ use Rattle.view_model.proofs.ReadVersions.{newest_appended}
 use Rattle.node_core.proofs.Nodes.{ok_to, same_contents, version_stays}
 use Rattle.node_core.proofs.node.Node.append.Goals as goal
 
-grows : (l : Layout) (v : View Layout) → l.version ≡ newest reading v + 1 → newest reading v ≤ newest reading (appended reading v l)
+pub grows : (l : Layout) (v : View Layout) → l.version ≡ newest reading v + 1 → newest reading v ≤ newest reading (appended reading v l)
 grows l v next = let e = newest_appended reading v l in omega arith
 
 pub returns-clause-appends : goal.returns-clause-appends
