@@ -1,13 +1,13 @@
 -- Each step but that a request opens and that a phase begins: every open request was open before, in the same phase, and at
 -- most one phase ends.
-use Rattle.std.specs.Prelude.{◌≡◌, ℕ, Bool, true, false, not, ◌&&◌, ◌||◌, ◌==◌, cond, leb, List, [], ◌∷◌, Option, Some, None, refl, ⊤}
+use Rattle.std.specs.Prelude.{◌≡◌, ℕ, Bool, true, false, not, ◌&&◌, ◌==◌, cond, leb, List, [], ◌∷◌, Option, Some, None, refl, ⊤}
+use Rattle.std.specs.List.{list_any}
 use Rattle.std.specs.Option.{unwrap_or}
 use Rattle.std.proofs.Common.{sym, subst, inl, inr}
 use Rattle.std.proofs.lemmas.Bool.{eqb-true}
 use Rattle.crdt_core.specs.Members.{Has}
 use Rattle.layout_roles.specs.declared.role.Role.{Role}
 use Rattle.table_schema.specs.Words.{Words}
-use Rattle.quorum_model.specs.Quorum.{is_among}
 use Rattle.cluster_machine.specs.declared.step.Step.{Step}
 use Rattle.cluster_machine.specs.declared.step.Step.TheVariants.{Trio, Role as Stage, Redundancy as Spread, Apply, Tick, Skew, Deliver, Lose, Expire, Restart, Gossip, Ack, Sync as Syncs, SyncAck, Clean, Work, Repair, Open, Phase as Begin, Close}
 use Rattle.cluster_machine.specs.declared.step.Action.{Action}
@@ -114,7 +114,7 @@ module _ {R L A C : Type 0} (join : R → R → R) (s : Words R) (k : Layouts L)
   pub calm_step : ((n : ℕ) → AreDifferent (w.nodes n).calls) → (step : Step R) (choice : Choice L A C) → IsCalmStep step → IsCalm w (effects join s k trio stage w step choice)
   calm_step differ Trio choice is =
       calm_cond w (leb 1 w.applied) _ _ (calm_still w _ (λ m. refl) refl (refl, refl))
-      (calm_some w _ (λ n. is_among n (k.reading.members trio)) (λ n. appends k (w.nodes n) trio) (λ n. refl) refl (λ n t. continues_self (w.nodes n)) 0 [] (refl, refl))
+      (calm_some w _ (λ n. list_any (λ m. m == n) (k.reading.members trio)) (λ n. appends k (w.nodes n) trio) (λ n. refl) refl (λ n t. continues_self (w.nodes n)) 0 [] (refl, refl))
   calm_step differ (Stage n role) choice is = calm_still w _ (λ m. refl) refl (refl, refl)
   calm_step differ (Spread r) choice is = calm_still w _ (λ m. refl) refl (refl, refl)
   calm_step differ (Apply n) choice is = calm_applies n choice

@@ -15,7 +15,7 @@ use Rattle.cluster_machine.specs.Worlds.{Model, Doing, newest_at, comes_to_layou
 use Rattle.world_laws.proofs.Sets.{best_is_layout}
 use Rattle.world_laws.proofs.Additions.{fine_stays_sound}
 use Rattle.world_laws.proofs.TrioGreatest.{trio_is_first}
-use Rattle.world_laws.proofs.Steps.{fine_step, installed_sound}
+use Rattle.world_laws.proofs.Steps.{fine_step}
 
 -- an apply that comes to a layout is at a node with the newest version that was applied
 newest_known : (is_refused is_last : Bool) (newest applied : ℕ) → (not is_refused && (not (leb (suc newest) applied) && not is_last)) ≡ true → newest ≤ applied → newest ≡ applied
