@@ -1,25 +1,24 @@
 -- Worlds with the layouts of the code: a step, which steps are lawful, lawful runs, and what every world of a run keeps.
 use Rattle.std.specs.Prelude.{◌≤◌, ℕ, suc, Bool, not, ◌&&◌, leb, cond, IsTrue, List, [], ◌∷◌, length, ⊤}
 use Rattle.std.specs.List.{AllByRecursion}
+use Rattle.layout_roles.specs.declared.role.Role.{Role}
 use Rattle.layout_roles.specs.declared.layout.Layout.{Layout}
 use Rattle.view_model.specs.Layouts.{reading}
 use Rattle.layout_roles.specs.Certificates.{IsRedundancy}
 use Rattle.layout_roles.specs.declared.cut.Cut.{Cut}
 use Rattle.view_model.specs.View.{newest, is_gapless}
 use Rattle.table_schema.specs.Words.{Words}
-use Rattle.quorum_model.specs.Quorum.{is_among}
 use Rattle.cluster_machine.specs.declared.step.Step.{Step}
 use Rattle.cluster_machine.specs.declared.step.Step.TheVariants.{Role as Stage, Redundancy as Spread, Apply, Phase as Begin}
-use Rattle.cluster_machine.specs.Node.{Packet}
-use Rattle.cluster_machine.specs.Acts.{appends}
-use Rattle.cluster_machine.specs.World.{World, Sent, is_member_at}
-use Rattle.cluster_machine.specs.Step.{most_versions, Effects, effects, applied}
+use Rattle.cluster_machine.specs.Node.{Packet, says, shows}
+use Rattle.cluster_machine.specs.World.{World, Sent, empty, is_member_at}
+use Rattle.cluster_machine.specs.Step.{most_versions, Effects, trio_applies, effects, applied}
 use Rattle.cluster_machine.specs.Run.{Move, IsStep}
 use Rattle.cluster_machine.specs.Keeping.{AreDifferent, IsUpTo, AreUpTo, IsShort}
 use Rattle.cluster_machine.specs.Layouts.{layouts}
 use Rattle.cluster_machine.specs.declared.applied.Applied.{Applied}
 use Rattle.cluster_machine.specs.Trio.{trio, stage_trio}
-use Rattle.cluster_machine.specs.Choices.{Decision, IsComputed, IsNone}
+use Rattle.cluster_machine.specs.Choices.{Decision, AreGreatest, IsFirst, IsComputed, IsNone}
 use Rattle.cluster_machine.specs.Fits.{Fits, FitNodes}
 
 -- worlds over the layouts of the code
@@ -60,18 +59,20 @@ module _ {R : Type 0} where
   abbrev pub IsLawful : Model R → Doing R → Type 0
   IsLawful w m = IsLawfulStep w m.step m.choice
 
-  -- the layout becomes version 1 of these nodes
-  abbrev pub installed : Model R → Layout → List ℕ → Model R
-  installed w first nodes = record w { nodes = λ n. cond (is_among n nodes) (appends layouts (w.nodes n) first) (w.nodes n); applied = 1 }
+  -- each layout of a view on its way has the greatest partition size
+  abbrev pub ShowsGreatest : Packet R Layout → Type 0
+  ShowsGreatest (says m) = ⊤
+  ShowsGreatest (shows v) = AreGreatest v.layouts
 
-  -- a view comes without a gap, with no version above this one
+  -- a view comes without a gap, with no version above this one, and with layouts of the greatest partition size
   abbrev pub IsUsual : ℕ → Packet R Layout → Type 0
-  IsUsual version packet = IsUpTo layouts version packet
+  IsUsual version packet = IsUpTo layouts version packet × ShowsGreatest packet
 
-  -- no node and no view on its way knows of a version that was not applied, and the numbers of open requests were given, each once
+  -- no node and no view on its way knows of a version that was not applied or of a layout that is not of the greatest partition size, and the numbers of open requests were given, each once
   pub record IsSound (w : Model R) : Type 0 where
     pub versions : (n : ℕ) → newest_at w n ≤ w.applied
     pub gapless : (n : ℕ) → IsTrue (is_gapless reading (w.nodes n).view.layouts)
+    pub greatest : (n : ℕ) → AreGreatest (w.nodes n).view.layouts
     pub messages : AllByRecursion (λ (m : Sent R Layout). IsUsual w.applied m.packet) w.messages
     pub requests : (n : ℕ) → AreUpTo (length w.requests) (w.nodes n).calls
     pub different : (n : ℕ) → AreDifferent (w.nodes n).calls
@@ -90,10 +91,28 @@ module _ {R : Type 0} (join : R → R → R) (s : Words R) where
   run w [] = w
   run w (m ∷ ms) = run (next w m) ms
 
+  -- what an installation does: the nodes of a first layout get it as version 1, all at once, and nothing is staged
+  abbrev pub installs : Model R → Layout → Done R
+  installs w first = trio_applies join s layouts first (λ (roles : List Role). roles) w
+
+  -- the world after it
+  abbrev pub installed : Model R → Layout → Model R
+  installed w first = applied w (installs w first)
+
   -- each step meets its conditions, is given what it may be given, and sends rows that have a spelling
   abbrev pub IsLawfulRun : Model R → List (Doing R) → Type 0
   IsLawfulRun w [] = ⊤
   IsLawfulRun w (m ∷ ms) = IsMeant m.step × IsStep s 256 m.step × IsLawful w m × IsTrue (does w m).is_spelled × IsLawfulRun (next w m) ms
+
+  -- a first layout is installed after steps from the empty world that applied none
+  pub record IsLawfulStart (before : List (Doing R)) (first : Layout) : Type 0 where
+    pub steps : IsLawfulRun empty before
+    pub unused : (run empty before).applied ≡ 0
+    pub first_layout : IsFirst first
+
+  -- the world in which that layout is installed
+  abbrev pub start : List (Doing R) → Layout → Model R
+  start before first = installed (run empty before) first
 
   -- after these effects every number of the world fits, and every row that is sent has a spelling
   abbrev pub FitsWith : Model R → Done R → Type 0
