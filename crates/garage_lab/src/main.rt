@@ -16,6 +16,8 @@ mod input;
 mod laws;
 mod layout;
 #[cfg(test)]
+mod limits;
+#[cfg(test)]
 mod line_texts;
 mod run;
 mod schedule;
