@@ -1,5 +1,5 @@
 -- Every step of the machine keeps what phases asked for, and so each block phase that ends gave its block.
-use Rattle.std.specs.Prelude.{◌≡◌, ◌≢◌, ℕ, suc, ◌+◌, ◌<◌, Bool, true, false, not, cond, ◌==◌, ◌&&◌, ◌||◌, leb, Option, Some, None, List, [], ◌∷◌, ◌++◌, length, refl}
+use Rattle.std.specs.Prelude.{◌≡◌, ◌≢◌, ℕ, suc, ◌+◌, ◌<◌, Bool, true, false, not, cond, ◌==◌, ◌&&◌, leb, Option, Some, None, List, [], ◌∷◌, ◌++◌, length, refl}
 use Rattle.std.specs.Option.{unwrap_or}
 use Rattle.std.specs.List.{All, Contains, AllByRecursion}
 use Rattle.std.proofs.Common.{ap, sym, subst, ◌∙◌, arith}

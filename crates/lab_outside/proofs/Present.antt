@@ -1,5 +1,5 @@
 -- What holds of the connection that is present, from one call to the next.
-use Rattle.std.proofs.Common.{◌≡◌, ℕ, ◌≤◌, List, ◌++◌, [], length, take, drop, Option, Some, None, IsSome, Ok, refl, ◌∙◌, arith}
+use Rattle.std.proofs.Common.{◌≡◌, ℕ, List, drop, Option, Some, None, IsSome, Ok, refl, ◌∙◌}
 use Rattle.lab_outside.specs.Connection.{Connection, OnPresent, Stays, WritesTo}
 use Rattle.lab_outside.proofs.Bytes.{Written, written_none, written_more}
 

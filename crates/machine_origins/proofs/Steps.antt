@@ -1,5 +1,5 @@
 -- Every step of the machine keeps its world sound, and so each read of a run gave rows with the property.
-use Rattle.std.specs.Prelude.{◌≡◌, ℕ, suc, ◌<◌, Bool, true, false, not, cond, ◌==◌, ◌&&◌, ◌||◌, leb, Option, Some, None, List, [], ◌∷◌, length, map, refl}
+use Rattle.std.specs.Prelude.{◌≡◌, ℕ, suc, ◌<◌, Bool, true, false, not, cond, ◌==◌, ◌&&◌, leb, Option, Some, None, List, [], ◌∷◌, length, map, refl}
 use Rattle.std.specs.Option.{unwrap_or}
 use Rattle.std.specs.List.{AllByRecursion}
 use Rattle.std.proofs.Common.{sym, subst, ◌∙◌, arith}

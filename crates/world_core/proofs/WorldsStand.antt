@@ -15,6 +15,7 @@ use Rattle.cluster_machine.specs.Fits.{IsWord}
 use Rattle.cluster_machine.specs.Trio.{trio, stage_trio}
 use Rattle.cluster_machine.specs.Worlds.{Model, Done, IsSound, IsMeant, IsLawfulStep, does}
 use Rattle.world_laws.proofs.Additions.{fine_stays_sound}
+use Rattle.world_laws.proofs.TrioGreatest.{trio_is_first}
 use Rattle.world_laws.proofs.Steps.{fine_step}
 use Rattle.world_core.specs.declared.report.Report.{Report}
 use Rattle.world_core.specs.declared.world.World.{World}
@@ -37,7 +38,7 @@ module _ {R : Type 0} where
 
   -- a lawful step keeps the world sound
   pub sound_after : (join : R → R → R) (s : Words R) (w : Model R) (step : Step R) (choice : Decision) → IsSound w → IsMeant step → IsLawfulStep w step choice → IsSound (applied w (does join s w (record { step = step; choice = choice })))
-  sound_after join s w step choice sound meant lawful = fine_stays_sound w _ sound (fine_step w sound join s trio stage_trio refl step choice meant lawful)
+  sound_after join s w step choice sound meant lawful = fine_stays_sound w _ sound (fine_step w sound join s trio stage_trio trio_is_first step choice meant lawful)
 
 -- all parts stand for those of the world, which is sound; the numbers fit, as the parts and the count of requests say
 pub record PartsStand {S R : Type 0} (join : R → R → R) (s : Words R) (c : World S R) (w : Model R) : Type 0 where

@@ -1,8 +1,7 @@
 -- A run into which a first layout is installed is a run of the machine whose first layout it is.
-use Rattle.std.specs.Prelude.{◌≡◌, ◌⊎◌, ◌≤◌, ◌+◌, ℕ, Bool, true, false, leb, cond, IsTrue, List, [], ◌∷◌, ◌++◌, refl}
-use Rattle.std.specs.List.{flat_map}
+use Rattle.std.specs.Prelude.{◌≡◌, ◌⊎◌, ◌≤◌, ◌+◌, Bool, true, false, leb, cond, IsTrue, List, [], ◌∷◌, ◌++◌, refl}
 use Rattle.std.proofs.Common.{ap, sym, subst, ◌∙◌, inl, inr, arith}
-use Rattle.std.proofs.lemmas.Bool.{le-leb, lt-leb, leb-false}
+use Rattle.std.proofs.lemmas.Bool.{le-leb, lt-leb}
 use Rattle.std.proofs.lemmas.Grind.{flat_map-append}
 use Rattle.layout_roles.specs.declared.role.Role.{Role}
 use Rattle.layout_roles.specs.declared.cut.Cut.{Cut}
@@ -18,10 +17,10 @@ use Rattle.cluster_machine.specs.Layouts.{layouts}
 use Rattle.cluster_machine.specs.World.{empty}
 use Rattle.cluster_machine.specs.Trio.{trio, stage_trio}
 use Rattle.cluster_machine.specs.Choices.{Decision}
-use Rattle.cluster_machine.specs.Worlds.{Model, Doing, Done, IsSound, IsLawfulRun, IsLawfulStart, does, next, run, installed, start}
+use Rattle.cluster_machine.specs.Worlds.{Model, Doing, Done, IsSound, IsLawfulRun, IsLawfulStart, does, next, run, start}
 use Rattle.machine_origins.specs.Origins.{stored_by, stored_in}
 use Rattle.world_laws.proofs.Steps.{installed_sound}
-use Rattle.world_reads.proofs.Lawful.{lawful_is_run, same_run, sound_after}
+use Rattle.world_reads.proofs.Lawful.{lawful_is_run, sound_after}
 
 module _ {R : Type 0} where
   -- the step by which the machine's first layout is applied

@@ -1,9 +1,8 @@
 use Rattle.std.specs.List.{Contains}
 use Rattle.std.proofs.Common.{sym, subst, arith}
-use Rattle.cluster_machine.specs.World.{empty}
 use Rattle.cluster_machine.specs.Kept.{KeptReads}
 use Rattle.cluster_machine.specs.Layouts.{layouts}
-use Rattle.machine_origins.specs.Origins.{ComesFrom, Gave, stored_in}
+use Rattle.machine_origins.specs.Origins.{ComesFrom, Gave}
 use Rattle.world_laws.proofs.Sets.{first_is_layout}
 use Rattle.world_reads.proofs.Installed.{whole, whole_same, whole_is_run, end_sound, stored_without}
 use Rattle.world_reads.proofs.every_installed_world_reads_what_was_kept.Goals as goal

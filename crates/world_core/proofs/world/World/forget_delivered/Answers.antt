@@ -13,5 +13,5 @@ returns g c w h =
       applied = h.applied;
       requests = h.requests;
       few = h.fits.requests;
-      sound = record { versions = h.sound.versions; gapless = h.sound.gapless; messages = h.sound.messages; blocks = h.sound.blocks; requests = h.sound.requests; different = h.sound.different };
+      sound = record { versions = h.sound.versions; gapless = h.sound.gapless; greatest = h.sound.greatest; messages = h.sound.messages; blocks = h.sound.blocks; requests = h.sound.requests; different = h.sound.different };
     })
