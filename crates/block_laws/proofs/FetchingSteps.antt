@@ -1,5 +1,5 @@
 -- Every step of the machine keeps what phases asked for, and so each block phase that ends gave its block.
-use Rattle.std.specs.Prelude.{◌≡◌, ◌≢◌, ℕ, suc, ◌+◌, ◌<◌, Bool, true, false, not, cond, ◌==◌, ◌&&◌, ◌||◌, leb, Option, Some, None, List, [], ◌∷◌, ◌++◌, length, refl}
+use Rattle.std.specs.Prelude.{◌≡◌, ◌≢◌, ℕ, suc, ◌+◌, ◌<◌, Bool, true, false, not, cond, ◌==◌, ◌&&◌, leb, Option, Some, None, List, [], ◌∷◌, ◌++◌, length, refl}
 use Rattle.std.specs.Option.{unwrap_or}
 use Rattle.std.specs.List.{All, Contains, AllByRecursion}
 use Rattle.std.proofs.Common.{ap, sym, subst, ◌∙◌, arith}
@@ -11,6 +11,7 @@ use Rattle.layout_roles.specs.declared.role.Role.{Role}
 use Rattle.table_schema.specs.Words.{Words}
 use Rattle.table_schema.specs.Laws.{Laws}
 use Rattle.wire_messages.specs.declared.phase.Phase.{Phase}
+use Rattle.quorum_model.specs.Quorum.{is_among}
 use Rattle.cluster_machine.specs.declared.step.Step.{Step}
 use Rattle.cluster_machine.specs.declared.step.Step.TheVariants.{Trio, Role as Stage, Redundancy as Spread, Apply, Tick, Skew, Deliver, Lose, Expire, Restart, Gossip, Ack, Sync as Syncs, SyncAck, Clean, Work, Repair, Open, Phase as Begin, Close}
 use Rattle.cluster_machine.specs.declared.step.Action.TheVariants.{Ack as RaiseAck, Sync as GoOn, SyncAck as RaiseSyncAck, Clean as CleanUp, Work as WorkOff, Repair as Mend}
@@ -124,7 +125,7 @@ module _ (digest : List ℕ → List ℕ) {R : Type 0} {join : R → R → R} {s
     trio_leads = record {
       asks = g;
       grows = λ n r p a h. h;
-      nodes = λ n. elim ((n == 1) || ((n == 2) || (n == 3))) as (λ b. AreCalls digest g (length w.requests) n (unwrap_or (cond b (Some (appends k (w.nodes n) trio)) None) (w.nodes n)).calls) [ true ↦ sound.nodes n | false ↦ sound.nodes n ];
+      nodes = λ n. elim (is_among n (k.reading.members trio)) as (λ b. AreCalls digest g (length w.requests) n (unwrap_or (cond b (Some (appends k (w.nodes n) trio)) None) (w.nodes n)).calls) [ true ↦ sound.nodes n | false ↦ sound.nodes n ];
       sends = tt;
       later = sound.later;
       ends = tt;

@@ -1,5 +1,5 @@
 -- One step of the world: what is refused, what it adds, and what is told.
-use Rattle.std.specs.Prelude.{ℕ, suc, ◌+◌, ◌-◌, Bool, true, false, not, ◌&&◌, ◌||◌, ◌==◌, leb, cond, Option, Some, None, List, [], ◌∷◌, ◌++◌, length, map, reverse, slice_set}
+use Rattle.std.specs.Prelude.{ℕ, suc, ◌+◌, ◌-◌, Bool, true, false, not, ◌&&◌, ◌==◌, leb, cond, Option, Some, None, List, [], ◌∷◌, ◌++◌, length, map, reverse, slice_set}
 use Rattle.std.specs.Option.{unwrap_or}
 use Rattle.layout_trackers.specs.declared.which.Which.TheVariants.{Sync}
 use Rattle.layout_trackers.specs.Trackers.{counts}
@@ -7,6 +7,7 @@ use Rattle.layout_roles.specs.declared.role.Role.{Role}
 use Rattle.layout_roles.specs.declared.redundancy.Redundancy.{Redundancy}
 use Rattle.view_model.specs.View.{View, newest}
 use Rattle.table_schema.specs.Words.{Words}
+use Rattle.quorum_model.specs.Quorum.{is_among}
 use Rattle.wire_messages.specs.declared.message.Message.TheVariants.{Get, Row, Range, Rows, Store, Stored, Behind, NotHere, BlockGet, Block, NoBlock}
 use Rattle.wire_messages.specs.declared.phase.Phase.{Phase}
 use Rattle.cluster_machine.specs.declared.step.Step.{Step}
@@ -196,10 +197,10 @@ module _ {R L A C : Type 0} (join : R → R → R) (s : Words R) (k : Layouts L)
       (cond (leb next w.applied) (refusal w (VersionTaken next))
       (cond (leb most_versions w.applied) (refusal w VersionLimit) (chosen w n next choice)))
 
-  -- nodes 1, 2 and 3 get their layout as version 1
+  -- the nodes of the first layout get it as version 1, all at once
   abbrev pub trio_applies : World R L → Effects R L A C
   trio_applies w = record (nothing w) {
-    nodes = λ n. cond ((n == 1) || ((n == 2) || (n == 3))) (Some (appends k (w.nodes n) trio)) None;
+    nodes = λ n. cond (is_among n (k.reading.members trio)) (Some (appends k (w.nodes n) trio)) None;
     roles = trio_roles w.roles;
     applies = 1;
   }

@@ -14,6 +14,8 @@ mod grammar;
 mod input;
 mod layout;
 #[cfg(test)]
+mod limits;
+#[cfg(test)]
 mod line_texts;
 mod run;
 mod schedule;

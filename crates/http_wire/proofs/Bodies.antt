@@ -54,7 +54,7 @@ filled_body kept front rest size after c d e f h = elim (cases_lt (length kept) 
                 seen_is = sym (ap (λ x. kept ++ x) (nil_of h.0.taken none) ∙ append-nil kept);
                 consumed = h.0.consumed;
                 unwritten = h.0.unwritten;
-                counted = h.0.counted;
+                steady = h.0.steady;
               };
           body_is = record { whole = sym (ap (λ x. x ++ rest) (same ∙ e) ∙ ap (λ x. take size kept ++ x) f ∙ take-append-drop size kept); size_is = h.1 };
         }
@@ -65,7 +65,10 @@ unfilled_body kept front size after Bad c d e h = absurd h
 unfilled_body kept front size after TooLong c d e h = absurd h
 unfilled_body kept front size after Memory c d e h = absurd h
 unfilled_body kept front size after Closed c d e h = let P : List ℕ → Type 0 = λ x. Takes x after c d in (subst P (all_kept kept front size after c d e h.0 h.1) h.0, h.1, h.2)
-unfilled_body kept front size after Failed c d e h = let P : List ℕ → Type 0 = λ x. Takes x after c d in (subst P (all_kept kept front size after c d e h.0 h.1) h.0, h.2)
+unfilled_body kept front size after Failed c d e h =
+    let then : Connection = record d { faults = c.faults } in
+    let P : List ℕ → Type 0 = λ x. Takes x after c then in
+    (subst P (all_kept kept front size after c then e h.0.0 h.1) h.0.0, h.0.1)
 
 -- bytes that are read stand behind those that had come
 pub place_grows : (a m k : ℕ) (xs ys : List ℕ) → a ≤ length xs → m ≤ length ys → take (a + m) (put_mid a k xs ys) ≡ take a xs ++ take m ys
@@ -76,4 +79,4 @@ place_grows a m k xs ys h l =
 
 pub place_fills : {E : Type 0} (before after new old into : List ℕ) (n : ℕ) (c d e : Connection) → new ≡ after ++ take n into → Takes before after c d → ReadsFrom {E = E} (Ok n) old into d e → Takes before new c e
 place_fills before after new old into n c d e is t w =
-    takes_more before after new c d e t (record { taken = take n into; seen_is = is; consumed = w.bytes; unwritten = w.unwritten; counted = w.counted })
+    takes_more before after new c d e t (record { taken = take n into; seen_is = is; consumed = w.bytes; unwritten = w.unwritten; steady = w.steady })

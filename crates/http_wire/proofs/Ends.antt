@@ -2,13 +2,12 @@
 use Rattle.std.proofs.Common.{◌≡◌, ◌⊎◌, inl, inr, ℕ, ◌<◌, List, ◌++◌, None, Result, Ok, Err, IfOk, IfErr, IsErrAnd, refl, sym, ◌∙◌, ap, subst, append-nil, length, take, drop}
 use Rattle.lab_outside.specs.Connection.{Connection}
 use Rattle.lab_outside.specs.Rose.{Rose}
-use Rattle.lab_outside.proofs.Rose.{rose_after}
 use Rattle.http_wire.specs.declared.head.Head.{Head}
 use Rattle.http_wire.specs.declared.head.HeadEnd.{HeadEnd}
 use Rattle.http_wire.specs.declared.head.HeadEnd.TheVariants.{Closed, TooLong, Bad, Failed, Memory}
 use Rattle.http_wire.specs.Cut.{head_limit, head_end, ends}
 use Rattle.http_wire.specs.Heads.{IsHead, IsNoHead}
-use Rattle.http_wire.specs.Reading.{Takes, ReadsHead}
+use Rattle.http_wire.specs.Reading.{Takes, Fails, ReadsHead}
 use Rattle.http_wire.specs.Pieces.{ReadsPiece, SeesEnd}
 use Rattle.http_wire.proofs.Cuts.{cut_end, cut_unfinished}
 use Rattle.http_wire.proofs.Takings.{takes_more}
@@ -18,8 +17,9 @@ pub handed_on : {A : Type 0} (R : Result A HeadEnd → Type 0) (r : Result A Hea
 handed_on R (Ok a) e is h = absurd is
 handed_on R (Err x) e is h = let P : HeadEnd → Type 0 = λ y. R (Err y) in subst P (sym is) h
 
-failed_later : (kept seen new : List ℕ) (c d f : Connection) → Takes kept seen c d → Takes seen new d f × Rose d.faults f.faults → Takes kept new c f × Rose c.faults f.faults
-failed_later kept seen new c d f t u = (takes_more kept seen new c d f t u.0, rose_after c.faults d.faults f.faults t.counted u.1)
+failed_later : (kept seen new : List ℕ) (c d f : Connection) → Takes kept seen c d → Fails seen new d f → Fails kept new c f
+failed_later kept seen new c d f t u =
+    (subst (λ n. Takes kept new c (record f { faults = n })) t.steady (takes_more kept seen new c d (record f { faults = d.faults }) t u.0), subst (λ n. Rose n f.faults) t.steady u.1)
 
 pub piece_fails : (kept seen new : List ℕ) (e : HeadEnd) (c d f : Connection) → Takes kept seen c d → ReadsPiece seen (Err e) new d f → SeesEnd kept (Err e) new c f
 piece_fails kept seen new Closed c d f t u = absurd u

@@ -39,7 +39,7 @@ told_head kept kept' (Err TooLong) c d f =
 told_head kept kept' (Err Closed) c d f =
     told_end (λ all rest. IsHeadOf all (Err Closed) rest) kept kept' c d f.0 f.2 (f.1, refl)
 told_head kept kept' (Err Failed) c d f =
-    told_seen (λ all rest. IsHeadOf all (Err Failed) rest) kept kept' kept' c d f.0 (λ left. refl)
+    told_seen (λ all rest. IsHeadOf all (Err Failed) rest) kept kept' kept' c (record d { faults = c.faults }) f.0 (λ left. refl)
 told_head kept kept' (Err Memory) c d f =
     told_seen (λ all rest. IsHeadOf all (Err Memory) rest) kept kept' kept' c d f (λ left. refl)
 
@@ -52,6 +52,6 @@ told_body kept size kept' (Err TooLong) c d f = absurd f
 told_body kept size kept' (Err Closed) c d f =
     told_end (λ all rest. IsBodyOf all size (Err Closed) rest) kept kept' c d f.0 f.2 (f.1, refl)
 told_body kept size kept' (Err Failed) c d f =
-    told_seen (λ all rest. IsBodyOf all size (Err Failed) rest) kept kept' kept' c d f.0 (λ left. refl)
+    told_seen (λ all rest. IsBodyOf all size (Err Failed) rest) kept kept' kept' c (record d { faults = c.faults }) f.0 (λ left. refl)
 told_body kept size kept' (Err Memory) c d f =
     told_seen (λ all rest. IsBodyOf all size (Err Memory) rest) kept kept' kept' c d f.0 (λ left. refl)

@@ -1,5 +1,5 @@
 -- What the calls of this crate take from a connection, what they answer, and what they keep.
-use Rattle.std.specs.Prelude.{◌≡◌, ℕ, ◌<◌, ◌≤◌, List, ◌++◌, length, Option, Some, None, Result, Ok, Err, ⊤}
+use Rattle.std.specs.Prelude.{◌≡◌, ℕ, ◌<◌, List, ◌++◌, length, Option, Some, None, Result, Ok, Err, ⊤}
 use Rattle.std.specs.Io.KnownBytes.{Consumes, IsAtEnd}
 use Rattle.lab_outside.specs.Connection.{Connection}
 use Rattle.lab_outside.specs.Rose.{Rose}
@@ -9,13 +9,17 @@ use Rattle.http_wire.specs.declared.head.HeadEnd.TheVariants.{Closed, TooLong, B
 use Rattle.http_wire.specs.Cut.{ends, too_long, unfinished, cut}
 use Rattle.http_wire.specs.Heads.{IsHead, IsNoHead}
 
--- `seen` is what was kept and then the bytes that were taken from the connection; nothing else of it changed but its count of faults
+-- `seen` is what was kept and then the bytes that were taken from the connection, of which nothing else changed
 pub record Takes (kept seen : List ℕ) (c d : Connection) : Type 0 where
   pub taken : List ℕ
   pub seen_is : seen ≡ kept ++ taken
   pub consumed : Consumes c.left d.left taken
   pub unwritten : d.written ≡ c.written
-  pub counted : c.faults ≤ d.faults
+  pub steady : d.faults ≡ c.faults
+
+-- the same, but that a read failed then, and the connection's count of faults rose
+abbrev pub Fails : List ℕ → List ℕ → Connection → Connection → Type 0
+Fails kept seen c d = Takes kept seen c (record d { faults = c.faults }) × Rose c.faults d.faults
 
 -- the bytes were seen up to the head's end, and those read too far are kept
 pub record FindsHead (kept kept' : List ℕ) (P : List ℕ → Type 0) (c d : Connection) : Type 0 where
@@ -31,7 +35,7 @@ ReadsHead kept (Ok head) kept' c d = FindsHead kept kept' (λ front. IsHead fron
 ReadsHead kept (Err Bad) kept' c d = FindsHead kept kept' IsNoHead c d
 ReadsHead kept (Err TooLong) kept' c d = Takes kept kept' c d × (cut kept' ≡ too_long)
 ReadsHead kept (Err Closed) kept' c d = Takes kept kept' c d × (cut kept' ≡ unfinished) × IsAtEnd d.left
-ReadsHead kept (Err Failed) kept' c d = Takes kept kept' c d × Rose c.faults d.faults
+ReadsHead kept (Err Failed) kept' c d = Fails kept kept' c d
 ReadsHead kept (Err Memory) kept' c d = Takes kept kept' c d
 
 -- the bytes are a body of this length and then the rest
@@ -51,7 +55,7 @@ ReadsBody kept size (Ok body) kept' c d = FindsBody kept size body kept' c d
 ReadsBody kept size (Err Bad) kept' c d = ⊥
 ReadsBody kept size (Err TooLong) kept' c d = ⊥
 ReadsBody kept size (Err Closed) kept' c d = Takes kept kept' c d × (length kept' < size) × IsAtEnd d.left
-ReadsBody kept size (Err Failed) kept' c d = Takes kept kept' c d × Rose c.faults d.faults
+ReadsBody kept size (Err Failed) kept' c d = Fails kept kept' c d
 ReadsBody kept size (Err Memory) kept' c d = Takes kept kept' c d × (kept' ≡ kept)
 
 -- what all the bytes begin with that are kept or left, for a head that was answered so; `rest` are those that are kept or left then

@@ -1,5 +1,5 @@
 -- What holds of the connection that is present, from one call to the next.
-use Rattle.std.proofs.Common.{◌≡◌, ℕ, ◌≤◌, List, ◌++◌, [], length, take, drop, Option, Some, None, IsSome, Ok, refl, ◌∙◌, arith}
+use Rattle.std.proofs.Common.{◌≡◌, ℕ, List, drop, Option, Some, None, IsSome, Ok, refl, ◌∙◌}
 use Rattle.lab_outside.specs.Connection.{Connection, OnPresent, Stays, WritesTo}
 use Rattle.lab_outside.proofs.Bytes.{Written, written_none, written_more}
 
@@ -32,17 +32,17 @@ on_present_then R S T (Some c) (Some d) (Some e) f h k = f c d e h k
 -- of `bytes` all but `rest` was written to the connection
 pub record IsPart (bytes rest : List ℕ) (c d : Connection) : Type 0 where
   pub part : Written c.written d.written bytes rest
-  pub counted : c.faults ≤ d.faults
+  pub steady : d.faults ≡ c.faults
   pub unread : d.left ≡ c.left
 
 pub part_none : (bytes : List ℕ) (c : Connection) → IsPart bytes bytes c c
-part_none bytes c = record { part = written_none c.written bytes; counted = omega arith; unread = refl }
+part_none bytes c = record { part = written_none c.written bytes; steady = refl; unread = refl }
 
 pub part_more : {E : Type 0} (bytes rest : List ℕ) (n : ℕ) (c d e : Connection) → IsPart bytes rest c d → WritesTo {E = E} (Ok n) rest d e → IsPart bytes (drop n rest) c e
 part_more bytes rest n c d e p w =
     record {
       part = written_more c.written d.written e.written bytes rest n p.part w.bytes;
-      counted = omega (arith, p.counted, w.counted);
+      steady = w.steady ∙ p.steady;
       unread = w.unread ∙ p.unread;
     }
 

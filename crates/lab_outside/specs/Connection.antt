@@ -36,6 +36,7 @@ pub record ReadsFrom {E : Type 0} (result : Result ℕ E) (before after : List �
   pub kept : OnErr result (d.left ≡ c.left)
   pub counted : c.faults ≤ d.faults
   pub fault : OnErr result (Rose c.faults d.faults)
+  pub steady : OnOk result (d.faults ≡ c.faults)
   pub unwritten : d.written ≡ c.written
 
 -- a write of the bytes of a piece
@@ -46,6 +47,7 @@ pub record WritesTo {E : Type 0} (result : Result ℕ E) (piece : List ℕ) (c d
   pub kept : OnErr result (d.written ≡ c.written)
   pub counted : c.faults ≤ d.faults
   pub fault : OnErr result (Rose c.faults d.faults)
+  pub steady : OnOk result (d.faults ≡ c.faults)
   pub unread : d.left ≡ c.left
 
 -- the connections to come, those that are past, and the link's own count of faults stay
@@ -54,12 +56,13 @@ pub record Stays (coming_old coming_new : Option (List (List ℕ))) (past_old pa
   pub past : past_new ≡ past_old
   pub faults : faults_new ≡ faults_old
 
--- all the bytes were written, or a first part of them where the connection's count of faults rose
+-- all the bytes were written, and the connection's count of faults is as before; or a first part of them, and it rose
 pub record WritesWhole {E : Type 0} (result : Result Unit E) (bytes : List ℕ) (c d : Connection) : Type 0 where
   pub ok : OnOk result (Wrote c.written d.written bytes)
   pub err : OnErr result (WrotePrefix c.written d.written bytes)
   pub counted : c.faults ≤ d.faults
   pub fault : OnErr result (Rose c.faults d.faults)
+  pub steady : OnOk result (d.faults ≡ c.faults)
   pub unread : d.left ≡ c.left
 
 -- what was written to the i-th of the connections, from 0, where it is told

@@ -1,5 +1,5 @@
 // Which calls of an object in memory fail.
-ghost use Rattle.std.specs.Prelude.{◌≡◌, ◌≤◌, IsTrue};
+ghost use Rattle.std.specs.Prelude.{◌≡◌, ◌≤◌, false, IsTrue};
 ghost use Rattle.lab_outside.specs.Rose.{Rose};
 ghost use Rattle.lab_outside.specs.Calls.{next_call, is_planned};
 
@@ -40,6 +40,7 @@ impl Calls {
         ensures plan { self.new.fails ≡ self.old.fails }
         ensures count { self.new.count ≡ next_call self.old.count }
         ensures counted { self.old.faults ≤ self.new.faults }
+        ensures steady { result ≡ false → self.new.faults ≡ self.old.faults }
         ensures fault { IsTrue result → Rose self.old.faults self.new.faults }
     {
         self.count = self.count.saturating_add(1);

@@ -46,6 +46,7 @@ impl Source for MemSource {
         ensures kept { OnErr result (source_left self.new ≡ source_left self.old) }
         ensures counted { source_faults self.old ≤ source_faults self.new }
         ensures fault { OnErr result (Rose (source_faults self.old) (source_faults self.new)) }
+        ensures steady { OnOk result (source_faults self.new ≡ source_faults self.old) }
 
         // A read fails exactly where its number is among those that fail.
         ensures planned { is_err result ≡ is_planned (source_plan self.old) (next_call (source_calls self.old)) }
@@ -103,6 +104,7 @@ impl Sink for MemSink {
         ensures kept { OnErr result (sink_written self.new ≡ sink_written self.old) }
         ensures counted { sink_faults self.old ≤ sink_faults self.new }
         ensures fault { OnErr result (Rose (sink_faults self.old) (sink_faults self.new)) }
+        ensures steady { OnOk result (sink_faults self.new ≡ sink_faults self.old) }
 
         // A write takes all or fails: where its number is among those that fail, or memory to grow is refused.
         ensures planned { IsTrue (is_planned (sink_plan self.old) (next_call (sink_calls self.old))) → IsErr result }

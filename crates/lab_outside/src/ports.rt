@@ -1,12 +1,12 @@
 // What the program reads from, writes to, serves and asks for the time.
-ghost use Rattle.std.specs.Prelude.{◌≡◌, ◌↔◌, ℕ, ◌<◌, ◌≤◌, List, ◌++◌, Option, length, take, true, IsSome, IfOk, OnErr, IfSome, option_to_list};
+ghost use Rattle.std.specs.Prelude.{◌≡◌, ◌↔◌, ℕ, ◌<◌, ◌≤◌, List, ◌++◌, Option, length, take, true, IsSome, IfOk, OnOk, OnErr, IfSome, option_to_list};
 ghost use Rattle.std.specs.Io.KnownBytes.{Consumes, IsAtEnd};
 ghost use Rattle.lab_outside.specs.Rose.{Rose};
 ghost use Rattle.lab_outside.specs.Bytes.{Wrote};
 ghost use Rattle.lab_outside.specs.Times.{GivesTime};
 ghost use Rattle.lab_outside.specs.Connection.{Connection, IsFresh, OnPresent, TakesNext, ReadsFrom, WritesTo};
 
-/// A call on the outside failed, and its count of faults rose.
+/// A call on the outside failed, and its count of faults rose. After any other answer the count is as before.
 #[derive(Debug, Clone, Copy, PartialEq, Eq)]
 pub struct Failed;
 
@@ -25,7 +25,8 @@ pub trait Source {
         ensures end { IfOk result (λ n. n ≡ 0 → 0 < length into.old → IsAtEnd (left self.new)) }
         ensures kept { OnErr result (left self.new ≡ left self.old) }
         ensures counted { faults self.old ≤ faults self.new }
-        ensures fault { OnErr result (Rose (faults self.old) (faults self.new)) };
+        ensures fault { OnErr result (Rose (faults self.old) (faults self.new)) }
+        ensures steady { OnOk result (faults self.new ≡ faults self.old) };
 }
 
 /// Where bytes go to.
@@ -43,7 +44,8 @@ pub trait Sink {
         ensures bytes { IfOk result (λ n. Wrote (written self.old) (written self.new) (take n from.now)) }
         ensures kept { OnErr result (written self.new ≡ written self.old) }
         ensures counted { faults self.old ≤ faults self.new }
-        ensures fault { OnErr result (Rose (faults self.old) (faults self.new)) };
+        ensures fault { OnErr result (Rose (faults self.old) (faults self.new)) }
+        ensures steady { OnOk result (faults self.new ≡ faults self.old) };
 }
 
 /// Where connections come from, one after the other.
@@ -66,7 +68,8 @@ pub trait Link {
         ensures still_present { present self.new ≡ present self.old }
         ensures still_past { past self.new ≡ past self.old }
         ensures counted { faults self.old ≤ faults self.new }
-        ensures fault { OnErr result (Rose (faults self.old) (faults self.new)) };
+        ensures fault { OnErr result (Rose (faults self.old) (faults self.new)) }
+        ensures steady { OnOk result (faults self.new ≡ faults self.old) };
 
     /// Takes the next connection, and says whether there was one.
     fn next(&mut self) -> Result<bool, Failed>
@@ -76,7 +79,8 @@ pub trait Link {
         ensures kept { OnErr result (coming self.new ≡ coming self.old) }
         ensures goes { past self.new ≡ past self.old ++ option_to_list (present self.old) }
         ensures counted { faults self.old ≤ faults self.new }
-        ensures fault { OnErr result (Rose (faults self.old) (faults self.new)) };
+        ensures fault { OnErr result (Rose (faults self.old) (faults self.new)) }
+        ensures steady { OnOk result (faults self.new ≡ faults self.old) };
 
     /// Reads from the connection into the front of `into`, and says how many bytes.
     fn read(&mut self, into: &mut [u8]) -> Result<usize, Failed>

@@ -1,5 +1,5 @@
 // The program's own input and output. No bytes are told of them, only faults.
-ghost use Rattle.std.specs.Prelude.{◌≡◌, ◌<◌, ◌≤◌, None, length, IfOk, OnErr};
+ghost use Rattle.std.specs.Prelude.{◌≡◌, ◌<◌, ◌≤◌, None, length, IfOk, OnOk, OnErr};
 ghost use Rattle.std.specs.Io.KnownBytes.{ReadConsumes, WriteAppends};
 ghost use Rattle.lab_outside.specs.Rose.{Rose};
 ghost use Rattle.lab_outside.specs.Standard.{reader_of, read_faults, writer_of, write_faults};
@@ -32,6 +32,7 @@ impl<R: Read> Source for StdSource<R> {
         ensures count { IfOk result (λ n. n ≤ length into.old) }
         ensures counted { read_faults self.old ≤ read_faults self.new }
         ensures fault { OnErr result (Rose (read_faults self.old) (read_faults self.new)) }
+        ensures steady { OnOk result (read_faults self.new ≡ read_faults self.old) }
 
         // What the reader tells of its bytes is so of what was read.
         ensures bytes { ReadConsumes (R.remaining (reader_of self.old)) (R.remaining (reader_of self.new)) result into.new }
@@ -72,6 +73,7 @@ impl<W: Write> Sink for StdSink<W> {
         ensures some { IfOk result (λ n. 0 < length from.now → 0 < n) }
         ensures counted { write_faults self.old ≤ write_faults self.new }
         ensures fault { OnErr result (Rose (write_faults self.old) (write_faults self.new)) }
+        ensures steady { OnOk result (write_faults self.new ≡ write_faults self.old) }
 
         // What the writer tells of its bytes has grown by what was written.
         ensures bytes { WriteAppends (W.contents (writer_of self.old)) (W.contents (writer_of self.new)) result from.now }

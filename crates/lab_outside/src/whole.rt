@@ -59,6 +59,10 @@ pub fn read_up_to<I: Source>(
     ensures consumed { ConsumesPrefix (I.left input.old) (I.left input.new) }
     ensures counted { I.faults input.old ≤ I.faults input.new }
     ensures fault { result ≡ Err ReadStop.Failed → Rose (I.faults input.old) (I.faults input.new) }
+
+    // A read that failed is answered as such: after any other answer the count of faults is as before.
+    ensures steady { OnOk result (I.faults input.new ≡ I.faults input.old) }
+    ensures wanting { result ≡ Err ReadStop.Memory → I.faults input.new ≡ I.faults input.old }
 {
     let mut all = Vec::new(alloc);
     let mut piece = [0; 4096];
@@ -79,6 +83,7 @@ pub fn write_whole<O: Sink>(output: &mut O, bytes: &[u8]) -> Result<(), Failed>
     ensures err { OnErr result (WrotePrefix (O.written output.old) (O.written output.new) bytes.now) }
     ensures counted { O.faults output.old ≤ O.faults output.new }
     ensures fault { OnErr result (Rose (O.faults output.old) (O.faults output.new)) }
+    ensures steady { OnOk result (O.faults output.new ≡ O.faults output.old) }
 {
     let mut rest = bytes;
     while !rest.is_empty() {

@@ -1,5 +1,5 @@
 -- Every step of the machine is some steps of the control plane.
-use Rattle.std.specs.Prelude.{◌≡◌, ◌≤◌, ◌<◌, ℕ, zero, suc, Bool, true, false, not, cond, ◌&&◌, ◌||◌, ◌==◌, leb, List, [], ◌∷◌, Option, Some, None, slice_get, refl}
+use Rattle.std.specs.Prelude.{◌≡◌, ◌≤◌, ◌<◌, ℕ, zero, suc, Bool, true, false, not, cond, ◌&&◌, ◌==◌, leb, List, [], ◌∷◌, Option, Some, None, slice_get, refl}
 use Rattle.std.specs.Option.{unwrap_or}
 use Rattle.std.specs.List.{AllByRecursion, flat_map}
 use Rattle.std.proofs.Common.{ap, sym, subst, ◌∙◌, arith}
@@ -17,6 +17,7 @@ use Rattle.wire_messages.specs.declared.message.Message.{Message}
 use Rattle.wire_messages.specs.declared.message.Message.TheVariants.{Get, Row, Range, Rows, Store, Stored, Behind, NotHere, BlockGet, Block, NoBlock}
 use Rattle.wire_messages.specs.declared.message.Tag.TheVariants.{Call as ForCall, Round as ForRound, Item as ForItem}
 use Rattle.wire_messages.specs.declared.phase.Phase.{Phase}
+use Rattle.quorum_model.specs.Quorum.{is_among}
 use Rattle.cluster_machine.specs.declared.step.Step.{Step}
 use Rattle.cluster_machine.specs.declared.step.Step.TheVariants.{Trio, Role as Stage, Redundancy as Spread, Apply, Tick, Skew, Deliver, Lose, Expire, Restart, Gossip, Ack, Sync as Syncs, SyncAck, Clean, Work, Repair, Open, Phase as Begin, Close}
 use Rattle.cluster_machine.specs.declared.step.Action.{Action}
@@ -189,8 +190,8 @@ module _ {R L A C : Type 0} (join : R → R → R) (s : Words R) (k : Layouts L)
   trio_goes w c t e =
       let low : w.applied < 1 = leb-false 1 w.applied e in
       let none : w.applied ≡ 0 = omega arith in record {
-        steps = Turn.Install (λ n. (n == 1) || ((n == 2) || (n == 3))) trio ∷ [];
-        turns = install_turns k partitions w c (λ n. (n == 1) || ((n == 2) || (n == 3))) trio _ t is_trio is_first none (λ m. refl) refl refl refl;
+        steps = Turn.Install (λ n. is_among n (k.reading.members trio)) trio ∷ [];
+        turns = install_turns k partitions w c (λ n. is_among n (k.reading.members trio)) trio _ t is_trio is_first none (λ m. refl) refl refl refl;
       }
 
   pub given_goes : (w : World R L) (c : control.World L) (n : ℕ) (l : L) (shown : A) → IsReached k.reading partitions c → Controlled k partitions w c → IsLayout k partitions l → k.reading.version l ≡ suc w.applied →

@@ -1,5 +1,5 @@
 -- Every step of the machine keeps its world sound, and so each read of a run gave rows with the property.
-use Rattle.std.specs.Prelude.{◌≡◌, ℕ, suc, ◌<◌, Bool, true, false, not, cond, ◌==◌, ◌&&◌, ◌||◌, leb, Option, Some, None, List, [], ◌∷◌, length, map, refl}
+use Rattle.std.specs.Prelude.{◌≡◌, ℕ, suc, ◌<◌, Bool, true, false, not, cond, ◌==◌, ◌&&◌, leb, Option, Some, None, List, [], ◌∷◌, length, map, refl}
 use Rattle.std.specs.Option.{unwrap_or}
 use Rattle.std.specs.List.{AllByRecursion}
 use Rattle.std.proofs.Common.{sym, subst, ◌∙◌, arith}
@@ -8,6 +8,7 @@ use Rattle.layout_roles.specs.declared.role.Role.{Role}
 use Rattle.table_schema.specs.Words.{Words}
 use Rattle.table_model.specs.Rows.{row_at}
 use Rattle.wire_messages.specs.declared.phase.Phase.{Phase}
+use Rattle.quorum_model.specs.Quorum.{is_among}
 use Rattle.cluster_machine.specs.declared.step.Step.{Step}
 use Rattle.cluster_machine.specs.declared.step.Step.TheVariants.{Trio, Role as Stage, Redundancy as Spread, Apply, Tick, Skew, Deliver, Lose, Expire, Restart, Gossip, Ack, Sync as Syncs, SyncAck, Clean, Work, Repair, Open, Phase as Begin, Close}
 use Rattle.cluster_machine.specs.declared.step.Action.TheVariants.{Ack as RaiseAck, Sync as GoOn, SyncAck as RaiseSyncAck, Clean as CleanUp, Work as WorkOff, Repair as Mend}
@@ -88,7 +89,7 @@ module _ {R : Type 0} {join : R → R → R} {s : Words R} {P : R → Type 0} (r
     trio_leads : Lead (trio_applies join s k trio trio_roles w)
     trio_leads =
         nodes_lead (trio_applies join s k trio trio_roles w)
-        (λ n. elim ((n == 1) || ((n == 2) || (n == 3))) as (λ b. IsNode s P g (length w.requests) n (unwrap_or (cond b (Some (appends k (w.nodes n) trio)) None) (w.nodes n))) [ true ↦ appended_node n trio | false ↦ sound.nodes n ])
+        (λ n. elim (is_among n (k.reading.members trio)) as (λ b. IsNode s P g (length w.requests) n (unwrap_or (cond b (Some (appends k (w.nodes n) trio)) None) (w.nodes n))) [ true ↦ appended_node n trio | false ↦ sound.nodes n ])
         refl refl refl
 
     chosen_leads : (n : ℕ) (choice : Choice L A C) → Lead (chosen join s k trio trio_roles w n (suc (newest k.reading (w.nodes n).view)) choice)

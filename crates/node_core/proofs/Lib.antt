@@ -3,3 +3,4 @@ pub mod Nodes
 pub mod Phases
 pub mod Replies
 pub mod Stored
+pub mod Appended

@@ -6,7 +6,7 @@ ghost use Rattle.layout_roles.specs.declared.layout.Layout.{Layout};
 ghost use Rattle.layout_history.specs.Views.{known};
 ghost use Rattle.view_model.specs.Layouts.{reading};
 ghost use Rattle.layout_history.specs.Known.{has_members};
-ghost use Rattle.view_model.specs.View.{View as Seen, oldest, newest, read_version, merged};
+ghost use Rattle.view_model.specs.View.{View as Seen, oldest, newest, read_version, merged, appended};
 ghost use Rattle.table_model.specs.Rows.{row_at, find_row, rows, range};
 ghost use Rattle.wire_messages.specs.declared.message.Message.TheVariants as message;
 ghost use Rattle.wire_messages.specs.declared.message.Tag.TheVariants as tag;
@@ -614,6 +614,26 @@ impl<S: Schema> Node<S> {
         ensures want { OnlyWant result }
     {
         self.view.append(layout)
+    }
+
+    /// The node's view with one layout version more. `show` puts it in its place, and takes no memory for that.
+    pub fn view_with(&self, layout: Layout) -> Result<View, Memory>
+        requires next { layout.version ≡ newest reading (view_of self.now) + 1 }
+        requires inhabited { IsTrue (has_members layout) }
+        ensures appended { IfOk result (λ view. known view ≡ appended reading (view_of self.now) layout) }
+        ensures want { OnlyWant result }
+    {
+        let mut view = self.view.copy()?;
+        view.append(layout)?;
+        Ok(view)
+    }
+
+    /// Puts a view of `view_with` in the place of the node's.
+    pub fn show(&mut self, view: View)
+        ensures { (l : Layout) → l.version ≡ newest reading (view_of self.old) + 1 → known view ≡ appended reading (view_of self.old) l →
+            Becomes S.Row.join S.words self.old self.new (λ id x. appends layouts x l) }
+    {
+        self.view = view;
     }
 
     /// Loses what a node keeps in memory alone: its requests, its round, and who confirmed its outbox. The lost

@@ -21,7 +21,7 @@ use Rattle.node_core.specs.declared.node.BeginFault.{BeginFault}
 use Rattle.node_core.specs.declared.node.BeginFault.TheVariants.{NotMember, Memory as WantsMemory}
 use Rattle.node_core.specs.Stands.{StandsFor, view_of, Done, Does, Acts, Becomes, Overflows}
 use Rattle.world_core.specs.declared.nodes.Nodes.{Nodes}
-use Rattle.world_core.specs.Nodes.{newest_of, newest_in, IsNodeAt, AreNodes, DidAt, DoesAt, ActsAt, BecomesAt, OverflowsAt, with_node}
+use Rattle.world_core.specs.Nodes.{newest_of, newest_in, StayThere, IsNodeAt, AreNodes, DidAt, DoesAt, ActsAt, BecomesAt, OverflowsAt, with_node}
 
 same_number : (n m : ℕ) → is_eq (nat_cmp n m) ≡ (m == n)
 same_number n m =
@@ -118,6 +118,16 @@ module _ {S R : Type 0} (join : R → R → R) (s : Words R) where
   put_new old map n w xs none puts stands are =
       let is = is_new old n xs none are in
       same_nodes (with_map old map) n xs (put old map n w xs (xs n) puts.0 (subst (λ x. StandsFor join s w n x) (sym is) stands) are)
+
+  -- a new node stands in nobody's place
+  pub put_stays : (old : Nodes S R) (map : BTreeMap ℕ (Node S R)) (n : ℕ) (w : Node S R) → None ≡ get nat_cmp old.by_number n → Updates nat_cmp old.by_number map n (Some w) → StayThere old (with_map old map)
+  put_stays old map n w none puts m c there =
+      elim (m == n) as (λ b. (m == n) ≡ b → Some c ≡ get nat_cmp map m) [
+        | true ↦ λ e.
+            let never : Some c ≡ None = there ∙ (ap (get nat_cmp old.by_number) (eqb-true m n e) ∙ sym none) in
+            absurd cc
+        | false ↦ λ e. there ∙ sym (puts.0 m ∙ ap (λ b. cond b (Some w) (get nat_cmp old.by_number m)) (same_number n m ∙ e))
+      ] refl
 
   pub newest_new : (old : Nodes S R) (map : BTreeMap ℕ (Node S R)) (n : ℕ) (w : Node S R) →
       None ≡ get nat_cmp old.by_number n → Updates nat_cmp old.by_number map n (Some w) → StandsFor join s w n new_node → newest_in (with_map old map) n ≡ newest_in old n

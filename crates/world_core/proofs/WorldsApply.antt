@@ -1,12 +1,10 @@
 -- The first layout of nodes 1, 2 and 3, and a layout that is applied.
-use Rattle.std.proofs.Common.{◌≡◌, ◌<◌, ◌≤◌, ◌+◌, ◌==◌, ◌||◌, ◌&&◌, not, leb, ℕ, suc, Bool, true, false, cond, Some, None, List, [], ◌∷◌, refl, sym, subst, ap, arith}
-use Rattle.std.specs.Option.{unwrap_or}
+use Rattle.std.proofs.Common.{◌≡◌, ◌<◌, ◌≤◌, ◌+◌, ◌&&◌, not, leb, ℕ, suc, Bool, true, false, cond, [], ◌∷◌, refl, sym, subst, ap, arith}
 use Rattle.std.proofs.lemmas.Bool.{le-leb, lt-leb}
 use Rattle.layout_roles.specs.declared.roles.Roles.{Roles}
 use Rattle.layout_roles.specs.declared.layout.Layout.{Layout}
 use Rattle.layout_roles.specs.declared.cut.Cut.{Cut}
 use Rattle.table_schema.specs.Words.{Words}
-use Rattle.quorum_model.specs.Quorum.{is_among}
 use Rattle.cluster_machine.specs.declared.step.Step.TheVariants.{Trio, Apply}
 use Rattle.cluster_machine.specs.declared.step.Refusal.{Refusal}
 use Rattle.cluster_machine.specs.declared.step.Refusal.TheVariants.{VersionTaken, VersionLimit, NotMember}
@@ -24,16 +22,11 @@ use Rattle.cluster_machine.specs.Worlds.{Model, Done, newest_at, does}
 use Rattle.world_core.specs.declared.nodes.Nodes.{Nodes}
 use Rattle.world_core.specs.declared.report.Report.{Report}
 use Rattle.world_core.specs.declared.world.World.{World}
-use Rattle.world_core.specs.Nodes.{newest_in, AreNodes, BecomesAt}
-use Rattle.world_core.specs.Stands.{StandsFor, IsWorld, DoesSo, Stepped, Plays, nothing_given}
-use Rattle.world_core.proofs.WorldsStand.{stands_of, sound_after, same_post, same_clocks, same_requests, same_few, refused_report, told_report, is_told, plays_refusal, IsBareSound, bare_sound}
-use Rattle.world_core.proofs.WorldsInstall.{nat_eq_flips, given_to, none_known, same_at_each}
-
-any_of : {R : Type 0} (x y : Seen R Layout) (a b c d e f : Bool) → a ≡ d → b ≡ e → c ≡ f → cond (a || (b || (c || false))) y x ≡ unwrap_or (cond (d || (e || f)) (Some y) None) x
-any_of x y true b c d e f p q r = rw (← p) refl
-any_of x y false true c d e f p q r = rw (← p, ← q) refl
-any_of x y false false true d e f p q r = rw (← p, ← q, ← r) refl
-any_of x y false false false d e f p q r = rw (← p, ← q, ← r) refl
+use Rattle.world_core.specs.Nodes.{AreNodes, BecomesAt, given_to}
+use Rattle.world_core.specs.Stands.{StandsFor, DoesSo, Stepped, Plays, nothing_given}
+use Rattle.world_laws.proofs.TrioGreatest.{trio_is_first}
+use Rattle.world_core.proofs.WorldsStand.{stands_of, IsBareSound, bare_sound, sound_after, same_post, same_clocks, same_requests, same_few, refused_report, told_report, is_told, plays_refusal}
+use Rattle.world_core.proofs.WorldsInstall.{first_stands}
 
 at_tests : (P : Bool → Bool → Bool → Type 0) (a b c d e f : Bool) → a ≡ d → b ≡ e → c ≡ f → P d e f → P a b c
 at_tests P a b c d e f p q r h = subst (λ x. P x b c) (sym p) (subst (λ x. P d x c) (sym q) (subst (λ x. P d e x) (sym r) h))
@@ -62,32 +55,12 @@ module _ {R : Type 0} (w : Model R) (n : ℕ) where
       (sound_after join s w (Apply n) choice sound tt (at_tests (may choice) outside taken full false false false e f g lawful))
 
 module _ {S R : Type 0} (join : R → R → R) (s : Words R) where
-  -- no version is known at a node, after these got the first one
-  pub none_yet : (c : World S R) → IsWorld join s c → c.applied < 1 → (now : Nodes S R) (nodes : List ℕ) (n : ℕ) → is_among n nodes ≡ false →
-      ((xs : ℕ → Seen R Layout) → AreNodes join s c.nodes xs → AreNodes join s now (given_to nodes trio xs)) → newest_in now n ≡ 0
-  none_yet c is low now nodes n free are =
-      let h = is.1 in
-      let same = h.applied in
-      none_known join s c is.0 h (omega arith) now trio nodes n free (are is.0.nodes h.nodes)
-
   trio_does : (c : World S R) (now : Nodes S R) (roles : Roles) (report : Report R) (w : Model R) → StandsFor join s c w → report ≡ told_report Empty [] → c.applied < 1 → roles.list ≡ stage_trio c.roles.list →
       AreNodes join s now (given_to (1 ∷ 2 ∷ 3 ∷ []) trio w.nodes) → leb 1 w.applied ≡ false → DoesSo join s (record c { nodes = now; roles = roles; applied = 1 }) report w (trio_applies join s layouts trio stage_trio w)
   trio_does c now roles report w h is low new are free =
       let same = h.applied in
-      let sound = subst (λ (b : Bool). IsBareSound (applied w (cond b (refusal {A = Applied} {C = Cut} w (VersionTaken 1)) (trio_applies join s layouts trio stage_trio w)))) free (sound_after join s w Trio nothing_given (bare_sound h) tt tt) in
       record {
-        stands = stands_of join s (record c { nodes = now; roles = roles; applied = 1 }) _ (record {
-          nodes = same_at_each join s now _ _ (λ m. any_of (w.nodes m) (appends layouts (w.nodes m) trio) (1 == m) (2 == m) (3 == m) (m == 1) (m == 2) (m == 3) (nat_eq_flips 1 m) (nat_eq_flips 2 m) (nat_eq_flips 3 m)) are;
-          post = same_post join s c w h;
-          clocks = same_clocks join s c w h;
-          roles = subst (λ rs. roles.list ≡ stage_trio rs) h.roles new;
-          redundancy = h.redundancy;
-          wanted = h.wanted;
-          applied = omega arith;
-          requests = same_requests join s c w h;
-          few = same_few join s c w h;
-          sound = sound;
-        });
+        stands = first_stands join s c now roles w trio stage_trio h (omega arith) trio_is_first (subst (λ rs. roles.list ≡ stage_trio rs) h.roles new) are;
         tells = is_told report Empty [] _ is refl refl refl refl refl;
         spelled = refl;
       }

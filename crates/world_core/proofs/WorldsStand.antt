@@ -16,6 +16,7 @@ use Rattle.cluster_machine.specs.Trio.{trio, stage_trio}
 use Rattle.cluster_machine.specs.Bare.{IsBareStep, IsBareWorld}
 use Rattle.cluster_machine.specs.Worlds.{Model, Done, IsSound, IsLawfulStep, does}
 use Rattle.world_laws.proofs.Additions.{fine_stays_sound}
+use Rattle.world_laws.proofs.TrioGreatest.{trio_is_first}
 use Rattle.world_laws.proofs.Steps.{fine_step}
 use Rattle.world_laws.proofs.Bareness.{bare_after, bare_step}
 use Rattle.world_core.specs.declared.report.Report.{Report}
@@ -45,7 +46,7 @@ module _ {R : Type 0} where
   -- a lawful step that stores no blocks keeps the world so
   pub sound_after : (join : R → R → R) (s : Words R) (w : Model R) (step : Step R) (choice : Decision) → IsBareSound w → IsBareStep step → IsLawfulStep w step choice → IsBareSound (applied w (does join s w (record { step = step; choice = choice })))
   sound_after join s w step choice h bare lawful = record {
-    sound = fine_stays_sound w _ h.sound (fine_step w h.sound join s trio stage_trio refl step choice lawful);
+    sound = fine_stays_sound w _ h.sound (fine_step w h.sound join s trio stage_trio trio_is_first step choice lawful);
     bare = bare_after w _ h.bare (bare_step w h.bare join s trio stage_trio step choice bare);
   }
 

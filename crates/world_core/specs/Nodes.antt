@@ -4,7 +4,9 @@ use Rattle.std.specs.Ordering.{nat_cmp}
 use Rattle.std.specs.BTreeMap.{get}
 use Rattle.layout_roles.specs.declared.layout.Layout.{Layout}
 use Rattle.view_model.specs.Layouts.{reading}
-use Rattle.view_model.specs.View.{newest}
+use Rattle.layout_history.specs.Views.{known}
+use Rattle.view_model.specs.View.{newest, appended}
+use Rattle.quorum_model.specs.Quorum.{is_among}
 use Rattle.table_schema.specs.Words.{Words}
 use Rattle.table_model.specs.Rows.{rows}
 use Rattle.table_model.specs.Top.{top}
@@ -14,7 +16,7 @@ use Rattle.cluster_machine.specs.Layouts.{has_none, is_member, layouts}
 use Rattle.cluster_machine.specs.Node.{Node as Model, Did, new_node}
 use Rattle.cluster_machine.specs.Phases.{opened}
 use Rattle.cluster_machine.specs.World as machine
-use Rattle.cluster_machine.specs.Acts.{Acted}
+use Rattle.cluster_machine.specs.Acts.{Acted, appends}
 use Rattle.cluster_machine.specs.Step.{only, changed}
 use Rattle.node_parts.specs.declared.packet.Envelope.{Envelope}
 use Rattle.node_parts.specs.Posts.{Posts}
@@ -22,6 +24,7 @@ use Rattle.node_core.specs.declared.node.Node.{Node}
 use Rattle.node_core.specs.Stands.{StandsFor, AreSized, ends_of, Fits, view_of}
 use Rattle.world_core.specs.declared.node_line.NodeLine.{NodeLine}
 use Rattle.world_core.specs.declared.nodes.Nodes.{Nodes}
+use Rattle.world_core.specs.declared.first.Prepared.{Prepared}
 
 -- a node that nothing happened to is a new one
 abbrev pub IsNodeAt : {S R : Type 0} → (R → R → R) → Words R → Option (Node S R) → ℕ → Model R Layout → Type 0
@@ -40,6 +43,25 @@ newest_of (Some c) = newest reading (view_of c)
 -- the newest version that node n knows
 abbrev pub newest_in : {S R : Type 0} → Nodes S R → ℕ → ℕ
 newest_in nodes n = newest_of (get nat_cmp nodes.by_number n)
+
+-- each node that is there stays as it is
+abbrev pub StayThere : {S R : Type 0} → Nodes S R → Nodes S R → Type 0
+StayThere {S} {R} old new = (n : ℕ) (c : Node S R) → Some c ≡ get nat_cmp old.by_number n → Some c ≡ get nat_cmp new.by_number n
+
+-- no node knows a layout version
+abbrev pub KnowNone : {S R : Type 0} → (R → R → R) → Words R → Nodes S R → Type 0
+KnowNone {S} {R} join s nodes = (xs : ℕ → Model R Layout) × AreNodes join s nodes xs × ((n : ℕ) → newest reading (xs n).view ≡ 0)
+
+-- these nodes with the layout as one version more, and the others as they were
+abbrev pub given_to : {R : Type 0} → List ℕ → Layout → (ℕ → Model R Layout) → ℕ → Model R Layout
+given_to nodes first xs n = cond (is_among n nodes) (appends layouts (xs n) first) (xs n)
+
+-- the node is there and knows no version, and this is its view with the layout as its first
+pub record IsPrepared {S R : Type 0} (nodes : Nodes S R) (first : Layout) (one : Prepared) : Type 0 where
+  pub node : Node S R
+  pub there : Some node ≡ get nat_cmp nodes.by_number one.node
+  pub none : newest reading (view_of node) ≡ 0
+  pub view : known one.view ≡ appended reading (view_of node) first
 
 -- the nodes with another one in the place of node n
 abbrev pub with_node : {R : Type 0} → ℕ → Model R Layout → (ℕ → Model R Layout) → ℕ → Model R Layout

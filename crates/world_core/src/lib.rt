@@ -4,8 +4,8 @@
 //! A `World` stands for a world of the machine (`cluster_machine`, with the layouts of the code), by `StandsFor` of
 //! specs/Stands.antt. `World::step` is one step of the machine: whatever world it stood for, it stands for the next one,
 //! and its `Report` is what the machine's step answers (`Steps`). An apply computes its layout, and which one is free:
-//! it is lawful. `install` and `forget_delivered` keep the relation too, and the rest reads the world. Rows are known by
-//! their schema alone.
+//! it is lawful. `install` puts a first layout into the views of its nodes, all or none; `forget_delivered` keeps the
+//! relation too, and the rest reads the world. Rows are known by their schema alone.
 //!
 //! Inside are the parts, each with a relation of its own: `Nodes` (a node that nothing happened to takes no room), `Post`
 //! (message m at place m - 1, the least undelivered one known at once), `Clocks` and `Requests`; `staged` changes the
@@ -17,6 +17,7 @@
 
 mod clocks;
 mod decide;
+mod first;
 mod lines;
 mod node_line;
 mod nodes;

@@ -42,11 +42,11 @@ use wire_messages::{Phase, PhaseEnd};
 #[derive(Drop)]
 pub struct Nodes<S: Schema> {
     pub by_number: BTreeMap<u8, Node<S>>,
-    alloc: Global,
+    pub alloc: Global,
 }
 
 impl<S: Schema> Nodes<S> {
-    ghost use Rattle.world_core.specs.Nodes.{newest_in, IsLineOf, Opens, AreNodes, DoesAt, ActsAt, BecomesAt, OverflowsAt};
+    ghost use Rattle.world_core.specs.Nodes.{newest_in, StayThere, IsLineOf, Opens, AreNodes, DoesAt, ActsAt, BecomesAt, OverflowsAt};
 
     pub fn new(alloc: Global) -> Nodes<S>
         ensures { AreNodes S.Row.join S.words result (λ n. new_node) }
@@ -57,9 +57,10 @@ impl<S: Schema> Nodes<S> {
         }
     }
 
-    // A node with this number is there.
-    fn ready(&mut self, node: u8) -> Result<(), Memory>
-        ensures same { OnOk result ((xs : ℕ → Model S.Row Layout) → AreNodes S.Row.join S.words self.old xs → AreNodes S.Row.join S.words self.new xs) }
+    // A node with this number is there. Whatever is answered the nodes stand for the same.
+    pub fn ready(&mut self, node: u8) -> Result<(), Memory>
+        ensures same { (xs : ℕ → Model S.Row Layout) → AreNodes S.Row.join S.words self.old xs → AreNodes S.Row.join S.words self.new xs }
+        ensures there { StayThere self.old self.new }
         ensures present { OnOk result (IsSome (get nat_cmp self.new.by_number node)) }
         ensures newest { OnOk result (newest_in self.new node ≡ newest_in self.old node) }
         ensures want { OnlyWant result }

@@ -1,13 +1,13 @@
 //! The cluster, step by step.
-ghost use Rattle.std.specs.Prelude.{◌≡◌, ◌⊎◌, ◌≤◌, ◌+◌, ℕ, nat_eq, leb, not, ◌&&◌, Some, None, [], length, map, option_map, IsTrue, IfOk, IfErr, OnOk};
-ghost use Rattle.std.specs.List.{IsDistinct};
+ghost use Rattle.std.specs.Prelude.{◌≡◌, ◌⊎◌, ◌≤◌, ◌+◌, ℕ, leb, not, ◌&&◌, Some, None, [], length, map, option_map, IsTrue, IfOk, IfErr, OnOk, OnErr};
 ghost use Rattle.crdt_core.specs.Outcomes.{OnlyWant, WantOr};
 ghost use Rattle.crdt_core.specs.declared.memory.Memory.TheVariants.{Full};
-ghost use Rattle.layout_history.specs.Known.{has_members};
 ghost use Rattle.layout_roles.specs.Certificates.{IsRedundancy};
 ghost use Rattle.table_model.specs.Rows.{rows};
 ghost use Rattle.table_model.specs.Top.{any_unspelled};
+ghost use Rattle.view_model.specs.Layouts.{reading};
 ghost use Rattle.cluster_machine.specs.Bare.{IsBarePhase, IsBareStep};
+ghost use Rattle.cluster_machine.specs.Choices.{IsFirst};
 ghost use Rattle.cluster_machine.specs.Keeping.{IsShort};
 ghost use Rattle.cluster_machine.specs.Layouts.{layouts};
 ghost use Rattle.node_core.specs.Stands.{ends_of};
@@ -81,19 +81,18 @@ impl<S: Schema> World<S> {
         })
     }
 
-    /// Puts a first layout into the views of these nodes, each once. It counts as applied from then on.
+    /// Puts a first layout, one of the greatest partition size, into the views of its nodes. It counts as applied from
+    /// then on. Where memory is wanting the world is as before.
     pub fn install(&mut self, first: Layout, nodes: &[u8]) -> Result<(), Memory>
         requires stands { IsWorld S.Row.join S.words self.old }
         requires unused { (w : Model S.Row) → StandsFor S.Row.join S.words self.old w → w.applied ≡ 0 }
-        requires version { first.version ≡ 1 }
-        requires inhabited { IsTrue (has_members first) }
-        requires each_once { IsDistinct nat_eq nodes.now }
-        ensures installed { OnOk result (Turns S.Row.join S.words self.old self.new (λ w. installed w first nodes.now)) }
+        requires greatest { IsFirst first }
+        requires members { nodes.now ≡ reading.members first }
+        ensures installed { OnOk result (Turns S.Row.join S.words self.old self.new (λ w. installed S.Row.join S.words w first)) }
+        ensures unchanged { OnErr result (Turns S.Row.join S.words self.old self.new (λ w. w)) }
         ensures want { OnlyWant result }
     {
-        for node in nodes {
-            self.nodes.append(*node, first.copy()?)?;
-        }
+        self.nodes.install(&first, nodes)?;
         self.applied = 1;
         Ok(())
     }
@@ -231,11 +230,10 @@ impl<S: Schema> World<S> {
         if self.applied >= 1 {
             return Ok(self.refused(Refusal::VersionTaken(1)));
         }
-        self.roles = with_trio(self.alloc, &self.roles)?;
+        let roles = with_trio(self.alloc, &self.roles)?;
         let first = trio_layout(self.alloc)?;
-        self.nodes.append(1, first.copy()?)?;
-        self.nodes.append(2, first.copy()?)?;
-        self.nodes.append(3, first)?;
+        self.nodes.install(&first, &[1, 2, 3])?;
+        self.roles = roles;
         self.applied = 1;
         Ok(self.silent())
     }

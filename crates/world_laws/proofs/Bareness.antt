@@ -1,5 +1,5 @@
 -- Each step whose phase stores rows without blocks leaves a bare world bare.
-use Rattle.std.specs.Prelude.{◌≡◌, ℕ, suc, Bool, true, false, not, ◌&&◌, ◌||◌, ◌==◌, cond, leb, List, [], ◌∷◌, length, Option, Some, None, refl}
+use Rattle.std.specs.Prelude.{◌≡◌, ℕ, suc, Bool, true, false, not, ◌&&◌, ◌==◌, cond, leb, List, [], ◌∷◌, length, Option, Some, None, refl}
 use Rattle.std.specs.Option.{unwrap_or}
 use Rattle.std.specs.List.{AllByRecursion}
 use Rattle.std.proofs.Common.{sym, subst, ◌∙◌}
@@ -18,7 +18,7 @@ use Rattle.cluster_machine.specs.Phases.{begins, call_at, opened, closed}
 use Rattle.cluster_machine.specs.Receives.{receives}
 use Rattle.cluster_machine.specs.Acts.{acts, appends, restarts}
 use Rattle.cluster_machine.specs.World.{Sent, Mark, Request, numbered, clock, is_member_at}
-use Rattle.cluster_machine.specs.Step.{most_versions, given, none_given, sent_by, at_message, expires, closing, chosen, applies_at, opening, acting, begun, beginning, effects, changed, applied}
+use Rattle.cluster_machine.specs.Step.{most_versions, given, none_given, sent_by, at_message, expires, closing, chosen, applies_at, trio_applies, opening, acting, begun, beginning, effects, changed, applied}
 use Rattle.cluster_machine.specs.Bare.{IsBarePacket, AreBarePosts, IsBarePhase, IsBareStep, IsBareWorld}
 use Rattle.cluster_machine.specs.Choices.{Decision}
 use Rattle.cluster_machine.specs.Worlds.{Model, Done, newest_at, installed}
@@ -113,9 +113,12 @@ module _ {R : Type 0} (w : Model R) (h : IsBareWorld w) where
     bare_opening n =
         bare_either (is_member_at layouts w n) _ _ (bare_one _ n (opened (suc (length w.requests)) (newest_at w n) (w.nodes n)) (λ m. refl) (h.blocks n) tt) (bare_still _ (λ m. refl) refl)
 
+    -- a first layout is given to its nodes
+    pub bare_first : AddsBare w (trio_applies join s layouts first stage w)
+    bare_first = bare_some _ (λ n. is_among n (layouts.reading.members first)) (λ n. appends layouts (w.nodes n) first) (λ n. refl) h.blocks tt
+
     pub bare_step : (step : Step R) (choice : Decision) → IsBareStep step → AddsBare w (effects join s layouts first stage w step choice)
-    bare_step Trio choice bare =
-        bare_either (leb 1 w.applied) _ _ (bare_still _ (λ m. refl) refl) (bare_some _ (λ n. (n == 1) || ((n == 2) || (n == 3))) (λ n. appends layouts (w.nodes n) first) (λ n. refl) h.blocks tt)
+    bare_step Trio choice bare = bare_either (leb 1 w.applied) _ _ (bare_still _ (λ m. refl) refl) bare_first
     bare_step (Stage n role) choice bare = bare_still _ (λ m. refl) refl
     bare_step (Spread r) choice bare = bare_still _ (λ m. refl) refl
     bare_step (Apply n) choice bare = bare_applies n choice
@@ -140,9 +143,6 @@ module _ {R : Type 0} (w : Model R) (h : IsBareWorld w) where
     bare_step (Begin q phase) choice bare = bare_beginning q phase (numbered w.requests q) bare
     bare_step (Close q) choice bare = bare_closing q (numbered w.requests q)
 
-  -- a first layout, where none was applied
-  pub bare_installed : (first : Layout) (nodes : List ℕ) → IsBareWorld (installed w first nodes)
-  bare_installed first nodes = record {
-    messages = h.messages;
-    blocks = λ n. elim (is_among n nodes) as (λ b. (cond b (appends layouts (w.nodes n) first) (w.nodes n)).blocks ≡ []) [ true ↦ h.blocks n | false ↦ h.blocks n ];
-  }
+  -- the same in a world of its own
+  pub bare_installed : (join : R → R → R) (s : Words R) (first : Layout) → IsBareWorld (installed join s w first)
+  bare_installed join s first = bare_after w _ h (bare_first join s first (λ (roles : List Role). roles))

@@ -1,7 +1,10 @@
--- What a node does opens no gap in its view.
+-- What a node does opens no gap in its view, and brings no layout that nobody showed it.
 use Rattle.std.specs.Prelude.{◌≡◌, ℕ, suc, Bool, true, false, not, cond, ◌==◌, nat_lt, IsTrue, List, ◌∷◌, ◌++◌, [], Option, Some, None, refl}
-use Rattle.std.proofs.Common.{ap, ◌∙◌}
-use Rattle.view_model.specs.View.{is_gapless, newest, read_version, ack_least, merged, cleaned}
+use Rattle.std.specs.List.{AllByRecursion}
+use Rattle.std.proofs.Common.{ap, sym, subst, ◌∙◌}
+use Rattle.crdt_core.proofs.Each.{all_append}
+use Rattle.machine_origins.proofs.Lists.{all_filter}
+use Rattle.view_model.specs.View.{View, is_gapless, newest, read_version, ack_least, merged, cleaned}
 use Rattle.view_model.proofs.Joins.{gapless_merged}
 use Rattle.view_model.proofs.Cleans.{gapless_cleaned}
 use Rattle.table_schema.specs.Words.{Words}
@@ -29,6 +32,11 @@ use Rattle.machine_origins.proofs.FollowingSteps.{round_begun}
 use Rattle.machine_origins.proofs.KeepingNodes.{view_seen, view_all}
 
 module _ {R L : Type 0} where
+  -- the layouts that a packet shows
+  abbrev pub layouts_in : Packet R L → List L
+  layouts_in (says m) = []
+  layouts_in (shows v) = v.layouts
+
   -- the layouts that the node stores stay
   abbrev pub LayoutsStay : Node R L → Node R L → Type 0
   LayoutsStay x y = y.view.layouts ≡ x.view.layouts
@@ -113,6 +121,13 @@ module _ {R L : Type 0} (join : R → R → R) (s : Words R) (k : Layouts L) (x 
   gapless_received id now from (says m) n g h = ap (is_gapless k.reading) (stay_hears id now from m) ∙ g
   gapless_received id now from (shows v) n g h = ap (λ u. is_gapless k.reading u.layouts) (view_seen join s k id now x (merged k.reading x.view v)) ∙ gapless_merged k.reading x.view v g h.0
 
+  -- after a message each layout is one that the node or the message had
+  pub layouts_received : (P : L → Type 0) (id now from : ℕ) (packet : Packet R L) → AllByRecursion P x.view.layouts → AllByRecursion P (layouts_in packet) → AllByRecursion P (receives join s k id now x from packet).node.view.layouts
+  layouts_received P id now from (says m) g h = subst (AllByRecursion P) (sym (stay_hears id now from m)) g
+  layouts_received P id now from (shows v) g h =
+      subst (λ (u : View L). AllByRecursion P u.layouts) (sym (view_seen join s k id now x (merged k.reading x.view v)))
+      (all_filter P _ (x.view.layouts ++ _) (all_append P x.view.layouts _ g (all_filter P _ v.layouts h)))
+
   stay_acted : (b : Bool) (d e : Acted R L) → LayoutsStay x d.did.node → LayoutsStay x e.did.node → LayoutsStay x (cond b d e).did.node
   stay_acted true d e h k = h
   stay_acted false d e h k = k
@@ -129,6 +144,12 @@ module _ {R L : Type 0} (join : R → R → R) (s : Words R) (k : Layouts L) (x 
   gapless_acted id now GoOn g = ap (is_gapless k.reading) (stay_syncs id x.round) ∙ g
   gapless_acted id now Clean g = ap (λ u. is_gapless k.reading u.layouts) (view_seen join s k id now x (cleaned k.reading x.view)) ∙ gapless_cleaned k.reading x.view g
   gapless_acted id now _ g = g
+
+  -- after an action each layout is one that the node had
+  pub layouts_acted : (P : L → Type 0) (id now : ℕ) (action : Action) → AllByRecursion P x.view.layouts → AllByRecursion P (acts join s k id now x action).did.node.view.layouts
+  layouts_acted P id now GoOn g = subst (AllByRecursion P) (sym (stay_syncs id x.round)) g
+  layouts_acted P id now Clean g = subst (λ (u : View L). AllByRecursion P u.layouts) (sym (view_seen join s k id now x (cleaned k.reading x.view))) (all_filter P _ x.view.layouts g)
+  layouts_acted P id now _ g = g
 
 module _ {R L : Type 0} (s : Words R) (k : Layouts L) (kept : List R) (x : Node R L) (c : Call R) where
   -- a phase begins without a change of the view

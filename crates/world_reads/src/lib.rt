@@ -2,13 +2,14 @@
 //! contract.
 #![tactic(auto)]
 
-ghost use Rattle.std.specs.Prelude.{List};
+ghost use Rattle.std.specs.Prelude.{List, ◌++◌};
 ghost use Rattle.std.specs.List.{Contains};
+ghost use Rattle.layout_roles.specs.declared.layout.Layout.{Layout};
 ghost use Rattle.cluster_machine.specs.Node.{Reading};
 ghost use Rattle.cluster_machine.specs.World.{empty};
 ghost use Rattle.cluster_machine.specs.Kept.{KeptReads};
 ghost use Rattle.machine_origins.specs.Origins.{ComesFrom, Gave, stored_in};
-ghost use Rattle.cluster_machine.specs.Worlds.{Doing, IsLawfulRun, run, IsSound};
+ghost use Rattle.cluster_machine.specs.Worlds.{Doing, IsLawfulRun, IsLawfulStart, run, start, IsSound};
 
 use cluster_machine::applied::Applied;
 use layout_roles::{Cut, Layout};
@@ -36,9 +37,25 @@ pub fn every_world_reads_stored_rows<S: Schema>()
     every_read_gives_stored_rows::<S::Row, Layout, Applied, Cut>();
 }
 
-/// A lawful run leads to a sound world.
+/// A lawful run leads to a sound world. So each layout that some node knows, or some view on its way, has the greatest
+/// partition size for its roles.
 pub fn every_world_is_sound<S: Schema>()
     ensures { (moves : List (Doing S.Row)) → IsLawfulRun S.Row.join S.words empty moves → IsSound (run S.Row.join S.words empty moves) }
 {
     empty_world_is_sound::<S::Row>();
+}
+
+/// The same of every world into which a first layout was installed, after steps that applied none: reads give what was
+/// kept, and only what was stored, and each layout in use has the greatest partition size.
+pub fn every_installed_world_reads_what_was_kept<S: Schema>()
+    ensures kept { (before : List (Doing S.Row)) (first : Layout) (after : List (Doing S.Row)) → IsLawfulStart S.Row.join S.words before first → IsLawfulRun S.Row.join S.words (start S.Row.join S.words before first) after →
+        KeptReads S.Row.join S.words (run S.Row.join S.words (start S.Row.join S.words before first) after) }
+    ensures stored { (before : List (Doing S.Row)) (first : Layout) (after : List (Doing S.Row)) → IsLawfulStart S.Row.join S.words before first → IsLawfulRun S.Row.join S.words (start S.Row.join S.words before first) after →
+        (r : Reading S.Row) → Contains (run S.Row.join S.words (start S.Row.join S.words before first) after).reads r → Gave S.words (ComesFrom S.Row.join S.words (stored_in (before ++ after))) r }
+    ensures sound { (before : List (Doing S.Row)) (first : Layout) (after : List (Doing S.Row)) → IsLawfulStart S.Row.join S.words before first → IsLawfulRun S.Row.join S.words (start S.Row.join S.words before first) after →
+        IsSound (run S.Row.join S.words (start S.Row.join S.words before first) after) }
+{
+    empty_world_is_sound::<S::Row>();
+    every_run_has_kept_reads::<S::Row, Layout, Applied, Cut>();
+    every_read_gives_stored_rows::<S::Row, Layout, Applied, Cut>();
 }

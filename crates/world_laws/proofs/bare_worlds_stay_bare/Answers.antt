@@ -10,4 +10,4 @@ pub returns-clause-stepped : goal.returns-clause-stepped
 returns-clause-stepped g c join s w m h bare = bare_after w _ h (bare_step w h join s trio stage_trio m.step m.choice bare)
 
 pub returns-clause-installed : goal.returns-clause-installed
-returns-clause-installed g c w first nodes h = bare_installed w h first nodes
+returns-clause-installed g c join s w first h = bare_installed w h join s first

@@ -14,7 +14,7 @@ returns g c w h =
       requests = h.requests;
       few = h.fits.requests;
       sound = record {
-        sound = record { versions = h.sound.versions; gapless = h.sound.gapless; messages = h.sound.messages; requests = h.sound.requests; different = h.sound.different };
+        sound = record { versions = h.sound.versions; gapless = h.sound.gapless; greatest = h.sound.greatest; messages = h.sound.messages; requests = h.sound.requests; different = h.sound.different };
         bare = record { messages = h.bare.messages; blocks = h.bare.blocks };
       };
     })
