@@ -29,8 +29,16 @@ fn copy(alloc: Global) -> Result<Order, Fail> {
 fn reads_answer_with_what_was_put(rt: HostRuntime) -> Result<(), Fail> {
     let alloc = rt.alloc();
     let row = written(alloc, put(alloc, bytes(alloc, b"hi")?)?, 7, None, 5)?;
-    for (order, text) in [(get(alloc)?, b"hi".as_slice()), (head(alloc)?, b"".as_slice())] {
-        let FlowEnd::Found { version, meta, body } = read(alloc, order, Some(row.copy()?))? else {
+    for (order, text) in [
+        (get(alloc)?, b"hi".as_slice()),
+        (head(alloc)?, b"".as_slice()),
+    ] {
+        let FlowEnd::Found {
+            version,
+            meta,
+            body,
+        } = read(alloc, order, Some(row.copy()?))?
+        else {
             return Err(Fail::from("not found"));
         };
         assert_eq!(rt; version.id, 7);
@@ -83,7 +91,8 @@ fn a_get_gives_the_blocks_in_order(rt: HostRuntime) -> Result<(), Fail> {
     let first = bytes(alloc, &body.as_slice()[..2048])?;
     let (flow, _) = more(next(alloc, flow, PhaseEnd::Block(first), 6)?)?;
     let second = bytes(alloc, &body.as_slice()[2048..])?;
-    let FlowEnd::Found { body: found, .. } = end(next(alloc, flow, PhaseEnd::Block(second), 6)?)? else {
+    let FlowEnd::Found { body: found, .. } = end(next(alloc, flow, PhaseEnd::Block(second), 6)?)?
+    else {
         return Err(Fail::from("not found"));
     };
     assert_eq!(rt; found.as_slice(), body.as_slice());

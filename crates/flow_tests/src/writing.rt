@@ -20,7 +20,12 @@ fn a_short_body_is_in_its_row(rt: HostRuntime) -> Result<(), Fail> {
     };
     assert_eq!(rt; version, Version { ts: 5, id: 7 });
     assert_eq!(rt; meta.size, 2);
-    assert_eq!(rt; meta.etag, [73, 246, 138, 92, 132, 147, 236, 44, 11, 244, 137, 130, 28, 33, 252, 59]);
+    assert_eq!(rt;
+        meta.etag,
+        [
+            73, 246, 138, 92, 132, 147, 236, 44, 11, 244, 137, 130, 28, 33, 252, 59
+        ]
+    );
     assert_eq!(rt; body.as_slice(), b"hi".as_slice());
     Ok(())
 }
@@ -48,7 +53,12 @@ fn a_long_body_is_cut_into_blocks(rt: HostRuntime) -> Result<(), Fail> {
         return Err(Fail::from("not stored"));
     };
     assert_eq!(rt; version, Version { ts: 5, id: 7 });
-    assert_eq!(rt; meta.ok_or("no meta")?.etag, [169, 142, 26, 218, 15, 76, 174, 108, 72, 95, 55, 220, 223, 222, 7, 205]);
+    assert_eq!(rt;
+        meta.ok_or("no meta")?.etag,
+        [
+            169, 142, 26, 218, 15, 76, 174, 108, 72, 95, 55, 220, 223, 222, 7, 205
+        ]
+    );
     Ok(())
 }
 

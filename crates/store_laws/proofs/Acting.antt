@@ -128,7 +128,7 @@ module _ (every : EveryWorld) (s : State) (q : ℕ) (a : Asked) (at : numbered s
   content_keeps name c value name_is fits_kind flow_is stage fits end =
       let now : State = seeing (Answered value) in
       let v : Version = drawn q value (clock s.world a.node) in
-      let d : Draw = record { request = q; name = name; version = v; wish = wish.Content c; moment = length s.history } in
+      let d : Draw = record { request = q; name = name; version = v; wish = wish.Content c; block = block; moment = length s.history } in
       subst (StepKeeps now (d ∷ [])) (sym (short_writes name v c fits_kind.1))
       (λ fits. writes_keeps every now q a at rests block name (wish.Content c) value (clock s.world a.node) (Some (meta_of c)) name_is fits_kind fits (seen_sound (Answered value))) fits
 

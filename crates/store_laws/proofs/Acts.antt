@@ -96,7 +96,7 @@ module _ (every : EveryWorld) where
   follows_leads s q a end None = refl
   follows_leads s q a end (Some flow) =
       let now = clock s.world a.node in
-      takes_leads (record s { saw = record { request = q; end = end } ∷ s.saw }) q a (draws_of s q flow.stage end now) (next flow end now)
+      takes_leads (record s { saw = record { request = q; end = end } ∷ s.saw }) q a (draws_of s q flow.block flow.stage end now) (next flow end now)
 
   follow_leads : (s : State) (q : ℕ) (asked : Option Asked) (end : PhaseEnd AnyRow) → world_run any_join words s.world (follow s q asked end).moves ≡ (follow s q asked end).state.world
   follow_leads s q None end = refl

@@ -44,12 +44,12 @@ module _ (every : EveryWorld) (s : State) (q : ℕ) (a : Asked) (at : numbered s
 
   -- a write has drawn its version and stores it
   pub writes_keeps : (name : Name) (w : Wish) (value : Option AnyRow) (now : ℕ) (meta : Option Meta) → name ≡ a.name → IsWishOf a.kind w →
-      (let d : Draw = record { request = q; name = name; version = drawn q value now; wish = w; moment = length s.history } in
+      (let d : Draw = record { request = q; name = name; version = drawn q value now; wish = w; block = block; moment = length s.history } in
       let more : Outcome = goes s q a (d ∷ []) (flow_of q block (Completing (drawn q value now) meta)) (stores (complete name (drawn q value now) block w)) in
       FitAll any_join words s.world more.moves → IsSound s → IsSound more.state)
   writes_keeps name w value now meta name_is fits_kind fits sound =
       let v : Version = drawn q value now in
-      let d : Draw = record { request = q; name = name; version = v; wish = w; moment = length s.history } in
+      let d : Draw = record { request = q; name = name; version = v; wish = w; block = block; moment = length s.history } in
       let flow : Flow = flow_of q block (Completing v meta) in
       let new : State = waiting s q a (Some flow) (d ∷ []) in
       let begin = sound.told.asked_began q a at in

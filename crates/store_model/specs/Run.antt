@@ -54,12 +54,13 @@ pub record Asked : Type 0 where
   pub name : Name
   pub flow : Option Flow
 
--- a write drew its version, to make this of its object, when the history had so many records
+-- a write drew its version, to make this of its object, in blocks of this size where it is long, when the history had so many records
 pub record Draw : Type 0 where
   pub request : ℕ
   pub name : Name
   pub version : Version
   pub wish : Wish
+  pub block : ℕ
   pub moment : ℕ
 
 -- a phase of a request ended, and what it gave
@@ -162,9 +163,9 @@ abbrev pub set_flow : State → ℕ → Asked → Option Flow → List Asked
 set_flow s q asked flow = slice_set s.asked (q - 1) (record asked { flow = flow })
 
 -- the draws of a request that waits so when its phase ends at this time of its coordinator's clock: a write that has read its object's row draws its version
-abbrev pub draws_of : State → ℕ → Stage → PhaseEnd AnyRow → ℕ → List Draw
-draws_of s q (Drawing name wish) (Row value) now = record { request = q; name = name; version = drawn q value now; wish = wish; moment = length s.history } ∷ []
-draws_of s q stage end now = []
+abbrev pub draws_of : State → ℕ → ℕ → Stage → PhaseEnd AnyRow → ℕ → List Draw
+draws_of s q block (Drawing name wish) (Row value) now = record { request = q; name = name; version = drawn q value now; wish = wish; block = block; moment = length s.history } ∷ []
+draws_of s q block stage end now = []
 
 -- the versions of draws
 abbrev pub versions_drawn : List Draw → List Version
@@ -206,7 +207,7 @@ abbrev pub follows : State → ℕ → Asked → PhaseEnd AnyRow → Option Flow
 follows s q asked end None = silent s
 follows s q asked end (Some flow) =
     let now = clock s.world asked.node in
-    takes (record s { saw = record { request = q; end = end } ∷ s.saw }) q asked (draws_of s q flow.stage end now) (next flow end now)
+    takes (record s { saw = record { request = q; end = end } ∷ s.saw }) q asked (draws_of s q flow.block flow.stage end now) (next flow end now)
 
 -- the same, of a request that may never have been asked for
 abbrev pub follow : State → ℕ → Option Asked → PhaseEnd AnyRow → Outcome

@@ -3,8 +3,8 @@ ghost use Rattle.std.specs.Prelude.{◌≡◌, ◌==◌, ◌<◌, length, option
 ghost use Rattle.history_model.specs.Record.{request_of, next, finish, acknowledged};
 ghost use Rattle.world_history.specs.Finish.{lent_finish};
 
-use history_model::{Answer, Record};
 use crdt_rows::Version;
+use history_model::{Answer, Record};
 
 // The place of the first record that speaks of a request.
 fn first(records: &[Record], request: u64) -> Option<usize>

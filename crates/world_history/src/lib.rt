@@ -18,5 +18,5 @@ mod pair_count;
 mod read;
 
 pub use freshness::fresh;
-pub use pair_count::pairs;
 pub use history_model::{Answer, Cause, History, Kind, Record};
+pub use pair_count::pairs;

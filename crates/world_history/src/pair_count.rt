@@ -5,8 +5,8 @@ ghost use Rattle.world_history.specs.Checks.{owed};
 
 use crate::finish::{acknowledged, finish};
 use crate::read::names;
-use history_model::{History, Kind, Record};
 use crdt_core::Bytes;
+use history_model::{History, Kind, Record};
 
 // Whether a write of a key that the read names began at this place, and was acknowledged before place i.
 fn is_owed(

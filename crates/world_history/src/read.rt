@@ -5,9 +5,9 @@ ghost use Rattle.world_history.specs.Checks.{deletes_at, is_deleted, writes_at, 
 ghost use Rattle.std.specs.List.{list_all};
 
 use crate::finish::acknowledged;
-use history_model::{Answer, Kind, Record};
 use crdt_core::Bytes;
 use crdt_rows::Version;
+use history_model::{Answer, Kind, Record};
 
 /// A read that began and finished at these places.
 #[derive(Clone, Copy)]
