@@ -16,8 +16,6 @@ mod input;
 mod laws;
 mod layout;
 #[cfg(test)]
-mod limits;
-#[cfg(test)]
 mod line_texts;
 mod run;
 mod schedule;

@@ -71,12 +71,12 @@ fn node(alloc: Global, id: u8) -> Result<Node<S3Schema>, Fail> {
     Ok(node)
 }
 
-fn marker(alloc: Global, key: &[u8], ts: u64) -> Result<AnyRow, Memory> {
+fn marker(alloc: Global, ts: u64) -> Result<AnyRow, Memory> {
     let state = State::Complete(Body::Marker);
     if !state.is_sized() {
         return Err(Memory::Full);
     }
-    let key = Bytes::from_slice(alloc, key)?;
+    let key = Bytes::from_slice(alloc, b"a")?;
     let row = ObjectRow::single(alloc, BUCKET, key, Version { ts, id: ts }, state)?;
     Ok(AnyRow::Object(row))
 }
@@ -220,34 +220,21 @@ impl Cluster {
         Ok(())
     }
 
-    // Node 1 stores the marker of a key in a request with this number.
-    fn put_at(&mut self, request: u64, key: &[u8]) -> Result<(), Fail> {
+    // Node 1 stores the marker.
+    fn put(&mut self) -> Result<(), Fail> {
         let mut out = Vec::new(self.alloc);
-        if self.first.open(request).is_err() {
+        if self.first.open(1).is_err() {
             return Err("not open".into());
         }
-        let phase = store(self.alloc, marker(self.alloc, key, 5)?)?;
-        self.first.phase(request, phase, &mut out)?;
+        let phase = store(self.alloc, marker(self.alloc, 5)?)?;
+        self.first.phase(1, phase, &mut out)?;
         match self.deliver(out)? {
             Some(PhaseEnd::Kept) => {
-                self.first.close(request);
+                self.first.close(1);
                 Ok(())
             }
             _ => Err("not kept".into()),
         }
-    }
-
-    fn put(&mut self) -> Result<(), Fail> {
-        self.put_at(1, b"a")
-    }
-
-    // Version 2 is applied, and every node knows that every node knows it.
-    fn change(&mut self) -> Result<(), Fail> {
-        append(self.alloc, &mut self.first, 2)?;
-        append(self.alloc, &mut self.second, 2)?;
-        append(self.alloc, &mut self.third, 2)?;
-        append(self.alloc, &mut self.fourth, 2)?;
-        self.act_all(Action::Ack)
     }
 }
 
@@ -280,7 +267,11 @@ fn rows_move_to_the_nodes_of_the_next_version(rt: HostRuntime) -> Result<(), Fai
     let alloc = rt.alloc();
     let mut cluster = Cluster::new(alloc)?;
     cluster.put()?;
-    cluster.change()?;
+    append(alloc, &mut cluster.first, 2)?;
+    append(alloc, &mut cluster.second, 2)?;
+    append(alloc, &mut cluster.third, 2)?;
+    append(alloc, &mut cluster.fourth, 2)?;
+    cluster.act_all(Action::Ack)?;
     assert_eq!(rt; cluster.second.view().ack_least(), 2);
     assert_eq!(rt; cluster.fourth.table().len(), 0);
     cluster.act_all(Action::Sync)?;
@@ -300,31 +291,6 @@ fn rows_move_to_the_nodes_of_the_next_version(rt: HostRuntime) -> Result<(), Fai
             ack_least: 2
         }
     );
-    Ok(())
-}
-
-// 1,001 rows of one partition: a range phase's answer has 1,000 of them, and a round moves all.
-#[test]
-fn a_thousand_rows_and_one_move(rt: HostRuntime) -> Result<(), Fail> {
-    let alloc = rt.alloc();
-    let mut cluster = Cluster::new(alloc)?;
-    for request in 1..=1001u64 {
-        cluster.put_at(request, &request.to_be_bytes())?;
-    }
-    assert_eq!(rt; cluster.third.table().len(), 1001);
-    assert!(rt; cluster.second.open(2000).is_ok());
-    let mut out = Vec::new(alloc);
-    cluster.second.phase(2000, scan(alloc), &mut out)?;
-    let Some(PhaseEnd::Window { rows, end }) = cluster.deliver(out)? else {
-        return Err("no window".into());
-    };
-    assert_eq!(rt; rows.len(), 1000);
-    assert!(rt; end.is_some());
-    cluster.second.close(2000);
-    cluster.change()?;
-    cluster.act_all(Action::Sync)?;
-    assert_eq!(rt; cluster.fourth.table().len(), 1001);
-    assert_eq!(rt; cluster.fourth.view().read_version(), 2);
     Ok(())
 }
 
