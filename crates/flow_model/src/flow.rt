@@ -102,7 +102,8 @@ pub struct Flow {
 pub enum FlowStep {
     /// It goes on with this phase.
     More(Flow, Phase<AnyRow>),
-    /// It waits for what never comes: the version's row is absent, or neither deleted nor whole.
+    /// It goes on waiting: the version's row is absent, or neither deleted nor whole, so that nothing comes any more; or
+    /// the end was not one of its phase.
     Wait(Flow),
     /// It is done.
     End(FlowEnd),
