@@ -5,6 +5,7 @@ use Rattle.std.specs.List.{list_all}
 use Rattle.layout_roles.specs.declared.role.Role.{Role}
 use Rattle.layout_roles.specs.declared.role.Zone.{Zone}
 use Rattle.layout_roles.specs.declared.role.Kind.{Kind}
+use Rattle.layout_roles.specs.declared.role.Kind.TheVariants.{Storage}
 use Rattle.layout_roles.specs.declared.layout.Layout.{Layout}
 use Rattle.layout_roles.specs.declared.redundancy.Redundancy.{Redundancy}
 use Rattle.layout_roles.specs.declared.cut.Cut.{Cut}
@@ -29,7 +30,7 @@ use Rattle.cluster_machine.specs.Acts.{Acted, acts}
 use Rattle.cluster_machine.specs.Receives.{receives}
 use Rattle.cluster_machine.specs.Phases.{call_at, opened, closed}
 use Rattle.cluster_machine.specs.World.{Sent, Mark, Request, numbered, clock, is_member_at, staged}
-use Rattle.cluster_machine.specs.Trio.{trio, stage_trio}
+use Rattle.cluster_machine.specs.Trio.{zone, trio, stage_trio}
 use Rattle.cluster_machine.specs.Layouts.{layouts, has_none}
 use Rattle.cluster_machine.specs.Step.{Choice, given, none_given, most_versions, Effects, nothing, refusal, did, only, told, received, at_message, expires, closing, chosen, applies_at, trio_applies, acting, local, begun, beginning, opening, effects}
 use Rattle.cluster_machine.specs.Choices.{Decision, IsBest, IsRefused, IsComputed, IsNone}
@@ -52,7 +53,11 @@ stage_one n role roles wanted low high h = record {
 
 stage_three : (roles : List Role) (wanted : Redundancy) → AreStaged roles wanted → AreStaged (stage_trio roles) wanted
 stage_three roles wanted h =
-    stage_one 1 _ _ wanted (omega arith) (omega arith) (stage_one 2 _ _ wanted (omega arith) (omega arith) (stage_one 3 _ roles wanted (omega arith) (omega arith) h))
+    let a : Option (Zone × Kind) = Some (zone 97, Storage 1000) in
+    let b : Option (Zone × Kind) = Some (zone 98, Storage 1000) in
+    let c : Option (Zone × Kind) = Some (zone 99, Storage 1000) in
+    stage_one 1 a (staged 2 b (staged 3 c roles)) wanted (omega arith) (omega arith)
+    (stage_one 2 b (staged 3 c roles) wanted (omega arith) (omega arith) (stage_one 3 c roles wanted (omega arith) (omega arith) h))
 
 -- what a step stages is in its range
 abbrev pub IsInRange : Step AnyRow → Type 0
