@@ -13,8 +13,7 @@
 //!     def top(rows): return H(b''.join(value([(H(k), H(r)) for t, q, k, r in rows if (t, q) == (table, p)])
 //!         for table in (1, 2, 3) for p in range(256)))
 use crate::made::{BUCKET, Made, Shape, row};
-use crdt_core::{Bytes, Memory};
-use crdt_rows::{AnyRow, Body, ObjectRow, State, Version};
+use crdt_core::Memory;
 use object_schema::S3Schema;
 use std::alloc::Global;
 use std::test::Fail;
@@ -64,33 +63,6 @@ fn dropped(alloc: Global, p: u8) -> Result<(usize, usize, usize), Memory> {
 fn partitions_are_dropped(rt: HostRuntime) -> Result<(), Fail> {
     assert_eq!(rt; dropped(rt.alloc(), 0x22)?, (3, 0, 1));
     assert_eq!(rt; dropped(rt.alloc(), 0x11)?, (1, 1, 3));
-    Ok(())
-}
-
-// So many markers in one partition, with the keys 0, 1 and so on, of two bytes each.
-fn markers(alloc: Global, count: u16) -> Result<Table<S3Schema>, Memory> {
-    let mut table = Table::new(alloc)?;
-    for key in 0..count {
-        let state = State::Complete(Body::Marker);
-        if !state.is_sized() {
-            return Err(Memory::Full);
-        }
-        let key = Bytes::from_slice(alloc, &key.to_be_bytes())?;
-        let row = ObjectRow::single(alloc, BUCKET, key, Version { ts: 1, id: 1 }, state)?;
-        table.merge_in(&AnyRow::Object(row))?;
-    }
-    Ok(table)
-}
-
-// No call stops at the 1,000 rows of an answer by itself.
-#[test]
-fn a_thousand_rows_and_one(rt: HostRuntime) -> Result<(), Fail> {
-    let table = markers(rt.alloc(), 1001)?;
-    assert_eq!(rt; table.rows_of(0x22)?.len(), 1001);
-    for (most, count, more) in [(1000, 1000, true), (1001, 1001, false), (2000, 1001, false)] {
-        let (rows, is_more) = table.range(1, &BUCKET.0, &BUCKET.0, most)?;
-        assert_eq!(rt; (rows.len(), is_more), (count, more));
-    }
     Ok(())
 }
 

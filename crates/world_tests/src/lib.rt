@@ -2,6 +2,4 @@
 #![tactic(auto)]
 
 #[cfg(test)]
-mod first;
-#[cfg(test)]
 mod times;
