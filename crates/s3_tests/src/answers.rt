@@ -3,7 +3,7 @@ use crate::expected;
 use crate::stored::{ETAG, WRITTEN, meta};
 use crdt_core::{Bytes, List, Memory};
 use s3_answer::answer;
-use s3_model::{After, Ask, Code, Entry, ListAsk, Page, Range, Reply, S3Fault};
+use s3_model::{Ask, Code, Range, Reply, S3Fault};
 use std::alloc::Global;
 use std::test::Fail;
 
@@ -119,61 +119,5 @@ fn buckets(rt: HostRuntime) -> Result<(), Fail> {
     assert!(rt;
         answer(alloc, Some(&Ask::ListBuckets), &reply, NOW, false)?.as_slice() == expected::BUCKETS
     );
-    Ok(())
-}
-
-fn object(alloc: Global, key: &[u8]) -> Result<Entry, Memory> {
-    Ok(Entry::Object(Bytes::from_slice(alloc, key)?, WRITTEN, meta(alloc)?))
-}
-
-fn list_ask(alloc: Global, delimiter: &[u8], max: u32) -> Result<ListAsk, Memory> {
-    Ok(ListAsk {
-        prefix: Bytes::new(alloc),
-        delimiter: Bytes::from_slice(alloc, delimiter)?,
-        after: After::Key(Bytes::new(alloc)),
-        max,
-    })
-}
-
-#[test]
-fn first_page_of_a_list(rt: HostRuntime) -> Result<(), Fail> {
-    let alloc = rt.alloc();
-    let asked = Ask::List {
-        bucket: Bytes::from_slice(alloc, b"pics")?,
-        ask: list_ask(alloc, b"/", 2)?,
-        delimiter: Some(Bytes::from_slice(alloc, b"/")?),
-        url: false,
-        token: None,
-        start_after: None,
-    };
-    let mut entries = List::new(alloc);
-    entries.push(object(alloc, b"a&<b")?)?;
-    entries.push(Entry::Common(Bytes::from_slice(alloc, b"x/")?))?;
-    let reply = Reply::Page(Page {
-        entries,
-        truncated: true,
-    });
-    assert!(rt; answer(alloc, Some(&asked), &reply, NOW, false)?.as_slice() == expected::LIST);
-    Ok(())
-}
-
-#[test]
-fn next_page_of_an_encoded_list(rt: HostRuntime) -> Result<(), Fail> {
-    let alloc = rt.alloc();
-    let asked = Ask::List {
-        bucket: Bytes::from_slice(alloc, b"pics")?,
-        ask: list_ask(alloc, b"", 1)?,
-        delimiter: None,
-        url: true,
-        token: Some(Bytes::from_slice(alloc, b"70782F")?),
-        start_after: Some(Bytes::from_slice(alloc, b"\xC3\xA9~")?),
-    };
-    let mut entries = List::new(alloc);
-    entries.push(object(alloc, b"a&")?)?;
-    let reply = Reply::Page(Page {
-        entries,
-        truncated: true,
-    });
-    assert!(rt; answer(alloc, Some(&asked), &reply, NOW, false)?.as_slice() == expected::LIST_NEXT);
     Ok(())
 }
