@@ -15,7 +15,7 @@ use Rattle.crdt_core.proofs.Each.{all_weaker}
 use Rattle.machine_origins.proofs.Good.{IsGood, IsFound, Rules, row_found}
 use Rattle.cluster_machine.specs.World.{World}
 use Rattle.machine_reads.specs.Holders.{AreTwo}
-use Rattle.block_laws.specs.Blocks.{HasBlock}
+use Rattle.cluster_machine.specs.Blocks.{HasBlock}
 use Rattle.object_origins.specs.Gone.{IsGone}
 use Rattle.object_origins.specs.Shown.{Shows}
 use Rattle.object_origins.proofs.Keys.{ref_keys}

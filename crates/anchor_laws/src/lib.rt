@@ -35,7 +35,7 @@ ghost use Rattle.cluster_machine.specs.Run.{Move, IsLayout, IsRun, run};
 ghost use Rattle.machine_origins.specs.Origins.{stored_by, stored_in};
 ghost use Rattle.machine_laws.specs.Toy.{toys, one_two_three, same_roles};
 ghost use Rattle.machine_reads.specs.Holders.{AreTwo};
-ghost use Rattle.block_laws.specs.Blocks.{StepBringsBlocks};
+ghost use Rattle.cluster_machine.specs.Blocks.{StepBringsBlocks};
 ghost use Rattle.object_origins.specs.Gone.{WasStored, IsOverwritten, IsGone, AreDrawn, deletes_nothing};
 ghost use Rattle.anchor_laws.specs.Anchored.{HoldsWithBlock, Anchors};
 ghost use Rattle.anchor_laws.specs.OneReference.{references, either, digest, live, block, put, put_and_deleted, after, answer, plain};

@@ -26,7 +26,7 @@ use Rattle.cluster_machine.specs.Rows.{block_at, accepts_all}
 use Rattle.cluster_machine.specs.Receives.{answers, where_stored, gives_row, gives_block, takes, round_came, is_done, kept_item, item_came, confirms, hears, receives}
 use Rattle.cluster_machine.specs.Rounds.{is_complete, open_nodes, open_parts, parts_of, synced, goes_on, may_sync, begin_round}
 use Rattle.cluster_machine.specs.Acts.{Acted, syncs, acts}
-use Rattle.block_laws.specs.Blocks.{IsBeside, CarriesBlocks, PacketCarriesBlocks, BringsBlocks, IsStocked}
+use Rattle.cluster_machine.specs.Blocks.{IsBeside, CarriesBlocks, PacketCarriesBlocks, BringsBlocks, IsStocked}
 use Rattle.block_laws.proofs.Accepting.{accepts_all_node, sees_node, without_due_node}
 use Rattle.block_laws.proofs.Sending.{ArePosts, each_post, stores_posts, items_posts, parts_posts}
 

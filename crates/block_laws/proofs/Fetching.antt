@@ -9,7 +9,7 @@ use Rattle.cluster_machine.specs.Node.{Present, fetching, Call, Packet, says, sh
 use Rattle.cluster_machine.specs.Phases.{with_call}
 use Rattle.cluster_machine.specs.World.{Sent, World}
 use Rattle.crdt_core.proofs.Each.{all_weaker}
-use Rattle.block_laws.specs.Blocks.{IsBeside}
+use Rattle.cluster_machine.specs.Blocks.{IsBeside}
 use Rattle.block_laws.specs.Fetched.{GaveItsBlock}
 
 abbrev pub Asks : Type 0

@@ -32,7 +32,7 @@ use Rattle.cluster_machine.specs.World.{World}
 use Rattle.machine_origins.proofs.Lists.{all_found, set_at, set_here, set_there, set_all}
 use Rattle.machine_origins.proofs.FollowingCalls.{found_there}
 use Rattle.machine_origins.proofs.FollowingSteps.{calls_all, calls_seen, calls_round, calls_begun}
-use Rattle.block_laws.specs.Blocks.{IsBeside}
+use Rattle.cluster_machine.specs.Blocks.{IsBeside}
 use Rattle.block_laws.proofs.Held.{same_hash}
 use Rattle.block_laws.proofs.Fetching.{Asks, Grows, IsMessage, IsPacket, IsPresent, IsCall, AreCalls, IsDone, call_changes}
 use Rattle.block_laws.proofs.FetchingPosts.{each_post, stores_posts, items_posts, parts_posts}

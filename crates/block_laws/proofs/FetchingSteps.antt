@@ -29,7 +29,7 @@ use Rattle.machine_origins.proofs.Lists.{all_filter, all_found, all_numbered}
 use Rattle.cluster_machine.proofs.Closing.{length_shut}
 use Rattle.machine_origins.proofs.FollowingCalls.{found_there}
 use Rattle.machine_origins.proofs.Sound.{counted, counted_is}
-use Rattle.block_laws.specs.Blocks as blocks
+use Rattle.cluster_machine.specs.Blocks as blocks
 use Rattle.block_laws.proofs.Steps.{empty_world, next_world}
 use Rattle.block_laws.specs.Fetched.{GaveItsBlock}
 use Rattle.block_laws.proofs.Fetching.{Asks, Grows, IsPacket, IsSent, sent_grows, IsCall, AreCalls, calls_stay, IsDone, IsWorld}

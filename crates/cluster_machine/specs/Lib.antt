@@ -10,7 +10,7 @@ pub mod Step
 pub mod Run
 pub mod Kept
 pub mod Keeping
-pub mod Bare
+pub mod Blocks
 pub mod Trio
 pub mod Choices
 pub mod Fits

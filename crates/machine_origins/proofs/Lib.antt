@@ -11,6 +11,4 @@ pub mod FollowingCalls
 pub mod FollowingSteps
 pub mod KeepingNodes
 pub mod KeepingSteps
-pub mod BareNodes
-pub mod BareSteps
 pub mod ByOrigin

@@ -5,12 +5,11 @@
 //! by merges and by what merges call for; and that a read phase gives a row of the table and key that it asked
 //! for. `phases_follow` says of what a node does which of its requests' phases go on and which end. `handlers_keep` says
 //! what holds of a node whatever it does: it sends messages alone, and knows no version or request above a number.
-//! `handlers_stay_bare` says that a node without blocks sends none.
 //!
 //! `R` is what a row is, `L` what a layout is, `A` what is printed of one, `C` what shows that there is none.
 #![tactic(auto)]
 
-ghost use Rattle.std.specs.Prelude.{◌≡◌, ◌≤◌, ◌<◌, ℕ, IsTrue, List, [], Option};
+ghost use Rattle.std.specs.Prelude.{◌≡◌, ◌≤◌, ◌<◌, ℕ, IsTrue, List, Option};
 ghost use Rattle.std.specs.List.{Contains};
 ghost use Rattle.layout_roles.specs.declared.role.Role.{Role};
 ghost use Rattle.table_schema.specs.Words.{Words};
@@ -28,7 +27,6 @@ ghost use Rattle.cluster_machine.specs.Run.{Move, IsRun, run};
 ghost use Rattle.machine_origins.specs.Origins.{stored_in, ComesFrom, Gave};
 ghost use Rattle.view_model.specs.View.{is_gapless, newest};
 ghost use Rattle.cluster_machine.specs.Keeping.{AreDifferent, ArePosts, IsUpTo, AreUpTo};
-ghost use Rattle.cluster_machine.specs.Bare.{IsBarePacket, IsBarePhase, AreBarePosts};
 ghost use Rattle.machine_origins.specs.Following.{Follows, Begins};
 
 /// In every run of the cluster's machine each row that a read or range phase gave comes from rows that store phases
@@ -74,15 +72,4 @@ pub fn handlers_keep<R, L>()
     ensures begun_different { (s : Words R) (k : Layouts L) (kept : List R) (x : Node R L) (c : Call R) (phase : Phase R) → AreDifferent x.calls → AreDifferent (begins s k kept x c phase).node.calls }
     ensures opened_different { (request start : ℕ) (x : Node R L) (n : ℕ) → AreUpTo n x.calls → n < request → AreDifferent x.calls → AreDifferent (opened request start x).calls }
     ensures closed_different { (request : ℕ) (x : Node R L) → AreDifferent x.calls → AreDifferent (closed request x).calls }
-{}
-
-/// After a message came, after an action, and after a phase began: a node without blocks sent none, whatever came, and is
-/// still without where what came had none.
-pub fn handlers_stay_bare<R, L>()
-    ensures received_posts { (join : R → R → R) (s : Words R) (k : Layouts L) (id now from : ℕ) (x : Node R L) (packet : Packet R L) → x.blocks ≡ [] → AreBarePosts (receives join s k id now x from packet).posts }
-    ensures received_blocks { (join : R → R → R) (s : Words R) (k : Layouts L) (id now from : ℕ) (x : Node R L) (packet : Packet R L) → IsBarePacket packet → x.blocks ≡ [] → (receives join s k id now x from packet).node.blocks ≡ [] }
-    ensures acted_posts { (join : R → R → R) (s : Words R) (k : Layouts L) (id now : ℕ) (x : Node R L) (action : Action) → x.blocks ≡ [] → AreBarePosts (acts join s k id now x action).did.posts }
-    ensures acted_blocks { (join : R → R → R) (s : Words R) (k : Layouts L) (id now : ℕ) (x : Node R L) (action : Action) → x.blocks ≡ [] → (acts join s k id now x action).did.node.blocks ≡ [] }
-    ensures begun_posts { (s : Words R) (k : Layouts L) (kept : List R) (x : Node R L) (c : Call R) (phase : Phase R) → IsBarePhase phase → AreBarePosts (begins s k kept x c phase).posts }
-    ensures begun_blocks { (s : Words R) (k : Layouts L) (kept : List R) (x : Node R L) (c : Call R) (phase : Phase R) → x.blocks ≡ [] → (begins s k kept x c phase).node.blocks ≡ [] }
 {}
