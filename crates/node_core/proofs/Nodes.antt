@@ -1,8 +1,9 @@
 -- What stays when a part of a node changes.
-use Rattle.std.proofs.Common.{◌≡◌, ◌≤◌, ◌<◌, ℕ, zero, suc, Bool, true, false, leb, nat_lt, IsTrue, List, [], ◌∷◌, Option, Some, None, is_some, option_map, ◌&&◌, map, append-nil, refl, ap, sym, subst, ◌∙◌, arith, Result, Ok, Err, IfOk, OnOk}
-use Rattle.std.specs.List.{AllZip, filter, list_all}
+use Rattle.std.proofs.Common.{◌≡◌, ◌≤◌, ◌<◌, ℕ, zero, suc, Bool, true, false, leb, nat_lt, IsTrue, List, [], ◌∷◌, Option, Some, None, is_some, option_map, ◌&&◌, map, length, count_by, append-nil, refl, ap, sym, subst, ◌∙◌, arith, Result, Ok, Err, IfOk, OnOk}
+use Rattle.std.specs.List.{AllZip, list_all}
 use Rattle.std.specs.Cmp.{nat_cmp_total}
 use Rattle.std.proofs.lemmas.Bool.{le-leb, leb-true}
+use Rattle.std.proofs.lemmas.List.Recursion.{is_count_by}
 use Rattle.std.proofs.Math.Nat.{le_trans}
 use Rattle.layout_roles.specs.declared.layout.Layout.{Layout}
 use Rattle.crdt_core.specs.EntryLaws.{and_parts}
@@ -26,7 +27,6 @@ use Rattle.node_parts.specs.declared.contents.Contents.{Contents}
 use Rattle.node_parts.specs.Contents.{IsContents, IsItem, Became}
 use Rattle.block_resync.specs.declared.item.Item.{Item}
 use Rattle.cluster_machine.specs.Phases.{is_spelled}
-use Rattle.cluster_machine.specs.Acts.{without_due, stays}
 use Rattle.node_parts.specs.Calls.{AreCalls}
 use Rattle.node_core.specs.declared.node.Node.{Node}
 use Rattle.node_parts.specs.declared.rounds.Moving.{Moving}
@@ -163,12 +163,12 @@ items_spelled s [] (m ∷ ms) all = absurd all
 items_spelled s (c ∷ cs) [] all = absurd all
 items_spelled s (c ∷ cs) (m ∷ ms) all = rw (ap is_some all.0.row) (items_spelled s cs ms all.1)
 
--- where no block is there, none is due
-pub nothing_due : {S R : Type 0} {join : R → R → R} {s : Words R} {c : Contents S R} (now : ℕ) (x : Model R Layout) → IsContents join s c x → IsContents join s c (without_due join s now x)
-nothing_due {S} {R} {join} {s} now x is = record {
-  proper = is.proper;
-  table = is.table;
-  items = is.items;
-  queued = is.queued;
-  blocks = ap (filter (stays join s now x)) is.blocks;
-}
+-- ---- blocks
+
+-- a list has as many members as pass every test
+all_counted : {A : Type 0} (xs : List A) → count_by (λ x. true) xs ≡ length xs
+all_counted xs = sym (is_count_by length (λ x. true) refl (λ x xs. omega arith) xs)
+
+-- the code has as many blocks as the node
+pub as_many_blocks : {S R : Type 0} {join : R → R → R} {s : Words R} {c : Contents S R} (x : Model R Layout) → IsContents join s c x → length c.blocks.blocks ≡ length x.blocks
+as_many_blocks {c = c} x is = sym (all_counted c.blocks.blocks) ∙ (is.blocks.number (λ hash. true) ∙ all_counted x.blocks)

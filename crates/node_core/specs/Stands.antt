@@ -6,8 +6,6 @@ use Rattle.layout_history.specs.Views.{known}
 use Rattle.view_model.specs.Layouts.{reading}
 use Rattle.view_model.specs.View.{View, newest, layout_at}
 use Rattle.table_schema.specs.Words.{Words}
-use Rattle.wire_messages.specs.declared.message.Message.{Message}
-use Rattle.wire_messages.specs.declared.message.Message.TheVariants.{Store}
 use Rattle.wire_messages.specs.declared.phase.Phase.{Phase}
 use Rattle.wire_messages.specs.declared.phase.PhaseEnd.{PhaseEnd}
 use Rattle.cluster_machine.specs.declared.step.LocalEnd.{LocalEnd}
@@ -16,14 +14,12 @@ use Rattle.cluster_machine.specs.Phases.{begins}
 use Rattle.cluster_machine.specs.Acts.{Acted}
 use Rattle.cluster_machine.specs.World.{packet_size}
 use Rattle.node_core.specs.declared.node.Node.{Node}
-use Rattle.node_parts.specs.declared.packet.Packet.{Packet}
-use Rattle.node_parts.specs.declared.packet.Packet.TheVariants.{Msg, View as Shown}
 use Rattle.node_parts.specs.declared.packet.Envelope.{Envelope}
 use Rattle.node_parts.specs.declared.pushes.Sender.{Sender}
 use Rattle.cluster_machine.specs.Layouts.{layouts}
 use Rattle.node_parts.specs.Posts.{Posts}
 use Rattle.node_parts.specs.Calls.{AreCalls}
-use Rattle.node_parts.specs.Contents.{AreBare, IsContents, Holds}
+use Rattle.node_parts.specs.Contents.{IsContents, Holds}
 use Rattle.node_parts.specs.Rounds.{AreRounds}
 use Rattle.node_parts.specs.Pushes.{PushedAll, moved}
 use Rattle.cluster_machine.specs.Rounds.{are_spelled}
@@ -124,13 +120,3 @@ module _ {S R : Type 0} (join : R → R → R) (s : Words R) where
 abbrev pub begins_at : {R : Type 0} → Words R → List R → Model R Layout → Phase R → Option (Opened R) → Did R Layout
 begins_at s kept x phase None = quiet x
 begins_at s kept x phase (Some c) = begins s layouts kept x c phase
-
--- a store comes without blocks
-abbrev pub IsBare : {R : Type 0} → Message R → Type 0
-IsBare (Store tag newest p rows) = AreBare rows
-IsBare _ = ⊤
-
--- a packet whose rows come without blocks
-abbrev pub IsBarePacket : {R : Type 0} → Packet R → Type 0
-IsBarePacket (Msg m) = IsBare m
-IsBarePacket (Shown v) = ⊤

@@ -1,5 +1,5 @@
-//! One node of the cluster, without its blocks: what it knows of the layout versions, its rows, its open requests,
-//! its round, and the rows that wait to be stored at other nodes.
+//! One node of the cluster: what it knows of the layout versions, its rows and their blocks, its open requests, its
+//! round, and the rows that wait to be stored at other nodes.
 //!
 //! A `Node` stands for a node of the machine (`cluster_machine`), by `StandsFor` of specs/Stands.antt, and each call
 //! is that node's part of a step: `open`, `phase` and `close` for requests, `on_packet` for what comes from another
@@ -7,11 +7,12 @@
 //! before, it stands for the one that the model's function gives, and has put the model's messages at the end of `out`.
 //! Rows are known by their schema alone.
 //!
-//! Inside are the parts of `node_parts`: rows and outbox, open requests, rounds. A message costs the logarithm of the
-//! rows and of the requests; where the oldest version rises, and where a round or a repair begins, all partitions are
-//! walked once.
+//! Inside are the parts of `node_parts`: rows, blocks and outbox, open requests, rounds. A message costs the logarithm
+//! of the rows, of the blocks and of the requests; where the oldest version rises, and where a round or a repair
+//! begins, all partitions are walked once; `Action::Work` walks the outbox and the blocks once.
 //!
-//! Blocks are not here yet: a store comes without them (`IsBare`), and a node answers that it has none.
+//! A row that needs a block comes with it (`PacketCarriesBlocks`), and goes with it to other nodes. The node keeps the
+//! block as long as a row needs it; `Action::Work` deletes blocks that none has needed for ten minutes.
 //!
 //! After `Memory` in `phase`, `on_packet` or `local` the node is given up. `Full` comes only where a number or a row
 //! would not fit (`Fits`).

@@ -1,7 +1,8 @@
 //! A node.
-ghost use Rattle.std.specs.Prelude.{◌≡◌, ◌⊎◌, ◌<◌, ◌≤◌, ◌+◌, ◌^◌, ℕ, Bool, true, false, Option, Some, None, List, [], ◌++◌, suc, reverse, option_map, IfOk, IfErr, OnOk, OnErr, IsTrue};
-ghost use Rattle.std.specs.List.{All};
+ghost use Rattle.std.specs.Prelude.{◌≡◌, ◌⊎◌, ◌<◌, ◌≤◌, ◌+◌, ◌^◌, ℕ, Bool, true, false, Option, Some, None, List, [], ◌++◌, suc, length, reverse, option_map, IfOk, IfErr, OnOk, OnErr, IsTrue};
+ghost use Rattle.std.specs.List.{All, AllByRecursion};
 ghost use Rattle.crdt_core.specs.Outcomes.{OnlyWant, WantOr};
+ghost use Rattle.blake2_hash.specs.Blake2b.{blake2b};
 ghost use Rattle.layout_roles.specs.declared.layout.Layout.{Layout};
 ghost use Rattle.layout_history.specs.Views.{known};
 ghost use Rattle.view_model.specs.Layouts.{reading};
@@ -12,7 +13,7 @@ ghost use Rattle.wire_messages.specs.declared.message.Message.TheVariants as mes
 ghost use Rattle.wire_messages.specs.declared.message.Tag.TheVariants as tag;
 ghost use Rattle.cluster_machine.specs.Layouts.{is_member, layouts};
 ghost use Rattle.cluster_machine.specs.Node.{Node as Model, Round as Moved, new_node};
-ghost use Rattle.cluster_machine.specs.Rows.{sees};
+ghost use Rattle.cluster_machine.specs.Rows.{block_at, sees};
 ghost use Rattle.cluster_machine.specs.Phases.{opened, closed, call_at};
 ghost use Rattle.cluster_machine.specs.Rounds.{goes_on, may_sync, begin_round, repairs};
 ghost use Rattle.cluster_machine.specs.Receives.{most_rows, answers, round_came, where_stored, gives_row, gives_rows, gives_block, takes, confirms, hears, receives};
@@ -21,13 +22,12 @@ ghost use Rattle.cluster_machine.specs.Step.{requests_of};
 ghost use Rattle.node_core.specs.declared.node.BeginFault.TheVariants.{NotMember, Memory as WantsMemory};
 ghost use Rattle.node_parts.specs.Posts.{told};
 ghost use Rattle.node_parts.specs.Calls.{ended_with};
-ghost use Rattle.cluster_machine.specs.Bare.{IsBarePhase};
+ghost use Rattle.cluster_machine.specs.Blocks.{IsRowWithBlock, CarriesBlocks, PacketCarriesBlocks};
 ghost use Rattle.cluster_machine.specs.Keeping.{IsShort};
-ghost use Rattle.node_parts.specs.Contents.{AreBare};
 ghost use Rattle.node_parts.specs.Rounds.{IsMoving};
 ghost use Rattle.cluster_machine.specs.declared.step.LocalEnd.TheVariants.{At, Repaired};
 ghost use Rattle.node_parts.specs.declared.packet.Envelope.{Envelope};
-ghost use Rattle.node_core.specs.Stands.{view_of, sender_of, Hands, CannotHand, begins_at, IsBare, IsBarePacket, ends_of, Done, Fits, StandsApart, StandsButView};
+ghost use Rattle.node_core.specs.Stands.{view_of, sender_of, Hands, CannotHand, begins_at, ends_of, Done, Fits, StandsApart, StandsButView};
 
 use blake2_hash::Hash32;
 use cluster_machine::{Action, LocalEnd};
@@ -56,7 +56,7 @@ pub enum BeginFault {
     Memory,
 }
 
-/// A node of the cluster, without blocks.
+/// A node of the cluster.
 #[derive(Drop)]
 pub struct Node<S: Schema> {
     id: u8,
@@ -97,6 +97,13 @@ impl<S: Schema> Node<S> {
         &self.contents.table
     }
 
+    /// How many blocks the node has.
+    pub fn block_count(&self) -> usize
+        ensures { (id : ℕ) (x : Model S.Row Layout) → StandsFor S.Row.join S.words self.now id x → result ≡ length x.blocks }
+    {
+        self.contents.blocks.len()
+    }
+
     /// A request begins. Its number is above those of the open ones.
     pub fn open(&mut self, request: u64) -> Result<(), BeginFault>
         ensures opens { OnOk result ((id : ℕ) (x : Model S.Row Layout) → All (λ c. c.request < request) x.calls → StandsFor S.Row.join S.words self.old id x → StandsFor S.Row.join S.words self.new id (opened request (newest reading x.view) x)) }
@@ -121,7 +128,6 @@ impl<S: Schema> Node<S> {
         out: &mut Vec<Envelope<S::Row>>,
     ) -> Result<(), Memory>
         requires short { IsShort phase }
-        requires bare { IsBarePhase phase }
         ensures begins { OnOk result ((kept : List S.Row) → Does S.Row.join S.words self.old self.new out.old.items out.new.items None (λ id x. begins_at S.words kept x phase (call_at x.calls request))) }
         ensures causes { WantOr result ((kept : List S.Row) → Overflows S.Row.join S.words self.old (λ id x. begins_at S.words kept x phase (call_at x.calls request))) }
     {
@@ -229,22 +235,31 @@ impl<S: Schema> Node<S> {
         send(out, self.id, from, message)
     }
 
-    // The answer to a block phase: no block is here.
+    // The answer to a block phase: the block, or that it is not here.
     fn give_block(
         &self,
         from: u8,
         request: u64,
         phase: u32,
         at: u32,
+        hash: &Hash32,
         out: &mut Vec<Envelope<S::Row>>,
     ) -> Result<(), Memory>
-        ensures answers { OnOk result (Does S.Row.join S.words self.now self.now out.old.items out.new.items None (λ id x. where_stored S.Row.join S.words layouts x from request phase at (gives_block S.Row.join S.words layouts x from request phase None))) }
+        ensures answers { OnOk result (Does S.Row.join S.words self.now self.now out.old.items out.new.items None (λ id x. where_stored S.Row.join S.words layouts x from request phase at (gives_block S.Row.join S.words layouts x from request phase (block_at x.blocks hash.now.0)))) }
         ensures want { OnlyWant result }
     {
         if !is_stored(&self.view, at) {
             return self.not_here(from, request, phase, out);
         }
-        send(out, self.id, from, Message::NoBlock { request, phase })
+        let Some(found) = self.contents.blocks.get(hash) else {
+            return send(out, self.id, from, Message::NoBlock { request, phase });
+        };
+        let message = Message::Block {
+            request,
+            phase,
+            bytes: Bytes::from_slice(self.alloc, found)?,
+        };
+        send(out, self.id, from, message)
     }
 
     // A store of rows of a partition, by a node whose newest version is `named`.
@@ -255,11 +270,12 @@ impl<S: Schema> Node<S> {
         named: u32,
         p: u8,
         rows: &[(Bytes, Option<Bytes>)],
+        now: u64,
         out: &mut Vec<Envelope<S::Row>>,
     ) -> Result<(), Memory>
-        requires bare { AreBare rows.now }
-        ensures takes { OnOk result ((now : ℕ) → Does S.Row.join S.words self.old self.new out.old.items out.new.items None (λ id x. takes S.Row.join S.words layouts id now x from tag named p rows.now)) }
-        ensures causes { WantOr result ((now : ℕ) → Overflows S.Row.join S.words self.old (λ id x. takes S.Row.join S.words layouts id now x from tag named p rows.now)) }
+        requires stocked { AllByRecursion (IsRowWithBlock (blake2b 32) S.words) rows.now }
+        ensures takes { OnOk result (Does S.Row.join S.words self.old self.new out.old.items out.new.items None (λ id x. takes S.Row.join S.words layouts id now x from tag named p rows.now)) }
+        ensures causes { WantOr result (Overflows S.Row.join S.words self.old (λ id x. takes S.Row.join S.words layouts id now x from tag named p rows.now)) }
     {
         let newest = self.view.newest();
         if newest < named {
@@ -268,7 +284,7 @@ impl<S: Schema> Node<S> {
         if !is_given(&self.view, self.id, p) {
             return send(out, self.id, from, Message::NotHere(tag));
         }
-        self.contents.accept_all(rows)?;
+        self.contents.accept_all(rows, now)?;
         send(out, self.id, from, Message::Stored(tag))
     }
 
@@ -331,26 +347,26 @@ impl<S: Schema> Node<S> {
     }
 
     // After the view has changed: the round may close, and where the oldest version rose rows are dropped.
-    fn look_around(&mut self, before: u32) -> Result<(), Memory>
-        ensures sees { OnOk result ((now : ℕ) (id : ℕ) (x : Model S.Row Layout) (v : Seen Layout) → oldest reading x.view ≡ before → StandsButView S.Row.join S.words self.old id x v → StandsFor S.Row.join S.words self.new id (sees S.Row.join S.words layouts id now x v)) }
+    fn look_around(&mut self, before: u32, now: u64) -> Result<(), Memory>
+        ensures sees { OnOk result ((id : ℕ) (x : Model S.Row Layout) (v : Seen Layout) → oldest reading x.view ≡ before → StandsButView S.Row.join S.words self.old id x v → StandsFor S.Row.join S.words self.new id (sees S.Row.join S.words layouts id now x v)) }
         ensures want { OnlyWant result }
     {
         let oldest = self.view.oldest();
         self.rounds.close_below(oldest);
         if before < oldest {
-            self.contents.drop_lost(&self.view, self.id)?;
+            self.contents.drop_lost(&self.view, self.id, now)?;
         }
         Ok(())
     }
 
     // A whole view comes.
-    fn take_view(&mut self, view: &View) -> Result<(), Memory>
-        ensures sees { OnOk result ((now : ℕ) → Becomes S.Row.join S.words self.old self.new (λ id x. sees S.Row.join S.words layouts id now x (merged reading x.view (known view.now)))) }
+    fn take_view(&mut self, view: &View, now: u64) -> Result<(), Memory>
+        ensures sees { OnOk result (Becomes S.Row.join S.words self.old self.new (λ id x. sees S.Row.join S.words layouts id now x (merged reading x.view (known view.now)))) }
         ensures want { OnlyWant result }
     {
         let before = self.view.oldest();
         self.view.merge(view)?;
-        self.look_around(before)
+        self.look_around(before, now)
     }
 
     /// A packet comes from another node; how a phase of a request ended, where one did.
@@ -358,17 +374,17 @@ impl<S: Schema> Node<S> {
         &mut self,
         from: u8,
         packet: &Packet<S::Row>,
-        _now: u64,
+        now: u64,
         out: &mut Vec<Envelope<S::Row>>,
     ) -> Result<Option<(u64, PhaseEnd<S::Row>)>, Memory>
-        requires bare { IsBarePacket packet.now }
-        ensures receives { IfOk result (λ given. Does S.Row.join S.words self.old self.new out.old.items out.new.items given (λ id x. receives S.Row.join S.words layouts id _now x from (told packet.now))) }
-        ensures causes { WantOr result (Overflows S.Row.join S.words self.old (λ id x. receives S.Row.join S.words layouts id _now x from (told packet.now))) }
+        requires stocked { PacketCarriesBlocks (blake2b 32) S.words (told packet.now) }
+        ensures receives { IfOk result (λ given. Does S.Row.join S.words self.old self.new out.old.items out.new.items given (λ id x. receives S.Row.join S.words layouts id now x from (told packet.now))) }
+        ensures causes { WantOr result (Overflows S.Row.join S.words self.old (λ id x. receives S.Row.join S.words layouts id now x from (told packet.now))) }
     {
         match packet {
-            Packet::Msg(message) => self.on_message(from, message, out),
+            Packet::Msg(message) => self.on_message(from, message, now, out),
             Packet::View(view) => {
-                self.take_view(view)?;
+                self.take_view(view, now)?;
                 Ok(None)
             }
         }
@@ -378,11 +394,12 @@ impl<S: Schema> Node<S> {
         &mut self,
         from: u8,
         message: &Message<S::Row>,
+        now: u64,
         out: &mut Vec<Envelope<S::Row>>,
     ) -> Result<Option<(u64, PhaseEnd<S::Row>)>, Memory>
-        requires bare { IsBare message.now }
-        ensures hears { IfOk result (λ given. (now : ℕ) → Does S.Row.join S.words self.old self.new out.old.items out.new.items given (λ id x. hears S.Row.join S.words layouts id now x from message.now)) }
-        ensures causes { WantOr result ((now : ℕ) → Overflows S.Row.join S.words self.old (λ id x. hears S.Row.join S.words layouts id now x from message.now)) }
+        requires stocked { CarriesBlocks (blake2b 32) S.words message.now }
+        ensures hears { IfOk result (λ given. Does S.Row.join S.words self.old self.new out.old.items out.new.items given (λ id x. hears S.Row.join S.words layouts id now x from message.now)) }
+        ensures causes { WantOr result (Overflows S.Row.join S.words self.old (λ id x. hears S.Row.join S.words layouts id now x from message.now)) }
     {
         match message {
             Message::Get {
@@ -431,7 +448,7 @@ impl<S: Schema> Node<S> {
                 p,
                 rows,
             } => {
-                self.take_store(from, *tag, *newest, *p, rows.as_slice(), out)?;
+                self.take_store(from, *tag, *newest, *p, rows.as_slice(), now, out)?;
                 Ok(None)
             }
             Message::Stored(tag) => self.take_stored(from, *tag),
@@ -440,9 +457,9 @@ impl<S: Schema> Node<S> {
                 request,
                 phase,
                 at,
-                ..
+                hash,
             } => {
-                self.give_block(from, *request, *phase, *at, out)?;
+                self.give_block(from, *request, *phase, *at, hash, out)?;
                 Ok(None)
             }
             Message::Block {
@@ -482,8 +499,9 @@ impl<S: Schema> Node<S> {
     {
         match (self.view.layout(here), self.view.layout(there)) {
             (Some(here), Some(there)) => {
+                let contents = &self.contents;
                 let sender = self.sender(round);
-                sender.push_all(&self.contents.table, here, there, out)
+                sender.push_all(&contents.table, &contents.blocks, here, there, out)
             }
             _ => Ok(Vec::new(self.alloc)),
         }
@@ -536,7 +554,8 @@ impl<S: Schema> Node<S> {
                 let parts = moving.open_parts()?;
                 let target = moving.target();
                 let sender = self.sender(moving.number);
-                sender.push_again(&self.contents.table, parts.as_slice(), out)?;
+                let contents = &self.contents;
+                sender.push_again(&contents.table, &contents.blocks, parts.as_slice(), out)?;
                 Ok(LocalEnd::At(target))
             }
             None => {
@@ -552,13 +571,13 @@ impl<S: Schema> Node<S> {
     }
 
     // Drops the layout versions that nobody needs.
-    fn clean(&mut self) -> Result<LocalEnd, Memory>
-        ensures cleans { IfOk result (λ how. (now : ℕ) (out : List (Envelope S.Row)) → Acts S.Row.join S.words self.old self.new out out how (λ id x. cleans S.Row.join S.words layouts id now x)) }
+    fn clean(&mut self, now: u64) -> Result<LocalEnd, Memory>
+        ensures cleans { IfOk result (λ how. (out : List (Envelope S.Row)) → Acts S.Row.join S.words self.old self.new out out how (λ id x. cleans S.Row.join S.words layouts id now x)) }
         ensures want { OnlyWant result }
     {
         let before = self.view.oldest();
         let oldest = self.view.clean();
-        self.look_around(before)?;
+        self.look_around(before, now)?;
         Ok(LocalEnd::At(oldest))
     }
 
@@ -579,12 +598,12 @@ impl<S: Schema> Node<S> {
     pub fn local(
         &mut self,
         action: Action,
-        _now: u64,
+        now: u64,
         out: &mut Vec<Envelope<S::Row>>,
     ) -> Result<LocalEnd, Memory>
         requires has_version { 1 ≤ newest reading (view_of self.old) }
-        ensures acts { IfOk result (λ how. Acts S.Row.join S.words self.old self.new out.old.items out.new.items how (λ id x. acts S.Row.join S.words layouts id _now x action)) }
-        ensures causes { WantOr result (Overflows S.Row.join S.words self.old (λ id x. (acts S.Row.join S.words layouts id _now x action).did)) }
+        ensures acts { IfOk result (λ how. Acts S.Row.join S.words self.old self.new out.old.items out.new.items how (λ id x. acts S.Row.join S.words layouts id now x action)) }
+        ensures causes { WantOr result (Overflows S.Row.join S.words self.old (λ id x. (acts S.Row.join S.words layouts id now x action).did)) }
     {
         match action {
             Action::Ack => {
@@ -596,10 +615,11 @@ impl<S: Schema> Node<S> {
                 let version = self.view.read_version();
                 self.raise(Which::SyncAck, version)
             }
-            Action::Clean => self.clean(),
+            Action::Clean => self.clean(now),
             Action::Work => {
                 let rows = self.contents.send_waiting(&self.view, self.id, out)?;
-                Ok(LocalEnd::Worked { rows, blocks: 0 })
+                let blocks = self.contents.delete_due(now)?;
+                Ok(LocalEnd::Worked { rows, blocks })
             }
             Action::Repair => self.repair(out),
         }

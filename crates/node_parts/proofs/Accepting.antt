@@ -1,22 +1,24 @@
 -- Contents that accept rows: what is queued, and what later rows leave of it.
-use Rattle.std.proofs.Common.{◌≡◌, ◌<◌, ◌+◌, ◌^◌, ℕ, zero, suc, true, false, List, [], ◌∷◌, ◌++◌, Option, Some, None, is_some, length, IsTrue, if◌then◌else◌, get_or, take, drop, refl, sym, ap, ◌∙◌, subst, append_assoc, arith, add-one, drop-cons, length-append, length-take-le}
+use Rattle.std.proofs.Common.{◌≡◌, ◌<◌, ◌+◌, ◌^◌, ℕ, zero, suc, true, false, cond, List, [], ◌∷◌, ◌++◌, Option, Some, None, is_some, length, IsTrue, get_or, take, drop, refl, sym, ap, ◌∙◌, subst, append_assoc, arith, add-one, drop-cons, length-append, length-take-le}
 use Rattle.std.specs.List.{AllZip, AllByRecursion}
-use Rattle.std.specs.Ordering.{is_eq}
-use Rattle.std.specs.Cmp.{tied_itself}
 use Rattle.std.proofs.lemmas.List.Elements.{All-cons, All-from_recursion, recursion_from_All}
 use Rattle.crdt_core.specs.Order.{option_join}
+use Rattle.blake2_hash.specs.declared.digest.Hash32.{Hash32}
 use Rattle.block_resync.specs.Outbox.{Outbox, pushed_on}
 use Rattle.block_resync.specs.declared.item.Item.{Item}
 use Rattle.layout_roles.specs.declared.layout.Layout.{Layout}
 use Rattle.table_schema.specs.Words.{Words}
 use Rattle.table_schema.specs.Laws.{Laws}
-use Rattle.table_model.specs.Rows.{AllProper, place, is_at, row_at, rows, merged_in, find_row, change_of}
-use Rattle.table_model.proofs.RowLaws.{place_total, row_found}
+use Rattle.table_model.specs.Rows.{AllProper, row_at, rows, merged_in, find_row, change_of}
+use Rattle.table_model.proofs.RowLaws.{row_found}
 use Rattle.cluster_machine.specs.Node.{Node, Item as Waiting}
 use Rattle.cluster_machine.specs.Phases.{is_spelled}
-use Rattle.cluster_machine.specs.Rows.{accepts, accepts_read, accepts_all, called_for, block_of, blocks_after, queue_from}
+use Rattle.cluster_machine.specs.Rows.{accepts, accepts_read, accepts_all, called_for, block_of, blocks_after, notes_after, lost_block, queue_from}
 use Rattle.node_parts.specs.declared.contents.Contents.{Contents}
-use Rattle.node_parts.specs.Contents.{IsItem, IsContents, Became, KeepsRest, Holds, Turns, Exceeds, Accepts, CannotAccept}
+use Rattle.node_parts.proofs.KeptBlocks.{hash_of}
+use Rattle.node_parts.proofs.AcceptedBlocks.{after_is, old_block, new_block, accepted_blocks}
+use Rattle.node_parts.specs.Contents.{AreBlocks, IsItem, IsContents, Became, KeepsRest, Holds, Turns, Exceeds, Accepts, CannotAccept}
+use Rattle.node_parts.specs.References.{referred}
 
 zip_push : {A B : Type 0} (Q : A → B → Type 0) (xs : List A) (ys : List B) (x : A) (y : B) → AllZip Q xs ys → Q x y → AllZip Q (xs ++ x ∷ []) (ys ++ y ∷ [])
 zip_push Q [] [] x y h q = (q, tt)
@@ -75,14 +77,6 @@ module _ {R : Type 0} (join : R → R → R) (s : Words R) where
 -- ---- a row that is accepted
 
 module _ {R : Type 0} {join : R → R → R} {s : Words R} (laws : Laws join s) where
-  at_itself : (r : R) → is_at s (s.table r) (s.key r) r ≡ true
-  at_itself r = ap is_eq (tied_itself place_total (place s r))
-
-  after_is : (r : R) (older : List R) → row_at join s (r ∷ older) (s.table r) (s.key r) ≡ option_join join (row_at join s older (s.table r) (s.key r)) (Some r)
-  after_is r older =
-      let before = row_at join s older (s.table r) (s.key r) in
-      ap (λ b. if b then option_join join before (Some r) else before) (at_itself r)
-
   called_by : (before : Option R) (r : R) → called_for join s before (option_join join before (Some r)) ≡ (change_of join s before r).triggered
   called_by None r = refl
   called_by (Some old) r = refl
@@ -91,12 +85,8 @@ module _ {R : Type 0} {join : R → R → R} {s : Words R} (laws : Laws join s) 
       called_for join s (row_at join s older (s.table r) (s.key r)) (row_at join s (r ∷ older) (s.table r) (s.key r)) ≡ (change_of join s (find_row s (s.table r) (s.key r) (rows join s older)) r).triggered
   called_is older r all =
       let before = row_at join s older (s.table r) (s.key r) in
-      ap (called_for join s before) (after_is r older)
+      ap (called_for join s before) (after_is laws r older)
       ∙ (called_by before r ∙ ap (λ o. (change_of join s o r).triggered) (sym (row_found laws older (s.table r) (s.key r) all)))
-
-  no_block : (needed : Option (List ℕ)) → blocks_after join s [] needed None ≡ []
-  no_block None = refl
-  no_block (Some hash) = refl
 
   module _ {S : Type 0} (c : Contents S R) (x : Node R Layout) (r : R) (rs : List R) (h : IsContents join s c x) (is : rs ≡ (change_of join s (find_row s (s.table r) (s.key r) c.table) r).triggered) where
     abbrev calls : List R
@@ -105,8 +95,11 @@ module _ {R : Type 0} {join : R → R → R} {s : Words R} (laws : Laws join s) 
     same_calls : rs ≡ calls
     same_calls = is ∙ (ap (λ t. (change_of join s (find_row s (s.table r) (s.key r) t) r).triggered) h.table ∙ sym (called_is x.accepted r h.proper))
 
-    pub became : (d : Contents S R) (now : ℕ) → IsTrue (s.is_proper r) → d.table ≡ merged_in join s r c.table → Queues join s c.outbox d.outbox rs → Became join s d x (accepts join s now x r None)
-    became d now proper merged queues =
+    pub became : (d : Contents S R) (now : ℕ) (given : Option (List ℕ)) (before after : Option Hash32) → IsTrue (s.is_proper r) → d.table ≡ merged_in join s r c.table → Queues join s c.outbox d.outbox rs →
+        hash_of before ≡ block_of join s (find_row s (s.table r) (s.key r) c.table) →
+        hash_of after ≡ cond (change_of join s (find_row s (s.table r) (s.key r) c.table) r).is_live (s.live_block r) None →
+        d.blocks ≡ referred now given c.blocks before after → Became join s d x (accepts join s now x r given)
+    became d now given before after proper merged queues was will blocks =
         let q = queues x.items h.items in
         record {
           contents = record {
@@ -114,7 +107,11 @@ module _ {R : Type 0} {join : R → R → R} {s : Words R} (laws : Laws join s) 
             table = merged ∙ ap (merged_in join s r) h.table;
             items = subst (λ n. AllZip (IsItem s) d.outbox.items (x.items ++ queue_from join s n calls)) h.queued (subst (λ l. AllZip (IsItem s) d.outbox.items (x.items ++ queue_from join s c.outbox.pushed l)) same_calls q.items);
             queued = q.pushed ∙ (λ i. h.queued i + length (same_calls i));
-            blocks = ap (λ b. blocks_after join s b (block_of join s (row_at join s (r ∷ x.accepted) (s.table r) (s.key r))) None) h.blocks ∙ no_block (block_of join s (row_at join s (r ∷ x.accepted) (s.table r) (s.key r)));
+            blocks = subst (λ k. AreBlocks join s k (r ∷ x.accepted) (blocks_after join s x.blocks (new_block laws r proper x.accepted h.proper before after) given) (notes_after join s (r ∷ x.accepted) x.notes now (lost_block join s (old_block laws r proper x.accepted h.proper before after) (new_block laws r proper x.accepted h.proper before after)))) (sym blocks)
+                (accepted_blocks laws r proper x.accepted h.proper before after
+                (was ∙ ap (λ t. block_of join s (find_row s (s.table r) (s.key r) t)) h.table)
+                (will ∙ ap (λ t. cond (change_of join s (find_row s (s.table r) (s.key r) t) r).is_live (s.live_block r) None) h.table)
+                now given c.blocks x.blocks x.notes h.blocks);
           };
           rest = record { view = refl; calls = refl; round = refl; rounds = refl };
         }
@@ -128,16 +125,16 @@ module _ {R : Type 0} {join : R → R → R} {s : Words R} (laws : Laws join s) 
     unspelled t none is = let no : false ≡ true = sym (ap is_some none) ∙ is in cc
 
     -- one of the rows that are queued has no spelling
-    pub lacks_spelling : (now i : ℕ) (d : R) → i < length rs → s.spelling (get_or rs i d) ≡ None → Holds s (accepts join s now x r None) → ⊥
-    lacks_spelling now i d lt none holds =
+    pub lacks_spelling : (now : ℕ) (given : Option (List ℕ)) (i : ℕ) (d : R) → i < length rs → s.spelling (get_or rs i d) ≡ None → Holds s (accepts join s now x r given) → ⊥
+    lacks_spelling now given i d lt none holds =
         let whole = recursion_from_All (λ (m : Waiting R). IsTrue (is_spelled s m.row)) (x.items ++ queue_from join s x.queued calls) holds.spelled in
         let later = right_all (λ (m : Waiting R). IsTrue (is_spelled s m.row)) x.items (queue_from join s x.queued calls) whole in
         let spelled = queued_spelled x.queued calls i d later (subst (λ l. i < length l) same_calls lt) in
         unspelled (get_or calls i d) (ap (λ l. s.spelling (get_or l i d)) (sym same_calls) ∙ none) spelled
 
     -- there are too many items
-    pub overflows : (now i : ℕ) (mid : Outbox) → i < length rs → Queues join s c.outbox mid (take i rs) → mid.pushed + 1 ≡ 2 ^ 64 → Holds s (accepts join s now x r None) → ⊥
-    overflows now i mid lt queues full holds =
+    pub overflows : (now : ℕ) (given : Option (List ℕ)) (i : ℕ) (mid : Outbox) → i < length rs → Queues join s c.outbox mid (take i rs) → mid.pushed + 1 ≡ 2 ^ 64 → Holds s (accepts join s now x r given) → ⊥
+    overflows now given i mid lt queues full holds =
         let q = queues x.items h.items in
         let count : length rs ≡ length calls = ap length same_calls in
         let high : x.queued + length calls < 2 ^ 64 = holds.queued in
@@ -175,16 +172,16 @@ pub record Passes {S R : Type 0} (join : R → R → R) (s : Words R) (c : Conte
 rest_on : {R : Type 0} (x y z : Node R Layout) → KeepsRest x y → KeepsRest y z → KeepsRest x z
 rest_on x y z a b = record { view = b.view ∙ a.view; calls = b.calls ∙ a.calls; round = b.round ∙ a.round; rounds = b.rounds ∙ a.rounds }
 
-module _ {S R : Type 0} (join : R → R → R) (s : Words R) where
+module _ {S R : Type 0} (join : R → R → R) (s : Words R) (now : ℕ) where
   -- of the whole list the rest is still to be accepted
   abbrev pub PassesTo : Contents S R → Contents S R → List (List ℕ × Option (List ℕ)) → List (List ℕ × Option (List ℕ)) → Type 0
-  PassesTo old mid whole rest = (now : ℕ) (x : Node R Layout) → IsContents join s old x → Passes join s mid now x (accepts_all join s now x whole) rest
+  PassesTo old mid whole rest = (x : Node R Layout) → IsContents join s old x → Passes join s mid now x (accepts_all join s now x whole) rest
 
   pub passes_first : (c : Contents S R) (whole : List (List ℕ × Option (List ℕ))) → PassesTo c c whole whole
-  passes_first c whole now x h = record { so_far = x; became = record { contents = h; rest = record { view = refl; calls = refl; round = refl; rounds = refl } }; still = refl }
+  passes_first c whole x h = record { so_far = x; became = record { contents = h; rest = record { view = refl; calls = refl; round = refl; rounds = refl } }; still = refl }
 
-  pub passes_last : (old new : Contents S R) (whole : List (List ℕ × Option (List ℕ))) → PassesTo old new whole [] → Accepts join s old new whole
-  passes_last old new whole passes now x h = let p = passes now x h in subst (Became join s new x) (sym p.still) p.became
+  pub passes_last : (old new : Contents S R) (whole : List (List ℕ × Option (List ℕ))) → PassesTo old new whole [] → Accepts join s old new now whole
+  passes_last old new whole passes x h = let p = passes x h in subst (Became join s new x) (sym p.still) p.became
 
   pub passes_next : (old mid : Contents S R) (whole : List (List ℕ × Option (List ℕ))) (i : ℕ) (b : List ℕ × Option (List ℕ)) → i < length whole → b ≡ get_or whole i b → PassesTo old mid whole (drop i whole) → PassesTo old mid whole (b ∷ drop (i + 1) whole)
   passes_next old mid whole i b lt is passes =
@@ -194,27 +191,27 @@ module _ {S R : Type 0} (join : R → R → R) (s : Words R) where
   module _ (old mid : Contents S R) (whole rest : List (List ℕ × Option (List ℕ))) (b : List ℕ × Option (List ℕ)) (passes : PassesTo old mid whole (b ∷ rest)) where
     -- bytes of no row
     pub passes_over : s.read b.0 ≡ None → PassesTo old mid whole rest
-    passes_over none now x h =
-        let p = passes now x h in
+    passes_over none x h =
+        let p = passes x h in
         record { so_far = p.so_far; became = p.became; still = p.still ∙ ap (λ read. accepts_all join s now (accepts_read join s now p.so_far read b.1) rest) none }
 
-    module _ (r : R) (is : s.read b.0 ≡ Some r) (bare : b.1 ≡ None) where
-      goes_on : (now : ℕ) (y z : Node R Layout) → z ≡ accepts_all join s now y (b ∷ rest) → z ≡ accepts_all join s now (accepts join s now y r None) rest
-      goes_on now y z e = e ∙ (λ i. accepts_all join s now (accepts_read join s now y (is i) (bare i)) rest)
+    module _ (r : R) (is : s.read b.0 ≡ Some r) where
+      goes_on : (y z : Node R Layout) → z ≡ accepts_all join s now y (b ∷ rest) → z ≡ accepts_all join s now (accepts join s now y r b.1) rest
+      goes_on y z e = e ∙ ap (λ read. accepts_all join s now (accepts_read join s now y read b.1) rest) is
 
-      pub passes_on : (new : Contents S R) → ((now : ℕ) → Turns join s mid new (λ y. accepts join s now y r None)) → PassesTo old new whole rest
-      passes_on new turns now x h =
-          let p = passes now x h in
-          let y = accepts join s now p.so_far r None in
-          let next = turns now p.so_far p.became.contents in
+      pub passes_on : (new : Contents S R) → Turns join s mid new (λ y. accepts join s now y r b.1) → PassesTo old new whole rest
+      passes_on new turns x h =
+          let p = passes x h in
+          let y = accepts join s now p.so_far r b.1 in
+          let next = turns p.so_far p.became.contents in
           record {
             so_far = y;
             became = record { contents = next.contents; rest = rest_on x p.so_far y p.became.rest next.rest };
-            still = goes_on now p.so_far (accepts_all join s now x whole) p.still;
+            still = goes_on p.so_far (accepts_all join s now x whole) p.still;
           }
 
-      pub stops : ((now : ℕ) → Exceeds join s mid (λ y. accepts join s now y r None)) → CannotAccept join s old whole
-      stops exceeds now x h holds =
-          let p = passes now x h in
-          exceeds now p.so_far p.became.contents
-          (holds_first join s now (accepts join s now p.so_far r None) rest (subst (Holds s) (goes_on now p.so_far (accepts_all join s now x whole) p.still) holds))
+      pub stops : Exceeds join s mid (λ y. accepts join s now y r b.1) → CannotAccept join s old now whole
+      stops exceeds x h holds =
+          let p = passes x h in
+          exceeds p.so_far p.became.contents
+          (holds_first join s now (accepts join s now p.so_far r b.1) rest (subst (Holds s) (goes_on p.so_far (accepts_all join s now x whole) p.still) holds))

@@ -12,21 +12,21 @@ use Rattle.cluster_machine.specs.Node.{Node, Item as Waiting}
 use Rattle.cluster_machine.specs.Layouts.{stored_sets, layouts}
 use Rattle.cluster_machine.specs.Receives.{item_came}
 use Rattle.node_parts.specs.declared.contents.Contents.{Contents}
-use Rattle.node_parts.specs.Contents.{IsItem, IsContents, item_at}
+use Rattle.node_parts.specs.Contents.{AreBlocks, IsItem, IsContents, item_at}
 use Rattle.node_parts.proofs.Waiting.{item_found, confirms, came_to_none, items_after, count_after}
 
 module _ {S R : Type 0} (join : R → R → R) (s : Words R) (v : View Layout) (node number : ℕ) (c : Contents S R) (x : Node R Layout) (same : v ≡ x.view) (h : IsContents join s c x) where
   pub confirmed_one : (d : Contents S R) (mid : Outbox) (p : ℕ) (sets : List (List ℕ)) (done : Bool) → IsNumbered c.outbox.pushed c.outbox.items → Some p ≡ option_map (λ (m : Waiting R). partition_of s m.row) (item_at x.items number) →
-      sets ≡ stored_sets layouts v p → mid ≡ confirmed c.outbox number node → done ≡ code_done mid number sets → d.outbox ≡ (if done then dropped mid number else mid) → d.table ≡ c.table →
+      sets ≡ stored_sets layouts v p → mid ≡ confirmed c.outbox number node → done ≡ code_done mid number sets → d.outbox ≡ (if done then dropped mid number else mid) → d.table ≡ c.table → d.blocks ≡ c.blocks →
       IsContents join s d (record x { items = item_came join s layouts x.view node number x.items })
-  confirmed_one d mid p sets done numbered at are told is out table =
+  confirmed_one d mid p sets done numbered at are told is out table blocks =
       let zipped = confirms node number sets join s x.view p (are ∙ ap (λ w. stored_sets layouts w p) same) 0 c.outbox.items x.items numbered.rises h.items at in
       record {
         proper = h.proper;
         table = table ∙ h.table;
         items = subst (λ (l : List Item). AllZip (IsItem s) l (item_came join s layouts x.view node number x.items)) (sym (items_after node number sets c.outbox mid d.outbox done told is out)) zipped;
         queued = count_after node number sets c.outbox mid d.outbox done told out ∙ h.queued;
-        blocks = h.blocks;
+        blocks = subst (λ k. AreBlocks join s k x.accepted x.blocks x.notes) (sym blocks) h.blocks;
       }
 
   pub confirmed_none : None ≡ option_map (λ (m : Waiting R). partition_of s m.row) (item_at x.items number) → IsContents join s c (record x { items = item_came join s layouts x.view node number x.items })

@@ -1,21 +1,29 @@
 -- Rows that are dropped one partition after the other.
-use Rattle.std.proofs.Common.{◌≡◌, ◌<◌, ◌+◌, ℕ, Bool, true, false, not, cond, ltb, ◌==◌, ◌&&◌, List, [], ◌∷◌, filter, IsTrue, inl, inr, refl, sym, ap, ◌∙◌, subst, arith, eq-eqb, ne_eqb, lt-ltb, le-ltb}
+use Rattle.std.proofs.Common.{◌≡◌, ◌<◌, ◌+◌, ℕ, Bool, true, false, not, cond, ltb, ◌==◌, ◌&&◌, List, [], ◌∷◌, ◌++◌, filter, map, IsTrue, inl, inr, refl, sym, ap, ◌∙◌, subst, arith, eq-eqb, ne_eqb, lt-ltb, le-ltb}
+use Rattle.std.specs.Prelude.{count_by}
 use Rattle.std.specs.List.{AllByRecursion, AllZip}
+use Rattle.std.proofs.lemmas.List.Sums.{sum_by-append}
 use Rattle.std.proofs.lemmas.Bool.{cases_order}
 use Rattle.std.proofs.lemmas.List.Elements.{recursion_from_All, All-from_recursion}
 use Rattle.std.proofs.Math.Bool.{and-true}
+use Rattle.blake2_hash.specs.declared.digest.Hash32.{Hash32}
+use Rattle.blake2_hash.specs.Hash.{is_hash}
+use Rattle.block_store.specs.Contents.{Contents as Kept}
 use Rattle.block_resync.specs.Outbox.{Outbox}
 use Rattle.layout_roles.specs.declared.layout.Layout.{Layout}
 use Rattle.view_model.specs.View.{View}
 use Rattle.table_schema.specs.Words.{Words, partition_at, partition_of}
 use Rattle.table_schema.specs.Laws.{Laws}
-use Rattle.table_model.specs.Rows.{AllProper, rows, without}
+use Rattle.table_model.specs.Rows.{AllProper, rows, rows_in, without, live_blocks}
 use Rattle.table_model.proofs.RowLaws.{rows_filter, rows_proper}
 use Rattle.cluster_machine.specs.Node.{Node}
 use Rattle.cluster_machine.specs.Layouts.{is_given, layouts}
-use Rattle.cluster_machine.specs.Rows.{drops}
+use Rattle.cluster_machine.specs.Rows.{same_bytes, count_of, notes_after, drops}
 use Rattle.node_parts.specs.declared.contents.Contents.{Contents}
-use Rattle.node_parts.specs.Contents.{IsItem, IsContents, Became}
+use Rattle.node_parts.specs.Contents.{AreBlocks, IsItem, IsContents, Became}
+use Rattle.node_parts.specs.References.{ended}
+use Rattle.node_parts.proofs.Counting.{one, needs, count_live, count_both}
+use Rattle.node_parts.proofs.Ended.{ended_more, count_hashes, dropped_blocks}
 
 filter_twice : {A : Type 0} (a b : A → Bool) (xs : List A) → filter a (filter b xs) ≡ filter (λ x. b x && a x) xs
 filter_twice a b [] = refl
@@ -92,20 +100,53 @@ filter_all P test [] h = tt
 filter_all P test (x ∷ xs) h =
     elim (test x) as (λ b. AllByRecursion P (cond b (x ∷ filter test xs) (filter test xs))) [ true ↦ (h.0, filter_all P test xs h.1) | false ↦ filter_all P test xs h.1 ]
 
+-- ---- the references of the rows that were dropped
+
+-- these references have ended, which were those of the rows that are not left
+pub record Ends {R : Type 0} (join : R → R → R) (s : Words R) (now : ℕ) (old new : Kept) (whole left : List R) : Type 0 where
+  pub hashes : List Hash32
+  pub are : new ≡ ended now old hashes
+  pub counts : (q : Hash32) → count_by (is_hash q) hashes + count_by (needs join s q.0) left ≡ count_by (needs join s q.0) whole
+
+module _ {R : Type 0} (join : R → R → R) (s : Words R) (now : ℕ) where
+  pub ends_first : (kept : Kept) (whole : List R) → Ends join s now kept kept whole whole
+  ends_first kept whole = record { hashes = []; are = refl; counts = λ q. omega arith }
+
+  -- one partition more is dropped
+  pub ends_more : (old mid new : Kept) (whole left : List R) (p : ℕ) (hs : List Hash32) → Ends join s now old mid whole left → new ≡ ended now mid hs → map (λ h. h.0) hs ≡ live_blocks s (rows_in s p left) → Ends join s now old new whole (without s p left)
+  ends_more old mid new whole left p hs e is are = record {
+    hashes = e.hashes ++ hs;
+    are = is ∙ (ap (λ k. ended now k hs) e.are ∙ sym (ended_more now old e.hashes hs));
+    counts = λ q. (
+        let gone : count_by (is_hash q) hs ≡ count_by (needs join s q.0) (rows_in s p left) = count_hashes q hs ∙ (ap (count_by (same_bytes q.0)) are ∙ count_live join s q.0 (rows_in s p left)) in
+        omega (arith, gone, e.counts q, sum_by-append (λ h. one (is_hash q h)) e.hashes hs, count_both (needs join s q.0) (λ r. partition_of s r == p) left)
+        );
+  }
+
 module _ {S R : Type 0} {join : R → R → R} {s : Words R} (laws : Laws join s) where
-  pub dropped : (c d : Contents S R) (v : View Layout) (node now : ℕ) (x : Node R Layout) → v ≡ x.view → IsContents join s c x → d.table ≡ left_at (is_given layouts v node) s 256 c.table → d.outbox ≡ c.outbox → Became join s d x (drops join s layouts node now x)
-  dropped c d v node now x same h table outbox =
+  pub dropped : (c d : Contents S R) (v : View Layout) (node now : ℕ) (x : Node R Layout) → v ≡ x.view → IsContents join s c x → d.table ≡ left_at (is_given layouts v node) s 256 c.table → d.outbox ≡ c.outbox → Ends join s now c.blocks d.blocks c.table d.table → Became join s d x (drops join s layouts node now x)
+  dropped c d v node now x same h table outbox ends =
       let stays : R → Bool = λ r. is_given layouts x.view node (partition_of s r) in
+      let later = filter stays x.accepted in
+      let lost = live_blocks s (filter (λ r. not (stays r)) (rows join s x.accepted)) in
       let proper = filter_all (λ r. IsTrue (s.is_proper r)) stays x.accepted (recursion_from_All (λ r. IsTrue (s.is_proper r)) x.accepted h.proper) in
+      let table_is : d.table ≡ rows join s later = table ∙ (ap (left_at (is_given layouts v node) s 256) h.table
+      ∙ (left_last (is_given layouts v node) laws x.accepted h.proper
+      ∙ ap (λ w. rows join s (filter (λ r. is_given layouts w node (partition_of s r)) x.accepted)) same)) in
+      let stay : rows join s later ≡ filter stays (rows join s x.accepted) = rows_filter laws stays (λ a b alike. ap (λ position. is_given layouts x.view node (partition_at position)) (laws.one_position a b alike)) x.accepted h.proper in
+      let ended_are : (q : Hash32) → count_by (is_hash q) ends.hashes + count_of join s later q.0 ≡ count_of join s x.accepted q.0 = λ q.
+      subst (λ l. count_by (is_hash q) ends.hashes + count_by (needs join s q.0) l ≡ count_of join s x.accepted q.0) table_is (ends.counts q ∙ ap (count_by (needs join s q.0)) h.table) in
+      let lost_are : (q : List ℕ) → count_by (same_bytes q) lost + count_of join s later q ≡ count_of join s x.accepted q = λ q. (
+      let stay_count : count_of join s later q ≡ count_by (needs join s q) (filter stays (rows join s x.accepted)) = ap (count_by (needs join s q)) stay in
+      omega (arith, stay_count, count_live join s q (filter (λ r. not (stays r)) (rows join s x.accepted)), count_both (needs join s q) stays (rows join s x.accepted))
+      ) in
       record {
         contents = record {
           proper = All-from_recursion (λ r. IsTrue (s.is_proper r)) (filter stays x.accepted) proper;
-          table = table ∙ (ap (left_at (is_given layouts v node) s 256) h.table
-              ∙ (left_last (is_given layouts v node) laws x.accepted h.proper
-              ∙ ap (λ w. rows join s (filter (λ r. is_given layouts w node (partition_of s r)) x.accepted)) same));
+          table = table_is;
           items = subst (λ (o : Outbox). AllZip (IsItem s) o.items x.items) (sym outbox) h.items;
           queued = ap (λ (o : Outbox). o.pushed) outbox ∙ h.queued;
-          blocks = h.blocks;
+          blocks = subst (λ k. AreBlocks join s k later x.blocks (notes_after join s later x.notes now lost)) (sym ends.are) (dropped_blocks join s c.blocks x.accepted later x.blocks x.notes now ends.hashes lost h.blocks ended_are lost_are);
         };
         rest = record { view = refl; calls = refl; round = refl; rounds = refl };
       }

@@ -11,6 +11,7 @@ use Rattle.std.proofs.Math.Seq.{drop-cons}
 use Rattle.std.proofs.lemmas.List.{map-append, drop_all}
 use Rattle.std.proofs.lemmas.Map.Keys.{IsStrictlyIncreasing-from_sorted}
 use Rattle.std.proofs.lemmas.Option.{slice_get_within, get_or_from_slice_get}
+use Rattle.block_store.specs.Contents.{Contents as Kept}
 use Rattle.layout_roles.specs.declared.layout.Layout.{Layout}
 use Rattle.table_schema.specs.Words.{Words}
 use Rattle.quorum_model.specs.Quorum.{is_among}
@@ -81,8 +82,8 @@ module _ {R : Type 0} (join : R → R → R) (s : Words R) where
     pub parts_are : map part_of parts ++ ahead sender here there x p ≡ moved join s sender here there x
     pub spelled : are_spelled join s layouts x (ahead sender here there x p) ≡ are_spelled join s layouts x (moved join s sender here there x)
 
-  abbrev pub PushesSoFar : Sender → List R → Layout → Layout → List (Envelope R) → List (Envelope R) → List (ℕ × List ℕ) → ℕ → Type 0
-  PushesSoFar sender table here there old new parts p = (x : Node R Layout) → Sends join s sender table x → SoFar sender here there old new parts p x
+  abbrev pub PushesSoFar : Sender → List R → Kept → Layout → Layout → List (Envelope R) → List (Envelope R) → List (ℕ × List ℕ) → ℕ → Type 0
+  PushesSoFar sender table kept here there old new parts p = (x : Node R Layout) → Sends join s sender table kept x → SoFar sender here there old new parts p x
 
   -- the next part comes first of those ahead
   ahead_is : (here : Layout) (p : ℕ) (set : List ℕ) → slice_get here.sets.sets p ≡ Some set → numbered_from p (drop p here.sets.sets) ≡ record { partition = p; set = set } ∷ numbered_from (suc p) (drop (suc p) here.sets.sets)
@@ -112,9 +113,9 @@ module _ {R : Type 0} (join : R → R → R) (s : Words R) where
       }
 
   -- another node's partition
-  pub not_ours : (sender : Sender) (table : List R) (here there : Layout) (old new : List (Envelope R)) (parts : List (ℕ × List ℕ)) (p : ℕ) (set : List ℕ) → slice_get here.sets.sets p ≡ Some set → is_among sender.node set ≡ false →
-      PushesSoFar sender table here there old new parts p → PushesSoFar sender table here there old new parts (p + 1)
-  not_ours sender table here there old new parts p set at other f x sends =
+  pub not_ours : (sender : Sender) (table : List R) (kept : Kept) (here there : Layout) (old new : List (Envelope R)) (parts : List (ℕ × List ℕ)) (p : ℕ) (set : List ℕ) → slice_get here.sets.sets p ≡ Some set → is_among sender.node set ≡ false →
+      PushesSoFar sender table kept here there old new parts p → PushesSoFar sender table kept here there old new parts (p + 1)
+  not_ours sender table kept here there old new parts p set at other f x sends =
       passed sender here there old new parts p x (next_ahead sender here there x p set false at (ap (λ b. b && not (is_empty (rows_at join s x p))) other)) (f x sends)
 
   empty_if : (rs : List R) → false ≡ not (is_empty rs) → rs ≡ []
@@ -125,9 +126,9 @@ module _ {R : Type 0} (join : R → R → R) (s : Words R) where
   same_after from old new posts e p = p ∙ ap (λ ps. map posted old ++ map (λ m. (from, m)) ps) e ∙ append-nil (map posted old)
 
   -- the node has no rows of the partition
-  pub no_rows : (sender : Sender) (table : List R) (here there : Layout) (old mid new : List (Envelope R)) (parts : List (ℕ × List ℕ)) (p : ℕ) (set nodes : List ℕ) (is_some : Bool) → slice_get here.sets.sets p ≡ Some set → is_among sender.node set ≡ true →
-      Pushes join s sender table p nodes mid new is_some → is_some ≡ false → PushesSoFar sender table here there old mid parts p → PushesSoFar sender table here there old new parts (p + 1)
-  no_rows sender table here there old mid new parts p set nodes is_some at ours push no_more f x sends =
+  pub no_rows : (sender : Sender) (table : List R) (kept : Kept) (here there : Layout) (old mid new : List (Envelope R)) (parts : List (ℕ × List ℕ)) (p : ℕ) (set nodes : List ℕ) (is_some : Bool) → slice_get here.sets.sets p ≡ Some set → is_among sender.node set ≡ true →
+      Pushes join s sender table kept p nodes mid new is_some → is_some ≡ false → PushesSoFar sender table kept here there old mid parts p → PushesSoFar sender table kept here there old new parts (p + 1)
+  no_rows sender table kept here there old mid new parts p set nodes is_some at ours push no_more f x sends =
       let pushed = push x sends in
       let none_some = sym no_more ∙ pushed.some in
       let none = empty_if (rows_at join s x p) none_some in
@@ -143,10 +144,10 @@ module _ {R : Type 0} (join : R → R → R) (s : Words R) where
   set_there there p to at = ap (λ o. record { partition = p; set = unwrap_or o [] }) at
 
   -- the rows of the partition were pushed
-  pub with_rows : (sender : Sender) (table : List R) (here there : Layout) (old mid new : List (Envelope R)) (parts : List (ℕ × List ℕ)) (p : ℕ) (set to nodes : List ℕ) (is_some : Bool) → slice_get here.sets.sets p ≡ Some set → is_among sender.node set ≡ true →
+  pub with_rows : (sender : Sender) (table : List R) (kept : Kept) (here there : Layout) (old mid new : List (Envelope R)) (parts : List (ℕ × List ℕ)) (p : ℕ) (set to nodes : List ℕ) (is_some : Bool) → slice_get here.sets.sets p ≡ Some set → is_among sender.node set ≡ true →
       slice_get there.sets.sets p ≡ Some to → nodes ≡ others_of sender.node to →
-      Pushes join s sender table p nodes mid new is_some → is_some ≡ true → PushesSoFar sender table here there old mid parts p → PushesSoFar sender table here there old new (parts ++ (p, to) ∷ []) (p + 1)
-  with_rows sender table here there old mid new parts p set to nodes is_some at ours at_there nodes_are push more f x sends =
+      Pushes join s sender table kept p nodes mid new is_some → is_some ≡ true → PushesSoFar sender table kept here there old mid parts p → PushesSoFar sender table kept here there old new (parts ++ (p, to) ∷ []) (p + 1)
+  with_rows sender table kept here there old mid new parts p set to nodes is_some at ours at_there nodes_are push more f x sends =
       let pushed = push x sends in
       let so = f x sends in
       let rest = ahead sender here there x (p + 1) in
@@ -174,9 +175,9 @@ module _ {R : Type 0} (join : R → R → R) (s : Words R) where
   some_unspelled (r ∷ rs) e = refl
 
   -- the rows of the partition cannot be pushed
-  pub cannot : (sender : Sender) (table : List R) (here there : Layout) (old new : List (Envelope R)) (parts : List (ℕ × List ℕ)) (p : ℕ) (set : List ℕ) → slice_get here.sets.sets p ≡ Some set → is_among sender.node set ≡ true →
-      CannotPush join s sender table p → PushesSoFar sender table here there old new parts p → CannotPushAll join s sender table here there
-  cannot sender table here there old new parts p set at ours push f x sends =
+  pub cannot : (sender : Sender) (table : List R) (kept : Kept) (here there : Layout) (old new : List (Envelope R)) (parts : List (ℕ × List ℕ)) (p : ℕ) (set : List ℕ) → slice_get here.sets.sets p ≡ Some set → is_among sender.node set ≡ true →
+      CannotPush join s sender table kept p → PushesSoFar sender table kept here there old new parts p → CannotPushAll join s sender table kept here there
+  cannot sender table kept here there old new parts p set at ours push f x sends =
       let none = push x sends in
       let so = f x sends in
       let next = next_ahead sender here there x p set true at (λ i. ours i && some_unspelled (rows_at join s x p) none i) in
@@ -191,9 +192,9 @@ module _ {R : Type 0} (join : R → R → R) (s : Words R) where
   same_places there (part ∷ parts) = ap (λ ps. part.partition ∷ ps) (same_places there parts)
 
   -- after the last partition
-  pub at_last : (sender : Sender) (table : List R) (here there : Layout) (old new : List (Envelope R)) (parts : List (ℕ × List ℕ)) (p : ℕ) → length here.sets.sets ≤ p →
-      PushesSoFar sender table here there old new parts p → PushesAll join s sender table here there old new parts
-  at_last sender table here there old new parts p past f x sends =
+  pub at_last : (sender : Sender) (table : List R) (kept : Kept) (here there : Layout) (old new : List (Envelope R)) (parts : List (ℕ × List ℕ)) (p : ℕ) → length here.sets.sets ≤ p →
+      PushesSoFar sender table kept here there old new parts p → PushesAll join s sender table kept here there old new parts
+  at_last sender table kept here there old new parts p past f x sends =
       let so = f x sends in
       let who : Post R Layout → ℕ × Post R Layout = λ m. (sender.node, m) in
       let none : ahead sender here there x p ≡ [] = ap (λ sets. handed sender there x (numbered_from p sets)) (drop_all p here.sets.sets past) in

@@ -1,6 +1,6 @@
 -- The stores of a phase's rows, one row after the other.
-use Rattle.std.proofs.Common.{◌≡◌, ◌<◌, ℕ, suc, ◌+◌, true, ◌&&◌, Option, None, List, [], ◌∷◌, ◌++◌, map, length, get_or, take, sym, ap, ◌∙◌, subst, append_assoc, length-append, arith}
-use Rattle.std.specs.List.{All, list_all}
+use Rattle.std.proofs.Common.{◌≡◌, ◌<◌, ℕ, suc, ◌+◌, true, ◌&&◌, Option, List, [], ◌∷◌, ◌++◌, map, length, get_or, take, sym, ap, ◌∙◌, subst, append_assoc, length-append, arith}
+use Rattle.std.specs.List.{list_all}
 use Rattle.std.proofs.lemmas.List.{map-append, take_more, length-take-le}
 use Rattle.std.proofs.lemmas.List.Folds.{list_all_more}
 use Rattle.layout_roles.specs.declared.layout.Layout.{Layout}
@@ -59,18 +59,14 @@ module _ {R : Type 0} (s : Words R) where
     pub stand : AreTallies tallies (slots_of s layouts (known view) (take count rows))
     pub spelled : list_all (λ r. is_spelled s r.0) (take count rows) ≡ true
 
-  without_block : (r : Row) → r.1 ≡ None → r ≡ (r.0, None)
-  without_block r none = λ i. (r.0, none i)
-
-  pub next_sent : (b : Beginning) (view : View) (rows : List Row) (old mid new : List (Envelope R)) (tallies after : List Tally) (tally : Tally) (i n : ℕ) (d : Row) → i < length rows → d ≡ get_or rows i d → All (λ r. r.1 ≡ None) rows →
-      Sent b view rows old mid tallies i → after ≡ tallies ++ tally ∷ [] → Stores s b view n d.0 mid new tally → n ≡ i → Sent b view rows old new after (i + 1)
-  next_sent b view rows old mid new tallies after tally i n d lt is all_bare before pushed stored n_is =
+  pub next_sent : (b : Beginning) (view : View) (rows : List Row) (old mid new : List (Envelope R)) (tallies after : List Tally) (tally : Tally) (i n : ℕ) (d : Row) → i < length rows → d ≡ get_or rows i d →
+      Sent b view rows old mid tallies i → after ≡ tallies ++ tally ∷ [] → Stores s b view n d mid new tally → n ≡ i → Sent b view rows old new after (i + 1)
+  next_sent b view rows old mid new tallies after tally i n d lt is before pushed stored n_is =
       let r = get_or rows i d in
-      let bare : r.1 ≡ None = all_bare i d lt in
-      let one : Stores s b view i r.0 mid new tally = subst (λ (q : Row). Stores s b view i q.0 mid new tally) is (subst (λ k. Stores s b view k d.0 mid new tally) n_is stored) in
+      let one : Stores s b view i r mid new tally = subst (λ (q : Row). Stores s b view i q mid new tally) is (subst (λ k. Stores s b view k d mid new tally) n_is stored) in
       let few = length_min i rows lt in
       let one_posts : Posts b.node mid new (stores s layouts (known view) b.request b.phase (0 + length (take i rows)) (r ∷ [])) =
-      one.posts ∙ (λ j. map posted mid ++ map (λ m. (b.node, m)) (stores s layouts (known view) b.request b.phase (few j) (sym (without_block r bare) j ∷ []))) in
+      one.posts ∙ (λ j. map posted mid ++ map (λ m. (b.node, m)) (stores s layouts (known view) b.request b.phase (few j) (r ∷ []))) in
       let all_posts = posts_more b.node old mid new (stores s layouts (known view) b.request b.phase 0 (take i rows)) (stores s layouts (known view) b.request b.phase (0 + length (take i rows)) (r ∷ [])) before.posts one_posts in
       let more = take_more rows i d lt in
       let more_sent : Sent b view rows old new (tallies ++ tally ∷ []) (i + 1) = record {

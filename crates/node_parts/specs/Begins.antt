@@ -1,6 +1,6 @@
 -- How a phase begins, in the words of the model.
-use Rattle.std.specs.Prelude.{◌≡◌, ◌≤◌, ℕ, suc, true, false, leb, IsTrue, Option, None, List, [], ◌∷◌, length, ⊤}
-use Rattle.std.specs.List.{All, list_all}
+use Rattle.std.specs.Prelude.{◌≡◌, ℕ, suc, true, false, leb, IsTrue, Option, List, [], ◌∷◌}
+use Rattle.std.specs.List.{list_all}
 use Rattle.layout_roles.specs.declared.layout.Layout.{Layout}
 use Rattle.layout_history.specs.declared.view.View.{View}
 use Rattle.layout_history.specs.Views.{known}
@@ -22,11 +22,11 @@ use Rattle.node_parts.specs.Posts.{Posts}
 use Rattle.node_parts.specs.Calls.{IsPresent}
 
 module _ {R : Type 0} (s : Words R) where
-  -- a row is sent to the nodes of its stored sets, and nobody has confirmed it
-  pub record Stores (b : Beginning) (view : View) (slot : ℕ) (row : R) (old new : List (Envelope R)) (tally : Tally) : Type 0 where
-    pub posts : Posts b.node old new (stores s layouts (known view) b.request b.phase slot ((row, None) ∷ []))
-    pub confirmed : Tallies tally (oldest reading (known view)) (stored_sets layouts (known view) (partition_of s row)) []
-    pub spelled : is_spelled s row ≡ true
+  -- a row is sent, with the block beside it, to the nodes of its stored sets, and nobody has confirmed it
+  pub record Stores (b : Beginning) (view : View) (slot : ℕ) (row : R × Option (List ℕ)) (old new : List (Envelope R)) (tally : Tally) : Type 0 where
+    pub posts : Posts b.node old new (stores s layouts (known view) b.request b.phase slot (row ∷ []))
+    pub confirmed : Tallies tally (oldest reading (known view)) (stored_sets layouts (known view) (partition_of s row.0)) []
+    pub spelled : is_spelled s row.0 ≡ true
 
   -- all rows of a store phase were sent, each with its slot
   pub record StoresAll (b : Beginning) (view : View) (rows : List (R × Option (List ℕ))) (old new : List (Envelope R)) (call : WriteCall) : Type 0 where

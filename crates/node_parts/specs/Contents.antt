@@ -1,6 +1,8 @@
--- When the rows and the outbox of the code stand for those of a node of the model, and what is done to them.
-use Rattle.std.specs.Prelude.{◌≡◌, ◌<◌, ◌^◌, ◌==◌, ℕ, IsTrue, Option, Some, None, List, []}
-use Rattle.std.specs.List.{All, AllZip, find, flat_map}
+-- When the rows, the outbox and the blocks of the code stand for those of a node of the model, and what is done to them.
+use Rattle.std.specs.Prelude.{◌≡◌, ◌<◌, ◌^◌, ◌==◌, ℕ, Bool, IsTrue, Option, Some, List, All, count_by, length}
+use Rattle.std.specs.List.{AllZip, filter, find, flat_map}
+use Rattle.blake2_hash.specs.declared.digest.Hash32.{Hash32}
+use Rattle.block_store.specs.Contents.{Contents as Kept, block_at as kept_at, live_count, note_at}
 use Rattle.layout_roles.specs.declared.layout.Layout.{Layout}
 use Rattle.layout_history.specs.declared.view.View.{View}
 use Rattle.layout_history.specs.Views.{known}
@@ -8,19 +10,15 @@ use Rattle.table_schema.specs.Words.{Words}
 use Rattle.table_model.specs.Rows.{AllProper, rows}
 use Rattle.quorum_model.specs.Quorum.{is_among}
 use Rattle.block_resync.specs.declared.item.Item.{Item}
-use Rattle.cluster_machine.specs.Node.{Node, Item as Waiting}
+use Rattle.cluster_machine.specs.Node.{Node, Item as Waiting, Block, Note}
 use Rattle.cluster_machine.specs.Phases.{is_spelled}
-use Rattle.cluster_machine.specs.Rows.{accepts_all, drops}
+use Rattle.cluster_machine.specs.Rows.{accepts_all, drops, block_at, count_of, note_of}
 use Rattle.cluster_machine.specs.Receives.{item_came}
-use Rattle.cluster_machine.specs.Acts.{item_posts}
+use Rattle.cluster_machine.specs.Acts.{item_posts, is_due}
 use Rattle.node_parts.specs.declared.contents.Contents.{Contents}
 use Rattle.node_parts.specs.declared.packet.Envelope.{Envelope}
 use Rattle.cluster_machine.specs.Layouts.{layouts}
 use Rattle.node_parts.specs.Posts.{Posts}
-
--- rows that come without blocks
-abbrev pub AreBare : List (List ℕ × Option (List ℕ)) → Type 0
-AreBare stored = All (λ r. r.1 ≡ None) stored
 
 -- the item has the row's bytes, and the same nodes have confirmed it
 pub record IsItem {R : Type 0} (s : Words R) (i : Item) (m : Waiting R) : Type 0 where
@@ -32,13 +30,24 @@ pub record IsItem {R : Type 0} (s : Words R) (i : Item) (m : Waiting R) : Type 0
 abbrev pub item_at : {R : Type 0} → List (Waiting R) → ℕ → Option (Waiting R)
 item_at ms number = find (λ m. m.number == number) ms
 
--- the table has the rows of the node, and the outbox its items. No block is there
+-- the code's blocks are those of a node with these rows, blocks and notes
+pub record AreBlocks {R : Type 0} (join : R → R → R) (s : Words R) (kept : Kept) (accepted : List R) (there : List Block) (noted : List Note) : Type 0 where
+  -- the same bytes under each hash
+  pub bytes : (h : Hash32) → kept_at kept h ≡ block_at there h.0
+  -- as many live references to each block as the node's rows have
+  pub counts : (h : Hash32) → live_count kept h ≡ count_of join s accepted h.0
+  -- the same moment when the last of them ended
+  pub notes : (h : Hash32) → note_at kept h ≡ note_of noted h.0
+  -- whatever is asked of a hash, as many blocks have such a hash
+  pub number : (test : List ℕ → Bool) → count_by (λ b. test b.0.0) kept.blocks ≡ count_by (λ b. test b.hash) there
+
+-- the table has the rows of the node, the outbox its items, and the blocks are its blocks
 pub record IsContents {S R : Type 0} (join : R → R → R) (s : Words R) (c : Contents S R) (x : Node R Layout) : Type 0 where
   pub proper : AllProper s x.accepted
   pub table : c.table ≡ rows join s x.accepted
   pub items : AllZip (IsItem s) c.outbox.items x.items
   pub queued : c.outbox.pushed ≡ x.queued
-  pub blocks : x.blocks ≡ []
+  pub blocks : AreBlocks join s c.blocks x.accepted x.blocks x.notes
 
 -- x became y, and its view, its requests and its rounds stayed as they were
 pub record KeepsRest {R : Type 0} (x y : Node R Layout) : Type 0 where
@@ -66,17 +75,21 @@ module _ {S R : Type 0} (join : R → R → R) (s : Words R) where
   abbrev pub Exceeds : Contents S R → (Node R Layout → Node R Layout) → Type 0
   Exceeds old f = (x : Node R Layout) → IsContents join s old x → Holds s (f x) → ⊥
 
-  -- the contents took these rows with their blocks, at any moment
-  abbrev pub Accepts : Contents S R → Contents S R → List (List ℕ × Option (List ℕ)) → Type 0
-  Accepts old new stored = (now : ℕ) → Turns old new (λ x. accepts_all join s now x stored)
+  -- the contents took these rows with their blocks, at this moment
+  abbrev pub Accepts : Contents S R → Contents S R → ℕ → List (List ℕ × Option (List ℕ)) → Type 0
+  Accepts old new now stored = Turns old new (λ x. accepts_all join s now x stored)
 
-  -- the contents can't take these rows, at any moment
-  abbrev pub CannotAccept : Contents S R → List (List ℕ × Option (List ℕ)) → Type 0
-  CannotAccept old stored = (now : ℕ) → Exceeds old (λ x. accepts_all join s now x stored)
+  -- the contents can't take these rows
+  abbrev pub CannotAccept : Contents S R → ℕ → List (List ℕ × Option (List ℕ)) → Type 0
+  CannotAccept old now stored = Exceeds old (λ x. accepts_all join s now x stored)
 
   -- the node drops what its stored sets don't give it
-  abbrev pub Drops : Contents S R → Contents S R → View → ℕ → Type 0
-  Drops old new view node = (now : ℕ) (x : Node R Layout) → known view ≡ x.view → IsContents join s old x → Became join s new x (drops join s layouts node now x)
+  abbrev pub Drops : Contents S R → Contents S R → View → ℕ → ℕ → Type 0
+  Drops old new view node now = (x : Node R Layout) → known view ≡ x.view → IsContents join s old x → Became join s new x (drops join s layouts node now x)
+
+  -- this many blocks of the node are due
+  abbrev pub CountsDue : Contents S R → ℕ → ℕ → Type 0
+  CountsDue c now number = (x : Node R Layout) → IsContents join s c x → number ≡ length (filter (λ b. is_due join s now x b.hash) x.blocks)
 
   -- a node confirms an item
   abbrev pub Confirms : Contents S R → Contents S R → View → ℕ → ℕ → Type 0

@@ -5,3 +5,4 @@ pub mod Begins
 pub mod Contents
 pub mod Pushes
 pub mod Rounds
+pub mod References

@@ -1,7 +1,9 @@
 -- What a node pushes, in the words of the model.
-use Rattle.std.specs.Prelude.{◌≡◌, ℕ, true, false, Bool, not, Option, Some, None, List, [], map}
+use Rattle.std.specs.Prelude.{◌≡◌, ℕ, true, false, Bool, not, Option, Some, None, List, map}
 use Rattle.std.specs.List.{flat_map, list_all}
 use Rattle.std.specs.List.Sorted.{IsStrictlyIncreasing}
+use Rattle.blake2_hash.specs.declared.digest.Hash32.{Hash32}
+use Rattle.block_store.specs.Contents.{Contents as Kept, block_at as kept_at}
 use Rattle.layout_roles.specs.declared.layout.Layout.{Layout}
 use Rattle.view_model.specs.Layouts.{reading}
 use Rattle.view_model.specs.View.{newest}
@@ -9,6 +11,7 @@ use Rattle.table_schema.specs.Words.{Words}
 use Rattle.table_model.specs.Rows.{rows}
 use Rattle.cluster_machine.specs.Node.{Node, Part}
 use Rattle.cluster_machine.specs.Phases.{is_spelled, bytes_of}
+use Rattle.cluster_machine.specs.Rows.{block_at}
 use Rattle.cluster_machine.specs.Rounds.{is_empty, rows_at, pushes, are_spelled, parts_of}
 use Rattle.node_parts.specs.declared.packet.Envelope.{Envelope}
 use Rattle.node_parts.specs.declared.pushes.Sender.{Sender}
@@ -20,15 +23,20 @@ use Rattle.node_parts.specs.Sets.{others_of}
 abbrev pub part_of : ℕ × List ℕ → Part
 part_of p = record { partition = p.0; set = p.1 }
 
--- rows without blocks, as they are sent
-abbrev pub bare_rows : {R : Type 0} → Words R → List R → List (List ℕ × Option (List ℕ))
-bare_rows s rs = map (λ r. (bytes_of s r, None)) rs
+-- the block of this hash, if it is there and one is asked for
+abbrev pub found_in : Kept → Option (List ℕ) → Option (List ℕ)
+found_in kept None = None
+found_in kept (Some hash) = kept_at kept (record { 0 = hash })
+
+-- rows as they are sent, each with the block that it needs
+abbrev pub rows_with_blocks : {R : Type 0} → Words R → Kept → List R → List (List ℕ × Option (List ℕ))
+rows_with_blocks s kept rs = map (λ r. (bytes_of s r, found_in kept (s.live_block r))) rs
 
 module _ {R : Type 0} (join : R → R → R) (s : Words R) where
-  -- the sender sends the rows of this node, which has no blocks
-  pub record Sends (sender : Sender) (table : List R) (x : Node R Layout) : Type 0 where
+  -- the sender sends the rows of this node, with these blocks
+  pub record Sends (sender : Sender) (table : List R) (kept : Kept) (x : Node R Layout) : Type 0 where
     pub table_is : table ≡ rows join s x.accepted
-    pub blocks : x.blocks ≡ []
+    pub blocks : (h : Hash32) → kept_at kept h ≡ block_at x.blocks h.0
     pub newest_is : newest reading x.view ≡ sender.newest
 
   -- one partition's rows were pushed to these nodes, or there were none
@@ -38,12 +46,12 @@ module _ {R : Type 0} (join : R → R → R) (s : Words R) where
     pub spelled : list_all (is_spelled s) (rows_at join s x p) ≡ true
 
   -- whatever node it is, one partition's rows were pushed to these nodes
-  abbrev pub Pushes : Sender → List R → ℕ → List ℕ → List (Envelope R) → List (Envelope R) → Bool → Type 0
-  Pushes sender table p nodes old new is_some = (x : Node R Layout) → Sends sender table x → Pushed sender p nodes old new is_some x
+  abbrev pub Pushes : Sender → List R → Kept → ℕ → List ℕ → List (Envelope R) → List (Envelope R) → Bool → Type 0
+  Pushes sender table kept p nodes old new is_some = (x : Node R Layout) → Sends sender table kept x → Pushed sender p nodes old new is_some x
 
   -- some row of the partition has no bytes
-  abbrev pub CannotPush : Sender → List R → ℕ → Type 0
-  CannotPush sender table p = (x : Node R Layout) → Sends sender table x → list_all (is_spelled s) (rows_at join s x p) ≡ false
+  abbrev pub CannotPush : Sender → List R → Kept → ℕ → Type 0
+  CannotPush sender table kept p = (x : Node R Layout) → Sends sender table kept x → list_all (is_spelled s) (rows_at join s x p) ≡ false
 
   -- the partitions of which the node has rows, among those that one layout gives it, with their sets in another
   abbrev pub moved : Sender → Layout → Layout → Node R Layout → List Part
@@ -57,12 +65,12 @@ module _ {R : Type 0} (join : R → R → R) (s : Words R) where
     pub spelled : are_spelled join s layouts x (moved sender here there x) ≡ true
 
   -- whatever node it is, all that moves was pushed
-  abbrev pub PushesAll : Sender → List R → Layout → Layout → List (Envelope R) → List (Envelope R) → List (ℕ × List ℕ) → Type 0
-  PushesAll sender table here there old new parts = (x : Node R Layout) → Sends sender table x → PushedAll sender here there old new parts x
+  abbrev pub PushesAll : Sender → List R → Kept → Layout → Layout → List (Envelope R) → List (Envelope R) → List (ℕ × List ℕ) → Type 0
+  PushesAll sender table kept here there old new parts = (x : Node R Layout) → Sends sender table kept x → PushedAll sender here there old new parts x
 
   -- some row that moves has no bytes
-  abbrev pub CannotPushAll : Sender → List R → Layout → Layout → Type 0
-  CannotPushAll sender table here there = (x : Node R Layout) → Sends sender table x → are_spelled join s layouts x (moved sender here there x) ≡ false
+  abbrev pub CannotPushAll : Sender → List R → Kept → Layout → Layout → Type 0
+  CannotPushAll sender table kept here there = (x : Node R Layout) → Sends sender table kept x → are_spelled join s layouts x (moved sender here there x) ≡ false
 
   -- each of these partitions was pushed to its nodes again
   pub record PushedAgain (sender : Sender) (parts : List (ℕ × List ℕ)) (old new : List (Envelope R)) (x : Node R Layout) : Type 0 where
@@ -70,9 +78,9 @@ module _ {R : Type 0} (join : R → R → R) (s : Words R) where
     pub spelled : are_spelled join s layouts x (map part_of parts) ≡ true
 
   -- whatever node it is, these partitions were pushed again
-  abbrev pub PushesAgain : Sender → List R → List (ℕ × List ℕ) → List (Envelope R) → List (Envelope R) → Type 0
-  PushesAgain sender table parts old new = (x : Node R Layout) → Sends sender table x → PushedAgain sender parts old new x
+  abbrev pub PushesAgain : Sender → List R → Kept → List (ℕ × List ℕ) → List (Envelope R) → List (Envelope R) → Type 0
+  PushesAgain sender table kept parts old new = (x : Node R Layout) → Sends sender table kept x → PushedAgain sender parts old new x
 
   -- some row of these partitions has no bytes
-  abbrev pub CannotPushAgain : Sender → List R → List (ℕ × List ℕ) → Type 0
-  CannotPushAgain sender table parts = (x : Node R Layout) → Sends sender table x → are_spelled join s layouts x (map part_of parts) ≡ false
+  abbrev pub CannotPushAgain : Sender → List R → Kept → List (ℕ × List ℕ) → Type 0
+  CannotPushAgain sender table kept parts = (x : Node R Layout) → Sends sender table kept x → are_spelled join s layouts x (map part_of parts) ≡ false

@@ -9,12 +9,11 @@ ghost use Rattle.table_schema.specs.Words.{partition_at};
 ghost use Rattle.cluster_machine.specs.Layouts.{set_at, layouts};
 ghost use Rattle.cluster_machine.specs.Phases.{is_spelled};
 ghost use Rattle.cluster_machine.specs.Keeping.{AreShort, IsShort};
-ghost use Rattle.cluster_machine.specs.Bare.{AreBare, IsBarePhase};
 ghost use Rattle.node_parts.specs.Begins.{Begins, CannotBegin, Stores, StoresAll};
 
 use crate::call::Present;
 use crate::packet::Envelope;
-use crate::posts::send_each;
+use crate::posts::{copy_block, send_each};
 use crate::sets::{nodes_of, stored_sets};
 use blake2_hash::Hash32;
 use crdt_core::{Bytes, List, Memory, Value};
@@ -49,22 +48,22 @@ fn nodes_at(view: &View, position: &Hash32) -> Option<[u8; 3]>
 }
 
 impl Beginning {
-    // Sends a row to all nodes of its stored sets; its confirmations so far.
+    // Sends a row, with the block beside it, to all nodes of its stored sets; its confirmations so far.
     fn store<S: Schema>(
         self,
         view: &View,
         slot: u8,
-        row: &S::Row,
+        row: &(S::Row, Option<Bytes>),
         out: &mut Vec<Envelope<S::Row>>,
     ) -> Result<Tally, Memory>
         ensures stores { IfOk result (λ tally. Stores S.words self view.now slot row.now out.old.items out.new.items tally) }
-        ensures causes { WantOr result (is_spelled S.words row.now ≡ false) }
+        ensures causes { WantOr result (is_spelled S.words row.now.0 ≡ false) }
     {
-        let p = partition::<S>(row);
+        let p = partition::<S>(&row.0);
         let sets = stored_sets(self.alloc, view, p)?;
         let nodes = nodes_of(self.alloc, sets.as_slice())?;
         let mut rows = List::new(self.alloc);
-        rows.push((S::row_bytes(self.alloc, row)?, None))?;
+        rows.push((S::row_bytes(self.alloc, &row.0)?, copy_block(&row.1)?))?;
         let tag = Tag::Call {
             request: self.request,
             phase: self.phase,
@@ -80,7 +79,7 @@ impl Beginning {
         Tally::new(self.alloc, view.oldest(), sets.as_slice())
     }
 
-    // Sends each row to all nodes of its stored sets.
+    // Sends each row, with the block beside it, to all nodes of its stored sets.
     fn store_all<S: Schema>(
         self,
         view: &View,
@@ -88,14 +87,13 @@ impl Beginning {
         out: &mut Vec<Envelope<S::Row>>,
     ) -> Result<WriteCall, Memory>
         requires short { AreShort rows.now }
-        requires bare { AreBare rows.now }
         ensures stores { IfOk result (λ call. StoresAll S.words self view.now rows.now out.old.items out.new.items call) }
         ensures causes { WantOr result (list_all (λ r. is_spelled S.words r.0) rows.now ≡ false) }
     {
         let mut slots = Vec::new(self.alloc);
         for row in rows {
             let slot = slots.len() as u8;
-            slots.push(self.store::<S>(view, slot, &row.0, out)?)?;
+            slots.push(self.store::<S>(view, slot, row, out)?)?;
         }
         Ok(WriteCall::new(slots))
     }
@@ -108,7 +106,6 @@ impl Beginning {
         out: &mut Vec<Envelope<S::Row>>,
     ) -> Result<Present<S>, Memory>
         requires short { IsShort phase.now }
-        requires bare { IsBarePhase phase.now }
         ensures begins { IfOk result (λ present. Begins S.words self view.now phase.now out.old.items out.new.items present) }
         ensures causes { WantOr result (CannotBegin S.words self view.now phase.now) }
     {

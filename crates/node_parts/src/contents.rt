@@ -1,19 +1,26 @@
-//! What a node has: its rows, and those that wait to be stored at other nodes.
+//! What a node has: its rows, those that wait to be stored at other nodes, and its blocks.
 
-ghost use Rattle.std.specs.Prelude.{◌≡◌, ◌⊎◌, ℕ, Some, [], ◌∷◌, length, map, IsTrue, IfOk, OnOk, option_map};
+ghost use Rattle.std.specs.Prelude.{◌≡◌, ◌⊎◌, ℕ, Some, None, [], ◌∷◌, length, map, IsTrue, IfOk, OnOk, option_map};
+ghost use Rattle.std.specs.List.{AllByRecursion};
 ghost use Rattle.crdt_core.specs.Outcomes.{OnlyWant, WantOr};
+ghost use Rattle.blake2_hash.specs.Blake2b.{blake2b};
 ghost use Rattle.layout_roles.specs.declared.layout.Layout.{Layout};
 ghost use Rattle.table_schema.specs.Words.{partition_of};
+ghost use Rattle.table_model.specs.Rows.{find_row};
 ghost use Rattle.block_resync.specs.Outbox.{IsNumbered};
 ghost use Rattle.cluster_machine.specs.Node.{Node, new_node};
-ghost use Rattle.cluster_machine.specs.Rows.{accepts};
-ghost use Rattle.cluster_machine.specs.Acts.{unconfirmed};
-ghost use Rattle.node_parts.specs.Contents.{AreBare, IsContents, item_at, Turns, Exceeds, Accepts, CannotAccept, Drops, Confirms, SendsItems};
+ghost use Rattle.cluster_machine.specs.Rows.{accepts, block_of};
+ghost use Rattle.cluster_machine.specs.Blocks.{IsBeside, IsRowWithBlock};
+ghost use Rattle.cluster_machine.specs.Acts.{unconfirmed, without_due};
+ghost use Rattle.node_parts.specs.Contents.{IsContents, item_at, Turns, Exceeds, Accepts, CannotAccept, Drops, CountsDue, Confirms, SendsItems};
 
 use crate::packet::Envelope;
 use crate::posts::send_each;
+use crate::references::{delete_all, end_references, refer};
 use crate::sets::{is_given, nodes_of, stored_sets};
+use blake2_hash::Hash32;
 use block_resync::{Item, Resync};
+use block_store::Blocks;
 use crdt_core::{Bytes, List, Memory, Value};
 use layout_history::View;
 use std::alloc::Global;
@@ -21,11 +28,12 @@ use table_schema::{RowFault, Schema, partition};
 use table_store::Table;
 use wire_messages::{Message, Tag};
 
-/// The rows of a node, and its outbox.
+/// The rows of a node, its outbox, and the blocks that its rows need or needed.
 #[derive(Drop)]
 pub struct Contents<S: Schema> {
     pub table: Table<S>,
     pub outbox: Resync,
+    pub blocks: Blocks,
     pub alloc: Global,
 }
 
@@ -37,17 +45,38 @@ impl<S: Schema> Contents<S> {
         Ok(Contents {
             table: Table::new(alloc)?,
             outbox: Resync::new(alloc),
+            blocks: Blocks::new(alloc),
             alloc,
         })
     }
 
-    // Merges a row in, and queues the rows that this calls for.
-    fn accept(&mut self, row: &S::Row) -> Result<(), Memory>
-        requires { IsTrue (S.words.is_proper row.now) }
-        ensures accepts { OnOk result ((now : ℕ) → Turns S.Row.join S.words self.old self.new (λ x. accepts S.Row.join S.words now x row.now None)) }
-        ensures causes { WantOr result ((now : ℕ) → Exceeds S.Row.join S.words self.old (λ x. accepts S.Row.join S.words now x row.now None)) }
+    // The block that the row at the place of this one needs.
+    fn needed_at(&self, row: &S::Row) -> Result<Option<Hash32>, Memory>
+        ensures is { IfOk result (λ hash. option_map (λ h. h.0) hash ≡ block_of S.Row.join S.words (find_row S.words (S.words.table row.now) (S.words.key row.now) self.now.table)) }
+        ensures want { OnlyWant result }
     {
+        let key = S::key(self.alloc, row)?;
+        match self.table.get(S::table(row), key.as_slice()) {
+            Some(there) => Ok(S::live_block(there)),
+            None => Ok(None),
+        }
+    }
+
+    // Merges a row in, keeps the block that it needs and that came with it, and queues the rows that this calls for.
+    fn accept(&mut self, row: &S::Row, given: &Option<Bytes>, now: u64) -> Result<(), Memory>
+        requires proper { IsTrue (S.words.is_proper row.now) }
+        requires beside { IsBeside (blake2b 32) (S.words.live_block row.now) given.now }
+        ensures accepts { OnOk result (Turns S.Row.join S.words self.old self.new (λ x. accepts S.Row.join S.words now x row.now given.now)) }
+        ensures causes { WantOr result (Exceeds S.Row.join S.words self.old (λ x. accepts S.Row.join S.words now x row.now given.now)) }
+    {
+        let before = self.needed_at(row)?;
         let change = self.table.merge_in(row)?;
+        let after = if change.is_live {
+            S::live_block(row)
+        } else {
+            None
+        };
+        refer(&mut self.blocks, before, after, given, now)?;
         for called in change.triggered.as_slice() {
             let bytes = S::row_bytes(self.alloc, called)?;
             let _ = self.outbox.push(bytes)?;
@@ -55,16 +84,16 @@ impl<S: Schema> Contents<S> {
         Ok(())
     }
 
-    /// Merges in the rows that have these bytes, one after the other, and queues those that this calls for.
-    /// Bytes of no row are passed over.
-    pub fn accept_all(&mut self, rows: &[(Bytes, Option<Bytes>)]) -> Result<(), Memory>
-        requires bare { AreBare rows.now }
-        ensures accepts { OnOk result (Accepts S.Row.join S.words self.old self.new rows.now) }
-        ensures causes { WantOr result (CannotAccept S.Row.join S.words self.old rows.now) }
+    /// Merges in the rows that have these bytes, one after the other, each with the block that it needs, and queues
+    /// those that this calls for. Bytes of no row are passed over.
+    pub fn accept_all(&mut self, rows: &[(Bytes, Option<Bytes>)], now: u64) -> Result<(), Memory>
+        requires stocked { AllByRecursion (IsRowWithBlock (blake2b 32) S.words) rows.now }
+        ensures accepts { OnOk result (Accepts S.Row.join S.words self.old self.new now rows.now) }
+        ensures causes { WantOr result (CannotAccept S.Row.join S.words self.old now rows.now) }
     {
         for stored in rows {
             match S::row_from(self.alloc, stored.0.as_slice()) {
-                Ok(row) => self.accept(&row)?,
+                Ok(row) => self.accept(&row, &stored.1, now)?,
                 Err(RowFault::NotARow) => {}
                 Err(RowFault::Memory) => return Err(Memory::Want),
             }
@@ -73,16 +102,29 @@ impl<S: Schema> Contents<S> {
     }
 
     /// Drops each row whose partition none of the view's sets gives the node.
-    pub fn drop_lost(&mut self, view: &View, node: u8) -> Result<(), Memory>
-        ensures drops { OnOk result (Drops S.Row.join S.words self.old self.new view.now node) }
+    pub fn drop_lost(&mut self, view: &View, node: u8, now: u64) -> Result<(), Memory>
+        ensures drops { OnOk result (Drops S.Row.join S.words self.old self.new view.now node now) }
         ensures want { OnlyWant result }
     {
         for p in 0..=255 {
             if !is_given(view, node, p) {
-                let _ = self.table.drop_partition(p)?;
+                let hashes = self.table.drop_partition(p)?;
+                end_references(&mut self.blocks, hashes.as_slice(), now);
             }
         }
         Ok(())
+    }
+
+    /// Deletes the blocks that have had no live reference for long enough; how many these are.
+    pub fn delete_due(&mut self, now: u64) -> Result<u64, Memory>
+        ensures deletes { OnOk result (Turns S.Row.join S.words self.old self.new (λ x. without_due S.Row.join S.words now x)) }
+        ensures count { IfOk result (λ count. CountsDue S.Row.join S.words self.old now count) }
+        ensures want { OnlyWant result }
+    {
+        let before = self.blocks.len();
+        let due = self.outbox.due(&self.blocks, now)?;
+        delete_all(&mut self.blocks, due.as_slice());
+        Ok((before - self.blocks.len()) as u64)
     }
 
     // The partition of the row that waits under this number, where there is one.

@@ -1,14 +1,18 @@
-//! The parts of a node: its rows and outbox, its open requests, its rounds, and what it sends. `node_core` puts them
-//! together.
+//! The parts of a node: its rows, outbox and blocks, its open requests, its rounds, and what it sends. `node_core`
+//! puts them together.
 //!
 //! Each part stands for its part of a node of the machine (`cluster_machine`), by a relation of specs/: `Contents` for
-//! the accepted rows and the items that wait (`IsContents`), `Calls` for the open requests, the newest first
-//! (`AreCalls`), and `Rounds` for the open round and the count of rounds (`AreRounds`). Their calls are the
+//! the accepted rows, the items that wait and the blocks (`IsContents`), `Calls` for the open requests, the newest
+//! first (`AreCalls`), and `Rounds` for the open round and the count of rounds (`AreRounds`). Their calls are the
 //! machine's functions of the same part. What is sent goes to the end of a list of envelopes (`Posts`).
 //!
+//! A block is kept beside the rows that need it: each row is accepted with the block that came with it, and a reference
+//! begins and ends as the row that stands at its place needs a block. Those that none needs for long enough are deleted
+//! by `delete_due`.
+//!
 //! `Beginning` begins a phase of a request: it sends the first messages and gives the phase. `Sender` pushes the rows
-//! of partitions in a round or a repair. The rest reads a view: the sets of a partition in the stored versions, and
-//! who is a member or keeps copies.
+//! of partitions, with their blocks, in a round or a repair. The rest reads a view: the sets of a partition in the
+//! stored versions, and who is a member or keeps copies.
 #![tactic(auto)]
 
 mod begin;
@@ -18,6 +22,7 @@ mod contents;
 mod packet;
 mod posts;
 mod pushes;
+mod references;
 mod rounds;
 mod sets;
 mod storage;

@@ -8,7 +8,8 @@ use crate::packet::{Envelope, Packet};
 use crdt_core::{Bytes, Crdt, List, Memory, Value, copy_row, copy_rows};
 use wire_messages::Message;
 
-fn copy_block(block: &Option<Bytes>) -> Result<Option<Bytes>, Memory>
+/// A copy of a block, if there is one.
+pub fn copy_block(block: &Option<Bytes>) -> Result<Option<Bytes>, Memory>
     ensures same { IfOk result (λ copied. copied ≡ block.now) }
     ensures want { OnlyWant result }
 {

@@ -1,24 +1,29 @@
 //! Each call of a node that takes memory, with ample memory: a put and a get over three nodes, a layout change with
-//! its round, and what a restart leaves. The messages are passed on by hand.
-ghost use Rattle.std.specs.Prelude.{◌≡◌, None, IsTrue, IfOk};
+//! its round, what a restart leaves, and a block with its reference. The messages are passed on by hand.
+ghost use Rattle.std.specs.Prelude.{◌≡◌, IsTrue, IfOk, option_map};
+ghost use Rattle.std.specs.List.{AllByRecursion};
+ghost use Rattle.blake2_hash.specs.Blake2b.{blake2b};
 ghost use Rattle.layout_roles.specs.Zones.{set_ascends};
-ghost use Rattle.cluster_machine.specs.Bare.{IsBarePhase};
+ghost use Rattle.cluster_machine.specs.Blocks.{IsBeside, IsRowWithBlock, PacketCarriesBlocks};
 ghost use Rattle.cluster_machine.specs.Keeping.{IsShort};
-ghost use Rattle.node_parts.specs.Contents.{AreBare};
-ghost use Rattle.node_core.specs.Stands.{IsBarePacket};
+ghost use Rattle.object_schema.specs.Schema.{words};
+ghost use Rattle.node_parts.specs.Posts.{told};
 
-use blake2_hash::Hash32;
+use blake2_hash::{Hash32, blake2b_256};
 use cluster_machine::{Action, LocalEnd};
-use crdt_core::{Bytes, List, Memory};
-use crdt_rows::{AnyRow, Body, ObjectRow, State, Version};
+use crdt_core::{Bool, Bytes, List, Memory};
+use crdt_rows::{AnyRow, Body, ObjectRow, RefRow, State, Version};
 use layout_roles::{Assignment, Kind, Layout, Role, Roles, Zone};
 use node_core::{BeginFault, Envelope, Node, Packet};
 use object_schema::S3Schema;
 use std::alloc::Global;
 use std::test::Fail;
+use table_schema::{RowFault, Schema};
 use wire_messages::{Message, Phase, PhaseEnd};
 
 const BUCKET: Hash32 = Hash32([0x22; 32]);
+
+const BLOCK: &[u8] = b"a block";
 
 type Post = Vec<Envelope<AnyRow>>;
 
@@ -81,18 +86,25 @@ fn marker(alloc: Global, ts: u64) -> Result<AnyRow, Memory> {
     Ok(AnyRow::Object(row))
 }
 
-fn store(alloc: Global, row: AnyRow) -> Result<Phase<AnyRow>, Memory>
+// The reference of one version to the block.
+fn reference(is_deleted: bool) -> AnyRow {
+    AnyRow::Ref(RefRow {
+        hash: blake2b_256(BLOCK),
+        id: 5,
+        deleted: Bool(is_deleted),
+    })
+}
+
+fn store(alloc: Global, row: AnyRow, block: Option<Bytes>) -> Result<Phase<AnyRow>, Memory>
     ensures short { IfOk result IsShort }
-    ensures bare { IfOk result IsBarePhase }
 {
     let mut rows = List::new(alloc);
-    rows.push((row, None))?;
+    rows.push((row, block))?;
     Ok(Phase::Store { rows })
 }
 
 fn read(alloc: Global) -> Result<Phase<AnyRow>, Memory>
     ensures short { IfOk result IsShort }
-    ensures bare { IfOk result IsBarePhase }
 {
     let mut key = Bytes::from_slice(alloc, &BUCKET.0)?;
     key.extend_from_slice(b"a")?;
@@ -105,7 +117,6 @@ fn read(alloc: Global) -> Result<Phase<AnyRow>, Memory>
 
 fn scan(alloc: Global) -> Phase<AnyRow>
     ensures short { IsShort result }
-    ensures bare { IsBarePhase result }
 {
     Phase::Range {
         position: BUCKET,
@@ -114,27 +125,44 @@ fn scan(alloc: Global) -> Phase<AnyRow>
     }
 }
 
-fn has_no_block(row: &(Bytes, Option<Bytes>)) -> bool
-    ensures { IsTrue result → row.now.1 ≡ None }
+// The block is the one that is needed, or none is there where none is needed.
+fn is_beside(needed: &Option<Hash32>, given: &Option<Bytes>) -> bool
+    ensures { IsTrue result → IsBeside (blake2b 32) (option_map (λ hash. hash.0) needed.now) given.now }
 {
-    match row.1 {
-        Some(_) => false,
-        None => true,
+    match (needed, given) {
+        (None, None) => true,
+        (Some(hash), Some(bytes)) => blake2b_256(bytes.as_slice()) == *hash,
+        _ => false,
     }
 }
 
-fn have_no_blocks(rows: &[(Bytes, Option<Bytes>)]) -> bool
-    ensures { IsTrue result → AreBare rows.now }
+fn comes_with_block(alloc: Global, stored: &(Bytes, Option<Bytes>)) -> Result<bool, Memory>
+    ensures { IfOk result (λ is. IsTrue is → IsRowWithBlock (blake2b 32) words stored.now) }
 {
-    rows.iter().all(|row| has_no_block(row))
+    match S3Schema::row_from(alloc, stored.0.as_slice()) {
+        Ok(row) => Ok(is_beside(&S3Schema::live_block(&row), &stored.1)),
+        Err(RowFault::NotARow) => Ok(true),
+        Err(RowFault::Memory) => Err(Memory::Want),
+    }
 }
 
-fn is_bare(packet: &Packet<AnyRow>) -> bool
-    ensures { IsTrue result → IsBarePacket packet.now }
+fn come_with_blocks(alloc: Global, rows: &[(Bytes, Option<Bytes>)]) -> Result<bool, Memory>
+    ensures { IfOk result (λ are. IsTrue are → AllByRecursion (IsRowWithBlock (blake2b 32) words) rows.now) }
+{
+    for stored in rows {
+        if !comes_with_block(alloc, stored)? {
+            return Ok(false);
+        }
+    }
+    Ok(true)
+}
+
+fn carries_blocks(alloc: Global, packet: &Packet<AnyRow>) -> Result<bool, Memory>
+    ensures { IfOk result (λ is. IsTrue is → PacketCarriesBlocks (blake2b 32) words (told packet.now)) }
 {
     match packet {
-        Packet::Msg(Message::Store { rows, .. }) => have_no_blocks(rows.as_slice()),
-        _ => true,
+        Packet::Msg(Message::Store { rows, .. }) => come_with_blocks(alloc, rows.as_slice()),
+        _ => Ok(true),
     }
 }
 
@@ -153,6 +181,15 @@ fn act(node: &mut Node<S3Schema>, action: Action, out: &mut Post) -> Result<Loca
         return Err("no version".into());
     }
     Ok(node.local(action, 0, out)?)
+}
+
+// The node works when its clock says `now`.
+fn work(alloc: Global, node: &mut Node<S3Schema>, now: u64) -> Result<LocalEnd, Fail> {
+    if node.view().newest() < 1 {
+        return Err("no version".into());
+    }
+    let mut out = Vec::new(alloc);
+    Ok(node.local(Action::Work, now, &mut out)?)
 }
 
 // The node's view, on its way to node `to`.
@@ -182,8 +219,8 @@ impl Cluster {
         for _round in 0..10 {
             let mut answers = Vec::new(self.alloc);
             for envelope in &waiting {
-                if !is_bare(&envelope.packet) {
-                    return Err("a block".into());
+                if !carries_blocks(self.alloc, &envelope.packet)? {
+                    return Err("without its block".into());
                 }
                 let (from, packet) = (envelope.from, &envelope.packet);
                 let end = match envelope.to {
@@ -222,11 +259,23 @@ impl Cluster {
 
     // Node 1 stores the marker.
     fn put(&mut self) -> Result<(), Fail> {
+        let marker = marker(self.alloc, 5)?;
+        self.store(marker, None)
+    }
+
+    // Node 1 stores the reference with its block.
+    fn put_block(&mut self) -> Result<(), Fail> {
+        let block = Bytes::from_slice(self.alloc, BLOCK)?;
+        self.store(reference(false), Some(block))
+    }
+
+    // Node 1 stores a row.
+    fn store(&mut self, row: AnyRow, block: Option<Bytes>) -> Result<(), Fail> {
         let mut out = Vec::new(self.alloc);
         if self.first.open(1).is_err() {
             return Err("not open".into());
         }
-        let phase = store(self.alloc, marker(self.alloc, 5)?)?;
+        let phase = store(self.alloc, row, block)?;
         self.first.phase(1, phase, &mut out)?;
         match self.deliver(out)? {
             Some(PhaseEnd::Kept) => {
@@ -267,6 +316,7 @@ fn rows_move_to_the_nodes_of_the_next_version(rt: HostRuntime) -> Result<(), Fai
     let alloc = rt.alloc();
     let mut cluster = Cluster::new(alloc)?;
     cluster.put()?;
+    cluster.put_block()?;
     append(alloc, &mut cluster.first, 2)?;
     append(alloc, &mut cluster.second, 2)?;
     append(alloc, &mut cluster.third, 2)?;
@@ -275,13 +325,18 @@ fn rows_move_to_the_nodes_of_the_next_version(rt: HostRuntime) -> Result<(), Fai
     assert_eq!(rt; cluster.second.view().ack_least(), 2);
     assert_eq!(rt; cluster.fourth.table().len(), 0);
     cluster.act_all(Action::Sync)?;
-    assert_eq!(rt; cluster.fourth.table().len(), 1);
+    assert_eq!(rt; cluster.fourth.table().len(), 2);
+    assert_eq!(rt; cluster.fourth.block_count(), 1);
     assert_eq!(rt; cluster.fourth.view().read_version(), 2);
     cluster.act_all(Action::SyncAck)?;
-    assert_eq!(rt; cluster.first.table().len(), 1);
+    assert_eq!(rt; cluster.first.table().len(), 2);
     cluster.act_all(Action::Clean)?;
     assert_eq!(rt; cluster.fourth.view().oldest(), 2);
     assert_eq!(rt; cluster.first.table().len(), 0);
+    assert_eq!(rt;
+        work(alloc, &mut cluster.first, 600_000)?,
+        LocalEnd::Worked { rows: 0, blocks: 1 }
+    );
     let mut out = Vec::new(alloc);
     let idle = act(&mut cluster.second, Action::Sync, &mut out)?;
     assert_eq!(rt;
@@ -291,6 +346,38 @@ fn rows_move_to_the_nodes_of_the_next_version(rt: HostRuntime) -> Result<(), Fai
             ack_least: 2
         }
     );
+    Ok(())
+}
+
+#[test]
+fn a_block_is_kept_and_read_while_its_reference_is_live(rt: HostRuntime) -> Result<(), Fail> {
+    let alloc = rt.alloc();
+    let mut cluster = Cluster::new(alloc)?;
+    cluster.put_block()?;
+    assert_eq!(rt; cluster.second.block_count(), 1);
+    assert!(rt; cluster.second.open(2).is_ok());
+    let mut out = Vec::new(alloc);
+    let hash = blake2b_256(BLOCK);
+    cluster.second.phase(2, Phase::Block { hash }, &mut out)?;
+    let Some(PhaseEnd::Block(bytes)) = cluster.deliver(out)? else {
+        return Err("no block".into());
+    };
+    assert_eq!(rt; bytes.as_slice(), BLOCK);
+    let mut out = Vec::new(alloc);
+    cluster
+        .second
+        .phase(2, Phase::Block { hash: BUCKET }, &mut out)?;
+    assert!(rt; cluster.deliver(out)?.is_none());
+    cluster.store(reference(true), None)?;
+    assert_eq!(rt;
+        work(alloc, &mut cluster.second, 599_999)?,
+        LocalEnd::Worked { rows: 0, blocks: 0 }
+    );
+    assert_eq!(rt;
+        work(alloc, &mut cluster.second, 600_000)?,
+        LocalEnd::Worked { rows: 0, blocks: 1 }
+    );
+    assert_eq!(rt; cluster.second.block_count(), 0);
     Ok(())
 }
 

@@ -1,17 +1,16 @@
-use Rattle.std.proofs.Common.{◌≡◌, None, length, refl, ap, sym, subst, ◌∙◌}
-use Rattle.std.specs.List.{filter, flat_map}
+use Rattle.std.proofs.Common.{◌≡◌, None, refl, ap, subst, ◌∙◌}
+use Rattle.std.specs.List.{flat_map}
 use Rattle.layout_trackers.specs.declared.which.Which.TheVariants.{Ack, SyncAck}
 use Rattle.view_model.specs.Layouts.{reading}
 use Rattle.view_model.specs.View.{newest, read_version}
 use Rattle.cluster_machine.specs.declared.step.LocalEnd.TheVariants.{Worked}
-use Rattle.cluster_machine.specs.Node.{Block}
-use Rattle.cluster_machine.specs.Acts.{least_start, raises, item_posts, is_due}
+use Rattle.cluster_machine.specs.Acts.{least_start, raises, item_posts, without_due}
 use Rattle.cluster_machine.specs.Layouts.{layouts}
 use Rattle.node_parts.specs.Posts.{Posts}
 use Rattle.node_parts.specs.Contents.{IsItem}
 use Rattle.node_core.specs.Stands.{Done}
 use Rattle.node_parts.proofs.SendingItems.{zip_length}
-use Rattle.node_core.proofs.Nodes.{ok_all, items_spelled, nothing_due}
+use Rattle.node_core.proofs.Nodes.{ok_all, items_spelled, with_contents}
 use Rattle.node_core.proofs.node.Node.local.Goals as goal
 
 pub returns-in-Ack-clause-acts : goal.returns-in-Ack-clause-acts
@@ -29,25 +28,19 @@ returns-in-SyncAck-clause-acts g c = rw c.in-SyncAck.is (ok_all c.raise-in-SyncA
     subst (λ n. Done join s c.raise-in-SyncAck.new.self id c.args.out.now.items c.args.out.now.items None (raises join s layouts id x SyncAck n).did × (how ≡ (raises join s layouts id x SyncAck n).how)) version (acts c.args.out.now.items id x is)))
 
 pub returns-in-Clean-clause-acts : goal.returns-in-Clean-clause-acts
-returns-in-Clean-clause-acts g c = rw c.in-Clean.is (ok_all c.clean.result c.clean.ensures.cleans (λ how acts. acts c.args._now c.args.out.now.items))
+returns-in-Clean-clause-acts g c = rw c.in-Clean.is (ok_all c.clean.result c.clean.ensures.cleans (λ how acts. acts c.args.out.now.items))
 
-pub returns-in_ok-rows-in-Work-clause-acts : goal.returns-in_ok-rows-in-Work-clause-acts
-returns-in_ok-rows-in-Work-clause-acts g c id x is =
+pub returns-in_ok-blocks-in-Work-clause-acts : goal.returns-in_ok-blocks-in-Work-clause-acts
+returns-in_ok-blocks-in-Work-clause-acts g c id x is =
     let join = g.S.Row.Crdt.join in
     let s = g.S.Schema.words in
+    let self = c.args.self.now in
     rw c.in-Work.is (
       record {
-        stands = record {
-          id_is = is.id_is;
-          view = is.view;
-          contents = nothing_due c.args._now x is.contents;
-          calls = is.calls;
-          rounds = is.rounds;
-          has_version = is.has_version;
-        };
+        stands = with_contents self id x (without_due join s c.args.now x) c.delete_due.new.self is (c.in_ok-blocks-in-Work.ensures.deletes x is.contents);
         posts = subst (λ n. Posts n c.args.out.now.items c.send_waiting.new.out.items (flat_map (item_posts join s layouts x.view) x.items)) is.id_is (c.in_ok-rows-in-Work.ensures.sent x is.view is.contents);
         ends = refl;
-        spelled = λ sizes. items_spelled s c.args.self.now.contents.outbox.items x.items is.contents.items;
+        spelled = λ sizes. items_spelled s self.contents.outbox.items x.items is.contents.items;
       },
-      λ i. Worked ((c.in_ok-rows-in-Work.ensures.count ∙ zip_length (IsItem s) c.args.self.now.contents.outbox.items x.items is.contents.items) i) (length (filter (λ (b : Block). is_due join s c.args._now x b.hash) (sym is.contents.blocks i))),
+      λ i. Worked ((c.in_ok-rows-in-Work.ensures.count ∙ zip_length (IsItem s) self.contents.outbox.items x.items is.contents.items) i) (c.in_ok-blocks-in-Work.ensures.count x is.contents i),
     )

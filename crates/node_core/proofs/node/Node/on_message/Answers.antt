@@ -6,12 +6,12 @@ use Rattle.node_core.proofs.Nodes.{ok_all}
 use Rattle.node_core.proofs.node.Node.on_message.Goals as goal
 
 pub returns-in_ok-take_store-in-Store-clause-hears : goal.returns-in_ok-take_store-in-Store-clause-hears
-returns-in_ok-take_store-in-Store-clause-hears g c now id x is =
+returns-in_ok-take_store-in-Store-clause-hears g c id x is =
     let join = g.S.Row.Crdt.join in
     let s = g.S.Schema.words in
     rw c.in-Store.is
-    (subst (λ rows. Done join s c.take_store.new.self id c.args.out.now.items c.take_store.new.out.items None (takes join s layouts id now x c.args.from c.in-Store.tag c.in-Store.newest c.in-Store.p rows))
-    c.as_slice-in-Store.ensures (c.in_ok-take_store-in-Store.ensures.takes now id x is))
+    (subst (λ rows. Done join s c.take_store.new.self id c.args.out.now.items c.take_store.new.out.items None (takes join s layouts id c.args.now x c.args.from c.in-Store.tag c.in-Store.newest c.in-Store.p rows))
+    c.as_slice-in-Store.ensures (c.in_ok-take_store-in-Store.ensures.takes id x is))
 
 pub returns-in-Stored-clause-hears : goal.returns-in-Stored-clause-hears
-returns-in-Stored-clause-hears g c = rw c.in-Stored.is (ok_all c.take_stored.result c.take_stored.ensures.confirms (λ given confirms now. confirms c.args.out.now.items))
+returns-in-Stored-clause-hears g c = rw c.in-Stored.is (ok_all c.take_stored.result c.take_stored.ensures.confirms (λ given confirms. confirms c.args.out.now.items))

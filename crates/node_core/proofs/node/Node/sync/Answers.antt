@@ -27,7 +27,7 @@ returns-in_err-push_again-in-Some-clause-causes g c =
             let o = open_some c.in-Some.moving x.round (subst (λ m. IsOpen id m x.round) c.in-Some.is is.rounds.is_open) in
             let newest_is = sym (ap (λ t. t.newest) c.sender-sender.ensures ∙ ap (newest reading) is.view) in
             let parts = ap (map (λ part. (part.0, part.1.items))) c.as_slice.ensures.value ∙ c.in_ok-parts-in-Some.ensures.are id o.0 o.2 in
-            let never = full.1 x (record { table_is = is.contents.table; blocks = is.contents.blocks; newest_is = newest_is }) in
+            let never = full.1 x (record { table_is = is.contents.table; blocks = is.contents.blocks.bytes; newest_is = newest_is }) in
             let unspelled = subst (λ ps. are_spelled join s layouts x (map part_of ps) ≡ false) parts never in
             let spelled : are_spelled join s layouts x (open_parts o.0) ≡ true = rw o.1 at fits.spelled in
             let no : true ≡ false = sym spelled ∙ (sym (again_spelled join s x o.0) ∙ unspelled) in cc,
@@ -41,7 +41,7 @@ returns-in_ok-push_again-in-Some-clause-syncs g c id x is =
     let o = open_some c.in-Some.moving x.round (subst (λ m. IsOpen id m x.round) c.in-Some.is is.rounds.is_open) in
     let newest_is = sym (ap (λ t. t.newest) c.sender-sender.ensures ∙ ap (newest reading) is.view) in
     let parts = ap (map (λ part. (part.0, part.1.items))) c.as_slice.ensures.value ∙ c.in_ok-parts-in-Some.ensures.are id o.0 o.2 in
-    let pushed = c.in_ok-push_again-in-Some.ensures.pushes x (record { table_is = is.contents.table; blocks = is.contents.blocks; newest_is = newest_is }) in
+    let pushed = c.in_ok-push_again-in-Some.ensures.pushes x (record { table_is = is.contents.table; blocks = is.contents.blocks.bytes; newest_is = newest_is }) in
     subst (λ round. Done join s c.args.self.now id c.args.out.now.items c.push_again.new.out.items None (syncs join s layouts id x round).did × (At c.target-target.result ≡ (syncs join s layouts id x round).how)) (sym o.1) (
       record {
         stands = is;

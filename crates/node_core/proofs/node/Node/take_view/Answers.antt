@@ -6,11 +6,11 @@ use Rattle.node_core.proofs.Nodes.{ok_to, version_stays, newer_merged}
 use Rattle.node_core.proofs.node.Node.take_view.Goals as goal
 
 pub returns-clause-sees : goal.returns-clause-sees
-returns-clause-sees g c = ok_to c.look_around.result c.look_around.ensures.sees (λ goes now id x is.
+returns-clause-sees g c = ok_to c.look_around.result c.look_around.ensures.sees (λ goes id x is.
     let other = c.args.view.now in
     let v = merged reading x.view (known other) in
     let own : is_gapless reading (known c.args.self.now.view).layouts ≡ true = c.args.self.now.view.gapless in
-    goes now id x v (ap (oldest reading) (sym is.view) ∙ sym c.oldest-before.ensures) (record {
+    goes id x v (ap (oldest reading) (sym is.view) ∙ sym c.oldest-before.ensures) (record {
       id_is = is.id_is;
       view = c.in_ok-merge.ensures.merged ∙ ap (λ w. merged reading w (known other)) is.view;
       contents = is.contents;

@@ -11,7 +11,7 @@ returns-in_err-push-clause-causes g c =
     let set = c.set.result in
     let ours = sym c.contains.ensures.value ∙ c.if-contains.true in
     rw (e.1, e.2)
-    (causes_more c.in_err-push.field-0.0 (λ none. cannot g.S.Row.Crdt.join g.S.Schema.words c.args.self c.args.table.now c.args.here.now c.args.there.now c.args.out.now.items c.loop-partition.out.items c.loop-partition.parts.items c.loop-partition.partition set c.set.ensures ours none c.loop-partition.invariant) c.in_err-push.ensures.causes)
+    (causes_more c.in_err-push.field-0.0 (λ none. cannot g.S.Row.Crdt.join g.S.Schema.words c.args.self c.args.table.now c.args.blocks.now c.args.here.now c.args.there.now c.args.out.now.items c.loop-partition.out.items c.loop-partition.parts.items c.loop-partition.partition set c.set.ensures ours none c.loop-partition.invariant) c.in_err-push.ensures.causes)
 
 pub loop-partition-preserved : goal.loop-partition-preserved
 loop-partition-preserved g c =
@@ -19,6 +19,7 @@ loop-partition-preserved g c =
     let words = g.S.Schema.words in
     let from = c.args.self in
     let table = c.args.table.now in
+    let kept = c.args.blocks.now in
     let here = c.args.here.now in
     let there = c.args.there.now in
     let old = c.args.out.now.items in
@@ -36,13 +37,13 @@ loop-partition-preserved g c =
           let new = w.push.new.out.items in
           rw (w.out-is, w.parts-is)
           (elim w.if-branch.branch [
-            | then-branch+in_ok-push-2 w' ↦ rw w'.parts-is (rw w'.in_ok-push-2.ensures.items (with_rows join words from table here there old mid new parts p set to nodes _ c.set.ensures ours w.set-set.ensures nodes_are w.in_ok-push.ensures.pushes w'.if-branch.true c.loop-partition.invariant))
-            | else-branch w' ↦ rw w'.parts-is (no_rows join words from table here there old mid new parts p set nodes _ c.set.ensures ours w.in_ok-push.ensures.pushes w'.if-branch.false c.loop-partition.invariant)
+            | then-branch+in_ok-push-2 w' ↦ rw w'.parts-is (rw w'.in_ok-push-2.ensures.items (with_rows join words from table kept here there old mid new parts p set to nodes _ c.set.ensures ours w.set-set.ensures nodes_are w.in_ok-push.ensures.pushes w'.if-branch.true c.loop-partition.invariant))
+            | else-branch w' ↦ rw w'.parts-is (no_rows join words from table kept here there old mid new parts p set nodes _ c.set.ensures ours w.in_ok-push.ensures.pushes w'.if-branch.false c.loop-partition.invariant)
           ])
-      | else-contains w ↦ rw (w.out-is, w.parts-is) (not_ours join words from table here there old mid parts p set c.set.ensures (among ∙ w.if-contains.false) c.loop-partition.invariant)
+      | else-contains w ↦ rw (w.out-is, w.parts-is) (not_ours join words from table kept here there old mid parts p set c.set.ensures (among ∙ w.if-contains.false) c.loop-partition.invariant)
     ]
 
 pub returns-clause-pushes : goal.returns-clause-pushes
 returns-clause-pushes g c =
-    at_last g.S.Row.Crdt.join g.S.Schema.words c.args.self c.args.table.now c.args.here.now c.args.there.now c.args.out.now.items c.loop-partition.out.items c.loop-partition.parts.items c.loop-partition.partition
+    at_last g.S.Row.Crdt.join g.S.Schema.words c.args.self c.args.table.now c.args.blocks.now c.args.here.now c.args.there.now c.args.out.now.items c.loop-partition.out.items c.loop-partition.parts.items c.loop-partition.partition
     (omega (arith, c.args.here.now.sets.whole, c.loop-partition-test.false)) c.loop-partition.invariant
