@@ -7,6 +7,7 @@ pub mod Asked
 pub mod Posts
 pub mod PostsSent
 pub mod PostsForgotten
+pub mod Stocked
 pub mod WorldsStand
 pub mod WorldsSending
 pub mod WorldsDoing

@@ -1,9 +1,10 @@
 -- The first layout of nodes 1, 2 and 3, and a layout that is applied.
-use Rattle.std.proofs.Common.{◌≡◌, ◌<◌, ◌≤◌, ◌+◌, ◌&&◌, not, leb, ℕ, suc, Bool, true, false, cond, [], ◌∷◌, refl, sym, subst, ap, arith}
+use Rattle.std.proofs.Common.{◌≡◌, ◌<◌, ◌≤◌, ◌+◌, ◌&&◌, not, leb, ℕ, suc, Bool, true, false, cond, IsTrue, [], ◌∷◌, refl, sym, subst, ap, arith}
 use Rattle.std.proofs.lemmas.Bool.{le-leb, lt-leb}
 use Rattle.layout_roles.specs.declared.roles.Roles.{Roles}
 use Rattle.layout_roles.specs.declared.layout.Layout.{Layout}
 use Rattle.layout_roles.specs.declared.cut.Cut.{Cut}
+use Rattle.table_schema.specs.Laws.{Laws}
 use Rattle.table_schema.specs.Words.{Words}
 use Rattle.cluster_machine.specs.declared.step.Step.TheVariants.{Trio, Apply}
 use Rattle.cluster_machine.specs.declared.step.Refusal.{Refusal}
@@ -25,7 +26,7 @@ use Rattle.world_core.specs.declared.world.World.{World}
 use Rattle.world_core.specs.Nodes.{AreNodes, BecomesAt, given_to}
 use Rattle.world_core.specs.Stands.{StandsFor, DoesSo, Stepped, Plays, nothing_given}
 use Rattle.world_laws.proofs.TrioGreatest.{trio_is_first}
-use Rattle.world_core.proofs.WorldsStand.{stands_of, IsBareSound, bare_sound, sound_after, same_post, same_clocks, same_requests, same_few, refused_report, told_report, is_told, plays_refusal}
+use Rattle.world_core.proofs.WorldsStand.{stands_of, IsWhole, whole_of, whole_after, same_post, same_clocks, same_requests, same_few, refused_report, told_report, is_told, plays_refusal}
 use Rattle.world_core.proofs.WorldsInstall.{first_stands}
 
 at_tests : (P : Bool → Bool → Bool → Type 0) (a b c d e f : Bool) → a ≡ d → b ≡ e → c ≡ f → P d e f → P a b c
@@ -49,10 +50,10 @@ module _ {R : Type 0} (w : Model R) (n : ℕ) where
   abbrev way : (R → R → R) → Words R → Decision → Bool → Bool → Bool → Done R
   way join s choice a b c = cond a (refusal w NotMember) (cond b (refusal w (VersionTaken (suc (newest_at w n)))) (cond c (refusal w VersionLimit) (chosen join s layouts trio stage_trio w n (suc (newest_at w n)) choice)))
 
-  sound_given : (join : R → R → R) (s : Words R) (choice : Decision) → IsBareSound w → outside ≡ false → taken ≡ false → full ≡ false → may choice false false false → IsBareSound (applied w (way join s choice false false false))
-  sound_given join s choice sound e f g lawful =
-      at_tests (λ a b c. IsBareSound (applied w (way join s choice a b c))) false false false outside taken full (sym e) (sym f) (sym g)
-      (sound_after join s w (Apply n) choice sound tt (at_tests (may choice) outside taken full false false false e f g lawful))
+  whole_given : (join : R → R → R) (s : Words R) (laws : Laws join s) (choice : Decision) → IsWhole join s w → outside ≡ false → taken ≡ false → full ≡ false → may choice false false false → IsTrue (way join s choice false false false).is_spelled → IsWhole join s (applied w (way join s choice false false false))
+  whole_given join s laws choice h e f g lawful spelled =
+      at_tests (λ a b c. IsWhole join s (applied w (way join s choice a b c))) false false false outside taken full (sym e) (sym f) (sym g)
+      (whole_after join s laws w (Apply n) choice h tt (at_tests (may choice) outside taken full false false false e f g lawful) (at_tests (λ a b c. IsTrue (way join s choice a b c).is_spelled) outside taken full false false false e f g spelled))
 
 module _ {S R : Type 0} (join : R → R → R) (s : Words R) where
   trio_does : (c : World S R) (now : Nodes S R) (roles : Roles) (report : Report R) (w : Model R) → StandsFor join s c w → report ≡ told_report Empty [] → c.applied < 1 → roles.list ≡ stage_trio c.roles.list →
@@ -121,9 +122,9 @@ module _ {S R : Type 0} (join : R → R → R) (s : Words R) where
         pub apply_refused : (reason : Refusal Cut) → report ≡ refused_report reason → IsComputed c.roles.list c.redundancy (newest + 1) (none_given reason) → Stepped join s c report w (Apply n)
         apply_refused reason is computed = stepped c report w n (none_given reason) false false false inside free room (computed_here (none_given reason) computed) (plays_refusal join s c w h report reason is)
 
-        pub apply_given : (now : Nodes S R) (l : Layout) (shown : Applied) → report ≡ told_report (One (newest + 1)) (Laid shown ∷ []) → IsComputed c.roles.list c.redundancy (newest + 1) (given l shown) →
+        pub apply_given : (laws : Laws join s) (now : Nodes S R) (l : Layout) (shown : Applied) → report ≡ told_report (One (newest + 1)) (Laid shown ∷ []) → IsComputed c.roles.list c.redundancy (newest + 1) (given l shown) →
             BecomesAt join s c.nodes now n (λ x. appends layouts x l) → Stepped join s (record c { nodes = now; applied = c.applied + 1 }) report w (Apply n)
-        apply_given now l shown is computed becomes =
+        apply_given laws now l shown is computed becomes =
             let same = h.applied in
             let choice : Decision = given l shown in
             let next : newest + 1 ≡ suc (newest_at w n) = omega arith in
@@ -140,7 +141,7 @@ module _ {S R : Type 0} (join : R → R → R) (s : Words R) where
                 applied = ap (λ a. a + 1) h.applied;
                 requests = same_requests join s c w h;
                 few = same_few join s c w h;
-                sound = sound_given w n join s choice (bare_sound h) inside free room lawful;
+                whole = whole_given w n join s laws choice (whole_of h) inside free room lawful refl;
               });
               tells = is_told report (One (newest + 1)) (Laid shown ∷ []) _ is refl (ap One next) refl refl refl;
               spelled = refl;

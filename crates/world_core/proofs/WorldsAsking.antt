@@ -1,5 +1,5 @@
 -- Requests and messages of the world: what becomes of one, where it is found and where it isn't.
-use Rattle.std.proofs.Common.{◌≡◌, ◌<◌, ◌≤◌, ◌-◌, ◌^◌, ◌==◌, ℕ, suc, Bool, true, false, not, cond, leb, Option, Some, None, List, [], ◌∷◌, ◌++◌, length, map, reverse, refl, sym, subst, ap, ◌∙◌, append-nil, arith}
+use Rattle.std.proofs.Common.{◌≡◌, ◌<◌, ◌≤◌, ◌^◌, ◌==◌, ℕ, suc, Bool, true, false, not, cond, leb, Option, Some, None, List, [], ◌∷◌, ◌++◌, length, map, reverse, refl, sym, subst, ap, ◌∙◌, append-nil, arith}
 use Rattle.std.specs.List.{All}
 use Rattle.std.proofs.lemmas.Bool.{and_parts, leb-true, eqb-true, eq-eqb, ne_eqb, not-true, not-false}
 use Rattle.std.proofs.lemmas.List.{length-append}
@@ -8,6 +8,7 @@ use Rattle.layout_roles.specs.declared.layout.Layout.{Layout}
 use Rattle.layout_roles.specs.declared.cut.Cut.{Cut}
 use Rattle.view_model.specs.Layouts.{reading}
 use Rattle.view_model.specs.View.{View, newest, last_version, follow, is_gapless}
+use Rattle.table_schema.specs.Laws.{Laws}
 use Rattle.table_schema.specs.Words.{Words}
 use Rattle.wire_messages.specs.declared.phase.Phase.{Phase}
 use Rattle.cluster_machine.specs.declared.line.Line.{Line}
@@ -37,7 +38,7 @@ use Rattle.world_core.specs.declared.world.World.{World}
 use Rattle.world_core.specs.Parts.{IsPost, IsFound, IsMissing, asked}
 use Rattle.world_core.specs.Nodes.{AreNodes, BecomesAt, Opens}
 use Rattle.world_core.specs.Stands.{StandsFor, Tells, DoesSo, acts_so, local_so, plainly, nothing_given}
-use Rattle.world_core.proofs.WorldsStand.{refused_report, told_report, is_told, sound_after, stands_of, same_post, same_clocks, same_applied, same_requests, same_few, plays_nothing, plays_refusal, IsBareSound, bare_sound}
+use Rattle.world_core.proofs.WorldsStand.{refused_report, told_report, is_told, whole_after, stands_of, same_post, same_clocks, same_applied, same_requests, same_few, plays_nothing, plays_refusal, IsWhole, whole_of}
 use Rattle.world_core.proofs.WorldsDoing.{at_found}
 use Rattle.cluster_machine.proofs.Closing.{length_shut}
 
@@ -97,10 +98,10 @@ module _ {S R : Type 0} (join : R → R → R) (s : Words R) where
       DoesSo join s old report w (at_message w f (numbered w.messages number) (numbered w.marks number))
   plays_missing old w number why h missing f report is = subst (DoesSo join s old report w) (sym (not_there w number why missing f)) (plays_refusal join s old w h report why is)
 
-  pub loses : (old : World S R) (w : Model R) (number : ℕ) (envelope : Envelope R) (post : Post R) (h : StandsFor join s old w) (found : IsFound number w.messages w.marks envelope) →
+  pub loses : (laws : Laws join s) (old : World S R) (w : Model R) (number : ℕ) (envelope : Envelope R) (post : Post R) (h : StandsFor join s old w) (found : IsFound number w.messages w.marks envelope) →
       IsPost s post w.messages (marked w.marks (Some (number, record { is_delivered = false; is_lost = true }))) → (report : Report R) → report ≡ told_report Empty [] →
       DoesSo join s (record old { post = post }) report w (does join s w (plainly (Lose number)))
-  loses old w number envelope post h found lost report is =
+  loses laws old w number envelope post h found lost report is =
       let mark : Mark = record { is_delivered = false; is_lost = true } in
       let e : Done R = record (nothing w) { marks = Some (number, mark) } in
       let same : does join s w (plainly (Lose number)) ≡ e = at_found join s old w number envelope h found (λ sent. e) in
@@ -116,7 +117,7 @@ module _ {S R : Type 0} (join : R → R → R) (s : Words R) where
           applied = same_applied join s old w h;
           requests = same_requests join s old w h;
           few = same_few join s old w h;
-          sound = subst (λ e. IsBareSound (applied w e)) same (sound_after join s w (Lose number) nothing_given (bare_sound h) tt tt);
+          whole = subst (λ e. IsWhole join s (applied w e)) same (whole_after join s laws w (Lose number) nothing_given (whole_of h) tt tt (ap (λ e. e.is_spelled) same));
         });
         tells = is_told report Empty [] e is refl refl refl refl refl;
         spelled = refl;
@@ -126,7 +127,7 @@ module _ {S R : Type 0} (join : R → R → R) (s : Words R) where
 
   -- nothing is sent, and these requests are shut and opened
   turned : (old : World S R) (w : Model R) (nodes : Nodes S R) (requests : List Request) (f : ℕ → Option (Node R Layout)) (closes : List ℕ) (opens : List Request) → StandsFor join s old w → AreNodes join s nodes (changed f w.nodes) →
-      requests ≡ shut w.requests closes ++ opens → length (shut w.requests closes ++ opens) < 2 ^ 64 → IsBareSound (applied w (record (nothing {A = Applied} {C = Cut} w) { nodes = f; closes = closes; opens = opens })) →
+      requests ≡ shut w.requests closes ++ opens → length (shut w.requests closes ++ opens) < 2 ^ 64 → IsWhole join s (applied w (record (nothing {A = Applied} {C = Cut} w) { nodes = f; closes = closes; opens = opens })) →
       StandsFor join s (record old { nodes = nodes; requests = requests }) (applied w (record (nothing {A = Applied} {C = Cut} w) { nodes = f; closes = closes; opens = opens }))
   turned old w nodes requests f closes opens h are now few sound = stands_of join s (record old { nodes = nodes; requests = requests }) _ (record {
     nodes = are;
@@ -138,12 +139,12 @@ module _ {S R : Type 0} (join : R → R → R) (s : Words R) where
     applied = same_applied join s old w h;
     requests = now;
     few = few;
-    sound = sound;
+    whole = sound;
   })
 
   -- requests are shut, and none is opened
   shuts : (old : World S R) (w : Model R) (nodes : Nodes S R) (requests : List Request) (n : ℕ) (x : Node R Layout) (closes : List ℕ) → StandsFor join s old w → AreNodes join s nodes (changed (only n x) w.nodes) →
-      requests ≡ shut old.requests closes → IsBareSound (applied w (record (nothing {A = Applied} {C = Cut} w) { nodes = only n x; closes = closes })) →
+      requests ≡ shut old.requests closes → IsWhole join s (applied w (record (nothing {A = Applied} {C = Cut} w) { nodes = only n x; closes = closes })) →
       StandsFor join s (record old { nodes = nodes; requests = requests }) (applied w (record (nothing {A = Applied} {C = Cut} w) { nodes = only n x; closes = closes }))
   shuts old w nodes requests n x closes h are now sound =
       let few : length (shut w.requests closes ++ []) < 2 ^ 64 = subst (λ k. k < 2 ^ 64) (sym (ap length (append-nil (shut w.requests closes)) ∙ length_shut w.requests closes)) h.fits.requests in
@@ -163,7 +164,7 @@ module _ {S R : Type 0} (join : R → R → R) (s : Words R) where
       pub closes_ended : not found.is_open ≡ true → (report : Report R) → report ≡ told_report Empty [] → DoesSo join s old report w (does join s w (plainly (Close number)))
       closes_ended over report told = subst (DoesSo join s old report w) (sym (ap (closing w number) (ended_there old w number h found is over))) (plays_nothing join s old w h report told)
 
-      module _ (nodes : Nodes S R) (requests : List Request) (open' : not found.is_open ≡ false) (becomes : BecomesAt join s old.nodes nodes found.coordinator (λ x. closed number x)) (now : requests ≡ shut old.requests (number ∷ [])) where
+      module _ (laws : Laws join s) (nodes : Nodes S R) (requests : List Request) (open' : not found.is_open ≡ false) (becomes : BecomesAt join s old.nodes nodes found.coordinator (λ x. closed number x)) (now : requests ≡ shut old.requests (number ∷ [])) where
         pub expires_open : (empty lines : List (Line Applied)) (report : Report R) → empty ≡ [] → lines ≡ empty ++ HasEnded number Expired ∷ [] → report ≡ told_report Empty lines →
             DoesSo join s (record old { nodes = nodes; requests = requests }) report w (does join s w (plainly (Expire number)))
         expires_open empty lines report none told is_report =
@@ -171,7 +172,7 @@ module _ {S R : Type 0} (join : R → R → R) (s : Words R) where
             let e : Done R = record (nothing w) { nodes = only found.coordinator x; closes = number ∷ []; tells = HasEnded number Expired ∷ [] } in
             let same : does join s w (plainly (Expire number)) ≡ e = ap (expires w number) (open_there old w number h found is open') in
             subst (DoesSo join s (record old { nodes = nodes; requests = requests }) report w) (sym same) (record {
-              stands = shuts old w nodes requests found.coordinator x (number ∷ []) h (becomes w.nodes h.nodes) now (subst (λ e. IsBareSound (applied w e)) same (sound_after join s w (Expire number) nothing_given (bare_sound h) tt tt));
+              stands = shuts old w nodes requests found.coordinator x (number ∷ []) h (becomes w.nodes h.nodes) now (subst (λ e. IsWhole join s (applied w e)) same (whole_after join s laws w (Expire number) nothing_given (whole_of h) tt tt (ap (λ e. e.is_spelled) same)));
               tells = is_told report Empty lines e is_report refl refl (told ∙ ap (λ ls. ls ++ HasEnded number Expired ∷ []) none) refl refl;
               spelled = refl;
             })
@@ -182,19 +183,19 @@ module _ {S R : Type 0} (join : R → R → R) (s : Words R) where
             let e : Done R = record (nothing w) { nodes = only found.coordinator x; closes = number ∷ [] } in
             let same : does join s w (plainly (Close number)) ≡ e = ap (closing w number) (open_there old w number h found is open') in
             subst (DoesSo join s (record old { nodes = nodes; requests = requests }) report w) (sym same) (record {
-              stands = shuts old w nodes requests found.coordinator x (number ∷ []) h (becomes w.nodes h.nodes) now (subst (λ e. IsBareSound (applied w e)) same (sound_after join s w (Close number) nothing_given (bare_sound h) tt tt));
+              stands = shuts old w nodes requests found.coordinator x (number ∷ []) h (becomes w.nodes h.nodes) now (subst (λ e. IsWhole join s (applied w e)) same (whole_after join s laws w (Close number) nothing_given (whole_of h) tt tt (ap (λ e. e.is_spelled) same)));
               tells = is_told report Empty [] e is_report refl refl refl refl refl;
               spelled = refl;
             })
 
   -- `a`, `b` and `d` are what the code calls lost
-  pub restarts_it : (old : World S R) (w : Model R) (n : ℕ) (nodes : Nodes S R) (requests : List Request) (lost a b d : List ℕ) (lines : List (Line Applied)) (bare : Report R) (h : StandsFor join s old w) → BecomesAt join s old.nodes nodes n (λ x. restarts x) →
-      lost ≡ reverse (requests_of (w.nodes n).calls) → a ≡ lost → b ≡ lost → d ≡ lost → requests ≡ shut old.requests a → lines ≡ map (λ q. HasEnded q Restarted) b → bare ≡ told_report Empty lines →
-      DoesSo join s (record old { nodes = nodes; requests = requests }) (record bare { lost = d }) w (does join s w (plainly (Restart n)))
-  restarts_it old w n nodes requests lost a b d lines bare h becomes are is_a is_b is_d now told is =
+  pub restarts_it : (laws : Laws join s) (old : World S R) (w : Model R) (n : ℕ) (nodes : Nodes S R) (requests : List Request) (lost a b d : List ℕ) (lines : List (Line Applied)) (plain : Report R) (h : StandsFor join s old w) → BecomesAt join s old.nodes nodes n (λ x. restarts x) →
+      lost ≡ reverse (requests_of (w.nodes n).calls) → a ≡ lost → b ≡ lost → d ≡ lost → requests ≡ shut old.requests a → lines ≡ map (λ q. HasEnded q Restarted) b → plain ≡ told_report Empty lines →
+      DoesSo join s (record old { nodes = nodes; requests = requests }) (record plain { lost = d }) w (does join s w (plainly (Restart n)))
+  restarts_it laws old w n nodes requests lost a b d lines plain h becomes are is_a is_b is_d now told is =
       let all = reverse (requests_of (w.nodes n).calls) in
       record {
-        stands = shuts old w nodes requests n (restarts (w.nodes n)) all h (becomes w.nodes h.nodes) (now ∙ ap (shut old.requests) (is_a ∙ are)) (sound_after join s w (Restart n) nothing_given (bare_sound h) tt tt);
+        stands = shuts old w nodes requests n (restarts (w.nodes n)) all h (becomes w.nodes h.nodes) (now ∙ ap (shut old.requests) (is_a ∙ are)) (whole_after join s laws w (Restart n) nothing_given (whole_of h) tt tt refl);
         tells = subst (λ r. Tells (record r { lost = d }) (restarted w n)) (sym is) (record { refused = refl; words = refl; lines = told ∙ ap (map (λ q. HasEnded q Restarted)) (is_b ∙ are); ends = refl; lost = is_d ∙ are });
         spelled = refl;
       }
@@ -217,11 +218,11 @@ module _ {S R : Type 0} (join : R → R → R) (s : Words R) where
     begun_there nodes number true is opens = opens.1
     begun_there nodes number false is opens = let other = opens.0 in cc
 
-    pub opens_it : (nodes : Nodes S R) (requests : List Request) (number : ℕ) (b : Bool) (empty : List (Line Applied)) (report : Report R) → member ≡ true →
+    pub opens_it : (laws : Laws join s) (nodes : Nodes S R) (requests : List Request) (number : ℕ) (b : Bool) (empty : List (Line Applied)) (report : Report R) → member ≡ true →
         ((xs : ℕ → Node R Layout) → AreNodes join s old.nodes xs → All (λ c. c.request < number) (xs n).calls → Opens join s nodes n number xs b) →
         number ≡ suc (length old.requests) → number < 2 ^ 64 → requests ≡ old.requests ++ record { coordinator = n; is_open = true } ∷ [] → empty ≡ [] → report ≡ told_report (One number) empty →
         DoesSo join s (record old { nodes = nodes; requests = requests }) report w (does join s w (plainly (Open n)))
-    opens_it nodes requests number b empty report one_is opens next small now none told =
+    opens_it laws nodes requests number b empty report one_is opens next small now none told =
         let member_there : is_member layouts (w.nodes n).view n ≡ true = sym is_so ∙ one_is in
         let q = suc (length w.requests) in
         let is_q : number ≡ q = next ∙ ap (λ rs. suc (length rs)) h.requests in
@@ -233,7 +234,7 @@ module _ {S R : Type 0} (join : R → R → R) (s : Words R) where
         subst (λ k. AreNodes join s nodes (changed (only n (opened k (newest reading (w.nodes n).view) (w.nodes n))) w.nodes)) is_q (begun_there nodes number b member_there (opens w.nodes h.nodes below)) in
         let few : length (w.requests ++ one) < 2 ^ 64 = omega (arith, length-append w.requests one, is_q, small) in
         subst (DoesSo join s (record old { nodes = nodes; requests = requests }) report w) (sym same) (record {
-          stands = turned old w nodes requests (only n x) [] one h are (now ∙ ap (λ rs. rs ++ one) h.requests) few (subst (λ e. IsBareSound (applied w e)) same (sound_after join s w (Open n) nothing_given (bare_sound h) tt tt));
+          stands = turned old w nodes requests (only n x) [] one h are (now ∙ ap (λ rs. rs ++ one) h.requests) few (subst (λ e. IsWhole join s (applied w e)) same (whole_after join s laws w (Open n) nothing_given (whole_of h) tt tt (ap (λ e. e.is_spelled) same)));
           tells = is_told report (One number) empty opens_now told refl (ap One is_q) none refl refl;
           spelled = refl;
         })

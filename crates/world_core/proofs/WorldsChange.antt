@@ -5,6 +5,7 @@ use Rattle.layout_roles.specs.declared.roles.Roles.{Roles}
 use Rattle.layout_roles.specs.declared.role.Zone.{Zone}
 use Rattle.layout_roles.specs.declared.role.Kind.{Kind}
 use Rattle.layout_roles.specs.Certificates.{IsRedundancy}
+use Rattle.table_schema.specs.Laws.{Laws}
 use Rattle.table_schema.specs.Words.{Words}
 use Rattle.cluster_machine.specs.declared.step.Step.TheVariants.{Role as Stage, Redundancy as Spread, Tick, Skew}
 use Rattle.cluster_machine.specs.declared.step.Words.TheVariants.{Empty}
@@ -14,9 +15,9 @@ use Rattle.world_core.specs.declared.world.World.{World}
 use Rattle.world_core.specs.declared.clocks.Clocks.{Clocks}
 use Rattle.world_core.specs.Parts.{AreClocks, NoneLate}
 use Rattle.world_core.specs.Stands.{Plays, Exceeds, nothing_given}
-use Rattle.world_core.proofs.WorldsStand.{stands_of, sound_after, same_post, same_clocks, same_applied, same_requests, same_few, told_report, is_told, bare_sound}
+use Rattle.world_core.proofs.WorldsStand.{stands_of, whole_after, same_post, same_clocks, same_applied, same_requests, same_few, told_report, is_told, whole_of}
 
-module _ {S R : Type 0} (join : R → R → R) (s : Words R) (c : World S R) (report : Report R) (is : report ≡ told_report Empty []) where
+module _ {S R : Type 0} (join : R → R → R) (s : Words R) (laws : Laws join s) (c : World S R) (report : Report R) (is : report ≡ told_report Empty []) where
   pub staged_plays : (node : ℕ) (role : Option (Zone × Kind)) (roles : Roles) → (1 ≤ node) × (node ≤ 64) → roles.list ≡ staged node role c.roles.list → Plays join s c (record c { roles = roles }) report (Stage node role)
   staged_plays node role roles numbered new w h = record {
     stands = stands_of join s (record c { roles = roles }) _ (record {
@@ -29,7 +30,7 @@ module _ {S R : Type 0} (join : R → R → R) (s : Words R) (c : World S R) (re
       applied = same_applied join s c w h;
       requests = same_requests join s c w h;
       few = same_few join s c w h;
-      sound = sound_after join s w (Stage node role) nothing_given (bare_sound h) tt tt;
+      whole = whole_after join s laws w (Stage node role) nothing_given (whole_of h) tt tt refl;
     });
     tells = is_told report Empty [] _ is refl refl refl refl refl;
     spelled = refl;
@@ -47,7 +48,7 @@ module _ {S R : Type 0} (join : R → R → R) (s : Words R) (c : World S R) (re
       applied = same_applied join s c w h;
       requests = same_requests join s c w h;
       few = same_few join s c w h;
-      sound = sound_after join s w (Spread wanted) nothing_given (bare_sound h) tt tt;
+      whole = whole_after join s laws w (Spread wanted) nothing_given (whole_of h) tt tt refl;
     });
     tells = is_told report Empty [] _ is refl refl refl refl refl;
     spelled = refl;
@@ -65,7 +66,7 @@ module _ {S R : Type 0} (join : R → R → R) (s : Words R) (c : World S R) (re
       applied = same_applied join s c w h;
       requests = same_requests join s c w h;
       few = same_few join s c w h;
-      sound = sound_after join s w (Tick ms) nothing_given (bare_sound h) tt tt;
+      whole = whole_after join s laws w (Tick ms) nothing_given (whole_of h) tt tt refl;
     });
     tells = is_told report Empty [] _ is refl refl refl refl refl;
     spelled = refl;
@@ -84,7 +85,7 @@ module _ {S R : Type 0} (join : R → R → R) (s : Words R) (c : World S R) (re
       applied = same_applied join s c w h;
       requests = same_requests join s c w h;
       few = same_few join s c w h;
-      sound = sound_after join s w (Skew node ms) nothing_given (bare_sound h) tt tt;
+      whole = whole_after join s laws w (Skew node ms) nothing_given (whole_of h) tt tt refl;
     });
     tells = is_told report Empty [] _ is refl refl refl refl refl;
     spelled = refl;

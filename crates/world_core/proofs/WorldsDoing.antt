@@ -1,5 +1,5 @@
 -- What a node does in a step of the world, and what is lacking where it can't.
-use Rattle.std.proofs.Common.{◌≡◌, ◌==◌, ℕ, zero, suc, true, false, cond, Option, Some, None, List, [], ◌∷◌, ◌++◌, map, refl, sym, subst, ap, ◌∙◌, arith}
+use Rattle.std.proofs.Common.{◌≡◌, ◌==◌, ℕ, zero, suc, true, false, cond, IsTrue, Option, Some, None, List, [], ◌∷◌, ◌++◌, map, refl, sym, subst, ap, ◌∙◌, arith}
 use Rattle.std.specs.Prelude.{slice_get}
 use Rattle.std.specs.List.{AllByRecursion}
 use Rattle.std.proofs.lemmas.Bool.{le-leb}
@@ -7,9 +7,8 @@ use Rattle.layout_roles.specs.declared.layout.Layout.{Layout}
 use Rattle.layout_trackers.specs.declared.which.Which.TheVariants.{Sync}
 use Rattle.layout_trackers.specs.Trackers.{counts}
 use Rattle.layout_roles.specs.declared.cut.Cut.{Cut}
+use Rattle.table_schema.specs.Laws.{Laws}
 use Rattle.table_schema.specs.Words.{Words}
-use Rattle.wire_messages.specs.declared.message.Message.{Message}
-use Rattle.wire_messages.specs.declared.message.Message.TheVariants.{Store}
 use Rattle.wire_messages.specs.declared.phase.Phase.{Phase}
 use Rattle.wire_messages.specs.declared.phase.PhaseEnd.{PhaseEnd}
 use Rattle.cluster_machine.specs.declared.line.Line.{Line}
@@ -26,20 +25,18 @@ use Rattle.cluster_machine.specs.Receives.{receives}
 use Rattle.cluster_machine.specs.Acts.{acts}
 use Rattle.cluster_machine.specs.World.{Sent, clock, numbered}
 use Rattle.cluster_machine.specs.Step.{told as says, nothing, refusal, did, received, at_message, begun, beginning, sync_line, marked, applied}
-use Rattle.cluster_machine.specs.Bare as machine
-use Rattle.cluster_machine.specs.Bare.{IsBarePhase}
+use Rattle.blake2_hash.specs.Blake2b.{blake2b}
+use Rattle.cluster_machine.specs.Blocks.{BringsBlocks, PacketCarriesBlocks, SentWithBlocks}
 use Rattle.node_parts.specs.declared.packet.Packet.{Packet}
-use Rattle.node_parts.specs.declared.packet.Packet.TheVariants.{Msg, View}
 use Rattle.node_parts.specs.declared.packet.Envelope.{Envelope}
 use Rattle.cluster_machine.specs.Layouts.{layouts}
 use Rattle.node_parts.specs.Posts.{told}
-use Rattle.node_core.specs.Stands.{IsBare, IsBarePacket, begins_at, ends_of}
+use Rattle.node_core.specs.Stands.{begins_at, ends_of}
 use Rattle.cluster_machine.specs.declared.applied.Applied.{Applied}
 use Rattle.cluster_machine.specs.Trio.{trio, stage_trio}
 use Rattle.cluster_machine.specs.Worlds.{Model, Done, RoomWith, does}
 use Rattle.world_laws.proofs.Additions.{fine_stays_sound}
 use Rattle.world_laws.proofs.Doings.{fine_did, fine_acted}
-use Rattle.world_laws.proofs.Bareness.{bare_after, bare_acted}
 use Rattle.world_core.specs.declared.nodes.Nodes.{Nodes}
 use Rattle.world_core.specs.declared.post.Post.{Post}
 use Rattle.world_core.specs.declared.report.Report.{Report}
@@ -48,7 +45,8 @@ use Rattle.world_core.specs.Parts.{IsPost, IsFound}
 use Rattle.world_core.specs.Nodes.{AreNodes, DidAt, DoesAt, ActsAt, OverflowsAt, with_node}
 use Rattle.world_core.specs.Stands.{StandsFor, Tells, DoesSo, SendsOut, CannotSend, acts_so, plainly, nothing_given, ended}
 use Rattle.world_core.proofs.NodesAt.{same_at}
-use Rattle.world_core.proofs.WorldsStand.{told_report, is_told, sound_after, IsBareSound, bare_sound}
+use Rattle.world_core.proofs.WorldsStand.{told_report, is_told, whole_after, IsWhole, whole_of}
+use Rattle.world_core.proofs.Stocked.{acts_stocked}
 use Rattle.world_core.proofs.WorldsSending.{Acted, acted_stands, acted_lines, acted_spelled, at_itself, node_full, post_full, after}
 
 all_at : {A : Type 0} (P : A → Type 0) (xs : List A) (i : ℕ) (x : A) → AllByRecursion P xs → slice_get xs i ≡ Some x → P x
@@ -61,14 +59,6 @@ all_numbered P xs zero x h e = cc
 all_numbered P xs (suc n) x h e = all_at P xs n x h e
 
 module _ {R : Type 0} where
-  bare_message : (m : Message R) → machine.IsBareMessage m → IsBare m
-  bare_message (Store tag newest p rows) h = h
-  bare_message _ h = tt
-
-  bare_packet : (p : Packet R) → machine.IsBarePacket (told p) → IsBarePacket p
-  bare_packet (Msg m) h = bare_message m h
-  bare_packet (View v) h = tt
-
   -- a node in its own place
   still : (n : ℕ) (xs : ℕ → Node R Layout) → with_node n (xs n) xs ≡ xs
   still n xs = λ i m. same_at n m xs (m == n) refl i
@@ -79,8 +69,8 @@ module _ {R : Type 0} where
 module _ {S R : Type 0} (join : R → R → R) (s : Words R) where
   -- a node did d in a step, which is told with these words
   did_so : {old new : World S R} {w : Model R} {nodes : Nodes S R} {n before : ℕ} {out : List (Envelope R)} {d : Did R Layout} {all : List (Line Applied)} → Acted join s old new w nodes old.post n before out None d w.marks [] all →
-      (words : Told) (report : Report R) → IsBareSound (after w n d w.marks) → report ≡ told_report words all → DoesSo join s new report w (record (did w n d) { words = words })
-  did_so h words report sound is = record { stands = acted_stands join s h sound; tells = is_told report words _ _ is refl refl (acted_lines join s h) h.did.ends refl; spelled = acted_spelled join s h }
+      (words : Told) (report : Report R) → IsWhole join s (after w n d w.marks) → report ≡ told_report words all → DoesSo join s new report w (record (did w n d) { words = words })
+  did_so h words report whole is = record { stands = acted_stands join s h whole; tells = is_told report words _ _ is refl refl (acted_lines join s h) h.did.ends refl; spelled = acted_spelled join s h }
 
   -- ---- an action
 
@@ -99,16 +89,16 @@ module _ {S R : Type 0} (join : R → R → R) (s : Words R) where
       pub action_sent_full : CannotSend s (record old { nodes = nodes }) out → RoomWith join s w (acts_so join s n action w) → ⊥
       action_sent_full cannot = post_full join s (record old { nodes = nodes }) w (acts_so join s n action w) n out _ w.marks h.post done.0.posts cannot refl
 
-      pub action_does : (new : World S R) (before : ℕ) (first all : List (Line Applied)) (words : Told) (report : Report R) → before ≡ counts 0 Sync (w.nodes n).view.trackers n → first ≡ [] →
+      pub action_does : (laws : Laws join s) (new : World S R) (before : ℕ) (first all : List (Line Applied)) (words : Told) (report : Report R) → before ≡ counts 0 Sync (w.nodes n).view.trackers n → first ≡ [] →
           SendsOut join s (record old { nodes = nodes }) new n before out first all → words ≡ says how → report ≡ told_report words all → DoesSo join s new report w (acts_so join s n action w)
-      action_does new before first all words report synced no_lines sends are is =
+      action_does laws new before first all words report synced no_lines sends are is =
           let a = acts join s layouts n (clock w n) (w.nodes n) action in
           let it : Acted join s old new w nodes old.post n before out None a.did w.marks [] all =
           record { stands = h; marked = h.post; did = done.0; synced = synced; sends = subst (λ ls. SendsOut join s (record old { nodes = nodes }) new n before out ls all) no_lines sends } in
           let e = acts_so join s n action w in
           did_so it (says a.how) report (record {
             sound = fine_stays_sound w e h.sound (fine_did w e n a.did h.sound (λ m. refl) refl (fine_acted w h.sound join s n (clock w n) action));
-            bare = bare_after w e h.bare (bare_acted w h.bare join s e n action (λ m. refl) refl);
+            stocked = acts_stocked join s laws w h.stocked n action (acted_spelled join s it);
           })
           (is ∙ ap (λ ws. told_report ws all) (are ∙ ap says done.1))
 
@@ -129,12 +119,12 @@ module _ {S R : Type 0} (join : R → R → R) (s : Words R) where
     pub gossip_full : CannotSend s old out → RoomWith join s w (does join s w (plainly (Gossip from to))) → ⊥
     gossip_full cannot = post_full join s old w (does join s w (plainly (Gossip from to))) from out shows_it.posts w.marks h.post view_shown.posts cannot refl
 
-    pub gossip_does : (new : World S R) (before : ℕ) (first all : List (Line Applied)) (report : Report R) → before ≡ counts 0 Sync (w.nodes from).view.trackers from → first ≡ [] →
+    pub gossip_does : (laws : Laws join s) (new : World S R) (before : ℕ) (first all : List (Line Applied)) (report : Report R) → before ≡ counts 0 Sync (w.nodes from).view.trackers from → first ≡ [] →
         SendsOut join s old new from before out first all → report ≡ told_report Empty all → DoesSo join s new report w (does join s w (plainly (Gossip from to)))
-    gossip_does new before first all report synced no_lines sends is =
+    gossip_does laws new before first all report synced no_lines sends is =
         let it : Acted join s old new w old.nodes old.post from before out None shows_it w.marks [] all =
         record { stands = h; marked = h.post; did = view_shown; synced = synced; sends = subst (λ ls. SendsOut join s old new from before out ls all) no_lines sends } in
-        did_so it Empty report (sound_after join s w (Gossip from to) nothing_given (bare_sound h) tt tt) is
+        did_so it Empty report (whole_after join s laws w (Gossip from to) nothing_given (whole_of h) tt tt refl) is
 
   -- ---- a phase
 
@@ -152,23 +142,23 @@ module _ {S R : Type 0} (join : R → R → R) (s : Words R) where
       begun_sent_full (Some c) did cannot = post_full join s (record old { nodes = nodes }) w (begun_now (Some c)) n out _ w.marks h.post did.posts cannot refl
 
       begun_does : (new : World S R) (before : ℕ) (all : List (Line Applied)) (report : Report R) (o : Option (Call R)) → DidAt join s nodes n w.nodes [] out None (begins_at s w.kept (w.nodes n) phase o) →
-          before ≡ counts 0 Sync (w.nodes n).view.trackers n → SendsOut join s (record old { nodes = nodes }) new n before out [] all → report ≡ told_report Empty all → IsBareSound (applied w (begun_now o)) →
+          before ≡ counts 0 Sync (w.nodes n).view.trackers n → SendsOut join s (record old { nodes = nodes }) new n before out [] all → report ≡ told_report Empty all → (IsTrue (begun_now o).is_spelled → IsWhole join s (applied w (begun_now o))) →
           DoesSo join s new report w (begun_now o)
-      begun_does new before all report None done synced sends is sound =
+      begun_does new before all report None done synced sends is whole =
           let x = w.nodes n in
           let it : Acted join s old new w nodes old.post n before out None (quiet x) w.marks [] all = record { stands = h; marked = h.post; did = done; synced = synced; sends = sends } in
           let same : applied {A = Applied} {C = Cut} w (did w n (quiet x)) ≡ applied {A = Applied} {C = Cut} w (nothing w) = (λ i. record (applied {A = Applied} {C = Cut} w (nothing w)) { nodes = still n w.nodes i }) in
           record {
-            stands = subst (StandsFor join s new) same (acted_stands join s it (subst IsBareSound (sym same) sound));
+            stands = subst (StandsFor join s new) same (acted_stands join s it (subst (IsWhole join s) (sym same) (whole refl)));
             tells = is_told report Empty all (nothing w) is refl refl (acted_lines join s it ∙ no_sync n x) refl refl;
             spelled = refl;
           }
-      begun_does new before all report (Some c) done synced sends is sound =
+      begun_does new before all report (Some c) done synced sends is whole =
           let it : Acted join s old new w nodes old.post n before out None _ w.marks [] all = record { stands = h; marked = h.post; did = done; synced = synced; sends = sends } in
-          did_so it Empty report sound is
+          did_so it Empty report (whole (acted_spelled join s it)) is
 
   -- a phase of an open request begins
-  module _ (old : World S R) (w : Model R) (number n : ℕ) (phase : Phase R) (bare : IsBarePhase phase) (h : StandsFor join s old w) (found : numbered w.requests number ≡ Some (record { coordinator = n; is_open = true })) where
+  module _ (old : World S R) (w : Model R) (number n : ℕ) (phase : Phase R) (h : StandsFor join s old w) (found : numbered w.requests number ≡ Some (record { coordinator = n; is_open = true })) where
     abbrev call : Option (Call R)
     call = call_at (w.nodes n).calls number
 
@@ -185,12 +175,12 @@ module _ {S R : Type 0} (join : R → R → R) (s : Words R) where
       pub phase_sent_full : CannotSend s (record old { nodes = nodes }) out → RoomWith join s w (does join s w (plainly (Begin number phase))) → ⊥
       phase_sent_full cannot room = begun_sent_full old w n phase h nodes out call phase_done cannot (subst (RoomWith join s w) begun_is room)
 
-      pub phase_does : (new : World S R) (before : ℕ) (first all : List (Line Applied)) (report : Report R) → before ≡ counts 0 Sync (w.nodes n).view.trackers n → first ≡ [] →
+      pub phase_does : (laws : Laws join s) (brings : BringsBlocks (blake2b 32) s phase) (new : World S R) (before : ℕ) (first all : List (Line Applied)) (report : Report R) → before ≡ counts 0 Sync (w.nodes n).view.trackers n → first ≡ [] →
           SendsOut join s (record old { nodes = nodes }) new n before out first all → report ≡ told_report Empty all → DoesSo join s new report w (does join s w (plainly (Begin number phase)))
-      phase_does new before first all report synced no_lines sends is =
+      phase_does laws brings new before first all report synced no_lines sends is =
           subst (DoesSo join s new report w) (sym begun_is)
           (begun_does old w n phase h nodes out new before all report call phase_done synced (subst (λ ls. SendsOut join s (record old { nodes = nodes }) new n before out ls all) no_lines sends) is
-          (subst (λ e. IsBareSound (applied w e)) begun_is (sound_after join s w (Begin number phase) nothing_given (bare_sound h) bare tt)))
+          (λ spelled. subst (λ e. IsWhole join s (applied w e)) begun_is (whole_after join s laws w (Begin number phase) nothing_given (whole_of h) brings tt (subst (λ e. IsTrue e.is_spelled) (sym begun_is) spelled))))
 
   -- ---- a message that comes
 
@@ -201,8 +191,9 @@ module _ {S R : Type 0} (join : R → R → R) (s : Words R) where
     is_message : numbered w.messages number ≡ Some message
     is_message = found.is_there ∙ ap Some (λ i. record { from = sym found.is.from i; to = sym found.is.to i; packet = sym found.is.packet i; moment = found.message.moment })
 
-    pub bare_found : IsBarePacket envelope.packet
-    bare_found = bare_packet envelope.packet (all_numbered (λ (m : Sent R Layout). machine.IsBarePacket m.packet) w.messages number message h.bare.messages is_message)
+    -- its rows come with their blocks
+    pub stocked_found : PacketCarriesBlocks (blake2b 32) s (told envelope.packet)
+    stocked_found = all_numbered (SentWithBlocks (blake2b 32) s) w.messages number message h.stocked.messages is_message
 
     -- a message that wasn't lost is there
     pub at_found : (f : Sent R Layout → Done R) → at_message w f (numbered w.messages number) (numbered w.marks number) ≡ f message
@@ -233,10 +224,10 @@ module _ {S R : Type 0} (join : R → R → R) (s : Words R) where
         pub came_sent_full : CannotSend s (record old { nodes = nodes; post = post }) out → RoomWith join s w (does join s w (plainly (Deliver number))) → ⊥
         came_sent_full cannot room = post_full join s (record old { nodes = nodes; post = post }) w came envelope.to out _ _ delivered received_it.posts cannot refl (subst (RoomWith join s w) came_is room)
 
-        pub came_does : (new : World S R) (before : ℕ) (empty first all : List (Line Applied)) (ends : List (ℕ × PhaseEnd R)) (bare : Report R) → before ≡ counts 0 Sync (w.nodes envelope.to).view.trackers envelope.to →
+        pub came_does : (laws : Laws join s) (new : World S R) (before : ℕ) (empty first all : List (Line Applied)) (ends : List (ℕ × PhaseEnd R)) (plain : Report R) → before ≡ counts 0 Sync (w.nodes envelope.to).view.trackers envelope.to →
             empty ≡ [] → first ≡ empty ++ Got number ∷ [] → SendsOut join s (record old { nodes = nodes; post = post }) new envelope.to before out first all → map ended ends ≡ ends_of given →
-            bare ≡ told_report Empty all → DoesSo join s new (record bare { ends = ends }) w (does join s w (plainly (Deliver number)))
-        came_does new before empty first all ends bare synced no_lines got sends ended_so is =
+            plain ≡ told_report Empty all → DoesSo join s new (record plain { ends = ends }) w (does join s w (plainly (Deliver number)))
+        came_does laws new before empty first all ends plain synced no_lines got sends ended_so is =
             let d = it_does (clock w envelope.to) (w.nodes envelope.to) in
             let it : Acted join s old new w nodes post envelope.to before out given d (marked w.marks (Some (number, record { is_delivered = true; is_lost = false }))) (Got number ∷ []) all =
             record {
@@ -246,8 +237,8 @@ module _ {S R : Type 0} (join : R → R → R) (s : Words R) where
               synced = synced;
               sends = subst (λ ls. SendsOut join s (record old { nodes = nodes; post = post }) new envelope.to before out ls all) (got ∙ ap (λ ls. ls ++ Got number ∷ []) no_lines) sends;
             } in
-            subst (DoesSo join s new (record bare { ends = ends }) w) (sym came_is) (record {
-              stands = acted_stands join s it (subst (λ e. IsBareSound (applied w e)) came_is (sound_after join s w (Deliver number) nothing_given (bare_sound h) tt tt));
+            subst (DoesSo join s new (record plain { ends = ends }) w) (sym came_is) (record {
+              stands = acted_stands join s it (subst (λ e. IsWhole join s (applied w e)) came_is (whole_after join s laws w (Deliver number) nothing_given (whole_of h) tt tt (subst (λ e. IsTrue e.is_spelled) (sym came_is) (acted_spelled join s it))));
               tells = subst (λ r. Tells (record r { ends = ends }) came) (sym is) (record { refused = refl; words = refl; lines = acted_lines join s it; ends = ended_so ∙ sym received_it.ends; lost = refl });
               spelled = acted_spelled join s it;
             })

@@ -32,13 +32,13 @@ use Rattle.cluster_machine.specs.Choices.{IsFirst}
 use Rattle.cluster_machine.specs.Worlds.{Model, installed}
 use Rattle.world_laws.proofs.Additions.{fine_stays_sound}
 use Rattle.world_laws.proofs.Steps.{fine_first}
-use Rattle.world_laws.proofs.Bareness.{bare_after, bare_first}
 use Rattle.world_core.specs.declared.first.Prepared.{Prepared}
 use Rattle.world_core.specs.declared.nodes.Nodes.{Nodes}
 use Rattle.world_core.specs.declared.world.World.{World}
 use Rattle.world_core.specs.Nodes.{newest_of, newest_in, IsNodeAt, AreNodes, BecomesAt, StayThere, KnowNone, IsPrepared, given_to, with_node}
 use Rattle.world_core.specs.Stands.{StandsFor}
 use Rattle.world_core.proofs.NodesAt.{stands_at}
+use Rattle.world_core.proofs.Stocked.{first_stocked}
 use Rattle.world_core.proofs.WorldsStand.{stands_of, same_post, same_clocks, same_requests, same_few}
 
 pub nat_eq_flips : (m n : ℕ) → (m == n) ≡ (n == m)
@@ -173,9 +173,9 @@ module _ {S R : Type 0} (join : R → R → R) (s : Words R) where
     applied = omega arith;
     requests = same_requests join s c w h;
     few = same_few join s c w h;
-    sound = record {
+    whole = record {
       sound = fine_stays_sound w _ h.sound (fine_first w h.sound join s first stage is (omega arith));
-      bare = bare_after w _ h.bare (bare_first w h.bare join s first stage);
+      stocked = first_stocked join s w h.stocked first stage;
     };
   })
 
@@ -196,7 +196,7 @@ module _ {S R : Type 0} (join : R → R → R) (s : Words R) where
     requests = h.requests;
     fits = h.fits;
     sound = h.sound;
-    bare = h.bare;
+    stocked = h.stocked;
   }
 
 -- a set of nodes that keep copies needs roles

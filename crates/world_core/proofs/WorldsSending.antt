@@ -26,7 +26,7 @@ use Rattle.world_core.specs.declared.world.World.{World}
 use Rattle.world_core.specs.Parts.{IsPost, AreSent, not_yet, lines_from}
 use Rattle.world_core.specs.Nodes.{DidAt, OverflowsAt}
 use Rattle.world_core.specs.Stands.{StandsFor, SendsOut, CannotSend}
-use Rattle.world_core.proofs.WorldsStand.{stands_of, same_clocks, same_applied, same_requests, same_few, IsBareSound}
+use Rattle.world_core.proofs.WorldsStand.{stands_of, same_clocks, same_applied, same_requests, same_few, IsWhole}
 
 both_there : (a b : Option ℕ) (n : ℕ) → plus a b ≡ Some n → IsSome a × ((m : ℕ) × (b ≡ Some m))
 both_there None b n e = cc
@@ -110,8 +110,8 @@ module _ {S R : Type 0} (join : R → R → R) (s : Words R) where
         let before = h.synced i in
         let counted = counts 0 Sync (at_itself n d.node w.nodes i).view.trackers n in first ++ (lines_sent (suc (length w.messages)) out (sent_by w n d.posts) they_are i ++ cond (leb counted before) [] (Synced n counted ∷ [])))
 
-    pub acted_stands : IsBareSound (after w n d marks) → StandsFor join s new (after w n d marks)
-    acted_stands sound =
+    pub acted_stands : IsWhole join s (after w n d marks) → StandsFor join s new (after w n d marks)
+    acted_stands whole =
         let is = h.stands in
         subst (λ c. StandsFor join s c (after w n d marks)) (sym h.sends.rest) (stands_of join s (record old { nodes = nodes; post = new.post }) (after w n d marks) (record {
           nodes = h.did.nodes;
@@ -123,7 +123,7 @@ module _ {S R : Type 0} (join : R → R → R) (s : Words R) where
           applied = same_applied join s old w is;
           requests = same_requests join s old w is;
           few = same_few join s old w is;
-          sound = sound;
+          whole = whole;
         }))
 
   -- ---- room

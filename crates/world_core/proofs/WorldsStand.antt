@@ -1,7 +1,11 @@
 -- A world of the code stands for one of the machine where its parts do.
-use Rattle.std.proofs.Common.{◌≡◌, ◌<◌, ◌+◌, ◌^◌, Some, None, List, [], ◌++◌, length, refl, sym, subst, ◌∙◌, append-nil, add-zero}
+use Rattle.std.proofs.Common.{◌≡◌, ◌<◌, ◌+◌, ◌^◌, IsTrue, Some, None, List, [], ◌++◌, length, refl, sym, subst, ◌∙◌, append-nil, add-zero}
 use Rattle.layout_roles.specs.declared.cut.Cut.{Cut}
 use Rattle.layout_roles.specs.Certificates.{IsRedundancy}
+use Rattle.blake2_hash.specs.Blake2b.{blake2b}
+use Rattle.block_laws.proofs.Steps.{next_world}
+use Rattle.cluster_machine.specs.Layouts.{layouts}
+use Rattle.table_schema.specs.Laws.{Laws}
 use Rattle.table_schema.specs.Words.{Words}
 use Rattle.cluster_machine.specs.declared.step.Step.{Step}
 use Rattle.cluster_machine.specs.declared.step.Words.{Words as Told}
@@ -13,12 +17,11 @@ use Rattle.cluster_machine.specs.declared.applied.Applied.{Applied}
 use Rattle.cluster_machine.specs.Choices.{Decision}
 use Rattle.cluster_machine.specs.Fits.{IsWord}
 use Rattle.cluster_machine.specs.Trio.{trio, stage_trio}
-use Rattle.cluster_machine.specs.Bare.{IsBareStep, IsBareWorld}
+use Rattle.cluster_machine.specs.Blocks.{StepBringsBlocks, AllStocked}
 use Rattle.cluster_machine.specs.Worlds.{Model, Done, IsSound, IsLawfulStep, does}
 use Rattle.world_laws.proofs.Additions.{fine_stays_sound}
 use Rattle.world_laws.proofs.TrioGreatest.{trio_is_first}
 use Rattle.world_laws.proofs.Steps.{fine_step}
-use Rattle.world_laws.proofs.Bareness.{bare_after, bare_step}
 use Rattle.world_core.specs.declared.report.Report.{Report}
 use Rattle.world_core.specs.declared.world.World.{World}
 use Rattle.world_core.specs.Parts.{AreClocks, IsPost}
@@ -38,19 +41,20 @@ module _ {R : Type 0} where
   is_told report words lines e is refused word line ends lost =
       subst (λ r. Tells r e) (sym is) (record { refused = sym refused; words = word; lines = line; ends = sym ends; lost = sym lost })
 
-  -- a world that is sound, and has no blocks
-  pub record IsBareSound (w : Model R) : Type 0 where
+  -- a world that is sound, and has the blocks of the rows in its nodes and messages
+  pub record IsWhole (join : R → R → R) (s : Words R) (w : Model R) : Type 0 where
     pub sound : IsSound w
-    pub bare : IsBareWorld w
+    pub stocked : AllStocked (blake2b 32) s join w
 
-  -- a lawful step that stores no blocks keeps the world so
-  pub sound_after : (join : R → R → R) (s : Words R) (w : Model R) (step : Step R) (choice : Decision) → IsBareSound w → IsBareStep step → IsLawfulStep w step choice → IsBareSound (applied w (does join s w (record { step = step; choice = choice })))
-  sound_after join s w step choice h bare lawful = record {
+  -- a lawful step whose phase brings its blocks keeps the world so
+  pub whole_after : (join : R → R → R) (s : Words R) (laws : Laws join s) (w : Model R) (step : Step R) (choice : Decision) → IsWhole join s w → StepBringsBlocks (blake2b 32) s step → IsLawfulStep w step choice →
+      IsTrue (does join s w (record { step = step; choice = choice })).is_spelled → IsWhole join s (applied w (does join s w (record { step = step; choice = choice })))
+  whole_after join s laws w step choice h brings lawful spelled = record {
     sound = fine_stays_sound w _ h.sound (fine_step w h.sound join s trio stage_trio trio_is_first step choice lawful);
-    bare = bare_after w _ h.bare (bare_step w h.bare join s trio stage_trio step choice bare);
+    stocked = next_world (blake2b 32) laws layouts trio stage_trio w (record { step = step; choice = choice }) h.stocked brings spelled;
   }
 
--- all parts stand for those of the world, which is sound and has no blocks; the numbers fit, as the parts and the count of requests say
+-- all parts stand for those of the world, which is whole; the numbers fit, as the parts and the count of requests say
 pub record PartsStand {S R : Type 0} (join : R → R → R) (s : Words R) (c : World S R) (w : Model R) : Type 0 where
   pub nodes : AreNodes join s c.nodes w.nodes
   pub post : IsPost s c.post w.messages w.marks
@@ -61,10 +65,10 @@ pub record PartsStand {S R : Type 0} (join : R → R → R) (s : Words R) (c : W
   pub applied : c.applied ≡ w.applied
   pub requests : c.requests ≡ w.requests
   pub few : length w.requests < 2 ^ 64
-  pub sound : IsBareSound w
+  pub whole : IsWhole join s w
 
-pub bare_sound : {S R : Type 0} {join : R → R → R} {s : Words R} {c : World S R} {w : Model R} → StandsFor join s c w → IsBareSound w
-bare_sound h = record { sound = h.sound; bare = h.bare }
+pub whole_of : {S R : Type 0} {join : R → R → R} {s : Words R} {c : World S R} {w : Model R} → StandsFor join s c w → IsWhole join s w
+whole_of h = record { sound = h.sound; stocked = h.stocked }
 
 module _ {S R : Type 0} (join : R → R → R) (s : Words R) where
   pub stands_of : (c : World S R) (w : Model R) → PartsStand join s c w → StandsFor join s c w
@@ -84,8 +88,8 @@ module _ {S R : Type 0} (join : R → R → R) (s : Words R) where
       requests = h.few;
       bytes = subst IsWord (sym h.post.bytes) h.post.small;
     };
-    sound = h.sound.sound;
-    bare = h.sound.bare;
+    sound = h.whole.sound;
+    stocked = h.whole.stocked;
   }
 
   module _ (c : World S R) (w : Model R) (h : StandsFor join s c w) where

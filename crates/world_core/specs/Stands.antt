@@ -1,5 +1,6 @@
 -- When a world of the code stands for one of the machine, and when a call does what the machine's step does.
 use Rattle.std.specs.Prelude.{◌≡◌, ℕ, suc, leb, cond, IsTrue, List, [], ◌∷◌, ◌++◌, length, map}
+use Rattle.blake2_hash.specs.Blake2b.{blake2b}
 use Rattle.cluster_machine.specs.Ties as ties
 use Rattle.layout_roles.specs.declared.layout.Layout.{Layout}
 use Rattle.layout_trackers.specs.declared.which.Which.TheVariants.{Sync}
@@ -20,7 +21,7 @@ use Rattle.cluster_machine.specs.Acts.{acts}
 use Rattle.cluster_machine.specs.World.{Sent, Mark, clock, sent_bytes}
 use Rattle.cluster_machine.specs.Step.{none_given, applied, did, told, local}
 use Rattle.cluster_machine.specs.Choices.{Decision}
-use Rattle.cluster_machine.specs.Bare.{IsBareWorld}
+use Rattle.cluster_machine.specs.Blocks.{AllStocked}
 use Rattle.cluster_machine.specs.Fits.{Fits, IsWord}
 use Rattle.cluster_machine.specs.Trio.{trio, stage_trio}
 use Rattle.cluster_machine.specs.Worlds.{Model, Doing, Done, IsSound, IsLawful, does, RoomWith, HasRoom}
@@ -29,7 +30,7 @@ use Rattle.world_core.specs.declared.world.World.{World}
 use Rattle.world_core.specs.Parts.{AreClocks, IsPost, AreSent, not_yet, lines_from}
 use Rattle.world_core.specs.Nodes.{AreNodes}
 
--- the code's world is this world of the machine, which is sound, has no blocks, and fits
+-- the code's world is this world of the machine, which is sound, has the blocks of the rows in its nodes and messages, and fits
 pub record StandsFor {S R : Type 0} (join : R → R → R) (s : Words R) (c : World S R) (w : Model R) : Type 0 where
   pub nodes : AreNodes join s c.nodes w.nodes
   pub post : IsPost s c.post w.messages w.marks
@@ -41,7 +42,7 @@ pub record StandsFor {S R : Type 0} (join : R → R → R) (s : Words R) (c : Wo
   pub requests : c.requests ≡ w.requests
   pub fits : Fits s w
   pub sound : IsSound w
-  pub bare : IsBareWorld w
+  pub stocked : AllStocked (blake2b 32) s join w
 
 -- the code's world stands for some world: it was not given up
 abbrev pub IsWorld : {S R : Type 0} → (R → R → R) → Words R → World S R → Type 0

@@ -11,8 +11,9 @@
 //! (message m at place m - 1, the least undelivered one known at once), `Clocks` and `Requests`; `staged` changes the
 //! staged roles, `decide` computes a layout. A step costs what its node's part costs, and constant time per message.
 //!
-//! Blocks are not here yet: a phase stores rows without them. After `Memory` in `step` the world is given up. `Full`
-//! comes only where a number or a row would not fit (`HasRoom`).
+//! The rows of a store phase come each with the block that it needs, and no other. So every node has the blocks of its
+//! rows, and every message that was ever sent has them beside its rows (`AllStocked`), which each step keeps.
+//! After `Memory` in `step` the world is given up. `Full` comes only where a number or a row would not fit (`HasRoom`).
 #![tactic(auto)]
 
 mod clocks;

@@ -1,7 +1,7 @@
 //! What a node shows of itself.
 use blake2_hash::Hash32;
 
-/// How many rows and blocks a node has, and the hash over the roots of its tables. Without blocks their count is 0.
+/// How many rows and blocks a node has, and the hash over the roots of its tables.
 #[derive(Debug, PartialEq, Eq)]
 pub struct NodeLine {
     pub node: u8,

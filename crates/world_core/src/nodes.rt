@@ -4,6 +4,7 @@ ghost use Rattle.std.specs.List.{All};
 ghost use Rattle.std.specs.Ordering.{nat_cmp};
 ghost use Rattle.std.specs.BTreeMap.{get};
 ghost use Rattle.crdt_core.specs.Outcomes.{OnlyWant, WantOr};
+ghost use Rattle.blake2_hash.specs.Blake2b.{blake2b};
 ghost use Rattle.layout_trackers.specs.declared.which.Which.TheVariants.{Sync};
 ghost use Rattle.layout_trackers.specs.Trackers.{counts};
 ghost use Rattle.layout_roles.specs.declared.layout.Layout.{Layout};
@@ -19,9 +20,9 @@ ghost use Rattle.cluster_machine.specs.Receives.{receives};
 ghost use Rattle.cluster_machine.specs.Acts.{acts, appends, restarts};
 ghost use Rattle.cluster_machine.specs.Step.{requests_of};
 ghost use Rattle.node_parts.specs.Posts.{told};
-ghost use Rattle.cluster_machine.specs.Bare.{IsBarePhase};
+ghost use Rattle.cluster_machine.specs.Blocks.{PacketCarriesBlocks};
 ghost use Rattle.cluster_machine.specs.Keeping.{IsShort};
-ghost use Rattle.node_core.specs.Stands.{IsBarePacket, begins_at};
+ghost use Rattle.node_core.specs.Stands.{begins_at};
 ghost use Rattle.node_core.specs.declared.node.BeginFault.TheVariants.{NotMember};
 
 use crate::node_line::NodeLine;
@@ -106,7 +107,6 @@ impl<S: Schema> Nodes<S> {
     /// The node's whole view, to be sent.
     pub fn shown(&self, node: u8) -> Result<Packet<S::Row>, Memory>
         ensures shown { IfOk result (λ packet. (xs : ℕ → Model S.Row Layout) → AreNodes S.Row.join S.words self.now xs → told packet ≡ shows (xs node).view) }
-        ensures bare { IfOk result (λ packet. IsBarePacket packet) }
         ensures want { OnlyWant result }
     {
         let view = match self.by_number.get(&node) {
@@ -131,7 +131,7 @@ impl<S: Schema> Nodes<S> {
                 Ok(Some(NodeLine {
                     node,
                     rows: table.len() as u64,
-                    blocks: 0,
+                    blocks: found.block_count() as u64,
                     top: table.top()?,
                 }))
             }
@@ -164,7 +164,6 @@ impl<S: Schema> Nodes<S> {
         out: &mut Vec<Envelope<S::Row>>,
     ) -> Result<(), Memory>
         requires short { IsShort phase }
-        requires bare { IsBarePhase phase }
         ensures begins { OnOk result ((kept : List S.Row) → DoesAt S.Row.join S.words self.old self.new node out.old.items out.new.items None (λ x. begins_at S.words kept x phase (call_at x.calls request))) }
         ensures causes { WantOr result ((kept : List S.Row) → OverflowsAt S.Row.join S.words self.old node (λ x. begins_at S.words kept x phase (call_at x.calls request))) }
     {
@@ -185,14 +184,14 @@ impl<S: Schema> Nodes<S> {
         }
     }
 
-    /// A packet comes to its receiver, whose clock says `now`.
+    /// A packet comes to its receiver, whose clock says `now`, with the blocks of its rows.
     pub fn receive(
         &mut self,
         envelope: &Envelope<S::Row>,
         now: u64,
         out: &mut Vec<Envelope<S::Row>>,
     ) -> Result<Option<(u64, PhaseEnd<S::Row>)>, Memory>
-        requires bare { IsBarePacket envelope.now.packet }
+        requires stocked { PacketCarriesBlocks (blake2b 32) S.words (told envelope.now.packet) }
         ensures receives { IfOk result (λ given. DoesAt S.Row.join S.words self.old self.new envelope.now.to out.old.items out.new.items given (λ x. receives S.Row.join S.words layouts envelope.now.to now x envelope.now.from (told envelope.now.packet))) }
         ensures causes { WantOr result (OverflowsAt S.Row.join S.words self.old envelope.now.to (λ x. receives S.Row.join S.words layouts envelope.now.to now x envelope.now.from (told envelope.now.packet))) }
     {

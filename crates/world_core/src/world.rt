@@ -2,11 +2,12 @@
 ghost use Rattle.std.specs.Prelude.{◌≡◌, ◌⊎◌, ◌≤◌, ◌+◌, ℕ, leb, not, ◌&&◌, Some, None, [], length, map, option_map, IsTrue, IfOk, IfErr, OnOk, OnErr};
 ghost use Rattle.crdt_core.specs.Outcomes.{OnlyWant, WantOr};
 ghost use Rattle.crdt_core.specs.declared.memory.Memory.TheVariants.{Full};
+ghost use Rattle.blake2_hash.specs.Blake2b.{blake2b};
 ghost use Rattle.layout_roles.specs.Certificates.{IsRedundancy};
 ghost use Rattle.table_model.specs.Rows.{rows};
 ghost use Rattle.table_model.specs.Top.{any_unspelled};
 ghost use Rattle.view_model.specs.Layouts.{reading};
-ghost use Rattle.cluster_machine.specs.Bare.{IsBarePhase, IsBareStep};
+ghost use Rattle.cluster_machine.specs.Blocks.{BringsBlocks, StepBringsBlocks};
 ghost use Rattle.cluster_machine.specs.Choices.{IsFirst};
 ghost use Rattle.cluster_machine.specs.Keeping.{IsShort};
 ghost use Rattle.cluster_machine.specs.Layouts.{layouts};
@@ -30,10 +31,11 @@ use crate::post::{Post, send};
 use crate::report::Report;
 use crate::requests::Requests;
 use crate::staging::{staged, trio_layout, with_trio};
-use cluster_machine::applied::{Line, Refusal};
+use block_laws::steps_keep_blocks;
+use cluster_machine::applied::{Applied, Line, Refusal};
 use cluster_machine::{Action, EndWord, LocalEnd, Step, Words};
 use crdt_core::{List, Memory};
-use layout_roles::{Kind, Layout, Redundancy, Roles, Zone};
+use layout_roles::{Cut, Kind, Layout, Redundancy, Roles, Zone};
 use node_core::Envelope;
 use std::alloc::Global;
 use table_schema::Schema;
@@ -67,6 +69,7 @@ impl<S: Schema> World<S> {
         ensures want { OnlyWant result }
     {
         empty_world_is_sound::<S::Row>();
+        steps_keep_blocks::<S::Row, Layout, Applied, Cut>();
         Ok(World {
             nodes: Nodes::new(alloc),
             post: Post::new(alloc),
@@ -153,14 +156,16 @@ impl<S: Schema> World<S> {
         requires stands { IsWorld S.Row.join S.words self.old }
         ensures { Turns S.Row.join S.words self.old self.new (λ w. forget_delivered w) }
     {
+        steps_keep_blocks::<S::Row, Layout, Applied, Cut>();
         self.post.forget_delivered();
     }
 
-    /// One atomic change of the world. A refused step changes nothing.
+    /// One atomic change of the world. A refused step changes nothing. The rows of a store phase come each with the block
+    /// that it needs, and no other.
     pub fn step(&mut self, step: Step<S::Row>) -> Result<Report<S::Row>, Memory>
         requires stands { IsWorld S.Row.join S.words self.old }
         requires meant { IsMeant step }
-        requires bare { IsBareStep step }
+        requires stocked { StepBringsBlocks (blake2b 32) S.words step }
         ensures steps { IfOk result (λ report. Steps S.Row.join S.words self.old self.new report step) }
         ensures causes { WantOr result (Overflows S.Row.join S.words self.old step) }
     {
@@ -462,7 +467,7 @@ impl<S: Schema> World<S> {
     // A phase of an open request begins at its coordinator.
     fn phase(&mut self, request: u64, phase: Phase<S::Row>) -> Result<Report<S::Row>, Memory>
         requires short { IsShort phase }
-        requires bare { IsBarePhase phase }
+        requires stocked { BringsBlocks (blake2b 32) S.words phase }
         ensures plays { IfOk result (λ report. Plays S.Row.join S.words self.old self.new report (step.Phase request phase)) }
         ensures causes { WantOr result (Exceeds S.Row.join S.words self.old (step.Phase request phase)) }
     {

@@ -32,4 +32,4 @@ pub returns-clause-plays : goal.returns-clause-plays
 returns-clause-plays g c w h =
     action_does g.S.Row.Crdt.join g.S.Schema.words c.args.self.now w c.args.node c.now-now.result c.args.action h (c.now-now.ensures w.time w.skew_of h.clocks)
     c.act.new.self c.new-out.result.items c.act.new.out.items c.in_ok-how.how c.new-out.ensures.items c.in_ok-how.ensures.acts
-    c.tell.new.self c.synced-before.result c.new-lines.result c.tell.new.lines c.words_of.result c.told.result (c.synced-before.ensures w.nodes h.nodes) c.new-lines.ensures c.in_ok-tell.ensures.tells c.words_of.ensures c.told.ensures
+    g.met.S.Schema.laws c.tell.new.self c.synced-before.result c.new-lines.result c.tell.new.lines c.words_of.result c.told.result (c.synced-before.ensures w.nodes h.nodes) c.new-lines.ensures c.in_ok-tell.ensures.tells c.words_of.ensures c.told.ensures

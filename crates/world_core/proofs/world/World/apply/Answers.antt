@@ -29,6 +29,6 @@ returns-in-Refused-clause-steps g c w h =
 pub returns-in_ok-push-in-Given-clause-steps : goal.returns-in_ok-push-in-Given-clause-steps
 returns-in_ok-push-in-Given-clause-steps g c w h =
     apply_given g.S.Row.Crdt.join g.S.Schema.words c.args.self.now c.args.node c.told.result c.newest-newest.result w h (c.newest-newest.ensures.is w.nodes h.nodes) (sym (c.is_outside.ensures w h) ∙ c.if-is_outside.false)
-    c.if-newest-self.false (omega arith) c.append.new.self c.in-Given.layout c.in-Given.applied
+    c.if-newest-self.false (omega arith) g.met.S.Schema.laws c.append.new.self c.in-Given.layout c.in-Given.applied
     (c.told.ensures ∙ (λ i. told_report (One (c.from.ensures i)) ((c.in_ok-push-in-Given.ensures.ok ∙ ap (λ lines. lines ++ Layout c.in-Given.applied ∷ []) c.new-lines.ensures) i)))
     (subst (λ d. IsComputed c.args.self.now.roles.list c.args.self.now.redundancy (c.newest-newest.result + 1) (decision d)) c.in-Given.is c.in_ok-reason.ensures.computed) c.in_ok-append-in-Given.ensures.appends

@@ -10,4 +10,4 @@ returns-then-not-found-clause-plays g c w h =
 
 pub returns-clause-plays : goal.returns-clause-plays
 returns-clause-plays g c w h =
-    closes_open g.S.Row.Crdt.join g.S.Schema.words c.args.self.now w c.args.request h c.in-Some.found c.in-Some.ensures c.close.new.self c.close-2.new.self c.if-not-found.false c.close.ensures c.close-2.ensures c.silent-2.result c.silent-2.ensures
+    closes_open g.S.Row.Crdt.join g.S.Schema.words c.args.self.now w c.args.request h c.in-Some.found c.in-Some.ensures g.met.S.Schema.laws c.close.new.self c.close-2.new.self c.if-not-found.false c.close.ensures c.close-2.ensures c.silent-2.result c.silent-2.ensures

@@ -1,6 +1,6 @@
 use Rattle.std.proofs.Common.{inl, inr}
 use Rattle.std.proofs.lemmas.Result.{err_from_is_err_and}
-use Rattle.world_core.proofs.WorldsDoing.{bare_found, came_full, came_sent_full, came_does}
+use Rattle.world_core.proofs.WorldsDoing.{stocked_found, came_full, came_sent_full, came_does}
 use Rattle.world_core.proofs.WorldsAsking.{plays_missing}
 use Rattle.world_core.proofs.world.World.deliver.Goals as goal
 
@@ -15,7 +15,7 @@ receive-requires g c =
     let s = g.S.Schema.words in
     let w = c.requires.stands.0 in
     let h = c.requires.stands.1 in
-    record { bare = bare_found join s c.args.self.now w c.args.message c.in-Ok.envelope.now h (c.in-Ok.ensures.found s w.messages w.marks h.post) }
+    record { stocked = stocked_found join s c.args.self.now w c.args.message c.in-Ok.envelope.now h (c.in-Ok.ensures.found s w.messages w.marks h.post) }
 
 pub returns-in_err-ended-clause-causes : goal.returns-in_err-ended-clause-causes
 returns-in_err-ended-clause-causes g c =
@@ -53,4 +53,4 @@ returns-clause-plays g c w h =
     came_does g.S.Row.Crdt.join s c.args.self.now w c.args.message c.in-Ok.envelope.now h found c.now-now.result (c.now-now.ensures w.time w.skew_of h.clocks)
     c.receive.new.self c.deliver.new.self c.new-out.result.items c.receive.new.out.items c.in_ok-ended.ended c.new-out.ensures.items c.in_ok-ended.ensures.receives
     (c.deliver.ensures s w.messages w.marks found.mark h.post found.is_marked found.not_lost)
-    c.tell.new.self c.synced-before.result c.new-lines.result c.push.new.self c.tell.new.lines c.in_ok-report.field-0 c.told-report.result (c.synced-before.ensures w.nodes h.nodes) c.new-lines.ensures c.in_ok-push.ensures.ok c.in_ok-tell.ensures.tells c.in_ok-report.ensures.ends c.told-report.ensures
+    g.met.S.Schema.laws c.tell.new.self c.synced-before.result c.new-lines.result c.push.new.self c.tell.new.lines c.in_ok-report.field-0 c.told-report.result (c.synced-before.ensures w.nodes h.nodes) c.new-lines.ensures c.in_ok-push.ensures.ok c.in_ok-tell.ensures.tells c.in_ok-report.ensures.ends c.told-report.ensures

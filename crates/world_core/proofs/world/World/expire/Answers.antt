@@ -10,5 +10,5 @@ returns-then-not-found-clause-plays g c w h =
 
 pub returns-clause-plays : goal.returns-clause-plays
 returns-clause-plays g c w h =
-    expires_open g.S.Row.Crdt.join g.S.Schema.words c.args.self.now w c.args.request h c.in-Some.found c.in-Some.ensures c.close.new.self c.close-2.new.self c.if-not-found.false c.close.ensures c.close-2.ensures
+    expires_open g.S.Row.Crdt.join g.S.Schema.words c.args.self.now w c.args.request h c.in-Some.found c.in-Some.ensures g.met.S.Schema.laws c.close.new.self c.close-2.new.self c.if-not-found.false c.close.ensures c.close-2.ensures
     c.new-lines.result c.push.new.self c.told.result c.new-lines.ensures c.in_ok-push.ensures.ok c.told.ensures

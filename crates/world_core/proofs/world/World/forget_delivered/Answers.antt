@@ -1,3 +1,4 @@
+use Rattle.blake2_hash.specs.Blake2b.{blake2b}
 use Rattle.world_core.proofs.WorldsStand.{stands_of}
 use Rattle.world_core.proofs.world.World.forget_delivered.Goals as goal
 
@@ -13,8 +14,8 @@ returns g c w h =
       applied = h.applied;
       requests = h.requests;
       few = h.fits.requests;
-      sound = record {
+      whole = record {
         sound = record { versions = h.sound.versions; gapless = h.sound.gapless; greatest = h.sound.greatest; messages = h.sound.messages; requests = h.sound.requests; different = h.sound.different };
-        bare = record { messages = h.bare.messages; blocks = h.bare.blocks };
+        stocked = c.steps_keep_blocks.ensures.forgotten (blake2b 32) g.S.Row.Crdt.join g.S.Schema.words w h.stocked;
       };
     })

@@ -1,4 +1,5 @@
 use Rattle.std.proofs.Common.{refl, arith}
+use Rattle.blake2_hash.specs.Blake2b.{blake2b}
 use Rattle.world_core.proofs.WorldsStand.{stands_of}
 use Rattle.world_core.proofs.world.World.new.Goals as goal
 
@@ -14,5 +15,5 @@ returns-clause-stands g c =
       applied = refl;
       requests = c.new-5.ensures;
       few = omega arith;
-      sound = record { sound = c.empty_world_is_sound.ensures; bare = record { messages = tt; blocks = λ n. refl } };
+      whole = record { sound = c.empty_world_is_sound.ensures; stocked = c.steps_keep_blocks.ensures.first (blake2b 32) g.S.Row.Crdt.join g.S.Schema.words };
     })

@@ -21,7 +21,7 @@ returns-in_err-phase-clause-causes g c =
       | inr full ↦ inr (
         full.0,
         λ w h.
-            phase_full join s c.args.self.now w c.args.request c.in-Some.found.coordinator c.args.phase c.requires.bare h (open_there join s c.args.self.now w c.args.request h c.in-Some.found c.in-Some.ensures c.if-not-found.false) (full.1 w.kept),
+            phase_full join s c.args.self.now w c.args.request c.in-Some.found.coordinator c.args.phase h (open_there join s c.args.self.now w c.args.request h c.in-Some.found c.in-Some.ensures c.if-not-found.false) (full.1 w.kept),
       )
     ])
 
@@ -35,7 +35,7 @@ returns-in_err-tell-clause-causes g c =
       | inr full ↦ inr (
         full.0,
         λ w h.
-            phase_sent_full join s c.args.self.now w c.args.request c.in-Some.found.coordinator c.args.phase c.requires.bare h (open_there join s c.args.self.now w c.args.request h c.in-Some.found c.in-Some.ensures c.if-not-found.false)
+            phase_sent_full join s c.args.self.now w c.args.request c.in-Some.found.coordinator c.args.phase h (open_there join s c.args.self.now w c.args.request h c.in-Some.found c.in-Some.ensures c.if-not-found.false)
             c.phase.new.self c.new-out.result.items c.phase.new.out.items c.new-out.ensures.items (c.in_ok-phase.ensures.begins w.kept) full.1,
       )
     ])
@@ -44,6 +44,6 @@ pub returns-clause-plays : goal.returns-clause-plays
 returns-clause-plays g c w h =
     let join = g.S.Row.Crdt.join in
     let s = g.S.Schema.words in
-    phase_does join s c.args.self.now w c.args.request c.in-Some.found.coordinator c.args.phase c.requires.bare h (open_there join s c.args.self.now w c.args.request h c.in-Some.found c.in-Some.ensures c.if-not-found.false)
+    phase_does join s c.args.self.now w c.args.request c.in-Some.found.coordinator c.args.phase h (open_there join s c.args.self.now w c.args.request h c.in-Some.found c.in-Some.ensures c.if-not-found.false)
     c.phase.new.self c.new-out.result.items c.phase.new.out.items c.new-out.ensures.items (c.in_ok-phase.ensures.begins w.kept)
-    c.tell.new.self c.synced-before.result c.new-lines.result c.tell.new.lines c.told.result (c.synced-before.ensures w.nodes h.nodes) c.new-lines.ensures c.in_ok-tell.ensures.tells c.told.ensures
+    g.met.S.Schema.laws c.requires.stocked c.tell.new.self c.synced-before.result c.new-lines.result c.tell.new.lines c.told.result (c.synced-before.ensures w.nodes h.nodes) c.new-lines.ensures c.in_ok-tell.ensures.tells c.told.ensures

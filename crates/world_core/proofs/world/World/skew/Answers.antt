@@ -8,4 +8,4 @@ returns-in_err-skew-clause-causes g c =
     rw (p.1, p.2) (c.in_err-skew.ensures.full.0, skew_exceeds g.S.Row.Crdt.join g.S.Schema.words c.args.self.now c.args.node c.args.ms c.in_err-skew.ensures.full.1)
 
 pub returns-clause-plays : goal.returns-clause-plays
-returns-clause-plays g c = skew_plays g.S.Row.Crdt.join g.S.Schema.words c.args.self.now c.silent.result c.silent.ensures c.args.node c.args.ms c.skew.new.self c.in_ok-skew.ensures.skewed
+returns-clause-plays g c = skew_plays g.S.Row.Crdt.join g.S.Schema.words g.met.S.Schema.laws c.args.self.now c.silent.result c.silent.ensures c.args.node c.args.ms c.skew.new.self c.in_ok-skew.ensures.skewed

@@ -8,4 +8,4 @@ returns-in_err-tick-clause-causes g c =
     rw (p.1, p.2) (c.in_err-tick.ensures.full.0, tick_exceeds g.S.Row.Crdt.join g.S.Schema.words c.args.self.now c.args.ms c.in_err-tick.ensures.full.1)
 
 pub returns-clause-plays : goal.returns-clause-plays
-returns-clause-plays g c = tick_plays g.S.Row.Crdt.join g.S.Schema.words c.args.self.now c.silent.result c.silent.ensures c.args.ms c.tick.new.self c.in_ok-tick.ensures.ticked
+returns-clause-plays g c = tick_plays g.S.Row.Crdt.join g.S.Schema.words g.met.S.Schema.laws c.args.self.now c.silent.result c.silent.ensures c.args.ms c.tick.new.self c.in_ok-tick.ensures.ticked
