@@ -1,10 +1,12 @@
 -- What each act keeps, up to the run of a list of acts.
-use Rattle.std.proofs.Common.{◌≡◌, ℕ, zero, suc, true, false, ◌&&◌, Option, Some, None, List, [], ◌∷◌, ◌++◌, length, if◌then◌else◌, refl, sym, ap, ◌∙◌, subst}
+use Rattle.std.specs.Prelude.{IsTrue}
+use Rattle.std.proofs.Common.{◌≡◌, ◌≤◌, ℕ, zero, suc, true, false, ◌&&◌, Option, Some, None, List, [], ◌∷◌, ◌++◌, length, if◌then◌else◌, refl, sym, ap, ◌∙◌, subst}
 use Rattle.std.specs.List.{All, AllByRecursion, Contains}
-use Rattle.std.proofs.lemmas.List.Elements.{All-nil}
+use Rattle.std.proofs.lemmas.List.Elements.{All-nil, Contains-append_left}
 use Rattle.crdt_core.specs.EntryLaws.{and_parts}
 use Rattle.crdt_rows.specs.declared.any_row.AnyRow.{AnyRow}
 use Rattle.crdt_rows.specs.AnyRow.{any_join}
+use Rattle.table_schema.specs.Words.{Words}
 use Rattle.object_schema.specs.Schema.{words}
 use Rattle.cluster_machine.specs.Layouts.{layouts}
 use Rattle.wire_messages.specs.declared.phase.PhaseEnd.{PhaseEnd}
@@ -15,7 +17,7 @@ use Rattle.cluster_machine.specs.Node.{Question, Ended}
 use Rattle.cluster_machine.specs.Run.{IsStep}
 use Rattle.cluster_machine.specs.World.{clock, is_member_at, numbered, undelivered}
 use Rattle.machine_origins.specs.Origins.{stored_by}
-use Rattle.cluster_machine.specs.Worlds.{Done as Effect, IsMeant, IsLawful, FitAll, run as world_run}
+use Rattle.cluster_machine.specs.Worlds.{Model, Doing, next as world_next, Done as Effect, IsMeant, IsLawful, FitAll, run as world_run}
 use Rattle.history_model.specs.declared.record.Cause.TheVariants.{Expired, Restarted}
 use Rattle.flow_model.specs.declared.order.Order.{Order}
 use Rattle.flow_model.specs.declared.order.Order.TheVariants as order
@@ -23,35 +25,47 @@ use Rattle.flow_model.specs.declared.flow.Name.{Name}
 use Rattle.flow_model.specs.declared.flow.Wish.TheVariants as wish
 use Rattle.flow_model.specs.declared.flow.Aim.TheVariants as aim
 use Rattle.flow_model.specs.declared.flow.Stage.{Stage}
-use Rattle.flow_model.specs.declared.flow.Stage.TheVariants.{Drawing, Looking}
+use Rattle.flow_model.specs.declared.flow.Stage.TheVariants.{Drawing, Looking, Listing}
 use Rattle.flow_model.specs.declared.flow.Flow.{Flow}
 use Rattle.flow_model.specs.declared.flow.FlowStep.{FlowStep}
 use Rattle.flow_model.specs.declared.flow.FlowStep.TheVariants.{More, Wait, End}
-use Rattle.flow_model.specs.Flow.{asks_for}
+use Rattle.flow_model.specs.Flow.{asks_for, asks_past}
 use Rattle.flow_model.specs.Next.{next}
 use Rattle.store_model.specs.Orders.{buckets_of}
 use Rattle.store_model.specs.Run.{Moving, State, start, Asked, Draw, Outcome, silent, refusal, plainly, effect, doing, is_bucket, are_buckets, phases, new_request, opened, begins, draws_of, takes, follows, follow, goes_on, delivers, then_drains, drains}
-use Rattle.store_model.specs.Acts.{Act, moves, asks, delivery, drain, adds, cuts, endings, plain, acted, after_acts, IsOuter, IsLawfulAct, AreLawfulActs, ActsFit}
+use Rattle.store_model.specs.Acts.{Act, moves, asks, delivery, drain, adds, cuts, endings, plain, acted, after_acts, IsOuter, HasKey, IsLawfulAct, AreLawfulActs, ActsFit}
 use Rattle.store_model.specs.Fresh.{IsFresh}
-use Rattle.object_laws.proofs.Buckets.{bucket_in}
-use Rattle.object_laws.proofs.Calm.{IsCalmStep}
-use Rattle.object_laws.proofs.Events.{fit_parts}
-use Rattle.object_laws.proofs.Reached.{EveryWorld}
-use Rattle.store_laws.specs.Small.{IsSmall, IsSmallAct, AreSmall}
+use Rattle.store_laws.proofs.Elements.{bucket_in, none_in}
+use Rattle.store_laws.proofs.Calm.{IsCalmStep}
+use Rattle.store_laws.proofs.Every.{EveryWorld}
 use Rattle.store_laws.proofs.Good.{IsGood}
-use Rattle.store_laws.proofs.Placing.{asks_is_step, asks_is_meant}
-use Rattle.store_laws.proofs.Sound.{AsksRow, AsksFor, IsStage, IsSound}
+use Rattle.store_laws.proofs.Placing.{asks_is_step, asks_is_meant, scan_is_step, scan_is_meant}
+use Rattle.store_laws.proofs.Sound.{began, AsksRow, AsksFor, listed, HasShown, IsStage, IsSound}
+use Rattle.store_laws.proofs.Orders.{past_none}
+use Rattle.history_model.specs.declared.record.Kind.{Kind}
+use Rattle.history_model.specs.declared.record.Kind.TheVariants as kind
+use Rattle.history_model.specs.declared.record.Record.{Record}
+use Rattle.history_model.specs.Record.{is_write}
 use Rattle.store_laws.proofs.Reached.{reached_different}
 use Rattle.store_laws.proofs.Grown.{Rests}
 use Rattle.store_laws.proofs.Ends.{IsEnd}
 use Rattle.store_laws.proofs.Stepping.{step_sound, calm_fine, calm_ends}
-use Rattle.store_laws.proofs.Beginning.{asks_fine}
-use Rattle.store_laws.proofs.Opening.{opening, opened_sound, new_there}
+use Rattle.store_laws.proofs.Beginning.{asks_fine, scans_fine}
+use Rattle.store_laws.proofs.Opening.{beginning, opening, opened_sound, new_there}
 use Rattle.store_laws.proofs.Finishing.{ended_sound}
 use Rattle.store_laws.proofs.Enders.{is_calm}
 use Rattle.store_laws.proofs.Starting.{start_sound, bucket_sound, block_sound}
 use Rattle.store_laws.proofs.Going.{flow_of}
 use Rattle.store_laws.proofs.Acting.{stage_keeps}
+
+-- steps that fit, in two parts
+pub fit_parts : {R : Type 0} (join : R → R → R) (ws : Words R) (w : Model R) (first rest : List (Doing R)) → FitAll join ws w (first ++ rest) → FitAll join ws w first × FitAll join ws (world_run join ws w first) rest
+fit_parts join ws w [] rest fits = (tt, fits)
+fit_parts join ws w (m ∷ first) rest fits = let more = fit_parts join ws (world_next join ws w m) first rest fits.1 in ((fits.0, more.0), more.1)
+
+-- a list writes nothing
+no_write : {k : Kind} → k ≡ kind.List → IsTrue (is_write k) → {A : Type 0} → A
+no_write e w = (let no : IsTrue (is_write kind.List) = subst (λ (k : Kind). IsTrue (is_write k)) e w in cc)
 
 module _ (every : EveryWorld) where
   -- ---- deliveries
@@ -60,7 +74,7 @@ module _ (every : EveryWorld) where
     abbrev pub FlowKeeps : Option Flow → Type 0
     FlowKeeps flow = FitAll any_join words s.world (follows s q a end flow).moves → IsSound (follows s q a end flow).state
 
-    flow_keeps : (flow : Option Flow) → a.flow ≡ flow → IsEnd s.asked s.draws s.history s.world.kept s.world.reads q end → FlowKeeps flow
+    flow_keeps : (flow : Option Flow) → a.flow ≡ flow → IsEnd s.asked s.draws s.history s.saw s.world.kept s.world.reads q end → FlowKeeps flow
     flow_keeps None flow_is h fits = sound
     flow_keeps (Some flow) flow_is h fits =
         let stage = sound.stages q a flow at flow_is in
@@ -69,16 +83,16 @@ module _ (every : EveryWorld) where
         (λ fits. stage_keeps every s q a at rests flow.block sound flow.stage end (flow_is ∙ ap Some numbered_so) stage.1 fits h) fits
 
   follow_keeps : (s : State) (q : ℕ) (asked : Option Asked) (end : PhaseEnd AnyRow) → numbered s.asked q ≡ asked → Rests s q → FitAll any_join words s.world (follow s q asked end).moves → IsSound s →
-      IsEnd s.asked s.draws s.history s.world.kept s.world.reads q end → IsSound (follow s q asked end).state
+      IsEnd s.asked s.draws s.history s.saw s.world.kept s.world.reads q end → IsSound (follow s q asked end).state
   follow_keeps s q None end at rests fits sound h = sound
   follow_keeps s q (Some a) end at rests fits sound h = flow_keeps s q a at rests sound end a.flow refl h fits
 
   goes_on_keeps : (s : State) (ends : List (Ended AnyRow)) → FitAll any_join words s.world (goes_on s ends).moves → IsSound s →
-      AllByRecursion (λ (e : Ended AnyRow). IsEnd s.asked s.draws s.history s.world.kept s.world.reads e.request e.how × Rests s e.request) ends → IsSound (goes_on s ends).state
+      AllByRecursion (λ (e : Ended AnyRow). IsEnd s.asked s.draws s.history s.saw s.world.kept s.world.reads e.request e.how × Rests s e.request) ends → IsSound (goes_on s ends).state
   goes_on_keeps s [] fits sound h = sound
   goes_on_keeps s (e ∷ es) fits sound h = follow_keeps s e.request (numbered s.asked e.request) e.how refl h.0.1 fits sound h.0.0
 
-  delivers_keeps : (s : State) (m : ℕ) → FitAll any_join words s.world (delivers s m).moves → IsSound s → IsSound (delivers s m).state
+  pub delivers_keeps : (s : State) (m : ℕ) → FitAll any_join words s.world (delivers s m).moves → IsSound s → IsSound (delivers s m).state
   delivers_keeps s m fits sound =
       let d : Moving = plainly (step.Deliver m) in
       let calm = is_calm every s d tt sound in
@@ -102,7 +116,7 @@ module _ (every : EveryWorld) where
   follow_leads s q None end = refl
   follow_leads s q (Some a) end = follows_leads s q a end a.flow
 
-  goes_on_leads : (s : State) (ends : List (Ended AnyRow)) → world_run any_join words s.world (goes_on s ends).moves ≡ (goes_on s ends).state.world
+  pub goes_on_leads : (s : State) (ends : List (Ended AnyRow)) → world_run any_join words s.world (goes_on s ends).moves ≡ (goes_on s ends).state.world
   goes_on_leads s [] = refl
   goes_on_leads s (e ∷ es) = follow_leads s e.request (numbered s.asked e.request) e.how
 
@@ -122,47 +136,72 @@ module _ (every : EveryWorld) where
   -- ---- requests
 
   -- a request opens and asks for an object's row
-  opens_keeps : (s : State) (a : Asked) (stage : Stage) (name : Name) → (let q = suc (length s.world.requests) in a.flow ≡ Some (flow_of q s.block stage) → IsStage q a stage →
-      ((question : Question AnyRow) → AsksRow name question → AsksFor stage question) → is_member_at layouts s.world a.node ≡ true → Contains s.buckets a.name.bucket →
+  opens_keeps : (s : State) (a : Asked) (stage : Stage) (name : Name) → (let q = suc (length s.world.requests) in a.flow ≡ Some (flow_of q s.block stage) → IsStage s.draws (s.history ++ beginning s a ∷ []) q a stage →
+      ((question : Question AnyRow) → AsksRow name question → AsksFor stage question) → is_member_at layouts s.world a.node ≡ true → Contains s.buckets a.name.bucket → (IsTrue (is_write a.kind) → 1 ≤ length a.name.key) →
       FitAll any_join words s.world (plainly (step.Open a.node) ∷ phases q (asks_for name) ∷ []) → IsSound s → IsSound (doing (opening s a) (phases q (asks_for name))))
-  opens_keeps s a stage name flow_is is_stage asks_so member bucket fits sound =
+  opens_keeps s a stage name flow_is is_stage asks_so member bucket keyed fits sound =
       let q : ℕ = suc (length s.world.requests) in
       let flow : Flow = flow_of q s.block stage in
       let now : State = opening s a in
-      let is_open : IsSound now = opened_sound s a flow flow_is refl is_stage member bucket (tt, tt, tt, fits.0.1, tt) sound in
+      let is_open : IsSound now = opened_sound s a flow flow_is refl is_stage member bucket keyed (tt, tt, tt, fits.0.1, tt) sound in
       step_sound now (phases q (asks_for name)) is_open (asks_is_meant q name, asks_is_step q name, tt, fits.1.0.1, tt) (All-nil (IsGood s.draws))
       (asks_fine now is_open (reached_different every now.draws now.world is_open.reached) q a flow (new_there s a sound) flow_is name asks_so)
 
-  opened_keeps : (s : State) (n : ℕ) (o : Order) → IsSmall o → is_member_at layouts s.world n ≡ true → are_buckets s.buckets (buckets_of o) ≡ true → FitAll any_join words s.world (opened s n o).moves → IsSound s → IsSound (opened s n o).state
-  opened_keeps s n (order.Put bucket key body headers) small member buckets fits sound =
+  -- a list opens and scans from the first key on
+  lists_open : (s : State) (a : Asked) (bucket prefix : List ℕ) → (let q = suc (length s.world.requests) in a.flow ≡ Some (flow_of q s.block (Listing bucket prefix [])) → a.kind ≡ kind.List → a.name ≡ record { bucket = bucket; key = prefix } →
+      is_member_at layouts s.world a.node ≡ true → Contains s.buckets bucket →
+      FitAll any_join words s.world (plainly (step.Open a.node) ∷ phases q (asks_past bucket prefix []) ∷ []) → IsSound s → IsSound (doing (opening s a) (phases q (asks_past bucket prefix []))))
+  lists_open s a bucket prefix flow_is kind_is name_is member there fits sound =
+      let q : ℕ = suc (length s.world.requests) in
+      let own : Name = record { bucket = bucket; key = prefix } in
+      let flow : Flow = flow_of q s.block (Listing bucket prefix []) in
+      let now : State = opening s a in
+      let is_open : IsSound now = opened_sound s a flow flow_is refl (kind_is, name_is) member (subst (λ (m : Name). Contains s.buckets m.bucket) (sym name_is) there)
+      (λ w. no_write kind_is w) (tt, tt, tt, fits.0.1, tt) sound in
+      let shown : HasShown now.draws now.history now.saw q own [] (Some []) = record {
+        shown = λ r c. absurd (none_in r c);
+        covers = λ before after n k key w cut begins within ack.
+            let has_begun : Contains now.history (began ack.request ack.node ack.kind (listed own key)) =
+            subst (λ (h : List Record). Contains h (began ack.request ack.node ack.kind (listed own key))) (sym cut) (Contains-append_left before (began q n k own ∷ after) _ ack.has_begun) in
+            let long : 1 ≤ length key = is_open.told.key_there ack.request ack.node ack.kind (listed own key) has_begun ack.writes in
+            let no : true ≡ false = sym within ∙ past_none key long in
+            cc;
+      } in
+      step_sound now (phases q (asks_past bucket prefix [])) is_open (scan_is_meant q bucket prefix [], scan_is_step q bucket prefix [], tt, fits.1.0.1, tt) (All-nil (IsGood s.draws))
+      (scans_fine now is_open (reached_different every now.draws now.world is_open.reached) q a flow (new_there s a sound) flow_is bucket prefix []
+      (λ scan position prefix_is after_is. (position, prefix_is, subst (λ (e : List ℕ). HasShown now.draws now.history now.saw q own [] (Some e)) (sym after_is) shown)))
+
+  opened_keeps : (s : State) (n : ℕ) (o : Order) → HasKey o → is_member_at layouts s.world n ≡ true → are_buckets s.buckets (buckets_of o) ≡ true → FitAll any_join words s.world (opened s n o).moves → IsSound s → IsSound (opened s n o).state
+  opened_keeps s n (order.Put bucket key body headers) keyed member buckets fits sound =
       let name : Name = record { bucket = bucket; key = key } in
-      opens_keeps s (new_request n (order.Put bucket key body headers) _) (Drawing name (wish.Content (record { body = body; headers = headers }))) name refl (refl, (refl, small)) (λ question h. h) member
-      (bucket_in s.buckets bucket (and_parts (is_bucket s.buckets bucket) true buckets).0) fits sound
-  opened_keeps s n (order.Get bucket key) small member buckets fits sound =
+      opens_keeps s (new_request n (order.Put bucket key body headers) _) (Drawing name (wish.Content (record { body = body; headers = headers }))) name refl (refl, refl) (λ question h. h) member
+      (bucket_in s.buckets bucket (and_parts (is_bucket s.buckets bucket) true buckets).0) (λ w. keyed) fits sound
+  opened_keeps s n (order.Get bucket key) keyed member buckets fits sound =
       let name : Name = record { bucket = bucket; key = key } in
-      opens_keeps s (new_request n (order.Get bucket key) _) (Looking name aim.Get) name refl (refl, refl) (λ question h. h) member (bucket_in s.buckets bucket (and_parts (is_bucket s.buckets bucket) true buckets).0) fits sound
-  opened_keeps s n (order.Head bucket key) small member buckets fits sound =
+      opens_keeps s (new_request n (order.Get bucket key) _) (Looking name aim.Get) name refl (refl, refl) (λ question h. h) member (bucket_in s.buckets bucket (and_parts (is_bucket s.buckets bucket) true buckets).0) (λ w. cc) fits sound
+  opened_keeps s n (order.Head bucket key) keyed member buckets fits sound =
       let name : Name = record { bucket = bucket; key = key } in
-      opens_keeps s (new_request n (order.Head bucket key) _) (Looking name aim.Head) name refl (refl, refl) (λ question h. h) member (bucket_in s.buckets bucket (and_parts (is_bucket s.buckets bucket) true buckets).0) fits sound
-  opened_keeps s n (order.Delete bucket key) small member buckets fits sound =
+      opens_keeps s (new_request n (order.Head bucket key) _) (Looking name aim.Head) name refl (refl, refl) (λ question h. h) member (bucket_in s.buckets bucket (and_parts (is_bucket s.buckets bucket) true buckets).0) (λ w. cc) fits sound
+  opened_keeps s n (order.Delete bucket key) keyed member buckets fits sound =
       let name : Name = record { bucket = bucket; key = key } in
-      opens_keeps s (new_request n (order.Delete bucket key) _) (Drawing name wish.Marker) name refl (refl, refl) (λ question h. h) member (bucket_in s.buckets bucket (and_parts (is_bucket s.buckets bucket) true buckets).0) fits sound
-  opened_keeps s n (order.Copy from_bucket from_key bucket key headers) small member buckets fits sound =
+      opens_keeps s (new_request n (order.Delete bucket key) _) (Drawing name wish.Marker) name refl (refl, refl) (λ question h. h) member (bucket_in s.buckets bucket (and_parts (is_bucket s.buckets bucket) true buckets).0) (λ w. keyed) fits sound
+  opened_keeps s n (order.Copy from_bucket from_key bucket key headers) keyed member buckets fits sound =
       let name : Name = record { bucket = from_bucket; key = from_key } in
       let new : Name = record { bucket = bucket; key = key } in
       let both = and_parts (is_bucket s.buckets from_bucket) (is_bucket s.buckets bucket && true) buckets in
       opens_keeps s (new_request n (order.Copy from_bucket from_key bucket key headers) _) (Looking name (aim.Copy new headers)) name refl ((refl, refl), tt) (λ question h. h) member
-      (bucket_in s.buckets bucket (and_parts (is_bucket s.buckets bucket) true both.1).0) fits sound
-  opened_keeps s n (order.List bucket prefix) small member buckets fits sound = absurd small
+      (bucket_in s.buckets bucket (and_parts (is_bucket s.buckets bucket) true both.1).0) (λ w. keyed) fits sound
+  opened_keeps s n (order.List bucket prefix) keyed member buckets fits sound =
+      lists_open s (new_request n (order.List bucket prefix) _) bucket prefix refl refl refl member (bucket_in s.buckets bucket (and_parts (is_bucket s.buckets bucket) true buckets).0) fits sound
 
-  begins_keeps : (s : State) (n : ℕ) (o : Order) → IsSmall o → FitAll any_join words s.world (begins s n o).moves → IsSound s → IsSound (begins s n o).state
-  begins_keeps s n o small fits sound =
+  begins_keeps : (s : State) (n : ℕ) (o : Order) → HasKey o → FitAll any_join words s.world (begins s n o).moves → IsSound s → IsSound (begins s n o).state
+  begins_keeps s n o keyed fits sound =
       elim (is_member_at layouts s.world n) as (λ b. is_member_at layouts s.world n ≡ b →
       FitAll any_join words s.world (if b then (if are_buckets s.buckets (buckets_of o) then opened s n o else refusal s NoSuchBucket) else refusal s NotMember).moves →
       IsSound (if b then (if are_buckets s.buckets (buckets_of o) then opened s n o else refusal s NoSuchBucket) else refusal s NotMember).state) [
         | true ↦ λ member. elim (are_buckets s.buckets (buckets_of o)) as (λ b. are_buckets s.buckets (buckets_of o) ≡ b →
             FitAll any_join words s.world (if b then opened s n o else refusal s NoSuchBucket).moves → IsSound (if b then opened s n o else refusal s NoSuchBucket).state) [
-              | true ↦ λ buckets fits. opened_keeps s n o small member buckets fits sound
+              | true ↦ λ buckets fits. opened_keeps s n o keyed member buckets fits sound
               | false ↦ λ _ fits. sound
             ] refl
         | false ↦ λ _ fits. sound
@@ -207,17 +246,17 @@ module _ (every : EveryWorld) where
       endings_keep (doing s m) m.step (effect s m)
       (step_sound s m sound (meant, calm.1, lawful, fits.0.1, tt) (subst (All (IsGood s.draws)) (sym calm.2) (All-nil (IsGood s.draws))) (calm_fine s (effect s m) sound (is_calm every s m calm.0 sound)))
 
-  act_keeps : (s : State) (a : Act) → IsSmallAct a → IsLawfulAct s a → FitAll any_join words s.world (acted s a).moves → IsSound s → IsSound (acted s a).state
-  act_keeps s (moves m) small lawful fits sound = plain_keeps s m lawful.0 lawful.1 lawful.2 fits sound
-  act_keeps s (asks n o) small lawful fits sound = begins_keeps s n o small fits sound
-  act_keeps s (delivery m) small lawful fits sound = delivers_keeps s m fits sound
-  act_keeps s (drain n) small lawful fits sound = drains_keeps n s fits sound
-  act_keeps s (adds name) small lawful fits sound = bucket_sound s name sound
-  act_keeps s (cuts block) small lawful fits sound = block_sound s block sound
+  pub act_keeps : (s : State) (a : Act) → IsLawfulAct s a → FitAll any_join words s.world (acted s a).moves → IsSound s → IsSound (acted s a).state
+  act_keeps s (moves m) lawful fits sound = plain_keeps s m lawful.0 lawful.1 lawful.2 fits sound
+  act_keeps s (asks n o) lawful fits sound = begins_keeps s n o lawful fits sound
+  act_keeps s (delivery m) lawful fits sound = delivers_keeps s m fits sound
+  act_keeps s (drain n) lawful fits sound = drains_keeps n s fits sound
+  act_keeps s (adds name) lawful fits sound = bucket_sound s name sound
+  act_keeps s (cuts block) lawful fits sound = block_sound s block sound
 
-  acts_keep : (s : State) (as' : List Act) → AreSmall as' → AreLawfulActs s as' → ActsFit s as' → IsSound s → IsSound (after_acts s as')
-  acts_keep s [] small lawful fit sound = sound
-  acts_keep s (a ∷ as') small lawful fit sound = acts_keep (acted s a).state as' small.1 lawful.1 fit.1 (act_keeps s a small.0 lawful.0 fit.0 sound)
+  acts_keep : (s : State) (as' : List Act) → AreLawfulActs s as' → ActsFit s as' → IsSound s → IsSound (after_acts s as')
+  acts_keep s [] lawful fit sound = sound
+  acts_keep s (a ∷ as') lawful fit sound = acts_keep (acted s a).state as' lawful.1 fit.1 (act_keeps s a lawful.0 fit.0 sound)
 
-  pub acts_fresh : (as' : List Act) → AreSmall as' → AreLawfulActs start as' → ActsFit start as' → IsFresh (after_acts start as')
-  acts_fresh as' small lawful fit = (acts_keep start as' small lawful fit start_sound).fresh
+  pub acts_fresh : (as' : List Act) → AreLawfulActs start as' → ActsFit start as' → IsFresh (after_acts start as')
+  acts_fresh as' lawful fit = (acts_keep start as' lawful fit start_sound).fresh

@@ -1,14 +1,20 @@
 -- The phases of requests: what a request is in whose phase has begun.
-use Rattle.std.specs.Prelude.{◌≡◌, ℕ, List, [], ◌∷◌, ◌++◌, Option, Some, None, refl}
+use Rattle.std.specs.Option.{unwrap_or}
+use Rattle.std.proofs.lemmas.Bool.{eqb-true}
+use Rattle.std.specs.Prelude.{◌≡◌, ◌==◌, true, false, cond, ℕ, List, [], ◌∷◌, ◌++◌, map, Option, Some, None, refl}
 use Rattle.std.proofs.Common.{ap, sym, subst, ◌∙◌, inl, inr}
-use Rattle.std.proofs.lemmas.List.Elements.{All-nil, All-cons, Contains-append_left}
+use Rattle.std.proofs.lemmas.List.Elements.{All-nil, Contains-append_left}
 use Rattle.crdt_rows.specs.declared.version.Version.{Version}
 use Rattle.crdt_rows.specs.declared.any_row.AnyRow.{AnyRow}
 use Rattle.crdt_rows.specs.AnyRow.{any_join}
 use Rattle.layout_roles.specs.declared.layout.Layout.{Layout}
 use Rattle.object_schema.specs.Schema.{words}
 use Rattle.wire_messages.specs.declared.phase.Phase.{Phase}
-use Rattle.cluster_machine.specs.Node.{Question, Present, resting, asking, scanning, storing, fetching, Call, Node, Did}
+use Rattle.wire_messages.specs.declared.phase.Phase.TheVariants.{Read, Store, Block}
+use Rattle.blake2_hash.specs.declared.digest.Hash32.{Hash32}
+use Rattle.blake2_hash.specs.Hash.{digest_of}
+use Rattle.flow_model.specs.Rows.{row_key}
+use Rattle.cluster_machine.specs.Node.{Question, Scan, Present, resting, asking, scanning, storing, fetching, Call, Node, Did}
 use Rattle.cluster_machine.specs.Phases.{call_at, begins}
 use Rattle.cluster_machine.specs.World.{Request, numbered}
 use Rattle.cluster_machine.specs.Step.{begun, beginning}
@@ -21,14 +27,20 @@ use Rattle.cluster_machine.specs.Trio.{trio, stage_trio}
 use Rattle.history_model.specs.declared.record.Record.{Record}
 use Rattle.flow_model.specs.declared.flow.Name.{Name}
 use Rattle.flow_model.specs.declared.flow.Flow.{Flow}
-use Rattle.flow_model.specs.Flow.{asks_for}
-use Rattle.flow_model.specs.Next.{stores}
+use Rattle.flow_model.specs.Flow.{asks_for, asks_past}
 use Rattle.store_model.specs.Run.{State, Asked, phases, effect}
-use Rattle.object_laws.proofs.Beginning.{found_request}
-use Rattle.store_laws.proofs.Sound.{began, WasAcknowledged, IsProper, AreProper, AsksRow, AsksFor, StoresFor, HasBefore, AskedAt, IsPresent, IsSound}
+use Rattle.store_laws.proofs.Sound.{began, WasAcknowledged, IsProper, AreProper, AsksRow, AsksFor, StoresFor, ScansFor, HasBefore, AskedAt, IsPresent, IsSound}
 use Rattle.store_laws.proofs.Ends.{asked_of}
 use Rattle.store_laws.proofs.Grown.{IsStill}
 use Rattle.store_laws.proofs.Stepping.{IsFine, fine_still, fine_one, fine_cond}
+
+found_request : (calls : List (Call AnyRow)) (q : ℕ) (c : Call AnyRow) → call_at calls q ≡ Some c → c.request ≡ q
+found_request [] q c e = cc
+found_request (d ∷ calls) q c e =
+    elim (d.request == q) as (λ b. (d.request == q) ≡ b → cond b (Some d) (call_at calls q) ≡ Some c → c.request ≡ q) [
+      | true ↦ (λ t f. ap (λ (o : Option (Call AnyRow)). (unwrap_or o d).request) (sym f) ∙ eqb-true d.request q t)
+      | false ↦ (λ t f. found_request calls q c f)
+    ] refl e
 
 -- what was acknowledged in a part of the history
 acknowledged_part : (before rest : List Record) (name : Name) (version : Version) → WasAcknowledged before name version → WasAcknowledged (before ++ rest) name version
@@ -48,7 +60,7 @@ module _ (s : State) (sound : IsSound s) (differ : (n : ℕ) → AreDifferent (s
       let one_is : h.one ≡ a = cc in
       record { waits = record { one = h.one; is_there = h.is_there; node_is = h.node_is; flow = flow; flow_is = ap (λ (b : Asked). b.flow) one_is ∙ flow_is }; flow_is = refl }
 
-  module _ (phase : Phase AnyRow) (is : (n : ℕ) → IsStill s.asked n q flow → (p : Present AnyRow) → Began s.world.kept phase p → IsPresent s.asked s.draws s.history n q p) where
+  module _ (phase : Phase AnyRow) (is : (n : ℕ) → IsStill s.asked n q flow → (p : Present AnyRow) → Began s.world.kept phase p → IsPresent s.asked s.draws s.history s.saw n q p) where
     call_fine : (n : ℕ) (o : Option (Call AnyRow)) → call_at (s.world.nodes n).calls q ≡ o → IsFine s (begun any_join words layouts trio stage_trio s.world n phase o)
     call_fine n None e = fine_still s _ sound (λ m. refl) refl (All-nil IsProper)
     call_fine n (Some c) e =
@@ -57,10 +69,10 @@ module _ (s : State) (sound : IsSound s) (differ : (n : ℕ) → AreDifferent (s
         let has = found_there x.calls q c e in
         let b : Begins s.world.kept x c phase d = begins_follow words layouts s.world.kept x c (differ n) has phase in
         let request : c.request ≡ q = found_request x.calls q c e in
-        let here : AskedAt s.asked n q = subst (AskedAt s.asked n) request (asked_of s.asked s.draws s.history n c.request c.present (sound.presents n c has)) in
+        let here : AskedAt s.asked n q = subst (AskedAt s.asked n) request (asked_of s.asked s.draws s.history s.saw n c.request c.present (sound.presents n c has)) in
         fine_one s _ n d.node sound (λ m. refl) refl (subst (λ ks. AreProper ks) (sym b.ends.1) (All-nil IsProper)) (λ f h. elim (b.calls f h) [
           | inl old ↦ sound.presents n f old
-          | inr new ↦ subst (λ r. IsPresent s.asked s.draws s.history n r f.present) (sym (new.0 ∙ request)) (is n (still_at n here) f.present new.2)
+          | inr new ↦ subst (λ r. IsPresent s.asked s.draws s.history s.saw n r f.present) (sym (new.0 ∙ request)) (is n (still_at n here) f.present new.2)
         ])
 
     request_fine : (o : Option Request) → IsFine s (beginning any_join words layouts trio stage_trio s.world q phase o)
@@ -75,33 +87,67 @@ module _ (s : State) (sound : IsSound s) (differ : (n : ℕ) → AreDifferent (s
   kept_before before rest n kind name cut k version a =
       sound.acknowledged k version (subst (λ (h : List Record). WasAcknowledged h k version) (sym cut) (acknowledged_part before (began q n kind name ∷ rest) k version a))
 
-  module _ (name : Name) (asks : (question : Question AnyRow) → AsksRow name question → AsksFor flow.stage question) where
-    asks_present : (n : ℕ) → IsStill s.asked n q flow → (p : Present AnyRow) → Began s.world.kept (asks_for name) p → IsPresent s.asked s.draws s.history n q p
-    asks_present n still resting b = absurd b
-    asks_present n still (asking question answers) b = record {
+  -- a read phase, whatever it asks for
+  module _ (table : ℕ) (position : Hash32) (key : List ℕ) (asks : (question : Question AnyRow) → question.table ≡ table → question.key ≡ key → AsksFor flow.stage question) where
+    reads_present : (n : ℕ) → IsStill s.asked n q flow → (p : Present AnyRow) → Began s.world.kept (Read table position key) p → IsPresent s.asked s.draws s.history s.saw n q p
+    reads_present n still resting b = absurd b
+    reads_present n still (asking question answers) b = record {
       waits = still.waits;
-      asks = subst (λ (f : Flow). AsksFor f.stage question) (sym still.flow_is) (asks question (b.1, b.3));
+      asks = subst (λ (f : Flow). AsksFor f.stage question) (sym still.flow_is) (asks question b.1 b.3);
       proper = subst AreProper (sym b.4) sound.proper;
       has = subst (HasBefore s.history q) (sym b.4) kept_before;
     }
-    asks_present n still (scanning scan answers) b = absurd b
-    asks_present n still (storing rows slots) b = absurd b
-    asks_present n still (fetching hash) b = absurd b
+    reads_present n still (scanning scan answers) b = absurd b
+    reads_present n still (storing rows slots) b = absurd b
+    reads_present n still (fetching hash) b = absurd b
 
-    pub asks_fine : IsFine s (effect s (phases q (asks_for name)))
-    asks_fine = phase_fine (asks_for name) asks_present
+    pub reads_fine : IsFine s (effect s (phases q (Read table position key)))
+    reads_fine = phase_fine (Read table position key) reads_present
 
-  module _ (row : AnyRow) (proper : IsProper row) (is_stored : StoresFor s.draws q flow.stage (row ∷ [])) where
-    stores_present : (n : ℕ) → IsStill s.asked n q flow → (p : Present AnyRow) → Began s.world.kept (stores row) p → IsPresent s.asked s.draws s.history n q p
+  pub asks_fine : (name : Name) → ((question : Question AnyRow) → AsksRow name question → AsksFor flow.stage question) → IsFine s (effect s (phases q (asks_for name)))
+  asks_fine name asks = reads_fine 1 (digest_of name.bucket) (row_key name) (λ question table key. asks question (table, key))
+
+  -- a store phase
+  module _ (rows : List (AnyRow × Option (List ℕ))) (proper : AreProper (map (λ r. r.0) rows)) (is_stored : StoresFor s.draws q flow.stage (map (λ r. r.0) rows)) where
+    stores_present : (n : ℕ) → IsStill s.asked n q flow → (p : Present AnyRow) → Began s.world.kept (Store rows) p → IsPresent s.asked s.draws s.history s.saw n q p
     stores_present n still resting b = absurd b
     stores_present n still (asking question answers) b = absurd b
     stores_present n still (scanning scan answers) b = absurd b
-    stores_present n still (storing rows slots) b = record {
+    stores_present n still (storing stored slots) b = record {
       waits = still.waits;
-      stores = subst (λ (f : Flow). StoresFor s.draws q f.stage rows) (sym still.flow_is) (subst (StoresFor s.draws q flow.stage) (sym b) is_stored);
-      proper = subst AreProper (sym b) (All-cons IsProper row [] proper (All-nil IsProper));
+      stores = subst (λ (f : Flow). StoresFor s.draws q f.stage stored) (sym still.flow_is) (subst (StoresFor s.draws q flow.stage) (sym b) is_stored);
+      proper = subst AreProper (sym b) proper;
     }
     stores_present n still (fetching hash) b = absurd b
 
-    pub stores_fine : IsFine s (effect s (phases q (stores row)))
-    stores_fine = phase_fine (stores row) stores_present
+    pub stores_fine : IsFine s (effect s (phases q (Store rows)))
+    stores_fine = phase_fine (Store rows) stores_present
+
+  -- a block phase
+  module _ (hash : Hash32) where
+    fetch_present : (n : ℕ) → IsStill s.asked n q flow → (p : Present AnyRow) → Began s.world.kept (Block hash) p → IsPresent s.asked s.draws s.history s.saw n q p
+    fetch_present n still resting b = absurd b
+    fetch_present n still (asking question answers) b = absurd b
+    fetch_present n still (scanning scan answers) b = absurd b
+    fetch_present n still (storing stored slots) b = absurd b
+    fetch_present n still (fetching asked) b = still.waits
+
+    pub fetch_fine : IsFine s (effect s (phases q (Block hash)))
+    fetch_fine = phase_fine (Block hash) fetch_present
+
+  -- a range phase
+  module _ (bucket prefix after : List ℕ) (scans : (scan : Scan AnyRow) → scan.position ≡ (digest_of bucket).0 → scan.prefix ≡ prefix → scan.after ≡ after → ScansFor s.draws s.history s.saw q flow.stage scan) where
+    scan_present : (n : ℕ) → IsStill s.asked n q flow → (p : Present AnyRow) → Began s.world.kept (asks_past bucket prefix after) p → IsPresent s.asked s.draws s.history s.saw n q p
+    scan_present n still resting b = absurd b
+    scan_present n still (asking question answers) b = absurd b
+    scan_present n still (scanning scan answers) b = record {
+      waits = still.waits;
+      scans = subst (λ (f : Flow). ScansFor s.draws s.history s.saw q f.stage scan) (sym still.flow_is) (scans scan b.1 b.2 b.3);
+      proper = subst AreProper (sym b.4) sound.proper;
+      has = subst (HasBefore s.history q) (sym b.4) kept_before;
+    }
+    scan_present n still (storing stored slots) b = absurd b
+    scan_present n still (fetching asked) b = absurd b
+
+    pub scans_fine : IsFine s (effect s (phases q (asks_past bucket prefix after)))
+    scans_fine = phase_fine (asks_past bucket prefix after) scan_present

@@ -39,8 +39,7 @@ use Rattle.flow_model.specs.Blocks.{is_long}
 use Rattle.flow_model.specs.Rows.{row_key, object_row, complete}
 use Rattle.flow_model.specs.Says.{Said, none, marked, inline, in_blocks, of_state, of_version, said_by}
 use Rattle.store_model.specs.Run.{Draw}
-use Rattle.object_laws.proofs.Rows.{tied_keys}
-use Rattle.object_laws.proofs.Covering.{Below as IsBelow, members_below, apart}
+use Rattle.store_laws.proofs.Objects.{tied_keys, Below as IsBelow, members_below, apart}
 use Rattle.store_laws.proofs.Rows.{IsValue, complete_state, content_state, complete_row}
 use Rattle.store_laws.proofs.Placing.{complete_is_placed}
 

@@ -29,11 +29,11 @@ use Rattle.flow_model.specs.declared.flow.FlowEnd.{FlowEnd}
 use Rattle.flow_model.specs.declared.flow.FlowEnd.TheVariants.{Stored, Found, Nothing, Listed, Superseded}
 use Rattle.flow_model.specs.Rows.{complete}
 use Rattle.store_model.specs.Answers.{record_of}
-use Rattle.store_model.specs.Run.{Moving, State, Asked, plainly, effect, finishes}
-use Rattle.object_laws.proofs.Cuts.{at_cut}
-use Rattle.object_laws.proofs.Starting.{none_in}
-use Rattle.object_laws.proofs.Calm.{IsCalm, IsCalmStep, calm_step}
-use Rattle.object_laws.proofs.Reached.{EveryWorld}
+use Rattle.history_model.specs.declared.record.Record.{Record}
+use Rattle.store_model.specs.Run.{Moving, State, Asked, Draw, plainly, effect, finishes}
+use Rattle.store_laws.proofs.Elements.{at_cut, none_in}
+use Rattle.store_laws.proofs.Calm.{IsCalm, IsCalmStep, calm_step}
+use Rattle.store_laws.proofs.Every.{EveryWorld}
 use Rattle.store_laws.proofs.Good.{IsGood}
 use Rattle.store_laws.proofs.Sound.{began, IsAsked, IsWishOf, Completes, StoresFor, WaitsAt, IsFreshEnd, IsSound}
 use Rattle.store_laws.proofs.Reached.{reached_different}
@@ -54,7 +54,7 @@ source_writes kind.List h = cc
 
 pub wish_writes : (k : Kind) (w : Wish) → IsWishOf k w → IsTrue (is_write k)
 wish_writes k wish.Marker h = h
-wish_writes k (wish.Content c) h = source_writes k h.0
+wish_writes k (wish.Content c) h = source_writes k h
 
 -- a write doesn't read
 write_reads_not : (k : Kind) → IsTrue (is_write k) → IsTrue (is_read k) → ⊥
@@ -70,8 +70,8 @@ module _ (every : EveryWorld) where
   is_calm s m calm sound = calm_step any_join words layouts trio stage_trio s.world (reached_different every s.draws s.world sound.reached) m.step m.choice calm
 
   module _ (s : State) (q : ℕ) (a : Asked) (at : numbered s.asked q ≡ Some a) (rests : Rests s q) where
-    none_waits : MayWait q a None
-    none_waits f e = cc
+    none_waits : (draws : List Draw) (history : List Record) → MayWait draws history q a None
+    none_waits draws history f e = cc
 
     never_begins : (end : FlowEnd) (p n : ℕ) (k : Kind) (name : Name) → record_of q end ≡ began p n k name → ⊥
     never_begins (Stored version meta) p n k name e = cc
@@ -87,7 +87,7 @@ module _ (every : EveryWorld) where
         let told : State = record s { history = s.history ++ record_of q end ∷ [] } in
         let is_told : IsSound told = told_sound s (record_of q end) (never_begins end) ends sound in
         let waits : State = waiting told q a None [] in
-        let now : IsSound waits = waiting_sound told q a None [] at rests none_waits (λ d c. absurd (none_in d c)) is_told in
+        let now : IsSound waits = waiting_sound told q a None [] at rests (none_waits _ _) (λ d c. absurd (none_in d c)) is_told in
         step_sound waits (plainly (step.Close q)) now (tt, tt, tt, fits.0.1, tt) (All-nil (IsGood waits.draws)) (calm_fine waits (effect waits (plainly (step.Close q))) now (is_calm waits (plainly (step.Close q)) tt now))
 
     -- how a request ends that finishes with this answer

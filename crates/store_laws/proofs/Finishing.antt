@@ -17,7 +17,7 @@ use Rattle.flow_model.specs.declared.flow.Name.{Name}
 use Rattle.store_model.specs.Run.{State, Asked}
 use Rattle.store_laws.proofs.Sound.{began, IsAsked, HasKept, IsFreshEnd, IsSound}
 use Rattle.store_laws.proofs.Freshness.{fresh_told}
-use Rattle.store_laws.proofs.Grown.{present_told, drawn_told}
+use Rattle.store_laws.proofs.Grown.{present_told, stage_told, drawn_told}
 
 -- what a request owes that finishes now with this answer
 pub record IsEndOf (s : State) (q : ℕ) (a : Answer) : Type 0 where
@@ -41,9 +41,13 @@ told_sound s x never ends sound = record {
     ];
     asked_began = λ p o h. let b = sound.told.asked_began p o h in (b.0, Contains-append_left s.history (x ∷ []) _ b.1);
     bucket_there = sound.told.bucket_there;
+    key_there = λ p m kind name c. elim (Contains-push_cases s.history x (began p m kind name) c) [
+      | inl old ↦ sound.told.key_there p m kind name old
+      | inr e ↦ absurd (never p m kind name e)
+    ];
   };
-  presents = λ n c h. present_told s.asked s.draws s.history x (λ p m kind name o e at. never p m kind name e) n c.request c.present (sound.presents n c h);
-  stages = sound.stages;
+  presents = λ n c h. present_told s.asked s.draws s.history s.saw x (λ p m kind name o e at. never p m kind name e) n c.request c.present (sound.presents n c h);
+  stages = λ q a flow at is. (let was = sound.stages q a flow at is in (was.0, stage_told s.asked s.draws s.history x (λ p m kind name o e at. never p m kind name e) q a at flow.stage was.1));
   drawn = λ d c. drawn_told s.buckets s.history x d (sound.drawn d c);
   acknowledged = λ name version a.
       let begin : Contains s.history (began a.request a.node a.kind name) = (elim (Contains-push_cases s.history x (began a.request a.node a.kind name) a.has_begun) [

@@ -7,10 +7,10 @@ use Rattle.cluster_machine.specs.World.{numbered}
 use Rattle.history_model.specs.declared.record.Record.{Record}
 use Rattle.flow_model.specs.declared.flow.Flow.{Flow}
 use Rattle.store_model.specs.Run.{State, Asked, Draw, Saw, set_flow}
-use Rattle.object_laws.proofs.Places.{numbered_set_cases}
+use Rattle.store_laws.proofs.Places.{numbered_set_cases}
 use Rattle.store_laws.proofs.Sound.{began, HasDrawn, IsStage, IsSound}
 use Rattle.store_laws.proofs.Freshness.{fresh_later}
-use Rattle.store_laws.proofs.Grown.{Rests, presents_set, present_drawn, asked_set}
+use Rattle.store_laws.proofs.Grown.{Rests, presents_set, present_drawn, present_seen, stage_drawn, asked_set}
 use Rattle.store_laws.proofs.Reached.{reached_draws}
 
 -- the request waits for this, and drew these versions
@@ -18,10 +18,10 @@ abbrev pub waiting : State → ℕ → Asked → Option Flow → List Draw → S
 waiting s q a flow newer = record s { asked = set_flow s q a flow; draws = newer ++ s.draws }
 
 -- what a request may wait for
-abbrev pub MayWait : ℕ → Asked → Option Flow → Type 0
-MayWait q a flow = (f : Flow) → flow ≡ Some f → (f.id ≡ q) × IsStage q a f.stage
+abbrev pub MayWait : List Draw → List Record → ℕ → Asked → Option Flow → Type 0
+MayWait draws history q a flow = (f : Flow) → flow ≡ Some f → (f.id ≡ q) × IsStage draws history q a f.stage
 
-pub waiting_sound : (s : State) (q : ℕ) (a : Asked) (flow : Option Flow) (newer : List Draw) → numbered s.asked q ≡ Some a → Rests s q → MayWait q a flow →
+pub waiting_sound : (s : State) (q : ℕ) (a : Asked) (flow : Option Flow) (newer : List Draw) → numbered s.asked q ≡ Some a → Rests s q → MayWait (newer ++ s.draws) s.history q a flow →
     ((d : Draw) → Contains newer d → HasDrawn s.buckets s.history d) → IsSound s → IsSound (waiting s q a flow newer)
 waiting_sound s q a flow newer at rests may drawn sound =
     let new : Asked = record a { flow = flow } in
@@ -45,14 +45,15 @@ waiting_sound s q a flow newer at rests may drawn sound =
           | inl e ↦ subst (λ (o : Asked). Contains s.buckets o.name.bucket) e.1 (sound.told.bucket_there q a at)
           | inr old ↦ sound.told.bucket_there p o old
         ];
+        key_there = sound.told.key_there;
       };
-      presents = λ n c h. present_drawn asked s.draws newer s.history n c.request c.present (presents_set s q a new at refl rests sound.presents n c h);
+      presents = λ n c h. present_drawn asked s.draws newer s.history s.saw n c.request c.present (presents_set s q a new at refl rests sound.presents n c h);
       stages = λ p o f there is. elim (numbered_set_cases s.asked q p a new o at there) [
         | inl e ↦
             let flow_is : flow ≡ Some f = ap (λ (o : Asked). o.flow) e.1 ∙ is in
             let m = may f flow_is in
-            (m.0 ∙ sym e.0, subst (λ (o : Asked). IsStage p o f.stage) e.1 (subst (λ (r : ℕ). IsStage r a f.stage) (sym e.0) m.1))
-        | inr old ↦ sound.stages p o f old is
+            (m.0 ∙ sym e.0, subst (λ (o : Asked). IsStage (newer ++ s.draws) s.history p o f.stage) e.1 (subst (λ (r : ℕ). IsStage (newer ++ s.draws) s.history r a f.stage) (sym e.0) m.1))
+        | inr old ↦ let was = sound.stages p o f old is in (was.0, stage_drawn s.draws newer s.history p o f.stage was.1)
       ];
       drawn = λ d c. elim (Contains-append_cases newer s.draws d c) [
         | inl one ↦ drawn d one
@@ -69,7 +70,7 @@ saw_sound s x sound = record {
   reached = sound.reached;
   lengths = sound.lengths;
   told = sound.told;
-  presents = sound.presents;
+  presents = λ n c h. present_seen s.asked s.draws s.history s.saw x n c.request c.present (sound.presents n c h);
   stages = sound.stages;
   drawn = sound.drawn;
   acknowledged = sound.acknowledged;

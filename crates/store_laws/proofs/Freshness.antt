@@ -12,7 +12,7 @@ use Rattle.history_model.specs.Fresh.{IsAcknowledged}
 use Rattle.flow_model.specs.declared.flow.Name.{Name}
 use Rattle.store_model.specs.Run.{Draw, Saw, State}
 use Rattle.store_model.specs.Fresh.{IsMarked, Covers, IsDrawn, IsRead, IsFreshRead, IsFresh}
-use Rattle.object_laws.proofs.Places.{get_append}
+use Rattle.store_laws.proofs.Places.{get_append}
 use Rattle.store_laws.proofs.Records.{stands, in_front, finish_is, finish_cases, acknowledged_is, split, old_at, began_before, acknowledged_before}
 use Rattle.store_laws.proofs.Sound.{began, WasAcknowledged, DrewHere, IsFreshEnd}
 

@@ -1,5 +1,6 @@
 -- A request that opens keeps a state sound.
 use Rattle.std.proofs.Common.{◌≡◌, inl, inr, ℕ, suc, ◌+◌, ◌≤◌, true, false, ◌==◌, cond, Some, None, List, [], ◌∷◌, ◌++◌, length, refl, sym, ap, ◌∙◌, subst, arith}
+use Rattle.std.specs.Prelude.{IsTrue}
 use Rattle.std.specs.Option.{unwrap_or}
 use Rattle.std.proofs.lemmas.Bool.{eqb-true}
 use Rattle.std.proofs.lemmas.List.{length_push}
@@ -19,17 +20,19 @@ use Rattle.cluster_machine.specs.Worlds.{IsLawfulRun, newest_at, next}
 use Rattle.history_model.specs.declared.record.Answer.TheVariants as answer
 use Rattle.history_model.specs.declared.record.Record.{Record}
 use Rattle.history_model.specs.declared.record.Record.TheVariants.{Finished}
+use Rattle.history_model.specs.declared.record.Kind.{Kind}
+use Rattle.history_model.specs.Record.{is_write}
 use Rattle.flow_model.specs.declared.flow.Flow.{Flow}
 use Rattle.store_model.specs.Run.{World, State, Asked, plainly}
-use Rattle.object_laws.proofs.Places.{numbered_append, numbered_push_cases, numbered_last, numbered_within}
+use Rattle.store_laws.proofs.Places.{numbered_append, numbered_push_cases, numbered_last, numbered_within}
 use Rattle.store_laws.proofs.Good.{IsGood}
 use Rattle.store_laws.proofs.Sound.{began, IsTold, HasAcknowledged, AreProper, IsPresent, ArePresent, IsStage, IsSound}
 use Rattle.store_laws.proofs.Freshness.{fresh_later, fresh_told}
-use Rattle.store_laws.proofs.Grown.{IsNew, pushed_still, pushed_at, present_asked, present_told, drawn_told, asked_told}
+use Rattle.store_laws.proofs.Grown.{IsNew, pushed_still, pushed_at, present_asked, present_told, stage_told, drawn_told, asked_told}
 use Rattle.store_laws.proofs.Reached.{reached_step}
 
 -- the record that this request begins
-abbrev beginning : State → Asked → Record
+abbrev pub beginning : State → Asked → Record
 beginning s a = began (suc (length s.world.requests)) a.node a.kind a.name
 
 -- a request opens: the world adds it, and the requests and the history with it
@@ -51,8 +54,8 @@ next_new s a sound q m k name o e h =
 pub new_there : (s : State) (a : Asked) → IsSound s → numbered (s.asked ++ a ∷ []) (suc (length s.world.requests)) ≡ Some a
 new_there s a sound = ap (λ (l : ℕ). numbered (s.asked ++ a ∷ []) (suc l)) (sym sound.lengths) ∙ numbered_last s.asked a
 
-opened_told : (s : State) (a : Asked) → Contains s.buckets a.name.bucket → IsSound s → IsTold s.buckets (s.asked ++ a ∷ []) (s.history ++ beginning s a ∷ [])
-opened_told s a bucket sound =
+opened_told : (s : State) (a : Asked) → Contains s.buckets a.name.bucket → (IsTrue (is_write a.kind) → 1 ≤ length a.name.key) → IsSound s → IsTold s.buckets (s.asked ++ a ∷ []) (s.history ++ beginning s a ∷ [])
+opened_told s a bucket keyed sound =
     let q : ℕ = suc (length s.world.requests) in
     let x : Record = beginning s a in
     let here = new_there s a sound in
@@ -79,6 +82,13 @@ opened_told s a bucket sound =
         | inl old ↦ sound.told.bucket_there p o old
         | inr e ↦ subst (λ (o : Asked). Contains s.buckets o.name.bucket) e.1 bucket
       ];
+      key_there = λ p m kind name c. elim (Contains-push_cases s.history x (began p m kind name) c) [
+        | inl old ↦ sound.told.key_there p m kind name old
+        | inr e ↦
+            let kind_is : a.kind ≡ kind = cc in
+            let key_is : a.name.key ≡ name.key = cc in
+            λ writes. subst (λ (k : List ℕ). 1 ≤ length k) key_is (keyed (subst (λ (k : Kind). IsTrue (is_write k)) (sym kind_is) writes))
+      ];
     }
 
 -- what was acknowledged before a request began
@@ -96,9 +106,9 @@ acknowledged_before s a sound name version ack =
           absurd (next_new s a sound ack.request ack.node ack.kind name was.0 e was.1)
     ]
 
-pub opened_sound : (s : State) (a : Asked) (flow : Flow) → a.flow ≡ Some flow → flow.id ≡ suc (length s.world.requests) → IsStage (suc (length s.world.requests)) a flow.stage → is_member_at layouts s.world a.node ≡ true →
-    Contains s.buckets a.name.bucket → IsLawfulRun any_join words s.world (plainly (Open a.node) ∷ []) → IsSound s → IsSound (opening s a)
-opened_sound s a flow flow_is id_is stage member bucket lawful sound =
+pub opened_sound : (s : State) (a : Asked) (flow : Flow) → a.flow ≡ Some flow → flow.id ≡ suc (length s.world.requests) → IsStage s.draws (s.history ++ beginning s a ∷ []) (suc (length s.world.requests)) a flow.stage → is_member_at layouts s.world a.node ≡ true →
+    Contains s.buckets a.name.bucket → (IsTrue (is_write a.kind) → 1 ≤ length a.name.key) → IsLawfulRun any_join words s.world (plainly (Open a.node) ∷ []) → IsSound s → IsSound (opening s a)
+opened_sound s a flow flow_is id_is stage member bucket keyed lawful sound =
     let q : ℕ = suc (length s.world.requests) in
     let n : ℕ = a.node in
     let x : Record = beginning s a in
@@ -110,29 +120,29 @@ opened_sound s a flow flow_is id_is stage member bucket lawful sound =
     let requests : w.requests ≡ s.world.requests ++ new ∷ [] = rw member refl in
     let kept_is : w.kept ≡ s.world.kept = rw member refl in
     let nodes_are : w.nodes ≡ changed (only n y) s.world.nodes = rw member refl in
-    let old : (m : ℕ) → ArePresent asked s.draws history m (s.world.nodes m).calls = (λ m c h.
-    present_asked s.asked asked s.draws history m c.request (pushed_at s.asked a m c.request) (pushed_still s.asked a m c.request) c.present
-    (present_told s.asked s.draws s.history x (next_new s a sound) m c.request c.present (sound.presents m c h))) in
-    let here : ArePresent asked s.draws history n y.calls = (λ c h. elim h [
-      | inl is ↦ subst (λ (d : Call AnyRow). IsPresent asked s.draws history n d.request d.present) is (record { one = a; is_there = new_there s a sound; node_is = refl })
+    let old : (m : ℕ) → ArePresent asked s.draws history s.saw m (s.world.nodes m).calls = (λ m c h.
+    present_asked s.asked asked s.draws history s.saw m c.request (pushed_at s.asked a m c.request) (pushed_still s.asked a m c.request) c.present
+    (present_told s.asked s.draws s.history s.saw x (next_new s a sound) m c.request c.present (sound.presents m c h))) in
+    let here : ArePresent asked s.draws history s.saw n y.calls = (λ c h. elim h [
+      | inl is ↦ subst (λ (d : Call AnyRow). IsPresent asked s.draws history s.saw n d.request d.present) is (record { one = a; is_there = new_there s a sound; node_is = refl })
       | inr more ↦ old n c more
     ]) in
     record {
       reached = reached_step s.draws s.world (plainly (Open n)) sound.reached lawful (All-nil (IsGood s.draws));
       lengths = length_push s.asked a ∙ ap (λ (l : ℕ). l + 1) sound.lengths ∙ sym (length_push s.world.requests new) ∙ sym (ap (λ (rs : List Request). length rs) requests);
-      told = opened_told s a bucket sound;
-      presents = subst (λ (f : ℕ → Node AnyRow Layout). (m : ℕ) → ArePresent asked s.draws history m (f m).calls) (sym nodes_are)
-          (λ m. elim (m == n) as (λ b. (m == n) ≡ b → ArePresent asked s.draws history m (unwrap_or (cond b (Some y) None) (s.world.nodes m)).calls) [
-            | true ↦ (λ t. subst (λ k. ArePresent asked s.draws history k y.calls) (sym (eqb-true m n t)) here)
+      told = opened_told s a bucket keyed sound;
+      presents = subst (λ (f : ℕ → Node AnyRow Layout). (m : ℕ) → ArePresent asked s.draws history s.saw m (f m).calls) (sym nodes_are)
+          (λ m. elim (m == n) as (λ b. (m == n) ≡ b → ArePresent asked s.draws history s.saw m (unwrap_or (cond b (Some y) None) (s.world.nodes m)).calls) [
+            | true ↦ (λ t. subst (λ k. ArePresent asked s.draws history s.saw k y.calls) (sym (eqb-true m n t)) here)
             | false ↦ (λ f. old m)
           ] refl);
       stages = λ p o f at is. elim (numbered_push_cases s.asked a p o at) [
-        | inl before ↦ sound.stages p o f before is
+        | inl before ↦ let was = sound.stages p o f before is in (was.0, stage_told s.asked s.draws s.history x (next_new s a sound) p o before f.stage was.1)
         | inr e ↦
             let p_is : q ≡ p = cc in
             let flows : Some flow ≡ Some f = sym flow_is ∙ (ap (λ (o : Asked). o.flow) e.1 ∙ is) in
             let same : flow ≡ f = cc in
-            (ap (λ (f : Flow). f.id) (sym same) ∙ (id_is ∙ p_is), subst (λ (f : Flow). IsStage p o f.stage) same (subst (λ (o : Asked). IsStage p o flow.stage) e.1 (subst (λ (r : ℕ). IsStage r a flow.stage) p_is stage)))
+            (ap (λ (f : Flow). f.id) (sym same) ∙ (id_is ∙ p_is), subst (λ (f : Flow). IsStage s.draws history p o f.stage) same (subst (λ (o : Asked). IsStage s.draws history p o flow.stage) e.1 (subst (λ (r : ℕ). IsStage s.draws history r a flow.stage) p_is stage)))
       ];
       drawn = λ d c. drawn_told s.buckets s.history x d (sound.drawn d c);
       acknowledged = subst (λ ks. HasAcknowledged ks history) (sym kept_is) (acknowledged_before s a sound);

@@ -14,9 +14,10 @@ use Rattle.machine_origins.specs.Origins.{Gave, stored_by, stored_in}
 use Rattle.machine_origins.proofs.ByOrigin.{stored_have, gave_by_origin}
 use Rattle.cluster_machine.specs.Worlds.{IsLawfulRun, next}
 use Rattle.store_model.specs.Run.{World, Moving, Draw}
-use Rattle.object_laws.proofs.Reached.{EveryWorld, run_more, lawful_more}
+use Rattle.store_laws.proofs.Every.{EveryWorld, run_more, lawful_more}
 use Rattle.store_laws.proofs.Good.{IsGood, more_good, good_inherited}
 use Rattle.store_laws.proofs.Sound.{IsReached}
+use Rattle.store_laws.proofs.Windows.{GaveWindow}
 
 pub reached_step : (draws : List Draw) (w : World) (m : Moving) → IsReached draws w → IsLawfulRun any_join words w (m ∷ []) → All (IsGood draws) (stored_by m.step) → IsReached draws (next any_join words w m)
 reached_step draws w m r lawful stores = record {
@@ -46,3 +47,7 @@ module _ (every : EveryWorld) (draws : List Draw) (w : World) (r : IsReached dra
 
   pub reached_different : (n : ℕ) → AreDifferent (w.nodes n).calls
   reached_different n = subst (λ (v : World). AreDifferent (v.nodes n).calls) (sym r.is) ((every.is_sound r.moves r.lawful).different n)
+
+  -- what a range phase gave is a window
+  pub reached_window : (reading : Reading AnyRow) → Contains w.reads reading → GaveWindow words reading
+  reached_window reading c = every.windows r.moves r.lawful reading (subst (λ (v : World). Contains v.reads reading) r.is c)

@@ -10,7 +10,7 @@ use Rattle.std.proofs.lemmas.List.Quantifiers.{position-Some}
 use Rattle.std.proofs.lemmas.Option.{slice_get_read, slice_get-get_or, get_or_from_slice_get, option_and_then_some}
 use Rattle.crdt_rows.specs.declared.version.Version.{Version}
 use Rattle.row_codec.specs.NumberLaws.{some_is}
-use Rattle.object_laws.proofs.Places.{get_append, get_last}
+use Rattle.store_laws.proofs.Places.{get_append, get_last}
 use Rattle.history_model.specs.declared.record.Answer.{Answer}
 use Rattle.history_model.specs.declared.record.Answer.TheVariants as answer
 use Rattle.history_model.specs.declared.record.Cause.TheVariants.{Expired}

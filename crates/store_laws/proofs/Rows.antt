@@ -28,10 +28,12 @@ use Rattle.flow_model.specs.declared.flow.Content.{Content}
 use Rattle.flow_model.specs.declared.flow.Wish.{Wish}
 use Rattle.flow_model.specs.declared.flow.Wish.TheVariants as wish
 use Rattle.flow_model.specs.Blocks.{is_long, piece_hash}
-use Rattle.flow_model.specs.Rows.{row_key, meta_of, same_number, object_row, complete, inline, in_blocks}
+use Rattle.flow_model.specs.Rows.{row_key, meta_of, same_number, object_row, uploading, complete, inline, in_blocks}
 use Rattle.flow_model.specs.Says as says
 use Rattle.store_model.specs.Run.{Draw}
-use Rattle.object_laws.proofs.Rows.{key_parts, digest_length, one_key, tied_keys, unless_older, one_of, only_state}
+use Rattle.store_laws.specs.Written.{IsWritten}
+use Rattle.store_laws.proofs.Hashes.{HaveHashes, joined_hashes}
+use Rattle.store_laws.proofs.Objects.{key_parts, digest_length, one_key, tied_keys, unless_older, one_of, only_state}
 
 -- ---- the state of a complete version
 
@@ -73,10 +75,11 @@ pub record IsDrawnIn (draws : List Draw) (r : ObjectRow) (v : Version) (s : Stat
   pub bucket : digest_of draw.name.bucket ≡ r.bucket
   pub key : draw.name.key ≡ r.key
 
--- each version of an object's row was drawn, for this object
+-- each version of an object's row was drawn, for this object; the blocks of a version's row have hashes of bytes
 abbrev pub IsOf : List Draw → AnyRow → Type 0
 IsOf draws (rows.Object r) = (v : Version) (s : State) → state_at r v ≡ Some s → IsDrawnIn draws r v s
-IsOf draws _ = ⊤
+IsOf draws (rows.Version r) = HaveHashes r.blocks
+IsOf draws (rows.Ref r) = ⊤
 
 -- a row of an object, all of whose versions were drawn
 pub record IsValue (draws : List Draw) (name : Name) (row : AnyRow) : Type 0 where
@@ -102,9 +105,14 @@ module _ (draws : List Draw) where
 
   joined : (a b : AnyRow) → Same words a b → IsOf draws a → IsOf draws b → IsOf draws (any_join a b)
   joined (rows.Object a) (rows.Object b) same p q = merged a b same p q
-  joined (rows.Version a) (rows.Version b) same p q = tt
+  joined (rows.Object a) (rows.Version b) same p q = q
+  joined (rows.Object a) (rows.Ref b) same p q = q
+  joined (rows.Version a) (rows.Object b) same p q = p
+  joined (rows.Version a) (rows.Version b) same p q = joined_hashes a b p q
+  joined (rows.Version a) (rows.Ref b) same p q = q
+  joined (rows.Ref a) (rows.Object b) same p q = p
+  joined (rows.Ref a) (rows.Version b) same p q = p
   joined (rows.Ref a) (rows.Ref b) same p q = tt
-  joined a b same p q = tt
 
   mapped : {X : Type 0} (f : X → AnyRow) → ((x : X) → IsOf draws (f x)) → (xs : List X) (row : AnyRow) → Contains (map f xs) row → IsOf draws row
   mapped f each xs row c = All-contains (IsOf draws) (map f xs) row (All-map (IsOf draws) f xs (λ k d lt. each _)) c
@@ -132,7 +140,7 @@ pub more_draws : (draws newer : List Draw) (row : AnyRow) → IsOf draws row →
 more_draws draws newer (rows.Object r) h = λ v s e.
     let was = h v s e in
     record { draw = was.draw; drawn = Contains-append_right newer draws was.draw was.drawn; version = was.version; says = was.says; bucket = was.bucket; key = was.key }
-more_draws draws newer (rows.Version r) h = tt
+more_draws draws newer (rows.Version r) h = h
 more_draws draws newer (rows.Ref r) h = tt
 
 -- the row that completes a drawn version
@@ -141,83 +149,159 @@ complete_is_of draws d block c =
     let row = complete_row d.name d.version block d.wish in
     subst (IsOf draws) (sym row.1) (state_is_of draws d (complete_state block d.wish) row.0 c (inr (block, refl)))
 
+-- the row that says that the upload of a drawn version has begun
+pub uploading_is_of : (draws : List Draw) (d : Draw) → Contains draws d → IsOf draws (uploading d.name d.version)
+uploading_is_of draws d c = state_is_of draws d Uploading refl c (inl refl)
+
 -- ---- what is found
 
-bytes_of : State → List ℕ
-bytes_of (Complete (Inline meta bytes)) = bytes
-bytes_of _ = []
-
--- few bytes lie in the row
-abbrev pub IsShortWish : Wish → Type 0
-IsShortWish wish.Marker = ⊤
-IsShortWish (wish.Content c) = is_long c.body ≡ false
-
 module _ (meta : Meta) (body : List ℕ) where
-  inline_content : (block : ℕ) (c : Content) (b : Bool) → Complete (Inline meta body) ≡ content_state b block c → c.body ≡ body
-  unfolding bytes_of
-  inline_content block c true e = let no : Complete (Inline meta body) ≡ Complete (Blocks (meta_of c) (piece_hash block c.body 0)) = e in cc
-  inline_content block c false e = sym (ap bytes_of e)
-
-  -- a state with bytes is that of a write of these bytes
-  pub inline_of : (w : Wish) → SaysOf (Complete (Inline meta body)) w → (c : Content) × (w ≡ wish.Content c) × (c.body ≡ body)
+  -- a state with bytes is that of a write of bytes
+  pub inline_of : (w : Wish) → SaysOf (Complete (Inline meta body)) w → (c : Content) × (w ≡ wish.Content c)
   inline_of w (inl e) = let no : Complete (Inline meta body) ≡ Uploading = e in cc
   inline_of wish.Marker (inr says) = let no : Complete (Inline meta body) ≡ Complete Marker = says.1 in cc
-  inline_of (wish.Content c) (inr says) = (c, refl, inline_content says.0 c (is_long c.body) says.1)
+  inline_of (wish.Content c) (inr says) = (c, refl)
 
 module _ (meta : Meta) (first : Hash32) where
-  blocks_content : (block : ℕ) (c : Content) (b : Bool) → b ≡ false → Complete (Blocks meta first) ≡ content_state b block c → ⊥
-  blocks_content block c true short e = let no : true ≡ false = short in cc
-  blocks_content block c false short e = let no : Complete (Blocks meta first) ≡ Complete (Inline (meta_of c) c.body) = e in cc
+  -- and so is a state with blocks
+  pub blocks_of : (w : Wish) → SaysOf (Complete (Blocks meta first)) w → (c : Content) × (w ≡ wish.Content c)
+  blocks_of w (inl e) = let no : Complete (Blocks meta first) ≡ Uploading = e in cc
+  blocks_of wish.Marker (inr says) = let no : Complete (Blocks meta first) ≡ Complete Marker = says.1 in cc
+  blocks_of (wish.Content c) (inr says) = (c, refl)
 
-  -- no short wish is kept in blocks
-  pub blocks_of : (w : Wish) → IsShortWish w → SaysOf (Complete (Blocks meta first)) w → ⊥
-  blocks_of w short (inl e) = let no : Complete (Blocks meta first) ≡ Uploading = e in cc
-  blocks_of wish.Marker short (inr says) = let no : Complete (Blocks meta first) ≡ Complete Marker = says.1 in cc
-  blocks_of (wish.Content c) short (inr says) = blocks_content says.0 c (is_long c.body) short says.1
-
--- a write drew this version, to give an object these bytes whose key is this and whose bucket's name has this digest
-pub record FoundIn (draws : List Draw) (name : Name) (v : Version) (body : List ℕ) : Type 0 where
+-- a write drew this version, to give bytes to an object whose key is this and whose bucket's name has this digest
+pub record FoundIn (draws : List Draw) (name : Name) (v : Version) : Type 0 where
   pub draw : Draw
   pub drawn : Contains draws draw
   pub version : draw.version ≡ v
   pub content : Content
   pub wish_is : draw.wish ≡ wish.Content content
-  pub body_is : content.body ≡ body
   pub bucket : digest_of draw.name.bucket ≡ digest_of name.bucket
   pub key : draw.name.key ≡ name.key
 
+-- what was found stays found
+pub more_found : (draws newer : List Draw) (name : Name) (v : Version) → FoundIn draws name v → FoundIn (newer ++ draws) name v
+more_found draws newer name v f =
+    record { draw = f.draw; drawn = Contains-append_right newer draws f.draw f.drawn; version = f.version; content = f.content; wish_is = f.wish_is; bucket = f.bucket; key = f.key }
+
 module _ (draws : List Draw) (r : ObjectRow) (name : Name) where
-  -- what is said of an object, where nothing is kept in blocks
+  -- what is said of an object
   abbrev pub IsFound : says.Said → Type 0
   IsFound says.none = ⊤
   IsFound (says.marked v) = (r.bucket ≡ digest_of name.bucket) × (r.key ≡ name.key)
-  IsFound (says.inline v meta body) = FoundIn draws name v body
-  IsFound (says.in_blocks v meta first) = ⊥
+  IsFound (says.inline v meta body) = FoundIn draws name v
+  IsFound (says.in_blocks v meta first) = FoundIn draws name v
 
 module _ (draws : List Draw) (r : ObjectRow) (name : Name) (h : IsOf draws (rows.Object r)) (k : words.key (rows.Object r) ≡ row_key name) where
   -- the row is of this object
   pub same_object : (b : List ℕ) → digest_of b ≡ r.bucket → (r.bucket ≡ digest_of name.bucket) × (r.key ≡ name.key)
   same_object b is = key_parts r.bucket (digest_of name.bucket) r.key name.key (ap (λ (x : Hash32). length x.0) (sym is) ∙ digest_length b) (digest_length name.bucket) k
 
-  in_state : (n : Version) (meta : Meta) (body : List ℕ) → state_at r n ≡ Some (Complete (Inline meta body)) → FoundIn draws name n body
-  in_state n meta body at =
-      let d = h n (Complete (Inline meta body)) at in
-      let found = inline_of meta body d.draw.wish d.says in
+  in_state : (n : Version) (state : State) → ((w : Wish) → SaysOf state w → (c : Content) × (w ≡ wish.Content c)) → state_at r n ≡ Some state → FoundIn draws name n
+  in_state n state gives at =
+      let d = h n state at in
+      let found = gives d.draw.wish d.says in
       let parts = same_object d.draw.name.bucket d.bucket in
-      record { draw = d.draw; drawn = d.drawn; version = d.version; content = found.0; wish_is = found.1; body_is = found.2; bucket = d.bucket ∙ parts.0; key = d.key ∙ parts.1 }
+      record { draw = d.draw; drawn = d.drawn; version = d.version; content = found.0; wish_is = found.1; bucket = d.bucket ∙ parts.0; key = d.key ∙ parts.1 }
 
-  module _ (short : (d : Draw) → Contains draws d → IsShortWish d.wish) where
-    found_in : (n : Version) (o : Option State) → state_at r n ≡ o → IsFound draws r name (says.of_state n o)
-    found_in n None at = tt
-    found_in n (Some Uploading) at = tt
-    found_in n (Some Aborted) at = tt
-    found_in n (Some (Complete Marker)) at = let d = h n (Complete Marker) at in same_object d.draw.name.bucket d.bucket
-    found_in n (Some (Complete (Inline meta body))) at = in_state n meta body at
-    found_in n (Some (Complete (Blocks meta first))) at = let d = h n (Complete (Blocks meta first)) at in blocks_of meta first d.draw.wish (short d.draw d.drawn) d.says
+  found_in : (n : Version) (o : Option State) → state_at r n ≡ o → IsFound draws r name (says.of_state n o)
+  found_in n None at = tt
+  found_in n (Some Uploading) at = tt
+  found_in n (Some Aborted) at = tt
+  found_in n (Some (Complete Marker)) at = let d = h n (Complete Marker) at in same_object d.draw.name.bucket d.bucket
+  found_in n (Some (Complete (Inline meta body))) at = in_state n (Complete (Inline meta body)) (inline_of meta body) at
+  found_in n (Some (Complete (Blocks meta first))) at = in_state n (Complete (Blocks meta first)) (blocks_of meta first) at
 
-    found_at : (n : Option Version) → IsFound draws r name (says.of_version r n)
-    found_at None = tt
-    found_at (Some n) = found_in n (state_at r n) refl
+  found_at : (n : Option Version) → IsFound draws r name (says.of_version r n)
+  found_at None = tt
+  found_at (Some n) = found_in n (state_at r n) refl
 
-    pub found : IsFound draws r name (says.said_by r)
-    found = found_at (newest r)
+  pub found : IsFound draws r name (says.said_by r)
+  found = found_at (newest r)
+
+-- ---- what was written
+
+-- this is written in the version's row: what is stored beside the bytes, and these
+pub record IsInRow (draws : List Draw) (v : Version) (meta : Meta) (body : List ℕ) : Type 0 where
+  pub content : Content
+  pub was_written : IsWritten draws v content
+  pub meta_is : meta ≡ meta_of content
+  pub body_is : body ≡ content.body
+
+-- this is stored beside the version's bytes, which are kept in blocks
+pub record IsInBlocks (draws : List Draw) (v : Version) (meta : Meta) : Type 0 where
+  pub content : Content
+  pub was_written : IsWritten draws v content
+  pub meta_is : meta ≡ meta_of content
+  pub long : is_long content.body ≡ true
+
+-- what is said of bytes was written
+abbrev pub SaysWritten : List Draw → says.Said → Type 0
+SaysWritten draws (says.inline v meta body) = IsInRow draws v meta body
+SaysWritten draws (says.in_blocks v meta first) = IsInBlocks draws v meta
+SaysWritten draws _ = ⊤
+
+-- what was written stays so
+pub more_written : (draws newer : List Draw) (v : Version) (c : Content) → IsWritten draws v c → IsWritten (newer ++ draws) v c
+more_written draws newer v c w = record { draw = w.draw; drawn = Contains-append_right newer draws w.draw w.drawn; version_is = w.version_is; wish_is = w.wish_is }
+
+pub more_in_blocks : (draws newer : List Draw) (v : Version) (meta : Meta) → IsInBlocks draws v meta → IsInBlocks (newer ++ draws) v meta
+more_in_blocks draws newer v meta h = record { content = h.content; was_written = more_written draws newer v h.content h.was_written; meta_is = h.meta_is; long = h.long }
+
+pub more_says : (draws newer : List Draw) (said : says.Said) → SaysWritten draws said → SaysWritten (newer ++ draws) said
+more_says draws newer (says.inline v meta body) h = record { content = h.content; was_written = more_written draws newer v h.content h.was_written; meta_is = h.meta_is; body_is = h.body_is }
+more_says draws newer (says.in_blocks v meta first) h = more_in_blocks draws newer v meta h
+more_says draws newer _ h = tt
+
+-- the state of bytes in a row is that of bytes that aren't long, and has them
+inline_content : (meta : Meta) (body : List ℕ) (block : ℕ) (c : Content) (b : Bool) → Complete (Inline meta body) ≡ content_state b block c → (meta ≡ meta_of c) × (body ≡ c.body)
+inline_content meta body block c true e = let no : Complete (Inline meta body) ≡ Complete (Blocks (meta_of c) (piece_hash block c.body 0)) = e in cc
+inline_content meta body block c false e =
+    let whole : Complete (Inline meta body) ≡ Complete (Inline (meta_of c) c.body) = e in
+    let inside : Inline meta body ≡ Inline (meta_of c) c.body = cc in
+    (cc, cc)
+
+-- the state of bytes in blocks is that of long bytes
+blocks_content : (meta : Meta) (first : Hash32) (block : ℕ) (c : Content) (b : Bool) → Complete (Blocks meta first) ≡ content_state b block c → (meta ≡ meta_of c) × (b ≡ true)
+blocks_content meta first block c true e =
+    let whole : Complete (Blocks meta first) ≡ Complete (Blocks (meta_of c) (piece_hash block c.body 0)) = e in
+    let inside : Blocks meta first ≡ Blocks (meta_of c) (piece_hash block c.body 0) = cc in
+    (cc, refl)
+blocks_content meta first block c false e = let no : Complete (Blocks meta first) ≡ Complete (Inline (meta_of c) c.body) = e in cc
+
+module _ (draws : List Draw) (r : ObjectRow) (h : IsOf draws (rows.Object r)) where
+  inline_written : (n : Version) (meta : Meta) (body : List ℕ) (d : Draw) → Contains draws d → d.version ≡ n → (w : Wish) → d.wish ≡ w → SaysOf (Complete (Inline meta body)) w → IsInRow draws n meta body
+  inline_written n meta body d c v w is (inl e) = let no : Complete (Inline meta body) ≡ Uploading = e in cc
+  inline_written n meta body d c v wish.Marker is (inr e) = let no : Complete (Inline meta body) ≡ Complete Marker = e.1 in cc
+  inline_written n meta body d c v (wish.Content content) is (inr e) =
+      let same = inline_content meta body e.0 content (is_long content.body) e.1 in
+      record { content = content; was_written = record { draw = d; drawn = c; version_is = v; wish_is = is }; meta_is = same.0; body_is = same.1 }
+
+  blocks_written : (n : Version) (meta : Meta) (first : Hash32) (d : Draw) → Contains draws d → d.version ≡ n → (w : Wish) → d.wish ≡ w → SaysOf (Complete (Blocks meta first)) w → IsInBlocks draws n meta
+  blocks_written n meta first d c v w is (inl e) = let no : Complete (Blocks meta first) ≡ Uploading = e in cc
+  blocks_written n meta first d c v wish.Marker is (inr e) = let no : Complete (Blocks meta first) ≡ Complete Marker = e.1 in cc
+  blocks_written n meta first d c v (wish.Content content) is (inr e) =
+      let same = blocks_content meta first e.0 content (is_long content.body) e.1 in
+      record { content = content; was_written = record { draw = d; drawn = c; version_is = v; wish_is = is }; meta_is = same.0; long = same.1 }
+
+  written_in : (n : Version) (o : Option State) → state_at r n ≡ o → SaysWritten draws (says.of_state n o)
+  written_in n None at = tt
+  written_in n (Some Uploading) at = tt
+  written_in n (Some Aborted) at = tt
+  written_in n (Some (Complete Marker)) at = tt
+  written_in n (Some (Complete (Inline meta body))) at = let d = h n (Complete (Inline meta body)) at in inline_written n meta body d.draw d.drawn d.version d.draw.wish refl d.says
+  written_in n (Some (Complete (Blocks meta first))) at = let d = h n (Complete (Blocks meta first)) at in blocks_written n meta first d.draw d.drawn d.version d.draw.wish refl d.says
+
+  written_at : (n : Option Version) → SaysWritten draws (says.of_version r n)
+  written_at None = tt
+  written_at (Some n) = written_in n (state_at r n) refl
+
+  pub said_written : SaysWritten draws (says.said_by r)
+  said_written = written_at (newest r)
+
+-- what a value says of bytes was written, where it is none or a row whose versions were drawn
+pub value_written : (draws : List Draw) (value : Option AnyRow) → ((row : AnyRow) → value ≡ Some row → IsOf draws row) → SaysWritten draws (says.said_of value)
+value_written draws None h = tt
+value_written draws (Some (rows.Object r)) h = said_written draws r (h (rows.Object r) refl)
+value_written draws (Some (rows.Version r)) h = tt
+value_written draws (Some (rows.Ref r)) h = tt

@@ -1,12 +1,12 @@
 -- The invariant of a state that acts lead to.
-use Rattle.std.specs.Prelude.{◌≡◌, ◌≤◌, ℕ, false, IsTrue, List, ◌∷◌, [], ◌++◌, length, Some, ⊤}
-use Rattle.std.specs.List.{All, Contains}
+use Rattle.std.specs.Prelude.{◌≡◌, ◌≤◌, ◌⊎◌, ℕ, nat_eq, true, Option, IsTrue, List, ◌∷◌, [], ◌++◌, length, Some, ⊤}
+use Rattle.std.specs.List.{All, AllByRecursion, Contains, starts_with}
 use Rattle.crdt_core.specs.Members.{Has}
 use Rattle.crdt_rows.specs.declared.version.Version.{Version}
 use Rattle.crdt_rows.specs.declared.any_row.AnyRow.{AnyRow}
 use Rattle.crdt_rows.specs.AnyRow.{any_join}
 use Rattle.object_schema.specs.Schema.{words}
-use Rattle.cluster_machine.specs.Node.{Question, Present, resting, asking, scanning, storing, fetching, Call}
+use Rattle.cluster_machine.specs.Node.{Question, Scan, Present, resting, asking, scanning, storing, fetching, Call}
 use Rattle.cluster_machine.specs.World.{empty, numbered}
 use Rattle.machine_origins.specs.Origins.{stored_by}
 use Rattle.cluster_machine.specs.Worlds.{IsLawfulRun, run}
@@ -23,12 +23,19 @@ use Rattle.flow_model.specs.declared.flow.Wish.TheVariants as wish
 use Rattle.flow_model.specs.declared.flow.Aim.{Aim}
 use Rattle.flow_model.specs.declared.flow.Aim.TheVariants as aim
 use Rattle.flow_model.specs.declared.flow.Stage.{Stage}
-use Rattle.flow_model.specs.declared.flow.Stage.TheVariants.{Drawing, Completing, Looking}
+use Rattle.flow_model.specs.declared.flow.Stage.TheVariants.{Drawing, Uploading, Completing, Looking, Opening, Gathering, Listing}
 use Rattle.flow_model.specs.declared.flow.Flow.{Flow}
-use Rattle.flow_model.specs.Blocks.{is_long}
 use Rattle.flow_model.specs.Rows.{row_key, complete}
-use Rattle.store_model.specs.Run.{World, Moving, Asked, Draw, State}
-use Rattle.store_model.specs.Fresh.{Covers, NoClash, IsFresh}
+use Rattle.store_model.specs.Run.{World, Moving, Asked, Draw, Saw, State}
+use Rattle.store_model.specs.Fresh.{IsMarked, Covers, NoClash, IsFresh}
+use Rattle.history_model.specs.Fresh.{Below}
+use Rattle.store_laws.proofs.Hashes.{HasHash}
+use Rattle.store_laws.proofs.Rows.{FoundIn, IsInBlocks, SaysWritten}
+use Rattle.store_laws.proofs.Covering.{IsSaid}
+use Rattle.quorum_model.specs.Window.{is_within}
+use Rattle.flow_model.specs.Says.{is_shown, said_by}
+use Rattle.blake2_hash.specs.Hash.{digest_of}
+use Rattle.crdt_rows.specs.declared.object_row.ObjectRow.{ObjectRow}
 use Rattle.store_laws.proofs.Good.{IsGood}
 
 -- the world is one that lawful steps lead to, and each row that they began to store is good
@@ -49,17 +56,18 @@ pub record IsAsked (asked : List Asked) (q : ℕ) (kind : Kind) (name : Name) : 
   pub kind_is : one.kind ≡ kind
   pub name_is : one.name ≡ name
 
--- the history tells of each request that was asked for, and of no other; the names' buckets are there
+-- the history tells of each request that was asked for, and of no other; the names' buckets are there, and writes are of objects with a key
 pub record IsTold (buckets : List (List ℕ)) (asked : List Asked) (history : List Record) : Type 0 where
   pub began_asked : (q n : ℕ) (kind : Kind) (name : Name) → Contains history (began q n kind name) → IsAsked asked q kind name
   pub finished_asked : (q : ℕ) (answer : Answer) → Contains history (Finished q answer) → (a : Asked) × (numbered asked q ≡ Some a)
   pub asked_began : (q : ℕ) (a : Asked) → numbered asked q ≡ Some a → (n : ℕ) × Contains history (began q n a.kind a.name)
   pub bucket_there : (q : ℕ) (a : Asked) → numbered asked q ≡ Some a → Contains buckets a.name.bucket
+  pub key_there : (q n : ℕ) (kind : Kind) (name : Name) → Contains history (began q n kind name) → IsTrue (is_write kind) → 1 ≤ length name.key
 
--- requests of this kind may wish so: a delete makes a marker, a put or copy gives bytes, few enough to lie in the row
+-- requests of this kind may wish so: a delete makes a marker, a put or copy gives bytes
 abbrev pub IsWishOf : Kind → Wish → Type 0
 IsWishOf kind wish.Marker = IsTrue (is_write kind)
-IsWishOf kind (wish.Content c) = IsTrue (is_source kind) × (is_long c.body ≡ false)
+IsWishOf kind (wish.Content c) = IsTrue (is_source kind)
 
 -- a write that has begun drew this, for an object in one of the buckets
 pub record HasDrawn (buckets : List (List ℕ)) (history : List Record) (d : Draw) : Type 0 where
@@ -152,15 +160,59 @@ pub record IsStoring (asked : List Asked) (draws : List Draw) (n q : ℕ) (rows 
   pub stores : StoresFor draws q waits.flow.stage rows
   pub proper : AreProper rows
 
-abbrev pub IsPresent : List Asked → List Draw → List Record → ℕ → ℕ → Present AnyRow → Type 0
-IsPresent asked draws history n q resting = AskedAt asked n q
-IsPresent asked draws history n q (asking question answers) = IsAsking asked history n q question
-IsPresent asked draws history n q (scanning scan answers) = WaitsAt asked n q
-IsPresent asked draws history n q (storing rows slots) = IsStoring asked draws n q rows
-IsPresent asked draws history n q (fetching hash) = WaitsAt asked n q
+-- request q drew this version, to make this of its object
+pub record HasWished (draws : List Draw) (q : ℕ) (name : Name) (version : Version) (w : Wish) : Type 0 where
+  pub block : ℕ
+  pub moment : ℕ
+  pub drawn : Contains draws (record { request = q; name = name; version = version; wish = w; block = block; moment = moment })
 
-abbrev pub ArePresent : List Asked → List Draw → List Record → ℕ → List (Call AnyRow) → Type 0
-ArePresent asked draws history n calls = (c : Call AnyRow) → Has calls c → IsPresent asked draws history n c.request c.present
+-- this version of an object, which request q for `own` read, was drawn, and is not below what was acknowledged before the request began
+pub record HasFound (draws : List Draw) (history : List Record) (q : ℕ) (own name : Name) (version : Version) : Type 0 where
+  pub found : FoundIn draws name version
+  pub not_below : (before after : List Record) (n : ℕ) (kind : Kind) (w : Version) → history ≡ before ++ began q n kind own ∷ after → WasAcknowledged before name w → ¬ Below version w
+
+-- the object of this key in the bucket that a list is for
+abbrev pub listed : Name → List ℕ → Name
+listed own key = record { bucket = own.bucket; key = key }
+
+-- a row of this key is among these
+pub record HasRow (rows : List ObjectRow) (key : List ℕ) : Type 0 where
+  pub row : ObjectRow
+  pub is_there : Contains rows row
+  pub key_is : row.key ≡ key
+
+-- a row shows an object, whose version was found, and whose bytes were written
+abbrev pub IsShown : List Draw → List Record → ℕ → Name → ObjectRow → Type 0
+IsShown draws history q own r = (is_shown r ≡ true) × ((v : Version) → IsSaid v (said_by r) → HasFound draws history q own (listed own r.key) v) × SaysWritten draws (said_by r)
+
+-- the rows that a list has of keys up to here, or of all: each shows an object, and of each object that was acknowledged before the list began it has the row, or a marker explains that it has none
+pub record HasShown (draws : List Draw) (history : List Record) (saw : List Saw) (q : ℕ) (own : Name) (rows : List ObjectRow) (reach : Option (List ℕ)) : Type 0 where
+  pub shown : (r : ObjectRow) → Contains rows r → IsShown draws history q own r
+  pub covers : (before after : List Record) (n : ℕ) (kind : Kind) (key : List ℕ) (w : Version) → history ≡ before ++ began q n kind own ∷ after → IsTrue (starts_with nat_eq key own.key) →
+      IsTrue (is_within reach key) → WasAcknowledged before (listed own key) w → HasRow rows key ⊎ IsMarked saw q own.bucket key w
+
+-- a list that waits so scans past the keys of which it has all
+abbrev pub ScansFor : List Draw → List Record → List Saw → ℕ → Stage → Scan AnyRow → Type 0
+ScansFor draws history saw q (Listing bucket prefix rows) scan =
+    (scan.position ≡ (digest_of bucket).0) × (scan.prefix ≡ prefix) × HasShown draws history saw q (record { bucket = bucket; key = prefix }) rows (Some scan.after)
+ScansFor draws history saw q stage scan = ⊤
+
+-- request q scans, and all that was acknowledged before it began was kept before its range phase began
+pub record IsScanning (asked : List Asked) (draws : List Draw) (history : List Record) (saw : List Saw) (n q : ℕ) (scan : Scan AnyRow) : Type 0 where
+  pub waits : WaitsAt asked n q
+  pub scans : ScansFor draws history saw q waits.flow.stage scan
+  pub proper : AreProper scan.kept
+  pub has : HasBefore history q scan.kept
+
+abbrev pub IsPresent : List Asked → List Draw → List Record → List Saw → ℕ → ℕ → Present AnyRow → Type 0
+IsPresent asked draws history saw n q resting = AskedAt asked n q
+IsPresent asked draws history saw n q (asking question answers) = IsAsking asked history n q question
+IsPresent asked draws history saw n q (scanning scan answers) = IsScanning asked draws history saw n q scan
+IsPresent asked draws history saw n q (storing rows slots) = IsStoring asked draws n q rows
+IsPresent asked draws history saw n q (fetching hash) = WaitsAt asked n q
+
+abbrev pub ArePresent : List Asked → List Draw → List Record → List Saw → ℕ → List (Call AnyRow) → Type 0
+ArePresent asked draws history saw n calls = (c : Call AnyRow) → Has calls c → IsPresent asked draws history saw n c.request c.present
 
 -- the version was drawn by now, by a put or copy of this object
 pub record DrewHere (s : State) (name : Name) (version : Version) : Type 0 where
@@ -194,23 +246,32 @@ LooksAt a aim.Get name = name ≡ a.name
 LooksAt a aim.Head name = name ≡ a.name
 LooksAt a (aim.Copy new headers) name = ⊤
 
--- request q waits as its kind does; nothing is kept in blocks, and no list has begun
-abbrev pub IsStage : ℕ → Asked → Stage → Type 0
-IsStage q a (Drawing name wish) = (name ≡ a.name) × IsWishOf a.kind wish
-IsStage q a (Completing version meta) = IsTrue (is_write a.kind)
-IsStage q a (Looking name aim) = IsAimOf a aim × LooksAt a aim name
-IsStage q a _ = ⊥
+-- a get has found this version of its object; a copy owes nothing for what it reads
+abbrev pub HasSeen : List Draw → List Record → ℕ → Asked → Aim → Version → Type 0
+HasSeen draws history q a aim.Get version = HasFound draws history q a.name a.name version
+HasSeen draws history q a aim.Head version = HasFound draws history q a.name a.name version
+HasSeen draws history q a (aim.Copy name headers) version = ⊤
+
+-- request q waits as its kind does
+abbrev pub IsStage : List Draw → List Record → ℕ → Asked → Stage → Type 0
+IsStage draws history q a (Drawing name wish) = (name ≡ a.name) × IsWishOf a.kind wish
+IsStage draws history q a (Uploading name version content stored) = IsTrue (is_write a.kind) × HasWished draws q name version (wish.Content content)
+IsStage draws history q a (Completing version meta) = IsTrue (is_write a.kind)
+IsStage draws history q a (Looking name aim) = IsAimOf a aim × LooksAt a aim name
+IsStage draws history q a (Opening version meta aim) = IsAimOf a aim × HasSeen draws history q a aim version × IsInBlocks draws version meta
+IsStage draws history q a (Gathering version meta aim left body) = IsAimOf a aim × HasSeen draws history q a aim version × IsInBlocks draws version meta × AllByRecursion HasHash left
+IsStage draws history q a (Listing bucket prefix rows) = (a.kind ≡ kind.List) × (a.name ≡ record { bucket = bucket; key = prefix })
 
 -- each request waits as its kind does
-abbrev pub AreStages : List Asked → Type 0
-AreStages asked = (q : ℕ) (a : Asked) (flow : Flow) → numbered asked q ≡ Some a → a.flow ≡ Some flow → (flow.id ≡ q) × IsStage q a flow.stage
+abbrev pub AreStages : List Draw → List Record → List Asked → Type 0
+AreStages draws history asked = (q : ℕ) (a : Asked) (flow : Flow) → numbered asked q ≡ Some a → a.flow ≡ Some flow → (flow.id ≡ q) × IsStage draws history q a flow.stage
 
 pub record IsSound (s : State) : Type 0 where
   pub reached : IsReached s.draws s.world
   pub lengths : length s.asked ≡ length s.world.requests
   pub told : IsTold s.buckets s.asked s.history
-  pub presents : (n : ℕ) → ArePresent s.asked s.draws s.history n (s.world.nodes n).calls
-  pub stages : AreStages s.asked
+  pub presents : (n : ℕ) → ArePresent s.asked s.draws s.history s.saw n (s.world.nodes n).calls
+  pub stages : AreStages s.draws s.history s.asked
   pub drawn : (d : Draw) → Contains s.draws d → HasDrawn s.buckets s.history d
   pub acknowledged : HasAcknowledged s.world.kept s.history
   pub proper : AreProper s.world.kept

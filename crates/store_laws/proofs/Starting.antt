@@ -2,7 +2,7 @@
 use Rattle.std.proofs.Common.{ℕ, List, [], ◌∷◌, ◌++◌, refl}
 use Rattle.std.proofs.lemmas.List.Elements.{All-nil, Contains-append_left}
 use Rattle.store_model.specs.Run.{State, start}
-use Rattle.object_laws.proofs.Starting.{no_entry, none_in}
+use Rattle.store_laws.proofs.Elements.{no_entry, none_in}
 use Rattle.store_laws.proofs.Sound.{IsSound}
 use Rattle.store_laws.proofs.Freshness.{fresh_later}
 
@@ -15,6 +15,7 @@ start_sound = record {
     finished_asked = λ q answer c. absurd (none_in _ c);
     asked_began = λ q a h. absurd (no_entry q a h);
     bucket_there = λ q a h. absurd (no_entry q a h);
+    key_there = λ q n kind name c. absurd (none_in _ c);
   };
   presents = λ n c h. absurd h;
   stages = λ q a flow h is. absurd (no_entry q a h);
@@ -33,6 +34,7 @@ bucket_sound s name sound = record {
     finished_asked = sound.told.finished_asked;
     asked_began = sound.told.asked_began;
     bucket_there = λ q a h. Contains-append_left s.buckets (name ∷ []) _ (sound.told.bucket_there q a h);
+    key_there = sound.told.key_there;
   };
   presents = sound.presents;
   stages = sound.stages;

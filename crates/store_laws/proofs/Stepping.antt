@@ -19,7 +19,7 @@ use Rattle.machine_origins.specs.Origins.{stored_by}
 use Rattle.cluster_machine.specs.Worlds.{Done as Effect, IsLawfulRun}
 use Rattle.cluster_machine.proofs.Closing.{length_shut}
 use Rattle.store_model.specs.Run.{State, Moving, Asked, doing, effect}
-use Rattle.object_laws.proofs.Calm.{IsCalm}
+use Rattle.store_laws.proofs.Calm.{IsCalm}
 use Rattle.store_laws.proofs.Good.{IsGood}
 use Rattle.store_laws.proofs.Sound.{IsProper, AreProper, WaitsAt, IsPresent, ArePresent, IsSound}
 use Rattle.store_laws.proofs.Freshness.{fresh_later}
@@ -30,7 +30,7 @@ use Rattle.store_laws.proofs.Ends.{IsEnd, present_continues, ends_are}
 -- what is added fits the requests, and none opens
 pub record IsFine (s : State) (e : Effect AnyRow) : Type 0 where
   pub opens : e.opens ≡ []
-  pub presents : (n : ℕ) → ArePresent s.asked s.draws s.history n (changed e.nodes s.world.nodes n).calls
+  pub presents : (n : ℕ) → ArePresent s.asked s.draws s.history s.saw n (changed e.nodes s.world.nodes n).calls
   pub keeps : AreProper e.keeps
 
 pub step_sound : (s : State) (m : Moving) → IsSound s → IsLawfulRun any_join words s.world (m ∷ []) → All (IsGood s.draws) (stored_by m.step) → IsFine s (effect s m) → IsSound (doing s m)
@@ -53,16 +53,16 @@ step_sound s m sound lawful stores fine =
 pub fine_still : (s : State) (e : Effect AnyRow) → IsSound s → ((n : ℕ) → e.nodes n ≡ None) → e.opens ≡ [] → AreProper e.keeps → IsFine s e
 fine_still s e sound still opens keeps = record {
   opens = opens;
-  presents = λ n. subst (λ o. ArePresent s.asked s.draws s.history n (unwrap_or o (s.world.nodes n)).calls) (sym (still n)) (sound.presents n);
+  presents = λ n. subst (λ o. ArePresent s.asked s.draws s.history s.saw n (unwrap_or o (s.world.nodes n)).calls) (sym (still n)) (sound.presents n);
   keeps = keeps;
 }
 
-pub fine_one : (s : State) (e : Effect AnyRow) (n : ℕ) (y : Node AnyRow Layout) → IsSound s → ((m : ℕ) → e.nodes m ≡ only n y m) → e.opens ≡ [] → AreProper e.keeps → ArePresent s.asked s.draws s.history n y.calls → IsFine s e
+pub fine_one : (s : State) (e : Effect AnyRow) (n : ℕ) (y : Node AnyRow Layout) → IsSound s → ((m : ℕ) → e.nodes m ≡ only n y m) → e.opens ≡ [] → AreProper e.keeps → ArePresent s.asked s.draws s.history s.saw n y.calls → IsFine s e
 fine_one s e n y sound one opens keeps are = record {
   opens = opens;
-  presents = λ m. subst (λ o. ArePresent s.asked s.draws s.history m (unwrap_or o (s.world.nodes m)).calls) (sym (one m))
-      (elim (m == n) as (λ b. (m == n) ≡ b → ArePresent s.asked s.draws s.history m (unwrap_or (cond b (Some y) None) (s.world.nodes m)).calls) [
-        | true ↦ (λ t. subst (λ k. ArePresent s.asked s.draws s.history k y.calls) (sym (eqb-true m n t)) are)
+  presents = λ m. subst (λ o. ArePresent s.asked s.draws s.history s.saw m (unwrap_or o (s.world.nodes m)).calls) (sym (one m))
+      (elim (m == n) as (λ b. (m == n) ≡ b → ArePresent s.asked s.draws s.history s.saw m (unwrap_or (cond b (Some y) None) (s.world.nodes m)).calls) [
+        | true ↦ (λ t. subst (λ k. ArePresent s.asked s.draws s.history s.saw k y.calls) (sym (eqb-true m n t)) are)
         | false ↦ (λ f. sound.presents m)
       ] refl);
   keeps = keeps;
@@ -73,22 +73,22 @@ fine_cond s true d e h k = h
 fine_cond s false d e h k = k
 
 module _ (s : State) (e : Effect AnyRow) (sound : IsSound s) (calm : IsCalm s.world e) where
-  calm_both : AllByRecursion (λ (x : Ended AnyRow). IsEnd s.asked s.draws s.history (e.keeps ++ s.world.kept) (e.reads ++ s.world.reads) x.request x.how ×
+  calm_both : AllByRecursion (λ (x : Ended AnyRow). IsEnd s.asked s.draws s.history s.saw (e.keeps ++ s.world.kept) (e.reads ++ s.world.reads) x.request x.how ×
       WaitsAt s.asked calm.node x.request × ((c : Call AnyRow) → Has (changed e.nodes s.world.nodes calm.node).calls c → c.request ≡ x.request → c.present ≡ resting)) e.ends × AreProper e.keeps
-  calm_both = ends_are s.asked s.draws s.history calm.node s.world.kept s.world.reads e.keeps e.reads (s.world.nodes calm.node).calls (changed e.nodes s.world.nodes calm.node).calls e.ends (sound.presents calm.node) calm.ends
+  calm_both = ends_are s.asked s.draws s.history s.saw calm.node s.world.kept s.world.reads e.keeps e.reads (s.world.nodes calm.node).calls (changed e.nodes s.world.nodes calm.node).calls e.ends (sound.presents calm.node) calm.ends
 
   -- a calm step, and the phase that ended in it
   pub calm_fine : IsFine s e
   calm_fine = record {
     opens = calm.opens;
-    presents = λ n c h. present_continues s.asked s.draws s.history n (s.world.nodes n).calls (sound.presents n) c (calm.calls n c h);
+    presents = λ n c h. present_continues s.asked s.draws s.history s.saw n (s.world.nodes n).calls (sound.presents n) c (calm.calls n c h);
     keeps = calm_both.1;
   }
 
-  rests_or_waits : (n q : ℕ) (p : Present AnyRow) → IsPresent s.asked s.draws s.history n q p → (p ≡ resting) ⊎ WaitsAt s.asked n q
+  rests_or_waits : (n q : ℕ) (p : Present AnyRow) → IsPresent s.asked s.draws s.history s.saw n q p → (p ≡ resting) ⊎ WaitsAt s.asked n q
   rests_or_waits n q resting h = inl refl
   rests_or_waits n q (asking question answers) h = inr h.waits
-  rests_or_waits n q (scanning scan answers) h = inr h
+  rests_or_waits n q (scanning scan answers) h = inr h.waits
   rests_or_waits n q (storing rows slots) h = inr h.waits
   rests_or_waits n q (fetching hash) h = inr h
 
@@ -113,7 +113,7 @@ module _ (s : State) (e : Effect AnyRow) (sound : IsSound s) (calm : IsCalm s.wo
       ] refl
 
   abbrev pub IsEnded : Ended AnyRow → Type 0
-  IsEnded x = IsEnd s.asked s.draws s.history (e.keeps ++ s.world.kept) (e.reads ++ s.world.reads) x.request x.how ×
+  IsEnded x = IsEnd s.asked s.draws s.history s.saw (e.keeps ++ s.world.kept) (e.reads ++ s.world.reads) x.request x.how ×
       ((n : ℕ) (c : Call AnyRow) → Has (changed e.nodes s.world.nodes n).calls c → c.request ≡ x.request → c.present ≡ resting)
 
   -- the phases that ended in a calm step, and their requests rest

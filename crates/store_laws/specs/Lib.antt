@@ -1,2 +1,2 @@
 pub mod Promised
-pub mod Small
+pub mod Written

@@ -1,5 +1,5 @@
 -- What is promised of every moment of a run beside fresh reads: equal replicas, blocks that lie with live references, and requests that go on.
-use Rattle.std.specs.Prelude.{◌≡◌, ℕ, ◌++◌, false, IsTrue, Some, List, [], ◌∷◌}
+use Rattle.std.specs.Prelude.{◌≡◌, ℕ, ◌++◌, IsTrue, Some, List, [], ◌∷◌}
 use Rattle.std.specs.List.{Contains}
 use Rattle.crdt_core.specs.Members.{Has}
 use Rattle.crdt_core.specs.Order.{SameMembers}
@@ -9,8 +9,7 @@ use Rattle.crdt_rows.specs.AnyRow.{any_join}
 use Rattle.row_codec.specs.Spelling.{eight}
 use Rattle.object_schema.specs.Schema.{words}
 use Rattle.table_model.specs.Rows.{row_at, rows, rows_in}
-use Rattle.cluster_machine.specs.Node.{Block, Call, resting}
-use Rattle.cluster_machine.specs.World.{numbered}
+use Rattle.cluster_machine.specs.Node.{Call, resting}
 use Rattle.machine_origins.specs.Origins.{stored_in}
 use Rattle.history_model.specs.declared.record.Kind.{Kind}
 use Rattle.history_model.specs.declared.record.Answer.TheVariants as answer
@@ -24,7 +23,7 @@ use Rattle.flow_model.specs.declared.flow.Wish.{Wish}
 use Rattle.flow_model.specs.declared.flow.Wish.TheVariants as wish
 use Rattle.flow_model.specs.Blocks.{piece, piece_hash, has_piece, is_long}
 use Rattle.flow_model.specs.Rows.{complete, reference_row}
-use Rattle.store_model.specs.Run.{World, Moving, State, start, Draw, Asked}
+use Rattle.store_model.specs.Run.{World, Moving, State, start, Draw}
 use Rattle.store_model.specs.Acts.{Act, acted, after_acts}
 
 -- ---- equal

@@ -1,5 +1,5 @@
 -- What may happen in a run, and the run of a list of it.
-use Rattle.std.specs.Prelude.{ℕ, ⊤, List, [], ◌∷◌, ◌++◌, map}
+use Rattle.std.specs.Prelude.{◌≤◌, ℕ, ⊤, length, List, [], ◌∷◌, ◌++◌, map}
 use Rattle.crdt_rows.specs.declared.any_row.AnyRow.{AnyRow}
 use Rattle.crdt_rows.specs.AnyRow.{any_join}
 use Rattle.object_schema.specs.Schema.{words}
@@ -10,6 +10,7 @@ use Rattle.history_model.specs.declared.record.Cause.TheVariants.{Expired, Resta
 use Rattle.history_model.specs.declared.record.Record.{Record}
 use Rattle.history_model.specs.declared.record.Record.TheVariants.{Ended}
 use Rattle.flow_model.specs.declared.order.Order.{Order}
+use Rattle.flow_model.specs.declared.order.Order.TheVariants as order
 use Rattle.store_model.specs.Run.{Moving, State, Outcome, silent, effect, doing, begins, delivers, drains}
 
 -- a step of the world, a request at a node, a delivery, deliveries up to a number, a bucket, or a size of blocks
@@ -55,9 +56,17 @@ IsOuter (Phase q phase) = ⊥
 IsOuter (Close q) = ⊥
 IsOuter st = ⊤
 
--- the act may happen: a step of the world meets its conditions and is given what is lawful
+-- an object that is written has a key of a byte at least
+abbrev pub HasKey : Order → Type 0
+HasKey (order.Put bucket key body headers) = 1 ≤ length key
+HasKey (order.Delete bucket key) = 1 ≤ length key
+HasKey (order.Copy from_bucket from_key bucket key headers) = 1 ≤ length key
+HasKey other = ⊤
+
+-- the act may happen: a step of the world meets its conditions and is given what is lawful, and what is written has a key
 abbrev pub IsLawfulAct : State → Act → Type 0
 IsLawfulAct s (moves m) = IsOuter m.step × IsMeant m.step × IsLawful s.world m
+IsLawfulAct s (asks n order) = HasKey order
 IsLawfulAct s a = ⊤
 
 -- each of these acts may happen when it does

@@ -5,8 +5,14 @@
 //! step of the world, a request at a node, a delivery, deliveries up to a number, a bucket, or a size of blocks. One rule
 //! says how any request goes on in the very step in which its phase ends: as its flow does (flow_model).
 //!
+//! A schedule is a list of `Event`s, each an act; an event that computes a layout is given it, so that a run of a schedule
+//! is one of a list of turns, an event and what is given to it. Each event answers what it `Told`.
+//!
 //! In specs/: what the history says of an order (`Orders`) and of a request that ended (`Answers`, with its line), the
-//! state and its requests (`Run`), acts (`Acts`), a schedule's events as acts (`Events`), and fresh reads (`Fresh`).
-//! object_model has the same for puts and gets of small objects alone, in the form in which the program's code meets it
-//! today; the code of requests as flows takes this model in its place.
+//! state and its requests (`Run`), acts (`Acts`), a schedule's events as acts (`Events`), which turns are lawful and when
+//! everything fits after them (`Turns`), and fresh reads (`Fresh`).
 #![tactic(auto)]
+
+mod event;
+
+pub use event::{Event, Numbered, Told};
