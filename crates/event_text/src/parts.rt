@@ -1,7 +1,8 @@
 //! The words that lines are made of.
 ghost use Rattle.std.specs.Prelude.{◌≡◌, ◌++◌, ◌∷◌, decimal, OnOk};
 ghost use Rattle.crdt_core.specs.Outcomes.{OnlyWant};
-ghost use Rattle.layout_roles.specs.Text.{word};
+ghost use Rattle.hex.specs.Hex.{encode_lower};
+ghost use Rattle.layout_roles.specs.Text.{word, number};
 ghost use Rattle.text_model.specs.Transcript.{kind_text, done_text, end_word, version_text, size_text, digest_text};
 
 use crate::digits::append_digits;
@@ -82,15 +83,30 @@ pub(crate) fn append_size(out: &mut Bytes, size: &Option<u64>) -> Result<(), Mem
 }
 
 /// Lower-case hexadecimal.
+pub(crate) fn append_hex(out: &mut Bytes, bytes: &[u8]) -> Result<(), Memory>
+    ensures ok { OnOk result (out.new ≡ out.old ++ word (encode_lower bytes.now)) }
+    ensures want { OnlyWant result }
+{
+    let text = hex::encode(out.allocator(), bytes)?;
+    append_word(out, text.as_bytes())
+}
+
+/// An MD5, where there is one.
 pub(crate) fn append_digest(out: &mut Bytes, digest: &Option<[u8; 16]>) -> Result<(), Memory>
     ensures ok { OnOk result (out.new ≡ out.old ++ digest_text digest.now) }
     ensures want { OnlyWant result }
 {
     match digest {
         None => Ok(()),
-        Some(digest) => {
-            let text = hex::encode(out.allocator(), *digest)?;
-            append_word(out, text.as_bytes())
-        }
+        Some(digest) => append_hex(out, digest),
     }
+}
+
+/// A word and a number.
+pub(crate) fn append_numbered(out: &mut Bytes, name: &[u8], n: u64) -> Result<(), Memory>
+    ensures ok { OnOk result (out.new ≡ out.old ++ word (name.now ++ number n)) }
+    ensures want { OnlyWant result }
+{
+    append_word(out, name)?;
+    append_number(out, n)
 }

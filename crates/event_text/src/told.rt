@@ -2,25 +2,17 @@
 ghost use Rattle.std.specs.Prelude.{◌≡◌, ◌++◌, IfOk, OnOk};
 ghost use Rattle.crdt_core.specs.Outcomes.{OnlyWant};
 ghost use Rattle.cluster_machine.specs.declared.step.Refusal.TheVariants.{TooFewZones};
-ghost use Rattle.layout_roles.specs.Text.{word, number};
+ghost use Rattle.layout_roles.specs.Text.{word};
 ghost use Rattle.text_model.specs.Transcript.{refusal_text, words_text, answer_text, told_text};
 
 use crate::digits::append_digits;
 use crate::line::append_lines;
+use crate::parts::append_numbered;
 use cluster_machine::Words;
 use cluster_machine::applied::{Line, Refusal};
 use crdt_core::{Bytes, Memory};
 use layout_text::{append_number, append_word};
 use std::alloc::Global;
-
-// A reason with a number.
-fn append_numbered(out: &mut Bytes, reason: &[u8], n: u64) -> Result<(), Memory>
-    ensures ok { OnOk result (out.new ≡ out.old ++ word (reason.now ++ number n)) }
-    ensures want { OnlyWant result }
-{
-    append_word(out, reason)?;
-    append_number(out, n)
-}
 
 fn append_too_few_zones(out: &mut Bytes, zones: u8, wanted: u8) -> Result<(), Memory>
     ensures ok { OnOk result (out.new ≡ out.old ++ word (refusal_text (TooFewZones zones wanted))) }

@@ -1,8 +1,8 @@
 -- From the words of a line to the line.
 use Rattle.std.proofs.Common.{◌≡◌, ℕ, ◌≤◌, Some, None, List, length, take, length-take, Result, Ok, Err, Bor, sym, ◌∙◌, subst, arith, lit≤}
 use Rattle.std.proofs.lemmas.List.{take_all}
-use Rattle.object_model.specs.declared.event.Event.{Event}
-use Rattle.object_model.specs.declared.event.Event.TheVariants.{Role}
+use Rattle.store_model.specs.declared.event.Event.{Event}
+use Rattle.store_model.specs.declared.event.Event.TheVariants.{Role}
 use Rattle.text_model.specs.Grammar.{Spells, words_of}
 use Rattle.text_model.specs.Words.{words_in, IsSpelledBy}
 use Rattle.text_model.proofs.Spelled.{words_spelled, line_spelled}

@@ -1,10 +1,10 @@
 -- What the loop over the lines keeps.
-use Rattle.std.proofs.Common.{◌≡◌, ℕ, suc, ◌+◌, ◌<◌, ◌≤◌, inl, inr, true, false, ◌==◌, if◌then◌else◌, Some, None, List, [], ◌∷◌, ◌++◌, length, refl, sym, ap, ◌∙◌, subst, arith, add-one}
+use Rattle.std.proofs.Common.{◌≡◌, ℕ, suc, ◌+◌, ◌<◌, ◌≤◌, inl, inr, true, false, ◌==◌, List, [], ◌∷◌, ◌++◌, length, refl, sym, ap, ◌∙◌, subst, arith, add-one}
 use Rattle.std.proofs.lemmas.Bool.Decides.{nat_tests}
-use Rattle.object_model.specs.declared.event.Event.{Event}
-use Rattle.object_model.specs.declared.event.Numbered.{Numbered}
+use Rattle.store_model.specs.declared.event.Event.{Event}
+use Rattle.store_model.specs.declared.event.Numbered.{Numbered}
 use Rattle.text_model.specs.Grammar.{Spells, is_blank, lines_of}
-use Rattle.text_model.specs.Reading.{event_of, schedule, bad_line, event_before, line_before, reading_from, reading, IsSchedule, IsFirstBadLine}
+use Rattle.text_model.specs.Reading.{bad_line, event_before, line_before, reading_from, reading, IsSchedule, IsFirstBadLine}
 use Rattle.text_model.proofs.Decided.{spelled_is_read, none_is_read}
 use Rattle.text_model.proofs.Schedules.{events_before, before_push, before_none, before_bad}
 use Rattle.schedule_text.specs.Schedule.{AddsEvent, IsBad}

@@ -1,7 +1,7 @@
 -- What a line adds to the events.
 use Rattle.std.specs.Prelude.{◌≡◌, ◌⊎◌, ℕ, IsTrue, IsFalse, List, [], ◌∷◌, ◌++◌}
-use Rattle.object_model.specs.declared.event.Event.{Event}
-use Rattle.object_model.specs.declared.event.Numbered.{Numbered}
+use Rattle.store_model.specs.declared.event.Event.{Event}
+use Rattle.store_model.specs.declared.event.Numbered.{Numbered}
 use Rattle.text_model.specs.Grammar.{Spells, is_blank}
 
 -- line n adds the event that it spells, or nothing where it is blank

@@ -1,78 +1,18 @@
 //! The event that a line spells.
-ghost use Rattle.std.specs.Prelude.{◌≡◌, [], ◌∷◌, codes, decimal, take, IfOk};
-ghost use Rattle.text_model.specs.Grammar.{Spells, IsFrom};
+ghost use Rattle.std.specs.Prelude.{◌≡◌, ◌∷◌, codes, take, IfOk};
+ghost use Rattle.text_model.specs.Grammar.{Spells};
 ghost use Rattle.text_model.specs.Words.{words_in, IsSpelledBy};
-ghost use Rattle.schedule_text.specs.Reads.{Finds, Reads};
-ghost use Rattle.schedule_text.specs.Kinds.{kind_text, texts, IsPlace};
+ghost use Rattle.schedule_text.specs.Reads.{Reads};
+ghost use Rattle.schedule_text.specs.Kinds.{texts};
 
 use crate::fault::LineFault;
-use crate::names::{bucket_name, is, object_key};
-use crate::numbers::{node, number};
+use crate::line_kind::{Kind, kind_of};
+use crate::names::bucket_name;
+use crate::numbers::{filling, issued_alone, node, node_alone, number_alone};
+use crate::places::{object, place, prefixed, split_three};
 use crate::roles::{role_of, wanted};
-use crdt_core::Bytes;
-use object_model::Event;
 use std::alloc::{AllocError, Global};
-
-/// What a line does, by its first word.
-#[derive(Clone, Copy, Debug, PartialEq, Eq)]
-pub(crate) enum Kind {
-    Trio,
-    Bucket,
-    Role,
-    Redundancy,
-    Apply,
-    Tick,
-    Put,
-    Get,
-    Deliver,
-    Drain,
-    Expire,
-    Gossip,
-    Ack,
-    Sync,
-    SyncAck,
-    Clean,
-}
-
-fn kind_of(word: &[u8]) -> Option<Kind>
-    ensures { Finds (λ kind. word.now ≡ kind_text kind) result }
-{
-    if is(word, b"trio") {
-        Some(Kind::Trio)
-    } else if is(word, b"bucket") {
-        Some(Kind::Bucket)
-    } else if is(word, b"role") {
-        Some(Kind::Role)
-    } else if is(word, b"redundancy") {
-        Some(Kind::Redundancy)
-    } else if is(word, b"apply") {
-        Some(Kind::Apply)
-    } else if is(word, b"tick") {
-        Some(Kind::Tick)
-    } else if is(word, b"put") {
-        Some(Kind::Put)
-    } else if is(word, b"get") {
-        Some(Kind::Get)
-    } else if is(word, b"deliver") {
-        Some(Kind::Deliver)
-    } else if is(word, b"drain") {
-        Some(Kind::Drain)
-    } else if is(word, b"expire") {
-        Some(Kind::Expire)
-    } else if is(word, b"gossip") {
-        Some(Kind::Gossip)
-    } else if is(word, b"ack") {
-        Some(Kind::Ack)
-    } else if is(word, b"sync") {
-        Some(Kind::Sync)
-    } else if is(word, b"syncack") {
-        Some(Kind::SyncAck)
-    } else if is(word, b"clean") {
-        Some(Kind::Clean)
-    } else {
-        None
-    }
-}
+use store_model::Event;
 
 fn trio(words: &[&[u8]]) -> Result<Event, LineFault>
     ensures { Reads (IsSpelledBy (codes "trio" ∷ texts words.now)) result }
@@ -81,6 +21,12 @@ fn trio(words: &[&[u8]]) -> Result<Event, LineFault>
         [] => Ok(Event::Trio),
         _ => Err(LineFault::Outside),
     }
+}
+
+fn block(words: &[&[u8]]) -> Result<Event, LineFault>
+    ensures { Reads (IsSpelledBy (codes "block" ∷ texts words.now)) result }
+{
+    Ok(Event::Block(number_alone(words, 16, 1_048_576)? as u32))
 }
 
 fn bucket(alloc: Global, words: &[&[u8]]) -> Result<Event, LineFault>
@@ -113,98 +59,123 @@ fn redundancy(words: &[&[u8]]) -> Result<Event, LineFault>
     }
 }
 
-/// The node that one word names, where there is one.
-fn node_word(words: &[&[u8]]) -> Result<u8, LineFault>
-    ensures { Reads (λ n. (texts words.now ≡ decimal n ∷ []) × IsFrom 1 16 n) result }
-{
-    match *words {
-        [at] => node(at),
-        _ => Err(LineFault::Outside),
-    }
-}
-
 fn apply(words: &[&[u8]]) -> Result<Event, LineFault>
     ensures { Reads (IsSpelledBy (codes "apply" ∷ texts words.now)) result }
 {
-    Ok(Event::Apply(node_word(words)?))
+    Ok(Event::Apply(node_alone(words)?))
 }
 
 fn tick(words: &[&[u8]]) -> Result<Event, LineFault>
     ensures { Reads (IsSpelledBy (codes "tick" ∷ texts words.now)) result }
 {
-    match *words {
-        [ms] => Ok(Event::Tick(number(ms, 0, 86_400_000)?)),
-        _ => Err(LineFault::Outside),
-    }
+    Ok(Event::Tick(number_alone(words, 0, 86_400_000)?))
 }
 
-/// The node, the bucket's name and the key that a request's words name.
-fn place(
-    alloc: Global,
-    at: &[u8],
-    bucket: &[u8],
-    key: &[u8],
-) -> Result<(u8, Bytes, Bytes), LineFault>
-    ensures { Reads (IsPlace at.now bucket.now key.now) result }
+fn skew(words: &[&[u8]]) -> Result<Event, LineFault>
+    ensures { Reads (IsSpelledBy (codes "skew" ∷ texts words.now)) result }
 {
-    Ok((
-        node(at)?,
-        bucket_name(alloc, bucket)?,
-        object_key(alloc, key)?,
-    ))
+    let [at, rest @ ..] = words else {
+        return Err(LineFault::Outside);
+    };
+    Ok(Event::Skew {
+        node: node(at)?,
+        ms: number_alone(rest, 0, 3_600_000)?,
+    })
 }
 
 fn put(alloc: Global, words: &[&[u8]]) -> Result<Event, LineFault>
     ensures { Reads (IsSpelledBy (codes "put" ∷ texts words.now)) result }
 {
-    let [at, bucket, key, size, fill] = *words else {
-        return Err(LineFault::Outside);
-    };
-    let (node, bucket, key) = place(alloc, at, bucket, key)?;
+    let (front, rest) = split_three(words);
+    let (node, bucket, key) = place(alloc, front)?;
+    let (size, fill) = filling(rest)?;
     Ok(Event::Put {
         node,
         bucket,
         key,
-        size: number(size, 0, 3071)? as u32,
-        fill: number(fill, 0, 250)? as u8,
+        size,
+        fill,
     })
 }
 
 fn get(alloc: Global, words: &[&[u8]]) -> Result<Event, LineFault>
     ensures { Reads (IsSpelledBy (codes "get" ∷ texts words.now)) result }
 {
-    let [at, bucket, key] = *words else {
+    let (node, bucket, key) = place(alloc, words)?;
+    Ok(Event::Get { node, bucket, key })
+}
+
+fn head(alloc: Global, words: &[&[u8]]) -> Result<Event, LineFault>
+    ensures { Reads (IsSpelledBy (codes "head" ∷ texts words.now)) result }
+{
+    let (node, bucket, key) = place(alloc, words)?;
+    Ok(Event::Head { node, bucket, key })
+}
+
+fn delete(alloc: Global, words: &[&[u8]]) -> Result<Event, LineFault>
+    ensures { Reads (IsSpelledBy (codes "delete" ∷ texts words.now)) result }
+{
+    let (node, bucket, key) = place(alloc, words)?;
+    Ok(Event::Delete { node, bucket, key })
+}
+
+fn copy(alloc: Global, words: &[&[u8]]) -> Result<Event, LineFault>
+    ensures { Reads (IsSpelledBy (codes "copy" ∷ texts words.now)) result }
+{
+    let (front, rest) = split_three(words);
+    let (node, from_bucket, from_key) = place(alloc, front)?;
+    let (bucket, key) = object(alloc, rest)?;
+    Ok(Event::Copy {
+        node,
+        from_bucket,
+        from_key,
+        bucket,
+        key,
+    })
+}
+
+fn list(alloc: Global, words: &[&[u8]]) -> Result<Event, LineFault>
+    ensures { Reads (IsSpelledBy (codes "list" ∷ texts words.now)) result }
+{
+    let [at, rest @ ..] = words else {
         return Err(LineFault::Outside);
     };
-    let (node, bucket, key) = place(alloc, at, bucket, key)?;
-    Ok(Event::Get { node, bucket, key })
+    let (bucket, prefix) = prefixed(alloc, rest)?;
+    Ok(Event::List {
+        node: node(at)?,
+        bucket,
+        prefix,
+    })
 }
 
 fn deliver(words: &[&[u8]]) -> Result<Event, LineFault>
     ensures { Reads (IsSpelledBy (codes "deliver" ∷ texts words.now)) result }
 {
-    match *words {
-        [message] => Ok(Event::Deliver(number(message, 1, 4_294_967_295)?)),
-        _ => Err(LineFault::Outside),
-    }
+    Ok(Event::Deliver(issued_alone(words)?))
+}
+
+fn lose(words: &[&[u8]]) -> Result<Event, LineFault>
+    ensures { Reads (IsSpelledBy (codes "lose" ∷ texts words.now)) result }
+{
+    Ok(Event::Lose(issued_alone(words)?))
 }
 
 fn drain(words: &[&[u8]]) -> Result<Event, LineFault>
     ensures { Reads (IsSpelledBy (codes "drain" ∷ texts words.now)) result }
 {
-    match *words {
-        [times] => Ok(Event::Drain(number(times, 1, 1_000_000)? as u32)),
-        _ => Err(LineFault::Outside),
-    }
+    Ok(Event::Drain(number_alone(words, 1, 1_000_000)? as u32))
 }
 
 fn expire(words: &[&[u8]]) -> Result<Event, LineFault>
     ensures { Reads (IsSpelledBy (codes "expire" ∷ texts words.now)) result }
 {
-    match *words {
-        [request] => Ok(Event::Expire(number(request, 1, 4_294_967_295)?)),
-        _ => Err(LineFault::Outside),
-    }
+    Ok(Event::Expire(issued_alone(words)?))
+}
+
+fn restart(words: &[&[u8]]) -> Result<Event, LineFault>
+    ensures { Reads (IsSpelledBy (codes "restart" ∷ texts words.now)) result }
+{
+    Ok(Event::Restart(node_alone(words)?))
 }
 
 fn gossip(words: &[&[u8]]) -> Result<Event, LineFault>
@@ -222,25 +193,37 @@ fn gossip(words: &[&[u8]]) -> Result<Event, LineFault>
 fn ack(words: &[&[u8]]) -> Result<Event, LineFault>
     ensures { Reads (IsSpelledBy (codes "ack" ∷ texts words.now)) result }
 {
-    Ok(Event::Ack(node_word(words)?))
+    Ok(Event::Ack(node_alone(words)?))
 }
 
 fn sync(words: &[&[u8]]) -> Result<Event, LineFault>
     ensures { Reads (IsSpelledBy (codes "sync" ∷ texts words.now)) result }
 {
-    Ok(Event::Sync(node_word(words)?))
+    Ok(Event::Sync(node_alone(words)?))
 }
 
 fn sync_ack(words: &[&[u8]]) -> Result<Event, LineFault>
     ensures { Reads (IsSpelledBy (codes "syncack" ∷ texts words.now)) result }
 {
-    Ok(Event::SyncAck(node_word(words)?))
+    Ok(Event::SyncAck(node_alone(words)?))
 }
 
 fn clean(words: &[&[u8]]) -> Result<Event, LineFault>
     ensures { Reads (IsSpelledBy (codes "clean" ∷ texts words.now)) result }
 {
-    Ok(Event::Clean(node_word(words)?))
+    Ok(Event::Clean(node_alone(words)?))
+}
+
+fn work(words: &[&[u8]]) -> Result<Event, LineFault>
+    ensures { Reads (IsSpelledBy (codes "work" ∷ texts words.now)) result }
+{
+    Ok(Event::Work(node_alone(words)?))
+}
+
+fn repair(words: &[&[u8]]) -> Result<Event, LineFault>
+    ensures { Reads (IsSpelledBy (codes "repair" ∷ texts words.now)) result }
+{
+    Ok(Event::Repair(node_alone(words)?))
 }
 
 /// The event that the words of a line spell.
@@ -252,21 +235,31 @@ fn spelled(alloc: Global, words: &[&[u8]]) -> Result<Event, LineFault>
     };
     match kind_of(first).ok_or(LineFault::Outside)? {
         Kind::Trio => trio(rest),
+        Kind::Block => block(rest),
         Kind::Bucket => bucket(alloc, rest),
         Kind::Role => role(alloc, rest),
         Kind::Redundancy => redundancy(rest),
         Kind::Apply => apply(rest),
         Kind::Tick => tick(rest),
+        Kind::Skew => skew(rest),
         Kind::Put => put(alloc, rest),
         Kind::Get => get(alloc, rest),
+        Kind::Head => head(alloc, rest),
+        Kind::Delete => delete(alloc, rest),
+        Kind::Copy => copy(alloc, rest),
+        Kind::List => list(alloc, rest),
         Kind::Deliver => deliver(rest),
+        Kind::Lose => lose(rest),
         Kind::Drain => drain(rest),
         Kind::Expire => expire(rest),
+        Kind::Restart => restart(rest),
         Kind::Gossip => gossip(rest),
         Kind::Ack => ack(rest),
         Kind::Sync => sync(rest),
         Kind::SyncAck => sync_ack(rest),
         Kind::Clean => clean(rest),
+        Kind::Work => work(rest),
+        Kind::Repair => repair(rest),
     }
 }
 

@@ -1,7 +1,7 @@
 //! What holds of every text.
 ghost use Rattle.std.specs.Prelude.{◌≡◌, ◌↔◌, ◌⊎◌, ℕ, Some, List};
-ghost use Rattle.object_model.specs.declared.event.Event.{Event};
-ghost use Rattle.object_model.specs.declared.event.Numbered.{Numbered};
+ghost use Rattle.store_model.specs.declared.event.Event.{Event};
+ghost use Rattle.store_model.specs.declared.event.Numbered.{Numbered};
 ghost use Rattle.text_model.specs.Grammar.{Spells};
 ghost use Rattle.text_model.specs.Reading.{event_of, IsSchedule, IsFirstBadLine};
 

@@ -1,20 +1,22 @@
 //! Reads a schedule: the events that its lines spell, or the first line outside the grammar.
 //!
 //! `parse` goes line by line. A line is cut at its spaces (`event_line`); its first word says which
-//! event it is, and the others are numbers (`numbers`), names (`names`) and roles (`roles`) in their
-//! ranges. Empty lines and those that begin with `#` are no events, but count as lines. `every_text_reads` is the
+//! event it is (`line_kind`), and the others are numbers (`numbers`), names (`names`), a request's node, bucket and key
+//! (`places`) and roles (`roles`) in their ranges. Empty lines and those that begin with `#` are no events, but count as lines. `every_text_reads` is the
 //! law that each text is a schedule or has a first bad line.
 #![tactic(auto)]
 
 mod event_line;
 mod fault;
 mod laws;
+mod line_kind;
 mod names;
 mod numbers;
+mod places;
 mod roles;
 mod schedule;
 
 pub use fault::ScheduleFault;
 pub use laws::every_text_reads;
-pub use object_model::{Event, Numbered};
 pub use schedule::parse;
+pub use store_model::{Event, Numbered};

@@ -2,7 +2,7 @@
 ghost use Rattle.std.specs.Prelude.{◌≡◌, ◌↔◌, IsTrue};
 ghost use Rattle.std.specs.List.{list_all};
 ghost use Rattle.layout_text.specs.Values.{is_between, is_name_byte, is_bucket_byte, is_bucket_name, is_zone_name};
-ghost use Rattle.text_model.specs.Grammar.{is_key_byte, is_key};
+ghost use Rattle.text_model.specs.Grammar.{is_key_byte, is_key, prefix_word, is_prefix};
 ghost use Rattle.schedule_text.specs.Reads.{Reads};
 
 use crate::fault::LineFault;
@@ -112,4 +112,14 @@ pub(crate) fn object_key(alloc: Global, word: &[u8]) -> Result<Bytes, LineFault>
         return Err(LineFault::Outside);
     }
     Ok(Bytes::from_slice(alloc, word)?)
+}
+
+/// `*` for the empty prefix, or as a key.
+pub(crate) fn key_prefix(alloc: Global, word: &[u8]) -> Result<Bytes, LineFault>
+    ensures { Reads (λ prefix. (word.now ≡ prefix_word prefix) × IsTrue (is_prefix prefix)) result }
+{
+    if is(word, b"*") {
+        return Ok(Bytes::new(alloc));
+    }
+    object_key(alloc, word)
 }

@@ -7,8 +7,8 @@ ghost use Rattle.schedule_text.specs.Schedule.{AddsEvent, IsBad};
 use crate::event_line::event_line;
 use crate::fault::{LineFault, ScheduleFault};
 use crdt_core::List;
-use object_model::Numbered;
 use std::alloc::Global;
+use store_model::Numbered;
 
 fn line_feed(text: &[u8]) -> Option<usize>
     ensures { result ≡ position (λ b. b == 10) text.now }

@@ -1,9 +1,9 @@
 -- What the lines of a text spell.
-use Rattle.std.proofs.Common.{◌≡◌, ℕ, zero, suc, ◌<◌, ◌⊎◌, inl, inr, Bool, true, false, if◌then◌else◌, Option, Some, None, List, [], ◌∷◌, ◌++◌, length, refl, sym, ap, subst, ◌∙◌, arith}
+use Rattle.std.proofs.Common.{◌≡◌, ℕ, suc, ◌⊎◌, inl, inr, true, false, if◌then◌else◌, Option, Some, None, List, [], ◌∷◌, ◌++◌, refl, ap, subst}
 use Rattle.std.specs.List.{All}
 use Rattle.std.proofs.lemmas.List.Elements.{All-nil, All-cons}
-use Rattle.object_model.specs.declared.event.Event.{Event}
-use Rattle.object_model.specs.declared.event.Numbered.{Numbered}
+use Rattle.store_model.specs.declared.event.Event.{Event}
+use Rattle.store_model.specs.declared.event.Numbered.{Numbered}
 use Rattle.text_model.specs.Grammar.{IsAllowed, is_blank, lines_of}
 use Rattle.text_model.specs.Reading.{event_of, Reading, schedule, bad_line, event_before, line_before, reading_from, reading, IsSchedule, IsFirstBadLine}
 use Rattle.text_model.proofs.Decided.{event_is_spelled}

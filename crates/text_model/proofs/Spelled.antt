@@ -14,10 +14,10 @@ use Rattle.layout_roles.specs.declared.role.Kind.{Kind}
 use Rattle.layout_roles.specs.declared.role.Kind.TheVariants.{Storage, Gateway}
 use Rattle.layout_roles.specs.declared.redundancy.Redundancy as wanted
 use Rattle.layout_roles.specs.declared.redundancy.Redundancy.TheVariants.{AtLeast, Maximum}
-use Rattle.object_model.specs.declared.event.Event.{Event}
-use Rattle.object_model.specs.declared.event.Event.TheVariants.{Trio, Bucket, Role, Redundancy, Apply, Tick, Put, Get, Deliver, Drain, Expire, Gossip, Ack, Sync, SyncAck, Clean}
+use Rattle.store_model.specs.declared.event.Event.{Event}
+use Rattle.store_model.specs.declared.event.Event.TheVariants.{Trio, Block, Bucket, Role, Redundancy, Apply, Tick, Skew, Put, Get, Head, Delete, Copy, List as Keys, Deliver, Lose, Drain, Expire, Restart, Gossip, Ack, Sync, SyncAck, Clean, Work, Repair}
 use Rattle.layout_text.specs.Values.{is_between, is_name_byte, is_bucket_byte, is_bucket_name, is_zone_name}
-use Rattle.text_model.specs.Grammar.{Spells, IsAllowed, IsIn, capacity_range, redundancy_range, is_key, is_key_byte, kind_word, redundancy_word, words_of}
+use Rattle.text_model.specs.Grammar.{Spells, IsAllowed, IsIn, capacity_range, redundancy_range, object_range, is_key, is_key_byte, is_prefix, prefix_word, kind_word, redundancy_word, words_of}
 use Rattle.text_model.specs.Words.{is_space, words_in, IsSpelledBy}
 
 abbrev NoSpace : List ℕ → Type 0
@@ -57,6 +57,13 @@ zone_no_space name h = all_no_space is_name_byte refl name (and_parts (is_betwee
 key_no_space : (key : List ℕ) → IsTrue (is_key key) → NoSpace key
 key_no_space key h = all_no_space is_key_byte refl key (and_parts (is_between 1 64 (length key)) _ h).1
 
+name_no_space : (name : List ℕ) → AllByRecursion (λ b. is_space b ≡ false) name → NoSpace name
+name_no_space name h = All-from_recursion (λ b. is_space b ≡ false) name h
+
+prefix_no_space : (prefix : List ℕ) → IsTrue (is_prefix prefix) → NoSpace (prefix_word prefix)
+prefix_no_space [] h = name_no_space (codes "*") (search rules)
+prefix_no_space (b ∷ bs) h = key_no_space (b ∷ bs) h
+
 digit_no_space : (c : ℕ) → IsInRange 48 57 c → is_space c ≡ false
 digit_no_space c h = grind (arith, nat_tests)
 
@@ -67,9 +74,6 @@ digits_no_space (c ∷ cs) h =
 
 number_no_space : (n : ℕ) → n < 2 ^ 64 → NoSpace (decimal n)
 number_no_space n h = digits_no_space (decimal n) (decimal_is_IsNumeral n h).0.1
-
-name_no_space : (name : List ℕ) → AllByRecursion (λ b. is_space b ≡ false) name → NoSpace name
-name_no_space name h = All-from_recursion (λ b. is_space b ≡ false) name h
 
 kind_no_space : (k : Kind) → IsIn (capacity_range k) → NoSpace (kind_word k)
 kind_no_space (Storage capacity) h = number_no_space capacity (omega arith)
@@ -83,8 +87,18 @@ redundancy_no_space Maximum h = name_no_space (codes "maximum") (search rules)
 named : (name : List ℕ) → AllByRecursion (λ b. is_space b ≡ false) name → (n : ℕ) → n < 2 ^ 64 → NoSpaces (name ∷ decimal n ∷ [])
 named name h n small = (name_no_space name h, (number_no_space n small, tt))
 
+-- a name, a node, a bucket and a key before other words
+placed_before : (name : List ℕ) → AllByRecursion (λ b. is_space b ≡ false) name → (n : ℕ) (bucket key : List ℕ) (ws : List (List ℕ)) → IsIn (object_range n bucket key) → NoSpaces ws → NoSpaces (name ∷ decimal n ∷ bucket ∷ key ∷ ws)
+placed_before name s n bucket key ws h rest =
+    (name_no_space name s, (number_no_space n (omega arith), (bucket_no_space bucket h.1.0, (key_no_space key h.1.1, rest))))
+
+-- a name, a node, a bucket and a key
+placed : (name : List ℕ) → AllByRecursion (λ b. is_space b ≡ false) name → (n : ℕ) (bucket key : List ℕ) → IsIn (object_range n bucket key) → NoSpaces (name ∷ decimal n ∷ bucket ∷ key ∷ [])
+placed name s n bucket key h = placed_before name s n bucket key [] h tt
+
 no_spaces : (e : Event) → IsAllowed e → NoSpaces (words_of e)
 no_spaces Trio h = (name_no_space (codes "trio") (search rules), tt)
+no_spaces (Block size) h = named (codes "block") (search rules) size (omega arith)
 no_spaces (Bucket name) h = (name_no_space (codes "bucket") (search rules), (bucket_no_space name h, tt))
 no_spaces (Role n None) h = (
   name_no_space (codes "role") (search rules),
@@ -97,20 +111,26 @@ no_spaces (Role n (Some role)) h = (
 no_spaces (Redundancy r) h = (name_no_space (codes "redundancy") (search rules), (redundancy_no_space r h, tt))
 no_spaces (Apply n) h = named (codes "apply") (search rules) n (omega arith)
 no_spaces (Tick ms) h = named (codes "tick") (search rules) ms (omega arith)
-no_spaces (Put n bucket key size fill) h = (
-  name_no_space (codes "put") (search rules),
-  (
-    number_no_space n (omega arith),
-    (bucket_no_space bucket h.1.0, (key_no_space key h.1.1.0, (number_no_space size (omega arith), (number_no_space fill (omega arith), tt)))),
-  ),
+no_spaces (Skew n ms) h = (
+  name_no_space (codes "skew") (search rules),
+  (number_no_space n (omega arith), (number_no_space ms (omega arith), tt)),
 )
-no_spaces (Get n bucket key) h = (
-  name_no_space (codes "get") (search rules),
-  (number_no_space n (omega arith), (bucket_no_space bucket h.1.0, (key_no_space key h.1.1, tt))),
+no_spaces (Put n bucket key size fill) h =
+    placed_before (codes "put") (search rules) n bucket key (decimal size ∷ decimal fill ∷ []) h.0 (number_no_space size (omega arith), (number_no_space fill (omega arith), tt))
+no_spaces (Get n bucket key) h = placed (codes "get") (search rules) n bucket key h
+no_spaces (Head n bucket key) h = placed (codes "head") (search rules) n bucket key h
+no_spaces (Delete n bucket key) h = placed (codes "delete") (search rules) n bucket key h
+no_spaces (Copy n from_bucket from_key bucket key) h =
+    placed_before (codes "copy") (search rules) n from_bucket from_key (bucket ∷ key ∷ []) h.0 (bucket_no_space bucket h.1.0, (key_no_space key h.1.1, tt))
+no_spaces (Keys n bucket prefix) h = (
+  name_no_space (codes "list") (search rules),
+  (number_no_space n (omega arith), (bucket_no_space bucket h.1.0, (prefix_no_space prefix h.1.1, tt))),
 )
 no_spaces (Deliver m) h = named (codes "deliver") (search rules) m (omega arith)
+no_spaces (Lose m) h = named (codes "lose") (search rules) m (omega arith)
 no_spaces (Drain n) h = named (codes "drain") (search rules) n (omega arith)
 no_spaces (Expire q) h = named (codes "expire") (search rules) q (omega arith)
+no_spaces (Restart n) h = named (codes "restart") (search rules) n (omega arith)
 no_spaces (Gossip from to) h = (
   name_no_space (codes "gossip") (search rules),
   (number_no_space from (omega arith), (number_no_space to (omega arith), tt)),
@@ -119,6 +139,8 @@ no_spaces (Ack n) h = named (codes "ack") (search rules) n (omega arith)
 no_spaces (Sync n) h = named (codes "sync") (search rules) n (omega arith)
 no_spaces (SyncAck n) h = named (codes "syncack") (search rules) n (omega arith)
 no_spaces (Clean n) h = named (codes "clean") (search rules) n (omega arith)
+no_spaces (Work n) h = named (codes "work") (search rules) n (omega arith)
+no_spaces (Repair n) h = named (codes "repair") (search rules) n (omega arith)
 
 words_of_spelling : (e : Event) → IsAllowed e → words_in (join_with_byte 32 (words_of e)) ≡ words_of e
 words_of_spelling Trio h = split_join _ _ (no_spaces Trio h)

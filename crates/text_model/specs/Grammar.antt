@@ -1,14 +1,14 @@
 -- Which event a line of a schedule spells, and the lines of an input.
 use Rattle.std.specs.Prelude.{◌≡◌, ℕ, ◌≤◌, Bool, true, ◌||◌, ◌&&◌, ◌==◌, if◌then◌else◌, IsTrue, ⊤, Option, Some, None, List, [], ◌∷◌, length, codes, decimal}
 use Rattle.std.specs.List.{list_all, join_with_byte}
-use Rattle.object_model.specs.declared.event.Event.{Event}
+use Rattle.store_model.specs.declared.event.Event.{Event}
 use Rattle.layout_text.specs.Values.{is_between, is_name_byte, is_bucket_name, is_zone_name}
 use Rattle.layout_roles.specs.declared.role.Zone.{Zone}
 use Rattle.layout_roles.specs.declared.role.Kind.{Kind}
 use Rattle.layout_roles.specs.declared.role.Kind.TheVariants.{Storage, Gateway}
 use Rattle.layout_roles.specs.declared.redundancy.Redundancy as wanted
 use Rattle.layout_roles.specs.declared.redundancy.Redundancy.TheVariants.{AtLeast, Maximum}
-use Rattle.object_model.specs.declared.event.Event.TheVariants.{Trio, Bucket, Role, Redundancy, Apply, Tick, Put, Get, Deliver, Drain, Expire, Gossip, Ack, Sync, SyncAck, Clean}
+use Rattle.store_model.specs.declared.event.Event.TheVariants.{Trio, Block, Bucket, Role, Redundancy, Apply, Tick, Skew, Put, Get, Head, Delete, Copy, List as Keys, Deliver, Lose, Drain, Expire, Restart, Gossip, Ack, Sync, SyncAck, Clean, Work, Repair}
 
 -- 0 to 9
 abbrev pub is_digit : ℕ → Bool
@@ -41,24 +41,44 @@ abbrev pub redundancy_word : wanted.Redundancy → List ℕ
 redundancy_word (AtLeast r) = decimal r
 redundancy_word Maximum = codes "maximum"
 
+-- the word of a prefix: * for the empty one
+abbrev pub prefix_word : List ℕ → List ℕ
+prefix_word [] = codes "*"
+prefix_word (b ∷ bs) = b ∷ bs
+
+-- a prefix: the empty one, or as a key
+abbrev pub is_prefix : List ℕ → Bool
+is_prefix [] = true
+is_prefix (b ∷ bs) = is_key (b ∷ bs)
+
 -- the words of an event: its name and what it says, numbers in decimal without a leading zero
 abbrev pub words_of : Event → List (List ℕ)
 words_of Trio = codes "trio" ∷ []
+words_of (Block size) = codes "block" ∷ decimal size ∷ []
 words_of (Bucket name) = codes "bucket" ∷ name ∷ []
 words_of (Role n role) = codes "role" ∷ decimal n ∷ role_words role
 words_of (Redundancy r) = codes "redundancy" ∷ redundancy_word r ∷ []
 words_of (Apply n) = codes "apply" ∷ decimal n ∷ []
 words_of (Tick ms) = codes "tick" ∷ decimal ms ∷ []
+words_of (Skew n ms) = codes "skew" ∷ decimal n ∷ decimal ms ∷ []
 words_of (Put n bucket key size fill) = codes "put" ∷ decimal n ∷ bucket ∷ key ∷ decimal size ∷ decimal fill ∷ []
 words_of (Get n bucket key) = codes "get" ∷ decimal n ∷ bucket ∷ key ∷ []
+words_of (Head n bucket key) = codes "head" ∷ decimal n ∷ bucket ∷ key ∷ []
+words_of (Delete n bucket key) = codes "delete" ∷ decimal n ∷ bucket ∷ key ∷ []
+words_of (Copy n from_bucket from_key bucket key) = codes "copy" ∷ decimal n ∷ from_bucket ∷ from_key ∷ bucket ∷ key ∷ []
+words_of (Keys n bucket prefix) = codes "list" ∷ decimal n ∷ bucket ∷ prefix_word prefix ∷ []
 words_of (Deliver m) = codes "deliver" ∷ decimal m ∷ []
+words_of (Lose m) = codes "lose" ∷ decimal m ∷ []
 words_of (Drain n) = codes "drain" ∷ decimal n ∷ []
 words_of (Expire q) = codes "expire" ∷ decimal q ∷ []
+words_of (Restart n) = codes "restart" ∷ decimal n ∷ []
 words_of (Gossip from to) = codes "gossip" ∷ decimal from ∷ decimal to ∷ []
 words_of (Ack n) = codes "ack" ∷ decimal n ∷ []
 words_of (Sync n) = codes "sync" ∷ decimal n ∷ []
 words_of (SyncAck n) = codes "syncack" ∷ decimal n ∷ []
 words_of (Clean n) = codes "clean" ∷ decimal n ∷ []
+words_of (Work n) = codes "work" ∷ decimal n ∷ []
+words_of (Repair n) = codes "repair" ∷ decimal n ∷ []
 
 -- the first of some words
 abbrev pub first_word : List (List ℕ) → List ℕ
@@ -80,11 +100,20 @@ pub data Range : Type 0 where
   bucket : List ℕ → Range
   zone : List ℕ → Range
   key : List ℕ → Range
+  prefix : List ℕ → Range
   both : Range → Range → Range
 
 -- a node's number is from 1 to 16
 abbrev pub node_range : ℕ → Range
 node_range n = number 1 16 n
+
+-- a request is at a node, for an object
+abbrev pub object_range : ℕ → List ℕ → List ℕ → Range
+object_range n name object = both (node_range n) (both (bucket name) (key object))
+
+-- the number of a message or a request is from 1, and has 32 bits at most
+abbrev pub issued_range : ℕ → Range
+issued_range n = number 1 4294967295 n
 
 -- a capacity is from 1 byte to 1 PiB
 abbrev pub capacity_range : Kind → Range
@@ -104,21 +133,31 @@ redundancy_range Maximum = anything
 -- the ranges of an event's words
 abbrev pub range_of : Event → Range
 range_of Trio = anything
+range_of (Block size) = number 16 1048576 size
 range_of (Bucket name) = bucket name
 range_of (Role n role) = both (node_range n) (role_range role)
 range_of (Redundancy r) = redundancy_range r
 range_of (Apply n) = node_range n
 range_of (Tick ms) = number 0 86400000 ms
-range_of (Put n name object size fill) = both (node_range n) (both (bucket name) (both (key object) (both (number 0 3071 size) (number 0 250 fill))))
-range_of (Get n name object) = both (node_range n) (both (bucket name) (key object))
-range_of (Deliver m) = number 1 4294967295 m
+range_of (Skew n ms) = both (node_range n) (number 0 3600000 ms)
+range_of (Put n name object size fill) = both (object_range n name object) (both (number 0 65536 size) (number 0 250 fill))
+range_of (Get n name object) = object_range n name object
+range_of (Head n name object) = object_range n name object
+range_of (Delete n name object) = object_range n name object
+range_of (Copy n from_name from_object name object) = both (object_range n from_name from_object) (both (bucket name) (key object))
+range_of (Keys n name start) = both (node_range n) (both (bucket name) (prefix start))
+range_of (Deliver m) = issued_range m
+range_of (Lose m) = issued_range m
 range_of (Drain n) = number 1 1000000 n
-range_of (Expire q) = number 1 4294967295 q
+range_of (Expire q) = issued_range q
+range_of (Restart n) = node_range n
 range_of (Gossip from to) = both (node_range from) (node_range to)
 range_of (Ack n) = node_range n
 range_of (Sync n) = node_range n
 range_of (SyncAck n) = node_range n
 range_of (Clean n) = node_range n
+range_of (Work n) = node_range n
+range_of (Repair n) = node_range n
 
 -- the number is in a range
 abbrev pub IsFrom : ℕ → ℕ → ℕ → Type 0
@@ -131,6 +170,7 @@ IsIn (number low high n) = IsFrom low high n
 IsIn (bucket name) = IsTrue (is_bucket_name name)
 IsIn (zone name) = IsTrue (is_zone_name name)
 IsIn (key name) = IsTrue (is_key name)
+IsIn (prefix name) = IsTrue (is_prefix name)
 IsIn (both a b) = IsIn a × IsIn b
 
 -- the words of an event are in their ranges

@@ -5,11 +5,11 @@ use Rattle.layout_roles.specs.declared.role.Kind.{Kind}
 use Rattle.layout_roles.specs.declared.role.Kind.TheVariants.{Storage, Gateway}
 use Rattle.layout_roles.specs.declared.redundancy.Redundancy as wanted
 use Rattle.layout_roles.specs.declared.redundancy.Redundancy.TheVariants.{AtLeast, Maximum}
-use Rattle.object_model.specs.declared.event.Event.{Event}
-use Rattle.object_model.specs.declared.event.Event.TheVariants.{Trio, Bucket, Role, Redundancy, Apply, Tick, Put, Get, Deliver, Drain, Expire, Gossip, Ack, Sync, SyncAck, Clean}
-use Rattle.object_model.specs.declared.event.Numbered.{Numbered}
+use Rattle.store_model.specs.declared.event.Event.{Event}
+use Rattle.store_model.specs.declared.event.Event.TheVariants.{Trio, Block, Bucket, Role, Redundancy, Apply, Tick, Skew, Put, Get, Head, Delete, Copy, List as Keys, Deliver, Lose, Drain, Expire, Restart, Gossip, Ack, Sync, SyncAck, Clean, Work, Repair}
+use Rattle.store_model.specs.declared.event.Numbered.{Numbered}
 use Rattle.layout_text.specs.Values.{is_between, is_bucket_name, is_zone_name}
-use Rattle.text_model.specs.Grammar.{is_digit, is_key, Range, anything, number, bucket, zone, key, both, range_of, spelling, is_blank, lines_of}
+use Rattle.text_model.specs.Grammar.{is_digit, is_key, is_prefix, Range, anything, number, bucket, zone, key, prefix, both, range_of, spelling, is_blank, lines_of}
 use Rattle.text_model.specs.Words.{words_in}
 
 -- the number that a word's digits say
@@ -29,27 +29,52 @@ kind_in word = if is_number word then Storage (number_in word) else Gateway
 abbrev pub redundancy_in : List ℕ → wanted.Redundancy
 redundancy_in word = if is_number word then AtLeast (number_in word) else Maximum
 
+-- a prefix, where * is the empty one
+abbrev pub prefix_in : List ℕ → List ℕ
+prefix_in word = if bytes_eq word (codes "*") then [] else word
+
+-- the one event that a name and a number can be
+abbrev pub numbered : List ℕ → ℕ → Event
+numbered w n =
+    if bytes_eq w (codes "block") then Block n
+    else if bytes_eq w (codes "apply") then Apply n
+    else if bytes_eq w (codes "tick") then Tick n
+    else if bytes_eq w (codes "deliver") then Deliver n
+    else if bytes_eq w (codes "lose") then Lose n
+    else if bytes_eq w (codes "drain") then Drain n
+    else if bytes_eq w (codes "expire") then Expire n
+    else if bytes_eq w (codes "restart") then Restart n
+    else if bytes_eq w (codes "ack") then Ack n
+    else if bytes_eq w (codes "sync") then Sync n
+    else if bytes_eq w (codes "syncack") then SyncAck n
+    else if bytes_eq w (codes "clean") then Clean n
+    else if bytes_eq w (codes "work") then Work n
+    else Repair n
+
+-- the one event that a name, a node and two words can be
+abbrev pub at_node : List ℕ → ℕ → List ℕ → List ℕ → Event
+at_node w n a b =
+    if bytes_eq w (codes "role") then Role n (Some (record { 0 = a }, kind_in b))
+    else if bytes_eq w (codes "get") then Get n a b
+    else if bytes_eq w (codes "head") then Head n a b
+    else if bytes_eq w (codes "delete") then Delete n a b
+    else Keys n a (prefix_in b)
+
 -- the one event that words can be those of
 abbrev pub candidate : List (List ℕ) → Option Event
 candidate (w ∷ []) = Some Trio
 candidate (w ∷ a ∷ []) =
     if bytes_eq w (codes "bucket") then Some (Bucket a)
     else if bytes_eq w (codes "redundancy") then Some (Redundancy (redundancy_in a))
-    else if bytes_eq w (codes "apply") then Some (Apply (number_in a))
-    else if bytes_eq w (codes "tick") then Some (Tick (number_in a))
-    else if bytes_eq w (codes "deliver") then Some (Deliver (number_in a))
-    else if bytes_eq w (codes "drain") then Some (Drain (number_in a))
-    else if bytes_eq w (codes "expire") then Some (Expire (number_in a))
-    else if bytes_eq w (codes "ack") then Some (Ack (number_in a))
-    else if bytes_eq w (codes "sync") then Some (Sync (number_in a))
-    else if bytes_eq w (codes "syncack") then Some (SyncAck (number_in a))
-    else Some (Clean (number_in a))
-candidate (w ∷ a ∷ b ∷ []) =
-    if bytes_eq w (codes "role") then Some (Role (number_in a) None) else Some (Gossip (number_in a) (number_in b))
-candidate (w ∷ n ∷ a ∷ b ∷ []) =
-    if bytes_eq w (codes "role") then Some (Role (number_in n) (Some (record { 0 = a }, kind_in b)))
-    else Some (Get (number_in n) a b)
-candidate (w ∷ n ∷ name ∷ object ∷ size ∷ fill ∷ []) = Some (Put (number_in n) name object (number_in size) (number_in fill))
+    else Some (numbered w (number_in a))
+candidate (w ∷ n ∷ a ∷ []) =
+    if bytes_eq w (codes "role") then Some (Role (number_in n) None)
+    else if bytes_eq w (codes "skew") then Some (Skew (number_in n) (number_in a))
+    else Some (Gossip (number_in n) (number_in a))
+candidate (w ∷ n ∷ a ∷ b ∷ []) = Some (at_node w (number_in n) a b)
+candidate (w ∷ n ∷ name ∷ object ∷ a ∷ b ∷ []) =
+    if bytes_eq w (codes "put") then Some (Put (number_in n) name object (number_in a) (number_in b))
+    else Some (Copy (number_in n) name object a b)
 candidate _ = None
 
 -- whether what has to be so is so
@@ -59,6 +84,7 @@ is_in (number low high n) = is_between low high n
 is_in (bucket name) = is_bucket_name name
 is_in (zone name) = is_zone_name name
 is_in (key name) = is_key name
+is_in (prefix name) = is_prefix name
 is_in (both a b) = is_in a && is_in b
 
 -- the event, where the line spells it

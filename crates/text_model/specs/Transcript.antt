@@ -1,8 +1,11 @@
 -- The text of what a run tells.
 use Rattle.std.specs.Prelude.{ℕ, Option, Some, None, List, [], ◌∷◌, ◌++◌, length, flat_map, codes, decimal}
+use Rattle.std.specs.List.{range_with_len}
 use Rattle.hex.specs.Hex.{encode_lower}
 use Rattle.layout_roles.specs.declared.cut.Cut.{Cut}
 use Rattle.layout_roles.specs.Text.{word, number, layout_text}
+use Rattle.crdt_rows.specs.AnyRow.{any_join}
+use Rattle.object_schema.specs.Schema.{words as row_words}
 use Rattle.cluster_machine.specs.declared.line.Line.{Line}
 use Rattle.cluster_machine.specs.declared.line.Line.TheVariants.{Layout, Got, Sent, Synced, Done, Listed, Ended}
 use Rattle.cluster_machine.specs.declared.line.SentKind.{SentKind}
@@ -16,8 +19,11 @@ use Rattle.cluster_machine.specs.declared.step.Refusal.TheVariants.{VersionTaken
 use Rattle.cluster_machine.specs.declared.step.Words.{Words}
 use Rattle.cluster_machine.specs.declared.step.Words.TheVariants.{Empty, One, Idle, Two}
 use Rattle.cluster_machine.specs.declared.applied.Applied.{Applied}
-use Rattle.object_model.specs.declared.event.Numbered.{Numbered}
-use Rattle.object_model.specs.Run.{State, Outcome, Turn, start, outcome_of, run}
+use Rattle.cluster_machine.specs.Layouts.{layouts}
+use Rattle.cluster_machine.specs.World.{NodeLine, node_line}
+use Rattle.store_model.specs.declared.event.Numbered.{Numbered}
+use Rattle.store_model.specs.Run.{World, State, Outcome, start}
+use Rattle.store_model.specs.Events.{Turn, outcome_of, run}
 use Rattle.text_model.specs.Grammar.{name_of}
 
 -- the word of a message's kind
@@ -123,9 +129,27 @@ turns_text s (t ∷ ts) = event_text t.numbered (outcome_of s t) ++ turns_text (
 abbrev pub end_line : ℕ → ℕ → ℕ → List ℕ
 end_line events requests messages = codes "end" ++ number events ++ number requests ++ number messages ++ 10 ∷ []
 
--- what is written after so many events that led to this state: the last line
+-- what a node shows of itself, in one line
+abbrev pub node_text : NodeLine → List ℕ
+node_text n =
+    codes "node" ++ number n.node ++ word (codes "rows") ++ number n.rows ++ word (codes "blocks") ++ number n.blocks ++ word (codes "top") ++ word (encode_lower n.top) ++ 10 ∷ []
+
+-- the line of a node, nothing where its view is empty
+abbrev pub shown_text : Option NodeLine → List ℕ
+shown_text None = []
+shown_text (Some n) = node_text n
+
+-- the line of node n of a world
+abbrev pub line_at : World → ℕ → List ℕ
+line_at w n = shown_text (node_line any_join row_words layouts w n)
+
+-- the lines of nodes 1 to 16 whose views aren't empty
+abbrev pub nodes_text : World → List ℕ
+nodes_text w = flat_map (line_at w) (range_with_len 1 16)
+
+-- what is written after so many events that led to this state: the lines of its nodes, and the last line
 abbrev pub tail_text : ℕ → State → List ℕ
-tail_text events s = end_line events (length s.world.requests) (length s.world.messages)
+tail_text events s = nodes_text s.world ++ end_line events (length s.world.requests) (length s.world.messages)
 
 -- the whole transcript of turns: what they told one by one, and the tail of the run
 abbrev pub transcript : List Turn → List ℕ
