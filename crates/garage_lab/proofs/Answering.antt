@@ -1,21 +1,24 @@
 -- One status is stated for what is asked and an input, but for a replay's layouts; and what follows for the calls that give it.
-use Rattle.std.proofs.Common.{◌≡◌, ℕ, Option, Some, None, IsSome, List, [], ◌∷◌, ◌++◌, refl, sym, ap, ◌∙◌, subst, arith, ◌⊎◌, inl, inr}
+use Rattle.std.proofs.Common.{◌≡◌, ℕ, Option, Some, None, IsSome, List, [], ◌∷◌, ◌++◌, refl, sym, ◌∙◌, subst, arith, ◌⊎◌, inl, inr}
 use Rattle.lab_outside.specs.declared.exit.Status.{Status}
 use Rattle.lab_outside.specs.declared.exit.Status.TheVariants.{Done, Refused, Usage, ReadFault, WriteFault, LinkFault, Memory as MemoryStatus, Limit}
 use Rattle.lab_outside.specs.Bytes.{Wrote, WrotePrefix}
-use Rattle.object_model.specs.declared.event.Numbered.{Numbered}
-use Rattle.object_model.specs.Run.{Turn, start, run}
-use Rattle.object_model.specs.Turns.{AreLawful, AllFit}
-use Rattle.object_model.specs.Fresh.{IsFresh}
+use Rattle.store_model.specs.declared.event.Numbered.{Numbered}
+use Rattle.store_model.specs.Run.{start}
+use Rattle.store_model.specs.Acts.{Act, AreLawfulActs, ActsFit, after_acts}
+use Rattle.store_model.specs.Events.{Turn, acts_of, events_of, run}
+use Rattle.store_model.specs.Fresh.{IsFresh}
+use Rattle.store_laws.specs.Written.{GivesWhatWasWritten}
 use Rattle.text_model.specs.Reading.{Reading, schedule, bad_line as first_bad, reading, IsSchedule}
-use Rattle.text_model.specs.Transcript.{turns_text}
+use Rattle.text_model.specs.Transcript.{turns_text, transcript}
 use Rattle.garage_lab.specs.declared.command.Command.{Command}
-use Rattle.garage_lab.specs.declared.command.Command.TheVariants.{Layout, Replay}
+use Rattle.garage_lab.specs.declared.command.Command.TheVariants.{Layout, Moves, Replay}
 use Rattle.garage_lab.specs.declared.stop.Stop.{Stop}
 use Rattle.garage_lab.specs.declared.stop.Stop.TheVariants.{Read, Write, Memory, LongInput, BadLine, Number}
-use Rattle.garage_lab.specs.Replay.{number_line, IsReplay, whole, number, IsTranscribed}
+use Rattle.garage_lab.specs.Replay.{number_line, ArePlayed, IsReplay, whole, number, unshown, IsTranscribed}
 use Rattle.layout_command.specs.Answer.{IsAnswer as IsLayoutAnswer}
-use Rattle.garage_lab.specs.Answer.{usage_line, input_line, bad_line_text, IsAnswer, usage, long_input, bad_line, laid_out, replayed, IsStated, Answers, AnswersPrefix, ReplayPrefix, nothing_yet, of_stated, of_events, IsOfReplay, Completes, IsAnswered, Says, said, cut_off, unsaid}
+use Rattle.layout_command.specs.Moves.{IsMovesAnswer}
+use Rattle.garage_lab.specs.Answer.{usage_line, input_line, bad_line_text, IsAnswer, usage, long_input, bad_line, laid_out, moved, replayed, IsStated, Answers, AnswersPrefix, ReplayPrefix, nothing_yet, of_stated, of_events, IsOfReplay, Completes, IsAnswered, Says, said, cut_off, unsaid}
 use Rattle.garage_lab.specs.Stop.{status_of, said_of, IsNearly, Halts}
 use Rattle.garage_lab.proofs.Texts.{prefix_none, prefix_kept}
 use Rattle.lab_outside.proofs.Bytes.{wrote_more, wrote_prefix_after, wrote_prefix_whole}
@@ -29,8 +32,18 @@ none_or_some (Some c) e h = cc
 abbrev pub OneStatus : Type 0
 OneStatus = (input : List ℕ) (first second : Status) (text other : List ℕ) → IsLayoutAnswer input first text → IsLayoutAnswer input second other → first ≡ second
 
+-- and for one with the fewest moves
+abbrev pub OneMovesStatus : Type 0
+OneMovesStatus = (input : List ℕ) (first second : Status) (text other : List ℕ) → IsMovesAnswer input first text → IsMovesAnswer input second other → first ≡ second
+
 pub both_asked : (asked : Option Command) → asked ≡ Some Layout → asked ≡ Some Replay → ⊥
 both_asked asked h k = let other : Some Layout ≡ Some Replay = sym h ∙ k in cc
+
+pub moves_and_replay : (asked : Option Command) → asked ≡ Some Moves → asked ≡ Some Replay → ⊥
+moves_and_replay asked h k = let other : Some Moves ≡ Some Replay = sym h ∙ k in cc
+
+pub layout_and_moves : (asked : Option Command) → asked ≡ Some Layout → asked ≡ Some Moves → ⊥
+layout_and_moves asked h k = let other : Some Layout ≡ Some Moves = sym h ∙ k in cc
 
 -- a text is a schedule or has a bad line, and not both
 one_reading : (r : Reading) (events : List Numbered) (n : ℕ) → r ≡ schedule events → r ≡ first_bad n → ⊥
@@ -40,38 +53,50 @@ one_reading r events n h k = cc
 of_replay : (events : List Numbered) (status : Status) (text : List ℕ) → IsReplay events status text → IsOfReplay status
 of_replay events status text (whole turns are played e w) = subst IsOfReplay (sym e) tt
 of_replay events status text (number before stops e w) = subst IsOfReplay (sym e) tt
+of_replay events status text (unshown turns are played un e w) = subst IsOfReplay (sym e) tt
 
 -- one status is stated, but for what a replay's layouts decide
 abbrev pub Agree : Option Command → Status → Status → Type 0
 Agree asked s t = (s ≡ t) ⊎ ((asked ≡ Some Replay) × IsOfReplay s × IsOfReplay t)
 
-module _ (one : OneStatus) (asked : Option Command) (input : List ℕ) (s t : Status) (a b : List ℕ) where
+module _ (one : OneStatus) (one_moves : OneMovesStatus) (asked : Option Command) (input : List ℕ) (s t : Status) (a b : List ℕ) where
   pub statuses_agree : IsAnswer asked input s a → IsAnswer asked input t b → Agree asked s t
   statuses_agree (usage none e w) (usage also d v) = inl (e ∙ sym d)
-  statuses_agree (usage none e w) (long_input is long d v) = absurd (none_or_some asked none is)
-  statuses_agree (usage none e w) (bad_line n is short bad d v) = cc
-  statuses_agree (usage none e w) (laid_out is short says) = cc
-  statuses_agree (usage none e w) (replayed events is short spells stated) = cc
-  statuses_agree (long_input is long e w) (usage none d v) = absurd (none_or_some asked none is)
+  statuses_agree (usage none e w) (long_input also more d v) = absurd (none_or_some asked none also)
+  statuses_agree (usage none e w) (bad_line m also less worse d v) = cc
+  statuses_agree (usage none e w) (laid_out also less too) = cc
+  statuses_agree (usage none e w) (moved also less too) = cc
+  statuses_agree (usage none e w) (replayed others also less spell too) = cc
+  statuses_agree (long_input is long e w) (usage also d v) = absurd (none_or_some asked also is)
   statuses_agree (long_input is long e w) (long_input also more d v) = inl (e ∙ sym d)
-  statuses_agree (long_input is long e w) (bad_line n also short bad d v) = absurd (omega arith)
-  statuses_agree (long_input is long e w) (laid_out also short says) = absurd (omega arith)
-  statuses_agree (long_input is long e w) (replayed events also short spells stated) = absurd (omega arith)
-  statuses_agree (bad_line n is short bad e w) (usage none d v) = cc
-  statuses_agree (bad_line n is short bad e w) (long_input also long d v) = absurd (omega arith)
-  statuses_agree (bad_line n is short bad e w) (bad_line m also more worse d v) = inl (e ∙ sym d)
-  statuses_agree (bad_line n is short bad e w) (laid_out also more says) = absurd (both_asked asked also is)
-  statuses_agree (bad_line n is short bad e w) (replayed events also more spells stated) = absurd (one_reading (reading input) events n spells bad)
-  statuses_agree (laid_out is short says) (usage none d v) = cc
-  statuses_agree (laid_out is short says) (long_input also long d v) = absurd (omega arith)
-  statuses_agree (laid_out is short says) (bad_line n also more bad d v) = absurd (both_asked asked is also)
-  statuses_agree (laid_out is short says) (laid_out also more too) = inl (one input s t a b says too)
-  statuses_agree (laid_out is short says) (replayed events also more spells stated) = absurd (both_asked asked is also)
-  statuses_agree (replayed events is short spells stated) (usage none d v) = cc
-  statuses_agree (replayed events is short spells stated) (long_input also long d v) = absurd (omega arith)
-  statuses_agree (replayed events is short spells stated) (bad_line n also more bad d v) = absurd (one_reading (reading input) events n spells bad)
-  statuses_agree (replayed events is short spells stated) (laid_out also more says) = absurd (both_asked asked also is)
-  statuses_agree (replayed events is short spells stated) (replayed others also more spell too) = inr (is, of_replay events s a stated, of_replay others t b too)
+  statuses_agree (long_input is long e w) (bad_line m also less worse d v) = absurd (omega arith)
+  statuses_agree (long_input is long e w) (laid_out also less too) = absurd (omega arith)
+  statuses_agree (long_input is long e w) (moved also less too) = absurd (omega arith)
+  statuses_agree (long_input is long e w) (replayed others also less spell too) = absurd (omega arith)
+  statuses_agree (bad_line n is short bad e w) (usage also d v) = cc
+  statuses_agree (bad_line n is short bad e w) (long_input also more d v) = absurd (omega arith)
+  statuses_agree (bad_line n is short bad e w) (bad_line m also less worse d v) = inl (e ∙ sym d)
+  statuses_agree (bad_line n is short bad e w) (laid_out also less too) = absurd (both_asked asked also is)
+  statuses_agree (bad_line n is short bad e w) (moved also less too) = absurd (moves_and_replay asked also is)
+  statuses_agree (bad_line n is short bad e w) (replayed others also less spell too) = absurd (one_reading (reading input) others n spell bad)
+  statuses_agree (laid_out is short says) (usage also d v) = cc
+  statuses_agree (laid_out is short says) (long_input also more d v) = absurd (omega arith)
+  statuses_agree (laid_out is short says) (bad_line m also less worse d v) = absurd (both_asked asked is also)
+  statuses_agree (laid_out is short says) (laid_out also less too) = inl (one input s t a b says too)
+  statuses_agree (laid_out is short says) (moved also less too) = absurd (layout_and_moves asked is also)
+  statuses_agree (laid_out is short says) (replayed others also less spell too) = absurd (both_asked asked is also)
+  statuses_agree (moved is short says) (usage also d v) = cc
+  statuses_agree (moved is short says) (long_input also more d v) = absurd (omega arith)
+  statuses_agree (moved is short says) (bad_line m also less worse d v) = absurd (moves_and_replay asked is also)
+  statuses_agree (moved is short says) (laid_out also less too) = absurd (layout_and_moves asked also is)
+  statuses_agree (moved is short says) (moved also less too) = inl (one_moves input s t a b says too)
+  statuses_agree (moved is short says) (replayed others also less spell too) = absurd (moves_and_replay asked is also)
+  statuses_agree (replayed events is short spells stated) (usage also d v) = cc
+  statuses_agree (replayed events is short spells stated) (long_input also more d v) = absurd (omega arith)
+  statuses_agree (replayed events is short spells stated) (bad_line m also less worse d v) = absurd (one_reading (reading input) events m spells worse)
+  statuses_agree (replayed events is short spells stated) (laid_out also less too) = absurd (both_asked asked also is)
+  statuses_agree (replayed events is short spells stated) (moved also less too) = absurd (moves_and_replay asked also is)
+  statuses_agree (replayed events is short spells stated) (replayed others also less spell too) = inr (is, of_replay events s a stated, of_replay others t b too)
 
 -- only the usage is stated for words that ask for no command
 module _ (asked : Option Command) (input : List ℕ) (result : Status) (old new : Option (List ℕ)) (faults risen : ℕ) (none : asked ≡ None) where
@@ -80,6 +105,7 @@ module _ (asked : Option Command) (input : List ℕ) (result : Status) (old new 
   usage_text status text (long_input is long e w) = absurd (none_or_some asked none is)
   usage_text status text (bad_line n is short bad e w) = cc
   usage_text status text (laid_out is short says) = cc
+  usage_text status text (moved is short says) = cc
   usage_text status text (replayed events is short spells stated) = cc
 
   said_usage : (status : Status) → Says status usage_line result old new faults risen → WrotePrefix old new usage_line
@@ -162,22 +188,50 @@ module _ (input : List ℕ) (result : Status) (old mid new : Option (List ℕ)) 
   stopped_prefix (BadLine n) h says = nearly_prefix input Refused result (bad_line_text n) old mid new faults risen h says
   stopped_prefix Number h says = nearly_prefix input Limit result number_line old mid new faults risen h says
 
--- the gets of lawful turns are fresh
+-- the reads of lawful acts are fresh
 abbrev pub AlwaysFresh : Type 0
-AlwaysFresh = (turns : List Turn) → AreLawful start turns → AllFit start turns → IsFresh (run start turns)
+AlwaysFresh = (acts : List Act) → AreLawfulActs start acts → ActsFit start acts → IsFresh (after_acts start acts)
+
+-- the reads of turns that were played are fresh
+played_fresh : AlwaysFresh → (turns : List Turn) → ArePlayed turns → IsFresh (run start turns)
+played_fresh fresh turns played = fresh (acts_of turns) played.lawful played.fits
+
+-- gets and heads of lawful acts tell of what was written
+abbrev pub AlwaysWritten : Type 0
+AlwaysWritten = (acts : List Act) → AreLawfulActs start acts → ActsFit start acts → GivesWhatWasWritten acts
+
+-- the text is the whole transcript of what the input spells
+record IsOfTurns (input text : List ℕ) : Type 0 where
+  turns : List Turn
+  schedule : IsSchedule input (events_of turns)
+  played : ArePlayed turns
+  text_is : text ≡ transcript turns
+
+of_turns : (input text : List ℕ) (events : List Numbered) → IsSchedule input events → IsReplay events Done text → IsOfTurns input text
+of_turns input text events spells (whole turns are played e w) = record { turns = turns; schedule = subst (IsSchedule input) (sym are) spells; played = played; text_is = w }
+of_turns input text events spells (number before stops e w) = cc
+of_turns input text events spells (unshown turns are played un e w) = cc
 
 -- what Done of a replay says
-transcribed : (asked : Option Command) (input : List ℕ) (old new : Option (List ℕ)) → asked ≡ Some Replay → AlwaysFresh → (text : List ℕ) → Wrote old new text → IsAnswer asked input Done text → IsTranscribed input old new
-transcribed asked input old new asks fresh text wrote (usage none e w) = cc
-transcribed asked input old new asks fresh text wrote (long_input is long e w) = cc
-transcribed asked input old new asks fresh text wrote (bad_line n is short bad e w) = cc
-transcribed asked input old new asks fresh text wrote (laid_out is short says) = absurd (both_asked asked is asks)
-transcribed asked input old new asks fresh text wrote (replayed events is short spells (whole turns are played e w)) =
-    record { turns = turns; schedule = subst (IsSchedule input) (sym are) spells; played = played; wrote = subst (Wrote old new) w wrote; fresh = fresh turns played.lawful played.fits }
-transcribed asked input old new asks fresh text wrote (replayed events is short spells (number before stops e w)) = cc
+done_of_turns : (asked : Option Command) (input text : List ℕ) → asked ≡ Some Replay → IsAnswer asked input Done text → IsOfTurns input text
+done_of_turns asked input text asks (usage none e w) = cc
+done_of_turns asked input text asks (long_input is long e w) = cc
+done_of_turns asked input text asks (bad_line n is short bad e w) = cc
+done_of_turns asked input text asks (laid_out is short says) = absurd (both_asked asked is asks)
+done_of_turns asked input text asks (moved is short says) = absurd (moves_and_replay asked is asks)
+done_of_turns asked input text asks (replayed events is short spells stated) = of_turns input text events spells stated
 
-pub done_transcribes : (asked : Option Command) (input : List ℕ) (old new : Option (List ℕ)) → asked ≡ Some Replay → AlwaysFresh → Answers asked input Done old new → IsTranscribed input old new
-done_transcribes asked input old new asks fresh h = transcribed asked input old new asks fresh h.text h.wrote h.stated
+pub done_transcribes : (asked : Option Command) (input : List ℕ) (old new : Option (List ℕ)) → asked ≡ Some Replay → AlwaysFresh → AlwaysWritten → Answers asked input Done old new → IsTranscribed input old new
+done_transcribes asked input old new asks fresh written h =
+    let done = done_of_turns asked input h.text asks h.stated in
+    record {
+      turns = done.turns;
+      schedule = done.schedule;
+      played = done.played;
+      wrote = subst (Wrote old new) done.text_is h.wrote;
+      fresh = played_fresh fresh done.turns done.played;
+      written = written (acts_of done.turns) done.played.lawful done.played.fits;
+    }
 
 agree_completes : (asked : Option Command) (result status : Status) → Agree asked result status → Completes asked status result
 agree_completes asked result status (inl same) = inl same
@@ -196,6 +250,6 @@ module _ (asked : Option Command) (input : List ℕ) (old new : Option (List ℕ
   is_answered MemoryStatus answers reads writes links = inr refl
 
 -- the stated answer comes then, or one that other layouts bring
-pub completes : OneStatus → (asked : Option Command) (input : List ℕ) (result : Status) (old new : Option (List ℕ)) → IsAnswered asked input result old new → (status : Status) (text : List ℕ) → IsAnswer asked input status text → Completes asked status result
-completes one asked input result old new (inl h) status text stated = agree_completes asked result status (statuses_agree one asked input result status h.text text h.stated stated)
-completes one asked input result old new (inr want) status text stated = inr (inl want)
+pub completes : OneStatus → OneMovesStatus → (asked : Option Command) (input : List ℕ) (result : Status) (old new : Option (List ℕ)) → IsAnswered asked input result old new → (status : Status) (text : List ℕ) → IsAnswer asked input status text → Completes asked status result
+completes one one_moves asked input result old new (inl h) status text stated = agree_completes asked result status (statuses_agree one one_moves asked input result status h.text text h.stated stated)
+completes one one_moves asked input result old new (inr want) status text stated = inr (inl want)

@@ -2,20 +2,20 @@
 use Rattle.std.proofs.Common.{◌≡◌, ℕ, ◌<◌, ◌≤◌, Option, Some, None, Result, Ok, Err, IfErr, List, [], length, refl, sym, ap, ◌∙◌, subst, IfSome}
 use Rattle.std.specs.Result.{IsErrAnd, OnErr, OnOk}
 use Rattle.lab_outside.specs.declared.exit.Status.{Status}
-use Rattle.lab_outside.specs.declared.exit.Status.TheVariants.{Done, ReadFault, WriteFault, LinkFault}
+use Rattle.lab_outside.specs.declared.exit.Status.TheVariants.{Done, ReadFault, WriteFault, LinkFault, Limit}
 use Rattle.lab_outside.specs.Rose.{Rose}
-use Rattle.object_model.specs.declared.event.Numbered.{Numbered}
-use Rattle.object_model.specs.Run.{start}
+use Rattle.store_model.specs.declared.event.Numbered.{Numbered}
+use Rattle.store_model.specs.Run.{start}
 use Rattle.text_model.specs.Reading.{IsSchedule, IsFirstBadLine}
 use Rattle.text_model.specs.Transcript.{transcript, turns_text}
 use Rattle.garage_lab.specs.declared.command.Command.{Command}
 use Rattle.garage_lab.specs.declared.command.Command.TheVariants.{Replay}
 use Rattle.garage_lab.specs.declared.stop.Stop.{Stop}
 use Rattle.garage_lab.specs.declared.stop.Stop.TheVariants.{Read, Write, Memory, LongInput, BadLine, Number}
-use Rattle.garage_lab.specs.Replay.{whole, number, IsTranscribed}
+use Rattle.garage_lab.specs.Replay.{number_line, whole, number, unshown, IsTranscribed}
 use Rattle.garage_lab.specs.Answer.{input_limit, usage_line, IsAnswer, long_input, bad_line, replayed, IsStated, Answers, AnswersPrefix, ReplayPrefix, nothing_yet, of_stated, of_events, Completes, IsAnswered, Says, said, cut_off, unsaid}
-use Rattle.garage_lab.specs.Stop.{status_of, said_of, Halts, IsCutShort, IsPart, of_turns, of_all, IsWhole, IsOfInput, IsOfOutput}
-use Rattle.garage_lab.proofs.Answering.{OneStatus, AlwaysFresh, stated_prefix, unknown_prefix, stopped_answers, stopped_prefix, done_transcribes, is_answered, completes}
+use Rattle.garage_lab.specs.Stop.{status_of, said_of, Halts, IsCutShort, at_event, at_tail, IsNearly, IsPart, of_turns, of_all, IsWhole, IsOfInput, IsOfOutput}
+use Rattle.garage_lab.proofs.Answering.{OneStatus, OneMovesStatus, AlwaysFresh, AlwaysWritten, stated_prefix, unknown_prefix, stopped_answers, stopped_prefix, done_transcribes, is_answered, completes}
 use Rattle.lab_outside.proofs.Bytes.{wrote_none}
 use Rattle.lab_outside.proofs.Rose.{rose_before, rose_after}
 
@@ -46,14 +46,17 @@ module _ (bytes : List ℕ) (events : List Numbered) (short : length bytes ≤ i
   of_part (of_turns turns first begun) = of_events events turns short spells first begun
   of_part (of_all turns are played begun) = of_stated Done (transcript turns) (replayed events refl short spells (whole turns are played refl refl)) begun
 
+  of_cut : IsCutShort events old new → IsNearly bytes Limit number_line old new
+  of_cut (at_event before stops wrote) = record { front = turns_text start before; wrote = wrote; stated = replayed events refl short spells (number before stops refl refl) }
+  of_cut (at_tail turns are played un wrote) = record { front = turns_text start turns; wrote = wrote; stated = replayed events refl short spells (unshown turns are played un refl refl) }
+
   write_halted : (stop : Stop) → IsOfOutput stop → (stop ≡ Number → IsCutShort events old new) → IsPart events old new → Halts bytes stop old new
   write_halted Read of_output cut part = absurd of_output
   write_halted LongInput of_output cut part = absurd of_output
   write_halted (BadLine n) of_output cut part = absurd of_output
   write_halted Write of_output cut part = of_part part
   write_halted Memory of_output cut part = of_part part
-  write_halted Number of_output cut part =
-      let h = cut refl in record { front = turns_text start h.before; wrote = h.wrote; stated = replayed events refl short spells (number h.before h.stops refl refl) }
+  write_halted Number of_output cut part = of_cut (cut refl)
 
   write_answers : IsWhole events old new → Answers (Some Replay) bytes Done old new
   write_answers h = record { text = transcript h.turns; stated = replayed events refl short spells (whole h.turns h.events_are h.played refl refl); wrote = h.wrote }
@@ -104,12 +107,12 @@ halted_fault stop result mid new before faults risen (said is wrote) rose low hi
 halted_fault stop result mid new before faults risen (cut_off is later wrote) rose low high e = rose_after before faults risen low later
 halted_fault stop result mid new before faults risen (unsaid is wrote) rose low high e = cc
 
-pub some_transcribes : (left : Option (List ℕ)) (asked : Option Command) (result : Status) (old new : Option (List ℕ)) → AlwaysFresh →
+pub some_transcribes : (left : Option (List ℕ)) (asked : Option Command) (result : Status) (old new : Option (List ℕ)) → AlwaysFresh → AlwaysWritten →
     (IsStated result → IfSome left (λ bytes. Answers asked bytes result old new)) → asked ≡ Some Replay → result ≡ Done → IfSome left (λ bytes. IsTranscribed bytes old new)
-some_transcribes None asked result old new fresh answers asks e = tt
-some_transcribes (Some bytes) asked result old new fresh answers asks e =
+some_transcribes None asked result old new fresh written answers asks e = tt
+some_transcribes (Some bytes) asked result old new fresh written answers asks e =
     let P : Status → Type 0 = λ s. IsStated s → Answers asked bytes s old new in
-    done_transcribes asked bytes old new asks fresh (subst P e answers tt)
+    done_transcribes asked bytes old new asks fresh written (subst P e answers tt)
 
 module _ (asked : Option Command) (result : Status) (old new : Option (List ℕ)) (Reads Writes : Type 0) (reads : result ≡ ReadFault → Reads) (writes : result ≡ WriteFault → Writes) (links : result ≡ LinkFault → ⊥) where
   pub some_answered : (left : Option (List ℕ)) → (IsStated result → IfSome left (λ bytes. Answers asked bytes result old new)) →
@@ -117,8 +120,8 @@ module _ (asked : Option Command) (result : Status) (old new : Option (List ℕ)
   some_answered None answers = tt
   some_answered (Some bytes) answers = λ r w. is_answered asked bytes old new Reads Writes r w result answers reads writes links
 
-  pub some_completes : OneStatus → (left : Option (List ℕ)) → (IsStated result → IfSome left (λ bytes. Answers asked bytes result old new)) →
+  pub some_completes : OneStatus → OneMovesStatus → (left : Option (List ℕ)) → (IsStated result → IfSome left (λ bytes. Answers asked bytes result old new)) →
       IfSome left (λ bytes. (status : Status) (text : List ℕ) → IsAnswer asked bytes status text → (Reads → ⊥) → (Writes → ⊥) → Completes asked status result)
-  some_completes one None answers = tt
-  some_completes one (Some bytes) answers = λ status text stated r w.
-      completes one asked bytes result old new (is_answered asked bytes old new Reads Writes r w result answers reads writes links) status text stated
+  some_completes one one_moves None answers = tt
+  some_completes one one_moves (Some bytes) answers = λ status text stated r w.
+      completes one one_moves asked bytes result old new (is_answered asked bytes old new Reads Writes r w result answers reads writes links) status text stated

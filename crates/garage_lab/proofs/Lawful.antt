@@ -1,25 +1,30 @@
 -- Each event of a schedule can be given something lawful.
-use Rattle.std.proofs.Common.{◌≡◌, ℕ, zero, suc, Bool, true, false, if◌then◌else◌, Option, Some, None, List, [], ◌∷◌, ◌++◌, length, refl}
-use Rattle.layout_roles.specs.declared.redundancy.Redundancy.TheVariants.{Maximum}
+use Rattle.std.proofs.Common.{ℕ, zero, suc, Bool, true, false, if◌then◌else◌, Option, Some, None, List, [], ◌∷◌, length, refl}
 use Rattle.crdt_rows.specs.declared.any_row.AnyRow.{AnyRow}
-use Rattle.crdt_rows.specs.declared.version.Version.{Version}
 use Rattle.wire_messages.specs.declared.phase.PhaseEnd.{PhaseEnd}
-use Rattle.wire_messages.specs.declared.phase.PhaseEnd.TheVariants.{Row as Answered, Window, Kept, Block as GotBlock}
+use Rattle.cluster_machine.specs.declared.step.Step.{Step}
 use Rattle.cluster_machine.specs.declared.step.Step.TheVariants as step
 use Rattle.cluster_machine.specs.declared.step.Refusal.TheVariants.{VersionLimit, NotMember, NoSuchBucket}
-use Rattle.cluster_machine.specs.declared.line.DoneWord.{DoneWord}
-use Rattle.cluster_machine.specs.declared.line.DoneWord.TheVariants.{Put as WordPut, Get as WordGet, Head as WordHead, Delete as WordDelete, Copy as WordCopy}
 use Rattle.cluster_machine.specs.Node.{Ended}
 use Rattle.cluster_machine.specs.Layouts.{layouts}
-use Rattle.cluster_machine.specs.World.{is_member_at, numbered, undelivered}
+use Rattle.cluster_machine.specs.World.{clock, is_member_at, numbered, undelivered}
 use Rattle.cluster_machine.specs.Step.{none_given}
 use Rattle.cluster_machine.specs.Choices.{Decision}
-use Rattle.object_model.specs.declared.event.Event.{Event}
-use Rattle.object_model.specs.declared.event.Event.TheVariants.{Trio, Bucket, Role, Redundancy, Apply, Tick, Put, Get, Deliver, Drain, Expire, Gossip, Ack, Sync, SyncAck, Clean}
-use Rattle.object_model.specs.Object.{Newest, absent, inline, in_blocks, newest_of}
-use Rattle.object_model.specs.Run.{State, Order, Outcome, Moving, plainly, doing, plain, silent, refusal, is_bucket, opened, asks, begins, writes, drawn, stores, finishes, gets, follows, follow, goes_on, effect, delivers, then_drains, drains, outcome, outcome_of, start, Turn, after}
-use Rattle.object_model.specs.Turns.{IsLawfulEvent}
-use Rattle.lab_driver.specs.Stands.{IsMeantEvent}
+use Rattle.cluster_machine.specs.Worlds.{IsMeant}
+use Rattle.flow_model.specs.declared.order.Order.{Order}
+use Rattle.flow_model.specs.declared.flow.Flow.{Flow}
+use Rattle.flow_model.specs.declared.flow.FlowStep.{FlowStep}
+use Rattle.flow_model.specs.declared.flow.FlowStep.TheVariants.{More, Wait, End}
+use Rattle.flow_model.specs.Flow.{started}
+use Rattle.flow_model.specs.Next.{next}
+use Rattle.store_model.specs.declared.event.Event.{Event}
+use Rattle.store_model.specs.declared.event.Event.TheVariants.{Trio, Block, Bucket, Role, Redundancy, Apply, Tick, Skew, Put, Get, Head, Delete, Copy, List as Keys, Deliver, Lose, Drain, Expire, Restart, Gossip, Ack, Sync, SyncAck, Clean, Work, Repair}
+use Rattle.store_model.specs.Orders.{buckets_of}
+use Rattle.store_model.specs.Run.{State, Asked, Draw, Outcome, Moving, plainly, doing, silent, refusal, are_buckets, phases, opened, begins, draws_of, takes, follows, follow, goes_on, effect, delivers, then_drains, drains, start}
+use Rattle.store_model.specs.Acts.{Act, moves, asks, delivery, drain, adds, cuts, acted, IsLawfulAct}
+use Rattle.store_model.specs.Events.{Turn, act_of, act_of_turn, after}
+use Rattle.store_model.specs.Turns.{IsLawful}
+use Rattle.s3_world.specs.Stands.{IsMeantEvent}
 use Rattle.garage_lab.proofs.Staged.{AreStaged, IsInRange, step_fine, apply_lawful}
 
 -- what is staged is in its ranges
@@ -32,9 +37,6 @@ start_fine = record { staged = record { ascend = refl; numbered = refl; wanted_i
 doing_fine : (s : State) (m : Moving) → IsInRange m.step → IsFine s → IsFine (doing s m)
 doing_fine s m meant h = record { staged = step_fine s.world h.staged m.step m.choice meant }
 
-plain_fine : (s : State) (m : Moving) → IsInRange m.step → IsFine s → IsFine (plain s m).state
-plain_fine s m meant h = doing_fine s m meant h
-
 -- what holds of two outcomes holds of one of them
 one_of : (b : Bool) (x y : Outcome) → IsFine x.state → IsFine y.state → IsFine (if b then x else y).state
 one_of true x y h k = h
@@ -43,36 +45,35 @@ one_of false x y h k = k
 module _ (s : State) (h : IsFine s) where
   opened_fine : (n : ℕ) (order : Order) → IsFine (opened s n order).state
   opened_fine n order =
+      let q = suc (length s.world.requests) in
       let opens = plainly (step.Open n) in
-      let here = doing_fine s opens tt h in
-      record { staged = (doing_fine (doing s opens) (asks (suc (length s.world.requests)) order.name) tt here).staged }
+      record { staged = (doing_fine (doing s opens) (phases q (started order q s.block).1) tt (doing_fine s opens tt h)).staged }
 
   begins_fine : (n : ℕ) (order : Order) → IsFine (begins s n order).state
   begins_fine n order =
-      one_of (is_member_at layouts s.world n) (if is_bucket s.buckets order.name.bucket then opened s n order else refusal s NoSuchBucket) (refusal s NotMember)
-      (one_of (is_bucket s.buckets order.name.bucket) (opened s n order) (refusal s NoSuchBucket) (opened_fine n order) h) h
+      let found = are_buckets s.buckets (buckets_of order) in
+      one_of (is_member_at layouts s.world n) (if found then opened s n order else refusal s NoSuchBucket) (refusal s NotMember)
+      (one_of found (opened s n order) (refusal s NoSuchBucket) (opened_fine n order) h) h
 
-  writes_fine : (q : ℕ) (order : Order) (version : Version) → IsFine (writes s q order version).state
-  writes_fine q order version = record { staged = (doing_fine s (stores q order version) tt h).staged }
+  takes_fine : (q : ℕ) (asked : Asked) (draws : List Draw) (f : FlowStep) → IsFine (takes s q asked draws f).state
+  takes_fine q asked draws (More flow phase) = record { staged = (doing_fine s (phases q phase) tt h).staged }
+  takes_fine q asked draws (Wait flow) = record { staged = h.staged }
+  takes_fine q asked draws (End end) = record { staged = (doing_fine s (plainly (step.Close q)) tt h).staged }
 
-  gets_fine : (q : ℕ) (found : Newest) → IsFine (gets s q found).state
-  gets_fine q absent = record { staged = (doing_fine s (plainly (step.Close q)) tt h).staged }
-  gets_fine q (inline v bytes) = record { staged = (doing_fine s (plainly (step.Close q)) tt h).staged }
-  gets_fine q in_blocks = h
+module _ (s : State) (h : IsFine s) where
+  follows_fine : (q : ℕ) (asked : Asked) (end : PhaseEnd AnyRow) (flow : Option Flow) → IsFine (follows s q asked end flow).state
+  follows_fine q asked end None = h
+  follows_fine q asked end (Some flow) =
+      let now = clock s.world asked.node in
+      takes_fine (record s { saw = record { request = q; end = end } ∷ s.saw }) (record { staged = h.staged }) q asked (draws_of s q flow.block flow.stage end now) (next flow end now)
 
-  follows_fine : (q : ℕ) (order : Order) (word : DoneWord) (version : Option Version) (end : PhaseEnd AnyRow) → IsFine (follows s q order word version end).state
-  follows_fine q order WordPut None (Answered value) = writes_fine q order (drawn s q order value)
-  follows_fine q order WordPut (Some version) Kept = record { staged = (doing_fine s (plainly (step.Close q)) tt h).staged }
-  follows_fine q order WordGet version (Answered value) = gets_fine q (newest_of value)
-  follows_fine q order word version end = h
-
-  follow_fine : (q : ℕ) (order : Option Order) (end : PhaseEnd AnyRow) → IsFine (follow s q order end).state
+  follow_fine : (q : ℕ) (asked : Option Asked) (end : PhaseEnd AnyRow) → IsFine (follow s q asked end).state
   follow_fine q None end = h
-  follow_fine q (Some order) end = follows_fine q order order.word order.version end
+  follow_fine q (Some asked) end = follows_fine q asked end asked.flow
 
   goes_on_fine : (es : List (Ended AnyRow)) → IsFine (goes_on s es).state
   goes_on_fine [] = h
-  goes_on_fine (e ∷ es) = follow_fine e.request (numbered s.orders e.request) e.how
+  goes_on_fine (e ∷ es) = follow_fine e.request (numbered s.asked e.request) e.how
 
 delivers_fine : (s : State) (m : ℕ) → IsFine s → IsFine (delivers s m).state
 delivers_fine s m h =
@@ -87,42 +88,65 @@ drains_fine (suc n) s h =
       | Some m ↦ drains_fine n (delivers s m).state (delivers_fine s m h)
     ]
 
-outcome_fine : (s : State) (e : Event) (choice : Decision) → IsMeantEvent e → IsFine s → IsFine (outcome s e choice).state
-outcome_fine s Trio choice meant h = plain_fine s (plainly step.Trio) tt h
-outcome_fine s (Bucket name) choice meant h = record { staged = h.staged }
-outcome_fine s (Role n role) choice meant h = plain_fine s (plainly (step.Role n role)) meant h
-outcome_fine s (Redundancy wanted) choice meant h = plain_fine s (plainly (step.Redundancy wanted)) meant h
-outcome_fine s (Apply n) choice meant h = plain_fine s (record { step = step.Apply n; choice = choice }) tt h
-outcome_fine s (Tick ms) choice meant h = plain_fine s (plainly (step.Tick ms)) tt h
-outcome_fine s (Put n bucket key size fill) choice meant h = begins_fine s h n _
-outcome_fine s (Get n bucket key) choice meant h = begins_fine s h n _
-outcome_fine s (Deliver m) choice meant h = delivers_fine s m h
-outcome_fine s (Drain n) choice meant h = drains_fine n s h
-outcome_fine s (Expire q) choice meant h = plain_fine s (plainly (step.Expire q)) tt h
-outcome_fine s (Gossip from to) choice meant h = plain_fine s (plainly (step.Gossip from to)) tt h
-outcome_fine s (Ack n) choice meant h = plain_fine s (plainly (step.Ack n)) tt h
-outcome_fine s (Sync n) choice meant h = plain_fine s (plainly (step.Sync n)) tt h
-outcome_fine s (SyncAck n) choice meant h = plain_fine s (plainly (step.SyncAck n)) tt h
-outcome_fine s (Clean n) choice meant h = plain_fine s (plainly (step.Clean n)) tt h
+-- what a step that is meant stages is in its range
+in_range : (st : Step AnyRow) → IsMeant st → IsInRange st
+in_range step.Trio meant = tt
+in_range (step.Role n role) meant = meant
+in_range (step.Redundancy wanted) meant = meant
+in_range (step.Apply n) meant = tt
+in_range (step.Tick ms) meant = tt
+in_range (step.Skew n ms) meant = tt
+in_range (step.Deliver m) meant = tt
+in_range (step.Lose m) meant = tt
+in_range (step.Expire q) meant = tt
+in_range (step.Restart n) meant = tt
+in_range (step.Gossip from to) meant = tt
+in_range (step.Ack n) meant = tt
+in_range (step.Sync n) meant = tt
+in_range (step.SyncAck n) meant = tt
+in_range (step.Clean n) meant = tt
+in_range (step.Work n) meant = tt
+in_range (step.Repair n) meant = tt
+in_range (step.Open n) meant = tt
+in_range (step.Phase q phase) meant = tt
+in_range (step.Close q) meant = tt
 
-pub after_fine : (s : State) (t : Turn) → IsMeantEvent t.numbered.event → IsFine s → IsFine (after s t)
-after_fine s t meant h = outcome_fine s t.numbered.event t.choice meant h
+acted_fine : (s : State) (a : Act) → IsLawfulAct s a → IsFine s → IsFine (acted s a).state
+acted_fine s (moves m) lawful h = record { staged = (doing_fine s m (in_range m.step lawful.1) h).staged }
+acted_fine s (asks n order) lawful h = begins_fine s h n order
+acted_fine s (delivery m) lawful h = delivers_fine s m h
+acted_fine s (drain n) lawful h = drains_fine n s h
+acted_fine s (adds name) lawful h = record { staged = h.staged }
+acted_fine s (cuts block) lawful h = record { staged = h.staged }
+
+pub after_fine : (s : State) (t : Turn) → IsLawful s t → IsFine s → IsFine (after s t)
+after_fine s t lawful h = acted_fine s (act_of_turn t) lawful h
 
 -- an event may be given something
-pub event_lawful : (s : State) (e : Event) → IsMeantEvent e → IsFine s → (choice : Decision) × IsLawfulEvent s e choice
-event_lawful s (Apply n) meant h = apply_lawful s.world n h.staged
-event_lawful s (Role n role) meant h = (none_given VersionLimit, (meant, tt))
-event_lawful s (Redundancy wanted) meant h = (none_given VersionLimit, (meant, tt))
-event_lawful s Trio meant h = (none_given VersionLimit, tt)
+pub event_lawful : (s : State) (e : Event) → IsMeantEvent e → IsFine s → (choice : Decision) × IsLawfulAct s (act_of e choice)
+event_lawful s (Apply n) meant h = let given = apply_lawful s.world n h.staged in (given.0, (tt, tt, given.1))
+event_lawful s Trio meant h = (none_given VersionLimit, (tt, tt, tt))
+event_lawful s (Block size) meant h = (none_given VersionLimit, tt)
 event_lawful s (Bucket name) meant h = (none_given VersionLimit, tt)
-event_lawful s (Tick ms) meant h = (none_given VersionLimit, tt)
-event_lawful s (Put n bucket key size fill) meant h = (none_given VersionLimit, tt)
+event_lawful s (Role n role) meant h = (none_given VersionLimit, (tt, meant, tt))
+event_lawful s (Redundancy wanted) meant h = (none_given VersionLimit, (tt, meant, tt))
+event_lawful s (Tick ms) meant h = (none_given VersionLimit, (tt, tt, tt))
+event_lawful s (Skew n ms) meant h = (none_given VersionLimit, (tt, tt, tt))
+event_lawful s (Put n bucket key size fill) meant h = (none_given VersionLimit, meant)
 event_lawful s (Get n bucket key) meant h = (none_given VersionLimit, tt)
+event_lawful s (Head n bucket key) meant h = (none_given VersionLimit, tt)
+event_lawful s (Delete n bucket key) meant h = (none_given VersionLimit, meant)
+event_lawful s (Copy n from_bucket from_key bucket key) meant h = (none_given VersionLimit, meant)
+event_lawful s (Keys n bucket prefix) meant h = (none_given VersionLimit, tt)
 event_lawful s (Deliver m) meant h = (none_given VersionLimit, tt)
+event_lawful s (Lose m) meant h = (none_given VersionLimit, (tt, tt, tt))
 event_lawful s (Drain n) meant h = (none_given VersionLimit, tt)
-event_lawful s (Expire q) meant h = (none_given VersionLimit, tt)
-event_lawful s (Gossip from to) meant h = (none_given VersionLimit, tt)
-event_lawful s (Ack n) meant h = (none_given VersionLimit, tt)
-event_lawful s (Sync n) meant h = (none_given VersionLimit, tt)
-event_lawful s (SyncAck n) meant h = (none_given VersionLimit, tt)
-event_lawful s (Clean n) meant h = (none_given VersionLimit, tt)
+event_lawful s (Expire q) meant h = (none_given VersionLimit, (tt, tt, tt))
+event_lawful s (Restart n) meant h = (none_given VersionLimit, (tt, tt, tt))
+event_lawful s (Gossip from to) meant h = (none_given VersionLimit, (tt, tt, tt))
+event_lawful s (Ack n) meant h = (none_given VersionLimit, (tt, tt, tt))
+event_lawful s (Sync n) meant h = (none_given VersionLimit, (tt, tt, tt))
+event_lawful s (SyncAck n) meant h = (none_given VersionLimit, (tt, tt, tt))
+event_lawful s (Clean n) meant h = (none_given VersionLimit, (tt, tt, tt))
+event_lawful s (Work n) meant h = (none_given VersionLimit, (tt, tt, tt))
+event_lawful s (Repair n) meant h = (none_given VersionLimit, (tt, tt, tt))

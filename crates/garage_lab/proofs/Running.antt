@@ -7,29 +7,29 @@ use Rattle.crdt_core.specs.declared.memory.Memory.{Memory as Why}
 use Rattle.crdt_core.specs.declared.memory.Memory.TheVariants.{Want, Full}
 use Rattle.cluster_machine.specs.declared.line.Line.{Line}
 use Rattle.cluster_machine.specs.declared.applied.Applied.{Applied}
-use Rattle.object_model.specs.declared.event.Numbered.{Numbered}
-use Rattle.object_model.specs.declared.event.Told.{Told}
-use Rattle.object_model.specs.Run.{State, Turn, outcome_of, start, run}
-use Rattle.object_model.specs.Turns.{events_of}
+use Rattle.store_model.specs.declared.event.Numbered.{Numbered}
+use Rattle.store_model.specs.declared.event.Told.{Told}
+use Rattle.store_model.specs.Run.{start}
+use Rattle.store_model.specs.Events.{Turn, outcome_of, run, events_of}
 use Rattle.text_model.specs.Grammar.{name_of}
 use Rattle.text_model.specs.Transcript.{told_text, turns_text, tail_text}
-use Rattle.lab_driver.specs.declared.lab.Lab.{Lab}
-use Rattle.lab_driver.specs.Stands.{IsLab, HasLab, PlaysEvent, OverflowsEvent}
+use Rattle.s3_world.specs.declared.world.S3World.{S3World}
+use Rattle.s3_world.specs.Stands.{IsStore, HasStore, PlaysEvent, OverflowsEvent}
 use Rattle.garage_lab.specs.Replay.{ArePlayed, AreFirst}
-use Rattle.garage_lab.specs.Turning.{turn, TurnsTo, TurnsOne, CannotTurn, TellsTail}
-use Rattle.garage_lab.specs.Stop.{IsCutShort, IsPart, of_turns, of_all, IsWhole}
+use Rattle.garage_lab.specs.Turning.{turn, TurnsTo, TurnsOne, CannotTurn, TellsTail, CannotTell}
+use Rattle.garage_lab.specs.Stop.{IsCutShort, at_event, at_tail, IsPart, of_turns, of_all, IsWhole}
 use Rattle.garage_lab.proofs.Replays.{run_push, text_push, events_push, played_push}
 use Rattle.lab_outside.proofs.Bytes.{wrote_none, wrote_more, wrote_prefix_after, wrote_prefix_whole}
 
--- what the lab plays is a turn, with the text of what it told
-plays_turn : (old new : Lab) (told : Told) (e : Numbered) (text : List ℕ) → PlaysEvent old new told e.event → text ≡ told_text e.line (name_of e.event) told.refused told.words told.lines → TurnsOne old new e text
+-- what the store plays is a turn, with the text of what it told
+plays_turn : (old new : S3World) (told : Told) (e : Numbered) (text : List ℕ) → PlaysEvent old new told e.event → text ≡ told_text e.line (name_of e.event) told.refused told.words told.lines → TurnsOne old new e text
 plays_turn old new told e text plays is s stands =
     let d = plays s stands in
     let o = outcome_of s (turn e d.choice) in
     record {
       choice = d.choice;
       lawful = d.lawful;
-      lab = d.does.lab;
+      stands = d.does.stands;
       fits = d.does.fits;
       text_is =
           is ∙ ap (λ r. told_text e.line (name_of e.event) r told.words told.lines) d.does.tells.refused
@@ -37,38 +37,38 @@ plays_turn old new told e text plays is s stands =
           ∙ ap (λ ls. told_text e.line (name_of e.event) o.refused o.words ls) d.does.tells.lines;
     }
 
-pub turns_one : (r : Result (List ℕ) Why) (old new : Lab) (told : Told) (e : Numbered) (name : List ℕ) (lines : List (Line Applied)) → name ≡ name_of e.event → lines ≡ told.lines → PlaysEvent old new told e.event →
+pub turns_one : (r : Result (List ℕ) Why) (old new : S3World) (told : Told) (e : Numbered) (name : List ℕ) (lines : List (Line Applied)) → name ≡ name_of e.event → lines ≡ told.lines → PlaysEvent old new told e.event →
     IfOk r (λ text. text ≡ told_text e.line name told.refused told.words lines) → IfOk r (λ text. TurnsOne old new e text)
 turns_one (Err why) old new told e name lines named listed plays is = tt
 turns_one (Ok text) old new told e name lines named listed plays is =
     plays_turn old new told e text plays (is ∙ ap (λ n. told_text e.line n told.refused told.words lines) named ∙ ap (λ ls. told_text e.line (name_of e.event) told.refused told.words ls) listed)
 
--- the lab had no room for the event, or memory was wanting
-cannot_turn : (why : Why) (old : Lab) (e : Numbered) → (why ≡ Want) ⊎ ((why ≡ Full) × OverflowsEvent old e.event) → (why ≡ Want) ⊎ ((why ≡ Full) × CannotTurn old e)
+-- the store had no room for the event, or memory was wanting
+cannot_turn : (why : Why) (old : S3World) (e : Numbered) → (why ≡ Want) ⊎ ((why ≡ Full) × OverflowsEvent old e.event) → (why ≡ Want) ⊎ ((why ≡ Full) × CannotTurn old e)
 cannot_turn why old e (inl want) = inl want
 cannot_turn why old e (inr h) = inr (h.0, λ s stands. let lacking = h.1 s stands in record { choice = lacking.choice; lawful = lacking.lawful; lacks = lacking.lacks })
 
-pub turns_none : (r : Result (List ℕ) Why) (why : Why) (old : Lab) (e : Numbered) → IsErrAnd r (λ x. x ≡ why) → (why ≡ Want) ⊎ ((why ≡ Full) × OverflowsEvent old e.event) →
+pub turns_none : (r : Result (List ℕ) Why) (why : Why) (old : S3World) (e : Numbered) → IsErrAnd r (λ x. x ≡ why) → (why ≡ Want) ⊎ ((why ≡ Full) × OverflowsEvent old e.event) →
     IfErr r (λ x. (x ≡ Want) ⊎ ((x ≡ Full) × CannotTurn old e))
 turns_none (Ok text) why old e is causes = tt
 turns_none (Err x) why old e is causes = subst (λ (w : Why). (w ≡ Want) ⊎ ((w ≡ Full) × CannotTurn old e)) (sym is) (cannot_turn why old e causes)
 
 -- the first i events were played, with some layouts, and their text was written
-pub record Running (lab : Lab) (old now : Option (List ℕ)) (events : List Numbered) (i : ℕ) : Type 0 where
+pub record Running (store : S3World) (old now : Option (List ℕ)) (events : List Numbered) (i : ℕ) : Type 0 where
   pub turns : List Turn
   pub events_are : events_of turns ≡ take i events
   pub played : ArePlayed turns
-  pub stands : IsLab lab (run start turns)
+  pub stands : IsStore store (run start turns)
   pub wrote : Wrote old now (turns_text start turns)
 
-pub running_none : (lab : Lab) (old : Option (List ℕ)) (events : List Numbered) → IsLab lab start → Running lab old old events 0
-running_none lab old events d = record { turns = []; events_are = refl; played = record { lawful = tt; fits = tt }; stands = d; wrote = wrote_none old }
+pub running_none : (store : S3World) (old : Option (List ℕ)) (events : List Numbered) → IsStore store start → Running store old old events 0
+running_none store old events d = record { turns = []; events_are = refl; played = record { lawful = tt; fits = tt }; stands = d; wrote = wrote_none old }
 
 pub part_none : (old : Option (List ℕ)) (events : List Numbered) → IsPart events old old
 part_none old events = of_turns [] (record { played = record { lawful = tt; fits = tt }; later = events; whole = refl }) (wrote_prefix_whole old old [] (wrote_none old))
 
-module _ (lab : Lab) (old now : Option (List ℕ)) (events : List Numbered) (i : ℕ) (r : Running lab old now events i) where
-  pub running_has : HasLab lab
+module _ (store : S3World) (old now : Option (List ℕ)) (events : List Numbered) (i : ℕ) (r : Running store old now events i) where
+  pub running_has : HasStore store
   running_has = (run start r.turns, r.stands)
 
   are_first : AreFirst events r.turns
@@ -78,11 +78,11 @@ module _ (lab : Lab) (old now : Option (List ℕ)) (events : List Numbered) (i :
   pub running_part : IsPart events old now
   running_part = of_turns r.turns are_first (wrote_prefix_whole old now (turns_text start r.turns) r.wrote)
 
-module _ (lab new : Lab) (old mid now : Option (List ℕ)) (events : List Numbered) (i : ℕ) (next : Numbered) (lt : i < length events) (is : next ≡ get_or events i next) (r : Running lab old mid events i) where
+module _ (store new : S3World) (old mid now : Option (List ℕ)) (events : List Numbered) (i : ℕ) (next : Numbered) (lt : i < length events) (is : next ≡ get_or events i next) (r : Running store old mid events i) where
   here : take (i + 1) events ≡ take i events ++ next ∷ []
   here = take_more events i next lt ∙ ap (λ (e : Numbered). take i events ++ e ∷ []) (sym is)
 
-  module _ (text : List ℕ) (turns : TurnsOne lab new next text) where
+  module _ (text : List ℕ) (turns : TurnsOne store new next text) where
     to : TurnsTo new (run start r.turns) next text
     to = turns (run start r.turns) r.stands
 
@@ -101,9 +101,9 @@ module _ (lab new : Lab) (old mid now : Option (List ℕ)) (events : List Number
     unfolding more
     more_text = text_push start r.turns (turn next to.choice) ∙ ap (λ t. turns_text start r.turns ++ t) (sym to.text_is)
 
-    more_stands : IsLab new (run start more)
+    more_stands : IsStore new (run start more)
     unfolding more
-    more_stands = subst (IsLab new) (sym (run_push start r.turns (turn next to.choice))) to.lab
+    more_stands = subst (IsStore new) (sym (run_push start r.turns (turn next to.choice))) to.stands
 
     pub running_more : Wrote mid now text → Running new old now events (i + 1)
     running_more wrote = record {
@@ -121,33 +121,34 @@ module _ (lab new : Lab) (old mid now : Option (List ℕ)) (events : List Number
         (subst (WrotePrefix old now) (sym more_text) (wrote_prefix_after old mid now (turns_text start r.turns) text r.wrote wrote))
 
   -- after the event there is no room
-  pub running_stops : (why : Why) → (why ≡ Want) ⊎ ((why ≡ Full) × CannotTurn lab next) → why ≡ Full → IsCutShort events old mid
+  pub running_stops : (why : Why) → (why ≡ Want) ⊎ ((why ≡ Full) × CannotTurn store next) → why ≡ Full → IsCutShort events old mid
   running_stops why (inl want) full = cc
   running_stops why (inr h) full =
       let lacking = h.1 (run start r.turns) r.stands in
-      record {
-        before = r.turns;
-        stops = record {
-          played = r.played;
-          next = turn next lacking.choice;
-          later = drop (i + 1) events;
-          whole =
-              sym (take-append-drop i events) ∙ ap (λ es. take i events ++ es) (drop_more events i next lt ∙ ap (λ (e : Numbered). e ∷ drop (i + 1) events) (sym is))
-              ∙ ap (λ es. es ++ next ∷ drop (i + 1) events) (sym r.events_are);
-          lawful = lacking.lawful;
-          lacks = lacking.lacks;
-        };
-        wrote = r.wrote;
-      }
+      at_event r.turns (record {
+        played = r.played;
+        next = turn next lacking.choice;
+        later = drop (i + 1) events;
+        whole =
+            sym (take-append-drop i events) ∙ ap (λ es. take i events ++ es) (drop_more events i next lt ∙ ap (λ (e : Numbered). e ∷ drop (i + 1) events) (sym is))
+            ∙ ap (λ es. es ++ next ∷ drop (i + 1) events) (sym r.events_are);
+        lawful = lacking.lawful;
+        lacks = lacking.lacks;
+      }) r.wrote
 
-module _ (lab : Lab) (old mid now : Option (List ℕ)) (events : List Numbered) (i : ℕ) (r : Running lab old mid events i) (le : length events ≤ i) where
+module _ (store : S3World) (old mid now : Option (List ℕ)) (events : List Numbered) (i : ℕ) (r : Running store old mid events i) (le : length events ≤ i) where
   all_are : events_of r.turns ≡ events
   all_are = r.events_are ∙ take_all i events le
 
   count_turns : length events ≡ length r.turns
   count_turns = ap length (sym all_are) ∙ length-map r.turns (λ (t : Turn). t.numbered)
 
-  module _ (text : List ℕ) (tells : TellsTail lab (length events) text) where
+  -- after the last event a node can't be shown
+  pub all_stops : (why : Why) → (why ≡ Want) ⊎ ((why ≡ Full) × CannotTell store) → why ≡ Full → IsCutShort events old mid
+  all_stops why (inl want) full = cc
+  all_stops why (inr h) full = at_tail r.turns all_are r.played (h.1 (run start r.turns) r.stands) r.wrote
+
+  module _ (text : List ℕ) (tells : TellsTail store (length events) text) where
     tail_is : text ≡ tail_text (length r.turns) (run start r.turns)
     tail_is = tells (run start r.turns) r.stands ∙ ap (λ n. tail_text n (run start r.turns)) count_turns
 

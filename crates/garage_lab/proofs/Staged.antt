@@ -1,5 +1,5 @@
 -- What is staged stays in order and in its range, so each apply can be given something lawful.
-use Rattle.std.proofs.Common.{◌≡◌, ℕ, zero, suc, ◌<◌, ◌≤◌, Bool, true, false, not, ◌&&◌, ◌||◌, ◌==◌, leb, cond, IsTrue, Option, Some, None, List, [], ◌∷◌, length, refl, arith}
+use Rattle.std.proofs.Common.{ℕ, suc, ◌≤◌, Bool, true, false, not, ◌&&◌, leb, cond, IsTrue, Option, Some, None, List, [], ◌∷◌, length, refl, arith}
 use Rattle.std.specs.Prelude.{⊤}
 use Rattle.std.specs.List.{list_all}
 use Rattle.layout_roles.specs.declared.role.Role.{Role}
@@ -24,7 +24,6 @@ use Rattle.cluster_machine.specs.declared.line.Line.TheVariants.{Ended as HasEnd
 use Rattle.cluster_machine.specs.declared.line.EndWord.TheVariants.{Expired}
 use Rattle.cluster_machine.specs.declared.step.Refusal.{Refusal}
 use Rattle.cluster_machine.specs.declared.step.Refusal.TheVariants.{VersionTaken, VersionLimit, NotMember, NoSuchMessage, Lost, NoSuchRequest, AlreadyEnded, TooFewNodes, TooFewZones, NoAssignment}
-use Rattle.cluster_machine.specs.declared.applied.Applied.{Applied}
 use Rattle.cluster_machine.specs.Node.{Call}
 use Rattle.cluster_machine.specs.Acts.{Acted, acts}
 use Rattle.cluster_machine.specs.Receives.{receives}
@@ -32,8 +31,8 @@ use Rattle.cluster_machine.specs.Phases.{call_at, opened, closed}
 use Rattle.cluster_machine.specs.World.{Sent, Mark, Request, numbered, clock, is_member_at, staged}
 use Rattle.cluster_machine.specs.Trio.{zone, trio, stage_trio}
 use Rattle.cluster_machine.specs.Layouts.{layouts, has_none}
-use Rattle.cluster_machine.specs.Step.{Choice, given, none_given, most_versions, Effects, nothing, refusal, did, only, told, received, at_message, expires, closing, chosen, applies_at, trio_applies, acting, local, begun, beginning, opening, effects}
-use Rattle.cluster_machine.specs.Choices.{Decision, IsBest, IsRefused, IsComputed, IsNone}
+use Rattle.cluster_machine.specs.Step.{given, none_given, most_versions, nothing, refusal, did, only, told, received, at_message, expires, closing, chosen, applies_at, trio_applies, acting, local, begun, beginning, opening, effects}
+use Rattle.cluster_machine.specs.Choices.{Decision, IsComputed, IsNone}
 use Rattle.cluster_machine.specs.Worlds.{Model, Done, newest_at, comes_to_layout, IsLawfulStep}
 use Rattle.world_core.proofs.StagedList.{staged_ascends, staged_numbered}
 use Rattle.layout_command.proofs.Computed.{Computed, few_nodes, few_zones, none, layout, something_computed}

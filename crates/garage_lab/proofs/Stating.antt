@@ -1,5 +1,5 @@
 -- No input is without a stated answer.
-use Rattle.std.proofs.Common.{◌≡◌, ℕ, ◌<◌, ◌≤◌, ◌⊎◌, inl, inr, Option, Some, None, List, [], ◌∷◌, ◌++◌, length, refl, sym, ap, ◌∙◌, subst, append_assoc, append-nil}
+use Rattle.std.proofs.Common.{◌≡◌, ℕ, ◌≤◌, ◌⊎◌, inl, inr, Option, Some, None, List, [], ◌∷◌, ◌++◌, length, refl, sym, ap, ◌∙◌, subst, append_assoc, append-nil}
 use Rattle.std.specs.List.{All}
 use Rattle.std.proofs.lemmas.Bool.{cases_lt}
 use Rattle.std.proofs.lemmas.List.Elements.{All-head, All-tail}
@@ -9,15 +9,16 @@ use Rattle.cluster_machine.specs.Worlds.{FitAll, HaveRoom, next}
 use Rattle.lab_outside.specs.declared.exit.Status.{Status}
 use Rattle.lab_outside.specs.declared.exit.Status.TheVariants.{Done, Refused, Usage, Limit}
 use Rattle.layout_command.specs.Answer.{IsAnswer as IsLayoutAnswer}
-use Rattle.object_model.specs.declared.event.Numbered.{Numbered}
-use Rattle.object_model.specs.Run.{World, Moving, State, Turn, outcome_of, after, start, run}
-use Rattle.object_model.specs.Turns.{IsLawfulEvent, IsLawful, Fits, HasRoom, events_of}
+use Rattle.store_model.specs.declared.event.Numbered.{Numbered}
+use Rattle.store_model.specs.Run.{World, Moving, State, start}
+use Rattle.store_model.specs.Events.{Turn, outcome_of, run, events_of}
+use Rattle.store_model.specs.Turns.{Fits, HasRoom}
 use Rattle.text_model.specs.Reading.{IsSchedule, IsFirstBadLine}
 use Rattle.text_model.specs.Transcript.{turns_text, transcript}
-use Rattle.lab_driver.specs.Stands.{IsMeantEvent}
+use Rattle.s3_world.specs.Stands.{IsMeantEvent}
 use Rattle.garage_lab.specs.declared.command.Command.{Command}
-use Rattle.garage_lab.specs.declared.command.Command.TheVariants.{Layout, Replay}
-use Rattle.garage_lab.specs.Replay.{number_line, ArePlayed, StopsAfter, IsReplay, whole, number}
+use Rattle.garage_lab.specs.declared.command.Command.TheVariants.{Layout, Moves, Replay}
+use Rattle.garage_lab.specs.Replay.{number_line, ArePlayed, IsReplay, whole, number}
 use Rattle.garage_lab.specs.Turning.{turn}
 use Rattle.garage_lab.specs.Answer.{input_limit, usage_line, input_line, bad_line_text, IsAnswer, usage, long_input, bad_line, laid_out, replayed}
 use Rattle.garage_lab.proofs.Lawful.{IsFine, start_fine, after_fine, event_lawful}
@@ -50,7 +51,7 @@ module _ (events : List Numbered) (never : (status : Status) (text : List ℕ) �
         later = es;
         whole = is;
         lawful = given.1;
-        lacks = λ room. ends es (before ++ t ∷ []) (played_push before t played given.1 (room_fits s t room)) (subst IsFine (sym (run_push start before t)) (after_fine s t here fine))
+        lacks = λ room. ends es (before ++ t ∷ []) (played_push before t played given.1 (room_fits s t room)) (subst IsFine (sym (run_push start before t)) (after_fine s t given.1 fine))
             (All-tail (λ (x : Numbered). IsMeantEvent x.event) e es meant)
             (is ∙ sym (append_assoc (events_of before) (e ∷ []) es) ∙ ap (λ xs. xs ++ es) (sym (events_push before t)));
       }) refl refl)
@@ -71,14 +72,15 @@ module _ (input : List ℕ) (short : length input ≤ input_limit) where
   of_layout h none = none h.0 h.1.0 (laid_out refl short h.1.1)
 
 module _ (reads : (input : List ℕ) → ((events : List Numbered) × IsSchedule input events) ⊎ ((n : ℕ) × IsFirstBadLine input n)) (lays : (input : List ℕ) → (status : Status) × ((text : List ℕ) × IsLayoutAnswer input status text)) where
-  of_short : (command : Command) (input : List ℕ) → length input ≤ input_limit → Unanswered (Some command) input → ⊥
-  of_short Layout input short none = of_layout input short (lays input) none
-  of_short Replay input short none = of_replay input short (reads input) none
+  of_short : (command : Command) (input : List ℕ) → (command ≡ Moves → ⊥) → length input ≤ input_limit → Unanswered (Some command) input → ⊥
+  of_short Layout input other short none = of_layout input short (lays input) none
+  of_short Moves input other short none = other refl
+  of_short Replay input other short none = of_replay input short (reads input) none
 
-  pub is_stated : (asked : Option Command) (input : List ℕ) → Unanswered asked input → ⊥
-  is_stated None input none = none Usage usage_line (usage refl refl refl)
-  is_stated (Some command) input none =
+  pub is_stated : (asked : Option Command) (input : List ℕ) → (asked ≡ Some Moves → ⊥) → Unanswered asked input → ⊥
+  is_stated None input other none = none Usage usage_line (usage refl refl refl)
+  is_stated (Some command) input other none =
       elim (cases_lt input_limit (length input)) [
         | inl long ↦ none Limit input_line (long_input refl long refl refl)
-        | inr short ↦ of_short command input short none
+        | inr short ↦ of_short command input (λ e. other (ap Some e)) short none
       ]

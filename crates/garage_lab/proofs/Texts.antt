@@ -1,6 +1,6 @@
 -- What was written before and after.
 use Rattle.std.specs.String.{string_bytes}
-use Rattle.std.proofs.Common.{◌⊎◌, inl, inr, get_or, String, Global, ◌≡◌, ℕ, ◌+◌, ◌<◌, ◌≤◌, Option, Some, None, List, [], ◌∷◌, ◌++◌, refl, sym, ap, ◌∙◌, subst, append_assoc, arith, length, take, IfSome}
+use Rattle.std.proofs.Common.{get_or, String, Global, ◌≡◌, ℕ, ◌+◌, ◌<◌, ◌≤◌, Option, Some, None, List, [], ◌∷◌, ◌++◌, refl, ap, ◌∙◌, subst, append_assoc, arith, length, take, IfSome}
 use Rattle.std.proofs.lemmas.List.{length-take}
 use Rattle.lab_outside.specs.Bytes.{Wrote, WrotePrefix}
 use Rattle.garage_lab.specs.Command.{command_named, asked_by}
@@ -43,8 +43,3 @@ pub one_word : (words : List (String Global)) (word : String Global) → 1 ≤ l
 one_word [] word some few is = absurd (omega arith)
 one_word (w ∷ v ∷ ws) word some few is = absurd (omega arith)
 one_word (w ∷ []) word some few is = ap (λ v. command_named (string_bytes v)) is
-
-pub other_words : (words : List (String Global)) → (length words < 1) ⊎ (2 ≤ length words) → None ≡ asked_by words
-other_words [] other = refl
-other_words (w ∷ []) other = absurd (elim other [ inl few ↦ omega arith | inr more ↦ omega arith ])
-other_words (w ∷ v ∷ ws) other = refl

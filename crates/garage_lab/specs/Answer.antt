@@ -4,13 +4,15 @@ use Rattle.lab_outside.specs.declared.exit.Status.{Status}
 use Rattle.lab_outside.specs.declared.exit.Status.TheVariants.{Done, Refused, Usage, ReadFault, WriteFault, LinkFault, Memory, Limit}
 use Rattle.lab_outside.specs.Rose.{Rose}
 use Rattle.lab_outside.specs.Bytes.{Wrote, WrotePrefix}
-use Rattle.object_model.specs.declared.event.Numbered.{Numbered}
+use Rattle.store_model.specs.declared.event.Numbered.{Numbered}
 use Rattle.text_model.specs.Reading.{IsSchedule, IsFirstBadLine}
 use Rattle.layout_command.specs.Answer.{IsAnswer as IsLayoutAnswer}
-use Rattle.object_model.specs.Run.{Turn, start}
+use Rattle.layout_command.specs.Moves.{IsMovesAnswer}
+use Rattle.store_model.specs.Run.{start}
+use Rattle.store_model.specs.Events.{Turn}
 use Rattle.text_model.specs.Transcript.{turns_text}
 use Rattle.garage_lab.specs.declared.command.Command.{Command}
-use Rattle.garage_lab.specs.declared.command.Command.TheVariants.{Layout, Replay}
+use Rattle.garage_lab.specs.declared.command.Command.TheVariants.{Layout, Moves, Replay}
 use Rattle.garage_lab.specs.Replay.{AreFirst, IsReplay}
 
 -- how many bytes the input may have
@@ -35,6 +37,7 @@ pub data IsAnswer (asked : Option Command) (input : List ℕ) (status : Status) 
   long_input : IsSome asked → input_limit < length input → status ≡ Limit → text ≡ input_line → IsAnswer asked input status text
   bad_line : (n : ℕ) → asked ≡ Some Replay → length input ≤ input_limit → IsFirstBadLine input n → status ≡ Refused → text ≡ bad_line_text n → IsAnswer asked input status text
   laid_out : asked ≡ Some Layout → length input ≤ input_limit → IsLayoutAnswer input status text → IsAnswer asked input status text
+  moved : asked ≡ Some Moves → length input ≤ input_limit → IsMovesAnswer input status text → IsAnswer asked input status text
   replayed : (events : List Numbered) → asked ≡ Some Replay → length input ≤ input_limit → IsSchedule input events → IsReplay events status text → IsAnswer asked input status text
 
 -- the statuses that come with a whole text
@@ -80,10 +83,10 @@ pub record Answers (asked : Option Command) (input : List ℕ) (status : Status)
 abbrev pub AnswersPrefix : Option Command → List ℕ → Option (List ℕ) → Option (List ℕ) → Type 0
 AnswersPrefix asked input old new = (status : Status) (text : List ℕ) → IsAnswer asked input status text → WrotePrefix old new text
 
--- nothing was written, or a first part of one text that is stated for a layout of the input, and no more
-pub data LayoutPrefix (input : List ℕ) (old new : Option (List ℕ)) : Type 0 where
-  nothing : Wrote old new [] → LayoutPrefix input old new
-  begun : (status : Status) (text : List ℕ) → IsAnswer (Some Layout) input status text → WrotePrefix old new text → LayoutPrefix input old new
+-- nothing was written, or a first part of one text that is stated for the command and the input, and no more
+pub data LayoutPrefix (command : Command) (input : List ℕ) (old new : Option (List ℕ)) : Type 0 where
+  nothing : Wrote old new [] → LayoutPrefix command input old new
+  begun : (status : Status) (text : List ℕ) → IsAnswer (Some command) input status text → WrotePrefix old new text → LayoutPrefix command input old new
 
 -- what was written when a replay of the input ended or gave up: nothing, or a first part of one text that is stated, or of what the first events tell with lawful layouts
 pub data ReplayPrefix (input : List ℕ) (old new : Option (List ℕ)) : Type 0 where
@@ -97,7 +100,7 @@ IsOfReplay Done = ⊤
 IsOfReplay Limit = ⊤
 IsOfReplay _ = ⊥
 
--- where this status is stated, it is answered, or memory was wanting; a replay may end with the status that other layouts bring
+-- where this status is stated, it is answered, or memory was wanting; a replay may end with the status that other layouts bring, or a row without a spelling at its end
 abbrev pub Completes : Option Command → Status → Status → Type 0
 Completes asked status result = (result ≡ status) ⊎ (result ≡ Memory) ⊎ ((asked ≡ Some Replay) × IsOfReplay status × IsOfReplay result)
 

@@ -11,11 +11,11 @@ use Rattle.schedule_text.specs.declared.fault.ScheduleFault.{ScheduleFault}
 use Rattle.schedule_text.specs.declared.fault.ScheduleFault.TheVariants.{BadLine as FaultLine, Memory as FaultMemory}
 use Rattle.garage_lab.specs.declared.stop.Stop.{Stop}
 use Rattle.garage_lab.specs.declared.stop.Stop.TheVariants.{Read, Write, Memory, LongInput, BadLine, Number}
-use Rattle.object_model.specs.declared.event.Numbered.{Numbered}
-use Rattle.object_model.specs.Run.{start, Turn}
+use Rattle.store_model.specs.declared.event.Numbered.{Numbered}
+use Rattle.store_model.specs.Run.{start}
+use Rattle.store_model.specs.Events.{Turn, events_of, run}
 use Rattle.text_model.specs.Transcript.{turns_text, transcript}
-use Rattle.object_model.specs.Turns.{events_of}
-use Rattle.garage_lab.specs.Replay.{number_line, ArePlayed, AreFirst, StopsAfter}
+use Rattle.garage_lab.specs.Replay.{number_line, ArePlayed, AreFirst, StopsAfter, IsUnshown}
 use Rattle.garage_lab.specs.declared.command.Command.TheVariants.{Replay}
 use Rattle.garage_lab.specs.Answer.{input_line, bad_line_text, IsAnswer, ReplayPrefix}
 
@@ -103,11 +103,10 @@ IsOfOutput LongInput = ⊥
 IsOfOutput (BadLine n) = ⊥
 IsOfOutput Number = ⊤
 
--- the transcript was written up to the event before a number doesn't fit
-pub record IsCutShort (events : List Numbered) (old new : Option (List ℕ)) : Type 0 where
-  pub before : List Turn
-  pub stops : StopsAfter events before
-  pub wrote : Wrote old new (turns_text start before)
+-- the transcript was written up to the event before a number doesn't fit, or up to the tail, where a node can't be shown
+pub data IsCutShort (events : List Numbered) (old new : Option (List ℕ)) : Type 0 where
+  at_event : (before : List Turn) → StopsAfter events before → Wrote old new (turns_text start before) → IsCutShort events old new
+  at_tail : (turns : List Turn) → events_of turns ≡ events → ArePlayed turns → IsUnshown (run start turns) → Wrote old new (turns_text start turns) → IsCutShort events old new
 
 -- the first events were played, and a first part of what they told was written, or of the whole transcript
 pub data IsPart (events : List Numbered) (old new : Option (List ℕ)) : Type 0 where

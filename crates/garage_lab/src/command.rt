@@ -1,6 +1,6 @@
 //! The command that the words after the program's name ask for.
 ghost use Rattle.std.specs.Prelude.{◌≡◌};
-ghost use Rattle.garage_lab.specs.Command.{command_named, asked_by};
+ghost use Rattle.garage_lab.specs.Command.{command_named, command_with, asked_by};
 
 use std::alloc::Global;
 
@@ -9,6 +9,8 @@ use std::alloc::Global;
 pub enum Command {
     /// Writes the layout of a configuration.
     Layout,
+    /// Writes the layout of a configuration that moves the fewest copies.
+    Moves,
     /// Writes the transcript of a schedule.
     Replay,
 }
@@ -26,12 +28,24 @@ fn command_named(name: &str) -> Option<Command>
     }
 }
 
+/// The command of this name with this option.
+fn command_with(name: &str, option: &str) -> Option<Command>
+    ensures { result ≡ command_with name.now option.now }
+{
+    if name == "layout" && option == "--moves" {
+        Some(Command::Moves)
+    } else {
+        None
+    }
+}
+
 /// The command that these words ask for, if they ask for any.
 pub fn asked_by(words: &[String]) -> Option<Command>
     ensures { result ≡ asked_by words.now }
 {
     match words {
         [name] => command_named(name.as_str()),
+        [name, option] => command_with(name.as_str(), option.as_str()),
         _ => None,
     }
 }

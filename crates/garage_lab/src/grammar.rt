@@ -14,15 +14,21 @@ fn only(alloc: Global, text: &[u8]) -> Result<Event, Fail> {
 #[derive(Clone, Copy, Debug, PartialEq, Eq)]
 enum Said {
     Trio,
+    Block(u32),
     Tick(u64),
+    Skew(u8, u64),
     Deliver(u64),
+    Lose(u64),
     Drain(u32),
     Expire(u64),
+    Restart(u8),
     Apply(u8),
     Ack(u8),
     Sync(u8),
     SyncAck(u8),
     Clean(u8),
+    Work(u8),
+    Repair(u8),
     Gossip(u8, u8),
     Redundancy(Redundancy),
     NoRole(u8),
@@ -30,20 +36,30 @@ enum Said {
     Bucket,
     Put(u8, u32, u8),
     Get(u8),
+    Head(u8),
+    Delete(u8),
+    Copy(u8),
+    List(u8),
 }
 
 fn numbers(event: &Event) -> Said {
     match event {
         Event::Trio => Said::Trio,
+        Event::Block(size) => Said::Block(*size),
         Event::Tick(ms) => Said::Tick(*ms),
+        Event::Skew { node, ms } => Said::Skew(*node, *ms),
         Event::Deliver(message) => Said::Deliver(*message),
+        Event::Lose(message) => Said::Lose(*message),
         Event::Drain(limit) => Said::Drain(*limit),
         Event::Expire(request) => Said::Expire(*request),
+        Event::Restart(node) => Said::Restart(*node),
         Event::Apply(node) => Said::Apply(*node),
         Event::Ack(node) => Said::Ack(*node),
         Event::Sync(node) => Said::Sync(*node),
         Event::SyncAck(node) => Said::SyncAck(*node),
         Event::Clean(node) => Said::Clean(*node),
+        Event::Work(node) => Said::Work(*node),
+        Event::Repair(node) => Said::Repair(*node),
         Event::Gossip { from, to } => Said::Gossip(*from, *to),
         Event::Redundancy(wanted) => Said::Redundancy(*wanted),
         Event::Role { node, role } => match role {
@@ -58,10 +74,14 @@ fn numbers(event: &Event) -> Said {
             ..
         } => Said::Put(*node, *size, *fill),
         Event::Get { node, .. } => Said::Get(*node),
+        Event::Head { node, .. } => Said::Head(*node),
+        Event::Delete { node, .. } => Said::Delete(*node),
+        Event::Copy { node, .. } => Said::Copy(*node),
+        Event::List { node, .. } => Said::List(*node),
     }
 }
 
-/// The names that an event's line says: a zone, or a bucket and a key.
+/// The names that an event's line says: a zone, or a bucket and a key or prefix; of a copy those of its destination.
 fn names(event: &Event) -> (&[u8], &[u8]) {
     match event {
         Event::Role {
@@ -69,18 +89,32 @@ fn names(event: &Event) -> (&[u8], &[u8]) {
             ..
         } => (zone.0.as_slice(), b""),
         Event::Bucket(name) => (name.as_slice(), b""),
-        Event::Put { bucket, key, .. } | Event::Get { bucket, key, .. } => (
-            bucket.as_slice(),
-            key.as_slice(),
-        ),
+        Event::Put { bucket, key, .. }
+        | Event::Get { bucket, key, .. }
+        | Event::Head { bucket, key, .. }
+        | Event::Delete { bucket, key, .. }
+        | Event::Copy { bucket, key, .. } => (bucket.as_slice(), key.as_slice()),
+        Event::List { bucket, prefix, .. } => (bucket.as_slice(), prefix.as_slice()),
         _ => (b"", b""),
     }
 }
 
 #[test]
 fn reads_numbers_at_their_bounds(rt: HostRuntime) -> Result<(), Fail> {
-    let rows: [(&[u8], Said); 18] = [
+    let rows: [(&[u8], Said); 30] = [
         (b"trio", Said::Trio),
+        (b"block 16", Said::Block(16)),
+        (b"block 1048576", Said::Block(1_048_576)),
+        (b"skew 16 3600000", Said::Skew(16, 3_600_000)),
+        (b"skew 1 0", Said::Skew(1, 0)),
+        (b"lose 4294967295", Said::Lose(4_294_967_295)),
+        (b"restart 16", Said::Restart(16)),
+        (b"work 1", Said::Work(1)),
+        (b"repair 9", Said::Repair(9)),
+        (b"head 2 pics a", Said::Head(2)),
+        (b"delete 3 pics a", Said::Delete(3)),
+        (b"copy 4 pics a docs b", Said::Copy(4)),
+        (b"list 5 pics *", Said::List(5)),
         (b"tick 0\n", Said::Tick(0)),
         (b"tick 86400000", Said::Tick(86_400_000)),
         (b"deliver 4294967295", Said::Deliver(4_294_967_295)),
@@ -97,7 +131,7 @@ fn reads_numbers_at_their_bounds(rt: HostRuntime) -> Result<(), Fail> {
         (b"redundancy maximum", Said::Redundancy(Redundancy::Maximum)),
         (b"role 16 none", Said::NoRole(16)),
         (b"role 2 none 1", Said::Role(2, Kind::Storage(1))),
-        (b"put 16 pics a 3071 250", Said::Put(16, 3071, 250)),
+        (b"put 16 pics a 65536 250", Said::Put(16, 65_536, 250)),
     ];
     for (text, wanted) in rows {
         assert_eq!(rt; numbers(&only(rt.alloc(), text)?), wanted);
@@ -107,7 +141,12 @@ fn reads_numbers_at_their_bounds(rt: HostRuntime) -> Result<(), Fail> {
 
 #[test]
 fn reads_names(rt: HostRuntime) -> Result<(), Fail> {
-    let rows: [(&[u8], &[u8], &[u8]); 6] = [
+    let rows: [(&[u8], &[u8], &[u8]); 11] = [
+        (b"head 1 pics a", b"pics", b"a"),
+        (b"delete 1 pics B", b"pics", b"B"),
+        (b"copy 1 pics a docs b/c", b"docs", b"b/c"),
+        (b"list 1 pics *", b"pics", b""),
+        (b"list 1 pics a/", b"pics", b"a/"),
         (b"bucket 0a-b.c9", b"0a-b.c9", b""),
         (b"put 16 pics A_z/9.- 3071 250", b"pics", b"A_z/9.-"),
         (b"get 1 pics a", b"pics", b"a"),
@@ -122,14 +161,52 @@ fn reads_names(rt: HostRuntime) -> Result<(), Fail> {
     Ok(())
 }
 
+#[test]
+fn reads_the_source_of_a_copy(rt: HostRuntime) -> Result<(), Fail> {
+    let event = only(rt.alloc(), b"copy 1 pics a docs b/c")?;
+    let source = match &event {
+        Event::Copy {
+            from_bucket,
+            from_key,
+            ..
+        } => (from_bucket.as_slice(), from_key.as_slice()),
+        _ => (b"".as_slice(), b"".as_slice()),
+    };
+    assert_eq!(rt; source, (b"pics".as_slice(), b"a".as_slice()));
+    Ok(())
+}
+
 /// Lines outside the grammar.
-const OUTSIDE: [&[u8]; 68] = [
+const OUTSIDE: [&[u8]; 90] = [
+    b"block 15",
+    b"block 1048577",
+    b"skew 1",
+    b"skew 0 5",
+    b"skew 1 3600001",
+    b"lose 0",
+    b"lose 4294967296",
+    b"restart 0",
+    b"restart 1 1",
+    b"work",
+    b"work 17",
+    b"repair 0",
+    b"head 1 pics",
+    b"head 1 pics a b",
+    b"delete 17 pics a",
+    b"copy 1 pics a docs",
+    b"copy 1 pics a docs b c",
+    b"copy 1 pics * docs b",
+    b"list 1 pics",
+    b"list 1 pics ",
+    b"list 1 pics a*",
+    b"list 1 pics **",
+    b"collect 1",
+    b"put 1 pics a 65537 97",
     b" trio",
     b"trio ",
     b"Trio",
     b"trio\r",
     b" ",
-    b"lose 1",
     b"tick",
     b"tick  5",
     b"tick 05",
@@ -146,7 +223,6 @@ const OUTSIDE: [&[u8]; 68] = [
     b"bucket a123456789b123456789c123456789d123456789e123456789f123456789g123",
     b"put 0 pics a 3 97",
     b"put 17 pics a 3 97",
-    b"put 1 pics a 3072 97",
     b"put 1 pics a 3 251",
     b"put 1 pics a 3",
     b"put 1 pics a 3 97 1",

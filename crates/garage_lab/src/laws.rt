@@ -1,7 +1,8 @@
 //! What holds of the answers that are stated.
-ghost use Rattle.std.specs.Prelude.{ℕ, List, Option};
+ghost use Rattle.std.specs.Prelude.{◌≡◌, ℕ, List, Option, Some};
 ghost use Rattle.lab_outside.specs.declared.exit.Status.{Status};
 ghost use Rattle.garage_lab.specs.declared.command.Command.{Command};
+ghost use Rattle.garage_lab.specs.declared.command.Command.TheVariants.{Moves};
 ghost use Rattle.garage_lab.specs.Answer.{IsAnswer};
 
 use layout_command::every_configuration_is_answered;
@@ -9,9 +10,9 @@ use schedule_text::every_text_reads;
 
 /// No input is without a stated answer, whatever is asked: each text is a schedule or has a first bad line, each
 /// configuration has a layout or a cause for which there is none, and each event of a schedule can be given
-/// something lawful, after which there is room or none.
+/// something lawful, after which there is room or none. Of a layout with the fewest moves nothing is said.
 pub fn some_answer_is_stated()
-    ensures { (asked : Option Command) (input : List ℕ) → ((status : Status) (text : List ℕ) → IsAnswer asked input status text → ⊥) → ⊥ }
+    ensures { (asked : Option Command) (input : List ℕ) → (asked ≡ Some Moves → ⊥) → ((status : Status) (text : List ℕ) → IsAnswer asked input status text → ⊥) → ⊥ }
 {
     every_text_reads();
     every_configuration_is_answered();

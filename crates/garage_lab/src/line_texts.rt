@@ -1,12 +1,13 @@
 //! Transcript lines written by hand.
+use blake2_hash::Hash32;
 use cluster_machine::applied::{Line, Refusal};
 use cluster_machine::{DoneWord, EndWord, SentKind, Words};
 use crdt_core::{Bytes, List, Memory};
-use event_text::{end_text, line_text, name, told_text};
+use event_text::{end_text, line_text, name, node_text, told_text};
 use layout_flow::Cut;
-use object_model::Event;
 use std::alloc::Global;
 use std::test::Fail;
+use store_model::Event;
 
 /// The MD5 of `abc` (RFC 1321).
 const ABC: [u8; 16] = [
@@ -46,7 +47,7 @@ fn ended(word: EndWord) -> Line {
 
 #[test]
 fn writes_each_kind_of_line(rt: HostRuntime) -> Result<(), Fail> {
-    let rows: [(Line, &[u8]); 9] = [
+    let rows: [(Line, &[u8]); 12] = [
         (Line::Got(14), b"got 14\n"),
         (sent(16, SentKind::Row, 2, 12), b"sent 16 row 2 12\n"),
         (
@@ -60,6 +61,18 @@ fn writes_each_kind_of_line(rt: HostRuntime) -> Result<(), Fail> {
         (
             done(30, DoneWord::Get, None, None, None),
             b"done 30 get none\n",
+        ),
+        (
+            done(3, DoneWord::Head, VERSION, Some(65_536), None),
+            b"done 3 head 1000/1 65536\n",
+        ),
+        (
+            done(4, DoneWord::Delete, VERSION, None, None),
+            b"done 4 delete 1000/1\n",
+        ),
+        (
+            done(5, DoneWord::Copy, None, None, None),
+            b"done 5 copy none\n",
         ),
         (Line::Synced(16, 2), b"synced 16 2\n"),
         (ended(EndWord::Expired), b"ended 4 expired\n"),
@@ -150,6 +163,18 @@ fn writes_refusals_with_their_numbers(rt: HostRuntime) -> Result<(), Fail> {
 }
 
 #[test]
+fn writes_the_line_of_a_node(rt: HostRuntime) -> Result<(), Fail> {
+    let mut top = [0; 32];
+    top[0] = 0xab;
+    top[31] = 1;
+    let written = node_text(rt.alloc(), 16, 12, 3, &Hash32(top))?;
+    let wanted =
+        b"node 16 rows 12 blocks 3 top ab00000000000000000000000000000000000000000000000000000000000001\n".as_slice();
+    assert_eq!(rt; written.as_slice(), wanted);
+    Ok(())
+}
+
+#[test]
 fn writes_the_last_line(rt: HostRuntime) -> Result<(), Fail> {
     let greatest = end_text(rt.alloc(), 7, 2, u64::MAX)?;
     let wanted = b"end 7 2 18446744073709551615\n".as_slice();
@@ -159,13 +184,16 @@ fn writes_the_last_line(rt: HostRuntime) -> Result<(), Fail> {
 
 #[test]
 fn names_events(rt: HostRuntime) {
-    let rows: [(Event, &[u8]); 6] = [
+    let rows: [(Event, &[u8]); 9] = [
         (Event::Trio, b"trio"),
         (Event::Tick(0), b"tick"),
         (Event::Deliver(1), b"deliver"),
         (Event::Drain(1), b"drain"),
         (Event::Gossip { from: 1, to: 2 }, b"gossip"),
         (Event::SyncAck(3), b"syncack"),
+        (Event::Lose(1), b"lose"),
+        (Event::Work(3), b"work"),
+        (Event::Repair(3), b"repair"),
     ];
     for (event, word) in &rows {
         assert_eq!(rt; name(event), *word);

@@ -17,6 +17,8 @@ mod laws;
 mod layout;
 #[cfg(test)]
 mod line_texts;
+#[cfg(test)]
+mod request_texts;
 mod run;
 mod schedule;
 mod stop;

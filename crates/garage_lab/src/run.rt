@@ -4,22 +4,22 @@ ghost use Rattle.std.specs.Io.KnownBytes.{IsAtEnd};
 ghost use Rattle.crdt_core.specs.Outcomes.{OnlyWant};
 ghost use Rattle.lab_outside.specs.Rose.{Rose};
 ghost use Rattle.garage_lab.specs.Replay.{IsTranscribed};
-ghost use Rattle.garage_lab.specs.Layout.{IsPrinted};
+ghost use Rattle.garage_lab.specs.Layout.{IsPrinted, IsPrintedMoves};
 ghost use Rattle.garage_lab.specs.Command.{asked_by};
 ghost use Rattle.garage_lab.specs.Answer.{input_limit, bad_line_text, IsAnswer, IsStated, IsAfterReading, Answers, AnswersPrefix, LayoutPrefix, ReplayPrefix, Completes, IsAnswered, Says};
 ghost use Rattle.garage_lab.specs.Stop.{status_of, said_of, Halts, IsSaid};
 
 use crate::command::{Command, asked_by};
 use crate::laws::some_answer_is_stated;
-use crate::layout::read_layout;
+use crate::layout::{read_layout, read_moves};
 use crate::schedule::read_schedule;
 use crate::stop::Stop;
 use crate::transcript::write_transcript;
 use crdt_core::{Bytes, Memory};
 use lab_outside::{Clock, Failed, Link, Sink, Source, Status, write_whole};
-use layout_command::one_status;
-use object_laws::fresh_reads;
+use layout_command::{one_moves_status, one_status};
 use std::alloc::Global;
+use store_laws::{fresh_reads, reads_give_what_was_written};
 
 /// Writes the last text, and answers the status that goes with it.
 fn ends<O: Sink>(output: &mut O, text: &[u8], status: Status) -> Status
@@ -100,7 +100,7 @@ fn replayed<I: Source, O: Sink>(alloc: Global, input: &mut I, output: &mut O) ->
 /// Prints the layout of the nodes that the input says, or why there is none.
 fn laid_out<I: Source, O: Sink>(alloc: Global, input: &mut I, output: &mut O) -> Status
     ensures answers { IsStated result → IfSome (I.left input.old) (λ bytes. Answers (Some Command.Layout) bytes result (O.written output.old) (O.written output.new)) }
-    ensures prefix { IfSome (I.left input.old) (λ bytes. LayoutPrefix bytes (O.written output.old) (O.written output.new)) }
+    ensures prefix { IfSome (I.left input.old) (λ bytes. LayoutPrefix Command.Layout bytes (O.written output.old) (O.written output.new)) }
     ensures end { result ≡ Status.Done → IsAtEnd (I.left input.new) }
     ensures read { IsAfterReading result → IfSome (I.left input.old) (λ bytes. I.left input.new ≡ Some (drop (input_limit + 1) bytes)) }
     ensures no_usage { result ≡ Status.Usage → ⊥ }
@@ -110,6 +110,24 @@ fn laid_out<I: Source, O: Sink>(alloc: Global, input: &mut I, output: &mut O) ->
     ensures link_fault { result ≡ Status.LinkFault → ⊥ }
 {
     match read_layout(alloc, input) {
+        Ok(reply) => ends(output, reply.text.as_slice(), reply.status),
+        Err(stop) => stopped(alloc, output, stop),
+    }
+}
+
+/// Prints the layout of the nodes that the input says with the fewest moves, or why there is none.
+fn moved<I: Source, O: Sink>(alloc: Global, input: &mut I, output: &mut O) -> Status
+    ensures answers { IsStated result → IfSome (I.left input.old) (λ bytes. Answers (Some Command.Moves) bytes result (O.written output.old) (O.written output.new)) }
+    ensures prefix { IfSome (I.left input.old) (λ bytes. LayoutPrefix Command.Moves bytes (O.written output.old) (O.written output.new)) }
+    ensures end { result ≡ Status.Done → IsAtEnd (I.left input.new) }
+    ensures read { IsAfterReading result → IfSome (I.left input.old) (λ bytes. I.left input.new ≡ Some (drop (input_limit + 1) bytes)) }
+    ensures no_usage { result ≡ Status.Usage → ⊥ }
+    ensures read_fault { result ≡ Status.ReadFault → Rose (I.faults input.old) (I.faults input.new) }
+    ensures unwritten { result ≡ Status.ReadFault → output.new ≡ output.old }
+    ensures write_fault { result ≡ Status.WriteFault → Rose (O.faults output.old) (O.faults output.new) }
+    ensures link_fault { result ≡ Status.LinkFault → ⊥ }
+{
+    match read_moves(alloc, input) {
         Ok(reply) => ends(output, reply.text.as_slice(), reply.status),
         Err(stop) => stopped(alloc, output, stop),
     }
@@ -125,7 +143,8 @@ fn answer<I: Source, O: Sink>(
     ensures answers { IsStated result → IfSome (I.left input.old) (λ bytes. Answers (asked_by words.now) bytes result (O.written output.old) (O.written output.new)) }
     ensures prefix { asked_by words.now ≡ None → IfSome (I.left input.old) (λ bytes. AnswersPrefix (asked_by words.now) bytes (O.written output.old) (O.written output.new)) }
     ensures replay_prefix { asked_by words.now ≡ Some Command.Replay → IfSome (I.left input.old) (λ bytes. ReplayPrefix bytes (O.written output.old) (O.written output.new)) }
-    ensures layout_prefix { asked_by words.now ≡ Some Command.Layout → IfSome (I.left input.old) (λ bytes. LayoutPrefix bytes (O.written output.old) (O.written output.new)) }
+    ensures layout_prefix { asked_by words.now ≡ Some Command.Layout → IfSome (I.left input.old) (λ bytes. LayoutPrefix Command.Layout bytes (O.written output.old) (O.written output.new)) }
+    ensures moves_prefix { asked_by words.now ≡ Some Command.Moves → IfSome (I.left input.old) (λ bytes. LayoutPrefix Command.Moves bytes (O.written output.old) (O.written output.new)) }
     ensures end { result ≡ Status.Done → IsAtEnd (I.left input.new) }
     ensures read { IsSome (asked_by words.now) → IsAfterReading result → IfSome (I.left input.old) (λ bytes. I.left input.new ≡ Some (drop (input_limit + 1) bytes)) }
     ensures usage { result ≡ Status.Usage → asked_by words.now ≡ None }
@@ -138,6 +157,7 @@ fn answer<I: Source, O: Sink>(
 {
     match asked_by(words) {
         Some(Command::Layout) => laid_out(alloc, input, output),
+        Some(Command::Moves) => moved(alloc, input, output),
         Some(Command::Replay) => replayed(alloc, input, output),
         None => {
             let usage =
@@ -158,12 +178,18 @@ pub fn run<I: Source, O: Sink, L: Link, C: Clock>(
 ) -> Status
     // After Done of a replay what was written is the whole transcript of the events that all the input's bytes
     // spell, with the layouts that it prints: each is computed from what was staged, an assignment of the greatest
-    // partition size, with its printed cut. The answered gets of that very run are fresh.
+    // partition size, with its printed cut. The answered reads of that very run are fresh, and the sizes that gets, heads
+    // and lists tell, and the MD5s of gets, are those of the bytes that were written as the versions beside them (of a
+    // get's where these aren't kept in blocks).
     ensures done { asked_by words.now ≡ Some Command.Replay → result ≡ Status.Done → IfSome (I.left input.old) (λ bytes. IsTranscribed bytes (O.written output.old) (O.written output.new)) }
 
     // After Done of a layout what was written is the text of an assignment of the greatest partition size for
     // the nodes that the input says, with the cut that shows that no greater size has any.
     ensures laid_out { asked_by words.now ≡ Some Command.Layout → result ≡ Status.Done → IfSome (I.left input.old) (λ bytes. IsPrinted bytes (O.written output.old) (O.written output.new)) }
+
+    // After Done of a layout with the fewest moves what was written is the text of such a layout whose copies that the
+    // old sets of the input haven't are the fewest, with their number and the potentials that show it.
+    ensures moved { asked_by words.now ≡ Some Command.Moves → result ≡ Status.Done → IfSome (I.left input.old) (λ bytes. IsPrintedMoves bytes (O.written output.old) (O.written output.new)) }
 
     // After Done the source was read to its end. A command reads to the end of the input, or to the first byte
     // past its limit, before it brings anything but ReadFault and Memory.
@@ -177,10 +203,12 @@ pub fn run<I: Source, O: Sink, L: Link, C: Clock>(
     ensures answers { IsStated result → IfSome (I.left input.old) (λ bytes. Answers (asked_by words.now) bytes result (O.written output.old) (O.written output.new)) }
     ensures prefix { asked_by words.now ≡ None → IfSome (I.left input.old) (λ bytes. AnswersPrefix (asked_by words.now) bytes (O.written output.old) (O.written output.new)) }
     ensures replay_prefix { asked_by words.now ≡ Some Command.Replay → IfSome (I.left input.old) (λ bytes. ReplayPrefix bytes (O.written output.old) (O.written output.new)) }
-    ensures layout_prefix { asked_by words.now ≡ Some Command.Layout → IfSome (I.left input.old) (λ bytes. LayoutPrefix bytes (O.written output.old) (O.written output.new)) }
+    ensures layout_prefix { asked_by words.now ≡ Some Command.Layout → IfSome (I.left input.old) (λ bytes. LayoutPrefix Command.Layout bytes (O.written output.old) (O.written output.new)) }
+    ensures moves_prefix { asked_by words.now ≡ Some Command.Moves → IfSome (I.left input.old) (λ bytes. LayoutPrefix Command.Moves bytes (O.written output.old) (O.written output.new)) }
 
     // Where no count of faults rises, a status and the whole text that are stated come, or memory was wanting. One
-    // status is stated, but that a replay of events may end with Done or Limit, as the layouts decide that were chosen.
+    // status is stated, but that a replay of events may end with Done or Limit, as the layouts decide that were chosen,
+    // or where a node has a row without a spelling after the last event.
     ensures answered { IfSome (I.left input.old) (λ bytes. (Rose (I.faults input.old) (I.faults input.new) → ⊥) → (Rose (O.faults output.old) (O.faults output.new) → ⊥) →
         IsAnswered (asked_by words.now) bytes result (O.written output.old) (O.written output.new)) }
     ensures complete { IfSome (I.left input.old) (λ bytes. (status : Status) (text : List ℕ) → IsAnswer (asked_by words.now) bytes status text →
@@ -201,7 +229,9 @@ pub fn run<I: Source, O: Sink, L: Link, C: Clock>(
     ensures clock { _clock.new ≡ _clock.old }
 {
     fresh_reads();
+    reads_give_what_was_written();
     one_status();
+    one_moves_status();
     some_answer_is_stated();
     answer(alloc, words, input, output)
 }

@@ -4,7 +4,7 @@ ghost use Rattle.std.specs.List.{All};
 ghost use Rattle.std.specs.Io.KnownBytes.{IsAtEnd};
 ghost use Rattle.lab_outside.specs.Rose.{Rose};
 ghost use Rattle.text_model.specs.Reading.{IsSchedule, IsFirstBadLine};
-ghost use Rattle.lab_driver.specs.Stands.{IsMeantEvent};
+ghost use Rattle.s3_world.specs.Stands.{IsMeantEvent};
 ghost use Rattle.garage_lab.specs.Answer.{input_limit};
 ghost use Rattle.garage_lab.specs.Stop.{IsSaid, IsOfInput};
 

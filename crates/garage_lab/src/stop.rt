@@ -18,7 +18,7 @@ pub enum Stop {
     LongInput,
     /// The first line outside the grammar, counted from 1.
     BadLine(u64),
-    /// After the next event a number would not fit its type.
+    /// After the next event a number would not fit its type, or after the last one a node has a row without a spelling.
     Number,
 }
 

@@ -1,28 +1,28 @@
 //! The transcript of a schedule.
 ghost use Rattle.std.specs.Prelude.{◌≡◌, ◌⊎◌, ◌≤◌, ℕ, List, Err, IfOk, OnOk, IfErr, OnErr};
 ghost use Rattle.std.specs.List.{All};
-ghost use Rattle.crdt_core.specs.Outcomes.{OnlyWant, WantOr};
+ghost use Rattle.crdt_core.specs.Outcomes.{WantOr};
 ghost use Rattle.lab_outside.specs.Rose.{Rose};
-ghost use Rattle.lab_driver.specs.Stands.{HasLab, IsMeantEvent};
-ghost use Rattle.garage_lab.specs.Turning.{TurnsOne, CannotTurn, TellsTail};
+ghost use Rattle.s3_world.specs.Stands.{HasStore, IsMeantEvent};
+ghost use Rattle.garage_lab.specs.Turning.{TurnsOne, CannotTurn, ShowsNode, ShowsNodes, TellsTail, CannotShow, CannotShowSome, CannotTell};
 ghost use Rattle.garage_lab.specs.Stop.{IsOfOutput, IsCutShort, IsPart, IsWhole};
 
 use crate::stop::Stop;
 use crdt_core::{Bytes, Memory};
-use event_text::{end_text, name, told_text};
-use lab_driver::Lab;
+use event_text::{end_text, name, node_text, told_text};
 use lab_outside::{Sink, write_whole};
+use s3_world::{NodeLine, S3World};
 use schedule_text::Numbered;
 use std::alloc::Global;
 
 /// What the next event tells.
-fn event_text(alloc: Global, lab: &mut Lab, next: &Numbered) -> Result<Bytes, Memory>
-    requires lab { HasLab lab.old }
+fn event_text(alloc: Global, store: &mut S3World, next: &Numbered) -> Result<Bytes, Memory>
+    requires stands { HasStore store.old }
     requires meant { IsMeantEvent next.now.event }
-    ensures turns { IfOk result (λ text. TurnsOne lab.old lab.new next.now text) }
-    ensures causes { WantOr result (CannotTurn lab.old next.now) }
+    ensures turns { IfOk result (λ text. TurnsOne store.old store.new next.now text) }
+    ensures causes { WantOr result (CannotTurn store.old next.now) }
 {
-    let told = lab.step(&next.event)?;
+    let told = store.step(&next.event)?;
     told_text(
         alloc,
         next.line,
@@ -33,12 +33,47 @@ fn event_text(alloc: Global, lab: &mut Lab, next: &Numbered) -> Result<Bytes, Me
     )
 }
 
-/// What is written after so many events: the last line.
-fn tail_text(alloc: Global, lab: &Lab, events: usize) -> Result<Bytes, Memory>
-    ensures text { IfOk result (TellsTail lab.now events) }
-    ensures want { OnlyWant result }
+/// The line of a node, nothing where its view is empty.
+fn line_text(alloc: Global, store: &S3World, node: u8) -> Result<Bytes, Memory>
+    ensures text { IfOk result (ShowsNode store.now node) }
+    ensures causes { WantOr result (CannotShow store.now node) }
 {
-    end_text(alloc, events as u64, lab.requests(), lab.messages())
+    match store.node_line(node)? {
+        Some(
+            NodeLine {
+                node,
+                rows,
+                blocks,
+                top,
+            },
+        ) => node_text(alloc, node, rows, blocks, &top),
+        None => Ok(Bytes::new(alloc)),
+    }
+}
+
+/// The lines of these nodes, in order.
+fn nodes_text(alloc: Global, store: &S3World, nodes: &[u8]) -> Result<Bytes, Memory>
+    ensures text { IfOk result (ShowsNodes store.now nodes.now) }
+    ensures causes { WantOr result (CannotShowSome store.now nodes.now) }
+{
+    let mut text = Bytes::new(alloc);
+    for node in nodes {
+        let line = line_text(alloc, store, *node)?;
+        text.extend_from_slice(line.as_slice())?;
+    }
+    Ok(text)
+}
+
+/// What is written after so many events: the lines of the nodes, and the last line.
+fn tail_text(alloc: Global, store: &S3World, events: usize) -> Result<Bytes, Memory>
+    ensures text { IfOk result (TellsTail store.now events) }
+    ensures causes { WantOr result (CannotTell store.now) }
+{
+    let nodes = [1, 2, 3, 4, 5, 6, 7, 8, 9, 10, 11, 12, 13, 14, 15, 16];
+    let mut text = nodes_text(alloc, store, &nodes)?;
+    let end = end_text(alloc, events as u64, store.requests(), store.sent())?;
+    text.extend_from_slice(end.as_slice())?;
+    Ok(text)
 }
 
 /// Writes what each event tells, when the event is whole, and the tail of the run.
@@ -55,12 +90,12 @@ pub fn write_transcript<O: Sink>(
     ensures fault { result ≡ Err Stop.Write → Rose (O.faults output.old) (O.faults output.new) }
     ensures counted { O.faults output.old ≤ O.faults output.new }
 {
-    let mut lab = Lab::new(alloc)?;
+    let mut store = S3World::new(alloc)?;
     for next in events {
-        let text = event_text(alloc, &mut lab, next)?;
+        let text = event_text(alloc, &mut store, next)?;
         write_whole(output, text.as_slice())?;
     }
-    let tail = tail_text(alloc, &lab, events.len())?;
+    let tail = tail_text(alloc, &store, events.len())?;
     write_whole(output, tail.as_slice())?;
     Ok(())
 }

@@ -1,6 +1,6 @@
-use Rattle.std.proofs.Common.{inl, inr, arith, ◌∙◌, ap}
+use Rattle.std.proofs.Common.{◌∙◌, ap}
 use Rattle.garage_lab.specs.Command.{command_named}
-use Rattle.garage_lab.proofs.Texts.{one_word, other_words}
+use Rattle.garage_lab.proofs.Texts.{one_word}
 use Rattle.garage_lab.proofs.command.asked_by.Goals as goal
 
 pub returns-in-len1 : goal.returns-in-len1

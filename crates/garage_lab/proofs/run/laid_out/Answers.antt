@@ -1,16 +1,19 @@
-use Rattle.std.proofs.Common.{ap, Err}
+use Rattle.std.proofs.Common.{refl, ap, Err}
+use Rattle.layout_command.specs.Answer.{IsAnswer as IsLayoutAnswer}
+use Rattle.garage_lab.specs.declared.command.Command.TheVariants.{Layout}
+use Rattle.garage_lab.specs.Answer.{laid_out}
 use Rattle.garage_lab.proofs.Lays.{reply_answers, reply_prefix, reply_fault, halted_lays, halted_lays_prefix}
 use Rattle.garage_lab.proofs.run.laid_out.Goals as goal
 
 pub returns-in-Ok-clause-answers : goal.returns-in-Ok-clause-answers
 returns-in-Ok-clause-answers g c =
-    reply_answers c.in-Ok.reply.status c.ends.result c.in-Ok.reply.text (g.O.Sink.written c.args.output.now) (g.O.Sink.written c.ends.new.output) (g.O.Sink.faults c.args.output.now) (g.O.Sink.faults c.ends.new.output)
-    (rw c.as_slice.ensures at c.ends.ensures.says) (g.I.Source.left c.args.input.now) c.in-Ok.ensures.stated
+    reply_answers Layout c.in-Ok.reply.status c.ends.result c.in-Ok.reply.text (g.O.Sink.written c.args.output.now) (g.O.Sink.written c.ends.new.output) (g.O.Sink.faults c.args.output.now) (g.O.Sink.faults c.ends.new.output)
+    (rw c.as_slice.ensures at c.ends.ensures.says) (λ bytes. IsLayoutAnswer bytes c.in-Ok.reply.status c.in-Ok.reply.text) (λ bytes short says. laid_out refl short says) (g.I.Source.left c.args.input.now) c.in-Ok.ensures.stated
 
 pub returns-in-Ok-clause-prefix : goal.returns-in-Ok-clause-prefix
 returns-in-Ok-clause-prefix g c =
-    reply_prefix c.in-Ok.reply.status c.ends.result c.in-Ok.reply.text (g.O.Sink.written c.args.output.now) (g.O.Sink.written c.ends.new.output) (g.O.Sink.faults c.args.output.now) (g.O.Sink.faults c.ends.new.output)
-    (rw c.as_slice.ensures at c.ends.ensures.says) (g.I.Source.left c.args.input.now) c.in-Ok.ensures.stated
+    reply_prefix Layout c.in-Ok.reply.status c.ends.result c.in-Ok.reply.text (g.O.Sink.written c.args.output.now) (g.O.Sink.written c.ends.new.output) (g.O.Sink.faults c.args.output.now) (g.O.Sink.faults c.ends.new.output)
+    (rw c.as_slice.ensures at c.ends.ensures.says) (λ bytes. IsLayoutAnswer bytes c.in-Ok.reply.status c.in-Ok.reply.text) (λ bytes short says. laid_out refl short says) (g.I.Source.left c.args.input.now) c.in-Ok.ensures.stated
 
 pub returns-in-Ok-clause-write_fault : goal.returns-in-Ok-clause-write_fault
 returns-in-Ok-clause-write_fault g c =
@@ -19,10 +22,10 @@ returns-in-Ok-clause-write_fault g c =
 
 pub returns-in-Err-clause-answers : goal.returns-in-Err-clause-answers
 returns-in-Err-clause-answers g c =
-    halted_lays c.stopped.result (g.O.Sink.written c.args.output.now) (g.O.Sink.written c.stopped.new.output) (g.O.Sink.faults c.args.output.now) (g.O.Sink.faults c.stopped.new.output)
+    halted_lays Layout c.stopped.result (g.O.Sink.written c.args.output.now) (g.O.Sink.written c.stopped.new.output) (g.O.Sink.faults c.args.output.now) (g.O.Sink.faults c.stopped.new.output)
     (g.I.Source.left c.args.input.now) c.in-Err.stop c.in-Err.ensures.causes (λ e. c.in-Err.ensures.long_input (ap Err e)) c.stopped.ensures.says
 
 pub returns-in-Err-clause-prefix : goal.returns-in-Err-clause-prefix
 returns-in-Err-clause-prefix g c =
-    halted_lays_prefix c.stopped.result (g.O.Sink.written c.args.output.now) (g.O.Sink.written c.stopped.new.output) (g.O.Sink.faults c.args.output.now) (g.O.Sink.faults c.stopped.new.output)
+    halted_lays_prefix Layout c.stopped.result (g.O.Sink.written c.args.output.now) (g.O.Sink.written c.stopped.new.output) (g.O.Sink.faults c.args.output.now) (g.O.Sink.faults c.stopped.new.output)
     (g.I.Source.left c.args.input.now) c.in-Err.stop c.in-Err.ensures.causes (λ e. c.in-Err.ensures.long_input (ap Err e)) c.stopped.ensures.says

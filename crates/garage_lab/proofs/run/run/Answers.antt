@@ -1,16 +1,20 @@
 use Rattle.lab_outside.specs.Rose.{Rose}
 use Rattle.garage_lab.specs.Command.{asked_by}
 use Rattle.garage_lab.proofs.Ends.{some_transcribes, some_answered, some_completes}
-use Rattle.garage_lab.proofs.Lays.{some_prints}
+use Rattle.garage_lab.proofs.Lays.{some_prints, some_moves}
 use Rattle.garage_lab.proofs.run.run.Goals as goal
 
 pub returns-clause-done : goal.returns-clause-done
 returns-clause-done g c =
-    some_transcribes (g.I.Source.left c.args.input.now) (asked_by c.args.words.now) c.answer.result (g.O.Sink.written c.args.output.now) (g.O.Sink.written c.answer.new.output) c.fresh_reads.ensures c.answer.ensures.answers
+    some_transcribes (g.I.Source.left c.args.input.now) (asked_by c.args.words.now) c.answer.result (g.O.Sink.written c.args.output.now) (g.O.Sink.written c.answer.new.output) c.fresh_reads.ensures c.reads_give_what_was_written.ensures c.answer.ensures.answers
 
 pub returns-clause-laid_out : goal.returns-clause-laid_out
 returns-clause-laid_out g c =
     some_prints (g.I.Source.left c.args.input.now) (asked_by c.args.words.now) c.answer.result (g.O.Sink.written c.args.output.now) (g.O.Sink.written c.answer.new.output) c.answer.ensures.answers
+
+pub returns-clause-moved : goal.returns-clause-moved
+returns-clause-moved g c =
+    some_moves (g.I.Source.left c.args.input.now) (asked_by c.args.words.now) c.answer.result (g.O.Sink.written c.args.output.now) (g.O.Sink.written c.answer.new.output) c.answer.ensures.answers
 
 pub returns-clause-answered : goal.returns-clause-answered
 returns-clause-answered g c =
@@ -24,4 +28,4 @@ returns-clause-complete g c =
     some_completes (asked_by c.args.words.now) c.answer.result (g.O.Sink.written c.args.output.now) (g.O.Sink.written c.answer.new.output)
     (Rose (g.I.Source.faults c.args.input.now) (g.I.Source.faults c.answer.new.input)) (Rose (g.O.Sink.faults c.args.output.now) (g.O.Sink.faults c.answer.new.output))
     c.answer.ensures.read_fault c.answer.ensures.write_fault c.answer.ensures.link_fault
-    c.one_status.ensures (g.I.Source.left c.args.input.now) c.answer.ensures.answers
+    c.one_status.ensures c.one_moves_status.ensures (g.I.Source.left c.args.input.now) c.answer.ensures.answers

@@ -5,6 +5,6 @@ use Rattle.garage_lab.proofs.transcript.write_transcript.Given as goal
 abbrev pub invariant-loop-next : goal.invariant-loop-next
 invariant-loop-next g l =
     record {
-      running : Running l.lab (g.O.Sink.written l.fn.output) (g.O.Sink.written l.output) l.events l.next-index;
+      running : Running l.store (g.O.Sink.written l.fn.output) (g.O.Sink.written l.output) l.events l.next-index;
       counted : g.O.Sink.faults l.fn.output ≤ g.O.Sink.faults l.output;
     }

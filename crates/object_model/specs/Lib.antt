@@ -1,4 +1,0 @@
-pub mod Object
-pub mod Run
-pub mod Turns
-pub mod Fresh

@@ -1,0 +1,126 @@
+-- Deliveries of the least message that was neither delivered nor lost, one by one.
+use Rattle.std.proofs.Common.{◌≡◌, ℕ, zero, suc, ◌<◌, ◌^◌, Some, None, List, [], ◌++◌, refl, sym, ap, ◌∙◌, subst, append_assoc, append-nil}
+use Rattle.crdt_rows.specs.declared.version.Version.{Version}
+use Rattle.crdt_rows.specs.AnyRow.{any_join}
+use Rattle.object_schema.specs.Schema.{words}
+use Rattle.cluster_machine.specs.declared.line.Line.{Line}
+use Rattle.cluster_machine.specs.declared.step.Words.TheVariants.{Empty}
+use Rattle.cluster_machine.specs.World.{undelivered}
+use Rattle.cluster_machine.specs.declared.applied.Applied.{Applied}
+use Rattle.cluster_machine.specs.Worlds.{FitAll, HaveRoom, run}
+use Rattle.store_model.specs.declared.event.Told.{Told}
+use Rattle.store_model.specs.Run.{Moving, State, Outcome, silent, delivers, then_drains, drains}
+use Rattle.store_model.specs.Turns.{FitsOutcome}
+use Rattle.s3_world.specs.declared.world.S3World.{S3World}
+use Rattle.s3_world.specs.Stands.{IsStore, HasStore, Does, Plays, Overflows}
+use Rattle.s3_world.proofs.Leads.{delivers_leads, run_more, fit_more, room_first, room_rest, all_first, all_rest}
+
+-- the outcome of some deliveries, and then of others
+abbrev after_these : List Moving → List Version → List (Line Applied) → Outcome → Outcome
+after_these moves versions lines o = record { state = o.state; moves = moves ++ o.moves; new_versions = versions ++ o.new_versions; refused = None; words = Empty; lines = lines ++ o.lines }
+
+-- the store came to some state, and what was done with up to so many deliveries from there is all
+pub record Drained (store : S3World) (lines : List (Line Applied)) (left : ℕ) (s : State) (whole : Outcome) : Type 0 where
+  pub state : State
+  pub stands : IsStore store state
+  pub moves : List Moving
+  pub versions : List Version
+  pub fits : FitAll any_join words s.world moves
+  pub leads : run any_join words s.world moves ≡ state.world
+  pub all : whole ≡ after_these moves versions lines (drains left state)
+
+-- whatever state the first store stood for
+pub record Draining (first now : S3World) (lines : List (Line Applied)) (left count : ℕ) : Type 0 where
+  pub store : HasStore now
+  pub drained : (s : State) → IsStore first s → Drained now lines left s (drains count s)
+
+drains_quietly : (n : ℕ) (s : State) → (drains n s).refused ≡ None
+drains_quietly zero s = refl
+drains_quietly (suc n) s = elim (undelivered s.world) as (λ o. (elim o as (λ o. Outcome) [ None ↦ silent s | Some m ↦ let o = delivers s m in then_drains o (drains n o.state) ]).refused ≡ None) [ None ↦ refl | Some m ↦ refl ]
+
+drains_empty : (n : ℕ) (s : State) → (drains n s).words ≡ Empty
+drains_empty zero s = refl
+drains_empty (suc n) s = elim (undelivered s.world) as (λ o. (elim o as (λ o. Outcome) [ None ↦ silent s | Some m ↦ let o = delivers s m in then_drains o (drains n o.state) ]).words ≡ Empty) [ None ↦ refl | Some m ↦ refl ]
+
+pub draining_none : (store : S3World) (count : ℕ) → HasStore store → Draining store store [] count count
+draining_none store count has = record {
+  store = has;
+  drained = λ s d. record {
+    state = s;
+    stands = d;
+    moves = [];
+    versions = [];
+    fits = tt;
+    leads = refl;
+    all = λ i. record (drains count s) { refused = drains_quietly count s i; words = drains_empty count s i };
+  };
+}
+
+drains_one : (n m : ℕ) (s : State) → undelivered s.world ≡ Some m → drains (suc n) s ≡ then_drains (delivers s m) (drains n (delivers s m).state)
+drains_one n m s e = rw (e, drains) refl
+
+drains_none : (n : ℕ) (s : State) → undelivered s.world ≡ None → drains n s ≡ silent s
+drains_none zero s e = refl
+drains_none (suc n) s e = rw (e, drains) refl
+
+module _ (first now : S3World) (lines : List (Line Applied)) (left rest count m : ℕ) (e : left ≡ suc rest) (so_far : Draining first now lines left count) (least : (s : State) → IsStore now s → Some m ≡ undelivered s.world) where
+  one_left : (s : State) → IsStore now s → drains left s ≡ then_drains (delivers s m) (drains rest (delivers s m).state)
+  one_left s d = ap (λ k. drains k s) e ∙ drains_one rest m s (sym (least s d))
+
+  draining_more : (new : S3World) (told : Told) → Plays now new told (λ s. delivers s m) → (s : State) → IsStore first s → Drained new (lines ++ told.lines) rest s (drains count s)
+  draining_more new told plays s d =
+      let h = so_far.drained s d in
+      let o : Outcome = delivers h.state m in
+      let does : Does new told h.state o = plays h.state h.stands in
+      let then : Outcome = drains rest o.state in
+      record {
+        state = o.state;
+        stands = does.stands;
+        moves = h.moves ++ o.moves;
+        versions = h.versions ++ o.new_versions;
+        fits = fit_more s.world h.moves o.moves h.fits (subst (λ w. FitAll any_join words w o.moves) (sym h.leads) does.fits);
+        leads = run_more s.world h.moves o.moves ∙ ap (λ w. run any_join words w o.moves) h.leads ∙ delivers_leads h.state m;
+        all =
+            h.all
+            ∙ ap (after_these h.moves h.versions lines) (one_left h.state h.stands)
+            ∙ (λ i. record (after_these [] [] [] then) {
+              moves = sym (append_assoc h.moves o.moves then.moves) i;
+              new_versions = sym (append_assoc h.versions o.new_versions then.new_versions) i;
+              lines = (ap (λ ls. lines ++ (ls ++ then.lines)) (sym does.tells.lines) ∙ sym (append_assoc lines told.lines then.lines)) i;
+            });
+      }
+
+  pub draining_on : (new : S3World) (told : Told) → Plays now new told (λ s. delivers s m) → Draining first new (lines ++ told.lines) rest count
+  draining_on new told plays = record { store = ((delivers so_far.store.0 m).state, (plays so_far.store.0 so_far.store.1).stands); drained = draining_more new told plays }
+
+  pub drain_overflows : Overflows now (λ s. delivers s m) → Overflows first (λ s. drains count s)
+  drain_overflows full s d fits =
+      let h = so_far.drained s d in
+      let o : Outcome = delivers h.state m in
+      let then : Outcome = drains rest o.state in
+      let here : FitsOutcome s (after_these h.moves h.versions lines (then_drains o then)) = subst (λ (o : Outcome). FitsOutcome s o) (h.all ∙ ap (after_these h.moves h.versions lines) (one_left h.state h.stands)) fits in
+      full h.state h.stands (
+        subst (λ w. HaveRoom any_join words w o.moves) h.leads (room_first (run any_join words s.world h.moves) o.moves then.moves (room_rest s.world h.moves (o.moves ++ then.moves) here.0)),
+        all_first (λ (v : Version). v.ts < 2 ^ 64) o.new_versions then.new_versions (all_rest (λ (v : Version). v.ts < 2 ^ 64) h.versions (o.new_versions ++ then.new_versions) here.1),
+      )
+
+module _ (first now : S3World) (lines : List (Line Applied)) (left count : ℕ) (so_far : Draining first now lines left count) where
+  drained_plays : ((s : State) → IsStore now s → drains left s ≡ silent s) → Plays first now (record { refused = None; words = Empty; lines = lines }) (λ s. drains count s)
+  drained_plays ends s d =
+      let h = so_far.drained s d in
+      let is : drains count s ≡ record { state = h.state; moves = h.moves; new_versions = h.versions; refused = None; words = Empty; lines = lines } =
+      h.all
+      ∙ ap (after_these h.moves h.versions lines) (ends h.state h.stands)
+      ∙ (λ i. record (silent h.state) { moves = append-nil h.moves i; new_versions = append-nil h.versions i; lines = append-nil lines i })
+      in
+      subst (λ (o : Outcome). Does now (record { refused = None; words = Empty; lines = lines }) s o) (sym is) (record {
+        stands = h.stands;
+        tells = record { refused = refl; words = refl; lines = refl };
+        fits = h.fits;
+      })
+
+  pub drained_early : ((s : State) → IsStore now s → None ≡ undelivered s.world) → Plays first now (record { refused = None; words = Empty; lines = lines }) (λ s. drains count s)
+  drained_early none = drained_plays (λ s d. drains_none left s (sym (none s d)))
+
+  pub drained_all : left ≡ 0 → Plays first now (record { refused = None; words = Empty; lines = lines }) (λ s. drains count s)
+  drained_all e = drained_plays (λ s d. ap (λ n. drains n s) e)

@@ -1,0 +1,11 @@
+pub mod Causes
+pub mod Listed
+pub mod Objects
+pub mod Phases
+pub mod Opens
+pub mod Places
+pub mod Follows
+pub mod Delivers
+pub mod Leads
+pub mod Drains
+pub mod Played

@@ -1,0 +1,98 @@
+-- A request begins: two steps of the world, and one more request with its record.
+use Rattle.std.proofs.Common.{◌≡◌, ℕ, suc, ◌<◌, true, None, Some, List, [], ◌∷◌, ◌++◌, length, ap, sym, ◌∙◌, subst, add-one}
+use Rattle.std.specs.Prelude.{map}
+use Rattle.std.specs.List.{AllByRecursion}
+use Rattle.std.proofs.lemmas.List.{length_push, map_push}
+use Rattle.crdt_rows.specs.declared.any_row.AnyRow.{AnyRow}
+use Rattle.crdt_rows.specs.AnyRow.{any_join}
+use Rattle.object_schema.specs.declared.schema.S3Schema.{S3Schema}
+use Rattle.object_schema.specs.Schema.{words}
+use Rattle.wire_messages.specs.declared.phase.Phase.{Phase}
+use Rattle.cluster_machine.specs.declared.step.Step.TheVariants.{Open, Phase as Begin}
+use Rattle.cluster_machine.specs.declared.step.Words.TheVariants.{One}
+use Rattle.cluster_machine.specs.World.{Request, is_member_at}
+use Rattle.cluster_machine.specs.Layouts.{layouts}
+use Rattle.cluster_machine.specs.Worlds.{Model, next}
+use Rattle.flow_model.specs.declared.order.Order.{Order}
+use Rattle.flow_model.specs.declared.flow.Flow.{Flow}
+use Rattle.flow_model.specs.Flow.{started}
+use Rattle.store_model.specs.declared.event.Told.{Told}
+use Rattle.store_model.specs.Orders.{kind_of}
+use Rattle.store_model.specs.Run.{State, plainly, opened, new_request, began_with}
+use Rattle.world_core.specs.declared.world.World.{World}
+use Rattle.world_core.specs.declared.report.Report.{Report}
+use Rattle.world_core.specs.Stands.{StandsFor, IsWorld, Steps, Overflows as WorldOverflows}
+use Rattle.s3_world.specs.declared.asked.Asked.{Asked}
+use Rattle.s3_world.specs.declared.world.S3World.{S3World}
+use Rattle.s3_world.specs.Stands.{kept, IsSized, IsStore, HasStore, PlaysIf, OverflowsIf}
+use Rattle.s3_world.proofs.Phases.{IsGood, first_is_good}
+
+abbrev IsMember : ℕ → State → Type 0
+IsMember n s = is_member_at layouts s.world n ≡ true
+
+opened_count : (w : Model AnyRow) (n : ℕ) → is_member_at layouts w n ≡ true → length (next any_join words w (plainly (Open n))).requests ≡ suc (length w.requests)
+opened_count w n m =
+    let request : Request = record { coordinator = n; is_open = true } in
+    rw m (length_push w.requests request ∙ add-one (length w.requests))
+
+-- one more element that has what all have
+pub all_push : {A : Type 0} (P : A → Type 0) (xs : List A) (x : A) → AllByRecursion P xs → P x → AllByRecursion P (xs ++ x ∷ [])
+all_push P [] x all here = (here, tt)
+all_push P (y ∷ xs) x all here = (all.0, all_push P xs x all.1 here)
+
+module _ (old : S3World) (node : ℕ) (order : Order) (mid : World S3Schema AnyRow) (report : Report AnyRow) (first : Steps any_join words old.world mid report (Open node)) where
+  abbrev here : State → Model AnyRow
+  here s = next any_join words s.world (plainly (Open node))
+
+  stands : (s : State) → IsStore old s → StandsFor any_join words mid (here s)
+  stands s d = (first s.world d.world).does.stands
+
+  pub opened_stands : HasStore old → IsWorld any_join words mid
+  opened_stands store = (here store.0, stands store.0 store.1)
+
+  module _ (number : ℕ) (flow : Flow) (phase : Phase AnyRow) (is_first : (flow, phase) ≡ started order number old.block) (counted : (w : Model AnyRow) → StandsFor any_join words mid w → number ≡ length w.requests) where
+    the_number : (s : State) → IsStore old s → IsMember node s → number ≡ suc (length s.world.requests)
+    the_number s d m = counted (here s) (stands s d) ∙ opened_count s.world node m
+
+    begun : (s : State) → IsStore old s → IsMember node s → (flow, phase) ≡ started order (suc (length s.world.requests)) s.block
+    begun s d m = is_first ∙ ap (λ q. started order q old.block) (the_number s d m) ∙ ap (started order (suc (length s.world.requests))) d.block
+
+    pub opened_plays : (new : S3World) (more : Report AnyRow) (told : Told) → Steps any_join words mid new.world more (Begin number phase) → new.buckets ≡ old.buckets → new.block ≡ old.block →
+        new.requests ≡ old.requests ++ record { node = node; kind = kind_of order; flow = Some flow } ∷ [] → new.history.0 ≡ old.history.0 ++ began_with number node order ∷ [] →
+        told.refused ≡ None → told.words ≡ One number → told.lines ≡ more.lines → PlaysIf (IsMember node) old new told (λ s. opened s node order)
+    opened_plays new more told second buckets block requests history refused words_are lines s d m =
+        let q = suc (length s.world.requests) in
+        let count = the_number s d m in
+        let begins = begun s d m in
+        let Q : Phase AnyRow → Type 0 = λ p. Steps any_join words mid new.world more (Begin number p) in
+        let P : ℕ → Type 0 = λ q. Steps any_join words mid new.world more (Begin q (started order (suc (length s.world.requests)) s.block).1) in
+        let one = (first s.world d.world).does in
+        let two = (subst P count (subst Q (ap (λ x. x.1) begins) second) (here s) (stands s d)).does in
+        let fresh : Asked = record { node = node; kind = kind_of order; flow = Some flow } in
+        let sized : IsSized (Some flow) = subst (λ b. 0 < b) (sym (ap (λ (x : Flow × Phase AnyRow). x.0.block) is_first ∙ (first_is_good order number old.block).0 ∙ d.block)) d.sized in
+        record {
+          stands = record {
+            world = two.stands;
+            buckets = buckets ∙ d.buckets;
+            block = block ∙ d.block;
+            requests =
+                requests ∙ ap (λ rs. rs ++ fresh ∷ []) d.requests
+                ∙ ap (λ (f : Flow). map kept s.asked ++ record { node = node; kind = kind_of order; flow = Some f } ∷ []) (ap (λ x. x.0) begins)
+                ∙ sym (map_push kept s.asked (new_request node order (started order q s.block).0));
+            history = history ∙ ap (λ n. old.history.0 ++ began_with n node order ∷ []) count ∙ ap (λ h. h ++ began_with q node order ∷ []) d.history;
+            sized = d.sized;
+            flows = subst (AllByRecursion (λ (a : Asked). IsSized a.flow)) (sym requests) (all_push (λ (a : Asked). IsSized a.flow) old.requests fresh d.flows sized);
+          };
+          tells = record { refused = refused; words = words_are ∙ ap One count; lines = lines ∙ two.tells.lines };
+          fits = ((one.stands.fits, one.spelled), ((two.stands.fits, two.spelled), tt));
+        }
+
+    pub opened_overflows : WorldOverflows any_join words mid (Begin number phase) → OverflowsIf (IsMember node) old (λ s. opened s node order)
+    opened_overflows full s d m fits =
+        let P : ℕ → Type 0 = λ q. WorldOverflows any_join words mid (Begin q (started order (suc (length s.world.requests)) s.block).1) in
+        let Q : Phase AnyRow → Type 0 = λ p. WorldOverflows any_join words mid (Begin number p) in
+        (subst P (the_number s d m) (subst Q (ap (λ x. x.1) (begun s d m)) full) (here s) (stands s d)).lacks fits.0.1.0
+
+-- the first phase may begin
+pub first_phase : (order : Order) (number block : ℕ) (flow : Flow) (phase : Phase AnyRow) → (flow, phase) ≡ started order number block → IsGood phase
+first_phase order number block flow phase is = subst IsGood (sym (ap (λ (x : Flow × Phase AnyRow). x.1) is)) (first_is_good order number block).1

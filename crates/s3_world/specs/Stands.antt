@@ -1,0 +1,141 @@
+-- When the code's store stands for a state of the model, and what an act does to it.
+use Rattle.std.specs.Prelude.{◌≡◌, ◌<◌, ◌≤◌, ℕ, ⊤, Option, Some, None, [], ◌∷◌, ◌++◌, length, map}
+use Rattle.std.specs.List.{AllByRecursion}
+use Rattle.crdt_rows.specs.declared.any_row.AnyRow.{AnyRow}
+use Rattle.crdt_rows.specs.AnyRow.{any_join}
+use Rattle.object_schema.specs.Schema.{words}
+use Rattle.cluster_machine.specs.Ties as ties
+use Rattle.cluster_machine.specs.declared.step.Step.{Step}
+use Rattle.cluster_machine.specs.declared.step.Step.TheVariants as step
+use Rattle.cluster_machine.specs.declared.step.Words.TheVariants.{Empty}
+use Rattle.cluster_machine.specs.Choices.{Decision}
+use Rattle.cluster_machine.specs.Worlds.{IsMeant, IsLawfulStep, FitAll}
+use Rattle.history_model.specs.declared.record.Kind.{Kind}
+use Rattle.flow_model.specs.declared.flow.Flow.{Flow}
+use Rattle.flow_model.specs.declared.flow.FlowEnd.{FlowEnd}
+use Rattle.store_model.specs.declared.event.Event.{Event}
+use Rattle.store_model.specs.declared.event.Event.TheVariants.{Block, Role, Redundancy, Put, Delete, Copy}
+use Rattle.store_model.specs.declared.event.Told.{Told}
+use Rattle.store_model.specs.Answers.{record_of, line_of}
+use Rattle.store_model.specs.Run.{State, Asked as Waiting, Outcome}
+use Rattle.store_model.specs.Acts.{plain, IsLawfulAct}
+use Rattle.store_model.specs.Events.{act_of, outcome}
+use Rattle.store_model.specs.Turns.{FitsOutcome}
+use Rattle.world_core.specs.declared.report.Report.{Report}
+use Rattle.world_core.specs.Stands.{StandsFor, Steps}
+use Rattle.s3_world.specs.declared.asked.Asked.{Asked}
+use Rattle.s3_world.specs.declared.world.S3World.{S3World}
+
+-- what the code keeps of a request
+abbrev pub kept : Waiting → Asked
+kept m = record { node = m.node; kind = m.kind; flow = m.flow }
+
+-- if the request goes on, its blocks have bytes
+abbrev pub IsSized : Option Flow → Type 0
+IsSized None = ⊤
+IsSized (Some f) = 0 < f.block
+
+-- the code's store is this state of the model
+pub record IsStore (c : S3World) (s : State) : Type 0 where
+  pub world : StandsFor any_join words c.world s.world
+  pub buckets : c.buckets ≡ s.buckets
+  pub block : c.block ≡ s.block
+  pub requests : c.requests ≡ map kept s.asked
+  pub history : c.history.0 ≡ s.history
+  pub sized : 0 < s.block
+  pub flows : AllByRecursion (λ (a : Asked). IsSized a.flow) c.requests
+
+-- the store stands for some state: it was not given up
+abbrev pub HasStore : S3World → Type 0
+HasStore c = (s : State) × IsStore c s
+
+-- roles are of nodes 1 to 64, redundancies of one to three zones, blocks have a byte or more, and so have the keys that are written
+abbrev pub IsMeantEvent : Event → Type 0
+IsMeantEvent (Block size) = 1 ≤ size
+IsMeantEvent (Role n role) = IsMeant {R = AnyRow} (step.Role n role)
+IsMeantEvent (Redundancy wanted) = IsMeant {R = AnyRow} (step.Redundancy wanted)
+IsMeantEvent (Put n bucket key size fill) = 1 ≤ length key
+IsMeantEvent (Delete n bucket key) = 1 ≤ length key
+IsMeantEvent (Copy n from_bucket from_key bucket key) = 1 ≤ length key
+IsMeantEvent _ = ⊤
+
+-- the step ends no request
+abbrev pub IsQuiet : Step AnyRow → Type 0
+IsQuiet (step.Expire q) = ⊥
+IsQuiet (step.Restart n) = ⊥
+IsQuiet _ = ⊤
+
+-- the code tells what the model tells
+pub record Tells (told : Told) (o : Outcome) : Type 0 where
+  pub refused : told.refused ≡ o.refused
+  pub words : told.words ≡ o.words
+  pub lines : told.lines ≡ o.lines
+
+-- the store stands for the state after this outcome, and tells it; after each of its steps every number fits
+pub record Does (new : S3World) (told : Told) (s : State) (o : Outcome) : Type 0 where
+  pub stands : IsStore new o.state
+  pub tells : Tells told o
+  pub fits : FitAll any_join words s.world o.moves
+
+-- from old to new the code did what this outcome says, whatever state old stood for, and tells it
+abbrev pub Plays : S3World → S3World → Told → (State → Outcome) → Type 0
+Plays old new told f = ties.Steps IsStore old (λ s. Does new told s (f s))
+
+-- the same, of the states with a property
+abbrev pub PlaysIf : (State → Type 0) → S3World → S3World → Told → (State → Outcome) → Type 0
+PlaysIf Has old new told f = (s : State) → IsStore old s → Has s → Does new told s (f s)
+
+-- some number or row after this outcome would not fit
+abbrev pub Overflows : S3World → (State → Outcome) → Type 0
+Overflows old f = ties.Overflows IsStore old (λ s. FitsOutcome s (f s))
+
+-- the same, of the states with a property
+abbrev pub OverflowsIf : (State → Type 0) → S3World → (State → Outcome) → Type 0
+OverflowsIf Has old f = (s : State) → IsStore old s → Has s → FitsOutcome s (f s) → ⊥
+
+-- the code did this step of the world, which was given something lawful
+pub record DoesStep (new : S3World) (told : Told) (s : State) (st : Step AnyRow) : Type 0 where
+  pub choice : Decision
+  pub lawful : IsLawfulStep s.world st choice
+  pub does : Does new told s (plain s (record { step = st; choice = choice }))
+
+-- whatever state it stood for, it did this step
+abbrev pub PlaysStep : S3World → S3World → Told → Step AnyRow → Type 0
+PlaysStep old new told st = ties.Steps IsStore old (λ s. DoesStep new told s st)
+
+-- with something lawful given there is no room after the step
+pub record LacksRoom (s : State) (st : Step AnyRow) : Type 0 where
+  pub choice : Decision
+  pub lawful : IsLawfulStep s.world st choice
+  pub lacks : FitsOutcome s (plain s (record { step = st; choice = choice })) → ⊥
+
+-- whatever state it stood for, this step would not fit
+abbrev pub OverflowsStep : S3World → Step AnyRow → Type 0
+OverflowsStep old st = ties.Steps IsStore old (λ s. LacksRoom s st)
+
+-- the code did this event, which was given something lawful
+pub record DoesEvent (new : S3World) (told : Told) (s : State) (event : Event) : Type 0 where
+  pub choice : Decision
+  pub lawful : IsLawfulAct s (act_of event choice)
+  pub does : Does new told s (outcome s event choice)
+
+-- whatever state it stood for, it did this event
+abbrev pub PlaysEvent : S3World → S3World → Told → Event → Type 0
+PlaysEvent old new told event = ties.Steps IsStore old (λ s. DoesEvent new told s event)
+
+-- with something lawful given there is no room after the event
+pub record EventLacksRoom (s : State) (event : Event) : Type 0 where
+  pub choice : Decision
+  pub lawful : IsLawfulAct s (act_of event choice)
+  pub lacks : FitsOutcome s (outcome s event choice) → ⊥
+
+-- whatever state it stood for, this event would not fit
+abbrev pub OverflowsEvent : S3World → Event → Type 0
+OverflowsEvent old event = ties.Steps IsStore old (λ s. EventLacksRoom s event)
+
+-- request q was closed in the world, its record stands last in the history, and its line is told
+pub record Finishes (old new : S3World) (told : Told) (q : ℕ) (kind : Kind) (end : FlowEnd) : Type 0 where
+  pub report : Report AnyRow
+  pub closes : Steps any_join words old.world new.world report (step.Close q)
+  pub rest : new ≡ record old { world = new.world; history = record { 0 = old.history.0 ++ record_of q end ∷ [] } }
+  pub tells : told ≡ record { refused = None; words = Empty; lines = line_of q kind end ∷ [] }

@@ -1,0 +1,21 @@
+//! The object store over the cluster, event by event: requests of every kind.
+//!
+//! An `S3World` stands for a state of a run (store_model). `S3World::step` takes the next event of a schedule, and
+//! `S3World::start` a request at a node: requests are opened, taken from phase to phase as answers come, and gone on with
+//! as their flow says (s3_flow); each event gives what it `Told`. `history` has the records of all requests. An apply
+//! computes its layout; which one is free, and it is lawful. A call fails only for want of memory, or where a number or a
+//! row would not fit. After an error the world is given up.
+//!
+//! Inside, `Asked` is what is kept of a request, `orders` says of an order what it does and for which object, `answers`
+//! makes the record and the line of a request that ended, and `events` the orders of a schedule.
+#![tactic(auto)]
+
+mod answers;
+mod asked;
+mod events;
+mod orders;
+mod world;
+
+pub use store_model::{Event, Told};
+pub use world::S3World;
+pub use world_core::NodeLine;

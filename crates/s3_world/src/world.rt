@@ -1,0 +1,462 @@
+//! The state of a run as code, and its acts.
+ghost use Rattle.std.specs.Prelude.{◌≡◌, [], ◌∷◌, ◌++◌, ◌<◌, ◌≤◌, ◌⊎◌, ◌+◌, ◌^◌, length, map, slice_get, slice_set, option_map, true, OnOk, IfOk, IfErr, IfSome, IfNone, Some, None, IsTrue};
+ghost use Rattle.crdt_core.specs.Outcomes.{OnlyWant, WantOr};
+ghost use Rattle.blake2_hash.specs.Blake2b.{blake2b};
+ghost use Rattle.object_schema.specs.Schema.{words};
+ghost use Rattle.table_model.specs.Rows.{rows};
+ghost use Rattle.table_model.specs.Top.{any_unspelled};
+ghost use Rattle.cluster_machine.specs.declared.step.Words.TheVariants.{Empty};
+ghost use Rattle.cluster_machine.specs.declared.step.Step.TheVariants as step;
+ghost use Rattle.cluster_machine.specs.World.{is_member_at, undelivered, sent_bytes, node_line, numbered};
+ghost use Rattle.cluster_machine.specs.Layouts.{layouts};
+ghost use Rattle.cluster_machine.specs.Blocks.{StepBringsBlocks};
+ghost use Rattle.cluster_machine.specs.Worlds.{IsMeant};
+ghost use Rattle.history_model.specs.declared.record.Cause.TheVariants.{Restarted};
+ghost use Rattle.history_model.specs.declared.record.Record.TheVariants.{Ended as HasEnded};
+ghost use Rattle.flow_model.specs.declared.order.Order.{Order as Ordered};
+ghost use Rattle.crdt_rows.specs.AnyRow.{any_join};
+ghost use Rattle.world_core.specs.Nodes.{shown_line};
+ghost use Rattle.world_core.specs.Stands.{ended, IsWorld, Overflows as WorldOverflows};
+ghost use Rattle.store_model.specs.Run.{State, start as nothing_yet, begins, opened, follow, goes_on, delivers, drains, silent};
+ghost use Rattle.s3_world.specs.Stands.{IsMeantEvent, IsQuiet, Finishes};
+
+use crate::answers::{line_of, record_of};
+use crate::asked::Asked;
+use crate::events::{copy, delete, get, head, list, put};
+use crate::orders::{are_buckets, began_with, kind_of};
+use cluster_machine::applied::{Line, Refusal};
+use cluster_machine::{Step, Words};
+use crdt_core::{Bytes, List, Memory, Value};
+use crdt_rows::AnyRow;
+use flow_model::{Flow, FlowEnd, FlowStep, Order};
+use history_model::{Cause, History, Kind, Record};
+use layout_roles::{Kind as RoleKind, Zone};
+use object_schema::S3Schema;
+use s3_flow::{next, start};
+use std::alloc::Global;
+use store_model::{Event, Told};
+use wire_messages::PhaseEnd;
+use world_core::{NodeLine, World};
+
+/// How many bytes a block has, where no schedule says otherwise: a mebibyte.
+const BLOCK_SIZE: u32 = 1_048_576;
+
+/// A cluster with buckets, its requests with what each waits for, and their history.
+#[derive(Drop)]
+pub struct S3World {
+    alloc: Global,
+    world: World<S3Schema>,
+    buckets: List<Bytes>,
+    /// The size of the blocks of later requests, in bytes.
+    block: u32,
+    /// Request q is at place q - 1.
+    requests: List<Asked>,
+    history: History,
+}
+
+// The place of a number from 1, among this many.
+fn place(number: u64, count: usize) -> Option<usize>
+    ensures found { IfSome result (λ i. (i + 1 ≡ number) × (i < count)) }
+    ensures none { IfNone result ((number ≡ 0) ⊎ (count < number)) }
+{
+    if number >= 1 && number <= count as u64 {
+        Some((number - 1) as usize)
+    } else {
+        None
+    }
+}
+
+// An event that was accepted, and has no words.
+fn accepted(lines: List<Line>) -> Told
+    ensures { result ≡ record { refused = None; words = Empty; lines = lines } }
+{
+    Told {
+        refused: None,
+        words: Words::Empty,
+        lines,
+    }
+}
+
+// A copy of a role.
+fn copy_role(role: &Option<(Zone, RoleKind)>) -> Result<Option<(Zone, RoleKind)>, Memory>
+    ensures same { IfOk result (λ copy. copy ≡ role.now) }
+    ensures want { OnlyWant result }
+{
+    match role {
+        Some((zone, kind)) => Ok(Some((zone.copy()?, *kind))),
+        None => Ok(None),
+    }
+}
+
+// The records of requests that a restart lost go to the end of the history.
+fn push_lost(history: &mut List<Record>, lost: &[u64]) -> Result<(), Memory>
+    ensures ok { OnOk result (history.new ≡ history.old ++ map (λ q. HasEnded q Restarted) lost.now) }
+    ensures want { OnlyWant result }
+{
+    for request in lost {
+        history.push(Record::Ended {
+            request: *request,
+            cause: Cause::Restarted,
+        })?;
+    }
+    Ok(())
+}
+
+impl S3World {
+    ghost use Rattle.flow_model.specs.declared.flow.Flow.{Flow};
+    ghost use Rattle.s3_world.specs.declared.asked.Asked.{Asked};
+    ghost use Rattle.s3_world.specs.Stands.{IsStore, HasStore, Plays, PlaysIf, PlaysStep, PlaysEvent, Overflows, OverflowsIf, OverflowsStep, OverflowsEvent};
+
+    /// Nothing has happened.
+    pub fn new(alloc: Global) -> Result<S3World, Memory>
+        ensures starts { IfOk result (λ store. IsStore store nothing_yet) }
+        ensures want { OnlyWant result }
+    {
+        Ok(S3World {
+            alloc,
+            world: World::new(alloc)?,
+            buckets: List::new(alloc),
+            block: BLOCK_SIZE,
+            requests: List::new(alloc),
+            history: History(List::new(alloc)),
+        })
+    }
+
+    /// How many requests were ever opened.
+    pub fn requests(&self) -> u64
+        ensures { (s : State) → IsStore self.now s → result ≡ length s.world.requests }
+    {
+        self.world.requests()
+    }
+
+    /// How many messages were ever sent.
+    pub fn sent(&self) -> u64
+        ensures { (s : State) → IsStore self.now s → result ≡ length s.world.messages }
+    {
+        self.world.sent()
+    }
+
+    /// How many bytes the messages count that were ever sent.
+    pub fn sent_bytes(&self) -> u64
+        ensures { (s : State) → IsStore self.now s → sent_bytes words s.world.messages ≡ Some result }
+    {
+        self.world.sent_bytes()
+    }
+
+    /// The least number of a message that was neither delivered nor lost.
+    pub fn undelivered(&self) -> Option<u64>
+        ensures { (s : State) → IsStore self.now s → result ≡ undelivered s.world }
+    {
+        self.world.undelivered()
+    }
+
+    /// What a node shows of itself, None where it knows no layout version.
+    pub fn node_line(&self, node: u8) -> Result<Option<NodeLine>, Memory>
+        ensures line { IfOk result (λ line. (s : State) → IsStore self.now s → option_map shown_line line ≡ node_line any_join words layouts s.world node) }
+        ensures causes { WantOr result ((s : State) → IsStore self.now s → IsTrue (any_unspelled words (rows any_join words (s.world.nodes node).accepted))) }
+    {
+        self.world.node_line(node)
+    }
+
+    /// The records of all requests, the oldest first.
+    pub fn history(&self) -> &History
+        ensures { (s : State) → IsStore self.now s → result.now.0 ≡ s.history }
+    {
+        &self.history
+    }
+
+    /// Takes the next event. After an error the world is to be given up.
+    pub fn step(&mut self, event: &Event) -> Result<Told, Memory>
+        requires stands { HasStore self.old }
+        requires meant { IsMeantEvent event.now }
+        ensures plays { IfOk result (λ told. PlaysEvent self.old self.new told event.now) }
+        ensures causes { WantOr result (OverflowsEvent self.old event.now) }
+    {
+        match event {
+            Event::Trio => self.plain(Step::Trio),
+            Event::Block(size) => Ok(self.cut(*size)),
+            Event::Bucket(name) => self.add_bucket(name),
+            Event::Role { node, role } => {
+                let role = copy_role(role)?;
+                self.plain(Step::Role { node: *node, role })
+            }
+            Event::Redundancy(wanted) => self.plain(Step::Redundancy(*wanted)),
+            Event::Apply(node) => self.plain(Step::Apply(*node)),
+            Event::Tick(ms) => self.plain(Step::Tick(*ms)),
+            Event::Skew { node, ms } => self.plain(Step::Skew {
+                node: *node,
+                ms: *ms,
+            }),
+            Event::Put {
+                node,
+                bucket,
+                key,
+                size,
+                fill,
+            } => {
+                let order = put(self.alloc, bucket, key, *size, *fill)?;
+                self.begins(*node, order)
+            }
+            Event::Get { node, bucket, key } => {
+                let order = get(bucket, key)?;
+                self.begins(*node, order)
+            }
+            Event::Head { node, bucket, key } => {
+                let order = head(bucket, key)?;
+                self.begins(*node, order)
+            }
+            Event::Delete { node, bucket, key } => {
+                let order = delete(bucket, key)?;
+                self.begins(*node, order)
+            }
+            Event::Copy {
+                node,
+                from_bucket,
+                from_key,
+                bucket,
+                key,
+            } => {
+                let order = copy(from_bucket, from_key, bucket, key)?;
+                self.begins(*node, order)
+            }
+            Event::List {
+                node,
+                bucket,
+                prefix,
+            } => {
+                let order = list(bucket, prefix)?;
+                self.begins(*node, order)
+            }
+            Event::Deliver(message) => self.delivers(*message),
+            Event::Lose(message) => self.plain(Step::Lose(*message)),
+            Event::Drain(count) => self.drains(*count),
+            Event::Expire(request) => self.expire(*request),
+            Event::Restart(node) => self.restart(*node),
+            Event::Gossip { from, to } => self.plain(Step::Gossip {
+                from: *from,
+                to: *to,
+            }),
+            Event::Ack(node) => self.plain(Step::Ack(*node)),
+            Event::Sync(node) => self.plain(Step::Sync(*node)),
+            Event::SyncAck(node) => self.plain(Step::SyncAck(*node)),
+            Event::Clean(node) => self.plain(Step::Clean(*node)),
+            Event::Work(node) => self.plain(Step::Work(*node)),
+            Event::Repair(node) => self.plain(Step::Repair(*node)),
+        }
+    }
+
+    // One step of the world is all.
+    fn plain(&mut self, step: Step<AnyRow>) -> Result<Told, Memory>
+        requires stands { HasStore self.old }
+        requires meant { IsMeant step }
+        requires stocked { StepBringsBlocks (blake2b 32) words step }
+        requires quiet { IsQuiet step }
+        ensures plays { IfOk result (λ told. PlaysStep self.old self.new told step) }
+        ensures causes { WantOr result (OverflowsStep self.old step) }
+    {
+        let report = self.world.step(step)?;
+        Ok(Told {
+            refused: report.refused,
+            words: report.words,
+            lines: report.lines,
+        })
+    }
+
+    // Ends a request that is open.
+    fn expire(&mut self, request: u64) -> Result<Told, Memory>
+        requires stands { HasStore self.old }
+        ensures plays { IfOk result (λ told. PlaysStep self.old self.new told (step.Expire request)) }
+        ensures causes { WantOr result (OverflowsStep self.old (step.Expire request)) }
+    {
+        let report = self.world.step(Step::Expire(request))?;
+        if report.refused.is_none() {
+            self.history.0.push(Record::Ended {
+                request,
+                cause: Cause::Expired,
+            })?;
+        }
+        Ok(Told {
+            refused: report.refused,
+            words: report.words,
+            lines: report.lines,
+        })
+    }
+
+    // A node loses its open requests.
+    fn restart(&mut self, node: u8) -> Result<Told, Memory>
+        requires stands { HasStore self.old }
+        ensures plays { IfOk result (λ told. PlaysStep self.old self.new told (step.Restart node)) }
+        ensures causes { WantOr result (OverflowsStep self.old (step.Restart node)) }
+    {
+        let report = self.world.step(Step::Restart(node))?;
+        push_lost(&mut self.history.0, report.lost.as_slice())?;
+        Ok(Told {
+            refused: report.refused,
+            words: report.words,
+            lines: report.lines,
+        })
+    }
+
+    // Later requests cut bytes into blocks of this size.
+    fn cut(&mut self, size: u32) -> Told
+        requires { 1 ≤ size }
+        ensures { Plays self.old self.new result (λ s. silent (record s { block = size })) }
+    {
+        self.block = size;
+        accepted(List::new(self.alloc))
+    }
+
+    fn add_bucket(&mut self, name: &Bytes) -> Result<Told, Memory>
+        ensures plays { IfOk result (λ told. Plays self.old self.new told (λ s. silent (record s { buckets = s.buckets ++ name.now ∷ [] }))) }
+        ensures want { OnlyWant result }
+    {
+        self.buckets.push(name.copy()?)?;
+        Ok(accepted(List::new(self.alloc)))
+    }
+
+    // Nothing happens, for this reason.
+    fn refusal(&self, reason: Refusal) -> Told
+        ensures { result ≡ record { refused = Some reason; words = Empty; lines = [] } }
+    {
+        Told {
+            refused: Some(reason),
+            words: Words::Empty,
+            lines: List::new(self.alloc),
+        }
+    }
+
+    // Opens a request at a node, if it may be.
+    fn begins(&mut self, node: u8, order: Order) -> Result<Told, Memory>
+        requires stands { HasStore self.old }
+        ensures plays { IfOk result (λ told. Plays self.old self.new told (λ s. begins s node order)) }
+        ensures causes { WantOr result (Overflows self.old (λ s. begins s node order)) }
+    {
+        if !self.world.member(node) {
+            return Ok(self.refusal(Refusal::NotMember));
+        }
+        if !are_buckets(&self.buckets, &order) {
+            return Ok(self.refusal(Refusal::NoSuchBucket));
+        }
+        self.opened(node, order)
+    }
+
+    // A request begins at a member with its first phase.
+    fn opened(&mut self, node: u8, order: Order) -> Result<Told, Memory>
+        requires stands { HasStore self.old }
+        ensures plays { IfOk result (λ told. PlaysIf (λ s. is_member_at layouts s.world node ≡ true) self.old self.new told (λ s. opened s node order)) }
+        ensures causes { WantOr result (OverflowsIf (λ s. is_member_at layouts s.world node ≡ true) self.old (λ s. opened s node order)) }
+    {
+        let _ = self.world.step(Step::Open(node))?;
+        let number = self.world.requests();
+        let kind = kind_of(&order);
+        let began = began_with(number, node, &order)?;
+        let (flow, phase) = start(self.alloc, order, number, self.block)?;
+        let report = self.world.step(Step::Phase(number, phase))?;
+        self.requests.push(Asked {
+            node,
+            kind,
+            flow: Some(flow),
+        })?;
+        self.history.0.push(began)?;
+        Ok(Told {
+            refused: None,
+            words: Words::One(number),
+            lines: report.lines,
+        })
+    }
+
+    // A request is done.
+    fn finishes(&mut self, request: u64, kind: Kind, end: FlowEnd) -> Result<Told, Memory>
+        requires stands { IsWorld any_join words self.old.world }
+        ensures finishes { IfOk result (λ told. Finishes self.old self.new told request kind end) }
+        ensures causes { WantOr result (WorldOverflows any_join words self.old.world (step.Close request)) }
+    {
+        let _ = self.world.step(Step::Close(request))?;
+        let record = record_of(self.alloc, request, &end)?;
+        self.history.0.push(record)?;
+        let line = line_of(self.alloc, request, kind, &end)?;
+        let mut lines = List::new(self.alloc);
+        lines.push(line)?;
+        Ok(accepted(lines))
+    }
+
+    // What a request does when its phase ended.
+    fn follow(&mut self, request: u64, end: PhaseEnd<AnyRow>) -> Result<Told, Memory>
+        requires stands { HasStore self.old }
+        ensures plays { IfOk result (λ told. Plays self.old self.new told (λ s. follow s request (numbered s.asked request) end)) }
+        ensures causes { WantOr result (Overflows self.old (λ s. follow s request (numbered s.asked request) end)) }
+    {
+        let Some(i) = place(request, self.requests.len()) else {
+            return Ok(accepted(List::new(self.alloc)));
+        };
+        let asked = self.requests.at_mut(i);
+        let Some(flow) = asked.flow.take() else {
+            return Ok(accepted(List::new(self.alloc)));
+        };
+        let (node, kind) = (asked.node, asked.kind);
+        let now = self.world.clock(node);
+        match next(self.alloc, flow, end, now)? {
+            FlowStep::More(flow, phase) => {
+                let report = self.world.step(Step::Phase(request, phase))?;
+                let flow = Some(flow);
+                self.requests.set(i, Asked { node, kind, flow });
+                Ok(accepted(report.lines))
+            }
+            FlowStep::Wait(flow) => {
+                let flow = Some(flow);
+                self.requests.set(i, Asked { node, kind, flow });
+                Ok(accepted(List::new(self.alloc)))
+            }
+            FlowStep::End(end) => self.finishes(request, kind, end),
+        }
+    }
+
+    // What the request does whose phase ended, if one did.
+    fn goes_on(&mut self, mut ends: List<(u64, PhaseEnd<AnyRow>)>) -> Result<Told, Memory>
+        requires stands { HasStore self.old }
+        ensures plays { IfOk result (λ told. Plays self.old self.new told (λ s. goes_on s (map ended ends))) }
+        ensures causes { WantOr result (Overflows self.old (λ s. goes_on s (map ended ends))) }
+    {
+        if ends.is_empty() {
+            return Ok(accepted(List::new(self.alloc)));
+        }
+        let (request, end) = ends.remove(0);
+        self.follow(request, end)
+    }
+
+    // Delivers a message.
+    fn delivers(&mut self, message: u64) -> Result<Told, Memory>
+        requires stands { HasStore self.old }
+        ensures plays { IfOk result (λ told. Plays self.old self.new told (λ s. delivers s message)) }
+        ensures causes { WantOr result (Overflows self.old (λ s. delivers s message)) }
+    {
+        let report = self.world.step(Step::Deliver(message))?;
+        let mut told = self.goes_on(report.ends)?;
+        let mut lines = report.lines;
+        lines.append(&mut told.lines)?;
+        Ok(Told {
+            refused: report.refused,
+            words: report.words,
+            lines,
+        })
+    }
+
+    // Delivers the least message that was neither delivered nor lost, up to `count` times.
+    fn drains(&mut self, count: u32) -> Result<Told, Memory>
+        requires stands { HasStore self.old }
+        ensures plays { IfOk result (λ told. Plays self.old self.new told (λ s. drains count s)) }
+        ensures causes { WantOr result (Overflows self.old (λ s. drains count s)) }
+    {
+        let mut lines = List::new(self.alloc);
+        let mut left = count;
+        while left > 0 {
+            let Some(message) = self.world.undelivered() else {
+                return Ok(accepted(lines));
+            };
+            let mut told = self.delivers(message)?;
+            lines.append(&mut told.lines)?;
+            left -= 1;
+        }
+        Ok(accepted(lines))
+    }
+}
