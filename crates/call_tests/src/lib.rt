@@ -1,5 +1,5 @@
-//! Tests of what a node keeps while it waits, and of what was told: messages, phases, rounds, outbox, blocks, and the
-//! history of requests. It has no code of its own.
+//! Tests of what a node keeps while it waits, and of what was told: messages, phases, rounds, outbox, blocks, the
+//! history of requests, and the events of a workload. It has no code of its own.
 #![tactic(auto)]
 
 #[cfg(test)]
@@ -14,3 +14,5 @@ mod outbox;
 mod phases;
 #[cfg(test)]
 mod rounds;
+#[cfg(test)]
+mod workloads;

@@ -5,20 +5,21 @@ use Rattle.lab_outside.specs.declared.exit.Status.TheVariants.{Done, Refused, Us
 use Rattle.lab_outside.specs.Bytes.{Wrote, WrotePrefix}
 use Rattle.store_model.specs.declared.event.Numbered.{Numbered}
 use Rattle.store_model.specs.Run.{start}
-use Rattle.store_model.specs.Acts.{Act, AreLawfulActs, ActsFit, after_acts}
-use Rattle.store_model.specs.Events.{Turn, acts_of, events_of, run}
-use Rattle.store_model.specs.Fresh.{IsFresh}
-use Rattle.store_laws.specs.Written.{GivesWhatWasWritten}
-use Rattle.text_model.specs.Reading.{Reading, schedule, bad_line as first_bad, reading, IsSchedule}
+use Rattle.store_model.specs.Acts.{Act, AreLawfulActs, ActsFit}
+use Rattle.store_model.specs.Events.{Turn, acts_of, events_of, run, AreScheduled}
+use Rattle.store_model.specs.Moments.{IsMoment, AtEachMoment}
+use Rattle.text_model.specs.Reading.{Reading, schedule, bad_line as first_bad, too_many, reading, IsSchedule}
 use Rattle.text_model.specs.Transcript.{turns_text, transcript}
 use Rattle.garage_lab.specs.declared.command.Command.{Command}
 use Rattle.garage_lab.specs.declared.command.Command.TheVariants.{Layout, Moves, Replay}
 use Rattle.garage_lab.specs.declared.stop.Stop.{Stop}
-use Rattle.garage_lab.specs.declared.stop.Stop.TheVariants.{Read, Write, Memory, LongInput, BadLine, Number}
-use Rattle.garage_lab.specs.Replay.{number_line, ArePlayed, IsReplay, whole, number, unshown, IsTranscribed}
+use Rattle.garage_lab.specs.declared.stop.Stop.TheVariants.{Read, Write, Memory, LongInput, TooManyEvents, BadLine, Number, Sent}
+use Rattle.replay_run.specs.Replay.{number_line, sent_line, ArePlayed, IsReplay, whole, number, sent, unshown}
+use Rattle.replay_run.proofs.Leading.{played_fits}
+use Rattle.garage_lab.specs.Replay.{KeepsPromises, IsTranscribed}
 use Rattle.layout_command.specs.Answer.{IsAnswer as IsLayoutAnswer}
 use Rattle.layout_command.specs.Moves.{IsMovesAnswer}
-use Rattle.garage_lab.specs.Answer.{usage_line, input_line, bad_line_text, IsAnswer, usage, long_input, bad_line, laid_out, moved, replayed, IsStated, Answers, AnswersPrefix, ReplayPrefix, nothing_yet, of_stated, of_events, IsOfReplay, Completes, IsAnswered, Says, said, cut_off, unsaid}
+use Rattle.garage_lab.specs.Answer.{usage_line, input_line, events_line, bad_line_text, IsAnswer, usage, long_input, bad_line, many_events, laid_out, moved, replayed, IsStated, Answers, AnswersPrefix, ReplayPrefix, nothing_yet, of_stated, of_events, IsOfReplay, Completes, IsAnswered, Says, said, cut_off, unsaid}
 use Rattle.garage_lab.specs.Stop.{status_of, said_of, IsNearly, Halts}
 use Rattle.garage_lab.proofs.Texts.{prefix_none, prefix_kept}
 use Rattle.lab_outside.proofs.Bytes.{wrote_more, wrote_prefix_after, wrote_prefix_whole}
@@ -45,14 +46,21 @@ moves_and_replay asked h k = let other : Some Moves ≡ Some Replay = sym h ∙ 
 pub layout_and_moves : (asked : Option Command) → asked ≡ Some Layout → asked ≡ Some Moves → ⊥
 layout_and_moves asked h k = let other : Some Layout ≡ Some Moves = sym h ∙ k in cc
 
--- a text is a schedule or has a bad line, and not both
+-- a text is a schedule, has a bad line or too many events, and no two of these
 one_reading : (r : Reading) (events : List Numbered) (n : ℕ) → r ≡ schedule events → r ≡ first_bad n → ⊥
 one_reading r events n h k = cc
+
+none_too_many : (r : Reading) (events : List Numbered) → r ≡ schedule events → r ≡ too_many → ⊥
+none_too_many r events h k = cc
+
+bad_before : (r : Reading) (n : ℕ) → r ≡ first_bad n → r ≡ too_many → ⊥
+bad_before r n h k = cc
 
 -- a replay ends with Done or Limit
 of_replay : (events : List Numbered) (status : Status) (text : List ℕ) → IsReplay events status text → IsOfReplay status
 of_replay events status text (whole turns are played e w) = subst IsOfReplay (sym e) tt
 of_replay events status text (number before stops e w) = subst IsOfReplay (sym e) tt
+of_replay events status text (sent before stops e w) = subst IsOfReplay (sym e) tt
 of_replay events status text (unshown turns are played un e w) = subst IsOfReplay (sym e) tt
 
 -- one status is stated, but for what a replay's layouts decide
@@ -64,36 +72,49 @@ module _ (one : OneStatus) (one_moves : OneMovesStatus) (asked : Option Command)
   statuses_agree (usage none e w) (usage also d v) = inl (e ∙ sym d)
   statuses_agree (usage none e w) (long_input also more d v) = absurd (none_or_some asked none also)
   statuses_agree (usage none e w) (bad_line m also less worse d v) = cc
+  statuses_agree (usage none e w) (many_events also less many d v) = cc
   statuses_agree (usage none e w) (laid_out also less too) = cc
   statuses_agree (usage none e w) (moved also less too) = cc
   statuses_agree (usage none e w) (replayed others also less spell too) = cc
   statuses_agree (long_input is long e w) (usage also d v) = absurd (none_or_some asked also is)
   statuses_agree (long_input is long e w) (long_input also more d v) = inl (e ∙ sym d)
   statuses_agree (long_input is long e w) (bad_line m also less worse d v) = absurd (omega arith)
+  statuses_agree (long_input is long e w) (many_events also less many d v) = absurd (omega arith)
   statuses_agree (long_input is long e w) (laid_out also less too) = absurd (omega arith)
   statuses_agree (long_input is long e w) (moved also less too) = absurd (omega arith)
   statuses_agree (long_input is long e w) (replayed others also less spell too) = absurd (omega arith)
   statuses_agree (bad_line n is short bad e w) (usage also d v) = cc
   statuses_agree (bad_line n is short bad e w) (long_input also more d v) = absurd (omega arith)
   statuses_agree (bad_line n is short bad e w) (bad_line m also less worse d v) = inl (e ∙ sym d)
+  statuses_agree (bad_line n is short bad e w) (many_events also less many d v) = absurd (bad_before (reading input) n bad many)
   statuses_agree (bad_line n is short bad e w) (laid_out also less too) = absurd (both_asked asked also is)
   statuses_agree (bad_line n is short bad e w) (moved also less too) = absurd (moves_and_replay asked also is)
   statuses_agree (bad_line n is short bad e w) (replayed others also less spell too) = absurd (one_reading (reading input) others n spell bad)
+  statuses_agree (many_events is short many e w) (usage also d v) = cc
+  statuses_agree (many_events is short many e w) (long_input also more d v) = absurd (omega arith)
+  statuses_agree (many_events is short many e w) (bad_line m also less worse d v) = absurd (bad_before (reading input) m worse many)
+  statuses_agree (many_events is short many e w) (many_events also less over d v) = inl (e ∙ sym d)
+  statuses_agree (many_events is short many e w) (laid_out also less too) = absurd (both_asked asked also is)
+  statuses_agree (many_events is short many e w) (moved also less too) = absurd (moves_and_replay asked also is)
+  statuses_agree (many_events is short many e w) (replayed others also less spell too) = absurd (none_too_many (reading input) others spell many)
   statuses_agree (laid_out is short says) (usage also d v) = cc
   statuses_agree (laid_out is short says) (long_input also more d v) = absurd (omega arith)
   statuses_agree (laid_out is short says) (bad_line m also less worse d v) = absurd (both_asked asked is also)
+  statuses_agree (laid_out is short says) (many_events also less many d v) = absurd (both_asked asked is also)
   statuses_agree (laid_out is short says) (laid_out also less too) = inl (one input s t a b says too)
   statuses_agree (laid_out is short says) (moved also less too) = absurd (layout_and_moves asked is also)
   statuses_agree (laid_out is short says) (replayed others also less spell too) = absurd (both_asked asked is also)
   statuses_agree (moved is short says) (usage also d v) = cc
   statuses_agree (moved is short says) (long_input also more d v) = absurd (omega arith)
   statuses_agree (moved is short says) (bad_line m also less worse d v) = absurd (moves_and_replay asked is also)
+  statuses_agree (moved is short says) (many_events also less many d v) = absurd (moves_and_replay asked is also)
   statuses_agree (moved is short says) (laid_out also less too) = absurd (layout_and_moves asked also is)
   statuses_agree (moved is short says) (moved also less too) = inl (one_moves input s t a b says too)
   statuses_agree (moved is short says) (replayed others also less spell too) = absurd (moves_and_replay asked is also)
   statuses_agree (replayed events is short spells stated) (usage also d v) = cc
   statuses_agree (replayed events is short spells stated) (long_input also more d v) = absurd (omega arith)
   statuses_agree (replayed events is short spells stated) (bad_line m also less worse d v) = absurd (one_reading (reading input) events m spells worse)
+  statuses_agree (replayed events is short spells stated) (many_events also less many d v) = absurd (none_too_many (reading input) events spells many)
   statuses_agree (replayed events is short spells stated) (laid_out also less too) = absurd (both_asked asked also is)
   statuses_agree (replayed events is short spells stated) (moved also less too) = absurd (moves_and_replay asked also is)
   statuses_agree (replayed events is short spells stated) (replayed others also less spell too) = inr (is, of_replay events s a stated, of_replay others t b too)
@@ -104,6 +125,7 @@ module _ (asked : Option Command) (input : List ℕ) (result : Status) (old new 
   usage_text status text (usage also e w) = w
   usage_text status text (long_input is long e w) = absurd (none_or_some asked none is)
   usage_text status text (bad_line n is short bad e w) = cc
+  usage_text status text (many_events is short many e w) = cc
   usage_text status text (laid_out is short says) = cc
   usage_text status text (moved is short says) = cc
   usage_text status text (replayed events is short spells stated) = cc
@@ -177,28 +199,36 @@ module _ (input : List ℕ) (result : Status) (old mid new : Option (List ℕ)) 
   stopped_answers Write h says = silent_said input WriteFault result old mid new faults risen h (λ x. x) says
   stopped_answers Memory h says = silent_said input MemoryStatus result old mid new faults risen h (λ x. x) says
   stopped_answers LongInput h says = nearly_said input Limit result input_line old mid new faults risen h says
+  stopped_answers TooManyEvents h says = nearly_said input Limit result events_line old mid new faults risen h says
   stopped_answers (BadLine n) h says = nearly_said input Refused result (bad_line_text n) old mid new faults risen h says
   stopped_answers Number h says = nearly_said input Limit result number_line old mid new faults risen h says
+  stopped_answers Sent h says = nearly_said input Limit result sent_line old mid new faults risen h says
 
   pub stopped_prefix : (stop : Stop) → Halts input stop old mid → Says (status_of stop) (said_of stop) result mid new faults risen → ReplayPrefix input old new
   stopped_prefix Read h says = silent_prefix input ReadFault result old mid new faults risen h (λ x. x) says
   stopped_prefix Write h says = silent_prefix input WriteFault result old mid new faults risen h (λ x. x) says
   stopped_prefix Memory h says = silent_prefix input MemoryStatus result old mid new faults risen h (λ x. x) says
   stopped_prefix LongInput h says = nearly_prefix input Limit result input_line old mid new faults risen h says
+  stopped_prefix TooManyEvents h says = nearly_prefix input Limit result events_line old mid new faults risen h says
   stopped_prefix (BadLine n) h says = nearly_prefix input Refused result (bad_line_text n) old mid new faults risen h says
   stopped_prefix Number h says = nearly_prefix input Limit result number_line old mid new faults risen h says
+  stopped_prefix Sent h says = nearly_prefix input Limit result sent_line old mid new faults risen h says
 
--- the reads of lawful acts are fresh
-abbrev pub AlwaysFresh : Type 0
-AlwaysFresh = (acts : List Act) → AreLawfulActs start acts → ActsFit start acts → IsFresh (after_acts start acts)
+-- what is promised holds of lawful acts of a schedule
+abbrev pub AlwaysKept : Type 0
+AlwaysKept = (acts : List Act) → AreScheduled acts → AreLawfulActs start acts → ActsFit start acts → KeepsPromises acts
 
--- the reads of turns that were played are fresh
-played_fresh : AlwaysFresh → (turns : List Turn) → ArePlayed turns → IsFresh (run start turns)
-played_fresh fresh turns played = fresh (acts_of turns) played.lawful played.fits
+-- the acts that lead to a moment are lawful ones of a schedule
+pub record Momentary : Type 0 where
+  pub runs : (acts moment : List Act) → AreLawfulActs start acts → ActsFit start acts → IsMoment acts moment → AreLawfulActs start moment × ActsFit start moment
+  pub scheduled : (acts moment : List Act) → AreScheduled acts → IsMoment acts moment → AreScheduled moment
+  pub events : (turns : List Turn) → AreScheduled (acts_of turns)
 
--- gets and heads of lawful acts tell of what was written
-abbrev pub AlwaysWritten : Type 0
-AlwaysWritten = (acts : List Act) → AreLawfulActs start acts → ActsFit start acts → GivesWhatWasWritten acts
+-- and at each moment of turns that were played
+played_promises : AlwaysKept → Momentary → (turns : List Turn) → ArePlayed turns → AtEachMoment KeepsPromises (acts_of turns)
+played_promises kept moments turns played moment is =
+    let r = moments.runs (acts_of turns) moment played.lawful (played_fits start turns played.go_on) is in
+    kept moment (moments.scheduled (acts_of turns) moment (moments.events turns) is) r.0 r.1
 
 -- the text is the whole transcript of what the input spells
 record IsOfTurns (input text : List ℕ) : Type 0 where
@@ -210,6 +240,7 @@ record IsOfTurns (input text : List ℕ) : Type 0 where
 of_turns : (input text : List ℕ) (events : List Numbered) → IsSchedule input events → IsReplay events Done text → IsOfTurns input text
 of_turns input text events spells (whole turns are played e w) = record { turns = turns; schedule = subst (IsSchedule input) (sym are) spells; played = played; text_is = w }
 of_turns input text events spells (number before stops e w) = cc
+of_turns input text events spells (sent before stops e w) = cc
 of_turns input text events spells (unshown turns are played un e w) = cc
 
 -- what Done of a replay says
@@ -217,20 +248,20 @@ done_of_turns : (asked : Option Command) (input text : List ℕ) → asked ≡ S
 done_of_turns asked input text asks (usage none e w) = cc
 done_of_turns asked input text asks (long_input is long e w) = cc
 done_of_turns asked input text asks (bad_line n is short bad e w) = cc
+done_of_turns asked input text asks (many_events is short many e w) = cc
 done_of_turns asked input text asks (laid_out is short says) = absurd (both_asked asked is asks)
 done_of_turns asked input text asks (moved is short says) = absurd (moves_and_replay asked is asks)
 done_of_turns asked input text asks (replayed events is short spells stated) = of_turns input text events spells stated
 
-pub done_transcribes : (asked : Option Command) (input : List ℕ) (old new : Option (List ℕ)) → asked ≡ Some Replay → AlwaysFresh → AlwaysWritten → Answers asked input Done old new → IsTranscribed input old new
-done_transcribes asked input old new asks fresh written h =
+pub done_transcribes : (asked : Option Command) (input : List ℕ) (old new : Option (List ℕ)) → asked ≡ Some Replay → AlwaysKept → Momentary → Answers asked input Done old new → IsTranscribed input old new
+done_transcribes asked input old new asks kept moments h =
     let done = done_of_turns asked input h.text asks h.stated in
     record {
       turns = done.turns;
       schedule = done.schedule;
       played = done.played;
       wrote = subst (Wrote old new) done.text_is h.wrote;
-      fresh = played_fresh fresh done.turns done.played;
-      written = written (acts_of done.turns) done.played.lawful done.played.fits;
+      promises = played_promises kept moments done.turns done.played;
     }
 
 agree_completes : (asked : Option Command) (result status : Status) → Agree asked result status → Completes asked status result

@@ -6,39 +6,51 @@ use Rattle.lab_outside.specs.declared.exit.Status.TheVariants.{Done, ReadFault, 
 use Rattle.lab_outside.specs.Rose.{Rose}
 use Rattle.store_model.specs.declared.event.Numbered.{Numbered}
 use Rattle.store_model.specs.Run.{start}
-use Rattle.text_model.specs.Reading.{IsSchedule, IsFirstBadLine}
+use Rattle.text_model.specs.Reading.{IsSchedule, IsFirstBadLine, HasTooManyEvents}
 use Rattle.text_model.specs.Transcript.{transcript, turns_text}
 use Rattle.garage_lab.specs.declared.command.Command.{Command}
 use Rattle.garage_lab.specs.declared.command.Command.TheVariants.{Replay}
 use Rattle.garage_lab.specs.declared.stop.Stop.{Stop}
-use Rattle.garage_lab.specs.declared.stop.Stop.TheVariants.{Read, Write, Memory, LongInput, BadLine, Number}
-use Rattle.garage_lab.specs.Replay.{number_line, whole, number, unshown, IsTranscribed}
-use Rattle.garage_lab.specs.Answer.{input_limit, usage_line, IsAnswer, long_input, bad_line, replayed, IsStated, Answers, AnswersPrefix, ReplayPrefix, nothing_yet, of_stated, of_events, Completes, IsAnswered, Says, said, cut_off, unsaid}
-use Rattle.garage_lab.specs.Stop.{status_of, said_of, Halts, IsCutShort, at_event, at_tail, IsNearly, IsPart, of_turns, of_all, IsWhole, IsOfInput, IsOfOutput}
-use Rattle.garage_lab.proofs.Answering.{OneStatus, OneMovesStatus, AlwaysFresh, AlwaysWritten, stated_prefix, unknown_prefix, stopped_answers, stopped_prefix, done_transcribes, is_answered, completes}
+use Rattle.garage_lab.specs.declared.stop.Stop.TheVariants.{Read, Write, Memory, LongInput, TooManyEvents, BadLine, Number, Sent}
+use Rattle.replay_run.specs.declared.stop.ReplayStop.{ReplayStop}
+use Rattle.replay_run.specs.declared.stop.ReplayStop.TheVariants as halt
+use Rattle.replay_run.specs.Replay.{number_line, sent_line, whole}
+use Rattle.replay_run.specs.Stop.{IsPart, of_turns, of_all, IsWhole, LacksLine, Halts as RunHalts}
+use Rattle.garage_lab.specs.Replay.{IsTranscribed}
+use Rattle.garage_lab.specs.Answer.{input_limit, usage_line, IsAnswer, long_input, bad_line, many_events, replayed, IsStated, Answers, AnswersPrefix, ReplayPrefix, nothing_yet, of_stated, of_events, Completes, IsAnswered, Says, said, cut_off, unsaid}
+use Rattle.garage_lab.specs.Stop.{status_of, said_of, stop_of_replay, Halts, IsNearly, IsOfInput}
+use Rattle.garage_lab.proofs.Answering.{OneStatus, OneMovesStatus, AlwaysKept, Momentary, stated_prefix, unknown_prefix, stopped_answers, stopped_prefix, done_transcribes, is_answered, completes}
 use Rattle.lab_outside.proofs.Bytes.{wrote_none}
 use Rattle.lab_outside.proofs.Rose.{rose_before, rose_after}
 
 -- the reading gave up, and nothing was written
-read_halted : (bytes : List ℕ) (old : Option (List ℕ)) (stop : Stop) → IsOfInput stop → ((n : ℕ) → stop ≡ BadLine n → (length bytes ≤ input_limit) × IsFirstBadLine bytes n) → (stop ≡ LongInput → input_limit < length bytes) → Halts bytes stop old old
-read_halted bytes old Read of_input bad long = nothing_yet (wrote_none old)
-read_halted bytes old Memory of_input bad long = nothing_yet (wrote_none old)
-read_halted bytes old Write of_input bad long = absurd of_input
-read_halted bytes old Number of_input bad long = absurd of_input
-read_halted bytes old LongInput of_input bad long = record { front = []; wrote = wrote_none old; stated = long_input refl (long refl) refl refl }
-read_halted bytes old (BadLine n) of_input bad long = let h = bad n refl in record { front = []; wrote = wrote_none old; stated = bad_line n refl h.0 h.1 refl refl }
+record Stopped (bytes : List ℕ) (stop : Stop) : Type 0 where
+  bad : (n : ℕ) → stop ≡ BadLine n → (length bytes ≤ input_limit) × IsFirstBadLine bytes n
+  many : stop ≡ TooManyEvents → (length bytes ≤ input_limit) × HasTooManyEvents bytes
+  long : stop ≡ LongInput → input_limit < length bytes
 
-reading_halted : (left : Option (List ℕ)) (old : Option (List ℕ)) (stop : Stop) → IsOfInput stop → ((n : ℕ) → stop ≡ BadLine n → IfSome left (λ bytes. (length bytes ≤ input_limit) × IsFirstBadLine bytes n)) →
-    (stop ≡ LongInput → IfSome left (λ bytes. input_limit < length bytes)) → IfSome left (λ bytes. Halts bytes stop old old)
-reading_halted None old stop of_input bad long = tt
-reading_halted (Some bytes) old stop of_input bad long = read_halted bytes old stop of_input bad long
+read_halted : (bytes : List ℕ) (old : Option (List ℕ)) (stop : Stop) → IsOfInput stop → Stopped bytes stop → Halts bytes stop old old
+read_halted bytes old Read of_input h = nothing_yet (wrote_none old)
+read_halted bytes old Memory of_input h = nothing_yet (wrote_none old)
+read_halted bytes old Write of_input h = absurd of_input
+read_halted bytes old Number of_input h = absurd of_input
+read_halted bytes old Sent of_input h = absurd of_input
+read_halted bytes old LongInput of_input h = record { front = []; wrote = wrote_none old; stated = long_input refl (h.long refl) refl refl }
+read_halted bytes old TooManyEvents of_input h = let k = h.many refl in record { front = []; wrote = wrote_none old; stated = many_events refl k.0 k.1 refl refl }
+read_halted bytes old (BadLine n) of_input h = let k = h.bad n refl in record { front = []; wrote = wrote_none old; stated = bad_line n refl k.0 k.1 refl refl }
 
-pub read_halts : {A : Type 0} (left : Option (List ℕ)) (old : Option (List ℕ)) (r : Result A Stop) (stop : Stop) → IsErrAnd r (λ e. e ≡ stop) → IsOfInput stop →
-    ((n : ℕ) → stop ≡ BadLine n → IfSome left (λ bytes. (length bytes ≤ input_limit) × IsFirstBadLine bytes n)) → (stop ≡ LongInput → IfSome left (λ bytes. input_limit < length bytes)) →
-    IfErr r (λ stop. IfSome left (λ bytes. Halts bytes stop old old))
-read_halts left old (Ok x) stop is of_input bad long = tt
-read_halts left old (Err e) stop is of_input bad long =
-    subst (λ (s : Stop). IfSome left (λ bytes. Halts bytes s old old)) (sym is) (reading_halted left old stop of_input bad long)
+module _ (old : Option (List ℕ)) (stop : Stop) (of_input : IsOfInput stop) where
+  reading_halted : (left : Option (List ℕ)) → ((n : ℕ) → stop ≡ BadLine n → IfSome left (λ bytes. (length bytes ≤ input_limit) × IsFirstBadLine bytes n)) →
+      (stop ≡ TooManyEvents → IfSome left (λ bytes. (length bytes ≤ input_limit) × HasTooManyEvents bytes)) → (stop ≡ LongInput → IfSome left (λ bytes. input_limit < length bytes)) →
+      IfSome left (λ bytes. Halts bytes stop old old)
+  reading_halted None bad many long = tt
+  reading_halted (Some bytes) bad many long = read_halted bytes old stop of_input (record { bad = bad; many = many; long = long })
+
+  pub read_halts : {A : Type 0} (left : Option (List ℕ)) (r : Result A Stop) → IsErrAnd r (λ e. e ≡ stop) → ((n : ℕ) → stop ≡ BadLine n → IfSome left (λ bytes. (length bytes ≤ input_limit) × IsFirstBadLine bytes n)) →
+      (stop ≡ TooManyEvents → IfSome left (λ bytes. (length bytes ≤ input_limit) × HasTooManyEvents bytes)) → (stop ≡ LongInput → IfSome left (λ bytes. input_limit < length bytes)) →
+      IfErr r (λ stop. IfSome left (λ bytes. Halts bytes stop old old))
+  read_halts left (Ok x) is bad many long = tt
+  read_halts left (Err e) is bad many long = subst (λ (s : Stop). IfSome left (λ bytes. Halts bytes s old old)) (sym is) (reading_halted left bad many long)
 
 -- what was written for the events of a schedule
 module _ (bytes : List ℕ) (events : List Numbered) (short : length bytes ≤ input_limit) (spells : IsSchedule bytes events) (old new : Option (List ℕ)) where
@@ -46,34 +58,33 @@ module _ (bytes : List ℕ) (events : List Numbered) (short : length bytes ≤ i
   of_part (of_turns turns first begun) = of_events events turns short spells first begun
   of_part (of_all turns are played begun) = of_stated Done (transcript turns) (replayed events refl short spells (whole turns are played refl refl)) begun
 
-  of_cut : IsCutShort events old new → IsNearly bytes Limit number_line old new
-  of_cut (at_event before stops wrote) = record { front = turns_text start before; wrote = wrote; stated = replayed events refl short spells (number before stops refl refl) }
-  of_cut (at_tail turns are played un wrote) = record { front = turns_text start turns; wrote = wrote; stated = replayed events refl short spells (unshown turns are played un refl refl) }
+  of_line : (line : List ℕ) → LacksLine events line old new → IsNearly bytes Limit line old new
+  of_line line h = record { front = h.front; wrote = h.wrote; stated = replayed events refl short spells h.stated }
 
-  write_halted : (stop : Stop) → IsOfOutput stop → (stop ≡ Number → IsCutShort events old new) → IsPart events old new → Halts bytes stop old new
-  write_halted Read of_output cut part = absurd of_output
-  write_halted LongInput of_output cut part = absurd of_output
-  write_halted (BadLine n) of_output cut part = absurd of_output
-  write_halted Write of_output cut part = of_part part
-  write_halted Memory of_output cut part = of_part part
-  write_halted Number of_output cut part = of_cut (cut refl)
+  run_halted : (stop : ReplayStop) → RunHalts events stop old new → Halts bytes (stop_of_replay stop) old new
+  run_halted halt.Write h = of_part h
+  run_halted halt.Memory h = of_part h
+  run_halted halt.Number h = of_line number_line h
+  run_halted halt.Sent h = of_line sent_line h
 
   write_answers : IsWhole events old new → Answers (Some Replay) bytes Done old new
   write_answers h = record { text = transcript h.turns; stated = replayed events refl short spells (whole h.turns h.events_are h.played refl refl); wrote = h.wrote }
 
-pub write_halts : {A : Type 0} (left : Option (List ℕ)) (old new : Option (List ℕ)) (events listed : List Numbered) (r : Result A Stop) → listed ≡ events → IfSome left (λ bytes. (length bytes ≤ input_limit) × IsSchedule bytes events) →
-    IfErr r IsOfOutput → (r ≡ Err Number → IsCutShort listed old new) → OnErr r (IsPart listed old new) →
-    IfErr r (λ stop. IfSome left (λ bytes. Halts bytes stop old new))
-write_halts left old new events listed (Ok x) same spells of_output cut part = tt
-write_halts None old new events listed (Err stop) same spells of_output cut part = tt
-write_halts (Some bytes) old new events listed (Err stop) same spells of_output cut part =
-    write_halted bytes listed spells.0 (subst (IsSchedule bytes) (sym same) spells.1) old new stop of_output (λ e. cut (ap Err e)) part
+some_halted : (left : Option (List ℕ)) (old new : Option (List ℕ)) (events listed : List Numbered) (stop : ReplayStop) → listed ≡ events → IfSome left (λ bytes. (length bytes ≤ input_limit) × IsSchedule bytes events) →
+    RunHalts listed stop old new → IfSome left (λ bytes. Halts bytes (stop_of_replay stop) old new)
+some_halted None old new events listed stop same spells halts = tt
+some_halted (Some bytes) old new events listed stop same spells halts = run_halted bytes listed spells.0 (subst (IsSchedule bytes) (sym same) spells.1) old new stop halts
 
-pub write_done : {A : Type 0} (left : Option (List ℕ)) (old new : Option (List ℕ)) (events listed : List Numbered) (r : Result A Stop) → listed ≡ events → IfSome left (λ bytes. (length bytes ≤ input_limit) × IsSchedule bytes events) →
-    OnOk r (IsWhole listed old new) → OnOk r (IfSome left (λ bytes. Answers (Some Replay) bytes Done old new))
-write_done left old new events listed (Err stop) same spells all = tt
-write_done None old new events listed (Ok x) same spells all = tt
-write_done (Some bytes) old new events listed (Ok x) same spells all = write_answers bytes listed spells.0 (subst (IsSchedule bytes) (sym same) spells.1) old new all
+pub write_halts : {A : Type 0} (left : Option (List ℕ)) (old new : Option (List ℕ)) (events listed : List Numbered) (r : Result A Stop) (stop : ReplayStop) → IsErrAnd r (λ e. e ≡ stop_of_replay stop) → listed ≡ events →
+    IfSome left (λ bytes. (length bytes ≤ input_limit) × IsSchedule bytes events) → RunHalts listed stop old new → IfErr r (λ stop. IfSome left (λ bytes. Halts bytes stop old new))
+write_halts left old new events listed (Ok x) stop is same spells halts = tt
+write_halts left old new events listed (Err e) stop is same spells halts =
+    subst (λ (s : Stop). IfSome left (λ bytes. Halts bytes s old new)) (sym is) (some_halted left old new events listed stop same spells halts)
+
+pub write_done : (left : Option (List ℕ)) (old new : Option (List ℕ)) (events listed : List Numbered) → listed ≡ events → IfSome left (λ bytes. (length bytes ≤ input_limit) × IsSchedule bytes events) →
+    IsWhole listed old new → IfSome left (λ bytes. Answers (Some Replay) bytes Done old new)
+write_done None old new events listed same spells all = tt
+write_done (Some bytes) old new events listed same spells all = write_answers bytes listed spells.0 (subst (IsSchedule bytes) (sym same) spells.1) old new all
 
 pub done_prefix : (left : Option (List ℕ)) (status : Status) (old new : Option (List ℕ)) → IfSome left (λ bytes. Answers (Some Replay) bytes status old new) → IfSome left (λ bytes. ReplayPrefix bytes old new)
 done_prefix None status old new h = tt
@@ -98,8 +109,10 @@ write_alone Read e = cc
 write_alone Write e = refl
 write_alone Memory e = cc
 write_alone LongInput e = cc
+write_alone TooManyEvents e = cc
 write_alone (BadLine n) e = cc
 write_alone Number e = cc
+write_alone Sent e = cc
 
 pub halted_fault : (stop : Stop) (result : Status) (mid new : Option (List ℕ)) (before faults risen : ℕ) → Says (status_of stop) (said_of stop) result mid new faults risen → (stop ≡ Write → Rose before faults) →
     before ≤ faults → faults ≤ risen → result ≡ WriteFault → Rose before risen
@@ -107,12 +120,12 @@ halted_fault stop result mid new before faults risen (said is wrote) rose low hi
 halted_fault stop result mid new before faults risen (cut_off is later wrote) rose low high e = rose_after before faults risen low later
 halted_fault stop result mid new before faults risen (unsaid is wrote) rose low high e = cc
 
-pub some_transcribes : (left : Option (List ℕ)) (asked : Option Command) (result : Status) (old new : Option (List ℕ)) → AlwaysFresh → AlwaysWritten →
+pub some_transcribes : (left : Option (List ℕ)) (asked : Option Command) (result : Status) (old new : Option (List ℕ)) → AlwaysKept → Momentary →
     (IsStated result → IfSome left (λ bytes. Answers asked bytes result old new)) → asked ≡ Some Replay → result ≡ Done → IfSome left (λ bytes. IsTranscribed bytes old new)
-some_transcribes None asked result old new fresh written answers asks e = tt
-some_transcribes (Some bytes) asked result old new fresh written answers asks e =
+some_transcribes None asked result old new kept moments answers asks e = tt
+some_transcribes (Some bytes) asked result old new kept moments answers asks e =
     let P : Status → Type 0 = λ s. IsStated s → Answers asked bytes s old new in
-    done_transcribes asked bytes old new asks fresh written (subst P e answers tt)
+    done_transcribes asked bytes old new asks kept moments (subst P e answers tt)
 
 module _ (asked : Option Command) (result : Status) (old new : Option (List ℕ)) (Reads Writes : Type 0) (reads : result ≡ ReadFault → Reads) (writes : result ≡ WriteFault → Writes) (links : result ≡ LinkFault → ⊥) where
   pub some_answered : (left : Option (List ℕ)) → (IsStated result → IfSome left (λ bytes. Answers asked bytes result old new)) →

@@ -13,9 +13,9 @@ use Rattle.layout_command.specs.Moves.{IsMoved, not_laid_out, moved as moved_by,
 use Rattle.garage_lab.specs.declared.command.Command.{Command}
 use Rattle.garage_lab.specs.declared.command.Command.TheVariants.{Layout, Moves}
 use Rattle.garage_lab.specs.declared.stop.Stop.{Stop}
-use Rattle.garage_lab.specs.declared.stop.Stop.TheVariants.{Read, Write, Memory, LongInput, BadLine, Number}
+use Rattle.garage_lab.specs.declared.stop.Stop.TheVariants.{Read, Write, Memory, LongInput, TooManyEvents, BadLine, Number, Sent}
 use Rattle.garage_lab.specs.Layout.{IsPrinted, IsPrintedMoves}
-use Rattle.garage_lab.specs.Answer.{input_limit, input_line, IsAnswer, usage, long_input, bad_line, laid_out, moved, replayed, IsStated, IsOfLayout, Answers, LayoutPrefix, nothing, begun, Says, said, cut_off, unsaid}
+use Rattle.garage_lab.specs.Answer.{input_limit, input_line, IsAnswer, usage, long_input, bad_line, many_events, laid_out, moved, replayed, IsStated, IsOfLayout, Answers, LayoutPrefix, nothing, begun, Says, said, cut_off, unsaid}
 use Rattle.garage_lab.specs.Stop.{status_of, said_of, IsOfReading}
 use Rattle.garage_lab.proofs.Answering.{both_asked, layout_and_moves, moves_and_replay, silent_wrote, silent_unstated}
 use Rattle.lab_outside.proofs.Bytes.{wrote_prefix_whole}
@@ -57,16 +57,20 @@ module _ (command : Command) (result : Status) (old new : Option (List ℕ)) (fa
   halted_stated bytes Memory of_reading long says stated = absurd (silent_unstated MemoryStatus result old new faults risen says (λ h. h) stated)
   halted_stated bytes LongInput of_reading long says stated = said_answers command bytes Limit result input_line old new faults risen (long_input refl (long refl) refl refl) says stated
   halted_stated bytes Write of_reading long says stated = absurd of_reading
+  halted_stated bytes TooManyEvents of_reading long says stated = absurd of_reading
   halted_stated bytes (BadLine n) of_reading long says stated = absurd of_reading
   halted_stated bytes Number of_reading long says stated = absurd of_reading
+  halted_stated bytes Sent of_reading long says stated = absurd of_reading
 
   halted_begun : (bytes : List ℕ) (stop : Stop) → IsOfReading stop → (stop ≡ LongInput → input_limit < length bytes) → Says (status_of stop) (said_of stop) result old new faults risen → LayoutPrefix command bytes old new
   halted_begun bytes Read of_reading long says = nothing (silent_wrote ReadFault result old new faults risen says)
   halted_begun bytes Memory of_reading long says = nothing (silent_wrote MemoryStatus result old new faults risen says)
   halted_begun bytes LongInput of_reading long says = said_prefix command bytes Limit result input_line old new faults risen (long_input refl (long refl) refl refl) says
   halted_begun bytes Write of_reading long says = absurd of_reading
+  halted_begun bytes TooManyEvents of_reading long says = absurd of_reading
   halted_begun bytes (BadLine n) of_reading long says = absurd of_reading
   halted_begun bytes Number of_reading long says = absurd of_reading
+  halted_begun bytes Sent of_reading long says = absurd of_reading
 
   pub halted_lays : (left : Option (List ℕ)) (stop : Stop) → IsOfReading stop → (stop ≡ LongInput → IfSome left (λ bytes. input_limit < length bytes)) → Says (status_of stop) (said_of stop) result old new faults risen → IsStated result →
       IfSome left (λ bytes. Answers (Some command) bytes result old new)
@@ -97,6 +101,7 @@ module _ (input : List ℕ) (old new : Option (List ℕ)) (text : List ℕ) (wro
   prints asked asks (usage unasked e w) = cc
   prints asked asks (long_input is long e w) = cc
   prints asked asks (bad_line n is short bad e w) = cc
+  prints asked asks (many_events is short many e w) = cc
   prints asked asks (laid_out is short says) = printed says
   prints asked asks (moved is short says) = absurd (layout_and_moves asked asks is)
   prints asked asks (replayed events is short spells stated) = absurd (both_asked asked asks is)
@@ -134,6 +139,7 @@ module _ (input : List ℕ) (old new : Option (List ℕ)) (text : List ℕ) (wro
   prints_moves asked asks (usage unasked e w) = cc
   prints_moves asked asks (long_input is long e w) = cc
   prints_moves asked asks (bad_line n is short bad e w) = cc
+  prints_moves asked asks (many_events is short many e w) = cc
   prints_moves asked asks (laid_out is short says) = absurd (layout_and_moves asked is asks)
   prints_moves asked asks (moved is short says) = moves_printed says
   prints_moves asked asks (replayed events is short spells stated) = absurd (moves_and_replay asked asks is)

@@ -1,10 +1,7 @@
 pub mod Texts
 pub mod Stops
-pub mod Replays
-pub mod Running
+pub mod Meant
 pub mod Answering
 pub mod Ends
 pub mod Lays
-pub mod Staged
-pub mod Lawful
 pub mod Stating

@@ -1,30 +1,48 @@
 -- Which fault stands behind why a replay gave up.
 use Rattle.std.proofs.Common.{◌≡◌, ℕ, Result, Ok, Err, refl, sym, ap, ◌∙◌}
-use Rattle.std.specs.Result.{IsErrAnd, OnErr}
-use Rattle.crdt_core.specs.declared.memory.Memory.{Memory as Why}
-use Rattle.crdt_core.specs.declared.memory.Memory.TheVariants.{Want, Full}
+use Rattle.std.specs.Result.{IsErrAnd}
 use Rattle.schedule_text.specs.declared.fault.ScheduleFault.{ScheduleFault}
-use Rattle.schedule_text.specs.declared.fault.ScheduleFault.TheVariants.{BadLine as FaultLine, Memory as FaultMemory}
+use Rattle.schedule_text.specs.declared.fault.ScheduleFault.TheVariants.{BadLine as FaultLine, TooManyEvents as FaultMany, Memory as FaultMemory}
+use Rattle.replay_run.specs.declared.stop.ReplayStop.{ReplayStop}
+use Rattle.replay_run.specs.declared.stop.ReplayStop.TheVariants as halt
 use Rattle.garage_lab.specs.declared.stop.Stop.{Stop}
-use Rattle.garage_lab.specs.declared.stop.Stop.TheVariants.{BadLine, Number}
-use Rattle.garage_lab.specs.Stop.{stop_of_fault, stop_of_memory}
+use Rattle.garage_lab.specs.declared.stop.Stop.TheVariants.{Read, Write, TooManyEvents, BadLine}
+use Rattle.garage_lab.specs.Stop.{stop_of_fault, stop_of_replay}
 
 line_back : (fault : ScheduleFault) (n : ℕ) → stop_of_fault fault ≡ BadLine n → fault ≡ FaultLine n
 line_back (FaultLine m) n e = let same : m ≡ n = cc in ap FaultLine same
+line_back FaultMany n e = cc
 line_back FaultMemory n e = cc
 
 pub bad_line_back : {A : Type 0} (r : Result A Stop) (fault : ScheduleFault) (n : ℕ) → IsErrAnd r (λ stop. stop ≡ stop_of_fault fault) → r ≡ Err (BadLine n) → fault ≡ FaultLine n
 bad_line_back (Ok x) fault n is e = cc
 bad_line_back (Err stop) fault n is e = let same : stop ≡ BadLine n = cc in line_back fault n (sym is ∙ same)
 
-full_back : (why : Why) → stop_of_memory why ≡ Number → why ≡ Full
-full_back Want e = cc
-full_back Full e = refl
+many_back : (fault : ScheduleFault) → stop_of_fault fault ≡ TooManyEvents → fault ≡ FaultMany
+many_back (FaultLine m) e = cc
+many_back FaultMany e = refl
+many_back FaultMemory e = cc
 
-pub number_back : {A : Type 0} (r : Result A Stop) (why : Why) → IsErrAnd r (λ stop. stop ≡ stop_of_memory why) → r ≡ Err Number → why ≡ Full
-number_back (Ok x) why is e = cc
-number_back (Err stop) why is e = let same : stop ≡ Number = cc in full_back why (sym is ∙ same)
+pub many_events_back : {A : Type 0} (r : Result A Stop) (fault : ScheduleFault) → IsErrAnd r (λ stop. stop ≡ stop_of_fault fault) → r ≡ Err TooManyEvents → fault ≡ FaultMany
+many_events_back (Ok x) fault is e = cc
+many_events_back (Err stop) fault is e = let same : stop ≡ TooManyEvents = cc in many_back fault (sym is ∙ same)
 
-pub on_err : {A E : Type 0} (r : Result A E) (P : Type 0) → P → OnErr r P
-on_err (Ok x) P h = tt
-on_err (Err e) P h = h
+write_is : (stop : ReplayStop) → stop_of_replay stop ≡ Write → stop ≡ halt.Write
+write_is halt.Write e = refl
+write_is halt.Memory e = cc
+write_is halt.Number e = cc
+write_is halt.Sent e = cc
+
+pub write_back : {A : Type 0} (r : Result A Stop) (why : ReplayStop) → IsErrAnd r (λ stop. stop ≡ stop_of_replay why) → r ≡ Err Write → why ≡ halt.Write
+write_back (Ok x) why is e = cc
+write_back (Err stop) why is e = let same : stop ≡ Write = cc in write_is why (sym is ∙ same)
+
+no_read : (stop : ReplayStop) → stop_of_replay stop ≡ Read → ⊥
+no_read halt.Write e = cc
+no_read halt.Memory e = cc
+no_read halt.Number e = cc
+no_read halt.Sent e = cc
+
+pub never_read : {A : Type 0} (r : Result A Stop) (why : ReplayStop) → IsErrAnd r (λ stop. stop ≡ stop_of_replay why) → r ≡ Err Read → ⊥
+never_read (Ok x) why is e = cc
+never_read (Err stop) why is e = let same : stop ≡ Read = cc in no_read why (sym is ∙ same)

@@ -5,7 +5,7 @@ use Rattle.lab_outside.specs.declared.exit.Status.TheVariants.{Done, Refused, Us
 use Rattle.lab_outside.specs.Rose.{Rose}
 use Rattle.lab_outside.specs.Bytes.{Wrote, WrotePrefix}
 use Rattle.store_model.specs.declared.event.Numbered.{Numbered}
-use Rattle.text_model.specs.Reading.{IsSchedule, IsFirstBadLine}
+use Rattle.text_model.specs.Reading.{IsSchedule, IsFirstBadLine, HasTooManyEvents}
 use Rattle.layout_command.specs.Answer.{IsAnswer as IsLayoutAnswer}
 use Rattle.layout_command.specs.Moves.{IsMovesAnswer}
 use Rattle.store_model.specs.Run.{start}
@@ -13,7 +13,7 @@ use Rattle.store_model.specs.Events.{Turn}
 use Rattle.text_model.specs.Transcript.{turns_text}
 use Rattle.garage_lab.specs.declared.command.Command.{Command}
 use Rattle.garage_lab.specs.declared.command.Command.TheVariants.{Layout, Moves, Replay}
-use Rattle.garage_lab.specs.Replay.{AreFirst, IsReplay}
+use Rattle.replay_run.specs.Replay.{AreFirst, IsReplay}
 
 -- how many bytes the input may have
 abbrev pub input_limit : ℕ
@@ -27,6 +27,10 @@ usage_line = codes "usage: garage_lab layout | replay [--check] | workload N SEE
 abbrev pub input_line : List ℕ
 input_line = codes "limit input 8388608" ++ 10 ∷ []
 
+-- the input has more events than a schedule may have
+abbrev pub events_line : List ℕ
+events_line = codes "limit events 100000" ++ 10 ∷ []
+
 -- the line that is no event, by its number
 abbrev pub bad_line_text : ℕ → List ℕ
 bad_line_text n = codes "bad line " ++ (decimal n ++ 10 ∷ [])
@@ -36,6 +40,7 @@ pub data IsAnswer (asked : Option Command) (input : List ℕ) (status : Status) 
   usage : asked ≡ None → status ≡ Usage → text ≡ usage_line → IsAnswer asked input status text
   long_input : IsSome asked → input_limit < length input → status ≡ Limit → text ≡ input_line → IsAnswer asked input status text
   bad_line : (n : ℕ) → asked ≡ Some Replay → length input ≤ input_limit → IsFirstBadLine input n → status ≡ Refused → text ≡ bad_line_text n → IsAnswer asked input status text
+  many_events : asked ≡ Some Replay → length input ≤ input_limit → HasTooManyEvents input → status ≡ Limit → text ≡ events_line → IsAnswer asked input status text
   laid_out : asked ≡ Some Layout → length input ≤ input_limit → IsLayoutAnswer input status text → IsAnswer asked input status text
   moved : asked ≡ Some Moves → length input ≤ input_limit → IsMovesAnswer input status text → IsAnswer asked input status text
   replayed : (events : List Numbered) → asked ≡ Some Replay → length input ≤ input_limit → IsSchedule input events → IsReplay events status text → IsAnswer asked input status text

@@ -1,6 +1,5 @@
 pub mod Command
 pub mod Replay
-pub mod Turning
 pub mod Layout
 pub mod Answer
 pub mod Stop

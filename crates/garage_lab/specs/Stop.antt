@@ -8,16 +8,14 @@ use Rattle.lab_outside.specs.declared.whole.ReadStop.{ReadStop}
 use Rattle.lab_outside.specs.declared.whole.ReadStop.TheVariants.{Failed, Memory as ReadMemory}
 use Rattle.lab_outside.specs.Bytes.{Wrote, WrotePrefix}
 use Rattle.schedule_text.specs.declared.fault.ScheduleFault.{ScheduleFault}
-use Rattle.schedule_text.specs.declared.fault.ScheduleFault.TheVariants.{BadLine as FaultLine, Memory as FaultMemory}
+use Rattle.schedule_text.specs.declared.fault.ScheduleFault.TheVariants.{BadLine as FaultLine, TooManyEvents as FaultMany, Memory as FaultMemory}
 use Rattle.garage_lab.specs.declared.stop.Stop.{Stop}
-use Rattle.garage_lab.specs.declared.stop.Stop.TheVariants.{Read, Write, Memory, LongInput, BadLine, Number}
-use Rattle.store_model.specs.declared.event.Numbered.{Numbered}
-use Rattle.store_model.specs.Run.{start}
-use Rattle.store_model.specs.Events.{Turn, events_of, run}
-use Rattle.text_model.specs.Transcript.{turns_text, transcript}
-use Rattle.garage_lab.specs.Replay.{number_line, ArePlayed, AreFirst, StopsAfter, IsUnshown}
+use Rattle.garage_lab.specs.declared.stop.Stop.TheVariants.{Read, Write, Memory, LongInput, TooManyEvents, BadLine, Number, Sent}
+use Rattle.replay_run.specs.declared.stop.ReplayStop.{ReplayStop}
+use Rattle.replay_run.specs.declared.stop.ReplayStop.TheVariants as halt
+use Rattle.replay_run.specs.Replay.{number_line, sent_line}
 use Rattle.garage_lab.specs.declared.command.Command.TheVariants.{Replay}
-use Rattle.garage_lab.specs.Answer.{input_line, bad_line_text, IsAnswer, ReplayPrefix}
+use Rattle.garage_lab.specs.Answer.{input_line, events_line, bad_line_text, IsAnswer, ReplayPrefix}
 
 -- why a read of the input stopped
 abbrev pub stop_of_read : ReadStop → Stop
@@ -27,7 +25,15 @@ stop_of_read ReadMemory = Memory
 -- why the schedule is no schedule
 abbrev pub stop_of_fault : ScheduleFault → Stop
 stop_of_fault (FaultLine n) = BadLine n
+stop_of_fault FaultMany = TooManyEvents
 stop_of_fault FaultMemory = Memory
+
+-- why the replay of a schedule gave up
+abbrev pub stop_of_replay : ReplayStop → Stop
+stop_of_replay halt.Write = Write
+stop_of_replay halt.Memory = Memory
+stop_of_replay halt.Number = Number
+stop_of_replay halt.Sent = Sent
 
 -- why an event could not be done
 abbrev pub stop_of_memory : Why → Stop
@@ -40,8 +46,10 @@ status_of Read = ReadFault
 status_of Write = WriteFault
 status_of Memory = MemoryStatus
 status_of LongInput = Limit
+status_of TooManyEvents = Limit
 status_of (BadLine n) = Refused
 status_of Number = Limit
+status_of Sent = Limit
 
 -- the line that is written of each reason to stop
 abbrev pub said_of : Stop → List ℕ
@@ -49,8 +57,10 @@ said_of Read = []
 said_of Write = []
 said_of Memory = []
 said_of LongInput = input_line
+said_of TooManyEvents = events_line
 said_of (BadLine n) = bad_line_text n
 said_of Number = number_line
+said_of Sent = sent_line
 
 -- what was written so far, with this last text, is what is stated with this status
 pub record IsNearly (input : List ℕ) (status : Status) (last : List ℕ) (old new : Option (List ℕ)) : Type 0 where
@@ -64,8 +74,10 @@ Halts input Read old new = ReplayPrefix input old new
 Halts input Write old new = ReplayPrefix input old new
 Halts input Memory old new = ReplayPrefix input old new
 Halts input LongInput old new = IsNearly input Limit input_line old new
+Halts input TooManyEvents old new = IsNearly input Limit events_line old new
 Halts input (BadLine n) old new = IsNearly input Refused (bad_line_text n) old new
 Halts input Number old new = IsNearly input Limit number_line old new
+Halts input Sent old new = IsNearly input Limit sent_line old new
 
 -- the input was read before this is said
 abbrev pub IsSaid : Stop → Type 0
@@ -73,8 +85,10 @@ IsSaid Read = ⊥
 IsSaid Write = ⊤
 IsSaid Memory = ⊥
 IsSaid LongInput = ⊤
+IsSaid TooManyEvents = ⊤
 IsSaid (BadLine n) = ⊤
 IsSaid Number = ⊤
+IsSaid Sent = ⊤
 
 -- reading the input may be the cause
 abbrev pub IsOfReading : Stop → Type 0
@@ -82,8 +96,10 @@ IsOfReading Read = ⊤
 IsOfReading Write = ⊥
 IsOfReading Memory = ⊤
 IsOfReading LongInput = ⊤
+IsOfReading TooManyEvents = ⊥
 IsOfReading (BadLine n) = ⊥
 IsOfReading Number = ⊥
+IsOfReading Sent = ⊥
 
 -- the input may be the cause
 abbrev pub IsOfInput : Stop → Type 0
@@ -91,31 +107,7 @@ IsOfInput Read = ⊤
 IsOfInput Write = ⊥
 IsOfInput Memory = ⊤
 IsOfInput LongInput = ⊤
+IsOfInput TooManyEvents = ⊤
 IsOfInput (BadLine n) = ⊤
 IsOfInput Number = ⊥
-
--- the events or the output may be the cause
-abbrev pub IsOfOutput : Stop → Type 0
-IsOfOutput Read = ⊥
-IsOfOutput Write = ⊤
-IsOfOutput Memory = ⊤
-IsOfOutput LongInput = ⊥
-IsOfOutput (BadLine n) = ⊥
-IsOfOutput Number = ⊤
-
--- the transcript was written up to the event before a number doesn't fit, or up to the tail, where a node can't be shown
-pub data IsCutShort (events : List Numbered) (old new : Option (List ℕ)) : Type 0 where
-  at_event : (before : List Turn) → StopsAfter events before → Wrote old new (turns_text start before) → IsCutShort events old new
-  at_tail : (turns : List Turn) → events_of turns ≡ events → ArePlayed turns → IsUnshown (run start turns) → Wrote old new (turns_text start turns) → IsCutShort events old new
-
--- the first events were played, and a first part of what they told was written, or of the whole transcript
-pub data IsPart (events : List Numbered) (old new : Option (List ℕ)) : Type 0 where
-  of_turns : (turns : List Turn) → AreFirst events turns → WrotePrefix old new (turns_text start turns) → IsPart events old new
-  of_all : (turns : List Turn) → events_of turns ≡ events → ArePlayed turns → WrotePrefix old new (transcript turns) → IsPart events old new
-
--- all events were played, and their transcript was written
-pub record IsWhole (events : List Numbered) (old new : Option (List ℕ)) : Type 0 where
-  pub turns : List Turn
-  pub events_are : events_of turns ≡ events
-  pub played : ArePlayed turns
-  pub wrote : Wrote old new (transcript turns)
+IsOfInput Sent = ⊥

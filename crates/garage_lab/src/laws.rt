@@ -6,14 +6,16 @@ ghost use Rattle.garage_lab.specs.declared.command.Command.TheVariants.{Moves};
 ghost use Rattle.garage_lab.specs.Answer.{IsAnswer};
 
 use layout_command::every_configuration_is_answered;
+use replay_run::every_replay_ends;
 use schedule_text::every_text_reads;
 
-/// No input is without a stated answer, whatever is asked: each text is a schedule or has a first bad line, each
-/// configuration has a layout or a cause for which there is none, and each event of a schedule can be given
-/// something lawful, after which there is room or none. Of a layout with the fewest moves nothing is said.
+/// No input is without a stated answer, whatever is asked: each text is a schedule, has a first bad line or too many
+/// events, each configuration has a layout or a cause for which there is none, and a replay of each schedule has a stated
+/// end. Of a layout with the fewest moves nothing is said.
 pub fn some_answer_is_stated()
     ensures { (asked : Option Command) (input : List ℕ) → (asked ≡ Some Moves → ⊥) → ((status : Status) (text : List ℕ) → IsAnswer asked input status text → ⊥) → ⊥ }
 {
     every_text_reads();
+    every_replay_ends();
     every_configuration_is_answered();
 }

@@ -4,7 +4,7 @@
 //! `run` is the program: it takes the words after the program's name, the outside as a source, a sink, a
 //! link and a clock, and answers the status with which the program ends. Its contract says which text is
 //! written for which input, and why each other answer comes. `command` tells the commands apart, and `input`
-//! reads the input. For a replay `schedule` reads the events and `transcript` writes what they told; `layout`
+//! reads the input. For a replay `schedule` reads the events, and replay_run writes what they told; `layout`
 //! reads a configuration and computes what is answered. `stop` is why any of them gave up, and `laws` says that
 //! no input is without a stated answer.
 #![tactic(auto)]
@@ -16,6 +16,8 @@ mod input;
 mod laws;
 mod layout;
 #[cfg(test)]
+mod limits;
+#[cfg(test)]
 mod line_texts;
 #[cfg(test)]
 mod request_texts;
@@ -24,7 +26,6 @@ mod schedule;
 mod stop;
 #[cfg(test)]
 mod tests;
-mod transcript;
 
 ghost use Rattle.std.specs.Prelude.{◌≡◌};
 ghost use Rattle.std.specs.Process.{exit_status};

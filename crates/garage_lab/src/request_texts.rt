@@ -65,6 +65,13 @@ const LOST_AND_RESTARTED: &[u8] =
 const RESTARTED_TEXT: &[u8] =
     b"1 trio ok\n2 bucket ok\n3 tick ok\n4 skew ok\n5 put ok 1\n6 lose ok\n7 deliver refused Lost\n8 lose refused Lost\n9 restart ok\nended 1 restarted\n10 expire refused AlreadyEnded\n11 work ok 0 0\n12 repair ok\n13 put ok 2\n14 drain ok\ndone 2 put 1500/2\nnode 1 rows 1 blocks 0 top 59e4fe432da9f397be7643fc018a0244e119659a69a3629c23d5853caa8dff49\nnode 2 rows 1 blocks 0 top 59e4fe432da9f397be7643fc018a0244e119659a69a3629c23d5853caa8dff49\nnode 3 rows 1 blocks 0 top 59e4fe432da9f397be7643fc018a0244e119659a69a3629c23d5853caa8dff49\nend 14 2 17\n";
 
+/// A list of which one answer is lost, and which the other two finish, without the key that was deleted.
+const LIST_WITHOUT_DELETED_KEYS: &[u8] =
+    b"trio\nbucket pics\ntick 1000\nput 1 pics a 3 97\ndrain 100\nput 1 pics b 4 97\ndrain 100\ndelete 2 pics a\ndrain 100\nlist 1 pics *\ndeliver 37\ndeliver 38\ndeliver 39\nlose 40\ndeliver 41\ndeliver 42\n";
+
+const LOST_ANSWER_TEXT: &[u8] =
+    b"1 trio ok\n2 bucket ok\n3 tick ok\n4 put ok 1\n5 drain ok\ndone 1 put 1000/1\n6 put ok 2\n7 drain ok\ndone 2 put 1000/2\n8 delete ok 3\n9 drain ok\ndone 3 delete 1001/3\n10 list ok 4\n11 deliver ok\n12 deliver ok\n13 deliver ok\n14 lose ok\n15 deliver ok\n16 deliver ok\ndone 4 list 1\nkey b 1000/2 4\nnode 1 rows 2 blocks 0 top ";
+
 /// Schedules with their transcripts, of which the messages are left out, and how each ends with its messages.
 #[test]
 fn transcripts_of_requests(rt: HostRuntime) -> Result<(), Fail> {
@@ -84,12 +91,13 @@ fn transcripts_of_requests(rt: HostRuntime) -> Result<(), Fail> {
     Ok(())
 }
 
-/// Schedules with their transcripts up to the number of messages, of which the messages are left out.
+/// Schedules with the first part of their transcripts, of which the messages are left out.
 #[test]
-fn transcripts_of_blocks(rt: HostRuntime) -> Result<(), Fail> {
-    let rows: [(&[u8], &[u8]); 2] = [
+fn transcripts_of_blocks_and_lists(rt: HostRuntime) -> Result<(), Fail> {
+    let rows: [(&[u8], &[u8]); 3] = [
         (SIZES_AROUND_A_BLOCK, SIZES_TEXT),
         (DELETED_BLOCK, DELETED_TEXT),
+        (LIST_WITHOUT_DELETED_KEYS, LOST_ANSWER_TEXT),
     ];
     for (schedule, wanted) in rows {
         let (status, text) = played(rt.alloc(), &["replay"], schedule, &[], &[])?;

@@ -14,12 +14,15 @@ use crate::laws::some_answer_is_stated;
 use crate::layout::{read_layout, read_moves};
 use crate::schedule::read_schedule;
 use crate::stop::Stop;
-use crate::transcript::write_transcript;
 use crdt_core::{Bytes, Memory};
 use lab_outside::{Clock, Failed, Link, Sink, Source, Status, write_whole};
 use layout_command::{one_moves_status, one_status};
 use std::alloc::Global;
-use store_laws::{fresh_reads, reads_give_what_was_written};
+use store_anchors::{acknowledged_blocks_are_anchored, gets_read_whole_versions};
+use store_laws::{
+    fresh_reads, moments_are_runs, reads_give_what_was_written, records_are_fresh,
+    replicas_are_equal,
+};
 
 /// Writes the last text, and answers the status that goes with it.
 fn ends<O: Sink>(output: &mut O, text: &[u8], status: Status) -> Status
@@ -56,7 +59,9 @@ fn stopped<O: Sink>(alloc: Global, output: &mut O, stop: Stop) -> Status
         Stop::Write => Status::WriteFault,
         Stop::Memory => Status::Memory,
         Stop::LongInput => ends(output, b"limit input 8388608\n", Status::Limit),
+        Stop::TooManyEvents => ends(output, b"limit events 100000\n", Status::Limit),
         Stop::Number => ends(output, b"limit number\n", Status::Limit),
+        Stop::Sent => ends(output, b"limit sent 268435456\n", Status::Limit),
         Stop::BadLine(line) => match bad_line(alloc, line) {
             Ok(text) => ends(output, text.as_slice(), Status::Refused),
             Err(_) => Status::Memory,
@@ -76,7 +81,8 @@ fn replay<I: Source, O: Sink>(alloc: Global, input: &mut I, output: &mut O) -> R
     ensures counted { O.faults output.old ≤ O.faults output.new }
 {
     let events = read_schedule(alloc, input)?;
-    write_transcript(alloc, output, events.as_slice())
+    replay_run::replay(alloc, events.as_slice(), output)?;
+    Ok(())
 }
 
 /// Replays the schedule that the input spells, and says how that ended.
@@ -178,9 +184,11 @@ pub fn run<I: Source, O: Sink, L: Link, C: Clock>(
 ) -> Status
     // After Done of a replay what was written is the whole transcript of the events that all the input's bytes
     // spell, with the layouts that it prints: each is computed from what was staged, an assignment of the greatest
-    // partition size, with its printed cut. The answered reads of that very run are fresh, and the sizes that gets, heads
-    // and lists tell, and the MD5s of gets, are those of the bytes that were written as the versions beside them (of a
-    // get's where these aren't kept in blocks).
+    // partition size, with its printed cut. At each moment of that very run, within drains too: answered reads are fresh,
+    // also by the records alone; the sizes and MD5s that lines of reads tell are those of the bytes that were written as the
+    // versions beside them; a read ends superseded only where its version was overwritten, and no open request waits for
+    // what never comes; replicas that accepted the same rows are equal; and the blocks of acknowledged, undeleted versions
+    // lie with live references. Where bytes are kept in blocks, and for these, no two blocks may have one digest.
     ensures done { asked_by words.now ≡ Some Command.Replay → result ≡ Status.Done → IfSome (I.left input.old) (λ bytes. IsTranscribed bytes (O.written output.old) (O.written output.new)) }
 
     // After Done of a layout what was written is the text of an assignment of the greatest partition size for
@@ -229,7 +237,12 @@ pub fn run<I: Source, O: Sink, L: Link, C: Clock>(
     ensures clock { _clock.new ≡ _clock.old }
 {
     fresh_reads();
+    records_are_fresh();
     reads_give_what_was_written();
+    gets_read_whole_versions();
+    replicas_are_equal();
+    acknowledged_blocks_are_anchored();
+    moments_are_runs();
     one_status();
     one_moves_status();
     some_answer_is_stated();

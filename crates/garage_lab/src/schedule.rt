@@ -3,7 +3,7 @@ ghost use Rattle.std.specs.Prelude.{◌≡◌, ◌+◌, ◌<◌, ◌≤◌, ℕ,
 ghost use Rattle.std.specs.List.{All};
 ghost use Rattle.std.specs.Io.KnownBytes.{IsAtEnd};
 ghost use Rattle.lab_outside.specs.Rose.{Rose};
-ghost use Rattle.text_model.specs.Reading.{IsSchedule, IsFirstBadLine};
+ghost use Rattle.text_model.specs.Reading.{IsSchedule, IsFirstBadLine, HasTooManyEvents};
 ghost use Rattle.s3_world.specs.Stands.{IsMeantEvent};
 ghost use Rattle.garage_lab.specs.Answer.{input_limit};
 ghost use Rattle.garage_lab.specs.Stop.{IsSaid, IsOfInput};
@@ -21,6 +21,7 @@ pub fn read_schedule<I: Source>(alloc: Global, input: &mut I) -> Result<List<Num
     ensures meant { IfOk result (λ events. All (λ e. IsMeantEvent e.event) events) }
     ensures end { OnOk result (IsAtEnd (I.left input.new)) }
     ensures bad_line { (n : ℕ) → result ≡ Err (Stop.BadLine n) → IfSome (I.left input.old) (λ bytes. (length bytes ≤ input_limit) × IsFirstBadLine bytes n) }
+    ensures many_events { result ≡ Err Stop.TooManyEvents → IfSome (I.left input.old) (λ bytes. (length bytes ≤ input_limit) × HasTooManyEvents bytes) }
     ensures long_input { result ≡ Err Stop.LongInput → IfSome (I.left input.old) (λ bytes. input_limit < length bytes) }
     ensures read { IfErr result IsSaid → IfSome (I.left input.old) (λ bytes. I.left input.new ≡ Some (drop (input_limit + 1) bytes)) }
     ensures causes { IfErr result IsOfInput }

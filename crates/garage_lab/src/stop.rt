@@ -1,8 +1,9 @@
 //! Why a command gave up.
 ghost use Rattle.std.specs.Prelude.{◌≡◌};
-ghost use Rattle.garage_lab.specs.Stop.{stop_of_read, stop_of_fault, stop_of_memory};
+ghost use Rattle.garage_lab.specs.Stop.{stop_of_read, stop_of_fault, stop_of_replay, stop_of_memory};
 
-use lab_outside::{Failed, ReadStop};
+use lab_outside::ReadStop;
+use replay_run::ReplayStop;
 use schedule_text::ScheduleFault;
 
 /// Why a command gave up.
@@ -16,10 +17,14 @@ pub enum Stop {
     Memory,
     /// The input has more bytes than it may have.
     LongInput,
+    /// The input has more events than a schedule may have.
+    TooManyEvents,
     /// The first line outside the grammar, counted from 1.
     BadLine(u64),
     /// After the next event a number would not fit its type, or after the last one a node has a row without a spelling.
     Number,
+    /// With the next event more bytes were sent than may be.
+    Sent,
 }
 
 impl From<ReadStop> for Stop {
@@ -39,18 +44,22 @@ impl From<ScheduleFault> for Stop {
     fn from(fault: ScheduleFault) -> Stop {
         match fault {
             ScheduleFault::BadLine(line) => Stop::BadLine(line),
+            ScheduleFault::TooManyEvents => Stop::TooManyEvents,
             ScheduleFault::Memory => Stop::Memory,
         }
     }
 }
 
-impl From<Failed> for Stop {
-    ghost use Rattle.garage_lab.specs.declared.stop.Stop.TheVariants.{Write};
+impl From<ReplayStop> for Stop {
+    ghost from_gives = { λ why stop. stop ≡ stop_of_replay why };
 
-    ghost from_gives = { λ _ stop. stop ≡ Write };
-
-    fn from(_: Failed) -> Stop {
-        Stop::Write
+    fn from(stop: ReplayStop) -> Stop {
+        match stop {
+            ReplayStop::Write => Stop::Write,
+            ReplayStop::Memory => Stop::Memory,
+            ReplayStop::Number => Stop::Number,
+            ReplayStop::Sent => Stop::Sent,
+        }
     }
 }
 

@@ -1,10 +1,11 @@
 //! What no clause says: that the calls succeed with ample memory, and that a call which fails leaves the rest.
 use lab_outside::{
     Clock, Failed, Link, MemClock, MemSink, MemSource, ReadStop, Status, StdSink, StdSource,
-    SureLink, SureSink, SureSource, read_up_to, send_whole, write_whole,
+    SureLink, SureSink, SureSource, TcpLink, WallClock, read_up_to, send_whole, write_whole,
 };
 use std::io;
-use std::io::{ErrorKind, Read};
+use std::io::{ErrorKind, Read, Write};
+use std::net::{Ipv4Addr, Shutdown, TcpListener, TcpStream};
 use std::test::Fail;
 
 #[test]
@@ -111,6 +112,32 @@ fn sure_link_shows_what_was_written(rt: HostRuntime) -> Result<(), Fail> {
     Ok(())
 }
 
+#[test]
+fn a_client_over_tcp(rt: HostRuntime) -> Result<(), Fail> {
+    // The system names a port that nobody has.
+    let free = TcpListener::bind(&rt, (Ipv4Addr::LOCALHOST, 0))?;
+    let port = free.local_addr()?.port();
+    drop(free);
+    let mut link = TcpLink::new(rt.alloc(), &rt)?;
+    assert!(&rt; link.next().is_err(), "not open yet");
+    assert!(&rt; link.open(port).is_ok());
+    assert!(&rt; link.open(port).is_ok(), "open already");
+    let mut client = TcpStream::connect(&rt, (Ipv4Addr::LOCALHOST, port))?;
+    client.write_all(b"a request")?;
+    client.shutdown(Shutdown::Write)?;
+    assert!(&rt; link.next() == Ok(true));
+    let mut piece = [0u8; 20];
+    assert!(&rt; link.read(&mut piece) == Ok(9));
+    assert_eq!(rt; &piece[..9], b"a request".as_slice());
+    assert!(&rt; link.read(&mut piece) == Ok(0));
+    send_whole(&mut link, b"an answer")?;
+    link.end();
+    let mut answer = Vec::new(rt.alloc());
+    client.read_to_end(&mut answer)?;
+    assert_eq!(rt; answer.as_slice(), b"an answer".as_slice());
+    Ok(())
+}
+
 fn times<C: Clock>(clock: &mut C) -> [u64; 4] {
     [clock.now(), clock.now(), clock.now(), clock.now()]
 }
@@ -120,6 +147,12 @@ fn last_time_repeats(rt: HostRuntime) -> Result<(), Fail> {
     let mut clock = MemClock::new([5, 9, 7].to_vec(rt.alloc())?);
     assert_eq!(rt; times(&mut clock), [5, 9, 7, 7]);
     Ok(())
+}
+
+#[test]
+fn the_time_is_of_these_years(rt: HostRuntime) {
+    let [time, _, _, _] = times(&mut WallClock::new(&rt));
+    assert!(&rt; time > 1_700_000_000_000, "{time} milliseconds");
 }
 
 /// A reader that is interrupted once.

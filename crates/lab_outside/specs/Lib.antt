@@ -9,5 +9,7 @@ pub mod Sure
 pub mod SureConnection
 pub mod SureLink
 pub mod Standard
+pub mod TcpConnection
+pub mod TcpLink
 pub mod PieceLink
 pub mod Stages

@@ -1,5 +1,5 @@
 -- What a link whose one connection comes in small pieces stands for.
-use Rattle.std.specs.Prelude.{◌≡◌, ℕ, List, [], ◌∷◌, Option, Some, None, ⊤}
+use Rattle.std.specs.Prelude.{ℕ, List, [], ◌∷◌, Option, Some, None}
 use Rattle.lab_outside.specs.declared.memory.MemSource.{MemSource}
 use Rattle.lab_outside.specs.declared.piece_link.Stage.{Stage}
 use Rattle.lab_outside.specs.declared.piece_link.Stage.TheVariants.{Coming, Present, Past}

@@ -19,4 +19,5 @@ mod reply;
 
 pub use laws::{every_configuration_is_answered, one_moves_status, one_status};
 pub use moves::moves_answer;
+pub use refusals::{bad_field, bad_toml, reason};
 pub use reply::{Reply, answer};

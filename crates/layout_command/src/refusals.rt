@@ -14,7 +14,7 @@ use std::alloc::Global;
 
 /// The text is no TOML document.
 #[tactic(auto, unfolding(crate::specs::Answer::toml_line))]
-pub(crate) fn bad_toml(alloc: Global) -> Result<Bytes, Memory>
+pub fn bad_toml(alloc: Global) -> Result<Bytes, Memory>
     ensures text { IfOk result (λ text. text ≡ toml_line) }
     ensures want { OnlyWant result }
 {
@@ -40,7 +40,7 @@ fn field_word(name: FieldName) -> &'static [u8]
 
 /// The first bad field.
 #[tactic(auto, unfolding(crate::specs::Answer::field_line))]
-pub(crate) fn bad_field(alloc: Global, name: FieldName) -> Result<Bytes, Memory>
+pub fn bad_field(alloc: Global, name: FieldName) -> Result<Bytes, Memory>
     ensures text { IfOk result (λ text. text ≡ field_line name) }
     ensures want { OnlyWant result }
 {
@@ -89,7 +89,7 @@ fn no_assignment(alloc: Global, cut: &Cut, roles: &Roles) -> Result<Bytes, Memor
 }
 
 /// Why nothing is laid out.
-pub(crate) fn reason(alloc: Global, roles: &Roles, fault: &LayoutFault) -> Result<Bytes, Memory>
+pub fn reason(alloc: Global, roles: &Roles, fault: &LayoutFault) -> Result<Bytes, Memory>
     ensures text { IfOk result (λ text. text ≡ reason_text roles.now.list fault.now) }
     ensures told { IfOk result (λ _. IsTold fault.now) }
     ensures want { OnlyWant result }

@@ -1,10 +1,14 @@
 -- What all elements of a list have, and functions that change at one number.
-use Rattle.std.specs.Prelude.{◌≡◌, ◌≢◌, ℕ, zero, suc, ◌-◌, Bool, true, false, cond, ◌==◌, take, Some, slice_get, List, [], ◌∷◌, ◌++◌, refl}
+use Rattle.std.specs.Prelude.{◌≡◌, ◌≢◌, ℕ, zero, suc, Bool, true, false, cond, ◌==◌, take, Some, slice_get, List, [], ◌∷◌, ◌++◌, refl, ⊤}
 use Rattle.std.specs.Option.{unwrap_or}
 use Rattle.std.specs.List.{AllByRecursion, filter, find}
 use Rattle.std.proofs.Common.{ap, subst}
 use Rattle.std.proofs.lemmas.Bool.{eqb-true, eqb-false, eq-eqb, ne_eqb}
 use Rattle.cluster_machine.specs.World.{numbered}
+
+pub all_any : {X : Type 0} (xs : List X) → AllByRecursion (λ x. ⊤) xs
+all_any [] = tt
+all_any (x ∷ xs) = (tt, all_any xs)
 
 module _ {X : Type 0} (P : X → Type 0) where
   pub all_parts : (xs ys : List X) → AllByRecursion P (xs ++ ys) → AllByRecursion P xs × AllByRecursion P ys

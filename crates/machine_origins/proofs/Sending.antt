@@ -20,26 +20,26 @@ use Rattle.machine_origins.proofs.Good.{IsGood, Rules, rows_good}
 use Rattle.machine_origins.proofs.Sound.{Asks, ReadsTo, IsMessage, IsPacket}
 use Rattle.crdt_core.proofs.Each.{all_append}
 
-module _ {R : Type 0} {join : R → R → R} {s : Words R} {P : R → Type 0} (rules : Rules join s P) where
+module _ {R : Type 0} {join : R → R → R} {s : Words R} {P : R → Type 0} (rules : Rules join s P) (Q : List ℕ → List ℕ → Type 0) where
   -- the bytes of a row are read as this row
-  reads_by : (r : R) (o : Option (List ℕ)) → s.spelling r ≡ o → P r → is_some o ≡ true → ReadsTo s P (spelled o)
+  reads_by : (r : R) (o : Option (List ℕ)) → s.spelling r ≡ o → P r → is_some o ≡ true → ReadsTo join s P Q (spelled o)
   reads_by r None e p h = cc
   reads_by r (Some bytes) e p h = λ x f. subst P (ap (λ o. unwrap_or o x) (sym ((rules.laws.reads_back r bytes).1 e) ∙ f)) p
 
-  reads_to : (r : R) → P r → is_spelled s r ≡ true → ReadsTo s P (bytes_of s r)
+  reads_to : (r : R) → P r → is_spelled s r ≡ true → ReadsTo join s P Q (bytes_of s r)
   reads_to r p h = reads_by r (s.spelling r) refl p h
 
   module _ {L : Type 0} (k : Layouts L) (g : Asks) (n : ℕ) where
     -- what the posts of node n carry
     abbrev pub ArePosts : List (Post R L) → Type 0
-    ArePosts posts = AllByRecursion (λ (p : Post R L). IsPacket s P g n p.to p.packet) posts
+    ArePosts posts = AllByRecursion (λ (p : Post R L). IsPacket join s P Q g n p.to p.packet) posts
 
-    pub each_post : (nodes : List ℕ) (m : Message R) → ((to : ℕ) → IsMessage s P g n to m) → ArePosts (to_each nodes m)
+    pub each_post : (nodes : List ℕ) (m : Message R) → ((to : ℕ) → IsMessage join s P Q g n to m) → ArePosts (to_each nodes m)
     each_post [] m h = tt
     each_post (to ∷ nodes) m h = (h to, each_post nodes m h)
 
     append_posts : (xs ys : List (Post R L)) → ArePosts xs → ArePosts ys → ArePosts (xs ++ ys)
-    append_posts = all_append (λ (p : Post R L). IsPacket s P g n p.to p.packet)
+    append_posts = all_append (λ (p : Post R L). IsPacket join s P Q g n p.to p.packet)
 
     -- the rows of a store phase
     pub stores_posts : (v : View L) (request phase slot : ℕ) (rs : List (R × Option (List ℕ))) → AllByRecursion (λ r. P r.0) rs → list_all (λ r. is_spelled s r.0) rs ≡ true → ArePosts (stores s k v request phase slot rs)
@@ -61,7 +61,7 @@ module _ {R : Type 0} {join : R → R → R} {s : Words R} {P : R → Type 0} (r
         append_posts (item_posts join s k v item) (flat_map (item_posts join s k v) items)
         (each_post (nodes_of (stored_sets k v p)) m (λ to. (reads_to item.row a.0 parts.0, tt))) (items_posts v items a.1 parts.1)
 
-    read_all : (x : Node R L) (rs : List R) → AllByRecursion (IsGood s P) rs → list_all (is_spelled s) rs ≡ true → AllByRecursion (λ b. ReadsTo s P b.0) (map (with_its_block join s x) rs)
+    read_all : (x : Node R L) (rs : List R) → AllByRecursion (IsGood s P) rs → list_all (is_spelled s) rs ≡ true → AllByRecursion (λ b. ReadsTo join s P Q b.0) (map (with_its_block join s x) rs)
     read_all x [] a e = tt
     read_all x (r ∷ rs) a e =
         let parts = and_parts (is_spelled s r) (list_all (is_spelled s) rs) e in

@@ -25,4 +25,4 @@ pub use crate::header::announced;
 pub use crate::range::span;
 pub use crate::refusal::fault;
 pub use crate::source::{copy_source, is_digest};
-pub use crate::target::path;
+pub use crate::target::{has_path, path};

@@ -1,9 +1,9 @@
 //! The target of a request: its path and its query.
-ghost use Rattle.std.specs.Prelude.{◌≡◌, [], ◌++◌, map, filter_map, IfOk, OnOk};
+ghost use Rattle.std.specs.Prelude.{◌≡◌, [], ◌++◌, not, map, filter_map, IfOk, OnOk};
 ghost use Rattle.std.specs.List.{slice_split, cons_option};
 ghost use Rattle.std.specs.Str.{is_utf8};
 ghost use Rattle.crdt_core.specs.Outcomes.{OnlyWant};
-ghost use Rattle.s3_model.specs.Targets.{path_of, query_of, place_in as place_with, place_of, has_text_key, spaced, query_text as text_of_part, parameter_of, parameter_in, is_and, parameters_of};
+ghost use Rattle.s3_model.specs.Targets.{path_of, query_of, place_in as place_with, place_of, has_text_key, spaced, query_text as text_of_part, parameter_of, parameter_in, is_and, parameters_of, is_bad_target};
 
 use crate::pieces::{after, before, decoded};
 use crdt_core::{Bytes, List, Memory};
@@ -148,4 +148,16 @@ pub(crate) fn parameters(alloc: Global, query: &[u8]) -> Result<List<(Bytes, Byt
     let pieces = pieces(alloc, query)?;
     let given = parameters_in(alloc, &pieces)?;
     Ok(given)
+}
+
+/// A target begins with a slash, and its key, if it has one, is UTF-8.
+pub fn has_path(alloc: Global, target: &[u8]) -> Result<bool, Memory>
+    ensures same { IfOk result (λ has. has ≡ not (is_bad_target target.now)) }
+    ensures want { OnlyWant result }
+{
+    if !target.starts_with(b"/") {
+        return Ok(false);
+    }
+    let place = place(alloc, path(target))?;
+    Ok(has_text_key(&place))
 }

@@ -125,10 +125,10 @@ module _ (old : S3World) (i q : ℕ) (place : i + 1 ≡ q) (a : Asked) (at : sli
           same_block = let h : StepIsGood f.block (More g phase) = subst (StepIsGood f.block) more good in h.0
 
           pub more_plays : (new : S3World) (x : Asked) (report : Report AnyRow) (told : Told) → Steps any_join words old.world new.world report (step.Phase q phase) → x.flow ≡ None →
-              new.buckets ≡ old.buckets → new.block ≡ old.block → new.history ≡ old.history →
+              new.buckets ≡ old.buckets → new.block ≡ old.block → new.ends ≡ old.ends → new.history ≡ old.history →
               new.requests ≡ slice_set (slice_set old.requests i x) i (record a { flow = Some g }) → told ≡ record { refused = None; words = Empty; lines = report.lines } →
               Plays old new told (λ s. follow s q (numbered s.asked q) end)
-          more_plays new x report told steps none buckets block history requests says s d =
+          more_plays new x report told steps none buckets block ends history requests says s d =
               let m = waiting s d in
               let then = (steps s.world d.world).does in
               let P : Outcome → Type 0 = λ o. Does new told s o in
@@ -139,6 +139,7 @@ module _ (old : S3World) (i q : ℕ) (place : i + 1 ≡ q) (a : Asked) (at : sli
                   buckets = buckets ∙ d.buckets;
                   block = block ∙ d.block;
                   requests = requests ∙ asked_now s d x (record a { flow = Some g }) (Some g) refl;
+                  ends = ends ∙ d.ends;
                   history = ap (λ h. h.0) history ∙ d.history;
                   sized = d.sized;
                   flows = subst (AllByRecursion (λ (b : Asked). IsSized b.flow)) (sym requests) (sized_now s d x (record a { flow = Some g }) (subst IsSized (sym none) tt) has_block);
@@ -172,6 +173,7 @@ module _ (old : S3World) (i q : ℕ) (place : i + 1 ≡ q) (a : Asked) (at : sli
                   buckets = d.buckets;
                   block = d.block;
                   requests = asked_now s d x (record a { flow = Some g }) (Some g) refl;
+                  ends = d.ends;
                   history = d.history;
                   sized = d.sized;
                   flows = sized_now s d x (record a { flow = Some g }) (subst IsSized (sym none) tt) has_block;
@@ -202,6 +204,7 @@ module _ (old : S3World) (i q : ℕ) (place : i + 1 ≡ q) (a : Asked) (at : sli
                   requests =
                       requests ∙ ap (λ rs. slice_set rs i gone) d.requests ∙ ap (slice_set (map kept s.asked) i) now_kept
                       ∙ sym (map-set kept s.asked i (record m.0 { flow = None })) ∙ ap (λ n. map kept (slice_set s.asked n (record m.0 { flow = None }))) at_place;
+                  ends = ap (λ (n : S3World). n.ends) fin.rest ∙ ap (λ es. es ++ (q, last) ∷ []) d.ends;
                   history = ap (λ (n : S3World). n.history.0) fin.rest ∙ ap (λ h. h ++ record_of q last ∷ []) d.history;
                   sized = d.sized;
                   flows =

@@ -57,10 +57,10 @@ module _ (old : S3World) (node : ℕ) (order : Order) (mid : World S3Schema AnyR
     begun : (s : State) → IsStore old s → IsMember node s → (flow, phase) ≡ started order (suc (length s.world.requests)) s.block
     begun s d m = is_first ∙ ap (λ q. started order q old.block) (the_number s d m) ∙ ap (started order (suc (length s.world.requests))) d.block
 
-    pub opened_plays : (new : S3World) (more : Report AnyRow) (told : Told) → Steps any_join words mid new.world more (Begin number phase) → new.buckets ≡ old.buckets → new.block ≡ old.block →
+    pub opened_plays : (new : S3World) (more : Report AnyRow) (told : Told) → Steps any_join words mid new.world more (Begin number phase) → new.buckets ≡ old.buckets → new.block ≡ old.block → new.ends ≡ old.ends →
         new.requests ≡ old.requests ++ record { node = node; kind = kind_of order; flow = Some flow } ∷ [] → new.history.0 ≡ old.history.0 ++ began_with number node order ∷ [] →
         told.refused ≡ None → told.words ≡ One number → told.lines ≡ more.lines → PlaysIf (IsMember node) old new told (λ s. opened s node order)
-    opened_plays new more told second buckets block requests history refused words_are lines s d m =
+    opened_plays new more told second buckets block ends requests history refused words_are lines s d m =
         let q = suc (length s.world.requests) in
         let count = the_number s d m in
         let begins = begun s d m in
@@ -79,6 +79,7 @@ module _ (old : S3World) (node : ℕ) (order : Order) (mid : World S3Schema AnyR
                 requests ∙ ap (λ rs. rs ++ fresh ∷ []) d.requests
                 ∙ ap (λ (f : Flow). map kept s.asked ++ record { node = node; kind = kind_of order; flow = Some f } ∷ []) (ap (λ x. x.0) begins)
                 ∙ sym (map_push kept s.asked (new_request node order (started order q s.block).0));
+            ends = ends ∙ d.ends;
             history = history ∙ ap (λ n. old.history.0 ++ began_with n node order ∷ []) count ∙ ap (λ h. h ++ began_with q node order ∷ []) d.history;
             sized = d.sized;
             flows = subst (AllByRecursion (λ (a : Asked). IsSized a.flow)) (sym requests) (all_push (λ (a : Asked). IsSized a.flow) old.requests fresh d.flows sized);

@@ -1,5 +1,5 @@
 -- When the code's store stands for a state of the model, and what an act does to it.
-use Rattle.std.specs.Prelude.{◌≡◌, ◌<◌, ◌≤◌, ℕ, ⊤, Option, Some, None, [], ◌∷◌, ◌++◌, length, map}
+use Rattle.std.specs.Prelude.{◌≡◌, ◌==◌, ◌<◌, ◌≤◌, ℕ, ⊤, Option, Some, None, Result, Ok, Err, List, [], ◌∷◌, ◌++◌, length, map, position}
 use Rattle.std.specs.List.{AllByRecursion}
 use Rattle.crdt_rows.specs.declared.any_row.AnyRow.{AnyRow}
 use Rattle.crdt_rows.specs.AnyRow.{any_join}
@@ -7,10 +7,13 @@ use Rattle.object_schema.specs.Schema.{words}
 use Rattle.cluster_machine.specs.Ties as ties
 use Rattle.cluster_machine.specs.declared.step.Step.{Step}
 use Rattle.cluster_machine.specs.declared.step.Step.TheVariants as step
-use Rattle.cluster_machine.specs.declared.step.Words.TheVariants.{Empty}
+use Rattle.layout_roles.specs.declared.cut.Cut.{Cut}
+use Rattle.cluster_machine.specs.declared.step.Refusal.{Refusal}
+use Rattle.cluster_machine.specs.declared.step.Words.TheVariants.{Empty, One}
 use Rattle.cluster_machine.specs.Choices.{Decision}
 use Rattle.cluster_machine.specs.Worlds.{IsMeant, IsLawfulStep, FitAll}
 use Rattle.history_model.specs.declared.record.Kind.{Kind}
+use Rattle.flow_model.specs.declared.order.Order.{Order}
 use Rattle.flow_model.specs.declared.flow.Flow.{Flow}
 use Rattle.flow_model.specs.declared.flow.FlowEnd.{FlowEnd}
 use Rattle.store_model.specs.declared.event.Event.{Event}
@@ -18,7 +21,7 @@ use Rattle.store_model.specs.declared.event.Event.TheVariants.{Block, Role, Redu
 use Rattle.store_model.specs.declared.event.Told.{Told}
 use Rattle.store_model.specs.Answers.{record_of, line_of}
 use Rattle.store_model.specs.Run.{State, Asked as Waiting, Outcome}
-use Rattle.store_model.specs.Acts.{plain, IsLawfulAct}
+use Rattle.store_model.specs.Acts.{plain, asks, acted, IsLawfulAct}
 use Rattle.store_model.specs.Events.{act_of, outcome}
 use Rattle.store_model.specs.Turns.{FitsOutcome}
 use Rattle.world_core.specs.declared.report.Report.{Report}
@@ -29,6 +32,10 @@ use Rattle.s3_world.specs.declared.world.S3World.{S3World}
 -- what the code keeps of a request
 abbrev pub kept : Waiting → Asked
 kept m = record { node = m.node; kind = m.kind; flow = m.flow }
+
+-- the place of the end of a request among the ends
+abbrev pub place_in : List (ℕ × FlowEnd) → ℕ → Option ℕ
+place_in ends q = position (λ e. e.0 == q) ends
 
 -- if the request goes on, its blocks have bytes
 abbrev pub IsSized : Option Flow → Type 0
@@ -41,6 +48,7 @@ pub record IsStore (c : S3World) (s : State) : Type 0 where
   pub buckets : c.buckets ≡ s.buckets
   pub block : c.block ≡ s.block
   pub requests : c.requests ≡ map kept s.asked
+  pub ends : c.ends ≡ s.ends
   pub history : c.history.0 ≡ s.history
   pub sized : 0 < s.block
   pub flows : AllByRecursion (λ (a : Asked). IsSized a.flow) c.requests
@@ -81,7 +89,24 @@ pub record Does (new : S3World) (told : Told) (s : State) (o : Outcome) : Type 0
 abbrev pub Plays : S3World → S3World → Told → (State → Outcome) → Type 0
 Plays old new told f = ties.Steps IsStore old (λ s. Does new told s (f s))
 
--- the same, of the states with a property
+-- from old to new the code did what this outcome says, whatever state old stood for, and tells nothing
+abbrev pub Carries : S3World → S3World → (State → Outcome) → Type 0
+Carries old new f = ties.Steps IsStore old (λ s. IsStore new (f s).state × FitAll any_join words s.world (f s).moves)
+
+-- the same of an outcome without steps of the world
+abbrev pub Becomes : S3World → S3World → (State → Outcome) → Type 0
+Becomes old new f = ties.Steps IsStore old (λ s. IsStore new (f s).state)
+
+-- an outcome opened a request with this number, or was refused so
+abbrev pub Answers : Result ℕ (Refusal Cut) → Outcome → Type 0
+Answers (Ok number) o = (o.refused ≡ None) × (o.words ≡ One number)
+Answers (Err reason) o = o.refused ≡ Some reason
+
+-- a request was begun at a node, or refused, whatever state old stood for
+abbrev pub Starts : S3World → S3World → Result ℕ (Refusal Cut) → ℕ → Order → Type 0
+Starts old new answer node order = ties.Steps IsStore old (λ s. let o = acted s (asks node order) in IsStore new o.state × FitAll any_join words s.world o.moves × Answers answer o)
+
+-- the same as Plays, of the states with a property
 abbrev pub PlaysIf : (State → Type 0) → S3World → S3World → Told → (State → Outcome) → Type 0
 PlaysIf Has old new told f = (s : State) → IsStore old s → Has s → Does new told s (f s)
 
@@ -133,9 +158,9 @@ pub record EventLacksRoom (s : State) (event : Event) : Type 0 where
 abbrev pub OverflowsEvent : S3World → Event → Type 0
 OverflowsEvent old event = ties.Steps IsStore old (λ s. EventLacksRoom s event)
 
--- request q was closed in the world, its record stands last in the history, and its line is told
+-- request q was closed in the world, its end and its record stand last, and its line is told
 pub record Finishes (old new : S3World) (told : Told) (q : ℕ) (kind : Kind) (end : FlowEnd) : Type 0 where
   pub report : Report AnyRow
   pub closes : Steps any_join words old.world new.world report (step.Close q)
-  pub rest : new ≡ record old { world = new.world; history = record { 0 = old.history.0 ++ record_of q end ∷ [] } }
+  pub rest : new ≡ record old { world = new.world; ends = old.ends ++ (q, end) ∷ []; history = record { 0 = old.history.0 ++ record_of q end ∷ [] } }
   pub tells : told ≡ record { refused = None; words = Empty; lines = line_of q kind end ∷ [] }

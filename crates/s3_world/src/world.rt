@@ -1,5 +1,5 @@
 //! The state of a run as code, and its acts.
-ghost use Rattle.std.specs.Prelude.{◌≡◌, [], ◌∷◌, ◌++◌, ◌<◌, ◌≤◌, ◌⊎◌, ◌+◌, ◌^◌, length, map, slice_get, slice_set, option_map, true, OnOk, IfOk, IfErr, IfSome, IfNone, Some, None, IsTrue};
+ghost use Rattle.std.specs.Prelude.{◌≡◌, [], ◌∷◌, ◌++◌, ◌<◌, ◌≤◌, ◌⊎◌, ◌+◌, ◌^◌, length, map, slice_get, slice_set, option_map, true, OnOk, OnErr, IfOk, IfErr, IfSome, IfNone, Some, None, IsTrue};
 ghost use Rattle.crdt_core.specs.Outcomes.{OnlyWant, WantOr};
 ghost use Rattle.blake2_hash.specs.Blake2b.{blake2b};
 ghost use Rattle.object_schema.specs.Schema.{words};
@@ -9,7 +9,9 @@ ghost use Rattle.cluster_machine.specs.declared.step.Words.TheVariants.{Empty};
 ghost use Rattle.cluster_machine.specs.declared.step.Step.TheVariants as step;
 ghost use Rattle.cluster_machine.specs.World.{is_member_at, undelivered, sent_bytes, node_line, numbered};
 ghost use Rattle.cluster_machine.specs.Layouts.{layouts};
+ghost use Rattle.view_model.specs.Layouts.{reading};
 ghost use Rattle.cluster_machine.specs.Blocks.{StepBringsBlocks};
+ghost use Rattle.cluster_machine.specs.Choices.{IsFirst};
 ghost use Rattle.cluster_machine.specs.Worlds.{IsMeant};
 ghost use Rattle.history_model.specs.declared.record.Cause.TheVariants.{Restarted};
 ghost use Rattle.history_model.specs.declared.record.Record.TheVariants.{Ended as HasEnded};
@@ -18,7 +20,8 @@ ghost use Rattle.crdt_rows.specs.AnyRow.{any_join};
 ghost use Rattle.world_core.specs.Nodes.{shown_line};
 ghost use Rattle.world_core.specs.Stands.{ended, IsWorld, Overflows as WorldOverflows};
 ghost use Rattle.store_model.specs.Run.{State, start as nothing_yet, begins, opened, follow, goes_on, delivers, drains, silent};
-ghost use Rattle.s3_world.specs.Stands.{IsMeantEvent, IsQuiet, Finishes};
+ghost use Rattle.store_model.specs.Acts.{HasKey, acted, installs, asks, drain, forgets, takes, end_of, without_end, all_messages};
+ghost use Rattle.s3_world.specs.Stands.{place_in, IsMeantEvent, IsQuiet, Finishes};
 
 use crate::answers::{line_of, record_of};
 use crate::asked::Asked;
@@ -30,7 +33,7 @@ use crdt_core::{Bytes, List, Memory, Value};
 use crdt_rows::AnyRow;
 use flow_model::{Flow, FlowEnd, FlowStep, Order};
 use history_model::{Cause, History, Kind, Record};
-use layout_roles::{Kind as RoleKind, Zone};
+use layout_roles::{Kind as RoleKind, Layout, Zone};
 use object_schema::S3Schema;
 use s3_flow::{next, start};
 use std::alloc::Global;
@@ -51,6 +54,8 @@ pub struct S3World {
     block: u32,
     /// Request q is at place q - 1.
     requests: List<Asked>,
+    /// How requests ended by themselves, until that is taken.
+    ends: List<(u64, FlowEnd)>,
     history: History,
 }
 
@@ -64,6 +69,13 @@ fn place(number: u64, count: usize) -> Option<usize>
     } else {
         None
     }
+}
+
+// The place of the end of a request among those that weren't taken.
+fn place_of(ends: &[(u64, FlowEnd)], request: u64) -> Option<usize>
+    ensures { result ≡ place_in ends.now request }
+{
+    ends.iter().position(|end| end.0 == request)
 }
 
 // An event that was accepted, and has no words.
@@ -105,7 +117,7 @@ fn push_lost(history: &mut List<Record>, lost: &[u64]) -> Result<(), Memory>
 impl S3World {
     ghost use Rattle.flow_model.specs.declared.flow.Flow.{Flow};
     ghost use Rattle.s3_world.specs.declared.asked.Asked.{Asked};
-    ghost use Rattle.s3_world.specs.Stands.{IsStore, HasStore, Plays, PlaysIf, PlaysStep, PlaysEvent, Overflows, OverflowsIf, OverflowsStep, OverflowsEvent};
+    ghost use Rattle.s3_world.specs.Stands.{IsStore, HasStore, Becomes, Carries, Starts, Plays, PlaysIf, PlaysStep, PlaysEvent, Overflows, OverflowsIf, OverflowsStep, OverflowsEvent};
 
     /// Nothing has happened.
     pub fn new(alloc: Global) -> Result<S3World, Memory>
@@ -118,6 +130,7 @@ impl S3World {
             buckets: List::new(alloc),
             block: BLOCK_SIZE,
             requests: List::new(alloc),
+            ends: List::new(alloc),
             history: History(List::new(alloc)),
         })
     }
@@ -163,6 +176,64 @@ impl S3World {
         ensures { (s : State) → IsStore self.now s → result.now.0 ≡ s.history }
     {
         &self.history
+    }
+
+    /// Puts a first layout into the views of its nodes, all or none; from then on version 1 counts as applied.
+    pub fn install(&mut self, first: Layout, nodes: &[u8]) -> Result<(), Memory>
+        requires stands { HasStore self.old }
+        requires unused { (s : State) → IsStore self.old s → s.world.applied ≡ 0 }
+        requires greatest { IsFirst first }
+        requires members { nodes.now ≡ reading.members first }
+        ensures installed { OnOk result (Becomes self.old self.new (λ s. acted s (installs first))) }
+        ensures unchanged { OnErr result (Becomes self.old self.new silent) }
+        ensures want { OnlyWant result }
+    {
+        self.world.install(first, nodes)
+    }
+
+    /// Opens a request at a node and gives its number, or says why not.
+    pub fn start(&mut self, node: u8, order: Order) -> Result<Result<u64, Refusal>, Memory>
+        requires stands { HasStore self.old }
+        requires keyed { HasKey order }
+        ensures starts { IfOk result (λ answer. Starts self.old self.new answer node order) }
+        ensures causes { WantOr result (Overflows self.old (λ s. acted s (asks node order))) }
+    {
+        let told = self.begins(node, order)?;
+        match (told.refused, told.words) {
+            (Some(reason), _) => Ok(Err(reason)),
+            (None, Words::One(number)) => Ok(Ok(number)),
+            (None, _) => unreachable!(),
+        }
+    }
+
+    /// How a request ended by itself. None where it never began, is open, was expired or lost by a restart, or its end was
+    /// taken.
+    pub fn take_end(&mut self, request: u64) -> Option<FlowEnd>
+        ensures end { (s : State) → IsStore self.old s → result ≡ end_of s.ends request }
+        ensures taken { Becomes self.old self.new (λ s. acted s (takes request)) }
+    {
+        match place_of(self.ends.as_slice(), request) {
+            Some(i) => Some(self.ends.remove(i).1),
+            None => None,
+        }
+    }
+
+    /// Delivers the least message that was neither delivered nor lost, until none is left.
+    pub fn drain_all(&mut self) -> Result<(), Memory>
+        requires stands { HasStore self.old }
+        ensures drained { OnOk result (Carries self.old self.new (λ s. acted s (drain all_messages))) }
+        ensures causes { WantOr result (Overflows self.old (λ s. acted s (drain all_messages))) }
+    {
+        let _ = self.drains(u64::MAX)?;
+        Ok(())
+    }
+
+    /// From here on a delivered message counts as lost, and takes no room.
+    pub fn forget_delivered(&mut self)
+        requires stands { HasStore self.old }
+        ensures { Becomes self.old self.new (λ s. acted s forgets) }
+    {
+        self.world.forget_delivered();
     }
 
     /// Takes the next event. After an error the world is to be given up.
@@ -229,7 +300,7 @@ impl S3World {
             }
             Event::Deliver(message) => self.delivers(*message),
             Event::Lose(message) => self.plain(Step::Lose(*message)),
-            Event::Drain(count) => self.drains(*count),
+            Event::Drain(count) => self.drains(u64::from(*count)),
             Event::Expire(request) => self.expire(*request),
             Event::Restart(node) => self.restart(*node),
             Event::Gossip { from, to } => self.plain(Step::Gossip {
@@ -377,6 +448,7 @@ impl S3World {
         let line = line_of(self.alloc, request, kind, &end)?;
         let mut lines = List::new(self.alloc);
         lines.push(line)?;
+        self.ends.push((request, end))?;
         Ok(accepted(lines))
     }
 
@@ -442,7 +514,7 @@ impl S3World {
     }
 
     // Delivers the least message that was neither delivered nor lost, up to `count` times.
-    fn drains(&mut self, count: u32) -> Result<Told, Memory>
+    fn drains(&mut self, count: u64) -> Result<Told, Memory>
         requires stands { HasStore self.old }
         ensures plays { IfOk result (λ told. Plays self.old self.new told (λ s. drains count s)) }
         ensures causes { WantOr result (Overflows self.old (λ s. drains count s)) }

@@ -8,6 +8,8 @@ use std::alloc::AllocError;
 pub enum ScheduleFault {
     /// The first line outside the grammar, counted from 1.
     BadLine(u64),
+    /// More events than a schedule may have, before any line outside the grammar.
+    TooManyEvents,
     /// The allocator had none to give.
     Memory,
 }

@@ -1,9 +1,9 @@
-//! Reads a schedule: the events that its lines spell, or the first line outside the grammar.
+//! Reads a schedule: the events that its lines spell, at most 100,000, or the first line outside the grammar.
 //!
 //! `parse` goes line by line. A line is cut at its spaces (`event_line`); its first word says which
 //! event it is (`line_kind`), and the others are numbers (`numbers`), names (`names`), a request's node, bucket and key
 //! (`places`) and roles (`roles`) in their ranges. Empty lines and those that begin with `#` are no events, but count as lines. `every_text_reads` is the
-//! law that each text is a schedule or has a first bad line.
+//! law that each text is a schedule, has a first bad line, or has too many events.
 #![tactic(auto)]
 
 mod event_line;
@@ -18,5 +18,5 @@ mod schedule;
 
 pub use fault::ScheduleFault;
 pub use laws::every_text_reads;
-pub use schedule::parse;
+pub use schedule::{EVENTS_LIMIT, parse};
 pub use store_model::{Event, Numbered};

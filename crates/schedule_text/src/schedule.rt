@@ -1,14 +1,17 @@
 //! The lines of a schedule, one by one.
 ghost use Rattle.std.specs.Prelude.{◌≡◌, ◌==◌, ◌<◌, ℕ, ◌∷◌, length, position, IsTrue, IfOk, OnOk};
 ghost use Rattle.text_model.specs.Grammar.{lines_of, is_blank};
-ghost use Rattle.text_model.specs.Reading.{IsSchedule, IsFirstBadLine};
-ghost use Rattle.schedule_text.specs.Schedule.{AddsEvent, IsBad};
+ghost use Rattle.text_model.specs.Reading.{events_limit, IsSchedule, IsFirstBadLine, HasTooManyEvents};
+ghost use Rattle.schedule_text.specs.Schedule.{AddsEvent, IsBad, IsOver};
 
 use crate::event_line::event_line;
 use crate::fault::{LineFault, ScheduleFault};
 use crdt_core::List;
 use std::alloc::Global;
 use store_model::Numbered;
+
+/// How many events a schedule may have.
+pub const EVENTS_LIMIT: usize = 100_000;
 
 fn line_feed(text: &[u8]) -> Option<usize>
     ensures { result ≡ position (λ b. b == 10) text.now }
@@ -38,7 +41,7 @@ fn is_blank(line: &[u8]) -> bool
     }
 }
 
-/// Adds the event that a line spells, where it isn't blank.
+/// Adds the event that a line spells, where it isn't blank and there is room.
 fn read_line(
     alloc: Global,
     number: u64,
@@ -47,12 +50,16 @@ fn read_line(
 ) -> Result<(), ScheduleFault>
     ensures ok { OnOk result (AddsEvent number line.now events.old events.new) }
     ensures bad { (n : ℕ) → result ≡ Err (ScheduleFault.BadLine n) → (n ≡ number) × IsBad line.now }
+    ensures over { result ≡ Err ScheduleFault.TooManyEvents → IsOver line.now events.old }
 {
     if is_blank(line) {
         return Ok(());
     }
     match event_line(alloc, line) {
         Ok(event) => {
+            if events.len() >= EVENTS_LIMIT {
+                return Err(ScheduleFault::TooManyEvents);
+            }
             events.push(Numbered {
                 line: number,
                 event,
@@ -64,11 +71,12 @@ fn read_line(
     }
 }
 
-/// The events of a schedule, each with the number of its line, counted from 1. Empty lines and those
+/// The events of a schedule, each with the number of its line, counted from 1: at most 100,000. Empty lines and those
 /// that begin with `#` are no events, but count; the last line may lack its line feed.
 pub fn parse(alloc: Global, text: &[u8]) -> Result<List<Numbered>, ScheduleFault>
     ensures events { IfOk result (IsSchedule text.now) }
     ensures bad_line { (n : ℕ) → result ≡ Err (ScheduleFault.BadLine n) → IsFirstBadLine text.now n }
+    ensures too_many { result ≡ Err ScheduleFault.TooManyEvents → HasTooManyEvents text.now }
 {
     let mut events = List::new(alloc);
     let mut rest = text;

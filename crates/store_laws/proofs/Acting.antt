@@ -55,7 +55,7 @@ use Rattle.store_laws.proofs.Ends.{IsEnd, HasRead}
 use Rattle.store_laws.proofs.Flows.{saw_sound}
 use Rattle.store_laws.proofs.Finishing.{IsEndOf}
 use Rattle.store_laws.proofs.Rows.{IsInBlocks, SaysWritten}
-use Rattle.store_laws.proofs.Values.{version_end, given_good, read_written, inline_found, blocks_found, none_end, marked_end}
+use Rattle.store_laws.proofs.Values.{gave_drawn, version_end, given_good, read_written, inline_found, blocks_found, none_end, marked_end}
 use Rattle.store_laws.proofs.Enders.{finishes_keeps, one_end, read_end, nothing_end, stored_end}
 use Rattle.store_laws.proofs.Going.{flow_of, waits_keeps, writes_keeps, uploading_keeps, block_keeps, completes_keeps, draws_keeps, opens_keeps, fetches_keeps, scans_keeps}
 
@@ -67,14 +67,14 @@ own_head : (k : Kind) → k ≡ kind.Head → (mine key : List ℕ) → IsTrue (
 own_head k e mine key h = same_bytes mine key (subst (λ (k : Kind). IsTrue (names k mine key)) e h)
 
 -- what is said of a version's blocks, where the value is of a good row
-value_named : (draws : List Draw) (value : Option AnyRow) (size : ℕ) → ((row : AnyRow) → value ≡ Some row → IsGood draws row) → NamedHave (named_by value size)
+pub value_named : (draws : List Draw) (value : Option AnyRow) (size : ℕ) → ((row : AnyRow) → value ≡ Some row → IsGood draws row) → NamedHave (named_by value size)
 value_named draws None size good = tt
 value_named draws (Some (rows.Object r)) size good = tt
 value_named draws (Some (rows.Version r)) size good = row_named r size (good (rows.Version r) refl).0
 value_named draws (Some (rows.Ref r)) size good = tt
 
 -- a number of a request is one of the code's
-number_fits : (s : State) (q : ℕ) (a : Asked) (e : Effect AnyRow) → numbered s.asked q ≡ Some a → IsSound s → Fits words (applied s.world e) → q < 2 ^ 64
+pub number_fits : (s : State) (q : ℕ) (a : Asked) (e : Effect AnyRow) → numbered s.asked q ≡ Some a → IsSound s → Fits words (applied s.world e) → q < 2 ^ 64
 number_fits s q a e at sound fits =
     let within : q ≤ length s.asked = numbered_within s.asked q a at in
     let lengths : length s.asked ≡ length s.world.requests = sound.lengths in
@@ -194,11 +194,14 @@ module _ (every : EveryWorld) (s : State) (q : ℕ) (a : Asked) (at : numbered s
   abbrev pub seeing : PhaseEnd AnyRow → State
   seeing end = record s { saw = record { request = q; end = end } ∷ s.saw }
 
-  seen_sound : (end : PhaseEnd AnyRow) → IsSound (seeing end)
-  seen_sound end = saw_sound s (record { request = q; end = end }) sound
+  abbrev pub HasEnded : PhaseEnd AnyRow → Type 0
+  HasEnded end = IsEnd s.asked s.draws s.history s.saw s.world.kept s.world.reads q end
 
-  goes_waiting : (stage : Stage) (end : PhaseEnd AnyRow) → a.flow ≡ Some (flow_of q block stage) → IsSound (record (seeing end) { asked = set_flow s q a (Some (flow_of q block stage)) })
-  goes_waiting stage end flow_is = waits_keeps every (seeing end) q a at rests block stage flow_is (seen_sound end)
+  seen_sound : (end : PhaseEnd AnyRow) → HasEnded end → IsSound (seeing end)
+  seen_sound end h = saw_sound s (record { request = q; end = end }) (gave_drawn every s q sound end h) sound
+
+  goes_waiting : (stage : Stage) (end : PhaseEnd AnyRow) → a.flow ≡ Some (flow_of q block stage) → HasEnded end → IsSound (record (seeing end) { asked = set_flow s q a (Some (flow_of q block stage)) })
+  goes_waiting stage end flow_is h = waits_keeps every (seeing end) q a at rests block stage flow_is (seen_sound end h)
 
   -- what a flow's step keeps, an equal one keeps
   abbrev pub StepKeeps : State → List Draw → FlowStep → Type 0
@@ -211,13 +214,13 @@ module _ (every : EveryWorld) (s : State) (q : ℕ) (a : Asked) (at : numbered s
       let v : Version = drawn q value time in
       let d : Draw = record { request = q; name = name; version = v; wish = wish.Content c; block = block; moment = length s.history } in
       (elim (is_long c.body) as (λ b. StepKeeps now (d ∷ []) (elim b as (λ b. FlowStep) [ true ↦ more q block (Uploading name v c 0) (stores (uploading name v)) | false ↦ completes q block name v (wish.Content c) ])) [
-        | true ↦ λ fits. uploading_keeps every now q a at rests block name c value time name_is fits_kind fits (seen_sound (Answered value))
-        | false ↦ λ fits. writes_keeps every now q a at rests block name (wish.Content c) value time (Some (meta_of c)) name_is fits_kind fits (seen_sound (Answered value))
+        | true ↦ λ fits. uploading_keeps every now q a at rests block name c value time name_is fits_kind fits (seen_sound (Answered value) end)
+        | false ↦ λ fits. writes_keeps every now q a at rests block name (wish.Content c) value time (Some (meta_of c)) name_is fits_kind fits (seen_sound (Answered value) end)
       ]) fits
 
   drawing_keeps : (name : Name) (w : Wish) (value : Option AnyRow) → Keeps (Drawing name w) (Answered value)
   drawing_keeps name wish.Marker value flow_is stage fits end =
-      writes_keeps every (seeing (Answered value)) q a at rests block name wish.Marker value (clock s.world a.node) None stage.0 stage.1 fits (seen_sound (Answered value))
+      writes_keeps every (seeing (Answered value)) q a at rests block name wish.Marker value (clock s.world a.node) None stage.0 stage.1 fits (seen_sound (Answered value) end)
   drawing_keeps name (wish.Content c) value flow_is stage fits end = content_keeps name c value stage.0 stage.1 flow_is stage fits end
 
   -- the next block is stored, or the complete version
@@ -228,45 +231,45 @@ module _ (every : EveryWorld) (s : State) (q : ℕ) (a : Asked) (at : numbered s
       let id_is : version.id ≡ q = (sound.drawn d stage.1.drawn).id_is in
       (elim (has_piece block c.body stored) as (λ b. StepKeeps now [] (elim b as (λ b. FlowStep) [ true ↦ more q block (Uploading name version c (suc stored)) (Store (block_rows version.id block c.body stored)) | false ↦ completes q block name version (wish.Content c) ])) [
         | true ↦ λ fits.
-            block_keeps every now q a at rests block name version c stored (subst (λ (i : ℕ). i < 2 ^ 64) (sym id_is) (number_fits s q a (effect now (phases q (Store (block_rows version.id block c.body stored)))) at sound fits.0.0)) stage fits (seen_sound Kept)
-        | false ↦ λ fits. completes_keeps every now q a at rests block name version c stored stage fits (seen_sound Kept)
+            block_keeps every now q a at rests block name version c stored (subst (λ (i : ℕ). i < 2 ^ 64) (sym id_is) (number_fits s q a (effect now (phases q (Store (block_rows version.id block c.body stored)))) at sound fits.0.0)) stage fits (seen_sound Kept end)
+        | false ↦ λ fits. completes_keeps every now q a at rests block name version c stored stage fits (seen_sound Kept end)
       ]) fits
 
   -- a request whose phase ended so
   pub stage_keeps : (stage : Stage) (end : PhaseEnd AnyRow) → Keeps stage end
   stage_keeps (Drawing name w) (Answered value) flow_is stage fits end = drawing_keeps name w value flow_is stage fits end
-  stage_keeps (Drawing name w) (Window rows more) flow_is stage fits end = goes_waiting (Drawing name w) (Window rows more) flow_is
-  stage_keeps (Drawing name w) Kept flow_is stage fits end = goes_waiting (Drawing name w) Kept flow_is
-  stage_keeps (Drawing name w) (Block bytes) flow_is stage fits end = goes_waiting (Drawing name w) (Block bytes) flow_is
-  stage_keeps (Uploading name version content stored) (Answered value) flow_is stage fits end = goes_waiting (Uploading name version content stored) (Answered value) flow_is
-  stage_keeps (Uploading name version content stored) (Window rows more) flow_is stage fits end = goes_waiting (Uploading name version content stored) (Window rows more) flow_is
+  stage_keeps (Drawing name w) (Window rows more) flow_is stage fits end = goes_waiting (Drawing name w) (Window rows more) flow_is end
+  stage_keeps (Drawing name w) Kept flow_is stage fits end = goes_waiting (Drawing name w) Kept flow_is end
+  stage_keeps (Drawing name w) (Block bytes) flow_is stage fits end = goes_waiting (Drawing name w) (Block bytes) flow_is end
+  stage_keeps (Uploading name version content stored) (Answered value) flow_is stage fits end = goes_waiting (Uploading name version content stored) (Answered value) flow_is end
+  stage_keeps (Uploading name version content stored) (Window rows more) flow_is stage fits end = goes_waiting (Uploading name version content stored) (Window rows more) flow_is end
   stage_keeps (Uploading name version content stored) Kept flow_is stage fits end = uploads_keeps name version content stored flow_is stage fits end
-  stage_keeps (Uploading name version content stored) (Block bytes) flow_is stage fits end = goes_waiting (Uploading name version content stored) (Block bytes) flow_is
-  stage_keeps (Completing version meta) (Answered value) flow_is stage fits end = goes_waiting (Completing version meta) (Answered value) flow_is
-  stage_keeps (Completing version meta) (Window rows more) flow_is stage fits end = goes_waiting (Completing version meta) (Window rows more) flow_is
+  stage_keeps (Uploading name version content stored) (Block bytes) flow_is stage fits end = goes_waiting (Uploading name version content stored) (Block bytes) flow_is end
+  stage_keeps (Completing version meta) (Answered value) flow_is stage fits end = goes_waiting (Completing version meta) (Answered value) flow_is end
+  stage_keeps (Completing version meta) (Window rows more) flow_is stage fits end = goes_waiting (Completing version meta) (Window rows more) flow_is end
   stage_keeps (Completing version meta) Kept flow_is stage fits end =
       let now : State = seeing Kept in
       finishes_keeps every now q a at rests (Stored version meta) fits (λ n x is. one_end every now q a at rests (answer.Version version) x n
-      (stored_end every now q a at rests (flow_of q block (Completing version meta)) version meta flow_is refl (seen_sound Kept) stage end) is) (seen_sound Kept)
-  stage_keeps (Completing version meta) (Block bytes) flow_is stage fits end = goes_waiting (Completing version meta) (Block bytes) flow_is
+      (stored_end every now q a at rests (flow_of q block (Completing version meta)) version meta flow_is refl (seen_sound Kept end) stage end) is) (seen_sound Kept end)
+  stage_keeps (Completing version meta) (Block bytes) flow_is stage fits end = goes_waiting (Completing version meta) (Block bytes) flow_is end
   stage_keeps (Looking name aim) (Answered value) flow_is stage fits end =
-      looked_keeps every (seeing (Answered value)) q a at rests block (seen_sound (Answered value)) name value end (0, omega arith, refl) aim (said_of value) flow_is stage refl fits
-  stage_keeps (Looking name aim) (Window rows more) flow_is stage fits end = goes_waiting (Looking name aim) (Window rows more) flow_is
-  stage_keeps (Looking name aim) Kept flow_is stage fits end = goes_waiting (Looking name aim) Kept flow_is
-  stage_keeps (Looking name aim) (Block bytes) flow_is stage fits end = goes_waiting (Looking name aim) (Block bytes) flow_is
+      looked_keeps every (seeing (Answered value)) q a at rests block (seen_sound (Answered value) end) name value end (0, omega arith, refl) aim (said_of value) flow_is stage refl fits
+  stage_keeps (Looking name aim) (Window rows more) flow_is stage fits end = goes_waiting (Looking name aim) (Window rows more) flow_is end
+  stage_keeps (Looking name aim) Kept flow_is stage fits end = goes_waiting (Looking name aim) Kept flow_is end
+  stage_keeps (Looking name aim) (Block bytes) flow_is stage fits end = goes_waiting (Looking name aim) (Block bytes) flow_is end
   stage_keeps (Opening version meta aim) (Answered value) flow_is stage fits end =
       let now : State = seeing (Answered value) in
-      opened_keeps every now q a at rests block (seen_sound (Answered value)) aim version meta (named_by value meta.size) flow_is stage.0 stage.1 stage.2
-      (value_named s.draws value meta.size (given_good every now q (seen_sound (Answered value)) value end)) fits
-  stage_keeps (Opening version meta aim) (Window rows more) flow_is stage fits end = goes_waiting (Opening version meta aim) (Window rows more) flow_is
-  stage_keeps (Opening version meta aim) Kept flow_is stage fits end = goes_waiting (Opening version meta aim) Kept flow_is
-  stage_keeps (Opening version meta aim) (Block bytes) flow_is stage fits end = goes_waiting (Opening version meta aim) (Block bytes) flow_is
-  stage_keeps (Gathering version meta aim left body) (Answered value) flow_is stage fits end = goes_waiting (Gathering version meta aim left body) (Answered value) flow_is
-  stage_keeps (Gathering version meta aim left body) (Window rows more) flow_is stage fits end = goes_waiting (Gathering version meta aim left body) (Window rows more) flow_is
-  stage_keeps (Gathering version meta aim left body) Kept flow_is stage fits end = goes_waiting (Gathering version meta aim left body) Kept flow_is
+      opened_keeps every now q a at rests block (seen_sound (Answered value) end) aim version meta (named_by value meta.size) flow_is stage.0 stage.1 stage.2
+      (value_named s.draws value meta.size (given_good every now q (seen_sound (Answered value) end) value end)) fits
+  stage_keeps (Opening version meta aim) (Window rows more) flow_is stage fits end = goes_waiting (Opening version meta aim) (Window rows more) flow_is end
+  stage_keeps (Opening version meta aim) Kept flow_is stage fits end = goes_waiting (Opening version meta aim) Kept flow_is end
+  stage_keeps (Opening version meta aim) (Block bytes) flow_is stage fits end = goes_waiting (Opening version meta aim) (Block bytes) flow_is end
+  stage_keeps (Gathering version meta aim left body) (Answered value) flow_is stage fits end = goes_waiting (Gathering version meta aim left body) (Answered value) flow_is end
+  stage_keeps (Gathering version meta aim left body) (Window rows more) flow_is stage fits end = goes_waiting (Gathering version meta aim left body) (Window rows more) flow_is end
+  stage_keeps (Gathering version meta aim left body) Kept flow_is stage fits end = goes_waiting (Gathering version meta aim left body) Kept flow_is end
   stage_keeps (Gathering version meta aim left body) (Block bytes) flow_is stage fits end =
-      gathers_keeps every (seeing (Block bytes)) q a at rests block (seen_sound (Block bytes)) aim version meta left (body ++ bytes) stage.0 stage.1 stage.2 stage.3 fits
-  stage_keeps (Listing bucket prefix rows) (Answered value) flow_is stage fits end = goes_waiting (Listing bucket prefix rows) (Answered value) flow_is
+      gathers_keeps every (seeing (Block bytes)) q a at rests block (seen_sound (Block bytes) end) aim version meta left (body ++ bytes) stage.0 stage.1 stage.2 stage.3 fits
+  stage_keeps (Listing bucket prefix rows) (Answered value) flow_is stage fits end = goes_waiting (Listing bucket prefix rows) (Answered value) flow_is end
   stage_keeps (Listing bucket prefix rows) (Window others reach) flow_is stage fits end =
       let now : State = seeing (Window others reach) in
       let w = end.is_scanning.waits in
@@ -277,8 +280,8 @@ module _ (every : EveryWorld) (s : State) (q : ℕ) (a : Asked) (at : numbered s
       let scans : ScansFor s.draws s.history s.saw q (Listing bucket prefix rows) end.scan = subst (λ (f : Flow). ScansFor s.draws s.history s.saw q f.stage end.scan) same end.is_scanning.scans in
       let own : Name = record { bucket = bucket; key = prefix } in
       let shown : HasShown now.draws now.history now.saw q own (rows ++ shown_rows others) reach =
-      window_shown every now q (seen_sound (Window others reach)) bucket prefix rows others reach end.scan end.is_there scans.0 scans.1 end.is_scanning.has end.is_scanning.proper
+      window_shown every now q (seen_sound (Window others reach) end) bucket prefix rows others reach end.scan end.is_there scans.0 scans.1 end.is_scanning.has end.is_scanning.proper
       (shown_seen s.draws s.history s.saw (record { request = q; end = Window others reach }) q own rows (Some end.scan.after) scans.2) (0, omega arith, refl) in
-      lists_keeps every now q a at rests block (seen_sound (Window others reach)) bucket prefix (rows ++ shown_rows others) reach stage shown fits
-  stage_keeps (Listing bucket prefix rows) Kept flow_is stage fits end = goes_waiting (Listing bucket prefix rows) Kept flow_is
-  stage_keeps (Listing bucket prefix rows) (Block bytes) flow_is stage fits end = goes_waiting (Listing bucket prefix rows) (Block bytes) flow_is
+      lists_keeps every now q a at rests block (seen_sound (Window others reach) end) bucket prefix (rows ++ shown_rows others) reach stage shown fits
+  stage_keeps (Listing bucket prefix rows) Kept flow_is stage fits end = goes_waiting (Listing bucket prefix rows) Kept flow_is end
+  stage_keeps (Listing bucket prefix rows) (Block bytes) flow_is stage fits end = goes_waiting (Listing bucket prefix rows) (Block bytes) flow_is end

@@ -33,7 +33,7 @@ use Rattle.flow_model.specs.Flow.{asks_for, asks_past}
 use Rattle.flow_model.specs.Next.{next}
 use Rattle.store_model.specs.Orders.{buckets_of}
 use Rattle.store_model.specs.Run.{Moving, State, start, Asked, Draw, Outcome, silent, refusal, plainly, effect, doing, is_bucket, are_buckets, phases, new_request, opened, begins, draws_of, takes, follows, follow, goes_on, delivers, then_drains, drains}
-use Rattle.store_model.specs.Acts.{Act, moves, asks, delivery, drain, adds, cuts, endings, plain, acted, after_acts, IsOuter, HasKey, IsLawfulAct, AreLawfulActs, ActsFit}
+use Rattle.store_model.specs.Acts.{Act, moves, installs, asks, delivery, drain, forgets, takes as takes_end, without_end, adds, cuts, endings, plain, acted, after_acts, IsOuter, HasKey, IsLawfulAct, AreLawfulActs, ActsFit}
 use Rattle.store_model.specs.Fresh.{IsFresh}
 use Rattle.store_laws.proofs.Elements.{bucket_in, none_in}
 use Rattle.store_laws.proofs.Calm.{IsCalmStep}
@@ -49,12 +49,12 @@ use Rattle.history_model.specs.Record.{is_write}
 use Rattle.store_laws.proofs.Reached.{reached_different}
 use Rattle.store_laws.proofs.Grown.{Rests}
 use Rattle.store_laws.proofs.Ends.{IsEnd}
-use Rattle.store_laws.proofs.Stepping.{step_sound, calm_fine, calm_ends}
+use Rattle.store_laws.proofs.Stepping.{step_sound, installing_sound, calm_fine, calm_ends}
 use Rattle.store_laws.proofs.Beginning.{asks_fine, scans_fine}
 use Rattle.store_laws.proofs.Opening.{beginning, opening, opened_sound, new_there}
 use Rattle.store_laws.proofs.Finishing.{ended_sound}
 use Rattle.store_laws.proofs.Enders.{is_calm}
-use Rattle.store_laws.proofs.Starting.{start_sound, bucket_sound, block_sound}
+use Rattle.store_laws.proofs.Starting.{start_sound, bucket_sound, block_sound, ends_sound, forgetting_sound}
 use Rattle.store_laws.proofs.Going.{flow_of}
 use Rattle.store_laws.proofs.Acting.{stage_keeps}
 
@@ -62,6 +62,45 @@ use Rattle.store_laws.proofs.Acting.{stage_keeps}
 pub fit_parts : {R : Type 0} (join : R → R → R) (ws : Words R) (w : Model R) (first rest : List (Doing R)) → FitAll join ws w (first ++ rest) → FitAll join ws w first × FitAll join ws (world_run join ws w first) rest
 fit_parts join ws w [] rest fits = (tt, fits)
 fit_parts join ws w (m ∷ first) rest fits = let more = fit_parts join ws (world_next join ws w m) first rest fits.1 in ((fits.0, more.0), more.1)
+
+pub run_parts : {R : Type 0} (join : R → R → R) (ws : Words R) (w : Model R) (first rest : List (Doing R)) → world_run join ws w (first ++ rest) ≡ world_run join ws (world_run join ws w first) rest
+run_parts join ws w [] rest = refl
+run_parts join ws w (m ∷ first) rest = run_parts join ws (world_next join ws w m) first rest
+
+-- the steps of an outcome lead to its world
+takes_leads : (s : State) (q : ℕ) (a : Asked) (ds : List Draw) (st : FlowStep) → world_run any_join words s.world (takes s q a ds st).moves ≡ (takes s q a ds st).state.world
+takes_leads s q a ds (More flow phase) = refl
+takes_leads s q a ds (Wait flow) = refl
+takes_leads s q a ds (End end) = refl
+
+follows_leads : (s : State) (q : ℕ) (a : Asked) (end : PhaseEnd AnyRow) (flow : Option Flow) → world_run any_join words s.world (follows s q a end flow).moves ≡ (follows s q a end flow).state.world
+follows_leads s q a end None = refl
+follows_leads s q a end (Some flow) =
+    let now = clock s.world a.node in
+    takes_leads (record s { saw = record { request = q; end = end } ∷ s.saw }) q a (draws_of s q flow.block flow.stage end now) (next flow end now)
+
+follow_leads : (s : State) (q : ℕ) (asked : Option Asked) (end : PhaseEnd AnyRow) → world_run any_join words s.world (follow s q asked end).moves ≡ (follow s q asked end).state.world
+follow_leads s q None end = refl
+follow_leads s q (Some a) end = follows_leads s q a end a.flow
+
+pub goes_on_leads : (s : State) (ends : List (Ended AnyRow)) → world_run any_join words s.world (goes_on s ends).moves ≡ (goes_on s ends).state.world
+goes_on_leads s [] = refl
+goes_on_leads s (e ∷ es) = follow_leads s e.request (numbered s.asked e.request) e.how
+
+pub delivers_lead : (s : State) (m : ℕ) → world_run any_join words s.world (delivers s m).moves ≡ (delivers s m).state.world
+delivers_lead s m = goes_on_leads (doing s (plainly (step.Deliver m))) (effect s (plainly (step.Deliver m))).ends
+
+pub drains_lead : (n : ℕ) (s : State) → world_run any_join words s.world (drains n s).moves ≡ (drains n s).state.world
+drains_lead zero s = refl
+drains_lead (suc n) s =
+    elim (undelivered s.world) as (λ o. (let r = elim o as (λ o. Outcome) [ None ↦ silent s | Some m ↦ let o = delivers s m in then_drains o (drains n o.state) ] in world_run any_join words s.world r.moves ≡ r.state.world)) [
+      | None ↦ refl
+      | Some m ↦
+          let first : Outcome = delivers s m in
+          run_parts any_join words s.world first.moves (drains n first.state).moves
+          ∙ ap (λ w. world_run any_join words w (drains n first.state).moves) (delivers_lead s m)
+          ∙ drains_lead n first.state
+    ]
 
 -- a list writes nothing
 no_write : {k : Kind} → k ≡ kind.List → IsTrue (is_write k) → {A : Type 0} → A
@@ -100,26 +139,6 @@ module _ (every : EveryWorld) where
       (step_sound s d sound (tt, tt, tt, fits.0.1, tt) (All-nil (IsGood s.draws)) (calm_fine s (effect s d) sound calm))
       (calm_ends s (effect s d) sound calm)
 
-  -- the steps of an outcome lead to its world
-  takes_leads : (s : State) (q : ℕ) (a : Asked) (ds : List Draw) (st : FlowStep) → world_run any_join words s.world (takes s q a ds st).moves ≡ (takes s q a ds st).state.world
-  takes_leads s q a ds (More flow phase) = refl
-  takes_leads s q a ds (Wait flow) = refl
-  takes_leads s q a ds (End end) = refl
-
-  follows_leads : (s : State) (q : ℕ) (a : Asked) (end : PhaseEnd AnyRow) (flow : Option Flow) → world_run any_join words s.world (follows s q a end flow).moves ≡ (follows s q a end flow).state.world
-  follows_leads s q a end None = refl
-  follows_leads s q a end (Some flow) =
-      let now = clock s.world a.node in
-      takes_leads (record s { saw = record { request = q; end = end } ∷ s.saw }) q a (draws_of s q flow.block flow.stage end now) (next flow end now)
-
-  follow_leads : (s : State) (q : ℕ) (asked : Option Asked) (end : PhaseEnd AnyRow) → world_run any_join words s.world (follow s q asked end).moves ≡ (follow s q asked end).state.world
-  follow_leads s q None end = refl
-  follow_leads s q (Some a) end = follows_leads s q a end a.flow
-
-  pub goes_on_leads : (s : State) (ends : List (Ended AnyRow)) → world_run any_join words s.world (goes_on s ends).moves ≡ (goes_on s ends).state.world
-  goes_on_leads s [] = refl
-  goes_on_leads s (e ∷ es) = follow_leads s e.request (numbered s.asked e.request) e.how
-
   drains_keeps : (n : ℕ) (s : State) → FitAll any_join words s.world (drains n s).moves → IsSound s → IsSound (drains n s).state
   drains_keeps zero s fits sound = sound
   drains_keeps (suc n) s fits sound =
@@ -129,7 +148,7 @@ module _ (every : EveryWorld) where
         | Some m ↦ λ fits.
             let first : Outcome = delivers s m in
             let parts = fit_parts any_join words s.world first.moves (drains n first.state).moves fits in
-            let leads : world_run any_join words s.world first.moves ≡ first.state.world = goes_on_leads (doing s (plainly (step.Deliver m))) (effect s (plainly (step.Deliver m))).ends in
+            let leads = delivers_lead s m in
             drains_keeps n first.state (subst (λ w. FitAll any_join words w (drains n first.state).moves) leads parts.1) (delivers_keeps s m parts.0 sound)
       ] fits
 
@@ -210,7 +229,7 @@ module _ (every : EveryWorld) where
   -- ---- other acts
 
   -- steps of the world that are acts of their own: no request begins or goes on in them
-  outer_calm : (st : Step AnyRow) → IsOuter st → IsCalmStep st × IsStep words 256 st × (stored_by st ≡ [])
+  pub outer_calm : (st : Step AnyRow) → IsOuter st → IsCalmStep st × IsStep words 256 st × (stored_by st ≡ [])
   outer_calm step.Trio h = (tt, tt, refl)
   outer_calm (step.Role n role) h = (tt, tt, refl)
   outer_calm (step.Redundancy wanted) h = (tt, tt, refl)
@@ -251,10 +270,13 @@ module _ (every : EveryWorld) where
   act_keeps s (asks n o) lawful fits sound = begins_keeps s n o lawful fits sound
   act_keeps s (delivery m) lawful fits sound = delivers_keeps s m fits sound
   act_keeps s (drain n) lawful fits sound = drains_keeps n s fits sound
+  act_keeps s (installs first) lawful fits sound = installing_sound s first lawful.0 lawful.1 sound
+  act_keeps s forgets lawful fits sound = forgetting_sound s sound
+  act_keeps s (takes_end q) lawful fits sound = ends_sound s (without_end s.ends q) sound
   act_keeps s (adds name) lawful fits sound = bucket_sound s name sound
   act_keeps s (cuts block) lawful fits sound = block_sound s block sound
 
-  acts_keep : (s : State) (as' : List Act) → AreLawfulActs s as' → ActsFit s as' → IsSound s → IsSound (after_acts s as')
+  pub acts_keep : (s : State) (as' : List Act) → AreLawfulActs s as' → ActsFit s as' → IsSound s → IsSound (after_acts s as')
   acts_keep s [] lawful fit sound = sound
   acts_keep s (a ∷ as') lawful fit sound = acts_keep (acted s a).state as' lawful.1 fit.1 (act_keeps s a lawful.0 fit.0 sound)
 

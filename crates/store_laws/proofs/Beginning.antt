@@ -34,7 +34,7 @@ use Rattle.store_laws.proofs.Ends.{asked_of}
 use Rattle.store_laws.proofs.Grown.{IsStill}
 use Rattle.store_laws.proofs.Stepping.{IsFine, fine_still, fine_one, fine_cond}
 
-found_request : (calls : List (Call AnyRow)) (q : ℕ) (c : Call AnyRow) → call_at calls q ≡ Some c → c.request ≡ q
+pub found_request : (calls : List (Call AnyRow)) (q : ℕ) (c : Call AnyRow) → call_at calls q ≡ Some c → c.request ≡ q
 found_request [] q c e = cc
 found_request (d ∷ calls) q c e =
     elim (d.request == q) as (λ b. (d.request == q) ≡ b → cond b (Some d) (call_at calls q) ≡ Some c → c.request ≡ q) [

@@ -18,7 +18,7 @@ use Rattle.history_model.specs.declared.record.Kind.TheVariants as kind
 use Rattle.history_model.specs.declared.record.Answer.{Answer}
 use Rattle.history_model.specs.declared.record.Answer.TheVariants as answer
 use Rattle.history_model.specs.declared.record.Record.TheVariants.{Finished}
-use Rattle.history_model.specs.Record.{is_read, is_write, is_source}
+use Rattle.history_model.specs.Record.{is_read, is_write, is_delete, is_source}
 use Rattle.flow_model.specs.declared.flow.Name.{Name}
 use Rattle.flow_model.specs.declared.flow.Wish.{Wish}
 use Rattle.flow_model.specs.declared.flow.Wish.TheVariants as wish
@@ -30,8 +30,9 @@ use Rattle.flow_model.specs.declared.flow.FlowEnd.TheVariants.{Stored, Found, No
 use Rattle.flow_model.specs.Rows.{complete}
 use Rattle.store_model.specs.Answers.{record_of}
 use Rattle.history_model.specs.declared.record.Record.{Record}
-use Rattle.store_model.specs.Run.{Moving, State, Asked, Draw, plainly, effect, finishes}
+use Rattle.store_model.specs.Run.{Moving, State, Asked, Draw, plainly, effect, doing, finishes}
 use Rattle.store_laws.proofs.Elements.{at_cut, none_in}
+use Rattle.store_laws.proofs.Records.{is_in}
 use Rattle.store_laws.proofs.Calm.{IsCalm, IsCalmStep, calm_step}
 use Rattle.store_laws.proofs.Every.{EveryWorld}
 use Rattle.store_laws.proofs.Good.{IsGood}
@@ -39,6 +40,7 @@ use Rattle.store_laws.proofs.Sound.{began, IsAsked, IsWishOf, Completes, StoresF
 use Rattle.store_laws.proofs.Reached.{reached_different}
 use Rattle.store_laws.proofs.Grown.{Rests}
 use Rattle.store_laws.proofs.Ends.{HasStored}
+use Rattle.store_laws.proofs.Starting.{ends_sound}
 use Rattle.store_laws.proofs.Stepping.{step_sound, calm_fine}
 use Rattle.store_laws.proofs.Flows.{waiting, MayWait, waiting_sound}
 use Rattle.store_laws.proofs.Finishing.{IsEndOf, told_sound}
@@ -52,8 +54,17 @@ source_writes kind.Delete h = cc
 source_writes kind.Copy h = refl
 source_writes kind.List h = cc
 
+-- and so does a delete
+delete_writes : (k : Kind) → IsTrue (is_delete k) → IsTrue (is_write k)
+delete_writes kind.Put h = cc
+delete_writes kind.Get h = cc
+delete_writes kind.Head h = cc
+delete_writes kind.Delete h = refl
+delete_writes kind.Copy h = cc
+delete_writes kind.List h = cc
+
 pub wish_writes : (k : Kind) (w : Wish) → IsWishOf k w → IsTrue (is_write k)
-wish_writes k wish.Marker h = h
+wish_writes k wish.Marker h = delete_writes k h
 wish_writes k (wish.Content c) h = source_writes k h
 
 -- a write doesn't read
@@ -88,7 +99,8 @@ module _ (every : EveryWorld) where
         let is_told : IsSound told = told_sound s (record_of q end) (never_begins end) ends sound in
         let waits : State = waiting told q a None [] in
         let now : IsSound waits = waiting_sound told q a None [] at rests (none_waits _ _) (λ d c. absurd (none_in d c)) is_told in
-        step_sound waits (plainly (step.Close q)) now (tt, tt, tt, fits.0.1, tt) (All-nil (IsGood waits.draws)) (calm_fine waits (effect waits (plainly (step.Close q))) now (is_calm waits (plainly (step.Close q)) tt now))
+        ends_sound (doing waits (plainly (step.Close q))) (s.ends ++ (q, end) ∷ [])
+        (step_sound waits (plainly (step.Close q)) now (tt, tt, tt, fits.0.1, tt) (All-nil (IsGood waits.draws)) (calm_fine waits (effect waits (plainly (step.Close q))) now (is_calm waits (plainly (step.Close q)) tt now)))
 
     -- how a request ends that finishes with this answer
     pub one_end : (x y : Answer) (n : ℕ) → IsEndOf s q x → Finished q x ≡ Finished n y → IsEndOf s n y
@@ -143,13 +155,15 @@ module _ (every : EveryWorld) where
           let same : waits.flow ≡ flow = cc in
           let c : Completes s.draws q version h.rows = subst (λ (g : Stage). StoresFor s.draws q g h.rows) (ap (λ (f : Flow). f.stage) same ∙ stage_is) h.is_storing.stores in
           let d = sound.drawn c.draw c.drawn in
-          let told = kind_told d.kind c.draw.name (subst (λ (m : ℕ). IsAsked s.asked m d.kind c.draw.name) c.request_is (sound.told.began_asked c.draw.request d.node d.kind c.draw.name d.has_begun)) in
+          let told = kind_told d.kind c.draw.name (subst (λ (m : ℕ). IsAsked s.asked m d.kind c.draw.name) c.request_is (sound.told.began_asked c.draw.request d.node d.kind c.draw.name (is_in s.history d.place _ d.began_at))) in
           let name_is : c.draw.name ≡ name = sym told.1 ∙ (kind_told k name asked).1 in
-          let version_is : c.draw.version ≡ v = c.version_is ∙ (cc) in
-          record {
-            block = c.block;
-            wish = c.draw.wish;
-            is_there = subst (λ (r : AnyRow). Contains s.world.kept r) (λ i. complete (name_is i) (version_is i) c.block c.draw.wish)
-                (h.are_there (complete c.draw.name c.draw.version c.block c.draw.wish) (subst (λ (rs : List AnyRow). Contains rs (complete c.draw.name c.draw.version c.block c.draw.wish)) (sym c.rows_are) (0, omega arith, refl)));
-          };
+          let version_is : c.draw.version ≡ v = c.version_is ∙ (cc) in (
+            record {
+              block = c.block;
+              wish = c.draw.wish;
+              is_there = subst (λ (r : AnyRow). Contains s.world.kept r) (λ i. complete (name_is i) (version_is i) c.block c.draw.wish)
+                  (h.are_there (complete c.draw.name c.draw.version c.block c.draw.wish) (subst (λ (rs : List AnyRow). Contains rs (complete c.draw.name c.draw.version c.block c.draw.wish)) (sym c.rows_are) (0, omega arith, refl)));
+            },
+            record { draw = c.draw; drawn = c.drawn; request_is = c.request_is; version_is = version_is },
+          );
     }

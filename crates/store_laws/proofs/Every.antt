@@ -1,6 +1,7 @@
 -- What is known of every world that lawful steps lead to.
 use Rattle.std.specs.Prelude.{◌≡◌, List, [], ◌∷◌, ◌++◌, refl}
 use Rattle.std.specs.List.{Contains}
+use Rattle.layout_roles.specs.declared.layout.Layout.{Layout}
 use Rattle.crdt_rows.specs.declared.any_row.AnyRow.{AnyRow}
 use Rattle.crdt_rows.specs.AnyRow.{any_join}
 use Rattle.object_schema.specs.Schema.{words}
@@ -8,9 +9,9 @@ use Rattle.cluster_machine.specs.Node.{Reading}
 use Rattle.cluster_machine.specs.World.{empty}
 use Rattle.cluster_machine.specs.Kept.{KeptReads}
 use Rattle.machine_origins.specs.Origins.{ComesFrom, Gave, stored_in}
-use Rattle.cluster_machine.specs.Worlds.{IsLawfulRun, next, run, IsSound}
+use Rattle.cluster_machine.specs.Worlds.{IsLawfulRun, IsLawfulStart, next, run, start, IsSound}
 use Rattle.store_model.specs.Run.{World, Moving}
-use Rattle.store_laws.proofs.Windows.{GaveWindow}
+use Rattle.machine_origins.specs.Windows.{GaveWindow}
 
 pub run_more : (w : World) (moves : List Moving) (m : Moving) → run any_join words w (moves ++ m ∷ []) ≡ next any_join words (run any_join words w moves) m
 run_more w [] m = refl
@@ -20,10 +21,37 @@ pub lawful_more : (w : World) (moves : List Moving) (m : Moving) → IsLawfulRun
 lawful_more w [] m h k = k
 lawful_more w (first ∷ moves) m h k = (h.0, h.1, h.2, h.3, lawful_more (next any_join words w first) moves m h.4 k)
 
--- reads gave what was kept, and only what was stored; worlds are sound; range phases gave windows
+-- every world that lawful steps lead to from this one, which others led to: reads gave what was kept, and only what was stored; it is sound; range phases gave windows
+pub record FromWorld (begin : World) (before : List Moving) : Type 0 where
+  pub kept_reads : (moves : List Moving) → IsLawfulRun any_join words begin moves → KeptReads any_join words (run any_join words begin moves)
+  pub stored_rows : (moves : List Moving) → IsLawfulRun any_join words begin moves →
+      (r : Reading AnyRow) → Contains (run any_join words begin moves).reads r → Gave words (ComesFrom any_join words (stored_in (before ++ moves))) r
+  pub is_sound : (moves : List Moving) → IsLawfulRun any_join words begin moves → IsSound (run any_join words begin moves)
+  pub windows : (moves : List Moving) → IsLawfulRun any_join words begin moves → (r : Reading AnyRow) → Contains (run any_join words begin moves).reads r → GaveWindow words r
+
+-- from the empty world, and from one with an installed layout
 pub record EveryWorld : Type 0 where
-  pub kept_reads : (moves : List Moving) → IsLawfulRun any_join words empty moves → KeptReads any_join words (run any_join words empty moves)
-  pub stored_rows : (moves : List Moving) → IsLawfulRun any_join words empty moves →
-      (r : Reading AnyRow) → Contains (run any_join words empty moves).reads r → Gave words (ComesFrom any_join words (stored_in moves)) r
-  pub is_sound : (moves : List Moving) → IsLawfulRun any_join words empty moves → IsSound (run any_join words empty moves)
-  pub windows : (moves : List Moving) → IsLawfulRun any_join words empty moves → (r : Reading AnyRow) → Contains (run any_join words empty moves).reads r → GaveWindow words r
+  pub from_empty : FromWorld empty []
+  pub from_installed : (before : List Moving) (first : Layout) → IsLawfulStart any_join words before first → FromWorld (start any_join words before first) before
+
+-- what the laws of worlds say, put together
+pub every_world :
+    ((moves : List Moving) → IsLawfulRun any_join words empty moves → KeptReads any_join words (run any_join words empty moves)) →
+    ((moves : List Moving) → IsLawfulRun any_join words empty moves → (r : Reading AnyRow) → Contains (run any_join words empty moves).reads r → Gave words (ComesFrom any_join words (stored_in moves)) r) →
+    ((moves : List Moving) → IsLawfulRun any_join words empty moves → IsSound (run any_join words empty moves)) →
+    ((moves : List Moving) → IsLawfulRun any_join words empty moves → (r : Reading AnyRow) → Contains (run any_join words empty moves).reads r → GaveWindow words r) →
+    ((before : List Moving) (first : Layout) (after : List Moving) → IsLawfulStart any_join words before first → IsLawfulRun any_join words (start any_join words before first) after → KeptReads any_join words (run any_join words (start any_join words before first) after)) →
+    ((before : List Moving) (first : Layout) (after : List Moving) → IsLawfulStart any_join words before first → IsLawfulRun any_join words (start any_join words before first) after →
+    (r : Reading AnyRow) → Contains (run any_join words (start any_join words before first) after).reads r → Gave words (ComesFrom any_join words (stored_in (before ++ after))) r) →
+    ((before : List Moving) (first : Layout) (after : List Moving) → IsLawfulStart any_join words before first → IsLawfulRun any_join words (start any_join words before first) after → IsSound (run any_join words (start any_join words before first) after)) →
+    ((before : List Moving) (first : Layout) (after : List Moving) → IsLawfulStart any_join words before first → IsLawfulRun any_join words (start any_join words before first) after →
+    (r : Reading AnyRow) → Contains (run any_join words (start any_join words before first) after).reads r → GaveWindow words r) → EveryWorld
+every_world kept stored sound windows kept_then stored_then sound_then windows_then = record {
+  from_empty = record { kept_reads = kept; stored_rows = stored; is_sound = sound; windows = windows };
+  from_installed = λ before first h. record {
+    kept_reads = λ moves. kept_then before first moves h;
+    stored_rows = λ moves. stored_then before first moves h;
+    is_sound = λ moves. sound_then before first moves h;
+    windows = λ moves. windows_then before first moves h;
+  };
+}

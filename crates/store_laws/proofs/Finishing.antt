@@ -15,7 +15,7 @@ use Rattle.history_model.specs.declared.record.Record.TheVariants.{Finished, End
 use Rattle.history_model.specs.Record.{is_write}
 use Rattle.flow_model.specs.declared.flow.Name.{Name}
 use Rattle.store_model.specs.Run.{State, Asked}
-use Rattle.store_laws.proofs.Sound.{began, IsAsked, HasKept, IsFreshEnd, IsSound}
+use Rattle.store_laws.proofs.Sound.{began, IsAsked, WasAcknowledged, HasKept, Drew, IsFreshEnd, IsSound}
 use Rattle.store_laws.proofs.Freshness.{fresh_told}
 use Rattle.store_laws.proofs.Grown.{present_told, stage_told, drawn_told}
 
@@ -24,42 +24,50 @@ pub record IsEndOf (s : State) (q : ℕ) (a : Answer) : Type 0 where
   pub one : Asked
   pub is_there : numbered s.asked q ≡ Some one
   pub fresh : IsFreshEnd s q a
-  pub kept : (version : Version) (kind : Kind) (name : Name) → a ≡ answer.Version version → IsTrue (is_write kind) → IsAsked s.asked q kind name → HasKept s.world.kept name version
+  pub kept : (version : Version) (kind : Kind) (name : Name) → a ≡ answer.Version version → IsTrue (is_write kind) → IsAsked s.asked q kind name → HasKept s.world.kept name version × Drew s.draws q version
+
+-- ---- a record that begins nothing
+
+module _ (s : State) (x : Record) (never : (q n : ℕ) (kind : Kind) (name : Name) → x ≡ began q n kind name → ⊥) (ends : (q : ℕ) (a : Answer) → x ≡ Finished q a → IsEndOf s q a) (sound : IsSound s) where
+  begun_before : (q n : ℕ) (kind : Kind) (name : Name) → Contains (s.history ++ x ∷ []) (began q n kind name) → Contains s.history (began q n kind name)
+  begun_before q n kind name c = elim (Contains-push_cases s.history x (began q n kind name) c) [
+    | inl old ↦ old
+    | inr e ↦ absurd (never q n kind name e)
+  ]
+
+  -- a version that a write was acknowledged with by now is kept, and the write drew it
+  acknowledged_now : (name : Name) (version : Version) (a : WasAcknowledged (s.history ++ x ∷ []) name version) → HasKept s.world.kept name version × Drew s.draws a.request version
+  acknowledged_now name version a =
+      let begin = begun_before a.request a.node a.kind name a.has_begun in
+      elim (Contains-push_cases s.history x (Finished a.request (answer.Version version)) a.has_finished) [
+        | inl old ↦
+            let was : WasAcknowledged s.history name version = record { request = a.request; node = a.node; kind = a.kind; writes = a.writes; has_begun = begin; has_finished = old } in
+            (sound.acknowledged name version was, sound.answered name version was)
+        | inr e ↦ (ends a.request (answer.Version version) e).kept version a.kind name refl a.writes (sound.told.began_asked a.request a.node a.kind name begin)
+      ]
 
 pub told_sound : (s : State) (x : Record) → ((q n : ℕ) (kind : Kind) (name : Name) → x ≡ began q n kind name → ⊥) → ((q : ℕ) (a : Answer) → x ≡ Finished q a → IsEndOf s q a) → IsSound s → IsSound (record s { history = s.history ++ x ∷ [] })
 told_sound s x never ends sound = record {
   reached = sound.reached;
   lengths = sound.lengths;
   told = record {
-    began_asked = λ p m kind name c. elim (Contains-push_cases s.history x (began p m kind name) c) [
-      | inl old ↦ sound.told.began_asked p m kind name old
-      | inr e ↦ absurd (never p m kind name e)
-    ];
+    began_asked = λ p m kind name c. sound.told.began_asked p m kind name (begun_before s x never ends sound p m kind name c);
     finished_asked = λ p a c. elim (Contains-push_cases s.history x (Finished p a) c) [
       | inl old ↦ sound.told.finished_asked p a old
       | inr e ↦ let end = ends p a e in (end.one, end.is_there)
     ];
     asked_began = λ p o h. let b = sound.told.asked_began p o h in (b.0, Contains-append_left s.history (x ∷ []) _ b.1);
     bucket_there = sound.told.bucket_there;
-    key_there = λ p m kind name c. elim (Contains-push_cases s.history x (began p m kind name) c) [
-      | inl old ↦ sound.told.key_there p m kind name old
-      | inr e ↦ absurd (never p m kind name e)
-    ];
+    key_there = λ p m kind name c. sound.told.key_there p m kind name (begun_before s x never ends sound p m kind name c);
   };
   presents = λ n c h. present_told s.asked s.draws s.history s.saw x (λ p m kind name o e at. never p m kind name e) n c.request c.present (sound.presents n c h);
   stages = λ q a flow at is. (let was = sound.stages q a flow at is in (was.0, stage_told s.asked s.draws s.history x (λ p m kind name o e at. never p m kind name e) q a at flow.stage was.1));
   drawn = λ d c. drawn_told s.buckets s.history x d (sound.drawn d c);
-  acknowledged = λ name version a.
-      let begin : Contains s.history (began a.request a.node a.kind name) = (elim (Contains-push_cases s.history x (began a.request a.node a.kind name) a.has_begun) [
-        | inl old ↦ old
-        | inr e ↦ absurd (never a.request a.node a.kind name e)
-      ]) in
-      elim (Contains-push_cases s.history x (Finished a.request (answer.Version version)) a.has_finished) [
-        | inl old ↦ sound.acknowledged name version (record { request = a.request; node = a.node; kind = a.kind; writes = a.writes; has_begun = begin; has_finished = old })
-        | inr e ↦ (ends a.request (answer.Version version) e).kept version a.kind name refl a.writes (sound.told.began_asked a.request a.node a.kind name begin)
-      ];
+  acknowledged = λ name version a. (acknowledged_now s x never ends sound name version a).0;
+  answered = λ name version a. (acknowledged_now s x never ends sound name version a).1;
+  seen = sound.seen;
   proper = sound.proper;
-  fresh = fresh_told s x sound.fresh (λ q a e. (ends q a e).fresh);
+  fresh = fresh_told s x sound (λ q a e. (ends q a e).fresh);
 }
 
 -- requests end without an answer

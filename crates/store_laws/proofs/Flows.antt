@@ -3,14 +3,19 @@ use Rattle.std.proofs.Common.{◌≡◌, inl, inr, ℕ, ◌-◌, Option, Some, L
 use Rattle.std.proofs.lemmas.List.{length-set}
 use Rattle.std.specs.List.{Contains}
 use Rattle.std.proofs.lemmas.List.Elements.{Contains-append_cases, Contains-append_right}
+use Rattle.crdt_rows.specs.declared.object_row.ObjectRow.{ObjectRow}
+use Rattle.crdt_rows.specs.declared.any_row.AnyRow.TheVariants as rows
 use Rattle.cluster_machine.specs.World.{numbered}
 use Rattle.history_model.specs.declared.record.Record.{Record}
 use Rattle.flow_model.specs.declared.flow.Flow.{Flow}
 use Rattle.store_model.specs.Run.{State, Asked, Draw, Saw, set_flow}
+use Rattle.store_model.specs.Fresh.{Gave}
+use Rattle.store_laws.proofs.Elements.{cons_cases}
 use Rattle.store_laws.proofs.Places.{numbered_set_cases}
 use Rattle.store_laws.proofs.Sound.{began, HasDrawn, IsStage, IsSound}
 use Rattle.store_laws.proofs.Freshness.{fresh_later}
-use Rattle.store_laws.proofs.Grown.{Rests, presents_set, present_drawn, present_seen, stage_drawn, asked_set}
+use Rattle.store_laws.proofs.Rows.{IsOf}
+use Rattle.store_laws.proofs.Grown.{Rests, presents_set, present_drawn, present_seen, stage_drawn, asked_set, answered_drawn, saw_drawn}
 use Rattle.store_laws.proofs.Reached.{reached_draws}
 
 -- the request waits for this, and drew these versions
@@ -60,13 +65,15 @@ waiting_sound s q a flow newer at rests may drawn sound =
         | inr old ↦ sound.drawn d old
       ];
       acknowledged = sound.acknowledged;
+      answered = answered_drawn s.draws newer s.history sound.answered;
+      seen = saw_drawn s.draws newer s.saw sound.seen;
       proper = sound.proper;
       fresh = fresh_later s (waiting s q a flow newer) refl (λ n c. c) (λ d c. Contains-append_right newer s.draws d c) (λ x c. c) sound.fresh;
     }
 
 -- a phase that ended was seen
-pub saw_sound : (s : State) (x : Saw) → IsSound s → IsSound (record s { saw = x ∷ s.saw })
-saw_sound s x sound = record {
+pub saw_sound : (s : State) (x : Saw) → ((r : ObjectRow) → Gave x.end (rows.Object r) → IsOf s.draws (rows.Object r)) → IsSound s → IsSound (record s { saw = x ∷ s.saw })
+saw_sound s x good sound = record {
   reached = sound.reached;
   lengths = sound.lengths;
   told = sound.told;
@@ -74,6 +81,11 @@ saw_sound s x sound = record {
   stages = sound.stages;
   drawn = sound.drawn;
   acknowledged = sound.acknowledged;
+  answered = sound.answered;
+  seen = λ y r c gave. elim (cons_cases x s.saw y c) [
+    | inl e ↦ good r (subst (λ (z : Saw). Gave z.end (rows.Object r)) (sym e) gave)
+    | inr old ↦ sound.seen y r old gave
+  ];
   proper = sound.proper;
   fresh = fresh_later s (record s { saw = x ∷ s.saw }) refl (λ n c. c) (λ d c. c) (λ y c. Contains-append_right (x ∷ []) s.saw y c) sound.fresh;
 }

@@ -1,8 +1,9 @@
 -- What a request does whose phase ended keeps a state sound.
 use Rattle.std.proofs.Common.{◌≡◌, ℕ, suc, ◌<◌, ◌^◌, Option, Some, None, List, [], ◌∷◌, ◌++◌, length, refl, sym, ap, ◌∙◌, subst, arith}
-use Rattle.std.specs.Prelude.{IsTrue}
+use Rattle.std.specs.Prelude.{IsTrue, slice_get}
 use Rattle.std.specs.List.{All, Contains}
 use Rattle.std.proofs.lemmas.List.Elements.{All-nil, All-cons}
+use Rattle.std.proofs.lemmas.Option.{slice_get_within}
 use Rattle.blake2_hash.specs.Hash.{digest_of}
 use Rattle.row_codec.specs.Spelling.{eight}
 use Rattle.crdt_rows.specs.declared.version.Version.{Version}
@@ -34,6 +35,7 @@ use Rattle.flow_model.specs.Next.{drawn, stores, opens}
 use Rattle.store_model.specs.Run.{State, Asked, Draw, Outcome, phases, effect, set_flow, goes}
 use Rattle.store_laws.proofs.Elements.{only, none_in}
 use Rattle.store_laws.proofs.Places.{numbered_set_here}
+use Rattle.store_laws.proofs.Records.{stands}
 use Rattle.store_laws.proofs.Every.{EveryWorld}
 use Rattle.store_laws.proofs.Hashes.{HasHash}
 use Rattle.store_laws.proofs.Good.{IsGood, complete_is_good, uploading_is_good, block_rows_are_good}
@@ -77,12 +79,16 @@ module _ (every : EveryWorld) (s : State) (q : ℕ) (a : Asked) (at : numbered s
   has_drawn : (name : Name) (w : Wish) (value : Option AnyRow) (now : ℕ) → name ≡ a.name → IsWishOf a.kind w → IsSound s → HasDrawn s.buckets s.history (draw_of name w (drawn q value now))
   has_drawn name w value now name_is fits_kind sound =
       let begin = sound.told.asked_began q a at in
+      let here = stands s.history (began q begin.0 a.kind a.name) begin.1 in
+      let low = slice_get_within s.history here.0 _ here.1 in
       record {
         id_is = refl;
         node = begin.0;
         kind = a.kind;
         fits = fits_kind;
-        has_begun = subst (λ (m : Name). Contains s.history (began q begin.0 a.kind m)) (sym name_is) begin.1;
+        place = here.0;
+        began_at = subst (λ (m : Name). slice_get s.history here.0 ≡ Some (began q begin.0 a.kind m)) (sym name_is) here.1;
+        in_time = omega arith;
         bucket = subst (λ (m : Name). Contains s.buckets m.bucket) (sym name_is) (sound.told.bucket_there q a at);
         moment = omega arith;
       }

@@ -1,9 +1,11 @@
 pub mod Acting
 pub mod Acts
+pub mod Alike
 pub mod Beginning
 pub mod Calm
 pub mod Covering
 pub mod Elements
+pub mod Emptied
 pub mod Enders
 pub mod Ends
 pub mod Every
@@ -16,16 +18,14 @@ pub mod Grown
 pub mod Hashes
 pub mod Listed
 pub mod Objects
+pub mod Moments
 pub mod Once
 pub mod Opening
 pub mod Orders
 pub mod Places
 pub mod Placing
-pub mod Ranging
-pub mod RangingNodes
-pub mod RangingPosts
-pub mod RangingSteps
 pub mod Reached
+pub mod Recorded
 pub mod Records
 pub mod Rows
 pub mod Saying
@@ -34,4 +34,3 @@ pub mod Starting
 pub mod Stepping
 pub mod Telling
 pub mod Values
-pub mod Windows

@@ -42,7 +42,7 @@ use Rattle.store_laws.proofs.Orders.{past_front, begins_front, within_front, at_
 use Rattle.store_laws.proofs.Reached.{reached_kept, reached_good, reached_window}
 use Rattle.store_laws.proofs.Sound.{began, WasAcknowledged, HasKept, HasBefore, AreProper, HasFound, listed, HasRow, IsShown, HasShown, IsFreshEnd, IsSound}
 use Rattle.store_laws.proofs.Values.{is_own, drew_here}
-use Rattle.store_laws.proofs.Windows.{IsWindow}
+use Rattle.machine_origins.specs.Windows.{IsWindow}
 
 -- ---- what is said of an object
 
@@ -60,14 +60,7 @@ said_marked (marked n) v e is = ap marked is
 said_marked (inline n meta body) v e is = cc
 said_marked (in_blocks n meta first) v e is = cc
 
--- a row that shows an object says a version of it
-said_some : (said : Said) → is_object said ≡ true → (v : Version) × IsSaid v said
-said_some none e = cc
-said_some (marked n) e = cc
-said_some (inline n meta body) e = (n, refl)
-said_some (in_blocks n meta first) e = (n, refl)
-
--- which was drawn for it
+-- a version that is said of an object was drawn for it
 said_found : (draws : List Draw) (r : ObjectRow) (name : Name) (said : Said) (v : Version) → is_object said ≡ true → IsSaid v said → IsFound draws r name said → FoundIn draws name v
 said_found draws r name none v e is f = cc
 said_found draws r name (marked n) v e is f = cc

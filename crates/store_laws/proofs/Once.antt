@@ -28,9 +28,10 @@ use Rattle.flow_model.specs.Rows.{uploading, block_rows}
 use Rattle.flow_model.specs.Next.{drawn, stores, more, completes, writes, uploads, goes_on as flow_goes_on}
 use Rattle.store_model.specs.Orders.{buckets_of}
 use Rattle.store_model.specs.Run.{Moving, State, start, Asked, Draw, Outcome, silent, refusal, plainly, effect, doing, are_buckets, opened as opens_request, begins, draws_of, takes, follows, follow, goes_on, delivers, then_drains, drains}
-use Rattle.store_model.specs.Acts.{Act, moves, asks, delivery, drain, adds, cuts, acted, after_acts, AreLawfulActs, ActsFit}
-use Rattle.store_laws.specs.Written.{AreDrawnOnce}
+use Rattle.store_model.specs.Acts.{Act, moves, installs, asks, delivery, drain, forgets, takes as takes_end, adds, cuts, acted, after_acts, AreLawfulActs, ActsFit}
+use Rattle.store_model.specs.Written.{AreDrawnOnce}
 use Rattle.store_laws.proofs.Elements.{none_in, only}
+use Rattle.store_laws.proofs.Records.{is_in}
 use Rattle.store_laws.proofs.Places.{numbered_append, numbered_set_here, numbered_set_cases}
 use Rattle.store_laws.proofs.Every.{EveryWorld}
 use Rattle.store_laws.proofs.Sound.{IsSound}
@@ -181,7 +182,7 @@ goes_on_once : (s : State) (ends : List (Ended AnyRow)) → IsOnceIn s → IsOnc
 goes_on_once s [] once = once
 goes_on_once s (e ∷ es) once = follow_once s e.request (numbered s.asked e.request) e.how refl once
 
-delivers_once : (s : State) (m : ℕ) → IsOnceIn s → IsOnceIn (delivers s m).state
+pub delivers_once : (s : State) (m : ℕ) → IsOnceIn s → IsOnceIn (delivers s m).state
 delivers_once s m once = let d : Moving = plainly (step.Deliver m) in goes_on_once (doing s d) (effect s d).ends once
 
 drains_once : (n : ℕ) (s : State) → IsOnceIn s → IsOnceIn (drains n s).state
@@ -198,7 +199,7 @@ opened_once s n o sound once = record {
   one = once.one;
   past = λ d a f c there is.
       let h = sound.drawn d c in
-      let asked = sound.told.began_asked d.request h.node h.kind d.name h.has_begun in
+      let asked = sound.told.began_asked d.request h.node h.kind d.name (is_in s.history h.place _ h.began_at) in
       let some_is : Some asked.one ≡ Some a = sym (numbered_append s.asked _ d.request asked.one asked.is_there) ∙ there in
       once.past d a f c (asked.is_there ∙ some_is) is;
 }
@@ -213,19 +214,22 @@ begins_once s n o sound once =
       | false ↦ once
     ]
 
-act_once : (s : State) (a : Act) → IsSound s → IsOnceIn s → IsOnceIn (acted s a).state
+pub act_once : (s : State) (a : Act) → IsSound s → IsOnceIn s → IsOnceIn (acted s a).state
 act_once s (moves m) sound once = once
 act_once s (asks n o) sound once = begins_once s n o sound once
 act_once s (delivery m) sound once = delivers_once s m once
 act_once s (drain n) sound once = drains_once n s once
+act_once s (installs first) sound once = once
+act_once s forgets sound once = once
+act_once s (takes_end q) sound once = once
 act_once s (adds name) sound once = once
 act_once s (cuts block) sound once = once
 
-start_once : IsOnceIn start
+pub start_once : IsOnceIn start
 start_once = record { one = λ d e c k same. absurd (none_in d c); past = λ d a f c there is. absurd (none_in d c) }
 
 module _ (every : EveryWorld) where
-  acts_once : (s : State) (as' : List Act) → AreLawfulActs s as' → ActsFit s as' → IsSound s → IsOnceIn s → IsSound (after_acts s as') × IsOnceIn (after_acts s as')
+  pub acts_once : (s : State) (as' : List Act) → AreLawfulActs s as' → ActsFit s as' → IsSound s → IsOnceIn s → IsSound (after_acts s as') × IsOnceIn (after_acts s as')
   acts_once s [] lawful fit sound once = (sound, once)
   acts_once s (a ∷ as') lawful fit sound once = acts_once (acted s a).state as' lawful.1 fit.1 (act_keeps every s a lawful.0 fit.0 sound) (act_once s a sound once)
 

@@ -7,6 +7,7 @@ use Rattle.std.proofs.lemmas.List.{length_push}
 use Rattle.std.specs.List.{Contains}
 use Rattle.std.proofs.lemmas.List.Elements.{All-nil, Contains-append_left, Contains-push, Contains-push_cases}
 use Rattle.crdt_rows.specs.declared.any_row.AnyRow.{AnyRow}
+use Rattle.crdt_rows.specs.declared.version.Version.{Version}
 use Rattle.crdt_rows.specs.AnyRow.{any_join}
 use Rattle.layout_roles.specs.declared.layout.Layout.{Layout}
 use Rattle.object_schema.specs.Schema.{words}
@@ -23,10 +24,11 @@ use Rattle.history_model.specs.declared.record.Record.TheVariants.{Finished}
 use Rattle.history_model.specs.declared.record.Kind.{Kind}
 use Rattle.history_model.specs.Record.{is_write}
 use Rattle.flow_model.specs.declared.flow.Flow.{Flow}
+use Rattle.flow_model.specs.declared.flow.Name.{Name}
 use Rattle.store_model.specs.Run.{World, State, Asked, plainly}
 use Rattle.store_laws.proofs.Places.{numbered_append, numbered_push_cases, numbered_last, numbered_within}
 use Rattle.store_laws.proofs.Good.{IsGood}
-use Rattle.store_laws.proofs.Sound.{began, IsTold, HasAcknowledged, AreProper, IsPresent, ArePresent, IsStage, IsSound}
+use Rattle.store_laws.proofs.Sound.{began, IsTold, WasAcknowledged, HasAcknowledged, Drew, HasAnswered, AreProper, IsPresent, ArePresent, IsStage, IsSound}
 use Rattle.store_laws.proofs.Freshness.{fresh_later, fresh_told}
 use Rattle.store_laws.proofs.Grown.{IsNew, pushed_still, pushed_at, present_asked, present_told, stage_told, drawn_told, asked_told}
 use Rattle.store_laws.proofs.Reached.{reached_step}
@@ -92,19 +94,27 @@ opened_told s a bucket keyed sound =
     }
 
 -- what was acknowledged before a request began
-acknowledged_before : (s : State) (a : Asked) → IsSound s → HasAcknowledged s.world.kept (s.history ++ beginning s a ∷ [])
-acknowledged_before s a sound name version ack =
+acknowledged_old : (s : State) (a : Asked) → IsSound s → (name : Name) (version : Version) (ack : WasAcknowledged (s.history ++ beginning s a ∷ []) name version) → (old : WasAcknowledged s.history name version) × (old.request ≡ ack.request)
+acknowledged_old s a sound name version ack =
     let x : Record = beginning s a in
     let finish : Contains s.history (Finished ack.request (answer.Version version)) = (elim (Contains-push_cases s.history x (Finished ack.request (answer.Version version)) ack.has_finished) [
       | inl old ↦ old
       | inr e ↦ cc
     ]) in
     elim (Contains-push_cases s.history x (began ack.request ack.node ack.kind name) ack.has_begun) [
-      | inl old ↦ sound.acknowledged name version (record { request = ack.request; node = ack.node; kind = ack.kind; writes = ack.writes; has_begun = old; has_finished = finish })
+      | inl old ↦ (record { request = ack.request; node = ack.node; kind = ack.kind; writes = ack.writes; has_begun = old; has_finished = finish }, refl)
       | inr e ↦
           let was = sound.told.finished_asked ack.request (answer.Version version) finish in
           absurd (next_new s a sound ack.request ack.node ack.kind name was.0 e was.1)
     ]
+
+acknowledged_before : (s : State) (a : Asked) → IsSound s → HasAcknowledged s.world.kept (s.history ++ beginning s a ∷ [])
+acknowledged_before s a sound name version ack = sound.acknowledged name version (acknowledged_old s a sound name version ack).0
+
+answered_before : (s : State) (a : Asked) → IsSound s → HasAnswered s.draws (s.history ++ beginning s a ∷ [])
+answered_before s a sound name version ack =
+    let old = acknowledged_old s a sound name version ack in
+    subst (λ (q : ℕ). Drew s.draws q version) old.1 (sound.answered name version old.0)
 
 pub opened_sound : (s : State) (a : Asked) (flow : Flow) → a.flow ≡ Some flow → flow.id ≡ suc (length s.world.requests) → IsStage s.draws (s.history ++ beginning s a ∷ []) (suc (length s.world.requests)) a flow.stage → is_member_at layouts s.world a.node ≡ true →
     Contains s.buckets a.name.bucket → (IsTrue (is_write a.kind) → 1 ≤ length a.name.key) → IsLawfulRun any_join words s.world (plainly (Open a.node) ∷ []) → IsSound s → IsSound (opening s a)
@@ -146,6 +156,8 @@ opened_sound s a flow flow_is id_is stage member bucket keyed lawful sound =
       ];
       drawn = λ d c. drawn_told s.buckets s.history x d (sound.drawn d c);
       acknowledged = subst (λ ks. HasAcknowledged ks history) (sym kept_is) (acknowledged_before s a sound);
+      answered = answered_before s a sound;
+      seen = sound.seen;
       proper = subst AreProper (sym kept_is) sound.proper;
-      fresh = fresh_later (record s { history = history }) (opening s a) refl (λ n c. c) (λ d c. c) (λ v c. c) (fresh_told s x sound.fresh (λ q answer e. cc));
+      fresh = fresh_later (record s { history = history }) (opening s a) refl (λ n c. c) (λ d c. c) (λ v c. c) (fresh_told s x sound (λ q answer e. cc));
     }

@@ -1,53 +1,144 @@
 -- What holds of a world that lawful steps lead to.
-use Rattle.std.specs.Prelude.{ℕ, List, [], ◌∷◌, ◌++◌}
-use Rattle.std.proofs.Common.{ap, sym, subst, ◌∙◌}
+use Rattle.std.specs.Prelude.{◌≡◌, ◌≤◌, ◌+◌, ℕ, List, [], ◌∷◌, ◌++◌, map}
+use Rattle.std.proofs.Common.{inl, inr, ap, sym, subst, ◌∙◌, arith}
 use Rattle.std.specs.List.{All, Contains}
-use Rattle.std.proofs.lemmas.List.Elements.{All-push, All-weaker}
+use Rattle.std.proofs.lemmas.List.Elements.{All-nil, All-push, All-append, All-weaker}
+use Rattle.layout_roles.specs.declared.layout.Layout.{Layout}
 use Rattle.crdt_rows.specs.declared.any_row.AnyRow.{AnyRow}
 use Rattle.crdt_rows.specs.AnyRow.{any_join}
 use Rattle.object_schema.specs.Schema.{words}
 use Rattle.cluster_machine.specs.Node.{Reading}
-use Rattle.cluster_machine.specs.World.{empty}
+use Rattle.cluster_machine.specs.World.{empty, forgot, forget_delivered}
+use Rattle.cluster_machine.specs.Choices.{IsFirst}
 use Rattle.cluster_machine.specs.Kept.{KeptReads}
 use Rattle.cluster_machine.specs.Keeping.{AreDifferent}
 use Rattle.machine_origins.specs.Origins.{Gave, stored_by, stored_in}
 use Rattle.machine_origins.proofs.ByOrigin.{stored_have, gave_by_origin}
-use Rattle.cluster_machine.specs.Worlds.{IsLawfulRun, next}
+use Rattle.table_model.specs.Rows.{AllProper}
+use Rattle.cluster_machine.specs.Worlds.{IsLawfulRun, IsLawfulStart, next, run, start, installs, installed}
+use Rattle.world_reads.proofs.Installed.{applied_more}
 use Rattle.store_model.specs.Run.{World, Moving, Draw}
-use Rattle.store_laws.proofs.Every.{EveryWorld, run_more, lawful_more}
+use Rattle.store_laws.proofs.Every.{FromWorld, EveryWorld, run_more, lawful_more}
+use Rattle.store_laws.proofs.Alike.{IsAlike, StepsAlike, keep_forgot, effects_alike, step_alike}
 use Rattle.store_laws.proofs.Good.{IsGood, more_good, good_inherited}
-use Rattle.store_laws.proofs.Sound.{IsReached}
-use Rattle.store_laws.proofs.Windows.{GaveWindow}
+use Rattle.store_laws.proofs.Sound.{StoresGood, IsReached}
+use Rattle.machine_origins.specs.Windows.{GaveWindow}
+
+goes_on : (begin : World) (moves : List Moving) (draws : List Draw) (w : World) (m : Moving) → StepsAlike w (run any_join words begin moves) m → IsLawfulRun any_join words begin moves → All (IsGood draws) (stored_by m.step) → StoresGood draws moves →
+    (then : List Moving) × IsLawfulRun any_join words begin then × IsAlike (next any_join words w m) (run any_join words begin then) × StoresGood draws then
+goes_on begin moves draws w m s lawful stores good = (
+  moves ++ s.move ∷ [],
+  lawful_more begin moves s.move lawful s.lawful,
+  subst (IsAlike (next any_join words w m)) (sym (run_more begin moves s.move)) s.alike,
+  All-push (λ (m : Moving). All (IsGood draws) (stored_by m.step)) moves s.move good (elim s.stores [
+    | inl same ↦ subst (All (IsGood draws)) (sym same) stores
+    | inr none ↦ subst (All (IsGood draws)) (sym none) (All-nil (IsGood draws))
+  ]),
+)
 
 pub reached_step : (draws : List Draw) (w : World) (m : Moving) → IsReached draws w → IsLawfulRun any_join words w (m ∷ []) → All (IsGood draws) (stored_by m.step) → IsReached draws (next any_join words w m)
-reached_step draws w m r lawful stores = record {
-  moves = r.moves ++ m ∷ [];
-  lawful = lawful_more empty r.moves m r.lawful (subst (λ v. IsLawfulRun any_join words v (m ∷ [])) r.is lawful);
-  is = ap (λ v. next any_join words v m) r.is ∙ sym (run_more empty r.moves m);
-  stores = All-push (λ (m : Moving). All (IsGood draws) (stored_by m.step)) r.moves m r.stores stores;
-}
+reached_step draws w m r lawful stores =
+    let v : World = run any_join words r.begin r.moves in
+    let steps : StepsAlike w v m = subst (λ (u : World). StepsAlike u v m) (sym r.alike.is) (step_alike v w.marks r.alike.marks m.step m.choice (subst (λ (u : World). IsLawfulRun any_join words u (m ∷ [])) r.alike.is lawful)) in
+    let on = goes_on r.begin r.moves draws w m steps r.lawful stores r.stores in
+    record { before = r.before; begin = r.begin; begun = r.begun; moves = on.0; lawful = on.1; alike = on.2; before_stores = r.before_stores; stores = on.3 }
+
+stores_draws : (draws newer : List Draw) (moves : List Moving) → StoresGood draws moves → StoresGood (newer ++ draws) moves
+stores_draws draws newer moves h =
+    All-weaker (λ (m : Moving). All (IsGood draws) (stored_by m.step)) (λ (m : Moving). All (IsGood (newer ++ draws)) (stored_by m.step))
+    (λ m h. All-weaker (IsGood draws) (IsGood (newer ++ draws)) (more_good draws newer) (stored_by m.step) h) moves h
 
 pub reached_draws : (draws newer : List Draw) (w : World) → IsReached draws w → IsReached (newer ++ draws) w
-reached_draws draws newer w r = record {
-  moves = r.moves;
-  lawful = r.lawful;
-  is = r.is;
-  stores = All-weaker (λ (m : Moving). All (IsGood draws) (stored_by m.step)) (λ (m : Moving). All (IsGood (newer ++ draws)) (stored_by m.step))
-      (λ m h. All-weaker (IsGood draws) (IsGood (newer ++ draws)) (more_good draws newer) (stored_by m.step) h) r.moves r.stores;
-}
+reached_draws draws newer w r =
+    record { before = r.before; begin = r.begin; begun = r.begun; moves = r.moves; lawful = r.lawful; alike = r.alike; before_stores = stores_draws draws newer r.before r.before_stores; stores = stores_draws draws newer r.moves r.stores }
+
+-- delivered messages are forgotten
+pub reached_forgetting : (draws : List Draw) (w : World) → IsReached draws w → IsReached draws (forget_delivered w)
+reached_forgetting draws w r =
+    let v : World = run any_join words r.begin r.moves in
+    record {
+      before = r.before;
+      begin = r.begin;
+      begun = r.begun;
+      moves = r.moves;
+      lawful = r.lawful;
+      alike = record { is = ap (λ (u : World). record u { marks = map forgot w.marks }) r.alike.is; marks = keep_forgot w.marks v.marks r.alike.marks };
+      before_stores = r.before_stores;
+      stores = r.stores;
+    }
+
+-- a first layout is installed where none was applied
+pub reached_installing : (draws : List Draw) (w : World) (first : Layout) → IsFirst first → w.applied ≡ 0 → IsReached draws w → IsReached draws (installed any_join words w first)
+reached_installing draws w first is_first none r =
+    let v : World = run any_join words r.begin r.moves in
+    let unused : v.applied ≡ 0 = sym (ap (λ (u : World). u.applied) r.alike.is) ∙ none in
+    elim r.begun [
+      | inl at_empty ↦
+          let here : v ≡ run any_join words empty r.moves = ap (λ (u : World). run any_join words u r.moves) at_empty.1 in
+          let like : IsAlike (installed any_join words w first) (installed any_join words v first) = subst (λ (u : World). IsAlike (installed any_join words u first) (installed any_join words v first)) (sym r.alike.is) (effects_alike v w.marks r.alike.marks (installs any_join words v first)) in
+          record {
+            before = r.moves;
+            begin = installed any_join words v first;
+            begun = inr (record {
+              first = first;
+              lawful = record { steps = subst (λ (u : World). IsLawfulRun any_join words u r.moves) at_empty.1 r.lawful; unused = ap (λ (u : World). u.applied) (sym here) ∙ unused; first_layout = is_first };
+              is = ap (λ (u : World). installed any_join words u first) here;
+            });
+            moves = [];
+            lawful = tt;
+            alike = like;
+            before_stores = r.stores;
+            stores = All-nil (λ (m : Moving). All (IsGood draws) (stored_by m.step));
+          }
+      | inr was ↦
+          let more : r.begin.applied ≤ v.applied = applied_more any_join words was.first r.begin r.moves in
+          let one : r.begin.applied ≡ (run any_join words empty r.before).applied + 1 = ap (λ (u : World). u.applied) was.is in
+          let never : ⊥ = omega (arith, more, one, unused) in absurd never
+    ]
 
 module _ (every : EveryWorld) (draws : List Draw) (w : World) (r : IsReached draws w) where
+  abbrev v : World
+  v = run any_join words r.begin r.moves
+
+  from : FromWorld r.begin r.before
+  from = elim r.begun [
+    | inl at_empty ↦ subst (λ (u : World). FromWorld u r.before) (sym at_empty.1) (subst (FromWorld empty) (sym at_empty.0) every.from_empty)
+    | inr was ↦ subst (λ (u : World). FromWorld u r.before) (sym was.is) (every.from_installed r.before was.first was.lawful)
+  ]
+
+  good_stores : StoresGood draws (r.before ++ r.moves)
+  good_stores = All-append (λ (m : Moving). All (IsGood draws) (stored_by m.step)) r.before r.moves r.before_stores r.stores
+
+  there : (reading : Reading AnyRow) → Contains w.reads reading → Contains v.reads reading
+  there reading c = subst (λ (u : World). Contains u.reads reading) r.alike.is c
+
   pub reached_kept : KeptReads any_join words w
-  reached_kept = subst (KeptReads any_join words) (sym r.is) (every.kept_reads r.moves r.lawful)
+  reached_kept = subst (KeptReads any_join words) (sym r.alike.is) (from.kept_reads r.moves r.lawful)
 
   pub reached_good : (reading : Reading AnyRow) → Contains w.reads reading → Gave words (IsGood draws) reading
   reached_good reading c =
-      gave_by_origin (IsGood draws) (good_inherited draws) (stored_in r.moves) (stored_have (IsGood draws) r.moves r.stores) reading
-      (every.stored_rows r.moves r.lawful reading (subst (λ (v : World). Contains v.reads reading) r.is c))
+      gave_by_origin (IsGood draws) (good_inherited draws) (stored_in (r.before ++ r.moves)) (stored_have (IsGood draws) (r.before ++ r.moves) good_stores) reading
+      (from.stored_rows r.moves r.lawful reading (there reading c))
 
   pub reached_different : (n : ℕ) → AreDifferent (w.nodes n).calls
-  reached_different n = subst (λ (v : World). AreDifferent (v.nodes n).calls) (sym r.is) ((every.is_sound r.moves r.lawful).different n)
+  reached_different n = subst (λ (u : World). AreDifferent (u.nodes n).calls) (sym r.alike.is) ((from.is_sound r.moves r.lawful).different n)
 
   -- what a range phase gave is a window
   pub reached_window : (reading : Reading AnyRow) → Contains w.reads reading → GaveWindow words reading
-  reached_window reading c = every.windows r.moves r.lawful reading (subst (λ (v : World). Contains v.reads reading) r.is c)
+  reached_window reading c = from.windows r.moves r.lawful reading (there reading c)
+
+-- rows that nodes accepted are proper
+pub reached_proper :
+    ((moves : List Moving) → IsLawfulRun any_join words empty moves → (n : ℕ) → AllProper words ((run any_join words empty moves).nodes n).accepted) →
+    ((before : List Moving) (first : Layout) (after : List Moving) → IsLawfulStart any_join words before first → IsLawfulRun any_join words (start any_join words before first) after →
+    (n : ℕ) → AllProper words ((run any_join words (start any_join words before first) after).nodes n).accepted) →
+    (draws : List Draw) (w : World) → IsReached draws w → (n : ℕ) → AllProper words (w.nodes n).accepted
+reached_proper from_empty from_installed draws w r n =
+    subst (λ (u : World). AllProper words (u.nodes n).accepted) (sym r.alike.is) (elim r.begun [
+      | inl at_empty ↦
+          subst (λ (u : World). AllProper words ((run any_join words u r.moves).nodes n).accepted) (sym at_empty.1)
+          (from_empty r.moves (subst (λ (u : World). IsLawfulRun any_join words u r.moves) at_empty.1 r.lawful) n)
+      | inr was ↦
+          subst (λ (u : World). AllProper words ((run any_join words u r.moves).nodes n).accepted) (sym was.is)
+          (from_installed r.before was.first r.moves was.lawful (subst (λ (u : World). IsLawfulRun any_join words u r.moves) was.is r.lawful) n)
+    ])

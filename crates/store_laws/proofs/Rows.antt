@@ -31,7 +31,7 @@ use Rattle.flow_model.specs.Blocks.{is_long, piece_hash}
 use Rattle.flow_model.specs.Rows.{row_key, meta_of, same_number, object_row, uploading, complete, inline, in_blocks}
 use Rattle.flow_model.specs.Says as says
 use Rattle.store_model.specs.Run.{Draw}
-use Rattle.store_laws.specs.Written.{IsWritten}
+use Rattle.store_model.specs.Written.{IsWritten}
 use Rattle.store_laws.proofs.Hashes.{HaveHashes, joined_hashes}
 use Rattle.store_laws.proofs.Objects.{key_parts, digest_length, one_key, tied_keys, unless_older, one_of, only_state}
 
@@ -155,6 +155,11 @@ uploading_is_of draws d c = state_is_of draws d Uploading refl c (inl refl)
 
 -- ---- what is found
 
+-- the state of bytes is no marker
+no_content : (block : ℕ) (c : Content) (b : Bool) → Complete Marker ≡ content_state b block c → ⊥
+no_content block c true e = let no : Complete Marker ≡ Complete (Blocks (meta_of c) (piece_hash block c.body 0)) = e in cc
+no_content block c false e = let no : Complete Marker ≡ Complete (Inline (meta_of c) c.body) = e in cc
+
 module _ (meta : Meta) (body : List ℕ) where
   -- a state with bytes is that of a write of bytes
   pub inline_of : (w : Wish) → SaysOf (Complete (Inline meta body)) w → (c : Content) × (w ≡ wish.Content c)
@@ -168,6 +173,40 @@ module _ (meta : Meta) (first : Hash32) where
   blocks_of w (inl e) = let no : Complete (Blocks meta first) ≡ Uploading = e in cc
   blocks_of wish.Marker (inr says) = let no : Complete (Blocks meta first) ≡ Complete Marker = says.1 in cc
   blocks_of (wish.Content c) (inr says) = (c, refl)
+
+-- the state of a delete marker is that of a write that wished it
+marker_wished : (w : Wish) → SaysOf (Complete Marker) w → w ≡ wish.Marker
+marker_wished w (inl e) = let no : Complete Marker ≡ Uploading = e in cc
+marker_wished wish.Marker (inr says) = refl
+marker_wished (wish.Content c) (inr says) = absurd (no_content says.0 c (is_long c.body) says.1)
+
+-- a row that says a delete marker has it at its version
+marked_state : (n v : Version) (o : Option State) → says.of_state n o ≡ says.marked v → (n ≡ v) × (o ≡ Some (Complete Marker))
+marked_state n v None e = cc
+marked_state n v (Some Uploading) e = cc
+marked_state n v (Some Aborted) e = cc
+marked_state n v (Some (Complete Marker)) e = (cc, refl)
+marked_state n v (Some (Complete (Inline meta body))) e = cc
+marked_state n v (Some (Complete (Blocks meta first))) e = cc
+
+marked_version : (r : ObjectRow) (v : Version) (n : Option Version) → says.of_version r n ≡ says.marked v → state_at r v ≡ Some (Complete Marker)
+marked_version r v None e = cc
+marked_version r v (Some n) e = let is = marked_state n v (state_at r n) e in ap (state_at r) (sym is.0) ∙ is.1
+
+-- a write drew this version, to delete the object that the row is of
+pub record MarkedIn (draws : List Draw) (r : ObjectRow) (v : Version) : Type 0 where
+  pub draw : Draw
+  pub drawn : Contains draws draw
+  pub version : draw.version ≡ v
+  pub wish_is : draw.wish ≡ wish.Marker
+  pub bucket : digest_of draw.name.bucket ≡ r.bucket
+  pub key : draw.name.key ≡ r.key
+
+-- the delete marker that a row says was drawn
+pub marker_drawn : (draws : List Draw) (r : ObjectRow) (v : Version) → IsOf draws (rows.Object r) → says.said_by r ≡ says.marked v → MarkedIn draws r v
+marker_drawn draws r v h e =
+    let d = h v (Complete Marker) (marked_version r v (newest r) e) in
+    record { draw = d.draw; drawn = d.drawn; version = d.version; wish_is = marker_wished d.draw.wish d.says; bucket = d.bucket; key = d.key }
 
 -- a write drew this version, to give bytes to an object whose key is this and whose bucket's name has this digest
 pub record FoundIn (draws : List Draw) (name : Name) (v : Version) : Type 0 where
@@ -262,7 +301,7 @@ inline_content meta body block c false e =
     (cc, cc)
 
 -- the state of bytes in blocks is that of long bytes
-blocks_content : (meta : Meta) (first : Hash32) (block : ℕ) (c : Content) (b : Bool) → Complete (Blocks meta first) ≡ content_state b block c → (meta ≡ meta_of c) × (b ≡ true)
+pub blocks_content : (meta : Meta) (first : Hash32) (block : ℕ) (c : Content) (b : Bool) → Complete (Blocks meta first) ≡ content_state b block c → (meta ≡ meta_of c) × (b ≡ true)
 blocks_content meta first block c true e =
     let whole : Complete (Blocks meta first) ≡ Complete (Blocks (meta_of c) (piece_hash block c.body 0)) = e in
     let inside : Blocks meta first ≡ Blocks (meta_of c) (piece_hash block c.body 0) = cc in

@@ -44,8 +44,8 @@ use Rattle.flow_model.specs.Next.{drawn, stores, more, completes, writes, upload
 use Rattle.store_model.specs.Answers.{Entry, with_entry, entries, lines_of, line_of}
 use Rattle.store_model.specs.Orders.{buckets_of}
 use Rattle.store_model.specs.Run.{Moving, State, start, Asked, Draw, Outcome, silent, refusal, plainly, effect, doing, are_buckets, phases, opened as opens_request, begins, draws_of, takes, follows, follow, goes_on, delivers, then_drains, drains}
-use Rattle.store_model.specs.Acts.{Act, moves, asks, delivery, drain, adds, cuts, acted, after_acts, AreLawfulActs, ActsFit}
-use Rattle.store_laws.specs.Written.{lines_told, SaysBytes, SaysSize, IsAsWritten, GivesWhatWasWritten}
+use Rattle.store_model.specs.Acts.{Act, moves, installs, asks, delivery, drain, forgets, takes as takes_end, adds, cuts, acted, after_acts, AreLawfulActs, ActsFit}
+use Rattle.store_model.specs.Written.{lines_told, SaysBytes, SaysSize, IsAsWritten, GivesWhatWasWritten}
 use Rattle.store_laws.proofs.Elements.{none_in, cons_cases, there}
 use Rattle.store_laws.proofs.Every.{EveryWorld}
 use Rattle.store_laws.proofs.Going.{flow_of}
@@ -246,7 +246,7 @@ goes_on_grows s (e ∷ es) = follow_grows s e.request (numbered s.asked e.reques
 delivers_grows : (s : State) (m : ℕ) → Grows s.draws (delivers s m).state.draws
 delivers_grows s m = let d : Moving = plainly (step.Deliver m) in goes_on_grows (doing s d) (effect s d).ends
 
-drains_grows : (n : ℕ) (s : State) → Grows s.draws (drains n s).state.draws
+pub drains_grows : (n : ℕ) (s : State) → Grows s.draws (drains n s).state.draws
 drains_grows zero s = λ d c. c
 drains_grows (suc n) s =
     elim (undelivered s.world) as (λ o. Grows s.draws (elim o as (λ o. Outcome) [ None ↦ silent s | Some m ↦ let o = delivers s m in then_drains o (drains n o.state) ]).state.draws) [
@@ -270,10 +270,13 @@ act_grows s (moves m) = λ d c. c
 act_grows s (asks n o) = begins_grows s n o
 act_grows s (delivery m) = delivers_grows s m
 act_grows s (drain n) = drains_grows n s
+act_grows s (installs first) = λ d c. c
+act_grows s forgets = λ d c. c
+act_grows s (takes_end q) = λ d c. c
 act_grows s (adds name) = λ d c. c
 act_grows s (cuts block) = λ d c. c
 
-acts_grow : (s : State) (as' : List Act) → Grows s.draws (after_acts s as').draws
+pub acts_grow : (s : State) (as' : List Act) → Grows s.draws (after_acts s as').draws
 acts_grow s [] = λ d c. c
 acts_grow s (a ∷ as') = λ d c. acts_grow (acted s a).state as' d (act_grows s a d c)
 
@@ -313,7 +316,7 @@ module _ (every : EveryWorld) where
             let first : Outcome = delivers s m in
             let rest : Outcome = drains n first.state in
             let parts = fit_parts any_join words s.world first.moves rest.moves fits in
-            let leads : world_run any_join words s.world first.moves ≡ first.state.world = goes_on_leads every (doing s (plainly (step.Deliver m))) (effect s (plainly (step.Deliver m))).ends in
+            let leads : world_run any_join words s.world first.moves ≡ first.state.world = goes_on_leads (doing s (plainly (step.Deliver m))) (effect s (plainly (step.Deliver m))).ends in
             tells_both rest.state.draws first.lines rest.lines (tells_later first.state.draws rest.state.draws (drains_grows n first.state) first.lines (delivers_tells s m parts.0 sound))
             (drains_tell n first.state (subst (λ w. FitAll any_join words w rest.moves) leads parts.1) (delivers_keeps every s m parts.0 sound))
       ] fits
@@ -335,6 +338,9 @@ module _ (every : EveryWorld) where
   act_tells s (asks n o) fits sound = begins_tells s n o
   act_tells s (delivery m) fits sound = delivers_tells s m fits sound
   act_tells s (drain n) fits sound = drains_tell n s fits sound
+  act_tells s (installs first) fits sound = tells_none s.draws
+  act_tells s forgets fits sound = tells_none s.draws
+  act_tells s (takes_end q) fits sound = tells_none s.draws
   act_tells s (adds name) fits sound = tells_none s.draws
   act_tells s (cuts block) fits sound = tells_none s.draws
 

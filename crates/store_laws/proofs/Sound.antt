@@ -1,22 +1,24 @@
 -- The invariant of a state that acts lead to.
-use Rattle.std.specs.Prelude.{◌≡◌, ◌≤◌, ◌⊎◌, ℕ, nat_eq, true, Option, IsTrue, List, ◌∷◌, [], ◌++◌, length, Some, ⊤}
+use Rattle.std.specs.Prelude.{◌≡◌, ◌≤◌, ◌<◌, ◌⊎◌, ℕ, nat_eq, true, Option, IsTrue, List, ◌∷◌, [], ◌++◌, length, slice_get, Some, ⊤}
 use Rattle.std.specs.List.{All, AllByRecursion, Contains, starts_with}
 use Rattle.crdt_core.specs.Members.{Has}
 use Rattle.crdt_rows.specs.declared.version.Version.{Version}
 use Rattle.crdt_rows.specs.declared.any_row.AnyRow.{AnyRow}
+use Rattle.crdt_rows.specs.declared.any_row.AnyRow.TheVariants as rows
 use Rattle.crdt_rows.specs.AnyRow.{any_join}
+use Rattle.layout_roles.specs.declared.layout.Layout.{Layout}
 use Rattle.object_schema.specs.Schema.{words}
 use Rattle.cluster_machine.specs.Node.{Question, Scan, Present, resting, asking, scanning, storing, fetching, Call}
 use Rattle.cluster_machine.specs.World.{empty, numbered}
 use Rattle.machine_origins.specs.Origins.{stored_by}
-use Rattle.cluster_machine.specs.Worlds.{IsLawfulRun, run}
+use Rattle.cluster_machine.specs.Worlds.{IsLawfulRun, IsLawfulStart, run, start as first_world}
 use Rattle.history_model.specs.declared.record.Kind.{Kind}
 use Rattle.history_model.specs.declared.record.Kind.TheVariants as kind
 use Rattle.history_model.specs.declared.record.Answer.{Answer}
 use Rattle.history_model.specs.declared.record.Answer.TheVariants as answer
 use Rattle.history_model.specs.declared.record.Record.{Record}
 use Rattle.history_model.specs.declared.record.Record.TheVariants.{Began, Finished}
-use Rattle.history_model.specs.Record.{is_read, is_write, is_source, names, Shows}
+use Rattle.history_model.specs.Record.{is_read, is_write, is_delete, is_source, names, Shows}
 use Rattle.flow_model.specs.declared.flow.Name.{Name}
 use Rattle.flow_model.specs.declared.flow.Wish.{Wish}
 use Rattle.flow_model.specs.declared.flow.Wish.TheVariants as wish
@@ -27,10 +29,11 @@ use Rattle.flow_model.specs.declared.flow.Stage.TheVariants.{Drawing, Uploading,
 use Rattle.flow_model.specs.declared.flow.Flow.{Flow}
 use Rattle.flow_model.specs.Rows.{row_key, complete}
 use Rattle.store_model.specs.Run.{World, Moving, Asked, Draw, Saw, State}
-use Rattle.store_model.specs.Fresh.{IsMarked, Covers, NoClash, IsFresh}
+use Rattle.store_model.specs.Fresh.{Gave, IsMarked, Covers, NoClash, IsFresh}
 use Rattle.history_model.specs.Fresh.{Below}
+use Rattle.store_laws.proofs.Alike.{IsAlike}
 use Rattle.store_laws.proofs.Hashes.{HasHash}
-use Rattle.store_laws.proofs.Rows.{FoundIn, IsInBlocks, SaysWritten}
+use Rattle.store_laws.proofs.Rows.{IsOf, FoundIn, IsInBlocks, SaysWritten}
 use Rattle.store_laws.proofs.Covering.{IsSaid}
 use Rattle.quorum_model.specs.Window.{is_within}
 use Rattle.flow_model.specs.Says.{is_shown, said_by}
@@ -38,12 +41,26 @@ use Rattle.blake2_hash.specs.Hash.{digest_of}
 use Rattle.crdt_rows.specs.declared.object_row.ObjectRow.{ObjectRow}
 use Rattle.store_laws.proofs.Good.{IsGood}
 
--- the world is one that lawful steps lead to, and each row that they began to store is good
+-- the rows that these steps began to store are good
+abbrev pub StoresGood : List Draw → List Moving → Type 0
+StoresGood draws moves = All (λ (m : Moving). All (IsGood draws) (stored_by m.step)) moves
+
+-- a layout was installed in the world, after these steps
+pub record IsInstalled (begin : World) (before : List Moving) : Type 0 where
+  pub first : Layout
+  pub lawful : IsLawfulStart any_join words before first
+  pub is : begin ≡ first_world any_join words before first
+
+-- the world is one that lawful steps lead to, from the empty one or from one in which a layout was installed, but that messages were forgotten; and each row that the steps began to store is good
 pub record IsReached (draws : List Draw) (w : World) : Type 0 where
+  pub before : List Moving
+  pub begin : World
+  pub begun : ((before ≡ []) × (begin ≡ empty)) ⊎ IsInstalled begin before
   pub moves : List Moving
-  pub lawful : IsLawfulRun any_join words empty moves
-  pub is : w ≡ run any_join words empty moves
-  pub stores : All (λ (m : Moving). All (IsGood draws) (stored_by m.step)) moves
+  pub lawful : IsLawfulRun any_join words begin moves
+  pub alike : IsAlike w (run any_join words begin moves)
+  pub before_stores : StoresGood draws before
+  pub stores : StoresGood draws moves
 
 -- the record that a request began
 abbrev pub began : ℕ → ℕ → Kind → Name → Record
@@ -66,16 +83,18 @@ pub record IsTold (buckets : List (List ℕ)) (asked : List Asked) (history : Li
 
 -- requests of this kind may wish so: a delete makes a marker, a put or copy gives bytes
 abbrev pub IsWishOf : Kind → Wish → Type 0
-IsWishOf kind wish.Marker = IsTrue (is_write kind)
+IsWishOf kind wish.Marker = IsTrue (is_delete kind)
 IsWishOf kind (wish.Content c) = IsTrue (is_source kind)
 
--- a write that has begun drew this, for an object in one of the buckets
+-- a write that had begun drew this, for an object in one of the buckets
 pub record HasDrawn (buckets : List (List ℕ)) (history : List Record) (d : Draw) : Type 0 where
   pub id_is : d.version.id ≡ d.request
   pub node : ℕ
   pub kind : Kind
   pub fits : IsWishOf kind d.wish
-  pub has_begun : Contains history (began d.request node kind d.name)
+  pub place : ℕ
+  pub began_at : slice_get history place ≡ Some (began d.request node kind d.name)
+  pub in_time : place < d.moment
   pub bucket : Contains buckets d.name.bucket
   pub moment : d.moment ≤ length history
 
@@ -87,6 +106,21 @@ pub record WasAcknowledged (history : List Record) (name : Name) (version : Vers
   pub writes : IsTrue (is_write kind)
   pub has_begun : Contains history (began request node kind name)
   pub has_finished : Contains history (Finished request (answer.Version version))
+
+-- request q drew this version
+pub record Drew (draws : List Draw) (q : ℕ) (version : Version) : Type 0 where
+  pub draw : Draw
+  pub drawn : Contains draws draw
+  pub request_is : draw.request ≡ q
+  pub version_is : draw.version ≡ version
+
+-- each write was acknowledged with a version that it drew
+abbrev pub HasAnswered : List Draw → List Record → Type 0
+HasAnswered draws history = (name : Name) (version : Version) (a : WasAcknowledged history name version) → Drew draws a.request version
+
+-- each version of an object's row that a phase gave was drawn
+abbrev pub SawDrawn : List Draw → List Saw → Type 0
+SawDrawn draws saw = (x : Saw) (r : ObjectRow) → Contains saw x → Gave x.end (rows.Object r) → IsOf draws (rows.Object r)
 
 -- the row that says that this version of this object is complete is among these
 pub record HasKept (kept : List AnyRow) (name : Name) (version : Version) : Type 0 where
@@ -214,7 +248,7 @@ IsPresent asked draws history saw n q (fetching hash) = WaitsAt asked n q
 abbrev pub ArePresent : List Asked → List Draw → List Record → List Saw → ℕ → List (Call AnyRow) → Type 0
 ArePresent asked draws history saw n calls = (c : Call AnyRow) → Has calls c → IsPresent asked draws history saw n c.request c.present
 
--- the version was drawn by now, by a put or copy of this object
+-- the version was drawn by now, by a put or copy of this object that had begun
 pub record DrewHere (s : State) (name : Name) (version : Version) : Type 0 where
   pub draw : Draw
   pub drawn : Contains s.draws draw
@@ -224,7 +258,9 @@ pub record DrewHere (s : State) (name : Name) (version : Version) : Type 0 where
   pub node : ℕ
   pub kind : Kind
   pub is_source : IsTrue (is_source kind)
-  pub has_begun : Contains s.history (began version.id node kind name)
+  pub place : ℕ
+  pub began_at : slice_get s.history place ≡ Some (began version.id node kind name)
+  pub in_time : place < draw.moment
   pub moment : draw.moment ≤ length s.history
 
 -- what request q owes if it finishes now with this answer
@@ -274,5 +310,7 @@ pub record IsSound (s : State) : Type 0 where
   pub stages : AreStages s.draws s.history s.asked
   pub drawn : (d : Draw) → Contains s.draws d → HasDrawn s.buckets s.history d
   pub acknowledged : HasAcknowledged s.world.kept s.history
+  pub answered : HasAnswered s.draws s.history
+  pub seen : SawDrawn s.draws s.saw
   pub proper : AreProper s.world.kept
   pub fresh : IsFresh s

@@ -1,14 +1,20 @@
--- The state in which a run begins is sound, and it stays so with more buckets and another size of blocks.
-use Rattle.std.proofs.Common.{ℕ, List, [], ◌∷◌, ◌++◌, refl}
+-- The state in which a run begins is sound, and it stays so with more buckets, another size of blocks, ends that are taken and messages that are forgotten.
+use Rattle.std.proofs.Common.{◌≡◌, ℕ, Bool, true, false, cond, Option, Some, None, List, [], ◌∷◌, ◌++◌, length, refl, inl, ap, ◌∙◌}
+use Rattle.std.specs.Option.{unwrap_or}
 use Rattle.std.proofs.lemmas.List.Elements.{All-nil, Contains-append_left}
 use Rattle.store_model.specs.Run.{State, start}
+use Rattle.layout_roles.specs.declared.layout.Layout.{Layout}
+use Rattle.flow_model.specs.declared.flow.FlowEnd.{FlowEnd}
+use Rattle.cluster_machine.specs.World.{empty, forget_delivered}
 use Rattle.store_laws.proofs.Elements.{no_entry, none_in}
+use Rattle.store_laws.proofs.Alike.{alike_same}
+use Rattle.store_laws.proofs.Reached.{reached_forgetting}
 use Rattle.store_laws.proofs.Sound.{IsSound}
 use Rattle.store_laws.proofs.Freshness.{fresh_later}
 
 pub start_sound : IsSound start
 start_sound = record {
-  reached = record { moves = []; lawful = tt; is = refl; stores = All-nil _ };
+  reached = record { before = []; begin = empty; begun = inl (refl, refl); moves = []; lawful = tt; alike = alike_same empty; before_stores = All-nil _; stores = All-nil _ };
   lengths = refl;
   told = record {
     began_asked = λ q n kind name c. absurd (none_in _ c);
@@ -21,6 +27,8 @@ start_sound = record {
   stages = λ q a flow h is. absurd (no_entry q a h);
   drawn = λ d c. absurd (none_in d c);
   acknowledged = λ name version a. absurd (none_in _ a.has_begun);
+  answered = λ name version a. absurd (none_in _ a.has_begun);
+  seen = λ x r c gave. absurd (none_in x c);
   proper = All-nil _;
   fresh = λ i j q kind bucket own answer r. cc;
 }
@@ -40,8 +48,20 @@ bucket_sound s name sound = record {
   stages = sound.stages;
   drawn = λ d c.
       let h = sound.drawn d c in
-      record { id_is = h.id_is; node = h.node; kind = h.kind; fits = h.fits; has_begun = h.has_begun; bucket = Contains-append_left s.buckets (name ∷ []) _ h.bucket; moment = h.moment };
+      record {
+        id_is = h.id_is;
+        node = h.node;
+        kind = h.kind;
+        fits = h.fits;
+        place = h.place;
+        began_at = h.began_at;
+        in_time = h.in_time;
+        bucket = Contains-append_left s.buckets (name ∷ []) _ h.bucket;
+        moment = h.moment;
+      };
   acknowledged = sound.acknowledged;
+  answered = sound.answered;
+  seen = sound.seen;
   proper = sound.proper;
   fresh = fresh_later s (record s { buckets = s.buckets ++ name ∷ [] }) refl (λ n c. Contains-append_left s.buckets (name ∷ []) n c) (λ d c. c) (λ x c. c) sound.fresh;
 }
@@ -55,6 +75,38 @@ block_sound s block sound = record {
   stages = sound.stages;
   drawn = sound.drawn;
   acknowledged = sound.acknowledged;
+  answered = sound.answered;
+  seen = sound.seen;
   proper = sound.proper;
   fresh = fresh_later s (record s { block = block }) refl (λ n c. c) (λ d c. c) (λ x c. c) sound.fresh;
+}
+
+pub ends_sound : (s : State) (ends : List (ℕ × FlowEnd)) → IsSound s → IsSound (record s { ends = ends })
+ends_sound s ends sound = record {
+  reached = sound.reached;
+  lengths = sound.lengths;
+  told = sound.told;
+  presents = sound.presents;
+  stages = sound.stages;
+  drawn = sound.drawn;
+  acknowledged = sound.acknowledged;
+  answered = sound.answered;
+  seen = sound.seen;
+  proper = sound.proper;
+  fresh = fresh_later s (record s { ends = ends }) refl (λ n c. c) (λ d c. c) (λ x c. c) sound.fresh;
+}
+
+pub forgetting_sound : (s : State) → IsSound s → IsSound (record s { world = forget_delivered s.world })
+forgetting_sound s sound = record {
+  reached = reached_forgetting s.draws s.world sound.reached;
+  lengths = sound.lengths;
+  told = sound.told;
+  presents = sound.presents;
+  stages = sound.stages;
+  drawn = sound.drawn;
+  acknowledged = sound.acknowledged;
+  answered = sound.answered;
+  seen = sound.seen;
+  proper = sound.proper;
+  fresh = fresh_later s (record s { world = forget_delivered s.world }) refl (λ n c. c) (λ d c. c) (λ x c. c) sound.fresh;
 }

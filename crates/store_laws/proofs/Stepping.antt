@@ -5,7 +5,7 @@ use Rattle.std.proofs.Common.{◌⊎◌, inl, inr, ap, sym, subst, ◌∙◌}
 use Rattle.std.proofs.lemmas.Bool.{eqb-true, eqb-false}
 use Rattle.std.proofs.lemmas.List.{append-nil}
 use Rattle.std.specs.List.{All, AllByRecursion}
-use Rattle.std.proofs.lemmas.List.Elements.{All-append}
+use Rattle.std.proofs.lemmas.List.Elements.{All-nil, All-append}
 use Rattle.crdt_core.specs.Members.{Has}
 use Rattle.crdt_core.proofs.Each.{all_weaker}
 use Rattle.crdt_rows.specs.declared.any_row.AnyRow.{AnyRow}
@@ -14,17 +14,22 @@ use Rattle.layout_roles.specs.declared.layout.Layout.{Layout}
 use Rattle.object_schema.specs.Schema.{words}
 use Rattle.cluster_machine.specs.Node.{Present, resting, asking, scanning, storing, fetching, Call, Node, Ended}
 use Rattle.cluster_machine.specs.World.{Request}
-use Rattle.cluster_machine.specs.Step.{only, changed, shut}
+use Rattle.quorum_model.specs.Quorum.{is_among}
+use Rattle.view_model.specs.Layouts.{reading}
+use Rattle.cluster_machine.specs.Layouts.{layouts}
+use Rattle.cluster_machine.specs.Acts.{appends}
+use Rattle.cluster_machine.specs.Choices.{IsFirst}
+use Rattle.cluster_machine.specs.Step.{only, changed, shut, applied}
 use Rattle.machine_origins.specs.Origins.{stored_by}
-use Rattle.cluster_machine.specs.Worlds.{Done as Effect, IsLawfulRun}
+use Rattle.cluster_machine.specs.Worlds.{Done as Effect, IsLawfulRun, installs, installed}
 use Rattle.cluster_machine.proofs.Closing.{length_shut}
 use Rattle.store_model.specs.Run.{State, Moving, Asked, doing, effect}
 use Rattle.store_laws.proofs.Calm.{IsCalm}
 use Rattle.store_laws.proofs.Good.{IsGood}
-use Rattle.store_laws.proofs.Sound.{IsProper, AreProper, WaitsAt, IsPresent, ArePresent, IsSound}
+use Rattle.store_laws.proofs.Sound.{IsReached, IsProper, AreProper, WaitsAt, IsPresent, ArePresent, IsSound}
 use Rattle.store_laws.proofs.Freshness.{fresh_later}
 use Rattle.store_laws.proofs.Grown.{kept_later}
-use Rattle.store_laws.proofs.Reached.{reached_step}
+use Rattle.store_laws.proofs.Reached.{reached_step, reached_installing}
 use Rattle.store_laws.proofs.Ends.{IsEnd, present_continues, ends_are}
 
 -- what is added fits the requests, and none opens
@@ -33,22 +38,36 @@ pub record IsFine (s : State) (e : Effect AnyRow) : Type 0 where
   pub presents : (n : ℕ) → ArePresent s.asked s.draws s.history s.saw n (changed e.nodes s.world.nodes n).calls
   pub keeps : AreProper e.keeps
 
-pub step_sound : (s : State) (m : Moving) → IsSound s → IsLawfulRun any_join words s.world (m ∷ []) → All (IsGood s.draws) (stored_by m.step) → IsFine s (effect s m) → IsSound (doing s m)
-step_sound s m sound lawful stores fine =
-    let e : Effect AnyRow = effect s m in
+-- effects on the world, whatever they are of
+pub effects_sound : (s : State) (e : Effect AnyRow) → IsSound s → IsReached s.draws (applied s.world e) → IsFine s e → IsSound (record s { world = applied s.world e })
+effects_sound s e sound reached fine =
     let shut_now : List Request = shut s.world.requests e.closes in
     let requests : shut_now ++ e.opens ≡ shut_now = ap (λ (o : List Request). shut_now ++ o) fine.opens ∙ append-nil shut_now in
     record {
-      reached = reached_step s.draws s.world m sound.reached lawful stores;
+      reached = reached;
       lengths = sound.lengths ∙ sym (ap (λ (rs : List Request). length rs) requests ∙ length_shut s.world.requests e.closes);
       told = sound.told;
       presents = fine.presents;
       stages = sound.stages;
       drawn = sound.drawn;
       acknowledged = kept_later s.world.kept e.keeps s.history sound.acknowledged;
+      answered = sound.answered;
+      seen = sound.seen;
       proper = All-append IsProper e.keeps s.world.kept fine.keeps sound.proper;
-      fresh = fresh_later s (doing s m) refl (λ n c. c) (λ d c. c) (λ x c. c) sound.fresh;
+      fresh = fresh_later s (record s { world = applied s.world e }) refl (λ n c. c) (λ d c. c) (λ x c. c) sound.fresh;
     }
+
+pub step_sound : (s : State) (m : Moving) → IsSound s → IsLawfulRun any_join words s.world (m ∷ []) → All (IsGood s.draws) (stored_by m.step) → IsFine s (effect s m) → IsSound (doing s m)
+step_sound s m sound lawful stores fine = effects_sound s (effect s m) sound (reached_step s.draws s.world m sound.reached lawful stores) fine
+
+-- a first layout is installed where none was applied: calls stay
+pub installing_sound : (s : State) (first : Layout) → IsFirst first → s.world.applied ≡ 0 → IsSound s → IsSound (record s { world = installed any_join words s.world first })
+installing_sound s first is_first none sound =
+    effects_sound s (installs any_join words s.world first) sound (reached_installing s.draws s.world first is_first none sound.reached) (record {
+      opens = refl;
+      presents = λ n. elim (is_among n (reading.members first)) as (λ b. ArePresent s.asked s.draws s.history s.saw n (unwrap_or (cond b (Some (appends layouts (s.world.nodes n) first)) None) (s.world.nodes n)).calls) [ true ↦ sound.presents n | false ↦ sound.presents n ];
+      keeps = All-nil IsProper;
+    })
 
 pub fine_still : (s : State) (e : Effect AnyRow) → IsSound s → ((n : ℕ) → e.nodes n ≡ None) → e.opens ≡ [] → AreProper e.keeps → IsFine s e
 fine_still s e sound still opens keeps = record {

@@ -2,6 +2,7 @@
 use Rattle.std.proofs.Common.{◌≡◌, ℕ, Option, Some, None, List, ◌∷◌, ◌++◌, refl, sym, ap, ◌∙◌, subst, arith}
 use Rattle.std.specs.Prelude.{IsTrue}
 use Rattle.std.specs.List.{Contains}
+use Rattle.std.proofs.lemmas.List.Elements.{All-contains}
 use Rattle.blake2_hash.specs.declared.digest.Hash32.{Hash32}
 use Rattle.blake2_hash.specs.Hash.{digest_of}
 use Rattle.crdt_rows.specs.declared.version.Version.{Version}
@@ -12,8 +13,9 @@ use Rattle.crdt_rows.specs.declared.any_row.AnyRow.TheVariants as rows
 use Rattle.crdt_rows.specs.AnyRow.{any_join}
 use Rattle.table_model.specs.Rows.{row_at}
 use Rattle.object_schema.specs.Schema.{words}
-use Rattle.wire_messages.specs.declared.phase.PhaseEnd.TheVariants.{Row as Answered}
-use Rattle.cluster_machine.specs.Node.{read}
+use Rattle.wire_messages.specs.declared.phase.PhaseEnd.{PhaseEnd}
+use Rattle.wire_messages.specs.declared.phase.PhaseEnd.TheVariants.{Row as Answered, Window, Kept, Block}
+use Rattle.cluster_machine.specs.Node.{read, scanned}
 use Rattle.cluster_machine.specs.Kept.{IsOver}
 use Rattle.cluster_machine.specs.World.{numbered}
 use Rattle.machine_origins.specs.Origins.{Gave as HasGiven}
@@ -27,15 +29,15 @@ use Rattle.flow_model.specs.declared.flow.Flow.{Flow}
 use Rattle.flow_model.specs.Rows.{row_key}
 use Rattle.flow_model.specs.Says.{Said, none, marked, inline, in_blocks, said_by, said_of}
 use Rattle.store_model.specs.Run.{Asked, State}
-use Rattle.store_model.specs.Fresh.{NoClash}
+use Rattle.store_model.specs.Fresh.{Gave, NoClash}
 use Rattle.store_laws.proofs.Elements.{at_cut, only, none_in}
 use Rattle.store_laws.proofs.Every.{EveryWorld}
-use Rattle.store_laws.proofs.Rows.{IsValue, IsFound, FoundIn, SaysWritten, found, value_written}
+use Rattle.store_laws.proofs.Rows.{IsOf, IsValue, IsFound, FoundIn, SaysWritten, found, value_written}
 use Rattle.store_laws.proofs.Covering.{IsSaid, CoversIn, CoversRow, covers}
 use Rattle.store_laws.proofs.Good.{IsGood}
 use Rattle.store_laws.proofs.Sound.{began, IsWishOf, WasAcknowledged, HasKept, AsksRow, AsksFor, DrewHere, IsFreshEnd, HasFound, IsSound}
 use Rattle.store_laws.proofs.Reached.{reached_kept, reached_good}
-use Rattle.store_laws.proofs.Ends.{HasRead}
+use Rattle.store_laws.proofs.Ends.{HasRead, IsEnd}
 
 -- two names with equal parts
 pub one_name : (a b : Name) → a.bucket ≡ b.bucket → a.key ≡ b.key → a ≡ b
@@ -70,7 +72,9 @@ module _ (s : State) (q : ℕ) (a : Asked) (at : numbered s.asked q ≡ Some a) 
         node = d.node;
         kind = d.kind;
         is_source = subst (IsWishOf d.kind) f.wish_is d.fits;
-        has_begun = subst (λ (x : Record). Contains s.history x) (λ i. began (request i) d.node d.kind (name_is i)) d.has_begun;
+        place = d.place;
+        began_at = d.began_at ∙ (λ i. Some (began (request i) d.node d.kind (name_is i)));
+        in_time = d.in_time;
         moment = d.moment;
       }
 
@@ -103,7 +107,7 @@ module _ (s : State) (q : ℕ) (a : Asked) (at : numbered s.asked q ≡ Some a) 
 -- ---- what a read phase gave
 
 -- a value that says something is an object's row
-says_row : (v : Option AnyRow) (said : Said) → said_of v ≡ said → (said ≡ none → ⊥) → (r : ObjectRow) × (v ≡ Some (rows.Object r)) × (said_by r ≡ said)
+pub says_row : (v : Option AnyRow) (said : Said) → said_of v ≡ said → (said ≡ none → ⊥) → (r : ObjectRow) × (v ≡ Some (rows.Object r)) × (said_by r ≡ said)
 says_row None said e some = absurd (some (sym e))
 says_row (Some (rows.Object r)) said e some = (r, refl, e)
 says_row (Some (rows.Version r)) said e some = absurd (some (sym e))
@@ -224,3 +228,13 @@ module _ (every : EveryWorld) (s : State) (q : ℕ) (sound : IsSound s) (value :
             };
         written = λ clash n kind m key v reading begins named shows. absurd (none_in _ shows);
       }
+
+-- ---- what a phase gave
+
+-- each version of an object's row that a phase gave was drawn
+pub gave_drawn : (every : EveryWorld) (s : State) (q : ℕ) → IsSound s → (end : PhaseEnd AnyRow) → IsEnd s.asked s.draws s.history s.saw s.world.kept s.world.reads q end → (r : ObjectRow) → Gave end (rows.Object r) → IsOf s.draws (rows.Object r)
+gave_drawn every s q sound (Answered value) h r gave = (given_good every s q sound value h (rows.Object r) gave).0
+gave_drawn every s q sound (Window others end) h r gave =
+    (All-contains (IsGood s.draws) others (rows.Object r) (reached_good every s.draws s.world sound.reached (scanned h.scan others end) h.is_there) gave).0
+gave_drawn every s q sound Kept h r gave = absurd gave
+gave_drawn every s q sound (Block bytes) h r gave = absurd gave

@@ -1,17 +1,18 @@
--- What is promised of every moment of a run beside fresh reads: equal replicas, blocks that lie with live references, and requests that go on.
+-- What is promised of every moment of a run beside fresh reads and equal replicas: blocks that lie with live references, and requests that go on.
 use Rattle.std.specs.Prelude.{◌≡◌, ℕ, ◌++◌, IsTrue, Some, List, [], ◌∷◌}
 use Rattle.std.specs.List.{Contains}
 use Rattle.crdt_core.specs.Members.{Has}
-use Rattle.crdt_core.specs.Order.{SameMembers}
 use Rattle.crdt_rows.specs.declared.version.Version.{Version}
 use Rattle.crdt_rows.specs.declared.any_row.AnyRow.{AnyRow}
 use Rattle.crdt_rows.specs.AnyRow.{any_join}
 use Rattle.row_codec.specs.Spelling.{eight}
 use Rattle.object_schema.specs.Schema.{words}
-use Rattle.table_model.specs.Rows.{row_at, rows, rows_in}
+use Rattle.table_model.specs.Rows.{row_at}
 use Rattle.cluster_machine.specs.Node.{Call, resting}
 use Rattle.machine_origins.specs.Origins.{stored_in}
+use Rattle.blake2_hash.specs.Hash.{digest_of}
 use Rattle.history_model.specs.declared.record.Kind.{Kind}
+use Rattle.history_model.specs.declared.record.Kind.TheVariants.{Get}
 use Rattle.history_model.specs.declared.record.Answer.TheVariants as answer
 use Rattle.history_model.specs.declared.record.Cause.TheVariants.{Superseded}
 use Rattle.history_model.specs.declared.record.Record.TheVariants.{Began, Finished, Ended}
@@ -25,14 +26,6 @@ use Rattle.flow_model.specs.Blocks.{piece, piece_hash, has_piece, is_long}
 use Rattle.flow_model.specs.Rows.{complete, reference_row}
 use Rattle.store_model.specs.Run.{World, Moving, State, start, Draw}
 use Rattle.store_model.specs.Acts.{Act, acted, after_acts}
-
--- ---- equal
-
--- two nodes whose lists of accepted rows of a partition have the same members have the same rows of it
-abbrev pub IsEqual : World → Type 0
-IsEqual w =
-    (n m p : ℕ) → SameMembers (rows_in words p (w.nodes n).accepted) (rows_in words p (w.nodes m).accepted) →
-    rows any_join words (rows_in words p (w.nodes n).accepted) ≡ rows any_join words (rows_in words p (w.nodes m).accepted)
 
 -- ---- undeleted
 
@@ -82,8 +75,14 @@ IsAnchored acts =
 abbrev pub GoesOn : State → Type 0
 GoesOn s = (n : ℕ) (c : Call AnyRow) → Has (s.world.nodes n).calls c → c.present ≡ resting → ⊥
 
+-- request q ended since the version with this identifier was overwritten; a get's is a version of the object that it names, as digests tell buckets
+pub record IsReplaced (acts : List Act) (q id : ℕ) : Type 0 where
+  pub draw : Draw
+  pub drawn : Contains (after_acts start acts).draws draw
+  pub id_is : draw.version.id ≡ id
+  pub overwritten : IsOverwritten acts draw.name draw.version
+  pub own : (n : ℕ) (bucket key : List ℕ) → Contains (after_acts start acts).history (Began q n Get bucket key) → (digest_of draw.name.bucket ≡ digest_of bucket) × (draw.name.key ≡ key)
+
 -- a request ended superseded only where the version that it read was overwritten
 abbrev pub IsRightlySuperseded : List Act → Type 0
-IsRightlySuperseded acts =
-    let s = after_acts start acts in
-    (q id : ℕ) → Contains s.history (Ended q (Superseded id)) → (d : Draw) × Contains s.draws d × (d.version.id ≡ id) × IsOverwritten acts d.name d.version
+IsRightlySuperseded acts = (q id : ℕ) → Contains (after_acts start acts).history (Ended q (Superseded id)) → IsReplaced acts q id

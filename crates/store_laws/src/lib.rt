@@ -1,27 +1,52 @@
 //! What holds over every list of acts of the object store. No body does anything: each is called for its contract.
 #![tactic(auto)]
 
-ghost use Rattle.std.specs.Prelude.{List};
+ghost use Rattle.std.specs.Prelude.{◌≡◌, None, List};
+ghost use Rattle.crdt_rows.specs.AnyRow.{any_join};
+ghost use Rattle.object_schema.specs.Schema.{words};
+ghost use Rattle.cluster_machine.specs.World.{undelivered};
+ghost use Rattle.cluster_machine.specs.Worlds.{FitAll};
 ghost use Rattle.store_model.specs.Run.{start};
-ghost use Rattle.store_model.specs.Acts.{Act, AreLawfulActs, ActsFit, after_acts};
-ghost use Rattle.store_model.specs.Fresh.{IsFresh};
-ghost use Rattle.store_laws.specs.Written.{GivesWhatWasWritten};
+ghost use Rattle.store_model.specs.Acts.{Act, drain, all_messages, AreLawfulActs, ActsFit, acted, after_acts};
+ghost use Rattle.store_model.specs.Events.{Turn, acts_of, AreScheduled};
+ghost use Rattle.history_model.specs.Fresh.{Fresh};
+ghost use Rattle.store_model.specs.Fresh.{NoClash, IsFresh};
+ghost use Rattle.store_model.specs.Moments.{IsMoment};
+ghost use Rattle.store_model.specs.Equal.{AreEqual};
+ghost use Rattle.store_model.specs.Written.{GivesWhatWasWritten};
 
 use object_schema::S3Schema;
+use table_model::same_members_give_same_rows;
 use world_reads::{
-    every_world_has_kept_reads, every_world_is_sound, every_world_reads_stored_rows,
+    every_installed_world_reads_what_was_kept, every_world_gives_windows,
+    every_world_has_kept_reads, every_world_has_proper_rows, every_world_is_sound,
+    every_world_reads_stored_rows,
 };
 
 /// Whatever comes, and whichever layouts are given, an answered get, head or list covers, for each key that it names, every
 /// put, delete and copy of that key that was acknowledged before it began: with a version that is not below, or with none
 /// where a delete marker that is not below was what it read. And what it shows was drawn before it finished, by a put or
-/// copy of that key.
+/// copy of that key, and such a delete marker by a delete of it.
 pub fn fresh_reads()
     ensures { (acts : List Act) → AreLawfulActs start acts → ActsFit start acts → IsFresh (after_acts start acts) }
 {
     every_world_is_sound::<S3Schema>();
     every_world_has_kept_reads::<S3Schema>();
     every_world_reads_stored_rows::<S3Schema>();
+    every_world_gives_windows::<S3Schema>();
+    every_installed_world_reads_what_was_kept::<S3Schema>();
+}
+
+/// Whatever comes, and whichever layouts are given, the reads of a run are fresh by its records alone, where no two of its
+/// buckets' names have one digest.
+pub fn records_are_fresh()
+    ensures { (acts : List Act) → AreLawfulActs start acts → ActsFit start acts → NoClash (after_acts start acts).buckets → Fresh (after_acts start acts).history }
+{
+    every_world_is_sound::<S3Schema>();
+    every_world_has_kept_reads::<S3Schema>();
+    every_world_reads_stored_rows::<S3Schema>();
+    every_world_gives_windows::<S3Schema>();
+    every_installed_world_reads_what_was_kept::<S3Schema>();
 }
 
 /// Whatever comes, and whichever layouts are given, no two writes draw one version, so that the bytes that were written as a
@@ -34,4 +59,40 @@ pub fn reads_give_what_was_written()
     every_world_is_sound::<S3Schema>();
     every_world_has_kept_reads::<S3Schema>();
     every_world_reads_stored_rows::<S3Schema>();
+    every_world_gives_windows::<S3Schema>();
+    every_installed_world_reads_what_was_kept::<S3Schema>();
+}
+
+/// Where as many deliveries are asked for as messages can have numbers, and every number fits, no message waits after them.
+pub fn draining_leaves_nothing()
+    ensures { (acts : List Act) → AreLawfulActs start acts → ActsFit start acts →
+        (let s = after_acts start acts in let drained = acted s (drain all_messages) in FitAll any_join words s.world drained.moves → undelivered drained.state.world ≡ None) }
+{
+    every_world_is_sound::<S3Schema>();
+    every_world_has_kept_reads::<S3Schema>();
+    every_world_reads_stored_rows::<S3Schema>();
+    every_world_gives_windows::<S3Schema>();
+    every_installed_world_reads_what_was_kept::<S3Schema>();
+}
+
+/// The acts that lead to a moment of a run are lawful, and fit; so each law over lists of acts holds at each moment. Those
+/// of a moment of a schedule are acts of a schedule, and so is the act that an event is.
+pub fn moments_are_runs()
+    ensures runs { (acts moment : List Act) → AreLawfulActs start acts → ActsFit start acts → IsMoment acts moment → AreLawfulActs start moment × ActsFit start moment }
+    ensures scheduled { (acts moment : List Act) → AreScheduled acts → IsMoment acts moment → AreScheduled moment }
+    ensures events { (turns : List Turn) → AreScheduled (acts_of turns) }
+{}
+
+/// Whatever comes, two nodes that accepted rows of a partition with the same members, in whatever order and however often,
+/// have the same rows of it and the same roots; and if it is so of all their rows, they show the same rows and the same top.
+pub fn replicas_are_equal()
+    ensures { (acts : List Act) → AreLawfulActs start acts → ActsFit start acts → AreEqual acts }
+{
+    every_world_is_sound::<S3Schema>();
+    every_world_has_kept_reads::<S3Schema>();
+    every_world_reads_stored_rows::<S3Schema>();
+    every_world_gives_windows::<S3Schema>();
+    every_installed_world_reads_what_was_kept::<S3Schema>();
+    every_world_has_proper_rows::<S3Schema>();
+    same_members_give_same_rows::<S3Schema>();
 }

@@ -1,24 +1,31 @@
 -- What may happen in a run, and the run of a list of it.
-use Rattle.std.specs.Prelude.{◌≤◌, ℕ, ⊤, length, List, [], ◌∷◌, ◌++◌, map}
+use Rattle.std.specs.Prelude.{◌≡◌, ◌≤◌, ◌==◌, ◌^◌, ◌-◌, ℕ, ⊤, cond, length, Option, Some, None, List, [], ◌∷◌, ◌++◌, map}
 use Rattle.crdt_rows.specs.declared.any_row.AnyRow.{AnyRow}
 use Rattle.crdt_rows.specs.AnyRow.{any_join}
+use Rattle.layout_roles.specs.declared.layout.Layout.{Layout}
 use Rattle.object_schema.specs.Schema.{words}
 use Rattle.cluster_machine.specs.declared.step.Step.{Step}
 use Rattle.cluster_machine.specs.declared.step.Step.TheVariants.{Deliver, Expire, Restart, Open, Phase, Close}
-use Rattle.cluster_machine.specs.Worlds.{Done as Effect, IsMeant, IsLawful, FitAll}
+use Rattle.cluster_machine.specs.World.{forget_delivered}
+use Rattle.cluster_machine.specs.Choices.{IsFirst}
+use Rattle.cluster_machine.specs.Worlds.{Done as Effect, IsMeant, IsLawful, FitAll, installed}
 use Rattle.history_model.specs.declared.record.Cause.TheVariants.{Expired, Restarted}
 use Rattle.history_model.specs.declared.record.Record.{Record}
 use Rattle.history_model.specs.declared.record.Record.TheVariants.{Ended}
 use Rattle.flow_model.specs.declared.order.Order.{Order}
 use Rattle.flow_model.specs.declared.order.Order.TheVariants as order
+use Rattle.flow_model.specs.declared.flow.FlowEnd.{FlowEnd}
 use Rattle.store_model.specs.Run.{Moving, State, Outcome, silent, effect, doing, begins, delivers, drains}
 
--- a step of the world, a request at a node, a delivery, deliveries up to a number, a bucket, or a size of blocks
+-- a step of the world, a first layout put into the views of its nodes, a request at a node, a delivery, deliveries up to a number, that delivered messages are forgotten, that the end of a request is taken, a bucket, or a size of blocks
 pub data Act : Type 0 where
   moves : Moving → Act
+  installs : Layout → Act
   asks : ℕ → Order → Act
   delivery : ℕ → Act
   drain : ℕ → Act
+  forgets : Act
+  takes : ℕ → Act
   adds : List ℕ → Act
   cuts : ℕ → Act
 
@@ -34,12 +41,29 @@ plain s m =
     let e = effect s m in
     record { state = record (doing s m) { history = s.history ++ endings m.step e }; moves = m ∷ []; new_versions = []; refused = e.refused; words = e.words; lines = e.tells }
 
+-- how request q ended by itself, if that wasn't taken
+abbrev pub end_of : List (ℕ × FlowEnd) → ℕ → Option FlowEnd
+end_of [] q = None
+end_of (e ∷ es) q = cond (e.0 == q) (Some e.1) (end_of es q)
+
+-- the ends of requests without that of request q
+abbrev pub without_end : List (ℕ × FlowEnd) → ℕ → List (ℕ × FlowEnd)
+without_end [] q = []
+without_end (e ∷ es) q = cond (e.0 == q) es (e ∷ without_end es q)
+
+-- as many deliveries as messages can have numbers: where so many are asked for, all messages are delivered
+unfoldable pub all_messages : ℕ
+all_messages = 2 ^ 64 - 1
+
 -- what comes of an act
 abbrev pub acted : State → Act → Outcome
 acted s (moves m) = plain s m
+acted s (installs first) = silent (record s { world = installed any_join words s.world first })
 acted s (asks n order) = begins s n order
 acted s (delivery m) = delivers s m
 acted s (drain n) = drains n s
+acted s forgets = silent (record s { world = forget_delivered s.world })
+acted s (takes q) = silent (record s { ends = without_end s.ends q })
 acted s (adds name) = silent (record s { buckets = s.buckets ++ name ∷ [] })
 acted s (cuts block) = silent (record s { block = block })
 
@@ -63,9 +87,10 @@ HasKey (order.Delete bucket key) = 1 ≤ length key
 HasKey (order.Copy from_bucket from_key bucket key headers) = 1 ≤ length key
 HasKey other = ⊤
 
--- the act may happen: a step of the world meets its conditions and is given what is lawful, and what is written has a key
+-- the act may happen: a step of the world meets its conditions and is given what is lawful, a layout that is installed is a greatest one of version 1, before any version was applied, and what is written has a key
 abbrev pub IsLawfulAct : State → Act → Type 0
 IsLawfulAct s (moves m) = IsOuter m.step × IsMeant m.step × IsLawful s.world m
+IsLawfulAct s (installs first) = IsFirst first × (s.world.applied ≡ 0)
 IsLawfulAct s (asks n order) = HasKey order
 IsLawfulAct s a = ⊤
 

@@ -1,5 +1,5 @@
 -- The events of a schedule as acts, and the run of a list of turns.
-use Rattle.std.specs.Prelude.{ℕ, zero, suc, ◌%◌, None, List, [], ◌∷◌, map}
+use Rattle.std.specs.Prelude.{ℕ, zero, suc, ⊤, ◌%◌, None, List, [], ◌∷◌, map}
 use Rattle.cluster_machine.specs.declared.step.Step.TheVariants as step
 use Rattle.cluster_machine.specs.Choices.{Decision}
 use Rattle.flow_model.specs.declared.order.Order.TheVariants as order
@@ -7,7 +7,7 @@ use Rattle.store_model.specs.declared.event.Event.{Event}
 use Rattle.store_model.specs.declared.event.Event.TheVariants.{Trio, Block, Bucket, Role, Redundancy, Apply, Tick, Skew, Put, Get, Head, Delete, Copy, List as Keys, Deliver, Lose, Drain, Expire, Restart, Gossip, Ack, Sync, SyncAck, Clean, Work, Repair}
 use Rattle.store_model.specs.declared.event.Numbered.{Numbered}
 use Rattle.store_model.specs.Run.{State, Outcome, plainly}
-use Rattle.store_model.specs.Acts.{Act, moves, asks, delivery, drain, adds, cuts, acted, after_acts}
+use Rattle.store_model.specs.Acts.{Act, moves, installs, asks, delivery, drain, forgets, adds, cuts, acted, after_acts}
 
 -- the bytes of an object of a schedule: size many, the first one fill, modulo 251
 abbrev pub object_bytes : ℕ → ℕ → List ℕ
@@ -42,6 +42,17 @@ act_of (SyncAck n) choice = moves (plainly (step.SyncAck n))
 act_of (Clean n) choice = moves (plainly (step.Clean n))
 act_of (Work n) choice = moves (plainly (step.Work n))
 act_of (Repair n) choice = moves (plainly (step.Repair n))
+
+-- an act of a schedule: no layout is installed, and no message is forgotten
+abbrev pub IsScheduled : Act → Type 0
+IsScheduled (installs first) = ⊥
+IsScheduled forgets = ⊥
+IsScheduled a = ⊤
+
+-- each of these acts is one of a schedule
+abbrev pub AreScheduled : List Act → Type 0
+AreScheduled [] = ⊤
+AreScheduled (a ∷ as') = IsScheduled a × AreScheduled as'
 
 -- what comes of an event
 abbrev pub outcome : State → Event → Decision → Outcome

@@ -1,5 +1,5 @@
 -- Fresh reads: what each finished get, head and list owes to the writes that were acknowledged before it began.
-use Rattle.std.specs.Prelude.{◌≡◌, ◌≤◌, ℕ, IsTrue, Some, List}
+use Rattle.std.specs.Prelude.{◌≡◌, ◌≤◌, ◌<◌, ℕ, IsTrue, Some, List}
 use Rattle.std.specs.List.{Contains}
 use Rattle.blake2_hash.specs.Blake2b.{blake2b}
 use Rattle.blake2_hash.specs.Hash.{digest_of}
@@ -12,7 +12,7 @@ use Rattle.wire_messages.specs.declared.phase.PhaseEnd.TheVariants.{Row, Window,
 use Rattle.history_model.specs.declared.record.Kind.{Kind}
 use Rattle.history_model.specs.declared.record.Answer.{Answer}
 use Rattle.history_model.specs.declared.record.Record.{Record}
-use Rattle.history_model.specs.Record.{is_read, is_source, finish, BeganAt, names, Shows}
+use Rattle.history_model.specs.Record.{is_read, is_delete, is_source, finish, BeganAt, names, Shows}
 use Rattle.history_model.specs.Fresh.{Below, IsAcknowledged}
 use Rattle.flow_model.specs.Says.{said_by, marked}
 use Rattle.store_model.specs.Run.{Draw, Saw, State}
@@ -41,7 +41,7 @@ pub record Covers (saw : List Saw) (q : ℕ) (bucket own : List ℕ) (answer : A
   pub versions : (v : Version) → Shows own answer key v → ¬ Below v w
   pub none : ((v : Version) → ¬ Shows own answer key v) → IsMarked saw q bucket key w
 
--- before place j the request with the version's identifier, a put or copy of this object, drew this version
+-- before place j the request with the version's identifier, a put or copy of this object that had begun, drew this version
 pub record IsDrawn (s : State) (j : ℕ) (bucket key : List ℕ) (version : Version) : Type 0 where
   pub draw : Draw
   pub drawn : Contains s.draws draw
@@ -52,6 +52,20 @@ pub record IsDrawn (s : State) (j : ℕ) (bucket key : List ℕ) (version : Vers
   pub is_source : IsTrue (is_source kind)
   pub place : ℕ
   pub began : BeganAt s.history place version.id kind bucket key
+  pub in_time : place < draw.moment
+  pub before : draw.moment ≤ j
+
+-- before place j a delete of this object that had begun drew a version that is not below w
+pub record HasDeleted (s : State) (j : ℕ) (bucket key : List ℕ) (w : Version) : Type 0 where
+  pub draw : Draw
+  pub drawn : Contains s.draws draw
+  pub not_below : ¬ Below draw.version w
+  pub name_is : draw.name ≡ record { bucket = bucket; key = key }
+  pub kind : Kind
+  pub is_delete : IsTrue (is_delete kind)
+  pub place : ℕ
+  pub began : BeganAt s.history place draw.request kind bucket key
+  pub in_time : place < draw.moment
   pub before : draw.moment ≤ j
 
 -- no two of these names have one digest
@@ -70,6 +84,8 @@ pub record IsFreshRead (s : State) (i j q : ℕ) (kind : Kind) (bucket own : Lis
   pub covers : (key : List ℕ) (w : Version) → IsTrue (names kind own key) → IsAcknowledged s.history i bucket key w → Covers s.saw q bucket own answer key w
   -- where the buckets' names have different digests, each version that it shows for a key that it names was drawn before it finished, by a put or copy of that key
   pub written : NoClash s.buckets → (key : List ℕ) (v : Version) → IsTrue (names kind own key) → Shows own answer key v → IsDrawn s j bucket key v
+  -- and where it shows none for a key of which a write was acknowledged before it began, a delete of that key drew a version that is not below before it finished
+  pub deleted : NoClash s.buckets → (key : List ℕ) (w : Version) → IsTrue (names kind own key) → IsAcknowledged s.history i bucket key w → ((v : Version) → ¬ Shows own answer key v) → HasDeleted s j bucket key w
 
 -- each finished read is fresh
 abbrev pub IsFresh : State → Type 0

@@ -5,3 +5,6 @@ pub mod Acts
 pub mod Events
 pub mod Turns
 pub mod Fresh
+pub mod Written
+pub mod Moments
+pub mod Equal

@@ -68,19 +68,20 @@ pub record Saw : Type 0 where
   pub request : ℕ
   pub end : PhaseEnd AnyRow
 
--- the world, the buckets and the size of blocks, the requests, and the history: what was begun and how it ended, which versions were drawn, and what phases gave
+-- the world, the buckets and the size of blocks, the requests, how they ended, and the history: what was begun and how it ended, which versions were drawn, and what phases gave
 pub record State : Type 0 where
   pub world : World
   pub buckets : List (List ℕ)
   pub block : ℕ
   pub asked : List Asked  -- request q at place q - 1
+  pub ends : List (ℕ × FlowEnd)  -- how requests ended by themselves, until that is taken; the oldest first
   pub history : List Record  -- the oldest first
   pub draws : List Draw  -- the newest first
   pub saw : List Saw  -- the newest first
 
 -- nothing has happened; blocks have a mebibyte
 abbrev pub start : State
-start = record { world = empty; buckets = []; block = 1048576; asked = []; history = []; draws = []; saw = [] }
+start = record { world = empty; buckets = []; block = 1048576; asked = []; ends = []; history = []; draws = []; saw = [] }
 
 -- the state after something happened, the steps of the world that it was, and what it told
 pub record Outcome : Type 0 where
@@ -188,7 +189,7 @@ goes s q asked draws flow phase =
 -- a request is done
 abbrev pub finishes : State → ℕ → Asked → FlowEnd → Outcome
 finishes s q asked end = record {
-  state = record (doing s (plainly (step.Close q))) { asked = set_flow s q asked None; history = s.history ++ record_of q end ∷ [] };
+  state = record (doing s (plainly (step.Close q))) { asked = set_flow s q asked None; ends = s.ends ++ (q, end) ∷ []; history = s.history ++ record_of q end ∷ [] };
   moves = plainly (step.Close q) ∷ [];
   new_versions = [];
   refused = None;

@@ -1,5 +1,5 @@
 -- A run into which a first layout is installed is a run of the machine whose first layout it is.
-use Rattle.std.specs.Prelude.{◌≡◌, ◌⊎◌, ◌≤◌, ◌+◌, Bool, true, false, leb, cond, IsTrue, List, [], ◌∷◌, ◌++◌, refl}
+use Rattle.std.specs.Prelude.{◌≡◌, ◌⊎◌, ◌≤◌, Bool, true, false, leb, cond, IsTrue, List, [], ◌∷◌, ◌++◌, refl}
 use Rattle.std.proofs.Common.{ap, sym, subst, ◌∙◌, inl, inr, arith}
 use Rattle.std.proofs.lemmas.Bool.{le-leb, lt-leb}
 use Rattle.std.proofs.lemmas.Grind.{flat_map-append}
@@ -67,7 +67,7 @@ module _ {R : Type 0} (join : R → R → R) (s : Words R) (first : Layout) wher
       same_refused (leb 1 w.applied) (refusal w (VersionTaken 1)) (trio_applies join s layouts trio stage_trio w) (trio_applies join s layouts first same_roles w) is_taken
   step_same w _ choice h = refl
 
-  applied_more : (w : Model R) (ms : List (Doing R)) → w.applied ≤ (run join s w ms).applied
+  pub applied_more : (w : Model R) (ms : List (Doing R)) → w.applied ≤ (run join s w ms).applied
   applied_more w [] = omega arith
   applied_more w (m ∷ ms) =
       let rest = applied_more (next join s w m) ms in

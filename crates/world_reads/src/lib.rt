@@ -2,18 +2,20 @@
 //! contract.
 #![tactic(auto)]
 
-ghost use Rattle.std.specs.Prelude.{List, ◌++◌};
+ghost use Rattle.std.specs.Prelude.{ℕ, List, ◌++◌};
 ghost use Rattle.std.specs.List.{Contains};
 ghost use Rattle.layout_roles.specs.declared.layout.Layout.{Layout};
+ghost use Rattle.table_model.specs.Rows.{AllProper};
 ghost use Rattle.cluster_machine.specs.Node.{Reading};
 ghost use Rattle.cluster_machine.specs.World.{empty};
 ghost use Rattle.cluster_machine.specs.Kept.{KeptReads};
 ghost use Rattle.machine_origins.specs.Origins.{ComesFrom, Gave, stored_in};
+ghost use Rattle.machine_origins.specs.Windows.{GaveWindow};
 ghost use Rattle.cluster_machine.specs.Worlds.{Doing, IsLawfulRun, IsLawfulStart, run, start, IsSound};
 
 use cluster_machine::applied::Applied;
 use layout_roles::{Cut, Layout};
-use machine_origins::every_read_gives_stored_rows;
+use machine_origins::{every_range_phase_gives_a_window, every_read_gives_stored_rows};
 use machine_reads::every_run_has_kept_reads;
 use table_schema::Schema;
 use world_laws::empty_world_is_sound;
@@ -37,6 +39,26 @@ pub fn every_world_reads_stored_rows<S: Schema>()
     every_read_gives_stored_rows::<S::Row, Layout, Applied, Cut>();
 }
 
+/// Each window that a range phase gave has rows of the object table, each at a key that the window names, in ascending
+/// order.
+pub fn every_world_gives_windows<S: Schema>()
+    ensures { (moves : List (Doing S.Row)) → IsLawfulRun S.Row.join S.words empty moves →
+        (r : Reading S.Row) → Contains (run S.Row.join S.words empty moves).reads r → GaveWindow S.words r }
+{
+    empty_world_is_sound::<S::Row>();
+    every_range_phase_gives_a_window::<S::Row, Layout, Applied, Cut>();
+}
+
+/// Each row that a node accepted is proper, in every world to which lawful steps lead, from the empty one and from one with
+/// an installed layout.
+pub fn every_world_has_proper_rows<S: Schema>()
+    ensures from_empty { (moves : List (Doing S.Row)) → IsLawfulRun S.Row.join S.words empty moves → (n : ℕ) → AllProper S.words ((run S.Row.join S.words empty moves).nodes n).accepted }
+    ensures from_installed { (before : List (Doing S.Row)) (first : Layout) (after : List (Doing S.Row)) → IsLawfulStart S.Row.join S.words before first → IsLawfulRun S.Row.join S.words (start S.Row.join S.words before first) after →
+        (n : ℕ) → AllProper S.words ((run S.Row.join S.words (start S.Row.join S.words before first) after).nodes n).accepted }
+{
+    empty_world_is_sound::<S::Row>();
+}
+
 /// A lawful run leads to a sound world. So each layout that some node knows, or some view on its way, has the greatest
 /// partition size for its roles.
 pub fn every_world_is_sound<S: Schema>()
@@ -46,16 +68,19 @@ pub fn every_world_is_sound<S: Schema>()
 }
 
 /// The same of every world into which a first layout was installed, after steps that applied none: reads give what was
-/// kept, and only what was stored, and each layout in use has the greatest partition size.
+/// kept, and only what was stored, range phases give windows, and each layout in use has the greatest partition size.
 pub fn every_installed_world_reads_what_was_kept<S: Schema>()
     ensures kept { (before : List (Doing S.Row)) (first : Layout) (after : List (Doing S.Row)) → IsLawfulStart S.Row.join S.words before first → IsLawfulRun S.Row.join S.words (start S.Row.join S.words before first) after →
         KeptReads S.Row.join S.words (run S.Row.join S.words (start S.Row.join S.words before first) after) }
     ensures stored { (before : List (Doing S.Row)) (first : Layout) (after : List (Doing S.Row)) → IsLawfulStart S.Row.join S.words before first → IsLawfulRun S.Row.join S.words (start S.Row.join S.words before first) after →
         (r : Reading S.Row) → Contains (run S.Row.join S.words (start S.Row.join S.words before first) after).reads r → Gave S.words (ComesFrom S.Row.join S.words (stored_in (before ++ after))) r }
+    ensures windows { (before : List (Doing S.Row)) (first : Layout) (after : List (Doing S.Row)) → IsLawfulStart S.Row.join S.words before first → IsLawfulRun S.Row.join S.words (start S.Row.join S.words before first) after →
+        (r : Reading S.Row) → Contains (run S.Row.join S.words (start S.Row.join S.words before first) after).reads r → GaveWindow S.words r }
     ensures sound { (before : List (Doing S.Row)) (first : Layout) (after : List (Doing S.Row)) → IsLawfulStart S.Row.join S.words before first → IsLawfulRun S.Row.join S.words (start S.Row.join S.words before first) after →
         IsSound (run S.Row.join S.words (start S.Row.join S.words before first) after) }
 {
     empty_world_is_sound::<S::Row>();
     every_run_has_kept_reads::<S::Row, Layout, Applied, Cut>();
     every_read_gives_stored_rows::<S::Row, Layout, Applied, Cut>();
+    every_range_phase_gives_a_window::<S::Row, Layout, Applied, Cut>();
 }

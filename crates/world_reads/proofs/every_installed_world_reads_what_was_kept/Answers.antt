@@ -25,5 +25,13 @@ returns-clause-stored g c before first after is h r there =
     (c.every_read_gives_stored_rows.ensures join s layouts first (λ roles. roles) 256 (whole join s first before after sound is) g.met.S.Schema.laws (whole_is_run join s first before after sound is h) r
     (subst (λ w. Contains w.reads r) (sym (whole_same join s first before after sound is)) there))
 
+pub returns-clause-windows : goal.returns-clause-windows
+returns-clause-windows g c before first after is h r there =
+    let join = g.S.Row.Crdt.join in
+    let s = g.S.Schema.words in
+    let sound = c.empty_world_is_sound.ensures in
+    c.every_range_phase_gives_a_window.ensures join s layouts first (λ roles. roles) 256 (whole join s first before after sound is) g.met.S.Schema.laws (whole_is_run join s first before after sound is h) r
+    (subst (λ w. Contains w.reads r) (sym (whole_same join s first before after sound is)) there)
+
 pub returns-clause-sound : goal.returns-clause-sound
 returns-clause-sound g c before first after is h = end_sound g.S.Row.Crdt.join g.S.Schema.words first before after c.empty_world_is_sound.ensures is h

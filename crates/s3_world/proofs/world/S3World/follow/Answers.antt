@@ -42,7 +42,7 @@ pub returns-in_ok-report-in-More-clause-plays : goal.returns-in_ok-report-in-Mor
 returns-in_ok-report-in-More-clause-plays c =
     more_plays c.args.self.now c.in-Some.i c.args.request c.in-Some.ensures.found.0 c.at_mut-asked.result.now c.at_mut-asked.ensures.value c.args.end c.in-Some-take.flow
     (sym c.take.ensures.value ∙ c.in-Some-take.is) c.clock-now.result c.clock-now.ensures c.in_ok-flow.field-0 c.in_ok-flow.ensures.is c.in-More.flow c.in-More.phase c.in-More.is
-    _ _ c.in_ok-report-in-More.report _ c.in_ok-report-in-More.ensures.steps c.take.ensures.after refl refl refl c.set.ensures c.accepted-in-More.ensures
+    _ _ c.in_ok-report-in-More.report _ c.in_ok-report-in-More.ensures.steps c.take.ensures.after refl refl refl refl c.set.ensures c.accepted-in-More.ensures
 
 pub returns-in-Wait-clause-plays : goal.returns-in-Wait-clause-plays
 returns-in-Wait-clause-plays c =

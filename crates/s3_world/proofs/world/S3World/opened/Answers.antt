@@ -21,6 +21,6 @@ returns-in_err-report-clause-causes c =
 pub returns-clause-plays : goal.returns-clause-plays
 returns-clause-plays c =
     opened_plays c.args.self.now c.args.node c.args.order c.step.new.self c.in_ok-step.field-0 c.in_ok-step.ensures.steps c.requests-number.result c.in_ok-flow.flow c.in_ok-flow.phase c.in_ok-flow.ensures.is c.requests-number.ensures
-    _ c.in_ok-report.report _ c.in_ok-report.ensures.steps refl refl
+    _ c.in_ok-report.report _ c.in_ok-report.ensures.steps refl refl refl
     (c.in_ok-push.ensures.ok ∙ ap (λ kind. c.args.self.now.requests ++ (record { node = c.args.node; kind = kind; flow = Some c.in_ok-flow.flow }) ∷ []) c.kind_of-kind.ensures)
     (c.in_ok-push-2.ensures.ok ∙ ap (λ r. c.args.self.now.history.0 ++ r ∷ []) c.in_ok-began.ensures.is) refl refl refl

@@ -1,4 +1,4 @@
-use Rattle.std.proofs.Common.{refl, sym, subst, None, [], ◌∷◌, ◌++◌}
+use Rattle.std.proofs.Common.{refl, sym, ap, subst, None, [], ◌∷◌, ◌++◌}
 use Rattle.store_model.specs.declared.event.Event.{Event}
 use Rattle.world_core.specs.Stands.{nothing_given}
 use Rattle.s3_world.specs.Stands.{PlaysEvent}
@@ -38,11 +38,11 @@ returns-in-Deliver-clause-causes c =
 
 pub returns-in-Drain-clause-plays : goal.returns-in-Drain-clause-plays
 returns-in-Drain-clause-plays c =
-    rw c.in-Drain.is (event_plays c.args.self.now c.drains.new.self (Drain c.in-Drain.count) (λ s. drains c.in-Drain.count s) (λ s. tt) (λ s. refl) c.drains.result c.drains.ensures.plays)
+    rw c.in-Drain.is (event_plays c.args.self.now c.drains.new.self (Drain c.in-Drain.count) (λ s. drains c.from.result s) (λ s. tt) (λ s. ap (λ n. drains n s) (sym c.from.ensures)) c.drains.result c.drains.ensures.plays)
 
 pub returns-in-Drain-clause-causes : goal.returns-in-Drain-clause-causes
 returns-in-Drain-clause-causes c =
-    rw c.in-Drain.is (event_overflows c.args.self.now c.drains.new.self (Drain c.in-Drain.count) (λ s. drains c.in-Drain.count s) (λ s. tt) (λ s. refl) c.drains.result c.drains.ensures.causes)
+    rw c.in-Drain.is (event_overflows c.args.self.now c.drains.new.self (Drain c.in-Drain.count) (λ s. drains c.from.result s) (λ s. tt) (λ s. ap (λ n. drains n s) (sym c.from.ensures)) c.drains.result c.drains.ensures.causes)
 
 pub returns-in_ok-order-in-Put-clause-plays : goal.returns-in_ok-order-in-Put-clause-plays
 returns-in_ok-order-in-Put-clause-plays c =

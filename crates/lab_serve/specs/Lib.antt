@@ -1,0 +1,4 @@
+pub mod Words
+pub mod Stop
+pub mod Plan
+pub mod Start

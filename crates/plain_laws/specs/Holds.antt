@@ -1,0 +1,118 @@
+-- When a cluster holds a plain map, and what it is to answer as one.
+use Rattle.std.specs.Prelude.{◌≡◌, ◌<◌, ℕ, false, IsTrue, ⊤, length, Option, Some, None, List, [], ◌∷◌, ◌++◌}
+use Rattle.std.specs.List.{Contains}
+use Rattle.layout_roles.specs.declared.layout.Layout.{Layout}
+use Rattle.blake2_hash.specs.Blake2b.{blake2b}
+use Rattle.blake2_hash.specs.Hash.{digest_of}
+use Rattle.crdt_rows.specs.declared.version.Version.{Version}
+use Rattle.crdt_rows.specs.AnyRow.{any_join}
+use Rattle.row_codec.specs.Spelling.{eight}
+use Rattle.object_schema.specs.Schema.{words}
+use Rattle.table_schema.specs.Words.{partition_at}
+use Rattle.table_model.specs.Rows.{row_at}
+use Rattle.quorum_model.specs.Quorum.{is_among}
+use Rattle.cluster_machine.specs.Layouts.{layouts, set_of}
+use Rattle.cluster_machine.specs.Blocks.{AllStocked}
+use Rattle.cluster_machine.specs.Run.{IsLayout}
+use Rattle.flow_model.specs.declared.order.Order.{Order}
+use Rattle.flow_model.specs.declared.order.Order.TheVariants as order
+use Rattle.flow_model.specs.declared.flow.Name.{Name}
+use Rattle.flow_model.specs.declared.flow.Content.{Content}
+use Rattle.flow_model.specs.declared.flow.FlowEnd.{FlowEnd}
+use Rattle.flow_model.specs.Blocks.{piece_hash, has_piece, is_long}
+use Rattle.flow_model.specs.Rows.{row_key, reference_row}
+use Rattle.flow_model.specs.Says.{whole, named_by}
+use Rattle.flow_laws.specs.Pieces.{named_pieces}
+use Rattle.store_model.specs.Run.{World}
+use Rattle.store_model.specs.Acts.{end_of}
+use Rattle.serve_model.specs.Stores.{Store}
+use Rattle.serve_model.specs.Clusters.{Cluster, cluster}
+use Rattle.drained_laws.specs.Calm.{IsAtRest}
+use Rattle.drained_laws.specs.Drained.{AreEqual, accepted_in}
+use Rattle.plain_laws.specs.Plain.{Has, never, deleted, object, Plain, has_at, row_of, plain}
+
+-- the nodes that a layout gives what lies at this position
+abbrev pub nodes_at : Layout → List ℕ → List ℕ
+nodes_at l position = set_of layouts l (partition_at position)
+
+-- a version's blocks: each node of its row has that row with all blocks of the bytes, and each node of a block has a live reference of the version to it
+pub record HasBlocks (l : Layout) (w : World) (version : Version) (block : ℕ) (c : Content) : Type 0 where
+  pub count : ℕ
+  pub no_more : has_piece block c.body count ≡ false
+  pub named : (n : ℕ) → IsTrue (is_among n (nodes_at l (digest_of (eight version.id)).0)) →
+      named_by (row_at any_join words (w.nodes n).accepted 2 (eight version.id)) (length c.body) ≡ whole (named_pieces block c.body 0 count)
+  pub referenced : (i n : ℕ) → IsTrue (has_piece block c.body i) → IsTrue (is_among n (nodes_at l (piece_hash block c.body i).0)) →
+      row_at any_join words (w.nodes n).accepted 3 ((piece_hash block c.body i).0 ++ eight version.id) ≡ Some (reference_row version.id block c.body i)
+
+-- the blocks of what is there, where it is kept in blocks
+abbrev pub HasItsBlocks : Layout → World → Has → Type 0
+HasItsBlocks l w never = ⊤
+HasItsBlocks l w (deleted version) = ⊤
+HasItsBlocks l w (object version block c) = IsTrue (is_long c.body) → HasBlocks l w version block c
+
+-- the cluster holds the map: nothing goes on, all members have one layout and no other, no clock is ahead,
+-- replicas are equal, every node has the blocks that its rows need, and of each name in a bucket that is there each of its
+-- three nodes has the row that says what the map has, and the blocks are there
+pub record Holds (c : Cluster) (P : Plain) : Type 0 where
+  pub layout : Layout
+  pub is_layout : IsLayout layouts 256 layout
+  pub members_are : c.members ≡ layouts.reading.members layout
+  pub rest : IsAtRest layouts layout c.run.world
+  pub skews : (n : ℕ) → c.run.world.skew_of n ≡ 0
+  pub equal : AreEqual any_join words layouts layout (accepted_in any_join words layouts layout c.run.world)
+  pub stocked : AllStocked (blake2b 32) words any_join c.run.world
+  pub rows : (name : Name) (n : ℕ) → Contains P.buckets name.bucket → IsTrue (is_among n (nodes_at layout (digest_of name.bucket).0)) →
+      row_at any_join words (c.run.world.nodes n).accepted 1 (row_key name) ≡ row_of name (has_at P name)
+  pub blocks : (name : Name) → Contains P.buckets name.bucket → HasItsBlocks layout c.run.world (has_at P name)
+  pub buckets : c.run.buckets ≡ P.buckets
+  pub block : c.run.block ≡ P.block
+  pub clock : c.run.world.time ≡ P.clock
+  pub ticked : c.ticked ≡ P.ticked
+  pub requests : length c.run.world.requests ≡ P.asked
+  pub asked : length c.run.asked ≡ P.asked
+  pub ends : (q : ℕ) → P.asked < q → end_of c.run.ends q ≡ None
+
+-- the cluster carries out the order as the map does: it ends with the map's answer, and holds what the map has become
+pub record Agrees (c : Cluster) (P : Plain) (time : ℕ) (order : Order) : Type 0 where
+  pub end : (cluster.carries c time order).end ≡ (plain.carries P time order).end
+  pub holds : Holds (cluster.carries c time order).state (plain.carries P time order).state
+
+-- what is there isn't kept in blocks
+abbrev pub IsInRow : Has → Type 0
+IsInRow never = ⊤
+IsInRow (deleted version) = ⊤
+IsInRow (object version block c) = is_long c.body ≡ false
+
+-- a head, or a get of what isn't kept in blocks
+abbrev pub ReadsRow : Plain → Order → Type 0
+ReadsRow P (order.Get bucket key) = IsInRow (has_at P (record { bucket = bucket; key = key }))
+ReadsRow P (order.Head bucket key) = ⊤
+ReadsRow P order = ⊥
+
+-- a delete, or a put of bytes that aren't kept in blocks, over what isn't kept in blocks
+abbrev pub WritesRow : Plain → Order → Type 0
+WritesRow P (order.Put bucket key body headers) = (is_long body ≡ false) × IsInRow (has_at P (record { bucket = bucket; key = key }))
+WritesRow P (order.Delete bucket key) = IsInRow (has_at P (record { bucket = bucket; key = key }))
+WritesRow P order = ⊥
+
+-- a copy of what isn't kept in blocks, over what isn't kept in blocks
+abbrev pub CopiesRow : Plain → Order → Type 0
+CopiesRow P (order.Copy from_bucket from_key bucket key headers) = IsInRow (has_at P (record { bucket = from_bucket; key = from_key })) × IsInRow (has_at P (record { bucket = bucket; key = key }))
+CopiesRow P order = ⊥
+
+-- ---- stores without objects in blocks
+
+-- no object is kept in blocks
+abbrev pub AllInRows : Plain → Type 0
+AllInRows P = (name : Name) → IsInRow (has_at P name)
+
+-- no list, and no put of bytes that are kept in blocks
+abbrev pub IsOfRows : Order → Type 0
+IsOfRows (order.Put bucket key body headers) = is_long body ≡ false
+IsOfRows (order.List bucket prefix) = ⊥
+IsOfRows order = ⊤
+
+-- how orders end, each with its time
+abbrev pub ends_of : {S : Type 0} → Store S → S → List (ℕ × Order) → List (Option FlowEnd)
+ends_of store s [] = []
+ends_of store s (o ∷ os) = let carried = store.carries s o.0 o.1 in carried.end ∷ ends_of store carried.state os

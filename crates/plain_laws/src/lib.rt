@@ -1,0 +1,84 @@
+//! A cluster that carries out one request after the other, each drained, answers as a plain map does. No body does anything:
+//! each is called for its contract.
+//!
+//! `Plain` (specs/) is the store that is one map; `Holds` says when a cluster holds one, and `Agrees` that it carries out an
+//! order as the map does: it ends with the map's answer, and then holds what the map has become. That is proved of all
+//! orders but lists, where what is read and written isn't kept in blocks.
+#![tactic(auto)]
+
+ghost use Rattle.std.specs.Prelude.{◌≡◌, ℕ, List, [], ◌∷◌, Some, None};
+ghost use Rattle.std.specs.List.{AllByRecursion};
+ghost use Rattle.layout_roles.specs.declared.layout.Layout.{Layout};
+ghost use Rattle.cluster_machine.specs.Choices.{IsFirst};
+ghost use Rattle.cluster_machine.specs.Layouts.{layouts};
+ghost use Rattle.flow_model.specs.declared.order.Order.{Order};
+ghost use Rattle.flow_model.specs.declared.order.Order.TheVariants as order;
+ghost use Rattle.flow_model.specs.declared.flow.FlowEnd.TheVariants.{Stored, Found, Nothing};
+ghost use Rattle.flow_model.specs.Rows.{meta_of};
+ghost use Rattle.store_model.specs.Fresh.{NoClash};
+ghost use Rattle.store_model.specs.Run.{start};
+ghost use Rattle.store_model.specs.Acts.{installs, acted};
+ghost use Rattle.serve_model.specs.Stores.{OrdersFit, after_orders};
+ghost use Rattle.serve_model.specs.Clusters.{Cluster, cluster, fits};
+ghost use Rattle.plain_laws.specs.Plain.{Plain, plain, IsNumbered, AreInOrder};
+ghost use Rattle.plain_laws.specs.Holds.{Holds, Agrees, ReadsRow, WritesRow, CopiesRow, AllInRows, IsOfRows, ends_of};
+
+/// A first layout that is installed where nothing has happened yet, with whatever buckets and size of blocks, holds the
+/// empty map.
+pub fn a_first_layout_holds_the_empty_map()
+    ensures { (first : Layout) (buckets : List (List ℕ)) (block ticked : ℕ) → IsFirst first →
+        Holds (record { run = (acted (record start { buckets = buckets; block = block }) (installs first)).state; ticked = ticked; members = layouts.reading.members first })
+        (record { buckets = buckets; block = block; clock = 0; ticked = ticked; asked = 0; entries = [] }) }
+{}
+
+/// A head, and a get of what isn't kept in blocks, ends with the map's answer, and the cluster holds the same map.
+pub fn reads_answer_as_the_map_does()
+    ensures { (c : Cluster) (P : Plain) (time : ℕ) (order : Order) → Holds c P → fits c time order → ReadsRow P order → Agrees c P time order }
+{}
+
+/// A delete, and a put of bytes that aren't kept in blocks, over what isn't kept in blocks, ends with the map's answer, and
+/// the cluster holds what the map has become; where no two names of buckets have one digest.
+pub fn writes_answer_as_the_map_does()
+    ensures { (c : Cluster) (P : Plain) (time : ℕ) (order : Order) → Holds c P → NoClash P.buckets → fits c time order → WritesRow P order → Agrees c P time order }
+{}
+
+/// So does a copy of what isn't kept in blocks, over what isn't kept in blocks.
+pub fn copies_answer_as_the_map_does()
+    ensures { (c : Cluster) (P : Plain) (time : ℕ) (order : Order) → Holds c P → NoClash P.buckets → fits c time order → CopiesRow P order → Agrees c P time order }
+{}
+
+/// Where no object is kept in blocks, any orders but lists and puts of bytes that are kept in blocks, one after the other, end
+/// as the map's do, and the cluster then holds what the map has become. So it is from a first layout on, where the map is
+/// empty at first.
+pub fn small_stores_answer_as_the_map_does()
+    ensures held { (c : Cluster) (P : Plain) (orders : List (ℕ × Order)) → Holds c P → NoClash P.buckets → AllInRows P → AllByRecursion (λ (o : ℕ × Order). IsOfRows o.1) orders → OrdersFit cluster fits c orders →
+        (ends_of cluster c orders ≡ ends_of plain P orders) × Holds (after_orders cluster c orders) (after_orders plain P orders) }
+    ensures started { (first : Layout) (buckets : List (List ℕ)) (block : ℕ) (orders : List (ℕ × Order)) → IsFirst first → NoClash buckets → AllByRecursion (λ (o : ℕ × Order). IsOfRows o.1) orders →
+        (let c : Cluster = record { run = (acted (record start { buckets = buckets; block = block }) (installs first)).state; ticked = 0; members = layouts.reading.members first } in
+        OrdersFit cluster fits c orders →
+        ends_of cluster c orders ≡ ends_of plain (record { buckets = buckets; block = block; clock = 0; ticked = 0; asked = 0; entries = [] }) orders) }
+{}
+
+/// An object is put, read, asked for, deleted, and read once more, at times 100 to 104; the delete's timestamp is the
+/// clock's. Deleted twice more at the same time, the last one comes after what is there.
+pub fn a_plain_store_in_use()
+    ensures { let bucket = 98 ∷ [] in
+        let key = 107 ∷ [] in
+        let meta = meta_of (record { body = 1 ∷ 2 ∷ []; headers = [] }) in
+        ends_of plain (record { buckets = bucket ∷ []; block = 1048576; clock = 0; ticked = 0; asked = 0; entries = [] })
+        ((100, order.Put bucket key (1 ∷ 2 ∷ []) []) ∷ (101, order.Get bucket key) ∷ (102, order.Head bucket key) ∷ (103, order.Delete bucket key) ∷ (104, order.Get bucket key) ∷ (103, order.Delete bucket key) ∷ (103, order.Delete bucket key) ∷ []) ≡
+        Some (Stored (record { ts = 100; id = 1 }) (Some meta)) ∷ Some (Found (record { ts = 100; id = 1 }) meta (1 ∷ 2 ∷ [])) ∷ Some (Found (record { ts = 100; id = 1 }) meta [])
+        ∷ Some (Stored (record { ts = 103; id = 4 }) None) ∷ Some Nothing ∷ Some (Stored (record { ts = 104; id = 6 }) None) ∷ Some (Stored (record { ts = 105; id = 7 }) None) ∷ [] }
+{}
+
+/// In every map that orders lead to from the empty one, each version has the number of an order that was asked, and the
+/// versions under any two names have different numbers.
+pub fn every_version_has_a_number_of_its_own()
+    ensures first { (buckets : List (List ℕ)) (block clock ticked : ℕ) → IsNumbered (record { buckets = buckets; block = block; clock = clock; ticked = ticked; asked = 0; entries = [] }) }
+    ensures next { (P : Plain) (time : ℕ) (order : Order) → IsNumbered P → IsNumbered (plain.carries P time order).state }
+{}
+
+/// The entries of a map stay in order of keys, each name once, whatever is ordered.
+pub fn entries_stand_in_order()
+    ensures { (P : Plain) (time : ℕ) (order : Order) → AreInOrder P.entries → AreInOrder (plain.carries P time order).state.entries }
+{}

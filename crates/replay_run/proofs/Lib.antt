@@ -1,0 +1,9 @@
+pub mod Causes
+pub mod Turns
+pub mod Leading
+pub mod Drains
+pub mod Stepping
+pub mod Running
+pub mod Staged
+pub mod Lawful
+pub mod Ending

@@ -1,0 +1,120 @@
+-- How a replay of events ends, and what is written for it.
+use Rattle.std.specs.Prelude.{◌≡◌, ℕ, zero, suc, ◌<◌, ◌≤◌, ⊤, Bool, IsTrue, Option, Some, None, List, [], ◌∷◌, ◌++◌, codes}
+use Rattle.std.specs.List.{AllByRecursion, list_any, range_with_len}
+use Rattle.crdt_rows.specs.AnyRow.{any_join}
+use Rattle.object_schema.specs.Schema.{words}
+use Rattle.table_model.specs.Rows.{rows}
+use Rattle.table_model.specs.Top.{any_unspelled}
+use Rattle.lab_outside.specs.declared.exit.Status.{Status}
+use Rattle.lab_outside.specs.declared.exit.Status.TheVariants.{Done, Limit}
+use Rattle.cluster_machine.specs.World.{sent_bytes, undelivered}
+use Rattle.cluster_machine.specs.Worlds.{FitAll}
+use Rattle.cluster_machine.specs.Choices.{Decision}
+use Rattle.store_model.specs.declared.event.Event.{Event}
+use Rattle.store_model.specs.declared.event.Event.TheVariants.{Drain}
+use Rattle.store_model.specs.declared.event.Numbered.{Numbered}
+use Rattle.store_model.specs.Run.{World, State, Outcome, start, delivers}
+use Rattle.store_model.specs.Events.{Turn, events_of, outcome, after, run}
+use Rattle.store_model.specs.Turns.{IsLawful, AreLawful, FitsOutcome}
+use Rattle.text_model.specs.Transcript.{turns_text, transcript}
+
+-- how many bytes the messages of a replay may count that were ever sent
+abbrev pub sent_limit : ℕ
+sent_limit = 268435456
+
+-- more was sent
+abbrev pub sent_line : List ℕ
+sent_line = codes "limit sent 268435456" ++ 10 ∷ []
+
+-- a number or row of the replay would not fit, or a node can't be shown
+abbrev pub number_line : List ℕ
+number_line = codes "limit number" ++ 10 ∷ []
+
+-- a step of a run: from this state, this comes of it
+pub record Step : Type 0 where
+  pub from : State
+  pub outcome : Outcome
+
+-- up to n deliveries, each of the least message that was neither delivered nor lost
+abbrev pub deliveries : ℕ → State → List Step
+deliveries zero s = []
+deliveries (suc n) s = elim (undelivered s.world) as (λ o. List Step) [
+  | None ↦ []
+  | Some m ↦ record { from = s; outcome = delivers s m } ∷ deliveries n (delivers s m).state
+]
+
+-- the steps of an event: the deliveries of a drain, and of another event the event itself
+abbrev pub steps_of : State → Event → Decision → List Step
+steps_of s (Drain n) choice = deliveries n s
+steps_of s event choice = record { from = s; outcome = outcome s event choice } ∷ []
+
+-- the messages that were ever sent count so many bytes
+abbrev pub HasSent : State → ℕ → Type 0
+HasSent s bytes = sent_bytes words s.world.messages ≡ Some bytes
+
+-- after the step every number and row fits, and no more was sent than may be
+pub record GoesOn (step : Step) : Type 0 where
+  pub fits : FitAll any_join words step.from.world step.outcome.moves
+  pub bytes : ℕ
+  pub sent : HasSent step.outcome.state bytes
+  pub within : bytes ≤ sent_limit
+
+-- after the step every number and row fits, and more was sent
+pub record SendsTooMuch (step : Step) : Type 0 where
+  pub fits : FitAll any_join words step.from.world step.outcome.moves
+  pub bytes : ℕ
+  pub sent : HasSent step.outcome.state bytes
+  pub beyond : sent_limit < bytes
+
+-- after the step there is no room for a number or a row
+abbrev pub LacksRoom : Step → Type 0
+LacksRoom step = FitsOutcome step.from step.outcome → ⊥
+
+-- the first of some steps after which a replay doesn't go on is so
+pub record StopsAt (IsSo : Step → Type 0) (steps : List Step) : Type 0 where
+  pub before : List Step
+  pub last : Step
+  pub later : List Step
+  pub whole : steps ≡ before ++ last ∷ later
+  pub go_on : AllByRecursion GoesOn before
+  pub is_so : IsSo last
+
+-- after each step of these turns a replay goes on
+abbrev pub AllGoOn : State → List Turn → Type 0
+AllGoOn s [] = ⊤
+AllGoOn s (t ∷ ts) = AllByRecursion GoesOn (steps_of s t.numbered.event t.choice) × AllGoOn (after s t) ts
+
+-- each apply was given what is computed from the staged roles, and after each step everything fits and no more was sent than may be
+pub record ArePlayed (turns : List Turn) : Type 0 where
+  pub lawful : AreLawful start turns
+  pub go_on : AllGoOn start turns
+
+-- these turns are the first of the events
+pub record AreFirst (events : List Numbered) (turns : List Turn) : Type 0 where
+  pub played : ArePlayed turns
+  pub later : List Numbered
+  pub whole : events ≡ events_of turns ++ later
+
+-- these are the turns before the event with the first step after which the replay doesn't go on, which is so
+pub record StopsAfter (IsSo : Step → Type 0) (events : List Numbered) (before : List Turn) : Type 0 where
+  pub played : ArePlayed before
+  pub next : Turn
+  pub later : List Numbered
+  pub whole : events ≡ events_of before ++ next.numbered ∷ later
+  pub lawful : IsLawful (run start before) next
+  pub stops : StopsAt IsSo (steps_of (run start before) next.numbered.event next.choice)
+
+-- node n of a world has a row without a spelling
+abbrev pub is_unshown : World → ℕ → Bool
+is_unshown w n = any_unspelled words (rows any_join words (w.nodes n).accepted)
+
+-- one of nodes 1 to 16 has such a row
+abbrev pub IsUnshown : State → Type 0
+IsUnshown s = IsTrue (list_any (is_unshown s.world) (range_with_len 1 16))
+
+-- how a replay of these events ends, and what is written for it: the whole transcript; or that of the events before the one with the first step after which there is no room, or more was sent than may be, or of all events where a node can't be shown after them, and the line of that limit. Which lawful layouts are given is free
+pub data IsReplay (events : List Numbered) (status : Status) (text : List ℕ) : Type 0 where
+  whole : (turns : List Turn) → events_of turns ≡ events → ArePlayed turns → status ≡ Done → text ≡ transcript turns → IsReplay events status text
+  number : (before : List Turn) → StopsAfter LacksRoom events before → status ≡ Limit → text ≡ turns_text start before ++ number_line → IsReplay events status text
+  sent : (before : List Turn) → StopsAfter SendsTooMuch events before → status ≡ Limit → text ≡ turns_text start before ++ sent_line → IsReplay events status text
+  unshown : (turns : List Turn) → events_of turns ≡ events → ArePlayed turns → IsUnshown (run start turns) → status ≡ Limit → text ≡ turns_text start turns ++ number_line → IsReplay events status text

@@ -1,0 +1,20 @@
+//! The replay of a schedule: its events one after the other in a store, and the transcript of what they tell.
+//!
+//! `replay` takes the events of a schedule and writes what each tells when it is whole, and at last the lines of the nodes
+//! and the end line. A run is one of steps: each event is one, and of a drain each delivery. After each step it is looked at
+//! whether everything fits and whether no more was sent than may be; the first step after which this isn't so ends the
+//! replay before its event is written (`ReplayStop`), and whoever called `replay` writes the line of that limit.
+//!
+//! `steps` takes events step by step, `tail` has what is written after the last event, and `transcript` writes.
+//! `every_replay_ends` is the law that a replay of any events has a stated end.
+#![tactic(auto)]
+
+mod laws;
+mod steps;
+mod stop;
+mod tail;
+mod transcript;
+
+pub use laws::every_replay_ends;
+pub use stop::ReplayStop;
+pub use transcript::replay;

@@ -1,0 +1,222 @@
+-- Acts, one after the other.
+use Rattle.std.proofs.Common.{◌≡◌, ℕ, ◌-◌, ◌⊎◌, inl, inr, List, [], ◌∷◌, ◌++◌, Option, Some, None, Result, Ok, Err, OnOk, IfOk, is_some, length, get_or, take, drop, ◌==◌, arith, true, false, refl, sym, ◌∙◌, ap, subst, append_assoc, append-nil}
+use Rattle.std.proofs.lemmas.List.{map-append, take_all}
+use Rattle.layout_roles.specs.declared.cut.Cut.{Cut}
+use Rattle.crdt_core.specs.Outcomes.{WantOr}
+use Rattle.crdt_core.specs.declared.memory.Memory.{Memory}
+use Rattle.crdt_core.specs.declared.memory.Memory.TheVariants.{Want, Full}
+use Rattle.cluster_machine.specs.declared.step.Refusal.{Refusal}
+use Rattle.cluster_machine.specs.declared.step.Step.TheVariants.{Tick, Work}
+use Rattle.flow_model.specs.declared.order.Order.{Order}
+use Rattle.flow_model.specs.declared.flow.FlowEnd.{FlowEnd}
+use Rattle.store_model.specs.declared.event.Event.{Event}
+use Rattle.store_model.specs.declared.event.Told.{Told}
+use Rattle.store_model.specs.Run.{State, plainly}
+use Rattle.store_model.specs.Acts.{Act, moves, asks, drain, forgets, takes, acted, after_acts, end_of, all_messages, AreLawfulActs, ActsFit, IsLawfulAct, HasKey}
+use Rattle.store_model.specs.Events.{act_of}
+use Rattle.store_model.specs.Turns.{FitsOutcome}
+use Rattle.s3_world.specs.declared.world.S3World.{S3World}
+use Rattle.s3_world.specs.Stands.{IsStore, HasStore, Becomes, Carries, Starts, Overflows, PlaysEvent, OverflowsEvent, DoesEvent}
+use Rattle.serve_model.specs.Clusters.{asker, acts_to_ask, acts_to_end, acts_past_end, acts_opened, acts_then, end_then, end_in, asking, acts_of_request, end_of_request, number_in, expiry, works, ActLacksRoom}
+use Rattle.serve_cluster.specs.Acting.{DoneActs, DoesActs, LacksRoom, TakesEnd, Finishes}
+
+acts_after : (s : State) (xs ys : List Act) → after_acts s (xs ++ ys) ≡ after_acts (after_acts s xs) ys
+acts_after s [] ys = refl
+acts_after s (x ∷ xs) ys = acts_after (acted s x).state xs ys
+
+acts_lawful : (s : State) (xs ys : List Act) → AreLawfulActs s xs → AreLawfulActs (after_acts s xs) ys → AreLawfulActs s (xs ++ ys)
+acts_lawful s [] ys h k = k
+acts_lawful s (x ∷ xs) ys h k = (h.0, acts_lawful (acted s x).state xs ys h.1 k)
+
+acts_fit : (s : State) (xs ys : List Act) → ActsFit s xs → ActsFit (after_acts s xs) ys → ActsFit s (xs ++ ys)
+acts_fit s [] ys h k = k
+acts_fit s (x ∷ xs) ys h k = (h.0, acts_fit (acted s x).state xs ys h.1 k)
+
+-- ---- acts that are done
+
+pub does_none : (w : S3World) → DoesActs w w []
+does_none w = λ s st. record { lawful = tt; fit = tt; stands = st }
+
+done_more : (s : State) (xs ys : List Act) (mid new : S3World) → DoneActs mid s xs → DoesActs mid new ys → DoneActs new s (xs ++ ys)
+done_more s xs ys mid new a f =
+    let b = f (after_acts s xs) a.stands in
+    record { lawful = acts_lawful s xs ys a.lawful b.lawful; fit = acts_fit s xs ys a.fit b.fit; stands = subst (λ t. IsStore new t) (sym (acts_after s xs ys)) b.stands }
+
+pub does_more : (old mid new : S3World) (xs ys : List Act) → DoesActs old mid xs → DoesActs mid new ys → DoesActs old new (xs ++ ys)
+does_more old mid new xs ys f g = λ s st. done_more s xs ys mid new (f s st) g
+
+-- a world that acts led to stands for a state
+pub store_after : (old new : S3World) (xs : List Act) → HasStore old → DoesActs old new xs → HasStore new
+store_after old new xs h f = (after_acts h.0 xs, (f h.0 h.1).stands)
+
+pub taken_store : (old new : S3World) (q : ℕ) → HasStore old → Becomes old new (λ s. acted s (takes q)) → HasStore new
+taken_store old new q h f = ((acted h.0 (takes q)).state, f h.0 h.1)
+
+-- ---- members that work, one after the other
+
+-- some members have worked, and these are left
+pub record Working (old new : S3World) (members rest : List ℕ) : Type 0 where
+  pub done : List ℕ
+  pub parts : done ++ rest ≡ members
+  pub does : DoesActs old new (works done)
+
+pub none_worked : (old : S3World) (members : List ℕ) → Working old old members members
+none_worked old members = record { done = []; parts = refl; does = does_none old }
+
+pub one_worked : (old mid new : S3World) (members rest : List ℕ) (n : ℕ) (later : List ℕ) → rest ≡ n ∷ later → Working old mid members rest → DoesActs mid new (works (n ∷ [])) → Working old new members later
+one_worked old mid new members rest n later e w f =
+    record {
+      done = w.done ++ n ∷ [];
+      parts = append_assoc w.done (n ∷ []) later ∙ (ap (λ ns. w.done ++ ns) (sym e) ∙ w.parts);
+      does = subst (DoesActs old new) (sym (map-append (λ m. moves (plainly (Work m))) w.done (n ∷ []))) (does_more old mid new (works w.done) (works (n ∷ [])) w.does f);
+    }
+
+pub all_worked : (old new : S3World) (members rest : List ℕ) → rest ≡ [] → Working old new members rest → DoesActs old new (works members)
+all_worked old new members rest e w =
+    let is : w.done ≡ members = sym (append-nil w.done) ∙ (ap (λ ns. w.done ++ ns) (sym e) ∙ w.parts) in
+    subst (λ ns. DoesActs old new (works ns)) is w.does
+
+-- members that are left are a first one and those after it
+pub first_left : (ns : List ℕ) → false ≡ (length ns == 0) → ns ≡ get_or ns 0 0 ∷ take (length ns - 1) (drop 1 ns)
+first_left [] e = absurd (let no' : false ≡ true = e in cc)
+first_left (n ∷ ns) e = ap (λ later. n ∷ later) (sym (take_all (length (n ∷ ns) - 1) ns (omega arith)))
+
+-- ---- acts without room
+
+lacks_after : (s : State) (xs : List Act) (mid : S3World) → DoneActs mid s xs → LacksRoom mid → ActLacksRoom s
+lacks_after s xs mid a f =
+    let l = f (after_acts s xs) a.stands in
+    let e = acts_after s xs l.acts in
+    record {
+      acts = xs ++ l.acts;
+      lawful = acts_lawful s xs l.acts a.lawful l.lawful;
+      fit = acts_fit s xs l.acts a.fit l.fit;
+      act = l.act;
+      may = subst (λ t. IsLawfulAct t l.act) (sym e) l.may;
+      lacks = subst (λ t. FitsOutcome t (acted t l.act) → ⊥) (sym e) l.lacks;
+    }
+
+pub lacks_more : (old mid : S3World) (xs : List Act) → DoesActs old mid xs → LacksRoom mid → LacksRoom old
+lacks_more old mid xs f g = λ s st. lacks_after s xs mid (f s st) g
+
+lacks_act : (s : State) (a : Act) → IsLawfulAct s a → (FitsOutcome s (acted s a) → ⊥) → ActLacksRoom s
+lacks_act s a may full = record { acts = []; lawful = tt; fit = tt; act = a; may = may; lacks = full }
+
+-- why a call gave up
+pub cause_more : {A B : Type 0} (e : Memory) → (A → B) → (e ≡ Want) ⊎ ((e ≡ Full) × A) → (e ≡ Want) ⊎ ((e ≡ Full) × B)
+cause_more e f (inl want) = inl want
+cause_more e f (inr full) = inr (full.0, f full.1)
+
+-- ---- what the next call answers is handed on
+
+pub does_next : {A : Type 0} (r : Result A Memory) (old mid new : S3World) (xs ys : List Act) → DoesActs old mid xs → OnOk r (DoesActs mid new ys) → OnOk r (DoesActs old new (xs ++ ys))
+does_next (Ok v) old mid new xs ys f g = does_more old mid new xs ys f g
+does_next (Err e) old mid new xs ys f g = tt
+
+pub causes_next : {A B C : Type 0} (r : Result A Memory) → (B → C) → WantOr r B → WantOr r C
+causes_next (Ok v) f h = tt
+causes_next (Err e) f h = cause_more e f h
+
+-- ---- the calls of a world
+
+does_event : (new : S3World) (told : Told) (s : State) (event : Event) (h : DoesEvent new told s event) → DoneActs new s (act_of event h.choice ∷ [])
+does_event new told s event h = record { lawful = (h.lawful, tt); fit = (h.does.fits, tt); stands = h.does.stands }
+
+pub ticked : (old new : S3World) (told : Told) (ms : ℕ) → PlaysEvent old new told (Event.Tick ms) → DoesActs old new (moves (plainly (Tick ms)) ∷ [])
+ticked old new told ms h = λ s st. does_event new told s (Event.Tick ms) (h s st)
+
+pub worked : (old new : S3World) (told : Told) (n : ℕ) → PlaysEvent old new told (Event.Work n) → DoesActs old new (works (n ∷ []))
+worked old new told n h = λ s st. does_event new told s (Event.Work n) (h s st)
+
+pub expired : (old new : S3World) (told : Told) (q : ℕ) → PlaysEvent old new told (Event.Expire q) → DoesActs old new (expiry q None)
+expired old new told q h = λ s st. does_event new told s (Event.Expire q) (h s st)
+
+pub expired_open : (old new : S3World) (told : Told) (q : ℕ) (end : Option FlowEnd) → is_some end ≡ false → PlaysEvent old new told (Event.Expire q) → DoesActs old new (expiry q end)
+expired_open old new told q None e h = expired old new told q h
+expired_open old new told q (Some end) e h = absurd (let no' : true ≡ false = e in cc)
+
+pub event_lacks : (old : S3World) (event : Event) → OverflowsEvent old event → LacksRoom old
+event_lacks old event h = λ s st. let l = h s st in lacks_act s (act_of event l.choice) l.lawful l.lacks
+
+pub drained : (old new : S3World) → Carries old new (λ s. acted s (drain all_messages)) → DoesActs old new (drain all_messages ∷ [])
+drained old new h = λ s st. let x = h s st in record { lawful = (tt, tt); fit = (x.1, tt); stands = x.0 }
+
+pub drain_lacks : (old : S3World) → Overflows old (λ s. acted s (drain all_messages)) → LacksRoom old
+drain_lacks old h = λ s st. lacks_act s (drain all_messages) tt (h s st)
+
+pub ask_lacks : (old : S3World) (n : ℕ) (order : Order) → HasKey order → Overflows old (λ s. acted s (asks n order)) → LacksRoom old
+ask_lacks old n order keyed h = λ s st. lacks_act s (asks n order) keyed (h s st)
+
+taken : (old new : S3World) (q : ℕ) → Becomes old new (λ s. acted s (takes q)) → DoesActs old new (takes q ∷ [])
+taken old new q h = λ s st. record { lawful = (tt, tt); fit = (tt, tt); stands = h s st }
+
+forgot : (old new : S3World) → Becomes old new (λ s. acted s forgets) → DoesActs old new (forgets ∷ [])
+forgot old new h = λ s st. record { lawful = (tt, tt); fit = (tt, tt); stands = h s st }
+
+pub took_end : (old mid late new : S3World) (q : ℕ) (end : Option FlowEnd) → ((s : State) → IsStore old s → end ≡ end_of s.ends q) → Becomes old mid (λ s. acted s (takes q)) → DoesActs mid late (expiry q end) → Becomes late new (λ s. acted s forgets) → TakesEnd old new q end
+took_end old mid late new q end is take expires forget = λ s st.
+    record {
+      end_is = is s st;
+      does = does_more old mid new (takes q ∷ []) (expiry q end ++ forgets ∷ []) (taken old mid q take) (does_more mid late new (expiry q end) (forgets ∷ []) expires (forgot late new forget)) s st;
+    }
+
+pub take_lacks : (old mid : S3World) (q : ℕ) → Becomes old mid (λ s. acted s (takes q)) → LacksRoom mid → LacksRoom old
+take_lacks old mid q take h = lacks_more old mid (takes q ∷ []) (taken old mid q take) h
+
+pub finished : (old mid new : S3World) (members : List ℕ) (q : ℕ) (end : Option FlowEnd) → DoesActs old mid (acts_to_end members) → TakesEnd mid new q end → Finishes old new members q end
+finished old mid new members q end f g = λ s st.
+    let a = f s st in
+    let b = g (after_acts s (acts_to_end members)) a.stands in
+    let P : Option FlowEnd → Type 0 = λ e. DoneActs new s (acts_to_end members ++ acts_past_end q e) in
+    let last : DoesActs mid new (acts_past_end q end) = λ t st'. (g t st').does in
+    record { end_is = b.end_is; does = subst P b.end_is (done_more s (acts_to_end members) (acts_past_end q end) mid new a last) }
+
+pub finish_next : (r : Result (Option FlowEnd) Memory) (old mid new : S3World) (members : List ℕ) (q : ℕ) → DoesActs old mid (acts_to_end members) → IfOk r (λ end. TakesEnd mid new q end) → IfOk r (λ end. Finishes old new members q end)
+finish_next (Ok end) old mid new members q f g = finished old mid new members q end f g
+finish_next (Err e) old mid new members q f g = tt
+
+-- ---- a request
+
+pub started_store : (mid new : S3World) (answer : Result ℕ (Refusal Cut)) (n : ℕ) (order : Order) → HasStore mid → Starts mid new answer n order → HasStore new
+started_store mid new answer n order h f = ((acted h.0 (asks n order)).state, (f h.0 h.1).0)
+
+module _ (members : List ℕ) (s : State) (ms : ℕ) (order : Order) where
+  pub asked : (mid new : S3World) (answer : Result ℕ (Refusal Cut)) → HasKey order → DoneActs mid s (moves (plainly (Tick ms)) ∷ []) → Starts mid new answer (asker members) order → DoneActs new s (acts_to_ask members ms order)
+  asked mid new answer keyed a h =
+      let t = (acted s (moves (plainly (Tick ms)))).state in
+      let x = h t a.stands in
+      record { lawful = (a.lawful.0, (keyed, tt)); fit = (a.fit.0, (x.1, tt)); stands = x.0 }
+
+  -- what is known of a request that was carried out
+  pub record RequestDone (new : S3World) (end : Option FlowEnd) : Type 0 where
+    pub end_is : end ≡ end_of_request members s ms order
+    pub does : DoneActs new s (acts_of_request members s ms order)
+
+  pub opened_done : (mid late new : S3World) (q : ℕ) (end : Option FlowEnd) → HasKey order → DoneActs mid s (moves (plainly (Tick ms)) ∷ []) → Starts mid late (Ok q) (asker members) order → Finishes late new members q end → RequestDone new end
+  opened_done mid late new q end keyed a h f =
+      let o = asking members s ms order in
+      let x = h (acted s (moves (plainly (Tick ms)))).state a.stands in
+      let done = asked mid late (Ok q) keyed a h in
+      let fin = f o.state x.0 in
+      let number : q ≡ number_in o.words = sym (ap number_in x.2.1) in
+      let P : Option (Refusal Cut) → Type 0 = λ r. end ≡ end_then members o.state (number_in o.words) r in
+      let Q : Option (Refusal Cut) → Type 0 = λ r. DoneActs new s (acts_to_ask members ms order ++ acts_then members o.state (number_in o.words) r) in
+      let R : ℕ → Type 0 = λ n. DoneActs new s (acts_to_ask members ms order ++ acts_opened members o.state n) in
+      let last : DoneActs new s (acts_to_ask members ms order ++ acts_opened members o.state q) =
+      record {
+        lawful = acts_lawful s (acts_to_ask members ms order) (acts_opened members o.state q) done.lawful fin.does.lawful;
+        fit = acts_fit s (acts_to_ask members ms order) (acts_opened members o.state q) done.fit fin.does.fit;
+        stands = subst (λ t. IsStore new t) (sym (acts_after s (acts_to_ask members ms order) (acts_opened members o.state q))) fin.does.stands;
+      } in
+      record {
+        end_is = subst P (sym x.2.0) (fin.end_is ∙ ap (end_in members o.state) number);
+        does = subst Q (sym x.2.0) (subst R number last);
+      }
+
+  pub refused_done : (mid new : S3World) (reason : Refusal Cut) → HasKey order → DoneActs mid s (moves (plainly (Tick ms)) ∷ []) → Starts mid new (Err reason) (asker members) order → RequestDone new None
+  refused_done mid new reason keyed a h =
+      let o = asking members s ms order in
+      let x = h (acted s (moves (plainly (Tick ms)))).state a.stands in
+      let P : Option (Refusal Cut) → Type 0 = λ r. None ≡ end_then members o.state (number_in o.words) r in
+      let Q : Option (Refusal Cut) → Type 0 = λ r. DoneActs new s (acts_to_ask members ms order ++ acts_then members o.state (number_in o.words) r) in
+      record { end_is = subst P (sym x.2) refl; does = subst Q (sym x.2) (asked mid new (Err reason) keyed a h) }

@@ -1,0 +1,12 @@
+use Rattle.serve_model.specs.Clusters.{acts_to_end}
+use Rattle.serve_cluster.proofs.Acting.{store_after, finish_next, lacks_more, causes_next}
+use Rattle.serve_cluster.proofs.acts.finish.Goals as goal
+
+pub take-requires : goal.take-requires
+take-requires c = store_after c.args.world.now c.to_end.new.world (acts_to_end c.args.members.now) c.requires c.in-Ok.ensures.does
+
+pub returns-in-Ok-clause-does : goal.returns-in-Ok-clause-does
+returns-in-Ok-clause-does c = finish_next c.take.result c.args.world.now c.to_end.new.world c.take.new.world c.args.members.now c.args.request c.in-Ok.ensures.does c.take.ensures.does
+
+pub returns-in-Ok-clause-causes : goal.returns-in-Ok-clause-causes
+returns-in-Ok-clause-causes c = causes_next c.take.result (lacks_more c.args.world.now c.to_end.new.world (acts_to_end c.args.members.now) c.in-Ok.ensures.does) c.take.ensures.causes

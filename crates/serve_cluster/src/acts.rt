@@ -1,0 +1,148 @@
+//! The acts of a request, on a world.
+ghost use Rattle.std.specs.Prelude.{◌≡◌, [], ◌∷◌, ◌++◌, OnOk, IfOk};
+ghost use Rattle.crdt_core.specs.Outcomes.{WantOr};
+ghost use Rattle.cluster_machine.specs.declared.step.Step.TheVariants.{Tick, Expire};
+ghost use Rattle.store_model.specs.Run.{plainly};
+ghost use Rattle.store_model.specs.Acts.{moves, drain, forgets, takes, all_messages};
+ghost use Rattle.s3_world.specs.Stands.{HasStore};
+ghost use Rattle.serve_model.specs.Clusters.{works, round as round_of, acts_to_end, acts_past_end, expiry};
+ghost use Rattle.serve_cluster.specs.Acting.{DoesActs, LacksRoom, TakesEnd, Finishes};
+
+use crdt_core::Memory;
+use flow_model::FlowEnd;
+use s3_world::{Event, S3World};
+
+/// The world's time goes on by so many milliseconds.
+pub(crate) fn tick(world: &mut S3World, ms: u64) -> Result<(), Memory>
+    requires { HasStore world.old }
+    ensures does { OnOk result (DoesActs world.old world.new (moves (plainly (Tick ms)) ∷ [])) }
+    ensures causes { WantOr result (LacksRoom world.old) }
+{
+    match world.step(&Event::Tick(ms)) {
+        Ok(_) => Ok(()),
+        Err(memory) => Err(memory),
+    }
+}
+
+// All messages are delivered.
+fn drain_all(world: &mut S3World) -> Result<(), Memory>
+    requires { HasStore world.old }
+    ensures does { OnOk result (DoesActs world.old world.new (drain all_messages ∷ [])) }
+    ensures causes { WantOr result (LacksRoom world.old) }
+{
+    match world.drain_all() {
+        Ok(()) => Ok(()),
+        Err(memory) => Err(memory),
+    }
+}
+
+// One member works off what waits at it.
+fn work(world: &mut S3World, member: u8) -> Result<(), Memory>
+    requires { HasStore world.old }
+    ensures does { OnOk result (DoesActs world.old world.new (works (member ∷ []))) }
+    ensures causes { WantOr result (LacksRoom world.old) }
+{
+    match world.step(&Event::Work(member)) {
+        Ok(_) => Ok(()),
+        Err(memory) => Err(memory),
+    }
+}
+
+// Each member works off what waits at it.
+fn work_all(world: &mut S3World, members: &[u8]) -> Result<(), Memory>
+    requires { HasStore world.old }
+    ensures does { OnOk result (DoesActs world.old world.new (works members.now)) }
+    ensures causes { WantOr result (LacksRoom world.old) }
+{
+    let mut rest = members;
+    'members: while !rest.is_empty() {
+        match work(world, rest[0]) {
+            Ok(()) => rest = &rest[1..],
+            Err(memory) => return Err(memory),
+        }
+    }
+    Ok(())
+}
+
+// Each member works, and all messages are delivered.
+fn round(world: &mut S3World, members: &[u8]) -> Result<(), Memory>
+    requires { HasStore world.old }
+    ensures does { OnOk result (DoesActs world.old world.new (round_of members.now)) }
+    ensures causes { WantOr result (LacksRoom world.old) }
+{
+    match work_all(world, members) {
+        Ok(()) => drain_all(world),
+        Err(memory) => Err(memory),
+    }
+}
+
+// Two rounds.
+fn rounds(world: &mut S3World, members: &[u8]) -> Result<(), Memory>
+    requires { HasStore world.old }
+    ensures does { OnOk result (DoesActs world.old world.new (round_of members.now ++ round_of members.now)) }
+    ensures causes { WantOr result (LacksRoom world.old) }
+{
+    match round(world, members) {
+        Ok(()) => round(world, members),
+        Err(memory) => Err(memory),
+    }
+}
+
+// A request that was asked comes to its end.
+fn to_end(world: &mut S3World, members: &[u8]) -> Result<(), Memory>
+    requires { HasStore world.old }
+    ensures does { OnOk result (DoesActs world.old world.new (acts_to_end members.now)) }
+    ensures causes { WantOr result (LacksRoom world.old) }
+{
+    match drain_all(world) {
+        Ok(()) => rounds(world, members),
+        Err(memory) => Err(memory),
+    }
+}
+
+// A request without an end is expired.
+fn expire(world: &mut S3World, request: u64, end: &Option<FlowEnd>) -> Result<(), Memory>
+    requires { HasStore world.old }
+    ensures does { OnOk result (DoesActs world.old world.new (expiry request end.now)) }
+    ensures causes { WantOr result (LacksRoom world.old) }
+{
+    if end.is_some() {
+        return Ok(());
+    }
+    match world.step(&Event::Expire(request)) {
+        Ok(_) => Ok(()),
+        Err(memory) => Err(memory),
+    }
+}
+
+// The end is taken, and delivered messages are forgotten.
+fn take(world: &mut S3World, request: u64) -> Result<Option<FlowEnd>, Memory>
+    requires { HasStore world.old }
+    ensures does { IfOk result (λ end. TakesEnd world.old world.new request end) }
+    ensures causes { WantOr result (LacksRoom world.old) }
+{
+    let end = world.take_end(request);
+    match expire(world, request, &end) {
+        Ok(()) => {
+            world.forget_delivered();
+            Ok(end)
+        }
+        Err(memory) => Err(memory),
+    }
+}
+
+/// A request that was opened comes to its end, which is taken. None where it has none.
+pub(crate) fn finish(
+    world: &mut S3World,
+    members: &[u8],
+    request: u64,
+) -> Result<Option<FlowEnd>, Memory>
+    requires { HasStore world.old }
+    ensures does { IfOk result (λ end. Finishes world.old world.new members.now request end) }
+    ensures causes { WantOr result (LacksRoom world.old) }
+{
+    match to_end(world, members) {
+        Ok(()) => take(world, request),
+        Err(memory) => Err(memory),
+    }
+}

@@ -1,0 +1,79 @@
+//! A world with its members.
+ghost use Rattle.std.specs.Prelude.{◌≡◌};
+ghost use Rattle.store_model.specs.Run.{State};
+ghost use Rattle.serve_model.specs.Clusters.{Cluster as Modelled, asker as asker_of, cluster, fits as fits_of, lacks as lacks_of};
+ghost use Rattle.s3_world.specs.Stands.{IsStore};
+
+use crate::acts::{finish, tick};
+use crdt_core::{List, Memory};
+use flow_model::{FlowEnd, Order};
+use s3_world::S3World;
+use serve_loop::Storage;
+
+/// A world, the members of its layout in order, and to which time it was brought, in milliseconds since 1970.
+#[derive(Drop)]
+pub struct Cluster {
+    world: S3World,
+    members: List<u8>,
+    ticked: u64,
+}
+
+// The first of the members.
+fn asker(members: &[u8]) -> u8
+    ensures { result ≡ asker_of members.now }
+{
+    match members.first() {
+        Some(member) => *member,
+        None => 0,
+    }
+}
+
+impl Cluster {
+    ghost use Rattle.serve_cluster.specs.Standing.{StandsFor};
+
+    /// A world whose time is 0, with the members of its one layout version, in order.
+    pub fn new(world: S3World, members: List<u8>) -> Cluster
+        ensures { (s : State) → IsStore world s → StandsFor result (record { run = s; ticked = 0; members = members }) }
+    {
+        Cluster {
+            world,
+            members,
+            ticked: 0,
+        }
+    }
+
+    /// The world, as it is now.
+    pub fn world(&self) -> &S3World
+        ensures { (c : Modelled) → StandsFor self.now c → IsStore result.now c.run }
+    {
+        &self.world
+    }
+}
+
+impl Storage for Cluster {
+    ghost use Rattle.serve_model.specs.Clusters.{Cluster as Modelled, cluster, fits as fits_of, lacks as lacks_of};
+    ghost use Rattle.serve_cluster.specs.Standing.{StandsFor};
+
+    ghost State = { Modelled };
+
+    ghost model = { cluster };
+
+    ghost stands = { StandsFor };
+
+    ghost fits = { fits_of };
+
+    ghost lacks = { lacks_of };
+
+    fn carry(&mut self, time: u64, order: Order) -> Result<Option<FlowEnd>, Memory> {
+        let ms = time.saturating_sub(self.ticked);
+        match tick(&mut self.world, ms) {
+            Ok(()) => self.ticked = self.ticked.max(time),
+            Err(memory) => return Err(memory),
+        }
+        match self.world.start(asker(self.members.as_slice()), order) {
+            Ok(Ok(number)) => finish(&mut self.world, self.members.as_slice(), number),
+            Ok(Err(_)) => Ok(None),
+            Err(memory) => Err(memory),
+        }
+    }
+}

@@ -1,0 +1,132 @@
+-- What is written has a key: the path of an object names one of a byte at least.
+use Rattle.std.proofs.Common.{◌≡◌, ℕ, ◌≤◌, List, [], ◌∷◌, Option, Some, None, Bool, true, false, length, if◌then◌else◌, Result, Ok, Err, sym, subst, arith}
+use Rattle.std.specs.List.{before_first, after_first}
+use Rattle.percent_encoding.specs.Percent.{percent_decode}
+use Rattle.flow_model.specs.declared.order.Order.{Order}
+use Rattle.flow_model.specs.declared.order.Order.TheVariants as order
+use Rattle.store_model.specs.Acts.{HasKey}
+use Rattle.http_wire.specs.declared.head.Head.{Head}
+use Rattle.s3_model.specs.declared.ask.Ask.{Ask}
+use Rattle.s3_model.specs.declared.ask.Ask.TheVariants as ask
+use Rattle.s3_model.specs.declared.page.After.{After}
+use Rattle.s3_model.specs.declared.fault.S3Fault.{S3Fault}
+use Rattle.s3_model.specs.declared.place.Place.{Place}
+use Rattle.s3_model.specs.declared.place.Place.TheVariants.{Root, Bucket, Object}
+use Rattle.s3_model.specs.Words.{is_empty, header, first_named}
+use Rattle.s3_model.specs.Headers.{has_refused_header}
+use Rattle.s3_model.specs.Lists.{list_with, list_of, is_list, max_of, url_of, after_of}
+use Rattle.s3_model.specs.Targets.{is_slash, place_in, place_past_slash, place_of, path_of, parameters_of, query_of, is_bad_target}
+use Rattle.s3_model.specs.Asks.{is_method, write_of, object_ask, bucket_ask, operation, operation_of, length_refusal, unless_refused, if_served, asked_of}
+use Rattle.s3_model.specs.Sources.{source_of}
+use Rattle.std.specs.Prelude.{⊤, codes, drop, option_map, ◌&&◌}
+use Rattle.s3_model.specs.declared.fault.Code.TheVariants.{InvalidRequest, NotImplemented}
+use Rattle.s3_model.specs.Faults.{fault_of}
+use Rattle.serve_model.specs.Judging.{IsKeyed, order_of}
+
+-- ---- an order has the key of its ask
+
+abbrev pub OrderKeyed : Option Order → Type 0
+OrderKeyed None = ⊤
+OrderKeyed (Some o) = HasKey o
+
+copy_keyed : (bucket key : List ℕ) (headers : Option (List (List ℕ × List ℕ))) (source : Option (List ℕ × List ℕ)) → 1 ≤ length key → OrderKeyed (option_map (λ (s : List ℕ × List ℕ). order.Copy s.0 s.1 bucket key headers) source)
+copy_keyed bucket key headers None k = tt
+copy_keyed bucket key headers (Some s) k = k
+
+orders_keyed : (a : Ask) (body : List ℕ) → IsKeyed a → OrderKeyed (order_of a body)
+orders_keyed ask.ListBuckets body k = tt
+orders_keyed (ask.HeadBucket bucket) body k = tt
+orders_keyed (ask.List bucket list delimiter url token start) body k = tt
+orders_keyed (ask.BadList bucket) body k = tt
+orders_keyed (ask.Get bucket key range) body k = tt
+orders_keyed (ask.Head bucket key range) body k = tt
+orders_keyed (ask.Delete bucket key) body k = k
+orders_keyed (ask.Put bucket key size md5 headers) body k = k
+orders_keyed (ask.Copy from bucket key headers) body k = copy_keyed bucket key headers (source_of from) k
+
+pub order_keyed : (a : Ask) (body : List ℕ) (o : Order) → IsKeyed a → Some o ≡ order_of a body → HasKey o
+order_keyed a body o k e = subst OrderKeyed (sym e) (orders_keyed a body k)
+
+-- ---- an ask has the key of its path
+
+abbrev AskKeyed : Option Ask → Type 0
+AskKeyed None = ⊤
+AskKeyed (Some a) = IsKeyed a
+
+abbrev ResultKeyed : Result Ask S3Fault → Type 0
+ResultKeyed (Ok a) = IsKeyed a
+ResultKeyed (Err fault) = ⊤
+
+abbrev PlaceKeyed : Place → Type 0
+PlaceKeyed Root = ⊤
+PlaceKeyed (Bucket bucket) = ⊤
+PlaceKeyed (Object bucket key) = 1 ≤ length key
+
+either : (b : Bool) (x y : Option Ask) → AskKeyed x → AskKeyed y → AskKeyed (if b then x else y)
+either true x y h k = h
+either false x y h k = k
+
+either_result : (b : Bool) (x y : Result Ask S3Fault) → ResultKeyed x → ResultKeyed y → ResultKeyed (if b then x else y)
+either_result true x y h k = h
+either_result false x y h k = k
+
+either_long : (b : Bool) (x y : ℕ) (xs ys : List ℕ) → 1 ≤ length (if b then x ∷ xs else y ∷ ys)
+either_long true x y xs ys = omega arith
+either_long false x y xs ys = omega arith
+
+decoded_long : (b : ℕ) (bs : List ℕ) → 1 ≤ length (percent_decode (b ∷ bs))
+unfolding percent_decode
+decoded_long b [] = omega arith
+decoded_long b (c ∷ []) = omega arith
+decoded_long b (high ∷ low ∷ rest) = either_long _ _ _ _ _
+
+place_in_keyed : (bucket key : List ℕ) → PlaceKeyed (place_in bucket key)
+place_in_keyed bucket [] = tt
+place_in_keyed bucket (b ∷ bs) = decoded_long b bs
+
+past_slash_keyed : (path : List ℕ) → PlaceKeyed (place_past_slash path)
+past_slash_keyed [] = tt
+past_slash_keyed (b ∷ bs) = place_in_keyed (before_first is_slash (b ∷ bs)) (after_first is_slash (b ∷ bs))
+
+write_keyed : (head : Head) (bucket key : List ℕ) (source : Option (List ℕ)) → 1 ≤ length key → IsKeyed (write_of head bucket key source)
+write_keyed head bucket key None k = k
+write_keyed head bucket key (Some from) k = k
+
+object_keyed : (head : Head) (bucket key : List ℕ) → 1 ≤ length key → AskKeyed (object_ask head bucket key)
+object_keyed head bucket key k =
+    either (is_method head (codes "GET")) _ _ tt
+    (either (is_method head (codes "HEAD")) _ _ tt
+    (either (is_method head (codes "DELETE")) _ _ k
+    (either (is_method head (codes "PUT")) _ _ (write_keyed head bucket key (header head.headers (codes "x-amz-copy-source")) k) tt)))
+
+list_keyed : (bucket : List ℕ) (parameters : List (List ℕ × List ℕ)) (most : Option ℕ) (url : Option Bool) (after : Option After) → IsKeyed (list_with bucket parameters most url after)
+list_keyed bucket parameters None url after = tt
+list_keyed bucket parameters (Some most) None after = tt
+list_keyed bucket parameters (Some most) (Some url) None = tt
+list_keyed bucket parameters (Some most) (Some url) (Some after) = tt
+
+bucket_keyed : (head : Head) (bucket : List ℕ) (parameters : List (List ℕ × List ℕ)) → AskKeyed (bucket_ask head bucket parameters)
+bucket_keyed head bucket parameters =
+    let listed = list_of bucket parameters in
+    either (is_method head (codes "HEAD") && is_empty parameters) (Some (ask.HeadBucket bucket)) (if is_method head (codes "GET") && is_list parameters then Some listed else None) tt
+    (either (is_method head (codes "GET") && is_list parameters) (Some listed) None
+    (list_keyed bucket parameters (max_of (first_named parameters (codes "max-keys"))) (url_of (first_named parameters (codes "encoding-type"))) (after_of (first_named parameters (codes "continuation-token")) (first_named parameters (codes "start-after")))) tt)
+
+operation_keyed : (head : Head) (place : Place) (parameters : List (List ℕ × List ℕ)) → PlaceKeyed place → AskKeyed (operation head place parameters)
+operation_keyed head Root parameters k = either (is_method head (codes "GET") && is_empty parameters) (Some ask.ListBuckets) None tt tt
+operation_keyed head (Bucket bucket) parameters k = bucket_keyed head bucket parameters
+operation_keyed head (Object bucket key) parameters k = either (is_empty parameters) (object_ask head bucket key) None (object_keyed head bucket key k) tt
+
+unless_keyed : (a : Ask) (fault : Option S3Fault) → IsKeyed a → ResultKeyed (unless_refused a fault)
+unless_keyed a None k = k
+unless_keyed a (Some fault) k = tt
+
+served_keyed : (head : Head) (o : Option Ask) → AskKeyed o → ResultKeyed (if_served head o)
+served_keyed head None k = tt
+served_keyed head (Some a) k = either_result (has_refused_header head.headers) (Err (fault_of NotImplemented)) (unless_refused a (length_refusal head a)) tt (unless_keyed a (length_refusal head a) k)
+
+asked_keyed : (head : Head) → ResultKeyed (asked_of head)
+asked_keyed head = either_result (is_bad_target head.target) (Err (fault_of InvalidRequest)) (if_served head (operation_of head)) tt (served_keyed head (operation_of head) (operation_keyed head (place_of (path_of head.target)) (parameters_of (query_of head.target)) (past_slash_keyed (drop 1 (path_of head.target)))))
+
+pub ask_keyed : (head : Head) (a : Ask) → asked_of head ≡ Ok a → IsKeyed a
+ask_keyed head a e = subst ResultKeyed e (asked_keyed head)

@@ -1,0 +1,264 @@
+-- What is shown of a request on the connection that is present.
+use Rattle.std.proofs.Common.{◌≡◌, ℕ, suc, ◌+◌, ◌≤◌, ◌<◌, List, [], ◌∷◌, ◌++◌, Option, Some, None, Bool, true, false, not, Result, Ok, Err, IfErr, refl, sym, ◌∙◌, ap, subst, arith, nat_lt}
+use Rattle.std.proofs.lemmas.Bool.{lt-ltb, le-ltb, cond-true, cond-false}
+use Rattle.lab_outside.specs.Connection.{Connection, OnPresent, WritesWhole}
+use Rattle.lab_outside.specs.Rose.{Rose}
+use Rattle.lab_outside.specs.Bytes.{Wrote, WrotePrefix}
+use Rattle.lab_outside.proofs.Bytes.{wrote_none, wrote_more, wrote_prefix_after, wrote_prefix_more}
+use Rattle.lab_outside.proofs.Rose.{rose_after}
+use Rattle.lab_outside.proofs.Present.{on_present, on_present_same, on_present_then}
+use Rattle.http_wire.specs.Reading.{on_all, OnAll}
+use Rattle.flow_model.specs.declared.order.Order.{Order}
+use Rattle.flow_model.specs.declared.flow.FlowEnd.{FlowEnd}
+use Rattle.serve_model.specs.declared.served.Served.{Served}
+use Rattle.serve_model.specs.declared.served.ServeFault.{ServeFault}
+use Rattle.serve_model.specs.declared.served.ServeFault.TheVariants.{Kept, Number, Memory}
+use Rattle.serve_model.specs.Stores.{Store, Leads}
+use Rattle.serve_model.specs.Talk.{Serving, goes, exceeds, unless_closed, Turn, passing, after, said, exceeded, counted, counting, kept_limit}
+use Rattle.serve_model.specs.Serving.{CarriedOut, Reached, Goes, Says, said as was_said, cut_short, unsaid, Stands, Continues, IsPassed, at_end, before, Serves, done, cut_off, limited, given_up, OnLeft, SaysOn, ServesOn}
+
+-- ---- bytes that are told to be left
+
+pub on_left : (P : List ℕ → Type 0) (o : Option (List ℕ)) → ((left : List ℕ) → o ≡ Some left → P left) → OnLeft P o
+on_left P None f = tt
+on_left P (Some left) f = f left refl
+
+pub at_left : (P : List ℕ → Type 0) (o : Option (List ℕ)) (left : List ℕ) → o ≡ Some left → OnLeft P o → P left
+at_left P o left e h = let Q : Option (List ℕ) → Type 0 = OnLeft P in subst Q e h
+
+-- the bytes that are left after it, and what holds of all
+pub record StillTold (P : List ℕ → List ℕ → Type 0) (kept kept' left : List ℕ) (new : Option (List ℕ)) : Type 0 where
+  pub then_left : List ℕ
+  pub told : new ≡ Some then_left
+  pub holds : P (kept ++ left) (kept' ++ then_left)
+
+told_of : (P : List ℕ → List ℕ → Type 0) (kept kept' left : List ℕ) (new : Option (List ℕ)) → on_all P kept kept' (Some left) new → StillTold P kept kept' left new
+told_of P kept kept' left None h = absurd h
+told_of P kept kept' left (Some left') h = record { then_left = left'; told = refl; holds = h }
+
+still_told : (P : List ℕ → List ℕ → Type 0) (kept kept' left : List ℕ) (old new : Option (List ℕ)) → old ≡ Some left → on_all P kept kept' old new → StillTold P kept kept' left new
+still_told P kept kept' left old new e h = let Q : Option (List ℕ) → Type 0 = λ o. on_all P kept kept' o new in told_of P kept kept' left new (subst Q e h)
+
+-- ---- texts
+
+nothing_written : (o : Option (List ℕ)) (text : List ℕ) → WrotePrefix o o text
+nothing_written o text = record { front = []; rest = text; whole = refl; wrote = wrote_none o }
+
+nothing_after : (c d : Connection) → d.written ≡ c.written → (text : List ℕ) → WrotePrefix c.written d.written text
+nothing_after c d e text = let Q : Option (List ℕ) → Type 0 = λ o. WrotePrefix c.written o text in subst Q (sym e) (nothing_written c.written text)
+
+pub whole_says : {E : Type 0} (text : List ℕ) (close : Bool) (c d : Connection) → WritesWhole {E = E} (Ok tt) text c d → Says text close (Ok (not close)) c d
+whole_says text close c d w = was_said refl w.ok w.unread w.counted
+
+pub part_says : {E : Type 0} (e : E) (text : List ℕ) (close : Bool) (c d : Connection) → WritesWhole (Err e) text c d → Says text close (Ok false) c d
+part_says e text close c d w = cut_short refl w.err w.fault
+
+pub nothing_says : (text : List ℕ) (close : Bool) (c : Connection) → Says text close (Err Memory) c c
+nothing_says text close c = unsaid refl refl
+
+pub silence_says : (c : Connection) → Says [] true (Ok false) c c
+silence_says c = was_said refl (wrote_none c.written) refl (omega arith)
+
+-- ---- how the connection goes on
+
+continues : (close : Bool) (kept left : List ℕ) (told : Option (List ℕ)) → told ≡ Some left → Continues (unless_closed close (kept ++ left)) (not close) kept told
+continues true kept left told e = refl
+continues false kept left told e =
+    let R : Option (List ℕ) → Type 0 = λ l. Continues (goes (kept ++ left)) true kept l in
+    subst R (sym e) (refl, refl)
+
+pub memory_is_no_kept : Memory ≡ Kept → ⊥
+memory_is_no_kept e = cc
+
+pub number_is_no_kept : Number ≡ Kept → ⊥
+number_is_no_kept e = cc
+
+-- ---- one request
+
+module _ {S : Type 0} (holds : S → Type 0) (times : Option (List ℕ)) (served : Served) where
+  module _ (t u : List ℕ → Turn S) (r : Result Bool ServeFault) (kept : List ℕ) (o n : Option Connection) where
+    -- from one turn to another, whatever is left
+    turn_for_turn : ((left : List ℕ) (c d : Connection) → Serves (t left) holds times served r kept c d → Serves (u left) holds times served r kept c d) → ServesOn t holds times served r kept o n → ServesOn u holds times served r kept o n
+    turn_for_turn f h =
+        on_present (λ c d. OnLeft (λ left. Serves (t left) holds times served r kept c d) c.left) (λ c d. OnLeft (λ left. Serves (u left) holds times served r kept c d) c.left) o n
+        (λ c d x. on_left (λ left. Serves (u left) holds times served r kept c d) c.left (λ left e. f left c d (at_left (λ l. Serves (t l) holds times served r kept c d) c.left left e x))) h
+
+    -- a turn that is stated in another way
+    pub serves_same : ((left : List ℕ) → u left ≡ t left) → ServesOn t holds times served r kept o n → ServesOn u holds times served r kept o n
+    serves_same same h = turn_for_turn (λ left c d s. let Q : Turn S → Type 0 = λ v. Serves v holds times served r kept c d in subst Q (sym (same left)) s) h
+
+  passed_more : (p q serving : Serving S) (passed : List (Serving S)) → IsPassed passed serving q → IsPassed (p ∷ passed) serving q
+  passed_more p q serving passed (at_end e) = at_end e
+  passed_more p q serving passed (before (k, lt, e)) = before (suc k, omega (arith, lt), e)
+
+  passing_one : (p : Serving S) (t : Turn S) (r : Result Bool ServeFault) (kept : List ℕ) (c d : Connection) → Serves t holds times served r kept c d → Serves (passing p t) holds times served r kept c d
+  passing_one p t r kept c d (done on ok w st go n) = done on ok w st go n
+  passing_one p t r kept c d (cut_off q ok n w st is) = cut_off q ok n w st (passed_more p q t.serving t.passed is)
+  passing_one p t r kept c d (limited err is w n) = limited err is w n
+  passing_one p t r kept c d (given_up e err other w n) = given_up e err other w n
+
+  after_one : (text : List ℕ) (t : Turn S) (r : Result Bool ServeFault) (kept : List ℕ) (c d f : Connection) → Wrote c.written d.written text → c.faults ≤ d.faults → Serves t holds times served r kept d f → Serves (after text t) holds times served r kept c f
+  after_one text t r kept c d f first le (done on ok w st go n) = done on ok (wrote_more c.written d.written f.written text t.text first w) st go (omega (arith, le, n))
+  after_one text t r kept c d f first le (cut_off q ok n w st is) = cut_off q ok (rose_after c.faults d.faults f.faults le n) (wrote_prefix_after c.written d.written f.written text t.text first w) st is
+  after_one text t r kept c d f first le (limited err is w n) = limited err is (wrote_more c.written d.written f.written text t.text first w) (omega (arith, le, n))
+  after_one text t r kept c d f first le (given_up e err other w n) = given_up e err other (wrote_prefix_after c.written d.written f.written text t.text first w) (omega (arith, le, n))
+
+  says_one : (text : List ℕ) (close : Bool) (p : Serving S) (kept left : List ℕ) (r : Result Bool ServeFault) (c d : Connection) → c.left ≡ Some left → Stands holds times served p → Says text close r c d → Serves (said text close p (kept ++ left)) holds times served r kept c d
+  says_one text close p kept left r c d told st (was_said ok w l n) = done (not close) ok w st (continues close kept left d.left (l ∙ told)) n
+  says_one text close p kept left r c d told st (cut_short ok w n) = cut_off p ok n w st (at_end refl)
+  says_one text close p kept left r c d told st (unsaid err same) =
+      let P : Connection → Type 0 = λ x. WrotePrefix c.written x.written text in
+      given_up Memory err memory_is_no_kept (subst P (sym same) (nothing_written c.written text)) (let Q : Connection → Type 0 = λ x. c.faults ≤ x.faults in subst Q (sym same) (omega arith))
+
+  module _ (r : Result Bool ServeFault) (kept : List ℕ) (o n : Option Connection) where
+    -- an answer was written
+    pub says_serves : (text : List ℕ) (close : Bool) (p : Serving S) → Stands holds times served p → SaysOn text close r o n → ServesOn (λ left. said text close p (kept ++ left)) holds times served r kept o n
+    says_serves text close p st h =
+        on_present (Says text close r) (λ c d. OnLeft (λ left. Serves (said text close p (kept ++ left)) holds times served r kept c d) c.left) o n
+        (λ c d s. on_left (λ left. Serves (said text close p (kept ++ left)) holds times served r kept c d) c.left (λ left e. says_one text close p kept left r c d e st s)) h
+
+    -- what was passed before is passed
+    pub passing_serves : (p : Serving S) (t : List ℕ → Turn S) → ServesOn t holds times served r kept o n → ServesOn (λ left. passing p (t left)) holds times served r kept o n
+    passing_serves p t h = turn_for_turn t (λ left. passing p (t left)) r kept o n (λ left c d s. passing_one p (t left) r kept c d s) h
+
+  -- nothing was done, and serving is given up
+  pub gives_up : (t : List ℕ → Turn S) (e : ServeFault) (kept : List ℕ) (o : Option Connection) → (e ≡ Kept → ⊥) → ServesOn t holds times served (Err e) kept o o
+  gives_up t e kept o other =
+      on_present_same (λ c d. OnLeft (λ left. Serves (t left) holds times served (Err e) kept c d) c.left) o
+      (λ c. on_left (λ left. Serves (t left) holds times served (Err e) kept c c) c.left (λ left told. given_up e refl other (nothing_written c.written (t left).text) (omega arith)))
+
+  -- too many bytes were put or copied
+  pub is_limited : (t : List ℕ → Turn S) (kept : List ℕ) (o : Option Connection) → ((left : List ℕ) → (t left).next ≡ exceeds) → ((left : List ℕ) → (t left).text ≡ []) → ServesOn t holds times served (Err Kept) kept o o
+  is_limited t kept o next text =
+      on_present_same (λ c d. OnLeft (λ left. Serves (t left) holds times served (Err Kept) kept c d) c.left) o
+      (λ c. on_left (λ left. Serves (t left) holds times served (Err Kept) kept c c) c.left
+      (λ left told. let Q : List ℕ → Type 0 = Wrote c.written c.written in limited refl (next left) (subst Q (sym (text left)) (wrote_none c.written)) (omega arith)))
+
+  -- something was written before
+  pub after_serves : (E : Type 0) (text : List ℕ) (t : List ℕ → Turn S) (r : Result Bool ServeFault) (kept : List ℕ) (o m n : Option Connection) → OnPresent (WritesWhole {E = E} (Ok tt) text) o m → ServesOn t holds times served r kept m n → ServesOn (λ left. after text (t left)) holds times served r kept o n
+  after_serves E text t r kept o m n w h =
+      on_present_then (WritesWhole {E = E} (Ok tt) text) (λ c d. OnLeft (λ left. Serves (t left) holds times served r kept c d) c.left) (λ c d. OnLeft (λ left. Serves (after text (t left)) holds times served r kept c d) c.left) o m n
+      (λ c d f a s. on_left (λ left. Serves (after text (t left)) holds times served r kept c f) c.left
+      (λ left e. after_one text (t left) r kept c d f a.ok a.counted (at_left (λ l. Serves (t l) holds times served r kept d f) d.left left (a.unread ∙ e) s))) w h
+
+  -- it wasn't written whole
+  pub part_serves : {E : Type 0} (e : E) (text : List ℕ) (t : List ℕ → Turn S) (p : Serving S) (kept : List ℕ) (o n : Option Connection) → Stands holds times served p → ((left : List ℕ) → IsPassed (t left).passed (t left).serving p) → OnPresent (WritesWhole (Err e) text) o n → ServesOn (λ left. after text (t left)) holds times served (Ok false) kept o n
+  part_serves e text t p kept o n st is w =
+      on_present (WritesWhole (Err e) text) (λ c d. OnLeft (λ left. Serves (after text (t left)) holds times served (Ok false) kept c d) c.left) o n
+      (λ c d a. on_left (λ left. Serves (after text (t left)) holds times served (Ok false) kept c d) c.left
+      (λ left told. cut_off p refl a.fault (wrote_prefix_more c.written d.written text (t left).text a.err) st (is left))) w
+
+-- ---- what reading leaves
+
+pub record IsQuiet (c d : Connection) : Type 0 where
+  pub unwritten : d.written ≡ c.written
+  pub counted : c.faults ≤ d.faults
+
+pub record IsFailed (c d : Connection) : Type 0 where
+  pub unwritten : d.written ≡ c.written
+  pub rose : Rose c.faults d.faults
+
+module _ {S : Type 0} (holds : S → Type 0) (times : Option (List ℕ)) (served : Served) (r : Result Bool ServeFault) (kept kept' new : List ℕ) (o m n : Option Connection) where
+  quiet_one : (t : Turn S) (c d f : Connection) → IsQuiet c d → Serves t holds times served r new d f → Serves t holds times served r new c f
+  quiet_one t c d f q s =
+      let Q : Option (List ℕ) → Type 0 = λ x. Wrote c.written x [] in
+      after_one holds times served [] t r new c d f (subst Q (sym q.unwritten) (wrote_none c.written)) q.counted s
+
+  -- bytes were read, and what is stated of all of them is what is stated so of the rest, which was served
+  pub read_then : (P : List ℕ → List ℕ → Type 0) (t u : List ℕ → Turn S) → OnPresent (λ c d. IsQuiet c d × OnAll P kept kept' c d) o m → ((all rest : List ℕ) → P all rest → t all ≡ u rest)
+      → ServesOn (λ left. u (kept' ++ left)) holds times served r new m n → ServesOn (λ left. t (kept ++ left)) holds times served r new o n
+  read_then P t u reads same h =
+      on_present_then (λ c d. IsQuiet c d × OnAll P kept kept' c d) (λ c d. OnLeft (λ left. Serves (u (kept' ++ left)) holds times served r new c d) c.left) (λ c d. OnLeft (λ left. Serves (t (kept ++ left)) holds times served r new c d) c.left) o m n
+      (λ c d f a s. on_left (λ left. Serves (t (kept ++ left)) holds times served r new c f) c.left
+      (λ left e.
+      let x = still_told P kept kept' left c.left d.left e a.1 in
+      let Q : Turn S → Type 0 = λ v. Serves v holds times served r new c f in
+      subst Q (sym (same (kept ++ left) (kept' ++ x.then_left) x.holds))
+      (quiet_one (u (kept' ++ x.then_left)) c d f a.0 (at_left (λ l. Serves (u (kept' ++ l)) holds times served r new d f) d.left x.then_left x.told s)))) reads h
+
+module _ {S : Type 0} (holds : S → Type 0) (times : Option (List ℕ)) (served : Served) (kept : List ℕ) (o n : Option Connection) (t : List ℕ → Turn S) where
+  -- a read failed
+  pub read_fails : (p : Serving S) → Stands holds times served p → ((left : List ℕ) → IsPassed (t left).passed (t left).serving p) → OnPresent IsFailed o n → ServesOn t holds times served (Ok false) kept o n
+  read_fails p st is reads =
+      on_present IsFailed (λ c d. OnLeft (λ left. Serves (t left) holds times served (Ok false) kept c d) c.left) o n
+      (λ c d a. on_left (λ left. Serves (t left) holds times served (Ok false) kept c d) c.left (λ left told. cut_off p refl a.rose (nothing_after c d a.unwritten (t left).text) st (is left))) reads
+
+  -- memory was wanting
+  pub read_wants : OnPresent IsQuiet o n → ServesOn t holds times served (Err Memory) kept o n
+  read_wants reads =
+      on_present IsQuiet (λ c d. OnLeft (λ left. Serves (t left) holds times served (Err Memory) kept c d) c.left) o n
+      (λ c d q. on_left (λ left. Serves (t left) holds times served (Err Memory) kept c d) c.left (λ left told. given_up Memory refl memory_is_no_kept (nothing_after c d q.unwritten (t left).text) q.counted)) reads
+
+-- ---- bytes that are counted
+
+counting_within : {S : Type 0} (size : ℕ) (p : Serving S) (go : Serving S → Turn S) → p.kept + size ≤ kept_limit → counting size p go ≡ go (counted size p)
+unfolding counting
+counting_within size p go le = cond-false (nat_lt kept_limit (p.kept + size)) (exceeded (counted size p)) (go (counted size p)) (le-ltb kept_limit (p.kept + size) le)
+
+counting_beyond : {S : Type 0} (size : ℕ) (p : Serving S) (go : Serving S → Turn S) → kept_limit < p.kept + size → counting size p go ≡ exceeded (counted size p)
+unfolding counting
+counting_beyond size p go lt = cond-true (nat_lt kept_limit (p.kept + size)) (exceeded (counted size p)) (go (counted size p)) (lt-ltb kept_limit (p.kept + size) lt)
+
+module _ {S : Type 0} (holds : S → Type 0) (times : Option (List ℕ)) (size : ℕ) (p : Serving S) (go : List ℕ → Serving S → Turn S) (kept : List ℕ) where
+  -- they aren't too many
+  pub counting_serves : (served old : Served) (r : Result Bool ServeFault) (o n : Option Connection) → old.kept ≡ p.kept → old.kept + size ≤ kept_limit → ServesOn (λ left. go left (counted size p)) holds times served r kept o n → ServesOn (λ left. counting size p (go left)) holds times served r kept o n
+  counting_serves served old r o n is le h =
+      serves_same holds times served (λ left. go left (counted size p)) (λ left. counting size p (go left)) r kept o n (λ left. counting_within size p (go left) (let Q : ℕ → Type 0 = λ k. k + size ≤ kept_limit in subst Q is le)) h
+
+  pub counting_limits : (served old : Served) (o : Option Connection) → old.kept ≡ p.kept → kept_limit < old.kept + size → ServesOn (λ left. counting size p (go left)) holds times served (Err Kept) kept o o
+  counting_limits served old o is lt =
+      let more : kept_limit < p.kept + size = let Q : ℕ → Type 0 = λ k. kept_limit < k + size in subst Q is lt in
+      is_limited holds times served (λ left. counting size p (go left)) kept o
+      (λ left. ap (λ (t : Turn S). t.next) (counting_beyond size p (go left) more)) (λ left. ap (λ (t : Turn S). t.text) (counting_beyond size p (go left) more))
+
+-- what is counted
+pub stands_counted : {S : Type 0} (holds : S → Type 0) (times : Option (List ℕ)) (old new : Served) (size : ℕ) (p : Serving S) → new.kept ≡ old.kept + size → new.time ≡ old.time → Stands holds times old p → Stands holds times new (counted size p)
+stands_counted holds times old new size p kept time st = record { store = st.store; clock = st.clock; time = time ∙ st.time; kept = kept ∙ ap (λ k. k + size) st.kept }
+
+-- ---- the states to which orders lead
+
+module _ {S : Type 0} (store : Store S) (fits lacks : S → ℕ → Order → Type 0) where
+  leads_none : (s : S) → Leads store fits s s
+  leads_none s = record { orders = []; after = refl; fit = tt }
+
+  pub here_reached : (holds : S → Type 0) (s : S) → holds s → Reached store fits lacks holds s s
+  here_reached holds s st = (st, leads_none s)
+
+  pub stands_here : (holds : S → Type 0) (times : Option (List ℕ)) (served : Served) (p : Serving S) → Stands holds times served p → Stands (Reached store fits lacks holds p.store) times served p
+  stands_here holds times served p st = record { store = (st.store, leads_none p.store); clock = st.clock; time = st.time; kept = st.kept }
+
+  -- after an order
+  pub carried_reached : (holds : S → Type 0) (s : S) (time : ℕ) (order : Order) (end : Option FlowEnd) → CarriedOut store fits lacks holds s time order end → Reached store fits lacks holds s (store.carries s time order).state
+  carried_reached holds s time order end h = (h.stands, record { orders = (time, order) ∷ []; after = refl; fit = (h.fit, tt) })
+
+  pub carried_goes : (holds holds' : S → Type 0) (time : ℕ) (order : Order) (end : Option FlowEnd) (r : Result Bool ServeFault) → IfErr r (λ e. e ≡ Memory) → ((s : S) → holds s → CarriedOut store fits lacks holds' s time order end) → Goes store fits lacks holds holds' r
+  carried_goes holds holds' time order end (Ok b) cause h = λ s st. ((store.carries s time order).state, carried_reached holds' s time order end (h s st))
+  carried_goes holds holds' time order end (Err Kept) cause h = λ s st. ((store.carries s time order).state, carried_reached holds' s time order end (h s st))
+  carried_goes holds holds' time order end (Err Number) cause h = absurd (wrong cause)
+    where
+      wrong : Number ≡ Memory → ⊥
+      wrong e = cc
+  carried_goes holds holds' time order end (Err Memory) cause h = tt
+
+  pub carried_limits : (holds holds' : S → Type 0) (time : ℕ) (order : Order) (end : Option FlowEnd) → ((s : S) → holds s → CarriedOut store fits lacks holds' s time order end) → Goes store fits lacks {A = Bool} holds holds' (Err Kept)
+  carried_limits holds holds' time order end h = λ s st. ((store.carries s time order).state, carried_reached holds' s time order end (h s st))
+
+  -- the store wasn't asked
+  pub goes_here : (holds : S → Type 0) (r : Result Bool ServeFault) → IfErr r (λ e. e ≡ Memory) → Goes store fits lacks holds holds r
+  goes_here holds (Ok b) cause = λ s st. (s, (st, leads_none s))
+  goes_here holds (Err Kept) cause = λ s st. (s, (st, leads_none s))
+  goes_here holds (Err Number) cause = absurd (wrong cause)
+    where
+      wrong : Number ≡ Memory → ⊥
+      wrong e = cc
+  goes_here holds (Err Memory) cause = tt
+
+  pub limits_here : (holds : S → Type 0) → Goes store fits lacks {A = Bool} holds holds (Err Kept)
+  limits_here holds = λ s st. (s, (st, leads_none s))
+
+-- ---- two facts of one call
+
+pub on_present_both : (A B T : Connection → Connection → Type 0) (o n : Option Connection) → ((c d : Connection) → A c d → B c d → T c d) → OnPresent A o n → OnPresent B o n → OnPresent T o n
+on_present_both A B T None n f h k = tt
+on_present_both A B T (Some c) None f h k = absurd h
+on_present_both A B T (Some c) (Some d) f h k = f c d h k

@@ -1,0 +1,298 @@
+-- Requests of one connection, one after the other.
+use Rattle.std.proofs.Common.{◌≡◌, ℕ, zero, suc, ◌≤◌, ◌==◌, List, [], ◌∷◌, ◌++◌, Option, Some, None, Bool, true, false, IsSome, Result, Ok, Err, refl, sym, ◌∙◌, ap, subst, append_assoc, append-nil, arith}
+use Rattle.std.proofs.lemmas.List.Elements.{Contains-append_left, Contains-append_right}
+use Rattle.std.specs.List.{Contains}
+use Rattle.lab_outside.specs.Connection.{Connection, OnPresent}
+use Rattle.lab_outside.specs.Bytes.{Wrote, WrotePrefix}
+use Rattle.lab_outside.proofs.Bytes.{wrote_none, wrote_more, wrote_prefix_after, wrote_prefix_more}
+use Rattle.lab_outside.proofs.Rose.{rose_after}
+use Rattle.flow_model.specs.declared.order.Order.{Order}
+use Rattle.serve_model.specs.declared.served.Served.{Served}
+use Rattle.serve_model.specs.declared.served.ServeFault.{ServeFault}
+use Rattle.serve_model.specs.declared.served.ServeFault.TheVariants.{Kept, Number, Memory}
+use Rattle.serve_model.specs.Stores.{Store, after_orders, OrdersFit, Leads, Overflows}
+use Rattle.serve_model.specs.Talk.{Grammar, Serving, Next, goes, closes, exceeds, Turn, turn, Talk, go_on, talk}
+use Rattle.serve_model.specs.Serving.{HasState, Reached, Goes, Stands, Continues, IsPassed, at_end, before, Serves, done, cut_off, limited, given_up, OnLeft, ServesOn}
+use Rattle.serve_model.specs.Connections.{Talks, whole, cut_off as talk_cut, limited as talk_limited, given_up as talk_given_up}
+use Rattle.serve_loop.proofs.Serving.{on_left, at_left}
+
+-- ---- the connection that is present
+
+pub on_present_bind : (R T : Connection → Connection → Type 0) (o m n : Option Connection) → OnPresent R o m → IsSome n → ((c d f : Connection) → m ≡ Some d → n ≡ Some f → R c d → T c f) → OnPresent T o n
+on_present_bind R T None m n h some k = tt
+on_present_bind R T (Some c) None n h some k = absurd h
+on_present_bind R T (Some c) (Some d) None h some k = cc
+on_present_bind R T (Some c) (Some d) (Some f) h some k = k c d f refl refl h
+
+pub at_present : (U : Connection → Connection → Type 0) (m n : Option Connection) (d f : Connection) → m ≡ Some d → n ≡ Some f → OnPresent U m n → U d f
+at_present U m n d f e k h =
+    let P : Option Connection → Type 0 = λ x. OnPresent U x n in
+    let Q : Option Connection → Type 0 = λ x. OnPresent U (Some d) x in
+    subst Q k (subst P e h)
+
+-- ---- orders and then orders
+
+module _ {S : Type 0} (store : Store S) (fits : S → ℕ → Order → Type 0) where
+  after_append : (s : S) (xs ys : List (ℕ × Order)) → after_orders store s (xs ++ ys) ≡ after_orders store (after_orders store s xs) ys
+  after_append s [] ys = refl
+  after_append s (x ∷ xs) ys = after_append (store.carries s x.0 x.1).state xs ys
+
+  fit_append : (s : S) (xs ys : List (ℕ × Order)) → OrdersFit store fits s xs → OrdersFit store fits (after_orders store s xs) ys → OrdersFit store fits s (xs ++ ys)
+  fit_append s [] ys f h = h
+  fit_append s (x ∷ xs) ys f h = (f.0, fit_append (store.carries s x.0 x.1).state xs ys f.1 h)
+
+  pub leads_more : (s t u : S) → Leads store fits s t → Leads store fits t u → Leads store fits s u
+  leads_more s t u a b =
+      let P : S → Type 0 = λ x. OrdersFit store fits x b.orders in
+      record {
+        orders = a.orders ++ b.orders;
+        after = b.after ∙ ap (λ x. after_orders store x b.orders) a.after ∙ sym (after_append s a.orders b.orders);
+        fit = fit_append s a.orders b.orders a.fit (subst P a.after b.fit);
+      }
+
+module _ {S : Type 0} (store : Store S) (fits lacks : S → ℕ → Order → Type 0) where
+  pub reached_more : (holds : S → Type 0) (s t u : S) → Leads store fits s t → Reached store fits lacks holds t u → Reached store fits lacks holds s u
+  reached_more holds s t u a b = (b.0, leads_more store fits s t u a b.1)
+
+  pub overflows_more : (s t : S) → Leads store fits s t → Overflows store fits lacks t → Overflows store fits lacks s
+  overflows_more s t a o = record { state = o.state; leads = leads_more store fits s t o.state a o.leads; time = o.time; order = o.order; overflows = o.overflows }
+
+  -- something follows
+  pub goes_more : (A : Type 0) (old mid new : S → Type 0) (r : Result A ServeFault) → ((s : S) → old s → HasState (Reached store fits lacks mid s)) → Goes store fits lacks {A = A} mid new r → Goes store fits lacks {A = A} old new r
+  goes_more A old mid new (Ok a) h k = λ s st. let t = h s st in let u = k t.0 t.1.0 in (u.0, reached_more new s t.0 u.0 t.1.1 u.1)
+  goes_more A old mid new (Err Kept) h k = λ s st. let t = h s st in let u = k t.0 t.1.0 in (u.0, reached_more new s t.0 u.0 t.1.1 u.1)
+  goes_more A old mid new (Err Number) h k = λ s st. let t = h s st in overflows_more s t.0 t.1.1 (k t.0 t.1.0)
+  goes_more A old mid new (Err Memory) h k = tt
+
+  pub stands_more : (holds : S → Type 0) (times : Option (List ℕ)) (served : Served) (s t : S) (q : Serving S) → Leads store fits s t → Stands (Reached store fits lacks holds t) times served q → Stands (Reached store fits lacks holds s) times served q
+  stands_more holds times served s t q a st = record { store = reached_more holds s t q.store a st.store; clock = st.clock; time = st.time; kept = st.kept }
+
+  pub stands_plain : (holds : S → Type 0) (times : Option (List ℕ)) (served : Served) (s : S) (q : Serving S) → Stands (Reached store fits lacks holds s) times served q → Stands holds times served q
+  stands_plain holds times served s q st = record { store = st.store.0; clock = st.clock; time = st.time; kept = st.kept }
+
+-- ---- what was said and passed before
+
+-- a text and what was passed come before a talk
+abbrev pub prefixed : {S : Type 0} → List ℕ → List (Serving S) → Talk S → Talk S
+prefixed text passed u = record { text = text ++ u.text; passed = passed ++ u.passed; serving = u.serving; is_over = u.is_over }
+
+passed_after : {S : Type 0} (xs ys : List (Serving S)) (serving q : Serving S) → IsPassed ys serving q → IsPassed (xs ++ ys) serving q
+passed_after xs ys serving q (at_end e) = at_end e
+passed_after xs ys serving q (before h) = before (Contains-append_right xs ys q h)
+
+-- ---- one more turn
+
+-- the bytes that go on are those that are kept and left
+record GoesOn (next : Next) (kept : List ℕ) (o : Option (List ℕ)) : Type 0 where
+  left : List ℕ
+  told : o ≡ Some left
+  next_is : next ≡ goes (kept ++ left)
+
+goes_on : (next : Next) (kept : List ℕ) (o : Option (List ℕ)) (on : Bool) → true ≡ on → Continues next on kept o → GoesOn next kept o
+goes_on closes kept o on e h = absurd (not_both on e h)
+  where
+    not_both : (b : Bool) → true ≡ b → b ≡ false → ⊥
+    not_both b x y = cc
+goes_on exceeds kept o on e h = absurd h
+goes_on (goes rest) kept None on e h = absurd h
+goes_on (goes rest) kept (Some left) on e h = record { left = left; told = refl; next_is = ap goes h.1 }
+
+ends_here : (next : Next) (kept : List ℕ) (o : Option (List ℕ)) (on : Bool) → false ≡ on → Continues next on kept o → next ≡ closes
+ends_here closes kept o on e h = refl
+ends_here exceeds kept o on e h = absurd h
+ends_here (goes rest) kept None on e h = absurd h
+ends_here (goes rest) kept (Some left) on e h = absurd (not_both on e h.0)
+  where
+    not_both : (b : Bool) → false ≡ b → b ≡ true → ⊥
+    not_both b x y = cc
+
+same_ok : (r : Result Bool ServeFault) (a b : Bool) → r ≡ Ok a → r ≡ Ok b → a ≡ b
+same_ok r a b e k = cc
+
+same_err : (r : Result Bool ServeFault) (a b : ServeFault) → r ≡ Err a → r ≡ Err b → a ≡ b
+same_err r a b e k = cc
+
+ok_is_no_error : (r : Result Bool ServeFault) (a : Bool) (e : ServeFault) → r ≡ Ok a → r ≡ Err e → ⊥
+ok_is_no_error r a e h k = cc
+
+module _ {S : Type 0} (store : Store S) (buckets : List (List ℕ)) (g : Grammar) where
+  talk_none : (p : Serving S) (bytes : List ℕ) → talk store buckets g 0 p bytes ≡ record { text = []; passed = []; serving = p; is_over = false }
+  unfolding talk
+  talk_none p bytes = refl
+
+  talk_next : (more : ℕ) (p : Serving S) (bytes : List ℕ) → talk store buckets g (suc more) p bytes ≡ go_on (talk store buckets g more) (turn store buckets g (more == 0) p bytes) (turn store buckets g (more == 0) p bytes).next
+  unfolding talk
+  talk_next more p bytes = refl
+
+  module _ (more : ℕ) (p : Serving S) (bytes : List ℕ) where
+    talk_with : (next : Next) → (turn store buckets g (more == 0) p bytes).next ≡ next → talk store buckets g (suc more) p bytes ≡ go_on (talk store buckets g more) (turn store buckets g (more == 0) p bytes) next
+    talk_with next e = talk_next more p bytes ∙ ap (go_on (talk store buckets g more) (turn store buckets g (more == 0) p bytes)) e
+
+  -- what is served first is passed
+  go_on_passes : (more : ℕ) (p : Serving S) (t : Turn S) (next : Next) → Contains t.passed p → Contains (go_on (talk store buckets g more) t next).passed p
+  go_on_passes more p t (goes rest) h = Contains-append_left t.passed (talk store buckets g more t.serving rest).passed p h
+  go_on_passes more p t closes h = h
+  go_on_passes more p t exceeds h = h
+
+  talk_passes : (more : ℕ) (p : Serving S) (bytes : List ℕ) → IsPassed (talk store buckets g more p bytes).passed (talk store buckets g more p bytes).serving p
+  unfolding talk
+  talk_passes zero p bytes = at_end refl
+  talk_passes (suc more) p bytes = before (go_on_passes more p (turn store buckets g (more == 0) p bytes) (turn store buckets g (more == 0) p bytes).next (0, omega arith, refl))
+
+  -- what the turn passes
+  go_on_passed : (more : ℕ) (q : Serving S) (t : Turn S) (next : Next) → IsPassed t.passed t.serving q → IsPassed (go_on (talk store buckets g more) t next).passed (go_on (talk store buckets g more) t next).serving q
+  go_on_passed more q t (goes rest) (before h) = before (Contains-append_left t.passed (talk store buckets g more t.serving rest).passed q h)
+  go_on_passed more q t (goes rest) (at_end e) =
+      let u = talk store buckets g more t.serving rest in
+      let Q : Serving S → Type 0 = λ x. IsPassed (t.passed ++ u.passed) u.serving x in
+      subst Q (sym e) (passed_after t.passed u.passed u.serving t.serving (talk_passes more t.serving rest))
+  go_on_passed more q t closes h = h
+  go_on_passed more q t exceeds h = h
+
+  turn_passes : (more : ℕ) (p q : Serving S) (bytes : List ℕ) → IsPassed (turn store buckets g (more == 0) p bytes).passed (turn store buckets g (more == 0) p bytes).serving q → IsPassed (talk store buckets g (suc more) p bytes).passed (talk store buckets g (suc more) p bytes).serving q
+  turn_passes more p q bytes h =
+      let P : Talk S → Type 0 = λ u. IsPassed u.passed u.serving q in
+      subst P (sym (talk_next more p bytes)) (go_on_passed more q (turn store buckets g (more == 0) p bytes) (turn store buckets g (more == 0) p bytes).next h)
+
+  -- a turn's text is a first part of the talk's
+  go_on_prefix : (more : ℕ) (t : Turn S) (next : Next) (old new : Option (List ℕ)) → WrotePrefix old new t.text → WrotePrefix old new (go_on (talk store buckets g more) t next).text
+  go_on_prefix more t (goes rest) old new w = wrote_prefix_more old new t.text (talk store buckets g more t.serving rest).text w
+  go_on_prefix more t closes old new w = w
+  go_on_prefix more t exceeds old new w = w
+
+  turn_prefix : (more : ℕ) (p : Serving S) (bytes : List ℕ) (old new : Option (List ℕ)) → WrotePrefix old new (turn store buckets g (more == 0) p bytes).text → WrotePrefix old new (talk store buckets g (suc more) p bytes).text
+  turn_prefix more p bytes old new w =
+      let P : Talk S → Type 0 = λ u. WrotePrefix old new u.text in
+      subst P (sym (talk_next more p bytes)) (go_on_prefix more (turn store buckets g (more == 0) p bytes) (turn store buckets g (more == 0) p bytes).next old new w)
+
+-- ---- so far
+
+-- so far a first part of what is stated of all bytes was written, and what is stated of the rest is to come
+pub record InTalk {S : Type 0} (store : Store S) (buckets : List (List ℕ)) (g : Grammar) (all : Talk S) (holds : S → Type 0) (times : Option (List ℕ)) (served : Served) (more : ℕ) (kept : List ℕ) (c d : Connection) : Type 0 where
+  pub text : List ℕ
+  pub passed : List (Serving S)
+  pub serving : Serving S
+  pub left : List ℕ
+  pub told : d.left ≡ Some left
+  pub wrote : Wrote c.written d.written text
+  pub stands : Stands holds times served serving
+  pub counted : c.faults ≤ d.faults
+  pub is : all ≡ prefixed text passed (talk store buckets g more serving (kept ++ left))
+
+module _ {S : Type 0} (store : Store S) (buckets : List (List ℕ)) (g : Grammar) where
+  pub talk_begins : (limit more : ℕ) (p : Serving S) (bytes : List ℕ) (holds : S → Type 0) (times : Option (List ℕ)) (served : Served) (kept : List ℕ) (c : Connection) → c.left ≡ Some bytes → kept ≡ [] → more ≡ limit → Stands holds times served p → InTalk store buckets g (talk store buckets g limit p bytes) holds times served more kept c c
+  talk_begins limit more p bytes holds times served kept c told none all st =
+      record {
+        text = [];
+        passed = [];
+        serving = p;
+        left = bytes;
+        told = told;
+        wrote = wrote_none c.written;
+        stands = st;
+        counted = omega arith;
+        is = ap (λ n. talk store buckets g n p bytes) (sym all) ∙ ap (λ k. talk store buckets g more p (k ++ bytes)) (sym none);
+      }
+
+module _ {S : Type 0} (store : Store S) (fits lacks : S → ℕ → Order → Type 0) (buckets : List (List ℕ)) (g : Grammar) (all : Talk S) (start : S) (more : ℕ) (kept kept' : List ℕ) (holds holds' : S → Type 0) (times times' : Option (List ℕ)) (served served' : Served) (c d f : Connection)
+    (i : InTalk store buckets g all (Reached store fits lacks holds start) times served (suc more) kept c d) where
+  abbrev pub Follows : Result Bool ServeFault → Type 0
+  Follows r = Serves (turn store buckets g (more == 0) i.serving (kept ++ i.left)) (Reached store fits lacks holds' i.serving.store) times' served' r kept' d f
+
+  -- the request was served, and the connection goes on
+  pub talk_goes_on : Follows (Ok true) → InTalk store buckets g all (Reached store fits lacks holds' start) times' served' more kept' c f
+  talk_goes_on (done on ok w st go n) =
+      let t = turn store buckets g (more == 0) i.serving (kept ++ i.left) in
+      let o = goes_on t.next kept' f.left on (same_ok (Ok true) true on refl ok) go in
+      let u = talk store buckets g more t.serving (kept' ++ o.left) in
+      let next : talk store buckets g (suc more) i.serving (kept ++ i.left) ≡ prefixed t.text t.passed u = talk_with store buckets g more i.serving (kept ++ i.left) (goes (kept' ++ o.left)) o.next_is in
+      record {
+        text = i.text ++ t.text;
+        passed = i.passed ++ t.passed;
+        serving = t.serving;
+        left = o.left;
+        told = o.told;
+        wrote = wrote_more c.written d.written f.written i.text t.text i.wrote w;
+        stands = stands_more store fits lacks holds' times' served' start i.serving.store t.serving i.stands.store.1 st;
+        counted = omega (arith, i.counted, n);
+        is = i.is ∙ ap (prefixed i.text i.passed) next
+            ∙ ap (λ x. record { text = x; passed = i.passed ++ (t.passed ++ u.passed); serving = u.serving; is_over = u.is_over }) (sym (append_assoc i.text t.text u.text))
+            ∙ ap (λ x. record { text = (i.text ++ t.text) ++ u.text; passed = x; serving = u.serving; is_over = u.is_over }) (sym (append_assoc i.passed t.passed u.passed));
+      }
+  talk_goes_on (cut_off q err n w st of) = absurd (true_is_false (same_ok (Ok true) true false refl err))
+    where
+      true_is_false : true ≡ false → ⊥
+      true_is_false e = cc
+  talk_goes_on (limited err next w n) = absurd (ok_is_no_error (Ok true) true Kept refl err)
+  talk_goes_on (given_up m err other w n) = absurd (ok_is_no_error (Ok true) true m refl err)
+
+  -- the turn's part of all
+  part_of_all : WrotePrefix d.written f.written (turn store buckets g (more == 0) i.serving (kept ++ i.left)).text → WrotePrefix c.written f.written all.text
+  part_of_all w =
+      let v = talk store buckets g (suc more) i.serving (kept ++ i.left) in
+      let P : List ℕ → Type 0 = WrotePrefix c.written f.written in
+      subst P (sym (ap (λ (x : Talk S). x.text) i.is)) (wrote_prefix_after c.written d.written f.written i.text v.text i.wrote (turn_prefix store buckets g more i.serving (kept ++ i.left) d.written f.written w))
+
+  passed_of_all : (q : Serving S) → IsPassed (turn store buckets g (more == 0) i.serving (kept ++ i.left)).passed (turn store buckets g (more == 0) i.serving (kept ++ i.left)).serving q → IsPassed all.passed all.serving q
+  passed_of_all q h =
+      let v = talk store buckets g (suc more) i.serving (kept ++ i.left) in
+      let P : Talk S → Type 0 = λ x. IsPassed x.passed x.serving q in
+      subst P (sym i.is) (passed_after i.passed v.passed v.serving q (turn_passes store buckets g more i.serving q (kept ++ i.left) h))
+
+  -- the connection ends after it
+  pub talk_ends : Follows (Ok false) → Talks all (Reached store fits lacks holds' start) times' served' (Ok tt) c f
+  talk_ends (done on ok w st go n) =
+      let t = turn store buckets g (more == 0) i.serving (kept ++ i.left) in
+      let off : talk store buckets g (suc more) i.serving (kept ++ i.left) ≡ record { text = t.text; passed = t.passed; serving = t.serving; is_over = false } = talk_with store buckets g more i.serving (kept ++ i.left) closes (ends_here t.next kept' f.left on (same_ok (Ok false) false on refl ok) go) in
+      let is : all ≡ record { text = i.text ++ t.text; passed = i.passed ++ t.passed; serving = t.serving; is_over = false } = i.is ∙ ap (prefixed i.text i.passed) off in
+      let P : Talk S → Type 0 = λ x. Talks x (Reached store fits lacks holds' start) times' served' (Ok tt) c f in
+      subst P (sym is) (whole refl refl (wrote_more c.written d.written f.written i.text t.text i.wrote w) (stands_more store fits lacks holds' times' served' start i.serving.store t.serving i.stands.store.1 st) (omega (arith, i.counted, n)))
+  talk_ends (cut_off q ok n w st of) =
+      talk_cut q refl (rose_after c.faults d.faults f.faults i.counted n) (part_of_all w) (stands_more store fits lacks holds' times' served' start i.serving.store q i.stands.store.1 st) (passed_of_all q of)
+  talk_ends (limited err next w n) = absurd (ok_is_no_error (Ok false) false Kept refl err)
+  talk_ends (given_up m err other w n) = absurd (ok_is_no_error (Ok false) false m refl err)
+
+  -- serving ends in it
+  pub talk_stops : (e : ServeFault) → Follows (Err e) → Talks all (Reached store fits lacks holds' start) times' served' (Err e) c f
+  talk_stops e (done on ok w st go n) = absurd (ok_is_no_error (Err e) on e ok refl)
+  talk_stops e (cut_off q ok n w st of) = absurd (ok_is_no_error (Err e) false e ok refl)
+  talk_stops e (limited err next w n) =
+      let t = turn store buckets g (more == 0) i.serving (kept ++ i.left) in
+      let over : talk store buckets g (suc more) i.serving (kept ++ i.left) ≡ record { text = t.text; passed = t.passed; serving = t.serving; is_over = true } = talk_with store buckets g more i.serving (kept ++ i.left) exceeds next in
+      let is : all ≡ record { text = i.text ++ t.text; passed = i.passed ++ t.passed; serving = t.serving; is_over = true } = i.is ∙ ap (prefixed i.text i.passed) over in
+      let P : Talk S → Type 0 = λ x. Talks x (Reached store fits lacks holds' start) times' served' (Err e) c f in
+      subst P (sym is) (talk_limited (ap Err (same_err (Err e) e Kept refl err)) refl (wrote_more c.written d.written f.written i.text t.text i.wrote w) (omega (arith, i.counted, n)))
+  talk_stops e (given_up m err other w n) =
+      let same : e ≡ m = same_err (Err e) e m refl err in
+      let Q : ServeFault → Type 0 = λ x. x ≡ Kept → ⊥ in
+      talk_given_up e refl (subst Q (sym same) other) (part_of_all w) (omega (arith, i.counted, n))
+
+-- as many requests were answered as one connection may have
+module _ {S : Type 0} (store : Store S) (buckets : List (List ℕ)) (g : Grammar) where
+  pub talk_is_over : (all : Talk S) (more : ℕ) (kept : List ℕ) (holds : S → Type 0) (times : Option (List ℕ)) (served : Served) (c d : Connection) → more ≡ 0 → InTalk store buckets g all holds times served more kept c d → Talks all holds times served (Ok tt) c d
+  talk_is_over all more kept holds times served c d over i =
+      let rest : talk store buckets g more i.serving (kept ++ i.left) ≡ record { text = []; passed = []; serving = i.serving; is_over = false } = ap (λ n. talk store buckets g n i.serving (kept ++ i.left)) over ∙ talk_none store buckets g i.serving (kept ++ i.left) in
+      let is : all ≡ record { text = i.text ++ []; passed = i.passed ++ []; serving = i.serving; is_over = false } = i.is ∙ ap (prefixed i.text i.passed) rest in
+      let P : Talk S → Type 0 = λ x. Talks x holds times served (Ok tt) c d in
+      let Q : List ℕ → Type 0 = Wrote c.written d.written in
+      subst P (sym is) (whole refl refl (subst Q (sym (append-nil i.text)) i.wrote) i.stands i.counted)
+
+-- ---- over the connection that is present
+
+-- a turn more, whatever is to follow from it
+module _ {S : Type 0} (store : Store S) (fits lacks : S → ℕ → Order → Type 0) (buckets : List (List ℕ)) (g : Grammar) (all : List ℕ → Talk S) (start : S) (more n : ℕ) (kept kept' : List ℕ) (holds holds' : S → Type 0) (times times' : Option (List ℕ)) (served served' : Served) (r : Result Bool ServeFault) (Next' : List ℕ → Connection → Connection → Type 0) (o m k : Option Connection) where
+  pub turn_then : n ≡ suc more → OnPresent (λ c d. OnLeft (λ left. InTalk store buckets g (all left) (Reached store fits lacks holds start) times served n kept c d) c.left) o m → IsSome k
+      → ((q : Serving S) → Stands holds times served q → ServesOn (λ left. turn store buckets g (more == 0) q (kept ++ left)) (Reached store fits lacks holds' q.store) times' served' r kept' m k)
+      → ((left : List ℕ) (c d f : Connection) (i : InTalk store buckets g (all left) (Reached store fits lacks holds start) times served (suc more) kept c d) → Follows store fits lacks buckets g (all left) start more kept kept' holds holds' times times' served served' c d f i r → Next' left c f)
+      → OnPresent (λ c f. OnLeft (λ left. Next' left c f) c.left) o k
+  turn_then e inv some serves step =
+      on_present_bind (λ c d. OnLeft (λ left. InTalk store buckets g (all left) (Reached store fits lacks holds start) times served n kept c d) c.left) (λ c f. OnLeft (λ left. Next' left c f) c.left) o m k inv some
+      (λ c d f em ek h.
+      on_left (λ left. Next' left c f) c.left
+      (λ left el.
+      let P : ℕ → Type 0 = λ x. InTalk store buckets g (all left) (Reached store fits lacks holds start) times served x kept c d in
+      let i = subst P e (at_left (λ l. InTalk store buckets g (all l) (Reached store fits lacks holds start) times served n kept c d) c.left left el h) in
+      step left c d f i
+      (at_left (λ l. Serves (turn store buckets g (more == 0) i.serving (kept ++ l)) (Reached store fits lacks holds' i.serving.store) times' served' r kept' d f) d.left i.left i.told
+      (at_present (λ d f. OnLeft (λ l. Serves (turn store buckets g (more == 0) i.serving (kept ++ l)) (Reached store fits lacks holds' i.serving.store) times' served' r kept' d f) d.left) m k d f em ek
+      (serves i.serving (stands_plain store fits lacks holds times served start i.serving i.stands))))))

@@ -1,0 +1,24 @@
+//! An S3 server over HTTP: connections one after the other, requests one after the other, over any store that
+//! carries out orders.
+//!
+//! What is written to a connection is a function of its bytes (serve_model), over the states that the store goes
+//! through. `serve_request` serves one request of the connection that is present, `serve` all connections. A `Storage`
+//! is what both need of a store: one call, which carries out an order at a time.
+//!
+//! Inside, `judging` says which refusal comes first once a body was read, what the store is asked, and what its end is
+//! answered with; `saying` writes answers; `request`, `connection` and `service` are the three layers of serving.
+#![tactic(auto)]
+
+mod answers;
+mod connection;
+mod counting;
+mod judging;
+mod orders;
+mod request;
+mod saying;
+mod service;
+mod storage;
+
+pub use crate::request::serve_request;
+pub use crate::service::{ServeStop, serve};
+pub use crate::storage::Storage;

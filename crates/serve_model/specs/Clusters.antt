@@ -1,0 +1,124 @@
+-- The cluster as a store: a request is a list of acts.
+use Rattle.std.specs.Prelude.{ℕ, ◌-◌, max, Option, Some, None, List, [], ◌∷◌, ◌++◌, map}
+use Rattle.layout_roles.specs.declared.cut.Cut.{Cut}
+use Rattle.cluster_machine.specs.declared.step.Refusal.{Refusal}
+use Rattle.cluster_machine.specs.declared.step.Words.{Words}
+use Rattle.cluster_machine.specs.declared.step.Words.TheVariants.{One}
+use Rattle.cluster_machine.specs.declared.step.Step.TheVariants.{Tick, Work, Expire}
+use Rattle.flow_model.specs.declared.order.Order.{Order}
+use Rattle.flow_model.specs.declared.flow.FlowEnd.{FlowEnd}
+use Rattle.store_model.specs.Run.{State, Outcome, plainly}
+use Rattle.store_model.specs.Acts.{Act, moves, asks, drain, forgets, takes, acted, after_acts, end_of, all_messages, AreLawfulActs, ActsFit, IsLawfulAct}
+use Rattle.store_model.specs.Turns.{FitsOutcome}
+use Rattle.serve_model.specs.Stores.{Store}
+
+-- ---- the acts of a request
+
+-- the members stand in order, and the first one asks
+abbrev pub asker : List ℕ → ℕ
+asker [] = 0
+asker (n ∷ ns) = n
+
+-- the world's time goes on, and the request is asked
+abbrev pub acts_to_ask : List ℕ → ℕ → Order → List Act
+acts_to_ask members ms order = moves (plainly (Tick ms)) ∷ asks (asker members) order ∷ []
+
+-- each member works off what waits at it
+abbrev pub works : List ℕ → List Act
+works members = map (λ n. moves (plainly (Work n))) members
+
+-- and all messages are delivered
+abbrev pub round : List ℕ → List Act
+round members = works members ++ drain all_messages ∷ []
+
+-- all messages are delivered, and two rounds follow
+abbrev pub acts_to_end : List ℕ → List Act
+acts_to_end members = drain all_messages ∷ round members ++ round members
+
+-- a request without an end is expired
+abbrev pub expiry : ℕ → Option FlowEnd → List Act
+expiry q None = moves (plainly (Expire q)) ∷ []
+expiry q (Some end) = []
+
+-- the end is taken, and delivered messages are forgotten
+abbrev pub acts_past_end : ℕ → Option FlowEnd → List Act
+acts_past_end q end = takes q ∷ expiry q end ++ forgets ∷ []
+
+-- the number that a request was given
+abbrev pub number_in : Words → ℕ
+number_in (One q) = q
+number_in _ = 0
+
+module _ (members : List ℕ) where
+  -- how request q, which was opened, ends
+  abbrev pub end_in : State → ℕ → Option FlowEnd
+  end_in s q = end_of (after_acts s (acts_to_end members)).ends q
+
+  -- the acts that follow until the request has ended
+  abbrev pub acts_opened : State → ℕ → List Act
+  acts_opened s q = acts_to_end members ++ acts_past_end q (end_in s q)
+
+  -- the same, where it may have been refused
+  abbrev pub acts_then : State → ℕ → Option (Refusal Cut) → List Act
+  acts_then s q (Some reason) = []
+  acts_then s q None = acts_opened s q
+
+  -- how the request ends; not at all where it was refused
+  abbrev pub end_then : State → ℕ → Option (Refusal Cut) → Option FlowEnd
+  end_then s q (Some reason) = None
+  end_then s q None = end_in s q
+
+  -- what comes of asking, once the time went on
+  abbrev pub asking : State → ℕ → Order → Outcome
+  asking s ms order = acted (acted s (moves (plainly (Tick ms)))).state (asks (asker members) order)
+
+  -- the acts of a request
+  abbrev pub acts_of_request : State → ℕ → Order → List Act
+  acts_of_request s ms order = let o = asking s ms order in acts_to_ask members ms order ++ acts_then o.state (number_in o.words) o.refused
+
+  -- how a request ends
+  abbrev pub end_of_request : State → ℕ → Order → Option FlowEnd
+  end_of_request s ms order = let o = asking s ms order in end_then o.state (number_in o.words) o.refused
+
+-- ---- the store
+
+-- a state of a run, to which time its world was brought, and the members, in order
+pub record Cluster : Type 0 where
+  pub run : State
+  pub ticked : ℕ
+  pub members : List ℕ
+
+-- how far the world's time is behind
+abbrev pub wait : Cluster → ℕ → ℕ
+wait c time = time - c.ticked
+
+-- the acts of a request at a time
+abbrev pub acts_at : Cluster → ℕ → Order → List Act
+acts_at c time order = acts_of_request c.members c.run (wait c time) order
+
+-- the cluster carries out orders
+abbrev pub cluster : Store Cluster
+cluster = record {
+  carries = λ c time order.
+      record {
+        state = record { run = after_acts c.run (acts_at c time order); ticked = max c.ticked time; members = c.members };
+        end = end_of_request c.members c.run (wait c time) order;
+      };
+}
+
+-- the acts of the request are lawful, and every number fits
+abbrev pub fits : Cluster → ℕ → Order → Type 0
+fits c time order = AreLawfulActs c.run (acts_at c time order) × ActsFit c.run (acts_at c time order)
+
+-- some acts that are lawful and fit lead to a state in which a lawful act has no room
+pub record ActLacksRoom (s : State) : Type 0 where
+  pub acts : List Act
+  pub lawful : AreLawfulActs s acts
+  pub fit : ActsFit s acts
+  pub act : Act
+  pub may : IsLawfulAct (after_acts s acts) act
+  pub lacks : FitsOutcome (after_acts s acts) (acted (after_acts s acts) act) → ⊥
+
+-- the request has an act without room
+abbrev pub lacks : Cluster → ℕ → Order → Type 0
+lacks c time order = ActLacksRoom c.run

@@ -1,0 +1,86 @@
+-- How code serves one request: what it writes, and what its store, its clock and its counts stand for then.
+use Rattle.std.specs.Prelude.{◌≡◌, ℕ, ◌≤◌, ⊤, Bool, false, true, not, List, ◌++◌, Option, Some, None, Result, Ok, Err}
+use Rattle.std.specs.List.{Contains}
+use Rattle.lab_outside.specs.Connection.{Connection, OnPresent}
+use Rattle.lab_outside.specs.Rose.{Rose}
+use Rattle.lab_outside.specs.Bytes.{Wrote, WrotePrefix}
+use Rattle.flow_model.specs.declared.order.Order.{Order}
+use Rattle.flow_model.specs.declared.flow.FlowEnd.{FlowEnd}
+use Rattle.serve_model.specs.declared.served.Served.{Served}
+use Rattle.serve_model.specs.declared.served.ServeFault.{ServeFault}
+use Rattle.serve_model.specs.declared.served.ServeFault.TheVariants.{Kept, Number, Memory}
+use Rattle.serve_model.specs.Stores.{Store, Leads, Overflows}
+use Rattle.serve_model.specs.Talk.{Serving, Next, goes, closes, exceeds, Turn}
+
+-- ---- a store of the code
+
+-- it stands for some state: it was not given up
+abbrev pub HasState : {S : Type 0} → (S → Type 0) → Type 0
+HasState {S} holds = (s : S) × holds s
+
+module _ {S : Type 0} (store : Store S) (fits lacks : S → ℕ → Order → Type 0) where
+  -- an order was carried out and ended so; the code's store stands for the state after it
+  pub record CarriedOut (holds : S → Type 0) (s : S) (time : ℕ) (order : Order) (end : Option FlowEnd) : Type 0 where
+    pub end_is : end ≡ (store.carries s time order).end
+    pub fit : fits s time order
+    pub stands : holds (store.carries s time order).state
+
+  -- the code's store stands for a state to which orders lead from this one
+  abbrev pub Reached : (S → Type 0) → S → S → Type 0
+  Reached holds s t = holds t × Leads store fits s t
+
+  -- whatever state the code's store stood for, orders lead to one for which it stands; where a number had no room, they lead to an order that has none
+  abbrev pub Goes : {A : Type 0} → (S → Type 0) → (S → Type 0) → Result A ServeFault → Type 0
+  Goes holds holds' (Ok a) = (s : S) → holds s → HasState (Reached holds' s)
+  Goes holds holds' (Err Kept) = (s : S) → holds s → HasState (Reached holds' s)
+  Goes holds holds' (Err Number) = (s : S) → holds s → Overflows store fits lacks s
+  Goes holds holds' (Err Memory) = ⊤
+
+-- ---- an answer
+
+-- an answer was written, and the connection goes on unless it closes; or it wasn't written whole, as the count of faults rose; or nothing was written, as memory was wanting
+pub data Says (text : List ℕ) (close : Bool) (result : Result Bool ServeFault) (c d : Connection) : Type 0 where
+  said : result ≡ Ok (not close) → Wrote c.written d.written text → d.left ≡ c.left → c.faults ≤ d.faults → Says text close result c d
+  cut_short : result ≡ Ok false → WrotePrefix c.written d.written text → Rose c.faults d.faults → Says text close result c d
+  unsaid : result ≡ Err Memory → d ≡ c → Says text close result c d
+
+-- ---- one request
+
+-- a store, a clock and counts of the code stand for what is served
+pub record Stands {S : Type 0} (holds : S → Type 0) (times : Option (List ℕ)) (served : Served) (p : Serving S) : Type 0 where
+  pub store : holds p.store
+  pub clock : times ≡ Some p.times
+  pub time : served.time ≡ p.time
+  pub kept : served.kept ≡ p.kept
+
+-- the connection goes on with these bytes, which are kept or left, or it doesn't
+abbrev pub Continues : Next → Bool → List ℕ → Option (List ℕ) → Type 0
+Continues closes on kept left = on ≡ false
+Continues exceeds on kept left = ⊥
+Continues (goes rest) on kept None = ⊥
+Continues (goes rest) on kept (Some left) = (on ≡ true) × (rest ≡ kept ++ left)
+
+-- this is what is served at the end, or was on the way there
+pub data IsPassed {S : Type 0} (passed : List (Serving S)) (serving q : Serving S) : Type 0 where
+  at_end : q ≡ serving → IsPassed passed serving q
+  before : Contains passed q → IsPassed passed serving q
+
+-- what is stated of one request was written, and store, clock and counts stand for what is served then; or a first part was written, as the count of faults rose, and they stand for something on the way; or it's stated that serving ends, as too many bytes were put or copied; or a first part was written, as memory was wanting or a number had no room
+pub data Serves {S : Type 0} (t : Turn S) (holds : S → Type 0) (times : Option (List ℕ)) (served : Served) (result : Result Bool ServeFault) (kept : List ℕ) (c d : Connection) : Type 0 where
+  done : (on : Bool) → result ≡ Ok on → Wrote c.written d.written t.text → Stands holds times served t.serving → Continues t.next on kept d.left → c.faults ≤ d.faults → Serves t holds times served result kept c d
+  cut_off : (q : Serving S) → result ≡ Ok false → Rose c.faults d.faults → WrotePrefix c.written d.written t.text → Stands holds times served q → IsPassed t.passed t.serving q → Serves t holds times served result kept c d
+  limited : result ≡ Err Kept → t.next ≡ exceeds → Wrote c.written d.written t.text → c.faults ≤ d.faults → Serves t holds times served result kept c d
+  given_up : (e : ServeFault) → result ≡ Err e → (e ≡ Kept → ⊥) → WrotePrefix c.written d.written t.text → c.faults ≤ d.faults → Serves t holds times served result kept c d
+
+-- so it is of the bytes that are told to be left
+abbrev pub OnLeft : (List ℕ → Type 0) → Option (List ℕ) → Type 0
+OnLeft P None = ⊤
+OnLeft P (Some left) = P left
+
+-- an answer was written to the connection that is present
+abbrev pub SaysOn : List ℕ → Bool → Result Bool ServeFault → Option Connection → Option Connection → Type 0
+SaysOn text close result old new = OnPresent (Says text close result) old new
+
+-- what is stated of a request, from the bytes on that are told to be left, was served on the connection that is present
+abbrev pub ServesOn : {S : Type 0} → (List ℕ → Turn S) → (S → Type 0) → Option (List ℕ) → Served → Result Bool ServeFault → List ℕ → Option Connection → Option Connection → Type 0
+ServesOn turn holds times served result kept old new = OnPresent (λ c d. OnLeft (λ left. Serves (turn left) holds times served result kept c d) c.left) old new

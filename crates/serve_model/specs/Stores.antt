@@ -1,0 +1,38 @@
+-- Stores that carry out orders, one after the other.
+use Rattle.std.specs.Prelude.{◌≡◌, ℕ, ⊤, Option, List, [], ◌∷◌}
+use Rattle.flow_model.specs.declared.order.Order.{Order}
+use Rattle.flow_model.specs.declared.flow.FlowEnd.{FlowEnd}
+
+-- the state after an order, and with what it ended; none where it didn't
+pub record Carried (S : Type 0) : Type 0 where
+  pub state : S
+  pub end : Option FlowEnd
+
+-- what comes of an order that is carried out at a time, in milliseconds since 1970
+pub record Store (S : Type 0) : Type 0 where
+  pub carries : S → ℕ → Order → Carried S
+
+module _ {S : Type 0} (store : Store S) where
+  -- the state after orders, each with its time
+  abbrev pub after_orders : S → List (ℕ × Order) → S
+  after_orders s [] = s
+  after_orders s (o ∷ os) = after_orders (store.carries s o.0 o.1).state os
+
+  -- each of these orders may be carried out when it is, and all fits
+  abbrev pub OrdersFit : (S → ℕ → Order → Type 0) → S → List (ℕ × Order) → Type 0
+  OrdersFit fits s [] = ⊤
+  OrdersFit fits s (o ∷ os) = fits s o.0 o.1 × OrdersFit fits (store.carries s o.0 o.1).state os
+
+  -- some orders lead from one state to the other
+  pub record Leads (fits : S → ℕ → Order → Type 0) (s t : S) : Type 0 where
+    pub orders : List (ℕ × Order)
+    pub after : t ≡ after_orders s orders
+    pub fit : OrdersFit fits s orders
+
+  -- they lead to a state in which some order would not fit
+  pub record Overflows (fits lacks : S → ℕ → Order → Type 0) (s : S) : Type 0 where
+    pub state : S
+    pub leads : Leads fits s state
+    pub time : ℕ
+    pub order : Order
+    pub overflows : lacks state time order

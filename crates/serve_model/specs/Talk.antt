@@ -1,0 +1,238 @@
+-- What is written to a connection: a function of its bytes, over a store, the times that a clock still gives, and what was counted.
+use Rattle.std.specs.Prelude.{ℕ, zero, suc, ◌+◌, Bool, true, false, ◌||◌, ◌&&◌, ◌==◌, nat_le, nat_lt, min, max, List, [], ◌∷◌, ◌++◌, length, take, drop, codes, Option, Some, None, Result, Ok, Err, if◌then◌else◌}
+use Rattle.flow_model.specs.declared.order.Order.{Order}
+use Rattle.flow_model.specs.declared.flow.FlowEnd.{FlowEnd}
+use Rattle.http_wire.specs.declared.head.Head.{Head}
+use Rattle.http_wire.specs.Cut.{Cut, ends, too_long, unfinished, cut}
+use Rattle.http_wire.specs.Heads.{IsReading}
+use Rattle.s3_model.specs.declared.ask.Ask.{Ask}
+use Rattle.s3_model.specs.declared.fault.Code.{Code}
+use Rattle.s3_model.specs.declared.fault.Code.TheVariants.{InvalidRequest, IncompleteBody}
+use Rattle.s3_model.specs.declared.fault.S3Fault.{S3Fault}
+use Rattle.s3_model.specs.declared.reply.Reply.{Reply}
+use Rattle.s3_model.specs.declared.reply.Reply.TheVariants.{Refused}
+use Rattle.s3_model.specs.Answer.{answer_text}
+use Rattle.s3_model.specs.Asks.{is_method, asked_of}
+use Rattle.s3_model.specs.Connections.{closes as closes_after_head, expects}
+use Rattle.s3_model.specs.Faults.{fault_of, closes_after}
+use Rattle.s3_model.specs.Headers.{length_of}
+use Rattle.s3_model.specs.Targets.{path_of, is_bad_target}
+use Rattle.serve_model.specs.declared.answer.Answer.{Answer}
+use Rattle.serve_model.specs.declared.answer.Answer.TheVariants as answer
+use Rattle.serve_model.specs.declared.request.Request.{Request}
+use Rattle.serve_model.specs.Stores.{Store}
+use Rattle.serve_model.specs.Judging.{refusal_in, counted_before, order_of, reply_without, answer_to, counted_after}
+
+-- a reader of heads: what the bytes of a head say, if they say anything. There is one, and it is the only one.
+pub record Grammar : Type 0 where
+  pub head_of : List ℕ → Option Head
+  pub reads : (front : List ℕ) → IsReading front (head_of front)
+
+-- the state of a store, the times that the clock is still to give, of which the last repeats, the time of the last request, and how many bytes were put or copied
+pub record Serving (S : Type 0) : Type 0 where
+  pub store : S
+  pub times : List ℕ
+  pub time : ℕ
+  pub kept : ℕ
+
+-- how many bytes may be put or copied
+abbrev pub kept_limit : ℕ
+kept_limit = 536870912
+
+-- the greatest time of a request, in milliseconds since 1970; a later one counts as this one
+abbrev pub time_limit : ℕ
+time_limit = 253402000000000
+
+-- how many requests of one connection are answered
+abbrev pub request_limit : ℕ
+request_limit = 1000
+
+abbrev pub first_of : List ℕ → ℕ
+first_of [] = 0
+first_of (t ∷ ts) = t
+
+abbrev pub later_of : List ℕ → List ℕ
+later_of [] = []
+later_of (t ∷ []) = t ∷ []
+later_of (t ∷ u ∷ us) = u ∷ us
+
+-- the time of a request for which the clock gave this, where this was that of the last one: no time is before the last one
+abbrev pub time_from : ℕ → ℕ → ℕ
+time_from last given = max last (min given time_limit)
+
+-- how the connection goes on: with these bytes, or not; or serving ends, since too many bytes were put or copied
+pub data Next : Type 0 where
+  goes : List ℕ → Next
+  closes : Next
+  exceeds : Next
+
+abbrev pub unless_closed : Bool → List ℕ → Next
+unless_closed true rest = closes
+unless_closed false rest = goes rest
+
+-- what comes of one request: what is written, what was passed on the way, what is served from then on, and how the connection goes on
+pub record Turn (S : Type 0) : Type 0 where
+  pub text : List ℕ
+  pub passed : List (Serving S)
+  pub serving : Serving S
+  pub next : Next
+
+-- the path that a refusal of a head shows; none where the target is no path
+abbrev pub path_shown : Head → List ℕ
+path_shown head = if is_bad_target head.target then [] else path_of head.target
+
+-- what is known of a request once its head is understood
+abbrev pub request_of : Bool → ℕ → Head → Ask → Request
+request_of last now head ask =
+    record {
+      ask = ask;
+      path = path_of head.target;
+      is_head = is_method head (codes "HEAD");
+      length = length_of head.headers;
+      waits = expects head;
+      closes = last || closes_after_head head;
+      time = now;
+    }
+
+-- the interim line, where it is waited for and a body is to come
+abbrev pub interim : Bool → ℕ → List ℕ
+interim waits size = if waits && nat_lt 0 size then codes "HTTP/1.1 100 Continue\r\n\r\n" else []
+
+-- the connection closes after this refusal
+abbrev pub closes_with : Request → Code → Bool
+closes_with r code = r.closes || closes_after code
+
+-- what is replied to a request that is refused
+abbrev pub refusal : Request → Code → Reply
+refusal r code = Refused (fault_of code) r.path r.is_head
+
+-- the bytes with which a request is answered
+abbrev pub text_of : Request → Answer → List ℕ
+text_of r (answer.Reply reply) = answer_text (Some r.ask) reply r.time r.closes
+text_of r (answer.Refusal code) = answer_text (Some r.ask) (refusal r code) r.time (closes_with r code)
+text_of r answer.Nothing = []
+
+-- whether the connection closes after them; without an answer it does
+abbrev pub closes_of : Request → Answer → Bool
+closes_of r (answer.Reply reply) = r.closes
+closes_of r (answer.Refusal code) = closes_with r code
+closes_of r answer.Nothing = true
+
+-- the bytes with which a head is refused, at a time in milliseconds
+abbrev pub head_refusal : S3Fault → List ℕ → Bool → ℕ → List ℕ
+head_refusal fault path is_head now = answer_text None (Refused fault path is_head) now true
+
+-- the same, where the head couldn't be read
+abbrev pub bad_head : ℕ → List ℕ
+bad_head now = head_refusal (fault_of InvalidRequest) [] false now
+
+module _ {S : Type 0} where
+  -- the clock was asked
+  abbrev pub clocked : Serving S → Serving S
+  clocked p = record p { times = later_of p.times; time = time_from p.time (first_of p.times) }
+
+  -- so many bytes more were put or copied
+  abbrev pub counted : ℕ → Serving S → Serving S
+  counted size p = record p { kept = p.kept + size }
+
+  -- this was passed before
+  abbrev pub passing : Serving S → Turn S → Turn S
+  passing p t = record t { passed = p ∷ t.passed }
+
+  -- something was written before
+  abbrev pub after : List ℕ → Turn S → Turn S
+  after text t = record t { text = text ++ t.text }
+
+  -- something is written, and then the connection closes or goes on with the rest
+  abbrev pub said : List ℕ → Bool → Serving S → List ℕ → Turn S
+  said text close p rest = record { text = text; passed = []; serving = p; next = unless_closed close rest }
+
+  -- a request is answered
+  abbrev pub answer_turn : Request → Answer → Serving S → List ℕ → Turn S
+  answer_turn r a p rest = said (text_of r a) (closes_of r a) p rest
+
+  -- too many bytes were put or copied
+  abbrev pub exceeded : Serving S → Turn S
+  exceeded p = record { text = []; passed = []; serving = p; next = exceeds }
+
+  -- so many bytes more are put or copied, and if they aren't too many, it goes on so
+  unfoldable pub counting : ℕ → Serving S → (Serving S → Turn S) → Turn S
+  counting size p go = if nat_lt kept_limit (p.kept + size) then exceeded (counted size p) else go (counted size p)
+
+  -- the store has carried out what a request asks, which ended so; without an end there is no answer
+  abbrev pub end_turn : Request → Option FlowEnd → Serving S → List ℕ → Turn S
+  end_turn r None p rest = answer_turn r answer.Nothing p rest
+  end_turn r (Some end) p rest = counting (counted_after r.ask end) p (λ q. answer_turn r (answer_to r.ask end) q rest)
+
+  -- the store carries out an order
+  abbrev pub order_turn : Store S → Request → Order → Serving S → List ℕ → Turn S
+  order_turn store r order p rest = let c = store.carries p.store r.time order in end_turn r c.end (record p { store = c.state }) rest
+
+  module _ (store : Store S) (buckets : List (List ℕ)) where
+    -- nothing refuses the request before the store is asked
+    abbrev pub plan_turn : Request → Option Order → Serving S → List ℕ → Turn S
+    plan_turn r (Some order) p rest = order_turn store r order p rest
+    plan_turn r None p rest = answer_turn r (answer.Reply (reply_without buckets r.ask)) p rest
+
+    -- a request whose body was read is refused, or isn't
+    abbrev pub judged_turn : Request → List ℕ → Option Code → Serving S → List ℕ → Turn S
+    judged_turn r body (Some code) p rest = answer_turn r (answer.Refusal code) p rest
+    judged_turn r body None p rest = plan_turn r (order_of r.ask body) p rest
+
+    -- a body was read
+    abbrev pub whole_turn : Request → List ℕ → Serving S → List ℕ → Turn S
+    whole_turn r body p rest = judged_turn r body (refusal_in buckets r.ask body) p rest
+
+    -- a body is to be read, unless the input ends before it does
+    unfoldable pub body_turn : Request → Serving S → List ℕ → Turn S
+    body_turn r p rest = passing p (if nat_le r.length (length rest) then whole_turn r (take r.length rest) p (drop r.length rest) else answer_turn r (answer.Refusal IncompleteBody) p rest)
+
+    -- the interim line is written where it is waited for, before the body is read
+    abbrev pub waiting_turn : Request → Serving S → List ℕ → Turn S
+    waiting_turn r p rest = after (interim r.waits r.length) (body_turn r p rest)
+
+    -- a request was understood
+    abbrev pub request_turn : Request → Serving S → List ℕ → Turn S
+    request_turn r p rest = counting (counted_before buckets r.ask r.length) p (λ q. waiting_turn r q rest)
+
+    -- what a head asks was understood, or it is refused
+    abbrev pub asked_turn : Bool → ℕ → Head → Result Ask S3Fault → Serving S → List ℕ → Turn S
+    asked_turn last now head (Ok ask) p rest = request_turn (request_of last now head ask) p rest
+    asked_turn last now head (Err fault) p rest = said (head_refusal fault (path_shown head) (is_method head (codes "HEAD")) now) true p rest
+
+    -- a head was read, or is outside the grammar
+    abbrev pub head_turn : Bool → ℕ → Option Head → Serving S → List ℕ → Turn S
+    head_turn last now (Some head) p rest = asked_turn last now head (asked_of head) p rest
+    head_turn last now None p rest = said (bad_head now) true p rest
+
+    module _ (g : Grammar) where
+      -- what the bytes begin with; the clock is asked once the head has its end
+      abbrev pub cut_turn : Bool → Serving S → Cut → Turn S
+      cut_turn last p (ends front rest) = head_turn last (clocked p).time (g.head_of front) (clocked p) rest
+      cut_turn last p too_long = said (bad_head (clocked p).time) true (clocked p) []
+      cut_turn last p unfinished = said [] true p []
+
+      -- what comes of the first request in these bytes; `last` says that the connection closes after it
+      abbrev pub turn : Bool → Serving S → List ℕ → Turn S
+      turn last p bytes = passing p (cut_turn last p (cut bytes))
+
+-- what is written to a connection, what is passed on the way, what is served then, and whether serving ends with it
+pub record Talk (S : Type 0) : Type 0 where
+  pub text : List ℕ
+  pub passed : List (Serving S)
+  pub serving : Serving S
+  pub is_over : Bool
+
+module _ {S : Type 0} where
+  -- a turn, and then what comes of the bytes that are left
+  abbrev pub go_on : (Serving S → List ℕ → Talk S) → Turn S → Next → Talk S
+  go_on talk t (goes rest) =
+      let u = talk t.serving rest in
+      record { text = t.text ++ u.text; passed = t.passed ++ u.passed; serving = u.serving; is_over = u.is_over }
+  go_on talk t closes = record { text = t.text; passed = t.passed; serving = t.serving; is_over = false }
+  go_on talk t exceeds = record { text = t.text; passed = t.passed; serving = t.serving; is_over = true }
+
+  -- a connection with these bytes, on which so many requests are answered at most
+  unfoldable pub talk : Store S → List (List ℕ) → Grammar → ℕ → Serving S → List ℕ → Talk S
+  talk store buckets g zero p bytes = record { text = []; passed = []; serving = p; is_over = false }
+  talk store buckets g (suc more) p bytes = let t = turn store buckets g (more == 0) p bytes in go_on (talk store buckets g more) t t.next

@@ -1,0 +1,19 @@
+//! What is written to the connections of an S3 server: a function of their bytes, over any store that answers orders.
+//!
+//! A store is a record of one function (`Stores`): an order at a time gives the state after it and its end. `Talk` says
+//! what comes of one request, of a connection with its requests one after the other, and which states are passed on the
+//! way; it judges a request by the refusals in their order (s3_model, `Judging`), and answers by s3_model's bytes. The
+//! store of today is the cluster itself, whose requests are acts of a run (`Clusters`). `Serving` and `Served` say how
+//! code serves one request and all connections. The crate has no code: these types, which model and code share.
+//! What is said of answers rests on one reader of heads, which there is (`grammar_is_there`, `grammar_is_one`).
+#![tactic(auto)]
+
+mod answer;
+mod grammar;
+mod request;
+mod served;
+
+pub use crate::answer::Answer;
+pub use crate::grammar::{grammar_is_one, grammar_is_there};
+pub use crate::request::Request;
+pub use crate::served::{ServeFault, Served};

@@ -1,0 +1,312 @@
+-- What a request does whose phase ended keeps the invariant, whatever it waits for.
+use Rattle.history_model.specs.declared.record.Kind.TheVariants as kind
+use Rattle.blake2_hash.specs.Hash.{digest_of}
+use Rattle.flow_model.specs.declared.flow.FlowStep.TheVariants.{More, Wait, End}
+use Rattle.std.specs.Prelude.{◌≡◌, ◌≤◌, ◌<◌, ◌*◌, ◌^◌, nat_lt, ℕ, zero, suc, true, false, Option, Some, None, List, [], ◌∷◌, ◌++◌, length, refl, ⊤, ◌+◌, ◌⊎◌}
+use Rattle.std.specs.Option.{unwrap_or}
+use Rattle.std.proofs.Common.{ap, sym, subst, ◌∙◌, le_refl, arith, inl, inr}
+use Rattle.std.proofs.lemmas.Bool.{ltb-true, ltb-false}
+use Rattle.std.proofs.lemmas.Nat.{mul-le}
+use Rattle.std.specs.List.{Contains}
+use Rattle.crdt_rows.specs.declared.version.Version.{Version}
+use Rattle.crdt_rows.specs.declared.body.Meta.{Meta}
+use Rattle.crdt_rows.specs.declared.version_row.BlockRef.{BlockRef}
+use Rattle.crdt_rows.specs.declared.object_row.ObjectRow.{ObjectRow}
+use Rattle.crdt_rows.specs.declared.any_row.AnyRow.{AnyRow}
+use Rattle.crdt_rows.specs.AnyRow.{any_join}
+use Rattle.object_schema.specs.Schema.{words}
+use Rattle.wire_messages.specs.declared.phase.Phase.TheVariants.{Store}
+use Rattle.wire_messages.specs.declared.phase.PhaseEnd.{PhaseEnd}
+use Rattle.wire_messages.specs.declared.phase.PhaseEnd.TheVariants.{Row as Answered, Window, Kept, Block}
+use Rattle.cluster_machine.specs.World.{numbered}
+use Rattle.cluster_machine.specs.Fits.{Fits}
+use Rattle.cluster_machine.specs.Step.{applied}
+use Rattle.cluster_machine.specs.Worlds.{FitAll}
+use Rattle.flow_model.specs.declared.flow.Name.{Name}
+use Rattle.flow_model.specs.declared.flow.Content.{Content}
+use Rattle.flow_model.specs.declared.flow.Wish.{Wish}
+use Rattle.flow_model.specs.declared.flow.Wish.TheVariants as wish
+use Rattle.flow_model.specs.declared.flow.Aim.{Aim}
+use Rattle.flow_model.specs.declared.flow.Aim.TheVariants as aim
+use Rattle.flow_model.specs.declared.flow.Stage.{Stage}
+use Rattle.flow_model.specs.declared.flow.Stage.TheVariants.{Drawing, Uploading, Completing, Looking, Opening, Gathering, Listing}
+use Rattle.flow_model.specs.declared.flow.FlowStep.{FlowStep}
+use Rattle.flow_model.specs.declared.flow.FlowEnd.TheVariants.{Stored, Found, Nothing, Listed, Superseded}
+use Rattle.flow_model.specs.Blocks.{has_piece, is_long}
+use Rattle.flow_model.specs.Rows.{meta_of, uploading, block_rows, version_row, reference_row}
+use Rattle.flow_model.specs.Says.{Said, none, marked, inline, in_blocks, said_of, Named, whole, deleted, named_by, shown_rows}
+use Rattle.flow_model.specs.Next.{drawn, stores, more, found, looked, reads_on, gathers, opened, lists, completes, writes, uploads, goes_on as flow_goes_on}
+use Rattle.store_model.specs.Run.{Moving, State, Asked, Draw, effect, phases, takes, draws_of}
+use Rattle.md5.specs.Md5.{md5}
+use Rattle.std.proofs.lemmas.List.{append-nil, append_assoc}
+use Rattle.wire_messages.specs.declared.phase.Phase.{Phase}
+use Rattle.wire_messages.specs.declared.phase.Phase.TheVariants.{Block as Fetch}
+use Rattle.cluster_machine.specs.declared.step.Step.TheVariants as step
+use Rattle.history_model.specs.declared.record.Cause.TheVariants.{Superseded as WasSuperseded}
+use Rattle.history_model.specs.declared.record.Record.TheVariants.{Ended}
+use Rattle.flow_model.specs.declared.flow.FlowEnd.{FlowEnd}
+use Rattle.flow_model.specs.Blocks.{piece}
+use Rattle.flow_model.specs.Rows.{complete}
+use Rattle.flow_model.specs.Flow.{asks_for, asks_past}
+use Rattle.flow_model.specs.Next.{opens}
+use Rattle.flow_laws.specs.Pieces.{pieces, named_piece, named_pieces}
+use Rattle.flow_laws.proofs.Cut.{all as all_pieces}
+use Rattle.store_model.specs.Answers.{record_of, line_of}
+use Rattle.store_model.specs.Fresh.{NoClash}
+use Rattle.store_model.specs.Run.{Outcome, doing, plainly}
+use Rattle.store_model.specs.Written.{IsWritten}
+use Rattle.store_laws.proofs.Placing.{piece_has_hash}
+use Rattle.store_laws.proofs.Rows.{SaysWritten, FoundIn}
+use Rattle.store_laws.proofs.Sound.{IsAimOf, HasSeen}
+use Rattle.store_laws.proofs.Values.{read_written}
+use Rattle.store_laws.proofs.Acting.{number_fits}
+use Rattle.store_anchors.specs.Whole.{SaysAllBytes, IsWhole}
+use Rattle.store_anchors.proofs.Cited.{Cited}
+use Rattle.store_anchors.proofs.Kept.{IsFound, AsksNames, Fetches, IsPassed, IsReplaced}
+use Rattle.store_anchors.proofs.Laid.{blocks_old}
+use Rattle.store_anchors.proofs.Lines.{Tells, tells_none, tells_one, step_whole, nothing_whole, stored_whole, get_whole, head_whole}
+use Rattle.store_anchors.proofs.Naming.{named}
+use Rattle.store_anchors.proofs.Reading.{finds, piece_there}
+use Rattle.store_anchors.proofs.Told.{AreApart}
+use Rattle.store_anchors.proofs.Going.{GoesLaid}
+use Rattle.store_laws.proofs.Elements.{there}
+use Rattle.store_laws.proofs.Ends.{IsEnd, HasRead}
+use Rattle.store_laws.proofs.Going.{flow_of}
+use Rattle.store_laws.proofs.Grown.{Rests}
+use Rattle.store_laws.proofs.Hashes.{HasHash}
+use Rattle.store_laws.proofs.Sound.{IsStage, IsSound}
+use Rattle.store_anchors.proofs.Kept.{Past, HasPiece, HasAll, IsLong}
+use Rattle.store_anchors.proofs.Laid.{HasUploaded, Stores, past, IsLaidIn}
+use Rattle.store_anchors.proofs.Steps.{HasPut, HasGot}
+use Rattle.store_anchors.proofs.Going.{asks_laid, opens_laid, scans_laid, fetches_laid, uploading_laid, completes_laid, block_laid, waits_laid, finishes_laid}
+
+-- what an outcome comes to after these steps: the invariant holds, and its lines tell of whole versions
+abbrev pub OutcomeLaid : List Moving → Outcome → Type 0
+OutcomeLaid ms o = IsLaidIn (ms ++ o.moves) o.state × Tells (past (ms ++ o.moves) o.state.world o.state.draws) o.lines
+
+-- these are the bytes that were written as the version
+pub record IsBodyOf (draws : List Draw) (v : Version) (body : List ℕ) : Type 0 where
+  pub content : Content
+  pub was_written : IsWritten draws v content
+  pub body_is : body ≡ content.body
+
+says_all : (draws : List Draw) (v : Version) (body : List ℕ) → IsBodyOf draws v body → SaysAllBytes draws v (Some (length body)) (Some (md5 body))
+says_all draws v body h = record { content = h.content; was_written = h.was_written; size_is = ap (λ (b : List ℕ). Some (length b)) h.body_is; digest_is = ap (λ (b : List ℕ). Some (md5 b)) h.body_is }
+
+-- one block more
+pieces_more : (block : ℕ) (body : List ℕ) (i n : ℕ) → pieces block body i (suc n) ≡ pieces block body i n ++ piece block body (i + n)
+pieces_more block body i zero = let same : i + zero ≡ i = omega arith in rw same (append-nil (piece block body i))
+pieces_more block body i (suc n) =
+    let same : i + suc n ≡ suc i + n = omega arith in
+    rw same (ap (piece block body i ++◌) (pieces_more block body (suc i) n) ∙ sym (append_assoc (piece block body i) (pieces block body (suc i) n) (piece block body (suc i + n))))
+
+module _ (cited : Cited) (moves : List Moving) (s : State) (q : ℕ) (a : Asked) (at : numbered s.asked q ≡ Some a) (rests : Rests s q) (block : ℕ) (laid : IsLaidIn moves s) where
+  -- what there is
+  abbrev pub here : Past
+  here = past moves s.world s.draws
+
+  -- what a flow's step keeps
+  abbrev pub StepLaid : List Draw → FlowStep → Type 0
+  StepLaid ds st = FitAll any_join words s.world (takes s q a ds st).moves → OutcomeLaid moves (takes s q a ds st)
+
+  goes : (ds : List Draw) (stage : Stage) (phase : Phase AnyRow) → GoesLaid cited moves s q a at rests block laid ds stage phase → StepLaid ds (More (flow_of q block stage) phase)
+  goes ds stage phase h fits = (h fits, step_whole (past (moves ++ phases q phase ∷ []) (doing s (phases q phase)).world (ds ++ s.draws)) s (phases q phase))
+
+  ends : (end : FlowEnd) → ((p id : ℕ) → record_of q end ≡ Ended p (WasSuperseded id) → IsReplaced here s.asked p id) → (NoClash here.blocks → IsWhole s.draws (line_of q a.kind end)) → StepLaid [] (End end)
+  ends end passed is_whole fits =
+      let m : Moving = plainly (step.Close q) in (
+        finishes_laid cited moves s q a at rests block laid end passed fits,
+        tells_one (past (moves ++ m ∷ []) (doing s m).world s.draws) (line_of q a.kind end) (λ clash. is_whole (λ x y h k e. clash x y (blocks_old moves m x h) (blocks_old moves m y k) e)),
+      )
+
+  waits : (stage : Stage) → a.flow ≡ Some (flow_of q block stage) → StepLaid [] (Wait (flow_of q block stage))
+  waits stage flow_is fits = (waits_laid cited moves s q a at rests block laid stage flow_is, tells_none (past (moves ++ []) s.world s.draws))
+
+  found_laid : (aim : Aim) (v : Version) (meta : Meta) (body : List ℕ) → IsAimOf a aim → (NoClash here.blocks → IsBodyOf s.draws v body) → StepLaid [] (found q block aim v meta body)
+  found_laid aim.Get v meta body is h = ends (Found v meta body) (λ p id e. cc) (λ clash. get_whole s.draws a.kind v meta body is (says_all s.draws v body (h clash)) q)
+  found_laid aim.Head v meta body is h = ends (Found v meta []) (λ p id e. cc) (λ clash. head_whole s.draws a.kind v meta [] is q)
+  found_laid (aim.Copy name headers) v meta body is h =
+      let stage : Stage = Drawing name (wish.Content (record { body = body; headers = unwrap_or headers meta.headers })) in
+      goes [] stage (asks_for name) (asks_laid cited moves s q a at rests block laid stage name tt (λ question. tt))
+
+  -- bytes that are read whole are those that were written
+  read_whole : (v : Version) (meta : Meta) (body : List ℕ) (f : IsFound here v meta) (next : ℕ) → next ≡ suc f.last → (NoClash here.blocks → body ≡ pieces f.draw.block f.content.body 0 next) → NoClash here.blocks → IsBodyOf s.draws v body
+  read_whole v meta body f next last is clash = record {
+    content = f.content;
+    was_written = record { draw = f.draw; drawn = f.long.drawn; version_is = f.version_is; wish_is = f.long.wish_is };
+    body_is = is clash ∙ (ap (pieces f.draw.block f.content.body 0) last ∙ all_pieces f.draw.block f.content.body (suc f.last) f.no_more);
+  }
+
+  gathers_laid : (aim : Aim) (v : Version) (meta : Meta) (left : List BlockRef) (body : List ℕ) → IsAimOf a aim → (f : IsFound here v meta) (next rest : ℕ) → left ≡ named_pieces f.draw.block f.content.body next rest → next + rest ≡ suc f.last →
+      (NoClash here.blocks → body ≡ pieces f.draw.block f.content.body 0 next) → StepLaid [] (gathers q block aim v meta left body)
+  gathers_laid aim v meta [] body is f next zero left_is end h = found_laid aim v meta body is (read_whole v meta body f next (omega arith) h)
+  gathers_laid aim v meta [] body is f next (suc rest) left_is end h = (let no : [] ≡ named_piece f.draw.block f.content.body next ∷ named_pieces f.draw.block f.content.body (suc next) rest = left_is in cc)
+  gathers_laid aim v meta (b ∷ left) body is f next zero left_is end h = (let no : b ∷ left ≡ [] = left_is in cc)
+  gathers_laid aim v meta (b ∷ left) body is f next (suc rest) left_is end h =
+      let block_is : b ≡ named_piece f.draw.block f.content.body next = cc in
+      let more : left ≡ named_pieces f.draw.block f.content.body (suc next) rest = cc in
+      goes [] (Gathering v meta aim left body) (Fetch b.hash)
+      (fetches_laid cited moves s q a at rests block laid v meta aim left body b (subst HasHash (sym block_is) (piece_has_hash f.draw.block f.content.body next))
+      (record { found = f; next = next; rest = rest; hash_is = ap (λ (x : BlockRef). x.hash.0) block_is; left_is = more; ends = omega arith; body_is = h }))
+
+  -- a get read a version of the object that it names
+  abbrev pub IsOwn : Version → Type 0
+  IsOwn v = (passed : IsPassed here v.id) → a.kind ≡ kind.Get → (digest_of passed.draw.name.bucket ≡ digest_of a.name.bucket) × (passed.draw.name.key ≡ a.name.key)
+
+  -- a request whose version's row was deleted
+  superseded : (v : Version) → IsOwn v → IsPassed here v.id → StepLaid [] (End (Superseded v.id))
+  superseded v own passed =
+      let mine : IsReplaced here s.asked q v.id = record { passed = passed; kind = a.kind; name = a.name; was_asked = record { one = a; is_there = at; kind_is = refl; name_is = refl }; own = own passed } in
+      ends (Superseded v.id) (λ p id e. (
+      let request : q ≡ p = cc in
+      let same : v.id ≡ id = cc in
+      subst (λ (r : ℕ). IsReplaced here s.asked r id) request (subst (IsReplaced here s.asked q) same mine))) (λ clash. tt)
+
+  opened_laid : (aim : Aim) (v : Version) (meta : Meta) (value : Option AnyRow) → IsAimOf a aim → IsOwn v → (f : IsFound here v meta) →
+      (named_by value meta.size ≡ whole (named_pieces f.draw.block f.content.body 0 (suc f.last))) ⊎ ((named_by value meta.size ≡ deleted) × IsPassed here v.id) → StepLaid [] (opened q block aim v meta (named_by value meta.size))
+  opened_laid aim v meta value is own f (inl e) =
+      subst (λ (n : Named). StepLaid [] (opened q block aim v meta n)) (sym e) (gathers_laid aim v meta (named_pieces f.draw.block f.content.body 0 (suc f.last)) [] is f 0 (suc f.last) refl (omega arith) (λ clash. refl))
+  opened_laid aim v meta value is own f (inr e) = subst (λ (n : Named). StepLaid [] (opened q block aim v meta n)) (sym e.0) (superseded v own e.1)
+
+  reads_on_laid : (aim : Aim) (v : Version) (meta : Meta) → IsAimOf a aim → IsFound here v meta → StepLaid [] (reads_on q block aim v meta)
+  reads_on_laid aim.Get v meta is f = goes [] (Opening v meta aim.Get) (opens v) (opens_laid cited moves s q a at rests block laid v meta aim.Get f)
+  reads_on_laid aim.Head v meta is f = ends (Found v meta []) (λ p id e. cc) (λ clash. head_whole s.draws a.kind v meta [] is q)
+  reads_on_laid (aim.Copy name headers) v meta is f = goes [] (Opening v meta (aim.Copy name headers)) (opens v) (opens_laid cited moves s q a at rests block laid v meta (aim.Copy name headers) f)
+
+  looked_laid : (aim : Aim) (said : Said) → IsAimOf a aim → SaysWritten s.draws said → ((v : Version) (meta : Meta) (first : List ℕ) → said ≡ in_blocks v meta first → IsFound here v meta) → StepLaid [] (looked q block aim said)
+  looked_laid aim none is written finds = ends Nothing (λ p id e. cc) (λ clash. nothing_whole s.draws a.kind q)
+  looked_laid aim (marked v) is written finds = ends Nothing (λ p id e. cc) (λ clash. nothing_whole s.draws a.kind q)
+  looked_laid aim (inline v meta body) is written finds = found_laid aim v meta body is (λ clash. record { content = written.content; was_written = written.was_written; body_is = written.body_is })
+  looked_laid aim (in_blocks v meta first) is written finds = reads_on_laid aim v meta is (finds v meta first refl)
+
+  lists_laid : (bucket prefix : List ℕ) (rows : List ObjectRow) (reach : Option (List ℕ)) → StepLaid [] (lists q block bucket prefix rows reach)
+  lists_laid bucket prefix rows None = ends (Listed rows) (λ p id e. cc) (λ clash. tt)
+  lists_laid bucket prefix rows (Some after) = goes [] (Listing bucket prefix rows) (asks_past bucket prefix after) (scans_laid cited moves s q a at rests block laid (Listing bucket prefix rows) bucket prefix after tt tt)
+
+  -- ---- writes
+
+  abbrev pub draw_so : Name → Wish → Version → ℕ → Draw
+  draw_so name w v moment = record { request = q; name = name; version = v; wish = w; block = block; moment = moment }
+
+  short_has : (draws : List Draw) (name : Name) (v : Version) (c : Content) (moment : ℕ) → is_long c.body ≡ false → (x : Content) → IsLong draws (draw_so name (wish.Content c) v moment) x → HasAll here v.id block x.body
+  short_has draws name v c moment short x l =
+      let wish_is : wish.Content c ≡ wish.Content x = l.wish_is in
+      let same : c ≡ x = cc in
+      let no : true ≡ false = sym l.long ∙ (ap (λ (y : Content). is_long y.body) (sym same) ∙ short) in
+      cc
+
+  writes_laid : (name : Name) (v : Version) (w : Wish) (moment : ℕ) → StepLaid (draw_so name w v moment ∷ []) (writes q block name v w)
+  writes_laid name v wish.Marker moment =
+      goes (draw_so name wish.Marker v moment ∷ []) (Completing v None) (stores (complete name v block wish.Marker))
+      (completes_laid cited moves s q a at rests block laid (draw_so name wish.Marker v moment ∷ []) (draw_so name wish.Marker v moment) None (0, omega arith, refl) refl (λ c l. (let no : wish.Marker ≡ wish.Content c = l.wish_is in cc)))
+  writes_laid name v (wish.Content c) moment =
+      elim (is_long c.body) as (λ b. is_long c.body ≡ b → StepLaid (draw_so name (wish.Content c) v moment ∷ []) (elim b as (λ b. FlowStep) [ true ↦ more q block (Uploading name v c 0) (stores (uploading name v)) | false ↦ completes q block name v (wish.Content c) ])) [
+        | true ↦ λ long. goes (draw_so name (wish.Content c) v moment ∷ []) (Uploading name v c 0) (stores (uploading name v)) (uploading_laid cited moves s q a at rests block laid name v c moment long)
+        | false ↦ λ short. goes (draw_so name (wish.Content c) v moment ∷ []) (Completing v (Some (meta_of c))) (stores (complete name v block (wish.Content c)))
+            (completes_laid cited moves s q a at rests block laid (draw_so name (wish.Content c) v moment ∷ []) (draw_so name (wish.Content c) v moment) (Some (meta_of c)) (0, omega arith, refl) refl
+            (short_has (draw_so name (wish.Content c) v moment ∷ s.draws) name v c moment short))
+      ] refl
+
+  -- of an upload whose phase ended, the rows of each block so far are kept
+  block_kept : (name : Name) (v : Version) (c : Content) (k : ℕ) (rows : List AnyRow) → Stores here block (Uploading name v c k) rows → ((r : AnyRow) → Contains rows r → Contains s.world.kept r) → HasUploaded here q block name v c k →
+      (i : ℕ) → i < k → HasPiece here v.id block c.body i
+  block_kept name v c zero rows is are h i lt = absurd (omega (arith, lt))
+  block_kept name v c (suc k) rows is are h i lt =
+      elim (nat_lt i k) as (λ b. nat_lt i k ≡ b → HasPiece here v.id block c.body i) [
+        | true ↦ λ e. h.before i (let low : i < k = ltb-true i k e in omega arith)
+        | false ↦ λ e.
+            let one : AnyRow = version_row v.id block c.body k in
+            let other : AnyRow = reference_row v.id block c.body k in
+            let last : i ≡ k = (let high : k ≤ i = ltb-false i k e in omega arith) in
+            subst (λ j. HasPiece here v.id block c.body j) (sym last) (record {
+              names = are one (subst (λ (rs : List AnyRow). Contains rs one) (sym is.0) (0, omega arith, refl));
+              refers = are other (subst (λ (rs : List AnyRow). Contains rs other) (sym is.0) (there one (other ∷ []) other (0, omega arith, refl)));
+              bytes = is.1;
+            })
+      ] refl
+
+  -- a block below one that is not there
+  below : (body : List ℕ) (i k : ℕ) → has_piece block body i ≡ true → has_piece block body k ≡ false → i < k
+  below body i k has no_more =
+      elim (nat_lt i k) as (λ b. nat_lt i k ≡ b → i < k) [
+        | true ↦ λ e. ltb-true i k e
+        | false ↦ λ e.
+            let high : k ≤ i = ltb-false i k e in
+            let low : i * block < length body = ltb-true (i * block) (length body) has in
+            let end : length body ≤ k * block = ltb-false (k * block) (length body) no_more in
+            let grow : k * block ≤ i * block = mul-le k block i block high (le_refl block) in
+            absurd (omega (arith, low, end, grow))
+      ] refl
+
+  uploads_laid : (name : Name) (v : Version) (c : Content) (k : ℕ) → (Fits words (applied s.world (effect s (phases q (Store (block_rows v.id block c.body k))))) → v.id < 2 ^ 64) → a.flow ≡ Some (flow_of q block (Uploading name v c k)) → HasPut s.asked here q → StepLaid [] (uploads q block name v c k)
+  uploads_laid name v c k small flow_is put =
+      let h : HasUploaded here q block name v c k = laid.stages q a (flow_of q block (Uploading name v c k)) at flow_is in
+      let kept : (i : ℕ) → i < k → HasPiece here v.id block c.body i = block_kept name v c k put.rows (put.stores a (flow_of q block (Uploading name v c k)) at flow_is) put.are_there h in
+      elim (has_piece block c.body k) as (λ b. has_piece block c.body k ≡ b → StepLaid [] (elim b as (λ b. FlowStep) [ true ↦ more q block (Uploading name v c (suc k)) (Store (block_rows v.id block c.body k)) | false ↦ completes q block name v (wish.Content c) ])) [
+        | true ↦ λ has fits. goes [] (Uploading name v c (suc k)) (Store (block_rows v.id block c.body k))
+            (block_laid cited moves s q a at rests block laid name v c k (small fits.0.0) has (record { moment = h.moment; drawn = h.drawn; long = h.long; before = λ i lt. kept i (omega (arith, lt)) })) fits
+        | false ↦ λ no_more. goes [] (Completing v (Some (meta_of c))) (stores (complete name v block (wish.Content c)))
+            (completes_laid cited moves s q a at rests block laid [] (draw_so name (wish.Content c) v h.moment) (Some (meta_of c)) h.drawn refl (λ x l. (
+            let wish_is : wish.Content c ≡ wish.Content x = l.wish_is in
+            let same : c ≡ x = cc in
+            subst (λ (y : Content). HasAll here v.id block y.body) same (record { each = λ i has. kept i (below c.body i k has no_more); count = k; ends = no_more }))))
+      ] refl
+
+-- ---- a phase ended
+
+-- what a read phase gave
+abbrev pub HasReadIf : State → ℕ → PhaseEnd AnyRow → Type 0
+HasReadIf s q (Answered value) = HasRead s.asked s.history s.world.reads q value
+HasReadIf s q _ = ⊤
+
+pub read_of : (s : State) (q : ℕ) (end : PhaseEnd AnyRow) → IsEnd s.asked s.draws s.history s.saw s.world.kept s.world.reads q end → HasReadIf s q end
+read_of s q (Answered value) h = h
+read_of s q _ h = tt
+
+module _ (cited : Cited) (moves : List Moving) (s : State) (q : ℕ) (a : Asked) (at : numbered s.asked q ≡ Some a) (rests : Rests s q) (block : ℕ) (sound : IsSound s) (apart : AreApart s.draws) (laid : IsLaidIn moves s) where
+  -- what a request does that waits so when its phase ends so
+  abbrev pub StageLaid : ℕ → Stage → PhaseEnd AnyRow → Type 0
+  StageLaid now stage end =
+      a.flow ≡ Some (flow_of q block stage) → IsStage s.draws s.history q a stage → HasReadIf s q end → HasGot s.asked (past moves s.world s.draws) s.world.reads q end →
+      StepLaid cited moves s q a at rests block laid (draws_of s q block stage end now) (flow_goes_on q block stage end now)
+
+  own_version : (v : Version) (aim : Aim) → IsAimOf a aim → HasSeen s.draws s.history q a aim v → IsOwn cited moves s q a at rests block laid v
+  own_version v aim.Get is seen passed k =
+      let f : FoundIn s.draws a.name v = seen.found in
+      let same : f.draw ≡ passed.draw = apart f.draw passed.draw f.drawn passed.drawn (ap (λ (x : Version). x.id) f.version ∙ sym passed.id_is) in
+      (ap (λ (d : Draw). digest_of d.name.bucket) (sym same) ∙ f.bucket, ap (λ (d : Draw). d.name.key) (sym same) ∙ f.key)
+  own_version v aim.Head is seen passed k = (let no : kind.Get ≡ kind.Head = sym k ∙ is in cc)
+  own_version v (aim.Copy name headers) is seen passed k = (let no : kind.Get ≡ kind.Copy = sym k ∙ is.0 in cc)
+
+  pub stage_laid : (now : ℕ) (stage : Stage) (end : PhaseEnd AnyRow) → StageLaid now stage end
+  stage_laid now (Drawing name w) (Answered value) flow_is stage end got = writes_laid cited moves s q a at rests block laid name (drawn q value now) w (length s.history)
+  stage_laid now (Uploading name v c k) Kept flow_is stage end got =
+      let d : Draw = record { request = q; name = name; version = v; wish = wish.Content c; block = stage.1.block; moment = stage.1.moment } in
+      let id_is : v.id ≡ q = (sound.drawn d stage.1.drawn).id_is in
+      uploads_laid cited moves s q a at rests block laid name v c k (λ room. subst (λ (i : ℕ). i < 2 ^ 64) (sym id_is) (number_fits s q a (effect s (phases q (Store (block_rows v.id block c.body k)))) at sound room)) flow_is got
+  stage_laid now (Completing v meta) Kept flow_is stage end got = ends cited moves s q a at rests block laid (Stored v meta) (λ p id e. cc) (λ clash. stored_whole s.draws a.kind v meta stage q)
+  stage_laid now (Looking name aim) (Answered value) flow_is stage end got =
+      looked_laid cited moves s q a at rests block laid aim (said_of value) stage.0 (read_written cited.every s q sound value end) (λ v meta first e. finds cited moves s sound laid got.question value got.is_there v meta first e)
+  stage_laid now (Opening v meta aim) (Answered value) flow_is stage end got =
+      let asks : AsksNames (past moves s.world s.draws) v meta got.question = got.asks a (flow_of q block (Opening v meta aim)) at flow_is in
+      opened_laid cited moves s q a at rests block laid aim v meta value stage.0 (own_version v aim stage.0 stage.1) asks.found (named cited moves s sound apart laid v meta asks.found got.question asks.table asks.key asks.kept value got.is_there)
+  stage_laid now (Gathering v meta aim left body) (Block bytes) flow_is stage end got =
+      let p : Past = past moves s.world s.draws in
+      let gets : Fetches p v meta left body got.hash = got.gets a (flow_of q block (Gathering v meta aim left body)) at flow_is in
+      let f : IsFound p v meta = gets.found in
+      let one : List ℕ = piece f.draw.block f.content.body gets.next in
+      let told = got.told one gets.hash_is in
+      let stored : Contains p.blocks one = (f.all.each gets.next (piece_there f.draw.block f.content.body f.last gets.next f.has_last (let sum : suc gets.next + gets.rest ≡ suc f.last = gets.ends in omega arith))).bytes in
+      let bytes_are : NoClash p.blocks → bytes ≡ one = (λ clash. clash bytes one told.0 stored told.1) in
+      let zero_next : 0 + gets.next ≡ gets.next = omega arith in
+      let more : pieces f.draw.block f.content.body 0 (suc gets.next) ≡ pieces f.draw.block f.content.body 0 gets.next ++ one =
+      pieces_more f.draw.block f.content.body 0 gets.next ∙ ap (λ k. pieces f.draw.block f.content.body 0 gets.next ++ piece f.draw.block f.content.body k) zero_next in
+      gathers_laid cited moves s q a at rests block laid aim v meta left (body ++ bytes) stage.0 f (suc gets.next) gets.rest gets.left_is gets.ends (λ clash. (λ i. gets.body_is clash i ++ bytes_are clash i) ∙ sym more)
+  stage_laid now (Listing bucket prefix rows) (Window others reach) flow_is stage end got = lists_laid cited moves s q a at rests block laid bucket prefix (rows ++ shown_rows others) reach
+  stage_laid now (Drawing name w) end flow_is stage e got = waits cited moves s q a at rests block laid (Drawing name w) flow_is
+  stage_laid now (Uploading name v c k) end flow_is stage e got = waits cited moves s q a at rests block laid (Uploading name v c k) flow_is
+  stage_laid now (Completing v meta) end flow_is stage e got = waits cited moves s q a at rests block laid (Completing v meta) flow_is
+  stage_laid now (Looking name aim) end flow_is stage e got = waits cited moves s q a at rests block laid (Looking name aim) flow_is
+  stage_laid now (Opening v meta aim) end flow_is stage e got = waits cited moves s q a at rests block laid (Opening v meta aim) flow_is
+  stage_laid now (Gathering v meta aim left body) end flow_is stage e got = waits cited moves s q a at rests block laid (Gathering v meta aim left body) flow_is
+  stage_laid now (Listing bucket prefix rows) end flow_is stage e got = waits cited moves s q a at rests block laid (Listing bucket prefix rows) flow_is

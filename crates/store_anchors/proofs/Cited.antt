@@ -1,0 +1,34 @@
+-- What is cited of the crates below.
+use Rattle.std.specs.Prelude.{◌≡◌, ◌⊎◌, ◌||◌, ℕ, true, List, Option, Some}
+use Rattle.std.specs.List.{All, Contains}
+use Rattle.blake2_hash.specs.declared.digest.Hash32.{Hash32}
+use Rattle.crdt_rows.specs.declared.version.Version.{Version}
+use Rattle.crdt_rows.specs.declared.state.State.TheVariants.{Aborted}
+use Rattle.crdt_rows.specs.declared.version_row.VersionRow.{VersionRow}
+use Rattle.crdt_rows.specs.declared.any_row.AnyRow.{AnyRow}
+use Rattle.crdt_rows.specs.AnyRow.{any_join}
+use Rattle.crdt_rows.specs.VersionRow.{is_deleted, version_row_join}
+use Rattle.object_schema.specs.Schema.{words}
+use Rattle.block_laws.specs.Fetched.{GaveItsBlock}
+use Rattle.cluster_machine.specs.Blocks.{StepBringsBlocks}
+use Rattle.cluster_machine.specs.Layouts.{layouts}
+use Rattle.cluster_machine.specs.Node.{Ended}
+use Rattle.cluster_machine.specs.Run.{IsRun, does, run}
+use Rattle.cluster_machine.specs.Trio.{trio, stage_trio}
+use Rattle.cluster_machine.specs.World.{empty}
+use Rattle.machine_origins.specs.Origins.{ComesFrom}
+use Rattle.object_origins.specs.Gone.{WasStored, IsOverwritten, IsGone, AreDrawn, deletes_nothing}
+use Rattle.object_origins.specs.Shown.{Shows}
+use Rattle.store_model.specs.Run.{Moving}
+use Rattle.store_laws.proofs.Every.{EveryWorld}
+
+-- worlds are sound, and reads give what was kept, and only what was stored; block phases give their blocks; rows show what was stored; a version that is gone was overwritten or aborted; and version rows merge so
+pub record Cited : Type 0 where
+  pub every : EveryWorld
+  pub gives : (digest : List ℕ → List ℕ) (moves : List Moving) (m : Moving) → IsRun any_join words layouts trio stage_trio 256 empty moves → All (λ (m : Moving). StepBringsBlocks digest words m.step) moves →
+      (e : Ended AnyRow) → Contains (does any_join words layouts trio stage_trio (run any_join words layouts trio stage_trio empty moves) m).ends e → GaveItsBlock digest (run any_join words layouts trio stage_trio empty moves) e
+  pub shows : (stored : List AnyRow) (row : AnyRow) → All (λ r. deletes_nothing r ≡ true) stored → ComesFrom any_join words stored row → Shows stored row
+  pub overwritten : (stored : List AnyRow) (draw : ℕ → Option ((Hash32 × List ℕ) × Version)) → AreDrawn stored draw →
+      (id : ℕ) (key : Hash32 × List ℕ) (v : Version) → draw id ≡ Some (key, v) → IsGone stored id → IsOverwritten stored key v ⊎ WasStored stored key v Aborted
+  pub deleted : (a b : VersionRow) → a.id ≡ b.id → is_deleted (version_row_join a b) ≡ (is_deleted a || is_deleted b)
+  pub id : (a b : VersionRow) → a.id ≡ b.id → (version_row_join a b).id ≡ a.id

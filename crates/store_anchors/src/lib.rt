@@ -1,0 +1,60 @@
+//! Blocks lie with their references in every run of the object store, and gets read whole versions. No body does anything:
+//! each is called for its contract.
+#![tactic(auto)]
+
+ghost use Rattle.std.specs.Prelude.{List};
+ghost use Rattle.store_model.specs.Run.{start};
+ghost use Rattle.store_model.specs.Events.{AreScheduled};
+ghost use Rattle.store_model.specs.Acts.{Act, after_acts, AreLawfulActs, ActsFit};
+ghost use Rattle.store_laws.specs.Promised.{GoesOn, IsAnchored, IsRightlySuperseded};
+ghost use Rattle.store_anchors.specs.Stored.{BlocksDiffer};
+ghost use Rattle.store_anchors.specs.Whole.{GivesAllBytes};
+
+use anchor_laws::undeleted_references_are_anchored;
+use block_laws::every_block_phase_gives_its_block;
+use cluster_machine::applied::Applied;
+use crdt_rows::{AnyRow, version_rows_join_as_facts};
+use layout_roles::{Cut, Layout};
+use object_origins::{gone_versions_were_overwritten, rows_show_what_was_stored};
+use object_schema::S3Schema;
+use world_reads::{
+    every_installed_world_reads_what_was_kept, every_world_gives_windows,
+    every_world_has_kept_reads, every_world_is_sound, every_world_reads_stored_rows,
+};
+
+/// At every moment, whatever came before: each block of each undeleted version whose put or copy was acknowledged lies at a
+/// node that has in its table a live reference of that version to it, where no two blocks that the acts stored have one
+/// digest.
+pub fn acknowledged_blocks_are_anchored()
+    ensures { (acts : List Act) → AreScheduled acts → AreLawfulActs start acts → ActsFit start acts → BlocksDiffer acts → IsAnchored acts }
+{
+    every_world_is_sound::<S3Schema>();
+    every_world_has_kept_reads::<S3Schema>();
+    every_world_reads_stored_rows::<S3Schema>();
+    every_world_gives_windows::<S3Schema>();
+    every_installed_world_reads_what_was_kept::<S3Schema>();
+    every_block_phase_gives_its_block::<AnyRow, Layout, Applied, Cut>();
+    rows_show_what_was_stored();
+    gone_versions_were_overwritten();
+    version_rows_join_as_facts();
+    undeleted_references_are_anchored::<Layout, Applied, Cut>();
+}
+
+/// Whatever comes, after each act every open request has a phase: none waits for what never comes. A request ends superseded only where a write of the object began to store a complete state of a version
+/// above the one that it read. And where no two blocks that the acts stored have one digest, the size and the MD5 in the
+/// line of a get that found a version are those of the bytes that were written as the version, in blocks or not.
+pub fn gets_read_whole_versions()
+    ensures goes_on { (acts : List Act) → AreScheduled acts → AreLawfulActs start acts → ActsFit start acts → GoesOn (after_acts start acts) }
+    ensures superseded { (acts : List Act) → AreScheduled acts → AreLawfulActs start acts → ActsFit start acts → IsRightlySuperseded acts }
+    ensures bytes { (acts : List Act) → AreScheduled acts → AreLawfulActs start acts → ActsFit start acts → BlocksDiffer acts → GivesAllBytes acts }
+{
+    every_world_is_sound::<S3Schema>();
+    every_world_has_kept_reads::<S3Schema>();
+    every_world_reads_stored_rows::<S3Schema>();
+    every_world_gives_windows::<S3Schema>();
+    every_installed_world_reads_what_was_kept::<S3Schema>();
+    every_block_phase_gives_its_block::<AnyRow, Layout, Applied, Cut>();
+    rows_show_what_was_stored();
+    gone_versions_were_overwritten();
+    version_rows_join_as_facts();
+}

@@ -1,0 +1,104 @@
+-- The acts that lead to a moment of a run are lawful, and fit.
+use Rattle.std.proofs.Common.{◌≡◌, ◌≤◌, ℕ, zero, suc, Option, Some, None, List, [], ◌∷◌, ◌++◌, refl, sym, subst, arith}
+use Rattle.crdt_rows.specs.AnyRow.{any_join}
+use Rattle.object_schema.specs.Schema.{words}
+use Rattle.cluster_machine.specs.World.{undelivered}
+use Rattle.table_schema.specs.Words.{Words}
+use Rattle.cluster_machine.specs.Worlds.{Model, Doing, FitAll, next as world_next, run as world_run}
+use Rattle.store_model.specs.Run.{World, Moving, State, Outcome, silent, delivers, then_drains, drains}
+use Rattle.store_model.specs.Acts.{Act, drain, acted, after_acts, AreLawfulActs, ActsFit}
+use Rattle.cluster_machine.specs.Choices.{Decision}
+use Rattle.store_model.specs.declared.event.Event.{Event}
+use Rattle.store_model.specs.declared.event.Event.TheVariants.{Trio, Block, Bucket, Role, Redundancy, Apply, Tick, Skew, Put, Get, Head, Delete, Copy, List as Keys, Deliver, Lose, Drain, Expire, Restart, Gossip, Ack, Sync, SyncAck, Clean, Work, Repair}
+use Rattle.store_model.specs.Events.{Turn, act_of, acts_of, IsScheduled, AreScheduled}
+use Rattle.store_model.specs.Moments.{IsMoment, between, within}
+use Rattle.store_laws.proofs.Acts.{fit_parts, delivers_lead}
+
+lawful_first : (s : State) (before after : List Act) → AreLawfulActs s (before ++ after) → AreLawfulActs s before
+lawful_first s [] after h = tt
+lawful_first s (a ∷ before) after h = (h.0, lawful_first (acted s a).state before after h.1)
+
+fit_first : (s : State) (before after : List Act) → ActsFit s (before ++ after) → ActsFit s before
+fit_first s [] after h = tt
+fit_first s (a ∷ before) after h = (h.0, fit_first (acted s a).state before after h.1)
+
+lawful_last : (s : State) (before after : List Act) (a : Act) → AreLawfulActs s (before ++ after) → AreLawfulActs (after_acts s before) (a ∷ []) → AreLawfulActs s (before ++ a ∷ [])
+lawful_last s [] after a h last = last
+lawful_last s (b ∷ before) after a h last = (h.0, lawful_last (acted s b).state before after a h.1 last)
+
+fit_last : (s : State) (before : List Act) (a : Act) (after : List Act) (last : Act) → ActsFit s (before ++ a ∷ after) → (FitAll any_join words (after_acts s before).world (acted (after_acts s before) a).moves → ActsFit (after_acts s before) (last ∷ [])) → ActsFit s (before ++ last ∷ [])
+fit_last s [] a after last h f = f h.0
+fit_last s (b ∷ before) a after last h f = (h.0, fit_last (acted s b).state before a after last h.1 f)
+
+fit_both : {R : Type 0} (join : R → R → R) (ws : Words R) (w : Model R) (first rest : List (Doing R)) → FitAll join ws w first → FitAll join ws (world_run join ws w first) rest → FitAll join ws w (first ++ rest)
+fit_both join ws w [] rest a b = b
+fit_both join ws w (m ∷ first) rest a b = (a.0, fit_both join ws (world_next join ws w m) first rest a.1 b)
+
+-- some of a drain's deliveries fit where all do
+fewer_fit : (k n : ℕ) (s : State) → k ≤ n → FitAll any_join words s.world (drains n s).moves → FitAll any_join words s.world (drains k s).moves
+fewer_fit zero n s low fits = tt
+fewer_fit (suc k) zero s low fits = absurd (omega (arith, low))
+fewer_fit (suc k) (suc n) s low fits =
+    elim (undelivered s.world) as (λ o.
+    FitAll any_join words s.world (elim o as (λ o. Outcome) [ None ↦ silent s | Some m ↦ let o = delivers s m in then_drains o (drains n o.state) ]).moves →
+    FitAll any_join words s.world (elim o as (λ o. Outcome) [ None ↦ silent s | Some m ↦ let o = delivers s m in then_drains o (drains k o.state) ]).moves) [
+      | None ↦ λ fits. fits
+      | Some m ↦ λ fits.
+          let first : Outcome = delivers s m in
+          let parts = fit_parts any_join words s.world first.moves (drains n first.state).moves fits in
+          let leads = delivers_lead s m in
+          fit_both any_join words s.world first.moves (drains k first.state).moves parts.0
+          (subst (λ (w : World). FitAll any_join words w (drains k first.state).moves) (sym leads) (fewer_fit k n first.state (omega (arith, low)) (subst (λ (w : World). FitAll any_join words w (drains n first.state).moves) leads parts.1)))
+    ] fits
+
+pub moment_runs : (s : State) (acts moment : List Act) → AreLawfulActs s acts → ActsFit s acts → IsMoment acts moment → AreLawfulActs s moment × ActsFit s moment
+moment_runs s acts moment lawful fit (between before after is) = (lawful_first s before after (subst (AreLawfulActs s) is lawful), fit_first s before after (subst (ActsFit s) is fit))
+moment_runs s acts moment lawful fit (within before after n k is low) =
+    let then : State = after_acts s before in (
+      lawful_last s before (drain n ∷ after) (drain k) (subst (AreLawfulActs s) is lawful) (tt, tt),
+      fit_last s before (drain n) after (drain k) (subst (ActsFit s) is fit) (λ fits. (fewer_fit k n then low fits, tt)),
+    )
+
+scheduled_first : (before after : List Act) → AreScheduled (before ++ after) → AreScheduled before
+scheduled_first [] after h = tt
+scheduled_first (a ∷ before) after h = (h.0, scheduled_first before after h.1)
+
+scheduled_last : (before : List Act) (a : Act) → IsScheduled a → AreScheduled before → AreScheduled (before ++ a ∷ [])
+scheduled_last [] a is h = (is, tt)
+scheduled_last (b ∷ before) a is h = (h.0, scheduled_last before a is h.1)
+
+pub moment_scheduled : (acts moment : List Act) → AreScheduled acts → IsMoment acts moment → AreScheduled moment
+moment_scheduled acts moment h (between before after is) = scheduled_first before after (subst AreScheduled is h)
+moment_scheduled acts moment h (within before after n k is low) = scheduled_last before (drain k) tt (scheduled_first before (drain n ∷ after) (subst AreScheduled is h))
+
+event_scheduled : (event : Event) (choice : Decision) → IsScheduled (act_of event choice)
+event_scheduled Trio choice = tt
+event_scheduled (Block size) choice = tt
+event_scheduled (Bucket name) choice = tt
+event_scheduled (Role n role) choice = tt
+event_scheduled (Redundancy wanted) choice = tt
+event_scheduled (Apply n) choice = tt
+event_scheduled (Tick ms) choice = tt
+event_scheduled (Skew n ms) choice = tt
+event_scheduled (Put n bucket key size fill) choice = tt
+event_scheduled (Get n bucket key) choice = tt
+event_scheduled (Head n bucket key) choice = tt
+event_scheduled (Delete n bucket key) choice = tt
+event_scheduled (Copy n from_bucket from_key bucket key) choice = tt
+event_scheduled (Keys n bucket prefix) choice = tt
+event_scheduled (Deliver m) choice = tt
+event_scheduled (Lose m) choice = tt
+event_scheduled (Drain n) choice = tt
+event_scheduled (Expire q) choice = tt
+event_scheduled (Restart n) choice = tt
+event_scheduled (Gossip from to) choice = tt
+event_scheduled (Ack n) choice = tt
+event_scheduled (Sync n) choice = tt
+event_scheduled (SyncAck n) choice = tt
+event_scheduled (Clean n) choice = tt
+event_scheduled (Work n) choice = tt
+event_scheduled (Repair n) choice = tt
+
+pub turns_scheduled : (turns : List Turn) → AreScheduled (acts_of turns)
+turns_scheduled [] = tt
+turns_scheduled (t ∷ ts) = (event_scheduled t.numbered.event t.choice, turns_scheduled ts)
