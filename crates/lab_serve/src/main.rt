@@ -11,6 +11,8 @@ mod run;
 mod start;
 mod stop;
 mod tail;
+#[cfg(test)]
+mod tests;
 mod words;
 
 ghost use Rattle.std.specs.Prelude.{◌≡◌};
