@@ -1,26 +1,13 @@
-//! S3 on a port of 127.0.0.1, over a cluster in the program itself.
-//!
-//! `run` is the program: it takes the words after the program's name, the outside as a source, a sink, a link and a clock,
-//! and answers the status with which the program ends. `words` reads the port and the number of connections; `plan` reads
-//! the configuration and computes its layout; `start` makes the world in which that layout is installed, `tail` is what is
-//! written at the end, and `stop` is why there was no end.
+//! S3 on a port of 127.0.0.1, over a cluster in the program itself: the standard input and output, the sockets and the
+//! clock for `run` of serve_run.
 #![tactic(auto)]
-
-mod plan;
-mod run;
-mod start;
-mod stop;
-mod tail;
-#[cfg(test)]
-mod tests;
-mod words;
 
 ghost use Rattle.std.specs.Prelude.{◌≡◌};
 ghost use Rattle.std.specs.Process.{exit_status};
 ghost use Rattle.lab_outside.specs.Exit.{code_of};
 
-use crate::run::run;
 use lab_outside::{Status, StdSink, StdSource, TcpLink, WallClock};
+use serve_run::run;
 use std::alloc::Global;
 use std::process::ExitCode;
 use std::rt::Env;

@@ -1,5 +1,5 @@
 -- Acts, one after the other.
-use Rattle.std.proofs.Common.{◌≡◌, ℕ, ◌-◌, ◌⊎◌, inl, inr, List, [], ◌∷◌, ◌++◌, Option, Some, None, Result, Ok, Err, OnOk, IfOk, is_some, length, get_or, take, drop, ◌==◌, arith, true, false, refl, sym, ◌∙◌, ap, subst, append_assoc, append-nil}
+use Rattle.std.proofs.Common.{◌≡◌, ℕ, ◌-◌, ◌⊎◌, inl, inr, List, [], ◌∷◌, ◌++◌, Option, Some, None, Result, Ok, Err, OnOk, IfOk, is_some, length, get_or, take, drop, ◌==◌, arith, true, false, refl, sym, ◌∙◌, ap, subst, append_assoc}
 use Rattle.std.proofs.lemmas.List.{map-append, take_all}
 use Rattle.layout_roles.specs.declared.cut.Cut.{Cut}
 use Rattle.crdt_core.specs.Outcomes.{WantOr}
@@ -34,9 +34,6 @@ acts_fit s (x ∷ xs) ys h k = (h.0, acts_fit (acted s x).state xs ys h.1 k)
 
 -- ---- acts that are done
 
-pub does_none : (w : S3World) → DoesActs w w []
-does_none w = λ s st. record { lawful = tt; fit = tt; stands = st }
-
 done_more : (s : State) (xs ys : List Act) (mid new : S3World) → DoneActs mid s xs → DoesActs mid new ys → DoneActs new s (xs ++ ys)
 done_more s xs ys mid new a f =
     let b = f (after_acts s xs) a.stands in
@@ -60,9 +57,6 @@ pub record Working (old new : S3World) (members rest : List ℕ) : Type 0 where
   pub parts : done ++ rest ≡ members
   pub does : DoesActs old new (works done)
 
-pub none_worked : (old : S3World) (members : List ℕ) → Working old old members members
-none_worked old members = record { done = []; parts = refl; does = does_none old }
-
 pub one_worked : (old mid new : S3World) (members rest : List ℕ) (n : ℕ) (later : List ℕ) → rest ≡ n ∷ later → Working old mid members rest → DoesActs mid new (works (n ∷ [])) → Working old new members later
 one_worked old mid new members rest n later e w f =
     record {
@@ -70,11 +64,6 @@ one_worked old mid new members rest n later e w f =
       parts = append_assoc w.done (n ∷ []) later ∙ (ap (λ ns. w.done ++ ns) (sym e) ∙ w.parts);
       does = subst (DoesActs old new) (sym (map-append (λ m. moves (plainly (Work m))) w.done (n ∷ []))) (does_more old mid new (works w.done) (works (n ∷ [])) w.does f);
     }
-
-pub all_worked : (old new : S3World) (members rest : List ℕ) → rest ≡ [] → Working old new members rest → DoesActs old new (works members)
-all_worked old new members rest e w =
-    let is : w.done ≡ members = sym (append-nil w.done) ∙ (ap (λ ns. w.done ++ ns) (sym e) ∙ w.parts) in
-    subst (λ ns. DoesActs old new (works ns)) is w.does
 
 -- members that are left are a first one and those after it
 pub first_left : (ns : List ℕ) → false ≡ (length ns == 0) → ns ≡ get_or ns 0 0 ∷ take (length ns - 1) (drop 1 ns)

@@ -70,9 +70,6 @@ continues false kept left told e =
 pub memory_is_no_kept : Memory ≡ Kept → ⊥
 memory_is_no_kept e = cc
 
-pub number_is_no_kept : Number ≡ Kept → ⊥
-number_is_no_kept e = cc
-
 -- ---- one request
 
 module _ {S : Type 0} (holds : S → Type 0) (times : Option (List ℕ)) (served : Served) where

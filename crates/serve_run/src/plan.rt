@@ -1,0 +1,95 @@
+//! The cluster that the input says, with its layout.
+ghost use Rattle.std.specs.Prelude.{◌≡◌, ◌≤◌, Err, IfOk, OnOk, IfErr};
+ghost use Rattle.std.specs.Io.KnownBytes.{IsAtEnd};
+ghost use Rattle.lab_outside.specs.Rose.{Rose};
+ghost use Rattle.layout_roles.specs.Certificates.{IsRedundancy};
+ghost use Rattle.serve_run.specs.Stop.{IsOfText, IsOfInput};
+ghost use Rattle.serve_run.specs.Plan.{IsPlan};
+
+use crate::stop::Stop;
+use crdt_core::Bytes;
+use lab_outside::{Source, read_up_to};
+use layout_command::{bad_field, bad_toml, reason};
+use layout_roles::Certified;
+use layout_size::compute;
+use layout_text::{Config, ConfigFault, FieldName, read_config};
+use std::alloc::Global;
+use std::str::from_utf8;
+
+/// How many bytes the input may have.
+const INPUT_LIMIT: usize = 8_388_608;
+
+/// The greatest node of a server.
+const GREATEST_NODE: u8 = 16;
+
+/// A configuration, and the layout of the greatest partition size for its roles.
+#[derive(Debug, Drop)]
+pub struct Plan {
+    pub config: Config,
+    pub certified: Certified,
+}
+
+/// The first bad field of a configuration.
+fn field(alloc: Global, name: FieldName) -> Result<Config, Stop>
+    ensures none { IfOk result (λ _. ⊥) }
+    ensures causes { IfErr result IsOfText }
+{
+    Err(Stop::Refused(bad_field(alloc, name)?))
+}
+
+/// The configuration that a text says.
+fn configured(alloc: Global, text: &str) -> Result<Config, Stop>
+    ensures redundancy { IfOk result (λ config. IsRedundancy config.redundancy) }
+    ensures sized { IfOk result (λ config. 1 ≤ config.block_size) }
+    ensures causes { IfErr result IsOfText }
+{
+    match read_config(alloc, text, GREATEST_NODE) {
+        Ok(config) if config.block_size == 0 => field(alloc, FieldName::BlockSize),
+        Ok(config) => Ok(config),
+        Err(ConfigFault::NotToml) => Err(Stop::Refused(bad_toml(alloc)?)),
+        Err(ConfigFault::Field(name)) => field(alloc, name),
+        Err(ConfigFault::Memory) => Err(Stop::Memory),
+    }
+}
+
+/// The layout of a configuration.
+fn laid_out(alloc: Global, config: Config) -> Result<Plan, Stop>
+    requires redundancy { IsRedundancy config.redundancy }
+    requires sized { 1 ≤ config.block_size }
+    ensures plan { IfOk result IsPlan }
+    ensures causes { IfErr result IsOfText }
+{
+    match compute(alloc, &config.roles, config.redundancy) {
+        Ok(certified) => Ok(Plan { config, certified }),
+        Err(fault) => Err(Stop::Refused(reason(alloc, &config.roles, &fault)?)),
+    }
+}
+
+/// The cluster that bytes say.
+fn plan_of(alloc: Global, bytes: &[u8]) -> Result<Plan, Stop>
+    ensures plan { IfOk result IsPlan }
+    ensures causes { IfErr result IsOfText }
+{
+    match from_utf8(bytes) {
+        Ok(text) => {
+            let config = configured(alloc, text)?;
+            laid_out(alloc, config)
+        }
+        Err(_) => Err(Stop::Refused(bad_toml(alloc)?)),
+    }
+}
+
+/// Reads the input to its end, or to the first byte past the limit, and then the cluster that it says.
+pub fn read_plan<I: Source>(alloc: Global, input: &mut I) -> Result<Plan, Stop>
+    ensures plan { IfOk result IsPlan }
+    ensures end { OnOk result (IsAtEnd (I.left input.new)) }
+    ensures causes { IfErr result IsOfInput }
+    ensures fault { result ≡ Err Stop.Read → Rose (I.faults input.old) (I.faults input.new) }
+{
+    let bytes = read_up_to(alloc, input, INPUT_LIMIT)?;
+    if bytes.len() > INPUT_LIMIT {
+        return Err(Stop::LongInput);
+    }
+    let plan = plan_of(alloc, &bytes)?;
+    Ok(plan)
+}

@@ -1,0 +1,169 @@
+//! The program as one call.
+ghost use Rattle.std.specs.Prelude.{IsPermutation, IsSorted, ◌≡◌, ◌⊎◌, None, Err, IfOk, OnOk, IfErr};
+ghost use Rattle.std.specs.Io.KnownBytes.{IsAtEnd};
+ghost use Rattle.crdt_core.specs.Outcomes.{OnlyWant};
+ghost use Rattle.lab_outside.specs.Rose.{Rose};
+ghost use Rattle.serve_run.specs.Words.{AskNothing};
+ghost use Rattle.serve_run.specs.Stop.{status_of, said_of, IsOfServing, Ends};
+ghost use Rattle.serve_run.specs.Plan.{IsPlan};
+
+use crate::plan::{Plan, read_plan};
+use crate::start::{installed, nodes};
+use crate::stop::Stop;
+use crate::tail::tail_text;
+use crate::words::{Asked, asked_by};
+use crdt_core::{Bytes, List, Memory, Value};
+use lab_outside::{Clock, Failed, Link, Sink, Source, Status, write_whole};
+use serve_cluster::Cluster;
+use serve_loop::serve;
+use serve_model::Served;
+use std::alloc::Global;
+
+/// The buckets in order of their names.
+fn in_order(buckets: &List<Bytes>) -> Result<List<Bytes>, Memory>
+    ensures same { IfOk result (λ names. IsPermutation buckets.now names) }
+    ensures ordered { IfOk result (λ names. IsSorted ⟦<Bytes as Ord>⟧.cmp names) }
+    ensures want { OnlyWant result }
+{
+    let mut names = buckets.copy()?.into_vec();
+    names.as_mut_slice().sort_unstable();
+    Ok(List::from_vec(names))
+}
+
+/// Serves the connections that are asked for, and gives what is written then.
+fn served<L: Link, C: Clock>(
+    alloc: Global,
+    plan: &Plan,
+    asked: Asked,
+    link: &mut L,
+    clock: &mut C,
+) -> Result<Bytes, Stop>
+    requires plan { IsPlan plan.now }
+    requires absent { L.present link.old ≡ None }
+    ensures causes { IfErr result IsOfServing }
+    ensures fault { result ≡ Err Stop.Link → Rose (L.faults link.old) (L.faults link.new) }
+{
+    let world = installed(alloc, plan)?;
+    let members = nodes(alloc, plan.config.roles.list.as_slice())?;
+    let buckets = in_order(&plan.config.buckets)?;
+    let mut cluster = Cluster::new(world, members.copy()?);
+    let mut counts = Served { kept: 0, time: 0 };
+    let count = serve(
+        alloc,
+        &mut cluster,
+        asked.port,
+        asked.count,
+        link,
+        clock,
+        &mut counts,
+        &buckets,
+    )?;
+    let text = tail_text(
+        alloc,
+        &plan.certified.sets,
+        cluster.world(),
+        members.as_slice(),
+        count,
+    )?;
+    Ok(text)
+}
+
+/// Reads the cluster that the input says, serves the connections that are asked for, and gives what is written then.
+fn read_and_served<I: Source, L: Link, C: Clock>(
+    alloc: Global,
+    asked: Asked,
+    input: &mut I,
+    link: &mut L,
+    clock: &mut C,
+) -> Result<Bytes, Stop>
+    requires absent { L.present link.old ≡ None }
+    ensures end { OnOk result (IsAtEnd (I.left input.new)) }
+    ensures read_fault { result ≡ Err Stop.Read → Rose (I.faults input.old) (I.faults input.new) }
+    ensures link_fault { result ≡ Err Stop.Link → Rose (L.faults link.old) (L.faults link.new) }
+{
+    let plan = read_plan(alloc, input)?;
+    let text = served(alloc, &plan, asked, link, clock)?;
+    Ok(text)
+}
+
+/// Writes the last text, and answers the status that goes with it.
+fn ends<O: Sink>(output: &mut O, text: &[u8], status: Status) -> Status
+    ensures { Ends status text.now result (O.written output.old) (O.written output.new) (O.faults output.old) (O.faults output.new) }
+{
+    match write_whole(output, text) {
+        Ok(()) => status,
+        Err(Failed) => Status::WriteFault,
+    }
+}
+
+/// Says why nothing was served to the end, where that is said in the output.
+fn stopped<O: Sink>(output: &mut O, stop: &Stop) -> Status
+    ensures { Ends (status_of stop.now) (said_of stop.now) result (O.written output.old) (O.written output.new) (O.faults output.old) (O.faults output.new) }
+{
+    match stop {
+        Stop::Read => Status::ReadFault,
+        Stop::Link => Status::LinkFault,
+        Stop::Memory => Status::Memory,
+        Stop::LongInput => ends(output, b"limit input 8388608\n", Status::Limit),
+        Stop::Refused(line) => ends(output, line.as_slice(), Status::Refused),
+        Stop::Kept => ends(output, b"limit kept 536870912\n", Status::Limit),
+        Stop::Number => ends(output, b"limit number\n", Status::Limit),
+    }
+}
+
+/// Reads, serves and writes, and answers the status.
+fn answered<I: Source, O: Sink, L: Link, C: Clock>(
+    alloc: Global,
+    asked: Asked,
+    input: &mut I,
+    output: &mut O,
+    link: &mut L,
+    clock: &mut C,
+) -> Status
+    requires absent { L.present link.old ≡ None }
+    ensures end { result ≡ Status.Done → IsAtEnd (I.left input.new) }
+    ensures no_usage { result ≡ Status.Usage → ⊥ }
+    ensures read_fault { result ≡ Status.ReadFault → Rose (I.faults input.old) (I.faults input.new) }
+    ensures write_fault { result ≡ Status.WriteFault → Rose (O.faults output.old) (O.faults output.new) }
+    ensures link_fault { result ≡ Status.LinkFault → Rose (L.faults link.old) (L.faults link.new) }
+{
+    match read_and_served(alloc, asked, input, link, clock) {
+        Ok(text) => ends(output, text.as_slice(), Status::Done),
+        Err(stop) => stopped(output, &stop),
+    }
+}
+
+/// Serves what the words after the program's name ask for.
+pub fn run<I: Source, O: Sink, L: Link, C: Clock>(
+    alloc: Global,
+    words: &[String],
+    input: &mut I,
+    output: &mut O,
+    link: &mut L,
+    clock: &mut C,
+) -> Status
+    requires absent { L.present link.old ≡ None }
+
+    // After Done the source was read to its end.
+    ensures end { result ≡ Status.Done → IsAtEnd (I.left input.new) }
+
+    // Words that ask for no server bring Usage, with nothing read or opened; no other words do.
+    ensures usage { result ≡ Status.Usage → AskNothing words.now }
+    ensures usage_alone { AskNothing words.now → (result ≡ Status.Usage) ⊎ (result ≡ Status.WriteFault) }
+    ensures unread { AskNothing words.now → input.new ≡ input.old }
+    ensures unopened { AskNothing words.now → link.new ≡ link.old }
+
+    // A fault comes only where the count of its object rose in this call.
+    ensures read_fault { result ≡ Status.ReadFault → Rose (I.faults input.old) (I.faults input.new) }
+    ensures write_fault { result ≡ Status.WriteFault → Rose (O.faults output.old) (O.faults output.new) }
+    ensures link_fault { result ≡ Status.LinkFault → Rose (L.faults link.old) (L.faults link.new) }
+{
+    match asked_by(words) {
+        Some(asked) => answered(alloc, asked, input, output, link, clock),
+        None => {
+            let usage =
+                b"usage: garage_lab layout | replay [--check] | workload N SEED | serve PORT COUNT\n";
+            ends(output, usage, Status::Usage)
+        }
+    }
+}
