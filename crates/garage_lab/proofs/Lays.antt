@@ -15,7 +15,8 @@ use Rattle.garage_lab.specs.declared.command.Command.TheVariants.{Layout, Moves}
 use Rattle.garage_lab.specs.declared.stop.Stop.{Stop}
 use Rattle.garage_lab.specs.declared.stop.Stop.TheVariants.{Read, Write, Memory, LongInput, TooManyEvents, BadLine, Number, Sent}
 use Rattle.garage_lab.specs.Layout.{IsPrinted, IsPrintedMoves}
-use Rattle.garage_lab.specs.Answer.{input_limit, input_line, IsAnswer, usage, long_input, bad_line, many_events, laid_out, moved, replayed, IsStated, IsOfLayout, Answers, LayoutPrefix, nothing, begun, Says, said, cut_off, unsaid}
+use Rattle.lab_main.specs.Ends.{said, cut_off}
+use Rattle.garage_lab.specs.Answer.{input_limit, input_line, IsAnswer, usage, long_input, bad_line, many_events, laid_out, moved, replayed, IsStated, IsOfLayout, Answers, LayoutPrefix, nothing, begun, Says, ended, unsaid}
 use Rattle.garage_lab.specs.Stop.{status_of, said_of, IsOfReading}
 use Rattle.garage_lab.proofs.Answering.{both_asked, layout_and_moves, moves_and_replay, silent_wrote, silent_unstated}
 use Rattle.lab_outside.proofs.Bytes.{wrote_prefix_whole}
@@ -23,13 +24,13 @@ use Rattle.lab_outside.proofs.Bytes.{wrote_prefix_whole}
 -- a text that is stated for a command and the input was said
 module _ (command : Command) (input : List ℕ) (status result : Status) (text : List ℕ) (old new : Option (List ℕ)) (faults risen : ℕ) (stated : IsAnswer (Some command) input status text) where
   said_answers : Says status text result old new faults risen → IsStated result → Answers (Some command) input result old new
-  said_answers (said is wrote) h = record { text = text; stated = subst (λ (s : Status). IsAnswer (Some command) input s text) (sym is) stated; wrote = wrote }
-  said_answers (cut_off is rose wrote) h = absurd (subst IsStated is h)
+  said_answers (ended (said is wrote)) h = record { text = text; stated = subst (λ (s : Status). IsAnswer (Some command) input s text) (sym is) stated; wrote = wrote }
+  said_answers (ended (cut_off is rose wrote)) h = absurd (subst IsStated is h)
   said_answers (unsaid is wrote) h = absurd (subst IsStated is h)
 
   said_prefix : Says status text result old new faults risen → LayoutPrefix command input old new
-  said_prefix (said is wrote) = begun status text stated (wrote_prefix_whole old new text wrote)
-  said_prefix (cut_off is rose wrote) = begun status text stated wrote
+  said_prefix (ended (said is wrote)) = begun status text stated (wrote_prefix_whole old new text wrote)
+  said_prefix (ended (cut_off is rose wrote)) = begun status text stated wrote
   said_prefix (unsaid is wrote) = nothing wrote
 
 -- what is answered to an input that was read
@@ -46,8 +47,8 @@ module _ (command : Command) (status result : Status) (text : List ℕ) (old new
 -- a layout that was computed ends with a fault only where writing had one
 module _ (status result : Status) (text : List ℕ) (old new : Option (List ℕ)) (faults risen : ℕ) (of_layout : IsOfLayout status) where
   pub reply_fault : Says status text result old new faults risen → result ≡ WriteFault → Rose faults risen
-  reply_fault (said is wrote) e = absurd (subst IsOfLayout (sym is ∙ e) of_layout)
-  reply_fault (cut_off is rose wrote) e = rose
+  reply_fault (ended (said is wrote)) e = absurd (subst IsOfLayout (sym is ∙ e) of_layout)
+  reply_fault (ended (cut_off is rose wrote)) e = rose
   reply_fault (unsaid is wrote) e = cc
 
 -- what is answered where reading the input gave up
@@ -100,11 +101,11 @@ module _ (input : List ℕ) (old new : Option (List ℕ)) (text : List ℕ) (wro
   prints : (asked : Option Command) → asked ≡ Some Layout → IsAnswer asked input Done text → IsPrinted input old new
   prints asked asks (usage unasked e w) = cc
   prints asked asks (long_input is long e w) = cc
-  prints asked asks (bad_line n is short bad e w) = cc
-  prints asked asks (many_events is short many e w) = cc
+  prints asked asks (bad_line n account is short bad e w) = cc
+  prints asked asks (many_events account is short many e w) = cc
   prints asked asks (laid_out is short says) = printed says
   prints asked asks (moved is short says) = absurd (layout_and_moves asked asks is)
-  prints asked asks (replayed events is short spells stated) = absurd (both_asked asked asks is)
+  prints asked asks (replayed account events is short spells stated) = absurd (both_asked asked account asks is)
 
   fewest : (settings : Settings) (sets : List NodeSet) → IsUtf8 input → said_in greatest_node input ≡ Ok settings → said_old input ≡ Ok sets → IsMoved settings sets Done text → IsPrintedMoves input old new
   fewest settings sets u says says_old (not_laid_out h e) = cc
@@ -138,11 +139,11 @@ module _ (input : List ℕ) (old new : Option (List ℕ)) (text : List ℕ) (wro
   prints_moves : (asked : Option Command) → asked ≡ Some Moves → IsAnswer asked input Done text → IsPrintedMoves input old new
   prints_moves asked asks (usage unasked e w) = cc
   prints_moves asked asks (long_input is long e w) = cc
-  prints_moves asked asks (bad_line n is short bad e w) = cc
-  prints_moves asked asks (many_events is short many e w) = cc
+  prints_moves asked asks (bad_line n account is short bad e w) = cc
+  prints_moves asked asks (many_events account is short many e w) = cc
   prints_moves asked asks (laid_out is short says) = absurd (layout_and_moves asked is asks)
   prints_moves asked asks (moved is short says) = moves_printed says
-  prints_moves asked asks (replayed events is short spells stated) = absurd (moves_and_replay asked asks is)
+  prints_moves asked asks (replayed account events is short spells stated) = absurd (moves_and_replay asked account asks is)
 
 pub some_prints : (left : Option (List ℕ)) (asked : Option Command) (result : Status) (old new : Option (List ℕ)) → (IsStated result → IfSome left (λ bytes. Answers asked bytes result old new)) → asked ≡ Some Layout → result ≡ Done →
     IfSome left (λ bytes. IsPrinted bytes old new)

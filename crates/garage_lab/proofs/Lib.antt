@@ -1,6 +1,5 @@
 pub mod Texts
 pub mod Stops
-pub mod Meant
 pub mod Answering
 pub mod Ends
 pub mod Lays

@@ -2,15 +2,15 @@
 use Rattle.std.specs.Prelude.{◌≡◌, ◌⊎◌, ℕ, ◌<◌, ◌≤◌, ⊤, List, [], ◌∷◌, ◌++◌, length, codes, decimal, Option, Some, None, IsSome}
 use Rattle.lab_outside.specs.declared.exit.Status.{Status}
 use Rattle.lab_outside.specs.declared.exit.Status.TheVariants.{Done, Refused, Usage, ReadFault, WriteFault, LinkFault, Memory, Limit}
-use Rattle.lab_outside.specs.Rose.{Rose}
+use Rattle.lab_main.specs.Ends.{Ends, usage_line}
 use Rattle.lab_outside.specs.Bytes.{Wrote, WrotePrefix}
 use Rattle.store_model.specs.declared.event.Numbered.{Numbered}
 use Rattle.text_model.specs.Reading.{IsSchedule, IsFirstBadLine, HasTooManyEvents}
 use Rattle.layout_command.specs.Answer.{IsAnswer as IsLayoutAnswer}
 use Rattle.layout_command.specs.Moves.{IsMovesAnswer}
-use Rattle.store_model.specs.Run.{start}
 use Rattle.store_model.specs.Events.{Turn}
-use Rattle.text_model.specs.Transcript.{turns_text}
+use Rattle.replay_run.specs.declared.account.Account.{Account}
+use Rattle.replay_run.specs.Account.{front}
 use Rattle.garage_lab.specs.declared.command.Command.{Command}
 use Rattle.garage_lab.specs.declared.command.Command.TheVariants.{Layout, Moves, Replay}
 use Rattle.replay_run.specs.Replay.{AreFirst, IsReplay}
@@ -18,10 +18,6 @@ use Rattle.replay_run.specs.Replay.{AreFirst, IsReplay}
 -- how many bytes the input may have
 abbrev pub input_limit : ℕ
 input_limit = 8388608
-
--- the words that the program knows
-abbrev pub usage_line : List ℕ
-usage_line = codes "usage: garage_lab layout | replay [--check] | workload N SEED | serve PORT COUNT" ++ 10 ∷ []
 
 -- the input is longer than the program takes
 abbrev pub input_line : List ℕ
@@ -39,11 +35,11 @@ bad_line_text n = codes "bad line " ++ (decimal n ++ 10 ∷ [])
 pub data IsAnswer (asked : Option Command) (input : List ℕ) (status : Status) (text : List ℕ) : Type 0 where
   usage : asked ≡ None → status ≡ Usage → text ≡ usage_line → IsAnswer asked input status text
   long_input : IsSome asked → input_limit < length input → status ≡ Limit → text ≡ input_line → IsAnswer asked input status text
-  bad_line : (n : ℕ) → asked ≡ Some Replay → length input ≤ input_limit → IsFirstBadLine input n → status ≡ Refused → text ≡ bad_line_text n → IsAnswer asked input status text
-  many_events : asked ≡ Some Replay → length input ≤ input_limit → HasTooManyEvents input → status ≡ Limit → text ≡ events_line → IsAnswer asked input status text
+  bad_line : (n : ℕ) (account : Account) → asked ≡ Some (Replay account) → length input ≤ input_limit → IsFirstBadLine input n → status ≡ Refused → text ≡ bad_line_text n → IsAnswer asked input status text
+  many_events : (account : Account) → asked ≡ Some (Replay account) → length input ≤ input_limit → HasTooManyEvents input → status ≡ Limit → text ≡ events_line → IsAnswer asked input status text
   laid_out : asked ≡ Some Layout → length input ≤ input_limit → IsLayoutAnswer input status text → IsAnswer asked input status text
   moved : asked ≡ Some Moves → length input ≤ input_limit → IsMovesAnswer input status text → IsAnswer asked input status text
-  replayed : (events : List Numbered) → asked ≡ Some Replay → length input ≤ input_limit → IsSchedule input events → IsReplay events status text → IsAnswer asked input status text
+  replayed : (account : Account) (events : List Numbered) → asked ≡ Some (Replay account) → length input ≤ input_limit → IsSchedule input events → IsReplay account events status text → IsAnswer asked input status text
 
 -- the statuses that come with a whole text
 abbrev pub IsStated : Status → Type 0
@@ -93,11 +89,11 @@ pub data LayoutPrefix (command : Command) (input : List ℕ) (old new : Option (
   nothing : Wrote old new [] → LayoutPrefix command input old new
   begun : (status : Status) (text : List ℕ) → IsAnswer (Some command) input status text → WrotePrefix old new text → LayoutPrefix command input old new
 
--- what was written when a replay of the input ended or gave up: nothing, or a first part of one text that is stated, or of what the first events tell with lawful layouts
-pub data ReplayPrefix (input : List ℕ) (old new : Option (List ℕ)) : Type 0 where
-  nothing_yet : Wrote old new [] → ReplayPrefix input old new
-  of_stated : (status : Status) (text : List ℕ) → IsAnswer (Some Replay) input status text → WrotePrefix old new text → ReplayPrefix input old new
-  of_events : (events : List Numbered) (turns : List Turn) → length input ≤ input_limit → IsSchedule input events → AreFirst events turns → WrotePrefix old new (turns_text start turns) → ReplayPrefix input old new
+-- what was written when a replay of the input ended or gave up: nothing, or a first part of one text that is stated, or of what is written of the first events with lawful layouts
+pub data ReplayPrefix (account : Account) (input : List ℕ) (old new : Option (List ℕ)) : Type 0 where
+  nothing_yet : Wrote old new [] → ReplayPrefix account input old new
+  of_stated : (status : Status) (text : List ℕ) → IsAnswer (Some (Replay account)) input status text → WrotePrefix old new text → ReplayPrefix account input old new
+  of_events : (events : List Numbered) (turns : List Turn) → length input ≤ input_limit → IsSchedule input events → AreFirst events turns → WrotePrefix old new (front account turns) → ReplayPrefix account input old new
 
 -- the statuses of a replay of events, which the free layouts may decide
 abbrev pub IsOfReplay : Status → Type 0
@@ -107,7 +103,7 @@ IsOfReplay _ = ⊥
 
 -- where this status is stated, it is answered, or memory was wanting; a replay may end with the status that other layouts bring, or a row without a spelling at its end
 abbrev pub Completes : Option Command → Status → Status → Type 0
-Completes asked status result = (result ≡ status) ⊎ (result ≡ Memory) ⊎ ((asked ≡ Some Replay) × IsOfReplay status × IsOfReplay result)
+Completes asked status result = (result ≡ status) ⊎ (result ≡ Memory) ⊎ ((account : Account) × ((asked ≡ Some (Replay account)) × IsOfReplay status × IsOfReplay result))
 
 -- the status and the whole text that are stated were written, or memory was wanting
 abbrev pub IsAnswered : Option Command → List ℕ → Status → Option (List ℕ) → Option (List ℕ) → Type 0
@@ -115,6 +111,5 @@ IsAnswered asked input result old new = Answers asked input result old new ⊎ (
 
 -- it ends with this status and this text written, unless a write fails or memory is wanting
 pub data Says (status : Status) (text : List ℕ) (result : Status) (old new : Option (List ℕ)) (faults risen : ℕ) : Type 0 where
-  said : result ≡ status → Wrote old new text → Says status text result old new faults risen
-  cut_off : result ≡ WriteFault → Rose faults risen → WrotePrefix old new text → Says status text result old new faults risen
+  ended : Ends status text result old new faults risen → Says status text result old new faults risen
   unsaid : result ≡ Memory → Wrote old new [] → Says status text result old new faults risen

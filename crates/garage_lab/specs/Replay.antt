@@ -1,10 +1,10 @@
 -- What Done of a replay says.
-use Rattle.std.specs.Prelude.{ℕ, List, Option}
+use Rattle.std.specs.Prelude.{◌≡◌, ℕ, List, ◌++◌, length, Option}
 use Rattle.lab_outside.specs.Bytes.{Wrote}
 use Rattle.store_model.specs.Run.{start}
 use Rattle.history_model.specs.Fresh.{Fresh}
 use Rattle.store_model.specs.Acts.{Act, after_acts}
-use Rattle.store_model.specs.Events.{Turn, acts_of, events_of}
+use Rattle.store_model.specs.Events.{Turn, acts_of, events_of, run}
 use Rattle.store_model.specs.Moments.{AtEachMoment}
 use Rattle.store_model.specs.Fresh.{NoClash, IsFresh}
 use Rattle.store_model.specs.Equal.{AreEqual}
@@ -13,7 +13,9 @@ use Rattle.store_laws.specs.Promised.{GoesOn, IsRightlySuperseded, IsAnchored}
 use Rattle.store_anchors.specs.Stored.{BlocksDiffer}
 use Rattle.store_anchors.specs.Whole.{GivesAllBytes}
 use Rattle.text_model.specs.Reading.{IsSchedule}
-use Rattle.text_model.specs.Transcript.{transcript}
+use Rattle.text_model.specs.Transcript.{turns_text, transcript}
+use Rattle.replay_run.specs.declared.account.Account.TheVariants.{Checked}
+use Rattle.replay_run.specs.Account.{IsText, fresh_line, closing}
 use Rattle.replay_run.specs.Replay.{ArePlayed}
 
 -- what is promised of acts: answered reads are fresh, also by the records alone where the buckets' names have different digests; what they tell of a version's bytes is as was written, also of bytes in blocks where no two blocks have one digest; a get or copy ends superseded only where what it read was overwritten, and no request waits for what never comes; replicas are equal; and acknowledged blocks that are not deleted lie at a node with a live reference
@@ -33,4 +35,19 @@ pub record IsTranscribed (input : List ℕ) (old new : Option (List ℕ)) : Type
   pub schedule : IsSchedule input (events_of turns)
   pub played : ArePlayed turns
   pub wrote : Wrote old new (transcript turns)
+  pub promises : AtEachMoment KeepsPromises (acts_of turns)
+
+-- the transcript of turns with the line that says that all finished reads are fresh, and how many pairs there were to look at
+abbrev pub checked_transcript : List Turn → List ℕ
+checked_transcript turns = turns_text start turns ++ closing (length turns) (run start turns) (fresh_line (run start turns).history)
+
+-- the same of a replay with a check: the transcript has the line of the check, and where the buckets' names have different digests this says that all reads are fresh
+pub record IsChecked (input : List ℕ) (old new : Option (List ℕ)) : Type 0 where
+  pub turns : List Turn
+  pub schedule : IsSchedule input (events_of turns)
+  pub played : ArePlayed turns
+  pub text : List ℕ
+  pub is_text : IsText Checked turns text
+  pub is_fresh : NoClash (run start turns).buckets → text ≡ checked_transcript turns
+  pub wrote : Wrote old new text
   pub promises : AtEachMoment KeepsPromises (acts_of turns)

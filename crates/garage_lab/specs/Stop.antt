@@ -9,6 +9,7 @@ use Rattle.lab_outside.specs.declared.whole.ReadStop.TheVariants.{Failed, Memory
 use Rattle.lab_outside.specs.Bytes.{Wrote, WrotePrefix}
 use Rattle.schedule_text.specs.declared.fault.ScheduleFault.{ScheduleFault}
 use Rattle.schedule_text.specs.declared.fault.ScheduleFault.TheVariants.{BadLine as FaultLine, TooManyEvents as FaultMany, Memory as FaultMemory}
+use Rattle.replay_run.specs.declared.account.Account.{Account}
 use Rattle.garage_lab.specs.declared.stop.Stop.{Stop}
 use Rattle.garage_lab.specs.declared.stop.Stop.TheVariants.{Read, Write, Memory, LongInput, TooManyEvents, BadLine, Number, Sent}
 use Rattle.replay_run.specs.declared.stop.ReplayStop.{ReplayStop}
@@ -63,21 +64,21 @@ said_of Number = number_line
 said_of Sent = sent_line
 
 -- what was written so far, with this last text, is what is stated with this status
-pub record IsNearly (input : List ℕ) (status : Status) (last : List ℕ) (old new : Option (List ℕ)) : Type 0 where
+pub record IsNearly (account : Account) (input : List ℕ) (status : Status) (last : List ℕ) (old new : Option (List ℕ)) : Type 0 where
   pub front : List ℕ
   pub wrote : Wrote old new front
-  pub stated : IsAnswer (Some Replay) input status (front ++ last)
+  pub stated : IsAnswer (Some (Replay account)) input status (front ++ last)
 
 -- what was written when a replay of this input gave up
-abbrev pub Halts : List ℕ → Stop → Option (List ℕ) → Option (List ℕ) → Type 0
-Halts input Read old new = ReplayPrefix input old new
-Halts input Write old new = ReplayPrefix input old new
-Halts input Memory old new = ReplayPrefix input old new
-Halts input LongInput old new = IsNearly input Limit input_line old new
-Halts input TooManyEvents old new = IsNearly input Limit events_line old new
-Halts input (BadLine n) old new = IsNearly input Refused (bad_line_text n) old new
-Halts input Number old new = IsNearly input Limit number_line old new
-Halts input Sent old new = IsNearly input Limit sent_line old new
+abbrev pub Halts : Account → List ℕ → Stop → Option (List ℕ) → Option (List ℕ) → Type 0
+Halts account input Read old new = ReplayPrefix account input old new
+Halts account input Write old new = ReplayPrefix account input old new
+Halts account input Memory old new = ReplayPrefix account input old new
+Halts account input LongInput old new = IsNearly account input Limit input_line old new
+Halts account input TooManyEvents old new = IsNearly account input Limit events_line old new
+Halts account input (BadLine n) old new = IsNearly account input Refused (bad_line_text n) old new
+Halts account input Number old new = IsNearly account input Limit number_line old new
+Halts account input Sent old new = IsNearly account input Limit sent_line old new
 
 -- the input was read before this is said
 abbrev pub IsSaid : Stop → Type 0

@@ -2,6 +2,7 @@
 ghost use Rattle.std.specs.Prelude.{◌≡◌};
 ghost use Rattle.garage_lab.specs.Command.{command_named, command_with, asked_by};
 
+use replay_run::Account;
 use std::alloc::Global;
 
 /// What the program does with its input.
@@ -11,8 +12,8 @@ pub enum Command {
     Layout,
     /// Writes the layout of a configuration that moves the fewest copies.
     Moves,
-    /// Writes the transcript of a schedule.
-    Replay,
+    /// Writes the transcript of a schedule, with a check of its reads or without one.
+    Replay(Account),
 }
 
 /// The command of this name.
@@ -22,7 +23,7 @@ fn command_named(name: &str) -> Option<Command>
     if name == "layout" {
         Some(Command::Layout)
     } else if name == "replay" {
-        Some(Command::Replay)
+        Some(Command::Replay(Account::Transcript))
     } else {
         None
     }
@@ -34,6 +35,8 @@ fn command_with(name: &str, option: &str) -> Option<Command>
 {
     if name == "layout" && option == "--moves" {
         Some(Command::Moves)
+    } else if name == "replay" && option == "--check" {
+        Some(Command::Replay(Account::Checked))
     } else {
         None
     }

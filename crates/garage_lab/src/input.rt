@@ -1,5 +1,5 @@
 //! The input, read whole.
-ghost use Rattle.std.specs.Prelude.{◌≡◌, ◌+◌, ◌<◌, ◌≤◌, length, drop, Some, Err, IfOk, OnOk, IfErr, IfSome};
+ghost use Rattle.std.specs.Prelude.{◌≡◌, ◌⊎◌, ◌+◌, ◌<◌, ◌≤◌, length, drop, Some, Err, IfOk, OnOk, IfErr, IfSome};
 ghost use Rattle.std.specs.Io.KnownBytes.{IsAtEnd};
 ghost use Rattle.lab_outside.specs.Rose.{Rose};
 ghost use Rattle.garage_lab.specs.Answer.{input_limit};
@@ -20,6 +20,7 @@ pub fn read_input<I: Source>(alloc: Global, input: &mut I) -> Result<Vec<u8>, St
     ensures read { IfErr result IsSaid → IfSome (I.left input.old) (λ bytes. I.left input.new ≡ Some (drop (input_limit + 1) bytes)) }
     ensures causes { IfErr result IsOfReading }
     ensures fault { result ≡ Err Stop.Read → Rose (I.faults input.old) (I.faults input.new) }
+    ensures steady { (result ≡ Err Stop.Read) ⊎ (I.faults input.new ≡ I.faults input.old) }
 {
     let bytes = read_up_to(alloc, input, INPUT_LIMIT)?;
     if bytes.len() > INPUT_LIMIT {

@@ -1,5 +1,5 @@
 //! The layout of the nodes that the input says, or the one that moves the fewest copies.
-ghost use Rattle.std.specs.Prelude.{◌≡◌, ◌+◌, ◌<◌, ◌≤◌, length, drop, Some, Err, IfOk, OnOk, IfErr, IfSome};
+ghost use Rattle.std.specs.Prelude.{◌≡◌, ◌⊎◌, ◌+◌, ◌<◌, ◌≤◌, length, drop, Some, Err, IfOk, OnOk, IfErr, IfSome};
 ghost use Rattle.std.specs.Io.KnownBytes.{IsAtEnd};
 ghost use Rattle.lab_outside.specs.Rose.{Rose};
 ghost use Rattle.layout_command.specs.Answer.{IsAnswer as IsLayoutAnswer};
@@ -22,6 +22,7 @@ pub fn read_layout<I: Source>(alloc: Global, input: &mut I) -> Result<Reply, Sto
     ensures read { IfErr result IsSaid → IfSome (I.left input.old) (λ bytes. I.left input.new ≡ Some (drop (input_limit + 1) bytes)) }
     ensures causes { IfErr result IsOfReading }
     ensures fault { result ≡ Err Stop.Read → Rose (I.faults input.old) (I.faults input.new) }
+    ensures steady { (result ≡ Err Stop.Read) ⊎ (I.faults input.new ≡ I.faults input.old) }
 {
     let bytes = read_input(alloc, input)?;
     let reply = answer(alloc, &bytes)?;
@@ -38,6 +39,7 @@ pub fn read_moves<I: Source>(alloc: Global, input: &mut I) -> Result<Reply, Stop
     ensures read { IfErr result IsSaid → IfSome (I.left input.old) (λ bytes. I.left input.new ≡ Some (drop (input_limit + 1) bytes)) }
     ensures causes { IfErr result IsOfReading }
     ensures fault { result ≡ Err Stop.Read → Rose (I.faults input.old) (I.faults input.new) }
+    ensures steady { (result ≡ Err Stop.Read) ⊎ (I.faults input.new ≡ I.faults input.old) }
 {
     let bytes = read_input(alloc, input)?;
     let reply = moves_answer(alloc, &bytes)?;

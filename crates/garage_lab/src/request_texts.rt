@@ -72,6 +72,28 @@ const LIST_WITHOUT_DELETED_KEYS: &[u8] =
 const LOST_ANSWER_TEXT: &[u8] =
     b"1 trio ok\n2 bucket ok\n3 tick ok\n4 put ok 1\n5 drain ok\ndone 1 put 1000/1\n6 put ok 2\n7 drain ok\ndone 2 put 1000/2\n8 delete ok 3\n9 drain ok\ndone 3 delete 1001/3\n10 list ok 4\n11 deliver ok\n12 deliver ok\n13 deliver ok\n14 lose ok\n15 deliver ok\n16 deliver ok\ndone 4 list 1\nkey b 1000/2 4\nnode 1 rows 2 blocks 0 top ";
 
+/// The put is acknowledged by two of three nodes when its node restarts.
+const RESTART_AFTER_QUORUM: &[u8] =
+    b"trio\nbucket pics\nput 1 pics a 1 97\ndrain 9\nrestart 1\nget 2 pics a\ndrain 100\n";
+
+const QUORUM_TEXT: &[u8] =
+    b"1 trio ok\n2 bucket ok\n3 put ok 1\n4 drain ok\n5 restart ok\nended 1 restarted\n6 get ok 2\n7 drain ok\ndone 2 get 1/1 1 0cc175b9c0f1b6a831c399e269772661\nnode 1 rows 1 blocks 0 top e08502143c1177c4ca538ffec27c9eaa1bb9e0d3d5cdecdacfaf035de8fa2ff5\n";
+
+/// Two puts read an empty row, so both take the clock's time; then one node's clock is ahead.
+const CONCURRENT_PUTS_AND_SKEW: &[u8] =
+    b"trio\nbucket pics\ntick 5000\nput 1 pics a 1 97\nput 2 pics a 1 98\ndrain 100\nget 3 pics a\ndrain 100\nskew 1 3600000\nput 1 pics a 1 97\ndrain 100\nput 2 pics a 1 98\ndrain 100\n";
+
+const SKEW_TEXT: &[u8] =
+    b"1 trio ok\n2 bucket ok\n3 tick ok\n4 put ok 1\n5 put ok 2\n6 drain ok\ndone 1 put 5000/1\ndone 2 put 5000/2\n7 get ok 3\n8 drain ok\ndone 3 get 5000/2 1 92eb5ffee6ae2fec3ad71c777531578f\n9 skew ok\n10 put ok 4\n11 drain ok\ndone 4 put 3605000/4\n12 put ok 5\n13 drain ok\ndone 5 put 3605001/5\nnode 1 rows 1 blocks 0 top ";
+
+/// Requests of every kind, a restart, an expiry, and a get whose version row is read after its object was deleted. The
+/// finished reads and the writes of their keys that were acknowledged before them, in order: 1 of `a`, 2 of `a` and `b`,
+/// 1 of `c`, 2 of `b`, 1 of `a`, 2 of `b`, 2 of `d`.
+const CHECKED: &[u8] =
+    b"trio\nbucket pics\nblock 4096\nput 1 pics a 3 97\ndrain 100\nput 2 pics b 3 98\ndrain 100\nget 3 pics a\ndrain 100\nlist 1 pics *\ndrain 100\ncopy 1 pics a pics c\ndrain 100\nhead 2 pics c\ndrain 100\ndelete 3 pics b\ndrain 100\nget 2 pics b\ndrain 100\nput 1 pics a 4 97\ndrain 3\nrestart 1\nget 3 pics a\ndrain 100\nget 1 pics a\nexpire 11\ndrain 100\nlist 2 pics b\ndrain 100\nput 1 pics d 3072 0\ndrain 100\nget 2 pics d\ndeliver 133\ndeliver 134\ndeliver 136\ndeliver 137\ndelete 1 pics d\ndeliver 141\ndeliver 142\ndeliver 144\ndeliver 145\ndeliver 146\ndeliver 147\ndeliver 148\ndeliver 149\ndeliver 150\nwork 1\ndeliver 152\ndeliver 153\ndeliver 154\ndeliver 138\ndeliver 139\ndeliver 158\ndeliver 159\ndrain 200\nget 1 pics d\ndrain 100\n";
+
+const CHECKED_END: &[u8] = b"fresh 11\nend 57 16 168\n";
+
 /// Schedules with their transcripts, of which the messages are left out, and how each ends with its messages.
 #[test]
 fn transcripts_of_requests(rt: HostRuntime) -> Result<(), Fail> {
@@ -94,10 +116,12 @@ fn transcripts_of_requests(rt: HostRuntime) -> Result<(), Fail> {
 /// Schedules with the first part of their transcripts, of which the messages are left out.
 #[test]
 fn transcripts_of_blocks_and_lists(rt: HostRuntime) -> Result<(), Fail> {
-    let rows: [(&[u8], &[u8]); 3] = [
+    let rows: [(&[u8], &[u8]); 5] = [
         (SIZES_AROUND_A_BLOCK, SIZES_TEXT),
         (DELETED_BLOCK, DELETED_TEXT),
         (LIST_WITHOUT_DELETED_KEYS, LOST_ANSWER_TEXT),
+        (RESTART_AFTER_QUORUM, QUORUM_TEXT),
+        (CONCURRENT_PUTS_AND_SKEW, SKEW_TEXT),
     ];
     for (schedule, wanted) in rows {
         let (status, text) = played(rt.alloc(), &["replay"], schedule, &[], &[])?;
@@ -113,5 +137,16 @@ fn copy_of_an_absent_key(rt: HostRuntime) -> Result<(), Fail> {
     let (status, text) = played(rt.alloc(), &["replay"], COPY_OF_AN_ABSENT_KEY, &[], &[])?;
     assert_eq!(rt; status, Status::Done);
     assert_eq!(rt; text.as_slice(), ABSENT_COPY_TEXT);
+    Ok(())
+}
+
+/// The get of an object that was deleted and cleaned up meanwhile is superseded, and counts for nothing in the check.
+#[test]
+fn get_is_superseded(rt: HostRuntime) -> Result<(), Fail> {
+    let (status, text) = played(rt.alloc(), &["replay", "--check"], CHECKED, &[], &[])?;
+    assert_eq!(rt; status, Status::Done);
+    assert!(rt; text.ends_with(CHECKED_END));
+    let superseded: &[u8] = b"54 deliver ok\ngot 159\nended 14 superseded\n";
+    assert!(rt; text.windows(superseded.len()).any(|part| part == superseded));
     Ok(())
 }

@@ -3,7 +3,7 @@ ghost use Rattle.std.specs.Prelude.{◌≡◌, ◌⊎◌, ◌+◌, ◌≤◌, �
 ghost use Rattle.std.specs.Io.KnownBytes.{IsAtEnd};
 ghost use Rattle.crdt_core.specs.Outcomes.{OnlyWant};
 ghost use Rattle.lab_outside.specs.Rose.{Rose};
-ghost use Rattle.garage_lab.specs.Replay.{IsTranscribed};
+ghost use Rattle.garage_lab.specs.Replay.{IsTranscribed, IsChecked};
 ghost use Rattle.garage_lab.specs.Layout.{IsPrinted, IsPrintedMoves};
 ghost use Rattle.garage_lab.specs.Command.{asked_by};
 ghost use Rattle.garage_lab.specs.Answer.{input_limit, bad_line_text, IsAnswer, IsStated, IsAfterReading, Answers, AnswersPrefix, LayoutPrefix, ReplayPrefix, Completes, IsAnswered, Says};
@@ -15,26 +15,16 @@ use crate::layout::{read_layout, read_moves};
 use crate::schedule::read_schedule;
 use crate::stop::Stop;
 use crdt_core::{Bytes, Memory};
-use lab_outside::{Clock, Failed, Link, Sink, Source, Status, write_whole};
+use lab_main::{ends, usage};
+use lab_outside::{Clock, Link, Sink, Source, Status};
 use layout_command::{one_moves_status, one_status};
+use replay_run::Account;
 use std::alloc::Global;
 use store_anchors::{acknowledged_blocks_are_anchored, gets_read_whole_versions};
 use store_laws::{
     fresh_reads, moments_are_runs, reads_give_what_was_written, records_are_fresh,
     replicas_are_equal,
 };
-
-/// Writes the last text, and answers the status that goes with it.
-fn ends<O: Sink>(output: &mut O, text: &[u8], status: Status) -> Status
-    ensures says { Says status text.now result (O.written output.old) (O.written output.new) (O.faults output.old) (O.faults output.new) }
-    ensures certain { (result ≡ status) ⊎ (result ≡ Status.WriteFault) }
-    ensures counted { O.faults output.old ≤ O.faults output.new }
-{
-    match write_whole(output, text) {
-        Ok(()) => status,
-        Err(Failed) => Status::WriteFault,
-    }
-}
 
 /// What is said of the first line outside the grammar.
 fn bad_line(alloc: Global, line: u64) -> Result<Bytes, Memory>
@@ -52,7 +42,10 @@ fn stopped<O: Sink>(alloc: Global, output: &mut O, stop: Stop) -> Status
     ensures says { Says (status_of stop) (said_of stop) result (O.written output.old) (O.written output.new) (O.faults output.old) (O.faults output.new) }
     ensures read { IsAfterReading result → IsSaid stop }
     ensures unwritten { result ≡ Status.ReadFault → (stop ≡ Stop.Read) × (output.new ≡ output.old) }
+    ensures failed_read { stop ≡ Stop.Read → result ≡ Status.ReadFault }
+    ensures failed_write { stop ≡ Stop.Write → result ≡ Status.WriteFault }
     ensures counted { O.faults output.old ≤ O.faults output.new }
+    ensures write_told { (result ≡ Status.WriteFault) ⊎ (O.faults output.new ≡ O.faults output.old) }
 {
     match stop {
         Stop::Read => Status::ReadFault,
@@ -69,35 +62,49 @@ fn stopped<O: Sink>(alloc: Global, output: &mut O, stop: Stop) -> Status
     }
 }
 
-/// Reads a schedule, and writes its transcript.
-fn replay<I: Source, O: Sink>(alloc: Global, input: &mut I, output: &mut O) -> Result<(), Stop>
-    ensures done { OnOk result (IfSome (I.left input.old) (λ bytes. Answers (Some Command.Replay) bytes Status.Done (O.written output.old) (O.written output.new))) }
+/// Reads a schedule, and writes an account of its replay.
+fn replay<I: Source, O: Sink>(
+    alloc: Global,
+    account: Account,
+    input: &mut I,
+    output: &mut O,
+) -> Result<(), Stop>
+    ensures done { OnOk result (IfSome (I.left input.old) (λ bytes. Answers (Some (Command.Replay account)) bytes Status.Done (O.written output.old) (O.written output.new))) }
     ensures end { OnOk result (IsAtEnd (I.left input.new)) }
-    ensures halts { IfErr result (λ stop. IfSome (I.left input.old) (λ bytes. Halts bytes stop (O.written output.old) (O.written output.new))) }
+    ensures halts { IfErr result (λ stop. IfSome (I.left input.old) (λ bytes. Halts account bytes stop (O.written output.old) (O.written output.new))) }
     ensures read { IfErr result IsSaid → IfSome (I.left input.old) (λ bytes. I.left input.new ≡ Some (drop (input_limit + 1) bytes)) }
     ensures read_fault { result ≡ Err Stop.Read → Rose (I.faults input.old) (I.faults input.new) }
     ensures unwritten { result ≡ Err Stop.Read → output.new ≡ output.old }
     ensures write_fault { result ≡ Err Stop.Write → Rose (O.faults output.old) (O.faults output.new) }
     ensures counted { O.faults output.old ≤ O.faults output.new }
+    ensures read_told { (result ≡ Err Stop.Read) ⊎ (I.faults input.new ≡ I.faults input.old) }
+    ensures write_told { (result ≡ Err Stop.Write) ⊎ (O.faults output.new ≡ O.faults output.old) }
 {
     let events = read_schedule(alloc, input)?;
-    replay_run::replay(alloc, events.as_slice(), output)?;
+    replay_run::replay(alloc, account, events.as_slice(), output)?;
     Ok(())
 }
 
 /// Replays the schedule that the input spells, and says how that ended.
-fn replayed<I: Source, O: Sink>(alloc: Global, input: &mut I, output: &mut O) -> Status
-    ensures answers { IsStated result → IfSome (I.left input.old) (λ bytes. Answers (Some Command.Replay) bytes result (O.written output.old) (O.written output.new)) }
-    ensures prefix { IfSome (I.left input.old) (λ bytes. ReplayPrefix bytes (O.written output.old) (O.written output.new)) }
+fn replayed<I: Source, O: Sink>(
+    alloc: Global,
+    account: Account,
+    input: &mut I,
+    output: &mut O,
+) -> Status
+    ensures answers { IsStated result → IfSome (I.left input.old) (λ bytes. Answers (Some (Command.Replay account)) bytes result (O.written output.old) (O.written output.new)) }
+    ensures prefix { IfSome (I.left input.old) (λ bytes. ReplayPrefix account bytes (O.written output.old) (O.written output.new)) }
     ensures end { result ≡ Status.Done → IsAtEnd (I.left input.new) }
     ensures read { IsAfterReading result → IfSome (I.left input.old) (λ bytes. I.left input.new ≡ Some (drop (input_limit + 1) bytes)) }
     ensures no_usage { result ≡ Status.Usage → ⊥ }
     ensures read_fault { result ≡ Status.ReadFault → Rose (I.faults input.old) (I.faults input.new) }
     ensures unwritten { result ≡ Status.ReadFault → output.new ≡ output.old }
     ensures write_fault { result ≡ Status.WriteFault → Rose (O.faults output.old) (O.faults output.new) }
+    ensures read_told { (result ≡ Status.ReadFault) ⊎ (I.faults input.new ≡ I.faults input.old) }
+    ensures write_told { (result ≡ Status.WriteFault) ⊎ (O.faults output.new ≡ O.faults output.old) }
     ensures link_fault { result ≡ Status.LinkFault → ⊥ }
 {
-    match replay(alloc, input, output) {
+    match replay(alloc, account, input, output) {
         Ok(()) => Status::Done,
         Err(stop) => stopped(alloc, output, stop),
     }
@@ -113,6 +120,8 @@ fn laid_out<I: Source, O: Sink>(alloc: Global, input: &mut I, output: &mut O) ->
     ensures read_fault { result ≡ Status.ReadFault → Rose (I.faults input.old) (I.faults input.new) }
     ensures unwritten { result ≡ Status.ReadFault → output.new ≡ output.old }
     ensures write_fault { result ≡ Status.WriteFault → Rose (O.faults output.old) (O.faults output.new) }
+    ensures read_told { (result ≡ Status.ReadFault) ⊎ (I.faults input.new ≡ I.faults input.old) }
+    ensures write_told { (result ≡ Status.WriteFault) ⊎ (O.faults output.new ≡ O.faults output.old) }
     ensures link_fault { result ≡ Status.LinkFault → ⊥ }
 {
     match read_layout(alloc, input) {
@@ -131,6 +140,8 @@ fn moved<I: Source, O: Sink>(alloc: Global, input: &mut I, output: &mut O) -> St
     ensures read_fault { result ≡ Status.ReadFault → Rose (I.faults input.old) (I.faults input.new) }
     ensures unwritten { result ≡ Status.ReadFault → output.new ≡ output.old }
     ensures write_fault { result ≡ Status.WriteFault → Rose (O.faults output.old) (O.faults output.new) }
+    ensures read_told { (result ≡ Status.ReadFault) ⊎ (I.faults input.new ≡ I.faults input.old) }
+    ensures write_told { (result ≡ Status.WriteFault) ⊎ (O.faults output.new ≡ O.faults output.old) }
     ensures link_fault { result ≡ Status.LinkFault → ⊥ }
 {
     match read_moves(alloc, input) {
@@ -148,7 +159,7 @@ fn answer<I: Source, O: Sink>(
 ) -> Status
     ensures answers { IsStated result → IfSome (I.left input.old) (λ bytes. Answers (asked_by words.now) bytes result (O.written output.old) (O.written output.new)) }
     ensures prefix { asked_by words.now ≡ None → IfSome (I.left input.old) (λ bytes. AnswersPrefix (asked_by words.now) bytes (O.written output.old) (O.written output.new)) }
-    ensures replay_prefix { asked_by words.now ≡ Some Command.Replay → IfSome (I.left input.old) (λ bytes. ReplayPrefix bytes (O.written output.old) (O.written output.new)) }
+    ensures replay_prefix { (account : Account) → asked_by words.now ≡ Some (Command.Replay account) → IfSome (I.left input.old) (λ bytes. ReplayPrefix account bytes (O.written output.old) (O.written output.new)) }
     ensures layout_prefix { asked_by words.now ≡ Some Command.Layout → IfSome (I.left input.old) (λ bytes. LayoutPrefix Command.Layout bytes (O.written output.old) (O.written output.new)) }
     ensures moves_prefix { asked_by words.now ≡ Some Command.Moves → IfSome (I.left input.old) (λ bytes. LayoutPrefix Command.Moves bytes (O.written output.old) (O.written output.new)) }
     ensures end { result ≡ Status.Done → IsAtEnd (I.left input.new) }
@@ -159,17 +170,15 @@ fn answer<I: Source, O: Sink>(
     ensures read_fault { result ≡ Status.ReadFault → Rose (I.faults input.old) (I.faults input.new) }
     ensures unwritten { result ≡ Status.ReadFault → output.new ≡ output.old }
     ensures write_fault { result ≡ Status.WriteFault → Rose (O.faults output.old) (O.faults output.new) }
+    ensures read_told { (result ≡ Status.ReadFault) ⊎ (I.faults input.new ≡ I.faults input.old) }
+    ensures write_told { (result ≡ Status.WriteFault) ⊎ (O.faults output.new ≡ O.faults output.old) }
     ensures link_fault { result ≡ Status.LinkFault → ⊥ }
 {
     match asked_by(words) {
         Some(Command::Layout) => laid_out(alloc, input, output),
         Some(Command::Moves) => moved(alloc, input, output),
-        Some(Command::Replay) => replayed(alloc, input, output),
-        None => {
-            let usage =
-                b"usage: garage_lab layout | replay [--check] | workload N SEED | serve PORT COUNT\n";
-            ends(output, usage, Status::Usage)
-        }
+        Some(Command::Replay(account)) => replayed(alloc, account, input, output),
+        None => usage(output),
     }
 }
 
@@ -189,7 +198,12 @@ pub fn run<I: Source, O: Sink, L: Link, C: Clock>(
     // versions beside them; a read ends superseded only where its version was overwritten, and no open request waits for
     // what never comes; replicas that accepted the same rows are equal; and the blocks of acknowledged, undeleted versions
     // lie with live references. Where bytes are kept in blocks, and for these, no two blocks may have one digest.
-    ensures done { asked_by words.now ≡ Some Command.Replay → result ≡ Status.Done → IfSome (I.left input.old) (λ bytes. IsTranscribed bytes (O.written output.old) (O.written output.new)) }
+    ensures done { asked_by words.now ≡ Some (Command.Replay Account.Transcript) → result ≡ Status.Done → IfSome (I.left input.old) (λ bytes. IsTranscribed bytes (O.written output.old) (O.written output.new)) }
+
+    // After Done of a replay with a check it is that transcript with the line of the check before its last line. The line says
+    // that all reads are fresh, and how many pairs of a read and a write before it there were to look at, where no two of
+    // the buckets' names have one digest.
+    ensures checked { asked_by words.now ≡ Some (Command.Replay Account.Checked) → result ≡ Status.Done → IfSome (I.left input.old) (λ bytes. IsChecked bytes (O.written output.old) (O.written output.new)) }
 
     // After Done of a layout what was written is the text of an assignment of the greatest partition size for
     // the nodes that the input says, with the cut that shows that no greater size has any.
@@ -210,7 +224,7 @@ pub fn run<I: Source, O: Sink, L: Link, C: Clock>(
     // choose sets, it is a first part of one or of what the first events tell.
     ensures answers { IsStated result → IfSome (I.left input.old) (λ bytes. Answers (asked_by words.now) bytes result (O.written output.old) (O.written output.new)) }
     ensures prefix { asked_by words.now ≡ None → IfSome (I.left input.old) (λ bytes. AnswersPrefix (asked_by words.now) bytes (O.written output.old) (O.written output.new)) }
-    ensures replay_prefix { asked_by words.now ≡ Some Command.Replay → IfSome (I.left input.old) (λ bytes. ReplayPrefix bytes (O.written output.old) (O.written output.new)) }
+    ensures replay_prefix { (account : Account) → asked_by words.now ≡ Some (Command.Replay account) → IfSome (I.left input.old) (λ bytes. ReplayPrefix account bytes (O.written output.old) (O.written output.new)) }
     ensures layout_prefix { asked_by words.now ≡ Some Command.Layout → IfSome (I.left input.old) (λ bytes. LayoutPrefix Command.Layout bytes (O.written output.old) (O.written output.new)) }
     ensures moves_prefix { asked_by words.now ≡ Some Command.Moves → IfSome (I.left input.old) (λ bytes. LayoutPrefix Command.Moves bytes (O.written output.old) (O.written output.new)) }
 
@@ -227,11 +241,14 @@ pub fn run<I: Source, O: Sink, L: Link, C: Clock>(
     ensures usage_alone { asked_by words.now ≡ None → (result ≡ Status.Usage) ⊎ (result ≡ Status.WriteFault) }
     ensures unread { asked_by words.now ≡ None → input.new ≡ input.old }
 
-    // A fault comes only where the count of its object rose in this call; after a failed read nothing was written.
+    // A fault comes only where the count of its object rose in this call, and where a count rose it comes, not want of memory
+    // or another status. After a failed read nothing was written.
     // Link and clock are as before.
     ensures read_fault { result ≡ Status.ReadFault → Rose (I.faults input.old) (I.faults input.new) }
     ensures unwritten { result ≡ Status.ReadFault → output.new ≡ output.old }
     ensures write_fault { result ≡ Status.WriteFault → Rose (O.faults output.old) (O.faults output.new) }
+    ensures read_told { (result ≡ Status.ReadFault) ⊎ (I.faults input.new ≡ I.faults input.old) }
+    ensures write_told { (result ≡ Status.WriteFault) ⊎ (O.faults output.new ≡ O.faults output.old) }
     ensures link_fault { result ≡ Status.LinkFault → ⊥ }
     ensures link { _link.new ≡ _link.old }
     ensures clock { _clock.new ≡ _clock.old }

@@ -1,5 +1,5 @@
 //! The schedule that the input spells.
-ghost use Rattle.std.specs.Prelude.{◌≡◌, ◌+◌, ◌<◌, ◌≤◌, ℕ, length, drop, Some, Err, IfOk, OnOk, IfErr, IfSome};
+ghost use Rattle.std.specs.Prelude.{◌≡◌, ◌⊎◌, ◌+◌, ◌<◌, ◌≤◌, ℕ, length, drop, Some, Err, IfOk, OnOk, IfErr, IfSome};
 ghost use Rattle.std.specs.List.{All};
 ghost use Rattle.std.specs.Io.KnownBytes.{IsAtEnd};
 ghost use Rattle.lab_outside.specs.Rose.{Rose};
@@ -26,6 +26,7 @@ pub fn read_schedule<I: Source>(alloc: Global, input: &mut I) -> Result<List<Num
     ensures read { IfErr result IsSaid → IfSome (I.left input.old) (λ bytes. I.left input.new ≡ Some (drop (input_limit + 1) bytes)) }
     ensures causes { IfErr result IsOfInput }
     ensures fault { result ≡ Err Stop.Read → Rose (I.faults input.old) (I.faults input.new) }
+    ensures steady { (result ≡ Err Stop.Read) ⊎ (I.faults input.new ≡ I.faults input.old) }
 {
     let text = read_input(alloc, input)?;
     let events = parse(alloc, &text)?;

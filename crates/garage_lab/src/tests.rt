@@ -105,6 +105,12 @@ const ONE_NODE_REPLACED: &[u8] =
 const HALVES_IN_ONE_ZONE: &[u8] =
     b"[[node]]\nid = 1\nzone = 'a'\ncapacity = 1000\n[[node]]\nid = 2\nzone = 'b'\ncapacity = 1000\n[[node]]\nid = 3\nzone = 'c'\ncapacity = 500\n[[node]]\nid = 4\nzone = 'c'\ncapacity = 500\n[[old]]\nfirst = 0\nlast = 255\nnodes = [1, 2, 3]\n";
 
+/// Repairs of a node without rows and of none, and a lost message that wasn't sent.
+const REPAIR_WITHOUT_ROWS: &[u8] = b"trio\nrepair 1\nrepair 4\nlose 1\n";
+
+const REPAIR_TEXT: &[u8] =
+    b"1 trio ok\n2 repair ok\n3 repair refused NotMember\n4 lose refused NoSuchMessage\nnode 1 rows 0 blocks 0 top 7e1c26a17bd3d7fa395f34897712e0533bd0d69b934e542d6a4a4fb3ce779cda\nnode 2 rows 0 blocks 0 top 7e1c26a17bd3d7fa395f34897712e0533bd0d69b934e542d6a4a4fb3ce779cda\nnode 3 rows 0 blocks 0 top 7e1c26a17bd3d7fa395f34897712e0533bd0d69b934e542d6a4a4fb3ce779cda\nend 4 0 0\n";
+
 /// Three nodes, and no old sets.
 const NO_OLD_SETS: &[u8] =
     b"[[node]]\nid = 1\nzone = 'a'\ncapacity = 1000\n[[node]]\nid = 2\nzone = 'b'\ncapacity = 1000\n[[node]]\nid = 3\nzone = 'c'\ncapacity = 1000\n";
@@ -164,13 +170,14 @@ fn first_put_and_get(rt: HostRuntime) -> Result<(), Fail> {
 /// Schedules with their whole transcripts, each in two parts.
 #[test]
 fn transcripts(rt: HostRuntime) -> Result<(), Fail> {
-    let rows: [(&[u8], &[u8], &[u8]); 6] = [
+    let rows: [(&[u8], &[u8], &[u8]); 7] = [
         (FIRST_PUT_AND_GET, PUT, FIRST_GET),
         (REPEATED_GET_ANSWERS, PUT, REPEATED_GET),
         (b"", b"end 0 0 0\n", b""),
         (ACK_WAITS_FOR_OPEN_REQUEST, OPEN_REQUEST_TEXT, b""),
         (MEMBER_OF_ITS_NEWEST_VERSION, LEAVING_TEXT, b""),
         (EMPTY_WORLD, EMPTY_WORLD_TEXT, b""),
+        (REPAIR_WITHOUT_ROWS, REPAIR_TEXT, b""),
     ];
     for (schedule, first, second) in rows {
         let (status, text) = played(rt.alloc(), &["replay"], schedule, &[], &[])?;

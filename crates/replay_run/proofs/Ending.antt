@@ -1,5 +1,5 @@
 -- A replay of any events has a stated end.
-use Rattle.std.proofs.Common.{◌≡◌, ℕ, ◌≤◌, ◌<◌, ◌⊎◌, inl, inr, Some, List, [], ◌∷◌, ◌++◌, refl, sym, ap, ◌∙◌, subst, append_assoc, append-nil, arith}
+use Rattle.std.proofs.Common.{◌≡◌, ℕ, ◌≤◌, ◌<◌, ◌⊎◌, inl, inr, Some, List, [], ◌∷◌, ◌++◌, length, refl, sym, ap, ◌∙◌, subst, append_assoc, append-nil, arith}
 use Rattle.std.specs.List.{All, AllByRecursion}
 use Rattle.std.proofs.lemmas.Bool.{cases_lt}
 use Rattle.std.proofs.lemmas.List.Elements.{All-head, All-tail}
@@ -12,8 +12,11 @@ use Rattle.store_model.specs.declared.event.Numbered.{Numbered}
 use Rattle.store_model.specs.Run.{World, Moving, State, Outcome, start}
 use Rattle.store_model.specs.Events.{Turn, events_of, after, run}
 use Rattle.store_model.specs.Turns.{FitsOutcome}
-use Rattle.text_model.specs.Transcript.{turns_text, transcript}
+use Rattle.history_model.specs.declared.record.Record.{Record}
 use Rattle.s3_world.specs.Stands.{IsMeantEvent}
+use Rattle.replay_run.specs.declared.account.Account.{Account}
+use Rattle.replay_run.specs.declared.account.Account.TheVariants.{Transcript, Checked, Summary}
+use Rattle.replay_run.specs.Account.{front, fresh_line, stale_line, IsCheck, fresh, stale, IsLine, opening, closing}
 use Rattle.replay_run.specs.Replay.{Step, sent_limit, number_line, sent_line, steps_of, HasSent, GoesOn, SendsTooMuch, LacksRoom, StopsAt, ArePlayed, IsReplay, whole, number, sent}
 use Rattle.replay_run.specs.Turning.{turn}
 use Rattle.replay_run.proofs.Causes.{all_push}
@@ -55,9 +58,23 @@ module _ (steps : List Step) (lacks : StopsAt LacksRoom steps → ⊥) (sends : 
             ];
       })
 
-module _ (events : List Numbered) (never : (status : Status) (text : List ℕ) → IsReplay events status text → ⊥) where
+-- a history has a line of a check
+checked : (h : List Record) → ((line : List ℕ) → IsCheck h line → ⊥) → ⊥
+checked h k = k (stale_line h) (stale (λ all. k (fresh_line h) (fresh all refl)) refl)
+
+has_line : (account : Account) (h : List Record) → ((line : List ℕ) → IsLine account h line → ⊥) → ⊥
+has_line Transcript h k = k [] refl
+has_line Checked h k = checked h k
+has_line (Summary count seed) h k = checked h k
+
+module _ (account : Account) (events : List Numbered) (never : (status : Status) (text : List ℕ) → IsReplay account events status text → ⊥) where
   ends : (rest : List Numbered) (before : List Turn) → ArePlayed before → IsFine (run start before) → IsCounted (run start before).world → AreMeant rest → events ≡ events_of before ++ rest → ⊥
-  ends [] before played fine known meant is = never Done (transcript before) (whole before (sym (is ∙ append-nil (events_of before))) played refl refl)
+  ends [] before played fine known meant is =
+      let s = run start before in
+      has_line account s.history (λ line is_line.
+      let tail = opening account s ++ closing (length before) s line in
+      never Done (front account before ++ tail)
+      (whole before (sym (is ∙ append-nil (events_of before))) played refl (record { tail = tail; ends = record { line = line; is_line = is_line; text_is = refl }; text_is = refl })))
   ends (e ∷ es) before played fine known meant is =
       let s = run start before in
       let here : IsMeantEvent e.event = All-head (λ (x : Numbered). IsMeantEvent x.event) e es meant in
@@ -65,8 +82,8 @@ module _ (events : List Numbered) (never : (status : Status) (text : List ℕ) �
       let t = turn e given.0 in
       let steps = steps_of s e.event given.0 in
       go_on_from steps
-      (λ stops. never Limit (turns_text start before ++ number_line) (number before (record { played = played; next = t; later = es; whole = is; lawful = given.1; stops = stops }) refl refl))
-      (λ stops. never Limit (turns_text start before ++ sent_line) (sent before (record { played = played; next = t; later = es; whole = is; lawful = given.1; stops = stops }) refl refl))
+      (λ stops. never Limit (front account before ++ number_line) (number before (record { played = played; next = t; later = es; whole = is; lawful = given.1; stops = stops }) refl refl))
+      (λ stops. never Limit (front account before ++ sent_line) (sent before (record { played = played; next = t; later = es; whole = is; lawful = given.1; stops = stops }) refl refl))
       steps [] s (are_steps s e.event given.0) known tt refl
       (λ go_on.
       let here : run start (before ++ t ∷ []) ≡ after s t = run_push start before t in

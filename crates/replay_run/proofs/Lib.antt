@@ -7,3 +7,5 @@ pub mod Running
 pub mod Staged
 pub mod Lawful
 pub mod Ending
+pub mod Meant
+pub mod Checked

@@ -13,20 +13,23 @@ use Rattle.store_model.specs.declared.event.Told.{Told}
 use Rattle.store_model.specs.Run.{State, start}
 use Rattle.store_model.specs.Events.{Turn, outcome_of, events_of, run}
 use Rattle.text_model.specs.Grammar.{name_of}
-use Rattle.text_model.specs.Transcript.{told_text, turns_text, tail_text, transcript}
+use Rattle.text_model.specs.Transcript.{told_text}
 use Rattle.s3_world.specs.declared.world.S3World.{S3World}
 use Rattle.s3_world.specs.Stands.{IsStore, HasStore}
+use Rattle.replay_run.specs.declared.account.Account.{Account}
 use Rattle.replay_run.specs.declared.stop.ReplayStop.{ReplayStop}
 use Rattle.replay_run.specs.declared.stop.ReplayStop.TheVariants.{Write, Memory, Number, Sent}
+use Rattle.replay_run.specs.Account.{shown, front, IsTail, IsText}
 use Rattle.replay_run.specs.Replay.{Step, number_line, sent_line, SendsTooMuch, LacksRoom, ArePlayed, AreFirst, StopsAfter, number, sent, unshown}
 use Rattle.replay_run.specs.Turning.{turn, Takes, StopsIn, EventStops, TurnsTo, TurnsOne, CannotTell, TellsTail}
 use Rattle.replay_run.specs.Stop.{stop_of_memory, IsWhole, IsPart, of_turns, of_all, LacksLine, Halts}
 use Rattle.replay_run.proofs.Causes.{stop_is}
-use Rattle.replay_run.proofs.Turns.{run_push, text_push, events_push, played_none, played_push}
+use Rattle.replay_run.proofs.Turns.{run_push, front_none, front_push, events_push, played_none, played_push}
 
--- what the store took is a turn, with the text of what it told
-takes_turn : (old new : S3World) (told : Told) (e : Numbered) (text : List ℕ) → ((s : State) → IsStore old s → Takes new told s e.event) → text ≡ told_text e.line (name_of e.event) told.refused told.words told.lines → TurnsOne old new e text
-takes_turn old new told e text takes is s stands =
+-- what the store took is a turn, with what is written of what it told
+pub turns_one : (account : Account) (old new : S3World) (told : Told) (e : Numbered) (text : List ℕ) → ((s : State) → IsStore old s → Takes new told s e.event) →
+    text ≡ shown account (told_text e.line (name_of e.event) told.refused told.words told.lines) → TurnsOne account old new e text
+turns_one account old new told e text takes is s stands =
     let d = takes s stands in
     let o = outcome_of s (turn e d.choice) in
     record {
@@ -35,31 +38,29 @@ takes_turn old new told e text takes is s stands =
       stands = d.stands;
       go_on = d.go_on;
       text_is =
-          is ∙ ap (λ r. told_text e.line (name_of e.event) r told.words told.lines) d.tells.refused
-          ∙ ap (λ w. told_text e.line (name_of e.event) o.refused w told.lines) d.tells.words
-          ∙ ap (λ ls. told_text e.line (name_of e.event) o.refused o.words ls) d.tells.lines;
+          is ∙ ap (λ r. shown account (told_text e.line (name_of e.event) r told.words told.lines)) d.tells.refused
+          ∙ ap (λ w. shown account (told_text e.line (name_of e.event) o.refused w told.lines)) d.tells.words
+          ∙ ap (λ ls. shown account (told_text e.line (name_of e.event) o.refused o.words ls)) d.tells.lines;
     }
 
-pub turns_one : (old new : S3World) (told : Told) (e : Numbered) (name : List ℕ) (lines : List (Line Applied)) (text : List ℕ) → name ≡ name_of e.event → lines ≡ told.lines → ((s : State) → IsStore old s → Takes new told s e.event) →
-    text ≡ told_text e.line name told.refused told.words lines → TurnsOne old new e text
-turns_one old new told e name lines text named listed takes is =
-    takes_turn old new told e text takes (is ∙ ap (λ n. told_text e.line n told.refused told.words lines) named ∙ ap (λ ls. told_text e.line (name_of e.event) told.refused told.words ls) listed)
-
--- the first i events were played, with some layouts, and their text was written
-pub record Running (store : S3World) (old now : Option (List ℕ)) (events : List Numbered) (i : ℕ) : Type 0 where
+-- the first i events were played, with some layouts, and what is written of them was written
+pub record Running (account : Account) (store : S3World) (old now : Option (List ℕ)) (events : List Numbered) (i : ℕ) : Type 0 where
   pub turns : List Turn
   pub events_are : events_of turns ≡ take i events
   pub played : ArePlayed turns
   pub stands : IsStore store (run start turns)
-  pub wrote : Wrote old now (turns_text start turns)
+  pub wrote : Wrote old now (front account turns)
 
-pub running_none : (store : S3World) (old : Option (List ℕ)) (events : List Numbered) → IsStore store start → Running store old old events 0
-running_none store old events d = record { turns = []; events_are = refl; played = played_none; stands = d; wrote = wrote_none old }
+none_wrote : (account : Account) (old : Option (List ℕ)) → Wrote old old (front account [])
+none_wrote account old = subst (Wrote old old) (sym (front_none account)) (wrote_none old)
 
-pub part_none : (old : Option (List ℕ)) (events : List Numbered) → IsPart events old old
-part_none old events = of_turns [] (record { played = played_none; later = events; whole = refl }) (wrote_prefix_whole old old [] (wrote_none old))
+pub running_none : (account : Account) (store : S3World) (old : Option (List ℕ)) (events : List Numbered) → IsStore store start → Running account store old old events 0
+running_none account store old events d = record { turns = []; events_are = refl; played = played_none; stands = d; wrote = none_wrote account old }
 
-module _ (store : S3World) (old now : Option (List ℕ)) (events : List Numbered) (i : ℕ) (r : Running store old now events i) where
+pub part_none : (account : Account) (old : Option (List ℕ)) (events : List Numbered) → IsPart account events old old
+part_none account old events = of_turns [] (record { played = played_none; later = events; whole = refl }) (wrote_prefix_whole old old (front account []) (none_wrote account old))
+
+module _ (account : Account) (store : S3World) (old now : Option (List ℕ)) (events : List Numbered) (i : ℕ) (r : Running account store old now events i) where
   pub running_has : HasStore store
   running_has = (run start r.turns, r.stands)
 
@@ -67,15 +68,15 @@ module _ (store : S3World) (old now : Option (List ℕ)) (events : List Numbered
   are_first = record { played = r.played; later = drop i events; whole = sym (take-append-drop i events) ∙ ap (λ es. es ++ drop i events) (sym r.events_are) }
 
   -- what was written when the next event or the end came to nothing
-  pub running_part : IsPart events old now
-  running_part = of_turns r.turns are_first (wrote_prefix_whole old now (turns_text start r.turns) r.wrote)
+  pub running_part : IsPart account events old now
+  running_part = of_turns r.turns are_first (wrote_prefix_whole old now (front account r.turns) r.wrote)
 
-module _ (store new : S3World) (old mid now : Option (List ℕ)) (events : List Numbered) (i : ℕ) (next : Numbered) (lt : i < length events) (is : next ≡ get_or events i next) (r : Running store old mid events i) where
+module _ (account : Account) (store new : S3World) (old mid now : Option (List ℕ)) (events : List Numbered) (i : ℕ) (next : Numbered) (lt : i < length events) (is : next ≡ get_or events i next) (r : Running account store old mid events i) where
   here : take (i + 1) events ≡ take i events ++ next ∷ []
   here = take_more events i next lt ∙ ap (λ (e : Numbered). take i events ++ e ∷ []) (sym is)
 
-  module _ (text : List ℕ) (turns : TurnsOne store new next text) where
-    to : TurnsTo new (run start r.turns) next text
+  module _ (text : List ℕ) (turns : TurnsOne account store new next text) where
+    to : TurnsTo account new (run start r.turns) next text
     to = turns (run start r.turns) r.stands
 
     more : List Turn
@@ -89,28 +90,28 @@ module _ (store new : S3World) (old mid now : Option (List ℕ)) (events : List 
     unfolding more
     more_played = played_push r.turns (turn next to.choice) r.played to.lawful to.go_on
 
-    more_text : turns_text start more ≡ turns_text start r.turns ++ text
+    more_text : front account more ≡ front account r.turns ++ text
     unfolding more
-    more_text = text_push start r.turns (turn next to.choice) ∙ ap (λ t. turns_text start r.turns ++ t) (sym to.text_is)
+    more_text = front_push account r.turns (turn next to.choice) ∙ ap (λ t. front account r.turns ++ t) (sym to.text_is)
 
     more_stands : IsStore new (run start more)
     unfolding more
     more_stands = subst (IsStore new) (sym (run_push start r.turns (turn next to.choice))) to.stands
 
-    pub running_more : Wrote mid now text → Running new old now events (i + 1)
+    pub running_more : Wrote mid now text → Running account new old now events (i + 1)
     running_more wrote = record {
       turns = more;
       events_are = more_are;
       played = more_played;
       stands = more_stands;
-      wrote = subst (Wrote old now) (sym more_text) (wrote_more old mid now (turns_text start r.turns) text r.wrote wrote);
+      wrote = subst (Wrote old now) (sym more_text) (wrote_more old mid now (front account r.turns) text r.wrote wrote);
     }
 
     -- a write of the event's text failed
-    pub running_cut : WrotePrefix mid now text → IsPart events old now
+    pub running_cut : WrotePrefix mid now text → IsPart account events old now
     running_cut wrote =
         of_turns more (record { played = more_played; later = drop (i + 1) events; whole = sym (take-append-drop (i + 1) events) ∙ ap (λ es. es ++ drop (i + 1) events) (sym more_are) })
-        (subst (WrotePrefix old now) (sym more_text) (wrote_prefix_after old mid now (turns_text start r.turns) text r.wrote wrote))
+        (subst (WrotePrefix old now) (sym more_text) (wrote_prefix_after old mid now (front account r.turns) text r.wrote wrote))
 
   -- the event has a step after which the replay doesn't go on
   stops_after : (IsSo : Step → Type 0) → ((s : State) → IsStore store s → StopsIn IsSo s next.event) → StopsAfter IsSo events r.turns
@@ -128,13 +129,13 @@ module _ (store new : S3World) (old mid now : Option (List ℕ)) (events : List 
       }
 
   -- the event gave up
-  pub running_halts : (stop : ReplayStop) → EventStops store next.event stop → Halts events stop old mid
+  pub running_halts : (stop : ReplayStop) → EventStops store next.event stop → Halts account events stop old mid
   running_halts Write h = absurd h
-  running_halts Memory h = running_part store old mid events i r
-  running_halts Number h = record { front = turns_text start r.turns; wrote = r.wrote; stated = number r.turns (stops_after LacksRoom h) refl refl }
-  running_halts Sent h = record { front = turns_text start r.turns; wrote = r.wrote; stated = sent r.turns (stops_after SendsTooMuch h) refl refl }
+  running_halts Memory h = running_part account store old mid events i r
+  running_halts Number h = record { before = front account r.turns; wrote = r.wrote; stated = number r.turns (stops_after LacksRoom h) refl refl }
+  running_halts Sent h = record { before = front account r.turns; wrote = r.wrote; stated = sent r.turns (stops_after SendsTooMuch h) refl refl }
 
-module _ (store : S3World) (old mid now : Option (List ℕ)) (events : List Numbered) (i : ℕ) (r : Running store old mid events i) (le : length events ≤ i) where
+module _ (account : Account) (store : S3World) (old mid now : Option (List ℕ)) (events : List Numbered) (i : ℕ) (r : Running account store old mid events i) (le : length events ≤ i) where
   all_are : events_of r.turns ≡ events
   all_are = r.events_are ∙ take_all i events le
 
@@ -142,24 +143,29 @@ module _ (store : S3World) (old mid now : Option (List ℕ)) (events : List Numb
   count_turns = ap length (sym all_are) ∙ length-map r.turns (λ (t : Turn). t.numbered)
 
   -- after the last event a node can't be shown
-  unshown_here : CannotTell store → LacksLine events number_line old mid
-  unshown_here none = record { front = turns_text start r.turns; wrote = r.wrote; stated = unshown r.turns all_are r.played (none (run start r.turns) r.stands) refl refl }
+  unshown_here : CannotTell store → LacksLine account events number_line old mid
+  unshown_here none = record { before = front account r.turns; wrote = r.wrote; stated = unshown r.turns all_are r.played (none (run start r.turns) r.stands) refl refl }
 
   -- what follows the last event came to nothing
-  pub all_halts : (why : Why) → (why ≡ Want) ⊎ ((why ≡ Full) × CannotTell store) → Halts events (stop_of_memory why) old mid
-  all_halts why causes = stop_is why (λ (stop : ReplayStop). Halts events stop old mid) (CannotTell store) (running_part store old mid events i r) unshown_here causes
+  pub all_halts : (why : Why) → (why ≡ Want) ⊎ ((why ≡ Full) × CannotTell store) → Halts account events (stop_of_memory why) old mid
+  all_halts why causes = stop_is why (λ (stop : ReplayStop). Halts account events stop old mid) (CannotTell store) (running_part account store old mid events i r) unshown_here causes
 
-  module _ (text : List ℕ) (tells : TellsTail store (length events) text) where
-    tail_is : text ≡ tail_text (length r.turns) (run start r.turns)
-    tail_is = tells (run start r.turns) r.stands ∙ ap (λ n. tail_text n (run start r.turns)) count_turns
+  module _ (text : List ℕ) (tells : TellsTail account store (length events) text) where
+    tail_is : IsTail account (length r.turns) (run start r.turns) text
+    tail_is = subst (λ n. IsTail account n (run start r.turns) text) count_turns (tells (run start r.turns) r.stands)
 
-    pub all_whole : Wrote mid now text → IsWhole events old now
+    all_text : IsText account r.turns (front account r.turns ++ text)
+    all_text = record { tail = text; ends = tail_is; text_is = refl }
+
+    pub all_whole : Wrote mid now text → IsWhole account events old now
     all_whole wrote = record {
       turns = r.turns;
       events_are = all_are;
       played = r.played;
-      wrote = wrote_more old mid now (turns_text start r.turns) (tail_text (length r.turns) (run start r.turns)) r.wrote (subst (Wrote mid now) tail_is wrote);
+      text = front account r.turns ++ text;
+      is_text = all_text;
+      wrote = wrote_more old mid now (front account r.turns) text r.wrote wrote;
     }
 
-    pub all_cut : WrotePrefix mid now text → IsPart events old now
-    all_cut wrote = of_all r.turns all_are r.played (wrote_prefix_after old mid now (turns_text start r.turns) (tail_text (length r.turns) (run start r.turns)) r.wrote (subst (WrotePrefix mid now) tail_is wrote))
+    pub all_cut : WrotePrefix mid now text → IsPart account events old now
+    all_cut wrote = of_all r.turns all_are r.played (front account r.turns ++ text) all_text (wrote_prefix_after old mid now (front account r.turns) text r.wrote wrote)

@@ -5,17 +5,30 @@ use Rattle.store_model.specs.Run.{State, start}
 use Rattle.store_model.specs.Events.{Turn, outcome_of, after, run, events_of}
 use Rattle.store_model.specs.Turns.{IsLawful, AreLawful}
 use Rattle.text_model.specs.Transcript.{event_text, turns_text}
+use Rattle.replay_run.specs.declared.account.Account.{Account}
+use Rattle.replay_run.specs.declared.account.Account.TheVariants.{Transcript, Checked, Summary}
+use Rattle.replay_run.specs.Account.{shown, front}
 use Rattle.replay_run.specs.Replay.{GoesOn, steps_of, AllGoOn, ArePlayed}
 
 pub run_push : (s : State) (ts : List Turn) (t : Turn) → run s (ts ++ t ∷ []) ≡ after (run s ts) t
 run_push s [] t = refl
 run_push s (x ∷ xs) t = run_push (after s x) xs t
 
-pub text_push : (s : State) (ts : List Turn) (t : Turn) → turns_text s (ts ++ t ∷ []) ≡ turns_text s ts ++ event_text t.numbered (outcome_of (run s ts) t)
+text_push : (s : State) (ts : List Turn) (t : Turn) → turns_text s (ts ++ t ∷ []) ≡ turns_text s ts ++ event_text t.numbered (outcome_of (run s ts) t)
 text_push s [] t = append-nil (event_text t.numbered (outcome_of s t))
 text_push s (x ∷ xs) t =
     let here = event_text x.numbered (outcome_of s x) in
     ap (λ w. here ++ w) (text_push (after s x) xs t) ∙ sym (append_assoc here (turns_text (after s x) xs) (event_text t.numbered (outcome_of (run (after s x) xs) t)))
+
+pub front_none : (account : Account) → front account [] ≡ []
+front_none Transcript = refl
+front_none Checked = refl
+front_none (Summary count seed) = refl
+
+pub front_push : (account : Account) (ts : List Turn) (t : Turn) → front account (ts ++ t ∷ []) ≡ front account ts ++ shown account (event_text t.numbered (outcome_of (run start ts) t))
+front_push Transcript ts t = text_push start ts t
+front_push Checked ts t = text_push start ts t
+front_push (Summary count seed) ts t = refl
 
 pub events_push : (ts : List Turn) (t : Turn) → events_of (ts ++ t ∷ []) ≡ events_of ts ++ t.numbered ∷ []
 events_push [] t = refl

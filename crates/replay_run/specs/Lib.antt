@@ -1,3 +1,4 @@
+pub mod Account
 pub mod Replay
 pub mod Turning
 pub mod Stop

@@ -16,7 +16,8 @@ use Rattle.store_model.specs.declared.event.Numbered.{Numbered}
 use Rattle.store_model.specs.Run.{World, State, Outcome, start, delivers}
 use Rattle.store_model.specs.Events.{Turn, events_of, outcome, after, run}
 use Rattle.store_model.specs.Turns.{IsLawful, AreLawful, FitsOutcome}
-use Rattle.text_model.specs.Transcript.{turns_text, transcript}
+use Rattle.replay_run.specs.declared.account.Account.{Account}
+use Rattle.replay_run.specs.Account.{front, IsText}
 
 -- how many bytes the messages of a replay may count that were ever sent
 abbrev pub sent_limit : ℕ
@@ -112,9 +113,9 @@ is_unshown w n = any_unspelled words (rows any_join words (w.nodes n).accepted)
 abbrev pub IsUnshown : State → Type 0
 IsUnshown s = IsTrue (list_any (is_unshown s.world) (range_with_len 1 16))
 
--- how a replay of these events ends, and what is written for it: the whole transcript; or that of the events before the one with the first step after which there is no room, or more was sent than may be, or of all events where a node can't be shown after them, and the line of that limit. Which lawful layouts are given is free
-pub data IsReplay (events : List Numbered) (status : Status) (text : List ℕ) : Type 0 where
-  whole : (turns : List Turn) → events_of turns ≡ events → ArePlayed turns → status ≡ Done → text ≡ transcript turns → IsReplay events status text
-  number : (before : List Turn) → StopsAfter LacksRoom events before → status ≡ Limit → text ≡ turns_text start before ++ number_line → IsReplay events status text
-  sent : (before : List Turn) → StopsAfter SendsTooMuch events before → status ≡ Limit → text ≡ turns_text start before ++ sent_line → IsReplay events status text
-  unshown : (turns : List Turn) → events_of turns ≡ events → ArePlayed turns → IsUnshown (run start turns) → status ≡ Limit → text ≡ turns_text start turns ++ number_line → IsReplay events status text
+-- how a replay of these events ends, and what is written for it: all of its account; or that of the events before the one with the first step after which there is no room, or more was sent than may be, or of all events where a node can't be shown after them, and the line of that limit. Which lawful layouts are given is free
+pub data IsReplay (account : Account) (events : List Numbered) (status : Status) (text : List ℕ) : Type 0 where
+  whole : (turns : List Turn) → events_of turns ≡ events → ArePlayed turns → status ≡ Done → IsText account turns text → IsReplay account events status text
+  number : (before : List Turn) → StopsAfter LacksRoom events before → status ≡ Limit → text ≡ front account before ++ number_line → IsReplay account events status text
+  sent : (before : List Turn) → StopsAfter SendsTooMuch events before → status ≡ Limit → text ≡ front account before ++ sent_line → IsReplay account events status text
+  unshown : (turns : List Turn) → events_of turns ≡ events → ArePlayed turns → IsUnshown (run start turns) → status ≡ Limit → text ≡ front account turns ++ number_line → IsReplay account events status text

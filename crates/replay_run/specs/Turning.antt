@@ -12,11 +12,13 @@ use Rattle.store_model.specs.Acts.{IsLawfulAct}
 use Rattle.store_model.specs.Run.{State, drains}
 use Rattle.store_model.specs.Events.{Turn, act_of, outcome, outcome_of}
 use Rattle.store_model.specs.Turns.{IsLawful}
-use Rattle.text_model.specs.Transcript.{event_text, line_at, tail_text}
+use Rattle.text_model.specs.Transcript.{event_text, line_at}
 use Rattle.s3_world.specs.declared.world.S3World.{S3World}
 use Rattle.s3_world.specs.Stands.{IsStore, Tells}
+use Rattle.replay_run.specs.declared.account.Account.{Account}
 use Rattle.replay_run.specs.declared.stop.ReplayStop.{ReplayStop}
 use Rattle.replay_run.specs.declared.stop.ReplayStop.TheVariants.{Write, Memory, Number, Sent}
+use Rattle.replay_run.specs.Account.{shown, IsLine, IsTail, opening}
 use Rattle.replay_run.specs.Replay.{Step, deliveries, steps_of, GoesOn, SendsTooMuch, LacksRoom, StopsAt, is_unshown, IsUnshown}
 
 -- how many deliveries a drain may have; none for another event
@@ -87,17 +89,17 @@ EventStops old event Memory = ⊤
 EventStops old event Number = (s : State) → IsStore old s → StopsIn LacksRoom s event
 EventStops old event Sent = (s : State) → IsStore old s → StopsIn SendsTooMuch s event
 
--- the event was given something lawful, the store stands for the state after it, the replay goes on, and this is what it tells
-pub record TurnsTo (new : S3World) (s : State) (e : Numbered) (text : List ℕ) : Type 0 where
+-- the event was given something lawful, the store stands for the state after it, the replay goes on, and this is what is written of what it tells
+pub record TurnsTo (account : Account) (new : S3World) (s : State) (e : Numbered) (text : List ℕ) : Type 0 where
   pub choice : Decision
   pub lawful : IsLawful s (turn e choice)
   pub stands : IsStore new (outcome_of s (turn e choice)).state
   pub go_on : AllByRecursion GoesOn (steps_of s e.event choice)
-  pub text_is : text ≡ event_text e (outcome_of s (turn e choice))
+  pub text_is : text ≡ shown account (event_text e (outcome_of s (turn e choice)))
 
 -- whatever state it stood for, it did this event and wrote this
-abbrev pub TurnsOne : S3World → S3World → Numbered → List ℕ → Type 0
-TurnsOne old new e text = (s : State) → IsStore old s → TurnsTo new s e text
+abbrev pub TurnsOne : Account → S3World → S3World → Numbered → List ℕ → Type 0
+TurnsOne account old new e text = (s : State) → IsStore old s → TurnsTo account new s e text
 
 -- whatever state the store stands for, this is the line of node n
 abbrev pub ShowsNode : S3World → ℕ → List ℕ → Type 0
@@ -119,6 +121,14 @@ CannotShowSome store nodes = (s : State) → IsStore store s → IsTrue (list_an
 abbrev pub CannotTell : S3World → Type 0
 CannotTell store = (s : State) → IsStore store s → IsUnshown s
 
--- whatever state the store stands for, this is the tail after so many events
-abbrev pub TellsTail : S3World → ℕ → List ℕ → Type 0
-TellsTail store events text = (s : State) → IsStore store s → text ≡ tail_text events s
+-- whatever state the store stands for, this is the line of a check of it, or nothing where none is asked for
+abbrev pub TellsLine : Account → S3World → List ℕ → Type 0
+TellsLine account store line = (s : State) → IsStore store s → IsLine account s.history line
+
+-- whatever state the store stands for, this is written first of it
+abbrev pub TellsOpening : Account → S3World → List ℕ → Type 0
+TellsOpening account store text = (s : State) → IsStore store s → text ≡ opening account s
+
+-- whatever state the store stands for, this is what is written after so many events
+abbrev pub TellsTail : Account → S3World → ℕ → List ℕ → Type 0
+TellsTail account store events text = (s : State) → IsStore store s → IsTail account events s text

@@ -9,12 +9,16 @@
 //! `every_replay_ends` is the law that a replay of any events has a stated end.
 #![tactic(auto)]
 
+mod account;
+mod check;
 mod laws;
 mod steps;
 mod stop;
+mod summary;
 mod tail;
 mod transcript;
 
+pub use account::Account;
 pub use laws::every_replay_ends;
 pub use stop::ReplayStop;
 pub use transcript::replay;

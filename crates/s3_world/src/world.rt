@@ -163,6 +163,13 @@ impl S3World {
         self.world.undelivered()
     }
 
+    /// How many layout versions were applied.
+    pub fn applied(&self) -> u32
+        ensures { (s : State) → IsStore self.now s → result ≡ s.world.applied }
+    {
+        self.world.applied()
+    }
+
     /// What a node shows of itself, None where it knows no layout version.
     pub fn node_line(&self, node: u8) -> Result<Option<NodeLine>, Memory>
         ensures line { IfOk result (λ line. (s : State) → IsStore self.now s → option_map shown_line line ≡ node_line any_join words layouts s.world node) }

@@ -2,8 +2,9 @@
 //!
 //! `parse` goes line by line. A line is cut at its spaces (`event_line`); its first word says which
 //! event it is (`line_kind`), and the others are numbers (`numbers`), names (`names`), a request's node, bucket and key
-//! (`places`) and roles (`roles`) in their ranges. Empty lines and those that begin with `#` are no events, but count as lines. `every_text_reads` is the
-//! law that each text is a schedule, has a first bad line, or has too many events.
+//! (`places`) and roles (`roles`) in their ranges. Empty lines and those that begin with `#` are no events, but count as
+//! lines. `decimal_number` reads a number as the grammar writes it. `every_text_reads` is the law that each text is a
+//! schedule, has a first bad line, or has too many events.
 #![tactic(auto)]
 
 mod event_line;
@@ -18,5 +19,6 @@ mod schedule;
 
 pub use fault::ScheduleFault;
 pub use laws::every_text_reads;
+pub use numbers::decimal_number;
 pub use schedule::{EVENTS_LIMIT, parse};
 pub use store_model::{Event, Numbered};

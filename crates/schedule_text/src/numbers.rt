@@ -9,7 +9,7 @@ use itoa::Buffer;
 use std::str::from_utf8;
 
 /// The number that a word spells in decimal digits, without a leading zero.
-fn decimal_number(word: &[u8]) -> Option<u64>
+pub fn decimal_number(word: &[u8]) -> Option<u64>
     ensures { Finds (λ n. (word.now ≡ decimal n) × (n < 2 ^ 64)) result }
 {
     let n = from_utf8(word).ok()?.parse::<u64>().ok()?;

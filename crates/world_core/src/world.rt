@@ -142,6 +142,13 @@ impl<S: Schema> World<S> {
         self.requests.len()
     }
 
+    /// How many layout versions were applied.
+    pub fn applied(&self) -> u32
+        ensures { (w : Model S.Row) → StandsFor S.Row.join S.words self.now w → result ≡ w.applied }
+    {
+        self.applied
+    }
+
     /// What a node shows of itself, None where it knows no layout version.
     pub fn node_line(&self, node: u8) -> Result<Option<NodeLine>, Memory>
         ensures line { IfOk result (λ line. (w : Model S.Row) → StandsFor S.Row.join S.words self.now w → option_map shown_line line ≡ node_line S.Row.join S.words layouts w node) }

@@ -1,4 +1,14 @@
+use Rattle.garage_lab.specs.Answer.{ended}
 use Rattle.garage_lab.proofs.run.stopped.Goals as goal
 
+pub returns-in-LongInput-clause-says : goal.returns-in-LongInput-clause-says
+returns-in-LongInput-clause-says g c = ended (rw c.in-LongInput.is c.ends.ensures.says)
+
+pub returns-in-TooManyEvents-clause-says : goal.returns-in-TooManyEvents-clause-says
+returns-in-TooManyEvents-clause-says g c = ended (rw c.in-TooManyEvents.is c.ends-in-TooManyEvents.ensures.says)
+
 pub returns-in-Number-clause-says : goal.returns-in-Number-clause-says
-returns-in-Number-clause-says g c = rw c.in-Number.is c.ends-in-Number.ensures.says
+returns-in-Number-clause-says g c = ended (rw c.in-Number.is c.ends-in-Number.ensures.says)
+
+pub returns-in-Sent-clause-says : goal.returns-in-Sent-clause-says
+returns-in-Sent-clause-says g c = ended (rw c.in-Sent.is c.ends-in-Sent.ensures.says)

@@ -2,7 +2,7 @@ use Rattle.std.proofs.Common.{ap, Err}
 use Rattle.garage_lab.specs.Answer.{input_limit}
 use Rattle.text_model.specs.Reading.{IsSchedule, IsFirstBadLine, HasTooManyEvents}
 use Rattle.garage_lab.proofs.Texts.{of_all}
-use Rattle.garage_lab.proofs.Meant.{schedule_is_meant}
+use Rattle.replay_run.proofs.Meant.{schedule_is_meant}
 use Rattle.garage_lab.proofs.Stops.{bad_line_back, many_events_back}
 use Rattle.garage_lab.proofs.schedule.read_schedule.Goals as goal
 

@@ -11,5 +11,4 @@ returns-in_err-text-clause-causes c =
     wanting c.from_residual-in_err-text.result c.in_err-text.field-0.0 (EventStops c.args.store.now c.args.next.now.event) c.from_residual-in_err-text.ensures.1 tt c.in_err-text.ensures.want
 
 pub returns-clause-turns : goal.returns-clause-turns
-returns-clause-turns c =
-    turns_one c.args.store.now c.takes.new.store c.in_ok-told.told c.args.next.now c.name.result.now c.as_slice.result.now c.in_ok-text.text c.name.ensures c.as_slice.ensures c.in_ok-told.ensures.takes c.in_ok-text.ensures.text
+returns-clause-turns c = turns_one c.args.account c.args.store.now c.takes.new.store c.in_ok-told.told c.args.next.now c.in_ok-text.text c.in_ok-told.ensures.takes c.in_ok-text.ensures.text

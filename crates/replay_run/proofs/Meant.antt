@@ -1,4 +1,4 @@
--- The events of a schedule are meant.
+-- The events of a schedule are meant, as are all that its grammar allows.
 use Rattle.std.specs.Prelude.{IsTrue}
 use Rattle.std.proofs.Common.{◌≡◌, ◌≤◌, ℕ, false, true, length, List, [], ◌∷◌, arith}
 use Rattle.std.specs.List.{All}
@@ -16,7 +16,7 @@ key_has_bytes : (key : List ℕ) → IsTrue (is_key key) → 1 ≤ length key
 key_has_bytes [] h = let no : false ≡ true = h in cc
 key_has_bytes (b ∷ bs) h = omega arith
 
-allowed_is_meant : (e : Event) → IsAllowed e → IsMeantEvent e
+pub allowed_is_meant : (e : Event) → IsAllowed e → IsMeantEvent e
 allowed_is_meant (Role n role) h = (h.0.0, omega arith)
 allowed_is_meant (Redundancy (AtLeast r)) h = h
 allowed_is_meant (Redundancy Maximum) h = tt
