@@ -101,7 +101,7 @@ module _ (cited : Cited) (moves : List Moving) (s : State) (sound : IsSound s) (
       let r = laid.reached in
       let there = reached_stored cited.every s.world r (read question (Some row)) c in
       let all = stored_have (Contains (stored_in moves)) (r.before ++ r.moves)
-          (All-weaker (λ (m : Moving). IsStepOf moves m.step) (λ (m : Moving). All (Contains (stored_in moves)) (stored_by m.step)) (λ m is. is.stores) (r.before ++ r.moves) (reached_are cited.every s.world r)) in
+      (All-weaker (λ (m : Moving). IsStepOf moves m.step) (λ (m : Moving). All (Contains (stored_in moves)) (stored_by m.step)) (λ m is. is.stores) (r.before ++ r.moves) (reached_are cited.every s.world r)) in
       (comes_from_more (stored_in (r.before ++ r.moves)) (stored_in moves) all row there.0, there.1, there.2)
 
   pub shown : (row : AnyRow) → ComesFrom any_join words (stored_in moves) row → Shows (stored_in moves) row
