@@ -100,6 +100,14 @@ pieces_more block body i (suc n) =
     let same : i + suc n ≡ suc i + n = omega arith in
     rw same (ap (piece block body i ++◌) (pieces_more block body (suc i) n) ∙ sym (append_assoc (piece block body i) (pieces block body (suc i) n) (piece block body (suc i + n))))
 
+-- equal lists have equal heads and tails
+parts_same : {A : Type 0} (x y : A) (xs ys : List A) → x ∷ xs ≡ y ∷ ys → (x ≡ y) × (xs ≡ ys)
+parts_same x y xs ys e = (cc, cc)
+
+-- no list is both empty and not
+none_more : {A : Type 0} (x : A) (xs : List A) → [] ≡ x ∷ xs → ⊥
+none_more x xs e = cc
+
 module _ (cited : Cited) (moves : List Moving) (s : State) (q : ℕ) (a : Asked) (at : numbered s.asked q ≡ Some a) (rests : Rests s q) (block : ℕ) (laid : IsLaidIn moves s) where
   -- what there is
   abbrev pub here : Past
@@ -140,11 +148,12 @@ module _ (cited : Cited) (moves : List Moving) (s : State) (q : ℕ) (a : Asked)
   gathers_laid : (aim : Aim) (v : Version) (meta : Meta) (left : List BlockRef) (body : List ℕ) → IsAimOf a aim → (f : IsFound here v meta) (next rest : ℕ) → left ≡ named_pieces f.draw.block f.content.body next rest → next + rest ≡ suc f.last →
       (NoClash here.blocks → body ≡ pieces f.draw.block f.content.body 0 next) → StepLaid [] (gathers q block aim v meta left body)
   gathers_laid aim v meta [] body is f next zero left_is end h = found_laid aim v meta body is (read_whole v meta body f next (omega arith) h)
-  gathers_laid aim v meta [] body is f next (suc rest) left_is end h = (let no : [] ≡ named_piece f.draw.block f.content.body next ∷ named_pieces f.draw.block f.content.body (suc next) rest = left_is in cc)
-  gathers_laid aim v meta (b ∷ left) body is f next zero left_is end h = (let no : b ∷ left ≡ [] = left_is in cc)
+  gathers_laid aim v meta [] body is f next (suc rest) left_is end h = absurd (none_more (named_piece f.draw.block f.content.body next) (named_pieces f.draw.block f.content.body (suc next) rest) left_is)
+  gathers_laid aim v meta (b ∷ left) body is f next zero left_is end h = absurd (none_more b left (sym left_is))
   gathers_laid aim v meta (b ∷ left) body is f next (suc rest) left_is end h =
-      let block_is : b ≡ named_piece f.draw.block f.content.body next = cc in
-      let more : left ≡ named_pieces f.draw.block f.content.body (suc next) rest = cc in
+      let parts = parts_same b (named_piece f.draw.block f.content.body next) left (named_pieces f.draw.block f.content.body (suc next) rest) left_is in
+      let block_is : b ≡ named_piece f.draw.block f.content.body next = parts.0 in
+      let more : left ≡ named_pieces f.draw.block f.content.body (suc next) rest = parts.1 in
       goes [] (Gathering v meta aim left body) (Fetch b.hash)
       (fetches_laid cited moves s q a at rests block laid v meta aim left body b (subst HasHash (sym block_is) (piece_has_hash f.draw.block f.content.body next))
       (record { found = f; next = next; rest = rest; hash_is = ap (λ (x : BlockRef). x.hash.0) block_is; left_is = more; ends = omega arith; body_is = h }))

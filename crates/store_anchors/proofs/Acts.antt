@@ -13,8 +13,8 @@ use Rattle.cluster_machine.specs.Blocks.{StepBringsBlocks}
 use Rattle.cluster_machine.specs.Layouts.{layouts}
 use Rattle.cluster_machine.specs.Node.{Ended}
 use Rattle.cluster_machine.specs.Run.{IsStep}
-use Rattle.cluster_machine.specs.World.{clock, is_member_at, numbered, undelivered}
-use Rattle.cluster_machine.specs.Worlds.{IsMeant, FitAll, run as world_run}
+use Rattle.cluster_machine.specs.World.{empty, forget_delivered, clock, is_member_at, numbered, undelivered}
+use Rattle.cluster_machine.specs.Worlds.{IsMeant, FitAll, installed, run as world_run}
 use Rattle.cluster_machine.specs.declared.step.Step.{Step}
 use Rattle.cluster_machine.specs.declared.step.Step.TheVariants as step
 use Rattle.cluster_machine.specs.declared.step.Refusal.TheVariants.{NotMember, NoSuchBucket}
@@ -32,10 +32,10 @@ use Rattle.flow_model.specs.Rows.{row_key}
 use Rattle.flow_model.specs.Flow.{asks_for, asks_past}
 use Rattle.store_model.specs.Orders.{buckets_of}
 use Rattle.store_model.specs.Run.{Moving, State, start, Asked, Outcome, silent, refusal, plainly, effect, doing, are_buckets, phases, new_request, opened, begins, follows, follow, goes_on, delivers, then_drains, drains, Draw}
-use Rattle.store_model.specs.Events.{IsScheduled, AreScheduled}
 use Rattle.store_model.specs.Acts.{Act, moves, installs, asks, delivery, drain, forgets, takes as takes_end, adds, cuts, acted, after_acts, IsOuter, IsLawfulAct, AreLawfulActs, ActsFit}
 use Rattle.store_laws.specs.Promised.{moves_in}
 use Rattle.store_laws.proofs.Acts.{fit_parts, delivers_keeps, delivers_lead, outer_calm, act_keeps}
+use Rattle.store_laws.proofs.Alike.{alike_same}
 use Rattle.store_laws.proofs.Elements.{none_in, no_entry}
 use Rattle.store_laws.proofs.Enders.{is_calm}
 use Rattle.store_laws.proofs.Ends.{IsEnd}
@@ -68,7 +68,7 @@ use Rattle.store_anchors.proofs.Cited.{Cited}
 use Rattle.store_anchors.proofs.Lines.{Tells, tells_later, tells_none, tells_both, step_whole}
 use Rattle.store_anchors.proofs.Told.{AreApart}
 use Rattle.store_anchors.proofs.Kept.{IsPart, Past, IsRowOf}
-use Rattle.store_anchors.proofs.Laid.{Asks, blocks_first, laid_told, digest, Holds, past, past_after, IsLaidIn}
+use Rattle.store_anchors.proofs.Laid.{Asks, blocks_first, laid_told, digest, Holds, past, past_after, IsLaidIn, laid_forgetting, laid_installing}
 use Rattle.store_anchors.proofs.Steps.{HasGot, calm_got, calm_now, calm_laid, begin_laid, open_laid}
 use Rattle.store_anchors.proofs.Going.{BeginsSo, read_begins, range_begins}
 use Rattle.store_anchors.proofs.Acting.{OutcomeLaid, stage_laid, read_of}
@@ -137,7 +137,7 @@ module _ (cited : Cited) where
       goes_on_laid (ms ++ d ∷ []) (doing s d) (effect s d).ends
       (step_sound s d sound (tt, tt, tt, fits.0.1, tt) (All-nil (IsGood s.draws)) (calm_fine s (effect s d) sound calm)) apart
       (calm_laid cited ms s d tt refl tt tt tt tt (fits.0, tt) laid)
-      (calm_ends s (effect s d) sound calm) (calm_got cited ms s d (calm_now cited ms s d tt laid) laid) fits.1 in (
+      (calm_ends s (effect s d) sound calm) (calm_got cited ms s d (tt, tt, tt, fits.0.1, tt) (calm_now cited ms s d tt laid) laid) fits.1 in (
         joined ms (d ∷ []) o.moves o.state rest.0,
         tells_both (past (ms ++ d ∷ o.moves) o.state.world o.state.draws) (effect s d).tells o.lines (step_whole (past (ms ++ d ∷ o.moves) o.state.world o.state.draws) s d) (told_joined ms (d ∷ []) o.moves o rest.1),
       )
@@ -246,30 +246,34 @@ module _ (cited : Cited) where
   endings_superseded (step.Restart n) e q id c = none_superseded Restarted (λ id e. cc) e.lost q id c
   endings_superseded _ e q id c = none_in _ c
 
-  pub act_laid : (ms : List Moving) (s : State) (a : Act) → IsScheduled a → IsLawfulAct s a → FitAll any_join words s.world (acted s a).moves → IsSound s → IsOnceIn s → IsLaidIn ms s → OutcomeLaid ms (acted s a)
-  act_laid ms s (moves m) scheduled lawful fits sound once laid =
+  pub act_laid : (ms : List Moving) (s : State) (a : Act) → IsLawfulAct s a → FitAll any_join words s.world (acted s a).moves → IsSound s → IsOnceIn s → IsLaidIn ms s → OutcomeLaid ms (acted s a)
+  act_laid ms s (moves m) lawful fits sound once laid =
       let calm = outer_calm cited.every m.step lawful.0 in
       let now : IsLaidIn (ms ++ m ∷ []) (doing s m) = calm_laid cited ms s m calm.0 calm.2 (outer_brings m.step lawful.0) lawful.1 calm.1 lawful.2 fits laid in (
         laid_told (ms ++ m ∷ []) (doing s m).world s.asked s.draws s.history (endings m.step (effect s m)) (λ q id c. absurd (endings_superseded m.step (effect s m) q id c)) now,
         step_whole (past (ms ++ m ∷ []) (doing s m).world s.draws) s m,
       )
-  act_laid ms s (asks n o) scheduled lawful fits sound once laid = begins_laid ms s n o fits sound laid
-  act_laid ms s (delivery m) scheduled lawful fits sound once laid = delivers_laid ms s m fits sound (draws_apart s sound once) laid
-  act_laid ms s (drain n) scheduled lawful fits sound once laid = drains_laid n ms s fits sound once laid
-  act_laid ms s (installs first) scheduled lawful fits sound once laid = absurd scheduled
-  act_laid ms s forgets scheduled lawful fits sound once laid = absurd scheduled
-  act_laid ms s (takes_end q) scheduled lawful fits sound once laid = (nothing_laid ms s laid, tells_none (past (ms ++ []) s.world s.draws))
-  act_laid ms s (adds name) scheduled lawful fits sound once laid = (nothing_laid ms s laid, tells_none (past (ms ++ []) s.world s.draws))
-  act_laid ms s (cuts block) scheduled lawful fits sound once laid = (nothing_laid ms s laid, tells_none (past (ms ++ []) s.world s.draws))
+  act_laid ms s (asks n o) lawful fits sound once laid = begins_laid ms s n o fits sound laid
+  act_laid ms s (delivery m) lawful fits sound once laid = delivers_laid ms s m fits sound (draws_apart s sound once) laid
+  act_laid ms s (drain n) lawful fits sound once laid = drains_laid n ms s fits sound once laid
+  act_laid ms s (installs first) lawful fits sound once laid =
+      let now : State = record s { world = installed any_join words s.world first } in
+      (nothing_laid ms now (laid_installing ms s first lawful.0 lawful.1 laid), tells_none (past (ms ++ []) now.world s.draws))
+  act_laid ms s forgets lawful fits sound once laid =
+      let now : State = record s { world = forget_delivered s.world } in
+      (nothing_laid ms now (laid_forgetting ms s laid), tells_none (past (ms ++ []) now.world s.draws))
+  act_laid ms s (takes_end q) lawful fits sound once laid = (nothing_laid ms s laid, tells_none (past (ms ++ []) s.world s.draws))
+  act_laid ms s (adds name) lawful fits sound once laid = (nothing_laid ms s laid, tells_none (past (ms ++ []) s.world s.draws))
+  act_laid ms s (cuts block) lawful fits sound once laid = (nothing_laid ms s laid, tells_none (past (ms ++ []) s.world s.draws))
 
-  acts_held : (ms : List Moving) (s : State) (as' : List Act) → AreScheduled as' → AreLawfulActs s as' → ActsFit s as' → IsHeld ms s →
+  acts_held : (ms : List Moving) (s : State) (as' : List Act) → AreLawfulActs s as' → ActsFit s as' → IsHeld ms s →
       IsHeld (ms ++ moves_in s as') (after_acts s as') × Tells (past (ms ++ moves_in s as') (after_acts s as').world (after_acts s as').draws) (lines_told s as')
-  acts_held ms s [] scheduled lawful fit h = (record { sound = h.sound; once = h.once; laid = nothing_laid ms s h.laid }, tells_none (past (ms ++ []) s.world s.draws))
-  acts_held ms s (a ∷ as') scheduled lawful fit h =
+  acts_held ms s [] lawful fit h = (record { sound = h.sound; once = h.once; laid = nothing_laid ms s h.laid }, tells_none (past (ms ++ []) s.world s.draws))
+  acts_held ms s (a ∷ as') lawful fit h =
       let o : Outcome = acted s a in
       let end : State = after_acts o.state as' in
-      let one : OutcomeLaid ms o = act_laid ms s a scheduled.0 lawful.0 fit.0 h.sound h.once h.laid in
-      let more = acts_held (ms ++ o.moves) o.state as' scheduled.1 lawful.1 fit.1 (record { sound = act_keeps cited.every s a lawful.0 fit.0 h.sound; once = act_once s a h.sound h.once; laid = one.0 }) in
+      let one : OutcomeLaid ms o = act_laid ms s a lawful.0 fit.0 h.sound h.once h.laid in
+      let more = acts_held (ms ++ o.moves) o.state as' lawful.1 fit.1 (record { sound = act_keeps cited.every s a lawful.0 fit.0 h.sound; once = act_once s a h.sound h.once; laid = one.0 }) in
       let rest : List Moving = moves_in o.state as' in (
         subst (λ k. IsHeld k end) (append_assoc ms o.moves rest) more.0,
         tells_both (past (ms ++ (o.moves ++ rest)) end.world end.draws) o.lines (lines_told o.state as') (first_told ms o rest end.world end.draws (acts_grow o.state as') one.1)
@@ -279,9 +283,7 @@ module _ (cited : Cited) where
   pub start_laid : IsLaidIn [] start
   start_laid = record {
     room = lit< tt;
-    lawful = tt;
-    is = refl;
-    brings = All-nil _;
+    reached = record { before = []; begin = empty; begun = inl (refl, refl); moves = []; lawful = tt; alike = alike_same empty; before_are = All-nil _; are = All-nil _ };
     stored = All-nil _;
     kept = λ r c. absurd (none_in r c);
     stages = λ q a flow at is. absurd (no_entry q a at);
@@ -289,12 +291,12 @@ module _ (cited : Cited) where
     superseded = λ q id c. absurd (none_in _ c);
   }
 
-  all_held : (as' : List Act) → AreScheduled as' → AreLawfulActs start as' → ActsFit start as' → IsHeld (moves_in start as') (after_acts start as') × Tells (past (moves_in start as') (after_acts start as').world (after_acts start as').draws) (lines_told start as')
-  all_held as' scheduled lawful fit = acts_held [] start as' scheduled lawful fit (record { sound = start_sound; once = start_once; laid = start_laid })
+  all_held : (as' : List Act) → AreLawfulActs start as' → ActsFit start as' → IsHeld (moves_in start as') (after_acts start as') × Tells (past (moves_in start as') (after_acts start as').world (after_acts start as').draws) (lines_told start as')
+  all_held as' lawful fit = acts_held [] start as' lawful fit (record { sound = start_sound; once = start_once; laid = start_laid })
 
-  pub held : (as' : List Act) → AreScheduled as' → AreLawfulActs start as' → ActsFit start as' → IsHeld (moves_in start as') (after_acts start as')
-  held as' scheduled lawful fit = (all_held as' scheduled lawful fit).0
+  pub held : (as' : List Act) → AreLawfulActs start as' → ActsFit start as' → IsHeld (moves_in start as') (after_acts start as')
+  held as' lawful fit = (all_held as' lawful fit).0
 
   -- the lines of acts tell of whole versions
-  pub told : (as' : List Act) → AreScheduled as' → AreLawfulActs start as' → ActsFit start as' → Tells (past (moves_in start as') (after_acts start as').world (after_acts start as').draws) (lines_told start as')
-  told as' scheduled lawful fit = (all_held as' scheduled lawful fit).1
+  pub told : (as' : List Act) → AreLawfulActs start as' → ActsFit start as' → Tells (past (moves_in start as') (after_acts start as').world (after_acts start as').draws) (lines_told start as')
+  told as' lawful fit = (all_held as' lawful fit).1

@@ -3,7 +3,7 @@ use Rattle.std.proofs.lemmas.Bool.{eq-eqb}
 use Rattle.std.specs.Prelude.{◌≡◌, nat_eq, ◌||◌, ℕ, Bool, true, false, cond, Option, Some, None, List, [], ◌∷◌, length, refl}
 use Rattle.std.proofs.Common.{ap, subst, ◌∙◌, inl, inr, arith}
 use Rattle.std.specs.List.{All, Contains}
-use Rattle.std.proofs.lemmas.List.Elements.{All-nil, All-cons, All-head, All-tail, Contains-append_left, Contains-append_right}
+use Rattle.std.proofs.lemmas.List.Elements.{All-nil, All-cons, All-head, All-tail, All-weaker}
 use Rattle.crdt_core.specs.EntryLaws.{and_both}
 use Rattle.crdt_rows.specs.declared.any_row.AnyRow.{AnyRow}
 use Rattle.object_schema.specs.Schema.{words}
@@ -17,7 +17,7 @@ use Rattle.store_laws.proofs.Elements.{cons_cases, bucket_in, there, none_in}
 use Rattle.store_laws.proofs.Objects.{digest_length}
 use Rattle.store_anchors.specs.Stored.{blocks_beside, blocks_by, blocks_of}
 use Rattle.store_anchors.proofs.Kept.{IsPart}
-use Rattle.store_anchors.proofs.Laid.{digest}
+use Rattle.store_anchors.proofs.Laid.{digest, IsStepOf}
 
 -- a digest that no other bytes have
 abbrev pub digest_among : List (List ℕ) → List ℕ → List ℕ
@@ -74,9 +74,6 @@ step_among blocks (step.Phase q (Store rs)) part h = rows_among blocks rs part h
 step_among blocks (step.Phase q _) part h = tt
 step_among blocks _ part h = tt
 
-pub steps_among : (blocks : List (List ℕ)) (moves : List Moving) → IsPart (blocks_of moves) blocks → All (λ (m : Moving). StepBringsBlocks digest words m.step) moves → All (λ (m : Moving). StepBringsBlocks (digest_among blocks) words m.step) moves
-steps_among blocks [] part h = All-nil _
-steps_among blocks (m ∷ ms) part h =
-    All-cons (λ (m : Moving). StepBringsBlocks (digest_among blocks) words m.step) m ms
-    (step_among blocks m.step (λ b c. part b (Contains-append_left (blocks_by m.step) (blocks_of ms) b c)) (All-head (λ (m : Moving). StepBringsBlocks digest words m.step) m ms h))
-    (steps_among blocks ms (λ b c. part b (Contains-append_right (blocks_by m.step) (blocks_of ms) b c)) (All-tail (λ (m : Moving). StepBringsBlocks digest words m.step) m ms h))
+pub steps_among : (moves others : List Moving) → All (λ (m : Moving). IsStepOf moves m.step) others → All (λ (m : Moving). StepBringsBlocks (digest_among (blocks_of moves)) words m.step) others
+steps_among moves others are =
+    All-weaker (λ (m : Moving). IsStepOf moves m.step) (λ (m : Moving). StepBringsBlocks (digest_among (blocks_of moves)) words m.step) (λ m is. step_among (blocks_of moves) m.step is.blocks is.brings) others are

@@ -21,7 +21,8 @@ use Rattle.cluster_machine.specs.Layouts.{Layouts, layouts}
 use Rattle.cluster_machine.specs.Node.{Block}
 use Rattle.cluster_machine.specs.Rows.{same_bytes as alike, block_at}
 use Rattle.cluster_machine.specs.Run.{Move, IsLayout, IsRun, run as machine_run}
-use Rattle.cluster_machine.specs.Trio.{trio, stage_trio}
+use Rattle.cluster_machine.specs.Worlds.{run}
+use Rattle.cluster_machine.specs.declared.step.Step.TheVariants as step
 use Rattle.cluster_machine.specs.World.{empty}
 use Rattle.machine_origins.specs.Origins.{stored_by, stored_in}
 use Rattle.machine_origins.proofs.ByOrigin.{stored_have}
@@ -32,17 +33,15 @@ use Rattle.flow_model.specs.declared.flow.Content.{Content}
 use Rattle.flow_model.specs.Blocks.{piece, piece_hash}
 use Rattle.flow_model.specs.Rows.{complete}
 use Rattle.store_model.specs.Run.{World, Moving, State, start, Draw}
-use Rattle.store_model.specs.Events.{AreScheduled}
 use Rattle.store_model.specs.Acts.{Act, after_acts, AreLawfulActs, ActsFit}
 use Rattle.store_laws.specs.Promised.{moves_in, IsOverwritten, IsUndeleted, WasKept, IsAnchoredAt, IsAnchored}
 use Rattle.store_laws.proofs.Elements.{same_bytes, there}
 use Rattle.store_laws.proofs.Enders.{source_writes}
-use Rattle.world_laws.proofs.Sets.{first_is_layout}
-use Rattle.world_laws.proofs.TrioGreatest.{trio_is_first}
-use Rattle.world_reads.proofs.Lawful.{lawful_is_run, same_run}
+use Rattle.store_laws.proofs.Sound.{IsReachedBy}
 use Rattle.store_anchors.specs.Stored.{blocks_of, BlocksDiffer}
 use Rattle.store_anchors.proofs.Kept.{Past, HasPiece, HasAll, IsLong, IsRowOf, row_deletes_nothing}
-use Rattle.store_anchors.proofs.Laid.{past}
+use Rattle.store_anchors.proofs.Laid.{past, IsStepOf, still_of}
+use Rattle.store_anchors.proofs.Machine.{IsEndOf, end_of}
 use Rattle.store_anchors.proofs.Acts.{IsHeld, held}
 use Rattle.store_anchors.proofs.Among.{digest_among, digest_there, steps_among}
 use Rattle.store_anchors.proofs.Cited.{Cited}
@@ -70,7 +69,7 @@ References = (digest : List ℕ → List ℕ) (k : Layouts Layout) (trio : Layou
     ¬ (Newer (stored_in moves) key v) → ¬ (WasStored (stored_in moves) key v Aborted) →
     AreTwo (Anchors digest (machine_run any_join words k trio trio_roles empty moves) r)
 
-module _ (cited : Cited) (references : References) (acts : List Act) (scheduled : AreScheduled acts) (lawful : AreLawfulActs start acts) (fit : ActsFit start acts) where
+module _ (cited : Cited) (references : References) (acts : List Act) (lawful : AreLawfulActs start acts) (fit : ActsFit start acts) where
   abbrev s : State
   s = after_acts start acts
 
@@ -81,7 +80,7 @@ module _ (cited : Cited) (references : References) (acts : List Act) (scheduled 
   p = past ms s.world s.draws
 
   now : IsHeld ms s
-  now = held cited acts scheduled lawful fit
+  now = held cited acts lawful fit
 
   apart : AreApart s.draws
   apart d e c k same = now.once.one d e c k (sym (now.sound.drawn d c).id_is ∙ (same ∙ (now.sound.drawn e k).id_is))
@@ -101,8 +100,19 @@ module _ (cited : Cited) (references : References) (acts : List Act) (scheduled 
   each_stored : (r : AnyRow) → Contains (stored_in ms) r → IsRowOf p r
   each_stored r c = All-contains (IsRowOf p) (stored_in ms) r all_stored c
 
-  overwritten : (d : Draw) → Newer (stored_in ms) (digest_of d.name.bucket, d.name.key) d.version → IsOverwritten acts d.name d.version
-  overwritten d newer = let a = above_of p (stored_in ms) each_stored d newer in record { newer = a.0; block = a.1; wished = a.2; above = a.3; was_stored = a.4 }
+  reached : IsReachedBy (IsStepOf ms) s.world
+  reached = now.laid.reached
+
+  -- the rows of the run of the machine are among them
+  come_from : {v : World} (ends : IsEndOf (IsStepOf ms) v) (r : AnyRow) → Contains (stored_in ends.moves) r → Contains (stored_in ms) r
+  come_from ends r c =
+      All-contains (Contains (stored_in ms)) (stored_in ends.moves) r (stored_have (Contains (stored_in ms)) ends.moves
+      (All-weaker (λ (m : Moving). IsStepOf ms m.step) (λ (m : Moving). All (Contains (stored_in ms)) (stored_by m.step)) (λ m is. is.stores) ends.moves ends.are)) c
+
+  overwritten : {v : World} (ends : IsEndOf (IsStepOf ms) v) (d : Draw) → Newer (stored_in ends.moves) (digest_of d.name.bucket, d.name.key) d.version → IsOverwritten acts d.name d.version
+  overwritten ends d newer =
+      let a = above_of p (stored_in ends.moves) (λ r c. each_stored r (come_from ends r c)) d newer in
+      record { newer = a.0; block = a.1; wished = a.2; above = a.3; was_stored = come_from ends _ a.4 }
 
   module _ (differ : BlocksDiffer acts) where
     abbrev named : List ℕ → List ℕ
@@ -111,15 +121,19 @@ module _ (cited : Cited) (references : References) (acts : List Act) (scheduled 
     anchored_at : (d : Draw) (c : Content) (i : ℕ) → Contains s.draws d → HasPiece p d.version.id d.block c.body i → IsUndeleted acts d.name d.version → IsAnchoredAt s.world d.version.id d.block c.body i
     anchored_at d c i drawn has fresh =
         let r : RefRow = record { hash = piece_hash d.block c.body i; id = d.version.id; deleted = record { 0 = false } } in
-        let empty_sound = cited.every.from_empty.is_sound [] tt in
-        let is_run = lawful_is_run any_join words empty ms empty_sound now.laid.lawful in
-        let world_is : s.world ≡ machine_run any_join words layouts trio stage_trio empty ms = now.laid.is ∙ sym (same_run any_join words empty ms) in
-        let two : AreTwo (Anchors named (machine_run any_join words layouts trio stage_trio empty ms) r) =
-        references named layouts trio stage_trio 256 ms (drawn_as s.draws) (lit≤ tt) (first_is_layout trio trio_is_first) refl is_run (steps_among (blocks_of ms) ms (λ b c. c) now.laid.brings)
-        (All-weaker (λ (m : Moving). All (IsRowOf p) (stored_by m.step)) (λ (m : Moving). All (λ r. deletes_nothing r ≡ true) (stored_by m.step)) (λ m h. All-weaker (IsRowOf p) (λ r. deletes_nothing r ≡ true) (row_deletes_nothing p) (stored_by m.step) h) ms now.laid.stored)
-        (are_drawn p (stored_in ms) each_stored apart) r refl (subst (λ (w : World). Contains w.kept (rows.Ref r)) world_is has.refers)
-        (digest_of d.name.bucket, d.name.key) d.version (drawn_there s.draws apart d drawn) (λ newer. fresh (overwritten d newer)) (none_aborted p (stored_in ms) each_stored (digest_of d.name.bucket, d.name.key) d.version) in
-        let one : Anchors named s.world r two.one = subst (λ (w : World). Anchors named w r two.one) (sym world_is) two.one_is in
+        let v : World = run any_join words reached.begin reached.moves in
+        let ends : IsEndOf (IsStepOf ms) v = end_of cited.every s.world reached (still_of ms step.Trio tt refl refl) in
+        let stored : List AnyRow = stored_in ends.moves in
+        let each : (r : AnyRow) → Contains stored r → IsRowOf p r = λ r c. each_stored r (come_from ends r c) in
+        let two : AreTwo (Anchors named v r) =
+        subst (λ (w : World). AreTwo (Anchors named w r)) ends.leads
+        (references named layouts ends.first ends.roles 256 ends.moves (drawn_as s.draws) (lit≤ tt) ends.is_layout ends.version ends.is_run (steps_among ms ends.moves ends.are)
+        (All-weaker (λ (m : Moving). IsStepOf ms m.step) (λ (m : Moving). All (λ r. deletes_nothing r ≡ true) (stored_by m.step))
+        (λ m is. All-weaker (Contains (stored_in ms)) (λ r. deletes_nothing r ≡ true) (λ r c. row_deletes_nothing p r (each_stored r c)) (stored_by m.step) is.stores) ends.moves ends.are)
+        (are_drawn p stored each apart) r refl (subst (λ (w : World). Contains w.kept (rows.Ref r)) (sym ends.leads) (subst (λ (w : World). Contains w.kept (rows.Ref r)) reached.alike.is has.refers))
+        (digest_of d.name.bucket, d.name.key) d.version (drawn_there s.draws apart d drawn) (λ newer. fresh (overwritten ends d newer)) (none_aborted p stored each (digest_of d.name.bucket, d.name.key) d.version)) in
+        let at_v : Anchors named v r two.one = two.one_is in
+        let one : Anchors named s.world r two.one = subst (λ (w : World). Anchors named w r two.one) (sym reached.alike.is) (record { reference = at_v.reference; block = at_v.block }) in
         let block = block_there named (s.world.nodes two.one).blocks (piece_hash d.block c.body i).0 one.block in
         let told = digest_there (blocks_of ms) block.0 (piece d.block c.body i) block.2 in
         let bytes_are : block.0 ≡ piece d.block c.body i = differ block.0 (piece d.block c.body i) told.0 has.bytes told.1 in

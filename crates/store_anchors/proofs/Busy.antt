@@ -40,7 +40,6 @@ use Rattle.flow_model.specs.Next.{drawn, stores, more, found, looked, reads_on, 
 use Rattle.flow_laws.specs.Pieces.{named_pieces}
 use Rattle.store_model.specs.Orders.{buckets_of}
 use Rattle.store_model.specs.Run.{Moving, State, start, Asked, Draw, Outcome, silent, refusal, plainly, effect, doing, are_buckets, opened as opens_request, begins, draws_of, takes, follows, follow, goes_on, delivers, then_drains, drains}
-use Rattle.store_model.specs.Events.{IsScheduled, AreScheduled}
 use Rattle.store_model.specs.Acts.{Act, moves, installs, asks, delivery, drain, forgets, takes as takes_end, adds, cuts, acted, after_acts, IsLawfulAct, AreLawfulActs, ActsFit}
 use Rattle.store_laws.specs.Promised.{GoesOn}
 use Rattle.store_laws.proofs.Acts.{fit_parts, delivers_keeps, delivers_lead, act_keeps}
@@ -59,7 +58,7 @@ use Rattle.store_anchors.proofs.Cited.{Cited}
 use Rattle.store_anchors.proofs.Kept.{AsksNames}
 use Rattle.store_anchors.proofs.Laid.{past, IsLaidIn}
 use Rattle.store_anchors.proofs.Naming.{named}
-use Rattle.store_anchors.proofs.Placed.{OnlyRest, AreBusy, ArePlaced, heard, kept_outer, open_kept, begin_kept, close_kept}
+use Rattle.store_anchors.proofs.Placed.{OnlyRest, AreBusy, ArePlaced, heard, kept_installing, kept_outer, open_kept, begin_kept, close_kept}
 use Rattle.store_anchors.proofs.Staying.{FirstEnded}
 use Rattle.store_anchors.proofs.Steps.{HasGot, calm_got, calm_now, calm_laid, laid_different}
 use Rattle.store_anchors.proofs.Told.{AreApart}
@@ -177,7 +176,7 @@ module _ (cited : Cited) where
       let h = heard s.world busy.placed busy.rests (laid_different cited ms s laid) m in
       goes_on_busy (ms ++ d ∷ []) (doing s d) calm.node e.ends
       (step_sound s d sound (tt, tt, tt, fits.0.1, tt) (All-nil (IsGood s.draws)) (calm_fine s e sound calm)) apart
-      (calm_laid cited ms s d tt refl tt tt tt tt (fits.0, tt) laid) waits (calm_got cited ms s d (calm_now cited ms s d tt laid) laid) h.places h.rests
+      (calm_laid cited ms s d tt refl tt tt tt tt (fits.0, tt) laid) waits (calm_got cited ms s d (tt, tt, tt, fits.0.1, tt) (calm_now cited ms s d tt laid) laid) h.places h.rests
 
   drains_busy : (n : ℕ) (ms : List Moving) (s : State) → FitAll any_join words s.world (drains n s).moves → IsSound s → IsOnceIn s → IsLaidIn ms s → IsBusy s → IsBusy (drains n s).state
   drains_busy zero ms s fits sound once laid busy = busy
@@ -214,25 +213,25 @@ module _ (cited : Cited) where
         | false ↦ λ member. record { placed = busy.placed; rests = busy.rests }
       ] refl
 
-  act_busy : (ms : List Moving) (s : State) (a : Act) → IsScheduled a → IsLawfulAct s a → FitAll any_join words s.world (acted s a).moves → IsHeld ms s → IsBusy s → IsBusy (acted s a).state
-  act_busy ms s (moves m) scheduled lawful fits h busy = let k = kept_outer s.world busy.placed (λ q. ⊥) busy.rests (λ q x. x) m.step m.choice lawful.0 in record { placed = k.places; rests = k.rests }
-  act_busy ms s (asks n o) scheduled lawful fits h busy = begins_busy s n o busy
-  act_busy ms s (delivery m) scheduled lawful fits h busy = delivers_busy ms s m fits h.sound (draws_apart s h.sound h.once) h.laid busy
-  act_busy ms s (drain n) scheduled lawful fits h busy = drains_busy n ms s fits h.sound h.once h.laid busy
-  act_busy ms s (installs first) scheduled lawful fits h busy = absurd scheduled
-  act_busy ms s forgets scheduled lawful fits h busy = absurd scheduled
-  act_busy ms s (takes_end q) scheduled lawful fits h busy = record { placed = busy.placed; rests = busy.rests }
-  act_busy ms s (adds name) scheduled lawful fits h busy = record { placed = busy.placed; rests = busy.rests }
-  act_busy ms s (cuts block) scheduled lawful fits h busy = record { placed = busy.placed; rests = busy.rests }
+  act_busy : (ms : List Moving) (s : State) (a : Act) → IsLawfulAct s a → FitAll any_join words s.world (acted s a).moves → IsHeld ms s → IsBusy s → IsBusy (acted s a).state
+  act_busy ms s (moves m) lawful fits h busy = let k = kept_outer s.world busy.placed (λ q. ⊥) busy.rests (λ q x. x) m.step m.choice lawful.0 in record { placed = k.places; rests = k.rests }
+  act_busy ms s (asks n o) lawful fits h busy = begins_busy s n o busy
+  act_busy ms s (delivery m) lawful fits h busy = delivers_busy ms s m fits h.sound (draws_apart s h.sound h.once) h.laid busy
+  act_busy ms s (drain n) lawful fits h busy = drains_busy n ms s fits h.sound h.once h.laid busy
+  act_busy ms s (installs first) lawful fits h busy = let k = kept_installing s.world busy.placed (λ q. ⊥) busy.rests (λ q x. x) first (λ roles. roles) in record { placed = k.places; rests = k.rests }
+  act_busy ms s forgets lawful fits h busy = record { placed = busy.placed; rests = busy.rests }
+  act_busy ms s (takes_end q) lawful fits h busy = record { placed = busy.placed; rests = busy.rests }
+  act_busy ms s (adds name) lawful fits h busy = record { placed = busy.placed; rests = busy.rests }
+  act_busy ms s (cuts block) lawful fits h busy = record { placed = busy.placed; rests = busy.rests }
 
-  acts_busy : (ms : List Moving) (s : State) (as' : List Act) → AreScheduled as' → AreLawfulActs s as' → ActsFit s as' → IsHeld ms s → IsBusy s → IsBusy (after_acts s as')
-  acts_busy ms s [] scheduled lawful fit h busy = busy
-  acts_busy ms s (a ∷ as') scheduled lawful fit h busy =
+  acts_busy : (ms : List Moving) (s : State) (as' : List Act) → AreLawfulActs s as' → ActsFit s as' → IsHeld ms s → IsBusy s → IsBusy (after_acts s as')
+  acts_busy ms s [] lawful fit h busy = busy
+  acts_busy ms s (a ∷ as') lawful fit h busy =
       let o : Outcome = acted s a in
-      let one : OutcomeLaid ms o = act_laid cited ms s a scheduled.0 lawful.0 fit.0 h.sound h.once h.laid in
-      acts_busy (ms ++ o.moves) o.state as' scheduled.1 lawful.1 fit.1 (record { sound = act_keeps cited.every s a lawful.0 fit.0 h.sound; once = act_once s a h.sound h.once; laid = one.0 }) (act_busy ms s a scheduled.0 lawful.0 fit.0 h busy)
+      let one : OutcomeLaid ms o = act_laid cited ms s a lawful.0 fit.0 h.sound h.once h.laid in
+      acts_busy (ms ++ o.moves) o.state as' lawful.1 fit.1 (record { sound = act_keeps cited.every s a lawful.0 fit.0 h.sound; once = act_once s a h.sound h.once; laid = one.0 }) (act_busy ms s a lawful.0 fit.0 h busy)
 
   -- no request rests after acts
-  pub goes_on_always : (as' : List Act) → AreScheduled as' → AreLawfulActs start as' → ActsFit start as' → GoesOn (after_acts start as')
-  goes_on_always as' scheduled lawful fit n c h is =
-      (acts_busy [] start as' scheduled lawful fit (record { sound = start_sound; once = start_once; laid = start_laid cited }) (record { placed = λ n c h. absurd h; rests = λ n c h is. absurd h })).rests n c h is
+  pub goes_on_always : (as' : List Act) → AreLawfulActs start as' → ActsFit start as' → GoesOn (after_acts start as')
+  goes_on_always as' lawful fit n c h is =
+      (acts_busy [] start as' lawful fit (record { sound = start_sound; once = start_once; laid = start_laid cited }) (record { placed = λ n c h. absurd h; rests = λ n c h is. absurd h })).rests n c h is

@@ -14,7 +14,8 @@ use Rattle.cluster_machine.specs.Blocks.{StepBringsBlocks}
 use Rattle.cluster_machine.specs.Layouts.{layouts}
 use Rattle.cluster_machine.specs.Node.{Ended}
 use Rattle.cluster_machine.specs.Run.{IsRun, does, run}
-use Rattle.cluster_machine.specs.Trio.{trio, stage_trio}
+use Rattle.layout_roles.specs.declared.layout.Layout.{Layout}
+use Rattle.layout_roles.specs.declared.role.Role.{Role}
 use Rattle.cluster_machine.specs.World.{empty}
 use Rattle.machine_origins.specs.Origins.{ComesFrom}
 use Rattle.object_origins.specs.Gone.{WasStored, IsOverwritten, IsGone, AreDrawn, deletes_nothing}
@@ -25,8 +26,8 @@ use Rattle.store_laws.proofs.Every.{EveryWorld}
 -- worlds are sound, and reads give what was kept, and only what was stored; block phases give their blocks; rows show what was stored; a version that is gone was overwritten or aborted; and version rows merge so
 pub record Cited : Type 0 where
   pub every : EveryWorld
-  pub gives : (digest : List ℕ → List ℕ) (moves : List Moving) (m : Moving) → IsRun any_join words layouts trio stage_trio 256 empty moves → All (λ (m : Moving). StepBringsBlocks digest words m.step) moves →
-      (e : Ended AnyRow) → Contains (does any_join words layouts trio stage_trio (run any_join words layouts trio stage_trio empty moves) m).ends e → GaveItsBlock digest (run any_join words layouts trio stage_trio empty moves) e
+  pub gives : (digest : List ℕ → List ℕ) (trio : Layout) (roles : List Role → List Role) (moves : List Moving) (m : Moving) → IsRun any_join words layouts trio roles 256 empty moves → All (λ (m : Moving). StepBringsBlocks digest words m.step) moves →
+      (e : Ended AnyRow) → Contains (does any_join words layouts trio roles (run any_join words layouts trio roles empty moves) m).ends e → GaveItsBlock digest (run any_join words layouts trio roles empty moves) e
   pub shows : (stored : List AnyRow) (row : AnyRow) → All (λ r. deletes_nothing r ≡ true) stored → ComesFrom any_join words stored row → Shows stored row
   pub overwritten : (stored : List AnyRow) (draw : ℕ → Option ((Hash32 × List ℕ) × Version)) → AreDrawn stored draw →
       (id : ℕ) (key : Hash32 × List ℕ) (v : Version) → draw id ≡ Some (key, v) → IsGone stored id → IsOverwritten stored key v ⊎ WasStored stored key v Aborted

@@ -1,9 +1,9 @@
 -- The invariant: what was stored, what is kept of versions' blocks, and what requests wait for.
-use Rattle.std.specs.Prelude.{◌≡◌, ◌<◌, ◌^◌, ℕ, suc, ◌-◌, true, Option, Some, List, [], ◌∷◌, ◌++◌, length, slice_set, ⊤, zero}
-use Rattle.std.proofs.Common.{ap, sym, subst, ◌∙◌, inl, inr}
+use Rattle.std.specs.Prelude.{◌≡◌, ◌<◌, ◌^◌, ℕ, suc, ◌-◌, true, Option, Some, List, [], ◌∷◌, ◌++◌, length, slice_set, ⊤, zero, refl, None, false, cond}
+use Rattle.std.proofs.Common.{ap, sym, subst, ◌∙◌, inl, inr, arith}
 use Rattle.std.specs.List.{All, Contains}
 use Rattle.std.proofs.lemmas.List.{append-nil, append_assoc}
-use Rattle.std.proofs.lemmas.List.Elements.{All-push, All-weaker, Contains-append_cases, Contains-append_right, Contains-append_left}
+use Rattle.std.proofs.lemmas.List.Elements.{All-nil, All-cons, All-push, All-weaker, Contains-append_cases, Contains-append_right, Contains-append_left}
 use Rattle.blake2_hash.specs.Blake2b.{blake2b}
 use Rattle.crdt_core.specs.Members.{Has}
 use Rattle.crdt_rows.specs.declared.version.Version.{Version}
@@ -11,13 +11,22 @@ use Rattle.crdt_rows.specs.declared.any_row.AnyRow.{AnyRow}
 use Rattle.crdt_rows.specs.AnyRow.{any_join}
 use Rattle.object_schema.specs.Schema.{words}
 use Rattle.cluster_machine.specs.Blocks.{StepBringsBlocks}
-use Rattle.cluster_machine.specs.Node.{Present, resting, asking, scanning, storing, fetching, Call, Question}
-use Rattle.cluster_machine.specs.World.{empty, numbered}
+use Rattle.cluster_machine.specs.Node.{Present, resting, asking, scanning, storing, fetching, Call, Node, Question}
+use Rattle.cluster_machine.specs.World.{Request, numbered, forget_delivered}
+use Rattle.cluster_machine.specs.Acts.{appends}
+use Rattle.cluster_machine.specs.Choices.{IsFirst}
+use Rattle.cluster_machine.specs.Layouts.{layouts}
+use Rattle.layout_roles.specs.declared.layout.Layout.{Layout}
+use Rattle.quorum_model.specs.Quorum.{is_among}
+use Rattle.std.specs.Option.{unwrap_or}
+use Rattle.view_model.specs.Layouts.{reading}
 use Rattle.cluster_machine.specs.Fits.{Fits}
 use Rattle.history_model.specs.declared.record.Cause.TheVariants.{Superseded}
 use Rattle.history_model.specs.declared.record.Record.{Record}
 use Rattle.history_model.specs.declared.record.Record.TheVariants.{Ended}
-use Rattle.cluster_machine.specs.Worlds.{IsLawfulRun, run, next}
+use Rattle.cluster_machine.specs.Worlds.{IsLawfulRun, next, installed}
+use Rattle.cluster_machine.specs.declared.step.Step.{Step}
+use Rattle.cluster_machine.specs.declared.step.Step.TheVariants.{Deliver}
 use Rattle.cluster_machine.specs.Step.{changed}
 use Rattle.machine_origins.specs.Origins.{stored_by, stored_in}
 use Rattle.machine_origins.specs.Following.{GoesOn, Continues}
@@ -30,8 +39,9 @@ use Rattle.flow_model.specs.declared.flow.Flow.{Flow}
 use Rattle.flow_model.specs.Blocks.{piece, is_long}
 use Rattle.flow_model.specs.Rows.{version_row, reference_row}
 use Rattle.store_model.specs.Run.{World, Moving, State, Asked, Draw, effect}
-use Rattle.store_laws.proofs.Elements.{none_in}
-use Rattle.store_laws.proofs.Every.{run_more, lawful_more}
+use Rattle.store_laws.proofs.Elements.{none_in, there}
+use Rattle.store_laws.proofs.Reached.{reached_step, reached_weaker, reached_forgetting, reached_installing}
+use Rattle.store_laws.proofs.Sound.{IsReachedBy}
 use Rattle.store_laws.proofs.Grown.{Rests, asked_set}
 use Rattle.store_laws.proofs.Places.{numbered_set_cases}
 use Rattle.store_anchors.specs.Stored.{blocks_by, blocks_of}
@@ -95,16 +105,20 @@ pub record IsFit (asked : List Asked) (p : Past) (q : ℕ) (present : Present An
   pub rows : AreRows p present
   pub awaits : (a : Asked) (flow : Flow) → numbered asked q ≡ Some a → a.flow ≡ Some flow → Awaits p flow.block flow.stage present
 
+-- a step begins to store rows and blocks only that these steps begin to store, the rows with their blocks
+pub record IsStepOf (moves : List Moving) (st : Step AnyRow) : Type 0 where
+  pub brings : StepBringsBlocks digest words st
+  pub stores : All (Contains (stored_in moves)) (stored_by st)
+  pub blocks : IsPart (blocks_by st) (blocks_of moves)
+
 -- what there is after these steps
 abbrev pub past : List Moving → World → List Draw → Past
 past moves w draws = record { draws = draws; kept = w.kept; stored = stored_in moves; blocks = blocks_of moves }
 
--- after these steps: each row that they began to store is a write's, and came with its block; so is each that is kept; requests wait for their phases; and where one ended superseded, a version above was stored complete
+-- after these steps: the world is one that they lead to, but that a layout was installed and messages were forgotten; each row that they began to store is a write's, and came with its block; so is each that is kept; requests wait for their phases; and where one ended superseded, a version above was stored complete
 pub record IsLaid (moves : List Moving) (w : World) (asked : List Asked) (draws : List Draw) (history : List Record) : Type 0 where
   pub room : length w.requests < 2 ^ 64
-  pub lawful : IsLawfulRun any_join words empty moves
-  pub is : w ≡ run any_join words empty moves
-  pub brings : All (λ (m : Moving). StepBringsBlocks digest words m.step) moves
+  pub reached : IsReachedBy (IsStepOf moves) w
   pub stored : All (λ (m : Moving). All (IsRowOf (past moves w draws)) (stored_by m.step)) moves
   pub kept : (r : AnyRow) → Contains w.kept r → IsRowOf (past moves w draws) r
   pub stages : (q : ℕ) (a : Asked) (flow : Flow) → numbered asked q ≡ Some a → a.flow ≡ Some flow → Holds (past moves w draws) q flow.block flow.stage
@@ -211,8 +225,36 @@ pub stored_more : (moves : List Moving) (m : Moving) → stored_in (moves ++ m �
 stored_more [] m = append-nil (stored_by m.step)
 stored_more (first ∷ moves) m = ap (λ rs. stored_by first.step ++ rs) (stored_more moves m) ∙ sym (append_assoc (stored_by first.step) (stored_in moves) (stored_by m.step))
 
+-- what holds of each row holds of all
+all_each : {A : Type 0} (P : A → Type 0) (xs : List A) → ((x : A) → Contains xs x → P x) → All P xs
+all_each P [] h = All-nil P
+all_each P (x ∷ xs) h = All-cons P x xs (h x (0, omega arith, refl)) (all_each P xs (λ y c. h y (there x xs y c)))
+
 stored_old : (moves : List Moving) (m : Moving) → IsPart (stored_in moves) (stored_in (moves ++ m ∷ []))
 stored_old moves m r c = subst (λ (rs : List AnyRow). Contains rs r) (sym (stored_more moves m)) (Contains-append_left (stored_in moves) (stored_by m.step) r c)
+
+-- a step that stores nothing is always one of them
+pub still_of : (moves : List Moving) (st : Step AnyRow) → StepBringsBlocks digest words st → stored_by st ≡ [] → blocks_by st ≡ [] → IsStepOf moves st
+still_of moves st brings stores blocks = record {
+  brings = brings;
+  stores = subst (All (Contains (stored_in moves))) (sym stores) (All-nil (Contains (stored_in moves)));
+  blocks = λ b c. absurd (none_in b (subst (λ (bs : List (List ℕ)). Contains bs b) blocks c));
+}
+
+step_more : (moves : List Moving) (m : Moving) (st : Step AnyRow) → IsStepOf moves st → IsStepOf (moves ++ m ∷ []) st
+step_more moves m st is = record {
+  brings = is.brings;
+  stores = All-weaker (Contains (stored_in moves)) (Contains (stored_in (moves ++ m ∷ []))) (stored_old moves m) (stored_by st) is.stores;
+  blocks = λ b c. blocks_old moves m b (is.blocks b c);
+}
+
+step_new : (moves : List Moving) (m : Moving) → StepBringsBlocks digest words m.step → IsStepOf (moves ++ m ∷ []) m.step
+step_new moves m brings = record {
+  brings = brings;
+  stores = all_each (Contains (stored_in (moves ++ m ∷ []))) (stored_by m.step)
+      (λ r c. subst (λ (rs : List AnyRow). Contains rs r) (sym (stored_more moves m)) (Contains-append_right (stored_in moves) (stored_by m.step) r c));
+  blocks = blocks_new moves m;
+}
 
 -- what there is after a step
 abbrev pub past_after : List Moving → State → Moving → Past
@@ -234,9 +276,7 @@ laid_step moves s m room lawful brings stores apt laid =
     let more : Grows old new = after_grows moves s m in
     record {
       room = room.requests;
-      lawful = lawful_more empty moves m laid.lawful (subst (λ v. IsLawfulRun any_join words v (m ∷ [])) laid.is lawful);
-      is = ap (λ v. next any_join words v m) laid.is ∙ sym (run_more empty moves m);
-      brings = All-push (λ (m : Moving). StepBringsBlocks digest words m.step) moves m laid.brings brings;
+      reached = reached_step (IsStepOf (moves ++ m ∷ [])) s.world m (reached_weaker s.world (step_more moves m) laid.reached) lawful (step_new moves m brings) (still_of (moves ++ m ∷ []) (Deliver 0) tt refl refl);
       stored = All-push (λ (m : Moving). All (IsRowOf new) (stored_by m.step)) moves m (stored_later old new more moves laid.stored) (all_later old new more (stored_by m.step) stores);
       kept = λ r c. elim (Contains-append_cases (effect s m).keeps s.world.kept r c) [
         | inl one ↦ row_later old new more r (apt.keeps r one)
@@ -262,9 +302,7 @@ laid_waiting moves s q a flow newer at rests hold laid =
     let more : Grows old new = drawn_grows moves s newer in
     record {
       room = laid.room;
-      lawful = laid.lawful;
-      is = laid.is;
-      brings = laid.brings;
+      reached = laid.reached;
       stored = stored_later old new more moves laid.stored;
       kept = λ r c. row_later old new more r (laid.kept r c);
       stages = λ p o f there is. elim (numbered_set_cases s.asked q p a one o at there) [
@@ -289,9 +327,7 @@ pub laid_told : (moves : List Moving) (w : World) (asked : List Asked) (draws : 
     IsLaid moves w asked draws history → IsLaid moves w asked draws (history ++ rest)
 laid_told moves w asked draws history rest ends laid = record {
   room = laid.room;
-  lawful = laid.lawful;
-  is = laid.is;
-  brings = laid.brings;
+  reached = laid.reached;
   stored = laid.stored;
   kept = laid.kept;
   stages = laid.stages;
@@ -301,3 +337,31 @@ laid_told moves w asked draws history rest ends laid = record {
     | inr new ↦ ends q id new
   ];
 }
+
+-- ---- the world changes, and no step is made
+
+-- delivered messages are forgotten
+pub laid_forgetting : (moves : List Moving) (s : State) → IsLaidIn moves s → IsLaidIn moves (record s { world = forget_delivered s.world })
+laid_forgetting moves s laid = record {
+  room = laid.room;
+  reached = reached_forgetting s.world laid.reached;
+  stored = laid.stored;
+  kept = laid.kept;
+  stages = laid.stages;
+  fits = laid.fits;
+  superseded = laid.superseded;
+}
+
+-- a first layout is installed where none was applied: calls stay
+pub laid_installing : (moves : List Moving) (s : State) (first : Layout) → IsFirst first → s.world.applied ≡ 0 → IsLaidIn moves s → IsLaidIn moves (record s { world = installed any_join words s.world first })
+laid_installing moves s first is_first none laid =
+    let IsFitting : Node AnyRow Layout → Type 0 = λ x. (c : Call AnyRow) → Has x.calls c → IsFit s.asked (past moves s.world s.draws) c.request c.present in
+    record {
+      room = subst (λ (rs : List Request). length rs < 2 ^ 64) (sym (append-nil s.world.requests)) laid.room;
+      reached = reached_installing s.world first is_first none laid.reached;
+      stored = laid.stored;
+      kept = laid.kept;
+      stages = laid.stages;
+      fits = λ n. elim (is_among n (reading.members first)) as (λ b. IsFitting (unwrap_or (cond b (Some (appends layouts (s.world.nodes n) first)) None) (s.world.nodes n))) [ true ↦ laid.fits n | false ↦ laid.fits n ];
+      superseded = laid.superseded;
+    }

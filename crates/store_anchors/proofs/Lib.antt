@@ -8,6 +8,7 @@ pub mod Going
 pub mod Kept
 pub mod Laid
 pub mod Lines
+pub mod Machine
 pub mod Naming
 pub mod Phases
 pub mod Placed

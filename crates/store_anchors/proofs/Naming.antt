@@ -54,6 +54,7 @@ use Rattle.flow_laws.proofs.Merged.{are_named}
 use Rattle.store_model.specs.Run.{Moving, State, Draw}
 use Rattle.store_laws.proofs.Objects.{Below as IsBelow, members_below, apart}
 use Rattle.store_laws.proofs.Sound.{IsSound}
+use Rattle.store_laws.proofs.Reached.{reached_kept}
 use Rattle.store_anchors.proofs.Cited.{Cited}
 use Rattle.store_anchors.proofs.Kept.{Past, IsLong, IsRowOf, announces, completes, names, refers, IsFound, IsPassed}
 use Rattle.store_anchors.proofs.Laid.{past, IsLaidIn}
@@ -221,7 +222,7 @@ module _ (cited : Cited) (moves : List Moving) (s : State) (sound : IsSound s) (
 
     over : (value : Option AnyRow) → Contains s.world.reads (read question value) → IsOver any_join words value (row_at any_join words question.kept 2 (eight id))
     over value c =
-        let keeps : KeptReads any_join words s.world = subst (KeptReads any_join words) (sym laid.is) (cited.every.from_empty.kept_reads moves laid.lawful) in
+        let keeps : KeptReads any_join words s.world = reached_kept cited.every s.world laid.reached in
         let key_is : question.key ≡ eight id = key ∙ ap (λ (x : Version). eight x.id) (sym found.version_is) in
         subst (λ (i : List ℕ). IsOver any_join words value (row_at any_join words question.kept 2 i)) key_is
         (subst (λ (t : ℕ). IsOver any_join words value (row_at any_join words question.kept t question.key)) table (keeps (read question value) c))

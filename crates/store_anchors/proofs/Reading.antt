@@ -1,5 +1,5 @@
 -- A read of an object's row that finds a version in blocks: each of its blocks was stored.
-use Rattle.std.specs.Prelude.{◌≡◌, ◌<◌, ◌≤◌, ◌^◌, ◌*◌, ℕ, zero, suc, true, false, Option, Some, None, List, length, refl}
+use Rattle.std.specs.Prelude.{◌≡◌, ◌<◌, ◌≤◌, ◌^◌, ◌*◌, ℕ, zero, suc, true, false, Option, Some, None, List, length, refl, ◌++◌}
 use Rattle.std.proofs.Common.{ap, sym, subst, ◌∙◌, le_refl, arith}
 use Rattle.std.proofs.lemmas.Bool.{lt-ltb, ltb-true}
 use Rattle.std.proofs.lemmas.Nat.{mul-le}
@@ -19,7 +19,7 @@ use Rattle.crdt_rows.specs.ObjectRow.{newest, object_key, state_at}
 use Rattle.row_codec.specs.Range.{is_eight}
 use Rattle.object_schema.specs.Schema.{words}
 use Rattle.cluster_machine.specs.Node.{Question, read}
-use Rattle.machine_origins.specs.Origins.{ComesFrom, stored_in}
+use Rattle.machine_origins.specs.Origins.{ComesFrom, stored_by, stored_in}
 use Rattle.machine_origins.proofs.ByOrigin.{stored_have}
 use Rattle.object_origins.specs.Gone.{WasStored, deletes_nothing}
 use Rattle.object_origins.specs.Shown.{Shows}
@@ -30,15 +30,16 @@ use Rattle.flow_model.specs.Blocks.{has_piece, is_long}
 use Rattle.flow_model.specs.Rows.{meta_of}
 use Rattle.flow_model.specs.Says.{in_blocks, said_of, of_state, of_version}
 use Rattle.flow_laws.proofs.Cut.{has_first}
-use Rattle.store_model.specs.Run.{World, Moving, State, Draw}
+use Rattle.store_model.specs.Run.{Moving, State, Draw}
 use Rattle.store_laws.proofs.Places.{numbered_within}
 use Rattle.store_laws.proofs.Rows.{complete_state, complete_row, blocks_content}
 use Rattle.store_laws.proofs.Records.{is_in}
 use Rattle.store_laws.proofs.Sound.{IsSound}
 use Rattle.store_laws.proofs.Values.{says_row}
+use Rattle.store_laws.proofs.Reached.{reached_are, reached_stored}
 use Rattle.store_anchors.proofs.Cited.{Cited}
 use Rattle.store_anchors.proofs.Kept.{Past, HasAll, IsLong, IsRowOf, IsFound, row_deletes_nothing}
-use Rattle.store_anchors.proofs.Laid.{past, IsLaidIn}
+use Rattle.store_anchors.proofs.Laid.{past, IsLaidIn, IsStepOf}
 use Rattle.store_anchors.proofs.Told.{Tells, object_tells, complete_stored}
 
 -- a row that says of its object that it is in blocks has the version in that state
@@ -78,6 +79,12 @@ piece_there block body last i has le =
     let grow : i * block ≤ last * block = mul-le i block last block le (le_refl block) in
     lt-ltb (i * block) (length body) (omega (arith, low, grow))
 
+-- what comes from some rows comes from more
+comes_from_more : (old new : List AnyRow) → All (Contains new) old → (row : AnyRow) → ComesFrom any_join words old row → ComesFrom any_join words new row
+comes_from_more old new all row (ComesFrom.was_stored r c) = ComesFrom.was_stored r (All-contains (Contains new) old r all c)
+comes_from_more old new all row (ComesFrom.was_merged a b same x y) = ComesFrom.was_merged a b same (comes_from_more old new all a x) (comes_from_more old new all b y)
+comes_from_more old new all row (ComesFrom.was_called_for a b r same x y c) = ComesFrom.was_called_for a b r same (comes_from_more old new all a x) (comes_from_more old new all b y) c
+
 module _ (cited : Cited) (moves : List Moving) (s : State) (sound : IsSound s) (laid : IsLaidIn moves s) where
   abbrev p : Past
   p = past moves s.world s.draws
@@ -90,7 +97,12 @@ module _ (cited : Cited) (moves : List Moving) (s : State) (sound : IsSound s) (
 
   -- what a read gave comes from what was stored, and shows it
   pub gave : (question : Question AnyRow) (row : AnyRow) → Contains s.world.reads (read question (Some row)) → ComesFrom any_join words (stored_in moves) row × (words.table row ≡ question.table) × (words.key row ≡ question.key)
-  gave question row c = cited.every.from_empty.stored_rows moves laid.lawful (read question (Some row)) (subst (λ (w : World). Contains w.reads (read question (Some row))) laid.is c)
+  gave question row c =
+      let r = laid.reached in
+      let there = reached_stored cited.every s.world r (read question (Some row)) c in
+      let all = stored_have (Contains (stored_in moves)) (r.before ++ r.moves)
+      (All-weaker (λ (m : Moving). IsStepOf moves m.step) (λ (m : Moving). All (Contains (stored_in moves)) (stored_by m.step)) (λ m is. is.stores) (r.before ++ r.moves) (reached_are cited.every s.world r)) in
+      (comes_from_more (stored_in (r.before ++ r.moves)) (stored_in moves) all row there.0, there.1, there.2)
 
   pub shown : (row : AnyRow) → ComesFrom any_join words (stored_in moves) row → Shows (stored_in moves) row
   shown row from = cited.shows (stored_in moves) row (All-weaker (IsRowOf p) (λ r. deletes_nothing r ≡ true) (row_deletes_nothing p) (stored_in moves) all_stored) from

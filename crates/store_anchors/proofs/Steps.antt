@@ -25,6 +25,7 @@ use Rattle.cluster_machine.specs.Worlds.{IsMeant, FitAll, newest_at, next}
 use Rattle.cluster_machine.specs.declared.step.Step.TheVariants as step
 use Rattle.machine_origins.specs.Following.{EndsSo, AtMostOne, Began}
 use Rattle.machine_origins.specs.Origins.{stored_by}
+use Rattle.row_codec.specs.NumberLaws.{some_is}
 use Rattle.flow_model.specs.declared.flow.Flow.{Flow}
 use Rattle.store_model.specs.Run.{World, Moving, State, Asked, plainly, effect, doing, phases}
 use Rattle.store_laws.proofs.Calm.{IsCalm, IsCalmStep, calm_step}
@@ -38,14 +39,16 @@ use Rattle.store_anchors.proofs.Kept.{Past, Grows, IsRowOf, replaced_asked}
 use Rattle.block_laws.specs.Fetched.{Fetched, EndedSo, GaveItsBlock}
 use Rattle.cluster_machine.specs.Run.{run as machine_run, does as machine_does}
 use Rattle.cluster_machine.specs.World.{empty}
-use Rattle.cluster_machine.specs.Worlds.{IsLawful}
+use Rattle.cluster_machine.specs.Worlds.{Done as Effect, IsLawful, IsLawfulRun, run}
 use Rattle.history_model.specs.declared.record.Cause.TheVariants.{Superseded}
 use Rattle.history_model.specs.declared.record.Record.TheVariants.{Ended as Gone}
-use Rattle.world_reads.proofs.Lawful.{lawful_is_run, same_run}
+use Rattle.store_laws.proofs.Alike.{StepsAlike}
+use Rattle.store_laws.proofs.Reached.{reached_alike, reached_different}
+use Rattle.store_anchors.proofs.Machine.{IsEndOf, end_of}
 use Rattle.store_anchors.specs.Stored.{blocks_of}
 use Rattle.store_anchors.proofs.Among.{digest_among, digest_there, steps_among}
 use Rattle.store_anchors.proofs.Cited.{Cited}
-use Rattle.store_anchors.proofs.Laid.{digest, Holds, Stores, Asks, Gets, Awaits, AreRows, IsFit, past, past_after, after_grows, blocks_old, IsLaid, IsLaidIn, IsApt, holds_later, fit_later, fit_continues, laid_step, laid_told, Scans}
+use Rattle.store_anchors.proofs.Laid.{digest, Holds, Stores, Asks, Gets, Awaits, AreRows, IsFit, past, past_after, after_grows, blocks_old, IsLaid, IsLaidIn, IsApt, IsStepOf, still_of, holds_later, fit_later, fit_continues, laid_step, laid_told, Scans}
 use Rattle.store_anchors.proofs.Phases.{phase_begun}
 
 -- ---- a phase that ended
@@ -118,7 +121,7 @@ module _ (asked : List Asked) (old new : Past) (more : Grows old new) (keeps : L
 
 -- ---- a step in which no phase begins
 
-module _ (cited : Cited) (moves : List Moving) (s : State) (m : Moving) (calm : IsCalm s.world (effect s m)) (laid : IsLaidIn moves s) where
+module _ (cited : Cited) (moves : List Moving) (s : State) (m : Moving) (lawful : IsLawfulRun any_join words s.world (m ∷ [])) (calm : IsCalm s.world (effect s m)) (laid : IsLaidIn moves s) where
   abbrev now : Past
   now = past_after moves s m
 
@@ -129,15 +132,21 @@ module _ (cited : Cited) (moves : List Moving) (s : State) (m : Moving) (calm : 
   fetched : (e : Ended AnyRow) → Contains (effect s m).ends e → (bytes : List ℕ) → e.how ≡ Block bytes → HasFetched s.asked now e.request bytes
   fetched e c bytes how =
       let blocks : List (List ℕ) = blocks_of moves in
-      let world_is : s.world ≡ machine_run any_join words layouts trio stage_trio empty moves = laid.is ∙ sym (same_run any_join words empty moves) in
-      let there : Contains (machine_does any_join words layouts trio stage_trio (machine_run any_join words layouts trio stage_trio empty moves) m).ends e =
-      subst (λ (w : World). Contains (machine_does any_join words layouts trio stage_trio w m).ends e) world_is c in
-      let gave : GaveItsBlock (digest_among blocks) s.world e =
-      subst (λ (w : World). GaveItsBlock (digest_among blocks) w e) (sym world_is)
-      (cited.gives (digest_among blocks) moves m (lawful_is_run any_join words empty moves (cited.every.from_empty.is_sound [] tt) laid.lawful) (steps_among blocks moves (λ b c. c) laid.brings) e there) in
-      let is : Fetched (digest_among blocks) s.world e.request bytes = subst (EndedSo (digest_among blocks) s.world e.request) how gave in
+      let r = laid.reached in
+      let v : World = run any_join words r.begin r.moves in
+      let like : StepsAlike s.world v m = reached_alike s.world m r lawful in
+      let ends : IsEndOf (IsStepOf moves) v = end_of cited.every s.world r (still_of moves step.Trio tt refl refl) in
+      let v_there : Contains (machine_does any_join words layouts ends.first ends.roles v like.move).ends e =
+      subst (λ es. Contains es e) (like.ends ∙ ap (λ (x : Effect AnyRow). x.ends) (ends.same like.move)) c in
+      let there : Contains (machine_does any_join words layouts ends.first ends.roles (machine_run any_join words layouts ends.first ends.roles empty ends.moves) like.move).ends e =
+      subst (λ (w : World). Contains (machine_does any_join words layouts ends.first ends.roles w like.move).ends e) (sym ends.leads) v_there in
+      let gave : GaveItsBlock (digest_among blocks) v e =
+      subst (λ (w : World). GaveItsBlock (digest_among blocks) w e) ends.leads
+      (cited.gives (digest_among blocks) ends.first ends.roles ends.moves like.move ends.is_run (steps_among moves ends.moves ends.are) e there) in
+      let is : Fetched (digest_among blocks) v e.request bytes = subst (EndedSo (digest_among blocks) v e.request) how gave in
+      let here : Has (s.world.nodes is.node).calls is.call = subst (λ (w : World). Has (w.nodes is.node).calls is.call) (sym r.alike.is) is.is_there in
       let fit : IsFit s.asked now e.request is.call.present =
-      subst (λ (q : ℕ). IsFit s.asked now q is.call.present) is.of_request (fit_later was now (after_grows moves s m) s.asked is.call.request is.call.present (laid.fits is.node is.call is.is_there)) in
+      subst (λ (q : ℕ). IsFit s.asked now q is.call.present) is.of_request (fit_later was now (after_grows moves s m) s.asked is.call.request is.call.present (laid.fits is.node is.call here)) in
       record {
         hash = is.hash;
         gets = λ a flow at flow_is. subst (Awaits now flow.block flow.stage) is.fetches (fit.awaits a flow at flow_is);
@@ -160,7 +169,7 @@ module _ (cited : Cited) (moves : List Moving) (s : State) (m : Moving) (calm : 
 
 module _ (cited : Cited) where
   pub laid_different : (moves : List Moving) (s : State) → IsLaidIn moves s → (n : ℕ) → AreDifferent (s.world.nodes n).calls
-  laid_different moves s laid n = subst (λ (v : World). AreDifferent (v.nodes n).calls) (sym laid.is) ((cited.every.from_empty.is_sound moves laid.lawful).different n)
+  laid_different moves s laid n = reached_different cited.every s.world laid.reached n
 
   pub calm_now : (moves : List Moving) (s : State) (m : Moving) → IsCalmStep m.step → IsLaidIn moves s → IsCalm s.world (effect s m)
   calm_now moves s m calm laid = calm_step any_join words layouts trio stage_trio s.world (laid_different moves s laid) m.step m.choice calm
@@ -168,7 +177,8 @@ module _ (cited : Cited) where
   pub calm_laid : (moves : List Moving) (s : State) (m : Moving) → IsCalmStep m.step → stored_by m.step ≡ [] → StepBringsBlocks digest words m.step → IsMeant m.step → IsStep words 256 m.step → IsLawful s.world m → FitAll any_join words s.world (m ∷ []) → IsLaidIn moves s →
       IsLaidIn (moves ++ m ∷ []) (doing s m)
   calm_laid moves s m calm none brings meant step lawful fits laid =
-      laid_step moves s m fits.0.0 (meant, step, lawful, fits.0.1, tt) brings (subst (All (IsRowOf (past moves s.world s.draws))) (sym none) (All-nil _)) (calm_apt cited moves s m (calm_now moves s m calm laid) laid) laid
+      let is_lawful : IsLawfulRun any_join words s.world (m ∷ []) = (meant, step, lawful, fits.0.1, tt) in
+      laid_step moves s m fits.0.0 is_lawful brings (subst (All (IsRowOf (past moves s.world s.draws))) (sym none) (All-nil _)) (calm_apt cited moves s m is_lawful (calm_now moves s m calm laid) laid) laid
 
   -- ---- a phase begins
 
@@ -246,9 +256,7 @@ module _ (cited : Cited) where
       record {
         room = after.room;
         superseded = λ p id c. replaced_asked now s.asked asked (asked_told s.asked a) p id (told.superseded p id c);
-        lawful = after.lawful;
-        is = after.is;
-        brings = after.brings;
+        reached = after.reached;
         stored = after.stored;
         kept = after.kept;
         stages = λ p o f there is. elim (numbered_push_cases s.asked a p o there) [
@@ -256,7 +264,7 @@ module _ (cited : Cited) where
           | inr e ↦
               let q_is : q ≡ p = ap suc (sym lengths) ∙ sym e.0 in
               let flows : Some flow ≡ Some f = sym flow_is ∙ (ap (λ (x : Asked). x.flow) e.1 ∙ is) in
-              let same : flow ≡ f = cc in
+              let same : flow ≡ f = some_is flow f flows in
               holds_later before now grows p f.block f.stage (subst (λ (g : Flow). Holds before p g.block g.stage) same (subst (λ (r : ℕ). Holds before r flow.block flow.stage) q_is hold))
         ];
         fits = place asked old;

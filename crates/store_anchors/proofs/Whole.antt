@@ -5,7 +5,6 @@ use Rattle.flow_model.specs.declared.flow.Name.{Name}
 use Rattle.std.proofs.Common.{ap, sym, ◌∙◌}
 use Rattle.std.specs.Prelude.{◌≡◌, List, Some}
 use Rattle.store_model.specs.Run.{start, Asked, Draw}
-use Rattle.store_model.specs.Events.{AreScheduled}
 use Rattle.store_model.specs.Acts.{Act, after_acts, AreLawfulActs, ActsFit}
 use Rattle.store_laws.specs.Promised.{GoesOn, IsRightlySuperseded}
 use Rattle.store_anchors.specs.Stored.{BlocksDiffer}
@@ -14,10 +13,10 @@ use Rattle.store_anchors.proofs.Busy.{goes_on_always}
 use Rattle.store_anchors.proofs.Cited.{Cited}
 use Rattle.store_anchors.proofs.Acts.{held, told}
 
-module _ (cited : Cited) (acts : List Act) (scheduled : AreScheduled acts) (lawful : AreLawfulActs start acts) (fit : ActsFit start acts) where
+module _ (cited : Cited) (acts : List Act) (lawful : AreLawfulActs start acts) (fit : ActsFit start acts) where
   pub rightly : IsRightlySuperseded acts
   rightly q id c =
-      let now = held cited acts scheduled lawful fit in
+      let now = held cited acts lawful fit in
       let h = now.laid.superseded q id c in
       let d : Draw = h.passed.draw in
       record {
@@ -36,7 +35,7 @@ module _ (cited : Cited) (acts : List Act) (scheduled : AreScheduled acts) (lawf
       }
 
   pub gives : BlocksDiffer acts → GivesAllBytes acts
-  gives differ line c = told cited acts scheduled lawful fit line c differ
+  gives differ line c = told cited acts lawful fit line c differ
 
   pub goes : GoesOn (after_acts start acts)
-  goes = goes_on_always cited acts scheduled lawful fit
+  goes = goes_on_always cited acts lawful fit

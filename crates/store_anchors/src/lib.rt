@@ -4,7 +4,6 @@
 
 ghost use Rattle.std.specs.Prelude.{List};
 ghost use Rattle.store_model.specs.Run.{start};
-ghost use Rattle.store_model.specs.Events.{AreScheduled};
 ghost use Rattle.store_model.specs.Acts.{Act, after_acts, AreLawfulActs, ActsFit};
 ghost use Rattle.store_laws.specs.Promised.{GoesOn, IsAnchored, IsRightlySuperseded};
 ghost use Rattle.store_anchors.specs.Stored.{BlocksDiffer};
@@ -26,7 +25,7 @@ use world_reads::{
 /// node that has in its table a live reference of that version to it, where no two blocks that the acts stored have one
 /// digest.
 pub fn acknowledged_blocks_are_anchored()
-    ensures { (acts : List Act) → AreScheduled acts → AreLawfulActs start acts → ActsFit start acts → BlocksDiffer acts → IsAnchored acts }
+    ensures { (acts : List Act) → AreLawfulActs start acts → ActsFit start acts → BlocksDiffer acts → IsAnchored acts }
 {
     every_world_is_sound::<S3Schema>();
     every_world_has_kept_reads::<S3Schema>();
@@ -40,13 +39,14 @@ pub fn acknowledged_blocks_are_anchored()
     undeleted_references_are_anchored::<Layout, Applied, Cut>();
 }
 
-/// Whatever comes, after each act every open request has a phase: none waits for what never comes. A request ends superseded only where a write of the object began to store a complete state of a version
-/// above the one that it read. And where no two blocks that the acts stored have one digest, the size and the MD5 in the
-/// line of a get that found a version are those of the bytes that were written as the version, in blocks or not.
+/// Whatever comes, after each act every open request has a phase: none waits for what never comes. A request ends
+/// superseded only where a write of the object began to store a complete state of a version above the one that it read. And
+/// where no two blocks that the acts stored have one digest, the size and the MD5 in the line of a get that found a version
+/// are those of the bytes that were written as the version, in blocks or not.
 pub fn gets_read_whole_versions()
-    ensures goes_on { (acts : List Act) → AreScheduled acts → AreLawfulActs start acts → ActsFit start acts → GoesOn (after_acts start acts) }
-    ensures superseded { (acts : List Act) → AreScheduled acts → AreLawfulActs start acts → ActsFit start acts → IsRightlySuperseded acts }
-    ensures bytes { (acts : List Act) → AreScheduled acts → AreLawfulActs start acts → ActsFit start acts → BlocksDiffer acts → GivesAllBytes acts }
+    ensures goes_on { (acts : List Act) → AreLawfulActs start acts → ActsFit start acts → GoesOn (after_acts start acts) }
+    ensures superseded { (acts : List Act) → AreLawfulActs start acts → ActsFit start acts → IsRightlySuperseded acts }
+    ensures bytes { (acts : List Act) → AreLawfulActs start acts → ActsFit start acts → BlocksDiffer acts → GivesAllBytes acts }
 {
     every_world_is_sound::<S3Schema>();
     every_world_has_kept_reads::<S3Schema>();

@@ -164,7 +164,7 @@ module _ (every : EveryWorld) where
       let now : State = opening s a in
       let is_open : IsSound now = opened_sound s a flow flow_is refl is_stage member bucket keyed (tt, tt, tt, fits.0.1, tt) sound in
       step_sound now (phases q (asks_for name)) is_open (asks_is_meant q name, asks_is_step q name, tt, fits.1.0.1, tt) (All-nil (IsGood s.draws))
-      (asks_fine now is_open (reached_different every now.draws now.world is_open.reached) q a flow (new_there s a sound) flow_is name asks_so)
+      (asks_fine now is_open (reached_different every now.world is_open.reached) q a flow (new_there s a sound) flow_is name asks_so)
 
   -- a list opens and scans from the first key on
   lists_open : (s : State) (a : Asked) (bucket prefix : List ℕ) → (let q = suc (length s.world.requests) in a.flow ≡ Some (flow_of q s.block (Listing bucket prefix [])) → a.kind ≡ kind.List → a.name ≡ record { bucket = bucket; key = prefix } →
@@ -187,7 +187,7 @@ module _ (every : EveryWorld) where
             cc;
       } in
       step_sound now (phases q (asks_past bucket prefix [])) is_open (scan_is_meant q bucket prefix [], scan_is_step q bucket prefix [], tt, fits.1.0.1, tt) (All-nil (IsGood s.draws))
-      (scans_fine now is_open (reached_different every now.draws now.world is_open.reached) q a flow (new_there s a sound) flow_is bucket prefix []
+      (scans_fine now is_open (reached_different every now.world is_open.reached) q a flow (new_there s a sound) flow_is bucket prefix []
       (λ scan position prefix_is after_is. (position, prefix_is, subst (λ (e : List ℕ). HasShown now.draws now.history now.saw q own [] (Some e)) (sym after_is) shown)))
 
   opened_keeps : (s : State) (n : ℕ) (o : Order) → HasKey o → is_member_at layouts s.world n ≡ true → are_buckets s.buckets (buckets_of o) ≡ true → FitAll any_join words s.world (opened s n o).moves → IsSound s → IsSound (opened s n o).state

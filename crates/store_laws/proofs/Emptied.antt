@@ -16,7 +16,7 @@ use Rattle.cluster_machine.specs.Node.{Call, Ended}
 use Rattle.cluster_machine.specs.World.{Mark, Sent, Request, empty, first_waiting, undelivered, numbered, clock}
 use Rattle.cluster_machine.specs.declared.step.Refusal.TheVariants.{Lost}
 use Rattle.cluster_machine.specs.Receives.{receives}
-use Rattle.cluster_machine.specs.Step.{marked, applied, begun, beginning, closing, nothing, refusal, received, did, at_message}
+use Rattle.cluster_machine.specs.Step.{marked, applied, begun, beginning, closing, refusal, received, did, at_message}
 use Rattle.cluster_machine.specs.Worlds.{Done as Effect, FitAll, does, next, installs, run as world_run}
 use Rattle.flow_model.specs.declared.flow.Flow.{Flow}
 use Rattle.flow_model.specs.declared.flow.FlowStep.{FlowStep}

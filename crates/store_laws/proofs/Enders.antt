@@ -78,7 +78,7 @@ write_reads_not kind.List w r = cc
 
 module _ (every : EveryWorld) where
   pub is_calm : (s : State) (m : Moving) → IsCalmStep m.step → IsSound s → IsCalm s.world (effect s m)
-  is_calm s m calm sound = calm_step any_join words layouts trio stage_trio s.world (reached_different every s.draws s.world sound.reached) m.step m.choice calm
+  is_calm s m calm sound = calm_step any_join words layouts trio stage_trio s.world (reached_different every s.world sound.reached) m.step m.choice calm
 
   module _ (s : State) (q : ℕ) (a : Asked) (at : numbered s.asked q ≡ Some a) (rests : Rests s q) where
     none_waits : (draws : List Draw) (history : List Record) → MayWait draws history q a None

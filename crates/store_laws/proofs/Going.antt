@@ -70,7 +70,7 @@ module _ (every : EveryWorld) (s : State) (q : ℕ) (a : Asked) (at : numbered s
       let one : Asked = record a { flow = Some flow } in
       let is_new : IsSound new = waiting_sound s q a (Some flow) ds at rests
       (λ f e. (let same : flow ≡ f = cc in (ap (λ (g : Flow). g.id) (sym same), subst (λ (g : Flow). IsStage (ds ++ s.draws) s.history q a g.stage) same is_stage))) drawn sound in
-      step_sound new (phases q phase) is_new (meant, step, tt, fits.0.1, tt) stores (fine is_new (numbered_set_here s.asked q one a at) (reached_different every new.draws new.world is_new.reached))
+      step_sound new (phases q phase) is_new (meant, step, tt, fits.0.1, tt) stores (fine is_new (numbered_set_here s.asked q one a at) (reached_different every new.world is_new.reached))
 
   -- a write has drawn this version
   abbrev pub draw_of : Name → Wish → Version → Draw

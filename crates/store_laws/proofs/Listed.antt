@@ -122,7 +122,7 @@ module _ (every : EveryWorld) (s : State) (q : ℕ) (sound : IsSound s) (bucket 
   own = record { bucket = bucket; key = prefix }
 
   window : IsWindow words scan others end
-  window = reached_window every s.draws s.world sound.reached (scanned scan others end) read
+  window = reached_window every s.world sound.reached (scanned scan others end) read
 
   good : (row : AnyRow) → Contains others row → IsGood s.draws row
   good row c = All-contains (IsGood s.draws) others row (reached_good every s.draws s.world sound.reached (scanned scan others end) read) c
@@ -147,7 +147,7 @@ module _ (every : EveryWorld) (s : State) (q : ℕ) (sound : IsSound s) (bucket 
   at_key : (key : List ℕ) (w : Version) → IsNamedKey (row_key (listed own key)) → HasKept scan.kept (listed own key) w → (r : ObjectRow) × (find_row words 1 (row_key (listed own key)) others ≡ Some (rows.Object r)) × CoversIn r w
   at_key key w named k =
       let name : Name = listed own key in
-      let over : IsOver any_join words (find_row words 1 (row_key name) others) (row_at any_join words scan.kept 1 (row_key name)) = reached_kept every s.draws s.world sound.reached (scanned scan others end) read (row_key name) named in
+      let over : IsOver any_join words (find_row words 1 (row_key name) others) (row_at any_join words scan.kept 1 (row_key name)) = reached_kept every s.world sound.reached (scanned scan others end) read (row_key name) named in
       let c = covers name w k.block k.wish s.draws scan.kept (find_row words 1 (row_key name) others) proper k.is_there over (known key) in
       let o = object_of w c.0 c.2 in
       (o.0, c.1 ∙ ap Some o.1, o.2)

@@ -1,11 +1,11 @@
 -- The acts that lead to a moment of a run are lawful, and fit.
-use Rattle.std.proofs.Common.{◌≡◌, ◌≤◌, ℕ, zero, suc, Option, Some, None, List, [], ◌∷◌, ◌++◌, refl, sym, subst, arith}
+use Rattle.std.proofs.Common.{◌≤◌, ℕ, zero, suc, Some, None, List, [], ◌∷◌, ◌++◌, sym, subst, arith}
 use Rattle.crdt_rows.specs.AnyRow.{any_join}
 use Rattle.object_schema.specs.Schema.{words}
 use Rattle.cluster_machine.specs.World.{undelivered}
 use Rattle.table_schema.specs.Words.{Words}
 use Rattle.cluster_machine.specs.Worlds.{Model, Doing, FitAll, next as world_next, run as world_run}
-use Rattle.store_model.specs.Run.{World, Moving, State, Outcome, silent, delivers, then_drains, drains}
+use Rattle.store_model.specs.Run.{World, State, Outcome, silent, delivers, then_drains, drains}
 use Rattle.store_model.specs.Acts.{Act, drain, acted, after_acts, AreLawfulActs, ActsFit}
 use Rattle.cluster_machine.specs.Choices.{Decision}
 use Rattle.store_model.specs.declared.event.Event.{Event}

@@ -28,7 +28,7 @@ use Rattle.flow_model.specs.declared.flow.Name.{Name}
 use Rattle.store_model.specs.Run.{World, State, Asked, plainly}
 use Rattle.store_laws.proofs.Places.{numbered_append, numbered_push_cases, numbered_last, numbered_within}
 use Rattle.store_laws.proofs.Good.{IsGood}
-use Rattle.store_laws.proofs.Sound.{began, IsTold, WasAcknowledged, HasAcknowledged, Drew, HasAnswered, AreProper, IsPresent, ArePresent, IsStage, IsSound}
+use Rattle.store_laws.proofs.Sound.{StoresGood, began, IsTold, WasAcknowledged, HasAcknowledged, Drew, HasAnswered, AreProper, IsPresent, ArePresent, IsStage, IsSound}
 use Rattle.store_laws.proofs.Freshness.{fresh_later, fresh_told}
 use Rattle.store_laws.proofs.Grown.{IsNew, pushed_still, pushed_at, present_asked, present_told, stage_told, drawn_told, asked_told}
 use Rattle.store_laws.proofs.Reached.{reached_step}
@@ -138,7 +138,7 @@ opened_sound s a flow flow_is id_is stage member bucket keyed lawful sound =
       | inr more ↦ old n c more
     ]) in
     record {
-      reached = reached_step s.draws s.world (plainly (Open n)) sound.reached lawful (All-nil (IsGood s.draws));
+      reached = reached_step (StoresGood s.draws) s.world (plainly (Open n)) sound.reached lawful (All-nil (IsGood s.draws)) (All-nil (IsGood s.draws));
       lengths = length_push s.asked a ∙ ap (λ (l : ℕ). l + 1) sound.lengths ∙ sym (length_push s.world.requests new) ∙ sym (ap (λ (rs : List Request). length rs) requests);
       told = opened_told s a bucket keyed sound;
       presents = subst (λ (f : ℕ → Node AnyRow Layout). (m : ℕ) → ArePresent asked s.draws history s.saw m (f m).calls) (sym nodes_are)

@@ -7,12 +7,14 @@ use Rattle.layout_roles.specs.declared.layout.Layout.{Layout}
 use Rattle.crdt_rows.specs.declared.any_row.AnyRow.{AnyRow}
 use Rattle.crdt_rows.specs.AnyRow.{any_join}
 use Rattle.object_schema.specs.Schema.{words}
+use Rattle.cluster_machine.specs.declared.step.Step.{Step}
+use Rattle.cluster_machine.specs.declared.step.Step.TheVariants.{Deliver}
 use Rattle.cluster_machine.specs.Node.{Reading}
 use Rattle.cluster_machine.specs.World.{empty, forgot, forget_delivered}
 use Rattle.cluster_machine.specs.Choices.{IsFirst}
 use Rattle.cluster_machine.specs.Kept.{KeptReads}
 use Rattle.cluster_machine.specs.Keeping.{AreDifferent}
-use Rattle.machine_origins.specs.Origins.{Gave, stored_by, stored_in}
+use Rattle.machine_origins.specs.Origins.{ComesFrom, Gave, stored_by, stored_in}
 use Rattle.machine_origins.proofs.ByOrigin.{stored_have, gave_by_origin}
 use Rattle.table_model.specs.Rows.{AllProper}
 use Rattle.cluster_machine.specs.Worlds.{IsLawfulRun, IsLawfulStart, next, run, start, installs, installed}
@@ -21,40 +23,46 @@ use Rattle.store_model.specs.Run.{World, Moving, Draw}
 use Rattle.store_laws.proofs.Every.{FromWorld, EveryWorld, run_more, lawful_more}
 use Rattle.store_laws.proofs.Alike.{IsAlike, StepsAlike, keep_forgot, effects_alike, step_alike}
 use Rattle.store_laws.proofs.Good.{IsGood, more_good, good_inherited}
-use Rattle.store_laws.proofs.Sound.{StoresGood, IsReached}
+use Rattle.store_laws.proofs.Sound.{IsReached, IsReachedBy}
 use Rattle.machine_origins.specs.Windows.{GaveWindow}
 
-goes_on : (begin : World) (moves : List Moving) (draws : List Draw) (w : World) (m : Moving) → StepsAlike w (run any_join words begin moves) m → IsLawfulRun any_join words begin moves → All (IsGood draws) (stored_by m.step) → StoresGood draws moves →
-    (then : List Moving) × IsLawfulRun any_join words begin then × IsAlike (next any_join words w m) (run any_join words begin then) × StoresGood draws then
-goes_on begin moves draws w m s lawful stores good = (
+-- each of these steps is so
+abbrev AreSo : (Step AnyRow → Type 0) → List Moving → Type 0
+AreSo IsSo moves = All (λ (m : Moving). IsSo m.step) moves
+
+goes_on : (IsSo : Step AnyRow → Type 0) (begin : World) (moves : List Moving) (w : World) (m : Moving) → StepsAlike w (run any_join words begin moves) m → IsLawfulRun any_join words begin moves → IsSo m.step → IsSo (Deliver 0) → AreSo IsSo moves →
+    (then : List Moving) × IsLawfulRun any_join words begin then × IsAlike (next any_join words w m) (run any_join words begin then) × AreSo IsSo then
+goes_on IsSo begin moves w m s lawful is none are = (
   moves ++ s.move ∷ [],
   lawful_more begin moves s.move lawful s.lawful,
   subst (IsAlike (next any_join words w m)) (sym (run_more begin moves s.move)) s.alike,
-  All-push (λ (m : Moving). All (IsGood draws) (stored_by m.step)) moves s.move good (elim s.stores [
-    | inl same ↦ subst (All (IsGood draws)) (sym same) stores
-    | inr none ↦ subst (All (IsGood draws)) (sym none) (All-nil (IsGood draws))
-  ]),
+  All-push (λ (m : Moving). IsSo m.step) moves s.move are (elim s.step_is [ inl same ↦ subst IsSo (sym same) is | inr refused ↦ subst IsSo (sym refused) none ]),
 )
 
-pub reached_step : (draws : List Draw) (w : World) (m : Moving) → IsReached draws w → IsLawfulRun any_join words w (m ∷ []) → All (IsGood draws) (stored_by m.step) → IsReached draws (next any_join words w m)
-reached_step draws w m r lawful stores =
+-- a step more, beside one of the world in which nothing was forgotten
+pub reached_alike : {IsSo : Step AnyRow → Type 0} (w : World) (m : Moving) (r : IsReachedBy IsSo w) → IsLawfulRun any_join words w (m ∷ []) → StepsAlike w (run any_join words r.begin r.moves) m
+reached_alike w m r lawful =
     let v : World = run any_join words r.begin r.moves in
-    let steps : StepsAlike w v m = subst (λ (u : World). StepsAlike u v m) (sym r.alike.is) (step_alike v w.marks r.alike.marks m.step m.choice (subst (λ (u : World). IsLawfulRun any_join words u (m ∷ [])) r.alike.is lawful)) in
-    let on = goes_on r.begin r.moves draws w m steps r.lawful stores r.stores in
-    record { before = r.before; begin = r.begin; begun = r.begun; moves = on.0; lawful = on.1; alike = on.2; before_stores = r.before_stores; stores = on.3 }
+    subst (λ (u : World). StepsAlike u v m) (sym r.alike.is) (step_alike v w.marks r.alike.marks m.step m.choice (subst (λ (u : World). IsLawfulRun any_join words u (m ∷ [])) r.alike.is lawful))
 
-stores_draws : (draws newer : List Draw) (moves : List Moving) → StoresGood draws moves → StoresGood (newer ++ draws) moves
-stores_draws draws newer moves h =
-    All-weaker (λ (m : Moving). All (IsGood draws) (stored_by m.step)) (λ (m : Moving). All (IsGood (newer ++ draws)) (stored_by m.step))
-    (λ m h. All-weaker (IsGood draws) (IsGood (newer ++ draws)) (more_good draws newer) (stored_by m.step) h) moves h
+-- it leads on where it is so, and a step that is refused is too
+pub reached_step : (IsSo : Step AnyRow → Type 0) (w : World) (m : Moving) → IsReachedBy IsSo w → IsLawfulRun any_join words w (m ∷ []) → IsSo m.step → IsSo (Deliver 0) → IsReachedBy IsSo (next any_join words w m)
+reached_step IsSo w m r lawful is none =
+    let on = goes_on IsSo r.begin r.moves w m (reached_alike w m r lawful) r.lawful is none r.are in
+    record { before = r.before; begin = r.begin; begun = r.begun; moves = on.0; lawful = on.1; alike = on.2; before_are = r.before_are; are = on.3 }
+
+-- steps that are so are so in a weaker sense
+pub reached_weaker : {IsSo IsOther : Step AnyRow → Type 0} (w : World) → ((st : Step AnyRow) → IsSo st → IsOther st) → IsReachedBy IsSo w → IsReachedBy IsOther w
+reached_weaker {IsSo = IsSo} {IsOther = IsOther} w weaker r =
+    let each : (moves : List Moving) → AreSo IsSo moves → AreSo IsOther moves = All-weaker (λ (m : Moving). IsSo m.step) (λ (m : Moving). IsOther m.step) (λ m is. weaker m.step is) in
+    record { before = r.before; begin = r.begin; begun = r.begun; moves = r.moves; lawful = r.lawful; alike = r.alike; before_are = each r.before r.before_are; are = each r.moves r.are }
 
 pub reached_draws : (draws newer : List Draw) (w : World) → IsReached draws w → IsReached (newer ++ draws) w
-reached_draws draws newer w r =
-    record { before = r.before; begin = r.begin; begun = r.begun; moves = r.moves; lawful = r.lawful; alike = r.alike; before_stores = stores_draws draws newer r.before r.before_stores; stores = stores_draws draws newer r.moves r.stores }
+reached_draws draws newer w r = reached_weaker w (λ st h. All-weaker (IsGood draws) (IsGood (newer ++ draws)) (more_good draws newer) (stored_by st) h) r
 
 -- delivered messages are forgotten
-pub reached_forgetting : (draws : List Draw) (w : World) → IsReached draws w → IsReached draws (forget_delivered w)
-reached_forgetting draws w r =
+pub reached_forgetting : {IsSo : Step AnyRow → Type 0} (w : World) → IsReachedBy IsSo w → IsReachedBy IsSo (forget_delivered w)
+reached_forgetting w r =
     let v : World = run any_join words r.begin r.moves in
     record {
       before = r.before;
@@ -63,13 +71,13 @@ reached_forgetting draws w r =
       moves = r.moves;
       lawful = r.lawful;
       alike = record { is = ap (λ (u : World). record u { marks = map forgot w.marks }) r.alike.is; marks = keep_forgot w.marks v.marks r.alike.marks };
-      before_stores = r.before_stores;
-      stores = r.stores;
+      before_are = r.before_are;
+      are = r.are;
     }
 
 -- a first layout is installed where none was applied
-pub reached_installing : (draws : List Draw) (w : World) (first : Layout) → IsFirst first → w.applied ≡ 0 → IsReached draws w → IsReached draws (installed any_join words w first)
-reached_installing draws w first is_first none r =
+pub reached_installing : {IsSo : Step AnyRow → Type 0} (w : World) (first : Layout) → IsFirst first → w.applied ≡ 0 → IsReachedBy IsSo w → IsReachedBy IsSo (installed any_join words w first)
+reached_installing {IsSo = IsSo} w first is_first none r =
     let v : World = run any_join words r.begin r.moves in
     let unused : v.applied ≡ 0 = sym (ap (λ (u : World). u.applied) r.alike.is) ∙ none in
     elim r.begun [
@@ -87,8 +95,8 @@ reached_installing draws w first is_first none r =
             moves = [];
             lawful = tt;
             alike = like;
-            before_stores = r.stores;
-            stores = All-nil (λ (m : Moving). All (IsGood draws) (stored_by m.step));
+            before_are = r.are;
+            are = All-nil (λ (m : Moving). IsSo m.step);
           }
       | inr was ↦
           let more : r.begin.applied ≤ v.applied = applied_more any_join words was.first r.begin r.moves in
@@ -96,7 +104,7 @@ reached_installing draws w first is_first none r =
           let never : ⊥ = omega (arith, more, one, unused) in absurd never
     ]
 
-module _ (every : EveryWorld) (draws : List Draw) (w : World) (r : IsReached draws w) where
+module _ (every : EveryWorld) {IsSo : Step AnyRow → Type 0} (w : World) (r : IsReachedBy IsSo w) where
   abbrev v : World
   v = run any_join words r.begin r.moves
 
@@ -106,19 +114,19 @@ module _ (every : EveryWorld) (draws : List Draw) (w : World) (r : IsReached dra
     | inr was ↦ subst (λ (u : World). FromWorld u r.before) (sym was.is) (every.from_installed r.before was.first was.lawful)
   ]
 
-  good_stores : StoresGood draws (r.before ++ r.moves)
-  good_stores = All-append (λ (m : Moving). All (IsGood draws) (stored_by m.step)) r.before r.moves r.before_stores r.stores
-
   there : (reading : Reading AnyRow) → Contains w.reads reading → Contains v.reads reading
   there reading c = subst (λ (u : World). Contains u.reads reading) r.alike.is c
+
+  -- all steps that led to it are so
+  pub reached_are : AreSo IsSo (r.before ++ r.moves)
+  reached_are = All-append (λ (m : Moving). IsSo m.step) r.before r.moves r.before_are r.are
 
   pub reached_kept : KeptReads any_join words w
   reached_kept = subst (KeptReads any_join words) (sym r.alike.is) (from.kept_reads r.moves r.lawful)
 
-  pub reached_good : (reading : Reading AnyRow) → Contains w.reads reading → Gave words (IsGood draws) reading
-  reached_good reading c =
-      gave_by_origin (IsGood draws) (good_inherited draws) (stored_in (r.before ++ r.moves)) (stored_have (IsGood draws) (r.before ++ r.moves) good_stores) reading
-      (from.stored_rows r.moves r.lawful reading (there reading c))
+  -- what a read gave comes from what they stored
+  pub reached_stored : (reading : Reading AnyRow) → Contains w.reads reading → Gave words (ComesFrom any_join words (stored_in (r.before ++ r.moves))) reading
+  reached_stored reading c = from.stored_rows r.moves r.lawful reading (there reading c)
 
   pub reached_different : (n : ℕ) → AreDifferent (w.nodes n).calls
   reached_different n = subst (λ (u : World). AreDifferent (u.nodes n).calls) (sym r.alike.is) ((from.is_sound r.moves r.lawful).different n)
@@ -126,6 +134,10 @@ module _ (every : EveryWorld) (draws : List Draw) (w : World) (r : IsReached dra
   -- what a range phase gave is a window
   pub reached_window : (reading : Reading AnyRow) → Contains w.reads reading → GaveWindow words reading
   reached_window reading c = from.windows r.moves r.lawful reading (there reading c)
+
+pub reached_good : (every : EveryWorld) (draws : List Draw) (w : World) → IsReached draws w → (reading : Reading AnyRow) → Contains w.reads reading → Gave words (IsGood draws) reading
+reached_good every draws w r reading c =
+    gave_by_origin (IsGood draws) (good_inherited draws) (stored_in (r.before ++ r.moves)) (stored_have (IsGood draws) (r.before ++ r.moves) (reached_are every w r)) reading (reached_stored every w r reading c)
 
 -- rows that nodes accepted are proper
 pub reached_proper :

@@ -10,6 +10,7 @@ use Rattle.layout_roles.specs.declared.layout.Layout.{Layout}
 use Rattle.object_schema.specs.Schema.{words}
 use Rattle.cluster_machine.specs.Node.{Question, Scan, Present, resting, asking, scanning, storing, fetching, Call}
 use Rattle.cluster_machine.specs.World.{empty, numbered}
+use Rattle.cluster_machine.specs.declared.step.Step.{Step}
 use Rattle.machine_origins.specs.Origins.{stored_by}
 use Rattle.cluster_machine.specs.Worlds.{IsLawfulRun, IsLawfulStart, run, start as first_world}
 use Rattle.history_model.specs.declared.record.Kind.{Kind}
@@ -41,9 +42,9 @@ use Rattle.blake2_hash.specs.Hash.{digest_of}
 use Rattle.crdt_rows.specs.declared.object_row.ObjectRow.{ObjectRow}
 use Rattle.store_laws.proofs.Good.{IsGood}
 
--- the rows that these steps began to store are good
-abbrev pub StoresGood : List Draw → List Moving → Type 0
-StoresGood draws moves = All (λ (m : Moving). All (IsGood draws) (stored_by m.step)) moves
+-- the rows that this step begins to store are good
+abbrev pub StoresGood : List Draw → Step AnyRow → Type 0
+StoresGood draws st = All (IsGood draws) (stored_by st)
 
 -- a layout was installed in the world, after these steps
 pub record IsInstalled (begin : World) (before : List Moving) : Type 0 where
@@ -51,16 +52,20 @@ pub record IsInstalled (begin : World) (before : List Moving) : Type 0 where
   pub lawful : IsLawfulStart any_join words before first
   pub is : begin ≡ first_world any_join words before first
 
--- the world is one that lawful steps lead to, from the empty one or from one in which a layout was installed, but that messages were forgotten; and each row that the steps began to store is good
-pub record IsReached (draws : List Draw) (w : World) : Type 0 where
+-- the world is one that lawful steps lead to, from the empty one or from one in which a layout was installed, but that messages were forgotten; and each of the steps is so
+pub record IsReachedBy (IsSo : Step AnyRow → Type 0) (w : World) : Type 0 where
   pub before : List Moving
   pub begin : World
   pub begun : ((before ≡ []) × (begin ≡ empty)) ⊎ IsInstalled begin before
   pub moves : List Moving
   pub lawful : IsLawfulRun any_join words begin moves
   pub alike : IsAlike w (run any_join words begin moves)
-  pub before_stores : StoresGood draws before
-  pub stores : StoresGood draws moves
+  pub before_are : All (λ (m : Moving). IsSo m.step) before
+  pub are : All (λ (m : Moving). IsSo m.step) moves
+
+-- each row that the steps began to store is good
+abbrev pub IsReached : List Draw → World → Type 0
+IsReached draws w = IsReachedBy (StoresGood draws) w
 
 -- the record that a request began
 abbrev pub began : ℕ → ℕ → Kind → Name → Record

@@ -1,9 +1,7 @@
 -- The state in which a run begins is sound, and it stays so with more buckets, another size of blocks, ends that are taken and messages that are forgotten.
-use Rattle.std.proofs.Common.{◌≡◌, ℕ, Bool, true, false, cond, Option, Some, None, List, [], ◌∷◌, ◌++◌, length, refl, inl, ap, ◌∙◌}
-use Rattle.std.specs.Option.{unwrap_or}
+use Rattle.std.proofs.Common.{ℕ, List, [], ◌∷◌, ◌++◌, refl, inl}
 use Rattle.std.proofs.lemmas.List.Elements.{All-nil, Contains-append_left}
 use Rattle.store_model.specs.Run.{State, start}
-use Rattle.layout_roles.specs.declared.layout.Layout.{Layout}
 use Rattle.flow_model.specs.declared.flow.FlowEnd.{FlowEnd}
 use Rattle.cluster_machine.specs.World.{empty, forget_delivered}
 use Rattle.store_laws.proofs.Elements.{no_entry, none_in}
@@ -14,7 +12,7 @@ use Rattle.store_laws.proofs.Freshness.{fresh_later}
 
 pub start_sound : IsSound start
 start_sound = record {
-  reached = record { before = []; begin = empty; begun = inl (refl, refl); moves = []; lawful = tt; alike = alike_same empty; before_stores = All-nil _; stores = All-nil _ };
+  reached = record { before = []; begin = empty; begun = inl (refl, refl); moves = []; lawful = tt; alike = alike_same empty; before_are = All-nil _; are = All-nil _ };
   lengths = refl;
   told = record {
     began_asked = λ q n kind name c. absurd (none_in _ c);
@@ -98,7 +96,7 @@ ends_sound s ends sound = record {
 
 pub forgetting_sound : (s : State) → IsSound s → IsSound (record s { world = forget_delivered s.world })
 forgetting_sound s sound = record {
-  reached = reached_forgetting s.draws s.world sound.reached;
+  reached = reached_forgetting s.world sound.reached;
   lengths = sound.lengths;
   told = sound.told;
   presents = sound.presents;

@@ -26,7 +26,7 @@ use Rattle.cluster_machine.proofs.Closing.{length_shut}
 use Rattle.store_model.specs.Run.{State, Moving, Asked, doing, effect}
 use Rattle.store_laws.proofs.Calm.{IsCalm}
 use Rattle.store_laws.proofs.Good.{IsGood}
-use Rattle.store_laws.proofs.Sound.{IsReached, IsProper, AreProper, WaitsAt, IsPresent, ArePresent, IsSound}
+use Rattle.store_laws.proofs.Sound.{StoresGood, IsReached, IsProper, AreProper, WaitsAt, IsPresent, ArePresent, IsSound}
 use Rattle.store_laws.proofs.Freshness.{fresh_later}
 use Rattle.store_laws.proofs.Grown.{kept_later}
 use Rattle.store_laws.proofs.Reached.{reached_step, reached_installing}
@@ -58,12 +58,12 @@ effects_sound s e sound reached fine =
     }
 
 pub step_sound : (s : State) (m : Moving) → IsSound s → IsLawfulRun any_join words s.world (m ∷ []) → All (IsGood s.draws) (stored_by m.step) → IsFine s (effect s m) → IsSound (doing s m)
-step_sound s m sound lawful stores fine = effects_sound s (effect s m) sound (reached_step s.draws s.world m sound.reached lawful stores) fine
+step_sound s m sound lawful stores fine = effects_sound s (effect s m) sound (reached_step (StoresGood s.draws) s.world m sound.reached lawful stores (All-nil (IsGood s.draws))) fine
 
 -- a first layout is installed where none was applied: calls stay
 pub installing_sound : (s : State) (first : Layout) → IsFirst first → s.world.applied ≡ 0 → IsSound s → IsSound (record s { world = installed any_join words s.world first })
 installing_sound s first is_first none sound =
-    effects_sound s (installs any_join words s.world first) sound (reached_installing s.draws s.world first is_first none sound.reached) (record {
+    effects_sound s (installs any_join words s.world first) sound (reached_installing s.world first is_first none sound.reached) (record {
       opens = refl;
       presents = λ n. elim (is_among n (reading.members first)) as (λ b. ArePresent s.asked s.draws s.history s.saw n (unwrap_or (cond b (Some (appends layouts (s.world.nodes n) first)) None) (s.world.nodes n)).calls) [ true ↦ sound.presents n | false ↦ sound.presents n ];
       keeps = All-nil IsProper;

@@ -156,7 +156,7 @@ module _ (every : EveryWorld) (s : State) (q : ℕ) (sound : IsSound s) (value :
     covered before after n kind w cut ack =
         let name : Name = a.name in
         let k : HasKept h.question.kept name w = h.is_asking.has before after n kind name cut name w ack in
-        let over : IsOver any_join words value (row_at any_join words h.question.kept h.question.table h.question.key) = reached_kept every s.draws s.world sound.reached (read h.question value) h.is_there in
+        let over : IsOver any_join words value (row_at any_join words h.question.kept h.question.table h.question.key) = reached_kept every s.world sound.reached (read h.question value) h.is_there in
         let over_row : IsOver any_join words value (row_at any_join words h.question.kept 1 (row_key name)) =
         subst (λ (i : List ℕ). IsOver any_join words value (row_at any_join words h.question.kept 1 i)) asked_row.1 (subst (λ (t : ℕ). IsOver any_join words value (row_at any_join words h.question.kept t h.question.key)) asked_row.0 over) in
         let c = covers name w k.block k.wish s.draws h.question.kept value h.is_asking.proper k.is_there over_row value_known in

@@ -57,7 +57,7 @@ module _ {R : Type 0} (join : R → R → R) (s : Words R) (first : Layout) wher
   IsRunFirst w ms = IsRun join s layouts first same_roles 256 w ms
 
   -- where a version was applied, or none is in this step, the first layout plays no part
-  step_same : (w : Model R) (step : Step R) (choice : Decision) → (1 ≤ w.applied) ⊎ ((next join s w (record { step = step; choice = choice })).applied ≡ 0) →
+  pub step_same : (w : Model R) (step : Step R) (choice : Decision) → (1 ≤ w.applied) ⊎ ((next join s w (record { step = step; choice = choice })).applied ≡ 0) →
       does join s w (record { step = step; choice = choice }) ≡ does_first w (record { step = step; choice = choice })
   step_same w Trio choice h =
       let is_taken : leb 1 w.applied ≡ true = elim h [
