@@ -5,9 +5,8 @@ use Rattle.lab_outside.specs.declared.exit.Status.TheVariants.{Done, Refused, Us
 use Rattle.lab_outside.specs.Bytes.{Wrote, WrotePrefix}
 use Rattle.store_model.specs.declared.event.Numbered.{Numbered}
 use Rattle.store_model.specs.Run.{start}
-use Rattle.store_model.specs.Acts.{Act, AreLawfulActs, ActsFit}
-use Rattle.store_model.specs.Events.{Turn, acts_of, events_of, run, AreScheduled}
-use Rattle.store_model.specs.Moments.{IsMoment, between, AtEachMoment}
+use Rattle.store_model.specs.Events.{Turn, acts_of, events_of, run}
+use Rattle.store_model.specs.Moments.{between, AtEachMoment}
 use Rattle.store_model.specs.Fresh.{NoClash}
 use Rattle.text_model.specs.Reading.{Reading, schedule, bad_line as first_bad, too_many, reading, IsSchedule}
 use Rattle.text_model.specs.Transcript.{turns_text, transcript}
@@ -21,7 +20,8 @@ use Rattle.garage_lab.specs.declared.stop.Stop.TheVariants.{Read, Write, Memory,
 use Rattle.replay_run.specs.Replay.{number_line, sent_line, ArePlayed, IsReplay, whole, number, sent, unshown}
 use Rattle.replay_run.proofs.Leading.{played_fits}
 use Rattle.replay_run.proofs.Checked.{line_is_fresh}
-use Rattle.garage_lab.specs.Replay.{KeepsPromises, IsTranscribed, checked_transcript, IsChecked}
+use Rattle.store_anchors.specs.Promises.{KeepsPromises, EveryRunKeepsPromises}
+use Rattle.garage_lab.specs.Replay.{IsTranscribed, checked_transcript, IsChecked}
 use Rattle.layout_command.specs.Answer.{IsAnswer as IsLayoutAnswer}
 use Rattle.layout_command.specs.Moves.{IsMovesAnswer}
 use Rattle.lab_main.specs.Ends.{said, cut_off, usage_line}
@@ -214,21 +214,9 @@ module _ (account : Account) (input : List ℕ) (result : Status) (old mid new :
   stopped_prefix Number h says = nearly_prefix account input Limit result number_line old mid new faults risen h says
   stopped_prefix Sent h says = nearly_prefix account input Limit result sent_line old mid new faults risen h says
 
--- what is promised holds of lawful acts of a schedule
-abbrev pub AlwaysKept : Type 0
-AlwaysKept = (acts : List Act) → AreScheduled acts → AreLawfulActs start acts → ActsFit start acts → KeepsPromises acts
-
--- the acts that lead to a moment are lawful ones of a schedule
-pub record Momentary : Type 0 where
-  pub runs : (acts moment : List Act) → AreLawfulActs start acts → ActsFit start acts → IsMoment acts moment → AreLawfulActs start moment × ActsFit start moment
-  pub scheduled : (acts moment : List Act) → AreScheduled acts → IsMoment acts moment → AreScheduled moment
-  pub events : (turns : List Turn) → AreScheduled (acts_of turns)
-
--- and at each moment of turns that were played
-played_promises : AlwaysKept → Momentary → (turns : List Turn) → ArePlayed turns → AtEachMoment KeepsPromises (acts_of turns)
-played_promises kept moments turns played moment is =
-    let r = moments.runs (acts_of turns) moment played.lawful (played_fits start turns played.go_on) is in
-    kept moment (moments.scheduled (acts_of turns) moment (moments.events turns) is) r.0 r.1
+-- what is promised holds at each moment of turns that were played
+played_promises : EveryRunKeepsPromises → (turns : List Turn) → ArePlayed turns → AtEachMoment KeepsPromises (acts_of turns)
+played_promises kept turns played = kept (acts_of turns) played.lawful (played_fits start turns played.go_on)
 
 -- the text is the whole account of what the input spells
 record IsOfTurns (account : Account) (input text : List ℕ) : Type 0 where
@@ -262,15 +250,15 @@ done_of_turns asked account input text asks (replayed other events is short spel
 plain_text : (turns : List Turn) (text : List ℕ) → IsText Transcript turns text → text ≡ transcript turns
 plain_text turns text h = h.text_is ∙ ap (λ t. turns_text start turns ++ t) (h.ends.text_is ∙ ap (λ line. closing (length turns) (run start turns) line) h.ends.is_line)
 
-pub done_transcribes : (asked : Option Command) (input : List ℕ) (old new : Option (List ℕ)) → asked ≡ Some (Replay Transcript) → AlwaysKept → Momentary → Answers asked input Done old new → IsTranscribed input old new
-done_transcribes asked input old new asks kept moments h =
+pub done_transcribes : (asked : Option Command) (input : List ℕ) (old new : Option (List ℕ)) → asked ≡ Some (Replay Transcript) → EveryRunKeepsPromises → Answers asked input Done old new → IsTranscribed input old new
+done_transcribes asked input old new asks kept h =
     let done = done_of_turns asked Transcript input h.text asks h.stated in
     record {
       turns = done.turns;
       schedule = done.schedule;
       played = done.played;
       wrote = subst (Wrote old new) (plain_text done.turns h.text done.is_text) h.wrote;
-      promises = played_promises kept moments done.turns done.played;
+      promises = played_promises kept done.turns done.played;
     }
 
 -- and where all reads are fresh, with a check that says so
@@ -278,10 +266,10 @@ check_is_fresh : (turns : List Turn) (text : List ℕ) → KeepsPromises (acts_o
 check_is_fresh turns text kept h apart =
     h.text_is ∙ ap (λ t. turns_text start turns ++ t) (h.ends.text_is ∙ ap (λ line. closing (length turns) (run start turns) line) (line_is_fresh (run start turns).history h.ends.line (kept.recorded apart) h.ends.is_line))
 
-pub done_checks : (asked : Option Command) (input : List ℕ) (old new : Option (List ℕ)) → asked ≡ Some (Replay Checked) → AlwaysKept → Momentary → Answers asked input Done old new → IsChecked input old new
-done_checks asked input old new asks kept moments h =
+pub done_checks : (asked : Option Command) (input : List ℕ) (old new : Option (List ℕ)) → asked ≡ Some (Replay Checked) → EveryRunKeepsPromises → Answers asked input Done old new → IsChecked input old new
+done_checks asked input old new asks kept h =
     let done = done_of_turns asked Checked input h.text asks h.stated in
-    let promises = played_promises kept moments done.turns done.played in
+    let promises = played_promises kept done.turns done.played in
     record {
       turns = done.turns;
       schedule = done.schedule;

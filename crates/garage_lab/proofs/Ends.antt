@@ -16,11 +16,12 @@ use Rattle.replay_run.specs.declared.stop.ReplayStop.{ReplayStop}
 use Rattle.replay_run.specs.declared.stop.ReplayStop.TheVariants as halt
 use Rattle.replay_run.specs.Replay.{number_line, sent_line, whole}
 use Rattle.replay_run.specs.Stop.{IsPart, of_turns, of_all, IsWhole, LacksLine, Halts as RunHalts}
+use Rattle.store_anchors.specs.Promises.{EveryRunKeepsPromises}
 use Rattle.garage_lab.specs.Replay.{IsTranscribed, IsChecked}
 use Rattle.lab_main.specs.Ends.{said, cut_off, usage_line}
 use Rattle.garage_lab.specs.Answer.{input_limit, IsAnswer, long_input, bad_line, many_events, replayed, IsStated, Answers, AnswersPrefix, ReplayPrefix, nothing_yet, of_stated, of_events, Completes, IsAnswered, Says, ended, unsaid}
 use Rattle.garage_lab.specs.Stop.{status_of, said_of, stop_of_replay, Halts, IsNearly, IsOfInput}
-use Rattle.garage_lab.proofs.Answering.{OneStatus, OneMovesStatus, AlwaysKept, Momentary, stated_prefix, unknown_prefix, stopped_answers, stopped_prefix, done_transcribes, done_checks, is_answered, completes}
+use Rattle.garage_lab.proofs.Answering.{OneStatus, OneMovesStatus, stated_prefix, unknown_prefix, stopped_answers, stopped_prefix, done_transcribes, done_checks, is_answered, completes}
 use Rattle.lab_outside.proofs.Bytes.{wrote_none}
 use Rattle.lab_outside.proofs.Rose.{rose_before, rose_after}
 
@@ -129,12 +130,12 @@ some_done Says (Some bytes) asked result old new does answers e =
     let P : Status → Type 0 = λ s. IsStated s → Answers asked bytes s old new in
     does bytes (subst P e answers tt)
 
-module _ (left : Option (List ℕ)) (asked : Option Command) (result : Status) (old new : Option (List ℕ)) (kept : AlwaysKept) (moments : Momentary) (answers : IsStated result → IfSome left (λ bytes. Answers asked bytes result old new)) where
+module _ (left : Option (List ℕ)) (asked : Option Command) (result : Status) (old new : Option (List ℕ)) (kept : EveryRunKeepsPromises) (answers : IsStated result → IfSome left (λ bytes. Answers asked bytes result old new)) where
   pub some_transcribes : asked ≡ Some (Replay Transcript) → result ≡ Done → IfSome left (λ bytes. IsTranscribed bytes old new)
-  some_transcribes asks e = some_done (λ bytes. IsTranscribed bytes old new) left asked result old new (λ bytes h. done_transcribes asked bytes old new asks kept moments h) answers e
+  some_transcribes asks e = some_done (λ bytes. IsTranscribed bytes old new) left asked result old new (λ bytes h. done_transcribes asked bytes old new asks kept h) answers e
 
   pub some_checks : asked ≡ Some (Replay Checked) → result ≡ Done → IfSome left (λ bytes. IsChecked bytes old new)
-  some_checks asks e = some_done (λ bytes. IsChecked bytes old new) left asked result old new (λ bytes h. done_checks asked bytes old new asks kept moments h) answers e
+  some_checks asks e = some_done (λ bytes. IsChecked bytes old new) left asked result old new (λ bytes h. done_checks asked bytes old new asks kept h) answers e
 
 module _ (asked : Option Command) (result : Status) (old new : Option (List ℕ)) (Reads Writes : Type 0) (reads : result ≡ ReadFault → Reads) (writes : result ≡ WriteFault → Writes) (links : result ≡ LinkFault → ⊥) where
   pub some_answered : (left : Option (List ℕ)) → (IsStated result → IfSome left (λ bytes. Answers asked bytes result old new)) →

@@ -2,32 +2,15 @@
 use Rattle.std.specs.Prelude.{◌≡◌, ℕ, List, ◌++◌, length, Option}
 use Rattle.lab_outside.specs.Bytes.{Wrote}
 use Rattle.store_model.specs.Run.{start}
-use Rattle.history_model.specs.Fresh.{Fresh}
-use Rattle.store_model.specs.Acts.{Act, after_acts}
 use Rattle.store_model.specs.Events.{Turn, acts_of, events_of, run}
 use Rattle.store_model.specs.Moments.{AtEachMoment}
-use Rattle.store_model.specs.Fresh.{NoClash, IsFresh}
-use Rattle.store_model.specs.Equal.{AreEqual}
-use Rattle.store_model.specs.Written.{GivesWhatWasWritten}
-use Rattle.store_laws.specs.Promised.{GoesOn, IsRightlySuperseded, IsAnchored}
-use Rattle.store_anchors.specs.Stored.{BlocksDiffer}
-use Rattle.store_anchors.specs.Whole.{GivesAllBytes}
+use Rattle.store_model.specs.Fresh.{NoClash}
+use Rattle.store_anchors.specs.Promises.{KeepsPromises}
 use Rattle.text_model.specs.Reading.{IsSchedule}
 use Rattle.text_model.specs.Transcript.{turns_text, transcript}
 use Rattle.replay_run.specs.declared.account.Account.TheVariants.{Checked}
 use Rattle.replay_run.specs.Account.{IsText, fresh_line, closing}
 use Rattle.replay_run.specs.Replay.{ArePlayed}
-
--- what is promised of acts: answered reads are fresh, also by the records alone where the buckets' names have different digests; what they tell of a version's bytes is as was written, also of bytes in blocks where no two blocks have one digest; a get or copy ends superseded only where what it read was overwritten, and no request waits for what never comes; replicas are equal; and acknowledged blocks that are not deleted lie at a node with a live reference
-pub record KeepsPromises (acts : List Act) : Type 0 where
-  pub fresh : IsFresh (after_acts start acts)
-  pub recorded : NoClash (after_acts start acts).buckets → Fresh (after_acts start acts).history
-  pub written : GivesWhatWasWritten acts
-  pub whole : BlocksDiffer acts → GivesAllBytes acts
-  pub superseded : IsRightlySuperseded acts
-  pub goes_on : GoesOn (after_acts start acts)
-  pub equal : AreEqual acts
-  pub anchored : BlocksDiffer acts → IsAnchored acts
 
 -- what was written for this input is the whole transcript of its events with the layouts that the text prints; each of them is of the greatest partition size, with its printed cut; after each step everything fits, and no more was sent than may be; and at each moment of that run, within drains too, what is promised holds
 pub record IsTranscribed (input : List ℕ) (old new : Option (List ℕ)) : Type 0 where

@@ -20,11 +20,7 @@ use lab_outside::{Clock, Link, Sink, Source, Status};
 use layout_command::{one_moves_status, one_status};
 use replay_run::Account;
 use std::alloc::Global;
-use store_anchors::{acknowledged_blocks_are_anchored, gets_read_whole_versions};
-use store_laws::{
-    fresh_reads, moments_are_runs, reads_give_what_was_written, records_are_fresh,
-    replicas_are_equal,
-};
+use store_anchors::promises_are_kept;
 
 /// What is said of the first line outside the grammar.
 fn bad_line(alloc: Global, line: u64) -> Result<Bytes, Memory>
@@ -253,13 +249,7 @@ pub fn run<I: Source, O: Sink, L: Link, C: Clock>(
     ensures link { _link.new ≡ _link.old }
     ensures clock { _clock.new ≡ _clock.old }
 {
-    fresh_reads();
-    records_are_fresh();
-    reads_give_what_was_written();
-    gets_read_whole_versions();
-    replicas_are_equal();
-    acknowledged_blocks_are_anchored();
-    moments_are_runs();
+    promises_are_kept();
     one_status();
     one_moves_status();
     some_answer_is_stated();

@@ -1,6 +1,10 @@
-//! Blocks lie with their references in every run of the object store, and gets read whole versions. No body does anything:
-//! each is called for its contract.
+//! Blocks lie with their references in every run of the object store, and gets read whole versions; and all that is
+//! promised of a run in one law, `promises_are_kept`. No body does anything: each is called for its contract.
 #![tactic(auto)]
+
+mod promises;
+
+pub use promises::promises_are_kept;
 
 ghost use Rattle.std.specs.Prelude.{List};
 ghost use Rattle.store_model.specs.Run.{start};

@@ -1,5 +1,5 @@
 -- What is written of a workload.
-use Rattle.std.proofs.Common.{◌≡◌, ◌⊎◌, inl, inr, ℕ, Option, List, [], ◌∷◌, ◌++◌, refl, sym, ap, ◌∙◌, subst}
+use Rattle.std.proofs.Common.{◌≡◌, ◌⊎◌, inl, inr, ℕ, Option, List, [], ◌∷◌, ◌++◌, length, append-nil, refl, sym, ap, ◌∙◌, subst}
 use Rattle.lab_outside.specs.declared.exit.Status.{Status}
 use Rattle.lab_outside.specs.declared.exit.Status.TheVariants.{Done, WriteFault, Memory as MemoryStatus, Limit}
 use Rattle.lab_outside.specs.Rose.{Rose}
@@ -8,16 +8,16 @@ use Rattle.lab_outside.proofs.Bytes.{wrote_more, wrote_prefix_after, wrote_prefi
 use Rattle.lab_main.specs.Ends.{Ends, said, cut_off}
 use Rattle.lab_main.proofs.Writing.{wrote_nothing}
 use Rattle.store_model.specs.Run.{start}
-use Rattle.store_model.specs.Acts.{Act, after_acts, AreLawfulActs, ActsFit}
+use Rattle.store_model.specs.Moments.{IsMoment, between, AtEachMoment}
+use Rattle.store_anchors.specs.Promises.{KeepsPromises, EveryRunKeepsPromises}
 use Rattle.store_model.specs.Events.{Turn, acts_of, run}
 use Rattle.store_model.specs.Fresh.{NoClash}
-use Rattle.history_model.specs.Fresh.{Fresh}
 use Rattle.replay_run.specs.declared.account.Account.{Account}
 use Rattle.replay_run.specs.declared.account.Account.TheVariants.{Summary}
 use Rattle.replay_run.specs.declared.stop.ReplayStop.{ReplayStop}
 use Rattle.replay_run.specs.declared.stop.ReplayStop.TheVariants.{Write, Memory, Number, Sent}
 use Rattle.replay_run.specs.Account.{IsText, summary_lines, closing, fresh_line}
-use Rattle.replay_run.specs.Replay.{number_line, sent_line, IsReplay, whole, number, sent, unshown}
+use Rattle.replay_run.specs.Replay.{number_line, sent_line, ArePlayed, IsReplay, whole, number, sent, unshown}
 use Rattle.replay_run.specs.Stop.{IsPart, of_turns, of_all, IsWhole, LacksLine, Halts}
 use Rattle.replay_run.proofs.Leading.{played_fits}
 use Rattle.replay_run.proofs.Checked.{line_is_fresh}
@@ -62,16 +62,18 @@ module _ (count seed : ℕ) (old : Option (List ℕ)) where
     halted_begins Number h n s w m = line_begins number_line result mid new faults risen h (n refl)
     halted_begins Sent h n s w m = line_begins sent_line result mid new faults risen h (s refl)
 
--- the records of every run are fresh
-abbrev pub AlwaysFresh : Type 0
-AlwaysFresh = (acts : List Act) → AreLawfulActs start acts → ActsFit start acts → NoClash (after_acts start acts).buckets → Fresh (after_acts start acts).history
-
 -- what Done says
-module _ (always : AlwaysFresh) (count seed : ℕ) (old new : Option (List ℕ)) where
-  summary_is_fresh : (turns : List Turn) (text : List ℕ) → AreLawfulActs start (acts_of turns) → ActsFit start (acts_of turns) → IsText (Summary count seed) turns text → NoClash (run start turns).buckets → text ≡ fresh_summary count seed turns
-  summary_is_fresh turns text lawful fit h apart =
+module _ (always : EveryRunKeepsPromises) (count seed : ℕ) (old new : Option (List ℕ)) where
+  kept : (turns : List Turn) → ArePlayed turns → AtEachMoment KeepsPromises (acts_of turns)
+  kept turns played = always (acts_of turns) played.lawful (played_fits start turns played.go_on)
+
+  at_last : (turns : List Turn) → IsMoment (acts_of turns) (acts_of turns)
+  at_last turns = between (acts_of turns) [] (sym (append-nil (acts_of turns)))
+
+  summary_is_fresh : (turns : List Turn) (text : List ℕ) → ArePlayed turns → IsText (Summary count seed) turns text → NoClash (run start turns).buckets → text ≡ fresh_summary count seed turns
+  summary_is_fresh turns text played h apart =
       h.text_is ∙ h.ends.text_is
-      ∙ ap (λ line. summary_lines count seed (run start turns) ++ closing (length turns) (run start turns) line) (line_is_fresh (run start turns).history h.ends.line (always (acts_of turns) lawful fit apart) h.ends.is_line)
+      ∙ ap (λ line. summary_lines count seed (run start turns) ++ closing (length turns) (run start turns) line) (line_is_fresh (run start turns).history h.ends.line ((kept turns played (acts_of turns) (at_last turns)).recorded apart) h.ends.is_line)
 
   summarized : (text : List ℕ) → IsAnswer count seed Done text → Wrote old new text → IsSummarized count seed old new
   summarized text (whole turns are played e is) wrote = record {
@@ -80,8 +82,9 @@ module _ (always : AlwaysFresh) (count seed : ℕ) (old new : Option (List ℕ))
     played = played;
     text = text;
     is_text = is;
-    is_fresh = summary_is_fresh turns text played.lawful (played_fits start turns played.go_on) is;
+    is_fresh = summary_is_fresh turns text played is;
     wrote = wrote;
+    promises = kept turns played;
   }
   summarized text (number before stops e w) wrote = cc
   summarized text (sent before stops e w) wrote = cc

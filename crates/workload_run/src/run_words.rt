@@ -13,7 +13,7 @@ use lab_main::{ends, usage};
 use lab_outside::{Sink, Status};
 use replay_run::{Account, ReplayStop, replay};
 use std::alloc::Global;
-use store_laws::records_are_fresh;
+use store_anchors::promises_are_kept;
 use workload::schedule;
 
 /// Replays the schedule of a workload, and writes the summary.
@@ -66,7 +66,7 @@ fn summarized<O: Sink>(alloc: Global, asked: Asked, output: &mut O) -> Status
 pub fn run<O: Sink>(alloc: Global, words: &[String], output: &mut O) -> Status
     // After Done what was written is the summary of a replay of the workload's schedule: how its requests ended, how many
     // layout versions were applied, the lines of the nodes, the line of the check of all reads, and the numbers of events,
-    // requests and messages.
+    // requests and messages. At each moment of that run, within drains too, what is promised of the store holds.
     ensures done { (count seed : ℕ) → AsksFor (map string_bytes words.now) count seed → result ≡ Status.Done → IsSummarized count seed (O.written output.old) (O.written output.new) }
 
     // Done and Limit come with the whole text that is stated: the summary, or the line of the limit alone. Whatever the
@@ -82,7 +82,7 @@ pub fn run<O: Sink>(alloc: Global, words: &[String], output: &mut O) -> Status
     // WriteFault comes only where the count of the output's faults rose in this call.
     ensures write_fault { result ≡ Status.WriteFault → Rose (O.faults output.old) (O.faults output.new) }
 {
-    records_are_fresh();
+    promises_are_kept();
     match asked_by(words) {
         Some(asked) => summarized(alloc, asked, output),
         None => usage(output),

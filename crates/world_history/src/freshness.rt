@@ -53,7 +53,7 @@ fn each_fresh(records: &[Record]) -> bool
 
 /// Whether each finished read shows what it owes.
 pub fn fresh(alloc: Global, h: &History) -> Result<bool, Memory>
-    ensures fresh { IfOk result (λ yes. IsTrue yes ↔ Fresh h.now.0) }
+    ensures told { IfOk result (λ yes. IsTrue yes ↔ Fresh h.now.0) }
     ensures want { OnlyWant result }
 {
     let _ = alloc;

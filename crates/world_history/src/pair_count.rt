@@ -7,8 +7,8 @@ ghost use Rattle.world_history.specs.Checks.{owed};
 use crate::finish::{acknowledged, finish};
 use crate::read::names;
 use crdt_core::{Bytes, Memory};
-use std::alloc::Global;
 use history_model::{History, Kind, Record};
+use std::alloc::Global;
 
 // Whether a write of a key that the read names began at this place, and was acknowledged before place i.
 fn is_owed(
@@ -75,7 +75,7 @@ fn pairs_at(records: &[Record], i: usize) -> usize
 /// How many pairs there are of a finished read and a write, acknowledged before that read began, of a key that
 /// it names: 2^64 - 1 where there are more.
 pub fn pairs(alloc: Global, h: &History) -> Result<u64, Memory>
-    ensures count { IfOk result (λ n. n ≡ min (pair_count h.now.0) (2 ^ 64 - 1)) }
+    ensures counted { IfOk result (λ n. n ≡ min (pair_count h.now.0) (2 ^ 64 - 1)) }
     ensures want { OnlyWant result }
 {
     let _ = alloc;

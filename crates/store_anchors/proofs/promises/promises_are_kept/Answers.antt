@@ -1,0 +1,15 @@
+use Rattle.store_anchors.proofs.promises.promises_are_kept.Goals as goal
+
+pub returns : goal.returns
+returns c acts lawful fit moment is =
+    let run = c.moments_are_runs.ensures.runs acts moment lawful fit is in
+    record {
+      fresh = c.fresh_reads.ensures moment run.0 run.1;
+      recorded = c.records_are_fresh.ensures moment run.0 run.1;
+      written = c.reads_give_what_was_written.ensures moment run.0 run.1;
+      whole = c.gets_read_whole_versions.ensures.bytes moment run.0 run.1;
+      superseded = c.gets_read_whole_versions.ensures.superseded moment run.0 run.1;
+      goes_on = c.gets_read_whole_versions.ensures.goes_on moment run.0 run.1;
+      equal = c.replicas_are_equal.ensures moment run.0 run.1;
+      anchored = c.acknowledged_blocks_are_anchored.ensures moment run.0 run.1;
+    }

@@ -1,0 +1,27 @@
+-- What is promised of a run of the store.
+use Rattle.std.specs.Prelude.{List}
+use Rattle.history_model.specs.Fresh.{Fresh}
+use Rattle.store_model.specs.Run.{start}
+use Rattle.store_model.specs.Acts.{Act, after_acts, AreLawfulActs, ActsFit}
+use Rattle.store_model.specs.Moments.{AtEachMoment}
+use Rattle.store_model.specs.Fresh.{NoClash, IsFresh}
+use Rattle.store_model.specs.Equal.{AreEqual}
+use Rattle.store_model.specs.Written.{GivesWhatWasWritten}
+use Rattle.store_laws.specs.Promised.{GoesOn, IsRightlySuperseded, IsAnchored}
+use Rattle.store_anchors.specs.Stored.{BlocksDiffer}
+use Rattle.store_anchors.specs.Whole.{GivesAllBytes}
+
+-- what is promised of acts: answered reads are fresh, also by the records alone where the buckets' names have different digests; what they tell of a version's bytes is as was written, also of bytes in blocks where no two blocks have one digest; a get or copy ends superseded only where what it read was overwritten, and no request waits for what never comes; replicas are equal; and acknowledged blocks that are not deleted lie at a node with a live reference
+pub record KeepsPromises (acts : List Act) : Type 0 where
+  pub fresh : IsFresh (after_acts start acts)
+  pub recorded : NoClash (after_acts start acts).buckets → Fresh (after_acts start acts).history
+  pub written : GivesWhatWasWritten acts
+  pub whole : BlocksDiffer acts → GivesAllBytes acts
+  pub superseded : IsRightlySuperseded acts
+  pub goes_on : GoesOn (after_acts start acts)
+  pub equal : AreEqual acts
+  pub anchored : BlocksDiffer acts → IsAnchored acts
+
+-- at each moment of every run of lawful acts after which everything fits, within drains too, it holds
+abbrev pub EveryRunKeepsPromises : Type 0
+EveryRunKeepsPromises = (acts : List Act) → AreLawfulActs start acts → ActsFit start acts → AtEachMoment KeepsPromises acts
