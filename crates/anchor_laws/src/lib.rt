@@ -6,8 +6,8 @@
 //! `object_origins`): a store phase began to store a newer version of the same bucket id and key complete, or the version
 //! itself aborted. `undeleted_references_are_anchored` says it where each identifier stands for one version of one object.
 //!
-//! Two computed runs show that what the laws ask of runs is met together, and when a block goes. They are over one
-//! reference to one block (`specs/OneReference.antt`), and worked out by hand from the machine's rules.
+//! Four computed runs show that what the laws ask of runs is met together, what it refuses, and when a block goes. They are
+//! over one reference to one block (`specs/OneReference.antt`), and worked out by hand from the machine's rules.
 //!
 //! `R` is what a row is, `L` what a layout is, `A` what is printed of one, `C` what shows that there is none; `digest` is
 //! the function that names blocks, whatever it is.
@@ -38,7 +38,7 @@ ghost use Rattle.machine_reads.specs.Holders.{AreTwo};
 ghost use Rattle.cluster_machine.specs.Blocks.{StepBringsBlocks};
 ghost use Rattle.object_origins.specs.Gone.{WasStored, IsOverwritten, IsGone, AreDrawn, deletes_nothing};
 ghost use Rattle.anchor_laws.specs.Anchored.{HoldsWithBlock, Anchors};
-ghost use Rattle.anchor_laws.specs.OneReference.{references, either, digest, live, block, put, put_and_deleted, after, answer, plain};
+ghost use Rattle.anchor_laws.specs.OneReference.{references, either, digest, live, deleted, block, put, put_without_block, put_of_block, put_and_deleted, after, answer, plain};
 
 use block_laws::every_node_has_its_blocks;
 use crdt_rows::AnyRow;
@@ -104,6 +104,25 @@ pub fn a_kept_reference_has_its_block()
     ensures kept { (after put).kept ≡ live ∷ [] }
     ensures first { ((after put).nodes 1).blocks ≡ block ∷ [] }
     ensures third { ((after put).nodes 3).blocks ≡ [] }
+{}
+
+/// A reference that is stored without its block is kept all the same, and no node has the block. The premise that rows come
+/// with their blocks refuses such a run.
+pub fn a_reference_alone_is_refused()
+    ensures kept { (after put_without_block).kept ≡ live ∷ [] }
+    ensures first { ((after put_without_block).nodes 1).blocks ≡ [] }
+    ensures second { ((after put_without_block).nodes 2).blocks ≡ [] }
+    ensures third { ((after put_without_block).nodes 3).blocks ≡ [] }
+    ensures refused { ¬ (All (λ m. StepBringsBlocks digest references m.step) put_without_block) }
+{}
+
+/// A block that comes before its reference, beside a row that needs none, isn't kept by the nodes that confirm that row. The
+/// premise refuses this run too.
+pub fn a_block_alone_is_refused()
+    ensures kept { (after put_of_block).kept ≡ deleted ∷ [] }
+    ensures first { ((after put_of_block).nodes 1).blocks ≡ [] }
+    ensures second { ((after put_of_block).nodes 2).blocks ≡ [] }
+    ensures refused { ¬ (All (λ m. StepBringsBlocks digest references m.step) put_of_block) }
 {}
 
 /// A block stays while a reference to it is live, and 600,000 milliseconds after the last one was deleted it goes.

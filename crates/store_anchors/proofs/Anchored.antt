@@ -41,7 +41,7 @@ use Rattle.store_laws.proofs.Sound.{IsReachedBy}
 use Rattle.store_anchors.specs.Stored.{blocks_of, BlocksDiffer}
 use Rattle.store_anchors.proofs.Kept.{Past, HasPiece, HasAll, IsLong, IsRowOf, row_deletes_nothing}
 use Rattle.store_anchors.proofs.Laid.{past, IsStepOf, still_of}
-use Rattle.store_anchors.proofs.Machine.{IsEndOf, end_of}
+use Rattle.store_anchors.proofs.Machine.{IsEndOf, reached_end}
 use Rattle.store_anchors.proofs.Acts.{IsHeld, held}
 use Rattle.store_anchors.proofs.Among.{digest_among, digest_there, steps_among}
 use Rattle.store_anchors.proofs.Cited.{Cited}
@@ -122,7 +122,7 @@ module _ (cited : Cited) (references : References) (acts : List Act) (lawful : A
     anchored_at d c i drawn has fresh =
         let r : RefRow = record { hash = piece_hash d.block c.body i; id = d.version.id; deleted = record { 0 = false } } in
         let v : World = run any_join words reached.begin reached.moves in
-        let ends : IsEndOf (IsStepOf ms) v = end_of cited.every s.world reached (still_of ms step.Trio tt refl refl) in
+        let ends : IsEndOf (IsStepOf ms) v = reached_end cited.every s.world reached (still_of ms step.Trio tt refl refl) in
         let stored : List AnyRow = stored_in ends.moves in
         let each : (r : AnyRow) → Contains stored r → IsRowOf p r = λ r c. each_stored r (come_from ends r c) in
         let two : AreTwo (Anchors named v r) =

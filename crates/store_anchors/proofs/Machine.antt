@@ -73,5 +73,5 @@ module _ (every : EveryWorld) {IsSo : Step AnyRow → Type 0} (w : World) (r : I
         are = All-append (λ (m : Moving). IsSo m.step) r.before (first_step ∷ r.moves) r.before_are (All-cons (λ (m : Moving). IsSo m.step) first_step r.moves is r.are);
       })
 
-  pub end_of : IsSo Trio → IsEndOf IsSo (run any_join words r.begin r.moves)
-  end_of is = elim r.begun [ inl at_empty ↦ from_empty at_empty.1 | inr was ↦ from_installed is was ]
+  pub reached_end : IsSo Trio → IsEndOf IsSo (run any_join words r.begin r.moves)
+  reached_end is = elim r.begun [ inl at_empty ↦ from_empty at_empty.1 | inr was ↦ from_installed is was ]

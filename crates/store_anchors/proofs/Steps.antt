@@ -44,7 +44,7 @@ use Rattle.history_model.specs.declared.record.Cause.TheVariants.{Superseded}
 use Rattle.history_model.specs.declared.record.Record.TheVariants.{Ended as Gone}
 use Rattle.store_laws.proofs.Alike.{StepsAlike}
 use Rattle.store_laws.proofs.Reached.{reached_alike, reached_different}
-use Rattle.store_anchors.proofs.Machine.{IsEndOf, end_of}
+use Rattle.store_anchors.proofs.Machine.{IsEndOf, reached_end}
 use Rattle.store_anchors.specs.Stored.{blocks_of}
 use Rattle.store_anchors.proofs.Among.{digest_among, digest_there, steps_among}
 use Rattle.store_anchors.proofs.Cited.{Cited}
@@ -135,7 +135,7 @@ module _ (cited : Cited) (moves : List Moving) (s : State) (m : Moving) (lawful 
       let r = laid.reached in
       let v : World = run any_join words r.begin r.moves in
       let like : StepsAlike s.world v m = reached_alike s.world m r lawful in
-      let ends : IsEndOf (IsStepOf moves) v = end_of cited.every s.world r (still_of moves step.Trio tt refl refl) in
+      let ends : IsEndOf (IsStepOf moves) v = reached_end cited.every s.world r (still_of moves step.Trio tt refl refl) in
       let v_there : Contains (machine_does any_join words layouts ends.first ends.roles v like.move).ends e =
       subst (λ es. Contains es e) (like.ends ∙ ap (λ (x : Effect AnyRow). x.ends) (ends.same like.move)) c in
       let there : Contains (machine_does any_join words layouts ends.first ends.roles (machine_run any_join words layouts ends.first ends.roles empty ends.moves) like.move).ends e =
