@@ -124,7 +124,7 @@ module _ (one : OneStatus) (one_moves : OneMovesStatus) (asked : Option Command)
   statuses_agree (replayed account events is short spells stated) (many_events other also less many d v) = absurd (none_too_many (reading input) events spells many)
   statuses_agree (replayed account events is short spells stated) (laid_out also less too) = absurd (both_asked asked account also is)
   statuses_agree (replayed account events is short spells stated) (moved also less too) = absurd (moves_and_replay asked account also is)
-  statuses_agree (replayed account events is short spells stated) (replayed other others also less spell too) = inr (account, is, of_replay account events s a stated, of_replay other others t b too)
+  statuses_agree (replayed account events is short spells stated) (replayed other others also less spell too) = inr (account, (is, of_replay account events s a stated, of_replay other others t b too))
 
 -- only the usage is stated for words that ask for no command
 module _ (asked : Option Command) (input : List ℕ) (result : Status) (old new : Option (List ℕ)) (faults risen : ℕ) (none : asked ≡ None) where
@@ -283,7 +283,7 @@ done_checks asked input old new asks kept h =
 
 agree_completes : (asked : Option Command) (result status : Status) → Agree asked result status → Completes asked status result
 agree_completes asked result status (inl same) = inl same
-agree_completes asked result status (inr h) = inr (inr (h.0, h.1.0, h.1.2, h.1.1))
+agree_completes asked result status (inr h) = inr (inr (h.0, (h.1.0, h.1.2, h.1.1)))
 
 module _ (asked : Option Command) (input : List ℕ) (old new : Option (List ℕ)) (Reads Writes : Type 0) (no_read : Reads → ⊥) (no_write : Writes → ⊥) where
   -- where no fault comes, what is stated was written whole, or memory was wanting

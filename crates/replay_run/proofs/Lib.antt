@@ -9,3 +9,4 @@ pub mod Lawful
 pub mod Ending
 pub mod Meant
 pub mod Checked
+pub mod Closing

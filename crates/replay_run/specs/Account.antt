@@ -56,16 +56,18 @@ abbrev pub is_end : Record → Bool
 is_end (Ended request cause) = true
 is_end _ = false
 
--- how many requests finished, how many ended without an answer, and how many are left
-abbrev pub requests_line : State → List ℕ
-requests_line s =
+-- the first lines of a summary: the workload, how many of its requests finished, ended without an answer and did neither, and how many layout versions were applied
+abbrev pub summary_of : ℕ → ℕ → ℕ → ℕ → ℕ → ℕ → List ℕ
+summary_of count seed finished ended left versions =
+    codes "workload" ++ number count ++ number seed ++ 10 ∷ [] ++ codes "finished" ++ number finished ++ word (codes "ended") ++ number ended ++ word (codes "open") ++ number left ++ 10 ∷ []
+    ++ codes "versions" ++ number versions ++ 10 ∷ []
+
+-- the same of the state after all events
+abbrev pub summary_lines : ℕ → ℕ → State → List ℕ
+summary_lines count seed s =
     let finished = count_by is_finish s.history in
     let ended = count_by is_end s.history in
-    codes "finished" ++ number finished ++ word (codes "ended") ++ number ended ++ word (codes "open") ++ number (length s.world.requests - finished - ended) ++ 10 ∷ []
-
--- the first lines of a summary: the workload, its requests, and the applied layout versions
-abbrev pub summary_lines : ℕ → ℕ → State → List ℕ
-summary_lines count seed s = codes "workload" ++ number count ++ number seed ++ 10 ∷ [] ++ requests_line s ++ codes "versions" ++ number s.world.applied ++ 10 ∷ []
+    summary_of count seed finished ended (length s.world.requests - finished - ended) s.world.applied
 
 -- what is written first of the state after all events
 abbrev pub opening : Account → State → List ℕ
@@ -75,7 +77,7 @@ opening (Summary count seed) s = summary_lines count seed s
 
 -- the lines of the nodes, a line of a check or nothing, and the last line, after so many events
 abbrev pub closing : ℕ → State → List ℕ → List ℕ
-closing events s line = nodes_text s.world ++ line ++ end_line events (length s.world.requests) (length s.world.messages)
+closing events s line = nodes_text s.world ++ (line ++ end_line events (length s.world.requests) (length s.world.messages))
 
 -- what is written after so many events that led to this state
 pub record IsTail (account : Account) (events : ℕ) (s : State) (text : List ℕ) : Type 0 where
