@@ -1,6 +1,6 @@
 //! The limits on a schedule and on its run, and lists that take more than one window. Sums of message sizes are counted
 //! by hand from docs/FORMATS.md.
-use crate::tests::{played, without_messages};
+use crate::tests::{ROUND_MOVES_ONE_PARTITION, played, without_messages};
 use lab_outside::Status;
 use std::alloc::Global;
 use std::test::Fail;
@@ -46,6 +46,27 @@ fn limit_of_events(rt: HostRuntime) -> Result<(), Fail> {
         assert_eq!(rt; status, wanted);
         assert_eq!(rt; found.as_slice(), text);
     }
+    let input = ticks(rt.alloc(), 100_000, b"")?;
+    let (status, text) = played(rt.alloc(), &["replay"], &input, &[], &[])?;
+    assert_eq!(rt; status, Status::Done);
+    assert!(rt; text.ends_with(b"\n100000 tick ok\nend 100000 0 0\n"));
+    Ok(())
+}
+
+/// A comment of 8,388,608 bytes is an empty schedule, and one byte more is too much.
+#[test]
+fn limit_of_input(rt: HostRuntime) -> Result<(), Fail> {
+    let mut input = Vec::new(rt.alloc());
+    for _ in 0..2048 {
+        input.extend_from_slice(&[b'#'; 4096])?;
+    }
+    let (status, text) = played(rt.alloc(), &["replay"], &input, &[], &[])?;
+    assert_eq!(rt; status, Status::Done);
+    assert_eq!(rt; text.as_slice(), b"end 0 0 0\n");
+    input.push(b'#')?;
+    let (status, text) = played(rt.alloc(), &["replay"], &input, &[], &[])?;
+    assert_eq!(rt; status, Status::Limit);
+    assert_eq!(rt; text.as_slice(), b"limit input 8388608\n");
     Ok(())
 }
 
@@ -75,5 +96,22 @@ fn list_in_two_windows(rt: HostRuntime) -> Result<(), Fail> {
     let told = without_messages(rt.alloc(), &text)?;
     let listed: &[u8] = b"done 1002 list 1001";
     assert!(rt; told.split(|byte| *byte == b'\n').any(|line| line == listed));
+    Ok(())
+}
+
+/// The bucket's one partition has 1,001 rows, which a round moves to the nodes of the next layout.
+#[test]
+fn round_of_many_rows(rt: HostRuntime) -> Result<(), Fail> {
+    let first = b"trio\nbucket pics\nput 1 pics a 1 97\ndrain 100\n";
+    let round = ROUND_MOVES_ONE_PARTITION
+        .strip_prefix(first)
+        .unwrap_or(b"");
+    let input = puts(rt.alloc(), 1001, 1, round)?;
+    let (status, text) = played(rt.alloc(), &["replay"], &input, &[], &[])?;
+    assert_eq!(rt; status, Status::Done);
+    let told = without_messages(rt.alloc(), &text)?;
+    for wanted in [b"node 4 rows 1001 ", b"node 5 rows 1001 ", b"node 6 rows 1001 "] {
+        assert!(rt; told.split(|byte| *byte == b'\n').any(|line| line.starts_with(wanted)));
+    }
     Ok(())
 }

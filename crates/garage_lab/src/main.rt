@@ -4,7 +4,7 @@
 //! `run` is the program: it takes the words after the program's name, the outside as a source, a sink, a
 //! link and a clock, and answers the status with which the program ends. Its contract says which text is
 //! written for which input, and why each other answer comes. `command` tells the commands apart, and `input`
-//! reads the input. For a replay `schedule` reads the events, and replay_run writes what they told; `layout`
+//! reads the input. For a replay `schedule` reads the events, and replay_run writes an account of them; `layout`
 //! reads a configuration and computes what is answered. `stop` is why any of them gave up, and `laws` says that
 //! no input is without a stated answer.
 #![tactic(auto)]
@@ -27,35 +27,18 @@ mod stop;
 #[cfg(test)]
 mod tests;
 
-ghost use Rattle.std.specs.Prelude.{◌≡◌};
-ghost use Rattle.std.specs.Process.{exit_status};
-ghost use Rattle.lab_outside.specs.Exit.{code_of};
-
 use crate::run::run;
+use lab_main::{exit_code, words};
 use lab_outside::{MemClock, Status, StdSink, StdSource, SureLink};
 use std::alloc::{AllocError, Global};
+use std::io;
 use std::process::ExitCode;
-use std::rt::Env;
-use std::{env, io};
 
 /// A link without connections, and a clock that stands at 0.
 fn unused(alloc: Global) -> Result<(SureLink, MemClock), AllocError> {
     let link = SureLink::new(alloc, Vec::new(alloc), 0)?;
     let times = [0].to_vec(alloc)?;
     Ok((link, MemClock::new(times)))
-}
-
-/// The words after the program's name.
-fn words(rt: &(impl Env + Alloc<A = Global>)) -> io::Result<Vec<String>> {
-    let words = env::args(rt)?.skip(1).collect(rt.alloc())?;
-    Ok(words)
-}
-
-/// The exit code that goes with a status: its number.
-fn exit_code(status: Status) -> ExitCode
-    ensures { exit_status result ≡ code_of status }
-{
-    ExitCode::from(status.code())
 }
 
 fn main(rt: HostRuntime) -> ExitCode {

@@ -147,6 +147,9 @@ fn get_is_superseded(rt: HostRuntime) -> Result<(), Fail> {
     assert_eq!(rt; status, Status::Done);
     assert!(rt; text.ends_with(CHECKED_END));
     let superseded: &[u8] = b"54 deliver ok\ngot 159\nended 14 superseded\n";
-    assert!(rt; text.windows(superseded.len()).any(|part| part == superseded));
+    assert!(rt;
+        text.windows(superseded.len())
+            .any(|part| part == superseded)
+    );
     Ok(())
 }

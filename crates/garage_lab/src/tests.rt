@@ -54,7 +54,7 @@ const LEAVING_TEXT: &[u8] =
     b"1 trio ok\n2 bucket ok\n3 role ok\n4 role ok\n5 apply ok 2\nsize 3\nredundancy 3\np 0 255 1 2 4\ncut 4 750\nc 0 255 up z:a z:b z:c\ncn 1 2 4\n6 gossip ok\nsent 1 view 1 3\n7 drain ok\ngot 1\n8 get refused NotMember\n9 apply refused VersionTaken 2\n10 get ok 1\nsent 2 get 2 1\nsent 3 get 2 2\nsent 4 get 2 3\n11 get refused NoSuchBucket\nnode 1 rows 0 blocks 0 top 7e1c26a17bd3d7fa395f34897712e0533bd0d69b934e542d6a4a4fb3ce779cda\nnode 2 rows 0 blocks 0 top 7e1c26a17bd3d7fa395f34897712e0533bd0d69b934e542d6a4a4fb3ce779cda\nnode 3 rows 0 blocks 0 top 7e1c26a17bd3d7fa395f34897712e0533bd0d69b934e542d6a4a4fb3ce779cda\nend 11 1 4\n";
 
 /// A layout of other nodes, known to all, and one round.
-const ROUND_MOVES_ONE_PARTITION: &[u8] =
+pub const ROUND_MOVES_ONE_PARTITION: &[u8] =
     b"trio\nbucket pics\nput 1 pics a 1 97\ndrain 100\nrole 4 a 1000\nrole 5 b 1000\nrole 6 c 1000\nrole 1 a gateway\nrole 2 b gateway\nrole 3 c gateway\napply 1\ngossip 1 2\ngossip 1 3\ngossip 1 4\ngossip 1 5\ngossip 1 6\ndrain 100\nack 1\nack 2\nack 3\nack 4\nack 5\nack 6\ngossip 1 1\ngossip 2 1\ngossip 3 1\ngossip 4 1\ngossip 5 1\ngossip 6 1\ndrain 100\ngossip 1 1\ngossip 1 2\ngossip 1 3\ngossip 1 4\ngossip 1 5\ngossip 1 6\ndrain 100\nsync 1\ndrain 100\nsync 4\n";
 
 /// Its transcript, without the messages.

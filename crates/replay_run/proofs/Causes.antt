@@ -1,11 +1,11 @@
 -- Why a call gave up, in the words of its caller.
-use Rattle.std.proofs.Common.{◌≡◌, ℕ, Option, Some, None, Result, Ok, Err, IfErr, ◌⊎◌, inl, inr, List, [], ◌∷◌, ◌++◌, refl, sym, ◌∙◌, subst}
+use Rattle.std.proofs.Common.{◌≡◌, Result, Ok, Err, IfErr, ◌⊎◌, inl, inr, List, [], ◌∷◌, ◌++◌, sym, subst}
 use Rattle.std.specs.Result.{IsErrAnd}
 use Rattle.std.specs.List.{AllByRecursion}
 use Rattle.crdt_core.specs.declared.memory.Memory.{Memory as Why}
 use Rattle.crdt_core.specs.declared.memory.Memory.TheVariants.{Want, Full}
 use Rattle.replay_run.specs.declared.stop.ReplayStop.{ReplayStop}
-use Rattle.replay_run.specs.declared.stop.ReplayStop.TheVariants.{Write, Memory, Number, Sent}
+use Rattle.replay_run.specs.declared.stop.ReplayStop.TheVariants.{Memory, Number}
 use Rattle.replay_run.specs.Stop.{stop_of_memory}
 
 -- what is said of the cause is said of the answer

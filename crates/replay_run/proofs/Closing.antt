@@ -1,11 +1,11 @@
 -- What is written after the last event, of its parts.
-use Rattle.std.proofs.Common.{◌≡◌, ℕ, List, ◌++◌, length, sym, ap, ◌∙◌, append_assoc}
+use Rattle.std.proofs.Common.{◌≡◌, ℕ, List, ◌++◌, length, ap, ◌∙◌, append_assoc}
 use Rattle.store_model.specs.Run.{State}
 use Rattle.text_model.specs.Transcript.{nodes_text, end_line}
 use Rattle.s3_world.specs.declared.world.S3World.{S3World}
 use Rattle.s3_world.specs.Stands.{IsStore}
 use Rattle.replay_run.specs.declared.account.Account.{Account}
-use Rattle.replay_run.specs.Account.{opening, closing}
+use Rattle.replay_run.specs.Account.{opening}
 use Rattle.replay_run.specs.Turning.{TellsLine, TellsOpening, TellsTail}
 
 -- four texts one after the other

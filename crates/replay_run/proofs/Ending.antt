@@ -1,5 +1,5 @@
 -- A replay of any events has a stated end.
-use Rattle.std.proofs.Common.{◌≡◌, ℕ, ◌≤◌, ◌<◌, ◌⊎◌, inl, inr, Some, List, [], ◌∷◌, ◌++◌, length, refl, sym, ap, ◌∙◌, subst, append_assoc, append-nil, arith}
+use Rattle.std.proofs.Common.{◌≡◌, ℕ, inl, inr, List, [], ◌∷◌, ◌++◌, length, refl, sym, ap, ◌∙◌, subst, append_assoc, append-nil}
 use Rattle.std.specs.List.{All, AllByRecursion}
 use Rattle.std.proofs.lemmas.Bool.{cases_lt}
 use Rattle.std.proofs.lemmas.List.Elements.{All-head, All-tail}
@@ -17,7 +17,7 @@ use Rattle.s3_world.specs.Stands.{IsMeantEvent}
 use Rattle.replay_run.specs.declared.account.Account.{Account}
 use Rattle.replay_run.specs.declared.account.Account.TheVariants.{Transcript, Checked, Summary}
 use Rattle.replay_run.specs.Account.{front, fresh_line, stale_line, IsCheck, fresh, stale, IsLine, opening, closing}
-use Rattle.replay_run.specs.Replay.{Step, sent_limit, number_line, sent_line, steps_of, HasSent, GoesOn, SendsTooMuch, LacksRoom, StopsAt, ArePlayed, IsReplay, whole, number, sent}
+use Rattle.replay_run.specs.Replay.{Step, sent_limit, number_line, sent_line, steps_of, GoesOn, SendsTooMuch, LacksRoom, StopsAt, ArePlayed, IsReplay, whole, number, sent}
 use Rattle.replay_run.specs.Turning.{turn}
 use Rattle.replay_run.proofs.Causes.{all_push}
 use Rattle.replay_run.proofs.Turns.{run_push, events_push, played_none, played_push}

@@ -1,13 +1,10 @@
 -- What the loop over the events keeps, and how it ends.
-use Rattle.std.proofs.Common.{◌≡◌, ℕ, ◌+◌, ◌<◌, ◌≤◌, ◌⊎◌, inl, inr, Option, Result, Ok, Err, IfErr, List, [], ◌∷◌, ◌++◌, length, take, drop, get_or, refl, sym, ap, ◌∙◌, subst, take-append-drop}
-use Rattle.std.specs.Result.{IsErrAnd}
+use Rattle.std.proofs.Common.{◌≡◌, ℕ, ◌+◌, ◌<◌, ◌≤◌, ◌⊎◌, Option, List, [], ◌∷◌, ◌++◌, length, take, drop, get_or, refl, sym, ap, ◌∙◌, subst, take-append-drop}
 use Rattle.std.proofs.lemmas.List.{take_more, drop_more, take_all, length-map}
 use Rattle.crdt_core.specs.declared.memory.Memory.{Memory as Why}
 use Rattle.crdt_core.specs.declared.memory.Memory.TheVariants.{Want, Full}
 use Rattle.lab_outside.specs.Bytes.{Wrote, WrotePrefix}
 use Rattle.lab_outside.proofs.Bytes.{wrote_none, wrote_more, wrote_prefix_after, wrote_prefix_whole}
-use Rattle.cluster_machine.specs.declared.line.Line.{Line}
-use Rattle.cluster_machine.specs.declared.applied.Applied.{Applied}
 use Rattle.store_model.specs.declared.event.Numbered.{Numbered}
 use Rattle.store_model.specs.declared.event.Told.{Told}
 use Rattle.store_model.specs.Run.{State, start}
@@ -20,7 +17,7 @@ use Rattle.replay_run.specs.declared.account.Account.{Account}
 use Rattle.replay_run.specs.declared.stop.ReplayStop.{ReplayStop}
 use Rattle.replay_run.specs.declared.stop.ReplayStop.TheVariants.{Write, Memory, Number, Sent}
 use Rattle.replay_run.specs.Account.{shown, front, IsTail, IsText}
-use Rattle.replay_run.specs.Replay.{Step, number_line, sent_line, SendsTooMuch, LacksRoom, ArePlayed, AreFirst, StopsAfter, number, sent, unshown}
+use Rattle.replay_run.specs.Replay.{Step, number_line, SendsTooMuch, LacksRoom, ArePlayed, AreFirst, StopsAfter, number, sent, unshown}
 use Rattle.replay_run.specs.Turning.{turn, Takes, StopsIn, EventStops, TurnsTo, TurnsOne, CannotTell, TellsTail}
 use Rattle.replay_run.specs.Stop.{stop_of_memory, IsWhole, IsPart, of_turns, of_all, LacksLine, Halts}
 use Rattle.replay_run.proofs.Causes.{stop_is}

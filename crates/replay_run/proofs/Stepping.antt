@@ -1,5 +1,5 @@
 -- An event, step by step.
-use Rattle.std.proofs.Common.{◌≡◌, ℕ, zero, suc, ◌<◌, ◌≤◌, Option, Some, None, Result, Ok, Err, IfOk, List, [], ◌∷◌, ◌++◌, refl, sym, ap, ◌∙◌, subst}
+use Rattle.std.proofs.Common.{◌≡◌, ℕ, zero, suc, ◌<◌, ◌≤◌, Some, None, Result, Ok, Err, IfOk, List, [], ◌∷◌, refl, sym, ap, subst}
 use Rattle.std.specs.List.{AllByRecursion}
 use Rattle.cluster_machine.specs.declared.line.Line.{Line}
 use Rattle.cluster_machine.specs.declared.step.Refusal.TheVariants.{VersionLimit}
@@ -16,7 +16,7 @@ use Rattle.s3_world.specs.declared.world.S3World.{S3World}
 use Rattle.s3_world.specs.Stands.{IsStore, PlaysEvent, OverflowsEvent, EventLacksRoom}
 use Rattle.replay_run.specs.declared.stop.ReplayStop.{ReplayStop}
 use Rattle.replay_run.specs.declared.stop.ReplayStop.TheVariants.{Write, Memory, Number, Sent}
-use Rattle.replay_run.specs.Replay.{Step, sent_limit, deliveries, steps_of, HasSent, GoesOn, SendsTooMuch, LacksRoom, StopsAt}
+use Rattle.replay_run.specs.Replay.{Step, sent_limit, steps_of, HasSent, GoesOn, SendsTooMuch, LacksRoom}
 use Rattle.replay_run.specs.Turning.{drain_count, step_of, TakesStep, StepIs, Takes, StopsIn, StepStops, Delivers, DrainStops, EventStops}
 
 -- what the store played is a step after which so many bytes were sent

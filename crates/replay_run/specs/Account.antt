@@ -1,7 +1,7 @@
 -- What is written of a replay: the text of its events, or a summary, with a check of its history or without one.
 use Rattle.std.specs.Prelude.{◌≡◌, ℕ, ◌-◌, ◌^◌, min, Bool, true, false, List, [], ◌∷◌, ◌++◌, length, codes, count_by}
 use Rattle.history_model.specs.declared.record.Record.{Record}
-use Rattle.history_model.specs.declared.record.Record.TheVariants.{Began, Finished, Ended}
+use Rattle.history_model.specs.declared.record.Record.TheVariants.{Finished, Ended}
 use Rattle.history_model.specs.Fresh.{Fresh}
 use Rattle.history_model.specs.Pairs.{pair_count}
 use Rattle.layout_roles.specs.Text.{word, number}

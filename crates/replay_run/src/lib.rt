@@ -1,11 +1,13 @@
-//! The replay of a schedule: its events one after the other in a store, and the transcript of what they tell.
+//! The replay of a schedule: its events one after the other in a store, and an account of what they tell.
 //!
 //! `replay` takes the events of a schedule and writes what each tells when it is whole, and at last the lines of the nodes
-//! and the end line. A run is one of steps: each event is one, and of a drain each delivery. After each step it is looked at
+//! and the end line; with a check (`Account`) a line before it that says whether all answered reads were fresh, told from
+//! the records; of a summary nothing but numbers, those lines and the check. A run is one of steps: each event is one, and of a drain each delivery. After each step it is looked at
 //! whether everything fits and whether no more was sent than may be; the first step after which this isn't so ends the
 //! replay before its event is written (`ReplayStop`), and whoever called `replay` writes the line of that limit.
 //!
-//! `steps` takes events step by step, `tail` has what is written after the last event, and `transcript` writes.
+//! `steps` takes events step by step, `tail` has what is written after the last event, with `check` and `summary`, and
+//! `transcript` writes.
 //! `every_replay_ends` is the law that a replay of any events has a stated end.
 #![tactic(auto)]
 

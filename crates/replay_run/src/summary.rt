@@ -7,10 +7,10 @@ ghost use Rattle.replay_run.specs.Turning.{TellsOpening};
 
 use crate::account::Account;
 use crdt_core::{Bytes, Memory};
+use history_model::Record;
 use layout_text::{append_number, append_word};
 use s3_world::S3World;
 use std::alloc::Global;
-use history_model::Record;
 
 /// How many requests finished with an answer.
 fn finished(records: &[Record]) -> usize
@@ -42,7 +42,12 @@ fn append_numbered(out: &mut Bytes, name: &[u8], n: u64) -> Result<(), Memory>
 }
 
 /// The first lines of a summary with these numbers.
-fn summary_text(alloc: Global, asked: (u32, u64), ends: (u64, u64, u64), versions: u32) -> Result<Bytes, Memory>
+fn summary_text(
+    alloc: Global,
+    asked: (u32, u64),
+    ends: (u64, u64, u64),
+    versions: u32,
+) -> Result<Bytes, Memory>
     ensures text { IfOk result (λ text. text ≡ summary_of asked.0 asked.1 ends.0 ends.1 ends.2 versions) }
     ensures want { OnlyWant result }
 {

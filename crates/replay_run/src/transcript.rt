@@ -22,7 +22,12 @@ use std::alloc::Global;
 use store_model::Numbered;
 
 /// What is written of an event that told this.
-fn shown_text(alloc: Global, account: Account, next: &Numbered, told: &Told) -> Result<Bytes, Memory>
+fn shown_text(
+    alloc: Global,
+    account: Account,
+    next: &Numbered,
+    told: &Told,
+) -> Result<Bytes, Memory>
     ensures text { IfOk result (λ text. text ≡ shown account (told_text next.now.line (name_of next.now.event) told.now.refused told.now.words told.now.lines)) }
     ensures want { OnlyWant result }
 {

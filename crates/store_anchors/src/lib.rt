@@ -4,8 +4,6 @@
 
 mod promises;
 
-pub use promises::promises_are_kept;
-
 ghost use Rattle.std.specs.Prelude.{List};
 ghost use Rattle.store_model.specs.Run.{start};
 ghost use Rattle.store_model.specs.Acts.{Act, after_acts, AreLawfulActs, ActsFit};
@@ -20,6 +18,7 @@ use crdt_rows::{AnyRow, version_rows_join_as_facts};
 use layout_roles::{Cut, Layout};
 use object_origins::{gone_versions_were_overwritten, rows_show_what_was_stored};
 use object_schema::S3Schema;
+pub use promises::promises_are_kept;
 use world_reads::{
     every_installed_world_reads_what_was_kept, every_world_gives_windows,
     every_world_has_kept_reads, every_world_is_sound, every_world_reads_stored_rows,

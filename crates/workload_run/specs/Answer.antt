@@ -1,14 +1,13 @@
 -- What is answered to the words that ask for a workload.
-use Rattle.std.specs.Prelude.{◌≡◌, ◌⊎◌, ℕ, ⊤, List, [], ◌++◌, length, Option}
+use Rattle.std.specs.Prelude.{◌≡◌, ℕ, ⊤, List, [], ◌++◌, length, Option}
 use Rattle.lab_outside.specs.declared.exit.Status.{Status}
-use Rattle.lab_outside.specs.declared.exit.Status.TheVariants.{Done, Refused, Usage, ReadFault, WriteFault, LinkFault, Memory, Limit}
+use Rattle.lab_outside.specs.declared.exit.Status.TheVariants.{Done, WriteFault, Memory, Limit}
 use Rattle.lab_outside.specs.Bytes.{Wrote, WrotePrefix}
 use Rattle.store_model.specs.Run.{start}
 use Rattle.store_model.specs.Events.{Turn, acts_of, events_of, run}
 use Rattle.store_model.specs.Moments.{AtEachMoment}
 use Rattle.store_model.specs.Fresh.{NoClash}
 use Rattle.store_anchors.specs.Promises.{KeepsPromises}
-use Rattle.replay_run.specs.declared.account.Account.{Account}
 use Rattle.replay_run.specs.declared.account.Account.TheVariants.{Summary}
 use Rattle.replay_run.specs.Account.{IsText, summary_lines, closing, fresh_line}
 use Rattle.replay_run.specs.Replay.{ArePlayed, IsReplay}

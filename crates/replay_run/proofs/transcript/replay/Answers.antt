@@ -1,4 +1,4 @@
-use Rattle.std.proofs.Common.{arith, refl, ◌∙◌, inl, inr}
+use Rattle.std.proofs.Common.{refl, ◌∙◌}
 use Rattle.replay_run.specs.Stop.{Halts, stop_of_memory}
 use Rattle.replay_run.proofs.Causes.{given_up, wanting}
 use Rattle.replay_run.proofs.Running.{running_none, part_none, running_has, running_more, running_cut, running_halts, all_halts, all_whole, all_cut}
