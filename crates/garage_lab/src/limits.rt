@@ -62,11 +62,11 @@ fn limit_of_input(rt: HostRuntime) -> Result<(), Fail> {
     }
     let (status, text) = played(rt.alloc(), &["replay"], &input, &[], &[])?;
     assert_eq!(rt; status, Status::Done);
-    assert_eq!(rt; text.as_slice(), b"end 0 0 0\n");
+    assert_eq!(rt; text.as_slice(), b"end 0 0 0\n".as_slice());
     input.push(b'#')?;
     let (status, text) = played(rt.alloc(), &["replay"], &input, &[], &[])?;
     assert_eq!(rt; status, Status::Limit);
-    assert_eq!(rt; text.as_slice(), b"limit input 8388608\n");
+    assert_eq!(rt; text.as_slice(), b"limit input 8388608\n".as_slice());
     Ok(())
 }
 

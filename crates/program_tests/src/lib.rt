@@ -1,0 +1,8 @@
+//! Tests of the programs beside garage_lab, over their calls: a server of S3 over a cluster, and workloads. It has no code
+//! of its own.
+#![tactic(auto)]
+
+#[cfg(test)]
+mod served;
+#[cfg(test)]
+mod workloads;

@@ -1,0 +1,42 @@
+//! What no clause says: that a summary comes with ample memory, and what it is of five events, whose numbers were worked
+//! out by hand.
+use lab_outside::{MemSink, Status};
+use std::alloc::Global;
+use std::test::Fail;
+use workload_run::run;
+
+/// Three nodes without rows: a bucket, a size of blocks, the loss of message 5, which wasn't sent, and a drain.
+const FIVE_EVENTS: &[u8] =
+    b"workload 5 0\nfinished 0 ended 0 open 0\nversions 1\nnode 1 rows 0 blocks 0 top 7e1c26a17bd3d7fa395f34897712e0533bd0d69b934e542d6a4a4fb3ce779cda\nnode 2 rows 0 blocks 0 top 7e1c26a17bd3d7fa395f34897712e0533bd0d69b934e542d6a4a4fb3ce779cda\nnode 3 rows 0 blocks 0 top 7e1c26a17bd3d7fa395f34897712e0533bd0d69b934e542d6a4a4fb3ce779cda\nfresh 0\nend 5 0 0\n";
+
+/// The status and the text of a run with these words.
+fn summarized(alloc: Global, words: &[&str]) -> Result<(Status, Vec<u8>), Fail> {
+    let mut texts = Vec::new(alloc);
+    for word in words {
+        texts.push(String::from_str(alloc, word)?)?;
+    }
+    let mut sink = MemSink::new(alloc, Vec::new(alloc));
+    let status = run(alloc, &texts, &mut sink);
+    Ok((status, sink.bytes().to_vec(alloc)?))
+}
+
+#[test]
+fn workload_of_five(rt: HostRuntime) -> Result<(), Fail> {
+    let (status, text) = summarized(rt.alloc(), &["workload", "5", "0"])?;
+    assert_eq!(rt; status, Status::Done);
+    assert_eq!(rt; text.as_slice(), FIVE_EVENTS);
+    Ok(())
+}
+
+/// One seed gives one summary, over whole layout changes.
+#[test]
+fn workload_repeats(rt: HostRuntime) -> Result<(), Fail> {
+    let words = ["workload", "20000", "7"];
+    let (status, text) = summarized(rt.alloc(), &words)?;
+    let (again, same) = summarized(rt.alloc(), &words)?;
+    assert_eq!(rt; status, Status::Done);
+    assert_eq!(rt; again, Status::Done);
+    assert!(rt; text.starts_with(b"workload 20000 7\nfinished "));
+    assert_eq!(rt; text, same);
+    Ok(())
+}
