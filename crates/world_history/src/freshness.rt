@@ -1,11 +1,14 @@
 //! Whether each finished read of a history is fresh.
-ghost use Rattle.std.specs.Prelude.{◌≡◌, ◌<◌, ◌↔◌, length, IsTrue};
+ghost use Rattle.std.specs.Prelude.{◌≡◌, ◌<◌, ◌↔◌, length, IsTrue, IfOk};
+ghost use Rattle.crdt_core.specs.Outcomes.{OnlyWant};
 ghost use Rattle.world_history.specs.Checks.{all_below, fresh_at};
 ghost use Rattle.history_model.specs.Fresh.{Fresh};
 
 use crate::finish::finish;
 use crate::read::Read;
+use crdt_core::Memory;
 use history_model::{History, Record};
+use std::alloc::Global;
 
 // Whether the read that began at this place, if one did and finished, is fresh.
 fn fresh_at(records: &[Record], i: usize) -> bool
@@ -49,8 +52,10 @@ fn each_fresh(records: &[Record]) -> bool
 }
 
 /// Whether each finished read shows what it owes.
-pub fn fresh(h: &History) -> bool
-    ensures { IsTrue result ↔ Fresh h.now.0 }
+pub fn fresh(alloc: Global, h: &History) -> Result<bool, Memory>
+    ensures told { IfOk result (λ yes. IsTrue yes ↔ Fresh h.now.0) }
+    ensures want { OnlyWant result }
 {
-    each_fresh(h.0.as_slice())
+    let _ = alloc;
+    Ok(each_fresh(h.0.as_slice()))
 }

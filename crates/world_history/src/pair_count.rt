@@ -1,12 +1,14 @@
 //! How much there is to check in a history.
-ghost use Rattle.std.specs.Prelude.{◌≡◌, ◌<◌, ◌-◌, ◌^◌, ◌≤◌, length, min};
+ghost use Rattle.std.specs.Prelude.{◌≡◌, ◌<◌, ◌-◌, ◌^◌, ◌≤◌, length, min, IfOk};
+ghost use Rattle.crdt_core.specs.Outcomes.{OnlyWant};
 ghost use Rattle.history_model.specs.Pairs.{is_owed, count_below, pair_count};
 ghost use Rattle.world_history.specs.Checks.{owed};
 
 use crate::finish::{acknowledged, finish};
 use crate::read::names;
-use crdt_core::Bytes;
+use crdt_core::{Bytes, Memory};
 use history_model::{History, Kind, Record};
+use std::alloc::Global;
 
 // Whether a write of a key that the read names began at this place, and was acknowledged before place i.
 fn is_owed(
@@ -72,13 +74,15 @@ fn pairs_at(records: &[Record], i: usize) -> usize
 
 /// How many pairs there are of a finished read and a write, acknowledged before that read began, of a key that
 /// it names: 2^64 - 1 where there are more.
-pub fn pairs(h: &History) -> u64
-    ensures { result ≡ min (pair_count h.now.0) (2 ^ 64 - 1) }
+pub fn pairs(alloc: Global, h: &History) -> Result<u64, Memory>
+    ensures counted { IfOk result (λ n. n ≡ min (pair_count h.now.0) (2 ^ 64 - 1)) }
+    ensures want { OnlyWant result }
 {
+    let _ = alloc;
     let records = h.0.as_slice();
     let mut total = 0u64;
     for i in 0..records.len() {
         total = total.saturating_add(pairs_at(records, i) as u64);
     }
-    total
+    Ok(total)
 }
