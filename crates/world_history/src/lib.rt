@@ -14,6 +14,7 @@
 
 mod finish;
 mod freshness;
+mod index;
 mod pair_count;
 mod read;
 
