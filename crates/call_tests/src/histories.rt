@@ -63,7 +63,7 @@ fn is_judged(alloc: Global, told: &[Told]) -> Result<bool, Memory> {
     let mut history = History(List::new(alloc));
     for next in told {
         if let Told::Judged(is_fresh, count) = *next {
-            if fresh(&history) != is_fresh || pairs(&history) != count {
+            if fresh(alloc, &history)? != is_fresh || pairs(alloc, &history)? != count {
                 return Ok(false);
             }
         }

@@ -4,3 +4,4 @@ pub mod Decided
 pub mod Newest
 pub mod Places
 pub mod Parts
+pub mod Order

@@ -5,24 +5,25 @@ ghost use Rattle.world_history.specs.Checks.{all_below, fresh_at};
 ghost use Rattle.history_model.specs.Fresh.{Fresh};
 
 use crate::finish::finish;
+use crate::index::Index;
 use crate::read::Read;
 use crdt_core::Memory;
 use history_model::{History, Record};
 use std::alloc::Global;
 
 // Whether the read that began at this place, if one did and finished, is fresh.
-fn fresh_at(records: &[Record], i: usize) -> bool
-    requires { i < length records.now }
-    ensures { result ≡ fresh_at records.now i }
+fn fresh_at(index: &Index<'_>, i: usize) -> bool
+    requires { i < length index.now.records.now }
+    ensures { result ≡ fresh_at index.now.records.now i }
 {
-    match &records[i] {
+    match &index.records[i] {
         Record::Began {
             request,
             kind,
             bucket,
             key,
             ..
-        } if kind.is_read() => match finish(records, i, *request) {
+        } if kind.is_read() => match finish(index, i, *request) {
             Some((finished, answer)) => {
                 let read = Read {
                     kind: *kind,
@@ -32,7 +33,7 @@ fn fresh_at(records: &[Record], i: usize) -> bool
                     finished,
                     answer,
                 };
-                read.covers_all(records) && read.shows_written(records)
+                read.covers_all(index) && read.shows_written(index)
             }
             None => true,
         },
@@ -40,11 +41,11 @@ fn fresh_at(records: &[Record], i: usize) -> bool
     }
 }
 
-fn each_fresh(records: &[Record]) -> bool
-    ensures { result ≡ all_below (fresh_at records.now) (length records.now) }
+fn each_fresh(index: &Index<'_>) -> bool
+    ensures { result ≡ all_below (fresh_at index.now.records.now) (length index.now.records.now) }
 {
-    for i in 0..records.len() {
-        if !fresh_at(records, i) {
+    for i in 0..index.records.len() {
+        if !fresh_at(index, i) {
             return false;
         }
     }
@@ -56,6 +57,6 @@ pub fn fresh(alloc: Global, h: &History) -> Result<bool, Memory>
     ensures told { IfOk result (λ yes. IsTrue yes ↔ Fresh h.now.0) }
     ensures want { OnlyWant result }
 {
-    let _ = alloc;
-    Ok(each_fresh(h.0.as_slice()))
+    let index = Index::new(alloc, h.0.as_slice())?;
+    Ok(each_fresh(&index))
 }

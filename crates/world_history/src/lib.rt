@@ -9,11 +9,12 @@
 //! below one acknowledged before the read began, and none only where a delete explains it; and each version
 //! that it shows is that of a put or copy of the key. `pairs` counts what there was to check: the pairs of a
 //! finished read and a write acknowledged before it began, of a key that it names. Both hold of any list of
-//! records, and take no memory.
+//! records. Each takes memory for one entry of 16 bytes for each record.
 #![tactic(auto)]
 
 mod finish;
 mod freshness;
+mod index;
 mod pair_count;
 mod read;
 

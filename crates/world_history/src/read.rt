@@ -5,6 +5,7 @@ ghost use Rattle.world_history.specs.Checks.{deletes_at, is_deleted, writes_at, 
 ghost use Rattle.std.specs.List.{list_all};
 
 use crate::finish::acknowledged;
+use crate::index::Index;
 use crdt_core::Bytes;
 use crdt_rows::Version;
 use history_model::{Answer, Kind, Record};
@@ -32,11 +33,11 @@ pub fn names(kind: Kind, own: &Bytes, key: &Bytes) -> bool
 }
 
 // Whether a delete of the key began at this place which wasn't acknowledged with a version below w.
-fn deletes_at(records: &[Record], bucket: &Bytes, key: &Bytes, w: Version, place: usize) -> bool
-    requires { place < length records.now }
-    ensures { result ≡ deletes_at records.now bucket.now key.now w place }
+fn deletes_at(index: &Index<'_>, bucket: &Bytes, key: &Bytes, w: Version, place: usize) -> bool
+    requires { place < length index.now.records.now }
+    ensures { result ≡ deletes_at index.now.records.now bucket.now key.now w place }
 {
-    match &records[place] {
+    match &index.records[place] {
         Record::Began {
             request,
             kind,
@@ -44,7 +45,7 @@ fn deletes_at(records: &[Record], bucket: &Bytes, key: &Bytes, w: Version, place
             key: place_key,
             ..
         } if kind.is_delete() && place_key == key && place_bucket == bucket => {
-            match acknowledged(records, place, *request) {
+            match acknowledged(index, place, *request) {
                 Some((_, version)) => !(version < w),
                 None => true,
             }
@@ -54,12 +55,12 @@ fn deletes_at(records: &[Record], bucket: &Bytes, key: &Bytes, w: Version, place
 }
 
 // Whether that is so at some place before place j.
-fn is_deleted(records: &[Record], j: usize, bucket: &Bytes, key: &Bytes, w: Version) -> bool
-    requires { j ≤ length records.now }
-    ensures { result ≡ is_deleted records.now j bucket.now key.now w }
+fn is_deleted(index: &Index<'_>, j: usize, bucket: &Bytes, key: &Bytes, w: Version) -> bool
+    requires { j ≤ length index.now.records.now }
+    ensures { result ≡ is_deleted index.now.records.now j bucket.now key.now w }
 {
     for place in (0..j).rev() {
-        if deletes_at(records, bucket, key, w, place) {
+        if deletes_at(index, bucket, key, w, place) {
             return true;
         }
     }
@@ -68,11 +69,11 @@ fn is_deleted(records: &[Record], j: usize, bucket: &Bytes, key: &Bytes, w: Vers
 
 // Whether a put or copy of the key with the number of v began at this place, which wasn't acknowledged with
 // another version.
-fn writes_at(records: &[Record], bucket: &Bytes, key: &Bytes, v: Version, place: usize) -> bool
-    requires { place < length records.now }
-    ensures { result ≡ writes_at records.now bucket.now key.now v place }
+fn writes_at(index: &Index<'_>, bucket: &Bytes, key: &Bytes, v: Version, place: usize) -> bool
+    requires { place < length index.now.records.now }
+    ensures { result ≡ writes_at index.now.records.now bucket.now key.now v place }
 {
-    match &records[place] {
+    match &index.records[place] {
         Record::Began {
             request,
             kind,
@@ -80,7 +81,7 @@ fn writes_at(records: &[Record], bucket: &Bytes, key: &Bytes, v: Version, place:
             key: place_key,
             ..
         } if *request == v.id && kind.is_source() && place_key == key && place_bucket == bucket => {
-            match acknowledged(records, place, *request) {
+            match acknowledged(index, place, *request) {
                 Some((_, version)) => version == v,
                 None => true,
             }
@@ -90,12 +91,12 @@ fn writes_at(records: &[Record], bucket: &Bytes, key: &Bytes, v: Version, place:
 }
 
 // Whether that is so at some place before place j.
-fn is_written(records: &[Record], j: usize, bucket: &Bytes, key: &Bytes, v: Version) -> bool
-    requires { j ≤ length records.now }
-    ensures { result ≡ is_written records.now j bucket.now key.now v }
+fn is_written(index: &Index<'_>, j: usize, bucket: &Bytes, key: &Bytes, v: Version) -> bool
+    requires { j ≤ length index.now.records.now }
+    ensures { result ≡ is_written index.now.records.now j bucket.now key.now v }
 {
     for place in (0..j).rev() {
-        if writes_at(records, bucket, key, v, place) {
+        if writes_at(index, bucket, key, v, place) {
             return true;
         }
     }
@@ -129,16 +130,16 @@ fn shows_below(own: &Bytes, answer: &Answer, key: &Bytes, w: Version) -> bool
 
 // The version, if any, with which a write of the key began at this place and was acknowledged before place i.
 fn version_at(
-    records: &[Record],
+    index: &Index<'_>,
     i: usize,
     bucket: &Bytes,
     key: &Bytes,
     place: usize,
 ) -> Option<Version>
-    requires { place < length records.now }
-    ensures { result ≡ version_at records.now i bucket.now key.now place }
+    requires { place < length index.now.records.now }
+    ensures { result ≡ version_at index.now.records.now i bucket.now key.now place }
 {
-    match &records[place] {
+    match &index.records[place] {
         Record::Began {
             request,
             kind,
@@ -146,7 +147,7 @@ fn version_at(
             key: place_key,
             ..
         } if kind.is_write() && place_key == key && place_bucket == bucket => {
-            match acknowledged(records, place, *request) {
+            match acknowledged(index, place, *request) {
                 Some((end, version)) if end < i => Some(version),
                 _ => None,
             }
@@ -167,36 +168,36 @@ fn newer(a: Option<Version>, b: Option<Version>) -> Option<Version>
 }
 
 // The newest version with which a write of the key was acknowledged before place i.
-fn newest_before(records: &[Record], i: usize, bucket: &Bytes, key: &Bytes) -> Option<Version>
-    requires { i ≤ length records.now }
-    ensures { IsNewestBelow (version_at records.now i bucket.now key.now) i result }
+fn newest_before(index: &Index<'_>, i: usize, bucket: &Bytes, key: &Bytes) -> Option<Version>
+    requires { i ≤ length index.now.records.now }
+    ensures { IsNewestBelow (version_at index.now.records.now i bucket.now key.now) i result }
 {
     let mut newest = None;
     for place in 0..i {
-        newest = newer(newest, version_at(records, i, bucket, key, place));
+        newest = newer(newest, version_at(index, i, bucket, key, place));
     }
     newest
 }
 
 impl Read<'_> {
     // Whether what it shows for the key covers w.
-    fn covers(&self, records: &[Record], key: &Bytes, w: Version) -> bool
-        requires { self.now.finished ≤ length records.now }
-        ensures { result ≡ covers records.now self.now.finished self.now.bucket.now self.now.key.now self.now.answer.now key.now w }
+    fn covers(&self, index: &Index<'_>, key: &Bytes, w: Version) -> bool
+        requires { self.now.finished ≤ length index.now.records.now }
+        ensures { result ≡ covers index.now.records.now self.now.finished self.now.bucket.now self.now.key.now self.now.answer.now key.now w }
     {
         !shows_below(self.key, self.answer, key, w)
             && (shows(self.key, self.answer, key)
-                || is_deleted(records, self.finished, self.bucket, key, w))
+                || is_deleted(index, self.finished, self.bucket, key, w))
     }
 
     // Whether it covers the version, if any, with which a write of a key that it names began at this place and
     // was acknowledged before it began.
-    fn covers_at(&self, records: &[Record], place: usize) -> bool
-        requires there { place < length records.now }
-        requires finished { self.now.finished ≤ length records.now }
-        ensures { result ≡ covers_at records.now self.now.began self.now.finished self.now.kind self.now.bucket.now self.now.key.now self.now.answer.now place }
+    fn covers_at(&self, index: &Index<'_>, place: usize) -> bool
+        requires there { place < length index.now.records.now }
+        requires finished { self.now.finished ≤ length index.now.records.now }
+        ensures { result ≡ covers_at index.now.records.now self.now.began self.now.finished self.now.kind self.now.bucket.now self.now.key.now self.now.answer.now place }
     {
-        match &records[place] {
+        match &index.records[place] {
             Record::Began {
                 request,
                 kind,
@@ -204,8 +205,8 @@ impl Read<'_> {
                 key,
                 ..
             } if kind.is_write() && names(self.kind, self.key, key) && bucket == self.bucket => {
-                match acknowledged(records, place, *request) {
-                    Some((end, version)) if end < self.began => self.covers(records, key, version),
+                match acknowledged(index, place, *request) {
+                    Some((end, version)) if end < self.began => self.covers(index, key, version),
                     _ => true,
                 }
             }
@@ -214,13 +215,13 @@ impl Read<'_> {
     }
 
     // Whether it covers each version with which a write of a key that it names was acknowledged before it began.
-    fn covers_each(&self, records: &[Record]) -> bool
-        requires began { self.now.began ≤ length records.now }
-        requires finished { self.now.finished ≤ length records.now }
-        ensures { result ≡ covers_all records.now self.now.began self.now.finished self.now.kind self.now.bucket.now self.now.key.now self.now.answer.now }
+    fn covers_each(&self, index: &Index<'_>) -> bool
+        requires began { self.now.began ≤ length index.now.records.now }
+        requires finished { self.now.finished ≤ length index.now.records.now }
+        ensures { result ≡ covers_all index.now.records.now self.now.began self.now.finished self.now.kind self.now.bucket.now self.now.key.now self.now.answer.now }
     {
         for place in 0..self.began {
-            if !self.covers_at(records, place) {
+            if !self.covers_at(index, place) {
                 return false;
             }
         }
@@ -228,47 +229,47 @@ impl Read<'_> {
     }
 
     /// The same. A read of one key covers each version where it covers the newest.
-    pub fn covers_all(&self, records: &[Record]) -> bool
-        requires began { self.now.began ≤ length records.now }
-        requires finished { self.now.finished ≤ length records.now }
-        ensures { result ≡ covers_all records.now self.now.began self.now.finished self.now.kind self.now.bucket.now self.now.key.now self.now.answer.now }
+    pub fn covers_all(&self, index: &Index<'_>) -> bool
+        requires began { self.now.began ≤ length index.now.records.now }
+        requires finished { self.now.finished ≤ length index.now.records.now }
+        ensures { result ≡ covers_all index.now.records.now self.now.began self.now.finished self.now.kind self.now.bucket.now self.now.key.now self.now.answer.now }
     {
         if self.kind.is_list() {
-            return self.covers_each(records);
+            return self.covers_each(index);
         }
-        match newest_before(records, self.began, self.bucket, self.key) {
-            Some(version) => self.covers(records, self.key, version),
+        match newest_before(index, self.began, self.bucket, self.key) {
+            Some(version) => self.covers(index, self.key, version),
             None => true,
         }
     }
 
     // Whether the version that it shows for a key was written there, where it names the key.
-    fn is_written(&self, records: &[Record], key: &Bytes, version: Version) -> bool
-        requires { self.now.finished ≤ length records.now }
-        ensures { result ≡ is_written_if_named records.now self.now.finished self.now.kind self.now.bucket.now self.now.key.now (key.now, version) }
+    fn is_written(&self, index: &Index<'_>, key: &Bytes, version: Version) -> bool
+        requires { self.now.finished ≤ length index.now.records.now }
+        ensures { result ≡ is_written_if_named index.now.records.now self.now.finished self.now.kind self.now.bucket.now self.now.key.now (key.now, version) }
     {
         !names(self.kind, self.key, key)
-            || is_written(records, self.finished, self.bucket, key, version)
+            || is_written(index, self.finished, self.bucket, key, version)
     }
 
     /// Whether each version that it shows for a key that it names was written there.
-    pub fn shows_written(&self, records: &[Record]) -> bool
-        requires { self.now.finished ≤ length records.now }
-        ensures { result ≡ shows_written records.now self.now.finished self.now.kind self.now.bucket.now self.now.key.now self.now.answer.now }
+    pub fn shows_written(&self, index: &Index<'_>) -> bool
+        requires { self.now.finished ≤ length index.now.records.now }
+        ensures { result ≡ shows_written index.now.records.now self.now.finished self.now.kind self.now.bucket.now self.now.key.now self.now.answer.now }
     {
         match self.answer {
-            Answer::Version(version) => self.is_written(records, self.key, *version),
+            Answer::Version(version) => self.is_written(index, self.key, *version),
             Answer::None => true,
-            Answer::Listed(entries) => self.lists_written(records, entries.as_slice()),
+            Answer::Listed(entries) => self.lists_written(index, entries.as_slice()),
         }
     }
 
-    fn lists_written(&self, records: &[Record], entries: &[(Bytes, Version)]) -> bool
-        requires { self.now.finished ≤ length records.now }
-        ensures { result ≡ list_all (is_written_if_named records.now self.now.finished self.now.kind self.now.bucket.now self.now.key.now) entries.now }
+    fn lists_written(&self, index: &Index<'_>, entries: &[(Bytes, Version)]) -> bool
+        requires { self.now.finished ≤ length index.now.records.now }
+        ensures { result ≡ list_all (is_written_if_named index.now.records.now self.now.finished self.now.kind self.now.bucket.now self.now.key.now) entries.now }
     {
         for (key, version) in entries {
-            if !self.is_written(records, key, *version) {
+            if !self.is_written(index, key, *version) {
                 return false;
             }
         }

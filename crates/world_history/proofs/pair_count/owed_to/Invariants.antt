@@ -4,6 +4,6 @@ use Rattle.world_history.proofs.pair_count.owed_to.Given as goal
 
 abbrev pub invariant-loop-place : goal.invariant-loop-place
 invariant-loop-place l = record {
-  counted : l.count ≡ count_below (is_owed l.records l.i l.kind l.bucket l.own) l.place;
+  counted : l.count ≡ count_below (is_owed l.index.records.now l.i l.kind l.bucket l.own) l.place;
   small : l.count ≤ l.place;
 }

@@ -7,4 +7,4 @@ use Rattle.world_history.proofs.read.Read.covers_each.Goals as goal
 pub returns-then-not-covers_at : goal.returns-then-not-covers_at
 returns-then-not-covers_at c =
     let read = c.args.self.now in
-    sym (all_below_not (covers_at c.args.records.now read.began read.finished read.kind read.bucket.now read.key.now read.answer.now) c.loop-place.place read.began c.loop-place-test.true (sym c.covers_at.ensures ∙ c.if-not-covers_at.true))
+    sym (all_below_not (covers_at c.args.index.now.records.now read.began read.finished read.kind read.bucket.now read.key.now read.answer.now) c.loop-place.place read.began c.loop-place-test.true (sym c.covers_at.ensures ∙ c.if-not-covers_at.true))

@@ -5,4 +5,4 @@ use Rattle.world_history.proofs.read.Read.lists_written.Given as goal
 
 abbrev pub invariant-loop-key : goal.invariant-loop-key
 invariant-loop-key l =
-    list_all (is_written_if_named l.records l.self.finished l.self.kind l.self.bucket.now l.self.key.now) (take l.key-index l.entries) ≡ true
+    list_all (is_written_if_named l.index.records.now l.self.finished l.self.kind l.self.bucket.now l.self.key.now) (take l.key-index l.entries) ≡ true
