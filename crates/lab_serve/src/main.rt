@@ -1,11 +1,14 @@
 //! S3 on a port of 127.0.0.1, over a cluster in the program itself: the standard input and output, the sockets and the
-//! clock for `run` of serve_run.
+//! clock for `run` of serve_run. Once the port is open, a line on standard error says so.
 #![tactic(auto)]
 
 ghost use Rattle.std.specs.Prelude.{◌≡◌};
 ghost use Rattle.std.specs.Process.{exit_status};
 ghost use Rattle.lab_outside.specs.Exit.{code_of};
 
+mod announced;
+
+use crate::announced::Announced;
 use lab_outside::{Status, StdSink, StdSource, TcpLink, WallClock};
 use serve_run::run;
 use std::alloc::Global;
@@ -33,9 +36,10 @@ fn main(rt: HostRuntime) -> ExitCode {
     let Ok(words) = words_of(&rt) else {
         return exit_code(Status::Memory);
     };
-    let Ok(mut link) = TcpLink::new(alloc, &rt) else {
+    let Ok(link) = TcpLink::new(alloc, &rt) else {
         return exit_code(Status::Memory);
     };
+    let mut link = Announced::new(link, &rt);
     let mut clock = WallClock::new(&rt);
     let status = run(
         alloc,
