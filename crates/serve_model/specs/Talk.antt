@@ -94,9 +94,9 @@ request_of last now head ask =
       time = now;
     }
 
--- the interim line, where it is waited for and a body is to come
-abbrev pub interim : Bool → ℕ → List ℕ
-interim waits size = if waits && nat_lt 0 size then codes "HTTP/1.1 100 Continue\r\n\r\n" else []
+-- the interim line, where it is waited for, a body of no bytes too
+abbrev pub interim : Bool → List ℕ
+interim waits = if waits then codes "HTTP/1.1 100 Continue\r\n\r\n" else []
 
 -- the connection closes after this refusal
 abbrev pub closes_with : Request → Code → Bool
@@ -189,7 +189,7 @@ module _ {S : Type 0} where
 
     -- the interim line is written where it is waited for, before the body is read
     abbrev pub waiting_turn : Request → Serving S → List ℕ → Turn S
-    waiting_turn r p rest = after (interim r.waits r.length) (body_turn r p rest)
+    waiting_turn r p rest = after (interim r.waits) (body_turn r p rest)
 
     -- a request was understood
     abbrev pub request_turn : Request → Serving S → List ℕ → Turn S
