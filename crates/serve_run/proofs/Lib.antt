@@ -1,2 +1,6 @@
 pub mod Reading
+pub mod Sized
 pub mod Opening
+pub mod Requests
+pub mod Serving
+pub mod Ending
