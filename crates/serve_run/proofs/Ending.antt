@@ -1,5 +1,6 @@
 -- From what a server did to the status and the text of its end.
 use Rattle.std.proofs.Common.{◌≡◌, ℕ, ◌<◌, List, [], ◌++◌, Option, Some, None, IfSome, Result, Ok, Err, refl, sym, ◌∙◌, subst}
+use Rattle.std.specs.Result.{IsErrAnd}
 use Rattle.lab_outside.specs.declared.exit.Status.{Status}
 use Rattle.lab_outside.specs.declared.exit.Status.TheVariants as status
 use Rattle.lab_outside.specs.Rose.{Rose}
@@ -35,6 +36,11 @@ module _ (g : Grammar) (count : ℕ) (input : Option (List ℕ)) (t : Told) wher
   unserved p read Kept h told = too_much p read h refl refl
   unserved p read Number h told = no_room p read refl refl
 
+  -- the same stop is handed on
+  pub ends_early : (r : Result (List ℕ) Stop) (stop : Stop) → IsErrAnd r (λ e. e ≡ stop) → (IsTold stop → IsEnd g count input t (status_of stop) (said_of stop)) → EndsSo g count input t r
+  ends_early (Ok text) stop is h = absurd is
+  ends_early (Err e) stop is h = subst (λ (s : Stop). IsTold s → IsEnd g count input t (status_of s) (said_of s)) (sym is) h
+
 -- the statuses of the reasons
 stated_told : (stop : Stop) → IsStated (status_of stop) → IsTold stop
 stated_told Read h = absurd h
@@ -62,6 +68,12 @@ no_write (Refused line) h = cc
 no_write Link h = cc
 no_write Kept h = cc
 no_write Number h = cc
+
+pub no_write_done : status.Done ≡ status.WriteFault → ⊥
+no_write_done h = cc
+
+pub no_write_usage : status.Usage ≡ status.WriteFault → ⊥
+no_write_usage h = cc
 
 module _ (result : Status) (old new : Option (List ℕ)) (faults risen : ℕ) where
   -- a text was written at the end

@@ -1,4 +1,5 @@
 pub mod Reading
+pub mod Input
 pub mod Sized
 pub mod Opening
 pub mod Requests
