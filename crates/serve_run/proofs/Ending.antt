@@ -1,10 +1,9 @@
 -- From what a server did to the status and the text of its end.
-use Rattle.std.proofs.Common.{◌≡◌, ℕ, ◌<◌, List, [], ◌++◌, Option, Some, None, IfSome, Result, Ok, Err, refl, sym, ◌∙◌, subst}
+use Rattle.std.proofs.Common.{◌≡◌, ℕ, List, [], Option, Result, Ok, Err, refl, sym, ◌∙◌, subst}
 use Rattle.std.specs.Result.{IsErrAnd}
 use Rattle.lab_outside.specs.declared.exit.Status.{Status}
 use Rattle.lab_outside.specs.declared.exit.Status.TheVariants as status
-use Rattle.lab_outside.specs.Rose.{Rose}
-use Rattle.lab_outside.specs.Bytes.{Wrote, WrotePrefix}
+use Rattle.lab_outside.specs.Bytes.{Wrote}
 use Rattle.serve_model.specs.Talk.{Grammar}
 use Rattle.serve_run.specs.declared.plan.Plan.{Plan}
 use Rattle.serve_run.specs.declared.stop.Stop.{Stop}
@@ -13,7 +12,7 @@ use Rattle.serve_run.specs.Words.{AsksFor}
 use Rattle.serve_run.specs.Plan.{WasRead}
 use Rattle.serve_run.specs.Served.{Told}
 use Rattle.serve_run.specs.Stop.{status_of, said_of, IsOfInput, IsTold, Ends, said, cut_off}
-use Rattle.serve_run.specs.Answer.{HasEnded, HasStopped, IsEnd, long_input, refused, served, link_failed, too_much, no_room, EndsSo, IsStated, IsSilent, Answers, AnswersPrefix, usage_line, IsAnswer, usage, asked, IsServedWhole}
+use Rattle.serve_run.specs.Answer.{HasEnded, HasStopped, IsEnd, long_input, refused, served, link_failed, too_much, no_room, EndsSo, IsStated, IsSilent, Answers, AnswersPrefix, IsAnswer, usage, asked, IsServedWhole}
 
 module _ (g : Grammar) (count : ℕ) (input : Option (List ℕ)) (t : Told) where
   -- the input was no plan

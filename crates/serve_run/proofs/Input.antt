@@ -1,12 +1,12 @@
 -- What the input says, and which stop it is where it says no plan.
-use Rattle.std.proofs.Common.{◌≡◌, ℕ, ◌+◌, ◌<◌, ◌≤◌, Option, Some, None, Result, Ok, Err, IfErr, IfSome, List, length, take, ap, ◌∙◌, sym, subst, arith}
+use Rattle.std.proofs.Common.{◌≡◌, ℕ, ◌+◌, ◌<◌, ◌≤◌, Option, Some, None, Result, Ok, Err, IfErr, IfSome, List, length, take, ap, sym, subst, arith}
 use Rattle.std.proofs.lemmas.List.{length-take}
 use Rattle.std.specs.Prelude.{IsUtf8}
 use Rattle.std.specs.Result.{IsErrAnd}
 use Rattle.layout_text.specs.Settings.{Settings, said}
 use Rattle.serve_run.specs.declared.stop.Stop.{Stop}
 use Rattle.serve_run.specs.declared.stop.Stop.TheVariants.{Read, Link, Memory, LongInput, Refused, Kept, Number}
-use Rattle.serve_run.specs.Plan.{greatest_node, input_limit, IsRefused, no_layout, OfInput}
+use Rattle.serve_run.specs.Plan.{greatest_node, input_limit, IsRefused, no_layout}
 use Rattle.serve_run.specs.Stop.{IsOfText, IsOfSettings, IsOfInput}
 
 -- an input that was read to one byte past a limit

@@ -1,11 +1,11 @@
 -- The acts of requests: they lead where the orders lead, and are lawful and fit where the orders do.
-use Rattle.std.proofs.Common.{◌≡◌, ℕ, List, [], ◌∷◌, ◌++◌, refl, sym, ◌∙◌, ap}
+use Rattle.std.proofs.Common.{◌≡◌, ℕ, List, [], ◌∷◌, refl, sym, ◌∙◌, ap}
 use Rattle.layout_roles.specs.declared.layout.Layout.{Layout}
 use Rattle.flow_model.specs.declared.order.Order.{Order}
-use Rattle.store_model.specs.Run.{State, start}
+use Rattle.store_model.specs.Run.{start}
 use Rattle.store_model.specs.Acts.{Act, after_acts, AreLawfulActs, ActsFit}
 use Rattle.store_model.specs.Moments.{AtEachMoment}
-use Rattle.serve_model.specs.Stores.{after_orders, OrdersFit, Leads}
+use Rattle.serve_model.specs.Stores.{after_orders, OrdersFit}
 use Rattle.serve_model.specs.Clusters.{Cluster, cluster, acts_at, fits}
 use Rattle.serve_cluster.proofs.Acting.{acts_after, acts_lawful, acts_fit}
 use Rattle.serve_run.specs.declared.plan.Plan.{Plan}

@@ -3,14 +3,13 @@ use Rattle.std.proofs.Common.{◌≡◌, ℕ, List, Option, Some, None, Result, 
 use Rattle.std.specs.Result.{IsErrAnd}
 use Rattle.lab_outside.specs.Connection.{Connection}
 use Rattle.layout_roles.specs.declared.layout.Layout.{Layout}
-use Rattle.flow_model.specs.declared.order.Order.{Order}
 use Rattle.store_model.specs.Run.{State, start}
 use Rattle.store_model.specs.Acts.{AreLawfulActs, ActsFit}
 use Rattle.serve_model.specs.declared.served.Served.{Served}
 use Rattle.serve_model.specs.declared.served.ServeFault.{ServeFault}
 use Rattle.serve_model.specs.declared.served.ServeFault.TheVariants as fault
 use Rattle.serve_model.specs.Clusters.{Cluster, cluster, fits, lacks}
-use Rattle.serve_model.specs.Talk.{Grammar, Serving}
+use Rattle.serve_model.specs.Talk.{Grammar}
 use Rattle.serve_model.specs.Serving.{HasState, Reached, Stands}
 use Rattle.serve_model.specs.Connections.{ServesAll, ServesAllButLast}
 use Rattle.serve_loop.specs.declared.service.ServeStop.{ServeStop}

@@ -1,5 +1,5 @@
 -- Blocks that are read have a byte or more.
-use Rattle.std.proofs.Common.{◌≡◌, ℕ, ◌≤◌, ℤ, pos, negsuc, Bool, true, false, List, codes, Option, Some, None, Result, Ok, Err, nat_le, option_and_then, refl, ap, ◌∙◌, sym, subst, arith, leb-true}
+use Rattle.std.proofs.Common.{◌≡◌, ℕ, ◌≤◌, ℤ, pos, negsuc, true, false, List, codes, Option, Some, None, Result, Ok, Err, nat_le, option_and_then, refl, ap, subst, arith, leb-true}
 use Rattle.std.proofs.lemmas.Bool.{and_parts}
 use Rattle.std.specs.Option.{ok_or}
 use Rattle.toml.specs.Data.{Data, Members, as_integer, get_member}
@@ -8,9 +8,8 @@ use Rattle.layout_roles.specs.declared.role.Role.{Role}
 use Rattle.layout_roles.specs.declared.redundancy.Redundancy.{Redundancy}
 use Rattle.layout_text.specs.declared.config.FieldName.{FieldName}
 use Rattle.layout_text.specs.declared.config.FieldName.TheVariants as field
-use Rattle.layout_text.specs.declared.config.ConfigFault.{ConfigFault}
 use Rattle.layout_text.specs.declared.config.ConfigFault.TheVariants.{NotToml}
-use Rattle.layout_text.specs.Values.{keep_if, is_between, between, read_or, number_in, default_block_size, redundancy_in, block_size_in}
+use Rattle.layout_text.specs.Values.{keep_if, is_between, between, read_or, number_in, default_block_size, redundancy_in}
 use Rattle.layout_text.specs.Settings.{◌>>=◌, needed, roles_for, buckets_for, block_size_for, Settings, settings_in, faulted, said}
 use Rattle.serve_run.specs.Plan.{greatest_node}
 

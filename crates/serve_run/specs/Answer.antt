@@ -7,7 +7,7 @@ use Rattle.serve_model.specs.declared.served.ServeFault.TheVariants as fault
 use Rattle.serve_model.specs.Talk.{Grammar}
 use Rattle.serve_run.specs.declared.plan.Plan.{Plan}
 use Rattle.serve_run.specs.declared.stop.Stop.{Stop}
-use Rattle.serve_run.specs.declared.stop.Stop.TheVariants.{Read, Link, Memory, LongInput, Refused, Kept, Number}
+use Rattle.serve_run.specs.declared.stop.Stop.TheVariants.{Link, Memory, Kept, Number}
 use Rattle.serve_run.specs.Words.{AsksFor}
 use Rattle.serve_run.specs.Plan.{input_limit, IsRefused, OfInput, WasRead}
 use Rattle.serve_run.specs.Served.{Told, HasServed, HasBrokenOff, state_after, tail_of}

@@ -1,5 +1,5 @@
 -- What a server is made of, and what its input says.
-use Rattle.std.specs.Prelude.{◌≡◌, ℕ, ◌≤◌, List, length, IsUtf8, Option, Result, Ok, Err, IfSome}
+use Rattle.std.specs.Prelude.{◌≡◌, ℕ, ◌≤◌, List, length, IsUtf8, Option, Ok, Err, IfSome}
 use Rattle.lab_outside.specs.declared.exit.Status.TheVariants.{Refused}
 use Rattle.layout_roles.specs.Fits.{IsGreatest}
 use Rattle.layout_text.specs.declared.config.FieldName.{FieldName}
