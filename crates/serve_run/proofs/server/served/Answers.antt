@@ -35,10 +35,10 @@ returns-clause-how g c = λ g'.
     let times = g.C.Clock.times c.args.clock.now in
     let coming = g.L.Link.coming c.args.link.now in
     let l =
-        left c.each_moment_keeps_promises.ensures g' p o.first o.is_of o.lawful o.fit c.in_ok-buckets.buckets c.in_ok-buckets.ensures.in_order (StandsFor c.serve.new.store) c.serve.new.served
-        (g.C.Clock.times c.serve.new.clock) (g.L.Link.coming c.serve.new.link) (g.L.Link.past c.args.link.now) (g.L.Link.past c.serve.new.link) c.in_ok-count.count times coming
-        (c.in_ok-count.ensures.goes (begun p o.first) stands)
-        (λ ts e. c.in_ok-count.ensures.served g' (serving p o.first ts) (begins p o.first (StandsFor c.new-cluster.result) times (record { kept = 0; time = 0 }) ts stands refl e))
+    left c.each_moment_keeps_promises.ensures g' p o.first o.is_of o.lawful o.fit c.in_ok-buckets.buckets c.in_ok-buckets.ensures.in_order (StandsFor c.serve.new.store) c.serve.new.served
+    (g.C.Clock.times c.serve.new.clock) (g.L.Link.coming c.serve.new.link) (g.L.Link.past c.args.link.now) (g.L.Link.past c.serve.new.link) c.in_ok-count.count times coming
+    (c.in_ok-count.ensures.goes (begun p o.first) stands)
+    (λ ts e. c.in_ok-count.ensures.served g' (serving p o.first ts) (begins p o.first (StandsFor c.new-cluster.result) times (record { kept = 0; time = 0 }) ts stands refl e))
     in
     record {
       number = c.in_ok-count.count;
