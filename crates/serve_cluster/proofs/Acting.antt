@@ -20,15 +20,15 @@ use Rattle.s3_world.specs.Stands.{IsStore, HasStore, Becomes, Carries, Starts, O
 use Rattle.serve_model.specs.Clusters.{asker, acts_to_ask, acts_to_end, acts_past_end, acts_opened, acts_then, end_then, end_in, asking, acts_of_request, end_of_request, number_in, expiry, works, ActLacksRoom}
 use Rattle.serve_cluster.specs.Acting.{DoneActs, DoesActs, LacksRoom, TakesEnd, Finishes}
 
-acts_after : (s : State) (xs ys : List Act) → after_acts s (xs ++ ys) ≡ after_acts (after_acts s xs) ys
+pub acts_after : (s : State) (xs ys : List Act) → after_acts s (xs ++ ys) ≡ after_acts (after_acts s xs) ys
 acts_after s [] ys = refl
 acts_after s (x ∷ xs) ys = acts_after (acted s x).state xs ys
 
-acts_lawful : (s : State) (xs ys : List Act) → AreLawfulActs s xs → AreLawfulActs (after_acts s xs) ys → AreLawfulActs s (xs ++ ys)
+pub acts_lawful : (s : State) (xs ys : List Act) → AreLawfulActs s xs → AreLawfulActs (after_acts s xs) ys → AreLawfulActs s (xs ++ ys)
 acts_lawful s [] ys h k = k
 acts_lawful s (x ∷ xs) ys h k = (h.0, acts_lawful (acted s x).state xs ys h.1 k)
 
-acts_fit : (s : State) (xs ys : List Act) → ActsFit s xs → ActsFit (after_acts s xs) ys → ActsFit s (xs ++ ys)
+pub acts_fit : (s : State) (xs ys : List Act) → ActsFit s xs → ActsFit (after_acts s xs) ys → ActsFit s (xs ++ ys)
 acts_fit s [] ys h k = k
 acts_fit s (x ∷ xs) ys h k = (h.0, acts_fit (acted s x).state xs ys h.1 k)
 

@@ -1,2 +1,7 @@
 pub mod Reading
+pub mod Input
+pub mod Sized
 pub mod Opening
+pub mod Requests
+pub mod Serving
+pub mod Ending

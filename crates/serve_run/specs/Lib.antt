@@ -1,4 +1,6 @@
 pub mod Words
-pub mod Stop
 pub mod Plan
+pub mod Stop
 pub mod Start
+pub mod Served
+pub mod Answer

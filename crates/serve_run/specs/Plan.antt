@@ -1,9 +1,45 @@
--- What a server is made of.
-use Rattle.std.specs.Prelude.{◌≤◌}
+-- What a server is made of, and what its input says.
+use Rattle.std.specs.Prelude.{◌≡◌, ℕ, ◌≤◌, List, length, IsUtf8, Option, Ok, Err, IfSome}
+use Rattle.lab_outside.specs.declared.exit.Status.TheVariants.{Refused}
 use Rattle.layout_roles.specs.Fits.{IsGreatest}
+use Rattle.layout_text.specs.declared.config.FieldName.{FieldName}
+use Rattle.layout_text.specs.declared.config.ConfigFault.TheVariants.{NotToml, Field}
+use Rattle.layout_text.specs.Settings.{Settings, settings_of, said}
+use Rattle.layout_command.specs.Answer.{toml_line, field_line, AreEnough, IsLayout, IsLaidOut}
 use Rattle.serve_run.specs.declared.plan.Plan.{Plan}
+
+-- the greatest node of a server
+abbrev pub greatest_node : ℕ
+greatest_node = 16
+
+-- how many bytes the input may have
+abbrev pub input_limit : ℕ
+input_limit = 8388608
 
 -- the sets have the greatest partition size for the configured roles, and blocks have a byte or more
 pub record IsPlan (p : Plan) : Type 0 where
   pub greatest : IsGreatest p.config.roles.list p.certified.r p.certified.size p.certified.sets.sets
   pub sized : 1 ≤ p.config.block_size
+
+-- these bytes say the plan: its settings, and a layout of them of the greatest partition size with the cut that shows it
+pub record IsSaid (bytes : List ℕ) (p : Plan) : Type 0 where
+  pub is_text : IsUtf8 bytes
+  pub says : said greatest_node bytes ≡ Ok (settings_of p.config)
+  pub enough : AreEnough (settings_of p.config)
+  pub layout : IsLayout (settings_of p.config) p.certified
+
+-- these bytes say no plan, for which this is the line: they are no text, no TOML, a field is bad, or the settings have no layout, in this order
+pub data IsRefused (bytes line : List ℕ) : Type 0 where
+  not_text : (IsUtf8 bytes → ⊥) → line ≡ toml_line → IsRefused bytes line
+  not_toml : IsUtf8 bytes → said greatest_node bytes ≡ Err NotToml → line ≡ toml_line → IsRefused bytes line
+  bad_field : (name : FieldName) → IsUtf8 bytes → said greatest_node bytes ≡ Err (Field name) → line ≡ field_line name → IsRefused bytes line
+  no_layout : (settings : Settings) → IsUtf8 bytes → said greatest_node bytes ≡ Ok settings → IsLaidOut settings Refused line → IsRefused bytes line
+
+-- where the input tells its bytes, they are no more than they may be, and so it is of them
+abbrev pub OfInput : (List ℕ → Type 0) → Option (List ℕ) → Type 0
+OfInput P input = IfSome input (λ bytes. (length bytes ≤ input_limit) × P bytes)
+
+-- the plan that was read
+pub record WasRead (input : Option (List ℕ)) (p : Plan) : Type 0 where
+  pub is_plan : IsPlan p
+  pub said : OfInput (λ bytes. IsSaid bytes p) input

@@ -1,5 +1,5 @@
 -- Why nothing was served to the end: the status and the text that go with it.
-use Rattle.std.specs.Prelude.{◌≡◌, ⊤, ℕ, List, [], ◌∷◌, ◌++◌, codes, Option}
+use Rattle.std.specs.Prelude.{◌≡◌, ⊤, ℕ, ◌<◌, List, [], ◌∷◌, ◌++◌, codes, length, Option, IfSome}
 use Rattle.crdt_core.specs.declared.memory.Memory.{Memory as Why}
 use Rattle.crdt_core.specs.declared.memory.Memory.TheVariants.{Want, Full}
 use Rattle.lab_outside.specs.declared.exit.Status.{Status}
@@ -11,6 +11,9 @@ use Rattle.lab_outside.specs.Bytes.{Wrote, WrotePrefix}
 use Rattle.serve_model.specs.declared.served.ServeFault.TheVariants as fault
 use Rattle.serve_loop.specs.declared.service.ServeStop.{ServeStop}
 use Rattle.serve_loop.specs.declared.service.ServeStop.TheVariants as ended
+use Rattle.layout_text.specs.Settings.{Settings}
+use Rattle.layout_command.specs.Answer.{IsLaidOut}
+use Rattle.serve_run.specs.Plan.{input_limit, IsRefused, OfInput}
 use Rattle.serve_run.specs.declared.stop.Stop.{Stop}
 use Rattle.serve_run.specs.declared.stop.Stop.TheVariants.{Read, Link, Memory, LongInput, Refused, Kept, Number}
 
@@ -41,29 +44,47 @@ status_of (Refused line) = status.Refused
 status_of Kept = status.Limit
 status_of Number = status.Limit
 
+-- the input is longer than it may be
+abbrev pub input_line : List ℕ
+input_line = codes "limit input 8388608" ++ 10 ∷ []
+
+-- more bytes were put or copied than may be
+abbrev pub kept_line : List ℕ
+kept_line = codes "limit kept 536870912" ++ 10 ∷ []
+
+-- a number would pass its type's greatest value, or a row has no spelling
+abbrev pub number_line : List ℕ
+number_line = codes "limit number" ++ 10 ∷ []
+
 -- the line that is written of each
 abbrev pub said_of : Stop → List ℕ
 said_of Read = []
 said_of Link = []
 said_of Memory = []
-said_of LongInput = codes "limit input 8388608" ++ 10 ∷ []
+said_of LongInput = input_line
 said_of (Refused line) = line
-said_of Kept = codes "limit kept 536870912" ++ 10 ∷ []
-said_of Number = codes "limit number" ++ 10 ∷ []
+said_of Kept = kept_line
+said_of Number = number_line
 
--- a text may be the cause
-abbrev pub IsOfText : Stop → Type 0
-IsOfText Memory = ⊤
-IsOfText (Refused line) = ⊤
-IsOfText stop = ⊥
+-- a text may be the cause: what it says has this line
+abbrev pub IsOfText : List ℕ → Stop → Type 0
+IsOfText text Memory = ⊤
+IsOfText text (Refused line) = IsRefused text line
+IsOfText text stop = ⊥
 
--- reading the input may be the cause, or what it says
-abbrev pub IsOfInput : Stop → Type 0
-IsOfInput Read = ⊤
-IsOfInput Memory = ⊤
-IsOfInput LongInput = ⊤
-IsOfInput (Refused line) = ⊤
-IsOfInput stop = ⊥
+-- settings may be the cause: they have no layout, as this line says
+abbrev pub IsOfSettings : Settings → Stop → Type 0
+IsOfSettings settings Memory = ⊤
+IsOfSettings settings (Refused line) = IsLaidOut settings status.Refused line
+IsOfSettings settings stop = ⊥
+
+-- reading the input may be the cause, or what it says: that it is too long, or this line
+abbrev pub IsOfInput : Option (List ℕ) → Stop → Type 0
+IsOfInput input Read = ⊤
+IsOfInput input Memory = ⊤
+IsOfInput input LongInput = IfSome input (λ bytes. input_limit < length bytes)
+IsOfInput input (Refused line) = OfInput (λ bytes. IsRefused bytes line) input
+IsOfInput input stop = ⊥
 
 -- serving may be the cause
 abbrev pub IsOfServing : Stop → Type 0
@@ -72,6 +93,12 @@ IsOfServing Memory = ⊤
 IsOfServing Kept = ⊤
 IsOfServing Number = ⊤
 IsOfServing stop = ⊥
+
+-- the status goes with a text, and isn't one of reading or of memory
+abbrev pub IsTold : Stop → Type 0
+IsTold Read = ⊥
+IsTold Memory = ⊥
+IsTold stop = ⊤
 
 -- it ends with this status and this text written, unless a write fails
 pub data Ends (is : Status) (text : List ℕ) (result : Status) (old new : Option (List ℕ)) (faults risen : ℕ) : Type 0 where

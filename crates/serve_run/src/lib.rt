@@ -6,6 +6,7 @@
 //! and `stop` is why there was no end.
 #![tactic(auto)]
 
+mod laws;
 mod plan;
 mod server;
 mod start;
@@ -13,4 +14,5 @@ mod stop;
 mod tail;
 mod words;
 
+pub use crate::laws::each_moment_keeps_promises;
 pub use crate::server::run;

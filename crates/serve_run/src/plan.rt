@@ -1,18 +1,19 @@
 //! The cluster that the input says, with its layout.
-ghost use Rattle.std.specs.Prelude.{◌≡◌, ◌≤◌, Err, IfOk, OnOk, IfErr};
+ghost use Rattle.std.specs.Prelude.{◌≡◌, ◌≤◌, Ok, Err, IfOk, OnOk, IfErr};
 ghost use Rattle.std.specs.Io.KnownBytes.{IsAtEnd};
 ghost use Rattle.lab_outside.specs.Rose.{Rose};
 ghost use Rattle.layout_roles.specs.Certificates.{IsRedundancy};
-ghost use Rattle.serve_run.specs.Stop.{IsOfText, IsOfInput};
-ghost use Rattle.serve_run.specs.Plan.{IsPlan};
+ghost use Rattle.layout_text.specs.Settings.{settings_of, said};
+ghost use Rattle.layout_command.specs.Answer.{AreEnough, IsLayout};
+ghost use Rattle.serve_run.specs.Stop.{IsOfText, IsOfSettings, IsOfInput};
+ghost use Rattle.serve_run.specs.Plan.{greatest_node, IsPlan, IsSaid, WasRead};
 
 use crate::stop::Stop;
-use crdt_core::Bytes;
 use lab_outside::{Source, read_up_to};
 use layout_command::{bad_field, bad_toml, reason};
 use layout_roles::Certified;
 use layout_size::compute;
-use layout_text::{Config, ConfigFault, FieldName, read_config};
+use layout_text::{Config, ConfigFault, read_config};
 use std::alloc::Global;
 use std::str::from_utf8;
 
@@ -29,25 +30,17 @@ pub struct Plan {
     pub certified: Certified,
 }
 
-/// The first bad field of a configuration.
-fn field(alloc: Global, name: FieldName) -> Result<Config, Stop>
-    ensures none { IfOk result (λ _. ⊥) }
-    ensures causes { IfErr result IsOfText }
-{
-    Err(Stop::Refused(bad_field(alloc, name)?))
-}
-
 /// The configuration that a text says.
 fn configured(alloc: Global, text: &str) -> Result<Config, Stop>
+    ensures says { IfOk result (λ config. said greatest_node text.now ≡ Ok (settings_of config)) }
     ensures redundancy { IfOk result (λ config. IsRedundancy config.redundancy) }
     ensures sized { IfOk result (λ config. 1 ≤ config.block_size) }
-    ensures causes { IfErr result IsOfText }
+    ensures causes { IfErr result (IsOfText text.now) }
 {
     match read_config(alloc, text, GREATEST_NODE) {
-        Ok(config) if config.block_size == 0 => field(alloc, FieldName::BlockSize),
         Ok(config) => Ok(config),
         Err(ConfigFault::NotToml) => Err(Stop::Refused(bad_toml(alloc)?)),
-        Err(ConfigFault::Field(name)) => field(alloc, name),
+        Err(ConfigFault::Field(name)) => Err(Stop::Refused(bad_field(alloc, name)?)),
         Err(ConfigFault::Memory) => Err(Stop::Memory),
     }
 }
@@ -57,7 +50,10 @@ fn laid_out(alloc: Global, config: Config) -> Result<Plan, Stop>
     requires redundancy { IsRedundancy config.redundancy }
     requires sized { 1 ≤ config.block_size }
     ensures plan { IfOk result IsPlan }
-    ensures causes { IfErr result IsOfText }
+    ensures config { IfOk result (λ plan. plan.config ≡ config) }
+    ensures enough { IfOk result (λ _. AreEnough (settings_of config)) }
+    ensures layout { IfOk result (λ plan. IsLayout (settings_of config) plan.certified) }
+    ensures causes { IfErr result (IsOfSettings (settings_of config)) }
 {
     match compute(alloc, &config.roles, config.redundancy) {
         Ok(certified) => Ok(Plan { config, certified }),
@@ -65,25 +61,35 @@ fn laid_out(alloc: Global, config: Config) -> Result<Plan, Stop>
     }
 }
 
+/// The cluster that a text says.
+fn plan_of_text(alloc: Global, text: &str) -> Result<Plan, Stop>
+    ensures plan { IfOk result IsPlan }
+    ensures said { IfOk result (IsSaid text.now) }
+    ensures causes { IfErr result (IsOfText text.now) }
+{
+    let config = configured(alloc, text)?;
+    laid_out(alloc, config)
+}
+
 /// The cluster that bytes say.
 fn plan_of(alloc: Global, bytes: &[u8]) -> Result<Plan, Stop>
     ensures plan { IfOk result IsPlan }
-    ensures causes { IfErr result IsOfText }
+    ensures said { IfOk result (IsSaid bytes.now) }
+    ensures causes { IfErr result (IsOfText bytes.now) }
 {
     match from_utf8(bytes) {
-        Ok(text) => {
-            let config = configured(alloc, text)?;
-            laid_out(alloc, config)
-        }
+        Ok(text) => plan_of_text(alloc, text),
         Err(_) => Err(Stop::Refused(bad_toml(alloc)?)),
     }
 }
 
 /// Reads the input to its end, or to the first byte past the limit, and then the cluster that it says.
 pub fn read_plan<I: Source>(alloc: Global, input: &mut I) -> Result<Plan, Stop>
-    ensures plan { IfOk result IsPlan }
+    // Where the source tells its bytes: the plan is the one that they say, a long input is longer than the limit, and the
+    // line of a refusal is the first one that they deserve.
+    ensures read { IfOk result (WasRead (I.left input.old)) }
     ensures end { OnOk result (IsAtEnd (I.left input.new)) }
-    ensures causes { IfErr result IsOfInput }
+    ensures causes { IfErr result (IsOfInput (I.left input.old)) }
     ensures fault { result ≡ Err Stop.Read → Rose (I.faults input.old) (I.faults input.new) }
 {
     let bytes = read_up_to(alloc, input, INPUT_LIMIT)?;

@@ -1,12 +1,17 @@
 //! The program as one call.
-ghost use Rattle.std.specs.Prelude.{IsPermutation, IsSorted, ◌≡◌, ◌⊎◌, None, Err, IfOk, OnOk, IfErr};
+ghost use Rattle.std.specs.Prelude.{IsPermutation, IsSorted, ◌≡◌, ◌⊎◌, [], map, None, Err, IfOk, OnOk, IfErr, string_bytes};
 ghost use Rattle.std.specs.Io.KnownBytes.{IsAtEnd};
 ghost use Rattle.crdt_core.specs.Outcomes.{OnlyWant};
 ghost use Rattle.lab_outside.specs.Rose.{Rose};
+ghost use Rattle.lab_outside.specs.Bytes.{Wrote};
+ghost use Rattle.serve_model.specs.Talk.{Grammar};
 ghost use Rattle.serve_run.specs.Words.{AskNothing};
-ghost use Rattle.serve_run.specs.Stop.{status_of, said_of, IsOfServing, Ends};
+ghost use Rattle.serve_run.specs.Stop.{status_of, said_of, IsOfServing, IsTold, Ends};
 ghost use Rattle.serve_run.specs.Plan.{IsPlan};
+ghost use Rattle.serve_run.specs.Served.{told, AreInOrder};
+ghost use Rattle.serve_run.specs.Answer.{HowServed, IsEnd, EndsSo, IsStated, IsSilent, Answers, AnswersPrefix, IsAnswer, IsServedWhole};
 
+use crate::laws::each_moment_keeps_promises;
 use crate::plan::{Plan, read_plan};
 use crate::start::{installed, nodes};
 use crate::stop::Stop;
@@ -21,8 +26,7 @@ use std::alloc::Global;
 
 /// The buckets in order of their names.
 fn in_order(buckets: &List<Bytes>) -> Result<List<Bytes>, Memory>
-    ensures same { IfOk result (λ names. IsPermutation buckets.now names) }
-    ensures ordered { IfOk result (λ names. IsSorted ⟦<Bytes as Ord>⟧.cmp names) }
+    ensures in_order { IfOk result (AreInOrder buckets.now) }
     ensures want { OnlyWant result }
 {
     let mut names = buckets.copy()?.into_vec();
@@ -40,9 +44,11 @@ fn served<L: Link, C: Clock>(
 ) -> Result<Bytes, Stop>
     requires plan { IsPlan plan.now }
     requires absent { L.present link.old ≡ None }
+    ensures how { (g : Grammar) → HowServed g plan.now asked.count (told (C.times clock.old) (C.times clock.new) (L.coming link.old) (L.coming link.new) (L.past link.old) (L.past link.new)) result }
     ensures causes { IfErr result IsOfServing }
     ensures fault { result ≡ Err Stop.Link → Rose (L.faults link.old) (L.faults link.new) }
 {
+    each_moment_keeps_promises();
     let world = installed(alloc, plan)?;
     let members = nodes(alloc, plan.config.roles.list.as_slice())?;
     let buckets = in_order(&plan.config.buckets)?;
@@ -77,6 +83,7 @@ fn read_and_served<I: Source, L: Link, C: Clock>(
     clock: &mut C,
 ) -> Result<Bytes, Stop>
     requires absent { L.present link.old ≡ None }
+    ensures ends { (g : Grammar) → EndsSo g asked.count (I.left input.old) (told (C.times clock.old) (C.times clock.new) (L.coming link.old) (L.coming link.new) (L.past link.old) (L.past link.new)) result }
     ensures end { OnOk result (IsAtEnd (I.left input.new)) }
     ensures read_fault { result ≡ Err Stop.Read → Rose (I.faults input.old) (I.faults input.new) }
     ensures link_fault { result ≡ Err Stop.Link → Rose (L.faults link.old) (L.faults link.new) }
@@ -98,7 +105,8 @@ fn ends<O: Sink>(output: &mut O, text: &[u8], status: Status) -> Status
 
 /// Says why nothing was served to the end, where that is said in the output.
 fn stopped<O: Sink>(output: &mut O, stop: &Stop) -> Status
-    ensures { Ends (status_of stop.now) (said_of stop.now) result (O.written output.old) (O.written output.new) (O.faults output.old) (O.faults output.new) }
+    ensures told { result ≡ Status.WriteFault → IsTold stop.now }
+    ensures ends { Ends (status_of stop.now) (said_of stop.now) result (O.written output.old) (O.written output.new) (O.faults output.old) (O.faults output.new) }
 {
     match stop {
         Stop::Read => Status::ReadFault,
@@ -121,6 +129,9 @@ fn answered<I: Source, O: Sink, L: Link, C: Clock>(
     clock: &mut C,
 ) -> Status
     requires absent { L.present link.old ≡ None }
+    ensures answers { (g : Grammar) → IsStated result → Answers (IsEnd g asked.count (I.left input.old) (told (C.times clock.old) (C.times clock.new) (L.coming link.old) (L.coming link.new) (L.past link.old) (L.past link.new))) result (O.written output.old) (O.written output.new) }
+    ensures prefix { (g : Grammar) → result ≡ Status.WriteFault → AnswersPrefix (IsEnd g asked.count (I.left input.old) (told (C.times clock.old) (C.times clock.new) (L.coming link.old) (L.coming link.new) (L.past link.old) (L.past link.new))) (O.written output.old) (O.written output.new) }
+    ensures silent { IsSilent result → Wrote (O.written output.old) (O.written output.new) [] }
     ensures end { result ≡ Status.Done → IsAtEnd (I.left input.new) }
     ensures no_usage { result ≡ Status.Usage → ⊥ }
     ensures read_fault { result ≡ Status.ReadFault → Rose (I.faults input.old) (I.faults input.new) }
@@ -143,6 +154,24 @@ pub fn run<I: Source, O: Sink, L: Link, C: Clock>(
     clock: &mut C,
 ) -> Status
     requires absent { L.present link.old ≡ None }
+
+    // After Done so many connections were served, no more than the words ask for, and fewer only where no more come, by a
+    // server of the plan that the input says. Its acts are lawful and fit, from nothing on: buckets, size of blocks and the
+    // first layout, and then the acts of each request. At each moment of them, within drains too, answered reads are
+    // fresh, also by the records alone; what lines of reads tell of a version's bytes is as was written; and replicas that
+    // accepted the same rows are equal. What was written is the text of the state after these acts; and where clock and
+    // link tell, what was written to each connection is what is stated of its bytes, from what the connections before it
+    // left, or a first part of that where its count of faults rose, and they led to this very state.
+    ensures done { (g : Grammar) → result ≡ Status.Done → IsServedWhole g (map string_bytes words.now) (I.left input.old) (O.written output.old) (O.written output.new) (told (C.times clock.old) (C.times clock.new) (L.coming link.old) (L.coming link.new) (L.past link.old) (L.past link.new)) }
+
+    // Done, Refused, Usage, LinkFault and Limit come with the whole text that is stated for the words and for what the
+    // outside tells, and WriteFault with a first part of one: the line of a refusal is the first one that the input
+    // deserves, and `limit input` comes only where the input is too long, the others only where it isn't. After LinkFault,
+    // and where too many bytes were put or copied, serving up to there is stated as after Done. ReadFault and Memory
+    // come with nothing.
+    ensures answers { (g : Grammar) → IsStated result → Answers (IsAnswer g (map string_bytes words.now) (I.left input.old) (told (C.times clock.old) (C.times clock.new) (L.coming link.old) (L.coming link.new) (L.past link.old) (L.past link.new))) result (O.written output.old) (O.written output.new) }
+    ensures prefix { (g : Grammar) → result ≡ Status.WriteFault → AnswersPrefix (IsAnswer g (map string_bytes words.now) (I.left input.old) (told (C.times clock.old) (C.times clock.new) (L.coming link.old) (L.coming link.new) (L.past link.old) (L.past link.new))) (O.written output.old) (O.written output.new) }
+    ensures silent { IsSilent result → Wrote (O.written output.old) (O.written output.new) [] }
 
     // After Done the source was read to its end.
     ensures end { result ≡ Status.Done → IsAtEnd (I.left input.new) }

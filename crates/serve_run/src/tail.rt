@@ -1,9 +1,9 @@
 //! What is written at the end.
-ghost use Rattle.std.specs.Prelude.{◌≡◌, ◌++◌, flat_map, length, IfOk};
-ghost use Rattle.layout_roles.specs.Text.{set_lines};
+ghost use Rattle.std.specs.Prelude.{◌≡◌, flat_map, IfOk};
 ghost use Rattle.store_model.specs.Run.{State};
-ghost use Rattle.text_model.specs.Transcript.{line_at, end_line};
+ghost use Rattle.text_model.specs.Transcript.{line_at};
 ghost use Rattle.s3_world.specs.Stands.{IsStore};
+ghost use Rattle.serve_run.specs.Served.{tail};
 
 use crdt_core::{Bytes, Memory};
 use event_text::{end_text, node_text};
@@ -49,7 +49,7 @@ pub fn tail_text(
     nodes: &[u8],
     connections: u32,
 ) -> Result<Bytes, Memory>
-    ensures text { IfOk result (λ text. (s : State) → IsStore world.now s → text ≡ set_lines sets.now.sets ++ flat_map (line_at s.world) nodes.now ++ end_line connections (length s.world.requests) (length s.world.messages)) }
+    ensures text { IfOk result (λ text. (s : State) → IsStore world.now s → text ≡ tail sets.now.sets nodes.now connections s) }
 {
     let mut text = set_lines(alloc, sets)?;
     let lines = nodes_text(alloc, world, nodes)?;

@@ -1,0 +1,160 @@
+-- From what a server did to the status and the text of its end.
+use Rattle.std.proofs.Common.{◌≡◌, ℕ, List, [], Option, Result, Ok, Err, refl, sym, ◌∙◌, subst}
+use Rattle.std.specs.Result.{IsErrAnd}
+use Rattle.lab_outside.specs.declared.exit.Status.{Status}
+use Rattle.lab_outside.specs.declared.exit.Status.TheVariants as status
+use Rattle.lab_outside.specs.Bytes.{Wrote}
+use Rattle.serve_model.specs.Talk.{Grammar}
+use Rattle.serve_run.specs.declared.plan.Plan.{Plan}
+use Rattle.serve_run.specs.declared.stop.Stop.{Stop}
+use Rattle.serve_run.specs.declared.stop.Stop.TheVariants.{Read, Link, Memory, LongInput, Refused, Kept, Number}
+use Rattle.serve_run.specs.Words.{AsksFor}
+use Rattle.serve_run.specs.Plan.{WasRead}
+use Rattle.serve_run.specs.Served.{Told}
+use Rattle.serve_run.specs.Stop.{status_of, said_of, IsOfInput, IsTold, Ends, said, cut_off}
+use Rattle.serve_run.specs.Answer.{HasEnded, HasStopped, IsEnd, long_input, refused, served, link_failed, too_much, no_room, EndsSo, IsStated, IsSilent, Answers, AnswersPrefix, IsAnswer, usage, asked, IsServedWhole}
+
+module _ (g : Grammar) (count : ℕ) (input : Option (List ℕ)) (t : Told) where
+  -- the input was no plan
+  pub unread : (stop : Stop) → IsOfInput input stop → IsTold stop → IsEnd g count input t (status_of stop) (said_of stop)
+  unread Read h told = absurd told
+  unread Memory h told = absurd told
+  unread LongInput h told = long_input h refl refl
+  unread (Refused line) h told = refused h refl
+  unread Link h told = absurd h
+  unread Kept h told = absurd h
+  unread Number h told = absurd h
+
+  -- serving stopped early
+  pub unserved : (p : Plan) → WasRead input p → (stop : Stop) → HasStopped g p t stop → IsTold stop → IsEnd g count input t (status_of stop) (said_of stop)
+  unserved p read Read h told = absurd told
+  unserved p read Memory h told = absurd told
+  unserved p read LongInput h told = absurd h
+  unserved p read (Refused line) h told = absurd h
+  unserved p read Link h told = link_failed p read h.0 h.1 refl refl
+  unserved p read Kept h told = too_much p read h refl refl
+  unserved p read Number h told = no_room p read refl refl
+
+  -- the same stop is handed on
+  pub ends_early : (r : Result (List ℕ) Stop) (stop : Stop) → IsErrAnd r (λ e. e ≡ stop) → (IsTold stop → IsEnd g count input t (status_of stop) (said_of stop)) → EndsSo g count input t r
+  ends_early (Ok text) stop is h = absurd is
+  ends_early (Err e) stop is h = subst (λ (s : Stop). IsTold s → IsEnd g count input t (status_of s) (said_of s)) (sym is) h
+
+-- the statuses of the reasons
+stated_told : (stop : Stop) → IsStated (status_of stop) → IsTold stop
+stated_told Read h = absurd h
+stated_told Memory h = absurd h
+stated_told LongInput h = tt
+stated_told (Refused line) h = tt
+stated_told Link h = tt
+stated_told Kept h = tt
+stated_told Number h = tt
+
+silent_said : (stop : Stop) → IsSilent (status_of stop) → said_of stop ≡ []
+silent_said Read h = refl
+silent_said Memory h = refl
+silent_said LongInput h = absurd h
+silent_said (Refused line) h = absurd h
+silent_said Link h = absurd h
+silent_said Kept h = absurd h
+silent_said Number h = absurd h
+
+no_write : (stop : Stop) → status_of stop ≡ status.WriteFault → ⊥
+no_write Read h = cc
+no_write Memory h = cc
+no_write LongInput h = cc
+no_write (Refused line) h = cc
+no_write Link h = cc
+no_write Kept h = cc
+no_write Number h = cc
+
+pub no_write_done : status.Done ≡ status.WriteFault → ⊥
+no_write_done h = cc
+
+pub no_write_usage : status.Usage ≡ status.WriteFault → ⊥
+no_write_usage h = cc
+
+module _ (result : Status) (old new : Option (List ℕ)) (faults risen : ℕ) where
+  -- a text was written at the end
+  module _ (Stated : Status → List ℕ → Type 0) (is : Status) (text : List ℕ) (ends : Ends is text result old new faults risen) where
+    pub wrote_whole : (IsStated is → Stated is text) → IsStated result → Answers Stated result old new
+    wrote_whole h k = whole ends
+      where
+        whole : Ends is text result old new faults risen → Answers Stated result old new
+        whole (said e wrote) = record { text = text; stated = subst (λ (s : Status). Stated s text) (sym e) (h (subst IsStated e k)); wrote = wrote }
+        whole (cut_off e rose wrote) = absurd (subst IsStated e k)
+
+    pub wrote_part : Stated is text → (is ≡ status.WriteFault → ⊥) → result ≡ status.WriteFault → AnswersPrefix Stated old new
+    wrote_part h other e = part ends
+      where
+        part : Ends is text result old new faults risen → AnswersPrefix Stated old new
+        part (said f wrote) = absurd (other (sym f ∙ e))
+        part (cut_off f rose wrote) = record { is = is; text = text; stated = h; wrote = wrote }
+
+    pub wrote_none : (IsSilent is → text ≡ []) → IsSilent result → Wrote old new []
+    wrote_none none k = silent ends
+      where
+        silent : Ends is text result old new faults risen → Wrote old new []
+        silent (said e wrote) = subst (Wrote old new) (none (subst IsSilent e k)) wrote
+        silent (cut_off e rose wrote) = absurd (subst IsSilent e k)
+
+  -- the same, where there was no text to write at the end
+  module _ (Stated : Status → List ℕ → Type 0) (stop : Stop) (stated : IsTold stop → Stated (status_of stop) (said_of stop)) (ends : Ends (status_of stop) (said_of stop) result old new faults risen) where
+    pub stopped_whole : IsStated result → Answers Stated result old new
+    stopped_whole k = wrote_whole Stated (status_of stop) (said_of stop) ends (λ s. stated (stated_told stop s)) k
+
+    pub stopped_part : (result ≡ status.WriteFault → IsTold stop) → result ≡ status.WriteFault → AnswersPrefix Stated old new
+    stopped_part told e = wrote_part Stated (status_of stop) (said_of stop) ends (stated (told e)) (no_write stop) e
+
+    pub stopped_silent : IsSilent result → Wrote old new []
+    stopped_silent k = wrote_none Stated (status_of stop) (said_of stop) ends (silent_said stop) k
+
+-- ---- what the words ask for
+
+module _ (g : Grammar) (words : List (List ℕ)) (input : Option (List ℕ)) (t : Told) (port count : ℕ) (asks : AsksFor words port count) where
+  pub asked_answers : (is : Status) (old new : Option (List ℕ)) → Answers (IsEnd g count input t) is old new → Answers (IsAnswer g words input t) is old new
+  asked_answers is old new h = record { text = h.text; stated = asked port count asks h.stated; wrote = h.wrote }
+
+  pub asked_prefix : (old new : Option (List ℕ)) → AnswersPrefix (IsEnd g count input t) old new → AnswersPrefix (IsAnswer g words input t) old new
+  asked_prefix old new h = record { is = h.is; text = h.text; stated = asked port count asks h.stated; wrote = h.wrote }
+
+-- what Done says
+no_limit : (is : Status) → is ≡ status.Done → is ≡ status.Limit → ⊥
+no_limit is d e = cc
+
+no_refusal : (is : Status) → is ≡ status.Done → is ≡ status.Refused → ⊥
+no_refusal is d e = cc
+
+no_link_fault : (is : Status) → is ≡ status.Done → is ≡ status.LinkFault → ⊥
+no_link_fault is d e = cc
+
+no_usage : (is : Status) → is ≡ status.Done → is ≡ status.Usage → ⊥
+no_usage is d e = cc
+
+module _ (g : Grammar) (words : List (List ℕ)) (input old new : Option (List ℕ)) (t : Told) (text : List ℕ) (wrote : Wrote old new text) where
+  done_served : (port count : ℕ) → AsksFor words port count → (p : Plan) → WasRead input p → HasEnded g p count t text → IsServedWhole g words input old new t
+  done_served port count asks p read h =
+      record {
+        port = port;
+        count = count;
+        asks = asks;
+        plan = p;
+        was_read = read;
+        number = h.number;
+        within = h.within;
+        short = h.short;
+        has = h.has;
+        wrote = subst (Wrote old new) h.text_is wrote;
+      }
+
+  done_end : (is : Status) → is ≡ status.Done → (port count : ℕ) → AsksFor words port count → IsEnd g count input t is text → IsServedWhole g words input old new t
+  done_end is d port count asks (long_input more e w) = absurd (no_limit is d e)
+  done_end is d port count asks (refused says e) = absurd (no_refusal is d e)
+  done_end is d port count asks (link_failed p read number has e w) = absurd (no_link_fault is d e)
+  done_end is d port count asks (too_much p read has e w) = absurd (no_limit is d e)
+  done_end is d port count asks (no_room p read e w) = absurd (no_limit is d e)
+  done_end is d port count asks (served p read h e) = done_served port count asks p read h
+
+  pub done_whole : (is : Status) → is ≡ status.Done → IsAnswer g words input t is text → IsServedWhole g words input old new t
+  done_whole is d (usage none e w) = absurd (no_usage is d e)
+  done_whole is d (asked port count asks h) = done_end is d port count asks h

@@ -1,0 +1,105 @@
+-- What the program answers: the status and the text that are stated for its words and for what the outside tells.
+use Rattle.std.specs.Prelude.{◌≡◌, ℕ, ◌<◌, ◌≤◌, ⊤, List, [], ◌∷◌, ◌++◌, length, codes, Option, Some, IfSome, Result, Ok, Err}
+use Rattle.lab_outside.specs.declared.exit.Status.{Status}
+use Rattle.lab_outside.specs.declared.exit.Status.TheVariants as status
+use Rattle.lab_outside.specs.Bytes.{Wrote, WrotePrefix}
+use Rattle.serve_model.specs.declared.served.ServeFault.TheVariants as fault
+use Rattle.serve_model.specs.Talk.{Grammar}
+use Rattle.serve_run.specs.declared.plan.Plan.{Plan}
+use Rattle.serve_run.specs.declared.stop.Stop.{Stop}
+use Rattle.serve_run.specs.declared.stop.Stop.TheVariants.{Link, Memory, Kept, Number}
+use Rattle.serve_run.specs.Words.{AsksFor}
+use Rattle.serve_run.specs.Plan.{input_limit, IsRefused, OfInput, WasRead}
+use Rattle.serve_run.specs.Served.{Told, HasServed, HasBrokenOff, state_after, tail_of}
+use Rattle.serve_run.specs.Stop.{input_line, kept_line, number_line, status_of, said_of, IsTold}
+
+-- ---- why serving ends
+
+-- so many connections were served, no more than were asked for, and fewer only where no more come; and this is the text of the state that they left
+pub record HasEnded (g : Grammar) (p : Plan) (count : ℕ) (t : Told) (text : List ℕ) : Type 0 where
+  pub number : ℕ
+  pub within : number ≤ count
+  pub short : number < count → IfSome t.coming (λ coming. t.coming_after ≡ Some [])
+  pub has : HasServed g p number t
+  pub text_is : text ≡ tail_of p number (state_after p has.first has.orders)
+
+-- why serving stopped early: the link failed after so many connections, too many bytes were put or copied, a number had no room, or memory was wanting
+abbrev pub HasStopped : Grammar → Plan → Told → Stop → Type 0
+HasStopped g p t Link = (number : ℕ) × HasServed g p number t
+HasStopped g p t Kept = HasBrokenOff g p fault.Kept t
+HasStopped g p t Number = ⊤
+HasStopped g p t Memory = ⊤
+HasStopped g p t stop = ⊥
+
+-- how serving ended
+abbrev pub HowServed : Grammar → Plan → ℕ → Told → Result (List ℕ) Stop → Type 0
+HowServed g p count t (Ok text) = HasEnded g p count t text
+HowServed g p count t (Err stop) = HasStopped g p t stop
+
+-- ---- the answer
+
+-- what is stated for a server that is asked for so many connections
+pub data IsEnd (g : Grammar) (count : ℕ) (input : Option (List ℕ)) (t : Told) (is : Status) (text : List ℕ) : Type 0 where
+  long_input : IfSome input (λ bytes. input_limit < length bytes) → is ≡ status.Limit → text ≡ input_line → IsEnd g count input t is text
+  refused : OfInput (λ bytes. IsRefused bytes text) input → is ≡ status.Refused → IsEnd g count input t is text
+  served : (p : Plan) → WasRead input p → HasEnded g p count t text → is ≡ status.Done → IsEnd g count input t is text
+  link_failed : (p : Plan) → WasRead input p → (number : ℕ) → HasServed g p number t → is ≡ status.LinkFault → text ≡ [] → IsEnd g count input t is text
+  too_much : (p : Plan) → WasRead input p → HasBrokenOff g p fault.Kept t → is ≡ status.Limit → text ≡ kept_line → IsEnd g count input t is text
+  no_room : (p : Plan) → WasRead input p → is ≡ status.Limit → text ≡ number_line → IsEnd g count input t is text
+
+-- the same of a call that gives the last text, or why there is none
+abbrev pub EndsSo : Grammar → ℕ → Option (List ℕ) → Told → Result (List ℕ) Stop → Type 0
+EndsSo g count input t (Ok text) = IsEnd g count input t status.Done text
+EndsSo g count input t (Err stop) = IsTold stop → IsEnd g count input t (status_of stop) (said_of stop)
+
+-- the statuses that come with a whole text
+abbrev pub IsStated : Status → Type 0
+IsStated status.Done = ⊤
+IsStated status.Refused = ⊤
+IsStated status.Usage = ⊤
+IsStated status.LinkFault = ⊤
+IsStated status.Limit = ⊤
+IsStated status.ReadFault = ⊥
+IsStated status.WriteFault = ⊥
+IsStated status.Memory = ⊥
+
+-- the statuses that come without a text
+abbrev pub IsSilent : Status → Type 0
+IsSilent status.ReadFault = ⊤
+IsSilent status.Memory = ⊤
+IsSilent is = ⊥
+
+-- the words that the program knows
+abbrev pub usage_line : List ℕ
+usage_line = codes "usage: garage_lab layout | replay [--check] | workload N SEED | serve PORT COUNT" ++ 10 ∷ []
+
+-- what is stated for the words after the program's name: the usage where they ask for no server, and otherwise how that server ends
+pub data IsAnswer (g : Grammar) (words : List (List ℕ)) (input : Option (List ℕ)) (t : Told) (is : Status) (text : List ℕ) : Type 0 where
+  usage : ((port count : ℕ) → AsksFor words port count → ⊥) → is ≡ status.Usage → text ≡ usage_line → IsAnswer g words input t is text
+  asked : (port count : ℕ) → AsksFor words port count → IsEnd g count input t is text → IsAnswer g words input t is text
+
+-- this status is stated, and the text with it was written
+pub record Answers (Stated : Status → List ℕ → Type 0) (is : Status) (old new : Option (List ℕ)) : Type 0 where
+  pub text : List ℕ
+  pub stated : Stated is text
+  pub wrote : Wrote old new text
+
+-- a first part of a text that is stated was written
+pub record AnswersPrefix (Stated : Status → List ℕ → Type 0) (old new : Option (List ℕ)) : Type 0 where
+  pub is : Status
+  pub text : List ℕ
+  pub stated : Stated is text
+  pub wrote : WrotePrefix old new text
+
+-- what Done says: the words ask for a server; the plan is the one that the input says; so many connections were served, no more than are asked for, and fewer only where no more come; each was written what is stated of its bytes; all that was done keeps what is promised; and what was written to the output is the text of the state that was left
+pub record IsServedWhole (g : Grammar) (words : List (List ℕ)) (input old new : Option (List ℕ)) (t : Told) : Type 0 where
+  pub port : ℕ
+  pub count : ℕ
+  pub asks : AsksFor words port count
+  pub plan : Plan
+  pub was_read : WasRead input plan
+  pub number : ℕ
+  pub within : number ≤ count
+  pub short : number < count → IfSome t.coming (λ coming. t.coming_after ≡ Some [])
+  pub has : HasServed g plan number t
+  pub wrote : Wrote old new (tail_of plan number (state_after plan has.first has.orders))

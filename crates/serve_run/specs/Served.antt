@@ -1,0 +1,118 @@
+-- What a server did: the acts of its requests, what is promised of them, and what was written to its connections.
+use Rattle.std.specs.Prelude.{◌≡◌, ℕ, List, [], ◌∷◌, ◌++◌, map, flat_map, length, Option, IfSome, IsPermutation, IsSorted}
+use Rattle.std.specs.Ordering.{nat_cmp}
+use Rattle.std.specs.Cmp.Lexicographic.{slice_cmp}
+use Rattle.lab_outside.specs.Connection.{Connection}
+use Rattle.layout_roles.specs.declared.layout.Layout.{Layout}
+use Rattle.layout_roles.specs.Fits.{NodeSet}
+use Rattle.layout_roles.specs.Text.{set_lines}
+use Rattle.flow_model.specs.declared.order.Order.{Order}
+use Rattle.history_model.specs.Fresh.{Fresh}
+use Rattle.store_model.specs.Run.{State, start}
+use Rattle.store_model.specs.Acts.{Act, after_acts, AreLawfulActs, ActsFit}
+use Rattle.store_model.specs.Moments.{AtEachMoment}
+use Rattle.store_model.specs.Fresh.{NoClash, IsFresh}
+use Rattle.store_model.specs.Equal.{AreEqual}
+use Rattle.store_model.specs.Written.{GivesWhatWasWritten}
+use Rattle.text_model.specs.Transcript.{line_at, end_line}
+use Rattle.serve_model.specs.declared.served.Served.{Served}
+use Rattle.serve_model.specs.declared.served.ServeFault.{ServeFault}
+use Rattle.serve_model.specs.Stores.{OrdersFit}
+use Rattle.serve_model.specs.Clusters.{Cluster, cluster, acts_at, fits}
+use Rattle.serve_model.specs.Talk.{Grammar, Serving}
+use Rattle.serve_model.specs.Connections.{ServesAll, ServesAllButLast}
+use Rattle.serve_run.specs.declared.plan.Plan.{Plan}
+use Rattle.serve_run.specs.Start.{opening, opened, IsOf}
+
+-- ---- the acts
+
+-- the nodes of the layout, in order
+abbrev pub nodes_of : Plan → List ℕ
+nodes_of p = map (λ role. role.node) p.config.roles.list
+
+-- the cluster with which a server begins, at time 0
+abbrev pub begun : Plan → Layout → Cluster
+begun p first = record { run = opened p first; ticked = 0; members = nodes_of p }
+
+-- the acts of orders, each with its time, one after the other
+abbrev pub acts_of : Cluster → List (ℕ × Order) → List Act
+acts_of c [] = []
+acts_of c (o ∷ os) = acts_at c o.0 o.1 ++ acts_of (cluster.carries c o.0 o.1).state os
+
+-- all acts of a server that carried out these orders, from nothing
+abbrev pub all_acts : Plan → Layout → List (ℕ × Order) → List Act
+all_acts p first orders = opening p.config.buckets p.config.block_size first ++ acts_of (begun p first) orders
+
+-- the state after them
+abbrev pub state_after : Plan → Layout → List (ℕ × Order) → State
+state_after p first orders = after_acts start (all_acts p first orders)
+
+-- ---- what is promised of them
+
+-- what is promised of acts: answered reads are fresh, also by the records alone where the buckets' names have different digests; what they tell of a version's bytes is as was written; and replicas are equal
+pub record KeepsServing (acts : List Act) : Type 0 where
+  pub fresh : IsFresh (after_acts start acts)
+  pub recorded : NoClash (after_acts start acts).buckets → Fresh (after_acts start acts).history
+  pub written : GivesWhatWasWritten acts
+  pub equal : AreEqual acts
+
+-- the acts are lawful and fit, and at each moment of them, within drains too, what is promised holds
+pub record AreKept (acts : List Act) : Type 0 where
+  pub lawful : AreLawfulActs start acts
+  pub fit : ActsFit start acts
+  pub promises : AtEachMoment KeepsServing acts
+
+-- ---- what was written
+
+-- the sets of a layout, the lines of its nodes, and the last line, after so many connections
+abbrev pub tail : List NodeSet → List ℕ → ℕ → State → List ℕ
+tail sets nodes number s = set_lines sets ++ flat_map (line_at s.world) nodes ++ end_line number (length s.world.requests) (length s.world.messages)
+
+-- what a server of this plan writes at its end
+abbrev pub tail_of : Plan → ℕ → State → List ℕ
+tail_of p number s = tail p.certified.sets.sets (nodes_of p) number s
+
+-- what clock and link tell before and after: times to be given, connections to come, and connections that came
+pub record Told : Type 0 where
+  pub times : Option (List ℕ)
+  pub times_after : Option (List ℕ)
+  pub coming : Option (List (List ℕ))
+  pub coming_after : Option (List (List ℕ))
+  pub past : List Connection
+  pub past_after : List Connection
+
+abbrev pub told : Option (List ℕ) → Option (List ℕ) → Option (List (List ℕ)) → Option (List (List ℕ)) → List Connection → List Connection → Told
+told times times' coming coming' past past' = record { times = times; times_after = times'; coming = coming; coming_after = coming'; past = past; past_after = past' }
+
+-- the same names, in order of their bytes
+pub record AreInOrder (buckets names : List (List ℕ)) : Type 0 where
+  pub same : IsPermutation buckets names
+  pub ordered : IsSorted (slice_cmp nat_cmp) names
+
+-- what is served at first, with these times of the clock
+abbrev pub serving : Plan → Layout → List ℕ → Serving Cluster
+serving p first times = record { store = begun p first; times = times; time = 0; kept = 0 }
+
+-- so it is of the times and the connections to come, where both are told
+abbrev pub WhereTold : Told → (List ℕ → List (List ℕ) → Type 0) → Type 0
+WhereTold t P = IfSome t.times (λ times. IfSome t.coming (λ coming. P times coming))
+
+-- orders were carried out from the opened cluster on; and where clock and link tell, so many connections were served as it is stated of their bytes, one after the other, which led to the state after these orders
+pub record HasServed (g : Grammar) (p : Plan) (number : ℕ) (t : Told) : Type 0 where
+  pub first : Layout
+  pub is_of : IsOf p first
+  pub orders : List (ℕ × Order)
+  pub kept : AreKept (all_acts p first orders)
+  pub buckets : List (List ℕ)
+  pub in_order : AreInOrder p.config.buckets buckets
+  pub counts : Served
+  pub served : WhereTold t (λ times coming. ServesAll cluster buckets g (serving p first times) number (λ c. c.run ≡ state_after p first orders) t.times_after counts coming t.coming_after t.past t.past_after)
+
+-- serving ended with a connection, for this fault; where clock and link tell, all connections before it were served as it is stated, and what was written to it is what is stated of it, or a first part; and whatever orders can be carried out from the opened cluster on keep what is promised
+pub record HasBrokenOff (g : Grammar) (p : Plan) (fault : ServeFault) (t : Told) : Type 0 where
+  pub first : Layout
+  pub is_of : IsOf p first
+  pub kept : (orders : List (ℕ × Order)) → OrdersFit cluster fits (begun p first) orders → AreKept (all_acts p first orders)
+  pub buckets : List (List ℕ)
+  pub in_order : AreInOrder p.config.buckets buckets
+  pub served : WhereTold t (λ times coming. ServesAllButLast cluster buckets g (serving p first times) fault coming t.past t.past_after)
