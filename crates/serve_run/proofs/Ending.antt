@@ -11,7 +11,8 @@ use Rattle.serve_run.specs.declared.stop.Stop.TheVariants.{Read, Link, Memory, L
 use Rattle.serve_run.specs.Words.{AsksFor}
 use Rattle.serve_run.specs.Plan.{WasRead}
 use Rattle.serve_run.specs.Served.{Told}
-use Rattle.serve_run.specs.Stop.{status_of, said_of, IsOfInput, IsTold, Ends, said, cut_off}
+use Rattle.lab_main.specs.Ends.{Ends, said, cut_off}
+use Rattle.serve_run.specs.Stop.{status_of, said_of, IsOfInput, IsTold}
 use Rattle.serve_run.specs.Answer.{HasEnded, HasStopped, IsEnd, long_input, refused, served, link_failed, too_much, no_room, EndsSo, IsStated, IsSilent, Answers, AnswersPrefix, IsAnswer, usage, asked, IsServedWhole}
 
 module _ (g : Grammar) (count : ℕ) (input : Option (List ℕ)) (t : Told) where

@@ -3,7 +3,8 @@ use Rattle.std.proofs.Common.{get_or, String, Global, ◌≡◌, ℕ, ◌<◌, �
 use Rattle.std.specs.String.{string_bytes}
 use Rattle.std.proofs.lemmas.Fmt.{decimal_injective}
 use Rattle.serve_run.specs.declared.words.Asked.{Asked}
-use Rattle.serve_run.specs.Words.{Finds, Spells, AsksFor, AreRead}
+use Rattle.schedule_text.specs.Reads.{Finds}
+use Rattle.serve_run.specs.Words.{Spells, AsksFor, AreRead}
 
 -- a word spells one number
 pub no_other : (word : List ℕ) (high n : ℕ) → (word ≡ decimal n) × (n < 2 ^ 64) → high < 2 ^ 64 → (n < 1) ⊎ (high < n) → (x : ℕ) → Spells word high x → ⊥

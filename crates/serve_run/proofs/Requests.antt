@@ -8,9 +8,10 @@ use Rattle.store_model.specs.Moments.{AtEachMoment}
 use Rattle.serve_model.specs.Stores.{after_orders, OrdersFit}
 use Rattle.serve_model.specs.Clusters.{Cluster, cluster, acts_at, fits}
 use Rattle.serve_cluster.proofs.Acting.{acts_after, acts_lawful, acts_fit}
+use Rattle.store_anchors.specs.Promises.{EveryRunKeepsPromises}
 use Rattle.serve_run.specs.declared.plan.Plan.{Plan}
 use Rattle.serve_run.specs.Start.{opening}
-use Rattle.serve_run.specs.Served.{begun, acts_of, all_acts, state_after, KeepsServing, AreKept}
+use Rattle.serve_run.specs.Served.{begun, acts_of, all_acts, state_after, AreKept}
 
 run_after : (c : Cluster) (orders : List (ℕ × Order)) → (after_orders cluster c orders).run ≡ after_acts c.run (acts_of c orders)
 run_after c [] = refl
@@ -24,16 +25,12 @@ orders_fit : (c : Cluster) (orders : List (ℕ × Order)) → OrdersFit cluster 
 orders_fit c [] h = tt
 orders_fit c (o ∷ os) h = acts_fit c.run (acts_at c o.0 o.1) (acts_of (cluster.carries c o.0 o.1).state os) h.0.1 (orders_fit (cluster.carries c o.0 o.1).state os h.1)
 
--- what is promised holds at each moment of lawful acts that fit
-abbrev pub AlwaysKept : Type 0
-AlwaysKept = (acts : List Act) → AreLawfulActs start acts → ActsFit start acts → AtEachMoment KeepsServing acts
-
 module _ (p : Plan) (first : Layout) where
   pub run_is : (t : Cluster) (orders : List (ℕ × Order)) → t ≡ after_orders cluster (begun p first) orders → t.run ≡ state_after p first orders
   run_is t orders e =
       ap (λ (c : Cluster). c.run) e ∙ run_after (begun p first) orders ∙ sym (acts_after start (opening p.config.buckets p.config.block_size first) (acts_of (begun p first) orders))
 
-  pub all_kept : AlwaysKept → AreLawfulActs start (opening p.config.buckets p.config.block_size first) → ActsFit start (opening p.config.buckets p.config.block_size first) → (orders : List (ℕ × Order)) → OrdersFit cluster fits (begun p first) orders →
+  pub all_kept : EveryRunKeepsPromises → AreLawfulActs start (opening p.config.buckets p.config.block_size first) → ActsFit start (opening p.config.buckets p.config.block_size first) → (orders : List (ℕ × Order)) → OrdersFit cluster fits (begun p first) orders →
       AreKept (all_acts p first orders)
   all_kept keeps lawful fit orders h =
       let opens = opening p.config.buckets p.config.block_size first in

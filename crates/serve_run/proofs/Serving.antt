@@ -15,6 +15,7 @@ use Rattle.serve_model.specs.Connections.{ServesAll, ServesAllButLast}
 use Rattle.serve_loop.specs.declared.service.ServeStop.{ServeStop}
 use Rattle.serve_loop.specs.declared.service.ServeStop.TheVariants as ended
 use Rattle.serve_loop.specs.Service.{Ends, Leaves}
+use Rattle.store_anchors.specs.Promises.{EveryRunKeepsPromises}
 use Rattle.serve_run.specs.declared.plan.Plan.{Plan}
 use Rattle.serve_run.specs.declared.stop.Stop.{Stop}
 use Rattle.serve_cluster.specs.declared.cluster.Cluster.{Cluster as Code}
@@ -23,7 +24,7 @@ use Rattle.serve_run.specs.Start.{opening, opened, IsOf}
 use Rattle.serve_run.specs.Served.{nodes_of, begun, state_after, tail, tail_of, serving, told, AreInOrder, HasServed, HasBrokenOff}
 use Rattle.serve_run.specs.Stop.{stop_of_serving}
 use Rattle.serve_run.specs.Answer.{HasStopped, HowServed}
-use Rattle.serve_run.proofs.Requests.{AlwaysKept, run_is, all_kept}
+use Rattle.serve_run.proofs.Requests.{run_is, all_kept}
 
 -- connections were served, and the code's cluster stands for one with the state after the orders
 pub record Left (g : Grammar) (p : Plan) (number : ℕ) (times times' : Option (List ℕ)) (coming coming' : Option (List (List ℕ))) (past past' : List Connection) (holds : Cluster → Type 0) : Type 0 where
@@ -55,7 +56,7 @@ stands_begun c p first members e h = subst (λ ms. StandsFor c (record { run = o
 pub tail_is : (p : Plan) (number : ℕ) (nodes text : List ℕ) → nodes ≡ nodes_of p → (s t : State) → s ≡ t → text ≡ tail p.certified.sets.sets nodes number s → text ≡ tail_of p number t
 tail_is p number nodes text same s t e h = subst (λ (x : State). text ≡ tail_of p number x) e (subst (λ ns. text ≡ tail p.certified.sets.sets ns number s) same h)
 
-module _ (keeps : AlwaysKept) (g : Grammar) (p : Plan) (first : Layout) (is_of : IsOf p first) (lawful : AreLawfulActs start (opening p.config.buckets p.config.block_size first)) (fit : ActsFit start (opening p.config.buckets p.config.block_size first))
+module _ (keeps : EveryRunKeepsPromises) (g : Grammar) (p : Plan) (first : Layout) (is_of : IsOf p first) (lawful : AreLawfulActs start (opening p.config.buckets p.config.block_size first)) (fit : ActsFit start (opening p.config.buckets p.config.block_size first))
     (buckets : List (List ℕ)) (in_order : AreInOrder p.config.buckets buckets) (holds : Cluster → Type 0) (counts : Served) (times' : Option (List ℕ)) (coming' : Option (List (List ℕ))) (past past' : List Connection) where
   abbrev All : List ℕ → ℕ → List (List ℕ) → Type 0
   All ts number cs = ServesAll cluster buckets g (serving p first ts) number (Reached cluster fits lacks holds (begun p first)) times' counts cs coming' past past'

@@ -5,6 +5,7 @@ use Rattle.lab_outside.specs.declared.exit.Status.TheVariants as status
 use Rattle.lab_outside.specs.Bytes.{Wrote, WrotePrefix}
 use Rattle.serve_model.specs.declared.served.ServeFault.TheVariants as fault
 use Rattle.serve_model.specs.Talk.{Grammar}
+use Rattle.lab_main.specs.Ends.{usage_line}
 use Rattle.serve_run.specs.declared.plan.Plan.{Plan}
 use Rattle.serve_run.specs.declared.stop.Stop.{Stop}
 use Rattle.serve_run.specs.declared.stop.Stop.TheVariants.{Link, Memory, Kept, Number}
@@ -68,10 +69,6 @@ abbrev pub IsSilent : Status → Type 0
 IsSilent status.ReadFault = ⊤
 IsSilent status.Memory = ⊤
 IsSilent is = ⊥
-
--- the words that the program knows
-abbrev pub usage_line : List ℕ
-usage_line = codes "usage: garage_lab layout | replay [--check] | workload N SEED | serve PORT COUNT" ++ 10 ∷ []
 
 -- what is stated for the words after the program's name: the usage where they ask for no server, and otherwise how that server ends
 pub data IsAnswer (g : Grammar) (words : List (List ℕ)) (input : Option (List ℕ)) (t : Told) (is : Status) (text : List ℕ) : Type 0 where

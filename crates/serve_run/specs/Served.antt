@@ -7,13 +7,10 @@ use Rattle.layout_roles.specs.declared.layout.Layout.{Layout}
 use Rattle.layout_roles.specs.Fits.{NodeSet}
 use Rattle.layout_roles.specs.Text.{set_lines}
 use Rattle.flow_model.specs.declared.order.Order.{Order}
-use Rattle.history_model.specs.Fresh.{Fresh}
 use Rattle.store_model.specs.Run.{State, start}
 use Rattle.store_model.specs.Acts.{Act, after_acts, AreLawfulActs, ActsFit}
 use Rattle.store_model.specs.Moments.{AtEachMoment}
-use Rattle.store_model.specs.Fresh.{NoClash, IsFresh}
-use Rattle.store_model.specs.Equal.{AreEqual}
-use Rattle.store_model.specs.Written.{GivesWhatWasWritten}
+use Rattle.store_anchors.specs.Promises.{KeepsPromises}
 use Rattle.text_model.specs.Transcript.{line_at, end_line}
 use Rattle.serve_model.specs.declared.served.Served.{Served}
 use Rattle.serve_model.specs.declared.served.ServeFault.{ServeFault}
@@ -49,18 +46,11 @@ state_after p first orders = after_acts start (all_acts p first orders)
 
 -- ---- what is promised of them
 
--- what is promised of acts: answered reads are fresh, also by the records alone where the buckets' names have different digests; what they tell of a version's bytes is as was written; and replicas are equal
-pub record KeepsServing (acts : List Act) : Type 0 where
-  pub fresh : IsFresh (after_acts start acts)
-  pub recorded : NoClash (after_acts start acts).buckets → Fresh (after_acts start acts).history
-  pub written : GivesWhatWasWritten acts
-  pub equal : AreEqual acts
-
 -- the acts are lawful and fit, and at each moment of them, within drains too, what is promised holds
 pub record AreKept (acts : List Act) : Type 0 where
   pub lawful : AreLawfulActs start acts
   pub fit : ActsFit start acts
-  pub promises : AtEachMoment KeepsServing acts
+  pub promises : AtEachMoment KeepsPromises acts
 
 -- ---- what was written
 

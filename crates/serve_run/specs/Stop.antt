@@ -99,8 +99,3 @@ abbrev pub IsTold : Stop → Type 0
 IsTold Read = ⊥
 IsTold Memory = ⊥
 IsTold stop = ⊤
-
--- it ends with this status and this text written, unless a write fails
-pub data Ends (is : Status) (text : List ℕ) (result : Status) (old new : Option (List ℕ)) (faults risen : ℕ) : Type 0 where
-  said : result ≡ is → Wrote old new text → Ends is text result old new faults risen
-  cut_off : result ≡ status.WriteFault → Rose faults risen → WrotePrefix old new text → Ends is text result old new faults risen

@@ -3,11 +3,6 @@ use Rattle.std.specs.Prelude.{◌≡◌, ◌≤◌, ℕ, Option, Some, None, Lis
 use Rattle.std.specs.declared.alloc.Global.{Global}
 use Rattle.serve_run.specs.declared.words.Asked.{Asked}
 
--- a value with the property, or none has it
-abbrev pub Finds : {T : Type 0} → (T → Type 0) → Option T → Type 0
-Finds P None = (x : _) → P x → ⊥
-Finds P (Some x) = P x
-
 -- the word is a number from 1 to a greatest one, in decimal digits without a leading zero
 abbrev pub Spells : List ℕ → ℕ → ℕ → Type 0
 Spells word high n = (word ≡ decimal n) × (1 ≤ n) × (n ≤ high)

@@ -6,7 +6,6 @@
 //! and `stop` is why there was no end.
 #![tactic(auto)]
 
-mod laws;
 mod plan;
 mod server;
 mod start;
@@ -14,5 +13,4 @@ mod stop;
 mod tail;
 mod words;
 
-pub use crate::laws::each_moment_keeps_promises;
 pub use crate::server::run;

@@ -6,23 +6,25 @@ ghost use Rattle.lab_outside.specs.Rose.{Rose};
 ghost use Rattle.lab_outside.specs.Bytes.{Wrote};
 ghost use Rattle.serve_model.specs.Talk.{Grammar};
 ghost use Rattle.serve_run.specs.Words.{AskNothing};
-ghost use Rattle.serve_run.specs.Stop.{status_of, said_of, IsOfServing, IsTold, Ends};
+ghost use Rattle.serve_run.specs.Stop.{status_of, said_of, IsOfServing, IsTold};
+ghost use Rattle.lab_main.specs.Ends.{Ends};
 ghost use Rattle.serve_run.specs.Plan.{IsPlan};
 ghost use Rattle.serve_run.specs.Served.{told, AreInOrder};
 ghost use Rattle.serve_run.specs.Answer.{HowServed, IsEnd, EndsSo, IsStated, IsSilent, Answers, AnswersPrefix, IsAnswer, IsServedWhole};
 
-use crate::laws::each_moment_keeps_promises;
 use crate::plan::{Plan, read_plan};
 use crate::start::{installed, nodes};
 use crate::stop::Stop;
 use crate::tail::tail_text;
 use crate::words::{Asked, asked_by};
 use crdt_core::{Bytes, List, Memory, Value};
-use lab_outside::{Clock, Failed, Link, Sink, Source, Status, write_whole};
+use lab_main::{ends, usage};
+use lab_outside::{Clock, Link, Sink, Source, Status};
 use serve_cluster::Cluster;
 use serve_loop::serve;
 use serve_model::Served;
 use std::alloc::Global;
+use store_anchors::promises_are_kept;
 
 /// The buckets in order of their names.
 fn in_order(buckets: &List<Bytes>) -> Result<List<Bytes>, Memory>
@@ -48,7 +50,7 @@ fn served<L: Link, C: Clock>(
     ensures causes { IfErr result IsOfServing }
     ensures fault { result ≡ Err Stop.Link → Rose (L.faults link.old) (L.faults link.new) }
 {
-    each_moment_keeps_promises();
+    promises_are_kept();
     let world = installed(alloc, plan)?;
     let members = nodes(alloc, plan.config.roles.list.as_slice())?;
     let buckets = in_order(&plan.config.buckets)?;
@@ -91,16 +93,6 @@ fn read_and_served<I: Source, L: Link, C: Clock>(
     let plan = read_plan(alloc, input)?;
     let text = served(alloc, &plan, asked, link, clock)?;
     Ok(text)
-}
-
-/// Writes the last text, and answers the status that goes with it.
-fn ends<O: Sink>(output: &mut O, text: &[u8], status: Status) -> Status
-    ensures { Ends status text.now result (O.written output.old) (O.written output.new) (O.faults output.old) (O.faults output.new) }
-{
-    match write_whole(output, text) {
-        Ok(()) => status,
-        Err(Failed) => Status::WriteFault,
-    }
 }
 
 /// Says why nothing was served to the end, where that is said in the output.
@@ -189,10 +181,6 @@ pub fn run<I: Source, O: Sink, L: Link, C: Clock>(
 {
     match asked_by(words) {
         Some(asked) => answered(alloc, asked, input, output, link, clock),
-        None => {
-            let usage =
-                b"usage: garage_lab layout | replay [--check] | workload N SEED | serve PORT COUNT\n";
-            ends(output, usage, Status::Usage)
-        }
+        None => usage(output),
     }
 }

@@ -1,8 +1,9 @@
 //! The port and the number of connections that the words after the program's name say.
 ghost use Rattle.std.specs.Prelude.{◌≡◌, ◌<◌, ◌^◌, [], ◌∷◌, decimal};
-ghost use Rattle.serve_run.specs.Words.{Finds, Spells, Says, AsksFor, AreRead};
+ghost use Rattle.schedule_text.specs.Reads.{Finds};
+ghost use Rattle.serve_run.specs.Words.{Spells, Says, AsksFor, AreRead};
 
-use itoa::Buffer;
+use schedule_text::decimal_number;
 use std::alloc::Global;
 
 /// How many connections may be asked for.
@@ -15,24 +16,11 @@ pub struct Asked {
     pub count: u32,
 }
 
-/// The number that a word spells in decimal digits, without a leading zero.
-fn decimal_number(word: &str) -> Option<u64>
-    ensures { Finds (λ n. (word.now ≡ decimal n) × (n < 2 ^ 64)) result }
-{
-    let n = word.parse::<u64>().ok()?;
-    // A sign and zeros in front are read too, but aren't how the number is spelled.
-    if Buffer::new().format(n).as_bytes() == word.as_bytes() {
-        Some(n)
-    } else {
-        None
-    }
-}
-
 /// The number from 1 that a word spells in decimal digits, without a leading zero.
 fn number(word: &str, high: u64) -> Option<u64>
     ensures { Finds (Spells word.now high) result }
 {
-    let n = decimal_number(word)?;
+    let n = decimal_number(word.as_bytes())?;
     if 1 <= n && n <= high { Some(n) } else { None }
 }
 

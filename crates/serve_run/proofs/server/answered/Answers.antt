@@ -8,13 +8,13 @@ pub returns-in-Ok-clause-answers : goal.returns-in-Ok-clause-answers
 returns-in-Ok-clause-answers g c = λ g' k.
     let t = told (g.C.Clock.times c.args.clock.now) (g.C.Clock.times c.read_and_served.new.clock) (g.L.Link.coming c.args.link.now) (g.L.Link.coming c.read_and_served.new.link) (g.L.Link.past c.args.link.now) (g.L.Link.past c.read_and_served.new.link) in
     wrote_whole c.ends.result (g.O.Sink.written c.args.output.now) (g.O.Sink.written c.ends.new.output) (g.O.Sink.faults c.args.output.now) (g.O.Sink.faults c.ends.new.output)
-    (IsEnd g' c.args.asked.count (g.I.Source.left c.args.input.now) t) Done c.in-Ok.text (rw c.as_slice.ensures at c.ends.ensures) (λ s. c.in-Ok.ensures.ends g') k
+    (IsEnd g' c.args.asked.count (g.I.Source.left c.args.input.now) t) Done c.in-Ok.text (rw c.as_slice.ensures at c.ends.ensures.says) (λ s. c.in-Ok.ensures.ends g') k
 
 pub returns-in-Ok-clause-prefix : goal.returns-in-Ok-clause-prefix
 returns-in-Ok-clause-prefix g c = λ g' e.
     let t = told (g.C.Clock.times c.args.clock.now) (g.C.Clock.times c.read_and_served.new.clock) (g.L.Link.coming c.args.link.now) (g.L.Link.coming c.read_and_served.new.link) (g.L.Link.past c.args.link.now) (g.L.Link.past c.read_and_served.new.link) in
     wrote_part c.ends.result (g.O.Sink.written c.args.output.now) (g.O.Sink.written c.ends.new.output) (g.O.Sink.faults c.args.output.now) (g.O.Sink.faults c.ends.new.output)
-    (IsEnd g' c.args.asked.count (g.I.Source.left c.args.input.now) t) Done c.in-Ok.text (rw c.as_slice.ensures at c.ends.ensures) (c.in-Ok.ensures.ends g') no_write_done e
+    (IsEnd g' c.args.asked.count (g.I.Source.left c.args.input.now) t) Done c.in-Ok.text (rw c.as_slice.ensures at c.ends.ensures.says) (c.in-Ok.ensures.ends g') no_write_done e
 
 pub returns-in-Err-clause-answers : goal.returns-in-Err-clause-answers
 returns-in-Err-clause-answers g c = λ g' k.

@@ -2,7 +2,8 @@ use Rattle.std.proofs.Common.{map, refl, sym, subst}
 use Rattle.std.specs.String.{string_bytes}
 use Rattle.lab_outside.specs.declared.exit.Status.TheVariants.{Usage}
 use Rattle.serve_run.specs.Served.{told}
-use Rattle.serve_run.specs.Answer.{IsStated, usage_line, IsAnswer, usage}
+use Rattle.lab_main.specs.Ends.{usage_line}
+use Rattle.serve_run.specs.Answer.{IsStated, IsAnswer, usage}
 use Rattle.serve_run.proofs.Ending.{no_write_usage, wrote_part, asked_answers, asked_prefix, done_whole}
 use Rattle.serve_run.proofs.server.run.Goals as goal
 
@@ -31,5 +32,5 @@ returns-in-Some-clause-prefix g c = λ g' e.
 pub returns-in-None-clause-prefix : goal.returns-in-None-clause-prefix
 returns-in-None-clause-prefix g c = λ g' e.
     let t = told (g.C.Clock.times c.args.clock.now) (g.C.Clock.times c.args.clock.now) (g.L.Link.coming c.args.link.now) (g.L.Link.coming c.args.link.now) (g.L.Link.past c.args.link.now) (g.L.Link.past c.args.link.now) in
-    wrote_part c.ends.result (g.O.Sink.written c.args.output.now) (g.O.Sink.written c.ends.new.output) (g.O.Sink.faults c.args.output.now) (g.O.Sink.faults c.ends.new.output)
-    (IsAnswer g' (map string_bytes c.args.words.now) (g.I.Source.left c.args.input.now) t) Usage usage_line c.ends.ensures (usage c.in-None.ensures refl refl) no_write_usage e
+    wrote_part c.usage.result (g.O.Sink.written c.args.output.now) (g.O.Sink.written c.usage.new.output) (g.O.Sink.faults c.args.output.now) (g.O.Sink.faults c.usage.new.output)
+    (IsAnswer g' (map string_bytes c.args.words.now) (g.I.Source.left c.args.input.now) t) Usage usage_line c.usage.ensures.says (usage c.in-None.ensures refl refl) no_write_usage e

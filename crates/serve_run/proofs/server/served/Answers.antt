@@ -20,7 +20,7 @@ returns-in_err-count-clause-how g c = λ g'.
     let stands : StandsFor c.new-cluster.result (begun p o.first) = stands_begun c.new-cluster.result p o.first c.in_ok-copy.field-0 (c.in_ok-copy.ensures.same ∙ members) (c.new-cluster.ensures (opened p o.first) o.stands) in
     let times = g.C.Clock.times c.args.clock.now in
     let coming = g.L.Link.coming c.args.link.now in
-    how_stopped c.each_moment_keeps_promises.ensures g' p o.first o.is_of o.lawful o.fit c.in_ok-buckets.buckets c.in_ok-buckets.ensures.in_order (StandsFor c.serve.new.store) c.serve.new.served
+    how_stopped c.promises_are_kept.ensures g' p o.first o.is_of o.lawful o.fit c.in_ok-buckets.buckets c.in_ok-buckets.ensures.in_order (StandsFor c.serve.new.store) c.serve.new.served
     (g.C.Clock.times c.serve.new.clock) (g.L.Link.coming c.serve.new.link) (g.L.Link.past c.args.link.now) (g.L.Link.past c.serve.new.link)
     (StandsFor c.new-cluster.result) stands times coming c.args.asked.count c.from_residual-in_err-count.result c.in_err-count.field-0.0 c.from_residual-in_err-count.ensures.1 c.in_err-count.ensures.goes
     (λ ts e. c.in_err-count.ensures.served g' (serving p o.first ts) (begins p o.first (StandsFor c.new-cluster.result) times (record { kept = 0; time = 0 }) ts stands refl e))
@@ -35,7 +35,7 @@ returns-clause-how g c = λ g'.
     let times = g.C.Clock.times c.args.clock.now in
     let coming = g.L.Link.coming c.args.link.now in
     let l =
-    left c.each_moment_keeps_promises.ensures g' p o.first o.is_of o.lawful o.fit c.in_ok-buckets.buckets c.in_ok-buckets.ensures.in_order (StandsFor c.serve.new.store) c.serve.new.served
+    left c.promises_are_kept.ensures g' p o.first o.is_of o.lawful o.fit c.in_ok-buckets.buckets c.in_ok-buckets.ensures.in_order (StandsFor c.serve.new.store) c.serve.new.served
     (g.C.Clock.times c.serve.new.clock) (g.L.Link.coming c.serve.new.link) (g.L.Link.past c.args.link.now) (g.L.Link.past c.serve.new.link) c.in_ok-count.count times coming
     (c.in_ok-count.ensures.goes (begun p o.first) stands)
     (λ ts e. c.in_ok-count.ensures.served g' (serving p o.first ts) (begins p o.first (StandsFor c.new-cluster.result) times (record { kept = 0; time = 0 }) ts stands refl e))

@@ -5,7 +5,7 @@ use Rattle.serve_run.proofs.words.number.Goals as goal
 
 pub returns-else-n-ge1 : goal.returns-else-n-ge1
 returns-else-n-ge1 c =
-    let other = no_other c.args.word.now c.args.high c.in_ok-n.n c.in_ok-n.ensures (omega (arith, c.ranges.high.fits)) in
+    let other = no_other c.args.word.now c.args.high c.in_ok-n.n (rw c.as_bytes.ensures.value at c.in_ok-n.ensures) (omega (arith, c.ranges.high.fits)) in
     elim c.else-n-ge1.branch [
       | else-n-ge1-via-then-n-ge1+else-n-high w ↦ other (inr w.if-n-high.false)
       | else-n-ge1-via-else-n-ge1 w ↦ other (inl w.if-n-ge1.false)
