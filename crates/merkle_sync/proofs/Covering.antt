@@ -1,5 +1,5 @@
 -- Each answer keeps the account.
-use Rattle.std.specs.Prelude.{◌≡◌, ◌≢◌, ℕ, zero, suc, ◌+◌, ◌<◌, ◌≤◌, ◌==◌, ◌&&◌, ◌||◌, ◌⊎◌, nat_eq, not, Bool, true, false, cond, All, List, [], ◌∷◌, ◌++◌, Option, Some, None, filter, flat_map, length, map, slice_index, refl}
+use Rattle.std.specs.Prelude.{◌≡◌, ℕ, zero, suc, ◌+◌, ◌<◌, ◌≤◌, ◌==◌, ◌&&◌, ◌||◌, ◌⊎◌, nat_eq, not, Bool, true, false, cond, All, List, [], ◌∷◌, ◌++◌, Option, Some, None, filter, flat_map, length, map, slice_index, refl}
 use Rattle.std.specs.List.{range_with_len, starts_with}
 use Rattle.std.specs.Cmp.Lexicographic.{pointwise}
 use Rattle.std.proofs.Common.{ap, sym, ◌∙◌, subst, inl, inr, arith, length-append}
@@ -14,14 +14,14 @@ use Rattle.merkle_trie.specs.Stands.{IsHash, IsSet}
 use Rattle.merkle_trie.specs.Keeping.{Keeps, queued}
 use Rattle.merkle_trie.specs.declared.trie.Trie.{Trie}
 use Rattle.merkle_trie.proofs.Narrowing.{has_in}
-use Rattle.merkle_trie.proofs.Prefixes.{starts, starts_long, starts_more, same_is}
+use Rattle.merkle_trie.proofs.Prefixes.{starts, starts_more, same_is}
 use Rattle.merkle_trie.proofs.Showing.{shows_at}
 use Rattle.merkle_trie.proofs.Shown.{settled_is}
 use Rattle.merkle_trie.proofs.Values.{full, full_is, all_bytes}
 use Rattle.merkle_sync.specs.declared.walk_end.WalkEnd.{WalkEnd}
 use Rattle.merkle_sync.specs.declared.walk_end.WalkEnd.TheVariants.{Same, Ask, Push}
-use Rattle.merkle_sync.specs.Walking.{Prefix, Walking, plain, is_at, closed, is_there, differing, ask, note, asks_of, notes_of, asks, notes, taken, Tells}
-use Rattle.merkle_sync.specs.Account.{Answer, HasKey, Shows, Shown, HadThroughout, Noted, UnderOpen, Covers, Finds, Accounts, SaysSame, SaysDiffer}
+use Rattle.merkle_sync.specs.Walking.{Prefix, Walking, plain, is_at, closed, is_there, differing, ask, note, asks, notes, taken, Tells}
+use Rattle.merkle_sync.specs.Account.{Answer, HasKey, Shows, Noted, UnderOpen, Covers, Accounts, SaysSame, SaysDiffer}
 
 -- ---- lists
 
@@ -208,9 +208,9 @@ covers_taken tables past answer walk table prefix asked noted at told covers t k
     let opened : List Prefix = map (λ p. (table, p)) asked in
     let Under : List Prefix → Type 0 = λ l. UnderOpen l t key in
     let left : UnderOpen (closed table prefix walk.prefixes) t key → UnderOpen (closed table prefix (walk.prefixes ++ opened)) t key =
-        λ u. subst Under (sym (closed_more table prefix walk.prefixes opened)) (one_left (Lies t key) (closed table prefix walk.prefixes) (closed table prefix opened) u) in
+    λ u. subst Under (sym (closed_more table prefix walk.prefixes opened)) (one_left (Lies t key) (closed table prefix walk.prefixes) (closed table prefix opened) u) in
     let right : UnderOpen (closed table prefix opened) t key → UnderOpen (closed table prefix (walk.prefixes ++ opened)) t key =
-        λ u. subst Under (sym (closed_more table prefix walk.prefixes opened)) (one_right (Lies t key) (closed table prefix walk.prefixes) (closed table prefix opened) u) in
+    λ u. subst Under (sym (closed_more table prefix walk.prefixes opened)) (one_right (Lies t key) (closed table prefix walk.prefixes) (closed table prefix opened) u) in
     elim (covers t key of had.1) [
       | inl shown ↦ inl (inr shown)
       | inr (inl kept) ↦ inr (inl (has_left walk.noted noted (t, record { 0 = key }) kept))
@@ -232,10 +232,18 @@ module _ (hash : List ℕ → List ℕ) (hash_len : (bytes : List ℕ) → lengt
       SaysSame hash prefix answer → Covers tables past walk → Covers tables (answer ∷ past) (taken table prefix asked noted walk)
   covers_same tables past answer walk table prefix asked noted at says covers =
       covers_taken tables past answer walk table prefix asked noted at
-      (λ key has short s. inl (at, (has.0, (has.1,
-      all_has (λ pair. Has answer.theirs pair) (with_prefix prefix answer.own) (key, has.0)
-      (shows_at hash hash_len prefix answer.own answer.theirs (omega (arith, short)) says.own_set says.their_set says.clear says.values)
-      (has_in (λ pair. starts pair.0 prefix) answer.own (key, has.0) has.1 s)))))
+      (λ key has short s. inl (
+        at,
+        (
+          has.0,
+          (
+            has.1,
+            all_has (λ pair. Has answer.theirs pair) (with_prefix prefix answer.own) (key, has.0)
+                (shows_at hash hash_len prefix answer.own answer.theirs (omega (arith, short)) says.own_set says.their_set says.clear says.values)
+                (has_in (λ pair. starts pair.0 prefix) answer.own (key, has.0) has.1 s),
+          ),
+        ),
+      ))
       covers
 
   module _ (answer : Answer) (table : ℕ) (prefix : List ℕ) (theirs : List (ℕ × Hash32)) (at : answer.table ≡ table) (set : IsSet answer.own) (says : SaysDiffer hash prefix theirs answer) where
@@ -263,11 +271,18 @@ module _ (hash : List ℕ → List ℕ) (hash_len : (bytes : List ℕ) → lengt
       shows_there : is_there theirs own_child ≡ true → Shows table key answer
       shows_there t =
           let C : List (ℕ × List ℕ) → Type 0 = λ children. Has children own_child in
-          let len = below.len in
-          (at, (row, (has,
-          all_has (λ pair. Has answer.theirs pair) (with_prefix longer answer.own) (key, row)
-          (shows_at hash hash_len longer answer.own answer.theirs (omega (arith, len, short)) set says.their_set (says.clear below.byte below.low) (value_theirs (subst C says.children_are (there_in theirs own_child t))))
-          has_below)))
+          let len = below.len in (
+            at,
+            (
+              row,
+              (
+                has,
+                all_has (λ pair. Has answer.theirs pair) (with_prefix longer answer.own) (key, row)
+                    (shows_at hash hash_len longer answer.own answer.theirs (omega (arith, len, short)) set says.their_set (says.clear below.byte below.low) (value_theirs (subst C says.children_are (there_in theirs own_child t))))
+                    has_below,
+              ),
+            ),
+          )
 
       differs : is_there theirs own_child ≡ false → Has (differing theirs (children_at hash prefix answer.own)) own_child
       differs f = kept_in (λ c. not (is_there theirs c)) (children_at hash prefix answer.own) own_child child_own (ap not f)
@@ -285,10 +300,10 @@ module _ (hash : List ℕ → List ℕ) (hash_len : (bytes : List ℕ) → lengt
           let two = many_are (with_prefix longer answer.own) (key, row) has_below e in
           let len = below.len in
           let fits : length longer < 32 =
-              elim (cases_lt (length longer) 32) [
-                | inl lt ↦ lt
-                | inr ge ↦ let few = set.apart longer (omega (arith, len, short, ge)) in absurd (omega (arith, few, two))
-              ] in
+          elim (cases_lt (length longer) 32) [
+            | inl lt ↦ lt
+            | inr ge ↦ let few = set.apart longer (omega (arith, len, short, ge)) in absurd (omega (arith, few, two))
+          ] in
           inr (one_has (Lies table key) (closed table prefix (map (λ p. (table, p)) (asks hash table prefix theirs answer.own))) (table, longer)
           (kept_in (λ o. not (is_at table prefix o)) (map (λ p. (table, p)) (asks hash table prefix theirs answer.own)) (table, longer)
           (has_map (λ p. (table, p)) (asks hash table prefix theirs answer.own) longer asked)
@@ -319,13 +334,13 @@ under_start tables prefixes table key are of =
     subst U (sym are) (one_has (Lies table key) (map (λ t. (t, [])) tables) (table, []) (has_map (λ t. (t, [])) tables table of) (refl, (omega arith, refl)))
 
 pub accounts_told : (tables : List ℕ) (past : List Answer) (walk later : Walking) (asked : List (List ℕ)) (end : WalkEnd) → Covers tables past walk → Tells walk asked end later → Accounts tables past later end
-accounts_told tables past walk later asked (Ask prefixes) covers tells = let P : Walking → Type 0 = Covers tables past in subst P (sym tells.1.1) covers
+accounts_told tables past walk later asked (Ask prefixes) covers tells = let P : Walking → Type 0 = Covers tables past in subst P (sym tells.2) covers
 accounts_told tables past walk later asked Same covers tells = λ table key of had.
     let U : List Prefix → Type 0 = λ l. UnderOpen l table key in
     let N : List (ℕ × Hash32) → Type 0 = λ l. Noted l table key in
     elim (covers table key of had) [
       | inl shown ↦ inl shown
-      | inr (inl kept) ↦ absurd (subst N tells.1.0 kept)
+      | inr (inl kept) ↦ absurd (subst N tells.1 kept)
       | inr (inr under) ↦ absurd (subst U tells.0 under)
     ]
 accounts_told tables past walk later asked (Push keys) covers tells = λ table key of had.
@@ -333,7 +348,7 @@ accounts_told tables past walk later asked (Push keys) covers tells = λ table k
     let N : List (ℕ × Hash32) → Type 0 = λ l. Noted l table key in
     elim (covers table key of had) [
       | inl shown ↦ inl shown
-      | inr (inl kept) ↦ inr (subst N (sym tells.1.1.0) kept)
+      | inr (inl kept) ↦ inr (subst N (sym tells.2) kept)
       | inr (inr under) ↦ absurd (subst U tells.0 under)
     ]
 

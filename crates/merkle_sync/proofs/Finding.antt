@@ -1,8 +1,18 @@
 -- What is found child by child.
-use Rattle.std.specs.Prelude.{◌≡◌, ℕ, zero, suc, ◌+◌, ◌<◌, ◌≤◌, Bool, true, false, cond, List, [], ◌∷◌, ◌++◌, filter, flat_map, length, map, drop, slice_index_or, refl}
+use Rattle.std.specs.Prelude.{◌≡◌, ℕ, zero, suc, ◌+◌, ◌<◌, ◌≤◌, Bool, true, false, cond, List, [], ◌∷◌, ◌++◌, filter, flat_map, length, map, drop, refl}
 use Rattle.std.proofs.Common.{ap, sym, ◌∙◌, arith, append_assoc, get_or}
 use Rattle.blake2_hash.specs.declared.digest.Hash32.{Hash32}
 use Rattle.merkle_sync.specs.Walking.{plain}
+
+none_left : {X : Type 0} (xs : List X) (i : ℕ) → length xs ≤ i → drop i xs ≡ []
+none_left [] zero le = refl
+none_left [] (suc i) le = refl
+none_left (x ∷ xs) zero le = absurd (omega (arith, le))
+none_left (x ∷ xs) (suc i) le = none_left xs i (omega (arith, le))
+
+with_none : {Y : Type 0} (ys : List Y) → ys ++ [] ≡ ys
+with_none [] = refl
+with_none (y ∷ ys) = ap (λ l. y ∷ l) (with_none ys)
 
 module _ {X Y : Type 0} where
   -- what was got so far, and what is left
@@ -19,16 +29,6 @@ module _ {X Y : Type 0} where
       let one : i + 1 ≡ suc i = omega arith in
       ap (λ n. later ++ flat_map F (drop n xs)) one
       ∙ (ap (λ l. l ++ flat_map F (drop (suc i) xs)) e ∙ (append_assoc got (F (get_or xs i d)) (flat_map F (drop (suc i) xs)) ∙ (ap (λ l. got ++ l) (next F xs i d lt) ∙ h)))
-
-  none_left : (xs : List X) (i : ℕ) → length xs ≤ i → drop i xs ≡ []
-  none_left [] zero le = refl
-  none_left [] (suc i) le = refl
-  none_left (x ∷ xs) zero le = absurd (omega (arith, le))
-  none_left (x ∷ xs) (suc i) le = none_left xs i (omega (arith, le))
-
-  with_none : (ys : List Y) → ys ++ [] ≡ ys
-  with_none [] = refl
-  with_none (y ∷ ys) = ap (λ l. y ∷ l) (with_none ys)
 
   pub goes_end : (F : X → List Y) (got : List Y) (xs : List X) (i : ℕ) → length xs ≤ i → Goes F got xs i → got ≡ flat_map F xs
   goes_end F got xs i le h = sym (with_none got) ∙ (ap (λ l. got ++ flat_map F l) (sym (none_left xs i le)) ∙ h)

@@ -92,8 +92,8 @@ impl Walk {
         requires { queued own.now ≡ 0 }
         ensures tells { is_open table prefix.now self.old.prefixes ≡ true → IfOk result (λ end. (pairs : List Pair) → Keeps (blake2b 32) own.now pairs →
             Tells (taken table prefix.now (asks (blake2b 32) table prefix.now theirs.now pairs)
-                (notes (blake2b 32) table prefix.now theirs.now pairs) self.old)
-                (asks (blake2b 32) table prefix.now theirs.now pairs) end self.new) }
+            (notes (blake2b 32) table prefix.now theirs.now pairs) self.old)
+            (asks (blake2b 32) table prefix.now theirs.now pairs) end self.new) }
         ensures idle { is_open table prefix.now self.old.prefixes ≡ false → IfOk result (λ end. TellsNothing end × (self.new ≡ self.old)) }
         // Of each key that the own trie had throughout.
         ensures accounts { IfOk result (λ end. (tables : List ℕ) (past : List Answer) (answer : Answer) → answer.table ≡ table →
@@ -132,9 +132,6 @@ impl Walk {
         if self.noted.is_empty() {
             return Ok(WalkEnd::Same);
         }
-        Ok(WalkEnd::Push(mem::replace(
-            &mut self.noted,
-            Vec::new(alloc),
-        )))
+        Ok(WalkEnd::Push(mem::replace(&mut self.noted, Vec::new(alloc))))
     }
 }

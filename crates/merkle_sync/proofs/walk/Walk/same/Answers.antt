@@ -1,4 +1,4 @@
-use Rattle.std.specs.Prelude.{[], ◌∷◌, refl}
+use Rattle.std.specs.Prelude.{[], ◌∷◌}
 use Rattle.blake2_hash.specs.Blake2b.{blake2b}
 use Rattle.blake2_hash.proofs.Digests.{length-blake2b}
 use Rattle.std.proofs.Common.{arith}
