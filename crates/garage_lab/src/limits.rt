@@ -103,15 +103,20 @@ fn list_in_two_windows(rt: HostRuntime) -> Result<(), Fail> {
 #[test]
 fn round_of_many_rows(rt: HostRuntime) -> Result<(), Fail> {
     let first = b"trio\nbucket pics\nput 1 pics a 1 97\ndrain 100\n";
-    let round = ROUND_MOVES_ONE_PARTITION
-        .strip_prefix(first)
-        .unwrap_or(b"");
+    let round = ROUND_MOVES_ONE_PARTITION.strip_prefix(first).unwrap_or(b"");
     let input = puts(rt.alloc(), 1001, 1, round)?;
     let (status, text) = played(rt.alloc(), &["replay"], &input, &[], &[])?;
     assert_eq!(rt; status, Status::Done);
     let told = without_messages(rt.alloc(), &text)?;
-    for wanted in [b"node 4 rows 1001 ", b"node 5 rows 1001 ", b"node 6 rows 1001 "] {
-        assert!(rt; told.split(|byte| *byte == b'\n').any(|line| line.starts_with(wanted)));
+    for wanted in [
+        b"node 4 rows 1001 ",
+        b"node 5 rows 1001 ",
+        b"node 6 rows 1001 ",
+    ] {
+        assert!(rt;
+            told.split(|byte| *byte == b'\n')
+                .any(|line| line.starts_with(wanted))
+        );
     }
     Ok(())
 }
