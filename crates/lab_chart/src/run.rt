@@ -1,8 +1,8 @@
 //! The program as one call.
-ghost use Rattle.std.specs.Prelude.{◌≡◌, ◌≢◌, ◌⊎◌};
+ghost use Rattle.std.specs.Prelude.{◌≡◌, ◌≢◌, IfOk};
 ghost use Rattle.std.specs.Io.KnownBytes.{IsAtEnd};
 ghost use Rattle.lab_outside.specs.Rose.{Rose};
-ghost use Rattle.lab_outside.specs.Bytes.{Wrote, WrotePrefix};
+ghost use Rattle.lab_outside.specs.Bytes.{Wrote};
 
 use chart_page::{Piece, Stop, add_all, transcript_page};
 use crdt_core::{Bytes, Memory};
@@ -13,6 +13,13 @@ use std::alloc::Global;
 
 /// How many bytes the input may have.
 const INPUT_LIMIT: usize = 8_388_608;
+
+/// What is drawn.
+#[derive(Clone, Copy)]
+enum Drawing {
+    Transcript,
+    Layout,
+}
 
 /// What is to be written, and the status that goes with it.
 #[derive(Drop)]
@@ -43,6 +50,7 @@ fn field_text(name: FieldName) -> &'static str {
 fn said(alloc: Global, pieces: &[Piece<'_>], status: Status) -> Result<Reply, Memory>
     requires unread { status ≢ Status.ReadFault }
     requires unwritten { status ≢ Status.WriteFault }
+    ensures { status ≢ Status.Done → IfOk result (λ reply. reply.status ≢ Status.Done) }
 {
     let mut text = Bytes::new(alloc);
     add_all(&mut text, pieces)?;
@@ -83,30 +91,30 @@ fn layout(alloc: Global, bytes: &[u8]) -> Result<Reply, Memory> {
     }
 }
 
-/// What the words ask for of an input, or how they are to be.
-fn answer(alloc: Global, words: &[String], bytes: &[u8]) -> Result<Reply, Memory> {
+/// What the words ask for, if they ask for anything.
+fn asked_by(words: &[String]) -> Option<Drawing> {
     match words {
-        [chart] if chart.as_str() == "chart" => transcript(alloc, bytes),
-        [chart, layout_word] if chart.as_str() == "chart" && layout_word.as_str() == "layout" => {
-            layout(alloc, bytes)
+        [chart] if chart.as_str() == "chart" => Some(Drawing::Transcript),
+        [chart, what] if chart.as_str() == "chart" && what.as_str() == "layout" => {
+            Some(Drawing::Layout)
         }
-        _ => {
-            let usage = "usage: garage_lab chart < TRANSCRIPT | chart layout < LAYOUT";
-            said(alloc, &[Piece::Text(usage)], Status::Usage)
-        }
+        _ => None,
     }
 }
 
-/// Writes what is replied.
-fn written<O: Sink>(output: &mut O, reply: &Reply) -> Status
-    ensures whole { result ≢ Status.WriteFault → Wrote (O.written output.old) (O.written output.new) reply.now.text }
-    ensures part { result ≡ Status.WriteFault → WrotePrefix (O.written output.old) (O.written output.new) reply.now.text }
-    ensures status { (result ≡ reply.now.status) ⊎ (result ≡ Status.WriteFault) }
+/// Writes what is replied, and says how that ended.
+fn written<O: Sink>(output: &mut O, replied: Result<Reply, Memory>) -> Status
+    ensures whole { result ≢ Status.WriteFault → IfOk replied (λ reply. Wrote (O.written output.old) (O.written output.new) reply.text) }
     ensures write_fault { result ≡ Status.WriteFault → Rose (O.faults output.old) (O.faults output.new) }
+    ensures unread { result ≢ Status.ReadFault }
+    ensures undone { IfOk replied (λ reply. reply.status ≢ Status.Done) → result ≢ Status.Done }
 {
-    match write_whole(output, reply.text.as_slice()) {
-        Ok(()) => reply.status,
-        Err(Failed) => Status::WriteFault,
+    match replied {
+        Ok(reply) => match write_whole(output, reply.text.as_slice()) {
+            Ok(()) => reply.status,
+            Err(Failed) => Status::WriteFault,
+        },
+        Err(_) => Status::Memory,
     }
 }
 
@@ -125,18 +133,22 @@ pub(crate) fn run<I: Source, O: Sink>(
     ensures unwritten { result ≡ Status.ReadFault → output.new ≡ output.old }
     ensures write_fault { result ≡ Status.WriteFault → Rose (O.faults output.old) (O.faults output.new) }
 {
+    let Some(drawing) = asked_by(words) else {
+        let usage = "usage: garage_lab chart < TRANSCRIPT | chart layout < LAYOUT";
+        return written(output, said(alloc, &[Piece::Text(usage)], Status::Usage));
+    };
     let bytes = match read_up_to(alloc, input, INPUT_LIMIT) {
         Ok(bytes) => bytes,
         Err(ReadStop::Failed) => return Status::ReadFault,
         Err(ReadStop::Memory) => return Status::Memory,
     };
-    let replied = if bytes.len() > INPUT_LIMIT {
-        said(alloc, &[Piece::Text("limit input 8388608")], Status::Limit)
-    } else {
-        answer(alloc, words, bytes.as_slice())
-    };
-    match replied {
-        Ok(reply) => written(output, &reply),
-        Err(_) => Status::Memory,
+    if bytes.len() > INPUT_LIMIT {
+        let limit = said(alloc, &[Piece::Text("limit input 8388608")], Status::Limit);
+        return written(output, limit);
     }
+    let replied = match drawing {
+        Drawing::Transcript => transcript(alloc, bytes.as_slice()),
+        Drawing::Layout => layout(alloc, bytes.as_slice()),
+    };
+    written(output, replied)
 }

@@ -50,6 +50,27 @@ impl Tally {
         Ok(())
     }
 
+    /// Adds what at most crosses of the partitions of a side at one place.
+    fn count_of(
+        &mut self,
+        count: u64,
+        text: &'static str,
+        place: Piece<'_>,
+        side: &Side<'_>,
+    ) -> Result<(), Memory> {
+        self.count(
+            count,
+            &[
+                Piece::Text(text),
+                place,
+                Piece::Text(", of the partitions "),
+                Piece::Number(side.first),
+                Piece::Text(" to "),
+                Piece::Number(side.last),
+            ],
+        )
+    }
+
     /// What crosses into a zone that isn't named for partitions of a side, and on the way to each node that isn't named,
     /// in a zone that is.
     fn count_place(
@@ -59,22 +80,12 @@ impl Tally {
         plan: &Plan<'_>,
         side: &Side<'_>,
     ) -> Result<(), Memory> {
-        let partitions = [
-            Piece::Text(", of the partitions "),
-            Piece::Number(side.first),
-            Piece::Text(" to "),
-            Piece::Number(side.last),
-        ];
-        let [of, first, to, last] = partitions;
         if side.has_zone(place.zone) {
             if plan.has_node(place.node) {
                 return Ok(());
             }
-            let on = Piece::Text("at most go to node ");
-            return self.count(
-                side.count(),
-                &[on, Piece::Number(place.node), of, first, to, last],
-            );
+            let node = Piece::Number(place.node);
+            return self.count_of(side.count(), "at most go to node ", node, side);
         }
         if !is_first {
             return Ok(());
@@ -85,10 +96,12 @@ impl Tally {
         } else {
             0
         };
-        let into = Piece::Text("at most go into the zone ");
-        self.count(
-            side.count().saturating_mul(up.saturating_add(down)),
-            &[into, Piece::Word(place.zone), of, first, to, last],
+        let count = side.count().saturating_mul(up.saturating_add(down));
+        self.count_of(
+            count,
+            "at most go into the zone ",
+            Piece::Word(place.zone),
+            side,
         )
     }
 
