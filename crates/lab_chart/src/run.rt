@@ -2,6 +2,7 @@
 ghost use Rattle.std.specs.Prelude.{◌≡◌, ◌≢◌, IfOk};
 ghost use Rattle.std.specs.Io.KnownBytes.{IsAtEnd};
 ghost use Rattle.lab_outside.specs.Rose.{Rose};
+ghost use Rattle.lab_outside.specs.declared.exit.Status.TheVariants.{ReadFault, WriteFault};
 ghost use Rattle.lab_outside.specs.Bytes.{Wrote};
 
 use chart_page::{Piece, Stop, add_all, transcript_page};
@@ -26,8 +27,8 @@ enum Drawing {
 struct Reply {
     text: Bytes,
     status: Status,
-    ghost unread: { status ≢ Status.ReadFault },
-    ghost unwritten: { status ≢ Status.WriteFault },
+    ghost unread: { status ≢ ReadFault },
+    ghost unwritten: { status ≢ WriteFault },
 }
 
 /// The name of a field, as a configuration spells it.
