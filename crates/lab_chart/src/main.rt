@@ -3,35 +3,17 @@
 
 mod run;
 
-ghost use Rattle.std.specs.Prelude.{◌≡◌};
-ghost use Rattle.std.specs.Process.{exit_status};
-ghost use Rattle.lab_outside.specs.Exit.{code_of};
-
 use crate::run::run;
+use lab_main::{exit_code, words};
 use lab_outside::{Status, StdSink, StdSource};
-use std::alloc::Global;
+use std::io;
 use std::process::ExitCode;
-use std::rt::Env;
-use std::{env, io};
-
-/// The words after the program's name.
-fn words_of(rt: &(impl Env + Alloc<A = Global>)) -> io::Result<Vec<String>> {
-    let words = env::args(rt)?.skip(1).collect(rt.alloc())?;
-    Ok(words)
-}
-
-/// The exit code that goes with a status: its number.
-fn exit_code(status: Status) -> ExitCode
-    ensures { exit_status result ≡ code_of status }
-{
-    ExitCode::from(status.code())
-}
 
 fn main(rt: HostRuntime) -> ExitCode {
     let alloc = rt.alloc();
     let mut input = StdSource::new(rt.reader());
     let mut output = StdSink::new(io::writer(&rt));
-    let Ok(words) = words_of(&rt) else {
+    let Ok(words) = words(&rt) else {
         return exit_code(Status::Memory);
     };
     exit_code(run(alloc, &words, &mut input, &mut output))
