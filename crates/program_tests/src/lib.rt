@@ -3,6 +3,8 @@
 #![tactic(auto)]
 
 #[cfg(test)]
+mod recorder;
+#[cfg(test)]
 mod served;
 #[cfg(test)]
 mod workloads;
