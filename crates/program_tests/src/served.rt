@@ -122,3 +122,14 @@ fn head_without_end(rt: HostRuntime) -> Result<(), Fail> {
     assert_eq!(rt; session.written.as_slice(), LONG_ANSWER);
     Ok(())
 }
+
+/// Wherever the connection's input ends, the server goes on to its own end.
+#[test]
+fn cut_after_each_byte(rt: HostRuntime) -> Result<(), Fail> {
+    for count in 0..ONE_OBJECT.len() {
+        let session = served(rt.alloc(), &ONE_OBJECT[..count])?;
+        assert_eq!(rt; session.status, Status::Done);
+        assert!(rt; session.output.starts_with(b"p 0 255 1 2 3\nnode 1 rows "));
+    }
+    Ok(())
+}
