@@ -5,3 +5,4 @@ pub mod Newest
 pub mod Places
 pub mod Parts
 pub mod Order
+pub mod Table

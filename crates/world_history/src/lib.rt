@@ -17,6 +17,7 @@ mod freshness;
 mod index;
 mod pair_count;
 mod read;
+mod rows;
 
 pub use freshness::fresh;
 pub use history_model::{Answer, Cause, History, Kind, Record};

@@ -1,0 +1,102 @@
+//! The acknowledged writes of a history, by their keys and in the order of their acknowledgements.
+ghost use Rattle.std.specs.Prelude.{◌≡◌, ◌≤◌, length, IsSorted, IfOk, ◌<◌};
+ghost use Rattle.std.specs.List.{sum_by};
+ghost use Rattle.std.specs.Ordering.{is_lt};
+ghost use Rattle.world_history.specs.Table.{row_cmp, ack_at, IsTable, is_before, is_of, one_if};
+ghost use Rattle.crdt_core.specs.Outcomes.{OnlyWant};
+
+use crate::finish::acknowledged;
+use crate::index::Index;
+use crdt_core::{Bytes, Memory};
+use history_model::Record;
+use std::alloc::Global;
+use std::cmp::Ordering;
+
+/// The key of a write, and the place of its acknowledgement.
+#[derive(PartialEq, Eq, PartialOrd, Ord, Drop)]
+pub struct Row {
+    pub bucket: Bytes,
+    pub key: Bytes,
+    pub place: usize,
+}
+
+// The row of the write that began at this place, if one did and was acknowledged.
+fn acknowledged_row(alloc: Global, index: &Index<'_>, place: usize) -> Result<Option<Row>, Memory>
+    requires { place < length index.now.records.now }
+    ensures told { IfOk result (λ row. row ≡ ack_at index.now.records.now place) }
+    ensures want { OnlyWant result }
+{
+    match &index.records[place] {
+        Record::Began {
+            request,
+            kind,
+            bucket,
+            key,
+            ..
+        } if kind.is_write() => match acknowledged(index, place, *request) {
+            Some((end, _)) => Ok(Some(Row {
+                bucket: Bytes::from_slice(alloc, bucket.as_slice())?,
+                key: Bytes::from_slice(alloc, key.as_slice())?,
+                place: end,
+            })),
+            None => Ok(None),
+        },
+        _ => Ok(None),
+    }
+}
+
+/// The rows of all acknowledged writes, in order.
+pub fn all_rows(alloc: Global, index: &Index<'_>) -> Result<Vec<Row>, Memory>
+    ensures told { IfOk result (λ rows. IsTable index.now.records.now rows.items) }
+    ensures want { OnlyWant result }
+{
+    let mut rows = Vec::new(alloc);
+    for place in 0..index.records.len() {
+        if let Some(row) = acknowledged_row(alloc, index, place)? {
+            match rows.push(row) {
+                Ok(()) => {}
+                Err(_) => return Err(Memory::Want),
+            }
+        }
+    }
+    rows.sort_unstable();
+    Ok(rows)
+}
+
+// Whether a row stands before those of this key at this place or later.
+fn is_before(row: &Row, bucket: &Bytes, key: &Bytes, place: usize) -> bool
+    ensures { result ≡ is_before bucket.now key.now place row.now }
+{
+    match row.bucket.cmp(bucket) {
+        Ordering::Less => true,
+        Ordering::Greater => false,
+        Ordering::Equal => match row.key.cmp(key) {
+            Ordering::Less => true,
+            Ordering::Greater => false,
+            Ordering::Equal => row.place < place,
+        },
+    }
+}
+
+// How many rows stand before those of this key at this place or later.
+fn before(rows: &[Row], bucket: &Bytes, key: &Bytes, place: usize) -> usize
+    requires { IsSorted row_cmp rows.now }
+    ensures bound { result ≤ length rows.now }
+    ensures count { result ≡ sum_by (λ r. one_if (is_before bucket.now key.now place r)) rows.now }
+{
+    rows.partition_point(
+        |row: &Row| -> bool
+            ensures { result ≡ is_before bucket.entry.now key.entry.now place row.now }
+        { is_before(row, bucket, key, place) },
+    )
+}
+
+// How many rows there are of this key before this place.
+pub fn count(rows: &[Row], bucket: &Bytes, key: &Bytes, place: usize) -> usize
+    requires { IsSorted row_cmp rows.now }
+    ensures { result ≡ sum_by (λ r. one_if (is_of bucket.now key.now place r)) rows.now }
+{
+    let high = before(rows, bucket, key, place);
+    let low = before(rows, bucket, key, 0);
+    high - low
+}
