@@ -277,10 +277,10 @@ told_more h n r xs at t = record {
   whole = λ k q lt s. elim (cases_lt k n) as (λ c. Contains (xs ++ (request_of r, n) ∷ []) (q, k)) [
     | inl less ↦ Contains-append_left xs ((request_of r, n) ∷ []) (q, k) (t.whole k q less s)
     | inr le ↦
-      let same : n ≡ k = omega arith in
-      let is : ◌≡◌ {A = Option ℕ} (Some (request_of r)) (Some q) = sym (ap (option_map request_of) at) ∙ subst (λ m. Speaks h m q) (sym same) s in
-      let number : request_of r ≡ q = cc in
-      subst (Contains (xs ++ (request_of r, n) ∷ [])) (λ j. (number j, same j)) (Contains-push xs (request_of r, n))
+        let same : n ≡ k = omega arith in
+        let is : ◌≡◌ {A = Option ℕ} (Some (request_of r)) (Some q) = sym (ap (option_map request_of) at) ∙ subst (λ m. Speaks h m q) (sym same) s in
+        let number : request_of r ≡ q = cc in
+        subst (Contains (xs ++ (request_of r, n) ∷ [])) (λ j. (number j, same j)) (Contains-push xs (request_of r, n))
   ];
   sound = λ e there. elim (Contains-push_cases xs (request_of r, n) e there) as (λ c. Speaks h e.1 e.0) [
     | inl before ↦ t.sound e before
@@ -292,6 +292,6 @@ pub told_sorted : (h : List Record) (xs ys : List (ℕ × ℕ)) → Told h (leng
 told_sorted h xs ys t shuffled sorted = record {
   sorted = sorted;
   whole = λ k q s. (list_any-Decides _ (λ e. (e.0 ≡ q) × (e.1 ≡ k)) (λ e. Decides-and _ _ (Decides-eqb e.0 q) (Decides-eqb e.1 k)) ys).1
-    ((q, k), Contains-permutation xs ys (q, k) shuffled (t.whole k q (speaks_within h q k s) s), (refl, refl));
+      ((q, k), Contains-permutation xs ys (q, k) shuffled (t.whole k q (speaks_within h q k s) s), (refl, refl));
   sound = λ e there. t.sound e (Contains-permutation ys xs e (IsPermutation-sym xs ys shuffled) there);
 }
