@@ -6,3 +6,4 @@ pub mod Places
 pub mod Parts
 pub mod Order
 pub mod Table
+pub mod Rowed

@@ -1,12 +1,14 @@
 -- The acknowledged writes of a history, by their keys and in the order of their acknowledgements.
 use Rattle.std.specs.Prelude.{◌≡◌, ℕ, nat_lt, Bool, ◌&&◌, if◌then◌else◌, Option, Some, None, option_map, List, length, slice_get, IsSorted}
 use Rattle.std.specs.List.{sum_by}
+use Rattle.std.specs.Option.{option_and_then}
+use Rattle.crdt_rows.specs.declared.version.Version.{Version}
 use Rattle.std.specs.Ordering.{nat_cmp, ordering_then, is_lt}
 use Rattle.std.specs.Cmp.Lexicographic.{slice_cmp}
 use Rattle.std.specs.declared.cmp.Ordering.{Ordering}
 use Rattle.history_model.specs.declared.record.Record.{Record}
 use Rattle.history_model.specs.declared.record.Record.TheVariants.{Began, Finished, Ended}
-use Rattle.history_model.specs.Record.{is_write, acknowledged, same_bytes}
+use Rattle.history_model.specs.Record.{is_write, acknowledged, answer_of, version_of, same_bytes}
 use Rattle.history_model.specs.Pairs.{sum_below}
 use Rattle.world_history.specs.declared.rows.Row.{Row}
 
@@ -46,3 +48,7 @@ is_of bucket key t r = same_bytes r.bucket bucket && (same_bytes r.key key && na
 -- 1 of what passes
 abbrev pub one_if : Bool → ℕ
 one_if b = if b then 1 else 0
+
+-- the version with which the record at place e acknowledges a write, if it does
+abbrev pub version_in : List Record → ℕ → Option Version
+version_in h e = option_and_then version_of (option_and_then answer_of (slice_get h e))

@@ -1,5 +1,6 @@
 //! The acknowledged writes of a history, by their keys and in the order of their acknowledgements.
-ghost use Rattle.std.specs.Prelude.{◌≡◌, ◌≤◌, length, IsSorted, IfOk, ◌<◌};
+ghost use Rattle.std.specs.Prelude.{◌≡◌, ◌≤◌, length, IsSorted, IfOk, ◌<◌, true, false};
+ghost use Rattle.std.specs.List.Sorted.{IsPartitionPoint};
 ghost use Rattle.std.specs.List.{sum_by};
 ghost use Rattle.std.specs.Ordering.{is_lt};
 ghost use Rattle.world_history.specs.Table.{row_cmp, ack_at, IsTable, is_before, is_of, one_if};
@@ -83,6 +84,7 @@ fn before(rows: &[Row], bucket: &Bytes, key: &Bytes, place: usize) -> usize
     requires { IsSorted row_cmp rows.now }
     ensures bound { result ≤ length rows.now }
     ensures count { result ≡ sum_by (λ r. one_if (is_before bucket.now key.now place r)) rows.now }
+    ensures point { IsPartitionPoint (λ r. is_before bucket.now key.now place r ≡ true) (λ r. is_before bucket.now key.now place r ≡ false) rows.now result }
 {
     rows.partition_point(
         |row: &Row| -> bool
