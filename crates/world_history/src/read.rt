@@ -157,7 +157,7 @@ fn version_at(
 }
 
 // The newer of two versions, of which each may be missing.
-fn newer(a: Option<Version>, b: Option<Version>) -> Option<Version>
+pub fn newer(a: Option<Version>, b: Option<Version>) -> Option<Version>
     ensures { result ≡ newer_of a b }
 {
     match (a, b) {

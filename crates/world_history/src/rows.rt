@@ -3,13 +3,16 @@ ghost use Rattle.std.specs.Prelude.{◌≡◌, ◌≤◌, length, IsSorted, IfOk
 ghost use Rattle.std.specs.List.Sorted.{IsPartitionPoint};
 ghost use Rattle.std.specs.List.{sum_by};
 ghost use Rattle.std.specs.Ordering.{is_lt};
-ghost use Rattle.world_history.specs.Table.{row_cmp, ack_at, IsTable, is_before, is_of, one_if};
+ghost use Rattle.world_history.specs.Table.{row_cmp, ack_at, IsTable, is_before, is_of, one_if, version_in};
+ghost use Rattle.world_history.specs.Checks.{version_at, IsNewestBelow};
 ghost use Rattle.crdt_core.specs.Outcomes.{OnlyWant};
 
 use crate::finish::acknowledged;
 use crate::index::Index;
 use crdt_core::{Bytes, Memory};
-use history_model::Record;
+use crate::read::newer;
+use crdt_rows::Version;
+use history_model::{Answer, Record};
 use std::alloc::Global;
 use std::cmp::Ordering;
 
@@ -101,4 +104,48 @@ pub fn count(rows: &[Row], bucket: &Bytes, key: &Bytes, place: usize) -> usize
     let high = before(rows, bucket, key, place);
     let low = before(rows, bucket, key, 0);
     high - low
+}
+
+/// An index with the rows of the acknowledged writes.
+#[derive(Drop)]
+pub struct Table<'a> {
+    pub index: Index<'a>,
+    pub rows: Vec<Row>,
+    pub ghost made: { IsTable index.records.now rows.items },
+}
+
+impl<'a> Table<'a> {
+    pub fn new(alloc: Global, records: &'a [Record]) -> Result<Table<'a>, Memory>
+        ensures told { IfOk result (λ table. table.index.records.now ≡ records.now) }
+        ensures want { OnlyWant result }
+    {
+        let index = Index::new(alloc, records)?;
+        let rows = all_rows(alloc, &index)?;
+        Ok(Table { index, rows })
+    }
+}
+
+// The version with which the record at this place acknowledges a write, if it does.
+fn version_in(index: &Index<'_>, place: usize) -> Option<Version>
+    ensures { result ≡ version_in index.now.records.now place }
+{
+    match index.records.get(place) {
+        Some(Record::Finished {
+            answer: Answer::Version(version),
+            ..
+        }) => Some(*version),
+        _ => None,
+    }
+}
+
+/// The newest version with which a write of the key was acknowledged before place i.
+pub fn newest_before(table: &Table<'_>, i: usize, bucket: &Bytes, key: &Bytes) -> Option<Version>
+    ensures { IsNewestBelow (version_at table.now.index.records.now i bucket.now key.now) i result }
+{
+    let rows = table.rows.as_slice();
+    let mut newest = None;
+    for k in before(rows, bucket, key, 0)..before(rows, bucket, key, i) {
+        newest = newer(newest, version_in(&table.index, rows[k].place));
+    }
+    newest
 }
