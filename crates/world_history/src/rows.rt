@@ -4,13 +4,12 @@ ghost use Rattle.std.specs.List.Sorted.{IsPartitionPoint};
 ghost use Rattle.std.specs.List.{sum_by};
 ghost use Rattle.std.specs.Ordering.{is_lt};
 ghost use Rattle.world_history.specs.Table.{row_cmp, ack_at, IsTable, is_before, is_of, one_if, version_in};
-ghost use Rattle.world_history.specs.Checks.{version_at, IsNewestBelow};
+ghost use Rattle.world_history.specs.Checks.{version_at, newer_of, IsNewestBelow};
 ghost use Rattle.crdt_core.specs.Outcomes.{OnlyWant};
 
 use crate::finish::acknowledged;
 use crate::index::Index;
 use crdt_core::{Bytes, Memory};
-use crate::read::newer;
 use crdt_rows::Version;
 use history_model::{Answer, Record};
 use std::alloc::Global;
@@ -138,13 +137,26 @@ fn version_in(index: &Index<'_>, place: usize) -> Option<Version>
     }
 }
 
+// The newer of two versions, of which each may be missing.
+fn newer(a: Option<Version>, b: Option<Version>) -> Option<Version>
+    ensures { result ≡ newer_of a b }
+{
+    match (a, b) {
+        (Some(a), Some(b)) => Some(if a < b { b } else { a }),
+        (None, b) => b,
+        (a, None) => a,
+    }
+}
+
 /// The newest version with which a write of the key was acknowledged before place i.
 pub fn newest_before(table: &Table<'_>, i: usize, bucket: &Bytes, key: &Bytes) -> Option<Version>
     ensures { IsNewestBelow (version_at table.now.index.records.now i bucket.now key.now) i result }
 {
     let rows = table.rows.as_slice();
+    let low = before(rows, bucket, key, 0);
+    let high = before(rows, bucket, key, i);
     let mut newest = None;
-    for k in before(rows, bucket, key, 0)..before(rows, bucket, key, i) {
+    for k in low..high {
         newest = newer(newest, version_in(&table.index, rows[k].place));
     }
     newest

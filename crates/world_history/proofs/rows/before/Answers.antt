@@ -2,7 +2,6 @@ use Rattle.std.proofs.Common.{rules, of_calls, sym, []}
 use Rattle.std.proofs.lemmas.Fn.{always_returns_same}
 use Rattle.world_history.specs.Table.{is_before}
 use Rattle.world_history.proofs.Table.{before_parts, as_many_pass}
-use Rattle.world_history.proofs.Rowed.{row_in}
 use Rattle.world_history.proofs.rows.before.Goals as goal
 
 pub returns-clause-point : goal.returns-clause-point
