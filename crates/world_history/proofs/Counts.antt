@@ -1,12 +1,17 @@
 -- Sums and counts of the numbers below one, and what the code counts.
-use Rattle.std.proofs.Common.{◌≡◌, ℕ, zero, suc, ◌<◌, ◌≤◌, Bool, true, false, ◌&&◌, cond, List, Option, Some, None, is_some, nat_lt, length, slice_get, inl, inr, refl, ap, sym, ◌∙◌, arith}
+use Rattle.std.proofs.Common.{◌≡◌, ℕ, zero, suc, ◌<◌, ◌≤◌, Bool, true, false, ◌&&◌, cond, List, Option, Some, None, is_some, nat_lt, length, slice_get, option_map, inl, inr, refl, ap, sym, subst, ◌∙◌, arith}
 use Rattle.std.proofs.lemmas.Bool.{cases_lt, le-ltb, and_right}
+use Rattle.std.specs.List.{sum_by}
+use Rattle.std.proofs.lemmas.Bool.Decides.{same_from_decides}
+use Rattle.std.proofs.lemmas.Slice.Eq.{bytes_eq-Decides}
 use Rattle.crdt_rows.specs.declared.version.Version.{Version}
 use Rattle.history_model.specs.declared.record.Kind.{Kind}
 use Rattle.history_model.specs.declared.record.Record.{Record}
 use Rattle.history_model.specs.declared.record.Record.TheVariants.{Began, Finished, Ended}
-use Rattle.history_model.specs.Record.{is_read, is_write, finish, acknowledged, is_some_with, begins, names, same_bytes}
+use Rattle.history_model.specs.Record.{is_read, is_write, is_list, finish, acknowledged, is_some_with, begins, names, same_bytes}
 use Rattle.history_model.specs.Pairs.{is_owed, is_pair, sum_below, count_below, pair_count}
+use Rattle.world_history.specs.declared.rows.Row.{Row}
+use Rattle.world_history.specs.Table.{ack_of, sum_of, IsTable, is_of, one_if}
 use Rattle.world_history.specs.Checks.{owed_of, owed}
 use Rattle.world_history.proofs.Places.{acknowledged-later}
 use Rattle.world_history.proofs.Newest.{one_key, own_key}

@@ -1,5 +1,5 @@
 -- Which rows there are, and in which range those of a key stand.
-use Rattle.std.proofs.Common.{◌≡◌, ℕ, zero, suc, ◌+◌, ◌<◌, ◌≤◌, Bool, true, false, ◌&&◌, List, [], ◌∷◌, Option, Some, None, nat_eq, nat_lt, cond, option_map, ◌-◌, length, get_or, slice_get, inl, inr, refl, ap, sym, ◌∙◌, subst, arith}
+use Rattle.std.proofs.Common.{◌≡◌, ℕ, zero, suc, ◌+◌, ◌<◌, ◌≤◌, Bool, true, false, ◌&&◌, List, [], ◌∷◌, Option, Some, None, nat_eq, cond, option_map, ◌-◌, length, get_or, slice_get, inl, inr, refl, ap, sym, ◌∙◌, subst, arith}
 use Rattle.std.specs.List.{Contains, sum_by}
 use Rattle.std.specs.Bool.{Decides}
 use Rattle.std.specs.Option.{option_and_then}
@@ -186,8 +186,7 @@ module _ (h : List Record) (i b : ℕ) (r : Row) (early : r.place < i) where
         where
           found : (a : ℕ × Version) × (acknowledged h b q ≡ Some a) × ◌≡◌ {A = Row} (record { bucket = bucket; key = key; place = a.0 }) r → is_write kind ≡ true → (v : Version) × IsAcknowledged h i r.bucket r.key v × (version_in h r.place ≡ Some v)
           found (a, is, same) writes =
-              let ended : a.0 ≡ r.place = ap (λ x. x.place) same in
-              (
+              let ended : a.0 ≡ r.place = ap (λ x. x.place) same in (
                 a.1,
                 record {
                   request = q;

@@ -7,7 +7,7 @@ ghost use Rattle.world_history.specs.Checks.{owed};
 use crate::finish::{acknowledged, finish};
 use crate::index::Index;
 use crate::read::names;
-use crate::rows::{count, Table};
+use crate::rows::{Table, count};
 use crdt_core::{Bytes, Memory};
 use history_model::{History, Kind, Record};
 use std::alloc::Global;
@@ -42,13 +42,7 @@ fn is_owed(
 }
 
 // How many writes of the keys that a read names were acknowledged before place i, by a walk over the records.
-fn owed_to_each(
-    index: &Index<'_>,
-    i: usize,
-    kind: Kind,
-    bucket: &Bytes,
-    own: &Bytes,
-) -> usize
+fn owed_to_each(index: &Index<'_>, i: usize, kind: Kind, bucket: &Bytes, own: &Bytes) -> usize
     requires { i ≤ length index.now.records.now }
     ensures { result ≡ count_below (is_owed index.now.records.now i kind bucket.now own.now) i }
 {

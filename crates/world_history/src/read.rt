@@ -6,7 +6,7 @@ ghost use Rattle.std.specs.List.{list_all};
 
 use crate::finish::acknowledged;
 use crate::index::Index;
-use crate::rows::{newest_before, Table};
+use crate::rows::{Table, newest_before};
 use crdt_core::Bytes;
 use crdt_rows::Version;
 use history_model::{Answer, Kind, Record};

@@ -129,10 +129,12 @@ fn version_in(index: &Index<'_>, place: usize) -> Option<Version>
     ensures { result ≡ version_in index.now.records.now place }
 {
     match index.records.get(place) {
-        Some(Record::Finished {
-            answer: Answer::Version(version),
-            ..
-        }) => Some(*version),
+        Some(
+            Record::Finished {
+                answer: Answer::Version(version),
+                ..
+            },
+        ) => Some(*version),
         _ => None,
     }
 }

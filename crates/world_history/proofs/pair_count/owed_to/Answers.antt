@@ -1,6 +1,6 @@
-use Rattle.std.proofs.Common.{sym, subst, ◌∙◌, ap}
+use Rattle.std.proofs.Common.{sym, ◌∙◌, ap}
 use Rattle.std.specs.List.{sum_by}
-use Rattle.world_history.specs.Table.{IsTable, is_of, one_if}
+use Rattle.world_history.specs.Table.{is_of, one_if}
 use Rattle.world_history.proofs.Counts.{owed_to_key}
 use Rattle.world_history.proofs.pair_count.owed_to.Goals as goal
 

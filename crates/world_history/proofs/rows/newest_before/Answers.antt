@@ -1,4 +1,4 @@
-use Rattle.std.proofs.Common.{◌≡◌, ℕ, ◌+◌, ◌-◌, ◌<◌, ◌≤◌, IsSorted, [], None, get_or, length, ap, sym, subst, ◌∙◌, arith}
+use Rattle.std.proofs.Common.{◌≡◌, ℕ, ◌+◌, ◌-◌, ◌<◌, IsSorted, [], None, get_or, length, ap, sym, subst, ◌∙◌, arith}
 use Rattle.std.proofs.lemmas.List.{get_or_default}
 use Rattle.world_history.specs.declared.rows.Row.{Row}
 use Rattle.world_history.specs.Table.{row_cmp, IsTable, version_in}
@@ -43,8 +43,8 @@ loop-k-preserved c =
     let inside : k < length rows = omega (arith, c.loop-k-test.true, c.before-high.ensures.bound) in
     let back : low + (k - low) ≡ k = omega (arith, c.loop-k.invariant.after) in
     let next : k - low + 1 ≡ k + 1 - low = omega (arith, c.loop-k.invariant.after) in
-    let here = get_or_default rows k (record { bucket = []; key = []; place = 0 }) c.index-rows-k.result inside ∙ sym c.index-rows-k.is in
-    let there : p (k - low) ≡ version_in h c.index-rows-k.result.place = ap (λ (n : ℕ). version_in h (get_or rows n (record { bucket = []; key = []; place = 0 })).place) back ∙ ap (λ (r : Row). version_in h r.place) here in
+    let here = get_or_default rows k (record { bucket = []; key = []; place = 0 }) c.index-rows-k.result inside in
+    let there : p (k - low) ≡ version_in h (get_or rows k c.index-rows-k.result).place = ap (λ (n : ℕ). version_in h (get_or rows n (record { bucket = []; key = []; place = 0 })).place) back ∙ ap (λ (r : Row). version_in h r.place) here in
     let newer : c.newer-newest.result ≡ newer_of c.loop-k.newest (p (k - low)) = c.newer-newest.ensures ∙ ap (newer_of c.loop-k.newest) (c.version_in.ensures ∙ sym there) in
     record {
       after = omega (arith, c.loop-k.invariant.after);
