@@ -1,14 +1,20 @@
 -- Sums and counts of the numbers below one, and what the code counts.
-use Rattle.std.proofs.Common.{◌≡◌, ℕ, zero, suc, ◌<◌, ◌≤◌, Bool, true, false, ◌&&◌, cond, List, Option, Some, None, is_some, nat_lt, length, slice_get, inl, inr, refl, ap, sym, ◌∙◌, arith}
+use Rattle.std.proofs.Common.{◌≡◌, ℕ, zero, suc, ◌<◌, ◌≤◌, Bool, true, false, ◌&&◌, cond, List, Option, Some, None, is_some, nat_lt, length, slice_get, option_map, inl, inr, refl, ap, sym, subst, ◌∙◌, arith}
 use Rattle.std.proofs.lemmas.Bool.{cases_lt, le-ltb, and_right}
+use Rattle.std.specs.List.{sum_by}
+use Rattle.std.proofs.lemmas.Bool.Decides.{same_from_decides}
+use Rattle.std.proofs.lemmas.Slice.Eq.{bytes_eq-Decides}
 use Rattle.crdt_rows.specs.declared.version.Version.{Version}
 use Rattle.history_model.specs.declared.record.Kind.{Kind}
 use Rattle.history_model.specs.declared.record.Record.{Record}
 use Rattle.history_model.specs.declared.record.Record.TheVariants.{Began, Finished, Ended}
-use Rattle.history_model.specs.Record.{is_read, is_write, finish, acknowledged, is_some_with, begins, names, same_bytes}
+use Rattle.history_model.specs.Record.{is_read, is_write, is_list, finish, acknowledged, is_some_with, begins, names, same_bytes}
 use Rattle.history_model.specs.Pairs.{is_owed, is_pair, sum_below, count_below, pair_count}
+use Rattle.world_history.specs.declared.rows.Row.{Row}
+use Rattle.world_history.specs.Table.{ack_of, sum_of, IsTable, is_of, one_if}
 use Rattle.world_history.specs.Checks.{owed_of, owed}
 use Rattle.world_history.proofs.Places.{acknowledged-later}
+use Rattle.world_history.proofs.Newest.{one_key, own_key}
 
 -- sums of the same numbers
 pub sum_below_same : (f g : ℕ → ℕ) (n : ℕ) → ((k : ℕ) → k < n → f k ≡ g k) → sum_below f n ≡ sum_below g n
@@ -58,10 +64,13 @@ late : (i b : ℕ) (o : Option (ℕ × Version)) → i ≤ b → ((a : ℕ × Ve
 late i b None le after = refl
 late i b (Some a) le after = let more = after a refl in let above : i ≤ a.0 = omega arith in le-ltb a.0 i above
 
+no_late_owed : (h : List Record) (i b : ℕ) (kind : Kind) (bucket own : List ℕ) → i ≤ b → is_owed h i kind bucket own b ≡ false
+no_late_owed h i b kind bucket own le =
+    begins_none _ (λ p other place key. and_right (is_write other) _ (and_right (names kind own key) _ (and_right (same_bytes place bucket) _ (late i b (acknowledged h b p) le (acknowledged-later h b p))))) (slice_get h b)
+
 no_late_pair : (h : List Record) (i b : ℕ) → i ≤ b → is_pair h i b ≡ false
 no_late_pair h i b le =
-    begins_none _ (λ q kind bucket own. and_right (is_read kind) _ (and_right (is_some (finish h i q)) _
-    (begins_none _ (λ p other place key. and_right (is_write other) _ (and_right (names kind own key) _ (and_right (same_bytes place bucket) _ (late i b (acknowledged h b p) le (acknowledged-later h b p))))) (slice_get h b))))
+    begins_none _ (λ q kind bucket own. and_right (is_read kind) _ (and_right (is_some (finish h i q)) _ (no_late_owed h i b kind bucket own le)))
     (slice_get h i)
 
 -- the code's sum is the count of pairs
@@ -69,3 +78,43 @@ pub owed-pairs : (h : List Record) → sum_below (owed h) (length h) ≡ pair_co
 owed-pairs h =
     sum_below_same (owed h) (λ i. count_below (is_pair h i) (length h)) (length h)
     (λ i lt. let le : i ≤ length h = omega arith in owed_counts h i (slice_get h i) ∙ sym (count_below_front (is_pair h i) i (length h) le (no_late_pair h i)))
+
+-- a read that is no list names a key where it is its own
+names_own : (kind : Kind) → is_list kind ≡ false → (own key : List ℕ) → names kind own key ≡ same_bytes key own
+names_own kind no_list own key =
+    same_from_decides (names kind own key) (same_bytes key own)
+    (λ t. sym (one_key kind no_list own key t), λ e. subst (λ k. names kind own k ≡ true) (sym e) (own_key kind no_list own))
+    (bytes_eq-Decides key own)
+
+swapped : (a b c : Bool) → (b && (a && c)) ≡ (a && (b && c))
+swapped true b c = refl
+swapped false true c = refl
+swapped false false c = refl
+
+-- the rows of its key before its place are what a read of one key is owed
+module _ (h : List Record) (rows : List Row) (t : IsTable h rows) (i : ℕ) (kind : Kind) (bucket own : List ℕ) (no_list : is_list kind ≡ false) where
+  abbrev is_mine : Row → ℕ
+  is_mine r = one_if (is_of bucket own i r)
+
+  owed_row : (b : ℕ) (o : Option Record) →
+      sum_of is_mine (ack_of h b o)
+      ≡ one_if (begins (λ q other place key. is_write other && (names kind own key && (same_bytes place bucket && is_some_with (λ a. nat_lt a.0 i) (acknowledged h b q)))) o)
+  owed_row b None = refl
+  owed_row b (Some (Finished q answer)) = refl
+  owed_row b (Some (Ended q cause)) = refl
+  owed_row b (Some (Began q node other place key)) = by_case (is_write other) (acknowledged h b q)
+    where
+      by_case : (w : Bool) (o : Option (ℕ × Version)) →
+          sum_of is_mine (cond w (option_map (λ (a : ℕ × Version). record { bucket = place; key = key; place = a.0 }) o) None)
+          ≡ one_if (w && (names kind own key && (same_bytes place bucket && is_some_with (λ a. nat_lt a.0 i) o)))
+      by_case false o = refl
+      by_case true None = sym (ap one_if (and_right (names kind own key) _ (and_right (same_bytes place bucket) _ refl)))
+      by_case true (Some a) =
+          ap one_if (sym (swapped (same_bytes place bucket) (same_bytes key own) (nat_lt a.0 i)))
+          ∙ sym (λ j. one_if (names_own kind no_list own key j && (same_bytes place bucket && nat_lt a.0 i)))
+
+  pub owed_to_key : i ≤ length h → sum_by (λ r. one_if (is_of bucket own i r)) rows ≡ count_below (is_owed h i kind bucket own) i
+  owed_to_key le =
+      t.told is_mine
+      ∙ (sum_below_same _ (λ b. one_if (is_owed h i kind bucket own b)) (length h) (λ b lt. owed_row b (slice_get h b))
+      ∙ count_below_front (is_owed h i kind bucket own) i (length h) le (λ b above. no_late_owed h i b kind bucket own above))

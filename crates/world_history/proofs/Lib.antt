@@ -5,3 +5,5 @@ pub mod Newest
 pub mod Places
 pub mod Parts
 pub mod Order
+pub mod Table
+pub mod Rowed

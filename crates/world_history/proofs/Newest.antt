@@ -117,7 +117,7 @@ own_key Listing e own = let no : true ≡ false = e in cc
 
 module _ (h : List Record) (i : ℕ) (bucket key : List ℕ) where
   -- a version at a place is that of an acknowledged write
-  acknowledged_there : (place : ℕ) (v : Version) → version_at h i bucket key place ≡ Some v → IsAcknowledged h i bucket key v
+  pub acknowledged_there : (place : ℕ) (v : Version) → version_at h i bucket key place ≡ Some v → IsAcknowledged h i bucket key v
   acknowledged_there place v = there (slice_get h place) refl
     where
       before : (o : Option (ℕ × Version)) → version_before i o ≡ Some v → (end : ℕ) × (o ≡ Some (end, v)) × (end < i)
@@ -154,7 +154,7 @@ module _ (h : List Record) (i : ℕ) (bucket key : List ℕ) where
           by_case false t = let no : ◌≡◌ {A = Option Version} None (Some v) = rw t at e in cc
 
   -- and the other way round
-  version_there : (w : Version) (a : IsAcknowledged h i bucket key w) → version_at h i bucket key a.place ≡ Some w
+  pub version_there : (w : Version) (a : IsAcknowledged h i bucket key w) → version_at h i bucket key a.place ≡ Some w
   version_there w a =
       let writes : is_write a.kind ≡ true = a.writes in
       let same_key : same_bytes key key ≡ true = (bytes_eq-Decides key key).1 refl in
@@ -163,7 +163,7 @@ module _ (h : List Record) (i : ℕ) (bucket key : List ℕ) where
       let early : nat_lt a.end i ≡ true = lt-ltb a.end i a.before in
       ap (version_at_of h i bucket key a.place) a.began.1 ∙ rw (writes, same_key, same_bucket, finished, early) refl
 
-  placed : (w : Version) (a : IsAcknowledged h i bucket key w) → a.place < i
+  pub placed : (w : Version) (a : IsAcknowledged h i bucket key w) → a.place < i
   placed w a = let later = acknowledged-later h a.place a.request _ a.finished in let before = a.before in omega arith
 
 module _ (h : List Record) (i j : ℕ) (kind : Kind) (bucket own : List ℕ) (answer : Answer) (no_list : is_list kind ≡ false) where

@@ -5,25 +5,25 @@ ghost use Rattle.world_history.specs.Checks.{all_below, fresh_at};
 ghost use Rattle.history_model.specs.Fresh.{Fresh};
 
 use crate::finish::finish;
-use crate::index::Index;
 use crate::read::Read;
+use crate::rows::Table;
 use crdt_core::Memory;
 use history_model::{History, Record};
 use std::alloc::Global;
 
 // Whether the read that began at this place, if one did and finished, is fresh.
-fn fresh_at(index: &Index<'_>, i: usize) -> bool
-    requires { i < length index.now.records.now }
-    ensures { result ≡ fresh_at index.now.records.now i }
+fn fresh_at(table: &Table<'_>, i: usize) -> bool
+    requires { i < length table.now.index.records.now }
+    ensures { result ≡ fresh_at table.now.index.records.now i }
 {
-    match &index.records[i] {
+    match &table.index.records[i] {
         Record::Began {
             request,
             kind,
             bucket,
             key,
             ..
-        } if kind.is_read() => match finish(index, i, *request) {
+        } if kind.is_read() => match finish(&table.index, i, *request) {
             Some((finished, answer)) => {
                 let read = Read {
                     kind: *kind,
@@ -33,7 +33,7 @@ fn fresh_at(index: &Index<'_>, i: usize) -> bool
                     finished,
                     answer,
                 };
-                read.covers_all(index) && read.shows_written(index)
+                read.covers_all(table) && read.shows_written(&table.index)
             }
             None => true,
         },
@@ -41,11 +41,11 @@ fn fresh_at(index: &Index<'_>, i: usize) -> bool
     }
 }
 
-fn each_fresh(index: &Index<'_>) -> bool
-    ensures { result ≡ all_below (fresh_at index.now.records.now) (length index.now.records.now) }
+fn each_fresh(table: &Table<'_>) -> bool
+    ensures { result ≡ all_below (fresh_at table.now.index.records.now) (length table.now.index.records.now) }
 {
-    for i in 0..index.records.len() {
-        if !fresh_at(index, i) {
+    for i in 0..table.index.records.len() {
+        if !fresh_at(table, i) {
             return false;
         }
     }
@@ -57,6 +57,6 @@ pub fn fresh(alloc: Global, h: &History) -> Result<bool, Memory>
     ensures told { IfOk result (λ yes. IsTrue yes ↔ Fresh h.now.0) }
     ensures want { OnlyWant result }
 {
-    let index = Index::new(alloc, h.0.as_slice())?;
-    Ok(each_fresh(&index))
+    let table = Table::new(alloc, h.0.as_slice())?;
+    Ok(each_fresh(&table))
 }

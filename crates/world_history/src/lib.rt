@@ -9,7 +9,8 @@
 //! below one acknowledged before the read began, and none only where a delete explains it; and each version
 //! that it shows is that of a put or copy of the key. `pairs` counts what there was to check: the pairs of a
 //! finished read and a write acknowledged before it began, of a key that it names. Both hold of any list of
-//! records. Each takes memory for one entry of 16 bytes for each record.
+//! records. Each takes memory for one entry of 16 bytes for each record, and for one row, with a copy of its
+//! bucket and key, for each acknowledged write.
 #![tactic(auto)]
 
 mod finish;
@@ -17,6 +18,7 @@ mod freshness;
 mod index;
 mod pair_count;
 mod read;
+mod rows;
 
 pub use freshness::fresh;
 pub use history_model::{Answer, Cause, History, Kind, Record};

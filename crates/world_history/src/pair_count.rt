@@ -7,6 +7,7 @@ ghost use Rattle.world_history.specs.Checks.{owed};
 use crate::finish::{acknowledged, finish};
 use crate::index::Index;
 use crate::read::names;
+use crate::rows::{Table, count};
 use crdt_core::{Bytes, Memory};
 use history_model::{History, Kind, Record};
 use std::alloc::Global;
@@ -40,8 +41,8 @@ fn is_owed(
     }
 }
 
-// How many writes of the keys that a read names were acknowledged before place i.
-fn owed_to(index: &Index<'_>, i: usize, kind: Kind, bucket: &Bytes, own: &Bytes) -> usize
+// How many writes of the keys that a read names were acknowledged before place i, by a walk over the records.
+fn owed_to_each(index: &Index<'_>, i: usize, kind: Kind, bucket: &Bytes, own: &Bytes) -> usize
     requires { i ≤ length index.now.records.now }
     ensures { result ≡ count_below (is_owed index.now.records.now i kind bucket.now own.now) i }
 {
@@ -54,20 +55,31 @@ fn owed_to(index: &Index<'_>, i: usize, kind: Kind, bucket: &Bytes, own: &Bytes)
     count
 }
 
-// How many pairs there are whose read began at place i.
-fn pairs_at(index: &Index<'_>, i: usize) -> usize
-    requires { i < length index.now.records.now }
-    ensures { result ≡ owed index.now.records.now i }
+// The same. Those of one key are its rows before the place.
+fn owed_to(table: &Table<'_>, i: usize, kind: Kind, bucket: &Bytes, own: &Bytes) -> usize
+    requires { i ≤ length table.now.index.records.now }
+    ensures { result ≡ count_below (is_owed table.now.index.records.now i kind bucket.now own.now) i }
 {
-    match &index.records[i] {
+    if kind.is_list() {
+        return owed_to_each(&table.index, i, kind, bucket, own);
+    }
+    count(table.rows.as_slice(), bucket, own, i)
+}
+
+// How many pairs there are whose read began at place i.
+fn pairs_at(table: &Table<'_>, i: usize) -> usize
+    requires { i < length table.now.index.records.now }
+    ensures { result ≡ owed table.now.index.records.now i }
+{
+    match &table.index.records[i] {
         Record::Began {
             request,
             kind,
             bucket,
             key,
             ..
-        } if kind.is_read() && finish(index, i, *request).is_some() => {
-            owed_to(index, i, *kind, bucket, key)
+        } if kind.is_read() && finish(&table.index, i, *request).is_some() => {
+            owed_to(table, i, *kind, bucket, key)
         }
         _ => 0,
     }
@@ -79,10 +91,10 @@ pub fn pairs(alloc: Global, h: &History) -> Result<u64, Memory>
     ensures counted { IfOk result (λ n. n ≡ min (pair_count h.now.0) (2 ^ 64 - 1)) }
     ensures want { OnlyWant result }
 {
-    let index = Index::new(alloc, h.0.as_slice())?;
+    let table = Table::new(alloc, h.0.as_slice())?;
     let mut total = 0u64;
-    for i in 0..index.records.len() {
-        total = total.saturating_add(pairs_at(&index, i) as u64);
+    for i in 0..table.index.records.len() {
+        total = total.saturating_add(pairs_at(&table, i) as u64);
     }
     Ok(total)
 }

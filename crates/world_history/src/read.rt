@@ -1,11 +1,12 @@
 //! A finished read, and what it owes.
 ghost use Rattle.std.specs.Prelude.{◌≡◌, ◌<◌, ◌≤◌, length};
 ghost use Rattle.history_model.specs.Record.{names};
-ghost use Rattle.world_history.specs.Checks.{deletes_at, is_deleted, writes_at, is_written, shows, shows_below, covers, covers_at, covers_all, version_at, newer_of, IsNewestBelow, is_written_if_named, shows_written};
+ghost use Rattle.world_history.specs.Checks.{deletes_at, is_deleted, writes_at, is_written, shows, shows_below, covers, covers_at, covers_all, is_written_if_named, shows_written};
 ghost use Rattle.std.specs.List.{list_all};
 
 use crate::finish::acknowledged;
 use crate::index::Index;
+use crate::rows::{Table, newest_before};
 use crdt_core::Bytes;
 use crdt_rows::Version;
 use history_model::{Answer, Kind, Record};
@@ -128,57 +129,6 @@ fn shows_below(own: &Bytes, answer: &Answer, key: &Bytes, w: Version) -> bool
     }
 }
 
-// The version, if any, with which a write of the key began at this place and was acknowledged before place i.
-fn version_at(
-    index: &Index<'_>,
-    i: usize,
-    bucket: &Bytes,
-    key: &Bytes,
-    place: usize,
-) -> Option<Version>
-    requires { place < length index.now.records.now }
-    ensures { result ≡ version_at index.now.records.now i bucket.now key.now place }
-{
-    match &index.records[place] {
-        Record::Began {
-            request,
-            kind,
-            bucket: place_bucket,
-            key: place_key,
-            ..
-        } if kind.is_write() && place_key == key && place_bucket == bucket => {
-            match acknowledged(index, place, *request) {
-                Some((end, version)) if end < i => Some(version),
-                _ => None,
-            }
-        }
-        _ => None,
-    }
-}
-
-// The newer of two versions, of which each may be missing.
-fn newer(a: Option<Version>, b: Option<Version>) -> Option<Version>
-    ensures { result ≡ newer_of a b }
-{
-    match (a, b) {
-        (Some(a), Some(b)) => Some(if a < b { b } else { a }),
-        (None, b) => b,
-        (a, None) => a,
-    }
-}
-
-// The newest version with which a write of the key was acknowledged before place i.
-fn newest_before(index: &Index<'_>, i: usize, bucket: &Bytes, key: &Bytes) -> Option<Version>
-    requires { i ≤ length index.now.records.now }
-    ensures { IsNewestBelow (version_at index.now.records.now i bucket.now key.now) i result }
-{
-    let mut newest = None;
-    for place in 0..i {
-        newest = newer(newest, version_at(index, i, bucket, key, place));
-    }
-    newest
-}
-
 impl Read<'_> {
     // Whether what it shows for the key covers w.
     fn covers(&self, index: &Index<'_>, key: &Bytes, w: Version) -> bool
@@ -229,16 +179,16 @@ impl Read<'_> {
     }
 
     /// The same. A read of one key covers each version where it covers the newest.
-    pub fn covers_all(&self, index: &Index<'_>) -> bool
-        requires began { self.now.began ≤ length index.now.records.now }
-        requires finished { self.now.finished ≤ length index.now.records.now }
-        ensures { result ≡ covers_all index.now.records.now self.now.began self.now.finished self.now.kind self.now.bucket.now self.now.key.now self.now.answer.now }
+    pub fn covers_all(&self, table: &Table<'_>) -> bool
+        requires began { self.now.began ≤ length table.now.index.records.now }
+        requires finished { self.now.finished ≤ length table.now.index.records.now }
+        ensures { result ≡ covers_all table.now.index.records.now self.now.began self.now.finished self.now.kind self.now.bucket.now self.now.key.now self.now.answer.now }
     {
         if self.kind.is_list() {
-            return self.covers_each(index);
+            return self.covers_each(&table.index);
         }
-        match newest_before(index, self.began, self.bucket, self.key) {
-            Some(version) => self.covers(index, self.key, version),
+        match newest_before(table, self.began, self.bucket, self.key) {
+            Some(version) => self.covers(&table.index, self.key, version),
             None => true,
         }
     }

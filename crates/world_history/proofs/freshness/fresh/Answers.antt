@@ -6,4 +6,4 @@ use Rattle.world_history.proofs.freshness.fresh.Goals as goal
 
 -- the tests of all places decide it
 pub returns-clause-told : goal.returns-clause-told
-returns-clause-told c = Decides-at c.each_fresh.result _ (c.each_fresh.ensures ∙ ap (λ h. all_below (fresh_at h) (length h)) (c.in_ok-index.ensures.told ∙ c.as_slice.ensures)) (fresh-Decides c.args.h.now.0)
+returns-clause-told c = Decides-at c.each_fresh.result _ (c.each_fresh.ensures ∙ ap (λ h. all_below (fresh_at h) (length h)) (c.in_ok-table.ensures.told ∙ c.as_slice.ensures)) (fresh-Decides c.args.h.now.0)

@@ -4,4 +4,4 @@ use Rattle.world_history.specs.Checks.{owed}
 use Rattle.world_history.proofs.pair_count.pairs.Given as goal
 
 abbrev pub invariant-loop-i : goal.invariant-loop-i
-invariant-loop-i l = l.total ≡ min (sum_below (owed l.index.records.now) l.i) (2 ^ 64 - 1)
+invariant-loop-i l = l.total ≡ min (sum_below (owed l.table.index.records.now) l.i) (2 ^ 64 - 1)

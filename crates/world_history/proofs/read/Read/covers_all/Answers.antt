@@ -7,10 +7,10 @@ pub returns-in-Some : goal.returns-in-Some
 returns-in-Some c =
     let read = c.args.self.now in
     let no_list = sym c.is_list.ensures ∙ c.if-is_list.false in
-    c.covers.ensures ∙ newest_covers c.args.index.now.records.now read.began read.finished read.kind read.bucket.now read.key.now read.answer.now no_list c.in-Some.version c.in-Some.ensures
+    c.covers.ensures ∙ newest_covers c.args.table.now.index.records.now read.began read.finished read.kind read.bucket.now read.key.now read.answer.now no_list c.in-Some.version c.in-Some.ensures
 
 pub returns-in-None : goal.returns-in-None
 returns-in-None c =
     let read = c.args.self.now in
     let no_list = sym c.is_list.ensures ∙ c.if-is_list.false in
-    none_covers c.args.index.now.records.now read.began read.finished read.kind read.bucket.now read.key.now read.answer.now no_list c.in-None.ensures
+    none_covers c.args.table.now.index.records.now read.began read.finished read.kind read.bucket.now read.key.now read.answer.now no_list c.in-None.ensures

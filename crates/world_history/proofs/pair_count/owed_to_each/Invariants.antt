@@ -1,6 +1,6 @@
 use Rattle.std.proofs.Common.{◌≡◌, ◌≤◌}
 use Rattle.history_model.specs.Pairs.{is_owed, count_below}
-use Rattle.world_history.proofs.pair_count.owed_to.Given as goal
+use Rattle.world_history.proofs.pair_count.owed_to_each.Given as goal
 
 abbrev pub invariant-loop-place : goal.invariant-loop-place
 invariant-loop-place l = record {
