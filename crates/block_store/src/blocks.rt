@@ -9,8 +9,9 @@ ghost use Rattle.block_store.specs.Contents.{empty, block_at, live_count, put, t
 
 use crate::fault::BlockFault;
 use crate::shelf::{Kept, Shelf, add_reference, drop_reference};
-use blake2_hash::{Hash32, blake2b_256};
-use crdt_core::{Bytes, Memory};
+use blake2_hash::Hash32;
+use block_bytes::Block;
+use crdt_core::Memory;
 use std::alloc::Global;
 use std::collections::BTreeMap;
 use std::marker::Model;
@@ -46,13 +47,13 @@ impl Blocks {
     }
 
     /// Keeps a block under the BLAKE2b-256 of its bytes, with no live reference. One that is there stays.
-    pub fn put(&mut self, hash: &Hash32, bytes: Bytes) -> Result<(), BlockFault>
-        ensures ok { OnOk result (self.new ≡ put self.old hash.now bytes) }
-        ensures named { OnOk result (hash.now ≡ digest_of bytes) }
+    pub fn put(&mut self, hash: &Hash32, block: Block) -> Result<(), BlockFault>
+        ensures ok { OnOk result (self.new ≡ put self.old hash.now block) }
+        ensures named { OnOk result (hash.now ≡ digest_of block) }
         ensures err { OnErr result (self.new ≡ self.old) }
-        ensures refused { IfErr result (λ e. RefusesPut hash.now bytes e) }
+        ensures refused { IfErr result (λ e. RefusesPut hash.now block e) }
     {
-        let found = blake2b_256(bytes.as_slice());
+        let found = *block.hash();
         if found != *hash {
             return Err(BlockFault::WrongHash {
                 named: *hash,
@@ -63,7 +64,7 @@ impl Blocks {
             return Ok(());
         }
         let kept = Kept {
-            bytes,
+            bytes: block,
             count: 0,
             note: None,
         };
@@ -73,12 +74,12 @@ impl Blocks {
         }
     }
 
-    /// The bytes of a block.
-    pub fn get(&self, hash: &Hash32) -> Option<&[u8]>
+    /// A block.
+    pub fn get(&self, hash: &Hash32) -> Option<&Block>
         ensures { option_map (λ s. s.now) result ≡ block_at self.now hash.now }
     {
         match self.shelf.get(hash) {
-            Some(kept) => Some(kept.bytes.as_slice()),
+            Some(kept) => Some(&kept.bytes),
             None => None,
         }
     }

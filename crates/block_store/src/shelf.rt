@@ -6,13 +6,13 @@ ghost use Rattle.block_store.specs.Contents.{block_at, live_count, told_live, to
 ghost use Rattle.block_store.specs.Shelf.{contents};
 
 use blake2_hash::Hash32;
-use crdt_core::Bytes;
+use block_bytes::Block;
 use std::collections::BTreeMap;
 
 /// A block, how many live references there are to it, and when they last fell to none, in milliseconds.
 #[derive(Drop)]
 pub struct Kept {
-    pub bytes: Bytes,
+    pub bytes: Block,
     pub count: u64,
     pub note: Option<u64>,
 }

@@ -30,6 +30,7 @@ ghost use Rattle.node_parts.specs.declared.packet.Envelope.{Envelope};
 ghost use Rattle.node_core.specs.Stands.{view_of, sender_of, Hands, CannotHand, begins_at, ends_of, Done, Fits, StandsApart, StandsButView};
 
 use blake2_hash::Hash32;
+use block_bytes::Block;
 use cluster_machine::{Action, LocalEnd};
 use crdt_core::{Bytes, Crdt, List, Memory, Value};
 use layout_history::View;
@@ -257,7 +258,7 @@ impl<S: Schema> Node<S> {
         let message = Message::Block {
             request,
             phase,
-            bytes: Bytes::from_slice(self.alloc, found)?,
+            bytes: found.share()?,
         };
         send(out, self.id, from, message)
     }
@@ -269,7 +270,7 @@ impl<S: Schema> Node<S> {
         tag: Tag,
         named: u32,
         p: u8,
-        rows: &[(Bytes, Option<Bytes>)],
+        rows: &[(Bytes, Option<Block>)],
         now: u64,
         out: &mut Vec<Envelope<S::Row>>,
     ) -> Result<(), Memory>

@@ -13,10 +13,11 @@ ghost use Rattle.node_parts.specs.Begins.{Begins, CannotBegin, Stores, StoresAll
 
 use crate::call::Present;
 use crate::packet::Envelope;
-use crate::posts::{copy_block, send_each};
+use crate::posts::{share_block, send_each};
 use crate::sets::{nodes_of, stored_sets};
 use blake2_hash::Hash32;
-use crdt_core::{Bytes, List, Memory, Value};
+use block_bytes::Block;
+use crdt_core::{List, Memory, Value};
 use layout_history::View;
 use quorum_tally::Tally;
 use read_call::{RangeCall, ReadCall};
@@ -53,7 +54,7 @@ impl Beginning {
         self,
         view: &View,
         slot: u8,
-        row: &(S::Row, Option<Bytes>),
+        row: &(S::Row, Option<Block>),
         out: &mut Vec<Envelope<S::Row>>,
     ) -> Result<Tally, Memory>
         ensures stores { IfOk result (λ tally. Stores S.words self view.now slot row.now out.old.items out.new.items tally) }
@@ -63,7 +64,7 @@ impl Beginning {
         let sets = stored_sets(self.alloc, view, p)?;
         let nodes = nodes_of(self.alloc, sets.as_slice())?;
         let mut rows = List::new(self.alloc);
-        rows.push((S::row_bytes(self.alloc, &row.0)?, copy_block(&row.1)?))?;
+        rows.push((S::row_bytes(self.alloc, &row.0)?, share_block(&row.1)?))?;
         let tag = Tag::Call {
             request: self.request,
             phase: self.phase,
@@ -83,7 +84,7 @@ impl Beginning {
     fn store_all<S: Schema>(
         self,
         view: &View,
-        rows: &[(S::Row, Option<Bytes>)],
+        rows: &[(S::Row, Option<Block>)],
         out: &mut Vec<Envelope<S::Row>>,
     ) -> Result<WriteCall, Memory>
         requires short { AreShort rows.now }

@@ -3,7 +3,8 @@ ghost use Rattle.std.specs.Prelude.{◌≡◌, IfOk, OnOk};
 ghost use Rattle.crdt_core.specs.Outcomes.{OnlyWant};
 ghost use Rattle.node_parts.specs.Calls.{TakesRow, TakesRows, TakesConfirmation, TakesBlock};
 
-use crdt_core::{Bytes, List, Memory, Value, copy_row, copy_rows};
+use block_bytes::Block;
+use crdt_core::{List, Memory, copy_row, copy_rows};
 use read_call::{RangeCall, ReadCall};
 use std::alloc::Global;
 use table_schema::Schema;
@@ -95,14 +96,14 @@ impl<S: Schema> Call<S> {
     }
 
     /// A node answers with a block, which ends a block phase.
-    pub fn take_block(&mut self, bytes: &Bytes) -> Result<Option<PhaseEnd<S::Row>>, Memory>
+    pub fn take_block(&mut self, bytes: &Block) -> Result<Option<PhaseEnd<S::Row>>, Memory>
         ensures takes { IfOk result (λ given. TakesBlock self.old self.new bytes.now given) }
         ensures want { OnlyWant result }
     {
         let Present::Fetching = self.present else {
             return Ok(None);
         };
-        let bytes = bytes.copy()?;
+        let bytes = bytes.share()?;
         self.present = Present::Resting;
         Ok(Some(PhaseEnd::Block(bytes)))
     }

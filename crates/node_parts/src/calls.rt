@@ -9,7 +9,8 @@ ghost use Rattle.cluster_machine.specs.Step.{requests_of};
 ghost use Rattle.node_parts.specs.Calls.{IsPresent, HearsRow, HearsRows, HearsConfirmation, HearsBlock};
 
 use crate::call::{Call, Present};
-use crdt_core::{Bytes, Memory};
+use block_bytes::Block;
+use crdt_core::Memory;
 use std::alloc::Global;
 use std::cmp::Reverse;
 use std::collections::BTreeMap;
@@ -174,7 +175,7 @@ impl<S: Schema> Calls<S> {
         &mut self,
         request: u64,
         phase: u32,
-        bytes: &Bytes,
+        bytes: &Block,
     ) -> Result<Option<PhaseEnd<S::Row>>, Memory>
         ensures hears { IfOk result (λ given. HearsBlock self.old self.new request phase bytes.now given) }
         ensures want { OnlyWant result }

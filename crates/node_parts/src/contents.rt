@@ -20,6 +20,7 @@ use crate::references::{delete_all, end_references, refer};
 use crate::sets::{is_given, nodes_of, stored_sets};
 use blake2_hash::Hash32;
 use block_resync::{Item, Resync};
+use block_bytes::Block;
 use block_store::Blocks;
 use crdt_core::{Bytes, List, Memory, Value};
 use layout_history::View;
@@ -63,7 +64,7 @@ impl<S: Schema> Contents<S> {
     }
 
     // Merges a row in, keeps the block that it needs and that came with it, and queues the rows that this calls for.
-    fn accept(&mut self, row: &S::Row, given: &Option<Bytes>, now: u64) -> Result<(), Memory>
+    fn accept(&mut self, row: &S::Row, given: &Option<Block>, now: u64) -> Result<(), Memory>
         requires proper { IsTrue (S.words.is_proper row.now) }
         requires beside { IsBeside (blake2b 32) (S.words.live_block row.now) given.now }
         ensures accepts { OnOk result (Turns S.Row.join S.words self.old self.new (λ x. accepts S.Row.join S.words now x row.now given.now)) }
@@ -86,7 +87,7 @@ impl<S: Schema> Contents<S> {
 
     /// Merges in the rows that have these bytes, one after the other, each with the block that it needs, and queues
     /// those that this calls for. Bytes of no row are passed over.
-    pub fn accept_all(&mut self, rows: &[(Bytes, Option<Bytes>)], now: u64) -> Result<(), Memory>
+    pub fn accept_all(&mut self, rows: &[(Bytes, Option<Block>)], now: u64) -> Result<(), Memory>
         requires stocked { AllByRecursion (IsRowWithBlock (blake2b 32) S.words) rows.now }
         ensures accepts { OnOk result (Accepts S.Row.join S.words self.old self.new now rows.now) }
         ensures causes { WantOr result (CannotAccept S.Row.join S.words self.old now rows.now) }

@@ -5,27 +5,28 @@ ghost use Rattle.cluster_machine.specs.Phases.{to_each};
 ghost use Rattle.node_parts.specs.Posts.{Posts};
 
 use crate::packet::{Envelope, Packet};
+use block_bytes::Block;
 use crdt_core::{Bytes, Crdt, List, Memory, Value, copy_row, copy_rows};
 use wire_messages::Message;
 
-/// A copy of a block, if there is one.
-pub fn copy_block(block: &Option<Bytes>) -> Result<Option<Bytes>, Memory>
-    ensures same { IfOk result (λ copied. copied ≡ block.now) }
+/// The same block for another owner, if there is one.
+pub fn share_block(block: &Option<Block>) -> Result<Option<Block>, Memory>
+    ensures same { IfOk result (λ shared. shared ≡ block.now) }
     ensures want { OnlyWant result }
 {
     match block {
-        Some(block) => Ok(Some(block.copy()?)),
+        Some(block) => Ok(Some(block.share()?)),
         None => Ok(None),
     }
 }
 
-fn copy_stored(rows: &List<(Bytes, Option<Bytes>)>) -> Result<List<(Bytes, Option<Bytes>)>, Memory>
+fn copy_stored(rows: &List<(Bytes, Option<Block>)>) -> Result<List<(Bytes, Option<Block>)>, Memory>
     ensures same { IfOk result (λ copied. copied ≡ rows.now) }
     ensures want { OnlyWant result }
 {
     let mut copied = List::new(rows.allocator());
     for row in rows.as_slice() {
-        copied.push((row.0.copy()?, copy_block(&row.1)?))?;
+        copied.push((row.0.copy()?, share_block(&row.1)?))?;
     }
     Ok(copied)
 }
@@ -115,7 +116,7 @@ fn copy_of<R: Crdt>(message: &Message<R>) -> Result<Message<R>, Memory>
         } => Ok(Message::Block {
             request: *request,
             phase: *phase,
-            bytes: bytes.copy()?,
+            bytes: bytes.share()?,
         }),
         Message::NoBlock { request, phase } => Ok(Message::NoBlock {
             request: *request,

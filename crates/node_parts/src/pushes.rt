@@ -8,6 +8,7 @@ ghost use Rattle.node_parts.specs.Pushes.{found_in, rows_with_blocks, Pushes, Ca
 use crate::packet::Envelope;
 use crate::posts::send_each;
 use crate::sets::others_of;
+use block_bytes::Block;
 use block_store::Blocks;
 use crdt_core::{Bytes, List, Memory};
 use layout_history::View;
@@ -17,12 +18,8 @@ use table_schema::Schema;
 use table_store::Table;
 use wire_messages::{Message, Tag};
 
-// A copy of the block that a row needs, where it is there.
-fn block_of<S: Schema>(
-    alloc: Global,
-    row: &S::Row,
-    blocks: &Blocks,
-) -> Result<Option<Bytes>, Memory>
+// The block that a row needs, where it is there.
+fn block_of<S: Schema>(row: &S::Row, blocks: &Blocks) -> Result<Option<Block>, Memory>
     ensures is { IfOk result (λ block. block ≡ found_in blocks.now (S.words.live_block row.now)) }
     ensures want { OnlyWant result }
 {
@@ -30,7 +27,7 @@ fn block_of<S: Schema>(
         return Ok(None);
     };
     match blocks.get(&hash) {
-        Some(bytes) => Ok(Some(Bytes::from_slice(alloc, bytes)?)),
+        Some(block) => Ok(Some(block.share()?)),
         None => Ok(None),
     }
 }
@@ -40,14 +37,14 @@ fn bytes_of_each<S: Schema>(
     alloc: Global,
     rows: &[S::Row],
     blocks: &Blocks,
-) -> Result<List<(Bytes, Option<Bytes>)>, Memory>
+) -> Result<List<(Bytes, Option<Block>)>, Memory>
     ensures are { IfOk result (λ stored. stored ≡ rows_with_blocks S.words blocks.now rows.now) }
     ensures spelled { OnOk result (IsTrue (list_all (is_spelled S.words) rows.now)) }
     ensures causes { WantOr result (list_all (is_spelled S.words) rows.now ≡ false) }
 {
     let mut stored = List::new(alloc);
     for row in rows {
-        let block = block_of::<S>(alloc, row, blocks)?;
+        let block = block_of::<S>(row, blocks)?;
         stored.push((S::row_bytes(alloc, row)?, block))?;
     }
     Ok(stored)

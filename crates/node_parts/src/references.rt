@@ -9,20 +9,21 @@ ghost use Rattle.cluster_machine.specs.Blocks.{IsBeside};
 ghost use Rattle.node_parts.specs.References.{kept_with, referred, ended, deleted_all};
 
 use blake2_hash::Hash32;
+use block_bytes::Block;
 use block_store::Blocks;
-use crdt_core::{Bytes, Memory, Value};
+use crdt_core::Memory;
 
 // Keeps the block that came for a row. Its bytes have this hash, so that only memory can lack.
-fn keep(blocks: &mut Blocks, hash: &Hash32, given: &Option<Bytes>) -> Result<(), Memory>
+fn keep(blocks: &mut Blocks, hash: &Hash32, given: &Option<Block>) -> Result<(), Memory>
     requires beside { IsBeside (blake2b 32) (Some hash.now.0) given.now }
     ensures kept { OnOk result (blocks.new ≡ kept_with blocks.old hash.now given.now) }
     ensures there { OnOk result (IsTrue (is_some (block_at blocks.new hash.now))) }
     ensures want { OnlyWant result }
 {
-    let Some(bytes) = given else {
+    let Some(block) = given else {
         return Ok(());
     };
-    match blocks.put(hash, bytes.copy()?) {
+    match blocks.put(hash, block.share()?) {
         Ok(()) => Ok(()),
         Err(_) => Err(Memory::Want),
     }
@@ -64,7 +65,7 @@ pub fn refer(
     blocks: &mut Blocks,
     before: Option<Hash32>,
     after: Option<Hash32>,
-    given: &Option<Bytes>,
+    given: &Option<Block>,
     now: u64,
 ) -> Result<(), Memory>
     requires beside { IfSome after (λ h. IsBeside (blake2b 32) (Some h.0) given.now) }

@@ -8,6 +8,7 @@ ghost use Rattle.s3_flow.specs.Overdrawn.{IsOverdrawn};
 use crate::reads::{gathers, lists, looked, opened};
 use crate::request::Request;
 use crate::writes::{drawn, uploads, writes};
+use block_bytes::Block;
 use crdt_core::{Bytes, List, Memory};
 use crdt_rows::AnyRow;
 use flow_model::{Flow, FlowEnd, FlowStep, Stage};
@@ -85,9 +86,9 @@ fn after_block(
     alloc: Global,
     request: Request,
     stage: Stage,
-    bytes: Bytes,
+    block: Block,
 ) -> Result<FlowStep, Memory>
-    ensures is { (now : ℕ) → IfOk result (λ step. step ≡ goes_on request.id request.block stage (end_of.Block bytes) now) }
+    ensures is { (now : ℕ) → IfOk result (λ step. step ≡ goes_on request.id request.block stage (end_of.Block block) now) }
     ensures want { OnlyWant result }
 {
     match stage {
@@ -98,7 +99,7 @@ fn after_block(
             left,
             mut body,
         } => {
-            body.extend_from_slice(bytes.as_slice())?;
+            body.extend_from_slice(block.as_slice())?;
             gathers(alloc, request, aim, version, meta, left, body)
         }
         other => Ok(request.waits(other)),
@@ -120,6 +121,6 @@ pub fn next(alloc: Global, flow: Flow, end: PhaseEnd<AnyRow>, now: u64) -> Resul
         PhaseEnd::Row(value) => after_row(alloc, request, stage, value, now),
         PhaseEnd::Window { rows, end } => after_window(alloc, request, stage, rows, end),
         PhaseEnd::Kept => after_kept(alloc, request, stage),
-        PhaseEnd::Block(bytes) => after_block(alloc, request, stage, bytes),
+        PhaseEnd::Block(block) => after_block(alloc, request, stage, block),
     }
 }

@@ -12,6 +12,7 @@ ghost use Rattle.flow_model.specs.Rows as model;
 
 use crate::blocks::{hash_of, is_long, piece_at};
 use blake2_hash::Hash32;
+use block_bytes::Block;
 use crdt_core::{Bool, Bytes, Deletable, List, Map, Max, Memory, Value};
 use crdt_rows::{
     AnyRow, BlockRef, Body, Meta, ObjectRow, Part, RefRow, State, Version, VersionRow,
@@ -131,14 +132,14 @@ fn both_rows(
     alloc: Global,
     version: AnyRow,
     reference: AnyRow,
-    bytes: Bytes,
-) -> Result<List<(AnyRow, Option<Bytes>)>, Memory>
-    ensures are { IfOk result (λ rows. rows ≡ (version, None) ∷ (reference, Some bytes) ∷ []) }
+    block: Block,
+) -> Result<List<(AnyRow, Option<Block>)>, Memory>
+    ensures are { IfOk result (λ rows. rows ≡ (version, None) ∷ (reference, Some block) ∷ []) }
     ensures want { OnlyWant result }
 {
     let mut rows = List::new(alloc);
     rows.push((version, None))?;
-    rows.push((reference, Some(bytes)))?;
+    rows.push((reference, Some(block)))?;
     Ok(rows)
 }
 
@@ -150,18 +151,18 @@ pub fn block_rows(
     block: u32,
     body: &[u8],
     offset: u64,
-) -> Result<List<(AnyRow, Option<Bytes>)>, Memory>
+) -> Result<List<(AnyRow, Option<Block>)>, Memory>
     requires { offset < length body.now }
     ensures are { IfOk result (λ rows. (i : ℕ) → offset ≡ i * block → rows ≡ model.block_rows id block body.now i) }
     ensures want { OnlyWant result }
 {
-    let piece = piece_at(block, body, offset as usize);
-    let hash = hash_of(piece);
-    let size = piece.len() as u32;
+    let bytes = Bytes::from_slice(alloc, piece_at(block, body, offset as usize))?;
+    let size = bytes.len() as u32;
+    let piece = Block::new(alloc, bytes)?;
+    let hash = *piece.hash();
     let version = version_row(alloc, id, Part { part: 1, offset }, BlockRef { hash, size })?;
     let deleted = Bool(false);
     let reference = AnyRow::Ref(RefRow { hash, id, deleted });
-    let bytes = Bytes::from_slice(alloc, piece)?;
-    let rows = both_rows(alloc, version, reference, bytes)?;
+    let rows = both_rows(alloc, version, reference, piece)?;
     Ok(rows)
 }

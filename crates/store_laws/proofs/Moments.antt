@@ -7,10 +7,6 @@ use Rattle.table_schema.specs.Words.{Words}
 use Rattle.cluster_machine.specs.Worlds.{Model, Doing, FitAll, next as world_next, run as world_run}
 use Rattle.store_model.specs.Run.{World, State, Outcome, silent, delivers, then_drains, drains}
 use Rattle.store_model.specs.Acts.{Act, drain, acted, after_acts, AreLawfulActs, ActsFit}
-use Rattle.cluster_machine.specs.Choices.{Decision}
-use Rattle.store_model.specs.declared.event.Event.{Event}
-use Rattle.store_model.specs.declared.event.Event.TheVariants.{Trio, Block, Bucket, Role, Redundancy, Apply, Tick, Skew, Put, Get, Head, Delete, Copy, List as Keys, Deliver, Lose, Drain, Expire, Restart, Gossip, Ack, Sync, SyncAck, Clean, Work, Repair}
-use Rattle.store_model.specs.Events.{Turn, act_of, acts_of, IsScheduled, AreScheduled}
 use Rattle.store_model.specs.Moments.{IsMoment, between, within}
 use Rattle.store_laws.proofs.Acts.{fit_parts, delivers_lead}
 
@@ -58,47 +54,3 @@ moment_runs s acts moment lawful fit (within before after n k is low) =
       lawful_last s before (drain n ∷ after) (drain k) (subst (AreLawfulActs s) is lawful) (tt, tt),
       fit_last s before (drain n) after (drain k) (subst (ActsFit s) is fit) (λ fits. (fewer_fit k n then low fits, tt)),
     )
-
-scheduled_first : (before after : List Act) → AreScheduled (before ++ after) → AreScheduled before
-scheduled_first [] after h = tt
-scheduled_first (a ∷ before) after h = (h.0, scheduled_first before after h.1)
-
-scheduled_last : (before : List Act) (a : Act) → IsScheduled a → AreScheduled before → AreScheduled (before ++ a ∷ [])
-scheduled_last [] a is h = (is, tt)
-scheduled_last (b ∷ before) a is h = (h.0, scheduled_last before a is h.1)
-
-pub moment_scheduled : (acts moment : List Act) → AreScheduled acts → IsMoment acts moment → AreScheduled moment
-moment_scheduled acts moment h (between before after is) = scheduled_first before after (subst AreScheduled is h)
-moment_scheduled acts moment h (within before after n k is low) = scheduled_last before (drain k) tt (scheduled_first before (drain n ∷ after) (subst AreScheduled is h))
-
-event_scheduled : (event : Event) (choice : Decision) → IsScheduled (act_of event choice)
-event_scheduled Trio choice = tt
-event_scheduled (Block size) choice = tt
-event_scheduled (Bucket name) choice = tt
-event_scheduled (Role n role) choice = tt
-event_scheduled (Redundancy wanted) choice = tt
-event_scheduled (Apply n) choice = tt
-event_scheduled (Tick ms) choice = tt
-event_scheduled (Skew n ms) choice = tt
-event_scheduled (Put n bucket key size fill) choice = tt
-event_scheduled (Get n bucket key) choice = tt
-event_scheduled (Head n bucket key) choice = tt
-event_scheduled (Delete n bucket key) choice = tt
-event_scheduled (Copy n from_bucket from_key bucket key) choice = tt
-event_scheduled (Keys n bucket prefix) choice = tt
-event_scheduled (Deliver m) choice = tt
-event_scheduled (Lose m) choice = tt
-event_scheduled (Drain n) choice = tt
-event_scheduled (Expire q) choice = tt
-event_scheduled (Restart n) choice = tt
-event_scheduled (Gossip from to) choice = tt
-event_scheduled (Ack n) choice = tt
-event_scheduled (Sync n) choice = tt
-event_scheduled (SyncAck n) choice = tt
-event_scheduled (Clean n) choice = tt
-event_scheduled (Work n) choice = tt
-event_scheduled (Repair n) choice = tt
-
-pub turns_scheduled : (turns : List Turn) → AreScheduled (acts_of turns)
-turns_scheduled [] = tt
-turns_scheduled (t ∷ ts) = (event_scheduled t.numbered.event t.choice, turns_scheduled ts)

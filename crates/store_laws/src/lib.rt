@@ -8,7 +8,6 @@ ghost use Rattle.cluster_machine.specs.World.{undelivered};
 ghost use Rattle.cluster_machine.specs.Worlds.{FitAll};
 ghost use Rattle.store_model.specs.Run.{start};
 ghost use Rattle.store_model.specs.Acts.{Act, drain, all_messages, AreLawfulActs, ActsFit, acted, after_acts};
-ghost use Rattle.store_model.specs.Events.{Turn, acts_of, AreScheduled};
 ghost use Rattle.history_model.specs.Fresh.{Fresh};
 ghost use Rattle.store_model.specs.Fresh.{NoClash, IsFresh};
 ghost use Rattle.store_model.specs.Moments.{IsMoment};
@@ -75,12 +74,9 @@ pub fn draining_leaves_nothing()
     every_installed_world_reads_what_was_kept::<S3Schema>();
 }
 
-/// The acts that lead to a moment of a run are lawful, and fit; so each law over lists of acts holds at each moment. Those
-/// of a moment of a schedule are acts of a schedule, and so is the act that an event is.
+/// The acts that lead to a moment of a run are lawful, and fit; so each law over lists of acts holds at each moment.
 pub fn moments_are_runs()
     ensures runs { (acts moment : List Act) → AreLawfulActs start acts → ActsFit start acts → IsMoment acts moment → AreLawfulActs start moment × ActsFit start moment }
-    ensures scheduled { (acts moment : List Act) → AreScheduled acts → IsMoment acts moment → AreScheduled moment }
-    ensures events { (turns : List Turn) → AreScheduled (acts_of turns) }
 {}
 
 /// Whatever comes, two nodes that accepted rows of a partition with the same members, in whatever order and however often,

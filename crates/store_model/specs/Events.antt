@@ -43,17 +43,6 @@ act_of (Clean n) choice = moves (plainly (step.Clean n))
 act_of (Work n) choice = moves (plainly (step.Work n))
 act_of (Repair n) choice = moves (plainly (step.Repair n))
 
--- an act of a schedule: no layout is installed, and no message is forgotten
-abbrev pub IsScheduled : Act → Type 0
-IsScheduled (installs first) = ⊥
-IsScheduled forgets = ⊥
-IsScheduled a = ⊤
-
--- each of these acts is one of a schedule
-abbrev pub AreScheduled : List Act → Type 0
-AreScheduled [] = ⊤
-AreScheduled (a ∷ as') = IsScheduled a × AreScheduled as'
-
 -- what comes of an event
 abbrev pub outcome : State → Event → Decision → Outcome
 outcome s event choice = acted s (act_of event choice)

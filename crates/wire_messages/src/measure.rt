@@ -5,6 +5,7 @@ ghost use Rattle.crdt_core.specs.declared.memory.Memory.TheVariants.{Full};
 ghost use Rattle.wire_messages.specs.Size.{size, row_length, rows_length, stored_length, block_length, plus, IsTooGreat};
 
 use crate::message::Message;
+use block_bytes::Block;
 use crdt_core::{Bytes, Memory};
 use std::alloc::Global;
 use table_schema::Schema;
@@ -63,7 +64,7 @@ fn add_rows<S: Schema>(alloc: Global, start: u64, rows: &[S::Row]) -> Result<u64
     Ok(total)
 }
 
-fn add_stored(start: u64, rows: &[(Bytes, Option<Bytes>)]) -> Result<u64, Memory>
+fn add_stored(start: u64, rows: &[(Bytes, Option<Block>)]) -> Result<u64, Memory>
     ensures is { IfOk result (λ n. n ≡ start + sum_by stored_length rows.now) }
     ensures full { IfErr result (λ e. (e ≡ Full) × (2 ^ 64 ≤ start + sum_by stored_length rows.now)) }
 {
@@ -74,7 +75,7 @@ fn add_stored(start: u64, rows: &[(Bytes, Option<Bytes>)]) -> Result<u64, Memory
     Ok(total)
 }
 
-fn block_length(block: &Option<Bytes>) -> usize
+fn block_length(block: &Option<Block>) -> usize
     ensures { result ≡ block_length block.now }
 {
     match block {

@@ -1,5 +1,6 @@
 //! The messages between nodes.
 use blake2_hash::Hash32;
+use block_bytes::Block;
 use crdt_core::{Bytes, List};
 
 /// What a confirmation is for.
@@ -53,7 +54,7 @@ pub enum Message<R> {
         tag: Tag,
         newest: u32,
         p: u8,
-        rows: List<(Bytes, Option<Bytes>)>,
+        rows: List<(Bytes, Option<Block>)>,
     },
     /// Confirms a store.
     Stored(Tag),
@@ -73,7 +74,7 @@ pub enum Message<R> {
     Block {
         request: u64,
         phase: u32,
-        bytes: Bytes,
+        bytes: Block,
     },
     /// Answers that the node hasn't the block.
     NoBlock {

@@ -1,4 +1,4 @@
-use Rattle.std.proofs.Common.{Some, sym, ap, ◌∙◌}
+use Rattle.std.proofs.Common.{sym, ap, ◌∙◌}
 use Rattle.std.specs.Prelude.{option_map}
 use Rattle.block_store.proofs.Steps.{block_shown}
 use Rattle.block_store.proofs.blocks.Blocks.get.Goals as goal
@@ -6,7 +6,7 @@ use Rattle.block_store.proofs.blocks.Blocks.get.Goals as goal
 pub returns-in-Some : goal.returns-in-Some
 returns-in-Some c =
     rw (← c.self.view_is)
-    (ap Some c.as_slice.ensures ∙ ap (option_map (λ k. k.bytes)) c.in-Some.ensures.value ∙ sym (block_shown c.args.hash.now c.self.inside.shelf.entries))
+    (ap (option_map (λ k. k.bytes)) c.in-Some.ensures.value ∙ sym (block_shown c.args.hash.now c.self.inside.shelf.entries))
 
 pub returns-in-None : goal.returns-in-None
 returns-in-None c =
