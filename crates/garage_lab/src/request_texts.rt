@@ -140,6 +140,42 @@ fn copy_of_an_absent_key(rt: HostRuntime) -> Result<(), Fail> {
     Ok(())
 }
 
+/// A get that read its object's row before a delete, and its block after it; then the deleted reference is queued.
+const GET_BESIDE_A_DELETE: &[u8] =
+    b"trio\nbucket pics\nput 1 pics a 3072 0\ndrain 100\nget 1 pics a\ndrain 3\ndelete 2 pics a\ndrain 30\nwork 1\ndrain 100\n";
+
+/// What the transcript has of it, in this order. The MD5 is of the object's 3,072 bytes.
+const OUTLIVED_PARTS: [&[u8]; 6] = [
+    b"8 drain ok\n",
+    b"got 56\ndone 3 delete 2/3\n",
+    b"got 58\ndone 2 get 1/1 3072 9fbab1246f634b8947f77fcc0f880856\n",
+    b"9 work ok 1 0\nsent 61 store 1 1\nsent 62 store 1 2\nsent 63 store 1 3\n10 drain ok\n",
+    b"node 1 rows 3 blocks 1 top ",
+    b"node 3 rows 3 blocks 1 top ",
+];
+
+/// Where a text goes on after the first place of a part.
+fn past<'a>(text: &'a [u8], part: &[u8]) -> Option<&'a [u8]> {
+    let start = text.windows(part.len()).position(|it| it == part)?;
+    text.get(start + part.len()..)
+}
+
+/// A get that has found its version is answered with the bytes, although a delete is acknowledged before it ends, and each
+/// node keeps the block as long as its reference is live.
+#[test]
+fn get_outlives_delete(rt: HostRuntime) -> Result<(), Fail> {
+    let (status, text) = played(rt.alloc(), &["replay"], GET_BESIDE_A_DELETE, &[], &[])?;
+    assert_eq!(rt; status, Status::Done);
+    let mut rest = text.as_slice();
+    for part in OUTLIVED_PARTS {
+        let Some(later) = past(rest, part) else {
+            return Err(Fail::new("a part that is missing"));
+        };
+        rest = later;
+    }
+    Ok(())
+}
+
 /// The get of an object that was deleted and cleaned up meanwhile is superseded, and counts for nothing in the check.
 #[test]
 fn get_is_superseded(rt: HostRuntime) -> Result<(), Fail> {

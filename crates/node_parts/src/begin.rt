@@ -13,7 +13,7 @@ ghost use Rattle.node_parts.specs.Begins.{Begins, CannotBegin, Stores, StoresAll
 
 use crate::call::Present;
 use crate::packet::Envelope;
-use crate::posts::{share_block, send_each};
+use crate::posts::{send_each, share_block};
 use crate::sets::{nodes_of, stored_sets};
 use blake2_hash::Hash32;
 use block_bytes::Block;

@@ -1,5 +1,5 @@
 -- The events of a schedule as acts, and the run of a list of turns.
-use Rattle.std.specs.Prelude.{ℕ, zero, suc, ⊤, ◌%◌, None, List, [], ◌∷◌, map}
+use Rattle.std.specs.Prelude.{ℕ, zero, suc, ◌%◌, None, List, [], ◌∷◌, map}
 use Rattle.cluster_machine.specs.declared.step.Step.TheVariants as step
 use Rattle.cluster_machine.specs.Choices.{Decision}
 use Rattle.flow_model.specs.declared.order.Order.TheVariants as order
