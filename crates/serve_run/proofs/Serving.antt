@@ -23,7 +23,7 @@ use Rattle.serve_cluster.specs.Standing.{StandsFor}
 use Rattle.serve_run.specs.Start.{opening, opened, IsOf}
 use Rattle.serve_run.specs.Served.{nodes_of, begun, state_after, tail, tail_of, serving, told, AreInOrder, HasServed, HasBrokenOff}
 use Rattle.serve_run.specs.Stop.{stop_of_serving}
-use Rattle.serve_run.specs.Answer.{HasStopped, HowServed}
+use Rattle.serve_run.specs.Answer.{HasStopped, HowServed, for_order}
 use Rattle.serve_run.proofs.Requests.{run_is, all_kept}
 
 -- connections were served, and the code's cluster stands for one with the state after the orders
@@ -139,7 +139,7 @@ module _ (keeps : EveryRunKeepsPromises) (g : Grammar) (p : Plan) (first : Layou
         HasStopped g p (told times times' coming coming' past past') (stop_of_serving stop)
     has_stopped ended.Link goes served = left_early times coming (goes (begun p first) stands) served
     has_stopped (ended.Fault fault.Kept) goes served = broken_off fault.Kept times coming served
-    has_stopped (ended.Fault fault.Number) goes served = tt
+    has_stopped (ended.Fault fault.Number) goes served = for_order (broken_off fault.Number times coming served) (goes (begun p first) stands)
     has_stopped (ended.Fault fault.Memory) goes served = tt
 
     pub how_stopped : (count : ℕ) (r : Result (List ℕ) Stop) (stop : ServeStop) → IsErrAnd r (λ e. e ≡ stop_of_serving stop) → Leaves cluster fits lacks holds0 holds (Err stop) →
