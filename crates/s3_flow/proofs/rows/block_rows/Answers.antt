@@ -1,4 +1,3 @@
-use Rattle.std.proofs.Common.{refl}
 use Rattle.s3_flow.proofs.ObjectRows.{the_block_rows}
 use Rattle.s3_flow.proofs.rows.block_rows.Goals as goal
 
