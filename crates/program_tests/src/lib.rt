@@ -3,6 +3,8 @@
 #![tactic(auto)]
 
 #[cfg(test)]
+mod lent;
+#[cfg(test)]
 mod links;
 #[cfg(test)]
 mod recorder;
