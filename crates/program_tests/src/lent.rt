@@ -31,7 +31,10 @@ fn lent(alloc: Global) -> Result<Cluster, Fail>
 {
     let mut world = S3World::new(alloc)?;
     play(&mut world, &Event::Trio)?;
-    play(&mut world, &Event::Bucket(Bytes::from_slice(alloc, b"pics")?))?;
+    play(
+        &mut world,
+        &Event::Bucket(Bytes::from_slice(alloc, b"pics")?),
+    )?;
     let put = Event::Put {
         node: 1,
         bucket: Bytes::from_slice(alloc, b"pics")?,

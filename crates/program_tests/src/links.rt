@@ -20,7 +20,7 @@ struct Ended {
 }
 
 /// A server of one connection of this port and link.
-fn ended<L: Link>(alloc: Global, port: u16, link: &mut L) -> Result<Ended, Fail>
+fn served_over<L: Link>(alloc: Global, port: u16, link: &mut L) -> Result<Ended, Fail>
     requires { L.present link.old ≡ None }
 {
     let words = words_of(alloc, port)?;
@@ -41,7 +41,7 @@ fn each_read_fails(rt: HostRuntime) -> Result<(), Fail> {
         let bytes = ONE_OBJECT.to_vec(rt.alloc())?;
         let pieces = PieceLink::new(bytes, 100, [k].to_vec(rt.alloc())?);
         let mut link = Recorder::new(rt.alloc(), pieces);
-        let end = ended(rt.alloc(), 3900, &mut link)?;
+        let end = served_over(rt.alloc(), 3900, &mut link)?;
         assert_eq!(rt; end.status, Status::Done, "at read {k}");
         assert!(rt; end.output.starts_with(b"p 0 255 1 2 3\nnode 1 rows "));
         assert!(rt; ONE_ANSWERS.starts_with(link.written()));
@@ -55,7 +55,7 @@ fn port_is_taken(rt: HostRuntime) -> Result<(), Fail> {
     let taken = TcpListener::bind(&rt, (Ipv4Addr::LOCALHOST, 0))?;
     let port = taken.local_addr()?.port();
     let mut link = TcpLink::new(rt.alloc(), &rt)?;
-    let end = ended(rt.alloc(), port, &mut link)?;
+    let end = served_over(rt.alloc(), port, &mut link)?;
     assert_eq!(rt; end.status, Status::LinkFault);
     assert_eq!(rt; end.output.as_slice(), b"".as_slice());
     Ok(())
@@ -72,7 +72,7 @@ fn a_client_over_loopback(rt: HostRuntime) -> Result<(), Fail> {
     assert!(&rt; link.open(port).is_ok());
     let mut client = TcpStream::connect(&rt, (Ipv4Addr::LOCALHOST, port))?;
     client.write_all(b"GET /pics/a HTTP/1.1\r\nConnection: close\r\n\r\n")?;
-    let end = ended(rt.alloc(), port, &mut link)?;
+    let end = served_over(rt.alloc(), port, &mut link)?;
     assert_eq!(rt; end.status, Status::Done);
     assert!(&rt; end.output.ends_with(b"\nend 1 1 6\n"));
     let mut answer = Vec::new(rt.alloc());
