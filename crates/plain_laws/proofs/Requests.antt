@@ -10,6 +10,7 @@ use Rattle.crdt_rows.specs.declared.any_row.AnyRow.{AnyRow}
 use Rattle.crdt_rows.specs.AnyRow.{any_join}
 use Rattle.object_schema.specs.Schema.{words}
 use Rattle.object_schema.specs.Laws.{schema_laws}
+use Rattle.wire_messages.specs.declared.phase.Phase.{Phase}
 use Rattle.wire_messages.specs.declared.phase.PhaseEnd.{PhaseEnd}
 use Rattle.wire_messages.specs.declared.phase.PhaseEnd.TheVariants.{Row, Window, Kept, Block}
 use Rattle.cluster_machine.specs.declared.applied.Applied.{Applied}
@@ -21,7 +22,7 @@ use Rattle.cluster_machine.specs.Phases.{call_at, is_spelled, begins, slots_of}
 use Rattle.cluster_machine.specs.Blocks.{IsBeside, StepBringsBlocks, AllStocked}
 use Rattle.cluster_machine.specs.World.{Request, numbered}
 use Rattle.cluster_machine.specs.Step.{none_given, did, closing, shut, skewed, applied}
-use Rattle.cluster_machine.specs.Run.{IsLayout}
+use Rattle.cluster_machine.specs.Run.{IsLayout, IsStep}
 use Rattle.cluster_machine.specs.Trio.{trio, stage_trio}
 use Rattle.cluster_machine.proofs.Closing.{length_shut}
 use Rattle.block_laws.proofs.Steps.{next_world}
@@ -41,11 +42,13 @@ use Rattle.drained_laws.specs.Accounts.{IsAccounted, HasEnded}
 use Rattle.drained_laws.proofs.Waits.{sent_wait}
 use Rattle.drained_laws.proofs.Deliveries.{one_changes}
 use Rattle.store_laws.proofs.Places.{numbered_set_here}
-use Rattle.store_laws.proofs.Placing.{IsPlaced, one_is_step, asks_is_step}
+use Rattle.store_laws.proofs.Placing.{IsPlaced, one_is_step}
 use Rattle.crdt_core.specs.EntryLaws.{and_both}
 use Rattle.std.proofs.lemmas.List.Elements.{All-nil, All-cons}
+use Rattle.drained_laws.proofs.Beginning.{rows_of}
 use Rattle.drained_laws.proofs.Steps.{closing_leads, led_so, deliver_next, begun_some}
 use Rattle.plain_laws.proofs.Telling.{Ends, SameKind, WasEnded, GoesOn, told_next}
+use Rattle.plain_laws.proofs.Seeking.{Sought, IsIn, AsksFor, first_of, question_of, first_is_in, asks_each, asked_nodes, begin_asks, asks_no_rows, asks_no_blocks}
 use Rattle.plain_laws.proofs.Frames.{IsStill, delivery_still, close_is, none_open, begin_is, begun_so}
 
 -- the only open request is request q, of node n
@@ -56,30 +59,6 @@ pub record IsAlone (n q : ℕ) (w : World) : Type 0 where
 -- the request's phase has ended
 abbrev pub IsResting : Present AnyRow → Type 0
 IsResting p = p ≡ resting
-
--- it reads
-abbrev pub IsAsking : Present AnyRow → Type 0
-IsAsking (asking q as') = ⊤
-IsAsking _ = ⊥
-
-pub asking_stays : (p r : Present AnyRow) → SameKind p r → IsAsking p → IsAsking r
-asking_stays (asking q as') (asking r bs) same i = tt
-asking_stays (asking q as') resting same i = same
-asking_stays (asking q as') (scanning r bs) same i = same
-asking_stays (asking q as') (storing rs slots) same i = same
-asking_stays (asking q as') (fetching hash) same i = same
-asking_stays resting r same i = absurd i
-asking_stays (scanning q as') r same i = absurd i
-asking_stays (storing rs slots) r same i = absurd i
-asking_stays (fetching hash) r same i = absurd i
-
--- while a request reads its phase hasn't ended
-pub asking_open : (p : Present AnyRow) → IsAsking p → HasEnded p → ⊥
-asking_open (asking q as') i h = h
-asking_open resting i h = i
-asking_open (scanning q as') i h = i
-asking_open (storing rs slots) i h = i
-asking_open (fetching hash) i h = i
 
 -- it stores
 abbrev pub IsStoring : Present AnyRow → Type 0
@@ -312,10 +291,11 @@ module _ (l : Layout) (layout : IsLayout layouts 256 l) (before : State) (n q : 
           ends_so = ap (λ es. es ++ (q, end) ∷ []) a.ends_so;
         }
 
-    -- what the end leaves: messages on their way, accepted rows and outboxes
+    -- what the end leaves: messages on their way, accepted rows, blocks and outboxes
     pub record Left (u : State) : Type 0 where
       pub waits : waiting u.world ≡ waiting t.world
       pub accepted : (m : ℕ) → (u.world.nodes m).accepted ≡ (t.world.nodes m).accepted
+      pub blocks : (m : ℕ) → (u.world.nodes m).blocks ≡ (t.world.nodes m).blocks
       pub items : (m : ℕ) → (u.world.nodes m).items ≡ (t.world.nodes m).items
 
     pub finished_leaves : (end : FlowEnd) → Left (finishes t q asked end).state
@@ -326,6 +306,7 @@ module _ (l : Layout) (layout : IsLayout layouts 256 l) (before : State) (n q : 
         record {
           waits = ap (λ (v : World). waiting v) world_is ∙ (sent_wait w.messages [] w.marks a.is.marked ∙ append-nil (waiting w));
           accepted = λ m. ap (λ (v : World). (v.nodes m).accepted) world_is ∙ one_changes (λ m y. y.accepted ≡ (w.nodes m).accepted) n _ w.nodes refl (λ m other. refl) m;
+          blocks = λ m. ap (λ (v : World). (v.nodes m).blocks) world_is ∙ one_changes (λ m y. y.blocks ≡ (w.nodes m).blocks) n _ w.nodes refl (λ m other. refl) m;
           items = λ m. ap (λ (v : World). (v.nodes m).items) world_is ∙ one_changes (λ m y. y.items ≡ (w.nodes m).items) n _ w.nodes refl (λ m other. refl) m;
         }
 
@@ -385,32 +366,42 @@ module _ (l : Layout) (layout : IsLayout layouts 256 l) (before : State) (n q : 
       pub stores_waiting : waiting stored.world ≡ waiting t.world ++ begun_by.sends
       stores_waiting = ap (λ (e : Effect AnyRow). waiting (applied t.world e)) begins_so ∙ sent_wait t.world.messages begun_by.sends t.world.marks a.is.marked
 
-    -- it reads a row
-    module _ (name : Name) (draws : List Draw) (flow : Flow) where
-      abbrev reads_on : State
-      reads_on = (goes t q asked draws flow (asks_for name)).state
+    -- it asks for something
+    module _ (phase : Phase AnyRow) (sought : Sought AnyRow) (asks_so : AsksFor phase sought) (is_step : IsStep words 256 (phases q phase).step) (draws : List Draw) (flow : Flow) where
+      abbrev seeks_on : State
+      seeks_on = (goes t q asked draws flow phase).state
 
-      abbrev pub read_by : Effect AnyRow
-      read_by = did t.world n (begins words layouts t.world.kept (t.world.nodes n) a.call (asks_for name))
+      abbrev began_by : Effect AnyRow
+      began_by = did t.world n (begins words layouts t.world.kept (t.world.nodes n) a.call phase)
 
-      reads_so : effect t (phases q (asks_for name)) ≡ read_by
-      reads_so = begin_is Applied Cut any_join words layouts trio stage_trio t.world n q a.call a.there (asks_for name) (none_given VersionLimit) a.alone.request
+      abbrev asked_set : List ℕ
+      asked_set = asked_nodes layouts (t.world.nodes n) phase
 
-      pub reads_world : reads_on.world ≡ applied t.world read_by
-      reads_world = ap (applied t.world) reads_so
+      abbrev pub asked_by : Effect AnyRow
+      asked_by = did t.world n (asks_each (t.world.nodes n) a.call (first_of phase t.world.kept asked_set) asked_set (question_of phase a.call.request (suc a.call.phases) (read_version layouts.reading (t.world.nodes n).view)))
 
-      pub reads_next : Open sent (record asked { flow = Some flow }) IsAsking reads_on
-      reads_next =
+      asked_is : began_by ≡ asked_by
+      asked_is = ap (did t.world n) (begin_asks words layouts t.world.kept (t.world.nodes n) a.call phase sought asks_so)
+
+      began_so : effect t (phases q phase) ≡ began_by
+      began_so = begin_is Applied Cut any_join words layouts trio stage_trio t.world n q a.call a.there phase (none_given VersionLimit) a.alone.request
+
+      seeks_so : effect t (phases q phase) ≡ asked_by
+      seeks_so = began_so ∙ asked_is
+
+      pub seeks_world : seeks_on.world ≡ applied t.world asked_by
+      seeks_world = ap (applied t.world) seeks_so
+
+      pub seeks_next : Open sent (record asked { flow = Some flow }) (IsIn sought) seeks_on
+      seeks_next =
           let w = t.world in
-          let position = digest_of name.bucket in
-          let set = set_at layouts (w.nodes n).view (read_version layouts.reading (w.nodes n).view) (partition_at position.0) in
-          let led = led_so schema_laws layouts l layout base Applied Cut w a.is [] read_by
-          (begun_some schema_laws layouts l layout base Applied Cut w a.is n q (asks_for name) a.call a.there (asks_is_step q name) trio stage_trio refl) in
-          let so : SoFar sent (doing t (phases q (asks_for name))).world = subst (SoFar sent) (sym reads_world) (led.0, led.1 ∙ a.sent_so) in
-          let b = begun_so Applied Cut any_join words layouts trio stage_trio w n q a.call a.there (suc a.call.phases) (asking (record { table = 1; position = position.0; key = row_key name; set = set; kept = w.kept }) []) in
-          let f = frame_next t (phases q (asks_for name)) a.frame (ap (λ (e : Effect AnyRow). e.passes) reads_so) (ap (λ (e : Effect AnyRow). e.skews) reads_so)
-          (ap (λ (e : Effect AnyRow). length (shut w.requests e.closes ++ e.opens)) reads_so ∙ ap (λ (rs : List Request). length rs) (append-nil w.requests)) tt
-          (ap (λ (e : Effect AnyRow). e.is_spelled) reads_so)
+          let led = led_so schema_laws layouts l layout base Applied Cut w a.is (rows_of phase) began_by
+          (begun_some schema_laws layouts l layout base Applied Cut w a.is n q phase a.call a.there is_step trio stage_trio (ap (λ (e : Effect AnyRow). e.is_spelled) asked_is)) in
+          let so : SoFar sent (doing t (phases q phase)).world = subst (SoFar sent) (sym (ap (applied w) began_so)) (led.0, led.1 ∙ (ap (λ rs. rs ++ a.is.account.sent) (asks_no_rows phase sought asks_so) ∙ a.sent_so)) in
+          let b = begun_so Applied Cut any_join words layouts trio stage_trio w n q a.call a.there (suc a.call.phases) (first_of phase w.kept asked_set) in
+          let f = frame_next t (phases q phase) a.frame (ap (λ (e : Effect AnyRow). e.passes) seeks_so) (ap (λ (e : Effect AnyRow). e.skews) seeks_so)
+          (ap (λ (e : Effect AnyRow). length (shut w.requests e.closes ++ e.opens)) seeks_so ∙ ap (λ (rs : List Request). length rs) (append-nil w.requests)) (asks_no_blocks (blake2b 32) words phase sought asks_so)
+          (ap (λ (e : Effect AnyRow). e.is_spelled) seeks_so)
           in
           record {
             frame = record {
@@ -424,10 +415,10 @@ module _ (l : Layout) (layout : IsLayout layouts 256 l) (before : State) (n q : 
             };
             is = so.0;
             sent_so = so.1;
-            alone = subst (IsAlone n q) (sym reads_world) (record { alone = λ m r c h. (let d = b.back m r c h in a.alone.alone m r d.0 d.1); request = ap (λ rs. numbered rs q) (append-nil w.requests) ∙ a.alone.request });
+            alone = subst (IsAlone n q) (sym seeks_world) (record { alone = λ m r c h. (let d = b.back m r c h in a.alone.alone m r d.0 d.1); request = ap (λ rs. numbered rs q) (append-nil w.requests) ∙ a.alone.request });
             call = b.call;
-            there = ap (λ (x : World). call_at (x.nodes n).calls q) reads_world ∙ b.there;
-            kind = subst IsAsking (sym b.present) tt;
+            there = ap (λ (x : World). call_at (x.nodes n).calls q) seeks_world ∙ b.there;
+            kind = subst (IsIn sought) (sym b.present) (first_is_in phase sought asks_so w.kept asked_set);
             asked_is = numbered_set_here t.asked q (record asked { flow = Some flow }) asked a.asked_is;
             ends_so = a.ends_so;
           }
