@@ -1,5 +1,5 @@
 -- The rows of a partition by the keys that the index has of it.
-use Rattle.std.specs.Prelude.{◌≡◌, ℕ, ◌==◌, Bool, true, false, cond, not, ◌&&◌, ◌||◌, List, [], ◌∷◌, Option, Some, None, Vec, filter, filter_map, is_some, is_none, refl}
+use Rattle.std.specs.Prelude.{◌≡◌, ℕ, ◌==◌, Bool, true, false, cond, not, ◌&&◌, ◌||◌, List, [], ◌∷◌, Option, Some, None, Result, Ok, Err, OnOk, OnErr, Vec, filter, filter_map, is_some, is_none, refl}
 use Rattle.std.proofs.Common.{ap, sym, ◌∙◌, subst}
 use Rattle.std.proofs.lemmas.Bool.{eqb-true, eqb-false, and_parts}
 use Rattle.std.specs.List.{AllByRecursion, list_all, cons_option}
@@ -171,6 +171,12 @@ module _ {R Z : Type 0} where
     indexed_put k v (e ∷ es) has all =
         let both = and_parts (is_indexed index e) (list_all (is_indexed index) es) all in
         put_by k v e es has both.0 both.1 (indexed_put k v es has both.1) (vec_cmp k e.0) refl
+
+    -- whether or not there was room to put it
+    pub indexed_put_or_not : {A E : Type 0} (r : Result A E) (k : Vec ℕ Z) (v : Placed R) (es new : List (Vec ℕ Z × Placed R)) → OnOk r (new ≡ insert_entry vec_cmp es k v) → OnErr r (new ≡ es) →
+        has_key k.items (keys_under index v.partition) ≡ true → list_all (is_indexed index) es ≡ true → list_all (is_indexed index) new ≡ true
+    indexed_put_or_not (Ok x) k v es new put stays has all = ap (list_all (is_indexed index)) put ∙ indexed_put k v es has all
+    indexed_put_or_not (Err e) k v es new put stays has all = ap (list_all (is_indexed index)) stays ∙ all
 
     found_by : (key : List ℕ) (found : Placed R) (e : Vec ℕ Z × Placed R) (es : List (Vec ℕ Z × Placed R)) → is_indexed index e ≡ true → (placed_at key es ≡ Some found → has_key key (keys_under index found.partition) ≡ true) →
         (b : Bool) → is_eq (slice_cmp nat_cmp key e.0.items) ≡ b → cond b (Some e.1) (placed_at key es) ≡ Some found → has_key key (keys_under index found.partition) ≡ true

@@ -6,8 +6,8 @@ use Rattle.table_store.proofs.Keys.{keys_or_none, removed_others}
 use Rattle.table_store.proofs.Partitions.{are_there, all_out, kept_others, indexed_without}
 use Rattle.table_store.proofs.shelf.drop_rows.Goals as goal
 
-pub invariant_of-shelf : goal.invariant_of-shelf
-invariant_of-shelf g c =
+pub invariant_of-shelf-in-Some : goal.invariant_of-shelf-in-Some
+invariant_of-shelf-in-Some g c =
     let p = c.args.p in
     let index = c.args.shelf.now.index in
     let entries = c.args.shelf.now.rows.entries in

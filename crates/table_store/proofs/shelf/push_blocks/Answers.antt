@@ -14,8 +14,8 @@ returns-in-None-clause-hashes g c =
     let none = none_in p entries (are_there c.args.shelf.now.index p [] entries (ap keys_or_none (sym c.in-None.ensures.value)) c.args.shelf.now.indexed) in
     sym (append-nil told) ∙ ap (λ es. told ++ live_blocks g.S.Schema.words (shelf_rows es)) (sym none)
 
-pub returns-in-Some-clause-hashes : goal.returns-in-Some-clause-hashes
-returns-in-Some-clause-hashes g c =
+pub returns-in-None-key-clause-hashes : goal.returns-in-None-key-clause-hashes
+returns-in-None-key-clause-hashes g c =
     let p = c.args.p in
     let entries = c.args.shelf.now.rows.entries in
     let given = c.into_iter-key-iterator.ensures.into_iter_gives in
@@ -24,6 +24,6 @@ returns-in-Some-clause-hashes g c =
     let there = are_there c.args.shelf.now.index p keys entries (ap keys_or_none (sym c.in-Some.ensures.value)) c.args.shelf.now.indexed in
     let all = ap (λ ks. walked p ks entries) given.0 ∙ walk_is p keys entries c.are_in_order.ensures given.4 there in
     sym (append-nil told)
-    ∙ (ap (λ ks. told ++ live_blocks g.S.Schema.words (walked p ks entries)) (sym c.in-None.ensures.steps.0)
+    ∙ (ap (λ ks. told ++ live_blocks g.S.Schema.words (walked p ks entries)) (sym c.in-None-key.ensures.steps.0)
     ∙ (c.loop-key.invariant
     ∙ ap (λ rows. map (λ hash. hash.0) c.args.hashes.now.items ++ live_blocks g.S.Schema.words rows) all))
