@@ -1,5 +1,5 @@
 -- The rows of a partition by the keys that the index has of it.
-use Rattle.std.specs.Prelude.{◌≡◌, ℕ, ◌==◌, Bool, true, false, cond, not, ◌&&◌, ◌||◌, List, [], ◌∷◌, Option, Some, None, Result, Ok, Err, OnOk, OnErr, Vec, filter, filter_map, is_some, is_none, refl}
+use Rattle.std.specs.Prelude.{◌≡◌, ℕ, Bool, true, false, cond, not, ◌&&◌, ◌||◌, List, [], ◌∷◌, Option, Some, None, Result, Ok, Err, OnOk, OnErr, Vec, filter, filter_map, is_some, is_none, refl}
 use Rattle.std.proofs.Common.{ap, sym, ◌∙◌, subst}
 use Rattle.std.proofs.lemmas.Bool.{eqb-true, eqb-false, and_parts}
 use Rattle.std.specs.List.{AllByRecursion, list_all, cons_option}
@@ -70,7 +70,7 @@ module _ {R Z : Type 0} where
       ((λ h. sym (ap (λ o. is_eq o || has_key e.0.items keys) apart) ∙ there.0 h), there_past p k keys es all.1 there.1)
 
   module _ (p : ℕ) (e : Vec ℕ Z × Placed R) (es : List (Vec ℕ Z × Placed R)) (sorted : IsStrictlySortedBy vec_cmp (keys_of (e ∷ es)))
-    (later : (keys : List (Vec ℕ Z)) → IsStrictlySortedBy vec_cmp keys → AreThere p keys es → walked p keys es ≡ shelf_rows (filter (in_partition p) es)) where
+      (later : (keys : List (Vec ℕ Z)) → IsStrictlySortedBy vec_cmp keys → AreThere p keys es → walked p keys es ≡ shelf_rows (filter (in_partition p) es)) where
     outside_by : (keys : List (Vec ℕ Z)) (rows : List R) → rows ≡ shelf_rows (filter (in_partition p) es) → (in_partition p e ≡ true → has_key e.0.items keys ≡ true) → has_key e.0.items keys ≡ false →
         (b : Bool) → in_partition p e ≡ b → rows ≡ shelf_rows (cond b (e ∷ filter (in_partition p) es) (filter (in_partition p) es))
     outside_by keys rows is there not-there true h = let wrong : true ≡ false = sym (there h) ∙ not-there in cc

@@ -237,11 +237,7 @@ pub fn drop_rows<R: Drop>(shelf: &mut Shelf<R>, p: u8)
 }
 
 // Drops the rows at these keys that are in this partition.
-fn drop_keys<R: Drop>(
-    rows: &mut BTreeMap<Vec<u8>, Placed<R>>,
-    p: u8,
-    keys: &BTreeSet<Vec<u8>>,
-)
+fn drop_keys<R: Drop>(rows: &mut BTreeMap<Vec<u8>, Placed<R>>, p: u8, keys: &BTreeSet<Vec<u8>>)
     ensures { rows.new.entries ≡ filter (λ e. not (in_partition p e && has_key e.0.items keys.now.keys)) rows.old.entries }
 {
     for key in keys {

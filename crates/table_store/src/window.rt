@@ -25,7 +25,12 @@ pub fn rows_past<R: Crdt>(
     ensures want { OnlyWant result }
 {
     let start = start_of(alloc, prefix, after)?;
-    first_rows(alloc, shelf.rows.range((start, Bound::Unbounded)), prefix, limit)
+    first_rows(
+        alloc,
+        shelf.rows.range((start, Bound::Unbounded)),
+        prefix,
+        limit,
+    )
 }
 
 // Where keys begin that are greater than `after` and may have the prefix.

@@ -1,6 +1,6 @@
 use Rattle.std.specs.Prelude.{is_some}
-use Rattle.std.proofs.Common.{rules, ◌≡◌, sym, ap, ◌∙◌, true}
-use Rattle.table_store.specs.Index.{has_key, keys_under}
+use Rattle.std.proofs.Common.{sym, ap, ◌∙◌}
+use Rattle.table_store.specs.Index.{has_key}
 use Rattle.table_store.proofs.Keys.{keys_or_none, put_more, added_more}
 use Rattle.table_store.proofs.index.add_key.Goals as goal
 

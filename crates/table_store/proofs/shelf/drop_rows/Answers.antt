@@ -1,7 +1,7 @@
-use Rattle.std.specs.Prelude.{[], filter, not}
+use Rattle.std.specs.Prelude.{[]}
 use Rattle.std.proofs.Common.{ap, sym, ◌∙◌}
 use Rattle.std.specs.List.{list_all}
-use Rattle.table_store.specs.Shelf.{in_partition, is_indexed}
+use Rattle.table_store.specs.Shelf.{is_indexed}
 use Rattle.table_store.proofs.Keys.{keys_or_none, removed_others}
 use Rattle.table_store.proofs.Partitions.{are_there, all_out, kept_others, indexed_without}
 use Rattle.table_store.proofs.shelf.drop_rows.Goals as goal

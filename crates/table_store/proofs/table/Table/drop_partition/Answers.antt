@@ -1,4 +1,4 @@
-use Rattle.std.specs.Prelude.{◌≡◌, ◌++◌, filter, map, not}
+use Rattle.std.specs.Prelude.{◌++◌, filter, map}
 use Rattle.std.proofs.Common.{ap, ◌∙◌}
 use Rattle.table_model.specs.Rows.{rows_in, without, live_blocks}
 use Rattle.table_store.specs.Shelf.{shelf_rows, in_partition}

@@ -1,4 +1,4 @@
-use Rattle.std.specs.Prelude.{◌≡◌, ◌++◌, filter}
+use Rattle.std.specs.Prelude.{◌++◌, filter}
 use Rattle.std.proofs.Common.{ap, sym, ◌∙◌, append_assoc}
 use Rattle.table_model.specs.Rows.{rows_in}
 use Rattle.table_store.specs.Shelf.{shelf_rows, in_partition}
