@@ -1,5 +1,6 @@
 //! A block store with ample memory.
 use blake2_hash::Hash32;
+use block_bytes::Block;
 use block_store::{BlockFault, Blocks, calls_by_hash};
 use crdt_core::{Bytes, Memory};
 use std::alloc::Global;
@@ -19,10 +20,15 @@ enum Call {
     Delete,
 }
 
+// The block `abc`.
+fn block(alloc: Global) -> Result<Block, Memory> {
+    Block::new(alloc, Bytes::from_slice(alloc, b"abc")?)
+}
+
 // Whether a call on the block `abc` is refused, and for how many references.
 fn called(alloc: Global, blocks: &mut Blocks, call: Call) -> Result<Option<u64>, Memory> {
     match call {
-        Call::Put => match blocks.put(&ABC, Bytes::from_slice(alloc, b"abc")?) {
+        Call::Put => match blocks.put(&ABC, block(alloc)?) {
             Ok(()) => Ok(None),
             Err(_) => Err(Memory::Want),
         },
@@ -92,7 +98,7 @@ fn block_counts(rt: HostRuntime) -> Result<(), Fail> {
 // What a put of `abc` under another name answers, and how many blocks there are then.
 fn misnamed(alloc: Global, named: &Hash32) -> Result<(Option<BlockFault>, usize), Memory> {
     let mut blocks = Blocks::new(alloc);
-    let fault = blocks.put(named, Bytes::from_slice(alloc, b"abc")?).err();
+    let fault = blocks.put(named, block(alloc)?).err();
     Ok((fault, blocks.len()))
 }
 

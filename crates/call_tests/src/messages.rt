@@ -1,5 +1,6 @@
 //! The sizes of messages, counted by hand: 64, and what is carried. A reference row has 42 bytes.
 use blake2_hash::Hash32;
+use block_bytes::Block;
 use crdt_core::{Bool, Bytes, List, Memory};
 use crdt_rows::{AnyRow, RefRow};
 use object_schema::S3Schema;
@@ -31,7 +32,7 @@ fn rows(alloc: Global) -> Result<Message<AnyRow>, Memory> {
 fn store(alloc: Global) -> Result<Message<AnyRow>, Memory> {
     let mut rows = List::new(alloc);
     rows.push((Bytes::from_slice(alloc, b"12345")?, None))?;
-    let block = Bytes::from_slice(alloc, b"seven..")?;
+    let block = Block::new(alloc, Bytes::from_slice(alloc, b"seven..")?)?;
     rows.push((Bytes::from_slice(alloc, b"123456")?, Some(block)))?;
     Ok(Message::Store {
         tag: Tag::Item { number: 1 },

@@ -1,5 +1,6 @@
 //! An outbox with ample memory, and blocks that may go.
 use blake2_hash::{Hash32, blake2b_256};
+use block_bytes::Block;
 use block_resync::Resync;
 use block_store::Blocks;
 use crdt_core::{Bytes, Memory};
@@ -36,7 +37,8 @@ fn an_item_leaves_once_two_of_each_set_have_confirmed(rt: HostRuntime) -> Result
 // A store with a block that was in use until 1,000 ms.
 fn idle_block(alloc: Global, hash: &Hash32) -> Result<Blocks, Fail> {
     let mut blocks = Blocks::new(alloc);
-    blocks.put(hash, Bytes::from_slice(alloc, b"abc")?)?;
+    let block = Block::new(alloc, Bytes::from_slice(alloc, b"abc")?)?;
+    blocks.put(hash, block)?;
     if blocks.get(hash).is_none() || blocks.count(hash) > 9 {
         return Err("no block".into());
     }

@@ -10,6 +10,7 @@ ghost use Rattle.object_schema.specs.Schema.{words};
 ghost use Rattle.node_parts.specs.Posts.{told};
 
 use blake2_hash::{Hash32, blake2b_256};
+use block_bytes::Block;
 use cluster_machine::{Action, LocalEnd};
 use crdt_core::{Bool, Bytes, List, Memory};
 use crdt_rows::{AnyRow, Body, ObjectRow, RefRow, State, Version};
@@ -95,7 +96,7 @@ fn reference(is_deleted: bool) -> AnyRow {
     })
 }
 
-fn store(alloc: Global, row: AnyRow, block: Option<Bytes>) -> Result<Phase<AnyRow>, Memory>
+fn store(alloc: Global, row: AnyRow, block: Option<Block>) -> Result<Phase<AnyRow>, Memory>
     ensures short { IfOk result IsShort }
 {
     let mut rows = List::new(alloc);
@@ -126,17 +127,17 @@ fn scan(alloc: Global) -> Phase<AnyRow>
 }
 
 // The block is the one that is needed, or none is there where none is needed.
-fn is_beside(needed: &Option<Hash32>, given: &Option<Bytes>) -> bool
+fn is_beside(needed: &Option<Hash32>, given: &Option<Block>) -> bool
     ensures { IsTrue result → IsBeside (blake2b 32) (option_map (λ hash. hash.0) needed.now) given.now }
 {
     match (needed, given) {
         (None, None) => true,
-        (Some(hash), Some(bytes)) => blake2b_256(bytes.as_slice()) == *hash,
+        (Some(hash), Some(block)) => *block.hash() == *hash,
         _ => false,
     }
 }
 
-fn comes_with_block(alloc: Global, stored: &(Bytes, Option<Bytes>)) -> Result<bool, Memory>
+fn comes_with_block(alloc: Global, stored: &(Bytes, Option<Block>)) -> Result<bool, Memory>
     ensures { IfOk result (λ is. IsTrue is → IsRowWithBlock (blake2b 32) words stored.now) }
 {
     match S3Schema::row_from(alloc, stored.0.as_slice()) {
@@ -146,7 +147,7 @@ fn comes_with_block(alloc: Global, stored: &(Bytes, Option<Bytes>)) -> Result<bo
     }
 }
 
-fn come_with_blocks(alloc: Global, rows: &[(Bytes, Option<Bytes>)]) -> Result<bool, Memory>
+fn come_with_blocks(alloc: Global, rows: &[(Bytes, Option<Block>)]) -> Result<bool, Memory>
     ensures { IfOk result (λ are. IsTrue are → AllByRecursion (IsRowWithBlock (blake2b 32) words) rows.now) }
 {
     for stored in rows {
@@ -265,12 +266,12 @@ impl Cluster {
 
     // Node 1 stores the reference with its block.
     fn put_block(&mut self) -> Result<(), Fail> {
-        let block = Bytes::from_slice(self.alloc, BLOCK)?;
+        let block = Block::new(self.alloc, Bytes::from_slice(self.alloc, BLOCK)?)?;
         self.store(reference(false), Some(block))
     }
 
     // Node 1 stores a row.
-    fn store(&mut self, row: AnyRow, block: Option<Bytes>) -> Result<(), Fail> {
+    fn store(&mut self, row: AnyRow, block: Option<Block>) -> Result<(), Fail> {
         let mut out = Vec::new(self.alloc);
         if self.first.open(1).is_err() {
             return Err("not open".into());
@@ -359,10 +360,10 @@ fn a_block_is_kept_and_read_while_its_reference_is_live(rt: HostRuntime) -> Resu
     let mut out = Vec::new(alloc);
     let hash = blake2b_256(BLOCK);
     cluster.second.phase(2, Phase::Block { hash }, &mut out)?;
-    let Some(PhaseEnd::Block(bytes)) = cluster.deliver(out)? else {
+    let Some(PhaseEnd::Block(block)) = cluster.deliver(out)? else {
         return Err("no block".into());
     };
-    assert_eq!(rt; bytes.as_slice(), BLOCK);
+    assert_eq!(rt; block.as_slice(), BLOCK);
     let mut out = Vec::new(alloc);
     cluster
         .second
