@@ -10,7 +10,7 @@ use Rattle.layout_roles.specs.declared.layout.Layout.{Layout}
 use Rattle.view_model.specs.Layouts.{reading}
 use Rattle.view_model.specs.View.{newest}
 use Rattle.table_schema.specs.Words.{Words}
-use Rattle.table_store.proofs.Tables.{ne_cmp}
+use Rattle.table_store.proofs.Keys.{ne_cmp}
 use Rattle.wire_messages.specs.declared.phase.PhaseEnd.{PhaseEnd}
 use Rattle.cluster_machine.specs.declared.step.LocalEnd.{LocalEnd}
 use Rattle.cluster_machine.specs.Node.{Node as Model, Did, new_node}
