@@ -1,5 +1,5 @@
 -- A state that holds a map, and steps that change none of it.
-use Rattle.std.proofs.Common.{◌≡◌, ◌≤◌, ◌<◌, ℕ, None, List, ◌++◌, length, sym, ap, ◌∙◌, subst, arith}
+use Rattle.std.proofs.Common.{◌≡◌, ◌≤◌, ◌<◌, ℕ, Some, None, List, ◌++◌, length, refl, sym, ap, ◌∙◌, subst, arith}
 use Rattle.std.specs.Prelude.{IsTrue}
 use Rattle.std.specs.List.{Contains}
 use Rattle.blake2_hash.specs.Blake2b.{blake2b}
@@ -12,10 +12,11 @@ use Rattle.table_model.specs.Rows.{AllProper, row_at, rows, rows_in}
 use Rattle.quorum_model.specs.Quorum.{is_among}
 use Rattle.cluster_machine.specs.Layouts.{layouts}
 use Rattle.cluster_machine.specs.Blocks.{AllStocked}
+use Rattle.cluster_machine.specs.Rows.{block_at}
 use Rattle.cluster_machine.specs.Run.{IsLayout}
 use Rattle.flow_model.specs.declared.flow.Name.{Name}
-use Rattle.flow_model.specs.Blocks.{piece_hash}
-use Rattle.flow_model.specs.Rows.{row_key}
+use Rattle.flow_model.specs.Blocks.{piece, piece_hash}
+use Rattle.flow_model.specs.Rows.{row_key, reference_row}
 use Rattle.flow_model.specs.Says.{named_by}
 use Rattle.row_codec.specs.Spelling.{eight}
 use Rattle.store_model.specs.Run.{World, State}
@@ -85,23 +86,30 @@ equal_moved l a b same equal = record {
   nobody = λ p n low other. ap (λ rs. rows_in words p (rows any_join words rs)) (same n) ∙ equal.nobody p n low other;
 }
 
--- blocks stay where the rows of the later tables stay
-pub blocks_moved : (l : Layout) (w v : World) → ((n table : ℕ) (key : List ℕ) → 2 ≤ table → row_at any_join words (v.nodes n).accepted table key ≡ row_at any_join words (w.nodes n).accepted table key) → (has : Has) → HasItsBlocks l w has → HasItsBlocks l v has
-blocks_moved l w v same never h = h
-blocks_moved l w v same (deleted version) h = h
-blocks_moved l w v same (object version block c) h = λ long.
+-- a block that some row needs stays
+abbrev pub KeepsBlocks : World → World → Type 0
+KeepsBlocks w v = (n : ℕ) (key : List ℕ) (row : AnyRow) (hash given : List ℕ) → row_at any_join words (w.nodes n).accepted 3 key ≡ Some row → words.live_block row ≡ Some hash → block_at (w.nodes n).blocks hash ≡ Some given → block_at (v.nodes n).blocks hash ≡ Some given
+
+-- a version's blocks stay where the rows of the later tables stay, and the blocks that they need
+pub blocks_moved : (l : Layout) (w v : World) → KeepsBlocks w v → ((n table : ℕ) (key : List ℕ) → 2 ≤ table → row_at any_join words (v.nodes n).accepted table key ≡ row_at any_join words (w.nodes n).accepted table key) → (has : Has) → HasItsBlocks l w has → HasItsBlocks l v has
+blocks_moved l w v keeps same never h = h
+blocks_moved l w v keeps same (deleted version) h = h
+blocks_moved l w v keeps same (object version block c) h = λ long.
     let b : HasBlocks l w version block c = h long in
     record {
       count = b.count;
+      pieces_there = b.pieces_there;
       no_more = b.no_more;
       named = λ n there. ap (λ o. named_by o (length c.body)) (same n 2 (eight version.id) (omega arith)) ∙ b.named n there;
       referenced = λ i n has there. same n 3 ((piece_hash block c.body i).0 ++ eight version.id) (omega arith) ∙ b.referenced i n has there;
+      kept = λ i n has there. keeps n ((piece_hash block c.body i).0 ++ eight version.id) (reference_row version.id block c.body i) (piece_hash block c.body i).0 (piece block c.body i) (b.referenced i n has there) refl (b.kept i n has there);
     }
 
 -- nothing goes on after a change either, and no row was accepted
 pub record IsAlike (l : Layout) (t u : State) : Type 0 where
   pub rest : IsAtRest layouts l u.world
   pub accepted : (n : ℕ) → (u.world.nodes n).accepted ≡ (t.world.nodes n).accepted
+  pub kept : KeepsBlocks t.world u.world
   pub skews : (n : ℕ) → u.world.skew_of n ≡ t.world.skew_of n
   pub stocked : AllStocked (blake2b 32) words any_join u.world
   pub buckets : u.buckets ≡ t.buckets
@@ -115,7 +123,7 @@ holds_on l P t u h a clock ticked asked time requests counted = record {
   equal = equal_moved l (accepted_in any_join words layouts l t.world) (accepted_in any_join words layouts l u.world) a.accepted h.equal;
   stocked = a.stocked;
   rows = λ name n known there. ap (λ rs. row_at any_join words rs 1 (row_key name)) (a.accepted n) ∙ h.rows name n known there;
-  blocks = λ name known. blocks_moved l t.world u.world (λ n table key later. ap (λ rs. row_at any_join words rs table key) (a.accepted n)) (has_at P name) (h.blocks name known);
+  blocks = λ name known. blocks_moved l t.world u.world a.kept (λ n table key later. ap (λ rs. row_at any_join words rs table key) (a.accepted n)) (has_at P name) (h.blocks name known);
   buckets = a.buckets ∙ h.buckets;
   block = a.block ∙ h.block;
   clock = time;

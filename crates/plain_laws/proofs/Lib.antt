@@ -15,9 +15,12 @@ pub mod Writes
 pub mod Entries
 pub mod Writing
 pub mod Seeking
+pub mod Fetching
 pub mod Windows
 pub mod Buckets
 pub mod Listing
+pub mod Getting
+pub mod Reading
 pub mod Copying
 pub mod Orders
 pub mod First

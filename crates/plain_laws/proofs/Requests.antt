@@ -363,8 +363,9 @@ module _ (l : Layout) (layout : IsLayout layouts 256 l) (before : State) (n q : 
       stores_items m =
           ap (λ (e : Effect AnyRow). ((applied t.world e).nodes m).items) begins_so ∙ one_changes (λ m y. y.items ≡ (t.world.nodes m).items) n _ t.world.nodes refl (λ m other. refl) m
 
-      pub stores_waiting : waiting stored.world ≡ waiting t.world ++ begun_by.sends
-      stores_waiting = ap (λ (e : Effect AnyRow). waiting (applied t.world e)) begins_so ∙ sent_wait t.world.messages begun_by.sends t.world.marks a.is.marked
+      pub stores_blocks : (m : ℕ) → (stored.world.nodes m).blocks ≡ (t.world.nodes m).blocks
+      stores_blocks m =
+          ap (λ (e : Effect AnyRow). ((applied t.world e).nodes m).blocks) begins_so ∙ one_changes (λ m y. y.blocks ≡ (t.world.nodes m).blocks) n _ t.world.nodes refl (λ m other. refl) m
 
     -- it asks for something
     module _ (phase : Phase AnyRow) (sought : Sought AnyRow) (asks_so : AsksFor phase sought) (is_step : IsStep words 256 (phases q phase).step) (draws : List Draw) (flow : Flow) where

@@ -21,7 +21,7 @@ use Rattle.cluster_machine.specs.declared.step.Step.TheVariants as step
 use Rattle.cluster_machine.specs.Layouts.{layouts, set_of}
 use Rattle.cluster_machine.specs.Node.{Packet, says, shows}
 use Rattle.cluster_machine.specs.Phases.{is_spelled}
-use Rattle.cluster_machine.specs.Rows.{called_for}
+use Rattle.cluster_machine.specs.Rows.{block_at, called_for}
 use Rattle.cluster_machine.specs.Receives.{receives, hears}
 use Rattle.cluster_machine.specs.World.{Sent, numbered, clock, undelivered}
 use Rattle.cluster_machine.specs.Worlds.{Done as Effect, FitAll}
@@ -47,9 +47,9 @@ use Rattle.drained_laws.proofs.Drained.{no_phase_when_drained}
 use Rattle.drained_laws.proofs.Weights.{first_fresh, none_waits}
 use Rattle.plain_laws.specs.Holds.{nodes_at}
 use Rattle.plain_laws.proofs.Frames.{begin_is}
-use Rattle.plain_laws.proofs.Accepted.{AllRow, over, has_either, stays_idle}
+use Rattle.plain_laws.proofs.Accepted.{AllRow, over, has_either, stays_idle, keeps_block}
 use Rattle.plain_laws.proofs.Seeking.{Sought, a_row}
-use Rattle.plain_laws.proofs.Requests.{IsResting, IsStoring, storing_stays, storing_open, storing_ends, base, Open, Done, moved, ends_of, delivered_open, delivered_done, finished, finished_leaves, stores_next, stores_items}
+use Rattle.plain_laws.proofs.Requests.{IsResting, IsStoring, storing_stays, storing_open, storing_ends, base, Open, Done, moved, ends_of, delivered_open, delivered_done, finished, finished_leaves, stores_next, stores_items, stores_blocks}
 use Rattle.plain_laws.proofs.Looks.{AllHad, asks, Asking, HasRead, reads_on, reads_out, sees, open_seen}
 
 module _ (l : Layout) (layout : IsLayout layouts 256 l) (before : State) (n q : ℕ) (kind : Kind) (object name : Name) (flow : Flow) (value : Option AnyRow)
@@ -140,17 +140,47 @@ module _ (l : Layout) (layout : IsLayout layouts 256 l) (before : State) (n q : 
         subst (λ (e : Effect AnyRow). Idle (applied w e)) (sym (ap (λ o. at_message w f o (numbered w.marks m)) x.1 ∙ ap (at_message w f (Some x.0)) c))
         (idle_packet idle m x.0.packet t.before t.after x.0.from x.0.to x.0.moment t.was)
 
+  -- ---- blocks stay
+
+  -- each block that was there is there
+  abbrev pub BlocksStay : World → Type 0
+  BlocksStay w = (m : ℕ) (hash given : List ℕ) → block_at (before.world.nodes m).blocks hash ≡ Some given → block_at (w.nodes m).blocks hash ≡ Some given
+
+  module _ (w : World) (is : IsAccounted words layouts l had w) (kept : BlocksStay w) where
+    kept_packet : (m : ℕ) (p : Packet AnyRow Layout) (first rest : List (Sent AnyRow Layout)) (from to moment : ℕ) → waiting w ≡ first ++ record { from = from; to = to; packet = p; moment = moment } ∷ rest →
+        (let e : Effect AnyRow = received m (did w to (receives any_join words layouts to (clock w to) (w.nodes to) from p)) in BlocksStay (applied w e))
+    kept_packet m (shows v) first rest from to moment was =
+        let u = subst (AllByRecursion (IsUsual words layouts l is.account.sent)) was is.sound.messages in
+        absurd (all_parts (IsUsual words layouts l is.account.sent) first (record { from = from; to = to; packet = shows v; moment = moment } ∷ rest) u).1.0.2
+    kept_packet m (says g) first rest from to moment was =
+        let usual = subst (AllByRecursion (IsUsual words layouts l is.account.sent)) was is.sound.messages in
+        let u = (all_parts (IsUsual words layouts l is.account.sent) first (record { from = from; to = to; packet = says g; moment = moment } ∷ rest) usual).1.0 in
+        let d = hears any_join words layouts to (clock w to) (w.nodes to) from g in
+        one_changes (λ o y. (hash given : List ℕ) → block_at (before.world.nodes o).blocks hash ≡ Some given → block_at y.blocks hash ≡ Some given) to d.node w.nodes
+        (λ hash given at. keeps_block any_join words layouts l is.account.sent to (clock w to) (w.nodes to) (is.sound.views to u.1) from hash given (kept to hash given at) g u.2)
+        (λ o other hash given at. kept o hash given at)
+
+    kept_next : (m : ℕ) → numbered w.marks m ≡ Some fresh → BlocksStay (applied w (effect (record before { world = w }) (plainly (step.Deliver m))))
+    kept_next m c =
+        let x = at_number w.messages w.marks m fresh is.marked c in
+        let f : Sent AnyRow Layout → Effect AnyRow = λ sent. received m (did w sent.to (receives any_join words layouts sent.to (clock w sent.to) (w.nodes sent.to) sent.from sent.packet)) in
+        let t = taken w.messages w.marks m x.0 x.1 c in
+        subst (λ (e : Effect AnyRow). BlocksStay (applied w e)) (sym (ap (λ o. at_message w f o (numbered w.marks m)) x.1 ∙ ap (at_message w f (Some x.0)) c))
+        (kept_packet m x.0.packet t.before t.after x.0.from x.0.to x.0.moment t.was)
+
   -- ---- the phases
 
   -- the row is stored
   pub record Storing (t : State) : Type 0 where
     pub open_so : Open l layout before n q (row ∷ []) storing_so IsStoring t
     pub idle : Idle t.world
+    pub kept : BlocksStay t.world
 
   -- the write has ended
   pub record Written (t : State) : Type 0 where
     pub done_so : Done l layout before n q (row ∷ []) end t
     pub idle : Idle t.world
+    pub kept : BlocksStay t.world
 
   stores_so : (m : ℕ) (t : State) → HasRead l layout before n q kind object flow sought set all m t → FitAll any_join words t.world (delivers t m).moves → Storing (delivers t m).state
   stores_so m t r fits =
@@ -168,17 +198,18 @@ module _ (l : Layout) (layout : IsLayout layouts 256 l) (before : State) (n q : 
       let spelling : is_spelled words row ≡ true = (and_parts (is_spelled words row) true (sym (ap (λ (e : Effect AnyRow). e.is_spelled) begins_is) ∙ more.0.1)).0 in
       let opened = stores_next l layout before n q [] asking_so IsResting u a row placed spelling bare draws next_flow in
       let state_is : (delivers t m).state ≡ (goes u q asking_so draws next_flow (stores row)).state = ap (λ (o : Outcome). o.state) out_is in
-      subst Storing (sym state_is) (record { open_so = opened; idle = λ o. stores_items l layout before n q [] asking_so IsResting u a row placed spelling bare draws next_flow o ∙ r.reading.1.idle o })
+      subst Storing (sym state_is) (record { open_so = opened; idle = λ o. stores_items l layout before n q [] asking_so IsResting u a row placed spelling bare draws next_flow o ∙ r.reading.1.idle o; kept = λ o hash given at. ap (λ bs. block_at bs hash) (stores_blocks l layout before n q [] asking_so IsResting u a row placed spelling bare draws next_flow o ∙ r.reading.1.kept o) ∙ at })
 
   storing_next : (m : ℕ) (t : State) → Storing t → undelivered t.world ≡ Some m → FitAll any_join words t.world (delivers t m).moves → Storing (delivers t m).state ⊎ Written (delivers t m).state
   storing_next m t a waits fits =
       let mark : numbered t.world.marks m ≡ Some fresh = first_fresh t.world.marks m waits in
       let t' = moved l layout before n q m t in
       let idle : Idle t'.world = idle_next t.world a.open_so.is a.open_so.sent_so a.idle m mark in
+      let kept : BlocksStay t'.world = kept_next t.world a.open_so.is a.kept m mark in
       elim (delivered_open l layout before n q (row ∷ []) storing_so IsStoring storing_stays m t a.open_so mark fits.0.1) [
         | inl w ↦ inl (
             let state_is : (delivers t m).state ≡ t' = ap (λ ends. (goes_on t' ends).state) w.ends_are in
-            subst Storing (sym state_is) (record { open_so = w.then; idle = idle })
+            subst Storing (sym state_is) (record { open_so = w.then; idle = idle; kept = kept })
             )
         | inr w ↦ inr (
             let how : w.how ≡ Kept = storing_ends w.was w.how w.kind w.ends_so in
@@ -201,7 +232,7 @@ module _ (l : Layout) (layout : IsLayout layouts 256 l) (before : State) (n q : 
             let state_is : (delivers t m).state ≡ (finishes u q storing_so end).state =
             ap (λ (o : Outcome). o.state) (ap (goes_on t') w.ends_are ∙ (ap (λ o. follow t' q o w.how) w.then.asked_is ∙ (ap (follow t' q (Some storing_so)) how ∙ ap (takes u q storing_so draws) (ends_so now))))
             in
-            subst Written (sym state_is) (record { done_so = f; idle = λ o. left.items o ∙ idle o })
+            subst Written (sym state_is) (record { done_so = f; idle = λ o. left.items o ∙ idle o; kept = λ o hash given at. ap (λ bs. block_at bs hash) (left.blocks o) ∙ kept o hash given at })
             )
       ]
 
@@ -211,8 +242,9 @@ module _ (l : Layout) (layout : IsLayout layouts 256 l) (before : State) (n q : 
       let t' = moved l layout before n q m t in
       let then = delivered_done l layout before n q (row ∷ []) end m t f.done_so mark fits.0.1 in
       let idle : Idle t'.world = idle_next t.world f.done_so.is f.done_so.sent_so f.idle m mark in
+      let kept : BlocksStay t'.world = kept_next t.world f.done_so.is f.kept m mark in
       let state_is : (delivers t m).state ≡ t' = ap (λ ends. (goes_on t' ends).state) then.0 in
-      subst Written (sym state_is) (record { done_so = then.1; idle = idle })
+      subst Written (sym state_is) (record { done_so = then.1; idle = idle; kept = kept })
 
   -- ---- draining
 
@@ -229,6 +261,6 @@ module _ (l : Layout) (layout : IsLayout layouts 256 l) (before : State) (n q : 
 
   -- where no message waits it has written
   pub has_written : (s : State) → Going s → undelivered s.world ≡ None → Written s
-  has_written s (inl a) none = absurd (reads_out l layout before n q kind object flow sought set all tt s a none)
+  has_written s (inl a) none = absurd (reads_out l layout before n q kind object flow sought set all s a none)
   has_written s (inr (inl a)) none = absurd (storing_open a.open_so.call.present a.open_so.kind (no_phase_when_drained any_join words layouts l had s.world a.open_so.is (none_waits s.world none) n q a.open_so.call a.open_so.there))
   has_written s (inr (inr f)) none = f

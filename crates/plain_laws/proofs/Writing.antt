@@ -242,7 +242,7 @@ module _ (c : Cluster) (P : Plain) (h : Holds c P) (clash : NoClash P.buckets) (
       λ other too. elim (same_name name other) as (λ b. same_name name other ≡ b → HasItsBlocks l u.world (has_at Q other)) [
         | true ↦ λ e. subst (λ x. HasItsBlocks l u.world (has_at Q x)) (names_equal name other e) (subst (HasItsBlocks l u.world) (sym (has_new name new P.entries)) (made_blocks l u.world version after.block w short))
         | false ↦ λ e. subst (HasItsBlocks l u.world) (sym (has_others name new other e P.entries))
-            (blocks_moved l before.world u.world (λ m table key later. elsewhere m table key (λ t k. absurd (apart_tables table (sym table_is ∙ t) later))) (has_at P other) (holding.blocks other too))
+            (blocks_moved l before.world u.world (λ m key row hash given e live at. written.kept m hash given at) (λ m table key later. elsewhere m table key (λ t k. absurd (apart_tables table (sym table_is ∙ t) later))) (has_at P other) (holding.blocks other too))
       ] refl in
       let held : Holding l Q u = record {
         rest = record {

@@ -13,13 +13,14 @@ use Rattle.table_model.specs.Rows.{row_at}
 use Rattle.quorum_model.specs.Quorum.{is_among}
 use Rattle.cluster_machine.specs.Layouts.{layouts, set_of}
 use Rattle.cluster_machine.specs.Blocks.{AllStocked}
+use Rattle.cluster_machine.specs.Rows.{block_at}
 use Rattle.cluster_machine.specs.Run.{IsLayout}
 use Rattle.flow_model.specs.declared.order.Order.{Order}
 use Rattle.flow_model.specs.declared.order.Order.TheVariants as order
 use Rattle.flow_model.specs.declared.flow.Name.{Name}
 use Rattle.flow_model.specs.declared.flow.Content.{Content}
 use Rattle.flow_model.specs.declared.flow.FlowEnd.{FlowEnd}
-use Rattle.flow_model.specs.Blocks.{piece_hash, has_piece, is_long}
+use Rattle.flow_model.specs.Blocks.{piece, piece_hash, has_piece, is_long}
 use Rattle.flow_model.specs.Rows.{row_key, reference_row}
 use Rattle.flow_model.specs.Says.{whole, named_by}
 use Rattle.flow_laws.specs.Pieces.{named_pieces}
@@ -35,14 +36,16 @@ use Rattle.plain_laws.specs.Plain.{Has, never, deleted, object, Plain, has_at, r
 abbrev pub nodes_at : Layout → List ℕ → List ℕ
 nodes_at l position = set_of layouts l (partition_at position)
 
--- a version's blocks: each node of its row has that row with all blocks of the bytes, and each node of a block has a live reference of the version to it
+-- a version's blocks: each node of its row has that row with all blocks of the bytes, and each node of a block has the block and a live reference of the version to it
 pub record HasBlocks (l : Layout) (w : World) (version : Version) (block : ℕ) (c : Content) : Type 0 where
   pub count : ℕ
+  pub pieces_there : (i : ℕ) → i < count → IsTrue (has_piece block c.body i)
   pub no_more : has_piece block c.body count ≡ false
   pub named : (n : ℕ) → IsTrue (is_among n (nodes_at l (digest_of (eight version.id)).0)) →
       named_by (row_at any_join words (w.nodes n).accepted 2 (eight version.id)) (length c.body) ≡ whole (named_pieces block c.body 0 count)
   pub referenced : (i n : ℕ) → IsTrue (has_piece block c.body i) → IsTrue (is_among n (nodes_at l (piece_hash block c.body i).0)) →
       row_at any_join words (w.nodes n).accepted 3 ((piece_hash block c.body i).0 ++ eight version.id) ≡ Some (reference_row version.id block c.body i)
+  pub kept : (i n : ℕ) → IsTrue (has_piece block c.body i) → IsTrue (is_among n (nodes_at l (piece_hash block c.body i).0)) → block_at (w.nodes n).blocks (piece_hash block c.body i).0 ≡ Some (piece block c.body i)
 
 -- the blocks of what is there, where it is kept in blocks
 abbrev pub HasItsBlocks : Layout → World → Has → Type 0
@@ -84,11 +87,11 @@ IsInRow never = ⊤
 IsInRow (deleted version) = ⊤
 IsInRow (object version block c) = is_long c.body ≡ false
 
--- a head, or a get of what isn't kept in blocks
-abbrev pub ReadsRow : Plain → Order → Type 0
-ReadsRow P (order.Get bucket key) = IsInRow (has_at P (record { bucket = bucket; key = key }))
-ReadsRow P (order.Head bucket key) = ⊤
-ReadsRow P order = ⊥
+-- a get or a head
+abbrev pub Reads : Order → Type 0
+Reads (order.Get bucket key) = ⊤
+Reads (order.Head bucket key) = ⊤
+Reads order = ⊥
 
 -- a delete, or a put of bytes that aren't kept in blocks, over what isn't kept in blocks
 abbrev pub WritesRow : Plain → Order → Type 0

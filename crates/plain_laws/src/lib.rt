@@ -3,7 +3,7 @@
 //!
 //! `Plain` (specs/) is the store that is one map; `Holds` says when a cluster holds one, and `Agrees` that it carries out an
 //! order as the map does: it ends with the map's answer, and then holds what the map has become. That is proved of
-//! lists, and of all other orders where what is read and written isn't kept in blocks.
+//! gets, heads and lists, and of all other orders where what is read and written isn't kept in blocks.
 #![tactic(auto)]
 
 ghost use Rattle.std.specs.Prelude.{◌≡◌, ℕ, List, [], ◌∷◌, Some, None};
@@ -21,7 +21,7 @@ ghost use Rattle.store_model.specs.Acts.{installs, acted};
 ghost use Rattle.serve_model.specs.Stores.{OrdersFit, after_orders};
 ghost use Rattle.serve_model.specs.Clusters.{Cluster, cluster, fits};
 ghost use Rattle.plain_laws.specs.Plain.{Plain, plain, IsNumbered, AreInOrder};
-ghost use Rattle.plain_laws.specs.Holds.{Holds, Agrees, ReadsRow, WritesRow, CopiesRow, Lists, AllInRows, IsOfRows, ends_of};
+ghost use Rattle.plain_laws.specs.Holds.{Holds, Agrees, Reads, WritesRow, CopiesRow, Lists, AllInRows, IsOfRows, ends_of};
 
 /// A first layout that is installed where nothing has happened yet, with whatever buckets and size of blocks, holds the
 /// empty map.
@@ -31,9 +31,9 @@ pub fn a_first_layout_holds_the_empty_map()
         (record { buckets = buckets; block = block; clock = 0; ticked = ticked; asked = 0; entries = [] }) }
 {}
 
-/// A head, and a get of what isn't kept in blocks, ends with the map's answer, and the cluster holds the same map.
+/// A get or a head ends with the map's answer, and the cluster holds the same map, whatever is kept in blocks.
 pub fn reads_answer_as_the_map_does()
-    ensures { (c : Cluster) (P : Plain) (time : ℕ) (order : Order) → Holds c P → fits c time order → ReadsRow P order → Agrees c P time order }
+    ensures { (c : Cluster) (P : Plain) (time : ℕ) (order : Order) → Holds c P → fits c time order → Reads order → Agrees c P time order }
 {}
 
 /// A delete, and a put of bytes that aren't kept in blocks, over what isn't kept in blocks, ends with the map's answer, and
