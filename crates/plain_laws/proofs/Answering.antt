@@ -12,7 +12,6 @@ use Rattle.wire_messages.specs.declared.phase.PhaseEnd.TheVariants.{Row}
 use Rattle.cluster_machine.specs.Rows.{block_at}
 use Rattle.cluster_machine.specs.Worlds.{FitAll}
 use Rattle.flow_model.specs.declared.order.Order.{Order}
-use Rattle.flow_model.specs.declared.order.Order.TheVariants as order
 use Rattle.flow_model.specs.declared.flow.Name.{Name}
 use Rattle.flow_model.specs.declared.flow.Aim.{Aim}
 use Rattle.flow_model.specs.declared.flow.Aim.TheVariants as aim

@@ -1,6 +1,5 @@
 -- A get of an object that is kept in blocks, from a cluster that holds a map: its row, the version's row, and block after block.
-use Rattle.std.proofs.Common.{◌≡◌, ◌⊎◌, ◌<◌, ◌+◌, ℕ, zero, suc, true, false, Option, Some, None, List, [], ◌∷◌, ◌++◌, length, refl, sym, ap, ◌∙◌, subst, inl, inr, arith}
-use Rattle.std.specs.Prelude.{IsTrue}
+use Rattle.std.proofs.Common.{◌≡◌, ◌⊎◌, ◌+◌, ℕ, zero, suc, true, Option, List, [], ◌∷◌, ◌++◌, refl, sym, ap, ◌∙◌, subst, inl, inr, arith}
 use Rattle.std.specs.List.{Contains}
 use Rattle.std.proofs.lemmas.List.{append_assoc, append-nil}
 use Rattle.blake2_hash.specs.Hash.{digest_of}
@@ -18,7 +17,6 @@ use Rattle.wire_messages.specs.declared.phase.Phase.{Phase}
 use Rattle.wire_messages.specs.declared.phase.Phase.TheVariants.{Block as Fetch}
 use Rattle.cluster_machine.specs.Layouts.{layouts}
 use Rattle.flow_model.specs.declared.order.Order.{Order}
-use Rattle.flow_model.specs.declared.order.Order.TheVariants as order
 use Rattle.flow_model.specs.declared.flow.Name.{Name}
 use Rattle.flow_model.specs.declared.flow.Content.{Content}
 use Rattle.flow_model.specs.declared.flow.Aim.{Aim}
@@ -45,7 +43,7 @@ use Rattle.plain_laws.specs.Plain.{object, Plain, has_at, row_of, at_time}
 use Rattle.plain_laws.specs.Holds.{nodes_at, HasBlocks, HasItsBlocks, Holds}
 use Rattle.plain_laws.proofs.Holding.{Holding}
 use Rattle.plain_laws.proofs.Saids.{said_long}
-use Rattle.plain_laws.proofs.Seeking.{Sought, a_row, a_block}
+use Rattle.plain_laws.proofs.Seeking.{a_row, a_block}
 use Rattle.plain_laws.proofs.Looks.{AllHad}
 use Rattle.plain_laws.proofs.Starting.{number}
 use Rattle.plain_laws.proofs.Carrying.{now, asker_now, holding_now}

@@ -15,13 +15,11 @@ use Rattle.flow_model.specs.declared.order.Order.{Order}
 use Rattle.flow_model.specs.declared.order.Order.TheVariants as order
 use Rattle.flow_model.specs.declared.flow.Name.{Name}
 use Rattle.flow_model.specs.declared.flow.Content.{Content}
-use Rattle.flow_model.specs.declared.flow.Wish.{Wish}
-use Rattle.flow_model.specs.declared.flow.Wish.TheVariants as wish
 use Rattle.store_model.specs.Orders.{buckets_of}
 use Rattle.store_model.specs.Run.{are_buckets}
 use Rattle.store_model.specs.Acts.{HasKey}
 use Rattle.serve_model.specs.Stores.{Carried}
-use Rattle.plain_laws.specs.Plain.{Has, never, deleted, object, Entry, Plain, same_name, has_at, with_has, version_of, made, writes, with_object, at_time, counted, answered, plain, IsBefore, AreInOrder, IsMap}
+use Rattle.plain_laws.specs.Plain.{Has, never, deleted, object, Entry, Plain, same_name, has_at, with_has, with_object, at_time, counted, answered, plain, IsBefore, AreInOrder, IsMap}
 use Rattle.plain_laws.proofs.Entries.{name_itself, names_equal}
 
 less_by : (o : Ordering) → is_lt o ≡ true → o ≡ Less

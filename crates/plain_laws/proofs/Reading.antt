@@ -7,7 +7,6 @@ use Rattle.flow_model.specs.declared.order.Order.TheVariants as order
 use Rattle.flow_model.specs.declared.flow.Name.{Name}
 use Rattle.flow_model.specs.declared.flow.Content.{Content}
 use Rattle.flow_model.specs.declared.flow.Aim.TheVariants as aim
-use Rattle.flow_model.specs.declared.flow.Stage.TheVariants.{Looking}
 use Rattle.flow_model.specs.declared.flow.FlowEnd.TheVariants.{Found}
 use Rattle.flow_model.specs.Blocks.{is_long}
 use Rattle.flow_model.specs.Rows.{meta_of}

@@ -16,7 +16,7 @@ use Rattle.wire_messages.specs.declared.phase.PhaseEnd.TheVariants.{Row, Window,
 use Rattle.cluster_machine.specs.declared.applied.Applied.{Applied}
 use Rattle.cluster_machine.specs.declared.step.Refusal.TheVariants.{VersionLimit}
 use Rattle.cluster_machine.specs.declared.step.Step.TheVariants as step
-use Rattle.cluster_machine.specs.Layouts.{layouts, set_at}
+use Rattle.cluster_machine.specs.Layouts.{layouts}
 use Rattle.cluster_machine.specs.Node.{Present, resting, asking, scanning, storing, fetching, Call, Ended}
 use Rattle.cluster_machine.specs.Phases.{call_at, is_spelled, begins, slots_of}
 use Rattle.cluster_machine.specs.Blocks.{IsBeside, StepBringsBlocks, AllStocked}
@@ -28,12 +28,7 @@ use Rattle.cluster_machine.proofs.Closing.{length_shut}
 use Rattle.block_laws.proofs.Steps.{next_world}
 use Rattle.flow_model.specs.declared.flow.Flow.{Flow}
 use Rattle.flow_model.specs.declared.flow.FlowEnd.{FlowEnd}
-use Rattle.flow_model.specs.declared.flow.Name.{Name}
-use Rattle.flow_model.specs.Rows.{row_key}
-use Rattle.flow_model.specs.Flow.{asks_for}
 use Rattle.flow_model.specs.Next.{stores}
-use Rattle.blake2_hash.specs.Hash.{digest_of}
-use Rattle.table_schema.specs.Words.{partition_at}
 use Rattle.view_model.specs.View.{read_version}
 use Rattle.cluster_machine.specs.Worlds.{Done as Effect}
 use Rattle.store_model.specs.Run.{World, Moving, State, Asked, Draw, plainly, phases, effect, doing, goes, finishes}
