@@ -139,11 +139,11 @@ module _ (c : Cluster) (P : Plain) (h : Holds c P) (time : ℕ) (order : Order) 
       is_step = asks_is_step (number before) name;
       all = row_there c P h time order known fit name there;
       then = λ now. inr (
-          flow_with (Opening version meta aim),
-          opens version,
-          ap (λ has. looked (number before) before.block aim (said_of (row_of name has))) has_it ∙ (ap (looked (number before) before.block aim) (said_long name version block content long) ∙ reads_so),
-          inr (inl (refl, refl)),
-        );
+        flow_with (Opening version meta aim),
+        opens version,
+        ap (λ has. looked (number before) before.block aim (said_of (row_of name has))) has_it ∙ (ap (looked (number before) before.block aim) (said_long name version block content long) ∙ reads_so),
+        inr (inl (refl, refl)),
+      );
     }
 
     opening_turn : Turns c P h time order known fit Course last (flow_with (Opening version meta aim)) (opens version)

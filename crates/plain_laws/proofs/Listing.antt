@@ -173,11 +173,11 @@ module _ (c : Cluster) (P : Plain) (h : Holds c P) (time : ℕ) (bucket prefix :
           elim (the_window after).end as (λ e. (the_window after).end ≡ e → (listed e ≡ End end) ⊎ ((other : Flow) × (more : Phase AnyRow) × (listed e ≡ More other more) × Course other more)) [
             | None ↦ λ e. inl (goes e)
             | Some past ↦ λ e. inr (
-                flow_with (shown (the_window after).rows),
-                asks_past bucket prefix past,
-                refl,
-                record { after = past; so_far = shown (the_window after).rows; flow_is = refl; phase_is = refl; total = then_total past e },
-              )
+              flow_with (shown (the_window after).rows),
+              asks_past bucket prefix past,
+              refl,
+              record { after = past; so_far = shown (the_window after).rows; flow_is = refl; phase_is = refl; total = then_total past e },
+            )
           ] refl;
     }
 
