@@ -108,7 +108,7 @@ module _ (l : Layout) where
         stocked = subst (AllStocked (blake2b 32) words any_join) (sym world_is) stocked;
         buckets = buckets;
         block = block;
-      }) clock ticked P.asked (ap (λ (v : World). v.time) world_is ∙ time)
+      }) clock ticked P.asked (omega arith) (ap (λ (v : World). v.time) world_is ∙ time)
       (ap (λ (v : World). length v.requests) world_is ∙ (ap (λ cs. length (shut w.requests cs ++ e.opens)) s.closes ∙ (ap (λ os. length (w.requests ++ os)) s.opens ∙ (ap (λ rs. length rs) (append-nil w.requests) ∙ h.requests))))
       (ap (λ as'. length as') asked ∙ h.asked)
 
@@ -207,7 +207,7 @@ module _ (l : Layout) where
         stocked = record { nodes = h.stocked.nodes; messages = h.stocked.messages };
         buckets = refl;
         block = refl;
-      }) P.clock P.ticked P.asked h.clock h.requests h.asked
+      }) P.clock P.ticked P.asked (omega arith) h.clock h.requests h.asked
 
 -- ---- ends
 

@@ -1,5 +1,5 @@
 -- A request that reads from a cluster that holds a map answers as the map does.
-use Rattle.std.proofs.Common.{◌≡◌, ℕ, suc, true, false, Option, Some, None, List, [], ◌∷◌, ◌++◌, refl, sym, ap, ◌∙◌, subst, inl}
+use Rattle.std.proofs.Common.{◌≡◌, ℕ, suc, true, false, Option, Some, None, List, [], ◌∷◌, ◌++◌, refl, sym, ap, ◌∙◌, subst, inl, arith}
 use Rattle.std.specs.Prelude.{if◌then◌else◌}
 use Rattle.std.specs.List.{Contains}
 use Rattle.std.proofs.lemmas.Bool.{and_parts}
@@ -145,7 +145,7 @@ module _ (c : Cluster) (P : Plain) (h : Holds c P) (time : ℕ) (order : Order) 
           buckets = done.frame.buckets;
           block = done.frame.block;
         } in
-        let held : Holding l after u = holds_on l (at_time P time) before u holding alike (at_time P time).clock (at_time P time).ticked (suc P.asked) (done.frame.time ∙ holding.clock) (done.frame.requests ∙ asked_so) (done.frame.asked ∙ asked_so) in
+        let held : Holding l after u = holds_on l (at_time P time) before u holding alike (at_time P time).clock (at_time P time).ticked (suc P.asked) (omega arith) (done.frame.time ∙ holding.clock) (done.frame.requests ∙ asked_so) (done.frame.asked ∙ asked_so) in
         answers_so (answered after order) carried_as after end answers refl refl
         (subst (λ (t : State). Holding l after (drains all_messages t).state) (sym opened_so) held)
         (subst (λ (t : State). (drains all_messages t).state.ends ≡ before.ends ++ (q, end) ∷ []) (sym opened_so) done.ends_so)

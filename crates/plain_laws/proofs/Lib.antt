@@ -11,7 +11,12 @@ pub mod Carrying
 pub mod Answering
 pub mod Smalls
 pub mod Accepted
+pub mod Given
 pub mod Writes
+pub mod Uploads
+pub mod Parts
+pub mod Stages
+pub mod Uploading
 pub mod Entries
 pub mod Writing
 pub mod Seeking

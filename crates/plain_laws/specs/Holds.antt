@@ -1,6 +1,6 @@
 -- When a cluster holds a plain map, and what it is to answer as one.
-use Rattle.std.specs.Prelude.{◌≡◌, ◌<◌, ℕ, false, IsTrue, ⊤, length, Option, Some, None, List, [], ◌∷◌, ◌++◌}
-use Rattle.std.specs.List.{Contains}
+use Rattle.std.specs.Prelude.{◌≡◌, ◌<◌, ◌^◌, ℕ, Bool, true, false, IsTrue, ⊤, length, Option, Some, None, List, [], ◌∷◌, ◌++◌}
+use Rattle.std.specs.List.{AllByRecursion, Contains}
 use Rattle.layout_roles.specs.declared.layout.Layout.{Layout}
 use Rattle.blake2_hash.specs.Blake2b.{blake2b}
 use Rattle.blake2_hash.specs.Hash.{digest_of}
@@ -13,6 +13,7 @@ use Rattle.table_model.specs.Rows.{row_at}
 use Rattle.quorum_model.specs.Quorum.{is_among}
 use Rattle.cluster_machine.specs.Layouts.{layouts, set_of}
 use Rattle.cluster_machine.specs.Blocks.{AllStocked}
+use Rattle.cluster_machine.specs.Node.{Block}
 use Rattle.cluster_machine.specs.Rows.{block_at}
 use Rattle.cluster_machine.specs.Run.{IsLayout}
 use Rattle.flow_model.specs.declared.order.Order.{Order}
@@ -53,6 +54,11 @@ HasItsBlocks l w never = ⊤
 HasItsBlocks l w (deleted version) = ⊤
 HasItsBlocks l w (object version block c) = IsTrue (is_long c.body) → HasBlocks l w version block c
 
+-- no version's row and no reference is of an order to come
+pub record IsFresh (w : World) (asked : ℕ) : Type 0 where
+  pub versions : (n id : ℕ) → asked < id → id < 2 ^ 64 → row_at any_join words (w.nodes n).accepted 2 (eight id) ≡ None
+  pub references : (n id : ℕ) (hash : List ℕ) → asked < id → id < 2 ^ 64 → length hash ≡ 32 → row_at any_join words (w.nodes n).accepted 3 (hash ++ eight id) ≡ None
+
 -- the cluster holds the map, whose entries are in order: nothing goes on, all members have one layout and no other, no clock is ahead,
 -- replicas are equal, every node has the blocks that its rows need, and of each name in a bucket that is there each of its
 -- three nodes has the row that says what the map has, and the blocks are there
@@ -74,6 +80,7 @@ pub record Holds (c : Cluster) (P : Plain) : Type 0 where
   pub requests : length c.run.world.requests ≡ P.asked
   pub asked : length c.run.asked ≡ P.asked
   pub map : IsMap P
+  pub fresh : IsFresh c.run.world P.asked
   pub ends : (q : ℕ) → P.asked < q → end_of c.run.ends q ≡ None
 
 -- the cluster carries out the order as the map does: it ends with the map's answer, and holds what the map has become
@@ -103,6 +110,20 @@ WritesRow P order = ⊥
 abbrev pub CopiesRow : Plain → Order → Type 0
 CopiesRow P (order.Copy from_bucket from_key bucket key headers) = IsInRow (has_at P (record { bucket = from_bucket; key = from_key })) × IsInRow (has_at P (record { bucket = bucket; key = key }))
 CopiesRow P order = ⊥
+
+-- each block that a node keeps is such a string
+abbrev pub AllBlocks : (List ℕ → Bool) → World → Type 0
+AllBlocks is_such w = (n : ℕ) → AllByRecursion (λ (b : Block). IsTrue (is_such b.bytes)) (w.nodes n).blocks
+
+-- no two such strings have one digest
+abbrev pub NoTwins : (List ℕ → Bool) → Type 0
+NoTwins is_such = (a b : List ℕ) → IsTrue (is_such a) → IsTrue (is_such b) → blake2b 32 a ≡ blake2b 32 b → a ≡ b
+
+-- a put of bytes that are kept in blocks, each of which is such a string, over what isn't kept in blocks
+abbrev pub PutsBlocks : Plain → (List ℕ → Bool) → Order → Type 0
+PutsBlocks P is_such (order.Put bucket key body headers) =
+    (is_long body ≡ true) × IsInRow (has_at P (record { bucket = bucket; key = key })) × ((i : ℕ) → has_piece P.block body i ≡ true → IsTrue (is_such (piece P.block body i)))
+PutsBlocks P is_such order = ⊥
 
 -- a list
 abbrev pub Lists : Order → Type 0
