@@ -1,6 +1,6 @@
 -- Acts in a cluster in which nothing goes on: the time passes, members work, all is delivered, ends are taken.
 use Rattle.std.proofs.Common.{◌≡◌, ◌+◌, ℕ, Bool, true, false, cond, Some, None, List, [], ◌∷◌, ◌++◌, map, length, refl, sym, ap, ◌∙◌, subst, arith}
-use Rattle.std.specs.Prelude.{◌==◌}
+use Rattle.std.specs.Prelude.{◌==◌, ◌&&◌, not, filter}
 use Rattle.std.specs.Option.{unwrap_or}
 use Rattle.std.specs.List.{list_all, flat_map}
 use Rattle.std.proofs.lemmas.Bool.{eq-eqb}
@@ -16,15 +16,19 @@ use Rattle.view_model.specs.View.{View}
 use Rattle.cluster_machine.specs.declared.applied.Applied.{Applied}
 use Rattle.cluster_machine.specs.declared.step.Step.TheVariants.{Tick, Work}
 use Rattle.cluster_machine.specs.Layouts.{layouts, has_none}
-use Rattle.cluster_machine.specs.Node.{Item}
+use Rattle.cluster_machine.specs.Node.{Block, Item}
 use Rattle.cluster_machine.specs.Phases.{is_spelled}
-use Rattle.cluster_machine.specs.Acts.{item_posts, works}
+use Rattle.cluster_machine.specs.Acts.{is_old, is_due, item_posts, works}
+use Rattle.cluster_machine.specs.Rows.{same_bytes, block_at, note_of}
 use Rattle.cluster_machine.specs.Blocks.{AllStocked}
 use Rattle.cluster_machine.specs.World.{forgot}
 use Rattle.cluster_machine.specs.Step.{sent_by, acting, skewed, shut, marked, applied}
 use Rattle.cluster_machine.specs.Trio.{trio, stage_trio}
 use Rattle.cluster_machine.specs.Worlds.{Done as Effect}
+use Rattle.block_laws.proofs.Found.{counts_row}
 use Rattle.block_laws.proofs.Steps.{next_world}
+use Rattle.table_model.specs.Rows.{row_at}
+use Rattle.store_laws.proofs.Elements.{same_bytes as equal_bytes}
 use Rattle.flow_model.specs.declared.flow.FlowEnd.{FlowEnd}
 use Rattle.store_model.specs.Run.{World, Moving, State, Outcome, plainly, effect, doing}
 use Rattle.store_model.specs.Acts.{Act, moves, drain, takes, forgets, acted, after_acts, end_of, without_end, all_messages}
@@ -36,13 +40,29 @@ use Rattle.drained_laws.proofs.Deliveries.{one_changes}
 use Rattle.drained_laws.proofs.Weights.{marked_next}
 use Rattle.plain_laws.specs.Plain.{Plain}
 use Rattle.plain_laws.proofs.Draining.{drained_same, none_undelivered}
-use Rattle.plain_laws.proofs.Holding.{Holding, holds_on}
+use Rattle.plain_laws.proofs.Holding.{Holding, KeepsBlocks, holds_on}
 
 -- ---- lists of acts
 
 pub after_parts : (s : State) (first rest : List Act) → after_acts s (first ++ rest) ≡ after_acts (after_acts s first) rest
 after_parts s [] rest = refl
 after_parts s (a ∷ first) rest = after_parts (acted s a).state first rest
+
+-- a block whose hash stays in is found when others are taken out
+kept_at : (out : List ℕ → Bool) (bs : List Block) (hash given : List ℕ) → out hash ≡ false → block_at bs hash ≡ Some given → block_at (filter (λ (b : Block). not (out b.hash)) bs) hash ≡ Some given
+kept_at out [] hash given stays at = at
+kept_at out (b ∷ bs) hash given stays at =
+    elim (same_bytes b.hash hash) as (λ t. same_bytes b.hash hash ≡ t → cond t (Some b.bytes) (block_at bs hash) ≡ Some given → block_at (cond (not (out b.hash)) (b ∷ filter (λ (b : Block). not (out b.hash)) bs) (filter (λ (b : Block). not (out b.hash)) bs)) hash ≡ Some given) [
+      | true ↦ λ same found.
+          let here : not (out b.hash) ≡ true = ap not (ap out (equal_bytes b.hash hash same) ∙ stays) in
+          ap (λ t. block_at (cond t (b ∷ filter (λ (b : Block). not (out b.hash)) bs) (filter (λ (b : Block). not (out b.hash)) bs)) hash) here ∙ (ap (λ t. cond t (Some b.bytes) (block_at (filter (λ (b : Block). not (out b.hash)) bs) hash)) same ∙ found)
+      | false ↦ λ other found.
+          let rest = kept_at out bs hash given stays found in
+          elim (not (out b.hash)) as (λ t. block_at (cond t (b ∷ filter (λ (b : Block). not (out b.hash)) bs) (filter (λ (b : Block). not (out b.hash)) bs)) hash ≡ Some given) [
+            | true ↦ ap (λ t. cond t (Some b.bytes) (block_at (filter (λ (b : Block). not (out b.hash)) bs) hash)) other ∙ rest
+            | false ↦ rest
+          ]
+    ] refl at
 
 -- ---- a step that sends nothing
 
@@ -52,6 +72,7 @@ pub record SameNodes (w : World) (e : Effect AnyRow) : Type 0 where
   pub accepted : (n : ℕ) → (unwrap_or (e.nodes n) (w.nodes n)).accepted ≡ (w.nodes n).accepted
   pub calls : (n : ℕ) → (unwrap_or (e.nodes n) (w.nodes n)).calls ≡ (w.nodes n).calls
   pub items : (n : ℕ) → (unwrap_or (e.nodes n) (w.nodes n)).items ≡ (w.nodes n).items
+  pub kept : KeepsBlocks w (applied w e)
 
 -- the step only changes such things of nodes, and takes time
 pub record IsStill (w : World) (e : Effect AnyRow) : Type 0 where
@@ -82,11 +103,12 @@ module _ (l : Layout) where
       holds_on l P t u h (record {
         rest = subst (IsAtRest layouts l) (sym world_is) (still_rest w e h.rest s);
         accepted = λ n. ap (λ (v : World). (v.nodes n).accepted) world_is ∙ s.nodes.accepted n;
+        kept = subst (KeepsBlocks w) (sym world_is) s.nodes.kept;
         skews = λ n. ap (λ (v : World). v.skew_of n) world_is ∙ ap (λ o. skewed o w.skew_of n) s.skews;
         stocked = subst (AllStocked (blake2b 32) words any_join) (sym world_is) stocked;
         buckets = buckets;
         block = block;
-      }) clock ticked P.asked (ap (λ (v : World). v.time) world_is ∙ time)
+      }) clock ticked P.asked (omega arith) (ap (λ (v : World). v.time) world_is ∙ time)
       (ap (λ (v : World). length v.requests) world_is ∙ (ap (λ cs. length (shut w.requests cs ++ e.opens)) s.closes ∙ (ap (λ os. length (w.requests ++ os)) s.opens ∙ (ap (λ rs. length rs) (append-nil w.requests) ∙ h.requests))))
       (ap (λ as'. length as') asked ∙ h.asked)
 
@@ -96,19 +118,26 @@ module _ (l : Layout) where
   ticks_hold P t ms ticked h =
       let mv = plainly (Tick ms) in
       still_holds P t (acted t (moves mv)).state mv refl refl refl refl
-      (record { nodes = record { views = λ n. refl; accepted = λ n. refl; calls = λ n. refl; items = λ n. refl }; sends = refl; marks = refl; skews = refl; closes = refl; opens = refl; spelled = refl })
+      (record { nodes = record { views = λ n. refl; accepted = λ n. refl; calls = λ n. refl; items = λ n. refl; kept = λ n key row hash given e live at. at }; sends = refl; marks = refl; skews = refl; closes = refl; opens = refl; spelled = refl })
       (next_world (blake2b 32) schema_laws layouts trio stage_trio t.world mv h.stocked tt refl) h (P.clock + ms) ticked (ap (λ i. i + ms) h.clock)
 
   -- ---- a member works
 
-  work_still_by : (w : World) (n : ℕ) → (w.nodes n).items ≡ [] → (b : Bool) → IsStill w (acting any_join words layouts trio stage_trio w n b (works any_join words layouts (w.time + w.skew_of n) (w.nodes n)))
-  work_still_by w n none true = record { nodes = record { views = λ n. refl; accepted = λ n. refl; calls = λ n. refl; items = λ n. refl }; sends = refl; marks = refl; skews = refl; closes = refl; opens = refl; spelled = refl }
-  work_still_by w n none false = record {
+  -- a block that is needed isn't due
+  not_due : (w : World) → AllStocked (blake2b 32) words any_join w → (n : ℕ) (key : List ℕ) (row : AnyRow) (hash : List ℕ) → row_at any_join words (w.nodes n).accepted 3 key ≡ Some row → words.live_block row ≡ Some hash → is_due any_join words (w.time + w.skew_of n) (w.nodes n) hash ≡ false
+  not_due w stocked n key row hash e live =
+      ap (λ b. b && is_old (w.time + w.skew_of n) (note_of (w.nodes n).notes hash)) (counts_row schema_laws (w.nodes n).accepted (stocked.nodes n).proper 3 key row hash e live)
+
+  work_still_by : (w : World) → AllStocked (blake2b 32) words any_join w → (n : ℕ) → (w.nodes n).items ≡ [] → (b : Bool) → IsStill w (acting any_join words layouts trio stage_trio w n b (works any_join words layouts (w.time + w.skew_of n) (w.nodes n)))
+  work_still_by w stocked n none true = record { nodes = record { views = λ n. refl; accepted = λ n. refl; calls = λ n. refl; items = λ n. refl; kept = λ n key row hash given e live at. at }; sends = refl; marks = refl; skews = refl; closes = refl; opens = refl; spelled = refl }
+  work_still_by w stocked n none false = record {
     nodes = record {
       views = one_changes (λ m y. y.view ≡ (w.nodes m).view) n _ w.nodes refl (λ m other. refl);
       accepted = one_changes (λ m y. y.accepted ≡ (w.nodes m).accepted) n _ w.nodes refl (λ m other. refl);
       calls = one_changes (λ m y. y.calls ≡ (w.nodes m).calls) n _ w.nodes refl (λ m other. refl);
       items = one_changes (λ m y. y.items ≡ (w.nodes m).items) n _ w.nodes refl (λ m other. refl);
+      kept = one_changes (λ m y. (key : List ℕ) (row : AnyRow) (hash given : List ℕ) → row_at any_join words (w.nodes m).accepted 3 key ≡ Some row → words.live_block row ≡ Some hash → block_at (w.nodes m).blocks hash ≡ Some given → block_at y.blocks hash ≡ Some given)
+          n _ w.nodes (λ key row hash given e live at. kept_at (is_due any_join words (w.time + w.skew_of n) (w.nodes n)) (w.nodes n).blocks hash given (not_due w stocked n key row hash e live) at) (λ m other key row hash given e live at. at);
     };
     sends = ap (λ (items : List (Item AnyRow)). sent_by w n (flat_map (item_posts any_join words layouts (w.nodes n).view) items)) none;
     marks = refl;
@@ -118,8 +147,8 @@ module _ (l : Layout) where
     spelled = ap (λ (items : List (Item AnyRow)). list_all (λ (item : Item AnyRow). is_spelled words item.row) items) none;
   }
 
-  work_still : (t : State) (n : ℕ) → (t.world.nodes n).items ≡ [] → IsStill t.world (effect t (plainly (Work n)))
-  work_still t n none = work_still_by t.world n none (has_none layouts (t.world.nodes n).view)
+  work_still : (t : State) → AllStocked (blake2b 32) words any_join t.world → (n : ℕ) → (t.world.nodes n).items ≡ [] → IsStill t.world (effect t (plainly (Work n)))
+  work_still t stocked n none = work_still_by t.world stocked n none (has_none layouts (t.world.nodes n).view)
 
   work_passes : (t : State) (n : ℕ) → (effect t (plainly (Work n))).passes ≡ 0
   work_passes t n = by_test (has_none layouts (t.world.nodes n).view)
@@ -134,7 +163,7 @@ module _ (l : Layout) where
   works_hold : (P : Plain) (t : State) (n : ℕ) → Holding l P t → Holding l P (acted t (moves (plainly (Work n)))).state
   works_hold P t n h =
       let mv = plainly (Work n) in
-      let s = work_still t n (h.rest.items n) in
+      let s = work_still t h.stocked n (h.rest.items n) in
       still_holds P t (acted t (moves mv)).state mv refl refl refl refl s
       (next_world (blake2b 32) schema_laws layouts trio stage_trio t.world mv h.stocked tt s.spelled) h P.clock P.ticked (ap (λ i. t.world.time + i) (work_passes t n) ∙ (plus_none t.world.time ∙ h.clock))
 
@@ -173,11 +202,12 @@ module _ (l : Layout) where
           items = h.rest.items;
         };
         accepted = λ n. refl;
+        kept = λ n key row hash given e live at. at;
         skews = λ n. refl;
         stocked = record { nodes = h.stocked.nodes; messages = h.stocked.messages };
         buckets = refl;
         block = refl;
-      }) P.clock P.ticked P.asked h.clock h.requests h.asked
+      }) P.clock P.ticked P.asked (omega arith) h.clock h.requests h.asked
 
 -- ---- ends
 

@@ -1,5 +1,5 @@
--- A head, and a get of what isn't kept in blocks, from a cluster that holds a map.
-use Rattle.std.proofs.Common.{◌≡◌, ℕ, suc, true, false, Option, Some, None, List, [], ◌∷◌, ◌++◌, refl, sym, ap, ◌∙◌, subst, inl}
+-- A request that reads from a cluster that holds a map answers as the map does.
+use Rattle.std.proofs.Common.{◌≡◌, ℕ, suc, true, false, Option, Some, None, List, [], ◌∷◌, ◌++◌, refl, sym, ap, ◌∙◌, subst, inl, arith}
 use Rattle.std.specs.Prelude.{if◌then◌else◌}
 use Rattle.std.specs.List.{Contains}
 use Rattle.std.proofs.lemmas.Bool.{and_parts}
@@ -9,14 +9,15 @@ use Rattle.crdt_rows.specs.AnyRow.{any_join}
 use Rattle.object_schema.specs.Schema.{words}
 use Rattle.wire_messages.specs.declared.phase.Phase.{Phase}
 use Rattle.wire_messages.specs.declared.phase.PhaseEnd.TheVariants.{Row}
+use Rattle.cluster_machine.specs.Rows.{block_at}
 use Rattle.cluster_machine.specs.Worlds.{FitAll}
 use Rattle.flow_model.specs.declared.order.Order.{Order}
-use Rattle.flow_model.specs.declared.order.Order.TheVariants as order
 use Rattle.flow_model.specs.declared.flow.Name.{Name}
 use Rattle.flow_model.specs.declared.flow.Aim.{Aim}
 use Rattle.flow_model.specs.declared.flow.Aim.TheVariants as aim
 use Rattle.flow_model.specs.declared.flow.Stage.TheVariants.{Looking}
 use Rattle.flow_model.specs.declared.flow.Flow.{Flow}
+use Rattle.flow_model.specs.declared.flow.FlowStep.{FlowStep}
 use Rattle.flow_model.specs.declared.flow.FlowStep.TheVariants.{End}
 use Rattle.flow_model.specs.declared.flow.FlowEnd.{FlowEnd}
 use Rattle.flow_model.specs.declared.flow.FlowEnd.TheVariants.{Found, Nothing}
@@ -34,7 +35,7 @@ use Rattle.serve_model.specs.Stores.{Carried}
 use Rattle.serve_model.specs.Clusters.{Cluster, cluster, fits}
 use Rattle.drained_laws.proofs.Weights.{none_waits}
 use Rattle.plain_laws.specs.Plain.{Has, never, deleted, object, Plain, has_at, row_of, at_time, counted, tells, with_object, answered, plain, IsMap}
-use Rattle.plain_laws.specs.Holds.{nodes_at, Holds, Agrees, IsInRow, ReadsRow}
+use Rattle.plain_laws.specs.Holds.{nodes_at, Holds, Agrees, IsInRow}
 use Rattle.plain_laws.proofs.Frames.{none_found}
 use Rattle.plain_laws.proofs.Holding.{Holding, IsAlike, holds_on}
 use Rattle.plain_laws.proofs.Seeking.{a_row}
@@ -60,16 +61,16 @@ pub record EndsAs (flow : Flow) (value : Option AnyRow) (Q : Plain) (carried : C
   pub ends : (time : ℕ) → next flow (Row value) time ≡ End end
   pub is : carried ≡ record { state = Q; end = Some end }
 
-abbrev looking : ℕ → ℕ → Name → Aim → Flow
+abbrev pub looking : ℕ → ℕ → Name → Aim → Flow
 looking id block name aim = record { id = id; block = block; stage = Looking name aim }
 
 module _ (id block : ℕ) (name : Name) (Q : Plain) where
-  get_ends : (has : Has) → IsInRow has → EndsAs (looking id block name aim.Get) (row_of name has) Q (with_object Q has (λ version c. tells Q (Found version (meta_of c) c.body)))
+  pub get_ends : (has : Has) → IsInRow has → EndsAs (looking id block name aim.Get) (row_of name has) Q (with_object Q has (λ version c. tells Q (Found version (meta_of c) c.body)))
   get_ends never i = record { end = Nothing; ends = λ time. refl; is = refl }
   get_ends (deleted version) i = record { end = Nothing; ends = λ time. ap (looked id block aim.Get) (said_deleted name version); is = refl }
   get_ends (object version b c) i = record { end = Found version (meta_of c) c.body; ends = λ time. ap (looked id block aim.Get) (said_inline name version b c i); is = refl }
 
-  head_ends : (has : Has) → EndsAs (looking id block name aim.Head) (row_of name has) Q (with_object Q has (λ version c. tells Q (Found version (meta_of c) [])))
+  pub head_ends : (has : Has) → EndsAs (looking id block name aim.Head) (row_of name has) Q (with_object Q has (λ version c. tells Q (Found version (meta_of c) [])))
   head_ends never = record { end = Nothing; ends = λ time. refl; is = refl }
   head_ends (deleted version) = record { end = Nothing; ends = λ time. ap (looked id block aim.Head) (said_deleted name version); is = refl }
   head_ends (object version b c) = record {
@@ -108,11 +109,11 @@ module _ (c : Cluster) (P : Plain) (h : Holds c P) (time : ℕ) (order : Order) 
   carried_as = ap (λ b. if b then answered after order else record { state = at_time P time; end = None }) known
 
   -- the phases of a request
-  abbrev pub Turns : (Flow → Phase AnyRow → Type 0) → FlowEnd → Flow → Phase AnyRow → Type 0
-  Turns Course end flow phase = Turn h.layout h.is_layout before (asker_now c P h time order) (number before) (kind_of order) (name_of order) Course end flow phase
+  abbrev pub Turns : (Flow → Phase AnyRow → Type 0) → FlowStep → Flow → Phase AnyRow → Type 0
+  Turns Course last flow phase = Turn h.layout h.is_layout before (asker_now c P h time order) (number before) (kind_of order) (name_of order) Course last flow phase
 
   -- a request that reads until it ends, and changes nothing
-  module _ (Course : Flow → Phase AnyRow → Type 0) (end : FlowEnd) (turn : (flow : Flow) (phase : Phase AnyRow) → Course flow phase → Turns Course end flow phase) where
+  module _ (Course : Flow → Phase AnyRow → Type 0) (end : FlowEnd) (turn : (flow : Flow) (phase : Phase AnyRow) → Course flow phase → Turns Course (End end) flow phase) where
     pub reads_agree : (flow : Flow) (phase : Phase AnyRow) → Course flow phase → started order (number before) before.block ≡ (flow, phase) → answered after order ≡ record { state = after; end = Some end } → Agrees c P time order
     reads_agree flow phase course begins_so answers =
         let l = h.layout in
@@ -138,12 +139,13 @@ module _ (c : Cluster) (P : Plain) (h : Holds c P) (time : ℕ) (order : Order) 
             items = found.reading.1.idle;
           };
           accepted = found.reading.1.unchanged;
+          kept = λ m key row hash given e live at. ap (λ bs. block_at bs hash) (found.reading.1.kept m) ∙ at;
           skews = done.frame.skews;
           stocked = done.frame.stocked;
           buckets = done.frame.buckets;
           block = done.frame.block;
         } in
-        let held : Holding l after u = holds_on l (at_time P time) before u holding alike (at_time P time).clock (at_time P time).ticked (suc P.asked) (done.frame.time ∙ holding.clock) (done.frame.requests ∙ asked_so) (done.frame.asked ∙ asked_so) in
+        let held : Holding l after u = holds_on l (at_time P time) before u holding alike (at_time P time).clock (at_time P time).ticked (suc P.asked) (omega arith) (done.frame.time ∙ holding.clock) (done.frame.requests ∙ asked_so) (done.frame.asked ∙ asked_so) in
         answers_so (answered after order) carried_as after end answers refl refl
         (subst (λ (t : State). Holding l after (drains all_messages t).state) (sym opened_so) held)
         (subst (λ (t : State). (drains all_messages t).state.ends ≡ before.ends ++ (q, end) ∷ []) (sym opened_so) done.ends_so)
@@ -155,14 +157,13 @@ module _ (c : Cluster) (P : Plain) (h : Holds c P) (time : ℕ) (order : Order) 
   -- which ends when it has that
   pub row_reads_agree : (name : Name) → Contains P.buckets name.bucket → (flow : Flow) → started order (number before) before.block ≡ (flow, asks_for name) → EndsAs flow (row_of name (has_at P name)) after (answered after order) → Agrees c P time order
   row_reads_agree name there flow begins_so e =
-      reads_agree (OneRow name flow) e.end (λ f p same. subst (λ f. Turns (OneRow name flow) e.end f p) (sym same.0) (subst (Turns (OneRow name flow) e.end flow) (sym same.1) the_turn)) flow (asks_for name) (refl, refl) begins_so e.is
+      reads_agree (OneRow name flow) e.end (λ f p same. subst (λ f. Turns (OneRow name flow) (End e.end) f p) (sym same.0) (subst (Turns (OneRow name flow) (End e.end) flow) (sym same.1) the_turn)) flow (asks_for name) (refl, refl) begins_so e.is
     where
-      the_turn : Turns (OneRow name flow) e.end flow (asks_for name)
+      the_turn : Turns (OneRow name flow) (End e.end) flow (asks_for name)
       the_turn = record {
         sought = a_row 1 (row_key name) (row_of name (has_at P name));
         asks_so = (refl, refl);
         is_step = asks_is_step (number before) name;
-        counted = tt;
         all = row_there name there;
         then = λ now. inl (e.ends now);
       }
@@ -170,27 +171,3 @@ module _ (c : Cluster) (P : Plain) (h : Holds c P) (time : ℕ) (order : Order) 
 -- the bucket of the one name is there
 pub one_bucket : (buckets : List (List ℕ)) (bucket : List ℕ) → are_buckets buckets (bucket ∷ []) ≡ true → Contains buckets bucket
 one_bucket buckets bucket e = bucket_in buckets bucket (and_parts (is_bucket buckets bucket) true e).0
-
-read_agrees : (c : Cluster) (P : Plain) (time : ℕ) (order : Order) → (h : Holds c P) → fits c time order → ReadsRow P order → are_buckets P.buckets (buckets_of order) ≡ true → Agrees c P time order
-read_agrees c P time (order.Get bucket key) h fit reads known =
-    let name : Name = record { bucket = bucket; key = key } in
-    let o = order.Get bucket key in
-    let before = now c P h time o in
-    row_reads_agree c P h time o known fit name (one_bucket P.buckets bucket known) (looking (number before) before.block name aim.Get) refl (get_ends (number before) before.block name (counted (at_time P time)) (has_at P name) reads)
-read_agrees c P time (order.Head bucket key) h fit reads known =
-    let name : Name = record { bucket = bucket; key = key } in
-    let o = order.Head bucket key in
-    let before = now c P h time o in
-    row_reads_agree c P h time o known fit name (one_bucket P.buckets bucket known) (looking (number before) before.block name aim.Head) refl (head_ends (number before) before.block name (counted (at_time P time)) (has_at P name))
-read_agrees c P time (order.Put bucket key body headers) h fit reads known = absurd reads
-read_agrees c P time (order.Delete bucket key) h fit reads known = absurd reads
-read_agrees c P time (order.Copy from_bucket from_key bucket key headers) h fit reads known = absurd reads
-read_agrees c P time (order.List bucket prefix) h fit reads known = absurd reads
-
--- whether or not the bucket is there
-pub reads_row_agree : (c : Cluster) (P : Plain) (time : ℕ) (order : Order) → Holds c P → fits c time order → ReadsRow P order → Agrees c P time order
-reads_row_agree c P time order h fit reads =
-    elim (are_buckets P.buckets (buckets_of order)) as (λ b. are_buckets P.buckets (buckets_of order) ≡ b → Agrees c P time order) [
-      | true ↦ λ e. read_agrees c P time order h fit reads e
-      | false ↦ λ e. agrees_refused c P h time order e
-    ] refl

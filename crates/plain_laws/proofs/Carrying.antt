@@ -102,7 +102,7 @@ module _ (c : Cluster) (P : Plain) (h : Holds c P) (time : ℕ) (order : Order) 
       let b = begins_so false e in (
         ap end_when b,
         subst (λ (s : State). Holds (record { run = s; ticked = max c.ticked time; members = c.members }) (at_time P time)) (sym (run_is ∙ ap (λ (o : Outcome). after_acts o.state (acts_when o)) b))
-            (holds_again c.members h.layout now (max c.ticked time) (at_time P time) h.is_layout h.members_are holding_now (record { ordered = h.map.ordered; keyed = h.map.keyed }) ticked_now h.ends),
+            (holds_again c.members h.layout now (max c.ticked time) (at_time P time) h.is_layout h.members_are holding_now (record { numbered = record { asked = h.map.numbered.asked; apart = h.map.numbered.apart }; ordered = h.map.ordered; keyed = h.map.keyed }) ticked_now h.ends),
       )
 
   -- ---- an order that is carried out
@@ -113,6 +113,10 @@ module _ (c : Cluster) (P : Plain) (h : Holds c P) (time : ℕ) (order : Order) 
 
     abbrev pub drained_state : State
     drained_state = (drains all_messages asked_state).state
+
+    -- what asks fits
+    pub open_fits : fits c time order → FitAll any_join words now.world (opened now asker_now order).moves
+    open_fits f = subst (λ (o : Outcome). FitAll any_join words now.world o.moves) (begins_so true known) f.1.1.0
 
     -- the deliveries after the request was asked fit
     pub drain_fits : fits c time order → FitAll any_join words asked_state.world (drains all_messages asked_state).moves

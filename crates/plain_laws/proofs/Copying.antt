@@ -90,7 +90,7 @@ module _ (c : Cluster) (P : Plain) (h : Holds c P) (clash : NoClash P.buckets) (
     looks_again : (m : ℕ) (t : State) → HasRead l h.is_layout before n q (kind_of order) (name_of order) read_flow sought set all_here m t → Reads c P h clash time order known fit name there w short in_row (delivers t m).state
     looks_again m t r =
         let g = seeks_then l h.is_layout before n q (kind_of order) (name_of order) read_flow sought set all_here then_flow (asks_for name) (a_row 1 (row_key name) (row_of name (has_at P name))) (refl, refl) (asks_is_step q name) m t r (reads_then (clock (moved l h.is_layout before n q m t).world n)) in
-        record { open_so = g.0; reading = g.1 }
+        record { open_so = g.0; reading = g.1.0; owed = g.1.1 }
 
     abbrev Copies : State → Type 0
     Copies t = Looks t ⊎ MayWrite c P h clash time order known fit name there w short in_row t
@@ -112,7 +112,7 @@ module _ (c : Cluster) (P : Plain) (h : Holds c P) (clash : NoClash P.buckets) (
         let u : State = (drains all_messages start).state in
         let none = emptied_from start begun.open_so.is.marked fit' in
         let ended : HasWritten c P h clash time order known fit name there w short in_row u = elim (drains_keep Copies copies_next all_messages start (inl begun) fit') [
-          | inl g ↦ absurd (reads_out l h.is_layout before n q (kind_of order) (name_of order) read_flow sought set all_here tt u g none)
+          | inl g ↦ absurd (reads_out l h.is_layout before n q (kind_of order) (name_of order) read_flow sought set all_here u g none)
           | inr g ↦ write_ends c P h clash time order known fit name there w short in_row u g none
         ] in
         wrote_agrees c P h clash time order known fit name there w short in_row answered_so

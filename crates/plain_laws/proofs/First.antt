@@ -1,5 +1,5 @@
 -- A first layout that was installed holds the empty map.
-use Rattle.std.specs.Prelude.{◌≡◌, ℕ, Bool, true, false, cond, Some, None, List, [], refl}
+use Rattle.std.specs.Prelude.{◌≡◌, ℕ, Bool, true, false, cond, Some, None, List, [], ◌++◌, refl}
 use Rattle.std.specs.Option.{unwrap_or}
 use Rattle.std.proofs.Common.{sym, ap, ◌∙◌}
 use Rattle.std.proofs.lemmas.List.Elements.{All-nil}
@@ -15,6 +15,7 @@ use Rattle.layout_roles.specs.declared.layout.Layout.{Layout}
 use Rattle.object_schema.specs.Schema.{words}
 use Rattle.table_model.specs.Rows.{AllProper, rows, rows_in, row_at}
 use Rattle.flow_model.specs.Rows.{row_key}
+use Rattle.row_codec.specs.Spelling.{eight}
 use Rattle.world_laws.proofs.Sets.{first_is_layout}
 use Rattle.cluster_machine.specs.Choices.{IsFirst}
 use Rattle.store_model.specs.Run.{start}
@@ -58,7 +59,11 @@ first_holds first buckets block ticked is = record {
   ticked = refl;
   requests = refl;
   asked = refl;
-  map = record { ordered = tt; keyed = tt };
+  map = record { numbered = record { asked = λ name version e. absurd (cc); apart = λ a b u v e f same. absurd (cc) }; ordered = tt; keyed = tt };
+  fresh = record {
+    versions = λ n id more low. at_node first (λ x. row_at any_join words x.accepted 2 (eight id) ≡ None) refl refl (there n);
+    references = λ n id hash more low size. at_node first (λ x. row_at any_join words x.accepted 3 (hash ++ eight id) ≡ None) refl refl (there n);
+  };
   ends = λ q more. refl;
 }
   where

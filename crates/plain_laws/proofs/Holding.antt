@@ -1,5 +1,5 @@
 -- A state that holds a map, and steps that change none of it.
-use Rattle.std.proofs.Common.{◌≡◌, ◌≤◌, ◌<◌, ℕ, None, List, ◌++◌, length, sym, ap, ◌∙◌, subst, arith}
+use Rattle.std.proofs.Common.{◌≡◌, ◌≤◌, ◌<◌, ℕ, Some, None, List, ◌++◌, length, refl, sym, ap, ◌∙◌, subst, arith}
 use Rattle.std.specs.Prelude.{IsTrue}
 use Rattle.std.specs.List.{Contains}
 use Rattle.blake2_hash.specs.Blake2b.{blake2b}
@@ -12,19 +12,22 @@ use Rattle.table_model.specs.Rows.{AllProper, row_at, rows, rows_in}
 use Rattle.quorum_model.specs.Quorum.{is_among}
 use Rattle.cluster_machine.specs.Layouts.{layouts}
 use Rattle.cluster_machine.specs.Blocks.{AllStocked}
+use Rattle.cluster_machine.specs.Rows.{block_at}
 use Rattle.cluster_machine.specs.Run.{IsLayout}
 use Rattle.flow_model.specs.declared.flow.Name.{Name}
-use Rattle.flow_model.specs.Blocks.{piece_hash}
-use Rattle.flow_model.specs.Rows.{row_key}
+use Rattle.flow_model.specs.Blocks.{piece, piece_hash}
+use Rattle.flow_model.specs.Rows.{row_key, reference_row}
 use Rattle.flow_model.specs.Says.{named_by}
 use Rattle.row_codec.specs.Spelling.{eight}
 use Rattle.store_model.specs.Run.{World, State}
 use Rattle.store_model.specs.Acts.{end_of}
 use Rattle.serve_model.specs.Clusters.{Cluster}
+use Rattle.store_laws.proofs.Objects.{digest_length}
+use Rattle.crdt_rows.specs.declared.version.Version.{Version}
 use Rattle.drained_laws.specs.Calm.{IsAtRest}
 use Rattle.drained_laws.specs.Drained.{AreEqual, accepted_in}
-use Rattle.plain_laws.specs.Plain.{Has, never, deleted, object, Plain, has_at, row_of, IsMap}
-use Rattle.plain_laws.specs.Holds.{nodes_at, HasBlocks, HasItsBlocks, Holds}
+use Rattle.plain_laws.specs.Plain.{Has, never, deleted, object, Plain, has_at, row_of, version_in, IsMap}
+use Rattle.plain_laws.specs.Holds.{nodes_at, HasBlocks, HasItsBlocks, IsFresh, Holds}
 
 -- what holds of the state of a cluster that holds a map, but for the ends of requests
 pub record Holding (l : Layout) (P : Plain) (t : State) : Type 0 where
@@ -40,6 +43,7 @@ pub record Holding (l : Layout) (P : Plain) (t : State) : Type 0 where
   pub clock : t.world.time ≡ P.clock
   pub requests : length t.world.requests ≡ P.asked
   pub asked : length t.asked ≡ P.asked
+  pub fresh : IsFresh t.world P.asked
 
 pub held : (c : Cluster) (P : Plain) (h : Holds c P) → Holding h.layout P c.run
 held c P h = record {
@@ -54,6 +58,7 @@ held c P h = record {
   clock = h.clock;
   requests = h.requests;
   asked = h.asked;
+  fresh = h.fresh;
 }
 
 pub holds_again : (members : List ℕ) (l : Layout) (t : State) (k : ℕ) (P : Plain) → IsLayout layouts 256 l → members ≡ layouts.reading.members l → Holding l P t → IsMap P → k ≡ P.ticked → ((q : ℕ) → P.asked < q → end_of t.ends q ≡ None) → Holds (record { run = t; ticked = k; members = members }) P
@@ -74,6 +79,7 @@ holds_again members l t k P layout same h map ticked ends = record {
   requests = h.requests;
   asked = h.asked;
   map = map;
+  fresh = h.fresh;
   ends = ends;
 }
 
@@ -85,37 +91,55 @@ equal_moved l a b same equal = record {
   nobody = λ p n low other. ap (λ rs. rows_in words p (rows any_join words rs)) (same n) ∙ equal.nobody p n low other;
 }
 
--- blocks stay where the rows of the later tables stay
-pub blocks_moved : (l : Layout) (w v : World) → ((n table : ℕ) (key : List ℕ) → 2 ≤ table → row_at any_join words (v.nodes n).accepted table key ≡ row_at any_join words (w.nodes n).accepted table key) → (has : Has) → HasItsBlocks l w has → HasItsBlocks l v has
-blocks_moved l w v same never h = h
-blocks_moved l w v same (deleted version) h = h
-blocks_moved l w v same (object version block c) h = λ long.
+-- a block that some row needs stays
+abbrev pub KeepsBlocks : World → World → Type 0
+KeepsBlocks w v = (n : ℕ) (key : List ℕ) (row : AnyRow) (hash given : List ℕ) → row_at any_join words (w.nodes n).accepted 3 key ≡ Some row → words.live_block row ≡ Some hash → block_at (w.nodes n).blocks hash ≡ Some given → block_at (v.nodes n).blocks hash ≡ Some given
+
+-- the rows of the later tables of this version are the same
+pub record SameOf (w v : World) (id : ℕ) : Type 0 where
+  pub row : (n : ℕ) → row_at any_join words (v.nodes n).accepted 2 (eight id) ≡ row_at any_join words (w.nodes n).accepted 2 (eight id)
+  pub references : (n : ℕ) (hash : List ℕ) → length hash ≡ 32 → row_at any_join words (v.nodes n).accepted 3 (hash ++ eight id) ≡ row_at any_join words (w.nodes n).accepted 3 (hash ++ eight id)
+
+-- a version's blocks stay where the rows of the later tables stay, and the blocks that they need
+pub blocks_moved : (l : Layout) (w v : World) → KeepsBlocks w v → (has : Has) → ((version : Version) → version_in has ≡ Some version → SameOf w v version.id) → HasItsBlocks l w has → HasItsBlocks l v has
+blocks_moved l w v keeps never same h = h
+blocks_moved l w v keeps (deleted version) same h = h
+blocks_moved l w v keeps (object version block c) same h = λ long.
+    let of_it : SameOf w v version.id = same version refl in
     let b : HasBlocks l w version block c = h long in
     record {
       count = b.count;
+      pieces_there = b.pieces_there;
       no_more = b.no_more;
-      named = λ n there. ap (λ o. named_by o (length c.body)) (same n 2 (eight version.id) (omega arith)) ∙ b.named n there;
-      referenced = λ i n has there. same n 3 ((piece_hash block c.body i).0 ++ eight version.id) (omega arith) ∙ b.referenced i n has there;
+      named = λ n there. ap (λ o. named_by o (length c.body)) (of_it.row n) ∙ b.named n there;
+      referenced = λ i n has there. of_it.references n (piece_hash block c.body i).0 (digest_length (piece block c.body i)) ∙ b.referenced i n has there;
+      kept = λ i n has there. keeps n ((piece_hash block c.body i).0 ++ eight version.id) (reference_row version.id block c.body i) (piece_hash block c.body i).0 (piece block c.body i) (b.referenced i n has there) refl (b.kept i n has there);
     }
 
 -- nothing goes on after a change either, and no row was accepted
 pub record IsAlike (l : Layout) (t u : State) : Type 0 where
   pub rest : IsAtRest layouts l u.world
   pub accepted : (n : ℕ) → (u.world.nodes n).accepted ≡ (t.world.nodes n).accepted
+  pub kept : KeepsBlocks t.world u.world
   pub skews : (n : ℕ) → u.world.skew_of n ≡ t.world.skew_of n
   pub stocked : AllStocked (blake2b 32) words any_join u.world
   pub buckets : u.buckets ≡ t.buckets
   pub block : u.block ≡ t.block
 
 -- so it holds the same map
-pub holds_on : (l : Layout) (P : Plain) (t u : State) → Holding l P t → IsAlike l t u → (clock ticked asked : ℕ) → u.world.time ≡ clock → length u.world.requests ≡ asked → length u.asked ≡ asked → Holding l (record P { clock = clock; ticked = ticked; asked = asked }) u
-holds_on l P t u h a clock ticked asked time requests counted = record {
+pub holds_on : (l : Layout) (P : Plain) (t u : State) → Holding l P t → IsAlike l t u → (clock ticked asked : ℕ) → P.asked ≤ asked → u.world.time ≡ clock → length u.world.requests ≡ asked → length u.asked ≡ asked → Holding l (record P { clock = clock; ticked = ticked; asked = asked }) u
+holds_on l P t u h a clock ticked asked more time requests counted = record {
   rest = a.rest;
   skews = λ n. a.skews n ∙ h.skews n;
   equal = equal_moved l (accepted_in any_join words layouts l t.world) (accepted_in any_join words layouts l u.world) a.accepted h.equal;
   stocked = a.stocked;
   rows = λ name n known there. ap (λ rs. row_at any_join words rs 1 (row_key name)) (a.accepted n) ∙ h.rows name n known there;
-  blocks = λ name known. blocks_moved l t.world u.world (λ n table key later. ap (λ rs. row_at any_join words rs table key) (a.accepted n)) (has_at P name) (h.blocks name known);
+  blocks = λ name known. blocks_moved l t.world u.world a.kept (has_at P name)
+      (λ version e. record { row = λ n. ap (λ rs. row_at any_join words rs 2 (eight version.id)) (a.accepted n); references = λ n hash size. ap (λ rs. row_at any_join words rs 3 (hash ++ eight version.id)) (a.accepted n) }) (h.blocks name known);
+  fresh = record {
+    versions = λ n id later low. ap (λ rs. row_at any_join words rs 2 (eight id)) (a.accepted n) ∙ h.fresh.versions n id (omega (arith, later, more)) low;
+    references = λ n id hash later low size. ap (λ rs. row_at any_join words rs 3 (hash ++ eight id)) (a.accepted n) ∙ h.fresh.references n id hash (omega (arith, later, more)) low size;
+  };
   buckets = a.buckets ∙ h.buckets;
   block = a.block ∙ h.block;
   clock = time;

@@ -163,12 +163,11 @@ module _ (c : Cluster) (P : Plain) (h : Holds c P) (time : ℕ) (bucket prefix :
         append_assoc so_far (shown_rows (the_window after).rows) (shown_rows (left past))
         ∙ (ap (λ x. so_far ++ x) (sym (shown_append (the_window after).rows (left past)) ∙ ap shown_rows (sym (goes_on_so after past e))) ∙ total)
 
-    turn_at : Turns c P h time list known fit Course end (flow_with so_far) (asks_past bucket prefix after)
+    turn_at : Turns c P h time list known fit Course (End end) (flow_with so_far) (asks_past bucket prefix after)
     turn_at = record {
       sought = a_window (place ++ prefix) (place ++ after) (the_answer after);
       asks_so = (refl, refl);
       is_step = scan_is_step (number before) bucket prefix after;
-      counted = tt;
       all = all_had after;
       then = λ now.
           elim (the_window after).end as (λ e. (the_window after).end ≡ e → (listed e ≡ End end) ⊎ ((other : Flow) × (more : Phase AnyRow) × (listed e ≡ More other more) × Course other more)) [
@@ -182,10 +181,10 @@ module _ (c : Cluster) (P : Plain) (h : Holds c P) (time : ℕ) (bucket prefix :
           ] refl;
     }
 
-  turn : (flow : Flow) (phase : Phase AnyRow) → Course flow phase → Turns c P h time list known fit Course end flow phase
+  turn : (flow : Flow) (phase : Phase AnyRow) → Course flow phase → Turns c P h time list known fit Course (End end) flow phase
   turn flow phase c' =
-      subst (λ f. Turns c P h time list known fit Course end f phase) (sym c'.flow_is)
-      (subst (Turns c P h time list known fit Course end (flow_with c'.so_far)) (sym c'.phase_is) (turn_at c'.after c'.so_far c'.total))
+      subst (λ f. Turns c P h time list known fit Course (End end) f phase) (sym c'.flow_is)
+      (subst (Turns c P h time list known fit Course (End end) (flow_with c'.so_far)) (sym c'.phase_is) (turn_at c'.after c'.so_far c'.total))
 
   pub list_agrees : Agrees c P time list
   list_agrees =

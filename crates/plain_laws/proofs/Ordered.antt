@@ -15,14 +15,13 @@ use Rattle.flow_model.specs.declared.order.Order.{Order}
 use Rattle.flow_model.specs.declared.order.Order.TheVariants as order
 use Rattle.flow_model.specs.declared.flow.Name.{Name}
 use Rattle.flow_model.specs.declared.flow.Content.{Content}
-use Rattle.flow_model.specs.declared.flow.Wish.{Wish}
-use Rattle.flow_model.specs.declared.flow.Wish.TheVariants as wish
 use Rattle.store_model.specs.Orders.{buckets_of}
 use Rattle.store_model.specs.Run.{are_buckets}
 use Rattle.store_model.specs.Acts.{HasKey}
 use Rattle.serve_model.specs.Stores.{Carried}
-use Rattle.plain_laws.specs.Plain.{Has, never, deleted, object, Entry, Plain, same_name, has_at, with_has, version_of, made, writes, with_object, at_time, counted, answered, plain, IsBefore, AreInOrder, IsMap}
+use Rattle.plain_laws.specs.Plain.{Has, never, deleted, object, Entry, Plain, same_name, has_at, with_has, with_object, at_time, counted, answered, plain, IsBefore, AreInOrder, IsMap}
 use Rattle.plain_laws.proofs.Entries.{name_itself, names_equal}
+use Rattle.plain_laws.proofs.Numbered.{carries_numbered}
 
 less_by : (o : Ordering) → is_lt o ≡ true → o ≡ Less
 less_by Less e = refl
@@ -143,6 +142,7 @@ keyed_writes Q (order.List bucket prefix) some keyed = tt
 -- an order whose object has a key leads from a map to a map
 pub carries_map : (P : Plain) (time : ℕ) (order : Order) → HasKey order → IsMap P → IsMap (plain.carries P time order).state
 carries_map P time order some is = record {
+  numbered = carries_numbered P time order is.numbered;
   ordered = carries_ordered P time order is.ordered;
   keyed = carries_keep HaveKeys P time order is.keyed (keyed_writes (counted (at_time P time)) order some is.keyed);
 }

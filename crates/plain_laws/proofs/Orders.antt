@@ -19,15 +19,15 @@ use Rattle.plain_laws.specs.Plain.{Has, never, deleted, object, Plain, same_name
 use Rattle.plain_laws.specs.Holds.{Holds, Agrees, IsInRow, AllInRows, IsOfRows, ends_of}
 use Rattle.plain_laws.proofs.Entries.{names_equal, has_new, has_others}
 use Rattle.plain_laws.proofs.Smalls.{IsShort}
-use Rattle.plain_laws.proofs.Answering.{reads_row_agree}
+use Rattle.plain_laws.proofs.Reading.{reads_agree_all}
 use Rattle.plain_laws.proofs.Writing.{writes_row_agree}
 use Rattle.plain_laws.proofs.Copying.{copies_row_agree}
 use Rattle.plain_laws.proofs.Listing.{lists_agree}
 
 row_order_agrees : (c : Cluster) (P : Plain) (time : ℕ) (order : Order) → Holds c P → NoClash P.buckets → AllInRows P → fits c time order → IsOfRows order → Agrees c P time order
 row_order_agrees c P time (order.Put bucket key body headers) h clash small fit short = writes_row_agree c P time (order.Put bucket key body headers) h clash fit (short, small (record { bucket = bucket; key = key }))
-row_order_agrees c P time (order.Get bucket key) h clash small fit short = reads_row_agree c P time (order.Get bucket key) h fit (small (record { bucket = bucket; key = key }))
-row_order_agrees c P time (order.Head bucket key) h clash small fit short = reads_row_agree c P time (order.Head bucket key) h fit tt
+row_order_agrees c P time (order.Get bucket key) h clash small fit short = reads_agree_all c P time (order.Get bucket key) h fit tt
+row_order_agrees c P time (order.Head bucket key) h clash small fit short = reads_agree_all c P time (order.Head bucket key) h fit tt
 row_order_agrees c P time (order.Delete bucket key) h clash small fit short = writes_row_agree c P time (order.Delete bucket key) h clash fit (small (record { bucket = bucket; key = key }))
 row_order_agrees c P time (order.Copy from_bucket from_key bucket key headers) h clash small fit short =
     copies_row_agree c P time (order.Copy from_bucket from_key bucket key headers) h clash fit (small (record { bucket = from_bucket; key = from_key }), small (record { bucket = bucket; key = key }))

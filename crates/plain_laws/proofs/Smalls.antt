@@ -39,12 +39,13 @@ use Rattle.flow_model.specs.Rows.{row_key, meta_of, same_number, settled, sized,
 use Rattle.plain_laws.specs.Plain.{Has, never, deleted, object, row_of, last_ts}
 use Rattle.plain_laws.specs.Holds.{IsInRow}
 
-before_by : (u v : Version) → u.ts < v.ts → version_cmp u v ≡ Less
+-- of two versions the one with the smaller timestamp is earlier
+pub before_by : (u v : Version) → u.ts < v.ts → version_cmp u v ≡ Less
 before_by u v low = rw (lt-ltb u.ts v.ts low) refl
 
 -- ---- rows with one complete version
 
-abbrev row_with : (name : Name) (version : Version) (state : State) → is_sized state ≡ true → ObjectRow
+abbrev pub row_with : (name : Name) (version : Version) (state : State) → is_sized state ≡ true → ObjectRow
 row_with name version state is_sized = record {
   bucket = digest_of name.bucket;
   key = name.key;
@@ -60,7 +61,7 @@ module _ (name : Name) (u v : Version) (old new : Body) (fit : is_sized (Complet
   abbrev b : ObjectRow
   b = row_with name v (Complete new) fits
 
-  later_stays : version_cmp u v ≡ Less → any_join (object_row name u (Complete old) fit) (object_row name v (Complete new) fits) ≡ object_row name v (Complete new) fits
+  pub later_stays : version_cmp u v ≡ Less → any_join (object_row name u (Complete old) fit) (object_row name v (Complete new) fits) ≡ object_row name v (Complete new) fits
   later_stays less =
       let tied : object_key_cmp (object_key a) (object_key b) ≡ Equal = tied_itself key_total (object_key a) in
       let m = map_join (max_join state_cmp) a.versions b.versions in
@@ -82,7 +83,7 @@ pub small_joined : (name : Name) (u v : Version) (old new : AnyRow) → IsSmall 
 small_joined name u v old new s t less =
     subst (λ r. any_join r new ≡ new) (sym s.is) (subst (λ r. any_join (object_row name u (Complete s.body) s.fits) r ≡ r) (sym t.is) (later_stays name u v s.body t.body s.fits t.fits (before_by u v less)))
 
-triggers_none : (name : Name) (u v : Version) (old new : Body) (fit : is_sized (Complete old) ≡ true) (fits : is_sized (Complete new) ≡ true) → has_blocks (Complete old) ≡ false →
+pub triggers_none : (name : Name) (u v : Version) (old new : Body) (fit : is_sized (Complete old) ≡ true) (fits : is_sized (Complete new) ≡ true) → has_blocks (Complete old) ≡ false →
     words.triggered (object_row name u (Complete old) fit) (object_row name v (Complete new) fits) ≡ []
 triggers_none name u v Marker new fit fits none = refl
 triggers_none name u v (Inline meta bytes) new fit fits none = refl

@@ -37,6 +37,7 @@ use Rattle.drained_laws.proofs.Waits.{sent_wait}
 use Rattle.drained_laws.proofs.Beginning.{rows_of}
 use Rattle.drained_laws.proofs.Deliveries.{one_changes}
 use Rattle.drained_laws.proofs.Steps.{rest_so, opening_leads, led_so, begun_some}
+use Rattle.plain_laws.proofs.Fetching.{Owes, owes_begun, step_low}
 use Rattle.plain_laws.proofs.Seeking.{Sought, IsIn, IsUpTo, IsSeeking, AsksFor, position_of, first_of, question_of, first_is_in, asks_each, asked_nodes, begin_asks, asks_no_rows, asks_no_blocks, seeking_begins}
 use Rattle.plain_laws.specs.Plain.{Plain}
 use Rattle.plain_laws.specs.Holds.{nodes_at}
@@ -120,6 +121,7 @@ module _ (l : Layout) (layout : IsLayout layouts 256 l) (P : Plain) (before : St
       let one_more : (i j : ℕ) → i ≡ j → i + 1 ≡ suc j = λ i j e. omega (arith, e) in
       let counted : length (w.requests ++ request ∷ []) ≡ q = length-append w.requests (request ∷ []) ∙ one_more (length w.requests) (length w.requests) refl in
       let asked_count : length before.asked ≡ length w.requests = holding.asked ∙ sym holding.requests in
+      let owes = owes_begun any_join layouts l layout Applied Cut (base l layout before n q) v is_v.0 n q o.call o.there phase sought asks_so (step_low words phase sought asks_so is_step) in
       let is_now : (is : IsAccounted words layouts l (base l layout before n q) reading_state.world) × (is.account.sent ≡ []) = subst (λ (x : World). (is : IsAccounted words layouts l (base l layout before n q) x) × (is.account.sent ≡ [])) (sym world_is) is_u in
       record {
         open_so = record {
@@ -142,4 +144,5 @@ module _ (l : Layout) (layout : IsLayout layouts 256 l) (P : Plain) (before : St
           ends_so = refl;
         };
         reading = (suc o.call.phases, subst (IsSeeking (suc o.call.phases) sought set (base l layout before n q) blocks) (sym world_is) read);
+        owed = subst (Owes any_join words layouts l n q (suc o.call.phases) set sought) (sym world_is) owes;
       }

@@ -1,32 +1,33 @@
--- A write of a row that isn't kept in blocks, where nothing else goes on: it reads, stores its row, and ends.
-use Rattle.std.proofs.Common.{◌≡◌, ◌⊎◌, ◌+◌, ℕ, true, Option, Some, None, List, [], ◌∷◌, ◌++◌, refl, sym, ap, ap₂, ◌∙◌, subst, inl, inr, arith}
-use Rattle.std.specs.Prelude.{IsTrue}
-use Rattle.std.specs.List.{AllByRecursion}
-use Rattle.std.proofs.lemmas.Bool.{and_parts}
+-- A write, where nothing else goes on: it reads, stores its rows, one store phase after the other, and ends.
+use Rattle.std.proofs.Common.{◌≡◌, ◌⊎◌, ◌<◌, ◌≤◌, ◌+◌, ℕ, zero, suc, true, false, Option, Some, None, List, [], ◌∷◌, ◌++◌, map, refl, sym, ap, ap₂, ◌∙◌, subst, inl, inr, arith}
+use Rattle.std.specs.Prelude.{nat_lt}
+use Rattle.std.specs.List.{AllByRecursion, list_all}
+use Rattle.std.proofs.lemmas.Bool.{ltb-false, ltb-true}
+use Rattle.blake2_hash.specs.Blake2b.{blake2b}
+use Rattle.blake2_hash.specs.Hash.{digest_of}
 use Rattle.layout_roles.specs.declared.layout.Layout.{Layout}
 use Rattle.layout_roles.specs.declared.cut.Cut.{Cut}
-use Rattle.blake2_hash.specs.Hash.{digest_of}
-use Rattle.crdt_core.specs.Order.{option_join}
-use Rattle.crdt_core.proofs.Each.{all_weaker}
 use Rattle.crdt_rows.specs.declared.any_row.AnyRow.{AnyRow}
 use Rattle.crdt_rows.specs.AnyRow.{any_join}
 use Rattle.object_schema.specs.Schema.{words}
-use Rattle.table_schema.specs.Words.{partition_at}
 use Rattle.table_model.specs.Rows.{row_at}
-use Rattle.quorum_model.specs.Quorum.{is_among}
+use Rattle.wire_messages.specs.declared.message.Message.{Message}
+use Rattle.wire_messages.specs.declared.message.Message.TheVariants.{Get, Row as RowIs, Range, Rows, BlockGet, Block as BlockIs, NoBlock, NotHere}
+use Rattle.wire_messages.specs.declared.phase.Phase.TheVariants.{Store}
 use Rattle.wire_messages.specs.declared.phase.PhaseEnd.TheVariants.{Row, Kept}
 use Rattle.cluster_machine.specs.declared.applied.Applied.{Applied}
 use Rattle.cluster_machine.specs.declared.step.Refusal.TheVariants.{VersionLimit}
 use Rattle.cluster_machine.specs.declared.step.Step.TheVariants as step
-use Rattle.cluster_machine.specs.Layouts.{layouts, set_of}
+use Rattle.cluster_machine.specs.Layouts.{layouts}
 use Rattle.cluster_machine.specs.Node.{Packet, says, shows}
 use Rattle.cluster_machine.specs.Phases.{is_spelled}
-use Rattle.cluster_machine.specs.Rows.{called_for}
+use Rattle.cluster_machine.specs.Blocks.{BringsBlocks}
+use Rattle.cluster_machine.specs.Rows.{block_at, called_for}
 use Rattle.cluster_machine.specs.Receives.{receives, hears}
 use Rattle.cluster_machine.specs.World.{Sent, numbered, clock, undelivered}
 use Rattle.cluster_machine.specs.Worlds.{Done as Effect, FitAll}
 use Rattle.cluster_machine.specs.Step.{none_given, did, received, at_message, applied}
-use Rattle.cluster_machine.specs.Run.{IsLayout}
+use Rattle.cluster_machine.specs.Run.{IsLayout, IsStep}
 use Rattle.cluster_machine.specs.Trio.{trio, stage_trio}
 use Rattle.history_model.specs.declared.record.Kind.{Kind}
 use Rattle.flow_model.specs.declared.flow.Name.{Name}
@@ -34,31 +35,54 @@ use Rattle.flow_model.specs.declared.flow.Flow.{Flow}
 use Rattle.flow_model.specs.declared.flow.FlowStep.TheVariants.{More, End}
 use Rattle.flow_model.specs.declared.flow.FlowEnd.{FlowEnd}
 use Rattle.flow_model.specs.Rows.{row_key}
-use Rattle.flow_model.specs.Next.{next, stores}
-use Rattle.store_model.specs.Run.{World, State, Outcome, Asked, plainly, phases, effect, draws_of, takes, follow, goes_on, goes, finishes, delivers}
-use Rattle.store_laws.proofs.Placing.{IsPlaced}
+use Rattle.flow_model.specs.Next.{next}
+use Rattle.store_model.specs.Run.{World, State, Outcome, Asked, Draw, plainly, phases, effect, draws_of, takes, follow, goes_on, goes, finishes, delivers}
+use Rattle.crdt_core.proofs.Each.{all_append, all_weaker}
 use Rattle.drained_laws.specs.Waiting.{Has, fresh, waiting}
-use Rattle.drained_laws.specs.Accounts.{IsDue, IsUsual, IsAccounted}
+use Rattle.drained_laws.specs.Accounts.{Carries, IsDue, IsUsual, IsAccounted}
+use Rattle.drained_laws.proofs.Replies.{carries_more}
 use Rattle.machine_origins.proofs.Lists.{all_parts}
-use Rattle.drained_laws.proofs.Waits.{taken}
+use Rattle.drained_laws.proofs.Waits.{taken, all_has}
 use Rattle.drained_laws.proofs.Deliveries.{one_changes}
 use Rattle.drained_laws.proofs.Steps.{at_number}
 use Rattle.drained_laws.proofs.Drained.{no_phase_when_drained}
 use Rattle.drained_laws.proofs.Weights.{first_fresh, none_waits}
 use Rattle.plain_laws.specs.Holds.{nodes_at}
 use Rattle.plain_laws.proofs.Frames.{begin_is}
-use Rattle.plain_laws.proofs.Accepted.{AllRow, over, has_either, stays_idle}
-use Rattle.plain_laws.proofs.Seeking.{Sought, a_row}
-use Rattle.plain_laws.proofs.Requests.{IsResting, IsStoring, storing_stays, storing_open, storing_ends, base, Open, Done, moved, ends_of, delivered_open, delivered_done, finished, finished_leaves, stores_next, stores_items}
+use Rattle.plain_laws.proofs.Accepted.{stays_idle, keeps_block}
+use Rattle.plain_laws.proofs.Given.{AreGiven, AllKept, StoresGiven, IsGiven, given_next}
+use Rattle.plain_laws.proofs.Seeking.{Sought, a_row, IsOfSearch, IsSeeking}
+use Rattle.plain_laws.proofs.Requests.{IsResting, IsStoring, storing_stays, storing_open, storing_ends, base, Open, Done, moved, ends_of, delivered_open, delivered_done, finished, finished_leaves, stores_next, stores_items, stores_blocks, stores_given}
 use Rattle.plain_laws.proofs.Looks.{AllHad, asks, Asking, HasRead, reads_on, reads_out, sees, open_seen}
+
+-- what a write stores, phase by phase, and how its flow goes on
+pub record Course (q : ℕ) (flow_at : ℕ → Flow) (rows_at : ℕ → List (AnyRow × Option (List ℕ))) (last : ℕ) (end : FlowEnd) : Type 0 where
+  pub goes_so : (j : ℕ) → j < last → (now : ℕ) → next (flow_at j) Kept now ≡ More (flow_at (suc j)) (Store (rows_at (suc j)))
+  pub ends_so : (now : ℕ) → next (flow_at last) Kept now ≡ End end
+  pub is_step : (j : ℕ) → IsStep words 256 (phases q (Store (rows_at j))).step
+  pub brings : (j : ℕ) → BringsBlocks (blake2b 32) words (Store (rows_at j))
+
+-- the rows of a phase
+abbrev pub new_rows : (ℕ → List (AnyRow × Option (List ℕ))) → ℕ → List AnyRow
+new_rows rows_at j = map (λ (r : AnyRow × Option (List ℕ)). r.0) (rows_at j)
+
+-- the rows of the phases up to this one
+abbrev pub sent_to : (ℕ → List (AnyRow × Option (List ℕ))) → ℕ → List AnyRow
+sent_to rows_at zero = new_rows rows_at 0 ++ []
+sent_to rows_at (suc j) = new_rows rows_at (suc j) ++ sent_to rows_at j
+
+-- what is said of the rows and of the bytes that come beside them
+pub record AreSuch (rows_at : ℕ → List (AnyRow × Option (List ℕ))) (Mine : AnyRow → Type 0) (Bytes : List ℕ → Type 0) : Type 0 where
+  pub mine : (j : ℕ) → AllByRecursion Mine (new_rows rows_at j)
+  pub given : (j : ℕ) → AllByRecursion (λ (r : AnyRow × Option (List ℕ)). AreGiven Bytes r.1) (rows_at j)
 
 module _ (l : Layout) (layout : IsLayout layouts 256 l) (before : State) (n q : ℕ) (kind : Kind) (object name : Name) (flow : Flow) (value : Option AnyRow)
     (all : AllHad l layout before n q kind object (a_row 1 (row_key name) value) (nodes_at l (digest_of name.bucket).0))
-    (row : AnyRow) (next_flow : Flow) (end : FlowEnd)
-    (writes_so : next flow (Row value) (before.world.time + before.world.skew_of n) ≡ More next_flow (stores row))
-    (ends_so : (now : ℕ) → next next_flow Kept now ≡ End end)
-    (placed : IsPlaced row) (bare : words.live_block row ≡ None) (table_is : words.table row ≡ 1) (key_is : words.key row ≡ row_key name) (position_is : words.position row ≡ (digest_of name.bucket).0)
-    (joined : option_join any_join value (Some row) ≡ Some row) (itself : any_join row row ≡ row) (calls_none : called_for any_join words value (Some row) ≡ []) (itself_none : words.triggered row row ≡ []) where
+    (flow_at : ℕ → Flow) (rows_at : ℕ → List (AnyRow × Option (List ℕ))) (last : ℕ) (end : FlowEnd) (course : Course q flow_at rows_at last end)
+    (writes_so : next flow (Row value) (before.world.time + before.world.skew_of n) ≡ More (flow_at 0) (Store (rows_at 0)))
+    (Mine : AnyRow → Type 0) (Bytes : List ℕ → Type 0) (such : AreSuch rows_at Mine Bytes) (given_before : (m : ℕ) → AllKept Bytes (before.world.nodes m).blocks)
+    (idle_so : (m : ℕ) (news : List AnyRow) → AllByRecursion Mine news → (r : AnyRow) → Mine r → IsDue words layouts l m r →
+    (let older = news ++ base l layout before n q m in called_for any_join words (row_at any_join words older (words.table r) (words.key r)) (row_at any_join words (r ∷ older) (words.table r) (words.key r)) ≡ [])) where
   abbrev had : ℕ → List AnyRow
   had = base l layout before n q
 
@@ -68,123 +92,149 @@ module _ (l : Layout) (layout : IsLayout layouts 256 l) (before : State) (n q : 
   abbrev sought : Sought AnyRow
   sought = a_row 1 (row_key name) value
 
-  abbrev asking_so : Asked
-  asking_so = asks l layout before n q kind object flow
-
-  abbrev storing_so : Asked
-  storing_so = record asking_so { flow = Some next_flow }
+  abbrev storing_so : ℕ → Asked
+  storing_so j = record (asks l layout before n q kind object flow) { flow = Some (flow_at j) }
 
   abbrev AsksFor : State → Type 0
   AsksFor t = Asking l layout before n q kind object flow sought set all t
 
-  due_is : (m : ℕ) → IsDue words layouts l m row → IsTrue (is_among m set)
-  due_is m due = subst (λ p. IsTrue (is_among m (set_of layouts l (partition_at p)))) position_is due
+  abbrev sent_at : ℕ → List AnyRow
+  sent_at j = sent_to rows_at j
 
-  -- ---- outboxes stay empty
+  pub all_mine : (j : ℕ) → AllByRecursion Mine (sent_at j)
+  all_mine zero = all_append Mine (new_rows rows_at 0) [] (such.mine 0) tt
+  all_mine (suc j) = all_append Mine (new_rows rows_at (suc j)) (sent_at j) (such.mine (suc j)) (all_mine j)
 
-  only_row : (r : AnyRow) → Has (row ∷ []) r → r ≡ row
-  only_row r (inl e) = sym e
-  only_row r (inr h) = absurd h
+  -- ---- what deliveries keep
 
-  called_at : (older : List AnyRow) → (row_at any_join words older 1 (row_key name) ≡ value) ⊎ (row_at any_join words older 1 (row_key name) ≡ Some row) →
-      called_for any_join words (row_at any_join words older 1 (row_key name)) (row_at any_join words (row ∷ older) 1 (row_key name)) ≡ []
-  called_at older (inl e) =
-      ap (called_for any_join words (row_at any_join words older 1 (row_key name))) (over any_join words row 1 (row_key name) table_is key_is older ∙ (ap (λ o. option_join any_join o (Some row)) e ∙ joined))
-      ∙ (ap (λ o. called_for any_join words o (Some row)) e ∙ calls_none)
-  called_at older (inr e) =
-      ap (called_for any_join words (row_at any_join words older 1 (row_key name))) (over any_join words row 1 (row_key name) table_is key_is older ∙ (ap (λ o. option_join any_join o (Some row)) e ∙ ap Some itself))
-      ∙ (ap (λ o. called_for any_join words o (Some row)) e ∙ itself_none)
+  -- outboxes are empty, blocks that were there are there, and others came beside rows
+  pub record Keeps (w : World) : Type 0 where
+    pub idle : (m : ℕ) → (w.nodes m).items ≡ []
+    pub kept : (m : ℕ) (hash given : List ℕ) → block_at (before.world.nodes m).blocks hash ≡ Some given → block_at (w.nodes m).blocks hash ≡ Some given
+    pub given : IsGiven Bytes w
 
-  called_none : (older : List AnyRow) (r : AnyRow) → r ≡ row → (row_at any_join words older 1 (row_key name) ≡ value) ⊎ (row_at any_join words older 1 (row_key name) ≡ Some row) →
-      called_for any_join words (row_at any_join words older (words.table r) (words.key r)) (row_at any_join words (r ∷ older) (words.table r) (words.key r)) ≡ []
-  called_none older r same e =
-      subst (λ r. called_for any_join words (row_at any_join words older (words.table r) (words.key r)) (row_at any_join words (r ∷ older) (words.table r) (words.key r)) ≡ []) (sym same)
-      (subst (λ t. called_for any_join words (row_at any_join words older t (words.key row)) (row_at any_join words (row ∷ older) t (words.key row)) ≡ []) (sym table_is)
-      (subst (λ k. called_for any_join words (row_at any_join words older 1 k) (row_at any_join words (row ∷ older) 1 k) ≡ []) (sym key_is) (called_at older e)))
-
-  abbrev pub Idle : World → Type 0
-  Idle w = (m : ℕ) → (w.nodes m).items ≡ []
-
-  module _ (w : World) (is : IsAccounted words layouts l had w) (sent_so : is.account.sent ≡ row ∷ []) where
-    -- what nodes accepted is this row
-    pub news_are : (m : ℕ) → AllRow any_join words row 1 (row_key name) (is.account.news m)
-    news_are m = all_weaker (λ r. Has is.account.sent r × IsDue words layouts l m r) (λ r. r ≡ row) (λ r h. only_row r (subst (λ rs. Has rs r) sent_so h.0)) (is.account.news m) (is.sound.only m)
+  module _ (w : World) (is : IsAccounted words layouts l had w) (j : ℕ) (sent_so : is.account.sent ≡ sent_at j) where
+    pub news_mine : (m : ℕ) → AllByRecursion Mine (is.account.news m)
+    news_mine m = all_weaker (λ r. Has is.account.sent r × IsDue words layouts l m r) Mine (λ r h. all_has Mine (sent_at j) r (all_mine j) (subst (λ rs. Has rs r) sent_so h.0)) (is.account.news m) (is.sound.only m)
 
     pub accepted_so : (m : ℕ) → (w.nodes m).accepted ≡ is.account.news m ++ had m
     accepted_so m = is.sound.accepted m ∙ ap (λ (b : ℕ → List AnyRow). is.account.news m ++ b m) is.began_so
 
-    has_one : (m : ℕ) → IsTrue (is_among m set) → (row_at any_join words (w.nodes m).accepted 1 (row_key name) ≡ value) ⊎ (row_at any_join words (w.nodes m).accepted 1 (row_key name) ≡ Some row)
-    has_one m there =
-        subst (λ rs. (row_at any_join words rs 1 (row_key name) ≡ value) ⊎ (row_at any_join words rs 1 (row_key name) ≡ Some row)) (sym (accepted_so m))
-        (has_either any_join words row 1 (row_key name) table_is key_is value joined itself (had m) (all m there) (is.account.news m) (news_are m))
+    calls_none : (m : ℕ) (r : AnyRow) → Has is.account.sent r → IsDue words layouts l m r → called_for any_join words (row_at any_join words (w.nodes m).accepted (words.table r) (words.key r)) (row_at any_join words (r ∷ (w.nodes m).accepted) (words.table r) (words.key r)) ≡ []
+    calls_none m r was due =
+        subst (λ older. called_for any_join words (row_at any_join words older (words.table r) (words.key r)) (row_at any_join words (r ∷ older) (words.table r) (words.key r)) ≡ []) (sym (accepted_so m))
+        (idle_so m (is.account.news m) (news_mine m) r (all_has Mine (sent_at j) r (all_mine j) (subst (λ rs. Has rs r) sent_so was)) due)
 
-    idle_packet : Idle w → (m : ℕ) (p : Packet AnyRow Layout) (first rest : List (Sent AnyRow Layout)) (from to moment : ℕ) → waiting w ≡ first ++ record { from = from; to = to; packet = p; moment = moment } ∷ rest →
-        (let e : Effect AnyRow = received m (did w to (receives any_join words layouts to (clock w to) (w.nodes to) from p)) in Idle (applied w e))
-    idle_packet idle m (shows v) first rest from to moment was =
-        let u = subst (AllByRecursion (IsUsual words layouts l is.account.sent)) was is.sound.messages in
-        absurd (all_parts (IsUsual words layouts l is.account.sent) first (record { from = from; to = to; packet = shows v; moment = moment } ∷ rest) u).1.0.2
-    idle_packet idle m (says g) first rest from to moment was =
-        let usual = subst (AllByRecursion (IsUsual words layouts l is.account.sent)) was is.sound.messages in
-        let u = (all_parts (IsUsual words layouts l is.account.sent) first (record { from = from; to = to; packet = says g; moment = moment } ∷ rest) usual).1.0 in
-        let d = hears any_join words layouts to (clock w to) (w.nodes to) from g in
-        one_changes (λ o y. y.items ≡ []) to d.node w.nodes
-        (stays_idle any_join words layouts l is.account.sent to (clock w to) (w.nodes to) (is.sound.views to u.1) from (idle to)
-        (λ r sent due. (let same = only_row r (subst (λ rs. Has rs r) sent_so sent) in called_none (w.nodes to).accepted r same (has_one to (due_is to (subst (λ x. IsDue words layouts l to x) same due))))) g u.2)
-        (λ o other. idle o)
+    module _ (keeps : Keeps w) where
+      abbrev Stays : World → Type 0
+      Stays v = ((m : ℕ) → (v.nodes m).items ≡ []) × ((m : ℕ) (hash given : List ℕ) → block_at (before.world.nodes m).blocks hash ≡ Some given → block_at (v.nodes m).blocks hash ≡ Some given)
 
-    idle_next : Idle w → (m : ℕ) → numbered w.marks m ≡ Some fresh → Idle (applied w (effect (record before { world = w }) (plainly (step.Deliver m))))
-    idle_next idle m c =
-        let x = at_number w.messages w.marks m fresh is.marked c in
-        let f : Sent AnyRow Layout → Effect AnyRow = λ sent. received m (did w sent.to (receives any_join words layouts sent.to (clock w sent.to) (w.nodes sent.to) sent.from sent.packet)) in
-        let t = taken w.messages w.marks m x.0 x.1 c in
-        subst (λ (e : Effect AnyRow). Idle (applied w e)) (sym (ap (λ o. at_message w f o (numbered w.marks m)) x.1 ∙ ap (at_message w f (Some x.0)) c))
-        (idle_packet idle m x.0.packet t.before t.after x.0.from x.0.to x.0.moment t.was)
+      stays_packet : (m : ℕ) (p : Packet AnyRow Layout) (first rest : List (Sent AnyRow Layout)) (from to moment : ℕ) → waiting w ≡ first ++ record { from = from; to = to; packet = p; moment = moment } ∷ rest →
+          (let e : Effect AnyRow = received m (did w to (receives any_join words layouts to (clock w to) (w.nodes to) from p)) in Stays (applied w e))
+      stays_packet m (shows v) first rest from to moment was =
+          absurd (all_parts (IsUsual words layouts l is.account.sent) first (record { from = from; to = to; packet = shows v; moment = moment } ∷ rest) (subst (AllByRecursion (IsUsual words layouts l is.account.sent)) was is.sound.messages)).1.0.2
+      stays_packet m (says g) first rest from to moment was =
+          let usual = subst (AllByRecursion (IsUsual words layouts l is.account.sent)) was is.sound.messages in
+          let u = (all_parts (IsUsual words layouts l is.account.sent) first (record { from = from; to = to; packet = says g; moment = moment } ∷ rest) usual).1.0 in
+          let d = hears any_join words layouts to (clock w to) (w.nodes to) from g in
+          let one = is.sound.views to u.1 in (
+            one_changes (λ o y. y.items ≡ []) to d.node w.nodes
+                (stays_idle any_join words layouts l is.account.sent to (clock w to) (w.nodes to) one from (keeps.idle to) (λ r was due. calls_none to r was due) g u.2)
+                (λ o other. keeps.idle o),
+            one_changes (λ o y. (hash given : List ℕ) → block_at (before.world.nodes o).blocks hash ≡ Some given → block_at y.blocks hash ≡ Some given) to d.node w.nodes
+                (λ hash given at. keeps_block any_join words layouts l is.account.sent to (clock w to) (w.nodes to) one from hash given (keeps.kept to hash given at) g u.2)
+                (λ o other hash given at. keeps.kept o hash given at),
+          )
+
+      pub keeps_next : (m : ℕ) → numbered w.marks m ≡ Some fresh → Keeps (applied w (effect (record before { world = w }) (plainly (step.Deliver m))))
+      keeps_next m c =
+          let x = at_number w.messages w.marks m fresh is.marked c in
+          let f : Sent AnyRow Layout → Effect AnyRow = λ sent. received m (did w sent.to (receives any_join words layouts sent.to (clock w sent.to) (w.nodes sent.to) sent.from sent.packet)) in
+          let t = taken w.messages w.marks m x.0 x.1 c in
+          let stays = subst (λ (e : Effect AnyRow). Stays (applied w e)) (sym (ap (λ o. at_message w f o (numbered w.marks m)) x.1 ∙ ap (at_message w f (Some x.0)) c))
+          (stays_packet m x.0.packet t.before t.after x.0.from x.0.to x.0.moment t.was) in
+          record { idle = stays.0; kept = stays.1; given = given_next Bytes any_join words layouts l Applied Cut had w is keeps.given trio stage_trio m (none_given VersionLimit) c }
+
+  -- while it reads nodes keep what they kept, and no row is on its way
+  search_given : (w : World) (phase : ℕ) → IsSeeking phase sought set had (λ m. (before.world.nodes m).blocks) w → IsGiven Bytes w
+  search_given w phase reading = record {
+    nodes = λ m. subst (AllKept Bytes) (sym (reading.kept m)) (given_before m);
+    messages = all_weaker (λ (x : Sent AnyRow Layout). Carries (IsOfSearch phase sought set x.to) x.packet) (λ (x : Sent AnyRow Layout). Carries (StoresGiven Bytes) x.packet) (λ x h. carries_more (no_row x.to) x.packet h) (waiting w) reading.messages;
+  }
+    where
+      no_row : (to : ℕ) (m : Message AnyRow) → IsOfSearch phase sought set to m → StoresGiven Bytes m
+      no_row to (Get request p at t key) h = tt
+      no_row to (RowIs request p row) h = tt
+      no_row to (Range request p at bucket prefix after) h = tt
+      no_row to (Rows request p found more) h = tt
+      no_row to (BlockGet request p at hash) h = tt
+      no_row to (BlockIs request p bytes) h = tt
+      no_row to (NoBlock request p) h = tt
+      no_row to (NotHere tag) h = tt
+      no_row to _ h = absurd h
 
   -- ---- the phases
 
-  -- the row is stored
-  pub record Storing (t : State) : Type 0 where
-    pub open_so : Open l layout before n q (row ∷ []) storing_so IsStoring t
-    pub idle : Idle t.world
+  -- the rows of a phase are stored
+  pub record Storing (j : ℕ) (t : State) : Type 0 where
+    pub low : j ≤ last
+    pub open_so : Open l layout before n q (sent_at j) (storing_so j) IsStoring t
+    pub keeps : Keeps t.world
 
   -- the write has ended
   pub record Written (t : State) : Type 0 where
-    pub done_so : Done l layout before n q (row ∷ []) end t
-    pub idle : Idle t.world
+    pub done_so : Done l layout before n q (sent_at last) end t
+    pub keeps : Keeps t.world
 
-  stores_so : (m : ℕ) (t : State) → HasRead l layout before n q kind object flow sought set all m t → FitAll any_join words t.world (delivers t m).moves → Storing (delivers t m).state
+  -- a phase begins where one has ended
+  module _ (sent : List AnyRow) (asked : Asked) (u : State) (a : Open l layout before n q sent asked IsResting u) (keeps : Keeps u.world) (j : ℕ) (draws : List Draw) (fits : FitAll any_join words u.world (phases q (Store (rows_at j)) ∷ [])) where
+    spells : list_all (λ (r : AnyRow × Option (List ℕ)). is_spelled words r.0) (rows_at j) ≡ true
+    spells =
+        sym (ap (λ (e : Effect AnyRow). e.is_spelled) (begin_is Applied Cut any_join words layouts trio stage_trio u.world n q a.call a.there (Store (rows_at j)) (none_given VersionLimit) a.alone.request)) ∙ fits.0.1
+
+    abbrev began : State
+    began = (goes u q asked draws (flow_at j) (Store (rows_at j))).state
+
+    stores_open : Open l layout before n q (new_rows rows_at j ++ sent) (record asked { flow = Some (flow_at j) }) IsStoring began
+    stores_open = stores_next l layout before n q sent asked IsResting u a (rows_at j) (course.is_step j) spells (course.brings j) draws (flow_at j)
+
+    stores_keep : Keeps began.world
+    stores_keep = record {
+      idle = λ m. stores_items l layout before n q sent asked IsResting u a (rows_at j) (course.is_step j) spells (course.brings j) draws (flow_at j) m ∙ keeps.idle m;
+      kept = λ m hash given at. ap (λ bs. block_at bs hash) (stores_blocks l layout before n q sent asked IsResting u a (rows_at j) (course.is_step j) spells (course.brings j) draws (flow_at j) m) ∙ keeps.kept m hash given at;
+      given = stores_given l layout before n q sent asked IsResting u a (rows_at j) (course.is_step j) spells (course.brings j) draws (flow_at j) Bytes (such.given j) keeps.given;
+    }
+
+  stores_so : (m : ℕ) (t : State) → HasRead l layout before n q kind object flow sought set all m t → FitAll any_join words t.world (delivers t m).moves → Storing 0 (delivers t m).state
   stores_so m t r fits =
       let t' = moved l layout before n q m t in
       let now = clock t'.world n in
       let u : State = sees l layout before n q kind object flow sought set all m t in
+      let asked = asks l layout before n q kind object flow in
       let draws = draws_of t' q flow.block flow.stage (Row value) now in
       let now_is : now ≡ before.world.time + before.world.skew_of n = ap₂ (λ (a b : ℕ). a + b) r.then.frame.time (r.then.frame.skews n) in
-      let a : Open l layout before n q [] asking_so IsResting u = open_seen l layout before n q kind object flow sought set all m t r in
-      let out_is : goes_on t' (ends_of l layout before n q m t) ≡ goes u q asking_so draws next_flow (stores row) =
-      r.out_is ∙ ap (takes u q asking_so draws) (ap (next flow (Row value)) now_is ∙ writes_so)
-      in
-      let more : FitAll any_join words t'.world (phases q (stores row) ∷ []) = subst (λ (o : Outcome). FitAll any_join words t'.world o.moves) out_is fits.1 in
-      let begins_is = begin_is Applied Cut any_join words layouts trio stage_trio t'.world n q r.then.call r.then.there (stores row) (none_given VersionLimit) r.then.alone.request in
-      let spelling : is_spelled words row ≡ true = (and_parts (is_spelled words row) true (sym (ap (λ (e : Effect AnyRow). e.is_spelled) begins_is) ∙ more.0.1)).0 in
-      let opened = stores_next l layout before n q [] asking_so IsResting u a row placed spelling bare draws next_flow in
-      let state_is : (delivers t m).state ≡ (goes u q asking_so draws next_flow (stores row)).state = ap (λ (o : Outcome). o.state) out_is in
-      subst Storing (sym state_is) (record { open_so = opened; idle = λ o. stores_items l layout before n q [] asking_so IsResting u a row placed spelling bare draws next_flow o ∙ r.reading.1.idle o })
+      let a : Open l layout before n q [] asked IsResting u = open_seen l layout before n q kind object flow sought set all m t r in
+      let out_is : goes_on t' (ends_of l layout before n q m t) ≡ goes u q asked draws (flow_at 0) (Store (rows_at 0)) = r.out_is ∙ ap (takes u q asked draws) (ap (next flow (Row value)) now_is ∙ writes_so) in
+      let more : FitAll any_join words u.world (phases q (Store (rows_at 0)) ∷ []) = subst (λ (o : Outcome). FitAll any_join words t'.world o.moves) out_is fits.1 in
+      let keeps : Keeps u.world = record { idle = r.reading.1.idle; kept = λ o hash given at. ap (λ bs. block_at bs hash) (r.reading.1.kept o) ∙ at; given = search_given t'.world r.reading.0 r.reading.1 } in
+      let state_is : (delivers t m).state ≡ (goes u q asked draws (flow_at 0) (Store (rows_at 0))).state = ap (λ (o : Outcome). o.state) out_is in
+      subst (Storing 0) (sym state_is) (record { low = omega arith; open_so = stores_open [] asked u a keeps 0 draws more; keeps = stores_keep [] asked u a keeps 0 draws more })
 
-  storing_next : (m : ℕ) (t : State) → Storing t → undelivered t.world ≡ Some m → FitAll any_join words t.world (delivers t m).moves → Storing (delivers t m).state ⊎ Written (delivers t m).state
-  storing_next m t a waits fits =
+  storing_next : (j m : ℕ) (t : State) → Storing j t → undelivered t.world ≡ Some m → FitAll any_join words t.world (delivers t m).moves → ((i : ℕ) × Storing i (delivers t m).state) ⊎ Written (delivers t m).state
+  storing_next j m t a waits fits =
       let mark : numbered t.world.marks m ≡ Some fresh = first_fresh t.world.marks m waits in
       let t' = moved l layout before n q m t in
-      let idle : Idle t'.world = idle_next t.world a.open_so.is a.open_so.sent_so a.idle m mark in
-      elim (delivered_open l layout before n q (row ∷ []) storing_so IsStoring storing_stays m t a.open_so mark fits.0.1) [
+      let keeps : Keeps t'.world = keeps_next t.world a.open_so.is j a.open_so.sent_so a.keeps m mark in
+      elim (delivered_open l layout before n q (sent_at j) (storing_so j) IsStoring storing_stays m t a.open_so mark fits.0.1) [
         | inl w ↦ inl (
             let state_is : (delivers t m).state ≡ t' = ap (λ ends. (goes_on t' ends).state) w.ends_are in
-            subst Storing (sym state_is) (record { open_so = w.then; idle = idle })
+            (j, subst (Storing j) (sym state_is) (record { low = a.low; open_so = w.then; keeps = keeps }))
             )
-        | inr w ↦ inr (
+        | inr w ↦ (
             let how : w.how ≡ Kept = storing_ends w.was w.how w.kind w.ends_so in
             let now = clock t'.world n in
             let u : State = record t' { saw = record { request = q; end = Kept } ∷ t'.saw } in
-            let x : Open l layout before n q (row ∷ []) storing_so IsResting u = record {
+            let x : Open l layout before n q (sent_at j) (storing_so j) IsResting u = record {
               frame = record { buckets = w.then.frame.buckets; block = w.then.frame.block; time = w.then.frame.time; skews = w.then.frame.skews; stocked = w.then.frame.stocked; requests = w.then.frame.requests; asked = w.then.frame.asked };
               is = w.then.is;
               sent_so = w.then.sent_so;
@@ -195,40 +245,63 @@ module _ (l : Layout) (layout : IsLayout layouts 256 l) (before : State) (n q : 
               asked_is = w.then.asked_is;
               ends_so = w.then.ends_so;
             } in
-            let f = finished l layout before n q (row ∷ []) storing_so IsResting u x end in
-            let left = finished_leaves l layout before n q (row ∷ []) storing_so IsResting u x end in
-            let draws = draws_of t' q next_flow.block next_flow.stage Kept now in
-            let state_is : (delivers t m).state ≡ (finishes u q storing_so end).state =
-            ap (λ (o : Outcome). o.state) (ap (goes_on t') w.ends_are ∙ (ap (λ o. follow t' q o w.how) w.then.asked_is ∙ (ap (follow t' q (Some storing_so)) how ∙ ap (takes u q storing_so draws) (ends_so now))))
-            in
-            subst Written (sym state_is) (record { done_so = f; idle = λ o. left.items o ∙ idle o })
+            let draws = draws_of t' q (flow_at j).block (flow_at j).stage Kept now in
+            let comes : goes_on t' (ends_of l layout before n q m t) ≡ takes u q (storing_so j) draws (next (flow_at j) Kept now) =
+            ap (goes_on t') w.ends_are ∙ (ap (λ o. follow t' q o w.how) w.then.asked_is ∙ ap (follow t' q (Some (storing_so j))) how) in
+            let low : j ≤ last = a.low in
+            elim (nat_lt j last) as (λ b. nat_lt j last ≡ b → ((i : ℕ) × Storing i (delivers t m).state) ⊎ Written (delivers t m).state) [
+              | true ↦ λ less.
+                  let out_is : goes_on t' (ends_of l layout before n q m t) ≡ goes u q (storing_so j) draws (flow_at (suc j)) (Store (rows_at (suc j))) = comes ∙ ap (takes u q (storing_so j) draws) (course.goes_so j (below less) now) in
+                  let more : FitAll any_join words u.world (phases q (Store (rows_at (suc j))) ∷ []) = subst (λ (o : Outcome). FitAll any_join words t'.world o.moves) out_is fits.1 in
+                  let state_is : (delivers t m).state ≡ (goes u q (storing_so j) draws (flow_at (suc j)) (Store (rows_at (suc j)))).state = ap (λ (o : Outcome). o.state) out_is in
+                  let lower = below less in
+                  inl (suc j, subst (Storing (suc j)) (sym state_is) (record { low = omega (arith, lower); open_so = stores_open (sent_at j) (storing_so j) u x keeps (suc j) draws more; keeps = stores_keep (sent_at j) (storing_so j) u x keeps (suc j) draws more }))
+              | false ↦ λ not_less.
+                  let at_least : last ≤ j = ltb-false j last not_less in
+                  let same : j ≡ last = omega (arith, low, at_least) in
+                  let f = finished l layout before n q (sent_at j) (storing_so j) IsResting u x end in
+                  let left = finished_leaves l layout before n q (sent_at j) (storing_so j) IsResting u x end in
+                  let ends : next (flow_at j) Kept now ≡ End end = ap (λ i. next (flow_at i) Kept now) same ∙ course.ends_so now in
+                  let state_is : (delivers t m).state ≡ (finishes u q (storing_so j) end).state = ap (λ (o : Outcome). o.state) (comes ∙ ap (takes u q (storing_so j) draws) ends) in
+                  inr (subst Written (sym state_is) (record {
+                    done_so = subst (λ i. Done l layout before n q (sent_at i) end (finishes u q (storing_so j) end).state) same f;
+                    keeps = record {
+                      idle = λ o. left.items o ∙ keeps.idle o;
+                      kept = λ o hash given at. ap (λ bs. block_at bs hash) (left.blocks o) ∙ keeps.kept o hash given at;
+                      given = record { nodes = λ o. subst (AllKept Bytes) (sym (left.blocks o)) (keeps.given.nodes o); messages = subst (AllByRecursion (λ (x : Sent AnyRow Layout). Carries (StoresGiven Bytes) x.packet)) (sym left.waits) keeps.given.messages };
+                    };
+                  }))
+            ] refl
             )
       ]
+    where
+      below : nat_lt j last ≡ true → j < last
+      below e = ltb-true j last e
 
   written_next : (m : ℕ) (t : State) → Written t → undelivered t.world ≡ Some m → FitAll any_join words t.world (delivers t m).moves → Written (delivers t m).state
   written_next m t f waits fits =
       let mark : numbered t.world.marks m ≡ Some fresh = first_fresh t.world.marks m waits in
       let t' = moved l layout before n q m t in
-      let then = delivered_done l layout before n q (row ∷ []) end m t f.done_so mark fits.0.1 in
-      let idle : Idle t'.world = idle_next t.world f.done_so.is f.done_so.sent_so f.idle m mark in
+      let then = delivered_done l layout before n q (sent_at last) end m t f.done_so mark fits.0.1 in
+      let keeps : Keeps t'.world = keeps_next t.world f.done_so.is last f.done_so.sent_so f.keeps m mark in
       let state_is : (delivers t m).state ≡ t' = ap (λ ends. (goes_on t' ends).state) then.0 in
-      subst Written (sym state_is) (record { done_so = then.1; idle = idle })
+      subst Written (sym state_is) (record { done_so = then.1; keeps = keeps })
 
   -- ---- draining
 
   abbrev pub Going : State → Type 0
-  Going t = AsksFor t ⊎ Storing t ⊎ Written t
+  Going t = AsksFor t ⊎ (((j : ℕ) × Storing j t) ⊎ Written t)
 
   pub going_next : (m : ℕ) (t : State) → Going t → undelivered t.world ≡ Some m → FitAll any_join words t.world (delivers t m).moves → Going (delivers t m).state
   going_next m t (inl a) waits fits = elim (reads_on l layout before n q kind object flow sought set all m t a waits fits) [
     | inl r ↦ inl r
-    | inr r ↦ inr (inl (stores_so m t r fits))
+    | inr r ↦ inr (inl (0, stores_so m t r fits))
   ]
-  going_next m t (inr (inl a)) waits fits = inr (storing_next m t a waits fits)
+  going_next m t (inr (inl a)) waits fits = inr (storing_next a.0 m t a.1 waits fits)
   going_next m t (inr (inr f)) waits fits = inr (inr (written_next m t f waits fits))
 
   -- where no message waits it has written
   pub has_written : (s : State) → Going s → undelivered s.world ≡ None → Written s
-  has_written s (inl a) none = absurd (reads_out l layout before n q kind object flow sought set all tt s a none)
-  has_written s (inr (inl a)) none = absurd (storing_open a.open_so.call.present a.open_so.kind (no_phase_when_drained any_join words layouts l had s.world a.open_so.is (none_waits s.world none) n q a.open_so.call a.open_so.there))
+  has_written s (inl a) none = absurd (reads_out l layout before n q kind object flow sought set all s a none)
+  has_written s (inr (inl a)) none = absurd (storing_open a.1.open_so.call.present a.1.open_so.kind (no_phase_when_drained any_join words layouts l had s.world a.1.open_so.is (none_waits s.world none) n q a.1.open_so.call a.1.open_so.there))
   has_written s (inr (inr f)) none = f

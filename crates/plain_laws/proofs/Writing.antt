@@ -1,7 +1,12 @@
 -- A delete, and a put of bytes that aren't kept in blocks, over what isn't kept in blocks, to a cluster that holds a map.
-use Rattle.std.proofs.Common.{◌≡◌, ◌≤◌, ◌<◌, ◌+◌, ℕ, suc, max, true, false, Option, Some, None, List, [], refl, sym, ap, ap₂, ◌∙◌, subst, inl, inr, arith}
-use Rattle.std.specs.Prelude.{IsTrue}
-use Rattle.std.specs.List.{Contains}
+use Rattle.std.proofs.Common.{◌≡◌, ◌⊎◌, ◌≤◌, ◌<◌, ◌+◌, ℕ, suc, max, true, false, Option, Some, None, List, [], ◌∷◌, ◌++◌, refl, sym, ap, ap₂, ◌∙◌, subst, inl, inr, arith}
+use Rattle.std.specs.Prelude.{IsTrue, ⊤}
+use Rattle.std.specs.List.{AllByRecursion, Contains}
+use Rattle.std.proofs.lemmas.List.Elements.{All-nil, All-cons}
+use Rattle.blake2_hash.specs.Blake2b.{blake2b}
+use Rattle.row_codec.specs.Spelling.{eight}
+use Rattle.cluster_machine.specs.Node.{Block}
+use Rattle.cluster_machine.specs.Blocks.{IsBeside}
 use Rattle.std.proofs.lemmas.Bool.{false≢true}
 use Rattle.blake2_hash.specs.declared.digest.Hash32.{Hash32}
 use Rattle.blake2_hash.specs.Hash.{digest_of}
@@ -39,10 +44,10 @@ use Rattle.store_model.specs.Run.{World, State, are_buckets, opened, delivers, d
 use Rattle.store_model.specs.Acts.{all_messages}
 use Rattle.store_laws.proofs.Objects.{key_parts, digest_length}
 use Rattle.store_laws.proofs.Emptied.{emptied_from}
-use Rattle.store_laws.proofs.Placing.{asks_is_step, complete_is_placed}
+use Rattle.store_laws.proofs.Placing.{asks_is_step, one_is_step, complete_is_placed}
 use Rattle.serve_model.specs.Clusters.{Cluster, fits}
 use Rattle.drained_laws.specs.Waiting.{SomeOf, Has as IsIn, waiting}
-use Rattle.drained_laws.specs.Accounts.{Brings}
+use Rattle.drained_laws.specs.Accounts.{Brings, IsDue}
 use Rattle.drained_laws.proofs.Weights.{none_waits}
 use Rattle.drained_laws.proofs.Drained.{equal_when_drained}
 use Rattle.plain_laws.specs.Plain.{Has, Plain, same_name, has_at, row_of, last_ts, at_time, counted, version_of, made, meta_made, writes, answered}
@@ -51,10 +56,12 @@ use Rattle.plain_laws.proofs.Frames.{none_found}
 use Rattle.plain_laws.proofs.Holding.{Holding, blocks_moved}
 use Rattle.plain_laws.proofs.Entries.{name_itself, names_equal, has_new, has_others}
 use Rattle.plain_laws.proofs.Smalls.{IsSmall, IsShort, short_row, small_table, small_key, small_position, small_bare, small_calls_none, new_joined, new_calls_none}
-use Rattle.plain_laws.proofs.Accepted.{passed, not_at, has_row}
+use Rattle.plain_laws.proofs.Accepted.{over, passed, not_at, has_either, has_row}
 use Rattle.plain_laws.proofs.Saids.{ts_of_row}
 use Rattle.plain_laws.proofs.Starting.{number, reading_state, opened_is, starts}
-use Rattle.plain_laws.proofs.Writes.{Written, news_are, accepted_so, Going, going_next, has_written}
+use Rattle.plain_laws.proofs.Given.{AllKept}
+use Rattle.plain_laws.proofs.Requests.{base}
+use Rattle.plain_laws.proofs.Writes.{Course, AreSuch, Written, news_mine, accepted_so, Going, going_next, has_written}
 use Rattle.plain_laws.proofs.Seeking.{a_row}
 use Rattle.plain_laws.proofs.Looks.{AllHad, Asking}
 use Rattle.plain_laws.proofs.Draining.{drains_keep}
@@ -82,7 +89,7 @@ made_blocks l w version block wish.Marker short = tt
 made_blocks l w version block (wish.Content c) short = λ long. absurd (false≢true (sym short ∙ long))
 
 -- two names in buckets that are there have one row key only if they are one
-one_name : (buckets : List (List ℕ)) → NoClash buckets → (a b : Name) → Contains buckets a.bucket → Contains buckets b.bucket → row_key a ≡ row_key b → same_name a b ≡ false → ⊥
+pub one_name : (buckets : List (List ℕ)) → NoClash buckets → (a b : Name) → Contains buckets a.bucket → Contains buckets b.bucket → row_key a ≡ row_key b → same_name a b ≡ false → ⊥
 one_name buckets clash a b there too same apart =
     let parts = key_parts (digest_of a.bucket) (digest_of b.bucket) a.key b.key (digest_length a.bucket) (digest_length b.bucket) same in
     let bucket : a.bucket ≡ b.bucket = clash a.bucket b.bucket there too (ap (λ (h : Hash32). h.0) parts.0) in
@@ -190,21 +197,73 @@ module _ (c : Cluster) (P : Plain) (h : Holds c P) (clash : NoClash P.buckets) (
   pub ends_so : (t : ℕ) → next next_flow Kept t ≡ End end
   ends_so t = refl
 
+  -- ---- its one phase
+
+  abbrev pub flow_at : ℕ → Flow
+  flow_at j = next_flow
+
+  abbrev pub rows_at : ℕ → List (AnyRow × Option (List ℕ))
+  rows_at j = (row, None) ∷ []
+
+  pub course : Course q flow_at rows_at 0 end
+  course = record {
+    goes_so = λ j low now. absurd (omega (arith, low));
+    ends_so = λ now. refl;
+    is_step = λ j. one_is_step q row (complete_is_placed name version before.block w);
+    brings = λ j. All-cons (λ (r : AnyRow × Option (List ℕ)). IsBeside (blake2b 32) (words.live_block r.0) r.1) (row, None) [] (subst (λ o. IsBeside (blake2b 32) o None) (sym bare) refl) (All-nil _);
+  }
+
+  abbrev pub Mine : AnyRow → Type 0
+  Mine r = r ≡ row
+
+  abbrev pub Bytes : List ℕ → Type 0
+  Bytes bytes = ⊤
+
+  pub such : AreSuch rows_at Mine Bytes
+  such = record { mine = λ j. (refl, tt); given = λ j. (tt, tt) }
+
+  any_block : (bs : List Block) → AllKept Bytes bs
+  any_block [] = tt
+  any_block (b ∷ bs) = (tt, any_block bs)
+
+  pub given_before : (m : ℕ) → AllKept Bytes (before.world.nodes m).blocks
+  given_before m = any_block (before.world.nodes m).blocks
+
+  called_at : (older : List AnyRow) → (row_at any_join words older 1 (row_key name) ≡ value) ⊎ (row_at any_join words older 1 (row_key name) ≡ Some row) →
+      called_for any_join words (row_at any_join words older 1 (row_key name)) (row_at any_join words (row ∷ older) 1 (row_key name)) ≡ []
+  called_at older (inl e) =
+      ap (called_for any_join words (row_at any_join words older 1 (row_key name))) (over any_join words row 1 (row_key name) table_is key_is older ∙ (ap (λ o. option_join any_join o (Some row)) e ∙ joined))
+      ∙ (ap (λ o. called_for any_join words o (Some row)) e ∙ calls_none)
+  called_at older (inr e) =
+      ap (called_for any_join words (row_at any_join words older 1 (row_key name))) (over any_join words row 1 (row_key name) table_is key_is older ∙ (ap (λ o. option_join any_join o (Some row)) e ∙ ap Some itself))
+      ∙ (ap (λ o. called_for any_join words o (Some row)) e ∙ itself_none)
+
+  -- its row calls for none where it comes
+  pub idle_so : (m : ℕ) (news : List AnyRow) → AllByRecursion Mine news → (r : AnyRow) → Mine r → IsDue words layouts l m r →
+      (let older = news ++ base l h.is_layout before n q m in called_for any_join words (row_at any_join words older (words.table r) (words.key r)) (row_at any_join words (r ∷ older) (words.table r) (words.key r)) ≡ [])
+  idle_so m news mine r same due =
+      let older = news ++ base l h.is_layout before n q m in
+      let here : IsTrue (is_among m (nodes_at l (digest_of name.bucket).0)) = subst (λ p. IsTrue (is_among m (set_of layouts l (partition_at p)))) position_is (subst (IsDue words layouts l m) same due) in
+      subst (λ r. called_for any_join words (row_at any_join words older (words.table r) (words.key r)) (row_at any_join words (r ∷ older) (words.table r) (words.key r)) ≡ []) (sym same)
+      (subst (λ t. called_for any_join words (row_at any_join words older t (words.key row)) (row_at any_join words (row ∷ older) t (words.key row)) ≡ []) (sym table_is)
+      (subst (λ k. called_for any_join words (row_at any_join words older 1 k) (row_at any_join words (row ∷ older) 1 k) ≡ []) (sym key_is)
+      (called_at older (has_either any_join words row 1 (row_key name) table_is key_is value joined itself (base l h.is_layout before n q m) (all m here) news mine))))
+
   -- the request while it writes, and when it has written
   abbrev pub Reads : State → Type 0
   Reads t = Asking l h.is_layout before n q (kind_of order) (name_of order) flow (a_row 1 (row_key name) value) (nodes_at l (digest_of name.bucket).0) all t
 
   abbrev pub MayWrite : State → Type 0
-  MayWrite t = Going l h.is_layout before n q (kind_of order) (name_of order) name flow value all row next_flow end writes_so ends_so (complete_is_placed name version before.block w) bare table_is key_is position_is joined itself calls_none itself_none t
+  MayWrite t = Going l h.is_layout before n q (kind_of order) (name_of order) name flow value all flow_at rows_at 0 end course writes_so Mine Bytes such given_before idle_so t
 
   abbrev pub HasWritten : State → Type 0
-  HasWritten t = Written l h.is_layout before n q (kind_of order) (name_of order) name flow value all row next_flow end writes_so ends_so (complete_is_placed name version before.block w) bare table_is key_is position_is joined itself calls_none itself_none t
+  HasWritten t = Written l h.is_layout before n q (kind_of order) (name_of order) name flow value all flow_at rows_at 0 end course writes_so Mine Bytes such given_before idle_so t
 
   pub write_next : (m : ℕ) (t : State) → MayWrite t → undelivered t.world ≡ Some m → FitAll any_join words t.world (delivers t m).moves → MayWrite (delivers t m).state
-  write_next = going_next l h.is_layout before n q (kind_of order) (name_of order) name flow value all row next_flow end writes_so ends_so (complete_is_placed name version before.block w) bare table_is key_is position_is joined itself calls_none itself_none
+  write_next = going_next l h.is_layout before n q (kind_of order) (name_of order) name flow value all flow_at rows_at 0 end course writes_so Mine Bytes such given_before idle_so
 
   pub write_ends : (t : State) → MayWrite t → undelivered t.world ≡ None → HasWritten t
-  write_ends = has_written l h.is_layout before n q (kind_of order) (name_of order) name flow value all row next_flow end writes_so ends_so (complete_is_placed name version before.block w) bare table_is key_is position_is joined itself calls_none itself_none
+  write_ends = has_written l h.is_layout before n q (kind_of order) (name_of order) name flow value all flow_at rows_at 0 end course writes_so Mine Bytes such given_before idle_so
 
   -- where it has written, and nothing waits, both agree
   pub wrote_agrees : answered after order ≡ writes after name w → (let u = (drains all_messages (opened before n order).state).state in HasWritten u → undelivered u.world ≡ None → Agrees c P time order)
@@ -212,8 +271,8 @@ module _ (c : Cluster) (P : Plain) (h : Holds c P) (clash : NoClash P.buckets) (
       let u : State = (drains all_messages (opened before n order).state).state in
       let done = written.done_so in
       let none : waiting u.world ≡ [] = none_waits u.world none_left in
-      let accepted = accepted_so l h.is_layout before n q (kind_of order) (name_of order) name flow value all row next_flow end writes_so ends_so (complete_is_placed name version before.block w) bare table_is key_is position_is joined itself calls_none itself_none u.world done.is done.sent_so in
-      let news = news_are l h.is_layout before n q (kind_of order) (name_of order) name flow value all row next_flow end writes_so ends_so (complete_is_placed name version before.block w) bare table_is key_is position_is joined itself calls_none itself_none u.world done.is done.sent_so in
+      let accepted = accepted_so l h.is_layout before n q (kind_of order) (name_of order) name flow value all flow_at rows_at 0 end course writes_so Mine Bytes such given_before idle_so u.world done.is 0 done.sent_so in
+      let news = news_mine l h.is_layout before n q (kind_of order) (name_of order) name flow value all flow_at rows_at 0 end course writes_so Mine Bytes such given_before idle_so u.world done.is 0 done.sent_so in
       let had : ℕ → List AnyRow = λ m. (before.world.nodes m).accepted in
       -- what nodes have at another place
       let elsewhere : (m table : ℕ) (key : List ℕ) → ((words.table row ≡ table) → (words.key row ≡ key) → ⊥) → row_at any_join words (u.world.nodes m).accepted table key ≡ row_at any_join words (had m) table key =
@@ -242,7 +301,8 @@ module _ (c : Cluster) (P : Plain) (h : Holds c P) (clash : NoClash P.buckets) (
       λ other too. elim (same_name name other) as (λ b. same_name name other ≡ b → HasItsBlocks l u.world (has_at Q other)) [
         | true ↦ λ e. subst (λ x. HasItsBlocks l u.world (has_at Q x)) (names_equal name other e) (subst (HasItsBlocks l u.world) (sym (has_new name new P.entries)) (made_blocks l u.world version after.block w short))
         | false ↦ λ e. subst (HasItsBlocks l u.world) (sym (has_others name new other e P.entries))
-            (blocks_moved l before.world u.world (λ m table key later. elsewhere m table key (λ t k. absurd (apart_tables table (sym table_is ∙ t) later))) (has_at P other) (holding.blocks other too))
+            (blocks_moved l before.world u.world (λ m key row hash given e live at. written.keeps.kept m hash given at) (has_at P other)
+            (λ v e. record { row = λ m. elsewhere m 2 (eight v.id) (λ t k. apart_tables 2 (sym table_is ∙ t) (omega arith)); references = λ m hash size. elsewhere m 3 (hash ++ eight v.id) (λ t k. apart_tables 3 (sym table_is ∙ t) (omega arith)) }) (holding.blocks other too))
       ] refl in
       let held : Holding l Q u = record {
         rest = record {
@@ -250,7 +310,7 @@ module _ (c : Cluster) (P : Plain) (h : Holds c P) (clash : NoClash P.buckets) (
           marked = done.is.marked;
           delivered = none;
           calls = λ m. none_found (u.world.nodes m).calls (done.none m);
-          items = written.idle;
+          items = written.keeps.idle;
         };
         skews = λ m. done.frame.skews m ∙ holding.skews m;
         equal = equal_when_drained any_laws schema_laws layouts l had u.world done.is none holding.equal;
@@ -262,6 +322,10 @@ module _ (c : Cluster) (P : Plain) (h : Holds c P) (clash : NoClash P.buckets) (
         clock = done.frame.time ∙ holding.clock;
         requests = done.frame.requests ∙ asked_so;
         asked = done.frame.asked ∙ asked_so;
+        fresh = record {
+          versions = λ m id later low. elsewhere m 2 (eight id) (λ t k. apart_tables 2 (sym table_is ∙ t) (omega arith)) ∙ holding.fresh.versions m id (omega (arith, later)) low;
+          references = λ m id hash later low size. elsewhere m 3 (hash ++ eight id) (λ t k. apart_tables 3 (sym table_is ∙ t) (omega arith)) ∙ holding.fresh.references m id hash (omega (arith, later)) low size;
+        };
       } in
       answers_so c P h time order known fit (answered after order) (carried_as c P h time order known fit) Q end answered_so refl refl held done.ends_so
     where

@@ -1,6 +1,6 @@
 -- When a cluster holds a plain map, and what it is to answer as one.
-use Rattle.std.specs.Prelude.{◌≡◌, ◌<◌, ℕ, false, IsTrue, ⊤, length, Option, Some, None, List, [], ◌∷◌, ◌++◌}
-use Rattle.std.specs.List.{Contains}
+use Rattle.std.specs.Prelude.{◌≡◌, ◌<◌, ◌^◌, ℕ, Bool, true, false, IsTrue, ⊤, length, Option, Some, None, List, [], ◌∷◌, ◌++◌}
+use Rattle.std.specs.List.{AllByRecursion, Contains}
 use Rattle.layout_roles.specs.declared.layout.Layout.{Layout}
 use Rattle.blake2_hash.specs.Blake2b.{blake2b}
 use Rattle.blake2_hash.specs.Hash.{digest_of}
@@ -13,13 +13,15 @@ use Rattle.table_model.specs.Rows.{row_at}
 use Rattle.quorum_model.specs.Quorum.{is_among}
 use Rattle.cluster_machine.specs.Layouts.{layouts, set_of}
 use Rattle.cluster_machine.specs.Blocks.{AllStocked}
+use Rattle.cluster_machine.specs.Node.{Block}
+use Rattle.cluster_machine.specs.Rows.{block_at}
 use Rattle.cluster_machine.specs.Run.{IsLayout}
 use Rattle.flow_model.specs.declared.order.Order.{Order}
 use Rattle.flow_model.specs.declared.order.Order.TheVariants as order
 use Rattle.flow_model.specs.declared.flow.Name.{Name}
 use Rattle.flow_model.specs.declared.flow.Content.{Content}
 use Rattle.flow_model.specs.declared.flow.FlowEnd.{FlowEnd}
-use Rattle.flow_model.specs.Blocks.{piece_hash, has_piece, is_long}
+use Rattle.flow_model.specs.Blocks.{piece, piece_hash, has_piece, is_long}
 use Rattle.flow_model.specs.Rows.{row_key, reference_row}
 use Rattle.flow_model.specs.Says.{whole, named_by}
 use Rattle.flow_laws.specs.Pieces.{named_pieces}
@@ -35,20 +37,27 @@ use Rattle.plain_laws.specs.Plain.{Has, never, deleted, object, Plain, has_at, r
 abbrev pub nodes_at : Layout → List ℕ → List ℕ
 nodes_at l position = set_of layouts l (partition_at position)
 
--- a version's blocks: each node of its row has that row with all blocks of the bytes, and each node of a block has a live reference of the version to it
+-- a version's blocks: each node of its row has that row with all blocks of the bytes, and each node of a block has the block and a live reference of the version to it
 pub record HasBlocks (l : Layout) (w : World) (version : Version) (block : ℕ) (c : Content) : Type 0 where
   pub count : ℕ
+  pub pieces_there : (i : ℕ) → i < count → IsTrue (has_piece block c.body i)
   pub no_more : has_piece block c.body count ≡ false
   pub named : (n : ℕ) → IsTrue (is_among n (nodes_at l (digest_of (eight version.id)).0)) →
       named_by (row_at any_join words (w.nodes n).accepted 2 (eight version.id)) (length c.body) ≡ whole (named_pieces block c.body 0 count)
   pub referenced : (i n : ℕ) → IsTrue (has_piece block c.body i) → IsTrue (is_among n (nodes_at l (piece_hash block c.body i).0)) →
       row_at any_join words (w.nodes n).accepted 3 ((piece_hash block c.body i).0 ++ eight version.id) ≡ Some (reference_row version.id block c.body i)
+  pub kept : (i n : ℕ) → IsTrue (has_piece block c.body i) → IsTrue (is_among n (nodes_at l (piece_hash block c.body i).0)) → block_at (w.nodes n).blocks (piece_hash block c.body i).0 ≡ Some (piece block c.body i)
 
 -- the blocks of what is there, where it is kept in blocks
 abbrev pub HasItsBlocks : Layout → World → Has → Type 0
 HasItsBlocks l w never = ⊤
 HasItsBlocks l w (deleted version) = ⊤
 HasItsBlocks l w (object version block c) = IsTrue (is_long c.body) → HasBlocks l w version block c
+
+-- no version's row and no reference is of an order to come
+pub record IsFresh (w : World) (asked : ℕ) : Type 0 where
+  pub versions : (n id : ℕ) → asked < id → id < 2 ^ 64 → row_at any_join words (w.nodes n).accepted 2 (eight id) ≡ None
+  pub references : (n id : ℕ) (hash : List ℕ) → asked < id → id < 2 ^ 64 → length hash ≡ 32 → row_at any_join words (w.nodes n).accepted 3 (hash ++ eight id) ≡ None
 
 -- the cluster holds the map, whose entries are in order: nothing goes on, all members have one layout and no other, no clock is ahead,
 -- replicas are equal, every node has the blocks that its rows need, and of each name in a bucket that is there each of its
@@ -71,6 +80,7 @@ pub record Holds (c : Cluster) (P : Plain) : Type 0 where
   pub requests : length c.run.world.requests ≡ P.asked
   pub asked : length c.run.asked ≡ P.asked
   pub map : IsMap P
+  pub fresh : IsFresh c.run.world P.asked
   pub ends : (q : ℕ) → P.asked < q → end_of c.run.ends q ≡ None
 
 -- the cluster carries out the order as the map does: it ends with the map's answer, and holds what the map has become
@@ -84,11 +94,11 @@ IsInRow never = ⊤
 IsInRow (deleted version) = ⊤
 IsInRow (object version block c) = is_long c.body ≡ false
 
--- a head, or a get of what isn't kept in blocks
-abbrev pub ReadsRow : Plain → Order → Type 0
-ReadsRow P (order.Get bucket key) = IsInRow (has_at P (record { bucket = bucket; key = key }))
-ReadsRow P (order.Head bucket key) = ⊤
-ReadsRow P order = ⊥
+-- a get or a head
+abbrev pub Reads : Order → Type 0
+Reads (order.Get bucket key) = ⊤
+Reads (order.Head bucket key) = ⊤
+Reads order = ⊥
 
 -- a delete, or a put of bytes that aren't kept in blocks, over what isn't kept in blocks
 abbrev pub WritesRow : Plain → Order → Type 0
@@ -100,6 +110,20 @@ WritesRow P order = ⊥
 abbrev pub CopiesRow : Plain → Order → Type 0
 CopiesRow P (order.Copy from_bucket from_key bucket key headers) = IsInRow (has_at P (record { bucket = from_bucket; key = from_key })) × IsInRow (has_at P (record { bucket = bucket; key = key }))
 CopiesRow P order = ⊥
+
+-- each block that a node keeps is such a string
+abbrev pub AllBlocks : (List ℕ → Bool) → World → Type 0
+AllBlocks is_such w = (n : ℕ) → AllByRecursion (λ (b : Block). IsTrue (is_such b.bytes)) (w.nodes n).blocks
+
+-- no two such strings have one digest
+abbrev pub NoTwins : (List ℕ → Bool) → Type 0
+NoTwins is_such = (a b : List ℕ) → IsTrue (is_such a) → IsTrue (is_such b) → blake2b 32 a ≡ blake2b 32 b → a ≡ b
+
+-- a put of bytes that are kept in blocks, each of which is such a string, over what isn't kept in blocks
+abbrev pub PutsBlocks : Plain → (List ℕ → Bool) → Order → Type 0
+PutsBlocks P is_such (order.Put bucket key body headers) =
+    (is_long body ≡ true) × IsInRow (has_at P (record { bucket = bucket; key = key })) × ((i : ℕ) → has_piece P.block body i ≡ true → IsTrue (is_such (piece P.block body i)))
+PutsBlocks P is_such order = ⊥
 
 -- a list
 abbrev pub Lists : Order → Type 0

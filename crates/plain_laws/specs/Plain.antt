@@ -169,7 +169,8 @@ abbrev pub AreInOrder : List Entry → Type 0
 AreInOrder [] = ⊤
 AreInOrder (e ∷ es) = AllByRecursion (IsBefore e) es × AreInOrder es
 
--- the entries are those of a map, and each key has a byte at least
+-- the entries are those of a map, each key has a byte at least, and each version the number of an order
 pub record IsMap (P : Plain) : Type 0 where
+  pub numbered : IsNumbered P
   pub ordered : AreInOrder P.entries
   pub keyed : AllByRecursion (λ (e : Entry). 1 ≤ length e.name.key) P.entries

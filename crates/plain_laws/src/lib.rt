@@ -3,10 +3,10 @@
 //!
 //! `Plain` (specs/) is the store that is one map; `Holds` says when a cluster holds one, and `Agrees` that it carries out an
 //! order as the map does: it ends with the map's answer, and then holds what the map has become. That is proved of
-//! lists, and of all other orders where what is read and written isn't kept in blocks.
+//! gets, heads and lists, of puts and deletes over what isn't kept in blocks, and of copies where nothing of it is.
 #![tactic(auto)]
 
-ghost use Rattle.std.specs.Prelude.{◌≡◌, ℕ, List, [], ◌∷◌, Some, None};
+ghost use Rattle.std.specs.Prelude.{◌≡◌, ◌≤◌, ℕ, Bool, List, [], ◌∷◌, Some, None};
 ghost use Rattle.std.specs.List.{AllByRecursion};
 ghost use Rattle.layout_roles.specs.declared.layout.Layout.{Layout};
 ghost use Rattle.cluster_machine.specs.Choices.{IsFirst};
@@ -21,7 +21,7 @@ ghost use Rattle.store_model.specs.Acts.{installs, acted};
 ghost use Rattle.serve_model.specs.Stores.{OrdersFit, after_orders};
 ghost use Rattle.serve_model.specs.Clusters.{Cluster, cluster, fits};
 ghost use Rattle.plain_laws.specs.Plain.{Plain, plain, IsNumbered, AreInOrder};
-ghost use Rattle.plain_laws.specs.Holds.{Holds, Agrees, ReadsRow, WritesRow, CopiesRow, Lists, AllInRows, IsOfRows, ends_of};
+ghost use Rattle.plain_laws.specs.Holds.{Holds, Agrees, Reads, WritesRow, CopiesRow, AllBlocks, NoTwins, PutsBlocks, Lists, AllInRows, IsOfRows, ends_of};
 
 /// A first layout that is installed where nothing has happened yet, with whatever buckets and size of blocks, holds the
 /// empty map.
@@ -31,15 +31,22 @@ pub fn a_first_layout_holds_the_empty_map()
         (record { buckets = buckets; block = block; clock = 0; ticked = ticked; asked = 0; entries = [] }) }
 {}
 
-/// A head, and a get of what isn't kept in blocks, ends with the map's answer, and the cluster holds the same map.
+/// A get or a head ends with the map's answer, and the cluster holds the same map, whatever is kept in blocks.
 pub fn reads_answer_as_the_map_does()
-    ensures { (c : Cluster) (P : Plain) (time : ℕ) (order : Order) → Holds c P → fits c time order → ReadsRow P order → Agrees c P time order }
+    ensures { (c : Cluster) (P : Plain) (time : ℕ) (order : Order) → Holds c P → fits c time order → Reads order → Agrees c P time order }
 {}
 
 /// A delete, and a put of bytes that aren't kept in blocks, over what isn't kept in blocks, ends with the map's answer, and
 /// the cluster holds what the map has become; where no two names of buckets have one digest.
 pub fn writes_answer_as_the_map_does()
     ensures { (c : Cluster) (P : Plain) (time : ℕ) (order : Order) → Holds c P → NoClash P.buckets → fits c time order → WritesRow P order → Agrees c P time order }
+{}
+
+/// A put of bytes that are kept in blocks, over what isn't kept in blocks, ends with the map's answer, and the cluster holds
+/// what the map has become; where blocks have a byte at least, no two names of buckets have one digest, and neither have two
+/// strings among the blocks that nodes keep and those of these bytes.
+pub fn puts_in_blocks_answer_as_the_map_does()
+    ensures { (c : Cluster) (P : Plain) (time : ℕ) (order : Order) (is_such : List ℕ → Bool) → Holds c P → NoClash P.buckets → 1 ≤ P.block → AllBlocks is_such c.run.world → NoTwins is_such → fits c time order → PutsBlocks P is_such order → Agrees c P time order }
 {}
 
 /// So does a copy of what isn't kept in blocks, over what isn't kept in blocks.
