@@ -1,0 +1,9 @@
+pub mod Posts
+pub mod Nodes
+pub mod Worlds
+pub mod Flows
+pub mod Ends
+pub mod Weaker
+pub mod Spending
+pub mod States
+pub mod Turns
