@@ -410,7 +410,7 @@ greatest_low : (t : ℕ) (v : Drawn) → AreWithin t v → (es : List (Version �
 greatest_low t v within [] a = omega arith
 greatest_low t v within (e ∷ es) a = let one = (within.versions_fit e.0 a.0).0 in let rest = greatest_low t v within es a.1 in omega arith
 
-row_greatest : (t : ℕ) (v : Drawn) → AreWithin t v → (value : Option AnyRow) → EndFits v (Row value) → greatest_ts value ≤ 100000000000000000 + t
+pub row_greatest : (t : ℕ) (v : Drawn) → AreWithin t v → (value : Option AnyRow) → EndFits v (Row value) → greatest_ts value ≤ 100000000000000000 + t
 row_greatest t v within None f = omega arith
 row_greatest t v within (Some (rows.Object r)) f =
     greatest_low t v within (map_entries r.versions) (all_weaker (λ (e : Version × Max State). HasState r e.0 e.1.0) (λ (e : Version × Max State). Has v.versions e.0) (λ e h. (f.1 e.0 e.1.0 h).0) (map_entries r.versions) (entries_say r))

@@ -29,7 +29,7 @@ use Rattle.cluster_machine.specs.Node.{Ended}
 use Rattle.cluster_machine.specs.World.{Sent, Mark, clock, numbered, is_member_at, packet_size, sent_bytes}
 use Rattle.cluster_machine.specs.Step.{refusal as step_refusal, received, did, at_message}
 use Rattle.cluster_machine.specs.Receives.{receives}
-use Rattle.cluster_machine.specs.Worlds.{Model, Doing, IsLawful, IsSound, FitAll, HasRoom, HaveRoom, does, next as world_after}
+use Rattle.cluster_machine.specs.Worlds.{Model, Doing, Done, IsLawful, IsSound, FitAll, HasRoom, HaveRoom, does, next as world_after}
 use Rattle.machine_origins.specs.Origins.{stored_by}
 use Rattle.machine_origins.proofs.Lists.{all_numbered}
 use Rattle.machine_origins.proofs.Sound.{IsSent}
@@ -262,17 +262,20 @@ module _ (facts : Facts) (stays : StaysSound) where
 
   -- ---- deliveries
 
+  -- what a message does that is delivered
+  abbrev delivered : State → ℕ → Sent AnyRow Layout → Done AnyRow
+  delivered s i sent = received i (did s.world sent.to (receives any_join words layouts sent.to (clock s.world sent.to) (s.world.nodes sent.to) sent.from sent.packet))
+
   -- what a delivery ends
   delivery_ends : (t k b : ℕ) (v : Drawn) (s : State) (i : ℕ) → WorldFits t k b v s.world → AllByRecursion (λ (e : Ended AnyRow). EndFits v e.how) (effect s (plainly (step.Deliver i))).ends
   delivery_ends t k b v s i fits = by_message (numbered s.world.messages i) (numbered s.world.marks i) refl
     where
-      by_message : (o : Option (Sent AnyRow Layout)) (mark : Option Mark) → numbered s.world.messages i ≡ o →
-          AllByRecursion (λ (e : Ended AnyRow). EndFits v e.how) (at_message s.world (λ sent. received i (did s.world sent.to (receives any_join words layouts sent.to (clock s.world sent.to) (s.world.nodes sent.to) sent.from sent.packet))) o mark).ends
+      by_message : (o : Option (Sent AnyRow Layout)) (mark : Option Mark) → numbered s.world.messages i ≡ o → AllByRecursion (λ (e : Ended AnyRow). EndFits v e.how) (at_message s.world (delivered s i) o mark).ends
       by_message None mark e = tt
       by_message (Some x) None e = tt
       by_message (Some x) (Some mark) e =
           let here = receives_end facts t v fits.within fits.asks (length s.world.requests) x.to (s.world.nodes x.to) (fits.rows.nodes x.to) (fits.sound.different x.to) k (fits.nodes x.to) (clock s.world x.to) x.from x.packet (all_numbered (IsSent any_join words (RowFits v) Short fits.asks) s.world.messages i x fits.rows.messages e) in
-          elim mark.is_lost as (λ c. AllByRecursion (λ (e : Ended AnyRow). EndFits v e.how) (cond c (step_refusal s.world Lost) (received i (did s.world x.to (receives any_join words layouts x.to (clock s.world x.to) (s.world.nodes x.to) x.from x.packet)))).ends) [ true ↦ tt | false ↦ here ]
+          elim mark.is_lost as (λ c. AllByRecursion (λ (e : Ended AnyRow). EndFits v e.how) (cond c (step_refusal s.world Lost) (delivered s i x)).ends) [ true ↦ tt | false ↦ here ]
 
   pub delivers_fits : (t k m b : ℕ) (v : Drawn) (s : State) (i : ℕ) (c : (Mailed → ℕ) → ℕ) → k ≤ m → m ≤ 27000000000000 → b ≤ 4000000000000000000 → suc (suc (suc t)) ≤ 16777216 → StateFits t k b v s → HasPlace k m s.world (step.Deliver i) →
       ((f : Mailed → ℕ) → Spends f s.world (doing s (plainly (step.Deliver i))).world (c f)) → OutFits (suc (suc (suc t))) m (b + (mail_limit + mail_limit)) c s (delivers s i)
@@ -326,7 +329,7 @@ module _ (facts : Facts) (stays : StaysSound) where
     Begun x = OutFits (suc (suc (suc t))) k (b + (mail_limit + mail_limit)) nothing_spent s x
 
     refused_out : (r : Refusal Cut) → Begun (refusal s r)
-    refused_out r = let q = still_out t k b (b + (mail_limit + mail_limit)) v s (omega arith) fits in record { room = tt; versions = tt; steps = t; few = omega arith; drawn = v; state = q.state; spends = λ f. omega arith }
+    refused_out r = let q = still_out t k b (b + (mail_limit + mail_limit)) v s (omega arith) fits in let steps = q.few in record { room = tt; versions = tt; steps = q.steps; few = omega arith; drawn = q.drawn; state = q.state; spends = q.spends }
 
     opens : Begun (opened s n o)
     opens =
@@ -339,7 +342,7 @@ module _ (facts : Facts) (stays : StaysSound) where
         let f = started_fits (suc t) v o q s.block (omega arith) fits.block (omega arith) of keyed in
         let two = moves (suc t) k k (b + mail_limit) v here (phases q first.1) (omega arith) top (omega arith) (omega arith) one.world one.marks f.1 tt f.3 f.2 tt in
         record {
-          room = (one.room, two.room, tt);
+          room = (one.room, (two.room, tt));
           versions = tt;
           steps = suc (suc t);
           few = omega arith;

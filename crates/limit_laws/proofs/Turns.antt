@@ -286,7 +286,7 @@ module _ (facts : Facts) (stays : StaysSound) where
         let top = h.top in
         wider r.k b (suc (suc (suc r.t))) (begins s n o) (omega arith) (omega arith) (omega arith) (begins_fits facts stays r.t r.k 268435456 r.drawn s n o (omega arith) (omega arith) steps r.state f k)
 
-    rests : (new : State) → new.world ≡ s.world → new.asked ≡ s.asked → new.block ≤ 1048576 → Out (record (silent new) { state = new })
+    rests : (new : State) → new.world ≡ s.world → new.asked ≡ s.asked → new.block ≤ 1048576 → Out (silent new)
     rests new world asked block =
         let x = r.state in
         wider r.k 268435456 r.t (silent new) (omega arith) (omega arith) (omega arith) (record {
@@ -411,7 +411,7 @@ module _ (facts : Facts) (stays : StaysSound) where
   single_steps : (e : ℕ) (s : State) (o : Outcome) → Stepped e (suc e) s o → Deliveries (suc e) (record { from = s; outcome = o } ∷ []) o.state
   single_steps e s o x = one_more (suc e) (record { from = s; outcome = o }) [] o.state x.room (λ g. none_more (suc e) o.state (x.on g))
 
-  pub turn_steps : (e : ℕ) (s : State) (event : Event) (choice : Decision) → e < 100000 → RunFits e s → IsAllowed event → IsLawfulAct s (act_of event choice) → Deliveries (suc e) (steps_of s event choice) (outcome s event choice).state
+  turn_steps : (e : ℕ) (s : State) (event : Event) (choice : Decision) → e < 100000 → RunFits e s → IsAllowed event → IsLawfulAct s (act_of event choice) → Deliveries (suc e) (steps_of s event choice) (outcome s event choice).state
   turn_steps e s (Drain n) choice low r allowed lawful = drain_steps (suc e) n s (omega arith) (later_run e (suc e) s (omega arith) r)
   turn_steps e s Trio choice low r allowed lawful = single_steps e s _ (event_step e s low r Trio choice tt allowed lawful)
   turn_steps e s (Block size) choice low r allowed lawful = single_steps e s _ (event_step e s low r (Block size) choice tt allowed lawful)
