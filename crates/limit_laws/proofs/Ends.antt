@@ -1,24 +1,22 @@
 -- What phases give fits: rows that fit, blocks that are short, and windows that end at short keys.
-use Rattle.std.specs.Prelude.{◌≡◌, ◌≤◌, ◌+◌, ◌-◌, ℕ, zero, suc, Bool, true, false, not, ◌&&◌, ◌==◌, nat_lt, cond, List, [], ◌∷◌, ◌++◌, Option, Some, None, option_map, length, take, drop, refl, ⊤}
+use Rattle.std.specs.Prelude.{◌≡◌, ◌≤◌, ◌+◌, ◌-◌, ℕ, suc, Bool, true, false, not, ◌==◌, nat_lt, cond, List, [], ◌∷◌, ◌++◌, Option, Some, None, option_map, length, refl, ⊤}
 use Rattle.std.specs.List.{AllByRecursion, filter}
 use Rattle.std.specs.Ordering.{is_lt}
-use Rattle.std.proofs.Common.{ap, sym, subst, ◌∙◌, length-append, length-drop, arith}
-use Rattle.crdt_core.proofs.Each.{all_append, all_weaker}
-use Rattle.crdt_core.specs.EntryLaws.{and_parts}
+use Rattle.std.proofs.Common.{sym, subst, length-append, length-drop, arith}
+use Rattle.crdt_core.proofs.Each.{all_weaker}
 use Rattle.crdt_rows.specs.declared.any_row.AnyRow.{AnyRow}
 use Rattle.crdt_rows.specs.declared.any_row.AnyRow.TheVariants as rows
 use Rattle.crdt_rows.specs.AnyRow.{any_join}
 use Rattle.layout_roles.specs.declared.layout.Layout.{Layout}
-use Rattle.view_model.specs.View.{newest, oldest, merged}
+use Rattle.view_model.specs.View.{newest, oldest}
 use Rattle.row_codec.specs.NumberLaws.{block_length}
 use Rattle.row_codec.specs.Spelling.{eight}
-use Rattle.table_model.specs.Rows.{row_at, rows as rows_of, range, is_past}
+use Rattle.table_model.specs.Rows.{rows as rows_of, is_past}
 use Rattle.object_schema.specs.Schema.{words}
 use Rattle.quorum_model.specs.declared.range.RangeAnswer.{RangeAnswer}
 use Rattle.quorum_model.specs.Answers.{first_two_at}
 use Rattle.quorum_model.specs.Quorum.{StoreSlot, is_kept, with_confirmation}
-use Rattle.quorum_model.specs.Window.{Window, key_cmp, last_of, nearer, after_position, shown_to, end_of, window}
-use Rattle.range_laws.specs.Scans.{answer as found_in}
+use Rattle.quorum_model.specs.Window.{key_cmp, last_of, nearer, after_position, shown_to, end_of, window}
 use Rattle.wire_messages.specs.declared.message.Message.{Message}
 use Rattle.wire_messages.specs.declared.message.Message.TheVariants.{Get, Row, Range, Rows, Store, Stored, Behind, NotHere, BlockGet, Block, NoBlock}
 use Rattle.wire_messages.specs.declared.message.Tag.{Tag}
@@ -26,11 +24,10 @@ use Rattle.wire_messages.specs.declared.message.Tag.TheVariants.{Call as ForCall
 use Rattle.wire_messages.specs.declared.phase.PhaseEnd.{PhaseEnd}
 use Rattle.wire_messages.specs.declared.phase.PhaseEnd.TheVariants.{Row as GaveRow, Window as GaveWindow, Kept as IsKept, Block as GaveBlock}
 use Rattle.cluster_machine.specs.Layouts.{layouts, is_given, is_stored}
-use Rattle.cluster_machine.specs.Node.{Question, Scan, Present, resting, asking, scanning, storing, fetching, Call, Round, Node, Packet, says, shows, Reading, read, scanned, Ended, Did, quiet}
-use Rattle.cluster_machine.specs.Rows.{block_at, accepts_all}
+use Rattle.cluster_machine.specs.Node.{Question, Scan, Present, resting, asking, scanning, storing, fetching, Call, Round, Packet, says, shows, Reading, Ended, Did, quiet}
+use Rattle.cluster_machine.specs.Rows.{block_at}
 use Rattle.cluster_machine.specs.Phases.{call_at, asked, looked, stored, value_after, row_came, window_at, rows_came, stored_came, block_came, at_call}
-use Rattle.cluster_machine.specs.Rounds.{goes_on}
-use Rattle.cluster_machine.specs.Receives.{most_rows, answers, where_stored, gives_row, gives_rows, gives_block, takes, round_came, confirms, hears, receives}
+use Rattle.cluster_machine.specs.Receives.{most_rows, gives_block, round_came, confirms, hears, receives}
 use Rattle.cluster_machine.specs.Keeping.{AreDifferent}
 use Rattle.machine_origins.specs.Following.{EndsSo, AtMostOne}
 use Rattle.machine_origins.proofs.Lists.{all_filter, all_take, all_found, all_numbered}

@@ -1,26 +1,23 @@
 -- What requests wait for and store: short keys and bytes, versions that were drawn, and blocks at places that are counted.
-use Rattle.std.specs.Prelude.{◌≡◌, ◌≤◌, ◌<◌, ◌+◌, ◌*◌, ◌^◌, ◌==◌, ℕ, zero, suc, max, Bool, true, false, leb, nat_lt, cond, List, [], ◌∷◌, ◌++◌, Option, Some, None, option_map, length, map, take, drop, slice_index, refl, ⊤}
+use Rattle.std.specs.Prelude.{◌≡◌, ◌≤◌, ◌<◌, ◌+◌, ◌*◌, ◌^◌, ℕ, zero, suc, Bool, true, false, nat_lt, List, [], ◌∷◌, ◌++◌, Option, Some, None, option_map, length, map, take, drop, slice_index, refl, ⊤}
 use Rattle.std.specs.Option.{unwrap_or}
 use Rattle.std.specs.List.{All, AllByRecursion}
 use Rattle.std.proofs.lemmas.List.Elements.{recursion_from_All}
 use Rattle.std.specs.Int.{w32, byte_at, bytes_low_first, to_le_bytes}
 use Rattle.std.specs.declared.cmp.Ordering.{Ordering}
 use Rattle.std.specs.declared.cmp.Ordering.TheVariants.{Less, Equal, Greater}
-use Rattle.std.proofs.Common.{ap, sym, subst, ◌∙◌, ◌%◌, ◌/◌, inl, inr, mul-le-mul, length-append, length-take, arith, lit≤}
+use Rattle.std.proofs.Common.{ap, sym, subst, ◌∙◌, ◌%◌, inl, inr, mul-le-mul, length-append, length-take, arith, lit≤}
 use Rattle.std.proofs.lemmas.Bool.{lt-ltb, leb-false}
-use Rattle.std.proofs.lemmas.Nat.{mod_below}
 use Rattle.md5.specs.Md5.{digest_bytes, md5}
 use Rattle.md5.proofs.StandardFacts.{length-md5}
-use Rattle.blake2_hash.specs.declared.digest.Hash32.{Hash32}
 use Rattle.blake2_hash.specs.Blake2b.{blake2b}
 use Rattle.blake2_hash.specs.Hash.{digest_of}
 use Rattle.blake2_hash.proofs.Digests.{length-blake2b, blake2b_below}
 use Rattle.crdt_core.specs.Members.{Has}
 use Rattle.crdt_core.specs.EntryLaws.{and_parts, and_both}
-use Rattle.crdt_core.specs.Entries.{value_at}
 use Rattle.crdt_core.specs.Lex.{by_order}
 use Rattle.crdt_core.specs.Map.{map_entries, map_single}
-use Rattle.crdt_core.specs.declared.deletable.Deletable.TheVariants.{Present, Deleted}
+use Rattle.crdt_core.specs.declared.deletable.Deletable.TheVariants.{Present}
 use Rattle.crdt_core.specs.declared.max.Max.{Max}
 use Rattle.crdt_core.proofs.Each.{all_weaker}
 use Rattle.crdt_rows.specs.declared.version.Version.{Version}
@@ -33,7 +30,7 @@ use Rattle.crdt_rows.specs.declared.version_row.Part.{Part}
 use Rattle.crdt_rows.specs.declared.version_row.BlockRef.{BlockRef}
 use Rattle.crdt_rows.specs.declared.any_row.AnyRow.{AnyRow}
 use Rattle.crdt_rows.specs.declared.any_row.AnyRow.TheVariants as rows
-use Rattle.crdt_rows.specs.Facts.{HasState, HasBlock}
+use Rattle.crdt_rows.specs.Facts.{HasState}
 use Rattle.crdt_rows.specs.FieldLaws.{version_identical, part_identical}
 use Rattle.crdt_rows.specs.ObjectRow.{newest, state_at}
 use Rattle.crdt_rows.specs.State.{is_sized}
@@ -43,9 +40,8 @@ use Rattle.crdt_rows.specs.Versions.{greatest_ts as greatest_of}
 use Rattle.row_codec.specs.Reads.{are_bytes}
 use Rattle.row_codec.specs.Range.{is_block, is_four, is_eight, is_hash, block_in_range}
 use Rattle.row_codec.specs.Spelling.{eight, four, field, counted, meta, state, version as version_bytes, part as part_bytes, block as block_bytes}
-use Rattle.row_codec.specs.NumberLaws.{bytes_from, bytes_both, bytes_front, bytes_back, block_from}
-use Rattle.wire_messages.specs.declared.phase.Phase.{Phase}
-use Rattle.wire_messages.specs.declared.phase.Phase.TheVariants.{Read, Range, Store, Block as Fetch}
+use Rattle.row_codec.specs.NumberLaws.{bytes_both, block_from}
+use Rattle.wire_messages.specs.declared.phase.Phase.TheVariants.{Store}
 use Rattle.wire_messages.specs.declared.phase.PhaseEnd.{PhaseEnd}
 use Rattle.wire_messages.specs.declared.phase.PhaseEnd.TheVariants.{Row, Window, Kept, Block}
 use Rattle.cluster_machine.specs.declared.step.Step.TheVariants.{Phase as Begin}
@@ -61,16 +57,15 @@ use Rattle.flow_model.specs.declared.flow.Flow.{Flow}
 use Rattle.flow_model.specs.declared.flow.FlowStep.{FlowStep}
 use Rattle.flow_model.specs.declared.flow.FlowStep.TheVariants.{More, Wait, End}
 use Rattle.flow_model.specs.Blocks.{piece, piece_hash, has_piece, is_long, inline_limit}
-use Rattle.flow_model.specs.Flow.{asks_for, asks_past}
+use Rattle.flow_model.specs.Flow.{asks_for}
 use Rattle.flow_model.specs.Next.{drawn, stores, opens, completes, writes, uploads, found, reads_on, looked, gathers, opened, lists, goes_on}
-use Rattle.flow_model.specs.Rows.{row_key, same_number, settled, sized as sized_row, meta_of, object_row, uploading, marker, inline, in_blocks, complete, version_row, reference_row, block_rows}
-use Rattle.flow_model.specs.Says.{Said, none, marked, inline as says_inline, in_blocks as says_blocks, of_state, of_version, said_by, said_of, greatest_ts, shown_rows, Named, unnamed, whole, deleted, named_by}
+use Rattle.flow_model.specs.Rows.{same_number, settled, sized as sized_row, meta_of, object_row, uploading, inline, in_blocks, complete, version_row, reference_row, block_rows}
+use Rattle.flow_model.specs.Says.{Said, none, marked, inline as says_inline, in_blocks as says_blocks, of_state, of_version, said_of, greatest_ts, shown_rows, Named, unnamed, whole, deleted, named_by}
 use Rattle.machine_origins.specs.Origins.{stored_by}
 use Rattle.machine_origins.proofs.Beginning.{IsPlaced}
-use Rattle.limit_rows.specs.Fitting.{Drawn, AreWithin, MetaFits, StateFits, KeyFits, RowFits, weight}
-use Rattle.limit_rows.proofs.Handed.{Grew, fits_later, eight_is}
-use Rattle.limit_rows.proofs.Weights.{entries_say, eight_length, four_length, object_weight, version_weight, ref_weight, entry_weight}
-use Rattle.limit_rows.proofs.Totals.{total}
+use Rattle.limit_rows.specs.Fitting.{Drawn, AreWithin, MetaFits, StateFits, RowFits, weight}
+use Rattle.limit_rows.proofs.Handed.{Grew, eight_is}
+use Rattle.limit_rows.proofs.Weights.{entries_say, eight_length, four_length, object_weight, version_weight, ref_weight}
 use Rattle.limit_laws.proofs.Posts.{IsShort, within_more}
 use Rattle.limit_laws.proofs.Nodes.{StoredFits, PhaseFits}
 
@@ -207,9 +202,12 @@ mapped_value (Some m) s e = let same : m.0 ≡ s = cc in λ i. Some (record { 0 
 
 module _ (t : ℕ) (v : Drawn) (within : AreWithin t v) where
   one_says : (name : Name) (x : Version) (st : State) (sized : is_sized st ≡ true) → NameFits name → Has v.versions x → StateFits st → RowFits v (object_row name x st sized)
-  one_says name x st sized f there fits = ((hash_of name.bucket, f.0, f.1), λ y s h.
-      let two = one_value version_cmp version_identical x y (record { 0 = st }) (record { 0 = s }) (version_cmp y x) refl (mapped_value _ s h) in
-      (subst (Has v.versions) two.0 there, subst StateFits (ap (λ (m : Max State). m.0) two.1) fits))
+  one_says name x st sized f there fits = (
+    (hash_of name.bucket, f.0, f.1),
+    λ y s h.
+        let two = one_value version_cmp version_identical x y (record { 0 = st }) (record { 0 = s }) (version_cmp y x) refl (mapped_value _ s h) in
+        (subst (Has v.versions) two.0 there, subst StateFits (ap (λ (m : Max State). m.0) two.1) fits),
+  )
 
   one_weight : (name : Name) (x : Version) (st : State) (sized : is_sized st ≡ true) → NameFits name → length (state st) ≤ 4000 → weight (object_row name x st sized) ≤ 8192
   one_weight name x st sized f low =
@@ -265,9 +263,6 @@ module _ (t : ℕ) (v : Drawn) (within : AreWithin t v) where
   module _ (id block : ℕ) (low : id ≤ t) (small : block ≤ 1048576) where
     flow_fits : (st : Stage) → StageFits t v st → FlowFits t v (record { id = id; block = block; stage = st })
     flow_fits st h = record { id = low; block = small; stage = h }
-
-    same_fits : (st : FlowStep) → GoesFit t v st → NextFits t v st
-    same_fits st h = record { new = v; grew = grew_same v; within = within; goes = h }
 
     completes_fit : (name : Name) (x : Version) (w : Wish) → NameFits name → Has v.versions x → WishFits t w → GoesFit t v (completes id block name x w)
     completes_fit name x wish.Marker f there g = let c = complete_fits name x block wish.Marker f there g in let s = stored_one (complete name x block wish.Marker) c.0 c.1 in (flow_fits (Completing x None) tt, s.0, s.1, s.2)
@@ -362,9 +357,12 @@ block_rows_fit t v within id block body i low small bytes there =
     let eight_id : is_eight id ≡ true = eight_is id (omega arith) in
     let hashed = hash_of (piece block body i) in
     let in_range : block_in_range ref ≡ true = and_both (is_hash hash) (is_four (length (piece block body i))) hashed (lt-ltb (length (piece block body i)) (2 ^ 32) (omega arith)) in
-    let first : RowFits v (version_row id block body i) = (eight_id, λ p b h.
-        let two = one_value part_cmp part_identical place p (record { 0 = ref }) (record { 0 = b }) (part_cmp p place) refl (mapped_value _ b h) in
-        (subst (Has v.parts) two.0 there, subst (λ (x : BlockRef). block_in_range x ≡ true) (ap (λ (m : Max BlockRef). m.0) two.1) in_range)) in
+    let first : RowFits v (version_row id block body i) = (
+      eight_id,
+      λ p b h.
+          let two = one_value part_cmp part_identical place p (record { 0 = ref }) (record { 0 = b }) (part_cmp p place) refl (mapped_value _ b h) in
+          (subst (Has v.parts) two.0 there, subst (λ (x : BlockRef). block_in_range x ≡ true) (ap (λ (m : Max BlockRef). m.0) two.1) in_range),
+    ) in
     let second : RowFits v (reference_row id block body i) = (hashed, eight_id) in
     let w = (version_weight id (Present (map_single place (record { 0 = ref })))).1 in
     let a = length-append (part_bytes place) (block_bytes ref) in

@@ -1,9 +1,7 @@
 -- What a node's counts are after each of its steps, and that all that it sends has a spelling and counts few bytes.
-use Rattle.std.specs.Prelude.{◌≡◌, ◌≤◌, ◌+◌, ◌*◌, ℕ, zero, suc, Bool, true, false, ◌==◌, ◌&&◌, leb, nat_lt, not, cond, List, [], ◌∷◌, ◌++◌, Option, Some, None, IsTrue, length, map, sum_by, take, refl, ⊤}
+use Rattle.std.specs.Prelude.{◌≡◌, ◌≤◌, ◌+◌, ◌*◌, ℕ, suc, Bool, true, false, ◌==◌, leb, nat_lt, not, cond, List, [], ◌∷◌, ◌++◌, Option, Some, None, length, map, sum_by, take, refl, ⊤}
 use Rattle.std.specs.List.{AllByRecursion, filter, flat_map, list_all}
-use Rattle.std.specs.Option.{unwrap_or}
 use Rattle.std.proofs.Common.{ap, sym, subst, ◌∙◌, length-append, arith}
-use Rattle.std.proofs.lemmas.Bool.{eqb-true}
 use Rattle.std.proofs.lemmas.List.Recursion.{is_sum_by}
 use Rattle.crdt_core.specs.EntryLaws.{and_both}
 use Rattle.crdt_core.specs.Order.{option_join}
@@ -14,39 +12,36 @@ use Rattle.crdt_rows.specs.declared.any_row.AnyRow.TheVariants as rows
 use Rattle.crdt_rows.specs.AnyRow.{any_join}
 use Rattle.crdt_core.specs.declared.deletable.Deletable.TheVariants.{Deleted}
 use Rattle.blake2_hash.specs.declared.digest.Hash32.{Hash32}
-use Rattle.crdt_rows.specs.VersionRow.{is_deleted}
 use Rattle.layout_roles.specs.declared.layout.Layout.{Layout}
-use Rattle.layout_trackers.specs.declared.which.Which.TheVariants.{Ack, SyncAck}
-use Rattle.view_model.specs.View.{View, newest, oldest, layout_at, read_version, ack_least, with_entry, cleaned, merged}
+use Rattle.view_model.specs.View.{View, newest, oldest, layout_at, read_version, cleaned, merged}
 use Rattle.row_codec.specs.Spelling.{spelled}
-use Rattle.row_codec.specs.Rows.{spelling}
 use Rattle.table_schema.specs.Words.{partition_of, partition_at}
-use Rattle.table_model.specs.Rows.{row_at, rows as rows_of, rows_in, range, is_past}
+use Rattle.table_model.specs.Rows.{row_at, rows as rows_of, range, is_past}
 use Rattle.quorum_model.specs.declared.range.RangeAnswer.{RangeAnswer}
 use Rattle.quorum_model.specs.Answers.{first_two_at}
 use Rattle.quorum_model.specs.Quorum.{is_among, StoreSlot, is_kept, with_confirmation}
 use Rattle.quorum_model.specs.Window.{Window}
-use Rattle.wire_messages.specs.Size.{plus, block_length, stored_length, size, carried}
+use Rattle.wire_messages.specs.Size.{plus, block_length, stored_length, size}
 use Rattle.wire_messages.specs.declared.message.Message.{Message}
 use Rattle.wire_messages.specs.declared.message.Message.TheVariants.{Get, Row, Range, Rows, Store, Stored, Behind, NotHere, BlockGet, Block, NoBlock}
 use Rattle.wire_messages.specs.declared.message.Tag.{Tag}
 use Rattle.wire_messages.specs.declared.message.Tag.TheVariants.{Call as ForCall, Round as ForRound, Item as ForItem}
 use Rattle.wire_messages.specs.declared.phase.Phase.{Phase}
 use Rattle.wire_messages.specs.declared.phase.Phase.TheVariants.{Read, Range as Scans, Store as Keeps, Block as Fetches}
-use Rattle.object_schema.specs.Triggers.{given_up, deleted_version, hashes_of, released, deleted_reference, triggered}
+use Rattle.object_schema.specs.Triggers.{given_up, deleted_version, released, deleted_reference, triggered}
 use Rattle.object_schema.specs.Schema.{words}
 use Rattle.object_schema.specs.Laws.{schema_laws}
 use Rattle.cluster_machine.specs.declared.step.Action.{Action}
 use Rattle.cluster_machine.specs.declared.step.Action.TheVariants.{Ack as RaiseAck, Sync as GoOn, SyncAck as RaiseSyncAck, Clean as CleanUp, Work as WorkOff, Repair as Mend}
 use Rattle.cluster_machine.specs.declared.step.LocalEnd.{LocalEnd}
 use Rattle.cluster_machine.specs.Layouts.{layouts, stored_sets, set_at, is_given, is_stored}
-use Rattle.cluster_machine.specs.Node.{Question, Scan, Present, resting, asking, scanning, storing, fetching, Call, Item, Part, Round, Node, Packet, says, shows, Post, Did, quiet}
+use Rattle.cluster_machine.specs.Node.{Question, Scan, Present, resting, asking, scanning, storing, fetching, Call, Item, Part, Round, Node, Packet, says, shows, Did, quiet}
 use Rattle.cluster_machine.specs.Node as machine
-use Rattle.cluster_machine.specs.Rows.{same_bytes, block_at, has_block, with_block, still, block_of, called_for, blocks_after, queue_from, accepts, accepts_read, accepts_all, drops, sees}
-use Rattle.cluster_machine.specs.Phases.{nodes_of, to_each, call_at, with_call, without_call, calls_now, asked, looked, stored, bytes_of, is_spelled, stores, slots_of, begins, opened, closed, value_after, row_came, window_at, rows_came, stored_came, block_came, at_call}
-use Rattle.cluster_machine.specs.Rounds.{confirmed_for, are_spelled, is_complete, open_nodes, open_parts, rows_at, found, with_its_block, pushes_rows, pushes, parts_of, synced, goes_on, may_sync, begin_round, again, repairs}
-use Rattle.cluster_machine.specs.Receives.{most_rows, answers, is_sendable, where_stored, gives_row, gives_rows, gives_block, takes, round_came, is_done, kept_item, item_came, confirms, hears, receives}
-use Rattle.cluster_machine.specs.Acts.{Acted, unconfirmed, without_due, item_posts, works, syncs, acts, restarts}
+use Rattle.cluster_machine.specs.Rows.{same_bytes, block_at, has_block, still, block_of, called_for, blocks_after, queue_from, accepts, accepts_read, accepts_all, drops, sees}
+use Rattle.cluster_machine.specs.Phases.{nodes_of, to_each, call_at, with_call, calls_now, asked, looked, stored, bytes_of, is_spelled, stores, slots_of, begins, value_after, row_came, window_at, rows_came, stored_came, block_came, at_call}
+use Rattle.cluster_machine.specs.Rounds.{confirmed_for, are_spelled, is_complete, open_nodes, open_parts, rows_at, found, with_its_block, pushes_rows, pushes, parts_of, synced, goes_on, may_sync, begin_round}
+use Rattle.cluster_machine.specs.Receives.{most_rows, answers, where_stored, gives_row, gives_rows, gives_block, takes, round_came, is_done, kept_item, item_came, confirms, hears, receives}
+use Rattle.cluster_machine.specs.Acts.{Acted, item_posts, syncs, acts}
 use Rattle.cluster_machine.specs.World.{packet_size}
 use Rattle.machine_origins.proofs.Lists.{all_filter, all_take, all_found}
 use Rattle.machine_origins.proofs.Good.{IsGood, IsAt, IsFound, same_at, row_found, rows_good}
@@ -54,7 +49,7 @@ use Rattle.machine_origins.proofs.Sound.{Asks, ReadsTo, IsMessage, IsPacket, IsN
 use Rattle.machine_origins.proofs.Accepting.{accepts_all_node}
 use Rattle.object_origins.proofs.Shown.{Facts}
 use Rattle.limit_rows.specs.Fitting.{Drawn, AreWithin, RowFits, weight}
-use Rattle.limit_rows.proofs.Totals.{total, total_filter, total_take, total_ones}
+use Rattle.limit_rows.proofs.Totals.{total, total_filter, total_take}
 use Rattle.limit_rows.proofs.Handed.{called_fit, fits_rules}
 use Rattle.limit_rows.proofs.Weights.{version_weight, ref_weight, fits_spelled}
 use Rattle.limit_rows.proofs.Contents.{load, row_after as rows_after, accepted_counts, dropped_counts, found_counts}

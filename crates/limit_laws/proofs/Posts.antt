@@ -1,13 +1,11 @@
 -- How many bytes a node sends at once, and that none of it lacks a spelling.
-use Rattle.std.specs.Prelude.{◌≡◌, ◌≤◌, ◌<◌, ◌+◌, ◌*◌, ◌^◌, ℕ, zero, suc, Bool, true, false, ◌==◌, ◌&&◌, leb, nat_lt, not, cond, List, [], ◌∷◌, ◌++◌, Option, Some, None, option_map, is_some, IsTrue, length, map, sum_by, take, slice_get, refl, ⊤}
-use Rattle.std.specs.List.{All, AllByRecursion, filter, find, flat_map, list_all}
+use Rattle.std.specs.Prelude.{◌≡◌, ◌≤◌, ◌+◌, ◌*◌, ℕ, zero, suc, Bool, true, false, ◌==◌, nat_lt, cond, List, [], ◌∷◌, ◌++◌, Option, Some, None, option_map, is_some, length, map, sum_by, slice_get, refl, ⊤}
+use Rattle.std.specs.List.{AllByRecursion, filter, find, flat_map, list_all}
 use Rattle.std.specs.Option.{unwrap_or}
-use Rattle.std.proofs.Common.{ap, sym, subst, ◌∙◌, inl, inr, mul-suc, mul-add, mul-le-mul_left, length-append, arith}
-use Rattle.std.proofs.lemmas.List.{length-map}
+use Rattle.std.proofs.Common.{ap, mul-suc, mul-le-mul_left, length-append, arith}
 use Rattle.std.proofs.lemmas.List.Recursion.{is_sum_by}
 use Rattle.crdt_core.specs.EntryLaws.{and_both}
-use Rattle.crdt_core.specs.Members.{Has}
-use Rattle.crdt_core.proofs.Each.{all_append, all_weaker}
+use Rattle.crdt_core.proofs.Each.{all_weaker}
 use Rattle.crdt_rows.specs.declared.any_row.AnyRow.{AnyRow}
 use Rattle.crdt_rows.specs.declared.any_row.AnyRow.TheVariants as rows
 use Rattle.crdt_rows.specs.AnyRow.{any_join}
@@ -15,30 +13,29 @@ use Rattle.layout_roles.specs.declared.layout.Layout.{Layout}
 use Rattle.view_model.specs.View.{View, newest, layout_at}
 use Rattle.row_codec.specs.Reads.{are_bytes}
 use Rattle.row_codec.specs.Spelling.{spelled}
-use Rattle.row_codec.specs.Rows.{spelling}
 use Rattle.table_schema.specs.Words.{partition_of}
 use Rattle.table_model.specs.Rows.{rows, rows_in}
-use Rattle.wire_messages.specs.Size.{plus, row_length, rows_length, block_length, stored_length, carried, size}
+use Rattle.wire_messages.specs.Size.{plus, row_length, rows_length, block_length, stored_length, size}
 use Rattle.wire_messages.specs.declared.message.Message.{Message}
-use Rattle.wire_messages.specs.declared.message.Message.TheVariants.{Get, Row, Range, Rows, Store, Stored, Behind, NotHere, BlockGet, Block, NoBlock}
-use Rattle.wire_messages.specs.declared.message.Tag.TheVariants.{Call as ForCall, Round as ForRound, Item as ForItem}
+use Rattle.wire_messages.specs.declared.message.Message.TheVariants.{Store, Block}
+use Rattle.wire_messages.specs.declared.message.Tag.TheVariants.{Round as ForRound, Item as ForItem}
 use Rattle.object_schema.specs.Schema.{words}
-use Rattle.cluster_machine.specs.Layouts.{layouts, set_of, set_in, set_at, stored_sets}
-use Rattle.cluster_machine.specs.Node.{Item, Part, Round, Node, Packet, says, shows, Post}
+use Rattle.cluster_machine.specs.Layouts.{layouts, set_of, set_in, stored_sets}
+use Rattle.cluster_machine.specs.Node.{Item, Part, Node, says, Post}
 use Rattle.cluster_machine.specs.Node as machine
 use Rattle.cluster_machine.specs.Rows.{same_bytes, block_at}
-use Rattle.cluster_machine.specs.Phases.{with_node, in_order, nodes_of, to_each, bytes_of, is_spelled, stores}
+use Rattle.cluster_machine.specs.Phases.{with_node, in_order, nodes_of, to_each, bytes_of, is_spelled}
 use Rattle.cluster_machine.specs.Phases as phases
-use Rattle.cluster_machine.specs.Rounds.{numbered_from, confirmed_for, open_nodes, is_empty, open_parts, rows_at, found, with_its_block, pushes_rows, pushes, are_spelled, sets_in, parts_of}
+use Rattle.cluster_machine.specs.Rounds.{numbered_from, rows_at, found, with_its_block, pushes_rows, pushes, are_spelled, sets_in, parts_of}
 use Rattle.cluster_machine.specs.Acts.{item_posts}
-use Rattle.cluster_machine.specs.World.{Sent, World, packet_size, sent_bytes}
+use Rattle.cluster_machine.specs.World.{World, packet_size, sent_bytes}
 use Rattle.cluster_machine.specs.Step.{sent_by}
 use Rattle.machine_origins.proofs.Good.{IsGood, rows_good}
 use Rattle.machine_origins.proofs.Lists.{all_filter}
-use Rattle.limit_rows.proofs.Totals.{total, total_append, total_filter, total_take, total_most, total_times, total_weaker, total_map}
+use Rattle.limit_rows.proofs.Totals.{total, total_times, total_weaker, total_map}
 use Rattle.limit_rows.specs.Fitting.{Drawn, AreWithin, RowFits, weight}
 use Rattle.limit_rows.proofs.Handed.{fits_rules}
-use Rattle.limit_rows.proofs.Weights.{fits_spelled, ref_weight, places, object_weight, version_weight}
+use Rattle.limit_rows.proofs.Weights.{fits_spelled, ref_weight, object_weight, version_weight}
 use Rattle.limit_rows.proofs.Contents.{load, from_part, part_counts, all_parts_count}
 use Rattle.object_origins.proofs.Shown.{Facts}
 

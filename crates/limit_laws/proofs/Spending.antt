@@ -1,12 +1,12 @@
 -- Messages that wait: what was delivered or lost never waits again, and each delivery of the least one that waits takes it from them.
-use Rattle.std.specs.Prelude.{◌≡◌, ◌≤◌, ◌+◌, ◌-◌, ◌||◌, ℕ, zero, suc, Bool, true, false, cond, List, [], ◌∷◌, ◌++◌, Option, Some, None, length, map, slice_get, slice_set, refl, ⊤}
+use Rattle.std.specs.Prelude.{◌≡◌, ◌≤◌, ◌+◌, ◌-◌, ◌||◌, ℕ, zero, suc, Bool, true, false, cond, List, [], ◌∷◌, ◌++◌, Option, Some, None, length, map, slice_get, slice_set, refl}
 use Rattle.std.specs.Option.{unwrap_or}
-use Rattle.std.proofs.Common.{ap, sym, subst, ◌∙◌, arith}
+use Rattle.std.proofs.Common.{ap, sym, ◌∙◌, arith}
 use Rattle.std.proofs.lemmas.List.{length-set, length-append, length-map}
 use Rattle.layout_roles.specs.declared.layout.Layout.{Layout}
 use Rattle.crdt_rows.specs.declared.any_row.AnyRow.{AnyRow}
-use Rattle.cluster_machine.specs.World.{Sent, Mark, World, numbered, first_waiting}
-use Rattle.cluster_machine.specs.Step.{Effects, marked, applied}
+use Rattle.cluster_machine.specs.World.{Sent, Mark, first_waiting}
+use Rattle.cluster_machine.specs.Step.{marked, applied}
 use Rattle.cluster_machine.specs.Worlds.{Model, Done}
 use Rattle.limit_rows.proofs.Totals.{total, total_append}
 use Rattle.limit_laws.proofs.Worlds.{MarksFit}
@@ -68,9 +68,6 @@ module _ (f : Mailed → ℕ) where
   -- between two worlds messages were spent that count at least so much
   abbrev pub Spends : Model AnyRow → Model AnyRow → ℕ → Type 0
   Spends w u c = left u.messages u.marks + total f w.messages + c ≤ left w.messages w.marks + total f u.messages
-
-  pub spends_both : (w u x : Model AnyRow) (c d : ℕ) → Spends w u c → Spends u x d → Spends w x (c + d)
-  spends_both w u x c d h k = omega arith
 
   marked_left : (xs : List Mailed) (ms : List Mark) (o : Option (ℕ × Mark)) → MarksFit o → left xs (marked ms o) ≤ left xs ms
   marked_left xs ms None h = omega arith

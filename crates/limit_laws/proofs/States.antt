@@ -1,10 +1,7 @@
 -- Each act of a schedule leaves a state within the limits so, and has room for its numbers and rows.
-use Rattle.std.specs.Prelude.{◌≡◌, ◌≤◌, ◌<◌, ◌+◌, ◌*◌, ◌-◌, ◌^◌, ◌%◌, ◌==◌, ◌||◌, ℕ, zero, suc, max, Bool, true, false, nat_lt, cond, if◌then◌else◌, List, [], ◌∷◌, ◌++◌, Option, Some, None, IsTrue, length, slice_get, slice_set, refl, ⊤}
-use Rattle.std.specs.Option.{unwrap_or}
+use Rattle.std.specs.Prelude.{◌≡◌, ◌≤◌, ◌<◌, ◌+◌, ◌-◌, ◌^◌, ℕ, zero, suc, Bool, true, false, cond, if◌then◌else◌, List, [], ◌∷◌, ◌++◌, Option, Some, None, length, slice_set, refl, ⊤}
 use Rattle.std.specs.List.{AllByRecursion}
-use Rattle.std.proofs.Common.{ap, sym, subst, ◌∙◌, arith, lit≤, length-append}
-use Rattle.std.proofs.lemmas.Bool.{lt-ltb}
-use Rattle.crdt_core.specs.EntryLaws.{and_parts, and_both}
+use Rattle.std.proofs.Common.{arith, lit≤, length-append}
 use Rattle.crdt_core.proofs.Each.{all_append, all_weaker}
 use Rattle.crdt_rows.specs.declared.version.Version.{Version}
 use Rattle.crdt_rows.specs.declared.any_row.AnyRow.{AnyRow}
@@ -22,14 +19,13 @@ use Rattle.wire_messages.specs.declared.phase.PhaseEnd.TheVariants.{Row, Window,
 use Rattle.layout_roles.specs.declared.cut.Cut.{Cut}
 use Rattle.cluster_machine.specs.declared.step.Refusal.{Refusal}
 use Rattle.cluster_machine.specs.declared.step.Refusal.TheVariants.{NotMember, NoSuchBucket, Lost}
-use Rattle.cluster_machine.specs.declared.step.Step.{Step}
 use Rattle.cluster_machine.specs.declared.step.Step.TheVariants as step
 use Rattle.cluster_machine.specs.Layouts.{layouts}
 use Rattle.cluster_machine.specs.Node.{Ended}
-use Rattle.cluster_machine.specs.World.{Sent, Mark, clock, numbered, is_member_at, packet_size, sent_bytes}
+use Rattle.cluster_machine.specs.World.{Sent, Mark, clock, numbered, is_member_at}
 use Rattle.cluster_machine.specs.Step.{refusal as step_refusal, received, did, at_message}
 use Rattle.cluster_machine.specs.Receives.{receives}
-use Rattle.cluster_machine.specs.Worlds.{Model, Doing, Done, IsLawful, IsSound, FitAll, HasRoom, HaveRoom, does, next as world_after}
+use Rattle.cluster_machine.specs.Worlds.{Model, Doing, Done, IsLawful, IsSound, HasRoom, HaveRoom, does, next as world_after}
 use Rattle.machine_origins.specs.Origins.{stored_by}
 use Rattle.machine_origins.proofs.Lists.{all_numbered}
 use Rattle.machine_origins.proofs.Sound.{IsSent}
@@ -43,19 +39,17 @@ use Rattle.flow_model.specs.declared.flow.FlowStep.{FlowStep}
 use Rattle.flow_model.specs.declared.flow.FlowStep.TheVariants.{More, Wait, End}
 use Rattle.flow_model.specs.Flow.{started}
 use Rattle.flow_model.specs.Next.{drawn, next}
-use Rattle.store_model.specs.Run.{Moving, State, Asked, Draw, Outcome, silent, refusal, plainly, effect, doing, are_buckets, phases, new_request, opened, begins, set_flow, draws_of, versions_drawn, goes, finishes, takes, follows, follow, goes_on, after_step, delivers}
+use Rattle.store_model.specs.Run.{Moving, State, Asked, Draw, Outcome, silent, refusal, plainly, effect, doing, are_buckets, phases, new_request, opened, begins, draws_of, versions_drawn, goes, takes, follows, follow, goes_on, delivers}
 use Rattle.store_model.specs.Orders.{buckets_of}
 use Rattle.object_origins.proofs.Shown.{Facts}
 use Rattle.limit_rows.specs.Fitting.{Drawn, AreWithin, RowFits}
 use Rattle.limit_rows.proofs.Handed.{Grew, fits_later}
-use Rattle.limit_rows.proofs.Totals.{total}
-use Rattle.limit_laws.proofs.Posts.{within_more}
 use Rattle.limit_laws.proofs.Nodes.{mail_limit, Short, node_later, PhaseFits}
-use Rattle.limit_laws.proofs.Worlds.{WorldFits, StepMeant, HasPlace, MarksFit, world_next, room_of}
-use Rattle.limit_laws.proofs.Flows.{NameFits, ContentFits, StageFits, FlowFits, EndFits, GoesFit, NextFits, flow_later, grew_same, next_fits, row_greatest}
+use Rattle.limit_laws.proofs.Worlds.{WorldFits, StepMeant, HasPlace, world_next, room_of}
+use Rattle.limit_laws.proofs.Flows.{FlowFits, EndFits, NextFits, flow_later, grew_same, next_fits, row_greatest}
 use Rattle.limit_laws.proofs.Ends.{receives_end}
 use Rattle.limit_laws.proofs.Weaker.{sound_weaker}
-use Rattle.limit_laws.proofs.Spending.{Mailed, left, Spends, spends_both, step_spends, marks_next}
+use Rattle.limit_laws.proofs.Spending.{Mailed, Spends, step_spends, marks_next}
 
 -- a request that was asked for
 abbrev pub AskedFits : ℕ → Drawn → Asked → Type 0

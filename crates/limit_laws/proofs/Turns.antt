@@ -1,7 +1,7 @@
 -- Turns of a schedule within the limits: after each of their steps there is room.
-use Rattle.std.specs.Prelude.{◌≡◌, ◌≤◌, ◌<◌, ◌+◌, ◌*◌, ◌-◌, ◌^◌, ◌%◌, ◌==◌, ◌||◌, ◌&&◌, ℕ, zero, suc, Bool, true, false, nat_lt, nat_le, cond, List, [], ◌∷◌, ◌++◌, Option, Some, None, is_none, IsTrue, length, slice_get, slice_set, refl, ⊤}
+use Rattle.std.specs.Prelude.{◌≡◌, ◌≤◌, ◌<◌, ◌+◌, ◌*◌, ◌-◌, ◌^◌, ◌%◌, ◌==◌, ◌||◌, ℕ, zero, suc, Bool, true, false, nat_lt, nat_le, cond, List, [], ◌∷◌, ◌++◌, Option, Some, None, length, slice_get, refl, ⊤}
 use Rattle.std.specs.Option.{unwrap_or}
-use Rattle.std.specs.List.{AllByRecursion, list_all, list_any}
+use Rattle.std.specs.List.{AllByRecursion, list_all}
 use Rattle.std.proofs.Common.{ap, sym, subst, ◌∙◌, ◌⊎◌, inl, inr, arith}
 use Rattle.std.proofs.lemmas.Bool.{lt-ltb, leb-true, eqb-true}
 use Rattle.crdt_core.specs.Members.{Has}
@@ -17,7 +17,7 @@ use Rattle.table_model.specs.Top.{any_unspelled}
 use Rattle.wire_messages.specs.Size.{plus}
 use Rattle.cluster_machine.specs.declared.step.Step.TheVariants as step
 use Rattle.cluster_machine.specs.Layouts.{layouts}
-use Rattle.cluster_machine.specs.World.{Sent, Mark, empty, clock, numbered, packet_size, sent_bytes, undelivered}
+use Rattle.cluster_machine.specs.World.{empty, clock, numbered, packet_size, sent_bytes, undelivered}
 use Rattle.cluster_machine.specs.Step.{received, did, at_message, refusal as step_refusal}
 use Rattle.cluster_machine.specs.declared.step.Refusal.TheVariants.{Lost}
 use Rattle.cluster_machine.specs.Receives.{receives}
@@ -27,8 +27,8 @@ use Rattle.flow_model.specs.declared.order.Order.{Order}
 use Rattle.flow_model.specs.declared.order.Order.TheVariants as order
 use Rattle.store_model.specs.declared.event.Event.{Event}
 use Rattle.store_model.specs.declared.event.Event.TheVariants.{Trio, Block, Bucket, Role, Redundancy, Apply, Tick, Skew, Put, Get, Head, Delete, Copy, List as Keys, Deliver, Lose, Drain, Expire, Restart, Gossip, Ack, Sync, SyncAck, Clean, Work, Repair}
-use Rattle.store_model.specs.Run.{Moving, State, Outcome, start, silent, plainly, effect, doing, begins, delivers, then_drains, drains}
-use Rattle.store_model.specs.Acts.{moves as act_moves, plain, acted, IsLawfulAct}
+use Rattle.store_model.specs.Run.{Moving, State, Outcome, start, silent, plainly, begins, delivers, then_drains, drains}
+use Rattle.store_model.specs.Acts.{moves as act_moves, plain, IsLawfulAct}
 use Rattle.store_model.specs.Events.{object_bytes, act_of, outcome, Turn, after, run}
 use Rattle.store_model.specs.Turns.{IsLawful, AreLawful, FitsOutcome}
 use Rattle.text_model.specs.Grammar.{is_upper, is_key_byte, is_key, is_prefix, IsAllowed}
@@ -41,11 +41,11 @@ use Rattle.limit_rows.proofs.Handed.{fits_rules}
 use Rattle.limit_laws.proofs.Flows.{grew_same}
 use Rattle.limit_rows.proofs.Totals.{total, total_ones, total_has}
 use Rattle.limit_rows.proofs.Weights.{fits_spelled}
-use Rattle.limit_laws.specs.Played.{Step, deliveries, steps_of, HasSent, GoesOn, AllGoOn, AreAllowed, sent_limit}
+use Rattle.limit_laws.specs.Played.{Step, deliveries, steps_of, GoesOn, AllGoOn, AreAllowed}
 use Rattle.limit_laws.proofs.Nodes.{mail_limit}
 use Rattle.limit_laws.proofs.Worlds.{WorldFits, StepMeant, HasPlace, messages_few}
-use Rattle.limit_laws.proofs.Spending.{Mailed, left, Spends, delivery_spends, step_spends, First, first_mark, message_there}
-use Rattle.limit_laws.proofs.States.{AskedFits, KeyAsked, world_wider, StateFits, OutFits, StaysSound, nothing_spent, moves, delivers_fits, begins_fits, OrderFits, still_out, asked_later}
+use Rattle.limit_laws.proofs.Spending.{Mailed, Spends, delivery_spends, first_mark, message_there}
+use Rattle.limit_laws.proofs.States.{AskedFits, KeyAsked, world_wider, StateFits, OutFits, StaysSound, nothing_spent, moves, delivers_fits, begins_fits, OrderFits, asked_later}
 
 -- ---- words of events
 
@@ -70,6 +70,7 @@ key_byte b h = lt-ltb b (2 ^ 8) (elim (either (is_name_byte b) _ h) [
     either : (a c : Bool) → (a || c) ≡ true → (a ≡ true) ⊎ (c ≡ true)
     either true c e = inl refl
     either false c e = inr e
+
     within : (low high : ℕ) → is_between low high b ≡ true → high < 256 → b < 256
     within low high e h = let top = leb-true b high (and_parts (nat_le low b) (nat_le b high) e).1 in omega arith
 
@@ -206,11 +207,11 @@ module _ (facts : Facts) (stays : StaysSound) where
       ap (λ o. at_message s.world f o (numbered s.world.marks i)) message ∙ (ap (at_message s.world f (Some x)) mark ∙ ap (λ b. cond b (step_refusal s.world Lost) (f x)) lost) in
       let marks : (does any_join words s.world d).marks ≡ Some (suc j, record { is_delivered = true; is_lost = false }) = ap (λ (e : Done AnyRow). e.marks) done ∙ ap (λ n. Some (n, record { is_delivered = true; is_lost = false })) next_is in
       let place : HasPlace r.k m s.world (step.Deliver i) = (λ y there b e.
-          let both : Some y ≡ Some x = sym there ∙ message in
-          let same : y ≡ x = cc in
-          let is_size : size_of y ≡ b = ap (λ o. unwrap_or o 0) e in
-          let is_x : size_of y ≡ size_of x = ap size_of same in
-          omega arith) in
+      let both : Some y ≡ Some x = sym there ∙ message in
+      let same : y ≡ x = cc in
+      let is_size : size_of y ≡ b = ap (λ o. unwrap_or o 0) e in
+      let is_x : size_of y ≡ size_of x = ap size_of same in
+      omega arith) in
       let out = delivers_fits facts stays r.t r.k m 268435456 r.drawn s i c (omega arith) (omega arith) (omega arith) (omega arith) r.state place
       (λ g. delivery_spends g s.world (does any_join words s.world d) j x first.mark (record { is_delivered = true; is_lost = false }) marks refl found.1 first.there first.waits r.state.marks) in
       record {
@@ -221,6 +222,7 @@ module _ (facts : Facts) (stays : StaysSound) where
       second : (a b : Bool) → (a || b) ≡ false → b ≡ false
       second true b h = cc
       second false b h = h
+
       got_has : (xs : List Mailed) (j : ℕ) (x : Mailed) → slice_get xs j ≡ Some x → Has xs x
       got_has [] j x h = cc
       got_has (y ∷ xs) zero x h = inl (ap (λ o. unwrap_or o y) h)
@@ -330,14 +332,14 @@ module _ (facts : Facts) (stays : StaysSound) where
         let few = r.state.world.few in
         delivers_fits facts stays r.t r.k m 268435456 r.drawn s i nothing_spent (omega arith) h.top (omega arith) h.steps r.state
         (λ x there c e.
-            let within : size_of x ≤ total size_of s.world.messages = total_has size_of s.world.messages x (numbered_has s.world.messages i x there) in
-            let is_size : size_of x ≡ c = ap (λ o. unwrap_or o 0) e in
-            omega arith)
+        let within : size_of x ≤ total size_of s.world.messages = total_has size_of s.world.messages x (numbered_has s.world.messages i x there) in
+        let is_size : size_of x ≡ c = ap (λ o. unwrap_or o 0) e in
+        omega arith)
         (λ g. (moves facts stays r.t r.k m 268435456 r.drawn s (plainly (step.Deliver i)) (omega arith) h.top (omega arith) (let steps = h.steps in omega arith) r.state.world r.state.marks tt
         (λ x there c e.
-            let within : size_of x ≤ total size_of s.world.messages = total_has size_of s.world.messages x (numbered_has s.world.messages i x there) in
-            let is_size : size_of x ≡ c = ap (λ o. unwrap_or o 0) e in
-            omega arith) tt tt tt).spends g)
+        let within : size_of x ≤ total size_of s.world.messages = total_has size_of s.world.messages x (numbered_has s.world.messages i x there) in
+        let is_size : size_of x ≡ c = ap (λ o. unwrap_or o 0) e in
+        omega arith) tt tt tt).spends g)
       where
         numbered_has : (xs : List Mailed) (j : ℕ) (x : Mailed) → numbered xs j ≡ Some x → Has xs x
         numbered_has xs zero x h = cc

@@ -1,17 +1,15 @@
 -- What the machine's rows are, where rows have a weaker property.
-use Rattle.std.specs.Prelude.{◌≡◌, ℕ, Option, Some, None, List, [], ◌∷◌, length, ⊤}
-use Rattle.std.specs.List.{AllByRecursion, All}
+use Rattle.std.specs.Prelude.{ℕ, Option, Some, None, List, length}
 use Rattle.std.proofs.lemmas.List.Elements.{All-weaker}
 use Rattle.crdt_core.proofs.Each.{all_weaker}
 use Rattle.table_schema.specs.Words.{Words}
 use Rattle.quorum_model.specs.declared.range.RangeAnswer.{RangeAnswer}
 use Rattle.wire_messages.specs.declared.message.Message.{Message}
 use Rattle.wire_messages.specs.declared.message.Message.TheVariants.{Get, Row, Range, Rows, Store, Stored, Behind, NotHere, BlockGet, Block, NoBlock}
-use Rattle.cluster_machine.specs.Node.{Present, resting, asking, scanning, storing, fetching, Call, Item, Node, Packet, says, shows, Reading, read, scanned}
-use Rattle.cluster_machine.specs.World.{Sent, World}
-use Rattle.machine_origins.specs.Origins.{Gave}
+use Rattle.cluster_machine.specs.Node.{Present, resting, asking, scanning, storing, fetching, Call, Item, Packet, says, shows, Reading, read, scanned}
+use Rattle.cluster_machine.specs.World.{World}
 use Rattle.machine_origins.proofs.Good.{IsGood, IsFound}
-use Rattle.machine_origins.proofs.Sound.{Asks, Asked, ReadsTo, IsAnswer, AnswersTo, GivesTo, IsMessage, IsPacket, IsPresent, IsCall, IsGiven, IsNode, IsSent, IsSound}
+use Rattle.machine_origins.proofs.Sound.{Asks, Asked, ReadsTo, IsAnswer, IsMessage, IsPacket, IsPresent, IsCall, IsGiven, IsSent, IsSound}
 
 module _ {R : Type 0} (join : R → R → R) (s : Words R) (P W : R → Type 0) (Q : List ℕ → List ℕ → Type 0) (weaker : (r : R) → P r → W r) where
   good_weaker : (r : R) → IsGood s P r → IsGood s W r

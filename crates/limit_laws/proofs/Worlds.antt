@@ -1,7 +1,7 @@
 -- Each step of a world within the limits leaves it so: its numbers, its nodes and its messages.
-use Rattle.std.specs.Prelude.{◌≡◌, ◌≤◌, ◌<◌, ◌+◌, ◌*◌, ◌^◌, ℕ, zero, suc, Bool, true, false, not, ◌&&◌, ◌||◌, ◌==◌, leb, cond, List, [], ◌∷◌, ◌++◌, Option, Some, None, IsTrue, length, map, refl, ⊤}
+use Rattle.std.specs.Prelude.{◌≡◌, ◌≤◌, ◌<◌, ◌+◌, ◌*◌, ◌^◌, ℕ, suc, Bool, true, false, not, ◌&&◌, ◌||◌, ◌==◌, leb, cond, List, [], ◌∷◌, ◌++◌, Option, Some, None, IsTrue, length, map, refl, ⊤}
 use Rattle.std.specs.Option.{unwrap_or}
-use Rattle.std.specs.List.{All, AllByRecursion, filter}
+use Rattle.std.specs.List.{AllByRecursion}
 use Rattle.std.proofs.Common.{ap, sym, subst, ◌∙◌, arith, length-append}
 use Rattle.std.proofs.lemmas.Bool.{leb-true, leb-false, eqb-true}
 use Rattle.std.proofs.lemmas.List.Elements.{All-from_recursion, recursion_from_All}
@@ -13,11 +13,10 @@ use Rattle.layout_roles.specs.declared.cut.Cut.{Cut}
 use Rattle.layout_roles.specs.declared.layout.Layout.{Layout}
 use Rattle.layout_roles.specs.Fits.{IsThree}
 use Rattle.view_model.specs.Layouts.{reading}
-use Rattle.view_model.specs.View.{View, follow, is_gapless, last_version, newest}
+use Rattle.view_model.specs.View.{follow, is_gapless, last_version, newest}
 use Rattle.object_schema.specs.Schema.{words}
 use Rattle.quorum_model.specs.Quorum.{is_among}
-use Rattle.wire_messages.specs.Size.{plus, carried, size}
-use Rattle.wire_messages.specs.declared.message.Message.{Message}
+use Rattle.wire_messages.specs.Size.{plus, carried}
 use Rattle.wire_messages.specs.declared.phase.Phase.{Phase}
 use Rattle.cluster_machine.specs.declared.applied.Applied.{Applied}
 use Rattle.cluster_machine.specs.declared.step.Step.{Step}
@@ -28,28 +27,26 @@ use Rattle.cluster_machine.specs.declared.step.Refusal.{Refusal}
 use Rattle.cluster_machine.specs.declared.step.Refusal.TheVariants.{VersionTaken, VersionLimit, NotMember, NoSuchMessage, Lost, NoSuchRequest, AlreadyEnded}
 use Rattle.cluster_machine.specs.declared.step.Words.{Words as Told}
 use Rattle.cluster_machine.specs.Layouts.{layouts, is_member, has_none}
-use Rattle.cluster_machine.specs.Node.{Call, Item, Node, Packet, says, shows, Post, Did, quiet}
-use Rattle.cluster_machine.specs.Node as machine
+use Rattle.cluster_machine.specs.Node.{Call, Item, Packet, says, shows, Did, quiet}
 use Rattle.cluster_machine.specs.Phases.{opened, closed, begins, call_at, is_spelled}
-use Rattle.cluster_machine.specs.Receives.{receives}
 use Rattle.cluster_machine.specs.Acts.{unconfirmed, acts, appends, restarts}
-use Rattle.cluster_machine.specs.World.{Sent, Mark, Request, World, numbered, clock, is_member_at, packet_size, sent_bytes}
-use Rattle.cluster_machine.specs.Step.{most_versions, Choice, given, none_given, Effects, nothing, refusal, only, sent_by, did, received, at_message, expires, closing, restarted, chosen, applies_at, trio_applies, acting, begun, beginning, opening, effects, changed, skewed, shut, applied}
+use Rattle.cluster_machine.specs.World.{Sent, Mark, Request, numbered, clock, packet_size, sent_bytes}
+use Rattle.cluster_machine.specs.Step.{most_versions, Choice, given, none_given, nothing, refusal, only, sent_by, did, received, at_message, expires, closing, chosen, applies_at, trio_applies, acting, begun, beginning, opening, effects, skewed, shut, applied}
 use Rattle.cluster_machine.specs.Trio.{trio, stage_trio}
-use Rattle.cluster_machine.specs.Choices.{HasGreatest, AreGreatest}
-use Rattle.cluster_machine.specs.Fits.{FitsNode, Fits, FitNodes, IsWord}
-use Rattle.cluster_machine.specs.Worlds.{Model, Doing, Done, IsLawful, IsSound, RoomWith, does, next}
+use Rattle.cluster_machine.specs.Choices.{HasGreatest}
+use Rattle.cluster_machine.specs.Fits.{Fits, FitNodes, IsWord}
+use Rattle.cluster_machine.specs.Worlds.{Model, Doing, Done, IsSound, does, next}
 use Rattle.cluster_machine.proofs.Closing.{length_shut}
 use Rattle.machine_origins.specs.Origins.{stored_by}
 use Rattle.machine_origins.proofs.Lists.{all_filter, all_numbered, all_found}
-use Rattle.machine_origins.proofs.Sound.{Asks, IsSent, IsNode, Leads, led} 
+use Rattle.machine_origins.proofs.Sound.{Asks, IsSent, IsNode, Leads, led}
 use Rattle.machine_origins.proofs.Sound as origin
 use Rattle.machine_origins.proofs.Beginning.{BeginsPlaced}
 use Rattle.machine_origins.proofs.Steps.{leads}
 use Rattle.object_origins.proofs.Shown.{Facts}
 use Rattle.limit_rows.specs.Fitting.{Drawn, AreWithin, RowFits, weight}
 use Rattle.limit_rows.proofs.Handed.{fits_rules}
-use Rattle.limit_laws.proofs.Posts.{IsShort, within_more, Mail, Costs, mail_bytes, mail_sent, costs_nothing, costs_more, costs_one, ViewFits, SetsFit, spelled_so}
+use Rattle.limit_laws.proofs.Posts.{within_more, Mail, mail_sent, costs_more, costs_one, ViewFits, SetsFit, spelled_so}
 use Rattle.limit_laws.proofs.Nodes.{Machine, mail_limit, NodeFits, DidFits, PacketBeside, Short, node_later, PhaseFits, receives_fits, acts_fit, begins_fit}
 
 -- a world after so many steps, in which so many bytes were delivered and at most so many were sent
@@ -264,6 +261,7 @@ module _ (facts : Facts) (t k m b : ℕ) (grows : k ≤ m) (top : m ≤ 27000000
       unconfirmed_all : (items : List (Item AnyRow)) → AllByRecursion (λ (item : Item AnyRow). weight item.row ≤ 64) items → AllByRecursion (λ (item : Item AnyRow). weight item.row ≤ 64) (map unconfirmed items)
       unconfirmed_all [] a = tt
       unconfirmed_all (item ∷ items) a = (a.0, unconfirmed_all items a.1)
+
       unconfirmed_length : (items : List (Item AnyRow)) → length (map unconfirmed items) ≡ length items
       unconfirmed_length [] = refl
       unconfirmed_length (item ∷ items) = ap suc (unconfirmed_length items)
@@ -321,9 +319,17 @@ module _ (facts : Facts) (t k m b : ℕ) (grows : k ≤ m) (top : m ≤ 27000000
   step_good (Apply n) choice h room = applies_good n choice
   step_good (Tick ms) choice h room = record { nodes = still_fits; spelled = refl; bytes = 0; cost = refl; few = omega arith; beside = tt; passes = h; skews = fits.skews; opens = omega arith; applies = applied_low; marks = tt }
   step_good (Skew n ms) choice h room = record {
-    nodes = still_fits; spelled = refl; bytes = 0; cost = refl; few = omega arith; beside = tt; passes = omega arith;
+    nodes = still_fits;
+    spelled = refl;
+    bytes = 0;
+    cost = refl;
+    few = omega arith;
+    beside = tt;
+    passes = omega arith;
     skews = λ j. elim (j == n) as (λ c. cond c ms (w.skew_of j) ≤ 3600000) [ true ↦ h | false ↦ fits.skews j ];
-    opens = omega arith; applies = applied_low; marks = tt;
+    opens = omega arith;
+    applies = applied_low;
+    marks = tt;
   }
   step_good (Deliver i) choice h room =
       message_good _ (numbered w.messages i) (numbered w.marks i)
@@ -361,22 +367,25 @@ module _ (facts : Facts) (t k m b : ℕ) (grows : k ≤ m) (top : m ≤ 27000000
       let time = fits.time in
       let requests = fits.requests in
       let few = fits.few in
-      let more = s.few in
-      (s.spelled, record {
-        within = within_more t v fits.within low;
-        sound = sound;
-        asks = l.asks;
-        rows = led any_join words (RowFits v) Short fits.asks w e fits.rows s.spelled l;
-        nodes = s.nodes;
-        beside = all_append (λ (m : Sent AnyRow Layout). PacketBeside m.packet) w.messages e.sends fits.beside s.beside;
-        time = omega arith;
-        skews = s.skews;
-        requests = omega arith;
-        applied = s.applies;
-        bytes = fits.bytes + s.bytes;
-        bytes_are = bytes_both w.messages e.sends fits.bytes s.bytes fits.bytes_are s.cost;
-        few = omega arith;
-      }, s.marks)
+      let more = s.few in (
+        s.spelled,
+        record {
+          within = within_more t v fits.within low;
+          sound = sound;
+          asks = l.asks;
+          rows = led any_join words (RowFits v) Short fits.asks w e fits.rows s.spelled l;
+          nodes = s.nodes;
+          beside = all_append (λ (m : Sent AnyRow Layout). PacketBeside m.packet) w.messages e.sends fits.beside s.beside;
+          time = omega arith;
+          skews = s.skews;
+          requests = omega arith;
+          applied = s.applies;
+          bytes = fits.bytes + s.bytes;
+          bytes_are = bytes_both w.messages e.sends fits.bytes s.bytes fits.bytes_are s.cost;
+          few = omega arith;
+        },
+        s.marks,
+      )
 
 -- a world that fits has room for its numbers and rows
 pub room_of : (facts : Facts) (t k b : ℕ) (v : Drawn) (w : Model AnyRow) → k ≤ 27000000000000 → b ≤ 16000000000000000000 → WorldFits t k b v w → Fits words w × FitNodes words w
@@ -385,20 +394,22 @@ room_of facts t k b v w top low fits =
     let time = fits.time in
     let requests = fits.requests in
     let bytes = fits.few in
-    let messages = messages_few w.messages fits.bytes fits.bytes_are in
-    (record {
-      time = omega arith;
-      clocks = λ n. let skew = fits.skews n in omega arith;
-      messages = omega arith;
-      requests = omega arith;
-      bytes = subst IsWord (sym fits.bytes_are) (omega arith);
-    }, λ n.
-        let x = fits.nodes n in
-        let counted = x.counted in
-        let rounds = x.rounds in
-        record {
-          spelled = All-from_recursion (λ (item : Item AnyRow). IsTrue (is_spelled words item.row)) (w.nodes n).items (all_weaker (λ (item : Item AnyRow). RowFits v item.row) (λ (item : Item AnyRow). IsTrue (is_spelled words item.row)) (λ item h. spelled_so facts t v fits.within item.row h) (w.nodes n).items (fits.rows.nodes n).items);
-          queued = omega arith;
-          rounds = omega arith;
-          phases = all_weaker (λ (c : Call AnyRow). c.phases ≤ t) (λ (c : Call AnyRow). c.phases < 2 ^ 32) (λ c h. omega arith) (w.nodes n).calls x.phases;
-        })
+    let messages = messages_few w.messages fits.bytes fits.bytes_are in (
+      record {
+        time = omega arith;
+        clocks = λ n. let skew = fits.skews n in omega arith;
+        messages = omega arith;
+        requests = omega arith;
+        bytes = subst IsWord (sym fits.bytes_are) (omega arith);
+      },
+      λ n.
+          let x = fits.nodes n in
+          let counted = x.counted in
+          let rounds = x.rounds in
+          record {
+            spelled = All-from_recursion (λ (item : Item AnyRow). IsTrue (is_spelled words item.row)) (w.nodes n).items (all_weaker (λ (item : Item AnyRow). RowFits v item.row) (λ (item : Item AnyRow). IsTrue (is_spelled words item.row)) (λ item h. spelled_so facts t v fits.within item.row h) (w.nodes n).items (fits.rows.nodes n).items);
+            queued = omega arith;
+            rounds = omega arith;
+            phases = all_weaker (λ (c : Call AnyRow). c.phases ≤ t) (λ (c : Call AnyRow). c.phases < 2 ^ 32) (λ c h. omega arith) (w.nodes n).calls x.phases;
+          },
+    )

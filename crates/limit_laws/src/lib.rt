@@ -14,19 +14,19 @@ ghost use Rattle.table_model.specs.Rows.{rows};
 ghost use Rattle.table_model.specs.Top.{any_unspelled};
 ghost use Rattle.store_model.specs.Run.{start};
 ghost use Rattle.store_model.specs.Events.{Turn, run};
-ghost use Rattle.store_model.specs.Turns.{IsLawful, AreLawful, FitsOutcome};
+ghost use Rattle.store_model.specs.Turns.{IsLawful, FitsOutcome};
 ghost use Rattle.text_model.specs.Grammar.{IsAllowed};
-ghost use Rattle.limit_laws.specs.Played.{Step, steps_of, GoesOn, AllGoOn, AreAllowed};
+ghost use Rattle.limit_laws.specs.Played.{Step, steps_of, GoesOn, ArePlayed, AreAllowed};
 
 use crdt_rows::{
-    object_rows_join_as_facts, reference_rows_join_as_facts, version_rows_join_as_facts, AnyRow,
+    AnyRow, object_rows_join_as_facts, reference_rows_join_as_facts, version_rows_join_as_facts,
 };
 use world_laws::{empty_world_is_sound, sound_worlds_stay_sound};
 
 /// After turns that are played, fewer than 100,000 and with words in the grammar's ranges, each step of a further such event
 /// has room, where the replay goes on after each step of it before: so no replay stops for lack of room.
 pub fn played_turns_have_room()
-    ensures { (before : List Turn) (next : Turn) → AreLawful start before → AllGoOn start before → AreAllowed before → length before < 100000 → IsAllowed next.numbered.event → IsLawful (run start before) next →
+    ensures { (before : List Turn) (next : Turn) → ArePlayed before → AreAllowed before → length before < 100000 → IsAllowed next.numbered.event → IsLawful (run start before) next →
         (done : List Step) (last : Step) (later : List Step) → steps_of (run start before) next.numbered.event next.choice ≡ done ++ last ∷ later → AllByRecursion GoesOn done → FitsOutcome last.from last.outcome }
 {
     object_rows_join_as_facts();
@@ -38,7 +38,7 @@ pub fn played_turns_have_room()
 
 /// After such turns, at most 100,000, each row that a node has a spelling: so each node can be shown.
 pub fn played_nodes_are_shown()
-    ensures { (turns : List Turn) → AreLawful start turns → AllGoOn start turns → AreAllowed turns → length turns ≤ 100000 →
+    ensures { (turns : List Turn) → ArePlayed turns → AreAllowed turns → length turns ≤ 100000 →
         (n : ℕ) → any_unspelled words (rows any_join words ((run start turns).world.nodes n).accepted) ≡ false }
 {
     object_rows_join_as_facts();

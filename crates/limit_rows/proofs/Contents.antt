@@ -4,7 +4,7 @@ use Rattle.std.specs.List.{AllByRecursion, filter, find}
 use Rattle.std.specs.Option.{unwrap_or}
 use Rattle.std.specs.declared.cmp.Ordering.{Ordering}
 use Rattle.std.specs.declared.cmp.Ordering.TheVariants.{Less, Equal, Greater}
-use Rattle.std.proofs.Common.{ap, sym, subst, ◌∙◌, inl, inr, arith}
+use Rattle.std.proofs.Common.{ap, sym, ◌∙◌, inl, inr, arith}
 use Rattle.std.proofs.lemmas.Bool.{eqb-true, leb-true, le-leb}
 use Rattle.std.proofs.lemmas.List.Elements.{All-from_recursion}
 use Rattle.crdt_core.specs.Members.{Has}
@@ -14,7 +14,7 @@ use Rattle.crdt_rows.specs.declared.any_row.AnyRow.{AnyRow}
 use Rattle.crdt_rows.specs.AnyRow.{any_join}
 use Rattle.table_schema.specs.Words.{partition_at, partition_of}
 use Rattle.table_schema.specs.Laws.{Same}
-use Rattle.table_model.specs.Rows.{place_cmp, place, row_cmp, is_at, AllProper, row_at, merged_in, rows, find_row, rows_in}
+use Rattle.table_model.specs.Rows.{place, row_cmp, is_at, AllProper, row_at, merged_in, rows, find_row, rows_in}
 use Rattle.std.specs.Cmp.{tied_itself}
 use Rattle.table_model.proofs.RowLaws.{place_total, Above, Ascends, above_lower, none_above, joins, rows_ascend, row_found, rows_filter}
 use Rattle.object_schema.specs.Triggers.{triggered}

@@ -1,23 +1,19 @@
 -- Rows that fit: of versions that were drawn and blocks that were stored, with short keys and numbers in their ranges. Merges and changes hand this on.
-use Rattle.std.specs.Prelude.{◌≡◌, ◌≤◌, ◌<◌, ◌^◌, ◌+◌, ◌*◌, ℕ, ◌||◌, Bool, true, false, List, [], ◌∷◌, Option, Some, None, option_map, map, length, refl, ⊤}
-use Rattle.std.specs.List.{AllByRecursion, Contains}
-use Rattle.std.proofs.Common.{ap, sym, subst, ◌∙◌, ◌⊎◌, inl, inr, arith}
+use Rattle.std.specs.Prelude.{◌≡◌, ◌<◌, ◌^◌, ℕ, ◌||◌, Bool, true, false, List, [], ◌∷◌, Option, Some, option_map, map, refl}
+use Rattle.std.specs.List.{AllByRecursion}
+use Rattle.std.proofs.Common.{ap, sym, subst, ◌∙◌, inl, inr, arith}
 use Rattle.std.proofs.lemmas.Bool.{lt-ltb}
 use Rattle.std.proofs.lemmas.List.Elements.{All-contains, All-from_recursion}
 use Rattle.blake2_hash.specs.declared.digest.Hash32.{Hash32}
 use Rattle.blake2_hash.specs.Hash.{hash_cmp}
 use Rattle.crdt_core.specs.Members.{Has}
-use Rattle.crdt_core.specs.EntryLaws.{and_parts, and_both}
+use Rattle.crdt_core.specs.EntryLaws.{and_parts}
 use Rattle.crdt_core.specs.Entries.{value_at}
 use Rattle.crdt_core.specs.Map.{map_entries}
-use Rattle.crdt_core.specs.declared.deletable.Deletable.{Deletable}
 use Rattle.crdt_core.specs.declared.deletable.Deletable.TheVariants.{Present, Deleted}
 use Rattle.crdt_core.specs.declared.max.Max.{Max}
 use Rattle.crdt_rows.specs.declared.version.Version.{Version}
-use Rattle.crdt_rows.specs.declared.body.Meta.{Meta}
-use Rattle.crdt_rows.specs.declared.body.Body.TheVariants.{Marker, Inline, Blocks}
-use Rattle.crdt_rows.specs.declared.state.State.{State}
-use Rattle.crdt_rows.specs.declared.state.State.TheVariants.{Uploading, Aborted, Complete}
+use Rattle.crdt_rows.specs.declared.state.State.TheVariants.{Aborted}
 use Rattle.crdt_rows.specs.declared.object_row.ObjectRow.{ObjectRow}
 use Rattle.crdt_rows.specs.declared.version_row.Part.{Part}
 use Rattle.crdt_rows.specs.declared.version_row.BlockRef.{BlockRef}
@@ -27,18 +23,17 @@ use Rattle.crdt_rows.specs.declared.any_row.AnyRow.{AnyRow}
 use Rattle.crdt_rows.specs.declared.any_row.AnyRow.TheVariants as rows
 use Rattle.crdt_rows.specs.AnyRow.{any_join}
 use Rattle.crdt_rows.specs.FieldLaws.{part_total}
-use Rattle.crdt_rows.specs.Facts.{HasState, HasBlock}
+use Rattle.crdt_rows.specs.Facts.{HasBlock}
 use Rattle.crdt_rows.specs.ObjectRow.{object_key, object_join}
 use Rattle.crdt_rows.specs.RefRow.{ref_key, ref_row_join}
-use Rattle.crdt_rows.specs.VersionRow.{block_in, part_cmp, gone, is_deleted, version_row_join}
-use Rattle.row_codec.specs.Reads.{are_bytes}
-use Rattle.row_codec.specs.Range.{is_block, is_eight, is_hash, block_in_range}
+use Rattle.crdt_rows.specs.VersionRow.{part_cmp, is_deleted, version_row_join}
+use Rattle.row_codec.specs.Range.{is_eight, is_hash}
 use Rattle.table_schema.specs.Laws.{Same}
-use Rattle.object_schema.specs.Triggers.{in_order, given_up, deleted_version, hashes_of, released, deleted_reference, triggered}
+use Rattle.object_schema.specs.Triggers.{given_up, deleted_version, hashes_of, deleted_reference, triggered}
 use Rattle.object_schema.specs.Schema.{words}
 use Rattle.object_schema.specs.Laws.{schema_laws}
 use Rattle.machine_origins.proofs.Good.{Rules}
-use Rattle.limit_rows.specs.Fitting.{Drawn, AreWithin, MetaFits, StateFits, KeyFits, SaysFits, BlocksFit, RowFits}
+use Rattle.limit_rows.specs.Fitting.{Drawn, AreWithin, KeyFits, BlocksFit, RowFits}
 use Rattle.object_origins.proofs.Keys.{object_keys, version_ids, ref_keys}
 use Rattle.object_origins.proofs.Given.{entries_found, all_in_order, all_given}
 use Rattle.object_origins.proofs.Shown.{Facts, undeleted}

@@ -1,18 +1,18 @@
 -- Entries in ascending order: no key is there twice, and what stands at a key is an entry.
-use Rattle.std.specs.Prelude.{◌≡◌, ◌≤◌, ℕ, Bool, true, false, List, [], ◌∷◌, ◌++◌, Option, Some, None, map, length, refl}
+use Rattle.std.specs.Prelude.{◌≡◌, true, List, [], ◌∷◌, Option, Some, None, map, refl}
 use Rattle.std.specs.Option.{unwrap_or}
 use Rattle.std.specs.List.{AllByRecursion}
 use Rattle.std.specs.declared.cmp.Ordering.{Ordering}
 use Rattle.std.specs.declared.cmp.Ordering.TheVariants.{Less, Equal, Greater}
 use Rattle.std.specs.Cmp.{IsTotalOrder}
-use Rattle.std.proofs.Common.{ap, sym, subst, ◌∙◌, inl, inr, arith}
+use Rattle.std.proofs.Common.{ap, sym, subst, inl, inr}
 use Rattle.crdt_core.specs.Orders.{Identifies}
 use Rattle.crdt_core.specs.Members.{Has}
 use Rattle.crdt_core.specs.Lex.{by_order}
 use Rattle.crdt_core.specs.Entries.{is_below, is_ascending, value_at}
 use Rattle.crdt_core.specs.EntryLaws.{and_parts, below_none}
 use Rattle.object_origins.proofs.Given.{entries_found}
-use Rattle.limit_rows.proofs.Totals.{AreApart, all_has}
+use Rattle.limit_rows.proofs.Totals.{AreApart}
 
 pub has_key : {K V : Type 0} (es : List (K × V)) (e : K × V) → Has es e → Has (map (λ (x : K × V). x.0) es) e.0
 has_key [] e h = elim h [ ]

@@ -1,7 +1,6 @@
 -- How many bytes a row counts: a row that fits has a spelling, and a merge counts no more than both rows, the rows that it calls for among it.
-use Rattle.std.specs.Prelude.{◌≡◌, ◌≤◌, ◌<◌, ◌^◌, ◌+◌, ◌*◌, ℕ, suc, Bool, true, false, not, ◌&&◌, ◌||◌, cond, List, [], ◌∷◌, ◌++◌, Option, Some, None, option_map, is_none, map, filter, length, refl}
+use Rattle.std.specs.Prelude.{◌≡◌, ◌≤◌, ◌<◌, ◌^◌, ◌+◌, ◌*◌, ℕ, suc, Bool, true, false, not, ◌&&◌, ◌||◌, List, [], ◌∷◌, ◌++◌, Option, Some, None, option_map, is_none, map, filter, length, refl}
 use Rattle.std.specs.List.{AllByRecursion, list_all, flat_map}
-use Rattle.std.specs.Int.{w32, w64, to_be_bytes}
 use Rattle.std.specs.declared.cmp.Ordering.{Ordering}
 use Rattle.std.specs.declared.cmp.Ordering.TheVariants.{Less, Equal, Greater}
 use Rattle.std.proofs.Common.{ap, sym, subst, ◌∙◌, inl, inr, arith, length-append, ◌⊎◌}
@@ -36,23 +35,23 @@ use Rattle.crdt_rows.specs.FieldLaws.{version_total, version_identical, part_tot
 use Rattle.crdt_rows.specs.Facts.{HasState, HasBlock}
 use Rattle.crdt_rows.specs.Version.{version_cmp}
 use Rattle.crdt_rows.specs.ObjectRow.{object_key, state_at, object_join}
-use Rattle.crdt_rows.specs.RefRow.{ref_key, ref_row_join}
-use Rattle.crdt_rows.specs.VersionRow.{part_cmp, gone, block_in, is_deleted, version_row_join}
+use Rattle.crdt_rows.specs.RefRow.{ref_row_join}
+use Rattle.crdt_rows.specs.VersionRow.{part_cmp, is_deleted, version_row_join}
 use Rattle.row_codec.specs.Built.{BlockMap}
 use Rattle.row_codec.specs.Reads.{are_bytes}
 use Rattle.row_codec.specs.Range.{is_block, is_four, is_eight, is_hash, meta_in_range, state_in_range, version_in_range, part_in_range, block_in_range, in_range, is_below, are_short, is_short_meta, is_short_state, has_bytes}
-use Rattle.row_codec.specs.Spelling.{four, eight, field, meta, state, version, part, block, flag, spelled}
+use Rattle.row_codec.specs.Spelling.{four, eight, field, state, version, part, block, flag, spelled}
 use Rattle.row_codec.specs.Rows.{spelling}
 use Rattle.row_codec.specs.NumberLaws.{block_length}
 use Rattle.table_schema.specs.Laws.{Same}
 use Rattle.object_schema.specs.Triggers.{with_value, with_values, in_order, has_blocks, is_aborted, is_lost, is_newly_aborted, versions_that, given_up, deleted_version, hashes_of, released, deleted_reference, triggered}
 use Rattle.object_schema.specs.Schema.{words}
-use Rattle.object_origins.proofs.Keys.{object_keys, version_ids, ref_keys}
+use Rattle.object_origins.proofs.Keys.{object_keys, version_ids}
 use Rattle.object_origins.proofs.Given.{entries_found}
 use Rattle.object_origins.proofs.Shown.{Facts, undeleted}
 use Rattle.limit_rows.proofs.Totals.{AreApart, has_left, has_right, has_parts, has_filter, all_has, all_from, apart_filter, apart_append, total, total_append, total_least, total_ones, fewer}
-use Rattle.limit_rows.proofs.Keyed.{has_key, apart_keys, apart_entries, there}
-use Rattle.limit_rows.specs.Fitting.{Drawn, AreWithin, MetaFits, StateFits, SaysFits, BlocksFit, RowFits, weight}
+use Rattle.limit_rows.proofs.Keyed.{apart_keys, apart_entries, there}
+use Rattle.limit_rows.specs.Fitting.{Drawn, AreWithin, MetaFits, StateFits, SaysFits, RowFits, weight}
 
 pub four_length : (n : ℕ) → length (four n) ≡ 4
 unfolding four
@@ -248,6 +247,7 @@ module _ (t : ℕ) (v : Drawn) (within : AreWithin t v) where
     where
       part_range : (p : Part) → Has v.parts p → part_in_range p ≡ true
       part_range p h = let g = within.parts_fit p h in let a = g.0 in let b = g.1 in let top = within.few in and_both (is_four p.part) (is_eight p.offset) (lt-ltb p.part (2 ^ 32) (omega arith)) (lt-ltb p.offset (2 ^ 64) (omega arith))
+
       inside_by : (es : List Place) → AllByRecursion (λ (e : Place). Has v.parts e.0 × (block_in_range e.1.0 ≡ true)) es → (x : Part) → Has (map (λ (e : Place). e.0) es) x → Has v.parts x
       inside_by [] a x h = elim h [ ]
       inside_by (e ∷ es) a x (inl s) = subst (Has v.parts) s a.0.0
@@ -315,10 +315,10 @@ module _ (facts : Facts) (t : ℕ) (v : Drawn) (within : AreWithin t v) where
         | inr i ↦ has_left old other e (has_filter (is_lost n) old e i).0
       ]) in
       let disjoint : (e : Entry) → Has new e → Has lost e → ⊥ = (λ e i j.
-          let says : state_at n e.0 ≡ Some e.1.0 = all_has (λ (x : Entry). HasState n x.0 x.1.0) new e (entries_say n) i in
-          let none : is_none (state_at n e.0) ≡ true = (and_parts (has_blocks e.1.0) (is_none (state_at n e.0)) (has_filter (is_lost n) old e j).1).1 in
-          let no : is_none (Some e.1.0) ≡ true = subst (λ (o : Option State). is_none o ≡ true) says none in
-          cc) in
+      let says : state_at n e.0 ≡ Some e.1.0 = all_has (λ (x : Entry). HasState n x.0 x.1.0) new e (entries_say n) i in
+      let none : is_none (state_at n e.0) ≡ true = (and_parts (has_blocks e.1.0) (is_none (state_at n e.0)) (has_filter (is_lost n) old e j).1).1 in
+      let no : is_none (Some e.1.0) ≡ true = subst (λ (o : Option State). is_none o ≡ true) says none in
+      cc) in
       let apart = apart_append new lost (apart_entries version_total new (apart_keys version_total new n.versions.ascending)) (apart_filter (is_lost n) old (apart_entries version_total old (apart_keys version_total old a.versions.ascending))) disjoint in
       let low : total entry_weight (new ++ lost) ≤ total entry_weight (old ++ other) = fewer entry_weight (new ++ lost) (old ++ other) apart inside in
       let c = total_append entry_weight new lost in

@@ -16,4 +16,4 @@ returns c =
       ref_deleted = c.reference_rows_join_as_facts.ensures.deleted;
       reference = c.reference_rows_join_as_facts.ensures.key;
     } in
-    λ turns lawful on allowed few n. has_spellings facts (c.sound_worlds_stay_sound.ensures.stepped any_join words) c.empty_world_is_sound.ensures turns lawful on allowed few n
+    λ turns played allowed few n. has_spellings facts (c.sound_worlds_stay_sound.ensures.stepped any_join words) c.empty_world_is_sound.ensures turns played.lawful played.go_on allowed few n

@@ -16,5 +16,5 @@ returns c =
       ref_deleted = c.reference_rows_join_as_facts.ensures.deleted;
       reference = c.reference_rows_join_as_facts.ensures.key;
     } in
-    λ before next lawful on allowed few fine ok done last later is gone.
-    has_room facts (c.sound_worlds_stay_sound.ensures.stepped any_join words) c.empty_world_is_sound.ensures before lawful on allowed next few fine ok done last later is gone
+    λ before next played allowed few fine ok done last later is gone.
+    has_room facts (c.sound_worlds_stay_sound.ensures.stepped any_join words) c.empty_world_is_sound.ensures before played.lawful played.go_on allowed next few fine ok done last later is gone
