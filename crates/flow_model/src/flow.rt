@@ -1,6 +1,7 @@
 //! What a request is in the middle of, and how it goes on.
 use crdt_core::{Bytes, List};
 use crdt_rows::{AnyRow, BlockRef, Meta, ObjectRow, Version};
+use object_bytes::ObjectBytes;
 use wire_messages::Phase;
 
 /// An object's bucket and key.
@@ -13,7 +14,7 @@ pub struct Name {
 /// The bytes of an object, and the headers that are stored beside them.
 #[derive(Drop)]
 pub struct Content {
-    pub body: Bytes,
+    pub body: ObjectBytes,
     pub headers: List<(Bytes, Bytes)>,
 }
 

@@ -1,14 +1,13 @@
 -- A head, and a get of what isn't kept in blocks, from a cluster that holds a map.
-use Rattle.std.proofs.Common.{◌≡◌, ◌≤◌, ◌-◌, ◌^◌, ℕ, suc, true, false, Option, Some, None, List, [], ◌∷◌, ◌++◌, refl, sym, ap, ◌∙◌, subst, arith}
+use Rattle.std.proofs.Common.{◌≡◌, ℕ, suc, true, false, Option, Some, None, List, [], ◌∷◌, ◌++◌, refl, sym, ap, ◌∙◌, subst, inl}
 use Rattle.std.specs.Prelude.{if◌then◌else◌}
 use Rattle.std.specs.List.{Contains}
 use Rattle.std.proofs.lemmas.Bool.{and_parts}
 use Rattle.blake2_hash.specs.Hash.{digest_of}
-use Rattle.crdt_core.specs.Order.{option_join}
 use Rattle.crdt_rows.specs.declared.any_row.AnyRow.{AnyRow}
 use Rattle.crdt_rows.specs.AnyRow.{any_join}
-use Rattle.crdt_rows.specs.RowLaws.{any_laws}
 use Rattle.object_schema.specs.Schema.{words}
+use Rattle.wire_messages.specs.declared.phase.Phase.{Phase}
 use Rattle.wire_messages.specs.declared.phase.PhaseEnd.TheVariants.{Row}
 use Rattle.cluster_machine.specs.Worlds.{FitAll}
 use Rattle.flow_model.specs.declared.order.Order.{Order}
@@ -30,32 +29,20 @@ use Rattle.store_model.specs.Orders.{kind_of, name_of, buckets_of}
 use Rattle.store_model.specs.Run.{State, is_bucket, are_buckets, opened, drains}
 use Rattle.store_model.specs.Acts.{all_messages}
 use Rattle.store_laws.proofs.Elements.{bucket_in}
+use Rattle.store_laws.proofs.Placing.{asks_is_step}
 use Rattle.serve_model.specs.Stores.{Carried}
 use Rattle.serve_model.specs.Clusters.{Cluster, cluster, fits}
-use Rattle.drained_laws.specs.Weights.{weight}
-use Rattle.drained_laws.specs.Waiting.{waiting}
-use Rattle.drained_laws.specs.Reading.{AllRead}
 use Rattle.drained_laws.proofs.Weights.{none_waits}
-use Rattle.plain_laws.specs.Plain.{Has, never, deleted, object, Plain, has_at, row_of, at_time, counted, tells, with_object, answered, plain}
+use Rattle.plain_laws.specs.Plain.{Has, never, deleted, object, Plain, has_at, row_of, at_time, counted, tells, with_object, answered, plain, IsMap}
 use Rattle.plain_laws.specs.Holds.{nodes_at, Holds, Agrees, IsInRow, ReadsRow}
 use Rattle.plain_laws.proofs.Frames.{none_found}
 use Rattle.plain_laws.proofs.Holding.{Holding, IsAlike, holds_on}
-use Rattle.plain_laws.proofs.Looks.{drained_found}
+use Rattle.plain_laws.proofs.Seeking.{a_row}
+use Rattle.plain_laws.proofs.Looks.{AllHad, Turn, drained_found}
 use Rattle.plain_laws.proofs.Starting.{number, reading_state, opened_is, starts}
 use Rattle.plain_laws.proofs.Saids.{said_inline, said_long, said_deleted}
-use Rattle.plain_laws.proofs.Carrying.{now, asker_now, asker_is, holding_now, refused_holds, drain_fits, carried_holds}
-
-pub twice : (o : Option AnyRow) → option_join any_join o o ≡ o
-twice None = refl
-twice (Some r) = ap Some (any_laws.idempotent r)
-
-messages_are : all_messages ≡ 2 ^ 64 - 1
-unfolding all_messages
-messages_are = refl
-
--- a few deliveries are not more than all
-pub few : (i : ℕ) → i ≤ 100 → i ≤ all_messages
-few i low = let is = messages_are in omega (arith, low, is)
+use Rattle.plain_laws.proofs.Ordered.{carries_map}
+use Rattle.plain_laws.proofs.Carrying.{now, asker_now, asker_is, holding_now, has_key, refused_holds, drain_fits, carried_holds}
 
 -- the order is refused by both
 pub agrees_refused : (c : Cluster) (P : Plain) (h : Holds c P) (time : ℕ) (order : Order) → are_buckets P.buckets (buckets_of order) ≡ false → Agrees c P time order
@@ -102,15 +89,16 @@ module _ (c : Cluster) (P : Plain) (h : Holds c P) (time : ℕ) (order : Order) 
   after = counted (at_time P time)
 
   -- the row that the nodes of a name have
-  pub row_there : (name : Name) → Contains P.buckets name.bucket → AllRead any_join words (λ m. (before.world.nodes m).accepted) 1 (row_key name) (nodes_at h.layout (digest_of name.bucket).0) (row_of name (has_at P name))
-  row_there name there = record { has = λ m here. (holding_now c P h time order).rows name m there here }
+  pub row_there : (name : Name) → Contains P.buckets name.bucket → AllHad h.layout h.is_layout before (asker_now c P h time order) (number before) (kind_of order) (name_of order) (a_row 1 (row_key name) (row_of name (has_at P name))) (nodes_at h.layout (digest_of name.bucket).0)
+  row_there name there = λ m here. (holding_now c P h time order).rows name m there here
 
   -- it is answered as the map answers
   pub answers_so : (carried : Carried Plain) → plain.carries P time order ≡ carried → (Q : Plain) (end : FlowEnd) → carried ≡ record { state = Q; end = Some end } → Q.ticked ≡ (at_time P time).ticked → Q.asked ≡ suc P.asked →
       (let u = (drains all_messages (opened before (asker_now c P h time order) order).state).state in Holding h.layout Q u → u.ends ≡ before.ends ++ (number before, end) ∷ [] → Agrees c P time order)
   answers_so carried carried_is Q end is ticked asked = λ holding ends.
-      let r = carried_holds c P h time order known Q end ticked asked holding ends in
       let same = carried_is ∙ is in
+      let map : IsMap Q = subst IsMap (ap (λ (x : Carried Plain). x.state) same) (carries_map P time order (has_key c P h time order fit) h.map) in
+      let r = carried_holds c P h time order known Q end ticked asked map holding ends in
       record {
         end = r.0 ∙ sym (ap (λ (x : Carried Plain). x.end) same);
         holds = subst (λ (Q : Plain). Holds (cluster.carries c time order).state Q) (sym (ap (λ (x : Carried Plain). x.state) same)) r.1;
@@ -119,43 +107,65 @@ module _ (c : Cluster) (P : Plain) (h : Holds c P) (time : ℕ) (order : Order) 
   pub carried_as : plain.carries P time order ≡ answered after order
   carried_as = ap (λ b. if b then answered after order else record { state = at_time P time; end = None }) known
 
-  -- a request for one row, which ends when it has that
-  pub reads_agree : (name : Name) → Contains P.buckets name.bucket → (flow : Flow) → started order (number before) before.block ≡ (flow, asks_for name) → EndsAs flow (row_of name (has_at P name)) after (answered after order) → Agrees c P time order
-  reads_agree name there flow begins_so e =
-      let l = h.layout in
-      let n = asker_now c P h time order in
-      let q = number before in
-      let value = row_of name (has_at P name) in
-      let holding = holding_now c P h time order in
-      let all = row_there name there in
-      let s = starts l h.is_layout (at_time P time) before holding n (asker_is c P h time order) order flow name value (twice value) all begins_so in
-      let opened_so = opened_is l h.is_layout (at_time P time) before holding n (asker_is c P h time order) order flow name value (twice value) all begins_so in
-      let reads_state = reading_state l h.is_layout (at_time P time) before holding n (asker_is c P h time order) order flow name value (twice value) all begins_so in
-      let fit' : FitAll any_join words reads_state.world (drains all_messages reads_state).moves = subst (λ (t : State). FitAll any_join words t.world (drains all_messages t).moves) opened_so (drain_fits c P h time order known fit) in
-      let low : weight (waiting reads_state.world) ≤ all_messages = let six = s.1 in few (weight (waiting reads_state.world)) (omega (arith, six)) in
-      let d = drained_found l h.is_layout before n q (kind_of order) (name_of order) name flow value (twice value) all e.end e.ends all_messages reads_state s.0 low fit' in
-      let u : State = (drains all_messages reads_state).state in
-      let found = d.0 in
-      let done = found.done_so in
-      let asked_so : q ≡ suc P.asked = ap suc holding.requests in
-      let alike : IsAlike l before u = record {
-        rest = record {
-          views = done.is.sound.views;
-          marked = done.is.marked;
-          delivered = none_waits u.world d.1;
-          calls = λ m. none_found (u.world.nodes m).calls (done.none m);
-          items = found.reading.1.idle;
-        };
-        accepted = found.reading.1.unchanged;
-        skews = done.frame.skews;
-        stocked = done.frame.stocked;
-        buckets = done.frame.buckets;
-        block = done.frame.block;
-      } in
-      let held : Holding l after u = holds_on l (at_time P time) before u holding alike (at_time P time).clock (at_time P time).ticked (suc P.asked) (done.frame.time ∙ holding.clock) (done.frame.requests ∙ asked_so) (done.frame.asked ∙ asked_so) in
-      answers_so (answered after order) carried_as after e.end e.is refl refl
-      (subst (λ (t : State). Holding l after (drains all_messages t).state) (sym opened_so) held)
-      (subst (λ (t : State). (drains all_messages t).state.ends ≡ before.ends ++ (q, e.end) ∷ []) (sym opened_so) done.ends_so)
+  -- the phases of a request
+  abbrev pub Turns : (Flow → Phase AnyRow → Type 0) → FlowEnd → Flow → Phase AnyRow → Type 0
+  Turns Course end flow phase = Turn h.layout h.is_layout before (asker_now c P h time order) (number before) (kind_of order) (name_of order) Course end flow phase
+
+  -- a request that reads until it ends, and changes nothing
+  module _ (Course : Flow → Phase AnyRow → Type 0) (end : FlowEnd) (turn : (flow : Flow) (phase : Phase AnyRow) → Course flow phase → Turns Course end flow phase) where
+    pub reads_agree : (flow : Flow) (phase : Phase AnyRow) → Course flow phase → started order (number before) before.block ≡ (flow, phase) → answered after order ≡ record { state = after; end = Some end } → Agrees c P time order
+    reads_agree flow phase course begins_so answers =
+        let l = h.layout in
+        let n = asker_now c P h time order in
+        let q = number before in
+        let holding = holding_now c P h time order in
+        let first = turn flow phase course in
+        let begun = starts l h.is_layout (at_time P time) before holding n (asker_is c P h time order) order flow phase first.sought first.asks_so first.is_step begins_so first.all in
+        let opened_so = opened_is l h.is_layout (at_time P time) before holding n (asker_is c P h time order) order flow phase first.sought first.asks_so first.is_step begins_so in
+        let start = reading_state l h.is_layout (at_time P time) before holding n (asker_is c P h time order) order flow phase first.sought first.asks_so first.is_step begins_so in
+        let fit' : FitAll any_join words start.world (drains all_messages start).moves = subst (λ (t : State). FitAll any_join words t.world (drains all_messages t).moves) opened_so (drain_fits c P h time order known fit) in
+        let d = drained_found l h.is_layout before n q (kind_of order) (name_of order) Course end turn start (flow, phase, course, begun) fit' in
+        let u : State = (drains all_messages start).state in
+        let found = d.0 in
+        let done = found.done_so in
+        let asked_so : q ≡ suc P.asked = ap suc holding.requests in
+        let alike : IsAlike l before u = record {
+          rest = record {
+            views = done.is.sound.views;
+            marked = done.is.marked;
+            delivered = none_waits u.world d.1;
+            calls = λ m. none_found (u.world.nodes m).calls (done.none m);
+            items = found.reading.1.idle;
+          };
+          accepted = found.reading.1.unchanged;
+          skews = done.frame.skews;
+          stocked = done.frame.stocked;
+          buckets = done.frame.buckets;
+          block = done.frame.block;
+        } in
+        let held : Holding l after u = holds_on l (at_time P time) before u holding alike (at_time P time).clock (at_time P time).ticked (suc P.asked) (done.frame.time ∙ holding.clock) (done.frame.requests ∙ asked_so) (done.frame.asked ∙ asked_so) in
+        answers_so (answered after order) carried_as after end answers refl refl
+        (subst (λ (t : State). Holding l after (drains all_messages t).state) (sym opened_so) held)
+        (subst (λ (t : State). (drains all_messages t).state.ends ≡ before.ends ++ (q, end) ∷ []) (sym opened_so) done.ends_so)
+
+  -- a request for one row
+  abbrev OneRow : Name → Flow → Flow → Phase AnyRow → Type 0
+  OneRow name flow other phase = (other ≡ flow) × (phase ≡ asks_for name)
+
+  -- which ends when it has that
+  pub row_reads_agree : (name : Name) → Contains P.buckets name.bucket → (flow : Flow) → started order (number before) before.block ≡ (flow, asks_for name) → EndsAs flow (row_of name (has_at P name)) after (answered after order) → Agrees c P time order
+  row_reads_agree name there flow begins_so e =
+      reads_agree (OneRow name flow) e.end (λ f p same. subst (λ f. Turns (OneRow name flow) e.end f p) (sym same.0) (subst (Turns (OneRow name flow) e.end flow) (sym same.1) the_turn)) flow (asks_for name) (refl, refl) begins_so e.is
+    where
+      the_turn : Turns (OneRow name flow) e.end flow (asks_for name)
+      the_turn = record {
+        sought = a_row 1 (row_key name) (row_of name (has_at P name));
+        asks_so = (refl, refl);
+        is_step = asks_is_step (number before) name;
+        counted = tt;
+        all = row_there name there;
+        then = λ now. inl (e.ends now);
+      }
 
 -- the bucket of the one name is there
 pub one_bucket : (buckets : List (List ℕ)) (bucket : List ℕ) → are_buckets buckets (bucket ∷ []) ≡ true → Contains buckets bucket
@@ -166,12 +176,12 @@ read_agrees c P time (order.Get bucket key) h fit reads known =
     let name : Name = record { bucket = bucket; key = key } in
     let o = order.Get bucket key in
     let before = now c P h time o in
-    reads_agree c P h time o known fit name (one_bucket P.buckets bucket known) (looking (number before) before.block name aim.Get) refl (get_ends (number before) before.block name (counted (at_time P time)) (has_at P name) reads)
+    row_reads_agree c P h time o known fit name (one_bucket P.buckets bucket known) (looking (number before) before.block name aim.Get) refl (get_ends (number before) before.block name (counted (at_time P time)) (has_at P name) reads)
 read_agrees c P time (order.Head bucket key) h fit reads known =
     let name : Name = record { bucket = bucket; key = key } in
     let o = order.Head bucket key in
     let before = now c P h time o in
-    reads_agree c P h time o known fit name (one_bucket P.buckets bucket known) (looking (number before) before.block name aim.Head) refl (head_ends (number before) before.block name (counted (at_time P time)) (has_at P name))
+    row_reads_agree c P h time o known fit name (one_bucket P.buckets bucket known) (looking (number before) before.block name aim.Head) refl (head_ends (number before) before.block name (counted (at_time P time)) (has_at P name))
 read_agrees c P time (order.Put bucket key body headers) h fit reads known = absurd reads
 read_agrees c P time (order.Delete bucket key) h fit reads known = absurd reads
 read_agrees c P time (order.Copy from_bucket from_key bucket key headers) h fit reads known = absurd reads

@@ -14,12 +14,12 @@ use Rattle.flow_model.specs.declared.order.Order.{Order}
 use Rattle.flow_model.specs.declared.flow.FlowEnd.{FlowEnd}
 use Rattle.store_model.specs.Orders.{buckets_of}
 use Rattle.store_model.specs.Run.{State, Outcome, plainly, refusal, are_buckets, opened, begins, drains}
-use Rattle.store_model.specs.Acts.{Act, moves, takes, forgets, without_end, ActsFit, acted, after_acts, end_of, all_messages}
+use Rattle.store_model.specs.Acts.{Act, moves, takes, forgets, without_end, HasKey, ActsFit, acted, after_acts, end_of, all_messages}
 use Rattle.serve_model.specs.Clusters.{Cluster, asker, acts_to_ask, round, acts_to_end, acts_past_end, number_in, end_in, acts_then, end_then, acts_of_request, cluster, fits}
 use Rattle.drained_laws.specs.Calm.{IsMember}
 use Rattle.drained_laws.proofs.Views.{among_here}
 use Rattle.drained_laws.proofs.Posts.{three_at, member_at}
-use Rattle.plain_laws.specs.Plain.{Plain, at_time}
+use Rattle.plain_laws.specs.Plain.{Plain, at_time, IsMap}
 use Rattle.plain_laws.specs.Holds.{Holds}
 use Rattle.plain_laws.proofs.Holding.{Holding, held, holds_again}
 use Rattle.plain_laws.proofs.Frames.{member_one}
@@ -65,6 +65,10 @@ module _ (c : Cluster) (P : Plain) (h : Holds c P) (time : ℕ) (order : Order) 
   number_after : P.asked < number now
   number_after = let e = holding_now.requests in omega (arith, e)
 
+  -- what is written has a key
+  pub has_key : fits c time order → HasKey order
+  has_key f = f.0.1.0
+
   -- a request is opened where its buckets are there
   abbrev begun_by : Bool → Outcome
   begun_by b = if b then (if are_buckets now.buckets (buckets_of order) then opened now asker_now order else refusal now NoSuchBucket) else refusal now NotMember
@@ -98,7 +102,7 @@ module _ (c : Cluster) (P : Plain) (h : Holds c P) (time : ℕ) (order : Order) 
       let b = begins_so false e in (
         ap end_when b,
         subst (λ (s : State). Holds (record { run = s; ticked = max c.ticked time; members = c.members }) (at_time P time)) (sym (run_is ∙ ap (λ (o : Outcome). after_acts o.state (acts_when o)) b))
-            (holds_again c.members h.layout now (max c.ticked time) (at_time P time) h.is_layout h.members_are holding_now ticked_now h.ends),
+            (holds_again c.members h.layout now (max c.ticked time) (at_time P time) h.is_layout h.members_are holding_now (record { ordered = h.map.ordered; keyed = h.map.keyed }) ticked_now h.ends),
       )
 
   -- ---- an order that is carried out
@@ -115,7 +119,7 @@ module _ (c : Cluster) (P : Plain) (h : Holds c P) (time : ℕ) (order : Order) 
     drain_fits f = (subst (λ (o : Outcome). ActsFit o.state (acts_when o)) (begins_so true known) f.1.1.1).0
 
     -- what comes after it was drained
-    module _ (Q : Plain) (end : FlowEnd) (ticked : Q.ticked ≡ (at_time P time).ticked) (asked : Q.asked ≡ suc P.asked) (holding : Holding h.layout Q drained_state) (ends : drained_state.ends ≡ now.ends ++ (number now, end) ∷ []) where
+    module _ (Q : Plain) (end : FlowEnd) (ticked : Q.ticked ≡ (at_time P time).ticked) (asked : Q.asked ≡ suc P.asked) (map : IsMap Q) (holding : Holding h.layout Q drained_state) (ends : drained_state.ends ≡ now.ends ++ (number now, end) ∷ []) where
       abbrev q : ℕ
       q = number now
 
@@ -145,7 +149,7 @@ module _ (c : Cluster) (P : Plain) (h : Holds c P) (time : ℕ) (order : Order) 
 
       past_holds : Holds (record { run = past; ticked = max c.ticked time; members = c.members }) Q
       past_holds =
-          holds_again c.members h.layout past (max c.ticked time) Q h.is_layout h.members_are (takes_hold h.layout Q served q served_holds.0) (ticked_now ∙ sym ticked)
+          holds_again c.members h.layout past (max c.ticked time) Q h.is_layout h.members_are (takes_hold h.layout Q served q served_holds.0) map (ticked_now ∙ sym ticked)
           (λ r more. ap (λ es. end_of es r) (ap (λ es. without_end es q) ends_are ∙ without_appended c.run.ends q end new_end) ∙ h.ends r (omega (arith, more, asked)))
 
       pub carried_holds : (carried_end ≡ Some end) × Holds (record { run = carried_run; ticked = max c.ticked time; members = c.members }) Q

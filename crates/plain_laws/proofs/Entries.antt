@@ -11,7 +11,8 @@ use Rattle.plain_laws.specs.Plain.{Has, Entry, same_name, has_among, with_has}
 same_itself : (n : ℕ) → nat_eq n n ≡ true
 same_itself n = search rules
 
-bytes_itself : (xs : List ℕ) → pointwise nat_eq xs xs ≡ true
+-- bytes are found the same as themselves
+pub bytes_itself : (xs : List ℕ) → pointwise nat_eq xs xs ≡ true
 bytes_itself [] = refl
 bytes_itself (x ∷ xs) = rw (same_itself x) (bytes_itself xs)
 

@@ -58,6 +58,7 @@ first_holds first buckets block ticked is = record {
   ticked = refl;
   requests = refl;
   asked = refl;
+  map = record { ordered = tt; keyed = tt };
   ends = λ q more. refl;
 }
   where

@@ -23,7 +23,7 @@ use Rattle.store_model.specs.Acts.{end_of}
 use Rattle.serve_model.specs.Clusters.{Cluster}
 use Rattle.drained_laws.specs.Calm.{IsAtRest}
 use Rattle.drained_laws.specs.Drained.{AreEqual, accepted_in}
-use Rattle.plain_laws.specs.Plain.{Has, never, deleted, object, Plain, has_at, row_of}
+use Rattle.plain_laws.specs.Plain.{Has, never, deleted, object, Plain, has_at, row_of, IsMap}
 use Rattle.plain_laws.specs.Holds.{nodes_at, HasBlocks, HasItsBlocks, Holds}
 
 -- what holds of the state of a cluster that holds a map, but for the ends of requests
@@ -56,8 +56,8 @@ held c P h = record {
   asked = h.asked;
 }
 
-pub holds_again : (members : List ℕ) (l : Layout) (t : State) (k : ℕ) (P : Plain) → IsLayout layouts 256 l → members ≡ layouts.reading.members l → Holding l P t → k ≡ P.ticked → ((q : ℕ) → P.asked < q → end_of t.ends q ≡ None) → Holds (record { run = t; ticked = k; members = members }) P
-holds_again members l t k P layout same h ticked ends = record {
+pub holds_again : (members : List ℕ) (l : Layout) (t : State) (k : ℕ) (P : Plain) → IsLayout layouts 256 l → members ≡ layouts.reading.members l → Holding l P t → IsMap P → k ≡ P.ticked → ((q : ℕ) → P.asked < q → end_of t.ends q ≡ None) → Holds (record { run = t; ticked = k; members = members }) P
+holds_again members l t k P layout same h map ticked ends = record {
   layout = l;
   is_layout = layout;
   members_are = same;
@@ -73,6 +73,7 @@ holds_again members l t k P layout same h ticked ends = record {
   ticked = ticked;
   requests = h.requests;
   asked = h.asked;
+  map = map;
   ends = ends;
 }
 

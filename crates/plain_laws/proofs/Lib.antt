@@ -14,7 +14,10 @@ pub mod Accepted
 pub mod Writes
 pub mod Entries
 pub mod Writing
-pub mod Lookings
+pub mod Seeking
+pub mod Windows
+pub mod Buckets
+pub mod Listing
 pub mod Copying
 pub mod Orders
 pub mod First

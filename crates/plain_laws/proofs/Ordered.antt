@@ -1,7 +1,6 @@
 -- The entries of a map stay in order.
-use Rattle.std.proofs.Common.{◌≡◌, ℕ, true, false, None, List, [], ◌∷◌, refl, sym, ap, ◌∙◌, subst}
-use Rattle.std.specs.Prelude.{if◌then◌else◌}
-use Rattle.std.specs.Option.{unwrap_or}
+use Rattle.std.proofs.Common.{◌≡◌, ◌≤◌, ℕ, true, false, None, List, [], ◌∷◌, length, refl, sym, ap, ◌∙◌, subst}
+use Rattle.std.specs.Prelude.{if◌then◌else◌, ⊤}
 use Rattle.std.specs.List.{AllByRecursion}
 use Rattle.std.specs.declared.cmp.Ordering.{Ordering}
 use Rattle.std.specs.declared.cmp.Ordering.TheVariants.{Less, Equal, Greater}
@@ -20,8 +19,9 @@ use Rattle.flow_model.specs.declared.flow.Wish.{Wish}
 use Rattle.flow_model.specs.declared.flow.Wish.TheVariants as wish
 use Rattle.store_model.specs.Orders.{buckets_of}
 use Rattle.store_model.specs.Run.{are_buckets}
+use Rattle.store_model.specs.Acts.{HasKey}
 use Rattle.serve_model.specs.Stores.{Carried}
-use Rattle.plain_laws.specs.Plain.{Has, never, deleted, object, Entry, Plain, same_name, has_at, with_has, version_of, made, writes, with_object, at_time, counted, answered, plain, IsBefore, AreInOrder}
+use Rattle.plain_laws.specs.Plain.{Has, never, deleted, object, Entry, Plain, same_name, has_at, with_has, version_of, made, writes, with_object, at_time, counted, answered, plain, IsBefore, AreInOrder, IsMap}
 use Rattle.plain_laws.proofs.Entries.{name_itself, names_equal}
 
 less_by : (o : Ordering) → is_lt o ≡ true → o ≡ Less
@@ -86,27 +86,63 @@ module _ (name : Name) (x : Has) where
         ] refl
       ] refl
 
-module _ (Q : Plain) (ordered : AreInOrder Q.entries) where
-  writes_ordered : (name : Name) (w : Wish) → AreInOrder (writes Q name w).state.entries
-  writes_ordered name w = with_ordered name (made (version_of Q name) Q.block w) Q.entries ordered
+-- ---- what each write keeps orders keep
 
-  object_ordered : (has : Has) (f : Version → Content → Carried Plain) → ((version : Version) (c : Content) → AreInOrder (f version c).state.entries) → AreInOrder (with_object Q has f).state.entries
-  object_ordered never f h = ordered
-  object_ordered (deleted version) f h = ordered
-  object_ordered (object version block c) f h = h version c
+module _ (Good : List Entry → Type 0) where
+  -- what the order writes keeps it
+  abbrev Writes : Plain → Order → Type 0
+  Writes Q (order.Put bucket key body headers) = (has : Has) → Good (with_has Q.entries (record { bucket = bucket; key = key }) has)
+  Writes Q (order.Delete bucket key) = (has : Has) → Good (with_has Q.entries (record { bucket = bucket; key = key }) has)
+  Writes Q (order.Copy from_bucket from_key bucket key headers) = (has : Has) → Good (with_has Q.entries (record { bucket = bucket; key = key }) has)
+  Writes Q order = ⊤
 
-  answered_ordered : (order : Order) → AreInOrder (answered Q order).state.entries
-  answered_ordered (order.Put bucket key body headers) = writes_ordered (record { bucket = bucket; key = key }) (wish.Content (record { body = body; headers = headers }))
-  answered_ordered (order.Get bucket key) = object_ordered (has_at Q (record { bucket = bucket; key = key })) _ (λ version c. ordered)
-  answered_ordered (order.Head bucket key) = object_ordered (has_at Q (record { bucket = bucket; key = key })) _ (λ version c. ordered)
-  answered_ordered (order.Delete bucket key) = writes_ordered (record { bucket = bucket; key = key }) wish.Marker
-  answered_ordered (order.Copy from_bucket from_key bucket key headers) =
-      object_ordered (has_at Q (record { bucket = from_bucket; key = from_key })) _ (λ version c. writes_ordered (record { bucket = bucket; key = key }) (wish.Content (record { body = c.body; headers = unwrap_or headers c.headers })))
-  answered_ordered (order.List bucket prefix) = ordered
+  object_keeps : (Q : Plain) → Good Q.entries → (has : Has) (f : Version → Content → Carried Plain) → ((version : Version) (c : Content) → Good (f version c).state.entries) → Good (with_object Q has f).state.entries
+  object_keeps Q good never f h = good
+  object_keeps Q good (deleted version) f h = good
+  object_keeps Q good (object version block c) f h = h version c
+
+  answered_keeps : (Q : Plain) → Good Q.entries → (order : Order) → Writes Q order → Good (answered Q order).state.entries
+  answered_keeps Q good (order.Put bucket key body headers) h = h _
+  answered_keeps Q good (order.Get bucket key) h = object_keeps Q good (has_at Q (record { bucket = bucket; key = key })) _ (λ version c. good)
+  answered_keeps Q good (order.Head bucket key) h = object_keeps Q good (has_at Q (record { bucket = bucket; key = key })) _ (λ version c. good)
+  answered_keeps Q good (order.Delete bucket key) h = h _
+  answered_keeps Q good (order.Copy from_bucket from_key bucket key headers) h = object_keeps Q good (has_at Q (record { bucket = from_bucket; key = from_key })) _ (λ version c. h _)
+  answered_keeps Q good (order.List bucket prefix) h = good
+
+  carries_keep : (P : Plain) (time : ℕ) (order : Order) → Good P.entries → Writes (counted (at_time P time)) order → Good (plain.carries P time order).state.entries
+  carries_keep P time order good h =
+      elim (are_buckets P.buckets (buckets_of order)) as (λ b. Good (if b then answered (counted (at_time P time)) order else record { state = at_time P time; end = None }).state.entries) [
+        | true ↦ answered_keeps (counted (at_time P time)) good order h
+        | false ↦ good
+      ]
+
+-- their order
+ordered_writes : (Q : Plain) (order : Order) → AreInOrder Q.entries → Writes AreInOrder Q order
+ordered_writes Q (order.Put bucket key body headers) ordered = λ has. with_ordered (record { bucket = bucket; key = key }) has Q.entries ordered
+ordered_writes Q (order.Get bucket key) ordered = tt
+ordered_writes Q (order.Head bucket key) ordered = tt
+ordered_writes Q (order.Delete bucket key) ordered = λ has. with_ordered (record { bucket = bucket; key = key }) has Q.entries ordered
+ordered_writes Q (order.Copy from_bucket from_key bucket key headers) ordered = λ has. with_ordered (record { bucket = bucket; key = key }) has Q.entries ordered
+ordered_writes Q (order.List bucket prefix) ordered = tt
 
 pub carries_ordered : (P : Plain) (time : ℕ) (order : Order) → AreInOrder P.entries → AreInOrder (plain.carries P time order).state.entries
-carries_ordered P time order ordered =
-    elim (are_buckets P.buckets (buckets_of order)) as (λ b. AreInOrder (if b then answered (counted (at_time P time)) order else record { state = at_time P time; end = None }).state.entries) [
-      | true ↦ answered_ordered (counted (at_time P time)) ordered order
-      | false ↦ ordered
-    ]
+carries_ordered P time order ordered = carries_keep AreInOrder P time order ordered (ordered_writes (counted (at_time P time)) order ordered)
+
+-- that each has a key
+abbrev HaveKeys : List Entry → Type 0
+HaveKeys es = AllByRecursion (λ (e : Entry). 1 ≤ length e.name.key) es
+
+keyed_writes : (Q : Plain) (order : Order) → HasKey order → HaveKeys Q.entries → Writes HaveKeys Q order
+keyed_writes Q (order.Put bucket key body headers) some keyed = λ has. all_with (record { bucket = bucket; key = key }) has (λ (e : Entry). 1 ≤ length e.name.key) some Q.entries keyed
+keyed_writes Q (order.Get bucket key) some keyed = tt
+keyed_writes Q (order.Head bucket key) some keyed = tt
+keyed_writes Q (order.Delete bucket key) some keyed = λ has. all_with (record { bucket = bucket; key = key }) has (λ (e : Entry). 1 ≤ length e.name.key) some Q.entries keyed
+keyed_writes Q (order.Copy from_bucket from_key bucket key headers) some keyed = λ has. all_with (record { bucket = bucket; key = key }) has (λ (e : Entry). 1 ≤ length e.name.key) some Q.entries keyed
+keyed_writes Q (order.List bucket prefix) some keyed = tt
+
+-- an order whose object has a key leads from a map to a map
+pub carries_map : (P : Plain) (time : ℕ) (order : Order) → HasKey order → IsMap P → IsMap (plain.carries P time order).state
+carries_map P time order some is = record {
+  ordered = carries_ordered P time order is.ordered;
+  keyed = carries_keep HaveKeys P time order is.keyed (keyed_writes (counted (at_time P time)) order some is.keyed);
+}

@@ -1,4 +1,4 @@
--- Stores without objects in blocks: every order but a list answers as the map does, and they stay so.
+-- Stores without objects in blocks: every order but a put in blocks answers as the map does, and they stay so.
 use Rattle.std.proofs.Common.{◌≡◌, ℕ, true, false, None, List, [], ◌∷◌, refl, sym, ap₂, subst}
 use Rattle.std.specs.Prelude.{if◌then◌else◌}
 use Rattle.std.specs.Option.{unwrap_or}
@@ -22,6 +22,7 @@ use Rattle.plain_laws.proofs.Smalls.{IsShort}
 use Rattle.plain_laws.proofs.Answering.{reads_row_agree}
 use Rattle.plain_laws.proofs.Writing.{writes_row_agree}
 use Rattle.plain_laws.proofs.Copying.{copies_row_agree}
+use Rattle.plain_laws.proofs.Listing.{lists_agree}
 
 row_order_agrees : (c : Cluster) (P : Plain) (time : ℕ) (order : Order) → Holds c P → NoClash P.buckets → AllInRows P → fits c time order → IsOfRows order → Agrees c P time order
 row_order_agrees c P time (order.Put bucket key body headers) h clash small fit short = writes_row_agree c P time (order.Put bucket key body headers) h clash fit (short, small (record { bucket = bucket; key = key }))
@@ -30,7 +31,7 @@ row_order_agrees c P time (order.Head bucket key) h clash small fit short = read
 row_order_agrees c P time (order.Delete bucket key) h clash small fit short = writes_row_agree c P time (order.Delete bucket key) h clash fit (small (record { bucket = bucket; key = key }))
 row_order_agrees c P time (order.Copy from_bucket from_key bucket key headers) h clash small fit short =
     copies_row_agree c P time (order.Copy from_bucket from_key bucket key headers) h clash fit (small (record { bucket = from_bucket; key = from_key }), small (record { bucket = bucket; key = key }))
-row_order_agrees c P time (order.List bucket prefix) h clash small fit short = absurd short
+row_order_agrees c P time (order.List bucket prefix) h clash small fit short = lists_agree c P time (order.List bucket prefix) h fit tt
 
 -- no object is in blocks, and the buckets are these
 record StaysInRows (buckets : List (List ℕ)) (Q : Plain) : Type 0 where
@@ -69,7 +70,7 @@ module _ (Q : Plain) (small : AllInRows Q) where
   answered_stays (order.Copy from_bucket from_key bucket key headers) short =
       object_stays (has_at Q (record { bucket = from_bucket; key = from_key })) _ (small (record { bucket = from_bucket; key = from_key }))
       (λ version c i. writes_stay (record { bucket = bucket; key = key }) (wish.Content (record { body = c.body; headers = unwrap_or headers c.headers })) i)
-  answered_stays (order.List bucket prefix) short = absurd short
+  answered_stays (order.List bucket prefix) short = as_it_is
 
 carries_rows : (P : Plain) (time : ℕ) (order : Order) → AllInRows P → IsOfRows order → StaysInRows P.buckets (plain.carries P time order).state
 carries_rows P time order small short =

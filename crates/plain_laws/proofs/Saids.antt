@@ -1,11 +1,14 @@
 -- What the rows of a map's objects say.
-use Rattle.std.proofs.Common.{◌≡◌, ℕ, max, true, false, Some, refl, ap, ◌∙◌, arith}
+use Rattle.std.proofs.Common.{◌≡◌, ℕ, max, true, false, Option, None, Some, refl, ap, ◌∙◌, arith}
 use Rattle.std.specs.Cmp.{tied_itself}
 use Rattle.crdt_rows.specs.declared.version.Version.{Version}
 use Rattle.crdt_rows.specs.declared.body.Body.{Body}
 use Rattle.crdt_rows.specs.declared.body.Body.TheVariants.{Marker, Inline, Blocks}
 use Rattle.crdt_rows.specs.declared.state.State.TheVariants.{Complete}
 use Rattle.crdt_rows.specs.declared.any_row.AnyRow.{AnyRow}
+use Rattle.crdt_core.specs.Order.{option_join}
+use Rattle.crdt_rows.specs.AnyRow.{any_join}
+use Rattle.crdt_rows.specs.RowLaws.{any_laws}
 use Rattle.crdt_rows.specs.State.{is_sized}
 use Rattle.crdt_rows.specs.FieldLaws.{version_total}
 use Rattle.flow_model.specs.declared.flow.Name.{Name}
@@ -50,3 +53,8 @@ pub ts_of_row : (name : Name) (has : Has) → greatest_ts (row_of name has) ≡ 
 ts_of_row name never = refl
 ts_of_row name (deleted version) = ts_complete name version 0 wish.Marker
 ts_of_row name (object version block c) = ts_complete name version block (wish.Content c)
+
+-- a row merged with itself is itself
+pub twice : (o : Option AnyRow) → option_join any_join o o ≡ o
+twice None = refl
+twice (Some r) = ap Some (any_laws.idempotent r)

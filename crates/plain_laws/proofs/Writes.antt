@@ -1,6 +1,6 @@
 -- A write of a row that isn't kept in blocks, where nothing else goes on: it reads, stores its row, and ends.
-use Rattle.std.proofs.Common.{◌≡◌, ◌⊎◌, ◌≤◌, ◌<◌, ◌+◌, ℕ, suc, true, false, cond, Option, Some, None, List, [], ◌∷◌, ◌++◌, length, refl, sym, ap, ap₂, ◌∙◌, subst, inl, inr, arith}
-use Rattle.std.specs.Prelude.{IsTrue, ◌==◌, nat_lt}
+use Rattle.std.proofs.Common.{◌≡◌, ◌⊎◌, ◌+◌, ℕ, true, Option, Some, None, List, [], ◌∷◌, ◌++◌, refl, sym, ap, ap₂, ◌∙◌, subst, inl, inr, arith}
+use Rattle.std.specs.Prelude.{IsTrue}
 use Rattle.std.specs.List.{AllByRecursion}
 use Rattle.std.proofs.lemmas.Bool.{and_parts}
 use Rattle.layout_roles.specs.declared.layout.Layout.{Layout}
@@ -11,24 +11,21 @@ use Rattle.crdt_core.proofs.Each.{all_weaker}
 use Rattle.crdt_rows.specs.declared.any_row.AnyRow.{AnyRow}
 use Rattle.crdt_rows.specs.AnyRow.{any_join}
 use Rattle.object_schema.specs.Schema.{words}
-use Rattle.table_schema.specs.Words.{partition_at, partition_of}
+use Rattle.table_schema.specs.Words.{partition_at}
 use Rattle.table_model.specs.Rows.{row_at}
-use Rattle.view_model.specs.View.{newest}
 use Rattle.quorum_model.specs.Quorum.{is_among}
-use Rattle.wire_messages.specs.declared.message.Message.TheVariants.{Store as StoreIt}
-use Rattle.wire_messages.specs.declared.message.Tag.{Tag}
 use Rattle.wire_messages.specs.declared.phase.PhaseEnd.TheVariants.{Row, Kept}
 use Rattle.cluster_machine.specs.declared.applied.Applied.{Applied}
 use Rattle.cluster_machine.specs.declared.step.Refusal.TheVariants.{VersionLimit}
 use Rattle.cluster_machine.specs.declared.step.Step.TheVariants as step
-use Rattle.cluster_machine.specs.Layouts.{layouts, set_of, stored_sets}
+use Rattle.cluster_machine.specs.Layouts.{layouts, set_of}
 use Rattle.cluster_machine.specs.Node.{Packet, says, shows}
-use Rattle.cluster_machine.specs.Phases.{with_node, in_order, nodes_of, to_each, is_spelled, begins, bytes_of}
+use Rattle.cluster_machine.specs.Phases.{is_spelled}
 use Rattle.cluster_machine.specs.Rows.{called_for}
 use Rattle.cluster_machine.specs.Receives.{receives, hears}
 use Rattle.cluster_machine.specs.World.{Sent, numbered, clock, undelivered}
 use Rattle.cluster_machine.specs.Worlds.{Done as Effect, FitAll}
-use Rattle.cluster_machine.specs.Step.{none_given, did, received, sent_by, at_message, applied}
+use Rattle.cluster_machine.specs.Step.{none_given, did, received, at_message, applied}
 use Rattle.cluster_machine.specs.Run.{IsLayout}
 use Rattle.cluster_machine.specs.Trio.{trio, stage_trio}
 use Rattle.history_model.specs.declared.record.Kind.{Kind}
@@ -41,54 +38,22 @@ use Rattle.flow_model.specs.Next.{next, stores}
 use Rattle.store_model.specs.Run.{World, State, Outcome, Asked, plainly, phases, effect, draws_of, takes, follow, goes_on, goes, finishes, delivers}
 use Rattle.store_laws.proofs.Placing.{IsPlaced}
 use Rattle.drained_laws.specs.Waiting.{Has, fresh, waiting}
-use Rattle.drained_laws.specs.Weights.{weight}
-use Rattle.drained_laws.specs.Accounts.{AreThree, IsDue, IsUsual, IsAccounted}
-use Rattle.drained_laws.specs.Reading.{AllRead}
+use Rattle.drained_laws.specs.Accounts.{IsDue, IsUsual, IsAccounted}
 use Rattle.machine_origins.proofs.Lists.{all_parts}
 use Rattle.drained_laws.proofs.Waits.{taken}
-use Rattle.drained_laws.proofs.Views.{nodes_one}
-use Rattle.drained_laws.proofs.Posts.{three_at}
 use Rattle.drained_laws.proofs.Deliveries.{one_changes}
 use Rattle.drained_laws.proofs.Steps.{at_number}
 use Rattle.drained_laws.proofs.Drained.{no_phase_when_drained}
-use Rattle.drained_laws.proofs.Weights.{delivered_less, first_fresh, none_waits}
+use Rattle.drained_laws.proofs.Weights.{first_fresh, none_waits}
 use Rattle.plain_laws.specs.Holds.{nodes_at}
 use Rattle.plain_laws.proofs.Frames.{begin_is}
 use Rattle.plain_laws.proofs.Accepted.{AllRow, over, has_either, stays_idle}
-use Rattle.plain_laws.proofs.Requests.{IsResting, asking_open, IsStoring, storing_stays, storing_open, storing_ends, base, Open, Done, moved, ends_of, delivered_open, delivered_done, finished, finished_leaves, stores_next, stores_items, stores_waiting}
-use Rattle.plain_laws.proofs.Looks.{asks, Asking, HasRead, reads_on}
+use Rattle.plain_laws.proofs.Seeking.{Sought, a_row}
+use Rattle.plain_laws.proofs.Requests.{IsResting, IsStoring, storing_stays, storing_open, storing_ends, base, Open, Done, moved, ends_of, delivered_open, delivered_done, finished, finished_leaves, stores_next, stores_items}
+use Rattle.plain_laws.proofs.Looks.{AllHad, asks, Asking, HasRead, reads_on, reads_out, sees, open_seen}
 
--- ---- how much is left to deliver of a store
-
-pub weight_more : (xs ys : List (Sent AnyRow Layout)) → weight (xs ++ ys) ≡ weight xs + weight ys
-weight_more [] ys = omega arith
-weight_more (x ∷ xs) ys = let rest : weight (xs ++ ys) ≡ weight xs + weight ys = weight_more xs ys in omega (arith, rest)
-
-module _ (w : World) (n : ℕ) (tag : Tag) (version p : ℕ) (rows : List (List ℕ × Option (List ℕ))) where
-  weight_each : (ns : List ℕ) → weight (sent_by w n (to_each {R = AnyRow} {L = Layout} ns (StoreIt tag version p rows) ++ [])) ≡ length ns + length ns
-  weight_each [] = refl
-  weight_each (m ∷ ns) = let rest = weight_each ns in omega (arith, rest)
-
-length_with : (n : ℕ) (ms : List ℕ) → length (with_node n ms) ≤ suc (length ms)
-length_with n [] = omega arith
-length_with n (m ∷ ms) =
-    elim (n == m) as (λ b. length (cond b (m ∷ ms) (cond (nat_lt n m) (n ∷ m ∷ ms) (m ∷ with_node n ms))) ≤ suc (suc (length ms))) [
-      | true ↦ omega arith
-      | false ↦ elim (nat_lt n m) as (λ b. length (cond b (n ∷ m ∷ ms) (m ∷ with_node n ms)) ≤ suc (suc (length ms))) [
-        | true ↦ omega arith
-        | false ↦ (let rest = length_with n ms in omega (arith, rest))
-      ]
-    ]
-
-length_in_order : (ms : List ℕ) → length (in_order ms) ≤ length ms
-length_in_order [] = omega arith
-length_in_order (m ∷ ms) = let rest = length_in_order ms in let more = length_with m (in_order ms) in omega (arith, rest, more)
-
-length_three : (set : List ℕ) → AreThree set → length set ≡ 3
-length_three set three = ap (λ ns. length ns) three.are
-
-module _ (l : Layout) (layout : IsLayout layouts 256 l) (before : State) (n q : ℕ) (kind : Kind) (object name : Name) (flow : Flow) (value : Option AnyRow) (twice : option_join any_join value value ≡ value)
-    (all : AllRead any_join words (base l layout before n q) 1 (row_key name) (nodes_at l (digest_of name.bucket).0) value)
+module _ (l : Layout) (layout : IsLayout layouts 256 l) (before : State) (n q : ℕ) (kind : Kind) (object name : Name) (flow : Flow) (value : Option AnyRow)
+    (all : AllHad l layout before n q kind object (a_row 1 (row_key name) value) (nodes_at l (digest_of name.bucket).0))
     (row : AnyRow) (next_flow : Flow) (end : FlowEnd)
     (writes_so : next flow (Row value) (before.world.time + before.world.skew_of n) ≡ More next_flow (stores row))
     (ends_so : (now : ℕ) → next next_flow Kept now ≡ End end)
@@ -100,14 +65,17 @@ module _ (l : Layout) (layout : IsLayout layouts 256 l) (before : State) (n q : 
   abbrev set : List ℕ
   set = nodes_at l (digest_of name.bucket).0
 
+  abbrev sought : Sought AnyRow
+  sought = a_row 1 (row_key name) value
+
   abbrev asking_so : Asked
-  asking_so = asks l layout before n q kind object name flow value twice all
+  asking_so = asks l layout before n q kind object flow
 
   abbrev storing_so : Asked
   storing_so = record asking_so { flow = Some next_flow }
 
   abbrev AsksFor : State → Type 0
-  AsksFor t = Asking l layout before n q kind object name flow value twice all t
+  AsksFor t = Asking l layout before n q kind object flow sought set all t
 
   due_is : (m : ℕ) → IsDue words layouts l m row → IsTrue (is_among m set)
   due_is m due = subst (λ p. IsTrue (is_among m (set_of layouts l (partition_at p)))) position_is due
@@ -148,7 +116,7 @@ module _ (l : Layout) (layout : IsLayout layouts 256 l) (before : State) (n q : 
     has_one : (m : ℕ) → IsTrue (is_among m set) → (row_at any_join words (w.nodes m).accepted 1 (row_key name) ≡ value) ⊎ (row_at any_join words (w.nodes m).accepted 1 (row_key name) ≡ Some row)
     has_one m there =
         subst (λ rs. (row_at any_join words rs 1 (row_key name) ≡ value) ⊎ (row_at any_join words rs 1 (row_key name) ≡ Some row)) (sym (accepted_so m))
-        (has_either any_join words row 1 (row_key name) table_is key_is value joined itself (had m) (all.has m there) (is.account.news m) (news_are m))
+        (has_either any_join words row 1 (row_key name) table_is key_is value joined itself (had m) (all m there) (is.account.news m) (news_are m))
 
     idle_packet : Idle w → (m : ℕ) (p : Packet AnyRow Layout) (first rest : List (Sent AnyRow Layout)) (from to moment : ℕ) → waiting w ≡ first ++ record { from = from; to = to; packet = p; moment = moment } ∷ rest →
         (let e : Effect AnyRow = received m (did w to (receives any_join words layouts to (clock w to) (w.nodes to) from p)) in Idle (applied w e))
@@ -184,24 +152,14 @@ module _ (l : Layout) (layout : IsLayout layouts 256 l) (before : State) (n q : 
     pub done_so : Done l layout before n q (row ∷ []) end t
     pub idle : Idle t.world
 
-  stores_so : (m : ℕ) (t : State) → HasRead l layout before n q kind object name flow value twice all m t → FitAll any_join words t.world (delivers t m).moves → Storing (delivers t m).state × (weight (waiting (delivers t m).state.world) < weight (waiting t.world) + 6)
+  stores_so : (m : ℕ) (t : State) → HasRead l layout before n q kind object flow sought set all m t → FitAll any_join words t.world (delivers t m).moves → Storing (delivers t m).state
   stores_so m t r fits =
       let t' = moved l layout before n q m t in
       let now = clock t'.world n in
-      let u : State = record t' { saw = record { request = q; end = Row value } ∷ t'.saw } in
+      let u : State = sees l layout before n q kind object flow sought set all m t in
       let draws = draws_of t' q flow.block flow.stage (Row value) now in
       let now_is : now ≡ before.world.time + before.world.skew_of n = ap₂ (λ (a b : ℕ). a + b) r.then.frame.time (r.then.frame.skews n) in
-      let a : Open l layout before n q [] asking_so IsResting u = record {
-        frame = record { buckets = r.then.frame.buckets; block = r.then.frame.block; time = r.then.frame.time; skews = r.then.frame.skews; stocked = r.then.frame.stocked; requests = r.then.frame.requests; asked = r.then.frame.asked };
-        is = r.then.is;
-        sent_so = r.then.sent_so;
-        alone = r.then.alone;
-        call = r.then.call;
-        there = r.then.there;
-        kind = r.then.kind;
-        asked_is = r.then.asked_is;
-        ends_so = r.then.ends_so;
-      } in
+      let a : Open l layout before n q [] asking_so IsResting u = open_seen l layout before n q kind object flow sought set all m t r in
       let out_is : goes_on t' (ends_of l layout before n q m t) ≡ goes u q asking_so draws next_flow (stores row) =
       r.out_is ∙ ap (takes u q asking_so draws) (ap (next flow (Row value)) now_is ∙ writes_so)
       in
@@ -209,43 +167,20 @@ module _ (l : Layout) (layout : IsLayout layouts 256 l) (before : State) (n q : 
       let begins_is = begin_is Applied Cut any_join words layouts trio stage_trio t'.world n q r.then.call r.then.there (stores row) (none_given VersionLimit) r.then.alone.request in
       let spelling : is_spelled words row ≡ true = (and_parts (is_spelled words row) true (sym (ap (λ (e : Effect AnyRow). e.is_spelled) begins_is) ∙ more.0.1)).0 in
       let opened = stores_next l layout before n q [] asking_so IsResting u a row placed spelling bare draws next_flow in
-      let v = (t'.world.nodes n).view in
-      let p = partition_of words row in
-      let one : v.layouts ≡ l ∷ [] = r.then.is.sound.views n (r.then.is.sound.calls n q r.then.call r.then.there).0 in
-      let set_is : nodes_of (stored_sets layouts v p) ≡ in_order set = nodes_one layouts l v one p ∙ ap (λ x. in_order (set_of layouts l (partition_at x))) position_is in
-      let three : length set ≡ 3 = length_three set (three_at layouts l layout (partition_at (digest_of name.bucket).0) (subst (λ x. partition_at x < 256) position_is placed.1)) in
-      let few : length (in_order set) ≤ length set = length_in_order set in
-      let sends_weight : weight ((did {A = Applied} {C = Cut} t'.world n (begins words layouts t'.world.kept (t'.world.nodes n) r.then.call (stores row))).sends) ≡ length (nodes_of (stored_sets layouts v p)) + length (nodes_of (stored_sets layouts v p)) =
-      weight_each t'.world n _ (newest layouts.reading v) p ((bytes_of words row, None) ∷ []) (nodes_of (stored_sets layouts v p))
-      in
-      let count : length (nodes_of (stored_sets layouts v p)) ≡ length (in_order set) = ap (λ ns. length ns) set_is in
-      let waits = stores_waiting l layout before n q [] asking_so IsResting u a row placed spelling bare draws next_flow in
-      let less = r.less in
-      let s : State = (goes u q asking_so draws next_flow (stores row)).state in
-      let sum : weight (waiting s.world) ≡ weight (waiting t'.world) + weight ((did {A = Applied} {C = Cut} t'.world n (begins words layouts t'.world.kept (t'.world.nodes n) r.then.call (stores row))).sends) =
-      ap (λ ws. weight ws) waits ∙ weight_more (waiting t'.world) _
-      in
-      let low : weight (waiting s.world) < weight (waiting t.world) + 6 = omega (arith, less, sum, sends_weight, count, few, three) in
-      let state_is : (delivers t m).state ≡ s = ap (λ (o : Outcome). o.state) out_is in (
-        subst Storing (sym state_is) (record { open_so = opened; idle = λ o. stores_items l layout before n q [] asking_so IsResting u a row placed spelling bare draws next_flow o ∙ r.reading.1.idle o }),
-        subst (λ (x : State). weight (waiting x.world) < weight (waiting t.world) + 6) (sym state_is) low,
-      )
+      let state_is : (delivers t m).state ≡ (goes u q asking_so draws next_flow (stores row)).state = ap (λ (o : Outcome). o.state) out_is in
+      subst Storing (sym state_is) (record { open_so = opened; idle = λ o. stores_items l layout before n q [] asking_so IsResting u a row placed spelling bare draws next_flow o ∙ r.reading.1.idle o })
 
-  storing_next : (m : ℕ) (t : State) → Storing t → undelivered t.world ≡ Some m → FitAll any_join words t.world (delivers t m).moves →
-      (Storing (delivers t m).state ⊎ Written (delivers t m).state) × (weight (waiting (delivers t m).state.world) < weight (waiting t.world))
+  storing_next : (m : ℕ) (t : State) → Storing t → undelivered t.world ≡ Some m → FitAll any_join words t.world (delivers t m).moves → Storing (delivers t m).state ⊎ Written (delivers t m).state
   storing_next m t a waits fits =
       let mark : numbered t.world.marks m ≡ Some fresh = first_fresh t.world.marks m waits in
       let t' = moved l layout before n q m t in
-      let less : weight (waiting t'.world) < weight (waiting t.world) = delivered_less any_join words layouts trio stage_trio (none_given VersionLimit) t.world a.open_so.is.marked m mark in
       let idle : Idle t'.world = idle_next t.world a.open_so.is a.open_so.sent_so a.idle m mark in
       elim (delivered_open l layout before n q (row ∷ []) storing_so IsStoring storing_stays m t a.open_so mark fits.0.1) [
-        | inl w ↦ (
-            let state_is : (delivers t m).state ≡ t' = ap (λ ends. (goes_on t' ends).state) w.ends_are in (
-              inl (subst Storing (sym state_is) (record { open_so = w.then; idle = idle })),
-              subst (λ (s : State). weight (waiting s.world) < weight (waiting t.world)) (sym state_is) less,
+        | inl w ↦ inl (
+            let state_is : (delivers t m).state ≡ t' = ap (λ ends. (goes_on t' ends).state) w.ends_are in
+            subst Storing (sym state_is) (record { open_so = w.then; idle = idle })
             )
-            )
-        | inr w ↦ (
+        | inr w ↦ inr (
             let how : w.how ≡ Kept = storing_ends w.was w.how w.kind w.ends_so in
             let now = clock t'.world n in
             let u : State = record t' { saw = record { request = q; end = Kept } ∷ t'.saw } in
@@ -265,54 +200,35 @@ module _ (l : Layout) (layout : IsLayout layouts 256 l) (before : State) (n q : 
             let draws = draws_of t' q next_flow.block next_flow.stage Kept now in
             let state_is : (delivers t m).state ≡ (finishes u q storing_so end).state =
             ap (λ (o : Outcome). o.state) (ap (goes_on t') w.ends_are ∙ (ap (λ o. follow t' q o w.how) w.then.asked_is ∙ (ap (follow t' q (Some storing_so)) how ∙ ap (takes u q storing_so draws) (ends_so now))))
-            in (
-              inr (subst Written (sym state_is) (record { done_so = f; idle = λ o. left.items o ∙ idle o })),
-              subst (λ (s : State). weight (waiting s.world) < weight (waiting t.world)) (sym state_is) (subst (λ ws. weight ws < weight (waiting t.world)) (sym left.waits) less),
-            )
+            in
+            subst Written (sym state_is) (record { done_so = f; idle = λ o. left.items o ∙ idle o })
             )
       ]
 
-  written_next : (m : ℕ) (t : State) → Written t → undelivered t.world ≡ Some m → FitAll any_join words t.world (delivers t m).moves → Written (delivers t m).state × (weight (waiting (delivers t m).state.world) < weight (waiting t.world))
+  written_next : (m : ℕ) (t : State) → Written t → undelivered t.world ≡ Some m → FitAll any_join words t.world (delivers t m).moves → Written (delivers t m).state
   written_next m t f waits fits =
       let mark : numbered t.world.marks m ≡ Some fresh = first_fresh t.world.marks m waits in
       let t' = moved l layout before n q m t in
-      let less : weight (waiting t'.world) < weight (waiting t.world) = delivered_less any_join words layouts trio stage_trio (none_given VersionLimit) t.world f.done_so.is.marked m mark in
       let then = delivered_done l layout before n q (row ∷ []) end m t f.done_so mark fits.0.1 in
       let idle : Idle t'.world = idle_next t.world f.done_so.is f.done_so.sent_so f.idle m mark in
-      let state_is : (delivers t m).state ≡ t' = ap (λ ends. (goes_on t' ends).state) then.0 in (
-        subst Written (sym state_is) (record { done_so = then.1; idle = idle }),
-        subst (λ (s : State). weight (waiting s.world) < weight (waiting t.world)) (sym state_is) less,
-      )
+      let state_is : (delivers t m).state ≡ t' = ap (λ ends. (goes_on t' ends).state) then.0 in
+      subst Written (sym state_is) (record { done_so = then.1; idle = idle })
 
   -- ---- draining
 
-  abbrev pub Going : ℕ → State → Type 0
-  Going b t = (AsksFor t × (weight (waiting t.world) + 6 ≤ b)) ⊎ ((Storing t ⊎ Written t) × (weight (waiting t.world) ≤ b))
+  abbrev pub Going : State → Type 0
+  Going t = AsksFor t ⊎ Storing t ⊎ Written t
 
-  pub going_next : (b m : ℕ) (t : State) → Going b t → undelivered t.world ≡ Some m → FitAll any_join words t.world (delivers t m).moves → (c : ℕ) × (c < b) × Going c (delivers t m).state
-  going_next b m t (inl (a, low)) waits fits = elim (reads_on l layout before n q kind object name flow value twice all m t a waits fits) [
-    | inl r ↦ (let less = r.1 in (weight (waiting (delivers t m).state.world) + 6, omega (arith, low, less), inl (r.0, omega arith)))
-    | inr r ↦ (let s = stores_so m t r fits in let less = s.1 in (weight (waiting (delivers t m).state.world), omega (arith, low, less), inr (inl s.0, omega arith)))
+  pub going_next : (m : ℕ) (t : State) → Going t → undelivered t.world ≡ Some m → FitAll any_join words t.world (delivers t m).moves → Going (delivers t m).state
+  going_next m t (inl a) waits fits = elim (reads_on l layout before n q kind object flow sought set all m t a waits fits) [
+    | inl r ↦ inl r
+    | inr r ↦ inr (inl (stores_so m t r fits))
   ]
-  going_next b m t (inr (inl a, low)) waits fits = let s = storing_next m t a waits fits in let less = s.1 in (weight (waiting (delivers t m).state.world), omega (arith, low, less), inr (s.0, omega arith))
-  going_next b m t (inr (inr f, low)) waits fits = let s = written_next m t f waits fits in let less = s.1 in (weight (waiting (delivers t m).state.world), omega (arith, low, less), inr (inr s.0, omega arith))
-
-  marked_so : (t : State) → Storing t ⊎ Written t → length t.world.messages ≡ length t.world.marks
-  marked_so t (inl a) = a.open_so.is.marked
-  marked_so t (inr f) = f.done_so.is.marked
-
-  pub going_empty : (t : State) → Going 0 t → undelivered t.world ≡ None
-  going_empty t (inl (a, low)) = absurd (omega (arith, low))
-  going_empty t (inr (g, low)) =
-      elim (undelivered t.world) as (λ o. undelivered t.world ≡ o → o ≡ None) [
-        | None ↦ λ e. refl
-        | Some m ↦ λ e.
-            let less : weight (waiting (moved l layout before n q m t).world) < weight (waiting t.world) = delivered_less any_join words layouts trio stage_trio (none_given VersionLimit) t.world (marked_so t g) m (first_fresh t.world.marks m e) in
-            absurd (omega (arith, low, less))
-      ] refl
+  going_next m t (inr (inl a)) waits fits = inr (storing_next m t a waits fits)
+  going_next m t (inr (inr f)) waits fits = inr (inr (written_next m t f waits fits))
 
   -- where no message waits it has written
-  pub has_written : (b : ℕ) (s : State) → Going b s → undelivered s.world ≡ None → Written s
-  has_written b s (inl g) none = absurd (asking_open g.0.open_so.call.present g.0.open_so.kind (no_phase_when_drained any_join words layouts l had s.world g.0.open_so.is (none_waits s.world none) n q g.0.open_so.call g.0.open_so.there))
-  has_written b s (inr (inl g, low)) none = absurd (storing_open g.open_so.call.present g.open_so.kind (no_phase_when_drained any_join words layouts l had s.world g.open_so.is (none_waits s.world none) n q g.open_so.call g.open_so.there))
-  has_written b s (inr (inr f, low)) none = f
+  pub has_written : (s : State) → Going s → undelivered s.world ≡ None → Written s
+  has_written s (inl a) none = absurd (reads_out l layout before n q kind object flow sought set all tt s a none)
+  has_written s (inr (inl a)) none = absurd (storing_open a.open_so.call.present a.open_so.kind (no_phase_when_drained any_join words layouts l had s.world a.open_so.is (none_waits s.world none) n q a.open_so.call a.open_so.there))
+  has_written s (inr (inr f)) none = f

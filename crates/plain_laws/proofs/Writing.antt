@@ -38,10 +38,10 @@ use Rattle.store_model.specs.Orders.{kind_of, name_of, buckets_of}
 use Rattle.store_model.specs.Run.{World, State, are_buckets, opened, delivers, drains}
 use Rattle.store_model.specs.Acts.{all_messages}
 use Rattle.store_laws.proofs.Objects.{key_parts, digest_length}
-use Rattle.store_laws.proofs.Placing.{complete_is_placed}
+use Rattle.store_laws.proofs.Emptied.{emptied_from}
+use Rattle.store_laws.proofs.Placing.{asks_is_step, complete_is_placed}
 use Rattle.serve_model.specs.Clusters.{Cluster, fits}
 use Rattle.drained_laws.specs.Waiting.{SomeOf, Has as IsIn, waiting}
-use Rattle.drained_laws.specs.Weights.{weight}
 use Rattle.drained_laws.specs.Accounts.{Brings}
 use Rattle.drained_laws.proofs.Weights.{none_waits}
 use Rattle.drained_laws.proofs.Drained.{equal_when_drained}
@@ -54,14 +54,14 @@ use Rattle.plain_laws.proofs.Smalls.{IsSmall, IsShort, short_row, small_table, s
 use Rattle.plain_laws.proofs.Accepted.{passed, not_at, has_row}
 use Rattle.plain_laws.proofs.Saids.{ts_of_row}
 use Rattle.plain_laws.proofs.Starting.{number, reading_state, opened_is, starts}
-use Rattle.plain_laws.proofs.Writes.{Written, news_are, accepted_so, Going, going_next, going_empty, has_written}
-use Rattle.plain_laws.proofs.Looks.{Asking}
-use Rattle.plain_laws.proofs.Draining.{drain_ends}
+use Rattle.plain_laws.proofs.Writes.{Written, news_are, accepted_so, Going, going_next, has_written}
+use Rattle.plain_laws.proofs.Seeking.{a_row}
+use Rattle.plain_laws.proofs.Looks.{AllHad, Asking}
+use Rattle.plain_laws.proofs.Draining.{drains_keep}
 use Rattle.crdt_core.specs.Order.{option_join}
-use Rattle.drained_laws.specs.Reading.{AllRead}
 use Rattle.cluster_machine.specs.Rows.{called_for}
 use Rattle.plain_laws.proofs.Carrying.{now, asker_now, asker_is, holding_now, drain_fits}
-use Rattle.plain_laws.proofs.Answering.{twice, few, agrees_refused, row_there, answers_so, carried_as, one_bucket}
+use Rattle.plain_laws.proofs.Answering.{agrees_refused, row_there, answers_so, carried_as, one_bucket}
 
 -- ---- what a write does when it has read
 
@@ -160,7 +160,7 @@ module _ (c : Cluster) (P : Plain) (h : Holds c P) (clash : NoClash P.buckets) (
   pub writes_so : next flow (Row value) (before.world.time + before.world.skew_of n) ≡ More next_flow (stores row)
   writes_so = ap (λ v. flow_writes q before.block name v w) drawn_is ∙ short_writes q before.block name version w short
 
-  abbrev pub all : AllRead any_join words (λ m. (before.world.nodes m).accepted) 1 (row_key name) (nodes_at l (digest_of name.bucket).0) value
+  abbrev pub all : AllHad l h.is_layout before n q (kind_of order) (name_of order) (a_row 1 (row_key name) value) (nodes_at l (digest_of name.bucket).0)
   all = row_there c P h time order known fit name there
 
   pub table_is : words.table row ≡ 1
@@ -192,22 +192,19 @@ module _ (c : Cluster) (P : Plain) (h : Holds c P) (clash : NoClash P.buckets) (
 
   -- the request while it writes, and when it has written
   abbrev pub Reads : State → Type 0
-  Reads t = Asking l h.is_layout before n q (kind_of order) (name_of order) name flow value (twice value) all t
+  Reads t = Asking l h.is_layout before n q (kind_of order) (name_of order) flow (a_row 1 (row_key name) value) (nodes_at l (digest_of name.bucket).0) all t
 
-  abbrev pub MayWrite : ℕ → State → Type 0
-  MayWrite b t = Going l h.is_layout before n q (kind_of order) (name_of order) name flow value (twice value) all row next_flow end writes_so ends_so (complete_is_placed name version before.block w) bare table_is key_is position_is joined itself calls_none itself_none b t
+  abbrev pub MayWrite : State → Type 0
+  MayWrite t = Going l h.is_layout before n q (kind_of order) (name_of order) name flow value all row next_flow end writes_so ends_so (complete_is_placed name version before.block w) bare table_is key_is position_is joined itself calls_none itself_none t
 
   abbrev pub HasWritten : State → Type 0
-  HasWritten t = Written l h.is_layout before n q (kind_of order) (name_of order) name flow value (twice value) all row next_flow end writes_so ends_so (complete_is_placed name version before.block w) bare table_is key_is position_is joined itself calls_none itself_none t
+  HasWritten t = Written l h.is_layout before n q (kind_of order) (name_of order) name flow value all row next_flow end writes_so ends_so (complete_is_placed name version before.block w) bare table_is key_is position_is joined itself calls_none itself_none t
 
-  pub write_next : (b m : ℕ) (t : State) → MayWrite b t → undelivered t.world ≡ Some m → FitAll any_join words t.world (delivers t m).moves → (c : ℕ) × (c < b) × MayWrite c (delivers t m).state
-  write_next = going_next l h.is_layout before n q (kind_of order) (name_of order) name flow value (twice value) all row next_flow end writes_so ends_so (complete_is_placed name version before.block w) bare table_is key_is position_is joined itself calls_none itself_none
+  pub write_next : (m : ℕ) (t : State) → MayWrite t → undelivered t.world ≡ Some m → FitAll any_join words t.world (delivers t m).moves → MayWrite (delivers t m).state
+  write_next = going_next l h.is_layout before n q (kind_of order) (name_of order) name flow value all row next_flow end writes_so ends_so (complete_is_placed name version before.block w) bare table_is key_is position_is joined itself calls_none itself_none
 
-  pub write_empty : (t : State) → MayWrite 0 t → undelivered t.world ≡ None
-  write_empty = going_empty l h.is_layout before n q (kind_of order) (name_of order) name flow value (twice value) all row next_flow end writes_so ends_so (complete_is_placed name version before.block w) bare table_is key_is position_is joined itself calls_none itself_none
-
-  pub write_ends : (b : ℕ) (t : State) → MayWrite b t → undelivered t.world ≡ None → HasWritten t
-  write_ends = has_written l h.is_layout before n q (kind_of order) (name_of order) name flow value (twice value) all row next_flow end writes_so ends_so (complete_is_placed name version before.block w) bare table_is key_is position_is joined itself calls_none itself_none
+  pub write_ends : (t : State) → MayWrite t → undelivered t.world ≡ None → HasWritten t
+  write_ends = has_written l h.is_layout before n q (kind_of order) (name_of order) name flow value all row next_flow end writes_so ends_so (complete_is_placed name version before.block w) bare table_is key_is position_is joined itself calls_none itself_none
 
   -- where it has written, and nothing waits, both agree
   pub wrote_agrees : answered after order ≡ writes after name w → (let u = (drains all_messages (opened before n order).state).state in HasWritten u → undelivered u.world ≡ None → Agrees c P time order)
@@ -215,8 +212,8 @@ module _ (c : Cluster) (P : Plain) (h : Holds c P) (clash : NoClash P.buckets) (
       let u : State = (drains all_messages (opened before n order).state).state in
       let done = written.done_so in
       let none : waiting u.world ≡ [] = none_waits u.world none_left in
-      let accepted = accepted_so l h.is_layout before n q (kind_of order) (name_of order) name flow value (twice value) all row next_flow end writes_so ends_so (complete_is_placed name version before.block w) bare table_is key_is position_is joined itself calls_none itself_none u.world done.is done.sent_so in
-      let news = news_are l h.is_layout before n q (kind_of order) (name_of order) name flow value (twice value) all row next_flow end writes_so ends_so (complete_is_placed name version before.block w) bare table_is key_is position_is joined itself calls_none itself_none u.world done.is done.sent_so in
+      let accepted = accepted_so l h.is_layout before n q (kind_of order) (name_of order) name flow value all row next_flow end writes_so ends_so (complete_is_placed name version before.block w) bare table_is key_is position_is joined itself calls_none itself_none u.world done.is done.sent_so in
+      let news = news_are l h.is_layout before n q (kind_of order) (name_of order) name flow value all row next_flow end writes_so ends_so (complete_is_placed name version before.block w) bare table_is key_is position_is joined itself calls_none itself_none u.world done.is done.sent_so in
       let had : ℕ → List AnyRow = λ m. (before.world.nodes m).accepted in
       -- what nodes have at another place
       let elsewhere : (m table : ℕ) (key : List ℕ) → ((words.table row ≡ table) → (words.key row ≡ key) → ⊥) → row_at any_join words (u.world.nodes m).accepted table key ≡ row_at any_join words (had m) table key =
@@ -229,7 +226,7 @@ module _ (c : Cluster) (P : Plain) (h : Holds c P) (clash : NoClash P.buckets) (
       ] in
       let here : (m : ℕ) → IsTrue (is_among m (nodes_at l (digest_of name.bucket).0)) → row_at any_join words (u.world.nodes m).accepted 1 (row_key name) ≡ Some row = λ m is.
       ap (λ rs. row_at any_join words rs 1 (row_key name)) (accepted m)
-      ∙ has_row any_join words row 1 (row_key name) table_is key_is value joined itself (had m) (all.has m is) (done.is.account.news m) (news m) (came m is) in
+      ∙ has_row any_join words row 1 (row_key name) table_is key_is value joined itself (had m) (all m is) (done.is.account.news m) (news m) (came m is) in
       let new : Has = made version after.block w in
       let new_row : row_of name new ≡ Some row = made_row name version after.block w ∙ ap (λ b. Some (complete name version b w)) (sym holding.block) in
       let rows_so : (other : Name) (m : ℕ) → Contains P.buckets other.bucket → IsTrue (is_among m (nodes_at l (digest_of other.bucket).0)) → row_at any_join words (u.world.nodes m).accepted 1 (row_key other) ≡ row_of other (has_at Q other) =
@@ -274,16 +271,17 @@ module _ (c : Cluster) (P : Plain) (h : Holds c P) (clash : NoClash P.buckets) (
   -- a request that begins as a write
   pub writes_agree : started order q before.block ≡ (flow, asks_for name) → answered after order ≡ writes after name w → Agrees c P time order
   writes_agree begins_so answered_so =
-      let s = starts l h.is_layout (at_time P time) before holding n (asker_is c P h time order) order flow name value (twice value) all begins_so in
-      let opened_so = opened_is l h.is_layout (at_time P time) before holding n (asker_is c P h time order) order flow name value (twice value) all begins_so in
-      let start = reading_state l h.is_layout (at_time P time) before holding n (asker_is c P h time order) order flow name value (twice value) all begins_so in
-      let low : weight (waiting start.world) + 6 ≤ all_messages = let six = s.1 in few (weight (waiting start.world) + 6) (omega (arith, six)) in
+      let sought = a_row 1 (row_key name) value in
+      let begun = starts l h.is_layout (at_time P time) before holding n (asker_is c P h time order) order flow (asks_for name) sought (refl, refl) (asks_is_step q name) begins_so all in
+      let opened_so = opened_is l h.is_layout (at_time P time) before holding n (asker_is c P h time order) order flow (asks_for name) sought (refl, refl) (asks_is_step q name) begins_so in
+      let start = reading_state l h.is_layout (at_time P time) before holding n (asker_is c P h time order) order flow (asks_for name) sought (refl, refl) (asks_is_step q name) begins_so in
       let fit' : FitAll any_join words start.world (drains all_messages start).moves = subst (λ (t : State). FitAll any_join words t.world (drains all_messages t).moves) opened_so (drain_fits c P h time order known fit) in
-      let d = drain_ends MayWrite write_empty write_next all_messages (weight (waiting start.world) + 6) start low (inl (s.0, omega arith)) fit' in
       let u : State = (drains all_messages start).state in
+      let none = emptied_from start begun.open_so.is.marked fit' in
+      let ended = write_ends u (drains_keep MayWrite write_next all_messages start (inl begun) fit') none in
       wrote_agrees answered_so
-      (subst (λ (t : State). HasWritten (drains all_messages t).state) (sym opened_so) (write_ends d.left u d.holds d.none))
-      (subst (λ (t : State). undelivered (drains all_messages t).state.world ≡ None) (sym opened_so) d.none)
+      (subst (λ (t : State). HasWritten (drains all_messages t).state) (sym opened_so) ended)
+      (subst (λ (t : State). undelivered (drains all_messages t).state.world ≡ None) (sym opened_so) none)
 
 write_agrees : (c : Cluster) (P : Plain) (time : ℕ) (order : Order) → (h : Holds c P) → NoClash P.buckets → fits c time order → WritesRow P order → are_buckets P.buckets (buckets_of order) ≡ true → Agrees c P time order
 write_agrees c P time (order.Put bucket key body headers) h clash fit allowed known =

@@ -29,7 +29,7 @@ use Rattle.serve_model.specs.Stores.{Store}
 use Rattle.serve_model.specs.Clusters.{Cluster, cluster}
 use Rattle.drained_laws.specs.Calm.{IsAtRest}
 use Rattle.drained_laws.specs.Drained.{AreEqual, accepted_in}
-use Rattle.plain_laws.specs.Plain.{Has, never, deleted, object, Plain, has_at, row_of, plain}
+use Rattle.plain_laws.specs.Plain.{Has, never, deleted, object, Plain, has_at, row_of, plain, IsMap}
 
 -- the nodes that a layout gives what lies at this position
 abbrev pub nodes_at : Layout → List ℕ → List ℕ
@@ -50,7 +50,7 @@ HasItsBlocks l w never = ⊤
 HasItsBlocks l w (deleted version) = ⊤
 HasItsBlocks l w (object version block c) = IsTrue (is_long c.body) → HasBlocks l w version block c
 
--- the cluster holds the map: nothing goes on, all members have one layout and no other, no clock is ahead,
+-- the cluster holds the map, whose entries are in order: nothing goes on, all members have one layout and no other, no clock is ahead,
 -- replicas are equal, every node has the blocks that its rows need, and of each name in a bucket that is there each of its
 -- three nodes has the row that says what the map has, and the blocks are there
 pub record Holds (c : Cluster) (P : Plain) : Type 0 where
@@ -70,6 +70,7 @@ pub record Holds (c : Cluster) (P : Plain) : Type 0 where
   pub ticked : c.ticked ≡ P.ticked
   pub requests : length c.run.world.requests ≡ P.asked
   pub asked : length c.run.asked ≡ P.asked
+  pub map : IsMap P
   pub ends : (q : ℕ) → P.asked < q → end_of c.run.ends q ≡ None
 
 -- the cluster carries out the order as the map does: it ends with the map's answer, and holds what the map has become
@@ -100,16 +101,20 @@ abbrev pub CopiesRow : Plain → Order → Type 0
 CopiesRow P (order.Copy from_bucket from_key bucket key headers) = IsInRow (has_at P (record { bucket = from_bucket; key = from_key })) × IsInRow (has_at P (record { bucket = bucket; key = key }))
 CopiesRow P order = ⊥
 
+-- a list
+abbrev pub Lists : Order → Type 0
+Lists (order.List bucket prefix) = ⊤
+Lists order = ⊥
+
 -- ---- stores without objects in blocks
 
 -- no object is kept in blocks
 abbrev pub AllInRows : Plain → Type 0
 AllInRows P = (name : Name) → IsInRow (has_at P name)
 
--- no list, and no put of bytes that are kept in blocks
+-- no put of bytes that are kept in blocks
 abbrev pub IsOfRows : Order → Type 0
 IsOfRows (order.Put bucket key body headers) = is_long body ≡ false
-IsOfRows (order.List bucket prefix) = ⊥
 IsOfRows order = ⊤
 
 -- how orders end, each with its time

@@ -1,5 +1,5 @@
 -- A plain store: one map from names to objects, which carries out one order after the other.
-use Rattle.std.specs.Prelude.{◌≡◌, ◌≤◌, ℕ, suc, ◌+◌, ◌-◌, max, Bool, false, ⊤, ◌&&◌, nat_eq, if◌then◌else◌, Option, Some, None, List, [], ◌∷◌}
+use Rattle.std.specs.Prelude.{◌≡◌, ◌≤◌, ℕ, suc, ◌+◌, ◌-◌, max, Bool, false, ⊤, ◌&&◌, nat_eq, if◌then◌else◌, Option, Some, None, List, [], ◌∷◌, length}
 use Rattle.std.specs.Option.{unwrap_or}
 use Rattle.std.specs.List.{AllByRecursion, starts_with}
 use Rattle.std.specs.Ordering.{nat_cmp, is_lt}
@@ -168,3 +168,8 @@ IsBefore e f = (is_lt (slice_cmp nat_cmp f.name.key e.name.key) ≡ false) × (s
 abbrev pub AreInOrder : List Entry → Type 0
 AreInOrder [] = ⊤
 AreInOrder (e ∷ es) = AllByRecursion (IsBefore e) es × AreInOrder es
+
+-- the entries are those of a map, and each key has a byte at least
+pub record IsMap (P : Plain) : Type 0 where
+  pub ordered : AreInOrder P.entries
+  pub keyed : AllByRecursion (λ (e : Entry). 1 ≤ length e.name.key) P.entries

@@ -2,8 +2,8 @@
 //! each is called for its contract.
 //!
 //! `Plain` (specs/) is the store that is one map; `Holds` says when a cluster holds one, and `Agrees` that it carries out an
-//! order as the map does: it ends with the map's answer, and then holds what the map has become. That is proved of all
-//! orders but lists, where what is read and written isn't kept in blocks.
+//! order as the map does: it ends with the map's answer, and then holds what the map has become. That is proved of
+//! lists, and of all other orders where what is read and written isn't kept in blocks.
 #![tactic(auto)]
 
 ghost use Rattle.std.specs.Prelude.{◌≡◌, ℕ, List, [], ◌∷◌, Some, None};
@@ -21,7 +21,7 @@ ghost use Rattle.store_model.specs.Acts.{installs, acted};
 ghost use Rattle.serve_model.specs.Stores.{OrdersFit, after_orders};
 ghost use Rattle.serve_model.specs.Clusters.{Cluster, cluster, fits};
 ghost use Rattle.plain_laws.specs.Plain.{Plain, plain, IsNumbered, AreInOrder};
-ghost use Rattle.plain_laws.specs.Holds.{Holds, Agrees, ReadsRow, WritesRow, CopiesRow, AllInRows, IsOfRows, ends_of};
+ghost use Rattle.plain_laws.specs.Holds.{Holds, Agrees, ReadsRow, WritesRow, CopiesRow, Lists, AllInRows, IsOfRows, ends_of};
 
 /// A first layout that is installed where nothing has happened yet, with whatever buckets and size of blocks, holds the
 /// empty map.
@@ -47,8 +47,14 @@ pub fn copies_answer_as_the_map_does()
     ensures { (c : Cluster) (P : Plain) (time : ℕ) (order : Order) → Holds c P → NoClash P.buckets → fits c time order → CopiesRow P order → Agrees c P time order }
 {}
 
-/// Where no object is kept in blocks, any orders but lists and puts of bytes that are kept in blocks, one after the other, end
-/// as the map's do, and the cluster then holds what the map has become. So it is from a first layout on, where the map is
+/// A list ends with the map's answer, and the cluster holds the same map: window after window shows the rows of the bucket's
+/// entries in order of keys, whatever is kept in blocks.
+pub fn lists_answer_as_the_map_does()
+    ensures { (c : Cluster) (P : Plain) (time : ℕ) (order : Order) → Holds c P → fits c time order → Lists order → Agrees c P time order }
+{}
+
+/// Where no object is kept in blocks, any orders but puts of bytes that are kept in blocks, one after the other, end as the
+/// map's do, and the cluster then holds what the map has become. So it is from a first layout on, where the map is
 /// empty at first.
 pub fn small_stores_answer_as_the_map_does()
     ensures held { (c : Cluster) (P : Plain) (orders : List (ℕ × Order)) → Holds c P → NoClash P.buckets → AllInRows P → AllByRecursion (λ (o : ℕ × Order). IsOfRows o.1) orders → OrdersFit cluster fits c orders →

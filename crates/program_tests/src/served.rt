@@ -7,15 +7,15 @@ use std::alloc::Global;
 use std::test::Fail;
 
 /// Three nodes in three zones, each with the same room.
-const THREE_NODES: &[u8] =
+pub const THREE_NODES: &[u8] =
     b"buckets = ['pics']\n[[node]]\nid = 1\nzone = 'a'\ncapacity = 1000\n[[node]]\nid = 2\nzone = 'b'\ncapacity = 1000\n[[node]]\nid = 3\nzone = 'c'\ncapacity = 1000\n";
 
 /// An object is written, read in every way that is served, deleted, and read once more.
-const ONE_OBJECT: &[u8] =
+pub const ONE_OBJECT: &[u8] =
     b"PUT /pics/a.txt HTTP/1.1\r\nHost: localhost:3900\r\nUser-Agent: curl\r\nAccept: */*\r\nContent-Length: 3\r\nExpect: 100-continue\r\n\r\nabcGET /pics/a.txt HTTP/1.1\r\n\r\nHEAD /pics/a.txt HTTP/1.1\r\n\r\nGET /pics/a.txt HTTP/1.1\r\nRange: bytes=0-0\r\n\r\nGET /pics/a.txt HTTP/1.1\r\nRange: bytes=3-\r\n\r\nDELETE /pics/a.txt HTTP/1.1\r\n\r\nGET /pics/a.txt HTTP/1.1\r\n\r\n";
 
 /// Its answers: a put, a get, a head, a range, one past the end, a delete, and the key that isn't there any more.
-const ONE_ANSWERS: &[u8] =
+pub const ONE_ANSWERS: &[u8] =
     b"HTTP/1.1 100 Continue\r\n\r\nHTTP/1.1 200 OK\r\nDate: Tue, 14 Nov 2023 22:13:20 GMT\r\nContent-Length: 0\r\nETag: \"900150983cd24fb0d6963f7d28e17f72\"\r\n\r\nHTTP/1.1 200 OK\r\nDate: Tue, 14 Nov 2023 22:13:20 GMT\r\nContent-Length: 3\r\nETag: \"900150983cd24fb0d6963f7d28e17f72\"\r\nLast-Modified: Tue, 14 Nov 2023 22:13:20 GMT\r\nContent-Type: application/octet-stream\r\nAccept-Ranges: bytes\r\n\r\nabcHTTP/1.1 200 OK\r\nDate: Tue, 14 Nov 2023 22:13:20 GMT\r\nContent-Length: 3\r\nETag: \"900150983cd24fb0d6963f7d28e17f72\"\r\nLast-Modified: Tue, 14 Nov 2023 22:13:20 GMT\r\nContent-Type: application/octet-stream\r\nAccept-Ranges: bytes\r\n\r\nHTTP/1.1 206 Partial Content\r\nDate: Tue, 14 Nov 2023 22:13:20 GMT\r\nContent-Length: 1\r\nETag: \"900150983cd24fb0d6963f7d28e17f72\"\r\nLast-Modified: Tue, 14 Nov 2023 22:13:20 GMT\r\nContent-Type: application/octet-stream\r\nAccept-Ranges: bytes\r\nContent-Range: bytes 0-0/3\r\n\r\naHTTP/1.1 416 Range Not Satisfiable\r\nDate: Tue, 14 Nov 2023 22:13:20 GMT\r\nContent-Length: 142\r\nContent-Type: application/xml\r\n\r\n<?xml version=\"1.0\" encoding=\"UTF-8\"?>\n<Error><Code>InvalidRange</Code><Message>InvalidRange</Message><Resource>/pics/a.txt</Resource></Error>HTTP/1.1 204 No Content\r\nDate: Tue, 14 Nov 2023 22:13:20 GMT\r\n\r\nHTTP/1.1 404 Not Found\r\nDate: Tue, 14 Nov 2023 22:13:20 GMT\r\nContent-Length: 136\r\nContent-Type: application/xml\r\n\r\n<?xml version=\"1.0\" encoding=\"UTF-8\"?>\n<Error><Code>NoSuchKey</Code><Message>NoSuchKey</Message><Resource>/pics/a.txt</Resource></Error>";
 
 /// Four keys, and lists of them: cut at a slash, two entries a page, and from its token on; none, too many and no number of entries; with texts encoded.
@@ -58,12 +58,20 @@ struct Session {
     written: Vec<u8>,
 }
 
-/// A server of one connection that has these bytes, over three nodes.
-fn served(alloc: Global, bytes: &[u8]) -> Result<Session, Fail> {
+/// The words that ask for a server of one connection.
+pub fn words_of(alloc: Global, port: u16) -> Result<Vec<String>, Fail> {
+    let mut number = String::new(alloc);
+    write!(number, "{port}")?;
     let mut words = Vec::new(alloc);
-    for word in ["serve", "3900", "1"] {
+    for word in ["serve", number.as_str(), "1"] {
         words.push(String::from_str(alloc, word)?)?;
     }
+    Ok(words)
+}
+
+/// A server of one connection that has these bytes, over three nodes.
+fn served(alloc: Global, bytes: &[u8]) -> Result<Session, Fail> {
+    let words = words_of(alloc, 3900)?;
     let mut coming = Vec::new(alloc);
     coming.push(bytes.to_vec(alloc)?)?;
     let mut link = Recorder::new(alloc, SureLink::new(alloc, coming, 65_536)?);

@@ -59,9 +59,9 @@ module _ {K V : Type 0} {o : ord.Ghosts K} {p : partial_eq.Ghosts K} {q : partia
   joined_empty j a k v e = ap (λ m. map_join j m (map_single k v)) (same_map a (record { entries = []; ascending = refl }) e)
 
 -- what is stored of a block
-pub the_block_rows : (id block : ℕ) (body : List ℕ) (i offset : ℕ) (found bytes piece : List ℕ) (hash : Hash32) (size : ℕ) (version : AnyRow) (made : List (AnyRow × Option (List ℕ))) →
+pub the_block_rows : (id block : ℕ) (body : List ℕ) (i offset : ℕ) (piece : List ℕ) (hash : Hash32) (size : ℕ) (version : AnyRow) (made : List (AnyRow × Option (List ℕ))) →
     made ≡ (version, None) ∷ (rows.Ref (record { hash = hash; id = id; deleted = record { 0 = false } }), Some piece) ∷ [] →
     version ≡ rows.Version (record { id = id; blocks = Present (map_single (record { part = 1; offset = offset }) (record { 0 = record { hash = hash; size = size } })) }) →
-    piece ≡ bytes → bytes ≡ found → hash ≡ digest_of piece → size ≡ length bytes → found ≡ take block (drop offset body) → offset ≡ i * block → made ≡ block_rows id block body i
-the_block_rows id block body i offset found bytes piece hash size version made is_made is_version is_piece is_bytes is_hash is_size is_found at =
-    rw (is_made, is_version, is_hash, is_piece, is_size, is_bytes, is_found, at) refl
+    hash ≡ digest_of piece → size ≡ length piece → piece ≡ take block (drop offset body) → offset ≡ i * block → made ≡ block_rows id block body i
+the_block_rows id block body i offset piece hash size version made is_made is_version is_hash is_size is_piece at =
+    rw (is_made, is_version, is_hash, is_size, is_piece, at) refl

@@ -8,6 +8,7 @@ use crate::request::Request;
 use crdt_core::{Bytes, List, Memory};
 use crdt_rows::AnyRow;
 use flow_model::{Aim, Content, Flow, Name, Order, Stage, Wish};
+use object_bytes::ObjectBytes;
 use std::alloc::Global;
 use wire_messages::Phase;
 
@@ -59,6 +60,7 @@ pub fn start(
             body,
             headers,
         } => {
+            let body = ObjectBytes::new(body);
             let wish = Wish::Content(Content { body, headers });
             draws(alloc, request, Name { bucket, key }, wish)
         }

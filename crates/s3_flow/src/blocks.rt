@@ -1,5 +1,5 @@
 //! The blocks that bytes are cut into.
-ghost use Rattle.std.specs.Prelude.{◌≡◌, ◌*◌, ◌≤◌, true, false, MatchOption, length, take, drop};
+ghost use Rattle.std.specs.Prelude.{◌≡◌, ◌*◌, true, false, MatchOption, length};
 ghost use Rattle.blake2_hash.specs.Hash.{digest_of};
 ghost use Rattle.flow_model.specs.Blocks.{has_piece, is_long};
 
@@ -31,15 +31,4 @@ pub fn offset_of(block: u32, body: &[u8], i: u64) -> Option<u64>
         return Some(offset);
     }
     None
-}
-
-/// The block that begins there: as many bytes as a block has, the last one the rest.
-pub fn piece_at(block: u32, body: &[u8], offset: usize) -> &[u8]
-    requires { offset ≤ length body.now }
-    ensures piece { result.now ≡ take block (drop offset body.now) }
-    ensures size { length result.now ≤ block }
-{
-    let rest = &body[offset..];
-    let size = rest.len().min(block as usize);
-    &rest[..size]
 }

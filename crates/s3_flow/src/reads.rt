@@ -11,6 +11,7 @@ use crate::says::{Named, Said, named_by, said_of, take_shown};
 use crdt_core::{Bytes, List, Memory, Value};
 use crdt_rows::{AnyRow, BlockRef, Meta, ObjectRow, Version};
 use flow_model::{Aim, Content, FlowEnd, FlowStep, Stage, Wish};
+use object_bytes::ObjectBytes;
 use std::alloc::Global;
 use wire_messages::Phase;
 
@@ -39,6 +40,7 @@ fn found(
         })),
         Aim::Copy { name, headers } => {
             let headers = headers.unwrap_or(meta.headers);
+            let body = ObjectBytes::new(body);
             let wish = Wish::Content(Content { body, headers });
             let phase = asks_for(alloc, &name)?;
             Ok(request.more(Stage::Drawing { name, wish }, phase))

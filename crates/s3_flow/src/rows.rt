@@ -10,7 +10,7 @@ ghost use Rattle.flow_model.specs.declared.flow.Content.{Content as ContentOf};
 ghost use Rattle.flow_model.specs.Blocks.{piece_hash};
 ghost use Rattle.flow_model.specs.Rows as model;
 
-use crate::blocks::{hash_of, is_long, piece_at};
+use crate::blocks::{hash_of, is_long};
 use blake2_hash::Hash32;
 use block_bytes::Block;
 use crdt_core::{Bool, Bytes, Deletable, List, Map, Max, Memory, Value};
@@ -19,10 +19,11 @@ use crdt_rows::{
 };
 use flow_model::{Content, Name};
 use md5::{Digest, Md5};
+use object_bytes::ObjectBytes;
 use std::alloc::Global;
 
 // What is stored of bytes beside them.
-fn meta_of(body: &Bytes, headers: List<(Bytes, Bytes)>) -> Meta
+fn meta_of(body: &ObjectBytes, headers: List<(Bytes, Bytes)>) -> Meta
     ensures { result ≡ model.meta_of (record { body = body.now; headers = headers }) }
 {
     Meta {
@@ -108,11 +109,11 @@ pub fn complete(
     let meta = meta_of(&body, headers);
     let told = meta.copy()?;
     if is_long(body.as_slice()) {
-        let first = hash_of(piece_at(block, body.as_slice(), 0));
+        let first = body.first_hash(block);
         let row = in_blocks(alloc, name, version, meta, first)?;
         return Ok((row, told));
     }
-    let row = inline(alloc, name, version, meta, body)?;
+    let row = inline(alloc, name, version, meta, body.into_bytes())?;
     Ok((row, told))
 }
 
@@ -149,16 +150,16 @@ pub fn block_rows(
     alloc: Global,
     id: u64,
     block: u32,
-    body: &[u8],
+    body: &mut ObjectBytes,
     offset: u64,
 ) -> Result<List<(AnyRow, Option<Block>)>, Memory>
-    requires { offset < length body.now }
-    ensures are { IfOk result (λ rows. (i : ℕ) → offset ≡ i * block → rows ≡ model.block_rows id block body.now i) }
+    requires { offset < length body.old }
+    ensures are { IfOk result (λ rows. (i : ℕ) → offset ≡ i * block → rows ≡ model.block_rows id block body.old i) }
+    ensures same { body.new ≡ body.old }
     ensures want { OnlyWant result }
 {
-    let bytes = Bytes::from_slice(alloc, piece_at(block, body, offset as usize))?;
-    let size = bytes.len() as u32;
-    let piece = Block::new(alloc, bytes)?;
+    let piece = body.cut(alloc, block, offset as usize)?;
+    let size = piece.len() as u32;
     let hash = *piece.hash();
     let version = version_row(alloc, id, Part { part: 1, offset }, BlockRef { hash, size })?;
     let deleted = Bool(false);

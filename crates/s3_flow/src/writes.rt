@@ -125,18 +125,17 @@ pub fn uploads(
     request: Request,
     name: Name,
     version: Version,
-    content: Content,
+    mut content: Content,
     stored: u64,
 ) -> Result<FlowStep, Memory>
     requires { 0 < request.block }
     ensures is { IfOk result (λ step. step ≡ uploads request.id request.block name version content stored) }
     ensures want { OnlyWant result }
 {
-    let body = content.body.as_slice();
-    let Some(offset) = offset_of(request.block, body, stored) else {
+    let Some(offset) = offset_of(request.block, content.body.as_slice(), stored) else {
         return completes(alloc, request, name, version, content);
     };
-    let rows = block_rows(alloc, version.id, request.block, body, offset)?;
+    let rows = block_rows(alloc, version.id, request.block, &mut content.body, offset)?;
     let stage = Stage::Uploading {
         name,
         version,

@@ -34,7 +34,7 @@ module _ (g : Grammar) (count : ℕ) (input : Option (List ℕ)) (t : Told) wher
   unserved p read (Refused line) h told = absurd h
   unserved p read Link h told = link_failed p read h.0 h.1 refl refl
   unserved p read Kept h told = too_much p read h refl refl
-  unserved p read Number h told = no_room p read refl refl
+  unserved p read Number h told = no_room p read h refl refl
 
   -- the same stop is handed on
   pub ends_early : (r : Result (List ℕ) Stop) (stop : Stop) → IsErrAnd r (λ e. e ≡ stop) → (IsTold stop → IsEnd g count input t (status_of stop) (said_of stop)) → EndsSo g count input t r
@@ -153,7 +153,7 @@ module _ (g : Grammar) (words : List (List ℕ)) (input old new : Option (List �
   done_end is d port count asks (refused says e) = absurd (no_refusal is d e)
   done_end is d port count asks (link_failed p read number has e w) = absurd (no_link_fault is d e)
   done_end is d port count asks (too_much p read has e w) = absurd (no_limit is d e)
-  done_end is d port count asks (no_room p read e w) = absurd (no_limit is d e)
+  done_end is d port count asks (no_room p read lacks e w) = absurd (no_limit is d e)
   done_end is d port count asks (served p read h e) = done_served port count asks p read h
 
   pub done_whole : (is : Status) → is ≡ status.Done → IsAnswer g words input t is text → IsServedWhole g words input old new t

@@ -1,6 +1,9 @@
 -- From what serving says of the code's cluster to what is stated of a server.
-use Rattle.std.proofs.Common.{◌≡◌, ℕ, List, Option, Some, None, Result, Ok, Err, IfSome, refl, sym, ap, subst}
+use Rattle.std.proofs.Common.{◌≡◌, ◌⊎◌, inl, inr, IsTrue, ℕ, List, Option, Some, None, Result, Ok, Err, IfSome, refl, sym, ap, subst}
 use Rattle.std.specs.Result.{IsErrAnd}
+use Rattle.std.specs.List.{list_any}
+use Rattle.crdt_core.specs.declared.memory.Memory.{Memory as Why}
+use Rattle.crdt_core.specs.declared.memory.Memory.TheVariants.{Want, Full}
 use Rattle.lab_outside.specs.Connection.{Connection}
 use Rattle.layout_roles.specs.declared.layout.Layout.{Layout}
 use Rattle.store_model.specs.Run.{State, start}
@@ -21,9 +24,9 @@ use Rattle.serve_run.specs.declared.stop.Stop.{Stop}
 use Rattle.serve_cluster.specs.declared.cluster.Cluster.{Cluster as Code}
 use Rattle.serve_cluster.specs.Standing.{StandsFor}
 use Rattle.serve_run.specs.Start.{opening, opened, IsOf}
-use Rattle.serve_run.specs.Served.{nodes_of, begun, state_after, tail, tail_of, serving, told, AreInOrder, HasServed, HasBrokenOff}
-use Rattle.serve_run.specs.Stop.{stop_of_serving}
-use Rattle.serve_run.specs.Answer.{HasStopped, HowServed}
+use Rattle.serve_run.specs.Served.{nodes_of, begun, state_after, tail, tail_of, is_unshown, Told, serving, told, AreInOrder, HasServed, HasBrokenOff}
+use Rattle.serve_run.specs.Stop.{stop_of_memory, stop_of_serving}
+use Rattle.serve_run.specs.Answer.{IsUnshown, LacksRoom, for_order, HasStopped, HowServed}
 use Rattle.serve_run.proofs.Requests.{run_is, all_kept}
 
 -- connections were served, and the code's cluster stands for one with the state after the orders
@@ -51,6 +54,21 @@ module _ (P : List ℕ → List (List ℕ) → Type 0) where
 -- the code's cluster stands for the one with which a server begins
 pub stands_begun : (c : Code) (p : Plan) (first : Layout) (members : List ℕ) → members ≡ nodes_of p → StandsFor c (record { run = opened p first; ticked = 0; members = members }) → StandsFor c (begun p first)
 stands_begun c p first members e h = subst (λ ms. StandsFor c (record { run = opened p first; ticked = 0; members = ms })) e h
+
+-- a node of the plan can't be shown in the state that was left
+pub unshown_is : (p : Plan) (nodes : List ℕ) → nodes ≡ nodes_of p → (s t : State) → s ≡ t → IsTrue (list_any (is_unshown s.world) nodes) → IsUnshown p t
+unshown_is p nodes same s t e h = subst (IsUnshown p) e (subst (λ ns. IsTrue (list_any (is_unshown s.world) ns)) same h)
+
+-- why the text of the end couldn't be made
+module _ (g : Grammar) (p : Plan) (t : Told) where
+  stops_showing : (why : Why) → (why ≡ Want) ⊎ ((why ≡ Full) × LacksRoom g p t) → HasStopped g p t (stop_of_memory why)
+  stops_showing Want h = tt
+  stops_showing Full (inl e) = cc
+  stops_showing Full (inr h) = h.1
+
+  pub unshown_stops : (count : ℕ) (r : Result (List ℕ) Stop) (why : Why) → IsErrAnd r (λ e. e ≡ stop_of_memory why) → (why ≡ Want) ⊎ ((why ≡ Full) × LacksRoom g p t) → HowServed g p count t r
+  unshown_stops count (Ok text) why is h = absurd is
+  unshown_stops count (Err e) why is h = subst (HasStopped g p t) (sym is) (stops_showing why h)
 
 -- the text is that of the state that was left
 pub tail_is : (p : Plan) (number : ℕ) (nodes text : List ℕ) → nodes ≡ nodes_of p → (s t : State) → s ≡ t → text ≡ tail p.certified.sets.sets nodes number s → text ≡ tail_of p number t
@@ -137,9 +155,10 @@ module _ (keeps : EveryRunKeepsPromises) (g : Grammar) (p : Plan) (first : Layou
     has_stopped : (stop : ServeStop) → Leaves cluster fits lacks holds0 holds (Err stop) →
         ((ts : List ℕ) → times ≡ Some ts → IfSome coming (λ cs. Ends cluster buckets g (serving p first ts) (Reached cluster fits lacks holds (begun p first)) times' counts (Err stop) cs coming' past past')) →
         HasStopped g p (told times times' coming coming' past past') (stop_of_serving stop)
+    unfolding broken_off
     has_stopped ended.Link goes served = left_early times coming (goes (begun p first) stands) served
     has_stopped (ended.Fault fault.Kept) goes served = broken_off fault.Kept times coming served
-    has_stopped (ended.Fault fault.Number) goes served = tt
+    has_stopped (ended.Fault fault.Number) goes served = for_order (broken_off fault.Number times coming served) (goes (begun p first) stands)
     has_stopped (ended.Fault fault.Memory) goes served = tt
 
     pub how_stopped : (count : ℕ) (r : Result (List ℕ) Stop) (stop : ServeStop) → IsErrAnd r (λ e. e ≡ stop_of_serving stop) → Leaves cluster fits lacks holds0 holds (Err stop) →

@@ -1,9 +1,13 @@
 -- What the program answers: the status and the text that are stated for its words and for what the outside tells.
-use Rattle.std.specs.Prelude.{◌≡◌, ℕ, ◌<◌, ◌≤◌, ⊤, List, [], ◌∷◌, ◌++◌, length, codes, Option, Some, IfSome, Result, Ok, Err}
+use Rattle.std.specs.Prelude.{◌≡◌, ℕ, ◌<◌, ◌≤◌, ⊤, IsTrue, List, [], ◌∷◌, ◌++◌, length, codes, Option, Some, IfSome, Result, Ok, Err}
+use Rattle.std.specs.List.{list_any}
 use Rattle.lab_outside.specs.declared.exit.Status.{Status}
 use Rattle.lab_outside.specs.declared.exit.Status.TheVariants as status
 use Rattle.lab_outside.specs.Bytes.{Wrote, WrotePrefix}
 use Rattle.serve_model.specs.declared.served.ServeFault.TheVariants as fault
+use Rattle.store_model.specs.Run.{State}
+use Rattle.serve_model.specs.Stores.{Overflows}
+use Rattle.serve_model.specs.Clusters.{cluster, fits, lacks}
 use Rattle.serve_model.specs.Talk.{Grammar}
 use Rattle.lab_main.specs.Ends.{usage_line}
 use Rattle.serve_run.specs.declared.plan.Plan.{Plan}
@@ -11,8 +15,19 @@ use Rattle.serve_run.specs.declared.stop.Stop.{Stop}
 use Rattle.serve_run.specs.declared.stop.Stop.TheVariants.{Link, Memory, Kept, Number}
 use Rattle.serve_run.specs.Words.{AsksFor}
 use Rattle.serve_run.specs.Plan.{input_limit, IsRefused, OfInput, WasRead}
-use Rattle.serve_run.specs.Served.{Told, HasServed, HasBrokenOff, state_after, tail_of}
+use Rattle.serve_run.specs.Served.{Told, HasServed, HasBrokenOff, nodes_of, begun, is_unshown, state_after, tail_of}
 use Rattle.serve_run.specs.Stop.{input_line, kept_line, number_line, status_of, said_of, IsTold}
+
+-- ---- why a number has no room
+
+-- one of the nodes of the plan has a row without a spelling
+abbrev pub IsUnshown : Plan → State → Type 0
+IsUnshown p s = IsTrue (list_any (is_unshown s.world) (nodes_of p))
+
+-- serving ended with a connection, and orders lead to a state in which an order can be asked that has no room; or after so many connections a node can't be shown
+pub data LacksRoom (g : Grammar) (p : Plan) (t : Told) : Type 0 where
+  for_order : (has : HasBrokenOff g p fault.Number t) → Overflows cluster fits lacks (begun p has.first) → LacksRoom g p t
+  to_show : (number : ℕ) → (has : HasServed g p number t) → IsUnshown p (state_after p has.first has.orders) → LacksRoom g p t
 
 -- ---- why serving ends
 
@@ -24,11 +39,11 @@ pub record HasEnded (g : Grammar) (p : Plan) (count : ℕ) (t : Told) (text : Li
   pub has : HasServed g p number t
   pub text_is : text ≡ tail_of p number (state_after p has.first has.orders)
 
--- why serving stopped early: the link failed after so many connections, too many bytes were put or copied, a number had no room, or memory was wanting
+-- why serving stopped early: the link failed after so many connections, too many bytes were put or copied, there was no room, or memory was wanting
 abbrev pub HasStopped : Grammar → Plan → Told → Stop → Type 0
 HasStopped g p t Link = (number : ℕ) × HasServed g p number t
 HasStopped g p t Kept = HasBrokenOff g p fault.Kept t
-HasStopped g p t Number = ⊤
+HasStopped g p t Number = LacksRoom g p t
 HasStopped g p t Memory = ⊤
 HasStopped g p t stop = ⊥
 
@@ -46,7 +61,7 @@ pub data IsEnd (g : Grammar) (count : ℕ) (input : Option (List ℕ)) (t : Told
   served : (p : Plan) → WasRead input p → HasEnded g p count t text → is ≡ status.Done → IsEnd g count input t is text
   link_failed : (p : Plan) → WasRead input p → (number : ℕ) → HasServed g p number t → is ≡ status.LinkFault → text ≡ [] → IsEnd g count input t is text
   too_much : (p : Plan) → WasRead input p → HasBrokenOff g p fault.Kept t → is ≡ status.Limit → text ≡ kept_line → IsEnd g count input t is text
-  no_room : (p : Plan) → WasRead input p → is ≡ status.Limit → text ≡ number_line → IsEnd g count input t is text
+  no_room : (p : Plan) → WasRead input p → LacksRoom g p t → is ≡ status.Limit → text ≡ number_line → IsEnd g count input t is text
 
 -- the same of a call that gives the last text, or why there is none
 abbrev pub EndsSo : Grammar → ℕ → Option (List ℕ) → Told → Result (List ℕ) Stop → Type 0

@@ -47,6 +47,7 @@ fn add_bucket(world: &mut S3World, name: &Bytes) -> Result<(), Memory>
     requires stands { HasStore world.old }
     ensures stands { OnOk result (HasStore world.new) }
     ensures adds { OnOk result (Does world.old world.new (adds name.now ∷ [])) }
+    ensures want { OnlyWant result }
 {
     let _ = world.step(&Event::Bucket(name.copy()?))?;
     Ok(())
@@ -57,6 +58,7 @@ fn add_buckets(world: &mut S3World, names: &[Bytes]) -> Result<(), Memory>
     requires stands { HasStore world.old }
     ensures stands { OnOk result (HasStore world.new) }
     ensures adds { OnOk result (Does world.old world.new (map adds names.now)) }
+    ensures want { OnlyWant result }
 {
     for name in names {
         add_bucket(world, name)?;
@@ -70,6 +72,7 @@ fn cut(world: &mut S3World, size: u32) -> Result<(), Memory>
     requires sized { 1 ≤ size }
     ensures stands { OnOk result (HasStore world.new) }
     ensures cuts { OnOk result (Does world.old world.new (cuts size ∷ [])) }
+    ensures want { OnlyWant result }
 {
     let _ = world.step(&Event::Block(size))?;
     Ok(())
@@ -79,6 +82,7 @@ fn cut(world: &mut S3World, size: u32) -> Result<(), Memory>
 fn prepared(alloc: Global, buckets: &[Bytes], size: u32) -> Result<S3World, Memory>
     requires sized { 1 ≤ size }
     ensures stands { IfOk result (λ world. IsStore world (after_acts start (preparing buckets.now size))) }
+    ensures want { OnlyWant result }
 {
     let mut world = S3World::new(alloc)?;
     add_buckets(&mut world, buckets)?;
@@ -90,6 +94,7 @@ fn prepared(alloc: Global, buckets: &[Bytes], size: u32) -> Result<S3World, Memo
 pub fn installed(alloc: Global, plan: &Plan) -> Result<S3World, Memory>
     requires plan { IsPlan plan.now }
     ensures opened { IfOk result (λ world. IsOpened world plan.now) }
+    ensures want { OnlyWant result }
 {
     let mut world = prepared(
         alloc,

@@ -3,7 +3,8 @@ ghost use Rattle.std.specs.Prelude.{◌≡◌, flat_map, IfOk};
 ghost use Rattle.store_model.specs.Run.{State};
 ghost use Rattle.text_model.specs.Transcript.{line_at};
 ghost use Rattle.s3_world.specs.Stands.{IsStore};
-ghost use Rattle.serve_run.specs.Served.{tail};
+ghost use Rattle.crdt_core.specs.Outcomes.{WantOr};
+ghost use Rattle.serve_run.specs.Served.{tail, CannotShow, CannotShowSome};
 
 use crdt_core::{Bytes, Memory};
 use event_text::{end_text, node_text};
@@ -15,6 +16,7 @@ use std::alloc::Global;
 /// The line of a node, nothing where its view is empty.
 fn line_text(alloc: Global, world: &S3World, node: u8) -> Result<Bytes, Memory>
     ensures text { IfOk result (λ text. (s : State) → IsStore world.now s → text ≡ line_at s.world node) }
+    ensures causes { WantOr result (CannotShow world.now node) }
 {
     match world.node_line(node)? {
         Some(
@@ -32,6 +34,7 @@ fn line_text(alloc: Global, world: &S3World, node: u8) -> Result<Bytes, Memory>
 /// The lines of these nodes, in order.
 fn nodes_text(alloc: Global, world: &S3World, nodes: &[u8]) -> Result<Bytes, Memory>
     ensures text { IfOk result (λ text. (s : State) → IsStore world.now s → text ≡ flat_map (line_at s.world) nodes.now) }
+    ensures causes { WantOr result (CannotShowSome world.now nodes.now) }
 {
     let mut text = Bytes::new(alloc);
     for node in nodes {
@@ -50,6 +53,7 @@ pub fn tail_text(
     connections: u32,
 ) -> Result<Bytes, Memory>
     ensures text { IfOk result (λ text. (s : State) → IsStore world.now s → text ≡ tail sets.now.sets nodes.now connections s) }
+    ensures causes { WantOr result (CannotShowSome world.now nodes.now) }
 {
     let mut text = set_lines(alloc, sets)?;
     let lines = nodes_text(alloc, world, nodes)?;

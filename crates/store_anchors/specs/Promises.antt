@@ -1,5 +1,8 @@
 -- What is promised of a run of the store.
 use Rattle.std.specs.Prelude.{List}
+use Rattle.crdt_rows.specs.AnyRow.{any_join}
+use Rattle.object_schema.specs.Schema.{words}
+use Rattle.cluster_machine.specs.Kept.{KeptReads}
 use Rattle.history_model.specs.Fresh.{Fresh}
 use Rattle.store_model.specs.Run.{start}
 use Rattle.store_model.specs.Acts.{Act, after_acts, AreLawfulActs, ActsFit}
@@ -7,12 +10,14 @@ use Rattle.store_model.specs.Moments.{AtEachMoment}
 use Rattle.store_model.specs.Fresh.{NoClash, IsFresh}
 use Rattle.store_model.specs.Equal.{AreEqual}
 use Rattle.store_model.specs.Written.{GivesWhatWasWritten}
-use Rattle.store_laws.specs.Promised.{GoesOn, IsRightlySuperseded, IsAnchored}
+use Rattle.store_laws.specs.Promised.{UsesGreatest, GoesOn, IsRightlySuperseded, IsAnchored}
 use Rattle.store_anchors.specs.Stored.{BlocksDiffer}
 use Rattle.store_anchors.specs.Whole.{GivesAllBytes}
 
--- what is promised of acts: answered reads are fresh, also by the records alone where the buckets' names have different digests; what they tell of a version's bytes is as was written, also of bytes in blocks where no two blocks have one digest; a get or copy ends superseded only where what it read was overwritten, and no request waits for what never comes; replicas are equal; and acknowledged blocks that are not deleted lie at a node with a live reference
+-- what is promised of acts: each phase of a read gave at least all rows that were kept before it began, and each layout in use has the greatest partition size; answered reads are fresh, also by the records alone where the buckets' names have different digests; what they tell of a version's bytes is as was written, also of bytes in blocks where no two blocks have one digest; a get or copy ends superseded only where what it read was overwritten, and no request waits for what never comes; replicas are equal; and acknowledged blocks that are not deleted lie at a node with a live reference
 pub record KeepsPromises (acts : List Act) : Type 0 where
+  pub kept : KeptReads any_join words (after_acts start acts).world
+  pub greatest : UsesGreatest (after_acts start acts).world
   pub fresh : IsFresh (after_acts start acts)
   pub recorded : NoClash (after_acts start acts).buckets → Fresh (after_acts start acts).history
   pub written : GivesWhatWasWritten acts

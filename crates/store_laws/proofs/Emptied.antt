@@ -310,6 +310,10 @@ all_of_them = refl
 enough : 2 ^ 64 - 1 ≤ all_messages
 enough = let is = all_of_them in omega (arith, is)
 
--- where all messages are delivered, none waits
+-- where each message has its mark and all are delivered, none waits
+pub emptied_from : (s : State) → length s.world.messages ≡ length s.world.marks → FitAll any_join words s.world (drains all_messages s).moves → undelivered (drains all_messages s).state.world ≡ None
+emptied_from s matched fits = emptied_by all_messages enough s matched fits
+
+-- so it is in each world of a run
 pub emptied : (draws : List Draw) (s : State) → IsReached draws s.world → FitAll any_join words s.world (drains all_messages s).moves → undelivered (drains all_messages s).state.world ≡ None
-emptied draws s r fits = emptied_by all_messages enough s (reached_matched draws s.world r) fits
+emptied draws s r fits = emptied_from s (reached_matched draws s.world r) fits

@@ -3,6 +3,7 @@ use Rattle.std.specs.Prelude.{◌≡◌, ◌≤◌, ◌+◌, ℕ, List, [], ◌�
 use Rattle.std.proofs.Common.{inl, inr, ap, sym, subst, ◌∙◌, arith}
 use Rattle.std.specs.List.{All, Contains}
 use Rattle.std.proofs.lemmas.List.Elements.{All-nil, All-push, All-append, All-weaker}
+use Rattle.crdt_core.proofs.Each.{all_weaker}
 use Rattle.layout_roles.specs.declared.layout.Layout.{Layout}
 use Rattle.crdt_rows.specs.declared.any_row.AnyRow.{AnyRow}
 use Rattle.crdt_rows.specs.AnyRow.{any_join}
@@ -10,16 +11,17 @@ use Rattle.object_schema.specs.Schema.{words}
 use Rattle.cluster_machine.specs.declared.step.Step.{Step}
 use Rattle.cluster_machine.specs.declared.step.Step.TheVariants.{Deliver}
 use Rattle.cluster_machine.specs.Node.{Reading}
-use Rattle.cluster_machine.specs.World.{empty, forgot, forget_delivered}
+use Rattle.cluster_machine.specs.World.{Sent, empty, forgot, forget_delivered}
 use Rattle.cluster_machine.specs.Choices.{IsFirst}
 use Rattle.cluster_machine.specs.Kept.{KeptReads}
 use Rattle.cluster_machine.specs.Keeping.{AreDifferent}
 use Rattle.machine_origins.specs.Origins.{ComesFrom, Gave, stored_by, stored_in}
 use Rattle.machine_origins.proofs.ByOrigin.{stored_have, gave_by_origin}
 use Rattle.table_model.specs.Rows.{AllProper}
-use Rattle.cluster_machine.specs.Worlds.{IsLawfulRun, IsLawfulStart, next, run, start, installs, installed}
+use Rattle.cluster_machine.specs.Worlds.{IsLawfulRun, IsLawfulStart, next, run, start, installs, installed, IsUsual, ShowsGreatest}
 use Rattle.world_reads.proofs.Installed.{applied_more}
 use Rattle.store_model.specs.Run.{World, Moving, Draw}
+use Rattle.store_laws.specs.Promised.{UsesGreatest}
 use Rattle.store_laws.proofs.Every.{FromWorld, EveryWorld, run_more, lawful_more}
 use Rattle.store_laws.proofs.Alike.{IsAlike, StepsAlike, keep_forgot, effects_alike, step_alike}
 use Rattle.store_laws.proofs.Good.{IsGood, more_good, good_inherited}
@@ -127,6 +129,12 @@ module _ (every : EveryWorld) {IsSo : Step AnyRow → Type 0} (w : World) (r : I
   -- what a read gave comes from what they stored
   pub reached_stored : (reading : Reading AnyRow) → Contains w.reads reading → Gave words (ComesFrom any_join words (stored_in (r.before ++ r.moves))) reading
   reached_stored reading c = from.stored_rows r.moves r.lawful reading (there reading c)
+
+  -- so each layout in use has the greatest partition size
+  pub reached_greatest : UsesGreatest w
+  reached_greatest =
+      let sound = from.is_sound r.moves r.lawful in
+      subst UsesGreatest (sym r.alike.is) (record { known = sound.greatest; shown = all_weaker (λ (m : Sent AnyRow Layout). IsUsual v.applied m.packet) (λ (m : Sent AnyRow Layout). ShowsGreatest m.packet) (λ m usual. usual.1) v.messages sound.messages })
 
   pub reached_different : (n : ℕ) → AreDifferent (w.nodes n).calls
   reached_different n = subst (λ (u : World). AreDifferent (u.nodes n).calls) (sym r.alike.is) ((from.is_sound r.moves r.lawful).different n)

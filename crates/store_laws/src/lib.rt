@@ -5,6 +5,7 @@ ghost use Rattle.std.specs.Prelude.{◌≡◌, None, List};
 ghost use Rattle.crdt_rows.specs.AnyRow.{any_join};
 ghost use Rattle.object_schema.specs.Schema.{words};
 ghost use Rattle.cluster_machine.specs.World.{undelivered};
+ghost use Rattle.cluster_machine.specs.Kept.{KeptReads};
 ghost use Rattle.cluster_machine.specs.Worlds.{FitAll};
 ghost use Rattle.store_model.specs.Run.{start};
 ghost use Rattle.store_model.specs.Acts.{Act, drain, all_messages, AreLawfulActs, ActsFit, acted, after_acts};
@@ -13,6 +14,7 @@ ghost use Rattle.store_model.specs.Fresh.{NoClash, IsFresh};
 ghost use Rattle.store_model.specs.Moments.{IsMoment};
 ghost use Rattle.store_model.specs.Equal.{AreEqual};
 ghost use Rattle.store_model.specs.Written.{GivesWhatWasWritten};
+ghost use Rattle.store_laws.specs.Promised.{UsesGreatest};
 
 use object_schema::S3Schema;
 use table_model::same_members_give_same_rows;
@@ -76,7 +78,7 @@ pub fn draining_leaves_nothing()
 
 /// The acts that lead to a moment of a run are lawful, and fit; so each law over lists of acts holds at each moment.
 pub fn moments_are_runs()
-    ensures runs { (acts moment : List Act) → AreLawfulActs start acts → ActsFit start acts → IsMoment acts moment → AreLawfulActs start moment × ActsFit start moment }
+    ensures { (acts moment : List Act) → AreLawfulActs start acts → ActsFit start acts → IsMoment acts moment → AreLawfulActs start moment × ActsFit start moment }
 {}
 
 /// Whatever comes, two nodes that accepted rows of a partition with the same members, in whatever order and however often,
@@ -91,4 +93,18 @@ pub fn replicas_are_equal()
     every_installed_world_reads_what_was_kept::<S3Schema>();
     every_world_has_proper_rows::<S3Schema>();
     same_members_give_same_rows::<S3Schema>();
+}
+
+/// Whatever comes, each read and range phase that ended gave at least the join of all rows that were kept before it began;
+/// and each layout that a node knows, or that a view on its way shows, has the greatest partition size for its roles: those of
+/// applies, the one of `trio`, and an installed one.
+pub fn phases_read_what_was_kept()
+    ensures kept { (acts : List Act) → AreLawfulActs start acts → ActsFit start acts → KeptReads any_join words (after_acts start acts).world }
+    ensures greatest { (acts : List Act) → AreLawfulActs start acts → ActsFit start acts → UsesGreatest (after_acts start acts).world }
+{
+    every_world_is_sound::<S3Schema>();
+    every_world_has_kept_reads::<S3Schema>();
+    every_world_reads_stored_rows::<S3Schema>();
+    every_world_gives_windows::<S3Schema>();
+    every_installed_world_reads_what_was_kept::<S3Schema>();
 }

@@ -1,3 +1,5 @@
+pub mod Partitions
+pub mod Keys
 pub mod Shelves
 pub mod Tables
 pub mod Windows

@@ -113,33 +113,33 @@ module _ {R Z : Type 0} (s : Words R) where
       λ p. picks tagged p hs ∙ (ap (λ l. map (λ q. q.1) (filter (λ q. q.0 == p) l)) h ∙ sym (picks (λ e. (e.1.partition, entry_pair s e)) p es)) in
       λ i. flat_map (λ p. root (blake2b 32) (one p i)) every_byte
 
-  module _ (n : ℕ) (occupied : List Bool) where
-    table_here : (es : List (Vec ℕ Z × Placed R)) → AllPlaced s n occupied es → filter (λ r. s.table r == n) (shelf_rows es) ≡ shelf_rows es
+  module _ (n : ℕ) where
+    table_here : (es : List (Vec ℕ Z × Placed R)) → AllPlaced s n es → filter (λ r. s.table r == n) (shelf_rows es) ≡ shelf_rows es
     table_here [] all = refl
     table_here (e ∷ es) all =
-        let placed = All-head (IsPlaced s n occupied) e es all in
-        rw (placed.table_is, eq-eqb n n refl) (ap (λ l. e.1.row ∷ l) (table_here es (All-tail (IsPlaced s n occupied) e es all)))
+        let placed = All-head (IsPlaced s n) e es all in
+        rw (placed.table_is, eq-eqb n n refl) (ap (λ l. e.1.row ∷ l) (table_here es (All-tail (IsPlaced s n) e es all)))
 
-    table_elsewhere : (m : ℕ) (es : List (Vec ℕ Z × Placed R)) → (n == m) ≡ false → AllPlaced s n occupied es → filter (λ r. s.table r == m) (shelf_rows es) ≡ []
+    table_elsewhere : (m : ℕ) (es : List (Vec ℕ Z × Placed R)) → (n == m) ≡ false → AllPlaced s n es → filter (λ r. s.table r == m) (shelf_rows es) ≡ []
     table_elsewhere m [] h all = refl
     table_elsewhere m (e ∷ es) h all =
-        let placed = All-head (IsPlaced s n occupied) e es all in
-        rw (placed.table_is, h) (table_elsewhere m es h (All-tail (IsPlaced s n occupied) e es all))
+        let placed = All-head (IsPlaced s n) e es all in
+        rw (placed.table_is, h) (table_elsewhere m es h (All-tail (IsPlaced s n) e es all))
 
-    pairs_here : (es : List (Vec ℕ Z × Placed R)) → AllPlaced s n occupied es → map (pair_of s) (shelf_rows es) ≡ map (entry_pair s) es
+    pairs_here : (es : List (Vec ℕ Z × Placed R)) → AllPlaced s n es → map (pair_of s) (shelf_rows es) ≡ map (entry_pair s) es
     pairs_here [] all = refl
     pairs_here (e ∷ es) all =
-        let placed = All-head (IsPlaced s n occupied) e es all in
-        λ i. (blake2b 32 (sym placed.key_is i), blake2b 32 (unwrap_or (s.spelling e.1.row) [])) ∷ pairs_here es (All-tail (IsPlaced s n occupied) e es all) i
+        let placed = All-head (IsPlaced s n) e es all in
+        λ i. (blake2b 32 (sym placed.key_is i), blake2b 32 (unwrap_or (s.spelling e.1.row) [])) ∷ pairs_here es (All-tail (IsPlaced s n) e es all) i
 
-  module _ (occupied : List Bool) (first second third : List (Vec ℕ Z × Placed R)) (sound : IsSound s occupied first second third) where
-    of_partition : (n p : ℕ) (es : List (Vec ℕ Z × Placed R)) → AllPlaced s n occupied es → AllPlaced s n occupied (filter (in_partition p) es)
-    of_partition n p es all = All-filter (in_partition p) (IsPlaced s n occupied) es all
+  module _ (first second third : List (Vec ℕ Z × Placed R)) (sound : IsSound s first second third) where
+    of_partition : (n p : ℕ) (es : List (Vec ℕ Z × Placed R)) → AllPlaced s n es → AllPlaced s n (filter (in_partition p) es)
+    of_partition n p es all = All-filter (in_partition p) (IsPlaced s n) es all
 
     table_three : (m p : ℕ) → filter (λ r. s.table r == m) (rows_in s p (shelf_rows first ++ (shelf_rows second ++ shelf_rows third))) ≡
         filter (λ r. s.table r == m) (shelf_rows (filter (in_partition p) first)) ++ (filter (λ r. s.table r == m) (shelf_rows (filter (in_partition p) second)) ++ filter (λ r. s.table r == m) (shelf_rows (filter (in_partition p) third)))
     table_three m p =
-        ap (filter (λ r. s.table r == m)) (rows_three s occupied first second third sound.in_first sound.in_second sound.in_third p)
+        ap (filter (λ r. s.table r == m)) (rows_three s first second third sound.in_first sound.in_second sound.in_third p)
         ∙ (filter-append (λ r. s.table r == m) (shelf_rows (filter (in_partition p) first)) (shelf_rows (filter (in_partition p) second) ++ shelf_rows (filter (in_partition p) third))
         ∙ ap (λ l. filter (λ r. s.table r == m) (shelf_rows (filter (in_partition p) first)) ++ l) (filter-append (λ r. s.table r == m) (shelf_rows (filter (in_partition p) second)) (shelf_rows (filter (in_partition p) third))))
 
@@ -148,24 +148,24 @@ module _ {R Z : Type 0} (s : Words R) where
         let a = of_partition 1 p first sound.in_first in
         let b = of_partition 2 p second sound.in_second in
         let c = of_partition 3 p third sound.in_third in
-        ap (map (pair_of s)) (table_three 1 p ∙ ((λ i. table_here 1 occupied (filter (in_partition p) first) a i ++ (table_elsewhere 2 occupied 1 (filter (in_partition p) second) refl b i ++ table_elsewhere 3 occupied 1 (filter (in_partition p) third) refl c i)) ∙ append-nil (shelf_rows (filter (in_partition p) first))))
-        ∙ pairs_here 1 occupied (filter (in_partition p) first) a
+        ap (map (pair_of s)) (table_three 1 p ∙ ((λ i. table_here 1 (filter (in_partition p) first) a i ++ (table_elsewhere 2 1 (filter (in_partition p) second) refl b i ++ table_elsewhere 3 1 (filter (in_partition p) third) refl c i)) ∙ append-nil (shelf_rows (filter (in_partition p) first))))
+        ∙ pairs_here 1 (filter (in_partition p) first) a
 
     pairs_second : (p : ℕ) → pairs_of s 2 p (shelf_rows first ++ (shelf_rows second ++ shelf_rows third)) ≡ map (entry_pair s) (filter (in_partition p) second)
     pairs_second p =
         let a = of_partition 1 p first sound.in_first in
         let b = of_partition 2 p second sound.in_second in
         let c = of_partition 3 p third sound.in_third in
-        ap (map (pair_of s)) (table_three 2 p ∙ ((λ i. table_elsewhere 1 occupied 2 (filter (in_partition p) first) refl a i ++ (table_here 2 occupied (filter (in_partition p) second) b i ++ table_elsewhere 3 occupied 2 (filter (in_partition p) third) refl c i)) ∙ append-nil (shelf_rows (filter (in_partition p) second))))
-        ∙ pairs_here 2 occupied (filter (in_partition p) second) b
+        ap (map (pair_of s)) (table_three 2 p ∙ ((λ i. table_elsewhere 1 2 (filter (in_partition p) first) refl a i ++ (table_here 2 (filter (in_partition p) second) b i ++ table_elsewhere 3 2 (filter (in_partition p) third) refl c i)) ∙ append-nil (shelf_rows (filter (in_partition p) second))))
+        ∙ pairs_here 2 (filter (in_partition p) second) b
 
     pairs_third : (p : ℕ) → pairs_of s 3 p (shelf_rows first ++ (shelf_rows second ++ shelf_rows third)) ≡ map (entry_pair s) (filter (in_partition p) third)
     pairs_third p =
         let a = of_partition 1 p first sound.in_first in
         let b = of_partition 2 p second sound.in_second in
         let c = of_partition 3 p third sound.in_third in
-        ap (map (pair_of s)) (table_three 3 p ∙ (λ i. table_elsewhere 1 occupied 3 (filter (in_partition p) first) refl a i ++ (table_elsewhere 2 occupied 3 (filter (in_partition p) second) refl b i ++ table_here 3 occupied (filter (in_partition p) third) c i)))
-        ∙ pairs_here 3 occupied (filter (in_partition p) third) c
+        ap (map (pair_of s)) (table_three 3 p ∙ (λ i. table_elsewhere 1 3 (filter (in_partition p) first) refl a i ++ (table_elsewhere 2 3 (filter (in_partition p) second) refl b i ++ table_here 3 (filter (in_partition p) third) c i)))
+        ∙ pairs_here 3 (filter (in_partition p) third) c
 
     table_parts : (table : ℕ) (es : List (Vec ℕ Z × Placed R)) → ((p : ℕ) → pairs_of s table p (shelf_rows first ++ (shelf_rows second ++ shelf_rows third)) ≡ map (entry_pair s) (filter (in_partition p) es)) → concat (table_roots s table (shelf_rows first ++ (shelf_rows second ++ shelf_rows third))) ≡ shelf_roots s es
     table_parts table es same =

@@ -5,8 +5,8 @@ use Rattle.std.proofs.lemmas.List.Elements.{All-cons, All-head, All-tail, All-we
 use Rattle.std.specs.List.{AllByRecursion}
 use Rattle.std.specs.List.Sorted.{IsStrictlySortedBy}
 use Rattle.std.proofs.lemmas.Map.Keys.{sorted_head, sorted_tail}
-use Rattle.std.specs.Map.{keys_of, lookup}
-use Rattle.std.specs.BTreeMap.{insert_entry, is_at as is_query}
+use Rattle.std.specs.Map.{keys_of}
+use Rattle.std.specs.BTreeMap.{insert_entry}
 use Rattle.std.specs.declared.cmp.Ordering.{Ordering}
 use Rattle.std.specs.declared.cmp.Ordering.TheVariants.{Less, Equal, Greater}
 use Rattle.std.specs.Ordering.{nat_cmp, is_eq, ordering_then}
@@ -20,7 +20,7 @@ use Rattle.table_schema.specs.Words.{Words, partition_at, partition_of}
 use Rattle.table_schema.specs.Laws.{Same, Laws}
 use Rattle.table_model.specs.Rows.{row_cmp, is_at, merged_in, find_row, is_past, rows_in, without}
 use Rattle.table_store.specs.declared.shelf.Placed.{Placed}
-use Rattle.table_store.specs.Shelf.{is_marked, shelf_rows, shelf_find, in_partition, is_after, IsPlaced, AllPlaced, merged_with, vec_cmp}
+use Rattle.table_store.specs.Shelf.{shelf_rows, shelf_find, in_partition, is_after, IsPlaced, AllPlaced, placed_at, merged_with, merged_at, vec_cmp}
 
 then_not : (o p : Ordering) → is_eq o ≡ false → is_eq (ordering_then o p) ≡ false
 then_not Less p h = refl
@@ -38,17 +38,18 @@ test_agrees f g h (x ∷ xs) all =
     ]
 
 module _ {R : Type 0} (s : Words R) (n : ℕ) where
-  -- what is found at a key is of this table, and has the key
-  pub record IsFound (key : List ℕ) (row : R) : Type 0 where
-    pub proper : IsTrue (s.is_proper row)
-    pub table_is : s.table row ≡ n
-    pub key_is : s.key row ≡ key
+  -- what is found at a key is of this table, has the key, and is in its partition
+  pub record IsFound (key : List ℕ) (found : Placed R) : Type 0 where
+    pub proper : IsTrue (s.is_proper found.row)
+    pub table_is : s.table found.row ≡ n
+    pub key_is : s.key found.row ≡ key
+    pub partition_is : found.partition ≡ partition_of s found.row
 
 module _ {R Z : Type 0} where
-  pub find_is_lookup : (key : List ℕ) (es : List (Vec ℕ Z × Placed R)) → option_map (λ p. p.row) (lookup (is_query (λ (k : Vec ℕ Z). slice_cmp nat_cmp key k.items)) es) ≡ shelf_find key es
+  pub find_is_lookup : (key : List ℕ) (es : List (Vec ℕ Z × Placed R)) → option_map (λ p. p.row) (placed_at key es) ≡ shelf_find key es
   find_is_lookup key [] = refl
   find_is_lookup key (e ∷ es) =
-      elim (is_eq (slice_cmp nat_cmp key e.0.items)) as (λ b. option_map (λ p. p.row) (cond b (Some e.1) (lookup (is_query (λ (k : Vec ℕ Z). slice_cmp nat_cmp key k.items)) es)) ≡ cond b (Some e.1.row) (shelf_find key es)) [
+      elim (is_eq (slice_cmp nat_cmp key e.0.items)) as (λ b. option_map (λ p. p.row) (cond b (Some e.1) (placed_at key es)) ≡ cond b (Some e.1.row) (shelf_find key es)) [
         | true ↦ refl
         | false ↦ find_is_lookup key es
       ]
@@ -58,28 +59,28 @@ module _ {R Z : Type 0} where
   none_under key k [] h all = refl
   none_under key k (e ∷ es) h all = rw (nat_list_cmp_total.trans key k.items e.0.items h all.0) (none_under key k es h all.1)
 
-  module _ (s : Words R) (n : ℕ) (occupied : List Bool) where
-    at_key : (key : List ℕ) (e : Vec ℕ Z × Placed R) → IsPlaced s n occupied e → is_at s n key e.1.row ≡ is_eq (slice_cmp nat_cmp key e.0.items)
+  module _ (s : Words R) (n : ℕ) where
+    at_key : (key : List ℕ) (e : Vec ℕ Z × Placed R) → IsPlaced s n e → is_at s n key e.1.row ≡ is_eq (slice_cmp nat_cmp key e.0.items)
     at_key key e p = rw (p.table_is, tied_itself nat_cmp_total n, p.key_is) refl
 
     -- the row of a table and key is the one at the key in the table's shelf
-    pub found_here : (key : List ℕ) (es : List (Vec ℕ Z × Placed R)) → AllPlaced s n occupied es → find_row s n key (shelf_rows es) ≡ shelf_find key es
+    pub found_here : (key : List ℕ) (es : List (Vec ℕ Z × Placed R)) → AllPlaced s n es → find_row s n key (shelf_rows es) ≡ shelf_find key es
     found_here key [] all = refl
     found_here key (e ∷ es) all =
-        ap (λ b. cond b (Some e.1.row) (find_row s n key (shelf_rows es))) (at_key key e (All-head (IsPlaced s n occupied) e es all))
-        ∙ ap (cond (is_eq (slice_cmp nat_cmp key e.0.items)) (Some e.1.row)) (found_here key es (All-tail (IsPlaced s n occupied) e es all))
+        ap (λ b. cond b (Some e.1.row) (find_row s n key (shelf_rows es))) (at_key key e (All-head (IsPlaced s n) e es all))
+        ∙ ap (cond (is_eq (slice_cmp nat_cmp key e.0.items)) (Some e.1.row)) (found_here key es (All-tail (IsPlaced s n) e es all))
 
     -- and no row of another table is there
-    pub found_elsewhere : (m : ℕ) (key : List ℕ) (es : List (Vec ℕ Z × Placed R)) → is_eq (nat_cmp m n) ≡ false → AllPlaced s n occupied es → find_row s m key (shelf_rows es) ≡ None
+    pub found_elsewhere : (m : ℕ) (key : List ℕ) (es : List (Vec ℕ Z × Placed R)) → is_eq (nat_cmp m n) ≡ false → AllPlaced s n es → find_row s m key (shelf_rows es) ≡ None
     found_elsewhere m key [] h all = refl
     found_elsewhere m key (e ∷ es) h all =
-        let p = All-head (IsPlaced s n occupied) e es all in
+        let p = All-head (IsPlaced s n) e es all in
         let apart : is_at s m key e.1.row ≡ false = then_not (nat_cmp m (s.table e.1.row)) (slice_cmp nat_cmp key (s.key e.1.row)) (ap (λ t. is_eq (nat_cmp m t)) p.table_is ∙ h) in
-        ap (λ b. cond b (Some e.1.row) (find_row s m key (shelf_rows es))) apart ∙ found_elsewhere m key es h (All-tail (IsPlaced s n occupied) e es all)
+        ap (λ b. cond b (Some e.1.row) (find_row s m key (shelf_rows es))) apart ∙ found_elsewhere m key es h (All-tail (IsPlaced s n) e es all)
 
     -- ---- a merge
 
-    same_cmp : (r : R) (k : Vec ℕ Z) (e : Vec ℕ Z × Placed R) → s.table r ≡ n → k.items ≡ s.key r → IsPlaced s n occupied e → row_cmp s r e.1.row ≡ vec_cmp k e.0
+    same_cmp : (r : R) (k : Vec ℕ Z) (e : Vec ℕ Z × Placed R) → s.table r ≡ n → k.items ≡ s.key r → IsPlaced s n e → row_cmp s r e.1.row ≡ vec_cmp k e.0
     same_cmp r k e t h p = rw (t, p.table_is, tied_itself nat_cmp_total n, sym h, sym p.key_is) refl
 
     merge_by : (join : R → R → R) (r : R) (k : Vec ℕ Z) (v : Placed R) (e : Vec ℕ Z × Placed R) (es : List (Vec ℕ Z × Placed R)) →
@@ -103,96 +104,94 @@ module _ {R Z : Type 0} where
 
     -- an entry that is put at a row's key, with the row merged in, merges the row into the rows
     pub merged_here : (join : R → R → R) (r : R) (k : Vec ℕ Z) (v : Placed R) (es : List (Vec ℕ Z × Placed R)) →
-        s.table r ≡ n → k.items ≡ s.key r → v.row ≡ merged_with join (shelf_find (s.key r) es) r → IsStrictlySortedBy vec_cmp (keys_of es) → AllPlaced s n occupied es →
+        s.table r ≡ n → k.items ≡ s.key r → v.row ≡ merged_with join (shelf_find (s.key r) es) r → IsStrictlySortedBy vec_cmp (keys_of es) → AllPlaced s n es →
         shelf_rows (insert_entry vec_cmp es k v) ≡ merged_in join s r (shelf_rows es)
     merged_here join r k v [] t h is sorted all = ap (λ x. x ∷ []) is
     merged_here join r k v (e ∷ es) t h is sorted all =
-        merge_by join r k v e es h is (sorted_head vec_cmp e.0 (keys_of es) sorted) (same_cmp r k e t h (All-head (IsPlaced s n occupied) e es all))
-        (λ is-rest. merged_here join r k v es t h is-rest (sorted_tail vec_cmp e.0 (keys_of es) sorted) (All-tail (IsPlaced s n occupied) e es all))
+        merge_by join r k v e es h is (sorted_head vec_cmp e.0 (keys_of es) sorted) (same_cmp r k e t h (All-head (IsPlaced s n) e es all))
+        (λ is-rest. merged_here join r k v es t h is-rest (sorted_tail vec_cmp e.0 (keys_of es) sorted) (All-tail (IsPlaced s n) e es all))
         (vec_cmp k e.0) refl
 
-    put_by : (k : Vec ℕ Z) (v : Placed R) (e : Vec ℕ Z × Placed R) (es : List (Vec ℕ Z × Placed R)) → IsPlaced s n occupied (k, v) → AllPlaced s n occupied (e ∷ es) → AllPlaced s n occupied (insert_entry vec_cmp es k v) → (o : Ordering) → vec_cmp k e.0 ≡ o → AllPlaced s n occupied (insert_entry vec_cmp (e ∷ es) k v)
-    put_by k v e es p all rest Less o = rw o (All-cons (IsPlaced s n occupied) (k, v) (e ∷ es) p all)
+    put_by : (k : Vec ℕ Z) (v : Placed R) (e : Vec ℕ Z × Placed R) (es : List (Vec ℕ Z × Placed R)) → IsPlaced s n (k, v) → AllPlaced s n (e ∷ es) → AllPlaced s n (insert_entry vec_cmp es k v) → (o : Ordering) → vec_cmp k e.0 ≡ o → AllPlaced s n (insert_entry vec_cmp (e ∷ es) k v)
+    put_by k v e es p all rest Less o = rw o (All-cons (IsPlaced s n) (k, v) (e ∷ es) p all)
     put_by k v e es p all rest Equal o =
         let one : k.items ≡ e.0.items = slice_identical nat_identical k.items e.0.items o in
-        rw o (All-cons (IsPlaced s n occupied) (e.0, v) es
-        (record { proper = p.proper; table_is = p.table_is; key_is = sym one ∙ p.key_is; partition_is = p.partition_is; is_occupied = p.is_occupied })
-        (All-tail (IsPlaced s n occupied) e es all))
-    put_by k v e es p all rest Greater o = rw o (All-cons (IsPlaced s n occupied) e (insert_entry vec_cmp es k v) (All-head (IsPlaced s n occupied) e es all) rest)
+        rw o (All-cons (IsPlaced s n) (e.0, v) es
+        (record { proper = p.proper; table_is = p.table_is; key_is = sym one ∙ p.key_is; partition_is = p.partition_is })
+        (All-tail (IsPlaced s n) e es all))
+    put_by k v e es p all rest Greater o = rw o (All-cons (IsPlaced s n) e (insert_entry vec_cmp es k v) (All-head (IsPlaced s n) e es all) rest)
 
-    pub placed_put : (k : Vec ℕ Z) (v : Placed R) (es : List (Vec ℕ Z × Placed R)) → IsPlaced s n occupied (k, v) → AllPlaced s n occupied es → AllPlaced s n occupied (insert_entry vec_cmp es k v)
-    placed_put k v [] p all = All-cons (IsPlaced s n occupied) (k, v) [] p all
-    placed_put k v (e ∷ es) p all = put_by k v e es p all (placed_put k v es p (All-tail (IsPlaced s n occupied) e es all)) (vec_cmp k e.0) refl
+    pub placed_put : (k : Vec ℕ Z) (v : Placed R) (es : List (Vec ℕ Z × Placed R)) → IsPlaced s n (k, v) → AllPlaced s n es → AllPlaced s n (insert_entry vec_cmp es k v)
+    placed_put k v [] p all = All-cons (IsPlaced s n) (k, v) [] p all
+    placed_put k v (e ∷ es) p all = put_by k v e es p all (placed_put k v es p (All-tail (IsPlaced s n) e es all)) (vec_cmp k e.0) refl
 
-    find_by : (key : List ℕ) (row : R) (e : Vec ℕ Z × Placed R) (rest : Option R) → IsPlaced s n occupied e → (rest ≡ Some row → IsFound s n key row) → (b : Bool) → is_eq (slice_cmp nat_cmp key e.0.items) ≡ b → cond b (Some e.1.row) rest ≡ Some row → IsFound s n key row
-    find_by key row e rest p others true h is =
-        let one : e.1.row ≡ row = same_Some e.1.row row is in
+    found_by : (key : List ℕ) (found : Placed R) (e : Vec ℕ Z × Placed R) (rest : Option (Placed R)) → IsPlaced s n e → (rest ≡ Some found → IsFound s n key found) → (b : Bool) → is_eq (slice_cmp nat_cmp key e.0.items) ≡ b → cond b (Some e.1) rest ≡ Some found → IsFound s n key found
+    found_by key found e rest p others true h is =
+        let one : e.1 ≡ found = same_Some e.1 found is in
         let here : key ≡ e.0.items = slice_identical nat_identical key e.0.items ((Equal-is _).0 h) in
-        rw (sym one) (record { proper = p.proper; table_is = p.table_is; key_is = sym p.key_is ∙ sym here })
-    find_by key row e rest p others false h is = others is
+        rw (sym one) (record { proper = p.proper; table_is = p.table_is; key_is = sym p.key_is ∙ sym here; partition_is = p.partition_is })
+    found_by key found e rest p others false h is = others is
 
-    pub found_is : (key : List ℕ) (row : R) (es : List (Vec ℕ Z × Placed R)) → AllPlaced s n occupied es → shelf_find key es ≡ Some row → IsFound s n key row
-    found_is key row [] all h = cc
-    found_is key row (e ∷ es) all h =
-        find_by key row e (shelf_find key es) (All-head (IsPlaced s n occupied) e es all) (found_is key row es (All-tail (IsPlaced s n occupied) e es all)) (is_eq (slice_cmp nat_cmp key e.0.items)) refl h
+    pub found_is : (key : List ℕ) (found : Placed R) (es : List (Vec ℕ Z × Placed R)) → AllPlaced s n es → placed_at key es ≡ Some found → IsFound s n key found
+    found_is key found [] all h = cc
+    found_is key found (e ∷ es) all h =
+        found_by key found e (placed_at key es) (All-head (IsPlaced s n) e es all) (found_is key found es (All-tail (IsPlaced s n) e es all)) (is_eq (slice_cmp nat_cmp key e.0.items)) refl h
 
     -- ---- a partition
 
-    pub partition_here : (p : ℕ) (es : List (Vec ℕ Z × Placed R)) → AllPlaced s n occupied es → shelf_rows (filter (in_partition p) es) ≡ rows_in s p (shelf_rows es)
+    pub partition_here : (p : ℕ) (es : List (Vec ℕ Z × Placed R)) → AllPlaced s n es → shelf_rows (filter (in_partition p) es) ≡ rows_in s p (shelf_rows es)
     partition_here p es all =
         test_agrees (in_partition p) (λ r. partition_of s r == p) (λ e. e.1.row) es
-        (All-weaker (IsPlaced s n occupied) (λ e. in_partition p e ≡ (partition_of s e.1.row == p)) (λ e placed. ap (λ q. q == p) placed.partition_is) es all)
+        (All-weaker (IsPlaced s n) (λ e. in_partition p e ≡ (partition_of s e.1.row == p)) (λ e placed. ap (λ q. q == p) placed.partition_is) es all)
 
-    pub partition_gone : (p : ℕ) (es : List (Vec ℕ Z × Placed R)) → AllPlaced s n occupied es → shelf_rows (filter (λ e. not (in_partition p e)) es) ≡ without s p (shelf_rows es)
+    pub partition_gone : (p : ℕ) (es : List (Vec ℕ Z × Placed R)) → AllPlaced s n es → shelf_rows (filter (λ e. not (in_partition p e)) es) ≡ without s p (shelf_rows es)
     partition_gone p es all =
         test_agrees (λ e. not (in_partition p e)) (λ r. not (partition_of s r == p)) (λ e. e.1.row) es
-        (All-weaker (IsPlaced s n occupied) (λ e. not (in_partition p e) ≡ not (partition_of s e.1.row == p)) (λ e placed. ap (λ q. not (q == p)) placed.partition_is) es all)
+        (All-weaker (IsPlaced s n) (λ e. not (in_partition p e) ≡ not (partition_of s e.1.row == p)) (λ e placed. ap (λ q. not (q == p)) placed.partition_is) es all)
 
 -- ---- a window
 
-module _ {R Z : Type 0} (s : Words R) (n : ℕ) (occupied : List Bool) (prefix after : List ℕ) where
-  past_by : (e : Vec ℕ Z × Placed R) → IsPlaced s n occupied e → is_after prefix after e ≡ is_past s n prefix after e.1.row
+module _ {R Z : Type 0} (s : Words R) (n : ℕ) (prefix after : List ℕ) where
+  past_by : (e : Vec ℕ Z × Placed R) → IsPlaced s n e → is_after prefix after e ≡ is_past s n prefix after e.1.row
   past_by e placed = rw (placed.table_is, eq-eqb n n refl, sym placed.key_is) refl
 
-  pub past_here : (es : List (Vec ℕ Z × Placed R)) → AllPlaced s n occupied es → shelf_rows (filter (is_after prefix after) es) ≡ filter (is_past s n prefix after) (shelf_rows es)
+  pub past_here : (es : List (Vec ℕ Z × Placed R)) → AllPlaced s n es → shelf_rows (filter (is_after prefix after) es) ≡ filter (is_past s n prefix after) (shelf_rows es)
   past_here es all =
       test_agrees (is_after prefix after) (is_past s n prefix after) (λ e. e.1.row) es
-      (All-weaker (IsPlaced s n occupied) (λ e. is_after prefix after e ≡ is_past s n prefix after e.1.row) past_by es all)
+      (All-weaker (IsPlaced s n) (λ e. is_after prefix after e ≡ is_past s n prefix after e.1.row) past_by es all)
 
-  pub past_elsewhere : (m : ℕ) (es : List (Vec ℕ Z × Placed R)) → (n == m) ≡ false → AllPlaced s n occupied es → filter (is_past s m prefix after) (shelf_rows es) ≡ []
+  pub past_elsewhere : (m : ℕ) (es : List (Vec ℕ Z × Placed R)) → (n == m) ≡ false → AllPlaced s n es → filter (is_past s m prefix after) (shelf_rows es) ≡ []
   past_elsewhere m [] h all = refl
   past_elsewhere m (e ∷ es) h all =
-      let placed = All-head (IsPlaced s n occupied) e es all in
-      rw (placed.table_is, h) (past_elsewhere m es h (All-tail (IsPlaced s n occupied) e es all))
+      let placed = All-head (IsPlaced s n) e es all in
+      rw (placed.table_is, h) (past_elsewhere m es h (All-tail (IsPlaced s n) e es all))
 
 -- ---- the entry that a merge puts
 
-module _ {R Z : Type 0} {join : R → R → R} {s : Words R} (laws : Laws join s) (n : ℕ) (occupied : List Bool) where
-  pub entry_by : (r : R) (k : Vec ℕ Z) (v : Placed R) (old : Option R) →
-      IsTrue (s.is_proper r) → s.table r ≡ n → k.items ≡ s.key r → v.partition ≡ partition_of s r → IsTrue (is_marked occupied (partition_of s r)) → v.row ≡ merged_with join old r →
-      ((row : R) → old ≡ Some row → IsFound s n (s.key r) row) → IsPlaced s n occupied (k, v)
-  entry_by r k v None proper t h p marked is found =
+module _ {R Z : Type 0} {join : R → R → R} {s : Words R} (laws : Laws join s) (n : ℕ) where
+  pub entry_by : (r : R) (k : Vec ℕ Z) (v : Placed R) (old : Option (Placed R)) →
+      IsTrue (s.is_proper r) → s.table r ≡ n → k.items ≡ s.key r → v.partition ≡ merged_at s old r → v.row ≡ merged_with join (option_map (λ p. p.row) old) r →
+      ((found : Placed R) → old ≡ Some found → IsFound s n (s.key r) found) → IsPlaced s n (k, v)
+  entry_by r k v None proper t h p is found =
       record {
         proper = rw is proper;
         table_is = ap s.table is ∙ t;
         key_is = h ∙ sym (ap s.key is);
         partition_is = p ∙ sym (ap (partition_of s) is);
-        is_occupied = rw is marked;
       }
-  entry_by r k v (Some old) proper t h p marked is found =
+  entry_by r k v (Some old) proper t h p is found =
       let was = found old refl in
-      let same : Same s old r = record { first_proper = was.proper; second_proper = proper; table = was.table_is ∙ sym t; key = was.key_is } in
-      let again : Same s (join old r) r = record {
-        first_proper = laws.joined_is_proper old r same;
-        second_proper = proper;
-        table = laws.joined_table old r same ∙ (was.table_is ∙ sym t);
-        key = laws.joined_key old r same ∙ was.key_is;
+      let same : Same s old.row r = record { first_proper = was.proper; second_proper = proper; table = was.table_is ∙ sym t; key = was.key_is } in
+      let again : Same s (join old.row r) old.row = record {
+        first_proper = laws.joined_is_proper old.row r same;
+        second_proper = was.proper;
+        table = laws.joined_table old.row r same;
+        key = laws.joined_key old.row r same;
       } in
-      let place-is : partition_of s (join old r) ≡ partition_of s r = ap partition_at (laws.one_position (join old r) r again) in
+      let place-is : partition_of s (join old.row r) ≡ partition_of s old.row = ap partition_at (laws.one_position (join old.row r) old.row again) in
       record {
-        proper = rw is (laws.joined_is_proper old r same);
-        table_is = ap s.table is ∙ (laws.joined_table old r same ∙ was.table_is);
-        key_is = h ∙ sym (ap s.key is ∙ (laws.joined_key old r same ∙ was.key_is));
-        partition_is = p ∙ sym (ap (partition_of s) is ∙ place-is);
-        is_occupied = rw (is, place-is) marked;
+        proper = rw is (laws.joined_is_proper old.row r same);
+        table_is = ap s.table is ∙ (laws.joined_table old.row r same ∙ was.table_is);
+        key_is = h ∙ sym (ap s.key is ∙ (laws.joined_key old.row r same ∙ was.key_is));
+        partition_is = p ∙ (was.partition_is ∙ sym (ap (partition_of s) is ∙ place-is));
       }

@@ -1,15 +1,20 @@
 -- The rows of one table, by their keys.
-use Rattle.std.specs.Prelude.{◌≡◌, ℕ, ◌==◌, ◌<◌, ◌^◌, Bool, true, false, ◌&&◌, if◌then◌else◌, nat_eq, nat_lt, IsTrue, List, [], ◌∷◌, ◌++◌, Option, Some, None, All, length, map, take, slice_index_or, Vec}
+use Rattle.std.specs.Prelude.{◌≡◌, ℕ, ◌==◌, ◌<◌, ◌^◌, Bool, ◌&&◌, if◌then◌else◌, nat_eq, nat_lt, IsTrue, List, [], ◌∷◌, ◌++◌, Option, Some, None, All, length, map, take, Vec}
 use Rattle.std.specs.List.{starts_with}
+use Rattle.std.specs.Map.{lookup}
+use Rattle.std.specs.BTreeMap.{BTreeMap, is_at}
+use Rattle.std.specs.BTreeSet.{BTreeSet}
 use Rattle.std.specs.Ordering.{nat_cmp, is_eq, is_lt}
 use Rattle.std.specs.declared.cmp.Ordering.{Ordering}
 use Rattle.std.specs.Cmp.Lexicographic.{slice_cmp}
 use Rattle.table_schema.specs.Words.{Words, partition_of}
 use Rattle.table_store.specs.declared.shelf.Placed.{Placed}
+use Rattle.table_store.specs.Index.{has_key, keys_under}
 
--- the partition is marked
-abbrev pub is_marked : List Bool → ℕ → Bool
-is_marked occupied p = slice_index_or occupied p false
+-- the row, where it is in partition p
+abbrev pub given : {R : Type 0} → ℕ → Option (Placed R) → Option R
+given p None = None
+given p (Some placed) = if placed.partition == p then Some placed.row else None
 
 module _ {R Z : Type 0} where
   -- the rows in order of their keys
@@ -25,13 +30,28 @@ module _ {R Z : Type 0} where
   abbrev pub in_partition : ℕ → Vec ℕ Z × Placed R → Bool
   in_partition p e = e.1.partition == p
 
-  -- the row stands under its key in its table's shelf, with its partition, which is marked as occupied
-  pub record IsPlaced (s : Words R) (table : ℕ) (occupied : List Bool) (e : Vec ℕ Z × Placed R) : Type 0 where
+  -- what stands at a key
+  abbrev pub placed_at : List ℕ → List (Vec ℕ Z × Placed R) → Option (Placed R)
+  placed_at key es = lookup (is_at (λ k. slice_cmp nat_cmp key k.items)) es
+
+  -- the row at a key, where it is in partition p
+  abbrev pub row_in : ℕ → List ℕ → List (Vec ℕ Z × Placed R) → Option R
+  row_in p key es = given p (placed_at key es)
+
+  -- the row stands at this key
+  abbrev pub has_key_of : Vec ℕ Z → Vec ℕ Z × Placed R → Bool
+  has_key_of key e = is_eq (slice_cmp nat_cmp e.0.items key.items)
+
+  -- the index has the row's key under its partition
+  abbrev pub is_indexed : BTreeMap ℕ (BTreeSet (Vec ℕ Z)) → Vec ℕ Z × Placed R → Bool
+  is_indexed index e = has_key e.0.items (keys_under index e.1.partition)
+
+  -- the row stands under its key in its table's shelf, with its partition
+  pub record IsPlaced (s : Words R) (table : ℕ) (e : Vec ℕ Z × Placed R) : Type 0 where
     pub proper : IsTrue (s.is_proper e.1.row)
     pub table_is : s.table e.1.row ≡ table
     pub key_is : e.0.items ≡ s.key e.1.row
     pub partition_is : e.1.partition ≡ partition_of s e.1.row
-    pub is_occupied : IsTrue (is_marked occupied (partition_of s e.1.row))
 
   -- a key of these begins with the prefix
   abbrev pub begins : List ℕ → Vec ℕ Z × Placed R → Bool
@@ -41,14 +61,19 @@ module _ {R Z : Type 0} where
   abbrev pub is_after : List ℕ → List ℕ → Vec ℕ Z × Placed R → Bool
   is_after prefix after e = begins prefix e && is_lt (slice_cmp nat_cmp after e.0.items)
 
-  -- each row stands in order, where its partition is occupied
-  abbrev pub AllPlaced : Words R → ℕ → List Bool → List (Vec ℕ Z × Placed R) → Type 0
-  AllPlaced s table occupied es = All (IsPlaced s table occupied) es
+  -- each row does
+  abbrev pub AllPlaced : Words R → ℕ → List (Vec ℕ Z × Placed R) → Type 0
+  AllPlaced s table es = All (IsPlaced s table) es
 
 -- what stands at a row's place after it is merged in
 abbrev pub merged_with : {R : Type 0} → (R → R → R) → Option R → R → R
 merged_with join None row = row
 merged_with join (Some old) row = join old row
+
+-- the partition that it is in then
+abbrev pub merged_at : {R : Type 0} → Words R → Option (Placed R) → R → ℕ
+merged_at s None row = partition_of s row
+merged_at s (Some old) row = old.partition
 
 -- the first elements, up to the first that fails the test
 abbrev pub leading : {X : Type 0} → (X → Bool) → List X → List X
@@ -64,8 +89,8 @@ abbrev pub vec_cmp : {Z : Type 0} → Vec ℕ Z → Vec ℕ Z → Ordering
 vec_cmp x y = slice_cmp nat_cmp x.items y.items
 
 -- the three shelves hold the rows of their tables, and together no more than a number can count
-pub record IsSound {R Z : Type 0} (s : Words R) (occupied : List Bool) (first second third : List (Vec ℕ Z × Placed R)) : Type 0 where
-  pub in_first : AllPlaced s 1 occupied first
-  pub in_second : AllPlaced s 2 occupied second
-  pub in_third : AllPlaced s 3 occupied third
+pub record IsSound {R Z : Type 0} (s : Words R) (first second third : List (Vec ℕ Z × Placed R)) : Type 0 where
+  pub in_first : AllPlaced s 1 first
+  pub in_second : AllPlaced s 2 second
+  pub in_third : AllPlaced s 3 third
   pub fits : length (shelf_rows first ++ (shelf_rows second ++ shelf_rows third)) < 2 ^ 64

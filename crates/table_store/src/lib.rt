@@ -6,10 +6,13 @@
 //! also proved that the list after any merges and drops holds at each place the join of the rows accepted there, and
 //! depends on the set of the rows accepted alone.
 //!
-//! Inside, each of the three tables is an ordered map by row key (src/shelf.rt), so that a look-up is logarithmic and a
-//! range proportional to what it gives, and one mark per partition tells whether it has rows at all.
+//! Inside, each of the three tables is an ordered map by row key, so that a look-up is logarithmic and a range
+//! proportional to what it gives. Beside it stands an index (src/index.rt): the keys of each partition's rows, in order.
+//! So `rows_of` and `drop_partition` take a look-up for each row that they give or drop, and next to nothing where a
+//! partition has none; `merge_in` writes into the index where a row is new, and keeps a row's partition else.
 #![tactic(auto)]
 
+mod index;
 mod root;
 mod roots;
 mod shelf;

@@ -28,9 +28,9 @@ pub fn take_roots<S: Schema>(
     shelf: &Shelf<S::Row>,
     hasher: &mut Blake2b,
 ) -> Result<(), Memory>
-    ensures roots { OnOk result ((m : List ℕ) → Holds hasher.old m → Holds hasher.new (m ++ shelf_roots S.words shelf.now.entries)) }
-    ensures written { OnOk result (any_unspelled S.words (shelf_rows shelf.now.entries) ≡ false) }
-    ensures causes { WantOr result (IsTrue (any_unspelled S.words (shelf_rows shelf.now.entries))) }
+    ensures roots { OnOk result ((m : List ℕ) → Holds hasher.old m → Holds hasher.new (m ++ shelf_roots S.words shelf.now.rows.entries)) }
+    ensures written { OnOk result (any_unspelled S.words (shelf_rows shelf.now.rows.entries) ≡ false) }
+    ensures causes { WantOr result (IsTrue (any_unspelled S.words (shelf_rows shelf.now.rows.entries))) }
 {
     let hashes = hashes_of::<S>(alloc, shelf)?;
     take_hashes(alloc, hashes.as_slice(), hasher)?;
@@ -39,12 +39,12 @@ pub fn take_roots<S: Schema>(
 
 // The hashes of all rows.
 fn hashes_of<S: Schema>(alloc: Global, shelf: &Shelf<S::Row>) -> Result<Vec<Hashed>, Memory>
-    ensures are { IfOk result (λ hashes. map tagged hashes.items ≡ map (λ e. (e.1.partition, entry_pair S.words e)) shelf.now.entries) }
-    ensures written { OnOk result (any_unspelled S.words (shelf_rows shelf.now.entries) ≡ false) }
-    ensures causes { WantOr result (IsTrue (any_unspelled S.words (shelf_rows shelf.now.entries))) }
+    ensures are { IfOk result (λ hashes. map tagged hashes.items ≡ map (λ e. (e.1.partition, entry_pair S.words e)) shelf.now.rows.entries) }
+    ensures written { OnOk result (any_unspelled S.words (shelf_rows shelf.now.rows.entries) ≡ false) }
+    ensures causes { WantOr result (IsTrue (any_unspelled S.words (shelf_rows shelf.now.rows.entries))) }
 {
     let mut hashes = Vec::new(alloc);
-    for (key, placed) in shelf {
+    for (key, placed) in &shelf.rows {
         let bytes = S::row_bytes(alloc, &placed.row)?;
         hashes.push(Hashed {
             partition: placed.partition,

@@ -10,10 +10,9 @@ use crate::window::rows_past;
 use blake2_hash::{Blake2b, Hash32};
 use crdt_core::Memory;
 use std::alloc::Global;
-use std::collections::BTreeMap;
 use std::marker::Model;
 use table_model::Change;
-use table_schema::{Schema, partition};
+use table_schema::Schema;
 
 /// The merged rows of a node, in order of table, then of key.
 #[derive(Drop)]
@@ -21,7 +20,6 @@ pub struct Table<S: Schema> {
     first: Shelf<S::Row>,
     second: Shelf<S::Row>,
     third: Shelf<S::Row>,
-    occupied: [bool; 256],
     alloc: Global,
 }
 
@@ -31,9 +29,9 @@ impl<S: Schema> Model for Table<S> {
 
     ghost Value = { List S.Row };
 
-    ghost view = { λ t. shelf_rows t.first.entries ++ (shelf_rows t.second.entries ++ shelf_rows t.third.entries) };
+    ghost view = { λ t. shelf_rows t.first.rows.entries ++ (shelf_rows t.second.rows.entries ++ shelf_rows t.third.rows.entries) };
 
-    ghost invariant = { λ t. IsSound S.words t.occupied t.first.entries t.second.entries t.third.entries };
+    ghost invariant = { λ t. IsSound S.words t.first.rows.entries t.second.rows.entries t.third.rows.entries };
 }
 
 impl<S: Schema> Table<S> {
@@ -43,10 +41,9 @@ impl<S: Schema> Table<S> {
         ensures given { IsOk result }
     {
         Ok(Table {
-            first: BTreeMap::new(alloc),
-            second: BTreeMap::new(alloc),
-            third: BTreeMap::new(alloc),
-            occupied: [false; 256],
+            first: Shelf::new(alloc),
+            second: Shelf::new(alloc),
+            third: Shelf::new(alloc),
             alloc,
         })
     }
@@ -55,7 +52,7 @@ impl<S: Schema> Table<S> {
     pub fn len(&self) -> usize
         ensures { result ≡ length self.now }
     {
-        self.first.len() + self.second.len() + self.third.len()
+        self.first.rows.len() + self.second.rows.len() + self.third.rows.len()
     }
 
     /// The row of a table and key.
@@ -80,21 +77,17 @@ impl<S: Schema> Table<S> {
         if self.len() == usize::MAX {
             return Err(Memory::Want);
         }
-        let p = partition::<S>(row);
         match S::table(row) {
             1 => {
                 let change = merge_into::<S>(self.alloc, &mut self.first, row)?;
-                self.occupied[p as usize] = true;
                 Ok(change)
             }
             2 => {
                 let change = merge_into::<S>(self.alloc, &mut self.second, row)?;
-                self.occupied[p as usize] = true;
                 Ok(change)
             }
             _ => {
                 let change = merge_into::<S>(self.alloc, &mut self.third, row)?;
-                self.occupied[p as usize] = true;
                 Ok(change)
             }
         }
@@ -126,9 +119,6 @@ impl<S: Schema> Table<S> {
         ensures want { OnlyWant result }
     {
         let mut rows = Vec::new(self.alloc);
-        if !self.occupied[p as usize] {
-            return Ok(rows);
-        }
         push_partition(&self.first, p, &mut rows)?;
         push_partition(&self.second, p, &mut rows)?;
         push_partition(&self.third, p, &mut rows)?;
@@ -143,16 +133,12 @@ impl<S: Schema> Table<S> {
         ensures want { OnlyWant result }
     {
         let mut hashes = Vec::new(self.alloc);
-        if !self.occupied[p as usize] {
-            return Ok(hashes);
-        }
         push_blocks::<S>(&self.first, p, &mut hashes)?;
         push_blocks::<S>(&self.second, p, &mut hashes)?;
         push_blocks::<S>(&self.third, p, &mut hashes)?;
         drop_rows(&mut self.first, p);
         drop_rows(&mut self.second, p);
         drop_rows(&mut self.third, p);
-        self.occupied[p as usize] = false;
         Ok(hashes)
     }
 

@@ -21,11 +21,16 @@ pub fn rows_past<R: Crdt>(
     after: &[u8],
     limit: usize,
 ) -> Result<(Vec<R>, bool), Memory>
-    ensures is { IfOk result (λ found. (found.0.items, found.1) ≡ window limit (shelf_rows (filter (is_after prefix.now after.now) shelf.now.entries))) }
+    ensures is { IfOk result (λ found. (found.0.items, found.1) ≡ window limit (shelf_rows (filter (is_after prefix.now after.now) shelf.now.rows.entries))) }
     ensures want { OnlyWant result }
 {
     let start = start_of(alloc, prefix, after)?;
-    first_rows(alloc, shelf.range((start, Bound::Unbounded)), prefix, limit)
+    first_rows(
+        alloc,
+        shelf.rows.range((start, Bound::Unbounded)),
+        prefix,
+        limit,
+    )
 }
 
 // Where keys begin that are greater than `after` and may have the prefix.

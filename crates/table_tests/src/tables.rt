@@ -14,9 +14,11 @@
 //!         for table in (1, 2, 3) for p in range(256)))
 use crate::made::{BUCKET, Made, Shape, row};
 use crdt_core::Memory;
+use crdt_rows::AnyRow;
 use object_schema::S3Schema;
 use std::alloc::Global;
 use std::test::Fail;
+use table_schema::Schema;
 use table_store::Table;
 
 // The markers of `a`, `b` and `c`, and a reference.
@@ -63,6 +65,51 @@ fn dropped(alloc: Global, p: u8) -> Result<(usize, usize, usize), Memory> {
 fn partitions_are_dropped(rt: HostRuntime) -> Result<(), Fail> {
     assert_eq!(rt; dropped(rt.alloc(), 0x22)?, (3, 0, 1));
     assert_eq!(rt; dropped(rt.alloc(), 0x11)?, (1, 1, 3));
+    Ok(())
+}
+
+// Version 6 lies in partition 0x8e by the digest of its identifier, as references to a block do by its hash.
+const SCATTERED: [Made; 6] = [
+    Made::Reference(0x8e, 7, false),
+    Made::Deleted(7),
+    Made::Reference(0x11, 6, false),
+    Made::Reference(0x8e, 6, true),
+    Made::Deleted(6),
+    Made::Reference(0x8e, 7, false),
+];
+
+const GATHERED: [Made; 3] = [
+    Made::Deleted(6),
+    Made::Reference(0x8e, 6, true),
+    Made::Reference(0x8e, 7, false),
+];
+
+// The bytes of rows, one after the other.
+fn spelled(alloc: Global, rows: &[AnyRow]) -> Result<Vec<u8>, Memory> {
+    let mut bytes = Vec::new(alloc);
+    for row in rows {
+        bytes.extend_from_slice(S3Schema::row_bytes(alloc, row)?.as_slice())?;
+    }
+    Ok(bytes)
+}
+
+#[test]
+fn rows_of_a_partition_are_in_order(rt: HostRuntime) -> Result<(), Fail> {
+    let mut wanted = Vec::new(rt.alloc());
+    for made in GATHERED {
+        wanted.push(row(rt.alloc(), made)?)?;
+    }
+    let wanted = spelled(rt.alloc(), wanted.as_slice())?;
+    let mut table = table(rt.alloc(), &SCATTERED)?;
+    let given = spelled(rt.alloc(), table.rows_of(0x8e)?.as_slice())?;
+    assert_eq!(rt; given.as_slice(), wanted.as_slice());
+    assert_eq!(rt; table.drop_partition(0x8e)?.len(), 1);
+    assert_eq!(rt; (table.rows_of(0x8e)?.len(), table.len()), (0, 2));
+    for made in GATHERED {
+        table.merge_in(&row(rt.alloc(), made)?)?;
+    }
+    let given = spelled(rt.alloc(), table.rows_of(0x8e)?.as_slice())?;
+    assert_eq!(rt; given.as_slice(), wanted.as_slice());
     Ok(())
 }
 

@@ -2,8 +2,10 @@ use Rattle.store_anchors.proofs.promises.promises_are_kept.Goals as goal
 
 pub returns : goal.returns
 returns c acts lawful fit moment is =
-    let run = c.moments_are_runs.ensures.runs acts moment lawful fit is in
+    let run = c.moments_are_runs.ensures acts moment lawful fit is in
     record {
+      kept = c.phases_read_what_was_kept.ensures.kept moment run.0 run.1;
+      greatest = c.phases_read_what_was_kept.ensures.greatest moment run.0 run.1;
       fresh = c.fresh_reads.ensures moment run.0 run.1;
       recorded = c.records_are_fresh.ensures moment run.0 run.1;
       written = c.reads_give_what_was_written.ensures moment run.0 run.1;

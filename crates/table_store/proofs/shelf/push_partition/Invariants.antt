@@ -1,7 +1,7 @@
-use Rattle.std.proofs.Common.{◌≡◌, ◌++◌, filter}
-use Rattle.table_store.specs.Shelf.{shelf_rows, in_partition}
+use Rattle.std.proofs.Common.{◌≡◌, ◌++◌}
+use Rattle.table_store.proofs.Partitions.{walked}
 use Rattle.table_store.proofs.shelf.push_partition.Given as goal
 
-abbrev pub invariant-loop-placed : goal.invariant-loop-placed
-invariant-loop-placed g l =
-    l.rows.items ++ shelf_rows (filter (in_partition l.p) l.placed-iterator) ≡ l.fn.rows.items ++ shelf_rows (filter (in_partition l.p) l.shelf.entries)
+abbrev pub invariant-loop-key : goal.invariant-loop-key
+invariant-loop-key g l =
+    l.rows.items ++ walked l.p l.key-iterator l.shelf.rows.entries ≡ l.fn.rows.items ++ walked l.p l.initial.key-iterator l.shelf.rows.entries

@@ -11,7 +11,7 @@ pub returns-clause-is : goal.returns-clause-is
 returns-clause-is g c =
     let prefix = c.args.prefix.now in
     let after = c.args.after.now in
-    let entries = c.args.shelf.now.entries in
+    let entries = c.args.shelf.now.rows.entries in
     let from = filter_agree _ (is_from prefix after) (λ e. and-true (is_from_start vec_cmp c.in_ok-start.start e.0) ∙ c.in_ok-start.ensures.is e.0) entries in
     let same : leading (begins prefix) c.range.result ≡ filter (is_after prefix after) entries =
     ap (leading (begins prefix)) (c.range.ensures.between tt ∙ from) ∙ sym (window_is prefix after entries c.range.ensures.ordered) in

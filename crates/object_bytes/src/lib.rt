@@ -1,0 +1,10 @@
+//! The bytes of an object that is written, which are cut into blocks.
+//!
+//! `cut` makes the block that begins at an offset, and `first_hash` names the first one, by which the object's row knows it:
+//! once it was cut its hash is kept, so that each byte of an object is hashed once. Contracts see an `ObjectBytes` as its
+//! bytes. Only `cut` takes memory.
+#![tactic(auto)]
+
+mod body;
+
+pub use body::ObjectBytes;
