@@ -16,7 +16,9 @@ ghost use Rattle.store_model.specs.Run.{start};
 ghost use Rattle.store_model.specs.Events.{Turn, run};
 ghost use Rattle.store_model.specs.Turns.{IsLawful, FitsOutcome};
 ghost use Rattle.text_model.specs.Grammar.{IsAllowed};
-ghost use Rattle.limit_laws.specs.Played.{Step, steps_of, GoesOn, ArePlayed, AreAllowed};
+ghost use Rattle.store_model.specs.declared.event.Numbered.{Numbered};
+ghost use Rattle.text_model.specs.Reading.{IsSchedule};
+ghost use Rattle.limit_laws.specs.Played.{Step, steps_of, GoesOn, ArePlayed, AreAllowed, AreScheduled};
 
 use crdt_rows::{
     AnyRow, object_rows_join_as_facts, reference_rows_join_as_facts, version_rows_join_as_facts,
@@ -47,3 +49,8 @@ pub fn played_nodes_are_shown()
     empty_world_is_sound::<AnyRow>();
     sound_worlds_stay_sound::<AnyRow>();
 }
+
+/// An input that is a schedule has at most 100,000 events, whose words are in their ranges.
+pub fn schedules_are_within_limits()
+    ensures { (input : List ℕ) (events : List Numbered) → IsSchedule input events → AreScheduled events }
+{}
