@@ -12,12 +12,11 @@ use Rattle.crdt_rows.specs.AnyRow.{any_join}
 use Rattle.layout_roles.specs.declared.layout.Layout.{Layout}
 use Rattle.view_model.specs.View.{View, newest, layout_at}
 use Rattle.row_codec.specs.Reads.{are_bytes}
-use Rattle.row_codec.specs.Spelling.{spelled}
 use Rattle.table_schema.specs.Words.{partition_of}
 use Rattle.table_model.specs.Rows.{rows, rows_in}
 use Rattle.wire_messages.specs.Size.{plus, row_length, rows_length, block_length, stored_length, size}
 use Rattle.wire_messages.specs.declared.message.Message.{Message}
-use Rattle.wire_messages.specs.declared.message.Message.TheVariants.{Store, Block}
+use Rattle.wire_messages.specs.declared.message.Message.TheVariants.{Store}
 use Rattle.wire_messages.specs.declared.message.Tag.TheVariants.{Round as ForRound, Item as ForItem}
 use Rattle.object_schema.specs.Schema.{words}
 use Rattle.cluster_machine.specs.Layouts.{layouts, set_of, set_in, stored_sets}

@@ -1,5 +1,5 @@
 -- A schedule that is read has at most 100,000 events, whose words are in their ranges.
-use Rattle.std.specs.Prelude.{◌≡◌, ◌≤◌, ◌-◌, ℕ, zero, suc, true, false, if◌then◌else◌, Option, Some, None, List, [], ◌∷◌, length, ⊤}
+use Rattle.std.specs.Prelude.{◌≤◌, ◌-◌, ℕ, zero, suc, true, false, if◌then◌else◌, Option, Some, None, List, [], ◌∷◌, length, ⊤}
 use Rattle.std.proofs.Common.{subst, arith}
 use Rattle.std.proofs.lemmas.List.Elements.{recursion_from_All}
 use Rattle.store_model.specs.declared.event.Event.{Event}

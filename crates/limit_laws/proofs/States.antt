@@ -38,8 +38,8 @@ use Rattle.flow_model.specs.declared.flow.Flow.{Flow}
 use Rattle.flow_model.specs.declared.flow.FlowStep.{FlowStep}
 use Rattle.flow_model.specs.declared.flow.FlowStep.TheVariants.{More, Wait, End}
 use Rattle.flow_model.specs.Flow.{started}
-use Rattle.flow_model.specs.Next.{drawn, next}
-use Rattle.store_model.specs.Run.{Moving, State, Asked, Draw, Outcome, silent, refusal, plainly, effect, doing, are_buckets, phases, new_request, opened, begins, draws_of, versions_drawn, goes, takes, follows, follow, goes_on, delivers}
+use Rattle.flow_model.specs.Next.{next}
+use Rattle.store_model.specs.Run.{Moving, State, Asked, Draw, Outcome, silent, refusal, plainly, effect, doing, are_buckets, phases, new_request, opened, begins, draws_of, versions_drawn, takes, follows, follow, goes_on, delivers}
 use Rattle.store_model.specs.Orders.{buckets_of}
 use Rattle.object_origins.proofs.Shown.{Facts}
 use Rattle.limit_rows.specs.Fitting.{Drawn, AreWithin, RowFits}

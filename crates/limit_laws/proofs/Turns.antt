@@ -1,5 +1,5 @@
 -- Turns of a schedule within the limits: after each of their steps there is room.
-use Rattle.std.specs.Prelude.{◌≡◌, ◌≤◌, ◌<◌, ◌+◌, ◌*◌, ◌-◌, ◌^◌, ◌%◌, ◌==◌, ◌||◌, ℕ, zero, suc, Bool, true, false, nat_lt, nat_le, cond, List, [], ◌∷◌, ◌++◌, Option, Some, None, length, slice_get, refl, ⊤}
+use Rattle.std.specs.Prelude.{◌≡◌, ◌≤◌, ◌<◌, ◌+◌, ◌*◌, ◌^◌, ◌%◌, ◌==◌, ◌||◌, ℕ, zero, suc, Bool, true, false, nat_lt, nat_le, cond, List, [], ◌∷◌, ◌++◌, Option, Some, None, length, slice_get, refl, ⊤}
 use Rattle.std.specs.Option.{unwrap_or}
 use Rattle.std.specs.List.{AllByRecursion, list_all}
 use Rattle.std.proofs.Common.{ap, sym, subst, ◌∙◌, ◌⊎◌, inl, inr, arith}
