@@ -10,3 +10,4 @@ pub mod Ending
 pub mod Meant
 pub mod Checked
 pub mod Closing
+mod Limits

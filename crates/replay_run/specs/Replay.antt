@@ -1,5 +1,5 @@
 -- How a replay of events ends, and what is written for it.
-use Rattle.std.specs.Prelude.{◌≡◌, ℕ, zero, suc, ◌<◌, ◌≤◌, ⊤, Bool, IsTrue, Some, None, List, [], ◌∷◌, ◌++◌, codes}
+use Rattle.std.specs.Prelude.{◌≡◌, ℕ, ◌<◌, Bool, IsTrue, List, [], ◌∷◌, ◌++◌, codes}
 use Rattle.std.specs.List.{AllByRecursion, list_any, range_with_len}
 use Rattle.crdt_rows.specs.AnyRow.{any_join}
 use Rattle.object_schema.specs.Schema.{words}
@@ -7,21 +7,14 @@ use Rattle.table_model.specs.Rows.{rows}
 use Rattle.table_model.specs.Top.{any_unspelled}
 use Rattle.lab_outside.specs.declared.exit.Status.{Status}
 use Rattle.lab_outside.specs.declared.exit.Status.TheVariants.{Done, Limit}
-use Rattle.cluster_machine.specs.World.{sent_bytes, undelivered}
 use Rattle.cluster_machine.specs.Worlds.{FitAll}
-use Rattle.cluster_machine.specs.Choices.{Decision}
-use Rattle.store_model.specs.declared.event.Event.{Event}
-use Rattle.store_model.specs.declared.event.Event.TheVariants.{Drain}
 use Rattle.store_model.specs.declared.event.Numbered.{Numbered}
-use Rattle.store_model.specs.Run.{World, State, Outcome, start, delivers}
-use Rattle.store_model.specs.Events.{Turn, events_of, outcome, after, run}
-use Rattle.store_model.specs.Turns.{IsLawful, AreLawful, FitsOutcome}
+use Rattle.store_model.specs.Run.{World, State, start}
+use Rattle.store_model.specs.Events.{Turn, events_of, run}
+use Rattle.store_model.specs.Turns.{IsLawful, FitsOutcome}
+pub use Rattle.limit_laws.specs.Played.{sent_limit, Step, deliveries, steps_of, HasSent, GoesOn, AllGoOn, ArePlayed}
 use Rattle.replay_run.specs.declared.account.Account.{Account}
 use Rattle.replay_run.specs.Account.{front, IsText}
-
--- how many bytes the messages of a replay may count that were ever sent
-abbrev pub sent_limit : ℕ
-sent_limit = 268435456
 
 -- more was sent
 abbrev pub sent_line : List ℕ
@@ -30,35 +23,6 @@ sent_line = codes "limit sent 268435456" ++ 10 ∷ []
 -- a number or row of the replay would not fit, or a node can't be shown
 abbrev pub number_line : List ℕ
 number_line = codes "limit number" ++ 10 ∷ []
-
--- a step of a run: from this state, this comes of it
-pub record Step : Type 0 where
-  pub from : State
-  pub outcome : Outcome
-
--- up to n deliveries, each of the least message that was neither delivered nor lost
-abbrev pub deliveries : ℕ → State → List Step
-deliveries zero s = []
-deliveries (suc n) s = elim (undelivered s.world) as (λ o. List Step) [
-  | None ↦ []
-  | Some m ↦ record { from = s; outcome = delivers s m } ∷ deliveries n (delivers s m).state
-]
-
--- the steps of an event: the deliveries of a drain, and of another event the event itself
-abbrev pub steps_of : State → Event → Decision → List Step
-steps_of s (Drain n) choice = deliveries n s
-steps_of s event choice = record { from = s; outcome = outcome s event choice } ∷ []
-
--- the messages that were ever sent count so many bytes
-abbrev pub HasSent : State → ℕ → Type 0
-HasSent s bytes = sent_bytes words s.world.messages ≡ Some bytes
-
--- after the step every number and row fits, and no more was sent than may be
-pub record GoesOn (step : Step) : Type 0 where
-  pub fits : FitAll any_join words step.from.world step.outcome.moves
-  pub bytes : ℕ
-  pub sent : HasSent step.outcome.state bytes
-  pub within : bytes ≤ sent_limit
 
 -- after the step every number and row fits, and more was sent
 pub record SendsTooMuch (step : Step) : Type 0 where
@@ -79,16 +43,6 @@ pub record StopsAt (IsSo : Step → Type 0) (steps : List Step) : Type 0 where
   pub whole : steps ≡ before ++ last ∷ later
   pub go_on : AllByRecursion GoesOn before
   pub is_so : IsSo last
-
--- after each step of these turns a replay goes on
-abbrev pub AllGoOn : State → List Turn → Type 0
-AllGoOn s [] = ⊤
-AllGoOn s (t ∷ ts) = AllByRecursion GoesOn (steps_of s t.numbered.event t.choice) × AllGoOn (after s t) ts
-
--- each apply was given what is computed from the staged roles, and after each step everything fits and no more was sent than may be
-pub record ArePlayed (turns : List Turn) : Type 0 where
-  pub lawful : AreLawful start turns
-  pub go_on : AllGoOn start turns
 
 -- these turns are the first of the events
 pub record AreFirst (events : List Numbered) (turns : List Turn) : Type 0 where

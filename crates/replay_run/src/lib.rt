@@ -8,7 +8,8 @@
 //!
 //! `steps` takes events step by step, `tail` has what is written after the last event, with `check` and `summary`, and
 //! `transcript` writes.
-//! `every_replay_ends` is the law that a replay of any events has a stated end.
+//! `every_replay_ends` is the law that a replay of any events has a stated end, and `no_replay_lacks_room` that one of a
+//! schedule's events ends neither for lack of room nor with a node that can't be shown.
 #![tactic(auto)]
 
 mod account;
@@ -21,6 +22,6 @@ mod tail;
 mod transcript;
 
 pub use account::Account;
-pub use laws::every_replay_ends;
+pub use laws::{every_replay_ends, no_replay_lacks_room};
 pub use stop::ReplayStop;
 pub use transcript::replay;

@@ -1,0 +1,582 @@
+-- What a node's counts are after each of its steps, and that all that it sends has a spelling and counts few bytes.
+use Rattle.std.specs.Prelude.{◌≡◌, ◌≤◌, ◌+◌, ◌*◌, ℕ, suc, Bool, true, false, ◌==◌, leb, nat_lt, not, cond, List, [], ◌∷◌, ◌++◌, Option, Some, None, length, map, sum_by, take, refl, ⊤}
+use Rattle.std.specs.List.{AllByRecursion, filter, flat_map, list_all}
+use Rattle.std.proofs.Common.{ap, sym, subst, ◌∙◌, length-append, arith}
+use Rattle.std.proofs.lemmas.List.Recursion.{is_sum_by}
+use Rattle.crdt_core.specs.EntryLaws.{and_both}
+use Rattle.crdt_core.specs.Order.{option_join}
+use Rattle.crdt_core.proofs.Each.{all_append, all_weaker}
+use Rattle.crdt_rows.specs.declared.version.Version.{Version}
+use Rattle.crdt_rows.specs.declared.any_row.AnyRow.{AnyRow}
+use Rattle.crdt_rows.specs.declared.any_row.AnyRow.TheVariants as rows
+use Rattle.crdt_rows.specs.AnyRow.{any_join}
+use Rattle.crdt_core.specs.declared.deletable.Deletable.TheVariants.{Deleted}
+use Rattle.blake2_hash.specs.declared.digest.Hash32.{Hash32}
+use Rattle.layout_roles.specs.declared.layout.Layout.{Layout}
+use Rattle.view_model.specs.View.{View, newest, oldest, layout_at, read_version, cleaned, merged}
+use Rattle.row_codec.specs.Spelling.{spelled}
+use Rattle.table_schema.specs.Words.{partition_of, partition_at}
+use Rattle.table_model.specs.Rows.{row_at, rows as rows_of, range, is_past}
+use Rattle.quorum_model.specs.declared.range.RangeAnswer.{RangeAnswer}
+use Rattle.quorum_model.specs.Answers.{first_two_at}
+use Rattle.quorum_model.specs.Quorum.{is_among, StoreSlot, is_kept, with_confirmation}
+use Rattle.quorum_model.specs.Window.{Window}
+use Rattle.wire_messages.specs.Size.{plus, block_length, stored_length, size}
+use Rattle.wire_messages.specs.declared.message.Message.{Message}
+use Rattle.wire_messages.specs.declared.message.Message.TheVariants.{Get, Row, Range, Rows, Store, Stored, Behind, NotHere, BlockGet, Block, NoBlock}
+use Rattle.wire_messages.specs.declared.message.Tag.{Tag}
+use Rattle.wire_messages.specs.declared.message.Tag.TheVariants.{Call as ForCall, Round as ForRound, Item as ForItem}
+use Rattle.wire_messages.specs.declared.phase.Phase.{Phase}
+use Rattle.wire_messages.specs.declared.phase.Phase.TheVariants.{Read, Range as Scans, Store as Keeps, Block as Fetches}
+use Rattle.object_schema.specs.Triggers.{given_up, deleted_version, released, deleted_reference, triggered}
+use Rattle.object_schema.specs.Schema.{words}
+use Rattle.object_schema.specs.Laws.{schema_laws}
+use Rattle.cluster_machine.specs.declared.step.Action.{Action}
+use Rattle.cluster_machine.specs.declared.step.Action.TheVariants.{Ack as RaiseAck, Sync as GoOn, SyncAck as RaiseSyncAck, Clean as CleanUp, Work as WorkOff, Repair as Mend}
+use Rattle.cluster_machine.specs.declared.step.LocalEnd.{LocalEnd}
+use Rattle.cluster_machine.specs.Layouts.{layouts, stored_sets, set_at, is_given, is_stored}
+use Rattle.cluster_machine.specs.Node.{Question, Scan, Present, resting, asking, scanning, storing, fetching, Call, Item, Part, Round, Node, Packet, says, shows, Did, quiet}
+use Rattle.cluster_machine.specs.Node as machine
+use Rattle.cluster_machine.specs.Rows.{same_bytes, block_at, has_block, still, block_of, called_for, blocks_after, queue_from, accepts, accepts_read, accepts_all, drops, sees}
+use Rattle.cluster_machine.specs.Phases.{nodes_of, to_each, call_at, with_call, calls_now, asked, looked, stored, bytes_of, is_spelled, stores, slots_of, begins, value_after, row_came, window_at, rows_came, stored_came, block_came, at_call}
+use Rattle.cluster_machine.specs.Rounds.{confirmed_for, are_spelled, is_complete, open_nodes, open_parts, rows_at, found, with_its_block, pushes_rows, pushes, parts_of, synced, goes_on, may_sync, begin_round}
+use Rattle.cluster_machine.specs.Receives.{most_rows, answers, where_stored, gives_row, gives_rows, gives_block, takes, round_came, is_done, kept_item, item_came, confirms, hears, receives}
+use Rattle.cluster_machine.specs.Acts.{Acted, item_posts, syncs, acts}
+use Rattle.cluster_machine.specs.World.{packet_size}
+use Rattle.machine_origins.proofs.Lists.{all_filter, all_take, all_found}
+use Rattle.machine_origins.proofs.Good.{IsGood, IsAt, IsFound, same_at, row_found, rows_good}
+use Rattle.machine_origins.proofs.Sound.{Asks, ReadsTo, IsMessage, IsPacket, IsNode}
+use Rattle.machine_origins.proofs.Accepting.{accepts_all_node}
+use Rattle.object_origins.proofs.Shown.{Facts}
+use Rattle.limit_rows.specs.Fitting.{Drawn, AreWithin, RowFits, weight}
+use Rattle.limit_rows.proofs.Totals.{total, total_filter, total_take}
+use Rattle.limit_rows.proofs.Handed.{called_fit, fits_rules}
+use Rattle.limit_rows.proofs.Weights.{version_weight, ref_weight, fits_spelled}
+use Rattle.limit_rows.proofs.Contents.{load, row_after as rows_after, accepted_counts, dropped_counts, found_counts}
+use Rattle.limit_laws.proofs.Posts.{IsShort, IsShortBlock, Mail, Costs, costs_nothing, costs_more, costs_one, costs_both, costs_few, ViewFits, layout_fits, set_few, nodes_few, ArePartsOf, parts_filter, parts_are, spelled_so, bytes_are, all_spelled, rows_count, row_counts, parts_spelled, parts_cost, items_cost, items_spelled}
+
+abbrev pub Machine : Type 0
+Machine = Node AnyRow Layout
+
+-- how many bytes a step sends at most
+abbrev pub mail_limit : ℕ
+mail_limit = 4000000000000000000
+
+abbrev pub RoundFits : Option Round → Type 0
+RoundFits None = ⊤
+RoundFits (Some round) = ArePartsOf 0 round.parts
+
+-- what a node's counts are after so many steps, in which so many bytes were delivered
+pub record NodeFits (t k : ℕ) (x : Machine) : Type 0 where
+  pub counted : load x.accepted + x.queued ≤ k
+  pub listed : length x.items ≤ x.queued
+  pub small : AllByRecursion (λ (item : Item AnyRow). weight item.row ≤ 64) x.items
+  pub rounds : x.rounds ≤ t
+  pub phases : AllByRecursion (λ (c : Call AnyRow). c.phases ≤ t) x.calls
+  pub blocks : AllByRecursion (λ (b : machine.Block). IsShort b.bytes) x.blocks
+  pub round : RoundFits x.round
+
+-- a message has short blocks beside the rows that it asks to store
+abbrev pub MessageBeside : Message AnyRow → Type 0
+MessageBeside (Store tag named p rows) = AllByRecursion (λ (b : List ℕ × Option (List ℕ)). IsShortBlock b.1) rows
+MessageBeside _ = ⊤
+
+abbrev pub PacketBeside : Packet AnyRow Layout → Type 0
+PacketBeside (says m) = MessageBeside m
+PacketBeside (shows v) = ⊤
+
+-- what a node did fits
+pub record DidFits (t k : ℕ) (d : Did AnyRow Layout) : Type 0 where
+  pub node : NodeFits t k d.node
+  pub spelled : d.is_spelled ≡ true
+  pub cost : Costs d.posts mail_limit
+  pub beside : AllByRecursion (λ (p : Mail). PacketBeside p.packet) d.posts
+
+pub node_later : (t k u m : ℕ) (x : Machine) → t ≤ u → k ≤ m → NodeFits t k x → NodeFits u m x
+node_later t k u m x h g f =
+    let a = f.counted in
+    let b = f.rounds in
+    record {
+      counted = omega arith;
+      listed = f.listed;
+      small = f.small;
+      rounds = omega arith;
+      phases = all_weaker (λ (c : Call AnyRow). c.phases ≤ t) (λ (c : Call AnyRow). c.phases ≤ u) (λ c low. omega arith) x.calls f.phases;
+      blocks = f.blocks;
+      round = f.round;
+    }
+
+-- the property that blocks have where they are asked for
+abbrev pub Short : List ℕ → List ℕ → Type 0
+Short hash bytes = IsShort bytes
+
+-- ---- rows that are called for are short
+
+versions_small : (vs : List Version) → AllByRecursion (λ (r : AnyRow). weight r ≤ 64) (map deleted_version vs)
+versions_small [] = tt
+versions_small (v ∷ vs) = (let w = (version_weight v.id Deleted).1 in omega arith, versions_small vs)
+
+references_small : (v : Drawn) (id : ℕ) (hs : List Hash32) → AllByRecursion (RowFits v) (map (deleted_reference id) hs) → AllByRecursion (λ (r : AnyRow). weight r ≤ 64) (map (deleted_reference id) hs)
+references_small v id [] a = tt
+references_small v id (h ∷ hs) a = (let w = ref_weight (record { hash = h; id = id; deleted = record { 0 = true } }) a.0.0 in omega arith, references_small v id hs a.1)
+
+triggered_small : (v : Drawn) (a b : AnyRow) → AllByRecursion (RowFits v) (triggered a b) → AllByRecursion (λ (r : AnyRow). weight r ≤ 64) (triggered a b)
+triggered_small v (rows.Object a) (rows.Object b) h = versions_small (given_up a b)
+triggered_small v (rows.Object a) (rows.Version b) h = tt
+triggered_small v (rows.Object a) (rows.Ref b) h = tt
+triggered_small v (rows.Version a) (rows.Object b) h = tt
+triggered_small v (rows.Version a) (rows.Version b) h = references_small v a.id (released a b) h
+triggered_small v (rows.Version a) (rows.Ref b) h = tt
+triggered_small v (rows.Ref a) (rows.Object b) h = tt
+triggered_small v (rows.Ref a) (rows.Version b) h = tt
+triggered_small v (rows.Ref a) (rows.Ref b) h = tt
+
+length_queue : (n : ℕ) (rs : List AnyRow) → length (queue_from any_join words n rs) ≡ length rs
+length_queue n [] = refl
+length_queue n (r ∷ rs) = ap suc (length_queue (suc n) rs)
+
+queue_small : (n : ℕ) (rs : List AnyRow) → AllByRecursion (λ (r : AnyRow). weight r ≤ 64) rs → AllByRecursion (λ (item : Item AnyRow). weight item.row ≤ 64) (queue_from any_join words n rs)
+queue_small n [] a = tt
+queue_small n (r ∷ rs) a = (a.0, queue_small (suc n) rs a.1)
+
+blocks_short : (blocks : List machine.Block) (needed : Option (List ℕ)) (given : Option (List ℕ)) → AllByRecursion (λ (b : machine.Block). IsShort b.bytes) blocks → IsShortBlock given → AllByRecursion (λ (b : machine.Block). IsShort b.bytes) (blocks_after any_join words blocks needed given)
+blocks_short blocks None given a h = a
+blocks_short blocks (Some hash) None a h = a
+blocks_short blocks (Some hash) (Some bytes) a h =
+    elim (has_block blocks hash) as (λ c. AllByRecursion (λ (b : machine.Block). IsShort b.bytes) (cond c blocks (record { hash = hash; bytes = bytes } ∷ blocks))) [ true ↦ a | false ↦ (h, a) ]
+
+pub filter_fewer : {X : Type 0} (test : X → Bool) (xs : List X) → length (filter test xs) ≤ length xs
+filter_fewer test [] = omega arith
+filter_fewer test (x ∷ xs) = let rest = filter_fewer test xs in elim (test x) as (λ b. length (cond b (x ∷ filter test xs) (filter test xs)) ≤ suc (length xs)) [ true ↦ omega arith | false ↦ omega arith ]
+
+phases_with : (t : ℕ) (c : Call AnyRow) (calls : List (Call AnyRow)) → c.phases ≤ t → AllByRecursion (λ (d : Call AnyRow). d.phases ≤ t) calls → AllByRecursion (λ (d : Call AnyRow). d.phases ≤ t) (with_call c calls)
+phases_with t c [] h a = tt
+phases_with t c (d ∷ calls) h a = (
+  elim (d.request == c.request) as (λ b. (let e : Call AnyRow = cond b (record d { phases = c.phases; present = c.present }) d in e.phases ≤ t)) [ true ↦ h | false ↦ a.0 ],
+  phases_with t c calls h a.1,
+)
+
+block_short : (bs : List machine.Block) (hash : List ℕ) → AllByRecursion (λ (b : machine.Block). IsShort b.bytes) bs → IsShortBlock (block_at bs hash)
+block_short [] hash a = tt
+block_short (b ∷ bs) hash a = elim (same_bytes b.hash hash) as (λ c. IsShortBlock (cond c (Some b.bytes) (block_at bs hash))) [ true ↦ a.0 | false ↦ block_short bs hash a.1 ]
+
+found_short : (x : Machine) (needed : Option (List ℕ)) → AllByRecursion (λ (b : machine.Block). IsShort b.bytes) x.blocks → IsShortBlock (found any_join words x needed)
+found_short x None a = tt
+found_short x (Some hash) a = block_short x.blocks hash a
+
+each_beside : (nodes : List ℕ) (m : Message AnyRow) → MessageBeside m → AllByRecursion (λ (p : Mail). PacketBeside p.packet) (to_each nodes m)
+each_beside [] m h = tt
+each_beside (n ∷ nodes) m h = (h, each_beside nodes m h)
+
+module _ (x : Machine) (blocks : AllByRecursion (λ (b : machine.Block). IsShort b.bytes) x.blocks) where
+  map_beside : (rs : List AnyRow) → AllByRecursion (λ (b : List ℕ × Option (List ℕ)). IsShortBlock b.1) (map (with_its_block any_join words x) rs)
+  map_beside [] = tt
+  map_beside (r ∷ rs) = (found_short x (words.live_block r) blocks, map_beside rs)
+
+  rows_beside : (number p : ℕ) (nodes : List ℕ) (rs : List AnyRow) → AllByRecursion (λ (p : Mail). PacketBeside p.packet) (pushes_rows any_join words layouts x number p nodes rs)
+  rows_beside number p nodes [] = tt
+  rows_beside number p nodes (r ∷ rs) = each_beside nodes (Store (ForRound number p) (newest layouts.reading x.view) p (map (with_its_block any_join words x) (r ∷ rs))) (map_beside (r ∷ rs))
+
+  parts_beside : (number : ℕ) (nodes : Part → List ℕ) (parts : List Part) → AllByRecursion (λ (p : Mail). PacketBeside p.packet) (flat_map (λ part. pushes any_join words layouts x number part.partition (nodes part)) parts)
+  parts_beside number nodes [] = tt
+  parts_beside number nodes (part ∷ parts) =
+      all_append (λ (p : Mail). PacketBeside p.packet) (pushes any_join words layouts x number part.partition (nodes part)) (flat_map (λ part. pushes any_join words layouts x number part.partition (nodes part)) parts)
+      (rows_beside number part.partition (nodes part) (rows_at any_join words x part.partition)) (parts_beside number nodes parts)
+
+items_beside : (view : View Layout) (items : List (Item AnyRow)) → AllByRecursion (λ (p : Mail). PacketBeside p.packet) (flat_map (item_posts any_join words layouts view) items)
+items_beside view [] = tt
+items_beside view (item ∷ items) =
+    let p = partition_of words item.row in
+    all_append (λ (p : Mail). PacketBeside p.packet) (item_posts any_join words layouts view item) (flat_map (item_posts any_join words layouts view) items)
+    (each_beside (nodes_of (stored_sets layouts view p)) (Store (ForItem item.number) (newest layouts.reading view) p ((bytes_of words item.row, None) ∷ [])) (tt, tt)) (items_beside view items)
+
+-- what a phase asks nodes for, or asks to store, is short
+abbrev pub StoredFits : Drawn → AnyRow × Option (List ℕ) → Type 0
+StoredFits v r = RowFits v r.0 × (weight r.0 ≤ 8192) × IsShortBlock r.1
+
+abbrev pub PhaseFits : Drawn → Phase AnyRow → Type 0
+PhaseFits v (Read table position key) = length key ≤ 200
+PhaseFits v (Scans position prefix after) = (length prefix ≤ 100) × (length after ≤ 100)
+PhaseFits v (Keeps rs) = (length rs ≤ 2) × AllByRecursion (StoredFits v) rs
+PhaseFits v (Fetches hash) = ⊤
+
+module _ (facts : Facts) (t : ℕ) (v : Drawn) (within : AreWithin t v) (g : Asks) (count n : ℕ) where
+  abbrev pub Sound : Machine → Type 0
+  Sound x = IsNode any_join words (RowFits v) Short g count n x
+
+  -- ---- rows that are accepted
+
+  called_small : (table : ℕ) (key : List ℕ) (old : Option AnyRow) (r : AnyRow) → IsFound words (RowFits v) table key old → IsAt words (RowFits v) table key r →
+      AllByRecursion (λ (r : AnyRow). weight r ≤ 64) (called_for any_join words old (option_join any_join old (Some r)))
+  called_small table key None r p q = tt
+  called_small table key (Some old) r p q = triggered_small v old (any_join old r) (called_fit facts t v within old r (same_at (fits_rules facts t v within) table key old r p q) p.good.has q.good.has)
+
+  row_after : (r : AnyRow) (older : List AnyRow) → option_join any_join (row_at any_join words older (words.table r) (words.key r)) (Some r) ≡ row_at any_join words (r ∷ older) (words.table r) (words.key r)
+  row_after = rows_after facts t v within
+
+  accepts_fits : (now k : ℕ) (x : Machine) (r : AnyRow) (given : Option (List ℕ)) → IsGood words (RowFits v) r → IsShortBlock given → Sound x → NodeFits t k x → NodeFits t (k + weight r) (accepts any_join words now x r given)
+  accepts_fits now k x r given good short i f =
+      let table = words.table r in
+      let key = words.key r in
+      let before = row_at any_join words x.accepted table key in
+      let after = row_at any_join words (r ∷ x.accepted) table key in
+      let called = called_for any_join words before after in
+      let counts : load (r ∷ x.accepted) + length called ≤ load x.accepted + weight r = accepted_counts facts t v within r x.accepted good i.accepted in
+      let was : load x.accepted + x.queued ≤ k = f.counted in
+      let more : length (x.items ++ queue_from any_join words x.queued called) ≡ length x.items + length (queue_from any_join words x.queued called) = length-append x.items (queue_from any_join words x.queued called) in
+      let new : length (queue_from any_join words x.queued called) ≡ length called = length_queue x.queued called in
+      let listed : length x.items ≤ x.queued = f.listed in
+      let at : IsAt words (RowFits v) table key r = record { good = good; table_is = refl; key_is = refl } in
+      let small : AllByRecursion (λ (r : AnyRow). weight r ≤ 64) called =
+      subst (λ (o : Option AnyRow). AllByRecursion (λ (r : AnyRow). weight r ≤ 64) (called_for any_join words before o)) (row_after r x.accepted) (called_small table key before r (row_found (fits_rules facts t v within) x.accepted table key i.accepted) at) in
+      record {
+        counted = omega arith;
+        listed = omega arith;
+        small = all_append (λ (item : Item AnyRow). weight item.row ≤ 64) x.items (queue_from any_join words x.queued called) f.small (queue_small x.queued called small);
+        rounds = f.rounds;
+        phases = f.phases;
+        blocks = blocks_short x.blocks (block_of any_join words after) given f.blocks short;
+        round = f.round;
+      }
+
+  read_weight : (bytes : List ℕ) (r : AnyRow) → words.read bytes ≡ Some r → RowFits v r → weight r ≡ length bytes
+  read_weight bytes r e fits =
+      let two : Some (spelled r) ≡ Some bytes = sym (fits_spelled t v within r fits) ∙ (schema_laws.reads_back r bytes).0 e in
+      let same : spelled r ≡ bytes = cc in
+      ap (λ b. length b) same
+
+  accepts_read_fits : (now k : ℕ) (x : Machine) (bytes : List ℕ) (o : Option AnyRow) (given : Option (List ℕ)) → words.read bytes ≡ o → ReadsTo any_join words (RowFits v) Short bytes → IsShortBlock given → Sound x → NodeFits t k x →
+      NodeFits t (k + stored_length (bytes, given)) (accepts_read any_join words now x o given)
+  accepts_read_fits now k x bytes None given e to short i f = node_later t k t (k + stored_length (bytes, given)) x (omega arith) (omega arith) f
+  accepts_read_fits now k x bytes (Some r) given e to short i f =
+      let fits = to r e in
+      let w = read_weight bytes r e fits in
+      node_later t (k + weight r) t (k + stored_length (bytes, given)) _ (omega arith) (omega arith)
+      (accepts_fits now k x r given (record { proper = schema_laws.spelled_is_proper r bytes ((schema_laws.reads_back r bytes).0 e); has = fits }) short i f)
+
+  all_accepted : (now k : ℕ) (bs : List (List ℕ × Option (List ℕ))) (x : Machine) → AllByRecursion (λ (b : List ℕ × Option (List ℕ)). ReadsTo any_join words (RowFits v) Short b.0) bs → AllByRecursion (λ (b : List ℕ × Option (List ℕ)). IsShortBlock b.1) bs → Sound x → NodeFits t k x →
+      NodeFits t (k + total stored_length bs) (accepts_all any_join words now x bs)
+  all_accepted now k [] x a b i f = node_later t k t (k + 0) x (omega arith) (omega arith) f
+  all_accepted now k (c ∷ bs) x a b i f =
+      let one = accepts_read any_join words now x (words.read c.0) c.1 in
+      let here : NodeFits t (k + stored_length c) one = accepts_read_fits now k x c.0 (words.read c.0) c.1 refl a.0 b.0 i f in
+      let still_sound : Sound one = accepts_all_node (fits_rules facts t v within) Short g count n now (c ∷ []) x (a.0, tt) i in
+      let m = k + stored_length c in
+      node_later t (m + total stored_length bs) t (k + total stored_length (c ∷ bs)) _ (omega arith) (omega arith) (all_accepted now m bs one a.1 b.1 still_sound here)
+
+  -- ---- a node whose view changes
+
+  pub sees_fits : (now k : ℕ) (x : Machine) (view : View Layout) → Sound x → NodeFits t k x → NodeFits t k (sees any_join words layouts n now x view)
+  sees_fits now k x view i f =
+      let closes : (old : ℕ) (o : Option Round) → RoundFits o → RoundFits (still old o) = (λ old o. elim o as (λ p. RoundFits p → RoundFits (still old p)) [
+        | None ↦ (λ h. h)
+        | Some round ↦ (λ h. elim (leb round.target old) as (λ b. RoundFits (cond b None (Some round))) [ true ↦ tt | false ↦ h ])
+      ]) in
+      let new : Machine = record x { view = view; round = still (oldest layouts.reading view) x.round } in
+      let low = dropped_counts facts t v within (λ p. is_given layouts view n p) x.accepted i.accepted in
+      let was : load x.accepted + x.queued ≤ k = f.counted in
+      elim (leb (oldest layouts.reading view) (oldest layouts.reading x.view)) as (λ b. NodeFits t k (cond b new (drops any_join words layouts n now new))) [
+        | true ↦ record { counted = f.counted; listed = f.listed; small = f.small; rounds = f.rounds; phases = f.phases; blocks = f.blocks; round = closes (oldest layouts.reading view) x.round f.round }
+        | false ↦ record { counted = omega arith; listed = f.listed; small = f.small; rounds = f.rounds; phases = f.phases; blocks = f.blocks; round = closes (oldest layouts.reading view) x.round f.round }
+      ]
+
+  goes_fits : (k : ℕ) (u : ℕ) (x : Machine) (round : Round) → ArePartsOf 0 round.parts → NodeFits u k x → NodeFits u k (goes_on any_join words layouts n x round)
+  goes_fits k u x round parts f = elim (is_complete round) as (λ b. NodeFits u k (cond b (synced any_join words layouts n x round) (record x { round = Some round }))) [
+    | true ↦ record { counted = f.counted; listed = f.listed; small = f.small; rounds = f.rounds; phases = f.phases; blocks = f.blocks; round = tt }
+    | false ↦ record { counted = f.counted; listed = f.listed; small = f.small; rounds = f.rounds; phases = f.phases; blocks = f.blocks; round = parts }
+  ]
+
+  -- ---- what a node does
+
+  module _ (k m : ℕ) (grows : k ≤ m) (top : m ≤ 27000000000000) (x : Machine) (i : Sound x) (f : NodeFits t k x) (views : ViewFits x.view) where
+    abbrev pub Fits : Did AnyRow Layout → Type 0
+    Fits d = DidFits (suc t) m d
+
+    abbrev now_fits : NodeFits (suc t) m x
+    now_fits = node_later t k (suc t) m x (omega arith) grows f
+
+    quiets : (y : Machine) → NodeFits (suc t) m y → Fits (quiet y)
+    quiets y h = record { node = h; spelled = refl; cost = costs_nothing mail_limit; beside = tt }
+
+    rests : Fits (quiet x)
+    rests = quiets x now_fits
+
+    either : (b : Bool) (d e : Did AnyRow Layout) → Fits d → Fits e → Fits (cond b d e)
+    either true d e h j = h
+    either false d e h j = j
+
+    answers_fit : (y : Machine) (to : ℕ) (msg : Message AnyRow) (b : ℕ) → NodeFits (suc t) m y → size words msg ≡ Some b → b ≤ mail_limit → MessageBeside msg → Fits (answers y to msg)
+    answers_fit y to msg b h e low beside = record { node = h; spelled = refl; cost = costs_more _ b mail_limit (costs_one (record { to = to; packet = says msg }) b e) low; beside = (beside, tt) }
+
+    in_call : (request phase : ℕ) (act : Call AnyRow → Did AnyRow Layout) (o : Option (Call AnyRow)) → call_at x.calls request ≡ o → ((c : Call AnyRow) → c.phases ≤ t → Fits (act c)) → Fits (at_call x phase act o)
+    in_call request phase act None e h = rests
+    in_call request phase act (Some c) e h =
+        let low = (all_found (λ (c : Call AnyRow). c.phases ≤ t) (λ (c : Call AnyRow). c.request == request) x.calls c f.phases e).0 in
+        either (c.phases == phase) (act c) (quiet x) (h c low) rests
+
+    here : (from request phase at : ℕ) (d : Did AnyRow Layout) → Fits d → Fits (where_stored any_join words layouts x from request phase at d)
+    here from request phase at d h = either (is_stored layouts x.view at) d _ h (answers_fit x from (NotHere (ForCall request phase 0)) (64 + 0) now_fits refl (omega arith) tt)
+
+    call_now : (c : Call AnyRow) (p : Present AnyRow) → c.phases ≤ t → NodeFits (suc t) m (calls_now x (record c { present = p }))
+    call_now c p low = record {
+      counted = now_fits.counted;
+      listed = now_fits.listed;
+      small = f.small;
+      rounds = now_fits.rounds;
+      phases = phases_with (suc t) (record c { present = p }) x.calls (omega arith) now_fits.phases;
+      blocks = f.blocks;
+      round = f.round;
+    }
+
+    asked_fits : (c : Call AnyRow) → c.phases ≤ t → (q : Question AnyRow) (as' : List (ℕ × Option AnyRow)) (a : ℕ × Option AnyRow) (o : Option (Option AnyRow)) → Fits (asked x c q as' a o)
+    asked_fits c low q as' a None = quiets (calls_now x (record c { present = asking q (as' ++ a ∷ []) })) (call_now c (asking q (as' ++ a ∷ [])) low)
+    asked_fits c low q as' a (Some value) = record { node = call_now c resting low; spelled = refl; cost = costs_nothing mail_limit; beside = tt }
+
+    looked_fits : (c : Call AnyRow) → c.phases ≤ t → (q : Scan AnyRow) (as' : List (ℕ × RangeAnswer AnyRow)) (a : ℕ × RangeAnswer AnyRow) (o : Option (Window AnyRow)) → Fits (looked x c q as' a o)
+    looked_fits c low q as' a None = quiets (calls_now x (record c { present = scanning q (as' ++ a ∷ []) })) (call_now c (scanning q (as' ++ a ∷ [])) low)
+    looked_fits c low q as' a (Some w) = record { node = call_now c resting low; spelled = refl; cost = costs_nothing mail_limit; beside = tt }
+
+    stored_fits : (c : Call AnyRow) → c.phases ≤ t → (rs : List AnyRow) (slots : List StoreSlot) (b : Bool) → Fits (stored x c rs slots b)
+    stored_fits c low rs slots false = quiets (calls_now x (record c { present = storing rs slots })) (call_now c (storing rs slots) low)
+    stored_fits c low rs slots true = record { node = call_now c resting low; spelled = refl; cost = costs_nothing mail_limit; beside = tt }
+
+    row_fits : (c : Call AnyRow) → c.phases ≤ t → (from : ℕ) (row : Option AnyRow) (p : Present AnyRow) → Fits (row_came any_join x c from row p)
+    row_fits c low from row (asking q as') = asked_fits c low q as' (from, row) (value_after any_join q as' (from, row))
+    row_fits c low from row resting = rests
+    row_fits c low from row (scanning q as') = rests
+    row_fits c low from row (storing rs slots) = rests
+    row_fits c low from row (fetching hash) = rests
+
+    rows_fit : (c : Call AnyRow) → c.phases ≤ t → (from : ℕ) (rs : List AnyRow) (more : Bool) (p : Present AnyRow) → Fits (rows_came any_join words x c from rs more p)
+    rows_fit c low from rs more (scanning q as') = looked_fits c low q as' (from, record { rows = rs; more = more }) (window_at any_join words (first_two_at q.set as' (from, record { rows = rs; more = more })))
+    rows_fit c low from rs more resting = rests
+    rows_fit c low from rs more (asking q as') = rests
+    rows_fit c low from rs more (storing rs' slots) = rests
+    rows_fit c low from rs more (fetching hash) = rests
+
+    confirmed_fits : (c : Call AnyRow) → c.phases ≤ t → (slot from : ℕ) (p : Present AnyRow) → Fits (stored_came layouts x c slot from p)
+    confirmed_fits c low slot from (storing rs slots) = let now = with_confirmation slots slot from in stored_fits c low rs now (is_kept now (oldest layouts.reading x.view))
+    confirmed_fits c low slot from resting = rests
+    confirmed_fits c low slot from (asking q as') = rests
+    confirmed_fits c low slot from (scanning q as') = rests
+    confirmed_fits c low slot from (fetching hash) = rests
+
+    block_fits : (c : Call AnyRow) → c.phases ≤ t → (bytes : List ℕ) (p : Present AnyRow) → Fits (block_came x c bytes p)
+    block_fits c low bytes (fetching hash) = record { node = call_now c resting low; spelled = refl; cost = costs_nothing mail_limit; beside = tt }
+    block_fits c low bytes resting = rests
+    block_fits c low bytes (asking q as') = rests
+    block_fits c low bytes (scanning q as') = rests
+    block_fits c low bytes (storing rs slots) = rests
+
+    gives_row_fits : (from request phase table : ℕ) (key : List ℕ) (row : Option AnyRow) → row_at any_join words x.accepted table key ≡ row → IsFound words (RowFits v) table key row → Fits (gives_row any_join words layouts x from request phase row)
+    gives_row_fits from request phase table key None e h = answers_fit x from (Row request phase None) (64 + 0) now_fits refl (omega arith) tt
+    gives_row_fits from request phase table key (Some r) e h =
+        let low = found_counts facts t v within table key x.accepted r i.accepted e in
+        let was : load x.accepted + x.queued ≤ k = f.counted in
+        let a = answers_fit x from (Row request phase (Some r)) (64 + weight r) now_fits (ap (plus (Some 64)) (row_counts facts t v within r h.good.has)) (omega arith) tt in
+        record { node = a.node; spelled = spelled_so facts t v within r h.good.has; cost = a.cost; beside = a.beside }
+
+    gives_rows_fit : (from request phase : ℕ) (begin after : List ℕ) → Fits (gives_rows any_join words layouts x from request phase (range words 1 begin after most_rows (rows_of any_join words x.accepted)))
+    gives_rows_fit from request phase begin after =
+        let all = rows_of any_join words x.accepted in
+        let past = filter (is_past words 1 begin after) all in
+        let rs = take most_rows past in
+        let more = nat_lt most_rows (length past) in
+        let good : AllByRecursion (IsGood words (RowFits v)) rs = all_take (IsGood words (RowFits v)) most_rows past (all_filter (IsGood words (RowFits v)) (is_past words 1 begin after) all (rows_good (fits_rules facts t v within) x.accepted i.accepted)) in
+        let one = total_take weight most_rows past in
+        let two = total_filter weight (is_past words 1 begin after) all in
+        let was : load x.accepted + x.queued ≤ k = f.counted in
+        let a = answers_fit x from (Rows request phase rs more) (64 + total weight rs) now_fits (ap (plus (Some 64)) (rows_count facts t v within rs good)) (omega arith) tt in
+        record { node = a.node; spelled = all_spelled facts t v within rs good; cost = a.cost; beside = a.beside }
+
+    gives_block_fits : (from request phase : ℕ) (o : Option (List ℕ)) → IsShortBlock o → Fits (gives_block any_join words layouts x from request phase o)
+    gives_block_fits from request phase None h = answers_fit x from (NoBlock request phase) (64 + 0) now_fits refl (omega arith) tt
+    gives_block_fits from request phase (Some bytes) h = let low = h.short in answers_fit x from (Block request phase bytes) (64 + length bytes) now_fits refl (omega arith) tt
+
+    takes_fits : (now from : ℕ) (tag : Tag) (named p : ℕ) (bs : List (List ℕ × Option (List ℕ))) → IsMessage any_join words (RowFits v) Short g from n (Store tag named p bs) → MessageBeside (Store tag named p bs) → k + total stored_length bs ≤ m →
+        Fits (takes any_join words layouts n now x from tag named p bs)
+    takes_fits now from tag named p bs is beside room =
+        either (nat_lt (newest layouts.reading x.view) named) _ _ (answers_fit x from (Behind tag (newest layouts.reading x.view)) (64 + 0) now_fits refl (omega arith) tt)
+        (either (not (is_given layouts x.view n p)) _ _ (answers_fit x from (NotHere tag) (64 + 0) now_fits refl (omega arith) tt)
+        (answers_fit (accepts_all any_join words now x bs) from (Stored tag) (64 + 0) (node_later t (k + total stored_length bs) (suc t) m _ (omega arith) room (all_accepted now k bs x is beside i f)) refl (omega arith) tt))
+
+    round_fits : (from number p : ℕ) (o : Option Round) → RoundFits o → Fits (round_came any_join words layouts n x from number p o)
+    round_fits from number p None h = rests
+    round_fits from number p (Some round) h =
+        let new : Round = record round { confirmed = round.confirmed ++ record { partition = p; node = from } ∷ [] } in
+        either (round.number == number) (quiet (goes_on any_join words layouts n x new)) (quiet x) (quiets (goes_on any_join words layouts n x new) (goes_fits m (suc t) x new h now_fits)) rests
+
+    items_came : (view : View Layout) (from number : ℕ) (items : List (Item AnyRow)) → AllByRecursion (λ (item : Item AnyRow). weight item.row ≤ 64) items → AllByRecursion (λ (item : Item AnyRow). weight item.row ≤ 64) (item_came any_join words layouts view from number items) × (length (item_came any_join words layouts view from number items) ≤ length items)
+    items_came view from number [] a = (tt, omega arith)
+    items_came view from number (item ∷ items) a =
+        let new : Item AnyRow = record item { confirmed = item.confirmed ++ from ∷ [] } in
+        let rest = items_came view from number items a.1 in
+        let fewer = rest.1 in
+        elim (item.number == number) as (λ b. (let is = cond b (kept_item any_join words layouts view new items) (item ∷ item_came any_join words layouts view from number items) in AllByRecursion (λ (item : Item AnyRow). weight item.row ≤ 64) is × (length is ≤ suc (length items)))) [
+          | true ↦ (elim (is_done any_join words layouts view new) as (λ b. (let is = cond b items (new ∷ items) in AllByRecursion (λ (item : Item AnyRow). weight item.row ≤ 64) is × (length is ≤ suc (length items)))) [ true ↦ (a.1, omega arith) | false ↦ ((a.0, a.1), omega arith) ])
+          | false ↦ ((a.0, rest.0), omega arith)
+        ]
+
+    confirms_fit : (from : ℕ) (tag : Tag) → Fits (confirms any_join words layouts n x from tag)
+    confirms_fit from (ForCall request phase slot) = in_call request phase (λ c. stored_came layouts x c slot from c.present) (call_at x.calls request) refl (λ c low. confirmed_fits c low slot from c.present)
+    confirms_fit from (ForRound number p) = round_fits from number p x.round f.round
+    confirms_fit from (ForItem number) =
+        let is = items_came x.view from number x.items f.small in
+        let fewer = is.1 in
+        let listed : length x.items ≤ x.queued = f.listed in
+        quiets (record x { items = item_came any_join words layouts x.view from number x.items })
+        (record { counted = now_fits.counted; listed = omega arith; small = is.0; rounds = now_fits.rounds; phases = now_fits.phases; blocks = f.blocks; round = f.round })
+
+    hears_fits : (now from : ℕ) (msg : Message AnyRow) → IsMessage any_join words (RowFits v) Short g from n msg → MessageBeside msg → ((b : ℕ) → size words msg ≡ Some b → k + b ≤ m) → Fits (hears any_join words layouts n now x from msg)
+    hears_fits now from (Get request phase at table key) is beside room = here from request phase at _ (gives_row_fits from request phase table key (row_at any_join words x.accepted table key) refl (row_found (fits_rules facts t v within) x.accepted table key i.accepted))
+    hears_fits now from (Row request phase row) is beside room = in_call request phase (λ c. row_came any_join x c from row c.present) (call_at x.calls request) refl (λ c low. row_fits c low from row c.present)
+    hears_fits now from (Range request phase at bucket prefix after) is beside room = here from request phase at _ (gives_rows_fit from request phase (bucket.0 ++ prefix) (bucket.0 ++ after))
+    hears_fits now from (Rows request phase rs more) is beside room = in_call request phase (λ c. rows_came any_join words x c from rs more c.present) (call_at x.calls request) refl (λ c low. rows_fit c low from rs more c.present)
+    hears_fits now from (Store tag named p bs) is beside room =
+        let sum : total stored_length bs ≡ sum_by stored_length bs = is_sum_by (total stored_length) stored_length refl (λ y ys. refl) bs in
+        let low : k + (64 + sum_by stored_length bs) ≤ m = room (64 + sum_by stored_length bs) refl in
+        takes_fits now from tag named p bs is beside (omega arith)
+    hears_fits now from (Stored tag) is beside room = confirms_fit from tag
+    hears_fits now from (Behind tag new) is beside room = rests
+    hears_fits now from (NotHere tag) is beside room = rests
+    hears_fits now from (BlockGet request phase at hash) is beside room = here from request phase at _ (gives_block_fits from request phase (block_at x.blocks hash.0) (block_short x.blocks hash.0 f.blocks))
+    hears_fits now from (Block request phase bytes) is beside room = in_call request phase (λ c. block_came x c bytes c.present) (call_at x.calls request) refl (λ c low. block_fits c low bytes c.present)
+    hears_fits now from (NoBlock request phase) is beside room = rests
+
+    -- a packet comes
+    pub receives_fits : (now from : ℕ) (p : Packet AnyRow Layout) → IsPacket any_join words (RowFits v) Short g from n p → PacketBeside p → ((b : ℕ) → packet_size words p ≡ Some b → k + b ≤ m) → Fits (receives any_join words layouts n now x from p)
+    receives_fits now from (says msg) is beside room = hears_fits now from msg is beside room
+    receives_fits now from (shows view) is beside room = quiets _ (node_later t k (suc t) m _ (omega arith) grows (sees_fits now k x (merged layouts.reading x.view view) i f))
+
+    -- ---- a node acts
+
+    parts_did : (y : Machine) (number : ℕ) (nodes : Part → List ℕ) (parts : List Part) → NodeFits (suc t) m y → ArePartsOf 0 parts → ((part : Part) → length part.set ≤ 3 → length (nodes part) ≤ 3) →
+        Fits (record (quiet y) { posts = flat_map (λ part. pushes any_join words layouts x number part.partition (nodes part)) parts; is_spelled = are_spelled any_join words layouts x parts })
+    parts_did y number nodes parts h are few =
+        let was : load x.accepted + x.queued ≤ k = f.counted in
+        record {
+          node = h;
+          spelled = parts_spelled facts t v within x i.accepted f.blocks parts;
+          cost = costs_more _ (120000 * load x.accepted) mail_limit (parts_cost facts t v within x i.accepted f.blocks number nodes parts are few) (omega arith);
+          beside = parts_beside x f.blocks number nodes parts;
+        }
+
+    open_few : (round : Round) (part : Part) → length part.set ≤ 3 → length (open_nodes round part) ≤ 3
+    open_few round part h = let a = filter_fewer (λ n. not (is_among n (confirmed_for part.partition round.confirmed))) part.set in omega arith
+
+    begin_fits : Fits (begin_round any_join words layouts n x)
+    begin_fits =
+        let at = read_version layouts.reading x.view in
+        let parts = parts_of any_join words layouts n x (layout_at layouts.reading x.view at) (layout_at layouts.reading x.view (suc at)) in
+        let round : Round = record { number = suc x.rounds; target = suc at; parts = parts; confirmed = map (λ (part : Part). record { partition = part.partition; node = n }) parts } in
+        let are : ArePartsOf 0 parts = parts_are n x (layout_at layouts.reading x.view at) (layout_at layouts.reading x.view (suc at)) (layout_fits x.view at views) (layout_fits x.view (suc at) views) in
+        let rounds = f.rounds in
+        let more : NodeFits (suc t) m (record x { rounds = suc x.rounds }) = record { counted = now_fits.counted; listed = f.listed; small = f.small; rounds = omega arith; phases = now_fits.phases; blocks = f.blocks; round = f.round } in
+        parts_did (goes_on any_join words layouts n (record x { rounds = suc x.rounds }) round) (suc x.rounds) (open_nodes round) parts (goes_fits m (suc t) (record x { rounds = suc x.rounds }) round are more) are (open_few round)
+
+    syncs_fit : (o : Option Round) → RoundFits o → Fits (syncs any_join words layouts n x o).did
+    syncs_fit (Some round) h = parts_did x round.number (open_nodes round) (open_parts round) now_fits (parts_filter _ 0 round.parts h) (open_few round)
+    syncs_fit None h = by_test (may_sync any_join words layouts n x.view) _ _
+      where
+        by_test : (b : Bool) (how other : LocalEnd) → Fits (cond {A = Acted AnyRow Layout} b (record { did = begin_round any_join words layouts n x; how = how }) (record { did = quiet x; how = other })).did
+        by_test true how other = begin_fits
+        by_test false how other = rests
+
+    viewed : (view : View Layout) → Fits (quiet (record x { view = view }))
+    viewed view = quiets (record x { view = view }) (record { counted = now_fits.counted; listed = f.listed; small = f.small; rounds = now_fits.rounds; phases = now_fits.phases; blocks = f.blocks; round = f.round })
+
+    -- a node does something by itself
+    pub acts_fit : (now : ℕ) (action : Action) → Fits (acts any_join words layouts n now x action).did
+    acts_fit now RaiseAck = viewed _
+    acts_fit now GoOn = syncs_fit x.round f.round
+    acts_fit now RaiseSyncAck = viewed _
+    acts_fit now CleanUp = quiets _ (node_later t k (suc t) m _ (omega arith) grows (sees_fits now k x (cleaned layouts.reading x.view) i f))
+    acts_fit now WorkOff =
+        let listed : length x.items ≤ x.queued = f.listed in
+        let was : load x.accepted + x.queued ≤ k = f.counted in
+        record {
+          node = record { counted = now_fits.counted; listed = f.listed; small = f.small; rounds = now_fits.rounds; phases = now_fits.phases; blocks = all_filter (λ (b : machine.Block). IsShort b.bytes) _ x.blocks f.blocks; round = f.round };
+          spelled = items_spelled facts t v within x.items i.items;
+          cost = costs_more _ (38400 * length x.items) mail_limit (items_cost facts t v within x.view x.items views i.items f.small) (omega arith);
+          beside = items_beside x.view x.items;
+        }
+    acts_fit now Mend =
+        let l = layout_at layouts.reading x.view (newest layouts.reading x.view) in
+        let h = layout_fits x.view (newest layouts.reading x.view) views in
+        let rounds = f.rounds in
+        parts_did (record x { rounds = suc x.rounds }) (suc x.rounds) (λ (part : Part). filter (λ m. not (m == n)) part.set) (parts_of any_join words layouts n x l l)
+        (record { counted = now_fits.counted; listed = f.listed; small = f.small; rounds = omega arith; phases = now_fits.phases; blocks = f.blocks; round = f.round }) (parts_are n x l l h h) (λ part low. let a = filter_fewer (λ m. not (m == n)) part.set in omega arith)
+
+    -- ---- phases
+
+    stores_cost : (request phase slot : ℕ) (rs : List (AnyRow × Option (List ℕ))) → AllByRecursion (StoredFits v) rs → Costs (stores words layouts x.view request phase slot rs) (330000000 * length rs)
+    stores_cost request phase slot [] a = costs_nothing (330000000 * 0)
+    stores_cost request phase slot (r ∷ rs) a =
+        let p = partition_of words r.0 in
+        let msg : Message AnyRow = Store (ForCall request phase slot) (newest layouts.reading x.view) p ((bytes_of words r.0, r.1) ∷ []) in
+        let bytes = bytes_are facts t v within r.0 a.0.0 in
+        let w = a.0.1 in
+        let beside : block_length r.1 ≤ 1048576 = by_block r.1 a.0.2 in
+        let c = 64 + (0 + stored_length (bytes_of words r.0, r.1)) in
+        let here : Costs (to_each (nodes_of (stored_sets layouts x.view p)) msg) (1100000 * 300) = costs_few (nodes_of (stored_sets layouts x.view p)) msg c 1100000 300 refl (omega arith) (nodes_few x.view p views) in
+        costs_more _ (1100000 * 300 + 330000000 * length rs) (330000000 * suc (length rs)) (costs_both (to_each (nodes_of (stored_sets layouts x.view p)) msg) (stores words layouts x.view request phase (suc slot) rs) _ _ here (stores_cost request phase (suc slot) rs a.1)) (omega arith)
+      where
+        by_block : (o : Option (List ℕ)) → IsShortBlock o → block_length o ≤ 1048576
+        by_block None h = omega arith
+        by_block (Some b) h = h.short
+
+    stores_beside : (request phase slot : ℕ) (rs : List (AnyRow × Option (List ℕ))) → AllByRecursion (StoredFits v) rs → AllByRecursion (λ (p : Mail). PacketBeside p.packet) (stores words layouts x.view request phase slot rs)
+    stores_beside request phase slot [] a = tt
+    stores_beside request phase slot (r ∷ rs) a =
+        let p = partition_of words r.0 in
+        let msg : Message AnyRow = Store (ForCall request phase slot) (newest layouts.reading x.view) p ((bytes_of words r.0, r.1) ∷ []) in
+        all_append (λ (p : Mail). PacketBeside p.packet) (to_each (nodes_of (stored_sets layouts x.view p)) msg) (stores words layouts x.view request phase (suc slot) rs)
+        (each_beside (nodes_of (stored_sets layouts x.view p)) msg (a.0.2, tt)) (stores_beside request phase (suc slot) rs a.1)
+
+    stored_spelled : (rs : List (AnyRow × Option (List ℕ))) → AllByRecursion (StoredFits v) rs → list_all (λ (r : AnyRow × Option (List ℕ)). is_spelled words r.0) rs ≡ true
+    stored_spelled [] a = refl
+    stored_spelled (r ∷ rs) a = and_both (is_spelled words r.0) (list_all (λ (r : AnyRow × Option (List ℕ)). is_spelled words r.0) rs) (spelled_so facts t v within r.0 a.0.0) (stored_spelled rs a.1)
+
+    phase_node : (c : Call AnyRow) (p : Present AnyRow) → c.phases ≤ t → NodeFits (suc t) m (calls_now x (record c { phases = suc c.phases; present = p }))
+    phase_node c p low = record {
+      counted = now_fits.counted;
+      listed = now_fits.listed;
+      small = f.small;
+      rounds = now_fits.rounds;
+      phases = phases_with (suc t) (record c { phases = suc c.phases; present = p }) x.calls (omega arith) now_fits.phases;
+      blocks = f.blocks;
+      round = f.round;
+    }
+
+    asks_fit : (c : Call AnyRow) (p : Present AnyRow) (set : List ℕ) (msg : Message AnyRow) (b : ℕ) → c.phases ≤ t → length set ≤ 3 → size words msg ≡ Some b → b ≤ 264 → MessageBeside msg → Fits (record (quiet (calls_now x (record c { phases = suc c.phases; present = p }))) { posts = to_each set msg })
+    asks_fit c p set msg b low few e h beside = record {
+      node = phase_node c p low;
+      spelled = refl;
+      cost = costs_more _ (264 * 3) mail_limit (costs_few set msg b 264 3 e h few) (omega arith);
+      beside = each_beside set msg beside;
+    }
+
+    -- a phase of a request begins
+    pub begins_fit : (kept : List AnyRow) (c : Call AnyRow) (phase : Phase AnyRow) → c.phases ≤ t → PhaseFits v phase → Fits (begins words layouts kept x c phase)
+    begins_fit kept c (Read table position key) low h =
+        let at = read_version layouts.reading x.view in
+        let set = set_at layouts x.view at (partition_at position.0) in
+        asks_fit c _ set (Get c.request (suc c.phases) at table key) (64 + length key) low (set_few (layout_at layouts.reading x.view at) (partition_at position.0) (layout_fits x.view at views)) refl (omega arith) tt
+    begins_fit kept c (Scans position prefix after) low h =
+        let at = read_version layouts.reading x.view in
+        let set = set_at layouts x.view at (partition_at position.0) in
+        let one = h.0 in
+        let two = h.1 in
+        asks_fit c _ set (Range c.request (suc c.phases) at position prefix after) (64 + (length prefix + length after)) low (set_few (layout_at layouts.reading x.view at) (partition_at position.0) (layout_fits x.view at views)) refl (omega arith) tt
+    begins_fit kept c (Keeps rs) low h =
+        let few = h.0 in
+        record {
+          node = phase_node c (storing (map (λ (r : AnyRow × Option (List ℕ)). r.0) rs) (slots_of words layouts x.view rs)) low;
+          spelled = stored_spelled rs h.1;
+          cost = costs_more _ (330000000 * length rs) mail_limit (stores_cost c.request (suc c.phases) 0 rs h.1) (omega arith);
+          beside = stores_beside c.request (suc c.phases) 0 rs h.1;
+        }
+    begins_fit kept c (Fetches hash) low h =
+        let at = read_version layouts.reading x.view in
+        let set = set_at layouts x.view at (partition_at hash.0) in
+        asks_fit c _ set (BlockGet c.request (suc c.phases) at hash) (64 + 0) low (set_few (layout_at layouts.reading x.view at) (partition_at hash.0) (layout_fits x.view at views)) refl (omega arith) tt

@@ -1,0 +1,316 @@
+-- How many bytes a node sends at once, and that none of it lacks a spelling.
+use Rattle.std.specs.Prelude.{◌≡◌, ◌≤◌, ◌+◌, ◌*◌, ℕ, zero, suc, Bool, true, false, ◌==◌, nat_lt, cond, List, [], ◌∷◌, ◌++◌, Option, Some, None, option_map, is_some, length, map, sum_by, slice_get, refl, ⊤}
+use Rattle.std.specs.List.{AllByRecursion, filter, find, flat_map, list_all}
+use Rattle.std.specs.Option.{unwrap_or}
+use Rattle.std.proofs.Common.{ap, mul-suc, mul-le-mul_left, length-append, arith}
+use Rattle.std.proofs.lemmas.List.Recursion.{is_sum_by}
+use Rattle.crdt_core.specs.EntryLaws.{and_both}
+use Rattle.crdt_core.proofs.Each.{all_weaker}
+use Rattle.crdt_rows.specs.declared.any_row.AnyRow.{AnyRow}
+use Rattle.crdt_rows.specs.declared.any_row.AnyRow.TheVariants as rows
+use Rattle.crdt_rows.specs.AnyRow.{any_join}
+use Rattle.layout_roles.specs.declared.layout.Layout.{Layout}
+use Rattle.view_model.specs.View.{View, newest, layout_at}
+use Rattle.row_codec.specs.Reads.{are_bytes}
+use Rattle.table_schema.specs.Words.{partition_of}
+use Rattle.table_model.specs.Rows.{rows, rows_in}
+use Rattle.wire_messages.specs.Size.{plus, row_length, rows_length, block_length, stored_length, size}
+use Rattle.wire_messages.specs.declared.message.Message.{Message}
+use Rattle.wire_messages.specs.declared.message.Message.TheVariants.{Store}
+use Rattle.wire_messages.specs.declared.message.Tag.TheVariants.{Round as ForRound, Item as ForItem}
+use Rattle.object_schema.specs.Schema.{words}
+use Rattle.cluster_machine.specs.Layouts.{layouts, set_of, set_in, stored_sets}
+use Rattle.cluster_machine.specs.Node.{Item, Part, Node, says, Post}
+use Rattle.cluster_machine.specs.Node as machine
+use Rattle.cluster_machine.specs.Rows.{same_bytes, block_at}
+use Rattle.cluster_machine.specs.Phases.{with_node, in_order, nodes_of, to_each, bytes_of, is_spelled}
+use Rattle.cluster_machine.specs.Phases as phases
+use Rattle.cluster_machine.specs.Rounds.{numbered_from, rows_at, found, with_its_block, pushes_rows, pushes, are_spelled, sets_in, parts_of}
+use Rattle.cluster_machine.specs.Acts.{item_posts}
+use Rattle.cluster_machine.specs.World.{World, packet_size, sent_bytes}
+use Rattle.cluster_machine.specs.Step.{sent_by}
+use Rattle.machine_origins.proofs.Good.{IsGood, rows_good}
+use Rattle.machine_origins.proofs.Lists.{all_filter}
+use Rattle.limit_rows.proofs.Totals.{total, total_times, total_weaker, total_map}
+use Rattle.limit_rows.specs.Fitting.{Drawn, AreWithin, RowFits, weight}
+use Rattle.limit_rows.proofs.Handed.{fits_rules}
+use Rattle.limit_rows.proofs.Weights.{fits_spelled, ref_weight, object_weight, version_weight}
+use Rattle.limit_rows.proofs.Contents.{load, from_part, part_counts, all_parts_count}
+use Rattle.object_origins.proofs.Shown.{Facts}
+
+-- what was drawn after a step more
+pub within_more : (t : ℕ) (v : Drawn) → AreWithin t v → suc t ≤ 16777216 → AreWithin (suc t) v
+within_more t v within low = record {
+  few = low;
+  few_versions = let a = within.few_versions in omega arith;
+  few_parts = let a = within.few_parts in omega arith;
+  versions_fit = λ x h. let f = within.versions_fit x h in let a = f.0 in let b = f.1 in (omega arith, omega arith);
+  parts_fit = λ p h. let f = within.parts_fit p h in let b = f.1 in (f.0, omega arith);
+}
+
+-- bytes of a block: a mebibyte at most
+pub record IsShort (bytes : List ℕ) : Type 0 where
+  pub are : are_bytes bytes ≡ true
+  pub short : length bytes ≤ 1048576
+
+abbrev pub IsShortBlock : Option (List ℕ) → Type 0
+IsShortBlock None = ⊤
+IsShortBlock (Some bytes) = IsShort bytes
+
+abbrev pub Mail : Type 0
+Mail = Post AnyRow Layout
+
+-- the bytes of what is sent, none where a row has no spelling
+abbrev pub mail_bytes : List Mail → Option ℕ
+mail_bytes [] = Some 0
+mail_bytes (p ∷ ps) = plus (packet_size words p.packet) (mail_bytes ps)
+
+-- these count so many bytes at most
+pub record Costs (posts : List Mail) (limit : ℕ) : Type 0 where
+  pub bytes : ℕ
+  pub is : mail_bytes posts ≡ Some bytes
+  pub within : bytes ≤ limit
+
+pub mail_sent : (w : World AnyRow Layout) (n : ℕ) (posts : List Mail) → sent_bytes words (sent_by w n posts) ≡ mail_bytes posts
+mail_sent w n [] = refl
+mail_sent w n (p ∷ ps) = ap (plus (packet_size words p.packet)) (mail_sent w n ps)
+
+pub costs_nothing : (limit : ℕ) → Costs [] limit
+costs_nothing limit = record { bytes = 0; is = refl; within = omega arith }
+
+pub costs_more : (posts : List Mail) (a b : ℕ) → Costs posts a → a ≤ b → Costs posts b
+costs_more posts a b c h = let low : c.bytes ≤ a = c.within in record { bytes = c.bytes; is = c.is; within = omega arith }
+
+plus_sum : (o p : Option ℕ) (a b : ℕ) → o ≡ Some a → p ≡ Some b → plus o p ≡ Some (a + b)
+plus_sum o p a b e f = rw (e, f) refl
+
+pub costs_one : (p : Mail) (b : ℕ) → packet_size words p.packet ≡ Some b → Costs (p ∷ []) b
+costs_one p b e = record { bytes = b + 0; is = plus_sum _ (Some 0) b 0 e refl; within = omega arith }
+
+costs_cons : (p : Mail) (ps : List Mail) (a b c : ℕ) → packet_size words p.packet ≡ Some c → c ≤ a → Costs ps b → Costs (p ∷ ps) (a + b)
+costs_cons p ps a b c e h k = let low : k.bytes ≤ b = k.within in record { bytes = c + k.bytes; is = plus_sum _ _ c k.bytes e k.is; within = omega arith }
+
+pub costs_both : (xs ys : List Mail) (a b : ℕ) → Costs xs a → Costs ys b → Costs (xs ++ ys) (a + b)
+costs_both [] ys a b c d = costs_more ys b (a + b) d (omega arith)
+costs_both (x ∷ xs) ys a b c d =
+    by_head (packet_size words x.packet) (mail_bytes xs) refl refl c.bytes c.is c.within (λ k f. costs_both xs ys k b (record { bytes = k; is = f; within = omega arith }) d)
+  where
+    by_head : (o p : Option ℕ) → packet_size words x.packet ≡ o → mail_bytes xs ≡ p → (n : ℕ) → plus o p ≡ Some n → n ≤ a → ((k : ℕ) → mail_bytes xs ≡ Some k → Costs (xs ++ ys) (k + b)) → Costs (x ∷ (xs ++ ys)) (a + b)
+    by_head None p e f n g h rest = cc
+    by_head (Some m) None e f n g h rest = cc
+    by_head (Some m) (Some k) e f n g h rest =
+        let sum : m + k ≡ n = cc in
+        costs_more (x ∷ (xs ++ ys)) (m + (k + b)) (a + b) (costs_cons x (xs ++ ys) m (k + b) m e (omega arith) (rest k f)) (omega arith)
+
+-- a message to each of these nodes
+pub costs_each : (nodes : List ℕ) (m : Message AnyRow) (b c : ℕ) → size words m ≡ Some b → b ≤ c → Costs (to_each nodes m) (c * length nodes)
+costs_each [] m b c e h = costs_nothing (c * 0)
+costs_each (n ∷ nodes) m b c e h =
+    let more : c * suc (length nodes) ≡ c * length nodes + c = mul-suc c (length nodes) in
+    costs_more _ (c + c * length nodes) (c * suc (length nodes)) (costs_cons (record { to = n; packet = says m }) (to_each nodes m) c (c * length nodes) b e h (costs_each nodes m b c e h)) (omega arith)
+
+pub costs_few : (nodes : List ℕ) (m : Message AnyRow) (b c most : ℕ) → size words m ≡ Some b → b ≤ c → length nodes ≤ most → Costs (to_each nodes m) (c * most)
+costs_few nodes m b c most e h few = costs_more _ (c * length nodes) (c * most) (costs_each nodes m b c e h) (mul-le-mul_left c few)
+
+-- ---- views
+
+-- at most a hundred layouts, of sets of three nodes
+pub record ViewFits (v : View Layout) : Type 0 where
+  pub few : length v.layouts ≤ 100
+  pub sets : AllByRecursion (λ (l : Layout). AllByRecursion (λ (set : List ℕ). length set ≤ 3) (layouts.reading.sets l)) v.layouts
+
+abbrev pub SetsFit : Layout → Type 0
+SetsFit l = AllByRecursion (λ (set : List ℕ). length set ≤ 3) (layouts.reading.sets l)
+
+got_few : (sets : List (List ℕ)) (p : ℕ) → AllByRecursion (λ (set : List ℕ). length set ≤ 3) sets → length (unwrap_or (slice_get sets p) []) ≤ 3
+got_few [] p a = omega arith
+got_few (s ∷ sets) zero a = a.0
+got_few (s ∷ sets) (suc p) a = got_few sets p a.1
+
+abbrev pub OptionFits : Option Layout → Type 0
+OptionFits None = ⊤
+OptionFits (Some l) = SetsFit l
+
+pub set_few : (o : Option Layout) (p : ℕ) → OptionFits o → length (set_in layouts o p) ≤ 3
+set_few None p h = omega arith
+set_few (Some l) p h = got_few (layouts.reading.sets l) p h
+
+found_fits : (i : ℕ) (ls : List Layout) → AllByRecursion SetsFit ls → OptionFits (find (λ l. layouts.reading.version l == i) ls)
+found_fits i [] a = tt
+found_fits i (l ∷ ls) a = elim (layouts.reading.version l == i) as (λ b. OptionFits (cond b (Some l) (find (λ l. layouts.reading.version l == i) ls))) [ true ↦ a.0 | false ↦ found_fits i ls a.1 ]
+
+pub layout_fits : (v : View Layout) (i : ℕ) → ViewFits v → OptionFits (layout_at layouts.reading v i)
+layout_fits v i h = found_fits i v.layouts h.sets
+
+with_few : (n : ℕ) (ns : List ℕ) → length (with_node n ns) ≤ suc (length ns)
+with_few n [] = omega arith
+with_few n (m ∷ ms) =
+    let rest = with_few n ms in
+    elim (n == m) as (λ b. length (cond b (m ∷ ms) (cond (nat_lt n m) (n ∷ m ∷ ms) (m ∷ with_node n ms))) ≤ suc (suc (length ms))) [
+      | true ↦ omega arith
+      | false ↦ (elim (nat_lt n m) as (λ b. length (cond b (n ∷ m ∷ ms) (m ∷ with_node n ms)) ≤ suc (suc (length ms))) [ true ↦ omega arith | false ↦ omega arith ])
+    ]
+
+order_few : (ns : List ℕ) → length (in_order ns) ≤ length ns
+order_few [] = omega arith
+order_few (n ∷ ns) = let a = with_few n (in_order ns) in let b = order_few ns in omega arith
+
+sets_few : (p : ℕ) (ls : List Layout) → AllByRecursion SetsFit ls → length (flat_map (λ (set : List ℕ). set) (map (λ l. set_of layouts l p) ls)) ≤ 3 * length ls
+sets_few p [] a = omega arith
+sets_few p (l ∷ ls) a =
+    let here = set_few (Some l) p a.0 in
+    let rest = sets_few p ls a.1 in
+    let c = length-append (set_of layouts l p) (flat_map (λ (set : List ℕ). set) (map (λ l. set_of layouts l p) ls)) in
+    omega arith
+
+-- a partition has at most 300 nodes in all stored versions
+pub nodes_few : (v : View Layout) (p : ℕ) → ViewFits v → length (nodes_of (stored_sets layouts v p)) ≤ 300
+nodes_few v p h =
+    let a = order_few (flat_map (λ (set : List ℕ). set) (stored_sets layouts v p)) in
+    let b = sets_few p v.layouts h.sets in
+    let c = h.few in
+    omega arith
+
+-- parts of ascending partitions from p on, each with three nodes at most
+abbrev pub ArePartsOf : ℕ → List Part → Type 0
+ArePartsOf p [] = ⊤
+ArePartsOf p (part ∷ parts) = (p ≤ part.partition) × (length part.set ≤ 3) × ArePartsOf (suc part.partition) parts
+
+pub parts_lower : (p q : ℕ) (parts : List Part) → p ≤ q → ArePartsOf q parts → ArePartsOf p parts
+parts_lower p q [] h a = tt
+parts_lower p q (part ∷ parts) h a = let low = a.0 in (omega arith, a.1, a.2)
+
+pub parts_filter : (test : Part → Bool) (p : ℕ) (parts : List Part) → ArePartsOf p parts → ArePartsOf p (filter test parts)
+parts_filter test p [] a = tt
+parts_filter test p (part ∷ parts) a =
+    let rest = parts_filter test (suc part.partition) parts a.2 in
+    let low = a.0 in
+    elim (test part) as (λ b. ArePartsOf p (cond b (part ∷ filter test parts) (filter test parts))) [ true ↦ (a.0, a.1, rest) | false ↦ parts_lower p (suc part.partition) (filter test parts) (omega arith) rest ]
+
+parts_map : (there : Option Layout) (p : ℕ) (parts : List Part) → OptionFits there → ArePartsOf p parts → ArePartsOf p (map (λ (part : Part). record { partition = part.partition; set = set_in layouts there part.partition }) parts)
+parts_map there p [] h a = tt
+parts_map there p (part ∷ parts) h a = (a.0, set_few there part.partition h, parts_map there (suc part.partition) parts h a.2)
+
+numbered_parts : (p : ℕ) (sets : List (List ℕ)) → AllByRecursion (λ (set : List ℕ). length set ≤ 3) sets → ArePartsOf p (numbered_from p sets)
+numbered_parts p [] a = tt
+numbered_parts p (set ∷ sets) a = (omega arith, a.0, numbered_parts (suc p) sets a.1)
+
+sets_parts : (o : Option Layout) → OptionFits o → ArePartsOf 0 (sets_in any_join words layouts o)
+sets_parts None h = tt
+sets_parts (Some l) h = numbered_parts 0 (layouts.reading.sets l) h
+
+pub parts_are : (id : ℕ) (x : Node AnyRow Layout) (here there : Option Layout) → OptionFits here → OptionFits there → ArePartsOf 0 (parts_of any_join words layouts id x here there)
+parts_are id x here there h k = parts_map there 0 (filter _ (sets_in any_join words layouts here)) k (parts_filter _ 0 (sets_in any_join words layouts here) (sets_parts here h))
+
+-- ---- rows that are sent
+
+module _ (facts : Facts) (t : ℕ) (v : Drawn) (within : AreWithin t v) where
+  abbrev Good : AnyRow → Type 0
+  Good = IsGood words (RowFits v)
+
+  pub spelled_so : (r : AnyRow) → RowFits v r → is_spelled words r ≡ true
+  spelled_so r f = ap (λ o. is_some o) (fits_spelled t v within r f)
+
+  pub bytes_are : (r : AnyRow) → RowFits v r → length (bytes_of words r) ≡ weight r
+  bytes_are r f = ap (λ o. length (phases.spelled o)) (fits_spelled t v within r f)
+
+  pub all_spelled : (rs : List AnyRow) → AllByRecursion Good rs → list_all (is_spelled words) rs ≡ true
+  all_spelled [] a = refl
+  all_spelled (r ∷ rs) a = and_both (is_spelled words r) (list_all (is_spelled words) rs) (spelled_so r a.0.has) (all_spelled rs a.1)
+
+  pub row_counts : (r : AnyRow) → RowFits v r → row_length words r ≡ Some (weight r)
+  row_counts r f = ap (λ o. option_map length o) (fits_spelled t v within r f)
+
+  pub rows_count : (rs : List AnyRow) → AllByRecursion Good rs → rows_length words rs ≡ Some (total weight rs)
+  rows_count [] a = refl
+  rows_count (r ∷ rs) a = plus_sum _ _ (weight r) (total weight rs) (row_counts r a.0.has) (rows_count rs a.1)
+
+  -- a row needs a block only where it is 42 bytes long
+  needs : (o : Option (List ℕ)) (x : Node AnyRow Layout) → AllByRecursion (λ (b : machine.Block). IsShort b.bytes) x.blocks → block_length (found any_join words x o) ≤ 1048576
+  needs None x a = omega arith
+  needs (Some hash) x a = by_found x.blocks a
+    where
+      by_found : (bs : List machine.Block) → AllByRecursion (λ (b : machine.Block). IsShort b.bytes) bs → block_length (block_at bs hash) ≤ 1048576
+      by_found [] h = omega arith
+      by_found (b ∷ bs) h = elim (same_bytes b.hash hash) as (λ c. block_length (cond c (Some b.bytes) (block_at bs hash)) ≤ 1048576) [ true ↦ h.0.short | false ↦ by_found bs h.1 ]
+
+  beside_counts : (r : AnyRow) (x : Node AnyRow Layout) → RowFits v r → AllByRecursion (λ (b : machine.Block). IsShort b.bytes) x.blocks → stored_length (with_its_block any_join words x r) ≤ 39000 * weight r
+  beside_counts (rows.Object r) x f a = let e = bytes_are (rows.Object r) f in omega arith
+  beside_counts (rows.Version r) x f a = let e = bytes_are (rows.Version r) f in omega arith
+  beside_counts (rows.Ref r) x f a =
+      let e = bytes_are (rows.Ref r) f in
+      let w = ref_weight r f.0 in
+      let b = needs (words.live_block (rows.Ref r)) x a in
+      omega arith
+
+  row_least : (r : AnyRow) → RowFits v r → 10 ≤ weight r
+  row_least (rows.Object r) f = let w = object_weight r f.0.0 in omega arith
+  row_least (rows.Version r) f = let w = (version_weight r.id r.blocks).0 in omega arith
+  row_least (rows.Ref r) f = let w = ref_weight r f.0 in omega arith
+
+  -- ---- the rows of a partition to some nodes
+
+  module _ (x : Node AnyRow Layout) (good : AllByRecursion Good x.accepted) (blocks : AllByRecursion (λ (b : machine.Block). IsShort b.bytes) x.blocks) where
+    stored_counts : (rs : List AnyRow) → AllByRecursion Good rs → sum_by stored_length (map (with_its_block any_join words x) rs) ≤ 39000 * total weight rs
+    stored_counts rs a =
+        let f : List ℕ × Option (List ℕ) → ℕ = stored_length in
+        let g = with_its_block any_join words x in
+        let one : total stored_length (map g rs) ≡ sum_by stored_length (map g rs) = is_sum_by (total stored_length) stored_length refl (λ y ys. refl) (map g rs) in
+        let two = total_map g stored_length rs in
+        let three = total_weaker (λ r. stored_length (g r)) (λ r. 39000 * weight r) rs (all_weaker Good (λ r. stored_length (g r) ≤ 39000 * weight r) (λ r i. beside_counts r x i.has blocks) rs a) in
+        let four = total_times 39000 weight rs in
+        omega arith
+
+    rows_cost : (number p : ℕ) (nodes : List ℕ) (rs : List AnyRow) → length nodes ≤ 3 → AllByRecursion Good rs → Costs (pushes_rows any_join words layouts x number p nodes rs) (120000 * total weight rs)
+    rows_cost number p nodes [] few a = costs_nothing (120000 * 0)
+    rows_cost number p nodes (r ∷ rs) few a =
+        let m : Message AnyRow = Store (ForRound number p) (newest layouts.reading x.view) p (map (with_its_block any_join words x) (r ∷ rs)) in
+        let bytes = sum_by stored_length (map (with_its_block any_join words x) (r ∷ rs)) in
+        let low : bytes ≤ 39000 * total weight (r ∷ rs) = stored_counts (r ∷ rs) a in
+        let least = row_least r a.0.has in
+        let whole : total weight (r ∷ rs) ≡ weight r + total weight rs = refl in
+        let c = 40000 * total weight (r ∷ rs) in
+        costs_more _ (c * 3) (120000 * total weight (r ∷ rs)) (costs_few nodes m (64 + bytes) c 3 refl (omega arith) few) (omega arith)
+
+    at_good : (p : ℕ) → AllByRecursion Good (rows_at any_join words x p)
+    at_good p = all_filter Good (λ r. partition_of words r == p) (rows any_join words x.accepted) (rows_good (fits_rules facts t v within) x.accepted good)
+
+    pub parts_spelled : (parts : List Part) → are_spelled any_join words layouts x parts ≡ true
+    parts_spelled [] = refl
+    parts_spelled (part ∷ parts) = and_both (list_all (is_spelled words) (rows_at any_join words x part.partition)) (are_spelled any_join words layouts x parts) (all_spelled (rows_at any_join words x part.partition) (at_good part.partition)) (parts_spelled parts)
+
+    -- parts of ascending partitions, each with three nodes at most
+    parts_cost_from : (number q : ℕ) (nodes : Part → List ℕ) (parts : List Part) → ArePartsOf q parts → ((part : Part) → length part.set ≤ 3 → length (nodes part) ≤ 3) →
+        Costs (flat_map (λ part. pushes any_join words layouts x number part.partition (nodes part)) parts) (120000 * total weight (from_part q (rows any_join words x.accepted)))
+    parts_cost_from number q nodes [] a few = costs_nothing (120000 * total weight (from_part q (rows any_join words x.accepted)))
+    parts_cost_from number q nodes (part ∷ parts) a few =
+        let all = rows any_join words x.accepted in
+        let here = rows_cost number part.partition (nodes part) (rows_at any_join words x part.partition) (few part a.1) (at_good part.partition) in
+        let rest = parts_cost_from number (suc part.partition) nodes parts a.2 few in
+        let low = part_counts q part.partition all a.0 in
+        costs_more _ (120000 * total weight (rows_in words part.partition all) + 120000 * total weight (from_part (suc part.partition) all)) (120000 * total weight (from_part q all))
+        (costs_both (pushes any_join words layouts x number part.partition (nodes part)) (flat_map (λ part. pushes any_join words layouts x number part.partition (nodes part)) parts) _ _ here rest) (omega arith)
+
+    pub parts_cost : (number : ℕ) (nodes : Part → List ℕ) (parts : List Part) → ArePartsOf 0 parts → ((part : Part) → length part.set ≤ 3 → length (nodes part) ≤ 3) →
+        Costs (flat_map (λ part. pushes any_join words layouts x number part.partition (nodes part)) parts) (120000 * load x.accepted)
+    parts_cost number nodes parts a few =
+        let low = all_parts_count (rows any_join words x.accepted) in
+        costs_more _ (120000 * total weight (from_part 0 (rows any_join words x.accepted))) (120000 * load x.accepted) (parts_cost_from number 0 nodes parts a few) (omega arith)
+
+  -- ---- the outbox
+
+  pub items_cost : (view : View Layout) (items : List (Item AnyRow)) → ViewFits view → AllByRecursion (λ (item : Item AnyRow). RowFits v item.row) items → AllByRecursion (λ (item : Item AnyRow). weight item.row ≤ 64) items → Costs (flat_map (item_posts any_join words layouts view) items) (38400 * length items)
+  items_cost view [] fits a b = costs_nothing (38400 * 0)
+  items_cost view (item ∷ items) fits a b =
+      let p = partition_of words item.row in
+      let m : Message AnyRow = Store (ForItem item.number) (newest layouts.reading view) p ((bytes_of words item.row, None) ∷ []) in
+      let e = bytes_are item.row a.0 in
+      let w = b.0 in
+      let bytes = sum_by stored_length ((bytes_of words item.row, None) ∷ []) in
+      let sum : bytes ≡ 0 + (length (bytes_of words item.row) + 0) = refl in
+      let here = costs_few (nodes_of (stored_sets layouts view p)) m (64 + bytes) 128 300 refl (omega arith) (nodes_few view p fits) in
+      costs_more _ (128 * 300 + 38400 * length items) (38400 * suc (length items)) (costs_both (item_posts any_join words layouts view item) (flat_map (item_posts any_join words layouts view) items) (128 * 300) (38400 * length items) here (items_cost view items fits a.1 b.1)) (omega arith)
+
+  pub items_spelled : (items : List (Item AnyRow)) → AllByRecursion (λ (item : Item AnyRow). RowFits v item.row) items → list_all (λ (item : Item AnyRow). is_spelled words item.row) items ≡ true
+  items_spelled [] a = refl
+  items_spelled (item ∷ items) a = and_both (is_spelled words item.row) (list_all (λ (item : Item AnyRow). is_spelled words item.row) items) (spelled_so item.row a.0) (items_spelled items a.1)

@@ -1,0 +1,5 @@
+pub mod Totals
+pub mod Keyed
+pub mod Handed
+pub mod Weights
+pub mod Contents
