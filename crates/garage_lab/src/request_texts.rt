@@ -156,8 +156,13 @@ const OUTLIVED_PARTS: [&[u8]; 6] = [
 
 /// Where a text goes on after the first place of a part.
 fn past<'a>(text: &'a [u8], part: &[u8]) -> Option<&'a [u8]> {
-    let start = text.windows(part.len()).position(|it| it == part)?;
-    text.get(start + part.len()..)
+    for start in 0..text.len() {
+        let rest = &text[start..];
+        if rest.starts_with(part) {
+            return rest.get(part.len()..);
+        }
+    }
+    None
 }
 
 /// A get that has found its version is answered with the bytes, although a delete is acknowledged before it ends, and each
