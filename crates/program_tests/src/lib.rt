@@ -3,8 +3,6 @@
 #![tactic(auto)]
 
 #[cfg(test)]
-mod lent;
-#[cfg(test)]
 mod links;
 #[cfg(test)]
 mod recorder;

@@ -1,4 +1,6 @@
 //! A server over links that fail, and over a real one on loopback.
+ghost use Rattle.std.specs.Prelude.{◌≡◌, None};
+
 use crate::recorder::Recorder;
 use crate::served::{ONE_ANSWERS, ONE_OBJECT, THREE_NODES, words_of};
 use lab_outside::{Link, MemClock, MemSink, MemSource, PieceLink, Status, TcpLink};
