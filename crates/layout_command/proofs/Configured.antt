@@ -20,7 +20,8 @@ use Rattle.layout_text.specs.declared.config.FieldName.{FieldName}
 use Rattle.layout_text.specs.declared.config.FieldName.TheVariants as field
 use Rattle.layout_text.specs.declared.config.ConfigFault.{ConfigFault}
 use Rattle.layout_text.specs.declared.config.ConfigFault.TheVariants.{NotToml, Field, Memory}
-use Rattle.layout_text.specs.Values.{keep_if, is_between, between, read_or, number_in, redundancy_of, redundancy_in, nodes_in}
+use Rattle.layout_roles.specs.Names.{is_between}
+use Rattle.layout_text.specs.Values.{keep_if, between, read_or, number_in, redundancy_of, redundancy_in, nodes_in}
 use Rattle.layout_text.specs.Settings.{◌>>=◌, needed, put_role, role_in, roles_in, roles_for, buckets_for, block_size_for, Settings, settings_in, faulted, said}
 use Rattle.layout_text.proofs.Roles.{IsNew, role_is_new, ascend_put, numbered_put}
 use Rattle.layout_command.specs.Answer.{greatest_node, nodes_line, zones_line, none_line, zones_for, toml_line, field_line, IsLaidOut, few_nodes, few_zones, none, layout, IsAnswer, not_text, not_toml, bad_field, laid_out}

@@ -6,3 +6,4 @@ pub mod Cuts
 pub mod Certificates
 pub mod Runs
 pub mod Text
+pub mod Names

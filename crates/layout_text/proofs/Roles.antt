@@ -14,7 +14,8 @@ use Rattle.layout_text.specs.declared.config.FieldName.{FieldName}
 use Rattle.layout_text.specs.declared.config.FieldName.TheVariants as field
 use Rattle.layout_text.specs.declared.config.ConfigFault.{ConfigFault}
 use Rattle.layout_text.specs.declared.config.ConfigFault.TheVariants.{NotToml, Field, Memory}
-use Rattle.layout_text.specs.Values.{keep_if, is_between, between, number_in, tables_of, is_taken, id_in, zone_in, kind_in}
+use Rattle.layout_roles.specs.Names.{is_between}
+use Rattle.layout_text.specs.Values.{keep_if, between, number_in, tables_of, is_taken, id_in, zone_in, kind_in}
 use Rattle.layout_text.specs.Settings.{◌>>=◌, needed, put_role, role_in, roles_in, faulted, IsFaultOf}
 use Rattle.layout_text.proofs.Tables.{both}
 

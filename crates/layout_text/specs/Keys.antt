@@ -11,7 +11,8 @@ use Rattle.layout_text.specs.declared.config.ConfigFault.{ConfigFault}
 use Rattle.layout_text.specs.declared.config.ConfigFault.TheVariants.{NotToml}
 use Rattle.layout_text.specs.declared.keys.Key.{Key}
 use Rattle.layout_text.specs.declared.keys.Access.{Access}
-use Rattle.layout_text.specs.Values.{is_between, keep_if, is_name_byte, read_or}
+use Rattle.layout_roles.specs.Names.{is_between, is_name_byte}
+use Rattle.layout_text.specs.Values.{keep_if, read_or}
 use Rattle.layout_text.specs.Settings.{◌>>=◌, needed, faulted}
 
 -- a to z, 0 to 9 and -

@@ -1,6 +1,6 @@
 -- What the keys of a configuration hold, where it is of the right type and in its range.
-use Rattle.std.specs.Prelude.{ℕ, ◌-◌, ◌^◌, min, ℤ, pos, negsuc, Bool, true, false, not, ◌&&◌, ◌||◌, ◌==◌, nat_le, if◌then◌else◌, List, [], ◌∷◌, ◌++◌, length, codes, slice_index, Option, Some, None, option_map, option_and_then, unwrap_or}
-use Rattle.std.specs.List.{list_all, list_any}
+use Rattle.std.specs.Prelude.{ℕ, ◌^◌, min, ℤ, pos, negsuc, Bool, true, false, not, ◌&&◌, ◌==◌, if◌then◌else◌, List, [], ◌∷◌, ◌++◌, codes, Option, Some, None, option_map, option_and_then, unwrap_or}
+use Rattle.std.specs.List.{list_any}
 use Rattle.toml.specs.Data.{Data, string, Items, no_items, item, Members, get_member, as_str, as_integer, as_bool, as_array, as_table}
 use Rattle.layout_roles.specs.declared.redundancy.Redundancy.{Redundancy}
 use Rattle.layout_roles.specs.declared.redundancy.Redundancy.TheVariants.{AtLeast, Maximum}
@@ -8,10 +8,7 @@ use Rattle.layout_roles.specs.declared.role.Kind.{Kind}
 use Rattle.layout_roles.specs.declared.role.Kind.TheVariants.{Storage, Gateway}
 use Rattle.layout_roles.specs.declared.role.Role.{Role}
 use Rattle.layout_roles.specs.Zones.{same_name}
-
--- the number is in a range
-abbrev pub is_between : ℕ → ℕ → ℕ → Bool
-is_between low high n = nat_le low n && nat_le n high
+use Rattle.layout_roles.specs.Names.{is_between, is_bucket_name, is_zone_name}
 
 -- the value, where it may be kept
 abbrev pub keep_if : {A : Type 0} → Bool → A → Option A
@@ -40,19 +37,6 @@ redundancy_of value = option_map AtLeast (number_in 1 3 value)
 -- the redundancy of a configuration, or the default
 abbrev pub redundancy_in : Members → Option Redundancy
 redundancy_in root = read_or Maximum redundancy_of (get_member (codes "redundancy") root)
-
--- a to z, 0 to 9
-abbrev pub is_name_byte : ℕ → Bool
-is_name_byte b = is_between 97 122 b || is_between 48 57 b
-
--- these, - and .
-abbrev pub is_bucket_byte : ℕ → Bool
-is_bucket_byte b = is_name_byte b || ((b == 45) || (b == 46))
-
--- 3 to 63 of these, the first and the last a letter or digit
-abbrev pub is_bucket_name : List ℕ → Bool
-is_bucket_name name =
-    is_between 3 63 (length name) && (list_all is_bucket_byte name && (is_name_byte (slice_index name 0) && is_name_byte (slice_index name (length name - 1))))
 
 -- a bucket's name that none before it has
 abbrev pub bucket_of : List (List ℕ) → Data → Option (List ℕ)
@@ -97,10 +81,6 @@ is_taken roles id = list_any (λ role. role.node == id) roles
 abbrev pub id_in : ℕ → List Role → Members → Option ℕ
 id_in greatest before node =
     option_and_then (λ id. keep_if (not (is_taken before id)) id) (option_and_then (number_in 1 (min greatest 64)) (get_member (codes "id") node))
-
--- a zone's name: 1 to 16 bytes that names have
-abbrev pub is_zone_name : List ℕ → Bool
-is_zone_name name = is_between 1 16 (length name) && list_all is_name_byte name
 
 -- the zone's name that a value gives
 abbrev pub zone_of : Data → Option (List ℕ)

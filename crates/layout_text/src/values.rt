@@ -4,7 +4,8 @@ ghost use Rattle.std.specs.List.{list_all, list_any};
 ghost use Rattle.toml.specs.Data.{get_member, as_array};
 ghost use Rattle.toml.specs.View.{view, array_view, table_view};
 ghost use Rattle.layout_roles.specs.Zones.{same_name};
-ghost use Rattle.layout_text.specs.Values.{between, number_in, redundancy_of, redundancy_in, is_name_byte, is_bucket_byte, is_bucket_name, bucket_of, block_size_in, is_taken, id_in, is_zone_name, zone_of, zone_in, is_set, kind_in};
+ghost use Rattle.layout_roles.specs.Names.{is_name_byte, is_bucket_byte, is_bucket_name, is_zone_name};
+ghost use Rattle.layout_text.specs.Values.{between, number_in, redundancy_of, redundancy_in, bucket_of, block_size_in, is_taken, id_in, zone_of, zone_in, is_set, kind_in};
 
 use crdt_core::Bytes;
 use layout_roles::{Kind, Redundancy, Role};

@@ -9,7 +9,7 @@ use Rattle.crdt_core.specs.EntryLaws.{and_parts, and_both}
 use Rattle.crdt_rows.specs.declared.any_row.AnyRow.{AnyRow}
 use Rattle.crdt_rows.specs.AnyRow.{any_join}
 use Rattle.layout_roles.specs.declared.layout.Layout.{Layout}
-use Rattle.layout_text.specs.Values.{is_between, is_name_byte}
+use Rattle.layout_roles.specs.Names.{is_between, is_name_byte}
 use Rattle.row_codec.specs.Reads.{are_bytes}
 use Rattle.object_schema.specs.Schema.{words}
 use Rattle.table_model.specs.Rows.{rows}

@@ -1,7 +1,7 @@
 //! Words that are names.
 ghost use Rattle.std.specs.Prelude.{◌≡◌, ◌↔◌, IsTrue};
 ghost use Rattle.std.specs.List.{list_all};
-ghost use Rattle.layout_text.specs.Values.{is_between, is_name_byte, is_bucket_byte, is_bucket_name, is_zone_name};
+ghost use Rattle.layout_roles.specs.Names.{is_between, is_name_byte, is_bucket_byte, is_bucket_name, is_zone_name};
 ghost use Rattle.text_model.specs.Grammar.{is_key_byte, is_key, prefix_word, is_prefix};
 ghost use Rattle.schedule_text.specs.Reads.{Reads};
 

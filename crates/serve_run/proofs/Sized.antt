@@ -9,7 +9,8 @@ use Rattle.layout_roles.specs.declared.redundancy.Redundancy.{Redundancy}
 use Rattle.layout_text.specs.declared.config.FieldName.{FieldName}
 use Rattle.layout_text.specs.declared.config.FieldName.TheVariants as field
 use Rattle.layout_text.specs.declared.config.ConfigFault.TheVariants.{NotToml}
-use Rattle.layout_text.specs.Values.{keep_if, is_between, between, read_or, number_in, default_block_size, redundancy_in}
+use Rattle.layout_roles.specs.Names.{is_between}
+use Rattle.layout_text.specs.Values.{keep_if, between, read_or, number_in, default_block_size, redundancy_in}
 use Rattle.layout_text.specs.Settings.{◌>>=◌, needed, roles_for, buckets_for, block_size_for, Settings, settings_in, faulted, said}
 use Rattle.serve_run.specs.Plan.{greatest_node}
 

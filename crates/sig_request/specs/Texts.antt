@@ -6,7 +6,8 @@ use Rattle.std.specs.Cmp.Lexicographic.{slice_cmp}
 use Rattle.std.specs.Ordering.{nat_cmp, is_lt}
 use Rattle.percent_encoding.specs.Percent.{percent_encode_byte}
 use Rattle.layout_roles.specs.Zones.{same_name}
-use Rattle.layout_text.specs.Values.{is_between, keep_if}
+use Rattle.layout_roles.specs.Names.{is_between}
+use Rattle.layout_text.specs.Values.{keep_if}
 
 -- the first text comes before the second in order of bytes
 abbrev pub is_less : List ℕ → List ℕ → Bool

@@ -2,7 +2,8 @@
 use Rattle.std.specs.Prelude.{ℕ, ◌+◌, ◌-◌, ◌*◌, ◌/◌, ◌%◌, Bool, not, ◌&&◌, ◌||◌, ◌==◌, nat_lt, List, [], ◌∷◌, length, take, sum, slice_index, if◌then◌else◌, Option}
 use Rattle.std.specs.List.{list_all, slice_range}
 use Rattle.std.specs.Char.{is_ascii_digit}
-use Rattle.layout_text.specs.Values.{is_between, keep_if}
+use Rattle.layout_roles.specs.Names.{is_between}
+use Rattle.layout_text.specs.Values.{keep_if}
 use Rattle.sig_v4.specs.declared.dates.Moment.{Moment}
 
 -- 16 bytes, with T and Z in their places and digits in all others

@@ -1,7 +1,7 @@
 use Rattle.std.proofs.Common.{rules, tests}
 use Rattle.std.proofs.lemmas.Iterator.{YieldsList-from_slice}
 use Rattle.std.proofs.lemmas.Iterator.Search.{all_from_yields_List}
-use Rattle.layout_text.specs.Values.{is_name_byte}
+use Rattle.layout_roles.specs.Names.{is_name_byte}
 use Rattle.schedule_text.proofs.names.are_zone_bytes.Goals as goal
 
 pub returns : goal.returns
