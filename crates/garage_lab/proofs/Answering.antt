@@ -17,7 +17,8 @@ use Rattle.garage_lab.specs.declared.command.Command.{Command}
 use Rattle.garage_lab.specs.declared.command.Command.TheVariants.{Layout, Moves, Replay}
 use Rattle.garage_lab.specs.declared.stop.Stop.{Stop}
 use Rattle.garage_lab.specs.declared.stop.Stop.TheVariants.{Read, Write, Memory, LongInput, TooManyEvents, BadLine, Number, Sent}
-use Rattle.replay_run.specs.Replay.{number_line, sent_line, ArePlayed, IsReplay, whole, number, sent, unshown}
+use Rattle.text_model.specs.Played.{ArePlayed}
+use Rattle.replay_run.specs.Replay.{sent_line, IsReplay, whole, sent}
 use Rattle.replay_run.proofs.Leading.{played_fits}
 use Rattle.replay_run.proofs.Checked.{line_is_fresh}
 use Rattle.store_anchors.specs.Promises.{KeepsPromises, EveryRunKeepsPromises}
@@ -66,9 +67,7 @@ bad_before r n h k = cc
 -- a replay ends with Done or Limit
 of_replay : (account : Account) (events : List Numbered) (status : Status) (text : List ℕ) → IsReplay account events status text → IsOfReplay status
 of_replay account events status text (whole turns are played e w) = subst IsOfReplay (sym e) tt
-of_replay account events status text (number before stops e w) = subst IsOfReplay (sym e) tt
 of_replay account events status text (sent before stops e w) = subst IsOfReplay (sym e) tt
-of_replay account events status text (unshown turns are played un e w) = subst IsOfReplay (sym e) tt
 
 -- one status is stated, but for what a replay's layouts decide
 abbrev pub Agree : Option Command → Status → Status → Type 0
@@ -201,7 +200,7 @@ module _ (account : Account) (input : List ℕ) (result : Status) (old mid new :
   stopped_answers LongInput h says = nearly_said account input Limit result input_line old mid new faults risen h says
   stopped_answers TooManyEvents h says = nearly_said account input Limit result events_line old mid new faults risen h says
   stopped_answers (BadLine n) h says = nearly_said account input Refused result (bad_line_text n) old mid new faults risen h says
-  stopped_answers Number h says = nearly_said account input Limit result number_line old mid new faults risen h says
+  stopped_answers Number h says = absurd h
   stopped_answers Sent h says = nearly_said account input Limit result sent_line old mid new faults risen h says
 
   pub stopped_prefix : (stop : Stop) → Halts account input stop old mid → Says (status_of stop) (said_of stop) result mid new faults risen → ReplayPrefix account input old new
@@ -211,7 +210,7 @@ module _ (account : Account) (input : List ℕ) (result : Status) (old mid new :
   stopped_prefix LongInput h says = nearly_prefix account input Limit result input_line old mid new faults risen h says
   stopped_prefix TooManyEvents h says = nearly_prefix account input Limit result events_line old mid new faults risen h says
   stopped_prefix (BadLine n) h says = nearly_prefix account input Refused result (bad_line_text n) old mid new faults risen h says
-  stopped_prefix Number h says = nearly_prefix account input Limit result number_line old mid new faults risen h says
+  stopped_prefix Number h says = absurd h
   stopped_prefix Sent h says = nearly_prefix account input Limit result sent_line old mid new faults risen h says
 
 -- what is promised holds at each moment of turns that were played
@@ -227,9 +226,7 @@ record IsOfTurns (account : Account) (input text : List ℕ) : Type 0 where
 
 of_turns : (account : Account) (input text : List ℕ) (events : List Numbered) → IsSchedule input events → IsReplay account events Done text → IsOfTurns account input text
 of_turns account input text events spells (whole turns are played e w) = record { turns = turns; schedule = subst (IsSchedule input) (sym are) spells; played = played; is_text = w }
-of_turns account input text events spells (number before stops e w) = cc
 of_turns account input text events spells (sent before stops e w) = cc
-of_turns account input text events spells (unshown turns are played un e w) = cc
 
 -- one account is asked for
 one_account : (asked : Option Command) (account other : Account) → asked ≡ Some (Replay account) → asked ≡ Some (Replay other) → other ≡ account

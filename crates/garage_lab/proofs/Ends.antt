@@ -14,13 +14,15 @@ use Rattle.garage_lab.specs.declared.stop.Stop.{Stop}
 use Rattle.garage_lab.specs.declared.stop.Stop.TheVariants.{Read, Write, Memory, LongInput, TooManyEvents, BadLine, Number, Sent}
 use Rattle.replay_run.specs.declared.stop.ReplayStop.{ReplayStop}
 use Rattle.replay_run.specs.declared.stop.ReplayStop.TheVariants as halt
-use Rattle.replay_run.specs.Replay.{number_line, sent_line, whole}
+use Rattle.text_model.specs.Played.{AreScheduled}
+use Rattle.replay_run.specs.Replay.{ReplayLacksRoom, sent_line, whole}
 use Rattle.replay_run.specs.Stop.{IsPart, of_turns, of_all, IsWhole, LacksLine, Halts as RunHalts}
 use Rattle.store_anchors.specs.Promises.{EveryRunKeepsPromises}
 use Rattle.garage_lab.specs.Replay.{IsTranscribed, IsChecked}
 use Rattle.lab_main.specs.Ends.{said, cut_off, usage_line}
 use Rattle.garage_lab.specs.Answer.{input_limit, IsAnswer, long_input, bad_line, many_events, replayed, IsStated, Answers, AnswersPrefix, ReplayPrefix, nothing_yet, of_stated, of_events, Completes, IsAnswered, Says, ended, unsaid}
 use Rattle.garage_lab.specs.Stop.{status_of, said_of, stop_of_replay, Halts, IsNearly, IsOfInput}
+use Rattle.garage_lab.proofs.Stating.{EveryFits}
 use Rattle.garage_lab.proofs.Answering.{OneStatus, OneMovesStatus, stated_prefix, unknown_prefix, stopped_answers, stopped_prefix, done_transcribes, done_checks, is_answered, completes}
 use Rattle.lab_outside.proofs.Bytes.{wrote_none}
 use Rattle.lab_outside.proofs.Rose.{rose_before, rose_after}
@@ -63,25 +65,31 @@ module _ (account : Account) (bytes : List ℕ) (events : List Numbered) (short 
   of_line : (line : List ℕ) → LacksLine account events line old new → IsNearly account bytes Limit line old new
   of_line line h = record { front = h.before; wrote = h.wrote; stated = replayed account events refl short spells h.stated }
 
-  run_halted : (stop : ReplayStop) → RunHalts account events stop old new → Halts account bytes (stop_of_replay stop) old new
-  run_halted halt.Write h = of_part h
-  run_halted halt.Memory h = of_part h
-  run_halted halt.Number h = of_line number_line h
-  run_halted halt.Sent h = of_line sent_line h
+  run_halted : (ReplayLacksRoom events → ⊥) → (stop : ReplayStop) → RunHalts account events stop old new → Halts account bytes (stop_of_replay stop) old new
+  run_halted room halt.Write h = of_part h
+  run_halted room halt.Memory h = of_part h
+  run_halted room halt.Number h = room h.1
+  run_halted room halt.Sent h = of_line sent_line h
 
   write_answers : IsWhole account events old new → Answers (Some (Replay account)) bytes Done old new
   write_answers h = record { text = h.text; stated = replayed account events refl short spells (whole h.turns h.events_are h.played refl h.is_text); wrote = h.wrote }
 
-some_halted : (account : Account) (left : Option (List ℕ)) (old new : Option (List ℕ)) (events listed : List Numbered) (stop : ReplayStop) → listed ≡ events → IfSome left (λ bytes. (length bytes ≤ input_limit) × IsSchedule bytes events) →
-    RunHalts account listed stop old new → IfSome left (λ bytes. Halts account bytes (stop_of_replay stop) old new)
-some_halted account None old new events listed stop same spells halts = tt
-some_halted account (Some bytes) old new events listed stop same spells halts = run_halted account bytes listed spells.0 (subst (IsSchedule bytes) (sym same) spells.1) old new stop halts
+-- no replay of a schedule lacks room
+abbrev NoneLacks : Type 0
+NoneLacks = (events : List Numbered) → AreScheduled events → ReplayLacksRoom events → ⊥
 
-pub write_halts : {A : Type 0} (account : Account) (left : Option (List ℕ)) (old new : Option (List ℕ)) (events listed : List Numbered) (r : Result A Stop) (stop : ReplayStop) → IsErrAnd r (λ e. e ≡ stop_of_replay stop) → listed ≡ events →
+some_halted : EveryFits → NoneLacks → (account : Account) (left : Option (List ℕ)) (old new : Option (List ℕ)) (events listed : List Numbered) (stop : ReplayStop) → listed ≡ events → IfSome left (λ bytes. (length bytes ≤ input_limit) × IsSchedule bytes events) →
+    RunHalts account listed stop old new → IfSome left (λ bytes. Halts account bytes (stop_of_replay stop) old new)
+some_halted fits room account None old new events listed stop same spells halts = tt
+some_halted fits room account (Some bytes) old new events listed stop same spells halts =
+    let is : IsSchedule bytes listed = subst (IsSchedule bytes) (sym same) spells.1 in
+    run_halted account bytes listed spells.0 is old new (room listed (fits bytes listed is)) stop halts
+
+pub write_halts : {A : Type 0} → EveryFits → NoneLacks → (account : Account) (left : Option (List ℕ)) (old new : Option (List ℕ)) (events listed : List Numbered) (r : Result A Stop) (stop : ReplayStop) → IsErrAnd r (λ e. e ≡ stop_of_replay stop) → listed ≡ events →
     IfSome left (λ bytes. (length bytes ≤ input_limit) × IsSchedule bytes events) → RunHalts account listed stop old new → IfErr r (λ stop. IfSome left (λ bytes. Halts account bytes stop old new))
-write_halts account left old new events listed (Ok x) stop is same spells halts = tt
-write_halts account left old new events listed (Err e) stop is same spells halts =
-    subst (λ (s : Stop). IfSome left (λ bytes. Halts account bytes s old new)) (sym is) (some_halted account left old new events listed stop same spells halts)
+write_halts fits room account left old new events listed (Ok x) stop is same spells halts = tt
+write_halts fits room account left old new events listed (Err e) stop is same spells halts =
+    subst (λ (s : Stop). IfSome left (λ bytes. Halts account bytes s old new)) (sym is) (some_halted fits room account left old new events listed stop same spells halts)
 
 pub write_done : (account : Account) (left : Option (List ℕ)) (old new : Option (List ℕ)) (events listed : List Numbered) → listed ≡ events → IfSome left (λ bytes. (length bytes ≤ input_limit) × IsSchedule bytes events) →
     IsWhole account listed old new → IfSome left (λ bytes. Answers (Some (Replay account)) bytes Done old new)

@@ -1,47 +1,49 @@
 -- No input is without a stated answer.
 use Rattle.std.proofs.Common.{◌≡◌, ℕ, ◌≤◌, ◌⊎◌, inl, inr, Option, Some, None, List, length, refl, ap}
-use Rattle.std.specs.List.{All}
 use Rattle.std.proofs.lemmas.Bool.{cases_lt}
 use Rattle.lab_outside.specs.declared.exit.Status.{Status}
 use Rattle.lab_outside.specs.declared.exit.Status.TheVariants.{Refused, Usage, Limit}
 use Rattle.layout_command.specs.Answer.{IsAnswer as IsLayoutAnswer}
 use Rattle.store_model.specs.declared.event.Numbered.{Numbered}
 use Rattle.text_model.specs.Reading.{IsSchedule, IsFirstBadLine, HasTooManyEvents}
-use Rattle.s3_world.specs.Stands.{IsMeantEvent}
+use Rattle.text_model.specs.Played.{AreScheduled}
 use Rattle.replay_run.specs.Replay.{IsReplay}
 use Rattle.replay_run.specs.declared.account.Account.{Account}
 use Rattle.garage_lab.specs.declared.command.Command.{Command}
 use Rattle.garage_lab.specs.declared.command.Command.TheVariants.{Layout, Moves, Replay}
 use Rattle.lab_main.specs.Ends.{usage_line}
 use Rattle.garage_lab.specs.Answer.{input_limit, input_line, events_line, bad_line_text, IsAnswer, usage, long_input, bad_line, many_events, laid_out, replayed}
-use Rattle.replay_run.proofs.Meant.{schedule_is_meant}
 
 -- a text is a schedule, has a first bad line, or has too many events
 abbrev pub Reads : List ℕ → Type 0
 Reads input = ((events : List Numbered) × IsSchedule input events) ⊎ (((n : ℕ) × IsFirstBadLine input n) ⊎ HasTooManyEvents input)
 
--- a replay of any events that are meant has a stated end
+-- a schedule is within the limits
+abbrev pub EveryFits : Type 0
+EveryFits = (input : List ℕ) (events : List Numbered) → IsSchedule input events → AreScheduled events
+
+-- a replay of any events that are within them has a stated end
 abbrev pub EveryEnds : Type 0
-EveryEnds = (account : Account) (events : List Numbered) → All (λ (e : Numbered). IsMeantEvent e.event) events → ((status : Status) (text : List ℕ) → IsReplay account events status text → ⊥) → ⊥
+EveryEnds = (account : Account) (events : List Numbered) → AreScheduled events → ((status : Status) (text : List ℕ) → IsReplay account events status text → ⊥) → ⊥
 
 -- what no answer is stated for
 abbrev pub Unanswered : Option Command → List ℕ → Type 0
 Unanswered asked input = (status : Status) (text : List ℕ) → IsAnswer asked input status text → ⊥
 
 module _ (input : List ℕ) (short : length input ≤ input_limit) where
-  of_replay : (account : Account) → EveryEnds → Reads input → Unanswered (Some (Replay account)) input → ⊥
-  of_replay account ends (inl h) none = ends account h.0 (schedule_is_meant input h.0 h.1) (λ status text stated. none status text (replayed account h.0 refl short h.1 stated))
-  of_replay account ends (inr (inl h)) none = none Refused (bad_line_text h.0) (bad_line h.0 account refl short h.1 refl refl)
-  of_replay account ends (inr (inr h)) none = none Limit events_line (many_events account refl short h refl refl)
+  of_replay : (account : Account) → EveryFits → EveryEnds → Reads input → Unanswered (Some (Replay account)) input → ⊥
+  of_replay account fits ends (inl h) none = ends account h.0 (fits input h.0 h.1) (λ status text stated. none status text (replayed account h.0 refl short h.1 stated))
+  of_replay account fits ends (inr (inl h)) none = none Refused (bad_line_text h.0) (bad_line h.0 account refl short h.1 refl refl)
+  of_replay account fits ends (inr (inr h)) none = none Limit events_line (many_events account refl short h refl refl)
 
   of_layout : (status : Status) × ((text : List ℕ) × IsLayoutAnswer input status text) → Unanswered (Some Layout) input → ⊥
   of_layout h none = none h.0 h.1.0 (laid_out refl short h.1.1)
 
-module _ (reads : (input : List ℕ) → Reads input) (ends : EveryEnds) (lays : (input : List ℕ) → (status : Status) × ((text : List ℕ) × IsLayoutAnswer input status text)) where
+module _ (reads : (input : List ℕ) → Reads input) (fits : EveryFits) (ends : EveryEnds) (lays : (input : List ℕ) → (status : Status) × ((text : List ℕ) × IsLayoutAnswer input status text)) where
   of_short : (command : Command) (input : List ℕ) → (command ≡ Moves → ⊥) → length input ≤ input_limit → Unanswered (Some command) input → ⊥
   of_short Layout input other short none = of_layout input short (lays input) none
   of_short Moves input other short none = other refl
-  of_short (Replay account) input other short none = of_replay input short account ends (reads input) none
+  of_short (Replay account) input other short none = of_replay input short account fits ends (reads input) none
 
   pub is_stated : (asked : Option Command) (input : List ℕ) → (asked ≡ Some Moves → ⊥) → Unanswered asked input → ⊥
   is_stated None input other none = none Usage usage_line (usage refl refl refl)

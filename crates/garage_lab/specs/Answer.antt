@@ -101,7 +101,7 @@ IsOfReplay Done = ⊤
 IsOfReplay Limit = ⊤
 IsOfReplay _ = ⊥
 
--- where this status is stated, it is answered, or memory was wanting; a replay may end with the status that other layouts bring, or a row without a spelling at its end
+-- where this status is stated, it is answered, or memory was wanting; a replay may end with the status that other layouts bring
 abbrev pub Completes : Option Command → Status → Status → Type 0
 Completes asked status result = (result ≡ status) ⊎ (result ≡ Memory) ⊎ ((account : Account) × ((asked ≡ Some (Replay account)) × IsOfReplay status × IsOfReplay result))
 

@@ -10,7 +10,7 @@ use Rattle.text_model.specs.Reading.{IsSchedule}
 use Rattle.text_model.specs.Transcript.{turns_text, transcript}
 use Rattle.replay_run.specs.declared.account.Account.TheVariants.{Checked}
 use Rattle.replay_run.specs.Account.{IsText, fresh_line, closing}
-use Rattle.replay_run.specs.Replay.{ArePlayed}
+use Rattle.text_model.specs.Played.{ArePlayed}
 
 -- what was written for this input is the whole transcript of its events with the layouts that the text prints; each of them is of the greatest partition size, with its printed cut; after each step everything fits, and no more was sent than may be; and at each moment of that run, within drains too, what is promised holds
 pub record IsTranscribed (input : List ℕ) (old new : Option (List ℕ)) : Type 0 where

@@ -14,7 +14,8 @@ use Rattle.garage_lab.specs.declared.stop.Stop.{Stop}
 use Rattle.garage_lab.specs.declared.stop.Stop.TheVariants.{Read, Write, Memory, LongInput, TooManyEvents, BadLine, Number, Sent}
 use Rattle.replay_run.specs.declared.stop.ReplayStop.{ReplayStop}
 use Rattle.replay_run.specs.declared.stop.ReplayStop.TheVariants as halt
-use Rattle.replay_run.specs.Replay.{number_line, sent_line}
+use Rattle.replay_run.specs.Replay.{sent_line}
+use Rattle.replay_run.specs.Stop.{number_line}
 use Rattle.garage_lab.specs.declared.command.Command.TheVariants.{Replay}
 use Rattle.garage_lab.specs.Answer.{input_line, events_line, bad_line_text, IsAnswer, ReplayPrefix}
 
@@ -69,7 +70,7 @@ pub record IsNearly (account : Account) (input : List ℕ) (status : Status) (la
   pub wrote : Wrote old new front
   pub stated : IsAnswer (Some (Replay account)) input status (front ++ last)
 
--- what was written when a replay of this input gave up
+-- what was written when a replay of this input gave up; no input brings it to a number or row that would not fit
 abbrev pub Halts : Account → List ℕ → Stop → Option (List ℕ) → Option (List ℕ) → Type 0
 Halts account input Read old new = ReplayPrefix account input old new
 Halts account input Write old new = ReplayPrefix account input old new
@@ -77,7 +78,7 @@ Halts account input Memory old new = ReplayPrefix account input old new
 Halts account input LongInput old new = IsNearly account input Limit input_line old new
 Halts account input TooManyEvents old new = IsNearly account input Limit events_line old new
 Halts account input (BadLine n) old new = IsNearly account input Refused (bad_line_text n) old new
-Halts account input Number old new = IsNearly account input Limit number_line old new
+Halts account input Number old new = ⊥
 Halts account input Sent old new = IsNearly account input Limit sent_line old new
 
 -- the input was read before this is said

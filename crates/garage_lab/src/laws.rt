@@ -6,6 +6,7 @@ ghost use Rattle.garage_lab.specs.declared.command.Command.TheVariants.{Moves};
 ghost use Rattle.garage_lab.specs.Answer.{IsAnswer};
 
 use layout_command::every_configuration_is_answered;
+use limit_laws::schedules_are_within_limits;
 use replay_run::every_replay_ends;
 use schedule_text::every_text_reads;
 
@@ -16,6 +17,7 @@ pub fn some_answer_is_stated()
     ensures { (asked : Option Command) (input : List ℕ) → (asked ≡ Some Moves → ⊥) → ((status : Status) (text : List ℕ) → IsAnswer asked input status text → ⊥) → ⊥ }
 {
     every_text_reads();
+    schedules_are_within_limits();
     every_replay_ends();
     every_configuration_is_answered();
 }

@@ -18,7 +18,8 @@ use crdt_core::{Bytes, Memory};
 use lab_main::{ends, usage};
 use lab_outside::{Clock, Link, Sink, Source, Status};
 use layout_command::{one_moves_status, one_status};
-use replay_run::Account;
+use limit_laws::schedules_are_within_limits;
+use replay_run::{Account, no_replay_lacks_room};
 use std::alloc::Global;
 use store_anchors::promises_are_kept;
 
@@ -76,6 +77,8 @@ fn replay<I: Source, O: Sink>(
     ensures read_told { (result ≡ Err Stop.Read) ⊎ (I.faults input.new ≡ I.faults input.old) }
     ensures write_told { (result ≡ Err Stop.Write) ⊎ (O.faults output.new ≡ O.faults output.old) }
 {
+    schedules_are_within_limits();
+    no_replay_lacks_room();
     let events = read_schedule(alloc, input)?;
     replay_run::replay(alloc, account, events.as_slice(), output)?;
     Ok(())
@@ -225,8 +228,8 @@ pub fn run<I: Source, O: Sink, L: Link, C: Clock>(
     ensures moves_prefix { asked_by words.now ≡ Some Command.Moves → IfSome (I.left input.old) (λ bytes. LayoutPrefix Command.Moves bytes (O.written output.old) (O.written output.new)) }
 
     // Where no count of faults rises, a status and the whole text that are stated come, or memory was wanting. One
-    // status is stated, but that a replay of events may end with Done or Limit, as the layouts decide that were chosen,
-    // or where a node has a row without a spelling after the last event.
+    // status is stated, but that a replay of events may end with Done or Limit, as the layouts decide that were chosen:
+    // that of the bytes sent, since no schedule comes to a number or row that has no place.
     ensures answered { IfSome (I.left input.old) (λ bytes. (Rose (I.faults input.old) (I.faults input.new) → ⊥) → (Rose (O.faults output.old) (O.faults output.new) → ⊥) →
         IsAnswered (asked_by words.now) bytes result (O.written output.old) (O.written output.new)) }
     ensures complete { IfSome (I.left input.old) (λ bytes. (status : Status) (text : List ℕ) → IsAnswer (asked_by words.now) bytes status text →

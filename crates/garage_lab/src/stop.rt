@@ -22,6 +22,7 @@ pub enum Stop {
     /// The first line outside the grammar, counted from 1.
     BadLine(u64),
     /// After the next event a number would not fit its type, or after the last one a node has a row without a spelling.
+    /// No schedule brings it (`no_replay_lacks_room` of replay_run).
     Number,
     /// With the next event more bytes were sent than may be.
     Sent,

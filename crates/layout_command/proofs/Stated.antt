@@ -6,13 +6,12 @@ use Rattle.lab_outside.specs.declared.exit.Status.{Status}
 use Rattle.lab_outside.specs.declared.exit.Status.TheVariants.{Done, Refused}
 use Rattle.layout_roles.specs.declared.role.Role.{Role}
 use Rattle.layout_roles.specs.Zones.{storage_nodes, zone_names}
-use Rattle.layout_roles.specs.Fits.{NodeSet, Fits, NoneFits}
+use Rattle.layout_roles.specs.Fits.{NodeSet, Fits}
 use Rattle.layout_roles.specs.declared.cut.Cut.{Cut}
 use Rattle.layout_roles.specs.declared.certified.Certified.{Certified}
 use Rattle.layout_size.specs.declared.fault.LayoutFault.{LayoutFault}
 use Rattle.layout_size.specs.declared.fault.LayoutFault.TheVariants.{TooFewNodes, TooFewZones, NoAssignment, Memory}
 use Rattle.layout_size.specs.Answers.{IfNoAssignment}
-use Rattle.layout_roles.specs.Certificates.{IsPrintedCut}
 use Rattle.layout_roles.specs.Text.{cut_lines, layout_text}
 use Rattle.layout_text.specs.declared.config.ConfigFault.{ConfigFault}
 use Rattle.layout_text.specs.Settings.{Settings, said}
@@ -48,27 +47,20 @@ module _ (settings : Settings) (r : Result Certified LayoutFault) (nodes : Nodes
   stated_zones z k e is wrote = let h = (zones z k).0 e in few_zones h.0 (omega (arith, h.1, h.2, h.3)) is (wrote ∙ ap₂ zones_line (sym h.1) (sym h.2))
 
   pub stated_none : (cut : Cut) → r ≡ Err (NoAssignment cut) → status ≡ Refused → text ≡ none_line ++ cut_lines settings.roles cut →
-      IfErr r (λ fault. IfNoAssignment fault (λ _. NoneFits settings.roles (zones_for settings) 1)) → IfErr r (λ fault. IfNoAssignment fault (λ cut. IsPrintedCut settings.roles (zones_for settings) 1 cut)) →
-      IfErr r (λ fault. IfNoAssignment fault (λ cut. cut.weight < 768)) → IsLaidOut settings status text
-  stated_none cut e is wrote no_fit printed light =
-      none cut (are_enough settings r nodes zones (λ n k. cc) (λ z m k. cc))
-      (record {
-        none = IfErr-at_err (λ fault. IfNoAssignment fault (λ _. NoneFits settings.roles (zones_for settings) 1)) e no_fit;
-        printed = IfErr-at_err (λ fault. IfNoAssignment fault (λ cut. IsPrintedCut settings.roles (zones_for settings) 1 cut)) e printed;
-        light = IfErr-at_err (λ fault. IfNoAssignment fault (λ cut. cut.weight < 768)) e light;
-      }) is wrote
+      IfErr r (λ fault. IfNoAssignment fault (HasNone settings)) → IsLaidOut settings status text
+  stated_none cut e is wrote shows =
+      none cut (are_enough settings r nodes zones (λ n k. cc) (λ z m k. cc)) (IfErr-at_err (λ fault. IfNoAssignment fault (HasNone settings)) e shows) is wrote
 
   pub stated_layout : (certified : Certified) → r ≡ Ok certified → IsLayout settings certified → status ≡ Done → text ≡ layout_text settings.roles certified → IsLaidOut settings status text
   stated_layout certified e is done wrote = layout certified (are_enough settings r nodes zones (λ n k. cc) (λ z m k. cc)) is done wrote
 
   -- each reason as it is told
   pub stated_reason : (fault : LayoutFault) → r ≡ Err fault → IsTold fault → status ≡ Refused → text ≡ reason_text settings.roles fault →
-      IfErr r (λ fault. IfNoAssignment fault (λ _. NoneFits settings.roles (zones_for settings) 1)) → IfErr r (λ fault. IfNoAssignment fault (λ cut. IsPrintedCut settings.roles (zones_for settings) 1 cut)) →
-      IfErr r (λ fault. IfNoAssignment fault (λ cut. cut.weight < 768)) → IsLaidOut settings status text
-  stated_reason (TooFewNodes n) e told is wrote no_fit printed light = stated_nodes n e is wrote
-  stated_reason (TooFewZones z k) e told is wrote no_fit printed light = stated_zones z k e is wrote
-  stated_reason (NoAssignment cut) e told is wrote no_fit printed light = stated_none cut e is wrote no_fit printed light
-  stated_reason Memory e told is wrote no_fit printed light = absurd told
+      IfErr r (λ fault. IfNoAssignment fault (HasNone settings)) → IsLaidOut settings status text
+  stated_reason (TooFewNodes n) e told is wrote shows = stated_nodes n e is wrote
+  stated_reason (TooFewZones z k) e told is wrote shows = stated_zones z k e is wrote
+  stated_reason (NoAssignment cut) e told is wrote shows = stated_none cut e is wrote shows
+  stated_reason Memory e told is wrote shows = absurd told
 
 -- where something is computed there are nodes and zones enough
 pub enough_ok : (settings : Settings) (r : Result Certified LayoutFault) → NodesCause settings r → ZonesCause settings r → (certified : Certified) → r ≡ Ok certified → AreEnough settings

@@ -1,3 +1,4 @@
 mod Bound
+mod Certifying
 mod Moved
 pub mod Zones

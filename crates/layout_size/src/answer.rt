@@ -4,7 +4,7 @@ ghost use Rattle.crdt_core.specs.Outcomes.{OnlyWant};
 ghost use Rattle.layout_roles.specs.declared.role.Role.{Role};
 ghost use Rattle.layout_roles.specs.Zones.{storage_nodes, zone_names};
 ghost use Rattle.layout_roles.specs.Fits.{Fits, SomeFits, NoneFits, IsGreatest};
-ghost use Rattle.layout_roles.specs.Certificates.{IsPrintedCut, IsRedundancy, zones_wanted};
+ghost use Rattle.layout_roles.specs.Certificates.{IsPrintedCut, IsRedundancy, zones_wanted, IsCertified, ShowsNone};
 ghost use Rattle.layout_size.specs.declared.fault.LayoutFault.{LayoutFault};
 ghost use Rattle.layout_size.specs.Answers.{IfNoAssignment, IsLateFault};
 
@@ -21,17 +21,10 @@ const COPIES: usize = 3;
 /// The greatest partition size of roles, an assignment that fits it, and the cut for the next size.
 pub fn compute(alloc: Global, roles: &Roles, wanted: Redundancy) -> Result<Certified, LayoutFault>
     requires { IsRedundancy wanted }
-    ensures redundancy { IfOk result (λ certified. certified.r ≡ zones_wanted wanted roles.now.list) }
-    ensures greatest { IfOk result (λ certified. IsGreatest roles.now.list certified.r certified.size certified.sets.sets) }
-    ensures above { IfOk result (λ certified. (size : ℕ) → certified.size < size → NoneFits roles.now.list certified.r size) }
-    ensures some { IfOk result (λ certified. 0 < certified.size) }
-    ensures cut { IfOk result (λ certified. IsPrintedCut roles.now.list certified.r (certified.size + 1) certified.cut) }
-    ensures light { IfOk result (λ certified. certified.cut.weight < 768) }
+    ensures certified { IfOk result (IsCertified roles.now.list wanted) }
     ensures nodes { (n : ℕ) → (result ≡ Err (LayoutFault.TooFewNodes n)) ↔ ((length (storage_nodes roles.now.list) ≡ n) × (n < 3)) }
     ensures zones { (z r : ℕ) → (result ≡ Err (LayoutFault.TooFewZones z r)) ↔ ((3 ≤ length (storage_nodes roles.now.list)) × (length (zone_names roles.now.list) ≡ z) × (zones_wanted wanted roles.now.list ≡ r) × (z < r)) }
-    ensures none { IfErr result (λ fault. IfNoAssignment fault (λ _. NoneFits roles.now.list (zones_wanted wanted roles.now.list) 1)) }
-    ensures none_cut { IfErr result (λ fault. IfNoAssignment fault (λ cut. IsPrintedCut roles.now.list (zones_wanted wanted roles.now.list) 1 cut)) }
-    ensures none_light { IfErr result (λ fault. IfNoAssignment fault (λ cut. cut.weight < 768)) }
+    ensures none { IfErr result (λ fault. IfNoAssignment fault (ShowsNone roles.now.list (zones_wanted wanted roles.now.list))) }
     ensures refused { NoneFits roles.now.list (zones_wanted wanted roles.now.list) 1 → IsErr result }
 {
     let nodes = roles.storage_count();

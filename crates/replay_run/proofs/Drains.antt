@@ -11,7 +11,8 @@ use Rattle.s3_world.specs.declared.world.S3World.{S3World}
 use Rattle.s3_world.specs.Stands.{IsStore, HasStore}
 use Rattle.replay_run.specs.declared.stop.ReplayStop.{ReplayStop}
 use Rattle.replay_run.specs.declared.stop.ReplayStop.TheVariants.{Write, Memory, Number, Sent}
-use Rattle.replay_run.specs.Replay.{Step, deliveries, GoesOn, SendsTooMuch, LacksRoom, StopsAt}
+use Rattle.text_model.specs.Played.{Step, deliveries, GoesOn}
+use Rattle.replay_run.specs.Replay.{SendsTooMuch, LacksRoom, StopsAt}
 use Rattle.replay_run.specs.Turning.{TakesStep, StepIs, StepStops, Delivers, DrainStops}
 use Rattle.replay_run.proofs.Causes.{all_push}
 

@@ -1,4 +1,4 @@
--- A replay of any events has a stated end.
+-- A replay of any events that are a schedule's has a stated end.
 use Rattle.std.proofs.Common.{◌≡◌, ℕ, inl, inr, List, [], ◌∷◌, ◌++◌, length, refl, sym, ap, ◌∙◌, subst, append_assoc, append-nil}
 use Rattle.std.specs.List.{All, AllByRecursion}
 use Rattle.std.proofs.lemmas.Bool.{cases_lt}
@@ -17,7 +17,8 @@ use Rattle.s3_world.specs.Stands.{IsMeantEvent}
 use Rattle.replay_run.specs.declared.account.Account.{Account}
 use Rattle.replay_run.specs.declared.account.Account.TheVariants.{Transcript, Checked, Summary}
 use Rattle.replay_run.specs.Account.{front, fresh_line, stale_line, IsCheck, fresh, stale, IsLine, opening, closing}
-use Rattle.replay_run.specs.Replay.{Step, sent_limit, number_line, sent_line, steps_of, GoesOn, SendsTooMuch, LacksRoom, StopsAt, ArePlayed, IsReplay, whole, number, sent}
+use Rattle.text_model.specs.Played.{Step, sent_limit, steps_of, GoesOn, ArePlayed}
+use Rattle.replay_run.specs.Replay.{sent_line, SendsTooMuch, LacksRoom, StopsAt, StopsAfter, IsReplay, whole, sent}
 use Rattle.replay_run.specs.Turning.{turn}
 use Rattle.replay_run.proofs.Causes.{all_push}
 use Rattle.replay_run.proofs.Turns.{run_push, events_push, played_none, played_push}
@@ -67,7 +68,7 @@ has_line Transcript h k = k [] refl
 has_line Checked h k = checked h k
 has_line (Summary count seed) h k = checked h k
 
-module _ (account : Account) (events : List Numbered) (never : (status : Status) (text : List ℕ) → IsReplay account events status text → ⊥) where
+module _ (account : Account) (events : List Numbered) (room : (before : List Turn) → StopsAfter LacksRoom events before → ⊥) (never : (status : Status) (text : List ℕ) → IsReplay account events status text → ⊥) where
   ends : (rest : List Numbered) (before : List Turn) → ArePlayed before → IsFine (run start before) → IsCounted (run start before).world → AreMeant rest → events ≡ events_of before ++ rest → ⊥
   ends [] before played fine known meant is =
       let s = run start before in
@@ -82,7 +83,7 @@ module _ (account : Account) (events : List Numbered) (never : (status : Status)
       let t = turn e given.0 in
       let steps = steps_of s e.event given.0 in
       go_on_from steps
-      (λ stops. never Limit (front account before ++ number_line) (number before (record { played = played; next = t; later = es; whole = is; lawful = given.1; stops = stops }) refl refl))
+      (λ stops. room before (record { played = played; next = t; later = es; whole = is; lawful = given.1; stops = stops }))
       (λ stops. never Limit (front account before ++ sent_line) (sent before (record { played = played; next = t; later = es; whole = is; lawful = given.1; stops = stops }) refl refl))
       steps [] s (are_steps s e.event given.0) known tt refl
       (λ go_on.

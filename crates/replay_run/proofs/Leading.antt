@@ -19,7 +19,7 @@ use Rattle.store_model.specs.Run.{World, Moving, State, Outcome, silent, refusal
 use Rattle.store_model.specs.Events.{Turn, object_bytes, outcome, after}
 use Rattle.store_model.specs.Turns.{AllFit}
 use Rattle.s3_world.proofs.Leads.{Leads, delivers_leads, run_more, fit_more}
-use Rattle.replay_run.specs.Replay.{Step, deliveries, steps_of, HasSent, GoesOn, AllGoOn}
+use Rattle.text_model.specs.Played.{Step, deliveries, steps_of, HasSent, GoesOn, AllGoOn}
 
 one_leads : (s : State) (b : Bool) (x y : Outcome) → Leads s x → Leads s y → Leads s (if b then x else y)
 one_leads s true x y h k = h

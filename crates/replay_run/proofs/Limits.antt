@@ -12,8 +12,8 @@ use Rattle.store_model.specs.Run.{start}
 use Rattle.store_model.specs.Events.{Turn, events_of, run}
 use Rattle.store_model.specs.Turns.{IsLawful, FitsOutcome}
 use Rattle.text_model.specs.Grammar.{IsAllowed}
-use Rattle.limit_laws.specs.Played.{Step, steps_of, GoesOn, ArePlayed, AreAllowed, AreScheduled}
-use Rattle.replay_run.specs.Replay.{LacksRoom, StopsAfter, is_unshown, IsUnshown}
+use Rattle.text_model.specs.Played.{Step, steps_of, GoesOn, ArePlayed, AreAllowed, AreScheduled}
+use Rattle.replay_run.specs.Replay.{LacksRoom, StopsAfter, is_unshown, IsUnshown, ReplayLacksRoom, in_step, in_line}
 
 -- the first of some events are allowed where all are
 first_allowed : (ts : List Turn) (later : List Numbered) → AllByRecursion (λ (e : Numbered). IsAllowed e.event) (events_of ts ++ later) → AreAllowed ts
@@ -35,7 +35,7 @@ none_passes : (f : ℕ → Bool) (ns : List ℕ) → ((n : ℕ) → f n ≡ fals
 none_passes f [] h = refl
 none_passes f (n ∷ ns) h = rw (h n) (none_passes f ns h)
 
-pub no_stop :
+no_stop :
     ((before : List Turn) (next : Turn) → ArePlayed before → AreAllowed before → length before < 100000 → IsAllowed next.numbered.event → IsLawful (run start before) next →
     (done : List Step) (last : Step) (later : List Step) → steps_of (run start before) next.numbered.event next.choice ≡ done ++ last ∷ later → AllByRecursion GoesOn done → FitsOutcome last.from last.outcome) →
     (events : List Numbered) (before : List Turn) → AreScheduled events → StopsAfter LacksRoom events before → ⊥
@@ -47,7 +47,7 @@ no_stop law events before s h =
     let count = count_of before in
     h.stops.is_so (law before h.next h.played (first_allowed before (h.next.numbered ∷ h.later) all) (omega arith) (next_allowed before h.next.numbered h.later all) h.lawful h.stops.before h.stops.last h.stops.later h.stops.whole h.stops.go_on)
 
-pub no_unshown :
+no_unshown :
     ((turns : List Turn) → ArePlayed turns → AreAllowed turns → length turns ≤ 100000 → (n : ℕ) → any_unspelled words (rows any_join words ((run start turns).world.nodes n).accepted) ≡ false) →
     (events : List Numbered) (turns : List Turn) → AreScheduled events → events_of turns ≡ events → ArePlayed turns → IsUnshown (run start turns) → ⊥
 no_unshown law events turns s is played h =
@@ -58,3 +58,11 @@ no_unshown law events turns s is played h =
     let none = none_passes (is_unshown (run start turns).world) (range_with_len 1 16) (law turns played (all_allowed turns all) (omega arith)) in
     let no : true ≡ false = sym h ∙ none in
     cc
+
+pub never_lacks :
+    ((before : List Turn) (next : Turn) → ArePlayed before → AreAllowed before → length before < 100000 → IsAllowed next.numbered.event → IsLawful (run start before) next →
+    (done : List Step) (last : Step) (later : List Step) → steps_of (run start before) next.numbered.event next.choice ≡ done ++ last ∷ later → AllByRecursion GoesOn done → FitsOutcome last.from last.outcome) →
+    ((turns : List Turn) → ArePlayed turns → AreAllowed turns → length turns ≤ 100000 → (n : ℕ) → any_unspelled words (rows any_join words ((run start turns).world.nodes n).accepted) ≡ false) →
+    (events : List Numbered) → AreScheduled events → ReplayLacksRoom events → ⊥
+never_lacks steps nodes events s (in_step before h) = no_stop steps events before s h
+never_lacks steps nodes events s (in_line turns are played h) = no_unshown nodes events turns s are played h

@@ -2,12 +2,14 @@
 use Rattle.std.specs.Prelude.{IsTrue}
 use Rattle.std.proofs.Common.{◌≡◌, ◌≤◌, ℕ, false, true, length, List, [], ◌∷◌, arith}
 use Rattle.std.specs.List.{All}
+use Rattle.std.proofs.lemmas.List.Elements.{All-from_recursion}
 use Rattle.layout_roles.specs.declared.redundancy.Redundancy.TheVariants.{AtLeast, Maximum}
 use Rattle.store_model.specs.declared.event.Event.{Event}
 use Rattle.store_model.specs.declared.event.Event.TheVariants.{Trio, Block, Bucket, Role, Redundancy, Apply, Tick, Skew, Put, Get, Head, Delete, Copy, List as Keys, Deliver, Lose, Drain, Expire, Restart, Gossip, Ack, Sync, SyncAck, Clean, Work, Repair}
 use Rattle.store_model.specs.declared.event.Numbered.{Numbered}
 use Rattle.text_model.specs.Grammar.{IsAllowed, is_key}
 use Rattle.text_model.specs.Reading.{IsSchedule}
+use Rattle.text_model.specs.Played.{AreScheduled}
 use Rattle.text_model.proofs.Schedules.{schedule_allowed}
 use Rattle.s3_world.specs.Stands.{IsMeantEvent}
 
@@ -48,3 +50,7 @@ allowed_is_meant (Repair n) h = tt
 -- the events of a schedule are meant
 pub schedule_is_meant : (input : List ℕ) (events : List Numbered) → IsSchedule input events → All (λ (e : Numbered). IsMeantEvent e.event) events
 schedule_is_meant input events h k d lt = allowed_is_meant _ (schedule_allowed input events h k d lt)
+
+-- and so are those of any list of events within the limits of a schedule
+pub schedules_are_meant : (events : List Numbered) → AreScheduled events → All (λ (e : Numbered). IsMeantEvent e.event) events
+schedules_are_meant events h k d lt = allowed_is_meant _ (All-from_recursion (λ (e : Numbered). IsAllowed e.event) events h.allowed k d lt)

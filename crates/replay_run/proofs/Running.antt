@@ -17,9 +17,10 @@ use Rattle.replay_run.specs.declared.account.Account.{Account}
 use Rattle.replay_run.specs.declared.stop.ReplayStop.{ReplayStop}
 use Rattle.replay_run.specs.declared.stop.ReplayStop.TheVariants.{Write, Memory, Number, Sent}
 use Rattle.replay_run.specs.Account.{shown, front, IsTail, IsText}
-use Rattle.replay_run.specs.Replay.{Step, number_line, SendsTooMuch, LacksRoom, ArePlayed, AreFirst, StopsAfter, number, sent, unshown}
+use Rattle.text_model.specs.Played.{Step, ArePlayed}
+use Rattle.replay_run.specs.Replay.{SendsTooMuch, LacksRoom, AreFirst, StopsAfter, in_step, in_line, sent}
 use Rattle.replay_run.specs.Turning.{turn, Takes, StopsIn, EventStops, TurnsTo, TurnsOne, CannotTell, TellsTail}
-use Rattle.replay_run.specs.Stop.{stop_of_memory, IsWhole, IsPart, of_turns, of_all, LacksLine, Halts}
+use Rattle.replay_run.specs.Stop.{stop_of_memory, IsWhole, IsPart, of_turns, of_all, Halts}
 use Rattle.replay_run.proofs.Causes.{stop_is}
 use Rattle.replay_run.proofs.Turns.{run_push, front_none, front_push, events_push, played_none, played_push}
 
@@ -129,7 +130,7 @@ module _ (account : Account) (store new : S3World) (old mid now : Option (List �
   pub running_halts : (stop : ReplayStop) → EventStops store next.event stop → Halts account events stop old mid
   running_halts Write h = absurd h
   running_halts Memory h = running_part account store old mid events i r
-  running_halts Number h = record { before = front account r.turns; wrote = r.wrote; stated = number r.turns (stops_after LacksRoom h) refl refl }
+  running_halts Number h = (running_part account store old mid events i r, in_step r.turns (stops_after LacksRoom h))
   running_halts Sent h = record { before = front account r.turns; wrote = r.wrote; stated = sent r.turns (stops_after SendsTooMuch h) refl refl }
 
 module _ (account : Account) (store : S3World) (old mid now : Option (List ℕ)) (events : List Numbered) (i : ℕ) (r : Running account store old mid events i) (le : length events ≤ i) where
@@ -140,8 +141,8 @@ module _ (account : Account) (store : S3World) (old mid now : Option (List ℕ))
   count_turns = ap length (sym all_are) ∙ length-map r.turns (λ (t : Turn). t.numbered)
 
   -- after the last event a node can't be shown
-  unshown_here : CannotTell store → LacksLine account events number_line old mid
-  unshown_here none = record { before = front account r.turns; wrote = r.wrote; stated = unshown r.turns all_are r.played (none (run start r.turns) r.stands) refl refl }
+  unshown_here : CannotTell store → Halts account events Number old mid
+  unshown_here none = (running_part account store old mid events i r, in_line r.turns all_are r.played (none (run start r.turns) r.stands))
 
   -- what follows the last event came to nothing
   pub all_halts : (why : Why) → (why ≡ Want) ⊎ ((why ≡ Full) × CannotTell store) → Halts account events (stop_of_memory why) old mid

@@ -16,7 +16,8 @@ use Rattle.s3_world.specs.declared.world.S3World.{S3World}
 use Rattle.s3_world.specs.Stands.{IsStore, PlaysEvent, OverflowsEvent, EventLacksRoom}
 use Rattle.replay_run.specs.declared.stop.ReplayStop.{ReplayStop}
 use Rattle.replay_run.specs.declared.stop.ReplayStop.TheVariants.{Write, Memory, Number, Sent}
-use Rattle.replay_run.specs.Replay.{Step, sent_limit, steps_of, HasSent, GoesOn, SendsTooMuch, LacksRoom}
+use Rattle.text_model.specs.Played.{Step, sent_limit, steps_of, HasSent, GoesOn}
+use Rattle.replay_run.specs.Replay.{SendsTooMuch, LacksRoom}
 use Rattle.replay_run.specs.Turning.{drain_count, step_of, TakesStep, StepIs, Takes, StopsIn, StepStops, Delivers, DrainStops, EventStops}
 
 -- what the store played is a step after which so many bytes were sent

@@ -8,7 +8,7 @@ use Rattle.text_model.specs.Transcript.{event_text, turns_text}
 use Rattle.replay_run.specs.declared.account.Account.{Account}
 use Rattle.replay_run.specs.declared.account.Account.TheVariants.{Transcript, Checked, Summary}
 use Rattle.replay_run.specs.Account.{shown, front}
-use Rattle.replay_run.specs.Replay.{GoesOn, steps_of, AllGoOn, ArePlayed}
+use Rattle.text_model.specs.Played.{GoesOn, steps_of, AllGoOn, ArePlayed}
 
 pub run_push : (s : State) (ts : List Turn) (t : Turn) → run s (ts ++ t ∷ []) ≡ after (run s ts) t
 run_push s [] t = refl

@@ -12,17 +12,13 @@ use Rattle.store_model.specs.declared.event.Numbered.{Numbered}
 use Rattle.store_model.specs.Run.{World, State, start}
 use Rattle.store_model.specs.Events.{Turn, events_of, run}
 use Rattle.store_model.specs.Turns.{IsLawful, FitsOutcome}
-pub use Rattle.limit_laws.specs.Played.{sent_limit, Step, deliveries, steps_of, HasSent, GoesOn, AllGoOn, ArePlayed}
+use Rattle.text_model.specs.Played.{sent_limit, Step, steps_of, HasSent, GoesOn, ArePlayed}
 use Rattle.replay_run.specs.declared.account.Account.{Account}
 use Rattle.replay_run.specs.Account.{front, IsText}
 
 -- more was sent
 abbrev pub sent_line : List ℕ
 sent_line = codes "limit sent 268435456" ++ 10 ∷ []
-
--- a number or row of the replay would not fit, or a node can't be shown
-abbrev pub number_line : List ℕ
-number_line = codes "limit number" ++ 10 ∷ []
 
 -- after the step every number and row fits, and more was sent
 pub record SendsTooMuch (step : Step) : Type 0 where
@@ -67,9 +63,12 @@ is_unshown w n = any_unspelled words (rows any_join words (w.nodes n).accepted)
 abbrev pub IsUnshown : State → Type 0
 IsUnshown s = IsTrue (list_any (is_unshown s.world) (range_with_len 1 16))
 
--- how a replay of these events ends, and what is written for it: all of its account; or that of the events before the one with the first step after which there is no room, or more was sent than may be, or of all events where a node can't be shown after them, and the line of that limit. Which lawful layouts are given is free
+-- a replay of these events has no room for a number or a row: after the first step after which it doesn't go on, or in the line of a node after all of them
+pub data ReplayLacksRoom (events : List Numbered) : Type 0 where
+  in_step : (before : List Turn) → StopsAfter LacksRoom events before → ReplayLacksRoom events
+  in_line : (turns : List Turn) → events_of turns ≡ events → ArePlayed turns → IsUnshown (run start turns) → ReplayLacksRoom events
+
+-- how a replay of these events ends, and what is written for it: all of its account; or that of the events before the one with the first step after which more was sent than may be, and the line of that limit. Which lawful layouts are given is free
 pub data IsReplay (account : Account) (events : List Numbered) (status : Status) (text : List ℕ) : Type 0 where
   whole : (turns : List Turn) → events_of turns ≡ events → ArePlayed turns → status ≡ Done → IsText account turns text → IsReplay account events status text
-  number : (before : List Turn) → StopsAfter LacksRoom events before → status ≡ Limit → text ≡ front account before ++ number_line → IsReplay account events status text
   sent : (before : List Turn) → StopsAfter SendsTooMuch events before → status ≡ Limit → text ≡ front account before ++ sent_line → IsReplay account events status text
-  unshown : (turns : List Turn) → events_of turns ≡ events → ArePlayed turns → IsUnshown (run start turns) → status ≡ Limit → text ≡ front account turns ++ number_line → IsReplay account events status text

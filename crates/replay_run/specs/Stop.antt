@@ -1,5 +1,5 @@
 -- Why a replay gave up, and what was written before.
-use Rattle.std.specs.Prelude.{◌≡◌, ℕ, List, ◌++◌, Option}
+use Rattle.std.specs.Prelude.{◌≡◌, ℕ, List, [], ◌∷◌, ◌++◌, codes, Option}
 use Rattle.crdt_core.specs.declared.memory.Memory.{Memory as Why}
 use Rattle.crdt_core.specs.declared.memory.Memory.TheVariants.{Want, Full}
 use Rattle.lab_outside.specs.declared.exit.Status.TheVariants.{Limit}
@@ -10,12 +10,17 @@ use Rattle.replay_run.specs.declared.stop.ReplayStop.{ReplayStop}
 use Rattle.replay_run.specs.declared.stop.ReplayStop.TheVariants.{Write, Memory, Number, Sent}
 use Rattle.replay_run.specs.declared.account.Account.{Account}
 use Rattle.replay_run.specs.Account.{front, IsText}
-use Rattle.replay_run.specs.Replay.{sent_line, number_line, ArePlayed, AreFirst, IsReplay}
+use Rattle.text_model.specs.Played.{ArePlayed}
+use Rattle.replay_run.specs.Replay.{sent_line, AreFirst, ReplayLacksRoom, IsReplay}
 
 -- why an event could not be done
 abbrev pub stop_of_memory : Why → ReplayStop
 stop_of_memory Want = Memory
 stop_of_memory Full = Number
+
+-- the line of a number or row that has no room, which no schedule brings
+abbrev pub number_line : List ℕ
+number_line = codes "limit number" ++ 10 ∷ []
 
 -- all events were played, and all of their account was written
 pub record IsWhole (account : Account) (events : List Numbered) (old new : Option (List ℕ)) : Type 0 where
@@ -41,5 +46,5 @@ pub record LacksLine (account : Account) (events : List Numbered) (line : List �
 abbrev pub Halts : Account → List Numbered → ReplayStop → Option (List ℕ) → Option (List ℕ) → Type 0
 Halts account events Write old new = IsPart account events old new
 Halts account events Memory old new = IsPart account events old new
-Halts account events Number old new = LacksLine account events number_line old new
+Halts account events Number old new = IsPart account events old new × ReplayLacksRoom events
 Halts account events Sent old new = LacksLine account events sent_line old new

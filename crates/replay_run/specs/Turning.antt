@@ -19,7 +19,8 @@ use Rattle.replay_run.specs.declared.account.Account.{Account}
 use Rattle.replay_run.specs.declared.stop.ReplayStop.{ReplayStop}
 use Rattle.replay_run.specs.declared.stop.ReplayStop.TheVariants.{Write, Memory, Number, Sent}
 use Rattle.replay_run.specs.Account.{shown, IsLine, IsTail, opening}
-use Rattle.replay_run.specs.Replay.{Step, deliveries, steps_of, GoesOn, SendsTooMuch, LacksRoom, StopsAt, is_unshown, IsUnshown}
+use Rattle.text_model.specs.Played.{Step, deliveries, steps_of, GoesOn}
+use Rattle.replay_run.specs.Replay.{SendsTooMuch, LacksRoom, StopsAt, is_unshown, IsUnshown}
 
 -- how many deliveries a drain may have; none for another event
 abbrev pub drain_count : Event → Option ℕ

@@ -2,7 +2,7 @@
 use Rattle.std.specs.Prelude.{IsTrue, IfOk, nat_lt, codes, decimal, ⊤}
 use Rattle.std.proofs.Common.{Result, Ok, Err, ◌≡◌, ◌<◌, ◌≤◌, ℕ, zero, suc, ◌+◌, ◌*◌, ◌/◌, ◌%◌, ◌^◌, get_or, Bool, true, false, ◌&&◌, if◌then◌else◌, ◌==◌, ◌⊎◌, inl, inr, ap₂, List, [], ◌∷◌, ◌++◌, length, map, take, refl, sym, ap, subst, ◌∙◌, mod-lt, arith}
 use Rattle.std.specs.List.{All, AllByRecursion, range_with_len}
-use Rattle.std.proofs.lemmas.List.Elements.{All-nil, All-cons}
+use Rattle.std.proofs.lemmas.List.Elements.{All-nil, All-cons, recursion_from_All}
 use Rattle.std.proofs.lemmas.List.Folds.{list_all_at}
 use Rattle.std.proofs.lemmas.Bool.{cases_lt}
 use Rattle.std.proofs.lemmas.Fmt.{decimal_digit, decimal_step}
@@ -13,6 +13,7 @@ use Rattle.store_model.specs.declared.event.Event.TheVariants as event
 use Rattle.store_model.specs.declared.event.Numbered.{Numbered}
 use Rattle.layout_roles.specs.declared.role.Kind.TheVariants.{Storage, Gateway}
 use Rattle.text_model.specs.Grammar.{IsAllowed, IsIn, IsFrom, is_key_byte, is_key, zone, object_range, issued_range, capacity_range}
+use Rattle.text_model.specs.Played.{AreScheduled}
 use Rattle.workload.specs.Numbers.{mixed, after, draw}
 use Rattle.workload.specs.Turns.{Made, pics, key_of, size_of, chosen, first_event, plain_turn}
 use Rattle.workload.specs.Change.{on_each, on_others, spread, role_of, stores, restarts, applied, moved, cleaned, change}
@@ -206,6 +207,17 @@ taken k e (suc n) (x ∷ xs) few h = All-cons (λ (l : Numbered). IsAllowed l.ev
 -- the words of the first 2 ^ 29 events are in their ranges
 schedule_allowed : (n seed : ℕ) → n ≤ 2 ^ 29 → All (λ (l : Numbered). IsAllowed l.event) (schedule n seed)
 schedule_allowed n seed few = taken 1 0 n (made seed n).events (omega arith) (made_allowed seed n)
+
+on_few : (k n : ℕ) (xs : List Event) → length (on_lines k (take n xs)) ≤ n
+on_few k zero xs = omega arith
+on_few k (suc n) [] = omega arith
+on_few k (suc n) (x ∷ xs) = omega (arith, on_few (k + 1) n xs)
+
+-- a workload of at most 100,000 events is within the limits of a schedule
+pub schedule_is_within : (n seed : ℕ) → n ≤ 100000 → AreScheduled (schedule n seed)
+schedule_is_within n seed few =
+    let count = on_few 1 n (made seed n).events in
+    record { few = omega arith; allowed = recursion_from_All (λ (l : Numbered). IsAllowed l.event) (schedule n seed) (schedule_allowed n seed (omega arith)) }
 
 pub if_allowed : (r : Result (List Numbered) Memory) (n seed : ℕ) → n ≤ 2 ^ 29 → IfOk r (λ ls. ls ≡ schedule n seed) → IfOk r (λ ls. All (λ (l : Numbered). IsAllowed l.event) ls)
 if_allowed (Ok ls) n seed few h = subst (λ (xs : List Numbered). All (λ (l : Numbered). IsAllowed l.event) xs) (sym h) (schedule_allowed n seed few)

@@ -1,3 +1,3 @@
 mod Ranges
 mod Growing
-mod Allowed
+pub mod Allowed

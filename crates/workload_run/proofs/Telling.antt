@@ -1,5 +1,5 @@
 -- What is written of a workload.
-use Rattle.std.proofs.Common.{◌≡◌, ℕ, Option, Result, IfErr, List, [], ◌++◌, length, append-nil, refl, sym, ap, ◌∙◌, subst}
+use Rattle.std.proofs.Common.{◌≡◌, ◌≤◌, ℕ, Option, Result, Ok, Err, IfErr, List, [], ◌++◌, length, append-nil, refl, sym, ap, ◌∙◌, subst}
 use Rattle.lab_outside.specs.declared.exit.Status.{Status}
 use Rattle.lab_outside.specs.declared.exit.Status.TheVariants.{Done, WriteFault, Memory as MemoryStatus, Limit}
 use Rattle.lab_outside.specs.Rose.{Rose}
@@ -17,8 +17,9 @@ use Rattle.replay_run.specs.declared.account.Account.TheVariants.{Summary}
 use Rattle.replay_run.specs.declared.stop.ReplayStop.{ReplayStop}
 use Rattle.replay_run.specs.declared.stop.ReplayStop.TheVariants.{Write, Memory, Number, Sent}
 use Rattle.replay_run.specs.Account.{IsText, summary_lines, closing}
-use Rattle.replay_run.specs.Replay.{number_line, sent_line, ArePlayed, IsReplay, whole, number, sent, unshown}
-use Rattle.replay_run.specs.Stop.{IsPart, of_turns as part_of_turns, of_all, IsWhole, LacksLine, Halts, stop_of_memory}
+use Rattle.text_model.specs.Played.{ArePlayed}
+use Rattle.replay_run.specs.Replay.{sent_line, ReplayLacksRoom, IsReplay, whole, sent}
+use Rattle.replay_run.specs.Stop.{IsPart, of_turns as part_of_turns, of_all, IsWhole, LacksLine, Halts, number_line, stop_of_memory}
 use Rattle.replay_run.proofs.Leading.{played_fits}
 use Rattle.replay_run.proofs.Causes.{wanting}
 use Rattle.replay_run.proofs.Running.{part_none}
@@ -28,7 +29,9 @@ use Rattle.crdt_core.specs.declared.memory.Memory.TheVariants.{Want}
 use Rattle.std.specs.Result.{IsErrAnd}
 use Rattle.workload_run.specs.Words.{AsksFor}
 use Rattle.workload_run.proofs.Reading.{of_asked}
+use Rattle.text_model.specs.Played.{AreScheduled}
 use Rattle.workload.specs.Schedule.{schedule}
+use Rattle.workload.proofs.Allowed.{schedule_is_within}
 use Rattle.workload_run.specs.Answer.{IsAnswer, IsStated, Answers, Begins, nothing, begun, fresh_summary, IsSummarized}
 
 module _ (count seed : ℕ) (old : Option (List ℕ)) where
@@ -55,18 +58,18 @@ module _ (count seed : ℕ) (old : Option (List ℕ)) where
 
   -- how a replay that gave up was told
   module _ (result : Status) (mid new : Option (List ℕ)) (faults risen : ℕ) where
-    pub halted_answers : (stop : ReplayStop) → Halts (Summary count seed) (schedule count seed) stop old mid → (stop ≡ Number → Ends Limit number_line result mid new faults risen) → (stop ≡ Sent → Ends Limit sent_line result mid new faults risen) →
+    pub halted_answers : (stop : ReplayStop) → Halts (Summary count seed) (schedule count seed) stop old mid → (stop ≡ Number → ⊥) → (stop ≡ Sent → Ends Limit sent_line result mid new faults risen) →
         (stop ≡ Write → result ≡ WriteFault) → (stop ≡ Memory → result ≡ MemoryStatus) → IsStated result → Answers count seed result old new
     halted_answers Write h n s w m stated = absurd (subst IsStated (w refl) stated)
     halted_answers Memory h n s w m stated = absurd (subst IsStated (m refl) stated)
-    halted_answers Number h n s w m stated = line_answers number_line result mid new faults risen h (n refl) stated
+    halted_answers Number h n s w m stated = absurd (n refl)
     halted_answers Sent h n s w m stated = line_answers sent_line result mid new faults risen h (s refl) stated
 
-    pub halted_begins : (stop : ReplayStop) → Halts (Summary count seed) (schedule count seed) stop old mid → (stop ≡ Number → Ends Limit number_line result mid new faults risen) → (stop ≡ Sent → Ends Limit sent_line result mid new faults risen) →
+    pub halted_begins : (stop : ReplayStop) → Halts (Summary count seed) (schedule count seed) stop old mid → (stop ≡ Number → ⊥) → (stop ≡ Sent → Ends Limit sent_line result mid new faults risen) →
         (stop ≡ Write → new ≡ mid) → (stop ≡ Memory → new ≡ mid) → Begins count seed old new
     halted_begins Write h n s w m = subst (Begins count seed old) (sym (w refl)) (part_begins mid h)
     halted_begins Memory h n s w m = subst (Begins count seed old) (sym (m refl)) (part_begins mid h)
-    halted_begins Number h n s w m = line_begins number_line result mid new faults risen h (n refl)
+    halted_begins Number h n s w m = absurd (n refl)
     halted_begins Sent h n s w m = line_begins sent_line result mid new faults risen h (s refl)
 
 -- the text is all that is written of the events
@@ -78,9 +81,7 @@ record IsOfTurns (account : Account) (events : List Numbered) (text : List ℕ) 
 
 of_turns : (account : Account) (events : List Numbered) (text : List ℕ) → IsReplay account events Done text → IsOfTurns account events text
 of_turns account events text (whole turns are played e w) = record { turns = turns; events_are = are; played = played; is_text = w }
-of_turns account events text (number before stops e w) = cc
 of_turns account events text (sent before stops e w) = cc
-of_turns account events text (unshown turns are played un e w) = cc
 
 -- what Done says
 module _ (always : EveryRunKeepsPromises) (count seed : ℕ) (old new : Option (List ℕ)) where
@@ -117,6 +118,14 @@ halted_fault stop result mid new before faults risen line (cut_off is rose wrote
 -- nothing was written yet where the schedule could not be made
 pub none_halts : {T : Type 0} (account : Account) (events : List Numbered) (old : Option (List ℕ)) (r : Result T ReplayStop) (why : Why) → IsErrAnd r (λ x. x ≡ stop_of_memory why) → why ≡ Want → IfErr r (λ stop. Halts account events stop old old)
 none_halts account events old r why is want = wanting r why (λ stop. Halts account events stop old old) is (part_none account old events) want
+
+-- a workload's replay never lacks room
+pub never_number : ((events : List Numbered) → AreScheduled events → ReplayLacksRoom events → ⊥) → (count seed : ℕ) → count ≤ 100000 → {T : Type 0} (account : Account) (old new : Option (List ℕ)) (r : Result T ReplayStop) →
+    IfErr r (λ stop. Halts account (schedule count seed) stop old new) → r ≡ Err Number → ⊥
+never_number room count seed few account old new (Ok x) h e = cc
+never_number room count seed few account old new (Err stop) h e =
+    let same : stop ≡ Number = cc in
+    room (schedule count seed) (schedule_is_within count seed few) (subst (λ (s : ReplayStop). Halts account (schedule count seed) s old new) same h).1
 
 -- a status that was answered for what was asked is answered for what the words say
 pub for_words : (P : ℕ → ℕ → Type 0) (words : List (List ℕ)) (m t : ℕ) → AsksFor words m t → P m t → (n s : ℕ) → AsksFor words n s → P n s

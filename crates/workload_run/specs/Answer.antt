@@ -10,7 +10,8 @@ use Rattle.store_model.specs.Fresh.{NoClash}
 use Rattle.store_anchors.specs.Promises.{KeepsPromises}
 use Rattle.replay_run.specs.declared.account.Account.TheVariants.{Summary}
 use Rattle.replay_run.specs.Account.{IsText, summary_lines, closing, fresh_line}
-use Rattle.replay_run.specs.Replay.{ArePlayed, IsReplay}
+use Rattle.text_model.specs.Played.{ArePlayed}
+use Rattle.replay_run.specs.Replay.{IsReplay}
 use Rattle.workload.specs.Schedule.{schedule}
 
 -- how a replay of a workload's schedule ends, and what is written of it: a summary, or the line of a limit alone

@@ -2,8 +2,8 @@
 ghost use Rattle.std.specs.Prelude.{◌≡◌, ◌⊎◌, ◌≤◌, ℕ, map, string_bytes, Err, OnOk, IfErr};
 ghost use Rattle.lab_outside.specs.Rose.{Rose};
 ghost use Rattle.lab_main.specs.Ends.{Ends};
-ghost use Rattle.replay_run.specs.Replay.{number_line, sent_line};
-ghost use Rattle.replay_run.specs.Stop.{Halts, IsWhole};
+ghost use Rattle.replay_run.specs.Replay.{sent_line};
+ghost use Rattle.replay_run.specs.Stop.{number_line, Halts, IsWhole};
 ghost use Rattle.workload.specs.Schedule.{schedule};
 ghost use Rattle.workload_run.specs.Words.{AsksFor, AskNothing};
 ghost use Rattle.workload_run.specs.Answer.{IsStated, IsOfWorkload, Answers, Begins, IsSummarized};
@@ -11,7 +11,7 @@ ghost use Rattle.workload_run.specs.Answer.{IsStated, IsOfWorkload, Answers, Beg
 use crate::asked::{Asked, asked_by};
 use lab_main::{ends, usage};
 use lab_outside::{Sink, Status};
-use replay_run::{Account, ReplayStop, replay};
+use replay_run::{Account, ReplayStop, no_replay_lacks_room, replay};
 use std::alloc::Global;
 use store_anchors::promises_are_kept;
 use workload::schedule;
@@ -21,9 +21,11 @@ fn replayed<O: Sink>(alloc: Global, asked: Asked, output: &mut O) -> Result<(), 
     requires few { asked.count ≤ 100000 }
     ensures whole { OnOk result (IsWhole (Account.Summary asked.count asked.seed) (schedule asked.count asked.seed) (O.written output.old) (O.written output.new)) }
     ensures halts { IfErr result (λ stop. Halts (Account.Summary asked.count asked.seed) (schedule asked.count asked.seed) stop (O.written output.old) (O.written output.new)) }
+    ensures room { result ≡ Err ReplayStop.Number → ⊥ }
     ensures fault { result ≡ Err ReplayStop.Write → Rose (O.faults output.old) (O.faults output.new) }
     ensures counted { O.faults output.old ≤ O.faults output.new }
 {
+    no_replay_lacks_room();
     let events = schedule(alloc, asked.count, asked.seed)?;
     let account = Account::Summary {
         count: asked.count,

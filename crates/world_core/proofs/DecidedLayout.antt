@@ -6,8 +6,7 @@ use Rattle.layout_roles.specs.declared.roles.Roles.{Roles}
 use Rattle.layout_roles.specs.declared.layout.Layout.{Layout}
 use Rattle.layout_roles.specs.declared.redundancy.Redundancy.{Redundancy}
 use Rattle.layout_roles.specs.Zones.{storage_nodes, zone_names}
-use Rattle.layout_roles.specs.Fits.{NoneFits}
-use Rattle.layout_roles.specs.Certificates.{IsPrintedCut, zones_wanted, AreEnough, IsCertified, ShowsNone}
+use Rattle.layout_roles.specs.Certificates.{zones_wanted, AreEnough, IsCertified, ShowsNone}
 use Rattle.layout_roles.specs.declared.cut.Cut.{Cut}
 use Rattle.layout_roles.specs.declared.certified.Certified.{Certified}
 use Rattle.layout_size.specs.declared.fault.LayoutFault.{LayoutFault}
@@ -55,10 +54,5 @@ pub computed : {E : Type 0} (roles : Roles) (wanted : Redundancy) (version : ℕ
 computed roles wanted version certified many is (Ok d) h = best roles wanted version certified many is (decision d) h
 computed roles wanted version certified many is (Err e) h = tt
 
-pub shows : (roles : List Role) (r : ℕ) (fault : LayoutFault) (cut : Cut) → fault ≡ LayoutFault.NoAssignment cut → IfNoAssignment fault (λ _. NoneFits roles r 1) → IfNoAssignment fault (λ x. IsPrintedCut roles r 1 x) → IfNoAssignment fault (λ x. x.weight < 768) →
-    ShowsNone roles r cut
-shows roles r fault cut e none printed light = record {
-  none = subst (λ f. IfNoAssignment f (λ _. NoneFits roles r 1)) e none;
-  printed = subst (λ f. IfNoAssignment f (λ x. IsPrintedCut roles r 1 x)) e printed;
-  light = subst (λ f. IfNoAssignment f (λ x. x.weight < 768)) e light;
-}
+pub shows : (roles : List Role) (r : ℕ) (fault : LayoutFault) (cut : Cut) → fault ≡ LayoutFault.NoAssignment cut → IfNoAssignment fault (ShowsNone roles r) → ShowsNone roles r cut
+shows roles r fault cut e h = subst (λ f. IfNoAssignment f (ShowsNone roles r)) e h

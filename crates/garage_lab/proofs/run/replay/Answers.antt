@@ -10,7 +10,7 @@ returns-in_err-events-clause-halts g c =
 
 pub returns-in_err-replay-clause-halts : goal.returns-in_err-replay-clause-halts
 returns-in_err-replay-clause-halts g c =
-    write_halts c.args.account (g.I.Source.left c.args.input.now) (g.O.Sink.written c.args.output.now) (g.O.Sink.written c.replay.new.output) c.in_ok-events.events c.as_slice.result.now c.from_residual-in_err-replay.result c.in_err-replay.field-0.0
+    write_halts c.schedules_are_within_limits.ensures c.no_replay_lacks_room.ensures c.args.account (g.I.Source.left c.args.input.now) (g.O.Sink.written c.args.output.now) (g.O.Sink.written c.replay.new.output) c.in_ok-events.events c.as_slice.result.now c.from_residual-in_err-replay.result c.in_err-replay.field-0.0
     c.from_residual-in_err-replay.ensures.1 c.as_slice.ensures c.in_ok-events.ensures.schedule c.in_err-replay.ensures.halts
 
 pub returns-in_err-replay-clause-read_fault : goal.returns-in_err-replay-clause-read_fault

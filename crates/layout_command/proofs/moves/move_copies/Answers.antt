@@ -13,5 +13,5 @@ returns-in_ok-reason-in-Err-clause-stated c =
     not_laid_out
     (stated_reason (settings_of c.args.config.now) c.compute.result c.compute.ensures.nodes c.compute.ensures.zones Refused c.refused.result.text c.in-Err.fault
     c.in-Err.is c.in_ok-reason-in-Err.ensures.told refl (c.refused.ensures.text ∙ c.in_ok-reason-in-Err.ensures.text)
-    c.compute.ensures.none c.compute.ensures.none_cut c.compute.ensures.none_light)
+    c.compute.ensures.none)
     c.refused.ensures.status

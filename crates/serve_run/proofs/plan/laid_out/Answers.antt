@@ -11,4 +11,4 @@ pub returns-in_ok-reason-in-Err-clause-causes : goal.returns-in_ok-reason-in-Err
 returns-in_ok-reason-in-Err-clause-causes c =
     stated_reason (settings_of c.args.config) c.compute.result c.compute.ensures.nodes c.compute.ensures.zones Refused c.in_ok-reason-in-Err.field-0 c.in-Err.fault
     c.in-Err.is c.in_ok-reason-in-Err.ensures.told refl c.in_ok-reason-in-Err.ensures.text
-    c.compute.ensures.none c.compute.ensures.none_cut c.compute.ensures.none_light
+    c.compute.ensures.none

@@ -5,11 +5,9 @@ use Rattle.world_core.proofs.decide.decide.Goals as goal
 
 pub returns-in-Ok-clause-computed : goal.returns-in-Ok-clause-computed
 returns-in-Ok-clause-computed c =
-    let has = c.in-Ok.ensures in
     computed c.args.roles.now c.args.wanted c.args.version c.in-Ok.certified
     (enough c.args.roles.now.list c.args.wanted c.compute.result c.compute.ensures.nodes c.compute.ensures.zones (λ n e. let is = c.in-Ok.is in cc) (λ z r e. let is = c.in-Ok.is in cc))
-    (record { redundancy = has.redundancy; greatest = has.greatest; above = has.above; some = has.some; cut = has.cut; light = has.light })
-    c.given.result c.given.ensures.given
+    c.in-Ok.ensures.certified c.given.result c.given.ensures.given
 
 pub returns-in-Err-TooFewNodes-clause-computed : goal.returns-in-Err-TooFewNodes-clause-computed
 returns-in-Err-TooFewNodes-clause-computed c = (c.compute.ensures.nodes c.in-Err-TooFewNodes.nodes).0 (c.in-Err-TooFewNodes.is ∙ ap Err c.in-Err-TooFewNodes.field-0-is)
@@ -19,9 +17,8 @@ returns-in-Err-TooFewZones-clause-computed c = (c.compute.ensures.zones c.in-Err
 
 pub returns-in-Err-NoAssignment-clause-computed : goal.returns-in-Err-NoAssignment-clause-computed
 returns-in-Err-NoAssignment-clause-computed c =
-    let has = c.in-Err-NoAssignment.ensures in
     let is = c.in-Err-NoAssignment.is ∙ ap Err c.in-Err-NoAssignment.field-0-is in
     let roles = c.args.roles.now.list in (
       enough roles c.args.wanted c.compute.result c.compute.ensures.nodes c.compute.ensures.zones (λ n e. cc) (λ z r e. cc),
-      shows roles (zones_wanted c.args.wanted roles) c.in-Err-NoAssignment.field-0 c.in-Err-NoAssignment.cut c.in-Err-NoAssignment.field-0-is has.none has.none_cut has.none_light,
+      shows roles (zones_wanted c.args.wanted roles) c.in-Err-NoAssignment.field-0 c.in-Err-NoAssignment.cut c.in-Err-NoAssignment.field-0-is c.in-Err-NoAssignment.ensures.none,
     )
