@@ -3,7 +3,7 @@ use Rattle.std.proofs.Common.{◌≡◌, ℕ, zero, suc, ◌+◌, ◌-◌, ◌<�
 use Rattle.std.proofs.lemmas.List.{take-append-le, drop-append-le}
 use Rattle.std.proofs.lemmas.Option.{same_Some}
 use Rattle.std.proofs.lemmas.Bool.{cond-true, cond-false, le-leb, lt-leb, leb-true}
-use Rattle.http_wire.specs.Cut.{head_limit, ends_head, least, head_end, Cut, ends, too_long, unfinished, cut_at, cut}
+use Rattle.http_model.specs.Cut.{head_limit, ends_head, least, head_end, Cut, ends, too_long, unfinished, cut_at, cut}
 
 -- ---- the least number that passes a test
 

@@ -2,11 +2,11 @@
 use Rattle.std.proofs.Common.{◌≡◌, ◌⊎◌, inl, inr, ℕ, ◌<◌, List, ◌++◌, None, Result, Ok, Err, IfOk, IfErr, IsErrAnd, refl, sym, ◌∙◌, ap, subst, append-nil, length, take, drop}
 use Rattle.lab_outside.specs.Connection.{Connection}
 use Rattle.lab_outside.specs.Rose.{Rose}
-use Rattle.http_wire.specs.declared.head.Head.{Head}
+use Rattle.http_model.specs.declared.head.Head.{Head}
 use Rattle.http_wire.specs.declared.head.HeadEnd.{HeadEnd}
 use Rattle.http_wire.specs.declared.head.HeadEnd.TheVariants.{Closed, TooLong, Bad, Failed, Memory}
-use Rattle.http_wire.specs.Cut.{head_limit, head_end, ends}
-use Rattle.http_wire.specs.Heads.{IsHead, IsNoHead}
+use Rattle.http_model.specs.Cut.{head_limit, head_end, ends}
+use Rattle.http_model.specs.Heads.{IsHead, IsNoHead}
 use Rattle.http_wire.specs.Reading.{Takes, Fails, ReadsHead}
 use Rattle.http_wire.specs.Pieces.{ReadsPiece, SeesEnd}
 use Rattle.http_wire.proofs.Cuts.{cut_end, cut_unfinished}

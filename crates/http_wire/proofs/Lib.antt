@@ -4,4 +4,3 @@ pub mod Searches
 pub mod Ends
 pub mod Bodies
 pub mod Tolds
-pub mod HeadFacts

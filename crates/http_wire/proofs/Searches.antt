@@ -5,7 +5,7 @@ use Rattle.std.proofs.lemmas.List.Folds.{list_any-append}
 use Rattle.std.proofs.lemmas.Grind.{take_at_read}
 use Rattle.std.specs.List.{list_any}
 use Rattle.http_wire.specs.declared.end.Search.{Search}
-use Rattle.http_wire.specs.Cut.{head_limit, is_text, ends_head, least, head_end}
+use Rattle.http_model.specs.Cut.{head_limit, is_text, ends_head, least, head_end}
 use Rattle.http_wire.specs.Pieces.{IsSearched}
 use Rattle.http_wire.proofs.Cuts.{least_same, least_fewer, least_next_none, least_next_some, same_front, head_end_is}
 

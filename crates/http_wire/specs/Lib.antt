@@ -1,4 +1,3 @@
-pub mod Cut
-pub mod Heads
+pub mod Parts
 pub mod Reading
 pub mod Pieces

@@ -6,7 +6,7 @@ use Rattle.lab_outside.specs.Connection.{Connection}
 use Rattle.http_wire.specs.declared.head.HeadEnd.{HeadEnd}
 use Rattle.http_wire.specs.declared.head.HeadEnd.TheVariants.{Closed, TooLong, Bad, Failed, Memory}
 use Rattle.http_wire.specs.declared.end.Search.{Search}
-use Rattle.http_wire.specs.Cut.{is_text, ends_head, least, too_long, unfinished, head_end, cut}
+use Rattle.http_model.specs.Cut.{is_text, ends_head, least, too_long, unfinished, head_end, cut}
 use Rattle.http_wire.specs.Reading.{Takes, Fails}
 
 -- the bytes were searched as far as the search has come: no head ends there, and it knows whether there was text

@@ -3,11 +3,11 @@ use Rattle.std.specs.Prelude.{◌≡◌, ℕ, ◌<◌, List, ◌++◌, length, O
 use Rattle.std.specs.Io.KnownBytes.{Consumes, IsAtEnd}
 use Rattle.lab_outside.specs.Connection.{Connection}
 use Rattle.lab_outside.specs.Rose.{Rose}
-use Rattle.http_wire.specs.declared.head.Head.{Head}
+use Rattle.http_model.specs.declared.head.Head.{Head}
 use Rattle.http_wire.specs.declared.head.HeadEnd.{HeadEnd}
 use Rattle.http_wire.specs.declared.head.HeadEnd.TheVariants.{Closed, TooLong, Bad, Failed, Memory}
-use Rattle.http_wire.specs.Cut.{ends, too_long, unfinished, cut}
-use Rattle.http_wire.specs.Heads.{IsHead, IsNoHead}
+use Rattle.http_model.specs.Cut.{ends, too_long, unfinished, cut}
+use Rattle.http_model.specs.Heads.{IsHead, IsNoHead}
 
 -- `seen` is what was kept and then the bytes that were taken from the connection, of which nothing else changed
 pub record Takes (kept seen : List ℕ) (c d : Connection) : Type 0 where

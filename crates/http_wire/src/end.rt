@@ -1,7 +1,7 @@
 //! Where a head ends.
 ghost use Rattle.std.specs.Prelude.{◌≡◌, ◌+◌, ◌<◌, ◌≤◌, ◌||◌, IfSome, IfNone, length, take, false};
 ghost use Rattle.std.specs.List.{list_any};
-ghost use Rattle.http_wire.specs.Cut.{is_text, ends_in_empty_line as is_line_end, ends_head, head_end};
+ghost use Rattle.http_model.specs.Cut.{is_text, ends_in_empty_line as is_line_end, ends_head, head_end};
 
 /// How many bytes a head may have.
 pub const HEAD_LIMIT: usize = 16384;
@@ -22,7 +22,7 @@ fn has_text(before: bool, byte: u8) -> bool
 }
 
 /// A head ends with these bytes: they end in an empty line, and there is text among them.
-#[tactic(auto, unfolding(crate::specs::Cut::ends_head))]
+#[tactic(auto, unfolding(http_model::specs::Cut::ends_head))]
 fn is_head_end(front: &[u8], text: bool) -> bool
     requires { text ≡ list_any is_text front.now }
     ensures { result ≡ ends_head front.now }

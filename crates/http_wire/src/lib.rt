@@ -16,6 +16,7 @@ mod pieces;
 mod whole;
 
 pub use crate::body::read_body;
-pub use crate::head::{Head, HeadEnd};
+pub use crate::head::HeadEnd;
 pub use crate::pieces::Kept;
 pub use crate::whole::read_head;
+pub use http_model::Head;

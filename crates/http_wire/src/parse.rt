@@ -2,10 +2,11 @@
 ghost use Rattle.std.specs.Prelude.{◌≡◌, ◌≤◌, length, map, take, All, IfOk};
 ghost use Rattle.crdt_core.specs.Outcomes.{OnlyWant};
 ghost use Rattle.httparse.specs.Spans.{IsRequestWithin, IsHeaderWithin, header_bytes};
-ghost use Rattle.http_wire.specs.Heads.{IsReading, parts_at};
+ghost use Rattle.http_model.specs.Heads.{IsReading};
+ghost use Rattle.http_wire.specs.Parts.{parts_at};
 
-use crate::head::Head;
 use crdt_core::{Bytes, List, Memory};
+use http_model::Head;
 use httparse::Status;
 use httparse::spans::{EMPTY_HEADER_SPAN, HeaderSpan, RequestSpans, parse_request};
 use std::alloc::Global;

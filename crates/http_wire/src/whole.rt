@@ -1,14 +1,15 @@
 //! A head, read from a connection.
 ghost use Rattle.std.specs.Prelude.{◌≡◌, ◌≤◌, ◌⊎◌, length, take, drop, Err, IsSome, IfOk, IfErr};
 ghost use Rattle.lab_outside.specs.Connection.{OnPresent, Stays};
-ghost use Rattle.http_wire.specs.Heads.{IsHead, IsNoHead};
+ghost use Rattle.http_model.specs.Heads.{IsHead, IsNoHead};
 ghost use Rattle.http_wire.specs.Reading.{ReadsHead, IsHeadOf, OnAll};
 ghost use Rattle.http_wire.specs.Pieces.{SeesEnd};
 
 use crate::end::{HEAD_LIMIT, Search};
-use crate::head::{Head, HeadEnd};
+use crate::head::HeadEnd;
 use crate::parse::parse;
 use crate::pieces::{Kept, PIECE_SIZE, read_piece};
+use http_model::Head;
 use lab_outside::Link;
 use std::alloc::Global;
 

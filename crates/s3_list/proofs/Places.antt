@@ -1,6 +1,6 @@
 -- The first place that passes a test, and the entries of a page.
 use Rattle.std.proofs.Common.{◌≡◌, ℕ, suc, ◌+◌, ◌-◌, ◌<◌, ◌≤◌, Bool, true, false, if◌then◌else◌, Some, None, ap, ◌∙◌, arith}
-use Rattle.http_wire.specs.Cut.{least}
+use Rattle.http_model.specs.Cut.{least}
 
 -- the next place passes, or a later one is the first
 pub least_here : (test : ℕ → Bool) (n end : ℕ) → n < end → least test n (end - n) ≡ (if test n then Some n else least test (n + 1) (end - (n + 1)))

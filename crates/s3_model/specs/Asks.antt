@@ -1,6 +1,6 @@
 -- What a head asks, or the first refusal that applies.
 use Rattle.std.specs.Prelude.{◌≡◌, ℕ, Bool, false, true, ◌&&◌, nat_lt, List, codes, bytes_eq, Option, Some, None, is_none, option_and_then, Result, Ok, Err, ⊤, if◌then◌else◌}
-use Rattle.http_wire.specs.declared.head.Head.{Head}
+use Rattle.http_model.specs.declared.head.Head.{Head}
 use Rattle.s3_model.specs.declared.ask.Ask.{Ask}
 use Rattle.s3_model.specs.declared.ask.Ask.TheVariants.{ListBuckets, HeadBucket, List as Listing, BadList, Get, Head as HeadObject, Delete, Put, Copy}
 use Rattle.s3_model.specs.declared.ask.Range.{Range}

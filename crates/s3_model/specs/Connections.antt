@@ -1,7 +1,7 @@
 -- What a head says of its connection: whether it closes after the answer, and whether the client waits before it sends the body.
 use Rattle.std.specs.Prelude.{Bool, not, ◌&&◌, ◌||◌, ◌==◌, codes}
 use Rattle.std.specs.List.{list_any}
-use Rattle.http_wire.specs.declared.head.Head.{Head}
+use Rattle.http_model.specs.declared.head.Head.{Head}
 use Rattle.s3_model.specs.Words.{is_word, holds_word}
 
 -- the request is of HTTP/1.0

@@ -10,7 +10,7 @@ use Rattle.crdt_rows.specs.declared.state.State.{State}
 use Rattle.crdt_rows.specs.declared.state.State.TheVariants.{Complete}
 use Rattle.crdt_rows.specs.declared.object_row.ObjectRow.{ObjectRow}
 use Rattle.crdt_rows.specs.ObjectRow.{newest, state_at}
-use Rattle.http_wire.specs.Cut.{least}
+use Rattle.http_model.specs.Cut.{least}
 use Rattle.s3_model.specs.declared.page.After.{After}
 use Rattle.s3_model.specs.declared.page.After.TheVariants.{Key, Prefix}
 use Rattle.s3_model.specs.declared.page.ListAsk.{ListAsk}

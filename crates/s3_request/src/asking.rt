@@ -13,7 +13,7 @@ use crate::stored::{copy_headers, stored_headers};
 use crate::target::{has_text_key, parameters, path, place, query};
 use crate::word::header;
 use crdt_core::{Bytes, Memory};
-use http_wire::Head;
+use http_model::Head;
 use s3_model::{Ask, AskFault, Code, Place, Range, S3Fault};
 use std::alloc::Global;
 

@@ -6,7 +6,7 @@ ghost use Rattle.s3_model.specs.Words.{is_word as is_word_of, holds_word as hold
 
 use crate::word::{holds_word, is_word};
 use crdt_core::Bytes;
-use http_wire::Head;
+use http_model::Head;
 
 fn asks_to_close(headers: &[(Bytes, Bytes)]) -> bool
     ensures { result ≡ list_any (λ h. is_word_of h.0 (codes "connection") && holds_word_of h.1 (codes "close")) headers.now }

@@ -9,7 +9,7 @@ use crate::number::{DIGIT_LIMIT, is_number, number};
 use crate::pieces::holds;
 use crate::word::{begins_word, header, holds_word, is_one_of, is_word};
 use crdt_core::Bytes;
-use http_wire::Head;
+use http_model::Head;
 
 /// Headers that ask for what isn't served: parts of a body, and conditions.
 const REFUSED: [&[u8]; 6] = [

@@ -1,10 +1,10 @@
 -- How a request is served whose head was looked for.
 use Rattle.std.proofs.Common.{◌≡◌, ℕ, List, [], ◌∷◌, Option, Some, None, Bool, true, refl, ◌∙◌, ap, subst, arith}
 use Rattle.lab_outside.specs.Times.{GivesTime}
-use Rattle.http_wire.specs.declared.head.Head.{Head}
-use Rattle.http_wire.specs.Cut.{ends, too_long, unfinished, cut}
-use Rattle.http_wire.specs.Heads.{IsHead, IsNoHead, IsReading}
-use Rattle.http_wire.proofs.HeadFacts.{head_unique}
+use Rattle.http_model.specs.declared.head.Head.{Head}
+use Rattle.http_model.specs.Cut.{ends, too_long, unfinished, cut}
+use Rattle.http_model.specs.Heads.{IsHead, IsNoHead, IsReading}
+use Rattle.http_model.proofs.HeadFacts.{head_unique}
 use Rattle.serve_model.specs.declared.served.Served.{Served}
 use Rattle.serve_model.specs.Stores.{Store}
 use Rattle.serve_model.specs.Talk.{Grammar, Serving, first_of, later_of, time_from, clocked, passing, said, bad_head, head_turn, cut_turn, turn}

@@ -5,7 +5,7 @@ use Rattle.percent_encoding.specs.Percent.{percent_decode}
 use Rattle.flow_model.specs.declared.order.Order.{Order}
 use Rattle.flow_model.specs.declared.order.Order.TheVariants as order
 use Rattle.store_model.specs.Acts.{HasKey}
-use Rattle.http_wire.specs.declared.head.Head.{Head}
+use Rattle.http_model.specs.declared.head.Head.{Head}
 use Rattle.s3_model.specs.declared.ask.Ask.{Ask}
 use Rattle.s3_model.specs.declared.ask.Ask.TheVariants as ask
 use Rattle.s3_model.specs.declared.page.After.{After}

@@ -4,8 +4,8 @@ use Rattle.std.proofs.lemmas.Bool.{cases_lt}
 use Rattle.httparse.specs.Grammar.{RequestHead, ReadsRequest}
 use Rattle.httparse.specs.Pieces.{Then, RequestStart, Section}
 use Rattle.httparse.proofs.GrammarLemmas.{request_tree, request_head, request_pieces, request_from_pieces, request_unique}
-use Rattle.http_wire.specs.declared.head.Head.{Head}
-use Rattle.http_wire.specs.Heads.{header_limit, said, IsHead, IsNoHead, IsReading}
+use Rattle.http_model.specs.declared.head.Head.{Head}
+use Rattle.http_model.specs.Heads.{header_limit, said, IsHead, IsNoHead, IsReading}
 use Rattle.serve_model.specs.Talk.{Grammar}
 use Rattle.serve_model.proofs.Decisions.{Decision, begins, lacks}
 use Rattle.serve_model.proofs.Pieces.{head_decided}

@@ -1,6 +1,6 @@
 -- The canonical request.
 use Rattle.std.specs.Prelude.{ℕ, List, ◌++◌, codes}
-use Rattle.http_wire.specs.declared.head.Head.{Head}
+use Rattle.http_model.specs.declared.head.Head.{Head}
 use Rattle.sig_request.specs.Texts.{parts}
 use Rattle.sig_request.specs.Fields.{fields_of, field_lines}
 use Rattle.sig_request.specs.Query.{canonical_path, canonical_query}

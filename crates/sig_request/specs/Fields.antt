@@ -3,7 +3,7 @@ use Rattle.std.specs.Prelude.{ℕ, Bool, true, not, ◌&&◌, ◌||◌, cond, Li
 use Rattle.std.specs.List.{flat_map, join_with_byte, list_all, list_any}
 use Rattle.std.specs.Char.{to_ascii_lowercase}
 use Rattle.layout_roles.specs.Zones.{same_name}
-use Rattle.http_wire.specs.declared.head.Head.{Head}
+use Rattle.http_model.specs.declared.head.Head.{Head}
 use Rattle.sig_request.specs.Texts.{is_less, words}
 
 -- the name in lower case, and the value

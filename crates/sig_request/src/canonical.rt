@@ -9,7 +9,7 @@ use crate::fields::{field_lines, fields_of};
 use crate::query::{canonical_path, canonical_query};
 use crate::texts::parts;
 use crdt_core::{Bytes, Memory};
-use http_wire::Head;
+use http_model::Head;
 use std::alloc::Global;
 
 // The method, the path and the parameters, a line each.

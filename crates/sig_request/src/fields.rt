@@ -7,7 +7,7 @@ ghost use Rattle.sig_request.specs.Fields as spec;
 
 use crate::texts::{is_less, joined, words};
 use crdt_core::{Bytes, List, Memory};
-use http_wire::Head;
+use http_model::Head;
 use std::alloc::Global;
 
 fn lowered(alloc: Global, name: &[u8]) -> Result<Bytes, Memory>

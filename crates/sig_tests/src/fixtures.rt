@@ -1,6 +1,6 @@
 //! Requests as text, and the words for answers.
 use crdt_core::{Bytes, List, Memory};
-use http_wire::Head;
+use http_model::Head;
 use layout_text::Key;
 use sig_v4::{Refusal, check};
 use std::alloc::Global;

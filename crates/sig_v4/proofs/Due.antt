@@ -1,6 +1,6 @@
 -- The signature that a request must have, from what was computed on the way.
 use Rattle.std.proofs.Common.{◌≡◌, ℕ, List, ap, ◌∙◌}
-use Rattle.http_wire.specs.declared.head.Head.{Head}
+use Rattle.http_model.specs.declared.head.Head.{Head}
 use Rattle.sig_request.specs.Canonical.{canonical_request}
 use Rattle.sig_v4.specs.declared.claim.Claim.{Claim}
 use Rattle.sig_v4.specs.Signing.{text_to_sign, signature}

@@ -5,7 +5,7 @@ use Rattle.std.specs.List.{position_from}
 use Rattle.layout_roles.specs.Zones.{same_name}
 use Rattle.layout_text.specs.declared.keys.Key.{Key}
 use Rattle.layout_text.specs.Settings.{◌>>=◌}
-use Rattle.http_wire.specs.declared.head.Head.{Head}
+use Rattle.http_model.specs.declared.head.Head.{Head}
 use Rattle.sig_v4.specs.declared.refusal.Refusal.{Refusal}
 use Rattle.sig_v4.specs.declared.refusal.Refusal.TheVariants.{Unsigned, Malformed, UnknownKey, Skewed, WrongSignature, Memory}
 use Rattle.sig_v4.specs.declared.claim.Claim.{Claim}

@@ -10,7 +10,7 @@ use crate::dates::is_skewed;
 use crate::refusal::Refusal;
 use crate::signing::{signature, text_to_sign};
 use crdt_core::{Bytes, Memory};
-use http_wire::Head;
+use http_model::Head;
 use layout_text::Key;
 use sig_request::{canonical_request, fields_of};
 use std::alloc::Global;

@@ -1,7 +1,7 @@
 use Rattle.std.proofs.Common.{◌≡◌, ℕ, List, sym, subst, arith, None, Ok, Err, length, take, ◌≤◌, ◌<◌}
 use Rattle.http_wire.specs.declared.head.HeadEnd.TheVariants.{Closed, TooLong}
 use Rattle.lab_outside.specs.Connection.{OnPresent}
-use Rattle.http_wire.specs.Cut.{head_limit, head_end}
+use Rattle.http_model.specs.Cut.{head_limit, head_end}
 use Rattle.http_wire.specs.Reading.{Takes}
 use Rattle.http_wire.specs.Pieces.{IsSearched, ReadsPiece, SeesEnd}
 use Rattle.http_wire.proofs.Searches.{search_begins, search_grows}

@@ -1,6 +1,6 @@
 use Rattle.std.proofs.Common.{List, ℕ, Option, ap, subst, take}
-use Rattle.http_wire.specs.declared.head.Head.{Head}
-use Rattle.http_wire.specs.Heads.{IsNoHead, IsReading}
+use Rattle.http_model.specs.declared.head.Head.{Head}
+use Rattle.http_model.specs.Heads.{IsNoHead, IsReading}
 use Rattle.http_wire.proofs.whole.take_head.Goals as goal
 
 pub returns-in-Ok-None-clause-bad : goal.returns-in-Ok-None-clause-bad

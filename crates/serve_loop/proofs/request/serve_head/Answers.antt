@@ -1,5 +1,5 @@
 use Rattle.std.proofs.Common.{◌≡◌, ◌++◌, Err, Some, true, codes, subst, ap}
-use Rattle.http_wire.specs.declared.head.Head.{Head}
+use Rattle.http_model.specs.declared.head.Head.{Head}
 use Rattle.s3_model.specs.declared.fault.AskFault.{AskFault}
 use Rattle.s3_model.specs.declared.fault.AskFault.TheVariants.{Refused}
 use Rattle.s3_model.specs.declared.fault.S3Fault.{S3Fault}

@@ -1,7 +1,7 @@
 use Rattle.std.proofs.Common.{◌≡◌, ℕ, List, Option, Some, None, refl, ap}
-use Rattle.http_wire.specs.declared.head.Head.{Head}
-use Rattle.http_wire.specs.Heads.{IsReading}
-use Rattle.http_wire.proofs.HeadFacts.{head_unique}
+use Rattle.http_model.specs.declared.head.Head.{Head}
+use Rattle.http_model.specs.Heads.{IsReading}
+use Rattle.http_model.proofs.HeadFacts.{head_unique}
 use Rattle.serve_model.proofs.grammar.grammar_is_one.Goals as goal
 
 same_heads : (front : List ℕ) (a b : Option Head) → IsReading front a → IsReading front b → a ≡ b

@@ -1,10 +1,8 @@
 -- What the bytes of a head say, by the grammar of httparse.
-use Rattle.std.specs.Prelude.{◌≡◌, ℕ, ◌≤◌, List, [], Option, Some, None, length, map, take}
+use Rattle.std.specs.Prelude.{◌≡◌, ℕ, ◌≤◌, List, [], Option, Some, None, length, map}
 use Rattle.httparse.specs.Grammar.{RequestHead, ReadsRequest}
-use Rattle.httparse.specs.Spans.{name_and_value, span_bytes, header_bytes}
-use Rattle.httparse.specs.declared.spans.HeaderSpan.{HeaderSpan}
-use Rattle.httparse.specs.declared.spans.RequestSpans.{RequestSpans}
-use Rattle.http_wire.specs.declared.head.Head.{Head}
+use Rattle.httparse.specs.Spans.{name_and_value}
+use Rattle.http_model.specs.declared.head.Head.{Head}
 
 -- how many headers a head may have
 abbrev pub header_limit : ℕ
@@ -29,13 +27,3 @@ IsNoHead front = (head : Head) → IsHead front head → ⊥
 abbrev pub IsReading : List ℕ → Option Head → Type 0
 IsReading front None = IsNoHead front
 IsReading front (Some head) = IsHead front head
-
--- what the spans of a head's parts cover
-abbrev pub parts_at : List ℕ → List HeaderSpan → RequestSpans → Head
-parts_at front headers r =
-    record {
-      method = span_bytes front r.method;
-      target = span_bytes front r.path;
-      minor = r.version;
-      headers = map (header_bytes front) (take r.headers headers);
-    }
