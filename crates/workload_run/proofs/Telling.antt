@@ -120,12 +120,12 @@ pub none_halts : {T : Type 0} (account : Account) (events : List Numbered) (old 
 none_halts account events old r why is want = wanting r why (λ stop. Halts account events stop old old) is (part_none account old events) want
 
 -- a workload's replay never lacks room
-pub never_number : ((events : List Numbered) → AreScheduled events → ReplayLacksRoom events → ⊥) → (count seed : ℕ) → count ≤ 100000 → {T : Type 0} (account : Account) (old new : Option (List ℕ)) (r : Result T ReplayStop) →
-    IfErr r (λ stop. Halts account (schedule count seed) stop old new) → r ≡ Err Number → ⊥
-never_number room count seed few account old new (Ok x) h e = cc
-never_number room count seed few account old new (Err stop) h e =
+pub never_number : ((events : List Numbered) → AreScheduled events → ReplayLacksRoom events → ⊥) → (count seed : ℕ) → count ≤ 100000 → {T : Type 0} (account : Account) (old new : Option (List ℕ)) (r : Result T ReplayStop) (events : List Numbered) → events ≡ schedule count seed →
+    IfErr r (λ stop. Halts account events stop old new) → r ≡ Err Number → ⊥
+never_number room count seed few account old new (Ok x) events is h e = cc
+never_number room count seed few account old new (Err stop) events is h e =
     let same : stop ≡ Number = cc in
-    room (schedule count seed) (schedule_is_within count seed few) (subst (λ (s : ReplayStop). Halts account (schedule count seed) s old new) same h).1
+    room events (subst AreScheduled (sym is) (schedule_is_within count seed few)) (subst (λ (s : ReplayStop). Halts account events s old new) same h).1
 
 -- a status that was answered for what was asked is answered for what the words say
 pub for_words : (P : ℕ → ℕ → Type 0) (words : List (List ℕ)) (m t : ℕ) → AsksFor words m t → P m t → (n s : ℕ) → AsksFor words n s → P n s
