@@ -96,7 +96,8 @@ below_32 bytes fits = omega (arith, fits 0, fits 1, fits 2, fits 3)
 below_64 : (bytes : List ℕ) → ((i : ℕ) → get_or bytes i 0 < 256) → from_be_bytes w64 bytes < 2 ^ 64
 below_64 bytes fits = omega (arith, fits 0, fits 1, fits 2, fits 3, fits 4, fits 5, fits 6, fits 7)
 
-byte_small : (i n : ℕ) → nat_lt (byte_at i n) (2 ^ 8) ≡ true
+-- each byte of a number is below 256
+pub byte_small : (i n : ℕ) → nat_lt (byte_at i n) (2 ^ 8) ≡ true
 byte_small zero n = lt-ltb (n % 256) (2 ^ 8) (omega arith)
 byte_small (suc i) n = lt-ltb _ _ (omega arith)
 

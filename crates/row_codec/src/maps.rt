@@ -86,8 +86,8 @@ impl<V: Crdt + Field> Field for Deletable<V> {
     }
 }
 
-// Each key is below the next.
-fn are_ascending<K: Value, V>(entries: &[(K, V)]) -> bool
+/// Each key is below the next.
+pub fn are_ascending<K: Value, V>(entries: &[(K, V)]) -> bool
     ensures { result ≡ is_ascending K.cmp entries.now }
 {
     let mut rest = entries;
@@ -100,8 +100,8 @@ fn are_ascending<K: Value, V>(entries: &[(K, V)]) -> bool
     true
 }
 
-// The map of entries that ascend.
-fn map_of<K: Value, V: Crdt>(alloc: Global, entries: &[(K, V)]) -> Result<Map<K, V>, Memory>
+/// The map of entries that ascend.
+pub fn map_of<K: Value, V: Crdt>(alloc: Global, entries: &[(K, V)]) -> Result<Map<K, V>, Memory>
     requires { IsTrue (is_ascending K.cmp entries.now) }
     ensures same { IfOk result (λ m. map_entries m ≡ entries.now) }
     ensures want { OnlyWant result }
