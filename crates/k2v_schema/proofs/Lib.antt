@@ -1,3 +1,1 @@
-pub mod Ascending
-pub mod Loop
 pub mod Whole

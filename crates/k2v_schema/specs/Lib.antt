@@ -1,4 +1,3 @@
-pub mod Gives
 pub mod Range
 pub mod Spelling
 pub mod Reading

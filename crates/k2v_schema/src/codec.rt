@@ -4,15 +4,15 @@ ghost use Rattle.crdt_core.specs.Outcomes.{WantOr};
 ghost use Rattle.crdt_core.specs.declared.memory.Memory.TheVariants.{Full};
 ghost use Rattle.k2v_rows.specs.declared.k2v_row.K2vRow.{K2vRow};
 ghost use Rattle.table_schema.specs.declared.schema.RowFault.TheVariants as faults;
-ghost use Rattle.k2v_schema.specs.Gives.{Gives};
+ghost use Rattle.row_codec.specs.Gives.{Gives};
 ghost use Rattle.k2v_schema.specs.Range.{in_range, has_bytes};
 ghost use Rattle.k2v_schema.specs.Reading.{read, spelling};
 ghost use Rattle.k2v_schema.specs.Spelling.{spelled};
 
-use crate::fault::Fault;
 use crate::field::Field;
 use crdt_core::{Bytes, Memory};
 use k2v_rows::K2vRow;
+use row_codec::Fault;
 use std::alloc::Global;
 use table_schema::RowFault;
 

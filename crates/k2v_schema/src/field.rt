@@ -1,11 +1,11 @@
 //! A part of a row, its bytes, and how it is read from them.
 ghost use Rattle.std.specs.Prelude.{◌≡◌, ◌++◌, ℕ, Bool, List, Option, IsTrue, OnOk};
 ghost use Rattle.crdt_core.specs.Outcomes.{OnlyWant};
-ghost use Rattle.k2v_schema.specs.Gives.{Gives};
+ghost use Rattle.row_codec.specs.Gives.{Gives};
 ghost use Rattle.row_codec.specs.Reads.{Reads};
 
-use crate::fault::Fault;
 use crdt_core::{Bytes, Memory};
+use row_codec::Fault;
 use std::alloc::Global;
 
 /// A part of a row, with the one string of bytes that spells it.

@@ -18,7 +18,6 @@
 #![tactic(auto)]
 
 mod codec;
-mod fault;
 mod field;
 mod lists;
 mod maps;

@@ -2,17 +2,17 @@
 ghost use Rattle.std.specs.Prelude.{◌≡◌, ◌&&◌, ◌++◌, IsTrue, OnOk};
 ghost use Rattle.std.specs.List.{list_all, flat_map};
 ghost use Rattle.crdt_core.specs.Outcomes.{OnlyWant};
-ghost use Rattle.k2v_schema.specs.Gives.{Gives};
+ghost use Rattle.row_codec.specs.Gives.{Gives};
 ghost use Rattle.row_codec.specs.JoinedLaws.{both_reads};
 ghost use Rattle.row_codec.specs.PartLaws.{max_reads};
 ghost use Rattle.row_codec.specs.Range.{are_short};
 ghost use Rattle.row_codec.specs.Reading.{both_at, each_at, counted_at, max_at};
 ghost use Rattle.row_codec.specs.Spelling.{counted};
 
-use crate::fault::Fault;
 use crate::field::Field;
 use crate::numbers::{LIMIT, put_count, take_count};
 use crdt_core::{Bytes, List, Max, Memory, Value};
+use row_codec::Fault;
 use std::alloc::Global;
 
 impl<A: Field, B: Field> Field for (A, B) {

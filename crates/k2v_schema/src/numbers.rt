@@ -1,7 +1,7 @@
 //! Numbers, strings of bytes and digests.
 ghost use Rattle.std.specs.Prelude.{◌≡◌, ◌++◌, true, IsTrue, OnOk};
 ghost use Rattle.crdt_core.specs.Outcomes.{OnlyWant};
-ghost use Rattle.k2v_schema.specs.Gives.{Gives};
+ghost use Rattle.row_codec.specs.Gives.{Gives};
 ghost use Rattle.row_codec.specs.NumberLaws.{eight_reads, field_reads};
 ghost use Rattle.row_codec.specs.PartLaws.{hash_reads};
 ghost use Rattle.row_codec.specs.Range.{is_eight, is_hash, is_below};
@@ -12,10 +12,10 @@ ghost use Rattle.k2v_schema.specs.Range.{is_byte};
 ghost use Rattle.k2v_schema.specs.Spelling.{byte};
 ghost use Rattle.k2v_schema.specs.Reading.{byte_at, byte_reads};
 
-use crate::fault::Fault;
 use crate::field::Field;
 use blake2_hash::Hash32;
 use crdt_core::{Bytes, Memory};
+use row_codec::Fault;
 use std::alloc::Global;
 
 /// Lengths and counts from here on have no 4 bytes.

@@ -1,15 +1,15 @@
 //! What writes leave, the writes of a node, and rows.
 ghost use Rattle.std.specs.Prelude.{◌≡◌};
-ghost use Rattle.k2v_schema.specs.Gives.{Gives};
+ghost use Rattle.row_codec.specs.Gives.{Gives};
 ghost use Rattle.k2v_schema.specs.Range.{value_in_range, writes_in_range, in_range, is_short_value, are_short_writes, has_bytes};
 ghost use Rattle.k2v_schema.specs.Reading.{value_at, value_reads, writes_at, writes_reads, row_at, row_reads, rest_at};
 ghost use Rattle.k2v_schema.specs.Spelling.{value, writes, spelled};
 
-use crate::fault::Fault;
 use crate::field::Field;
 use blake2_hash::Hash32;
 use crdt_core::{Bytes, Map, Memory};
 use k2v_rows::{K2vRow, K2vValue, Writes};
+use row_codec::Fault;
 use std::alloc::Global;
 
 impl Field for K2vValue {

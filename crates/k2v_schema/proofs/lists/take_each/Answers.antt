@@ -1,6 +1,6 @@
 use Rattle.std.proofs.lemmas.Result.{err_from_is_err_and}
 use Rattle.row_codec.specs.Reading.{each_at}
-use Rattle.k2v_schema.proofs.Loop.{goes_on, ends, is_done}
+use Rattle.row_codec.proofs.Loop.{goes_on, ends, is_done}
 use Rattle.k2v_schema.proofs.lists.take_each.Goals as goal
 
 pub returns-in_err-item : goal.returns-in_err-item

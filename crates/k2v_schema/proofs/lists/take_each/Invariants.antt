@@ -1,6 +1,6 @@
 use Rattle.std.proofs.Common.{◌≡◌, ◌-◌}
 use Rattle.row_codec.specs.Reading.{each_at}
-use Rattle.k2v_schema.proofs.Loop.{with_front}
+use Rattle.row_codec.proofs.Loop.{with_front}
 use Rattle.k2v_schema.proofs.lists.take_each.Given as goal
 
 abbrev pub invariant-loop : goal.invariant-loop

@@ -1,5 +1,5 @@
 use Rattle.std.proofs.Common.{◌∙◌}
-use Rattle.k2v_schema.proofs.Ascending.{map_taken}
+use Rattle.row_codec.proofs.Ascending.{map_taken}
 use Rattle.k2v_schema.proofs.maps.MapField.take.Goals as goal
 
 pub returns : goal.returns

@@ -1,6 +1,0 @@
-use Rattle.std.proofs.Common.{sym, ◌∙◌, arith}
-use Rattle.k2v_schema.proofs.Ascending.{few_ascending}
-use Rattle.k2v_schema.proofs.maps.are_ascending.Goals as goal
-
-pub returns : goal.returns
-returns g c = sym (few_ascending g.K.Ord.cmp c.loop-rest.rest.now (omega (arith, c.in_default.len_below))) ∙ c.loop-rest.invariant
