@@ -3,6 +3,10 @@
 #![tactic(auto)]
 
 #[cfg(test)]
+mod faulty;
+#[cfg(test)]
+mod lent;
+#[cfg(test)]
 mod links;
 #[cfg(test)]
 mod recorder;

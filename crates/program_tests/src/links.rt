@@ -1,6 +1,7 @@
 //! A server over links that fail, and over a real one on loopback.
 ghost use Rattle.std.specs.Prelude.{◌≡◌, None};
 
+use crate::faulty::{Fault, FaultyLink};
 use crate::recorder::Recorder;
 use crate::served::{ONE_ANSWERS, ONE_OBJECT, THREE_NODES, words_of};
 use lab_outside::{Link, MemClock, MemSink, MemSource, PieceLink, Status, TcpLink};
@@ -48,6 +49,36 @@ fn each_read_fails(rt: HostRuntime) -> Result<(), Fail> {
         assert!(rt; end.output.starts_with(b"p 0 255 1 2 3\nnode 1 rows "));
         assert!(rt; ONE_ANSWERS.starts_with(link.written()));
     }
+    Ok(())
+}
+
+/// A write that fails ends the connection: the answers before it were written whole, nothing follows, and the server goes
+/// on to its own end. The interim line and seven answers are a write each.
+#[test]
+fn each_write_fails(rt: HostRuntime) -> Result<(), Fail> {
+    for k in 1..=8 {
+        let bytes = ONE_OBJECT.to_vec(rt.alloc())?;
+        let mut link = FaultyLink::new(rt.alloc(), bytes, Fault::Write(k));
+        let end = served_over(rt.alloc(), 3900, &mut link)?;
+        assert_eq!(rt; end.status, Status::Done, "at write {k}");
+        assert!(rt; end.output.starts_with(b"p 0 255 1 2 3\nnode 1 rows "));
+        assert_eq!(rt; link.writes(), k);
+        assert!(rt; ONE_ANSWERS.starts_with(link.written()));
+        let rest = &ONE_ANSWERS[link.written().len()..];
+        assert!(rt; rest.starts_with(b"HTTP/1.1 "));
+    }
+    Ok(())
+}
+
+/// Waiting for a connection that fails ends the server: it says nothing, and its status is that of a link's fault.
+#[test]
+fn waiting_fails(rt: HostRuntime) -> Result<(), Fail> {
+    let bytes = ONE_OBJECT.to_vec(rt.alloc())?;
+    let mut link = FaultyLink::new(rt.alloc(), bytes, Fault::Next);
+    let end = served_over(rt.alloc(), 3900, &mut link)?;
+    assert_eq!(rt; end.status, Status::LinkFault);
+    assert_eq!(rt; end.output.as_slice(), b"".as_slice());
+    assert_eq!(rt; link.writes(), 0);
     Ok(())
 }
 

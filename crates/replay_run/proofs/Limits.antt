@@ -13,7 +13,8 @@ use Rattle.store_model.specs.Events.{Turn, events_of, run}
 use Rattle.store_model.specs.Turns.{IsLawful, FitsOutcome}
 use Rattle.text_model.specs.Grammar.{IsAllowed}
 use Rattle.text_model.specs.Played.{Step, steps_of, GoesOn, ArePlayed, AreAllowed, AreScheduled}
-use Rattle.replay_run.specs.Replay.{LacksRoom, StopsAfter, is_unshown, IsUnshown, ReplayLacksRoom, in_step, in_line}
+use Rattle.world_text.specs.Shown.{is_unshown}
+use Rattle.replay_run.specs.Replay.{LacksRoom, StopsAfter, IsUnshown, ReplayLacksRoom, in_step, in_line}
 
 -- the first of some events are allowed where all are
 first_allowed : (ts : List Turn) (later : List Numbered) → AllByRecursion (λ (e : Numbered). IsAllowed e.event) (events_of ts ++ later) → AreAllowed ts

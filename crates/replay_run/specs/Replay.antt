@@ -1,18 +1,17 @@
 -- How a replay of events ends, and what is written for it.
-use Rattle.std.specs.Prelude.{◌≡◌, ℕ, ◌<◌, Bool, IsTrue, List, [], ◌∷◌, ◌++◌, codes}
+use Rattle.std.specs.Prelude.{◌≡◌, ℕ, ◌<◌, IsTrue, List, [], ◌∷◌, ◌++◌, codes}
 use Rattle.std.specs.List.{AllByRecursion, list_any, range_with_len}
 use Rattle.crdt_rows.specs.AnyRow.{any_join}
 use Rattle.object_schema.specs.Schema.{words}
-use Rattle.table_model.specs.Rows.{rows}
-use Rattle.table_model.specs.Top.{any_unspelled}
 use Rattle.lab_outside.specs.declared.exit.Status.{Status}
 use Rattle.lab_outside.specs.declared.exit.Status.TheVariants.{Done, Limit}
 use Rattle.cluster_machine.specs.Worlds.{FitAll}
 use Rattle.store_model.specs.declared.event.Numbered.{Numbered}
-use Rattle.store_model.specs.Run.{World, State, start}
+use Rattle.store_model.specs.Run.{State, start}
 use Rattle.store_model.specs.Events.{Turn, events_of, run}
 use Rattle.store_model.specs.Turns.{IsLawful, FitsOutcome}
 use Rattle.text_model.specs.Played.{sent_limit, Step, steps_of, HasSent, GoesOn, ArePlayed}
+use Rattle.world_text.specs.Shown.{is_unshown}
 use Rattle.replay_run.specs.declared.account.Account.{Account}
 use Rattle.replay_run.specs.Account.{front, IsText}
 
@@ -55,11 +54,7 @@ pub record StopsAfter (IsSo : Step → Type 0) (events : List Numbered) (before 
   pub lawful : IsLawful (run start before) next
   pub stops : StopsAt IsSo (steps_of (run start before) next.numbered.event next.choice)
 
--- node n of a world has a row without a spelling
-abbrev pub is_unshown : World → ℕ → Bool
-is_unshown w n = any_unspelled words (rows any_join words (w.nodes n).accepted)
-
--- one of nodes 1 to 16 has such a row
+-- one of nodes 1 to 16 has a row without a spelling
 abbrev pub IsUnshown : State → Type 0
 IsUnshown s = IsTrue (list_any (is_unshown s.world) (range_with_len 1 16))
 

@@ -1,6 +1,6 @@
 -- What one event of a replay does in the code, and what is told at the end.
-use Rattle.std.specs.Prelude.{◌≡◌, ℕ, ⊤, Option, Some, None, List, IsTrue, flat_map}
-use Rattle.std.specs.List.{AllByRecursion, list_any}
+use Rattle.std.specs.Prelude.{◌≡◌, ℕ, ⊤, Option, Some, None, List}
+use Rattle.std.specs.List.{AllByRecursion}
 use Rattle.cluster_machine.specs.declared.line.Line.{Line}
 use Rattle.cluster_machine.specs.declared.applied.Applied.{Applied}
 use Rattle.cluster_machine.specs.Choices.{Decision}
@@ -12,7 +12,7 @@ use Rattle.store_model.specs.Acts.{IsLawfulAct}
 use Rattle.store_model.specs.Run.{State, drains}
 use Rattle.store_model.specs.Events.{Turn, act_of, outcome, outcome_of}
 use Rattle.store_model.specs.Turns.{IsLawful}
-use Rattle.text_model.specs.Transcript.{event_text, line_at}
+use Rattle.text_model.specs.Transcript.{event_text}
 use Rattle.s3_world.specs.declared.world.S3World.{S3World}
 use Rattle.s3_world.specs.Stands.{IsStore, Tells}
 use Rattle.replay_run.specs.declared.account.Account.{Account}
@@ -20,7 +20,7 @@ use Rattle.replay_run.specs.declared.stop.ReplayStop.{ReplayStop}
 use Rattle.replay_run.specs.declared.stop.ReplayStop.TheVariants.{Write, Memory, Number, Sent}
 use Rattle.replay_run.specs.Account.{shown, IsLine, IsTail, opening}
 use Rattle.text_model.specs.Played.{Step, deliveries, steps_of, GoesOn}
-use Rattle.replay_run.specs.Replay.{SendsTooMuch, LacksRoom, StopsAt, is_unshown, IsUnshown}
+use Rattle.replay_run.specs.Replay.{SendsTooMuch, LacksRoom, StopsAt, IsUnshown}
 
 -- how many deliveries a drain may have; none for another event
 abbrev pub drain_count : Event → Option ℕ
@@ -101,22 +101,6 @@ pub record TurnsTo (account : Account) (new : S3World) (s : State) (e : Numbered
 -- whatever state it stood for, it did this event and wrote this
 abbrev pub TurnsOne : Account → S3World → S3World → Numbered → List ℕ → Type 0
 TurnsOne account old new e text = (s : State) → IsStore old s → TurnsTo account new s e text
-
--- whatever state the store stands for, this is the line of node n
-abbrev pub ShowsNode : S3World → ℕ → List ℕ → Type 0
-ShowsNode store n text = (s : State) → IsStore store s → text ≡ line_at s.world n
-
--- whatever state the store stands for, these are the lines of these nodes
-abbrev pub ShowsNodes : S3World → List ℕ → List ℕ → Type 0
-ShowsNodes store nodes text = (s : State) → IsStore store s → text ≡ flat_map (line_at s.world) nodes
-
--- whatever state the store stands for, node n has a row without a spelling
-abbrev pub CannotShow : S3World → ℕ → Type 0
-CannotShow store n = (s : State) → IsStore store s → IsTrue (is_unshown s.world n)
-
--- whatever state the store stands for, one of these nodes has such a row
-abbrev pub CannotShowSome : S3World → List ℕ → Type 0
-CannotShowSome store nodes = (s : State) → IsStore store s → IsTrue (list_any (is_unshown s.world) nodes)
 
 -- whatever state the store stands for, one of nodes 1 to 16 has such a row
 abbrev pub CannotTell : S3World → Type 0

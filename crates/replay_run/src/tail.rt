@@ -1,46 +1,16 @@
 //! What is written after the last event.
 ghost use Rattle.std.specs.Prelude.{IfOk};
 ghost use Rattle.crdt_core.specs.Outcomes.{WantOr};
-ghost use Rattle.replay_run.specs.Turning.{ShowsNode, ShowsNodes, TellsTail, CannotShow, CannotShowSome, CannotTell};
+ghost use Rattle.replay_run.specs.Turning.{TellsTail, CannotTell};
 
 use crate::account::Account;
 use crate::check::check_line;
 use crate::summary::opening;
 use crdt_core::{Bytes, Memory};
-use event_text::{end_text, node_text};
-use s3_world::{NodeLine, S3World};
+use event_text::end_text;
+use s3_world::S3World;
 use std::alloc::Global;
-
-/// The line of a node, nothing where its view is empty.
-fn line_text(alloc: Global, store: &S3World, node: u8) -> Result<Bytes, Memory>
-    ensures text { IfOk result (ShowsNode store.now node) }
-    ensures causes { WantOr result (CannotShow store.now node) }
-{
-    match store.node_line(node)? {
-        Some(
-            NodeLine {
-                node,
-                rows,
-                blocks,
-                top,
-            },
-        ) => node_text(alloc, node, rows, blocks, &top),
-        None => Ok(Bytes::new(alloc)),
-    }
-}
-
-/// The lines of these nodes, in order.
-fn nodes_text(alloc: Global, store: &S3World, nodes: &[u8]) -> Result<Bytes, Memory>
-    ensures text { IfOk result (ShowsNodes store.now nodes.now) }
-    ensures causes { WantOr result (CannotShowSome store.now nodes.now) }
-{
-    let mut text = Bytes::new(alloc);
-    for node in nodes {
-        let line = line_text(alloc, store, *node)?;
-        text.extend_from_slice(line.as_slice())?;
-    }
-    Ok(text)
-}
+use world_text::nodes_text;
 
 /// What is written after so many events: a summary's first lines, the lines of the nodes, the line of a check, and the last
 /// line.

@@ -16,7 +16,7 @@ use Rattle.store_model.specs.Acts.{Act, moves, asks, drain, forgets, takes, acte
 use Rattle.store_model.specs.Events.{act_of}
 use Rattle.store_model.specs.Turns.{FitsOutcome}
 use Rattle.s3_world.specs.declared.world.S3World.{S3World}
-use Rattle.s3_world.specs.Stands.{IsStore, HasStore, Becomes, Carries, Starts, Overflows, PlaysEvent, OverflowsEvent, DoesEvent}
+use Rattle.s3_world.specs.Stands.{IsStore, HasStore, Becomes, Carries, Starts, Overflows, PlaysEvent, OverflowsEvent, EventLacksRoom, DoesEvent}
 use Rattle.serve_model.specs.Clusters.{asker, acts_to_ask, acts_to_end, acts_past_end, acts_opened, acts_then, end_then, end_in, asking, acts_of_request, end_of_request, number_in, expiry, works, ActLacksRoom}
 use Rattle.serve_cluster.specs.Acting.{DoneActs, DoesActs, LacksRoom, TakesEnd, Finishes}
 
@@ -72,24 +72,40 @@ first_left (n ∷ ns) e = ap (λ later. n ∷ later) (sym (take_all (length (n �
 
 -- ---- acts without room
 
-lacks_after : (s : State) (xs : List Act) (mid : S3World) → DoneActs mid s xs → LacksRoom mid → ActLacksRoom s
-lacks_after s xs mid a f =
-    let l = f (after_acts s xs) a.stands in
-    let e = acts_after s xs l.acts in
+-- more acts follow
+lacks_first : (s : State) (xs ys : List Act) → ActLacksRoom s xs → ActLacksRoom s (xs ++ ys)
+lacks_first s xs ys l = record { before = l.before; act = l.act; later = l.later ++ ys; parts = ap (λ as'. as' ++ ys) l.parts ∙ append_assoc l.before (l.act ∷ l.later) ys; lawful = l.lawful; fit = l.fit; may = l.may; lacks = l.lacks }
+
+-- acts were done before
+lacks_after : (s : State) (xs ys : List Act) (mid : S3World) → DoneActs mid s xs → ActLacksRoom (after_acts s xs) ys → ActLacksRoom s (xs ++ ys)
+lacks_after s xs ys mid a l =
+    let e = acts_after s xs l.before in
     record {
-      acts = xs ++ l.acts;
-      lawful = acts_lawful s xs l.acts a.lawful l.lawful;
-      fit = acts_fit s xs l.acts a.fit l.fit;
+      before = xs ++ l.before;
       act = l.act;
+      later = l.later;
+      parts = ap (λ as'. xs ++ as') l.parts ∙ sym (append_assoc xs l.before (l.act ∷ l.later));
+      lawful = acts_lawful s xs l.before a.lawful l.lawful;
+      fit = acts_fit s xs l.before a.fit l.fit;
       may = subst (λ t. IsLawfulAct t l.act) (sym e) l.may;
       lacks = subst (λ t. FitsOutcome t (acted t l.act) → ⊥) (sym e) l.lacks;
     }
 
-pub lacks_more : (old mid : S3World) (xs : List Act) → DoesActs old mid xs → LacksRoom mid → LacksRoom old
-lacks_more old mid xs f g = λ s st. lacks_after s xs mid (f s st) g
+pub lacks_then : (old : S3World) (xs ys : State → List Act) → LacksRoom old xs → LacksRoom old (λ s. xs s ++ ys s)
+lacks_then old xs ys f = λ s st. lacks_first s (xs s) (ys s) (f s st)
 
-lacks_act : (s : State) (a : Act) → IsLawfulAct s a → (FitsOutcome s (acted s a) → ⊥) → ActLacksRoom s
-lacks_act s a may full = record { acts = []; lawful = tt; fit = tt; act = a; may = may; lacks = full }
+pub lacks_more : (old mid : S3World) (xs : List Act) (ys : State → List Act) → DoesActs old mid xs → LacksRoom mid ys → LacksRoom old (λ s. xs ++ ys (after_acts s xs))
+lacks_more old mid xs ys f g = λ s st. lacks_after s xs (ys (after_acts s xs)) mid (f s st) (g (after_acts s xs) (f s st).stands)
+
+lacks_act : (s : State) (a : Act) → IsLawfulAct s a → (FitsOutcome s (acted s a) → ⊥) → ActLacksRoom s (a ∷ [])
+lacks_act s a may full = record { before = []; act = a; later = []; parts = refl; lawful = tt; fit = tt; may = may; lacks = full }
+
+-- the next of the members that are left has no room to work
+pub one_lacks : (old mid : S3World) (members rest : List ℕ) (n : ℕ) (later : List ℕ) → rest ≡ n ∷ later → Working old mid members rest → LacksRoom mid (λ _. works (n ∷ [])) → LacksRoom old (λ _. works members)
+one_lacks old mid members rest n later e w f = λ s st.
+    let l = lacks_more old mid (works w.done) (λ _. works (n ∷ later)) w.does (lacks_then mid (λ _. works (n ∷ [])) (λ _. works later) f) s st in
+    let P : List ℕ → Type 0 = λ ns. ActLacksRoom s (works ns) in
+    subst P (ap (λ ns. w.done ++ ns) (sym e) ∙ w.parts) (subst (ActLacksRoom s) (sym (map-append (λ m. moves (plainly (Work m))) w.done (n ∷ later))) l)
 
 -- why a call gave up
 pub cause_more : {A B : Type 0} (e : Memory) → (A → B) → (e ≡ Want) ⊎ ((e ≡ Full) × A) → (e ≡ Want) ⊎ ((e ≡ Full) × B)
@@ -124,16 +140,29 @@ pub expired_open : (old new : S3World) (told : Told) (q : ℕ) (end : Option Flo
 expired_open old new told q None e h = expired old new told q h
 expired_open old new told q (Some end) e h = absurd (let no' : true ≡ false = e in cc)
 
-pub event_lacks : (old : S3World) (event : Event) → OverflowsEvent old event → LacksRoom old
-event_lacks old event h = λ s st. let l = h s st in lacks_act s (act_of event l.choice) l.lawful l.lacks
+event_lacks : (s : State) (event : Event) (l : EventLacksRoom s event) → ActLacksRoom s (act_of event l.choice ∷ [])
+event_lacks s event l = lacks_act s (act_of event l.choice) l.lawful l.lacks
+
+pub tick_lacks : (old : S3World) (ms : ℕ) → OverflowsEvent old (Event.Tick ms) → LacksRoom old (λ _. moves (plainly (Tick ms)) ∷ [])
+tick_lacks old ms h = λ s st. event_lacks s (Event.Tick ms) (h s st)
+
+pub work_lacks : (old : S3World) (n : ℕ) → OverflowsEvent old (Event.Work n) → LacksRoom old (λ _. works (n ∷ []))
+work_lacks old n h = λ s st. event_lacks s (Event.Work n) (h s st)
+
+expiry_lacks : (old : S3World) (q : ℕ) → OverflowsEvent old (Event.Expire q) → LacksRoom old (λ _. expiry q None)
+expiry_lacks old q h = λ s st. event_lacks s (Event.Expire q) (h s st)
+
+pub expire_lacks : (old : S3World) (q : ℕ) (end : Option FlowEnd) → is_some end ≡ false → OverflowsEvent old (Event.Expire q) → LacksRoom old (λ _. expiry q end)
+expire_lacks old q None e h = expiry_lacks old q h
+expire_lacks old q (Some end) e h = absurd (let no' : true ≡ false = e in cc)
 
 pub drained : (old new : S3World) → Carries old new (λ s. acted s (drain all_messages)) → DoesActs old new (drain all_messages ∷ [])
 drained old new h = λ s st. let x = h s st in record { lawful = (tt, tt); fit = (x.1, tt); stands = x.0 }
 
-pub drain_lacks : (old : S3World) → Overflows old (λ s. acted s (drain all_messages)) → LacksRoom old
+pub drain_lacks : (old : S3World) → Overflows old (λ s. acted s (drain all_messages)) → LacksRoom old (λ _. drain all_messages ∷ [])
 drain_lacks old h = λ s st. lacks_act s (drain all_messages) tt (h s st)
 
-pub ask_lacks : (old : S3World) (n : ℕ) (order : Order) → HasKey order → Overflows old (λ s. acted s (asks n order)) → LacksRoom old
+pub ask_lacks : (old : S3World) (n : ℕ) (order : Order) → HasKey order → Overflows old (λ s. acted s (asks n order)) → LacksRoom old (λ _. asks n order ∷ [])
 ask_lacks old n order keyed h = λ s st. lacks_act s (asks n order) keyed (h s st)
 
 taken : (old new : S3World) (q : ℕ) → Becomes old new (λ s. acted s (takes q)) → DoesActs old new (takes q ∷ [])
@@ -149,8 +178,10 @@ took_end old mid late new q end is take expires forget = λ s st.
       does = does_more old mid new (takes q ∷ []) (expiry q end ++ forgets ∷ []) (taken old mid q take) (does_more mid late new (expiry q end) (forgets ∷ []) expires (forgot late new forget)) s st;
     }
 
-pub take_lacks : (old mid : S3World) (q : ℕ) → Becomes old mid (λ s. acted s (takes q)) → LacksRoom mid → LacksRoom old
-take_lacks old mid q take h = lacks_more old mid (takes q ∷ []) (taken old mid q take) h
+pub take_lacks : (old mid : S3World) (q : ℕ) (end : Option FlowEnd) → ((s : State) → IsStore old s → end ≡ end_of s.ends q) → Becomes old mid (λ s. acted s (takes q)) → LacksRoom mid (λ _. expiry q end) → LacksRoom old (λ s. acts_past_end q (end_of s.ends q))
+take_lacks old mid q end is take h = λ s st.
+    let P : Option FlowEnd → Type 0 = λ e. ActLacksRoom s (acts_past_end q e) in
+    subst P (is s st) (lacks_more old mid (takes q ∷ []) (λ _. expiry q end ++ forgets ∷ []) (taken old mid q take) (lacks_then mid (λ _. expiry q end) (λ _. forgets ∷ []) h) s st)
 
 pub finished : (old mid new : S3World) (members : List ℕ) (q : ℕ) (end : Option FlowEnd) → DoesActs old mid (acts_to_end members) → TakesEnd mid new q end → Finishes old new members q end
 finished old mid new members q end f g = λ s st.
@@ -209,3 +240,24 @@ module _ (members : List ℕ) (s : State) (ms : ℕ) (order : Order) where
       let P : Option (Refusal Cut) → Type 0 = λ r. None ≡ end_then members o.state (number_in o.words) r in
       let Q : Option (Refusal Cut) → Type 0 = λ r. DoneActs new s (acts_to_ask members ms order ++ acts_then members o.state (number_in o.words) r) in
       record { end_is = subst P (sym x.2) refl; does = subst Q (sym x.2) (asked mid new (Err reason) keyed a h) }
+
+  -- one of the acts after the request was opened has no room
+  pub opened_lacks : (mid late : S3World) (q : ℕ) → HasKey order → DoneActs mid s (moves (plainly (Tick ms)) ∷ []) → Starts mid late (Ok q) (asker members) order → LacksRoom late (λ t. acts_opened members t q) → ActLacksRoom s (acts_of_request members s ms order)
+  opened_lacks mid late q keyed a h f =
+      let o = asking members s ms order in
+      let x = h (acted s (moves (plainly (Tick ms)))).state a.stands in
+      let done = asked mid late (Ok q) keyed a h in
+      let Q : Option (Refusal Cut) → Type 0 = λ r. ActLacksRoom s (acts_to_ask members ms order ++ acts_then members o.state (number_in o.words) r) in
+      let R : ℕ → Type 0 = λ n. ActLacksRoom s (acts_to_ask members ms order ++ acts_opened members o.state n) in
+      subst Q (sym x.2.0) (subst R (sym (ap number_in x.2.1)) (lacks_after s (acts_to_ask members ms order) (acts_opened members o.state q) late done (f o.state x.0)))
+
+-- the first act of a request has no room: its time goes on
+pub ticking_lacks : (old : S3World) (members : List ℕ) (ms : ℕ) (order : Order) → LacksRoom old (λ _. moves (plainly (Tick ms)) ∷ []) → LacksRoom old (λ s. acts_of_request members s ms order)
+ticking_lacks old members ms order f =
+    lacks_then old (λ _. moves (plainly (Tick ms)) ∷ []) (λ s. let o = asking members s ms order in asks (asker members) order ∷ acts_then members o.state (number_in o.words) o.refused) f
+
+-- the second one: it is asked
+pub asking_lacks : (old mid : S3World) (members : List ℕ) (ms : ℕ) (order : Order) → DoesActs old mid (moves (plainly (Tick ms)) ∷ []) → LacksRoom mid (λ _. asks (asker members) order ∷ []) → LacksRoom old (λ s. acts_of_request members s ms order)
+asking_lacks old mid members ms order ticks f =
+    lacks_then old (λ _. acts_to_ask members ms order) (λ s. let o = asking members s ms order in acts_then members o.state (number_in o.words) o.refused)
+    (lacks_more old mid (moves (plainly (Tick ms)) ∷ []) (λ _. asks (asker members) order ∷ []) ticks f)

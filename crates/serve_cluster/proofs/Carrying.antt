@@ -1,5 +1,5 @@
 -- One order carried out, from what the code's cluster stood for.
-use Rattle.std.proofs.Common.{◌≡◌, ℕ, ◌-◌, max, [], ◌∷◌, Option, None, Result, Ok, Err, IfOk, ◌⊎◌, ◌∙◌, ap, subst}
+use Rattle.std.proofs.Common.{◌≡◌, ℕ, ◌-◌, max, List, [], ◌∷◌, Option, None, Result, Ok, Err, IfOk, ◌⊎◌, ◌∙◌, ap, subst}
 use Rattle.layout_roles.specs.declared.cut.Cut.{Cut}
 use Rattle.crdt_core.specs.Outcomes.{WantOr}
 use Rattle.crdt_core.specs.declared.memory.Memory.{Memory}
@@ -12,12 +12,12 @@ use Rattle.store_model.specs.Run.{plainly}
 use Rattle.store_model.specs.Acts.{moves, HasKey}
 use Rattle.s3_world.specs.declared.world.S3World.{S3World}
 use Rattle.s3_world.specs.Stands.{HasStore, Starts}
-use Rattle.serve_model.specs.Clusters.{Cluster as Model, asker, cluster, fits, lacks, acts_to_ask}
+use Rattle.serve_model.specs.Clusters.{Cluster as Model, asker, cluster, fits, lacks, acts_opened, acts_of_request, ActLacksRoom}
 use Rattle.serve_model.specs.Serving.{HasState, CarriedOut}
 use Rattle.serve_cluster.specs.declared.cluster.Cluster.{Cluster}
 use Rattle.serve_cluster.specs.Acting.{DoesActs, LacksRoom, Finishes}
 use Rattle.serve_cluster.specs.Standing.{StandsFor}
-use Rattle.serve_cluster.proofs.Acting.{RequestDone, asked, opened_done, refused_done}
+use Rattle.serve_cluster.proofs.Acting.{RequestDone, opened_done, refused_done, opened_lacks}
 
 module _ (old : Cluster) (time : ℕ) (order : Order) (ms last : ℕ) (ms_is : ms ≡ time - old.ticked) (last_is : last ≡ max old.ticked time) where
   -- the code's cluster after the order
@@ -40,13 +40,16 @@ module _ (old : Cluster) (time : ℕ) (order : Order) (ms last : ℕ) (ms_is : m
     opened late new q (Ok end) h f = λ s st. carried s st new end (opened_done old.members s.run ms order mid late new q end keyed (ticks s.run st.world) h f)
     opened late new q (Err e) h f = tt
 
-    -- the acts up to the request's asking
-    pub asks_so : (late : S3World) (answer : Result ℕ (Refusal Cut)) → Starts mid late answer (asker old.members) order → DoesActs old.world late (acts_to_ask old.members ms order)
-    asks_so late answer h = λ s st. asked old.members s ms order mid late answer keyed (ticks s st) h
+    -- the world that was asked has no room
+    pub opened_full : (late : S3World) (q : ℕ) → Starts mid late (Ok q) (asker old.members) order → LacksRoom late (λ t. acts_opened old.members t q) → LacksRoom old.world (λ s. acts_of_request old.members s ms order)
+    opened_full late q h f = λ s st. opened_lacks old.members s ms order mid late q keyed (ticks s st) h f
 
 -- a world without room is a cluster's without
-pub lacks_so : (old : Cluster) (time : ℕ) (order : Order) → LacksRoom old.world → (s : Model) → StandsFor old s → lacks s time order
-lacks_so old time order f s st = f s.run st.world
+pub lacks_so : (old : Cluster) (time : ℕ) (order : Order) (ms : ℕ) → ms ≡ time - old.ticked → LacksRoom old.world (λ s. acts_of_request old.members s ms order) → (s : Model) → StandsFor old s → lacks s time order
+lacks_so old time order ms ms_is f s st =
+    let P : ℕ → Type 0 = λ k. ActLacksRoom s.run (acts_of_request s.members s.run k order) in
+    let Q : List ℕ → Type 0 = λ m. ActLacksRoom s.run (acts_of_request m s.run ms order) in
+    subst P (ms_is ∙ ap (λ t. time - t) st.ticked) (subst Q st.members (f s.run st.world))
 
 pub has_store : (old : Cluster) → HasState (StandsFor old) → HasStore old.world
 has_store old h = (h.0.run, h.1.world)

@@ -17,9 +17,9 @@ pub record DoneActs (new : S3World) (s : State) (acts : List Act) : Type 0 where
 abbrev pub DoesActs : S3World → S3World → List Act → Type 0
 DoesActs old new acts = (s : State) → IsStore old s → DoneActs new s acts
 
--- whatever state it stood for, some act has no room
-abbrev pub LacksRoom : S3World → Type 0
-LacksRoom old = (s : State) → IsStore old s → ActLacksRoom s
+-- whatever state it stood for, one of these acts has no room
+abbrev pub LacksRoom : S3World → (State → List Act) → Type 0
+LacksRoom old acts = (s : State) → IsStore old s → ActLacksRoom s (acts s)
 
 -- this is the end of the request, it was taken, and delivered messages were forgotten
 pub record TookEnd (new : S3World) (s : State) (q : ℕ) (end : Option FlowEnd) : Type 0 where

@@ -3,9 +3,9 @@ ghost use Rattle.std.specs.Prelude.{◌≡◌, [], ◌∷◌, ◌++◌, OnOk, If
 ghost use Rattle.crdt_core.specs.Outcomes.{WantOr};
 ghost use Rattle.cluster_machine.specs.declared.step.Step.TheVariants.{Tick, Expire};
 ghost use Rattle.store_model.specs.Run.{plainly};
-ghost use Rattle.store_model.specs.Acts.{moves, drain, forgets, takes, all_messages};
+ghost use Rattle.store_model.specs.Acts.{moves, drain, forgets, takes, end_of, all_messages};
 ghost use Rattle.s3_world.specs.Stands.{HasStore};
-ghost use Rattle.serve_model.specs.Clusters.{works, round as round_of, acts_to_end, acts_past_end, expiry};
+ghost use Rattle.serve_model.specs.Clusters.{works, round as round_of, acts_to_end, acts_past_end, acts_opened, expiry};
 ghost use Rattle.serve_cluster.specs.Acting.{DoesActs, LacksRoom, TakesEnd, Finishes};
 
 use crdt_core::Memory;
@@ -16,7 +16,7 @@ use s3_world::{Event, S3World};
 pub(crate) fn tick(world: &mut S3World, ms: u64) -> Result<(), Memory>
     requires { HasStore world.old }
     ensures does { OnOk result (DoesActs world.old world.new (moves (plainly (Tick ms)) ∷ [])) }
-    ensures causes { WantOr result (LacksRoom world.old) }
+    ensures causes { WantOr result (LacksRoom world.old (λ _. moves (plainly (Tick ms)) ∷ [])) }
 {
     match world.step(&Event::Tick(ms)) {
         Ok(_) => Ok(()),
@@ -28,7 +28,7 @@ pub(crate) fn tick(world: &mut S3World, ms: u64) -> Result<(), Memory>
 fn drain_all(world: &mut S3World) -> Result<(), Memory>
     requires { HasStore world.old }
     ensures does { OnOk result (DoesActs world.old world.new (drain all_messages ∷ [])) }
-    ensures causes { WantOr result (LacksRoom world.old) }
+    ensures causes { WantOr result (LacksRoom world.old (λ _. drain all_messages ∷ [])) }
 {
     match world.drain_all() {
         Ok(()) => Ok(()),
@@ -40,7 +40,7 @@ fn drain_all(world: &mut S3World) -> Result<(), Memory>
 fn work(world: &mut S3World, member: u8) -> Result<(), Memory>
     requires { HasStore world.old }
     ensures does { OnOk result (DoesActs world.old world.new (works (member ∷ []))) }
-    ensures causes { WantOr result (LacksRoom world.old) }
+    ensures causes { WantOr result (LacksRoom world.old (λ _. works (member ∷ []))) }
 {
     match world.step(&Event::Work(member)) {
         Ok(_) => Ok(()),
@@ -52,7 +52,7 @@ fn work(world: &mut S3World, member: u8) -> Result<(), Memory>
 fn work_all(world: &mut S3World, members: &[u8]) -> Result<(), Memory>
     requires { HasStore world.old }
     ensures does { OnOk result (DoesActs world.old world.new (works members.now)) }
-    ensures causes { WantOr result (LacksRoom world.old) }
+    ensures causes { WantOr result (LacksRoom world.old (λ _. works members.now)) }
 {
     let mut rest = members;
     'members: while !rest.is_empty() {
@@ -68,7 +68,7 @@ fn work_all(world: &mut S3World, members: &[u8]) -> Result<(), Memory>
 fn round(world: &mut S3World, members: &[u8]) -> Result<(), Memory>
     requires { HasStore world.old }
     ensures does { OnOk result (DoesActs world.old world.new (round_of members.now)) }
-    ensures causes { WantOr result (LacksRoom world.old) }
+    ensures causes { WantOr result (LacksRoom world.old (λ _. round_of members.now)) }
 {
     match work_all(world, members) {
         Ok(()) => drain_all(world),
@@ -80,7 +80,7 @@ fn round(world: &mut S3World, members: &[u8]) -> Result<(), Memory>
 fn rounds(world: &mut S3World, members: &[u8]) -> Result<(), Memory>
     requires { HasStore world.old }
     ensures does { OnOk result (DoesActs world.old world.new (round_of members.now ++ round_of members.now)) }
-    ensures causes { WantOr result (LacksRoom world.old) }
+    ensures causes { WantOr result (LacksRoom world.old (λ _. round_of members.now ++ round_of members.now)) }
 {
     match round(world, members) {
         Ok(()) => round(world, members),
@@ -92,7 +92,7 @@ fn rounds(world: &mut S3World, members: &[u8]) -> Result<(), Memory>
 fn to_end(world: &mut S3World, members: &[u8]) -> Result<(), Memory>
     requires { HasStore world.old }
     ensures does { OnOk result (DoesActs world.old world.new (acts_to_end members.now)) }
-    ensures causes { WantOr result (LacksRoom world.old) }
+    ensures causes { WantOr result (LacksRoom world.old (λ _. acts_to_end members.now)) }
 {
     match drain_all(world) {
         Ok(()) => rounds(world, members),
@@ -104,7 +104,7 @@ fn to_end(world: &mut S3World, members: &[u8]) -> Result<(), Memory>
 fn expire(world: &mut S3World, request: u64, end: &Option<FlowEnd>) -> Result<(), Memory>
     requires { HasStore world.old }
     ensures does { OnOk result (DoesActs world.old world.new (expiry request end.now)) }
-    ensures causes { WantOr result (LacksRoom world.old) }
+    ensures causes { WantOr result (LacksRoom world.old (λ _. expiry request end.now)) }
 {
     if end.is_some() {
         return Ok(());
@@ -119,7 +119,7 @@ fn expire(world: &mut S3World, request: u64, end: &Option<FlowEnd>) -> Result<()
 fn take(world: &mut S3World, request: u64) -> Result<Option<FlowEnd>, Memory>
     requires { HasStore world.old }
     ensures does { IfOk result (λ end. TakesEnd world.old world.new request end) }
-    ensures causes { WantOr result (LacksRoom world.old) }
+    ensures causes { WantOr result (LacksRoom world.old (λ s. acts_past_end request (end_of s.ends request))) }
 {
     let end = world.take_end(request);
     match expire(world, request, &end) {
@@ -139,7 +139,7 @@ pub(crate) fn finish(
 ) -> Result<Option<FlowEnd>, Memory>
     requires { HasStore world.old }
     ensures does { IfOk result (λ end. Finishes world.old world.new members.now request end) }
-    ensures causes { WantOr result (LacksRoom world.old) }
+    ensures causes { WantOr result (LacksRoom world.old (λ s. acts_opened members.now s request)) }
 {
     match to_end(world, members) {
         Ok(()) => take(world, request),

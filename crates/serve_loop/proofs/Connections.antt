@@ -7,12 +7,12 @@ use Rattle.flow_model.specs.declared.order.Order.{Order}
 use Rattle.serve_model.specs.declared.served.Served.{Served}
 use Rattle.serve_model.specs.declared.served.ServeFault.{ServeFault}
 use Rattle.serve_model.specs.declared.served.ServeFault.TheVariants.{Kept}
-use Rattle.serve_model.specs.Stores.{Store}
+use Rattle.serve_model.specs.Stores.{Store, Asking, OverflowsAmong}
 use Rattle.serve_model.specs.Talk.{Grammar, Serving, talk, request_limit}
-use Rattle.serve_model.specs.Serving.{Reached, Stands, OnLeft}
+use Rattle.serve_model.specs.Serving.{Reached, GivesUp, Stands, OnLeft}
 use Rattle.serve_model.specs.Connections.{Talks, whole, cut_off, limited, given_up, IsPrefixOf, IsServed, exact, part, AreServed, ServesAll, EndsSo, too_many, begun, ServesAllButLast}
-use Rattle.serve_loop.proofs.Serving.{at_left}
-use Rattle.serve_loop.proofs.Talking.{stands_more, stands_plain}
+use Rattle.serve_loop.proofs.Serving.{at_left, gives_up_for}
+use Rattle.serve_loop.proofs.Talking.{stands_more, stands_plain, among_more}
 
 -- ---- what was written to a connection to which nothing was written before
 
@@ -42,24 +42,27 @@ module _ {S : Type 0} (store : Store S) (buckets : List (List ℕ)) (g : Grammar
     is_served : IsServed store buckets g p bytes d serving
     stands : Stands holds times served serving
 
-  module _ (p : Serving S) (bytes : List ℕ) (holds : S → Type 0) (times : Option (List ℕ)) (served : Served) (c d : Connection) (fresh : IsFresh c) where
-    served_once : Talks (talk store buckets g request_limit p bytes) holds times served (Ok tt) c d → ServedOnce p bytes holds times served d
+  module _ (p : Serving S) (bytes : List ℕ) (holds : S → Type 0) (overflows : List (Asking S) → Type 0) (times : Option (List ℕ)) (served : Served) (c d : Connection) (fresh : IsFresh c) where
+    served_once : Talks (talk store buckets g request_limit p bytes) holds overflows times served (Ok tt) c d → ServedOnce p bytes holds times served d
     served_once (whole ok over w st n) = record { serving = (talk store buckets g request_limit p bytes).serving; is_served = exact over (written_is c.written d.written (talk store buckets g request_limit p bytes).text fresh.unwritten w) refl; stands = st }
     served_once (cut_off q ok n w st r) =
         let P : ℕ → Type 0 = λ k. Rose k d.faults in
         record { serving = q; is_served = part (subst P fresh.faultless n) (prefix_is c.written d.written (talk store buckets g request_limit p bytes).text fresh.unwritten w) r; stands = st }
     served_once (limited err over w n) = absurd (ok_is_no_error (Ok tt) Kept refl err)
-    served_once (given_up e err other w n) = absurd (ok_is_no_error (Ok tt) e refl err)
+    served_once (given_up e err why w n) = absurd (ok_is_no_error (Ok tt) e refl err)
 
-    ends_so : (e : ServeFault) → Talks (talk store buckets g request_limit p bytes) holds times served (Err e) c d → EndsSo store buckets g (talk store buckets g request_limit p bytes) d e
-    ends_so e (whole ok over w st n) = absurd (ok_is_no_error (Err e) e ok refl)
-    ends_so e (cut_off q ok n w st r) = absurd (ok_is_no_error (Err e) e ok refl)
-    ends_so e (limited err over w n) =
-        let P : ServeFault → Type 0 = EndsSo store buckets g (talk store buckets g request_limit p bytes) d in
+    -- where serving ends with it, for a reason that holds of what was served before it too
+    ends_so : (before : List (Asking S) → Type 0) → (overflows (talk store buckets g request_limit p bytes).asks → before (talk store buckets g request_limit p bytes).asks) → (e : ServeFault) → Talks (talk store buckets g request_limit p bytes) holds overflows times served (Err e) c d
+        → EndsSo store buckets g before (talk store buckets g request_limit p bytes) d e
+    ends_so before f e (whole ok over w st n) = absurd (ok_is_no_error (Err e) e ok refl)
+    ends_so before f e (cut_off q ok n w st r) = absurd (ok_is_no_error (Err e) e ok refl)
+    ends_so before f e (limited err over w n) =
+        let P : ServeFault → Type 0 = EndsSo store buckets g before (talk store buckets g request_limit p bytes) d in
         subst P (sym (same_fault (Err e) e Kept refl err)) (too_many over (written_is c.written d.written (talk store buckets g request_limit p bytes).text fresh.unwritten w))
-    ends_so e (given_up m err other w n) =
-        let Q : ServeFault → Type 0 = λ x. x ≡ Kept → ⊥ in
-        begun e (subst Q (sym (same_fault (Err e) e m refl err)) other) (prefix_is c.written d.written (talk store buckets g request_limit p bytes).text fresh.unwritten w)
+    ends_so before f e (given_up m err why w n) =
+        let asks = (talk store buckets g request_limit p bytes).asks in
+        let Q : ServeFault → Type 0 = GivesUp before asks in
+        begun e (subst Q (sym (same_fault (Err e) e m refl err)) (gives_up_for m overflows before asks asks f why)) (prefix_is c.written d.written (talk store buckets g request_limit p bytes).text fresh.unwritten w)
 
   -- ---- one connection more
 
@@ -86,20 +89,20 @@ comes_of (bytes ∷ rest) new c h = record { bytes = bytes; rest = rest; first =
 
 module _ {S : Type 0} (store : Store S) (fits lacks : S → ℕ → Order → Type 0) (buckets : List (List ℕ)) (g : Grammar) (p : Serving S) (number : ℕ) (holds holds' : S → Type 0) (times times' : Option (List ℕ)) (served served' : Served) (past past1 past2 : List Connection) where
   Talked : Result Unit ServeFault → Connection → Connection → Type 0
-  Talked r c d = (q : Serving S) → Stands holds times served q → OnLeft (λ left. Talks (talk store buckets g request_limit q left) (Reached store fits lacks holds' q.store) times' served' r c d) c.left
+  Talked r c d = (q : Serving S) → Stands holds times served q → OnLeft (λ left. Talks (talk store buckets g request_limit q left) (Reached store fits lacks holds' q.store) (OverflowsAmong store fits lacks q.store) times' served' r c d) c.left
 
   module _ (coming : List (List ℕ)) (old new : Option (List (List ℕ))) (c d : Connection) (a : ServesAll store buckets g p number (Reached store fits lacks holds p.store) times served coming old past past1) (takes : TakesNext old new (Some c)) (fresh : IsFresh c) (goes : past2 ≡ past1 ++ d ∷ []) where
     next_comes : Comes a.to_come new c
     next_comes = let Q : Option (List (List ℕ)) → Type 0 = λ o. TakesNext o new (Some c) in comes_of a.to_come new c (subst Q a.comes_new takes)
 
-    one_talk : (r : Result Unit ServeFault) (k : Comes a.to_come new c) → ((q : Serving S) → Stands holds times served q → OnLeft (λ left. Talks (talk store buckets g request_limit q left) (Reached store fits lacks holds' q.store) times' served' r c d) c.left)
-        → Talks (talk store buckets g request_limit a.serving k.bytes) (Reached store fits lacks holds' a.serving.store) times' served' r c d
-    one_talk r k talks = at_left (λ left. Talks (talk store buckets g request_limit a.serving left) (Reached store fits lacks holds' a.serving.store) times' served' r c d) c.left k.bytes k.left (talks a.serving (stands_plain store fits lacks holds times served p.store a.serving a.stands))
+    one_talk : (r : Result Unit ServeFault) (k : Comes a.to_come new c) → ((q : Serving S) → Stands holds times served q → OnLeft (λ left. Talks (talk store buckets g request_limit q left) (Reached store fits lacks holds' q.store) (OverflowsAmong store fits lacks q.store) times' served' r c d) c.left)
+        → Talks (talk store buckets g request_limit a.serving k.bytes) (Reached store fits lacks holds' a.serving.store) (OverflowsAmong store fits lacks a.serving.store) times' served' r c d
+    one_talk r k talks = at_left (λ left. Talks (talk store buckets g request_limit a.serving left) (Reached store fits lacks holds' a.serving.store) (OverflowsAmong store fits lacks a.serving.store) times' served' r c d) c.left k.bytes k.left (talks a.serving (stands_plain store fits lacks holds times served p.store a.serving a.stands))
 
-    one_more : ((q : Serving S) → Stands holds times served q → OnLeft (λ left. Talks (talk store buckets g request_limit q left) (Reached store fits lacks holds' q.store) times' served' (Ok tt) c d) c.left) → ServesAll store buckets g p (number + 1) (Reached store fits lacks holds' p.store) times' served' coming new past past2
+    one_more : ((q : Serving S) → Stands holds times served q → OnLeft (λ left. Talks (talk store buckets g request_limit q left) (Reached store fits lacks holds' q.store) (OverflowsAmong store fits lacks q.store) times' served' (Ok tt) c d) c.left) → ServesAll store buckets g p (number + 1) (Reached store fits lacks holds' p.store) times' served' coming new past past2
     one_more talks =
         let k = next_comes in
-        let s = served_once store buckets g a.serving k.bytes (Reached store fits lacks holds' a.serving.store) times' served' c d fresh (one_talk (Ok tt) k talks) in
+        let s = served_once store buckets g a.serving k.bytes (Reached store fits lacks holds' a.serving.store) (OverflowsAmong store fits lacks a.serving.store) times' served' c d fresh (one_talk (Ok tt) k talks) in
         record {
           came = a.came ++ k.bytes ∷ [];
           to_come = k.rest;
@@ -113,7 +116,7 @@ module _ {S : Type 0} (store : Store S) (fits lacks : S → ℕ → Order → Ty
           stands = stands_more store fits lacks holds' times' served' p.store a.serving.store s.serving a.stands.store.1 s.stands;
         }
 
-    last_begun : (e : ServeFault) → ((q : Serving S) → Stands holds times served q → OnLeft (λ left. Talks (talk store buckets g request_limit q left) (Reached store fits lacks holds' q.store) times' served' (Err e) c d) c.left) → ServesAllButLast store buckets g p e coming past past2
+    last_begun : (e : ServeFault) → ((q : Serving S) → Stands holds times served q → OnLeft (λ left. Talks (talk store buckets g request_limit q left) (Reached store fits lacks holds' q.store) (OverflowsAmong store fits lacks q.store) times' served' (Err e) c d) c.left) → ServesAllButLast store buckets g (OverflowsAmong store fits lacks p.store) p e coming past past2
     last_begun e talks =
         let k = next_comes in
         record {
@@ -126,13 +129,14 @@ module _ {S : Type 0} (store : Store S) (fits lacks : S → ℕ → Order → Ty
           goes = goes ∙ ap (λ x. x ++ d ∷ []) a.goes;
           serving = a.serving;
           are_served = a.are_served;
-          ends = ends_so store buckets g a.serving k.bytes (Reached store fits lacks holds' a.serving.store) times' served' c d fresh e (one_talk (Err e) k talks);
+          ends = ends_so store buckets g a.serving k.bytes (Reached store fits lacks holds' a.serving.store) (OverflowsAmong store fits lacks a.serving.store) times' served' c d fresh (OverflowsAmong store fits lacks p.store)
+              (let asks = (talk store buckets g request_limit a.serving k.bytes).asks in among_more store fits lacks p.store a.serving.store asks asks a.stands.store.1 (λ x h. h)) e (one_talk (Err e) k talks);
         }
 
   -- ---- over a link
 
   pub all_more : (o old new : Option (List (List ℕ))) (m n : Option Connection) → IfSome o (λ coming. ServesAll store buckets g p number (Reached store fits lacks holds p.store) times served coming old past past1) → TakesNext old new m → IsSome m → IsSome n → IfSome m IsFresh → past2 ≡ past1 ++ option_to_list n
-      → ((q : Serving S) → Stands holds times served q → OnPresent (λ c d. OnLeft (λ left. Talks (talk store buckets g request_limit q left) (Reached store fits lacks holds' q.store) times' served' (Ok tt) c d) c.left) m n)
+      → ((q : Serving S) → Stands holds times served q → OnPresent (λ c d. OnLeft (λ left. Talks (talk store buckets g request_limit q left) (Reached store fits lacks holds' q.store) (OverflowsAmong store fits lacks q.store) times' served' (Ok tt) c d) c.left) m n)
       → IfSome o (λ coming. ServesAll store buckets g p (number + 1) (Reached store fits lacks holds' p.store) times' served' coming new past past2)
   all_more None old new m n a takes here there fresh goes talks = tt
   all_more (Some coming) old new None n a takes here there fresh goes talks = cc
@@ -140,8 +144,8 @@ module _ {S : Type 0} (store : Store S) (fits lacks : S → ℕ → Order → Ty
   all_more (Some coming) old new (Some c) (Some d) a takes here there fresh goes talks = one_more coming old new c d a takes fresh goes talks
 
   pub all_but_last : (e : ServeFault) (o old new : Option (List (List ℕ))) (m n : Option Connection) → IfSome o (λ coming. ServesAll store buckets g p number (Reached store fits lacks holds p.store) times served coming old past past1) → TakesNext old new m → IsSome m → IsSome n → IfSome m IsFresh → past2 ≡ past1 ++ option_to_list n
-      → ((q : Serving S) → Stands holds times served q → OnPresent (λ c d. OnLeft (λ left. Talks (talk store buckets g request_limit q left) (Reached store fits lacks holds' q.store) times' served' (Err e) c d) c.left) m n)
-      → IfSome o (λ coming. ServesAllButLast store buckets g p e coming past past2)
+      → ((q : Serving S) → Stands holds times served q → OnPresent (λ c d. OnLeft (λ left. Talks (talk store buckets g request_limit q left) (Reached store fits lacks holds' q.store) (OverflowsAmong store fits lacks q.store) times' served' (Err e) c d) c.left) m n)
+      → IfSome o (λ coming. ServesAllButLast store buckets g (OverflowsAmong store fits lacks p.store) p e coming past past2)
   all_but_last e None old new m n a takes here there fresh goes talks = tt
   all_but_last e (Some coming) old new None n a takes here there fresh goes talks = cc
   all_but_last e (Some coming) old new (Some c) None a takes here there fresh goes talks = cc

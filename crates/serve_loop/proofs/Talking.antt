@@ -10,11 +10,11 @@ use Rattle.flow_model.specs.declared.order.Order.{Order}
 use Rattle.serve_model.specs.declared.served.Served.{Served}
 use Rattle.serve_model.specs.declared.served.ServeFault.{ServeFault}
 use Rattle.serve_model.specs.declared.served.ServeFault.TheVariants.{Kept, Number, Memory}
-use Rattle.serve_model.specs.Stores.{Store, after_orders, OrdersFit, Leads, Overflows}
+use Rattle.serve_model.specs.Stores.{Store, Asking, after_orders, OrdersFit, Leads, Overflows, OverflowsAmong}
 use Rattle.serve_model.specs.Talk.{Grammar, Serving, Next, goes, closes, exceeds, Turn, turn, Talk, go_on, talk}
-use Rattle.serve_model.specs.Serving.{HasState, Reached, Goes, Stands, Continues, IsPassed, at_end, before, Serves, done, cut_off, limited, given_up, OnLeft, ServesOn}
+use Rattle.serve_model.specs.Serving.{HasState, Reached, Goes, Stands, Continues, IsPassed, at_end, before, GivesUp, Serves, done, cut_off, limited, given_up, OnLeft, ServesOn}
 use Rattle.serve_model.specs.Connections.{Talks, whole, cut_off as talk_cut, limited as talk_limited, given_up as talk_given_up}
-use Rattle.serve_loop.proofs.Serving.{on_left, at_left}
+use Rattle.serve_loop.proofs.Serving.{on_left, at_left, gives_up_for}
 
 -- ---- the connection that is present
 
@@ -55,7 +55,12 @@ module _ {S : Type 0} (store : Store S) (fits lacks : S → ℕ → Order → Ty
   reached_more holds s t u a b = (b.0, leads_more store fits s t u a b.1)
 
   pub overflows_more : (s t : S) → Leads store fits s t → Overflows store fits lacks t → Overflows store fits lacks s
-  overflows_more s t a o = record { state = o.state; leads = leads_more store fits s t o.state a o.leads; time = o.time; order = o.order; overflows = o.overflows }
+  overflows_more s t a o = record { asking = o.asking; leads = leads_more store fits s t o.asking.state a o.leads; overflows = o.overflows }
+
+  -- an order among these has no room, and they are among those
+  pub among_more : (s t : S) (xs ys : List (Asking S)) → Leads store fits s t → ((x : Asking S) → Contains xs x → Contains ys x) → OverflowsAmong store fits lacks t xs → OverflowsAmong store fits lacks s ys
+  unfolding overflows_more
+  among_more s t xs ys a f o = record { at = overflows_more s t a o.at; is_asked = f o.at.asking o.is_asked }
 
   -- something follows
   pub goes_more : (A : Type 0) (old mid new : S → Type 0) (r : Result A ServeFault) → ((s : S) → old s → HasState (Reached store fits lacks mid s)) → Goes store fits lacks {A = A} mid new r → Goes store fits lacks {A = A} old new r
@@ -72,9 +77,9 @@ module _ {S : Type 0} (store : Store S) (fits lacks : S → ℕ → Order → Ty
 
 -- ---- what was said and passed before
 
--- a text and what was passed come before a talk
-abbrev pub prefixed : {S : Type 0} → List ℕ → List (Serving S) → Talk S → Talk S
-prefixed text passed u = record { text = text ++ u.text; passed = passed ++ u.passed; serving = u.serving; is_over = u.is_over }
+-- a text, what was passed and what the store was asked come before a talk
+abbrev pub prefixed : {S : Type 0} → List ℕ → List (Serving S) → List (Asking S) → Talk S → Talk S
+prefixed text passed asks u = record { text = text ++ u.text; passed = passed ++ u.passed; asks = asks ++ u.asks; serving = u.serving; is_over = u.is_over }
 
 passed_after : {S : Type 0} (xs ys : List (Serving S)) (serving q : Serving S) → IsPassed ys serving q → IsPassed (xs ++ ys) serving q
 passed_after xs ys serving q (at_end e) = at_end e
@@ -116,7 +121,7 @@ ok_is_no_error : (r : Result Bool ServeFault) (a : Bool) (e : ServeFault) → r 
 ok_is_no_error r a e h k = cc
 
 module _ {S : Type 0} (store : Store S) (buckets : List (List ℕ)) (g : Grammar) where
-  talk_none : (p : Serving S) (bytes : List ℕ) → talk store buckets g 0 p bytes ≡ record { text = []; passed = []; serving = p; is_over = false }
+  talk_none : (p : Serving S) (bytes : List ℕ) → talk store buckets g 0 p bytes ≡ record { text = []; passed = []; asks = []; serving = p; is_over = false }
   unfolding talk
   talk_none p bytes = refl
 
@@ -165,19 +170,31 @@ module _ {S : Type 0} (store : Store S) (buckets : List (List ℕ)) (g : Grammar
       let P : Talk S → Type 0 = λ u. WrotePrefix old new u.text in
       subst P (sym (talk_next more p bytes)) (go_on_prefix more (turn store buckets g (more == 0) p bytes) (turn store buckets g (more == 0) p bytes).next old new w)
 
+  -- what the turn asks, the talk asks
+  go_on_asks : (more : ℕ) (t : Turn S) (next : Next) (x : Asking S) → Contains t.asks x → Contains (go_on (talk store buckets g more) t next).asks x
+  go_on_asks more t (goes rest) x h = Contains-append_left t.asks (talk store buckets g more t.serving rest).asks x h
+  go_on_asks more t closes x h = h
+  go_on_asks more t exceeds x h = h
+
+  turn_asks : (more : ℕ) (p : Serving S) (bytes : List ℕ) (x : Asking S) → Contains (turn store buckets g (more == 0) p bytes).asks x → Contains (talk store buckets g (suc more) p bytes).asks x
+  turn_asks more p bytes x h =
+      let P : Talk S → Type 0 = λ u. Contains u.asks x in
+      subst P (sym (talk_next more p bytes)) (go_on_asks more (turn store buckets g (more == 0) p bytes) (turn store buckets g (more == 0) p bytes).next x h)
+
 -- ---- so far
 
 -- so far a first part of what is stated of all bytes was written, and what is stated of the rest is to come
 pub record InTalk {S : Type 0} (store : Store S) (buckets : List (List ℕ)) (g : Grammar) (all : Talk S) (holds : S → Type 0) (times : Option (List ℕ)) (served : Served) (more : ℕ) (kept : List ℕ) (c d : Connection) : Type 0 where
   pub text : List ℕ
   pub passed : List (Serving S)
+  pub asks : List (Asking S)
   pub serving : Serving S
   pub left : List ℕ
   pub told : d.left ≡ Some left
   pub wrote : Wrote c.written d.written text
   pub stands : Stands holds times served serving
   pub counted : c.faults ≤ d.faults
-  pub is : all ≡ prefixed text passed (talk store buckets g more serving (kept ++ left))
+  pub is : all ≡ prefixed text passed asks (talk store buckets g more serving (kept ++ left))
 
 module _ {S : Type 0} (store : Store S) (buckets : List (List ℕ)) (g : Grammar) where
   pub talk_begins : (limit more : ℕ) (p : Serving S) (bytes : List ℕ) (holds : S → Type 0) (times : Option (List ℕ)) (served : Served) (kept : List ℕ) (c : Connection) → c.left ≡ Some bytes → kept ≡ [] → more ≡ limit → Stands holds times served p → InTalk store buckets g (talk store buckets g limit p bytes) holds times served more kept c c
@@ -185,6 +202,7 @@ module _ {S : Type 0} (store : Store S) (buckets : List (List ℕ)) (g : Grammar
       record {
         text = [];
         passed = [];
+        asks = [];
         serving = p;
         left = bytes;
         told = told;
@@ -197,7 +215,7 @@ module _ {S : Type 0} (store : Store S) (buckets : List (List ℕ)) (g : Grammar
 module _ {S : Type 0} (store : Store S) (fits lacks : S → ℕ → Order → Type 0) (buckets : List (List ℕ)) (g : Grammar) (all : Talk S) (start : S) (more : ℕ) (kept kept' : List ℕ) (holds holds' : S → Type 0) (times times' : Option (List ℕ)) (served served' : Served) (c d f : Connection)
     (i : InTalk store buckets g all (Reached store fits lacks holds start) times served (suc more) kept c d) where
   abbrev pub Follows : Result Bool ServeFault → Type 0
-  Follows r = Serves (turn store buckets g (more == 0) i.serving (kept ++ i.left)) (Reached store fits lacks holds' i.serving.store) times' served' r kept' d f
+  Follows r = Serves (turn store buckets g (more == 0) i.serving (kept ++ i.left)) (Reached store fits lacks holds' i.serving.store) (OverflowsAmong store fits lacks i.serving.store) times' served' r kept' d f
 
   -- the request was served, and the connection goes on
   pub talk_goes_on : Follows (Ok true) → InTalk store buckets g all (Reached store fits lacks holds' start) times' served' more kept' c f
@@ -205,26 +223,28 @@ module _ {S : Type 0} (store : Store S) (fits lacks : S → ℕ → Order → Ty
       let t = turn store buckets g (more == 0) i.serving (kept ++ i.left) in
       let o = goes_on t.next kept' f.left on (same_ok (Ok true) true on refl ok) go in
       let u = talk store buckets g more t.serving (kept' ++ o.left) in
-      let next : talk store buckets g (suc more) i.serving (kept ++ i.left) ≡ prefixed t.text t.passed u = talk_with store buckets g more i.serving (kept ++ i.left) (goes (kept' ++ o.left)) o.next_is in
+      let next : talk store buckets g (suc more) i.serving (kept ++ i.left) ≡ prefixed t.text t.passed t.asks u = talk_with store buckets g more i.serving (kept ++ i.left) (goes (kept' ++ o.left)) o.next_is in
       record {
         text = i.text ++ t.text;
         passed = i.passed ++ t.passed;
+        asks = i.asks ++ t.asks;
         serving = t.serving;
         left = o.left;
         told = o.told;
         wrote = wrote_more c.written d.written f.written i.text t.text i.wrote w;
         stands = stands_more store fits lacks holds' times' served' start i.serving.store t.serving i.stands.store.1 st;
         counted = omega (arith, i.counted, n);
-        is = i.is ∙ ap (prefixed i.text i.passed) next
-            ∙ ap (λ x. record { text = x; passed = i.passed ++ (t.passed ++ u.passed); serving = u.serving; is_over = u.is_over }) (sym (append_assoc i.text t.text u.text))
-            ∙ ap (λ x. record { text = (i.text ++ t.text) ++ u.text; passed = x; serving = u.serving; is_over = u.is_over }) (sym (append_assoc i.passed t.passed u.passed));
+        is = i.is ∙ ap (prefixed i.text i.passed i.asks) next
+            ∙ ap (λ x. record { text = x; passed = i.passed ++ (t.passed ++ u.passed); asks = i.asks ++ (t.asks ++ u.asks); serving = u.serving; is_over = u.is_over }) (sym (append_assoc i.text t.text u.text))
+            ∙ ap (λ x. record { text = (i.text ++ t.text) ++ u.text; passed = x; asks = i.asks ++ (t.asks ++ u.asks); serving = u.serving; is_over = u.is_over }) (sym (append_assoc i.passed t.passed u.passed))
+            ∙ ap (λ x. record { text = (i.text ++ t.text) ++ u.text; passed = (i.passed ++ t.passed) ++ u.passed; asks = x; serving = u.serving; is_over = u.is_over }) (sym (append_assoc i.asks t.asks u.asks));
       }
   talk_goes_on (cut_off q err n w st of) = absurd (true_is_false (same_ok (Ok true) true false refl err))
     where
       true_is_false : true ≡ false → ⊥
       true_is_false e = cc
   talk_goes_on (limited err next w n) = absurd (ok_is_no_error (Ok true) true Kept refl err)
-  talk_goes_on (given_up m err other w n) = absurd (ok_is_no_error (Ok true) true m refl err)
+  talk_goes_on (given_up m err why w n) = absurd (ok_is_no_error (Ok true) true m refl err)
 
   -- the turn's part of all
   part_of_all : WrotePrefix d.written f.written (turn store buckets g (more == 0) i.serving (kept ++ i.left)).text → WrotePrefix c.written f.written all.text
@@ -239,41 +259,53 @@ module _ {S : Type 0} (store : Store S) (fits lacks : S → ℕ → Order → Ty
       let P : Talk S → Type 0 = λ x. IsPassed x.passed x.serving q in
       subst P (sym i.is) (passed_after i.passed v.passed v.serving q (turn_passes store buckets g more i.serving q (kept ++ i.left) h))
 
+  asks_of_all : (x : Asking S) → Contains (turn store buckets g (more == 0) i.serving (kept ++ i.left)).asks x → Contains all.asks x
+  asks_of_all x h =
+      let v = talk store buckets g (suc more) i.serving (kept ++ i.left) in
+      let P : Talk S → Type 0 = λ u. Contains u.asks x in
+      subst P (sym i.is) (Contains-append_right i.asks v.asks x (turn_asks store buckets g more i.serving (kept ++ i.left) x h))
+
+  why_of_all : (e : ServeFault) → GivesUp (OverflowsAmong store fits lacks i.serving.store) (turn store buckets g (more == 0) i.serving (kept ++ i.left)).asks e → GivesUp (OverflowsAmong store fits lacks start) all.asks e
+  why_of_all e why =
+      let t = turn store buckets g (more == 0) i.serving (kept ++ i.left) in
+      gives_up_for e (OverflowsAmong store fits lacks i.serving.store) (OverflowsAmong store fits lacks start) t.asks all.asks
+      (among_more store fits lacks start i.serving.store t.asks all.asks i.stands.store.1 asks_of_all) why
+
   -- the connection ends after it
-  pub talk_ends : Follows (Ok false) → Talks all (Reached store fits lacks holds' start) times' served' (Ok tt) c f
+  pub talk_ends : Follows (Ok false) → Talks all (Reached store fits lacks holds' start) (OverflowsAmong store fits lacks start) times' served' (Ok tt) c f
   talk_ends (done on ok w st go n) =
       let t = turn store buckets g (more == 0) i.serving (kept ++ i.left) in
-      let off : talk store buckets g (suc more) i.serving (kept ++ i.left) ≡ record { text = t.text; passed = t.passed; serving = t.serving; is_over = false } = talk_with store buckets g more i.serving (kept ++ i.left) closes (ends_here t.next kept' f.left on (same_ok (Ok false) false on refl ok) go) in
-      let is : all ≡ record { text = i.text ++ t.text; passed = i.passed ++ t.passed; serving = t.serving; is_over = false } = i.is ∙ ap (prefixed i.text i.passed) off in
-      let P : Talk S → Type 0 = λ x. Talks x (Reached store fits lacks holds' start) times' served' (Ok tt) c f in
+      let off : talk store buckets g (suc more) i.serving (kept ++ i.left) ≡ record { text = t.text; passed = t.passed; asks = t.asks; serving = t.serving; is_over = false } = talk_with store buckets g more i.serving (kept ++ i.left) closes (ends_here t.next kept' f.left on (same_ok (Ok false) false on refl ok) go) in
+      let is : all ≡ record { text = i.text ++ t.text; passed = i.passed ++ t.passed; asks = i.asks ++ t.asks; serving = t.serving; is_over = false } = i.is ∙ ap (prefixed i.text i.passed i.asks) off in
+      let P : Talk S → Type 0 = λ x. Talks x (Reached store fits lacks holds' start) (OverflowsAmong store fits lacks start) times' served' (Ok tt) c f in
       subst P (sym is) (whole refl refl (wrote_more c.written d.written f.written i.text t.text i.wrote w) (stands_more store fits lacks holds' times' served' start i.serving.store t.serving i.stands.store.1 st) (omega (arith, i.counted, n)))
   talk_ends (cut_off q ok n w st of) =
       talk_cut q refl (rose_after c.faults d.faults f.faults i.counted n) (part_of_all w) (stands_more store fits lacks holds' times' served' start i.serving.store q i.stands.store.1 st) (passed_of_all q of)
   talk_ends (limited err next w n) = absurd (ok_is_no_error (Ok false) false Kept refl err)
-  talk_ends (given_up m err other w n) = absurd (ok_is_no_error (Ok false) false m refl err)
+  talk_ends (given_up m err why w n) = absurd (ok_is_no_error (Ok false) false m refl err)
 
   -- serving ends in it
-  pub talk_stops : (e : ServeFault) → Follows (Err e) → Talks all (Reached store fits lacks holds' start) times' served' (Err e) c f
+  pub talk_stops : (e : ServeFault) → Follows (Err e) → Talks all (Reached store fits lacks holds' start) (OverflowsAmong store fits lacks start) times' served' (Err e) c f
   talk_stops e (done on ok w st go n) = absurd (ok_is_no_error (Err e) on e ok refl)
   talk_stops e (cut_off q ok n w st of) = absurd (ok_is_no_error (Err e) false e ok refl)
   talk_stops e (limited err next w n) =
       let t = turn store buckets g (more == 0) i.serving (kept ++ i.left) in
-      let over : talk store buckets g (suc more) i.serving (kept ++ i.left) ≡ record { text = t.text; passed = t.passed; serving = t.serving; is_over = true } = talk_with store buckets g more i.serving (kept ++ i.left) exceeds next in
-      let is : all ≡ record { text = i.text ++ t.text; passed = i.passed ++ t.passed; serving = t.serving; is_over = true } = i.is ∙ ap (prefixed i.text i.passed) over in
-      let P : Talk S → Type 0 = λ x. Talks x (Reached store fits lacks holds' start) times' served' (Err e) c f in
+      let over : talk store buckets g (suc more) i.serving (kept ++ i.left) ≡ record { text = t.text; passed = t.passed; asks = t.asks; serving = t.serving; is_over = true } = talk_with store buckets g more i.serving (kept ++ i.left) exceeds next in
+      let is : all ≡ record { text = i.text ++ t.text; passed = i.passed ++ t.passed; asks = i.asks ++ t.asks; serving = t.serving; is_over = true } = i.is ∙ ap (prefixed i.text i.passed i.asks) over in
+      let P : Talk S → Type 0 = λ x. Talks x (Reached store fits lacks holds' start) (OverflowsAmong store fits lacks start) times' served' (Err e) c f in
       subst P (sym is) (talk_limited (ap Err (same_err (Err e) e Kept refl err)) refl (wrote_more c.written d.written f.written i.text t.text i.wrote w) (omega (arith, i.counted, n)))
-  talk_stops e (given_up m err other w n) =
+  talk_stops e (given_up m err why w n) =
       let same : e ≡ m = same_err (Err e) e m refl err in
-      let Q : ServeFault → Type 0 = λ x. x ≡ Kept → ⊥ in
-      talk_given_up e refl (subst Q (sym same) other) (part_of_all w) (omega (arith, i.counted, n))
+      let Q : ServeFault → Type 0 = GivesUp (OverflowsAmong store fits lacks start) all.asks in
+      talk_given_up e refl (subst Q (sym same) (why_of_all m why)) (part_of_all w) (omega (arith, i.counted, n))
 
 -- as many requests were answered as one connection may have
 module _ {S : Type 0} (store : Store S) (buckets : List (List ℕ)) (g : Grammar) where
-  pub talk_is_over : (all : Talk S) (more : ℕ) (kept : List ℕ) (holds : S → Type 0) (times : Option (List ℕ)) (served : Served) (c d : Connection) → more ≡ 0 → InTalk store buckets g all holds times served more kept c d → Talks all holds times served (Ok tt) c d
-  talk_is_over all more kept holds times served c d over i =
-      let rest : talk store buckets g more i.serving (kept ++ i.left) ≡ record { text = []; passed = []; serving = i.serving; is_over = false } = ap (λ n. talk store buckets g n i.serving (kept ++ i.left)) over ∙ talk_none store buckets g i.serving (kept ++ i.left) in
-      let is : all ≡ record { text = i.text ++ []; passed = i.passed ++ []; serving = i.serving; is_over = false } = i.is ∙ ap (prefixed i.text i.passed) rest in
-      let P : Talk S → Type 0 = λ x. Talks x holds times served (Ok tt) c d in
+  pub talk_is_over : (all : Talk S) (more : ℕ) (kept : List ℕ) (holds : S → Type 0) (overflows : List (Asking S) → Type 0) (times : Option (List ℕ)) (served : Served) (c d : Connection) → more ≡ 0 → InTalk store buckets g all holds times served more kept c d → Talks all holds overflows times served (Ok tt) c d
+  talk_is_over all more kept holds overflows times served c d over i =
+      let rest : talk store buckets g more i.serving (kept ++ i.left) ≡ record { text = []; passed = []; asks = []; serving = i.serving; is_over = false } = ap (λ n. talk store buckets g n i.serving (kept ++ i.left)) over ∙ talk_none store buckets g i.serving (kept ++ i.left) in
+      let is : all ≡ record { text = i.text ++ []; passed = i.passed ++ []; asks = i.asks ++ []; serving = i.serving; is_over = false } = i.is ∙ ap (prefixed i.text i.passed i.asks) rest in
+      let P : Talk S → Type 0 = λ x. Talks x holds overflows times served (Ok tt) c d in
       let Q : List ℕ → Type 0 = Wrote c.written d.written in
       subst P (sym is) (whole refl refl (subst Q (sym (append-nil i.text)) i.wrote) i.stands i.counted)
 
@@ -282,7 +314,7 @@ module _ {S : Type 0} (store : Store S) (buckets : List (List ℕ)) (g : Grammar
 -- a turn more, whatever is to follow from it
 module _ {S : Type 0} (store : Store S) (fits lacks : S → ℕ → Order → Type 0) (buckets : List (List ℕ)) (g : Grammar) (all : List ℕ → Talk S) (start : S) (more n : ℕ) (kept kept' : List ℕ) (holds holds' : S → Type 0) (times times' : Option (List ℕ)) (served served' : Served) (r : Result Bool ServeFault) (Next' : List ℕ → Connection → Connection → Type 0) (o m k : Option Connection) where
   pub turn_then : n ≡ suc more → OnPresent (λ c d. OnLeft (λ left. InTalk store buckets g (all left) (Reached store fits lacks holds start) times served n kept c d) c.left) o m → IsSome k
-      → ((q : Serving S) → Stands holds times served q → ServesOn (λ left. turn store buckets g (more == 0) q (kept ++ left)) (Reached store fits lacks holds' q.store) times' served' r kept' m k)
+      → ((q : Serving S) → Stands holds times served q → ServesOn (λ left. turn store buckets g (more == 0) q (kept ++ left)) (Reached store fits lacks holds' q.store) (OverflowsAmong store fits lacks q.store) times' served' r kept' m k)
       → ((left : List ℕ) (c d f : Connection) (i : InTalk store buckets g (all left) (Reached store fits lacks holds start) times served (suc more) kept c d) → Follows store fits lacks buckets g (all left) start more kept kept' holds holds' times times' served served' c d f i r → Next' left c f)
       → OnPresent (λ c f. OnLeft (λ left. Next' left c f) c.left) o k
   turn_then e inv some serves step =
@@ -293,6 +325,6 @@ module _ {S : Type 0} (store : Store S) (fits lacks : S → ℕ → Order → Ty
       let P : ℕ → Type 0 = λ x. InTalk store buckets g (all left) (Reached store fits lacks holds start) times served x kept c d in
       let i = subst P e (at_left (λ l. InTalk store buckets g (all l) (Reached store fits lacks holds start) times served n kept c d) c.left left el h) in
       step left c d f i
-      (at_left (λ l. Serves (turn store buckets g (more == 0) i.serving (kept ++ l)) (Reached store fits lacks holds' i.serving.store) times' served' r kept' d f) d.left i.left i.told
-      (at_present (λ d f. OnLeft (λ l. Serves (turn store buckets g (more == 0) i.serving (kept ++ l)) (Reached store fits lacks holds' i.serving.store) times' served' r kept' d f) d.left) m k d f em ek
+      (at_left (λ l. Serves (turn store buckets g (more == 0) i.serving (kept ++ l)) (Reached store fits lacks holds' i.serving.store) (OverflowsAmong store fits lacks i.serving.store) times' served' r kept' d f) d.left i.left i.told
+      (at_present (λ d f. OnLeft (λ l. Serves (turn store buckets g (more == 0) i.serving (kept ++ l)) (Reached store fits lacks holds' i.serving.store) (OverflowsAmong store fits lacks i.serving.store) times' served' r kept' d f) d.left) m k d f em ek
       (serves i.serving (stands_plain store fits lacks holds times served start i.serving i.stands))))))

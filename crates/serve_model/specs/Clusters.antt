@@ -1,5 +1,5 @@
 -- The cluster as a store: a request is a list of acts.
-use Rattle.std.specs.Prelude.{ℕ, ◌-◌, max, Option, Some, None, List, [], ◌∷◌, ◌++◌, map}
+use Rattle.std.specs.Prelude.{◌≡◌, ℕ, ◌-◌, max, Option, Some, None, List, [], ◌∷◌, ◌++◌, map}
 use Rattle.layout_roles.specs.declared.cut.Cut.{Cut}
 use Rattle.cluster_machine.specs.declared.step.Refusal.{Refusal}
 use Rattle.cluster_machine.specs.declared.step.Words.{Words}
@@ -110,15 +110,17 @@ cluster = record {
 abbrev pub fits : Cluster → ℕ → Order → Type 0
 fits c time order = AreLawfulActs c.run (acts_at c time order) × ActsFit c.run (acts_at c time order)
 
--- some acts that are lawful and fit lead to a state in which a lawful act has no room
-pub record ActLacksRoom (s : State) : Type 0 where
-  pub acts : List Act
-  pub lawful : AreLawfulActs s acts
-  pub fit : ActsFit s acts
+-- of these acts those before some act are lawful and fit, and that act, which is lawful then, has no room
+pub record ActLacksRoom (s : State) (acts : List Act) : Type 0 where
+  pub before : List Act
   pub act : Act
-  pub may : IsLawfulAct (after_acts s acts) act
-  pub lacks : FitsOutcome (after_acts s acts) (acted (after_acts s acts) act) → ⊥
+  pub later : List Act
+  pub parts : acts ≡ before ++ act ∷ later
+  pub lawful : AreLawfulActs s before
+  pub fit : ActsFit s before
+  pub may : IsLawfulAct (after_acts s before) act
+  pub lacks : FitsOutcome (after_acts s before) (acted (after_acts s before) act) → ⊥
 
--- the request has an act without room
+-- an act of the request has no room
 abbrev pub lacks : Cluster → ℕ → Order → Type 0
-lacks c time order = ActLacksRoom c.run
+lacks c time order = ActLacksRoom c.run (acts_at c time order)

@@ -6,16 +6,16 @@ use Rattle.lab_outside.specs.Bytes.{Wrote, WrotePrefix}
 use Rattle.serve_model.specs.declared.served.Served.{Served}
 use Rattle.serve_model.specs.declared.served.ServeFault.{ServeFault}
 use Rattle.serve_model.specs.declared.served.ServeFault.TheVariants.{Kept}
-use Rattle.serve_model.specs.Stores.{Store}
+use Rattle.serve_model.specs.Stores.{Store, Asking}
 use Rattle.serve_model.specs.Talk.{Grammar, Serving, Talk, talk, request_limit}
-use Rattle.serve_model.specs.Serving.{Stands, IsPassed}
+use Rattle.serve_model.specs.Serving.{Stands, IsPassed, GivesUp}
 
--- what is stated of a connection was written, and store, clock and counts stand for what is served then; or a first part was written, as the count of faults rose; or serving ends with it, as too many bytes were put or copied; or a first part was written, as memory was wanting or a number had no room
-pub data Talks {S : Type 0} (t : Talk S) (holds : S → Type 0) (times : Option (List ℕ)) (served : Served) (result : Result Unit ServeFault) (c d : Connection) : Type 0 where
-  whole : result ≡ Ok tt → t.is_over ≡ false → Wrote c.written d.written t.text → Stands holds times served t.serving → c.faults ≤ d.faults → Talks t holds times served result c d
-  cut_off : (q : Serving S) → result ≡ Ok tt → Rose c.faults d.faults → WrotePrefix c.written d.written t.text → Stands holds times served q → IsPassed t.passed t.serving q → Talks t holds times served result c d
-  limited : result ≡ Err Kept → t.is_over ≡ true → Wrote c.written d.written t.text → c.faults ≤ d.faults → Talks t holds times served result c d
-  given_up : (e : ServeFault) → result ≡ Err e → (e ≡ Kept → ⊥) → WrotePrefix c.written d.written t.text → c.faults ≤ d.faults → Talks t holds times served result c d
+-- what is stated of a connection was written, and store, clock and counts stand for what is served then; or a first part was written, as the count of faults rose; or serving ends with it, as too many bytes were put or copied; or a first part was written, as memory was wanting or one of the orders that the store is asked has no room
+pub data Talks {S : Type 0} (t : Talk S) (holds : S → Type 0) (overflows : List (Asking S) → Type 0) (times : Option (List ℕ)) (served : Served) (result : Result Unit ServeFault) (c d : Connection) : Type 0 where
+  whole : result ≡ Ok tt → t.is_over ≡ false → Wrote c.written d.written t.text → Stands holds times served t.serving → c.faults ≤ d.faults → Talks t holds overflows times served result c d
+  cut_off : (q : Serving S) → result ≡ Ok tt → Rose c.faults d.faults → WrotePrefix c.written d.written t.text → Stands holds times served q → IsPassed t.passed t.serving q → Talks t holds overflows times served result c d
+  limited : result ≡ Err Kept → t.is_over ≡ true → Wrote c.written d.written t.text → c.faults ≤ d.faults → Talks t holds overflows times served result c d
+  given_up : (e : ServeFault) → result ≡ Err e → GivesUp overflows t.asks e → WrotePrefix c.written d.written t.text → c.faults ≤ d.faults → Talks t holds overflows times served result c d
 
 abbrev pub IsPrefixOf : List ℕ → List ℕ → Type 0
 IsPrefixOf front text = (rest : List ℕ) × (front ++ rest ≡ text)
@@ -50,13 +50,13 @@ module _ {S : Type 0} (store : Store S) (buckets : List (List ℕ)) (g : Grammar
     pub are_served : AreServed p came gone serving
     pub stands : Stands holds times served serving
 
-  -- what is stated of a connection was written and ends serving, or a first part was written
-  pub data EndsSo (t : Talk S) (d : Connection) : ServeFault → Type 0 where
-    too_many : t.is_over ≡ true → IfSome d.written (λ written. written ≡ t.text) → EndsSo t d Kept
-    begun : (e : ServeFault) → (e ≡ Kept → ⊥) → IfSome d.written (λ written. IsPrefixOf written t.text) → EndsSo t d e
+  -- what is stated of a connection was written and ends serving, or a first part was written, as memory was wanting or one of the orders that the store is asked has no room
+  pub data EndsSo (overflows : List (Asking S) → Type 0) (t : Talk S) (d : Connection) : ServeFault → Type 0 where
+    too_many : t.is_over ≡ true → IfSome d.written (λ written. written ≡ t.text) → EndsSo overflows t d Kept
+    begun : (e : ServeFault) → GivesUp overflows t.asks e → IfSome d.written (λ written. IsPrefixOf written t.text) → EndsSo overflows t d e
 
   -- all were but the last, with which serving ended
-  pub record ServesAllButLast (p : Serving S) (fault : ServeFault) (coming : List (List ℕ)) (past past_new : List Connection) : Type 0 where
+  pub record ServesAllButLast (overflows : List (Asking S) → Type 0) (p : Serving S) (fault : ServeFault) (coming : List (List ℕ)) (past past_new : List Connection) : Type 0 where
     pub came : List (List ℕ)
     pub bytes : List ℕ
     pub to_come : List (List ℕ)
@@ -66,4 +66,4 @@ module _ {S : Type 0} (store : Store S) (buckets : List (List ℕ)) (g : Grammar
     pub goes : past_new ≡ past ++ gone ++ last ∷ []
     pub serving : Serving S
     pub are_served : AreServed p came gone serving
-    pub ends : EndsSo (stated serving bytes) last fault
+    pub ends : EndsSo overflows (stated serving bytes) last fault

@@ -9,7 +9,7 @@ use Rattle.flow_model.specs.declared.flow.FlowEnd.{FlowEnd}
 use Rattle.serve_model.specs.declared.served.Served.{Served}
 use Rattle.serve_model.specs.declared.served.ServeFault.{ServeFault}
 use Rattle.serve_model.specs.declared.served.ServeFault.TheVariants.{Kept, Number, Memory}
-use Rattle.serve_model.specs.Stores.{Store, Leads, Overflows}
+use Rattle.serve_model.specs.Stores.{Store, Asking, Leads, Overflows}
 use Rattle.serve_model.specs.Talk.{Serving, Next, goes, closes, exceeds, Turn}
 
 -- ---- a store of the code
@@ -65,12 +65,18 @@ pub data IsPassed {S : Type 0} (passed : List (Serving S)) (serving q : Serving 
   at_end : q ≡ serving → IsPassed passed serving q
   before : Contains passed q → IsPassed passed serving q
 
--- what is stated of one request was written, and store, clock and counts stand for what is served then; or a first part was written, as the count of faults rose, and they stand for something on the way; or it's stated that serving ends, as too many bytes were put or copied; or a first part was written, as memory was wanting or a number had no room
-pub data Serves {S : Type 0} (t : Turn S) (holds : S → Type 0) (times : Option (List ℕ)) (served : Served) (result : Result Bool ServeFault) (kept : List ℕ) (c d : Connection) : Type 0 where
-  done : (on : Bool) → result ≡ Ok on → Wrote c.written d.written t.text → Stands holds times served t.serving → Continues t.next on kept d.left → c.faults ≤ d.faults → Serves t holds times served result kept c d
-  cut_off : (q : Serving S) → result ≡ Ok false → Rose c.faults d.faults → WrotePrefix c.written d.written t.text → Stands holds times served q → IsPassed t.passed t.serving q → Serves t holds times served result kept c d
-  limited : result ≡ Err Kept → t.next ≡ exceeds → Wrote c.written d.written t.text → c.faults ≤ d.faults → Serves t holds times served result kept c d
-  given_up : (e : ServeFault) → result ≡ Err e → (e ≡ Kept → ⊥) → WrotePrefix c.written d.written t.text → c.faults ≤ d.faults → Serves t holds times served result kept c d
+-- serving is given up, since one of these orders has no room, or since memory was wanting
+abbrev pub GivesUp : {S : Type 0} → (List (Asking S) → Type 0) → List (Asking S) → ServeFault → Type 0
+GivesUp overflows asks Kept = ⊥
+GivesUp overflows asks Number = overflows asks
+GivesUp overflows asks Memory = ⊤
+
+-- what is stated of one request was written, and store, clock and counts stand for what is served then; or a first part was written, as the count of faults rose, and they stand for something on the way; or it's stated that serving ends, as too many bytes were put or copied; or a first part was written, as memory was wanting or the order that the store was asked has no room
+pub data Serves {S : Type 0} (t : Turn S) (holds : S → Type 0) (overflows : List (Asking S) → Type 0) (times : Option (List ℕ)) (served : Served) (result : Result Bool ServeFault) (kept : List ℕ) (c d : Connection) : Type 0 where
+  done : (on : Bool) → result ≡ Ok on → Wrote c.written d.written t.text → Stands holds times served t.serving → Continues t.next on kept d.left → c.faults ≤ d.faults → Serves t holds overflows times served result kept c d
+  cut_off : (q : Serving S) → result ≡ Ok false → Rose c.faults d.faults → WrotePrefix c.written d.written t.text → Stands holds times served q → IsPassed t.passed t.serving q → Serves t holds overflows times served result kept c d
+  limited : result ≡ Err Kept → t.next ≡ exceeds → Wrote c.written d.written t.text → c.faults ≤ d.faults → Serves t holds overflows times served result kept c d
+  given_up : (e : ServeFault) → result ≡ Err e → GivesUp overflows t.asks e → WrotePrefix c.written d.written t.text → c.faults ≤ d.faults → Serves t holds overflows times served result kept c d
 
 -- so it is of the bytes that are told to be left
 abbrev pub OnLeft : (List ℕ → Type 0) → Option (List ℕ) → Type 0
@@ -82,5 +88,5 @@ abbrev pub SaysOn : List ℕ → Bool → Result Bool ServeFault → Option Conn
 SaysOn text close result old new = OnPresent (Says text close result) old new
 
 -- what is stated of a request, from the bytes on that are told to be left, was served on the connection that is present
-abbrev pub ServesOn : {S : Type 0} → (List ℕ → Turn S) → (S → Type 0) → Option (List ℕ) → Served → Result Bool ServeFault → List ℕ → Option Connection → Option Connection → Type 0
-ServesOn turn holds times served result kept old new = OnPresent (λ c d. OnLeft (λ left. Serves (turn left) holds times served result kept c d) c.left) old new
+abbrev pub ServesOn : {S : Type 0} → (List ℕ → Turn S) → (S → Type 0) → (List (Asking S) → Type 0) → Option (List ℕ) → Served → Result Bool ServeFault → List ℕ → Option Connection → Option Connection → Type 0
+ServesOn turn holds overflows times served result kept old new = OnPresent (λ c d. OnLeft (λ left. Serves (turn left) holds overflows times served result kept c d) c.left) old new

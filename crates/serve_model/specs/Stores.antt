@@ -1,5 +1,6 @@
 -- Stores that carry out orders, one after the other.
 use Rattle.std.specs.Prelude.{◌≡◌, ℕ, ⊤, Option, List, [], ◌∷◌}
+use Rattle.std.specs.List.{Contains}
 use Rattle.flow_model.specs.declared.order.Order.{Order}
 use Rattle.flow_model.specs.declared.flow.FlowEnd.{FlowEnd}
 
@@ -11,6 +12,12 @@ pub record Carried (S : Type 0) : Type 0 where
 -- what comes of an order that is carried out at a time, in milliseconds since 1970
 pub record Store (S : Type 0) : Type 0 where
   pub carries : S → ℕ → Order → Carried S
+
+-- an order that a store is asked: in which state, at what time
+pub record Asking (S : Type 0) : Type 0 where
+  pub state : S
+  pub time : ℕ
+  pub order : Order
 
 module _ {S : Type 0} (store : Store S) where
   -- the state after orders, each with its time
@@ -29,10 +36,13 @@ module _ {S : Type 0} (store : Store S) where
     pub after : t ≡ after_orders s orders
     pub fit : OrdersFit fits s orders
 
-  -- they lead to a state in which some order would not fit
+  -- they lead to a state in which an order is asked that has no room there
   pub record Overflows (fits lacks : S → ℕ → Order → Type 0) (s : S) : Type 0 where
-    pub state : S
-    pub leads : Leads fits s state
-    pub time : ℕ
-    pub order : Order
-    pub overflows : lacks state time order
+    pub asking : Asking S
+    pub leads : Leads fits s asking.state
+    pub overflows : lacks asking.state asking.time asking.order
+
+  -- and it is one of these
+  pub record OverflowsAmong (fits lacks : S → ℕ → Order → Type 0) (s : S) (asks : List (Asking S)) : Type 0 where
+    pub at : Overflows fits lacks s
+    pub is_asked : Contains asks at.asking

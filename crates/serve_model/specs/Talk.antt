@@ -20,7 +20,7 @@ use Rattle.s3_model.specs.Targets.{path_of, is_bad_target}
 use Rattle.serve_model.specs.declared.answer.Answer.{Answer}
 use Rattle.serve_model.specs.declared.answer.Answer.TheVariants as answer
 use Rattle.serve_model.specs.declared.request.Request.{Request}
-use Rattle.serve_model.specs.Stores.{Store}
+use Rattle.serve_model.specs.Stores.{Store, Asking}
 use Rattle.serve_model.specs.Judging.{refusal_in, counted_before, order_of, reply_without, answer_to, counted_after}
 
 -- a reader of heads: what the bytes of a head say, if they say anything. There is one, and it is the only one.
@@ -70,10 +70,11 @@ abbrev pub unless_closed : Bool → List ℕ → Next
 unless_closed true rest = closes
 unless_closed false rest = goes rest
 
--- what comes of one request: what is written, what was passed on the way, what is served from then on, and how the connection goes on
+-- what comes of one request: what is written, what was passed on the way, what the store is asked, what is served from then on, and how the connection goes on
 pub record Turn (S : Type 0) : Type 0 where
   pub text : List ℕ
   pub passed : List (Serving S)
+  pub asks : List (Asking S)
   pub serving : Serving S
   pub next : Next
 
@@ -139,13 +140,17 @@ module _ {S : Type 0} where
   abbrev pub passing : Serving S → Turn S → Turn S
   passing p t = record t { passed = p ∷ t.passed }
 
+  -- the store was asked this before
+  abbrev pub having_asked : Asking S → Turn S → Turn S
+  having_asked a t = record t { asks = a ∷ t.asks }
+
   -- something was written before
   abbrev pub after : List ℕ → Turn S → Turn S
   after text t = record t { text = text ++ t.text }
 
   -- something is written, and then the connection closes or goes on with the rest
   abbrev pub said : List ℕ → Bool → Serving S → List ℕ → Turn S
-  said text close p rest = record { text = text; passed = []; serving = p; next = unless_closed close rest }
+  said text close p rest = record { text = text; passed = []; asks = []; serving = p; next = unless_closed close rest }
 
   -- a request is answered
   abbrev pub answer_turn : Request → Answer → Serving S → List ℕ → Turn S
@@ -153,7 +158,7 @@ module _ {S : Type 0} where
 
   -- too many bytes were put or copied
   abbrev pub exceeded : Serving S → Turn S
-  exceeded p = record { text = []; passed = []; serving = p; next = exceeds }
+  exceeded p = record { text = []; passed = []; asks = []; serving = p; next = exceeds }
 
   -- so many bytes more are put or copied, and if they aren't too many, it goes on so
   unfoldable pub counting : ℕ → Serving S → (Serving S → Turn S) → Turn S
@@ -166,7 +171,9 @@ module _ {S : Type 0} where
 
   -- the store carries out an order
   abbrev pub order_turn : Store S → Request → Order → Serving S → List ℕ → Turn S
-  order_turn store r order p rest = let c = store.carries p.store r.time order in end_turn r c.end (record p { store = c.state }) rest
+  order_turn store r order p rest =
+      let c = store.carries p.store r.time order in
+      having_asked (record { state = p.store; time = r.time; order = order }) (end_turn r c.end (record p { store = c.state }) rest)
 
   module _ (store : Store S) (buckets : List (List ℕ)) where
     -- nothing refuses the request before the store is asked
@@ -216,10 +223,11 @@ module _ {S : Type 0} where
       abbrev pub turn : Bool → Serving S → List ℕ → Turn S
       turn last p bytes = passing p (cut_turn last p (cut bytes))
 
--- what is written to a connection, what is passed on the way, what is served then, and whether serving ends with it
+-- what is written to a connection, what is passed on the way, what the store is asked, one order after the other, what is served then, and whether serving ends with it
 pub record Talk (S : Type 0) : Type 0 where
   pub text : List ℕ
   pub passed : List (Serving S)
+  pub asks : List (Asking S)
   pub serving : Serving S
   pub is_over : Bool
 
@@ -228,11 +236,11 @@ module _ {S : Type 0} where
   abbrev pub go_on : (Serving S → List ℕ → Talk S) → Turn S → Next → Talk S
   go_on talk t (goes rest) =
       let u = talk t.serving rest in
-      record { text = t.text ++ u.text; passed = t.passed ++ u.passed; serving = u.serving; is_over = u.is_over }
-  go_on talk t closes = record { text = t.text; passed = t.passed; serving = t.serving; is_over = false }
-  go_on talk t exceeds = record { text = t.text; passed = t.passed; serving = t.serving; is_over = true }
+      record { text = t.text ++ u.text; passed = t.passed ++ u.passed; asks = t.asks ++ u.asks; serving = u.serving; is_over = u.is_over }
+  go_on talk t closes = record { text = t.text; passed = t.passed; asks = t.asks; serving = t.serving; is_over = false }
+  go_on talk t exceeds = record { text = t.text; passed = t.passed; asks = t.asks; serving = t.serving; is_over = true }
 
   -- a connection with these bytes, on which so many requests are answered at most
   unfoldable pub talk : Store S → List (List ℕ) → Grammar → ℕ → Serving S → List ℕ → Talk S
-  talk store buckets g zero p bytes = record { text = []; passed = []; serving = p; is_over = false }
+  talk store buckets g zero p bytes = record { text = []; passed = []; asks = []; serving = p; is_over = false }
   talk store buckets g (suc more) p bytes = let t = turn store buckets g (more == 0) p bytes in go_on (talk store buckets g more) t t.next

@@ -1,18 +1,20 @@
 -- From what serving says of the code's cluster to what is stated of a server.
-use Rattle.std.proofs.Common.{◌≡◌, ◌⊎◌, inl, inr, IsTrue, ℕ, List, Option, Some, None, Result, Ok, Err, IfSome, refl, sym, ap, subst}
+use Rattle.std.proofs.Common.{◌≡◌, ◌⊎◌, inl, inr, IsTrue, ℕ, List, Option, Some, None, Result, Ok, Err, IfSome, map, refl, sym, ◌∙◌, ap, subst}
 use Rattle.std.specs.Result.{IsErrAnd}
 use Rattle.std.specs.List.{list_any}
 use Rattle.crdt_core.specs.declared.memory.Memory.{Memory as Why}
 use Rattle.crdt_core.specs.declared.memory.Memory.TheVariants.{Want, Full}
 use Rattle.lab_outside.specs.Connection.{Connection}
 use Rattle.layout_roles.specs.declared.layout.Layout.{Layout}
+use Rattle.layout_roles.specs.declared.role.Role.{Role}
 use Rattle.store_model.specs.Run.{State, start}
 use Rattle.store_model.specs.Acts.{AreLawfulActs, ActsFit}
 use Rattle.serve_model.specs.declared.served.Served.{Served}
 use Rattle.serve_model.specs.declared.served.ServeFault.{ServeFault}
 use Rattle.serve_model.specs.declared.served.ServeFault.TheVariants as fault
 use Rattle.serve_model.specs.Clusters.{Cluster, cluster, fits, lacks}
-use Rattle.serve_model.specs.Talk.{Grammar}
+use Rattle.serve_model.specs.Stores.{OverflowsAmong}
+use Rattle.serve_model.specs.Talk.{Grammar, Serving}
 use Rattle.serve_model.specs.Serving.{HasState, Reached, Stands}
 use Rattle.serve_model.specs.Connections.{ServesAll, ServesAllButLast}
 use Rattle.serve_loop.specs.declared.service.ServeStop.{ServeStop}
@@ -23,8 +25,11 @@ use Rattle.serve_run.specs.declared.plan.Plan.{Plan}
 use Rattle.serve_run.specs.declared.stop.Stop.{Stop}
 use Rattle.serve_cluster.specs.declared.cluster.Cluster.{Cluster as Code}
 use Rattle.serve_cluster.specs.Standing.{StandsFor}
-use Rattle.serve_run.specs.Start.{opening, opened, IsOf}
-use Rattle.serve_run.specs.Served.{nodes_of, begun, state_after, tail, tail_of, is_unshown, Told, serving, told, AreInOrder, HasServed, HasBrokenOff}
+use Rattle.world_text.specs.Shown.{is_unshown}
+use Rattle.s3_world.specs.declared.world.S3World.{S3World}
+use Rattle.s3_world.specs.Stands.{IsStore}
+use Rattle.serve_run.specs.Start.{opening, opened, IsOf, IsOpened}
+use Rattle.serve_run.specs.Served.{nodes_of, begun, state_after, tail, tail_of, Told, serving, told, AreInOrder, HasServed, HasBrokenOff}
 use Rattle.serve_run.specs.Stop.{stop_of_memory, stop_of_serving}
 use Rattle.serve_run.specs.Answer.{IsUnshown, LacksRoom, for_order, HasStopped, HowServed}
 use Rattle.serve_run.proofs.Requests.{run_is, all_kept}
@@ -51,9 +56,21 @@ module _ (P : List ℕ → List (List ℕ) → Type 0) where
   some_told None coming all = tt
   some_told (Some ts) coming all = all ts refl
 
--- the code's cluster stands for the one with which a server begins
-pub stands_begun : (c : Code) (p : Plan) (first : Layout) (members : List ℕ) → members ≡ nodes_of p → StandsFor c (record { run = opened p first; ticked = 0; members = members }) → StandsFor c (begun p first)
-stands_begun c p first members e h = subst (λ ms. StandsFor c (record { run = opened p first; ticked = 0; members = ms })) e h
+-- what the code's cluster stands for when serving begins: the opened cluster, to which lawful acts led that fit
+pub record BeginsAs (p : Plan) (holds : Cluster → Type 0) : Type 0 where
+  pub first : Layout
+  pub is_of : IsOf p first
+  pub lawful : AreLawfulActs start (opening p.config.buckets p.config.block_size first)
+  pub fit : ActsFit start (opening p.config.buckets p.config.block_size first)
+  pub stands : holds (begun p first)
+
+pub begins_as : (p : Plan) (world : S3World) (c : Code) (members : List ℕ) → IsOpened world p → members ≡ nodes_of p → ((s : State) → IsStore world s → StandsFor c (record { run = s; ticked = 0; members = members })) → BeginsAs p (StandsFor c)
+begins_as p world c members o e h =
+    record { first = o.first; is_of = o.is_of; lawful = o.lawful; fit = o.fit; stands = subst (λ ms. StandsFor c (record { run = opened p o.first; ticked = 0; members = ms })) e (h (opened p o.first) o.stands) }
+
+-- the members of the code's cluster are the nodes of the plan
+pub members_are : (p : Plan) (roles : List Role) (members : List ℕ) → roles ≡ p.config.roles.list → members ≡ map (λ role. role.node) roles → members ≡ nodes_of p
+members_are p roles members e h = h ∙ ap (map (λ (role : Role). role.node)) e
 
 -- a node of the plan can't be shown in the state that was left
 pub unshown_is : (p : Plan) (nodes : List ℕ) → nodes ≡ nodes_of p → (s t : State) → s ≡ t → IsTrue (list_any (is_unshown s.world) nodes) → IsUnshown p t
@@ -74,42 +91,42 @@ module _ (g : Grammar) (p : Plan) (t : Told) where
 pub tail_is : (p : Plan) (number : ℕ) (nodes text : List ℕ) → nodes ≡ nodes_of p → (s t : State) → s ≡ t → text ≡ tail p.certified.sets.sets nodes number s → text ≡ tail_of p number t
 tail_is p number nodes text same s t e h = subst (λ (x : State). text ≡ tail_of p number x) e (subst (λ ns. text ≡ tail p.certified.sets.sets ns number s) same h)
 
-module _ (keeps : EveryRunKeepsPromises) (g : Grammar) (p : Plan) (first : Layout) (is_of : IsOf p first) (lawful : AreLawfulActs start (opening p.config.buckets p.config.block_size first)) (fit : ActsFit start (opening p.config.buckets p.config.block_size first))
-    (buckets : List (List ℕ)) (in_order : AreInOrder p.config.buckets buckets) (holds : Cluster → Type 0) (counts : Served) (times' : Option (List ℕ)) (coming' : Option (List (List ℕ))) (past past' : List Connection) where
+module _ (keeps : EveryRunKeepsPromises) (g : Grammar) (p : Plan) (holds0 : Cluster → Type 0) (b : BeginsAs p holds0) (buckets : List (List ℕ)) (in_order : AreInOrder p.config.buckets buckets) (holds : Cluster → Type 0) (counts : Served)
+    (times times' : Option (List ℕ)) (coming coming' : Option (List (List ℕ))) (past past' : List Connection) where
   abbrev All : List ℕ → ℕ → List (List ℕ) → Type 0
-  All ts number cs = ServesAll cluster buckets g (serving p first ts) number (Reached cluster fits lacks holds (begun p first)) times' counts cs coming' past past'
+  All ts number cs = ServesAll cluster buckets g (serving p b.first ts) number (Reached cluster fits lacks holds (begun p b.first)) times' counts cs coming' past past'
 
   -- where nothing is told of the times or of the connections to come
-  from_reached : (number : ℕ) (times : Option (List ℕ)) (coming : Option (List (List ℕ))) → HasState (Reached cluster fits lacks holds (begun p first)) →
+  from_reached : (number : ℕ) (times : Option (List ℕ)) (coming : Option (List (List ℕ))) → HasState (Reached cluster fits lacks holds (begun p b.first)) →
       ((ts : List ℕ) (cs : List (List ℕ)) → times ≡ Some ts → coming ≡ Some cs → ⊥) → Left g p number times times' coming coming' past past' holds
   from_reached number times coming goes untold =
       let leads = goes.1.1 in
       record {
         has = record {
-          first = first;
-          is_of = is_of;
+          first = b.first;
+          is_of = b.is_of;
           orders = leads.orders;
-          kept = all_kept p first keeps lawful fit leads.orders leads.fit;
+          kept = all_kept p b.first keeps b.lawful b.fit leads.orders leads.fit;
           buckets = buckets;
           in_order = in_order;
           counts = counts;
-          served = none_told (λ ts cs. ServesAll cluster buckets g (serving p first ts) number (λ c. c.run ≡ state_after p first leads.orders) times' counts cs coming' past past') times coming untold;
+          served = none_told (λ ts cs. ServesAll cluster buckets g (serving p b.first ts) number (λ c. c.run ≡ state_after p b.first leads.orders) times' counts cs coming' past past') times coming untold;
         };
         at = goes.0;
         stands = goes.1.0;
-        run = run_is p first goes.0 leads.orders leads.after;
+        run = run_is p b.first goes.0 leads.orders leads.after;
       }
 
   from_all : (number : ℕ) (ts : List ℕ) (cs : List (List ℕ)) → All ts number cs → Left g p number (Some ts) times' (Some cs) coming' past past' holds
   from_all number ts cs a =
       let leads = a.stands.store.1 in
-      let run = run_is p first a.serving.store leads.orders leads.after in
+      let run = run_is p b.first a.serving.store leads.orders leads.after in
       record {
         has = record {
-          first = first;
-          is_of = is_of;
+          first = b.first;
+          is_of = b.is_of;
           orders = leads.orders;
-          kept = all_kept p first keeps lawful fit leads.orders leads.fit;
+          kept = all_kept p b.first keeps b.lawful b.fit leads.orders leads.fit;
           buckets = buckets;
           in_order = in_order;
           counts = counts;
@@ -131,38 +148,53 @@ module _ (keeps : EveryRunKeepsPromises) (g : Grammar) (p : Plan) (first : Layou
         run = run;
       }
 
-  pub left : (number : ℕ) (times : Option (List ℕ)) (coming : Option (List (List ℕ))) → HasState (Reached cluster fits lacks holds (begun p first)) →
-      ((ts : List ℕ) → times ≡ Some ts → IfSome coming (λ cs. All ts number cs)) → Left g p number times times' coming coming' past past' holds
-  left number None coming goes all = from_reached number None coming goes (λ ts cs e f. cc)
-  left number (Some ts) None goes all = from_reached number (Some ts) None goes (λ us cs e f. cc)
-  left number (Some ts) (Some cs) goes all = from_all number ts cs (all ts refl)
+  -- so it is of the times and the connections to come
+  abbrev Where : (List ℕ → List (List ℕ) → Type 0) → Option (List ℕ) → Option (List (List ℕ)) → Type 0
+  Where P times coming = (ts : List ℕ) → times ≡ Some ts → IfSome coming (P ts)
+
+  left_where : (number : ℕ) (times : Option (List ℕ)) (coming : Option (List (List ℕ))) → HasState (Reached cluster fits lacks holds (begun p b.first)) → Where (λ ts cs. All ts number cs) times coming → Left g p number times times' coming coming' past past' holds
+  left_where number None coming goes all = from_reached number None coming goes (λ ts cs e f. cc)
+  left_where number (Some ts) None goes all = from_reached number (Some ts) None goes (λ us cs e f. cc)
+  left_where number (Some ts) (Some cs) goes all = from_all number ts cs (all ts refl)
 
   -- the link failed after some connections
-  pub left_early : (times : Option (List ℕ)) (coming : Option (List (List ℕ))) → HasState (Reached cluster fits lacks holds (begun p first)) →
-      ((ts : List ℕ) → times ≡ Some ts → IfSome coming (λ cs. (number : ℕ) × All ts number cs)) → (number : ℕ) × HasServed g p number (told times times' coming coming' past past')
+  left_early : (times : Option (List ℕ)) (coming : Option (List (List ℕ))) → HasState (Reached cluster fits lacks holds (begun p b.first)) → Where (λ ts cs. (number : ℕ) × All ts number cs) times coming → (number : ℕ) × HasServed g p number (told times times' coming coming' past past')
   left_early None coming goes all = (0, (from_reached 0 None coming goes (λ ts cs e f. cc)).has)
   left_early (Some ts) None goes all = (0, (from_reached 0 (Some ts) None goes (λ us cs e f. cc)).has)
   left_early (Some ts) (Some cs) goes all = let a = all ts refl in (a.0, (from_all a.0 ts cs a.1).has)
 
   -- serving ended with a connection
-  pub broken_off : (fault : ServeFault) (times : Option (List ℕ)) (coming : Option (List (List ℕ))) → ((ts : List ℕ) → times ≡ Some ts → IfSome coming (λ cs. ServesAllButLast cluster buckets g (serving p first ts) fault cs past past')) →
-      HasBrokenOff g p fault (told times times' coming coming' past past')
-  broken_off fault times coming all =
-      record { first = first; is_of = is_of; kept = all_kept p first keeps lawful fit; buckets = buckets; in_order = in_order; served = some_told (λ ts cs. ServesAllButLast cluster buckets g (serving p first ts) fault cs past past') times coming all }
+  broken_off : (fault : ServeFault) → Where (λ ts cs. ServesAllButLast cluster buckets g (OverflowsAmong cluster fits lacks (begun p b.first)) (serving p b.first ts) fault cs past past') times coming → HasBrokenOff g p fault (told times times' coming coming' past past')
+  broken_off fault all =
+      record {
+        first = b.first;
+        is_of = b.is_of;
+        kept = all_kept p b.first keeps b.lawful b.fit;
+        buckets = buckets;
+        in_order = in_order;
+        served = some_told (λ ts cs. ServesAllButLast cluster buckets g (OverflowsAmong cluster fits lacks (begun p b.first)) (serving p b.first ts) fault cs past past') times coming all;
+      }
+
+  -- what `serve` says of each state for which the code's cluster stood
+  abbrev Says : Result ℕ ServeStop → Type 0
+  Says r = (q : Serving Cluster) → Stands holds0 times (record { kept = 0; time = 0 }) q → IfSome coming (λ cs. Ends cluster buckets g q (Reached cluster fits lacks holds q.store) (OverflowsAmong cluster fits lacks q.store) times' counts r cs coming' past past')
+
+  says_so : (r : Result ℕ ServeStop) → Says r →
+      Where (λ ts cs. Ends cluster buckets g (serving p b.first ts) (Reached cluster fits lacks holds (begun p b.first)) (OverflowsAmong cluster fits lacks (begun p b.first)) times' counts r cs coming' past past') times coming
+  says_so r served = λ ts e. served (serving p b.first ts) (begins p b.first holds0 times (record { kept = 0; time = 0 }) ts b.stands refl e)
+
+  -- as many connections were served as were asked for, or no more came
+  pub left : (number : ℕ) → Leaves cluster fits lacks holds0 holds (Ok number) → Says (Ok number) → Left g p number times times' coming coming' past past' holds
+  left number goes served = left_where number times coming (goes (begun p b.first) b.stands) (says_so (Ok number) served)
 
   -- serving stopped early
-  module _ (holds0 : Cluster → Type 0) (stands : holds0 (begun p first)) (times : Option (List ℕ)) (coming : Option (List (List ℕ))) where
-    has_stopped : (stop : ServeStop) → Leaves cluster fits lacks holds0 holds (Err stop) →
-        ((ts : List ℕ) → times ≡ Some ts → IfSome coming (λ cs. Ends cluster buckets g (serving p first ts) (Reached cluster fits lacks holds (begun p first)) times' counts (Err stop) cs coming' past past')) →
-        HasStopped g p (told times times' coming coming' past past') (stop_of_serving stop)
-    unfolding broken_off
-    has_stopped ended.Link goes served = left_early times coming (goes (begun p first) stands) served
-    has_stopped (ended.Fault fault.Kept) goes served = broken_off fault.Kept times coming served
-    has_stopped (ended.Fault fault.Number) goes served = for_order (broken_off fault.Number times coming served) (goes (begun p first) stands)
-    has_stopped (ended.Fault fault.Memory) goes served = tt
+  has_stopped : (stop : ServeStop) → Leaves cluster fits lacks holds0 holds (Err stop) → Says (Err stop) → HasStopped g p (told times times' coming coming' past past') (stop_of_serving stop)
+  unfolding broken_off
+  has_stopped ended.Link goes served = left_early times coming (goes (begun p b.first) b.stands) (says_so (Err ended.Link) served)
+  has_stopped (ended.Fault fault.Kept) goes served = broken_off fault.Kept (says_so (Err (ended.Fault fault.Kept)) served)
+  has_stopped (ended.Fault fault.Number) goes served = for_order (broken_off fault.Number (says_so (Err (ended.Fault fault.Number)) served)) (goes (begun p b.first) b.stands)
+  has_stopped (ended.Fault fault.Memory) goes served = tt
 
-    pub how_stopped : (count : ℕ) (r : Result (List ℕ) Stop) (stop : ServeStop) → IsErrAnd r (λ e. e ≡ stop_of_serving stop) → Leaves cluster fits lacks holds0 holds (Err stop) →
-        ((ts : List ℕ) → times ≡ Some ts → IfSome coming (λ cs. Ends cluster buckets g (serving p first ts) (Reached cluster fits lacks holds (begun p first)) times' counts (Err stop) cs coming' past past')) →
-        HowServed g p count (told times times' coming coming' past past') r
-    how_stopped count (Ok text) stop is goes served = absurd is
-    how_stopped count (Err e) stop is goes served = subst (HasStopped g p (told times times' coming coming' past past')) (sym is) (has_stopped stop goes served)
+  pub how_stopped : (count : ℕ) (r : Result (List ℕ) Stop) (stop : ServeStop) → IsErrAnd r (λ e. e ≡ stop_of_serving stop) → Leaves cluster fits lacks holds0 holds (Err stop) → Says (Err stop) → HowServed g p count (told times times' coming coming' past past') r
+  how_stopped count (Ok text) stop is goes served = absurd is
+  how_stopped count (Err e) stop is goes served = subst (HasStopped g p (told times times' coming coming' past past')) (sym is) (has_stopped stop goes served)

@@ -10,12 +10,13 @@ use Rattle.serve_model.specs.Stores.{Overflows}
 use Rattle.serve_model.specs.Clusters.{cluster, fits, lacks}
 use Rattle.serve_model.specs.Talk.{Grammar}
 use Rattle.lab_main.specs.Ends.{usage_line}
+use Rattle.world_text.specs.Shown.{is_unshown}
 use Rattle.serve_run.specs.declared.plan.Plan.{Plan}
 use Rattle.serve_run.specs.declared.stop.Stop.{Stop}
 use Rattle.serve_run.specs.declared.stop.Stop.TheVariants.{Link, Memory, Kept, Number}
 use Rattle.serve_run.specs.Words.{AsksFor}
 use Rattle.serve_run.specs.Plan.{input_limit, IsRefused, OfInput, WasRead}
-use Rattle.serve_run.specs.Served.{Told, HasServed, HasBrokenOff, nodes_of, begun, is_unshown, state_after, tail_of}
+use Rattle.serve_run.specs.Served.{Told, HasServed, HasBrokenOff, nodes_of, begun, state_after, tail_of}
 use Rattle.serve_run.specs.Stop.{input_line, kept_line, number_line, status_of, said_of, IsTold}
 
 -- ---- why a number has no room

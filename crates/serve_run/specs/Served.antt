@@ -1,30 +1,23 @@
 -- What a server did: the acts of its requests, what is promised of them, and what was written to its connections.
-use Rattle.std.specs.Prelude.{◌≡◌, ℕ, Bool, IsTrue, List, [], ◌∷◌, ◌++◌, map, flat_map, length, Option, IfSome, IsPermutation, IsSorted}
+use Rattle.std.specs.Prelude.{◌≡◌, ℕ, List, [], ◌∷◌, ◌++◌, map, flat_map, length, Option, IfSome, IsPermutation, IsSorted}
 use Rattle.std.specs.Ordering.{nat_cmp}
 use Rattle.std.specs.Cmp.Lexicographic.{slice_cmp}
-use Rattle.std.specs.List.{list_any}
-use Rattle.crdt_rows.specs.AnyRow.{any_join}
-use Rattle.object_schema.specs.Schema.{words}
-use Rattle.table_model.specs.Rows.{rows}
-use Rattle.table_model.specs.Top.{any_unspelled}
 use Rattle.lab_outside.specs.Connection.{Connection}
 use Rattle.layout_roles.specs.declared.layout.Layout.{Layout}
 use Rattle.layout_roles.specs.Fits.{NodeSet}
 use Rattle.layout_roles.specs.Text.{set_lines}
 use Rattle.flow_model.specs.declared.order.Order.{Order}
-use Rattle.store_model.specs.Run.{World, State, start}
+use Rattle.store_model.specs.Run.{State, start}
 use Rattle.store_model.specs.Acts.{Act, after_acts, AreLawfulActs, ActsFit}
 use Rattle.store_model.specs.Moments.{AtEachMoment}
 use Rattle.store_anchors.specs.Promises.{KeepsPromises}
 use Rattle.text_model.specs.Transcript.{line_at, end_line}
 use Rattle.serve_model.specs.declared.served.Served.{Served}
 use Rattle.serve_model.specs.declared.served.ServeFault.{ServeFault}
-use Rattle.serve_model.specs.Stores.{OrdersFit}
-use Rattle.serve_model.specs.Clusters.{Cluster, cluster, acts_at, fits}
+use Rattle.serve_model.specs.Stores.{OrdersFit, OverflowsAmong}
+use Rattle.serve_model.specs.Clusters.{Cluster, cluster, acts_at, fits, lacks}
 use Rattle.serve_model.specs.Talk.{Grammar, Serving}
 use Rattle.serve_model.specs.Connections.{ServesAll, ServesAllButLast}
-use Rattle.s3_world.specs.declared.world.S3World.{S3World}
-use Rattle.s3_world.specs.Stands.{IsStore}
 use Rattle.serve_run.specs.declared.plan.Plan.{Plan}
 use Rattle.serve_run.specs.Start.{opening, opened, IsOf}
 
@@ -69,18 +62,6 @@ tail sets nodes number s = set_lines sets ++ flat_map (line_at s.world) nodes ++
 abbrev pub tail_of : Plan → ℕ → State → List ℕ
 tail_of p number s = tail p.certified.sets.sets (nodes_of p) number s
 
--- a node of a world has a row without a spelling
-abbrev pub is_unshown : World → ℕ → Bool
-is_unshown w n = any_unspelled words (rows any_join words (w.nodes n).accepted)
-
--- whatever state the code's world stands for, the node can't be shown
-abbrev pub CannotShow : S3World → ℕ → Type 0
-CannotShow world n = (s : State) → IsStore world s → IsTrue (is_unshown s.world n)
-
--- the same of one of these nodes
-abbrev pub CannotShowSome : S3World → List ℕ → Type 0
-CannotShowSome world nodes = (s : State) → IsStore world s → IsTrue (list_any (is_unshown s.world) nodes)
-
 -- what clock and link tell before and after: times to be given, connections to come, and connections that came
 pub record Told : Type 0 where
   pub times : Option (List ℕ)
@@ -124,4 +105,4 @@ pub record HasBrokenOff (g : Grammar) (p : Plan) (fault : ServeFault) (t : Told)
   pub kept : (orders : List (ℕ × Order)) → OrdersFit cluster fits (begun p first) orders → AreKept (all_acts p first orders)
   pub buckets : List (List ℕ)
   pub in_order : AreInOrder p.config.buckets buckets
-  pub served : WhereTold t (λ times coming. ServesAllButLast cluster buckets g (serving p first times) fault coming t.past t.past_after)
+  pub served : WhereTold t (λ times coming. ServesAllButLast cluster buckets g (OverflowsAmong cluster fits lacks (begun p first)) (serving p first times) fault coming t.past t.past_after)

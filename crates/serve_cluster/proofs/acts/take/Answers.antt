@@ -14,4 +14,4 @@ returns-in-Ok-clause-does c =
     took_end c.args.world.now c.take_end-end.new.self c.expire.new.world c.forget_delivered.new.self c.args.request c.take_end-end.result c.take_end-end.ensures.end c.take_end-end.ensures.taken c.in-Ok.ensures.does c.forget_delivered.ensures
 
 pub returns-in-Err-clause-causes : goal.returns-in-Err-clause-causes
-returns-in-Err-clause-causes c = cause_more c.in-Err.memory (take_lacks c.args.world.now c.take_end-end.new.self c.args.request c.take_end-end.ensures.taken) c.in-Err.ensures.causes
+returns-in-Err-clause-causes c = cause_more c.in-Err.memory (take_lacks c.args.world.now c.take_end-end.new.self c.args.request c.take_end-end.result c.take_end-end.ensures.end c.take_end-end.ensures.taken) c.in-Err.ensures.causes

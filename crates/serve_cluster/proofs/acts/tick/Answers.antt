@@ -1,9 +1,8 @@
-use Rattle.store_model.specs.declared.event.Event.TheVariants.{Tick}
-use Rattle.serve_cluster.proofs.Acting.{ticked, event_lacks, cause_more}
+use Rattle.serve_cluster.proofs.Acting.{ticked, tick_lacks, cause_more}
 use Rattle.serve_cluster.proofs.acts.tick.Goals as goal
 
 pub returns-in-Ok-clause-does : goal.returns-in-Ok-clause-does
 returns-in-Ok-clause-does c = ticked c.args.world.now c.step.new.self c.in-Ok.field-0 c.args.ms c.in-Ok.ensures.plays
 
 pub returns-clause-causes : goal.returns-clause-causes
-returns-clause-causes c = cause_more c.in-Err.memory (event_lacks c.args.world.now (Tick c.args.ms)) c.in-Err.ensures.causes
+returns-clause-causes c = cause_more c.in-Err.memory (tick_lacks c.args.world.now c.args.ms) c.in-Err.ensures.causes

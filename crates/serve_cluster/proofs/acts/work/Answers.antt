@@ -1,9 +1,8 @@
-use Rattle.store_model.specs.declared.event.Event.TheVariants.{Work}
-use Rattle.serve_cluster.proofs.Acting.{worked, event_lacks, cause_more}
+use Rattle.serve_cluster.proofs.Acting.{worked, work_lacks, cause_more}
 use Rattle.serve_cluster.proofs.acts.work.Goals as goal
 
 pub returns-in-Ok-clause-does : goal.returns-in-Ok-clause-does
 returns-in-Ok-clause-does c = worked c.args.world.now c.step.new.self c.in-Ok.field-0 c.args.member c.in-Ok.ensures.plays
 
 pub returns-clause-causes : goal.returns-clause-causes
-returns-clause-causes c = cause_more c.in-Err.memory (event_lacks c.args.world.now (Work c.args.member)) c.in-Err.ensures.causes
+returns-clause-causes c = cause_more c.in-Err.memory (work_lacks c.args.world.now c.args.member) c.in-Err.ensures.causes

@@ -1,5 +1,6 @@
 use Rattle.std.proofs.Common.{ℕ, ◌-◌, ◌==◌, ◌++◌, Bool, true, false, Ok, Err, refl, subst, arith}
 use Rattle.lab_outside.proofs.Present.{on_present, on_present_same, stays_none, stays_more}
+use Rattle.serve_model.specs.Stores.{OverflowsAmong}
 use Rattle.serve_model.specs.Talk.{Serving, turn, talk, request_limit}
 use Rattle.serve_model.specs.Serving.{Reached, Stands, ServesOn, OnLeft}
 use Rattle.serve_model.specs.Connections.{Talks}
@@ -49,7 +50,7 @@ requests-preserved g c =
     record {
       present = c.serve_request.ensures.present;
       talk = λ g' p st.
-          let P : Bool → Type 0 = λ b. (q : Serving g.S.Storage.State) → Stands stands times served q → ServesOn (λ left. turn model buckets g' (more == 0) q (kept ++ left)) (Reached model fits lacks stands' q.store) times' served' (Ok b) kept' m k in
+          let P : Bool → Type 0 = λ b. (q : Serving g.S.Storage.State) → Stands stands times served q → ServesOn (λ left. turn model buckets g' (more == 0) q (kept ++ left)) (Reached model fits lacks stands' q.store) (OverflowsAmong model fits lacks q.store) times' served' (Ok b) kept' m k in
           turn_then model fits lacks buckets g' (λ left. talk model buckets g' request_limit p left) p.store more n kept kept' stands stands' times times' served served' (Ok true)
           (λ left a f. InTalk model buckets g' (talk model buckets g' request_limit p left) (Reached model fits lacks stands' p.store) times' served' more kept' a f) o m k (omega arith)
           (c.requests.invariant.talk g' p st) c.serve_request.ensures.present (subst P c.if-not-goes.false (c.in-Ok.ensures.serves g'))
@@ -78,9 +79,9 @@ returns-then-not-goes-clause-talks g c = λ g' p st.
     let o = g.L.Link.present c.args.link.now in
     let m = g.L.Link.present c.requests.link in
     let k = g.L.Link.present c.serve_request.new.link in
-    let P : Bool → Type 0 = λ b. (q : Serving g.S.Storage.State) → Stands stands times served q → ServesOn (λ left. turn model buckets g' (more == 0) q (kept ++ left)) (Reached model fits lacks stands' q.store) times' served' (Ok b) kept' m k in
+    let P : Bool → Type 0 = λ b. (q : Serving g.S.Storage.State) → Stands stands times served q → ServesOn (λ left. turn model buckets g' (more == 0) q (kept ++ left)) (Reached model fits lacks stands' q.store) (OverflowsAmong model fits lacks q.store) times' served' (Ok b) kept' m k in
     turn_then model fits lacks buckets g' (λ left. talk model buckets g' request_limit p left) p.store more n kept kept' stands stands' times times' served served' (Ok false)
-    (λ left a f. Talks (talk model buckets g' request_limit p left) (Reached model fits lacks stands' p.store) times' served' (Ok tt) a f) o m k (omega arith)
+    (λ left a f. Talks (talk model buckets g' request_limit p left) (Reached model fits lacks stands' p.store) (OverflowsAmong model fits lacks p.store) times' served' (Ok tt) a f) o m k (omega arith)
     (c.requests.invariant.talk g' p st) c.serve_request.ensures.present (subst P c.if-not-goes.true (c.in-Ok.ensures.serves g'))
     (λ left a d f i s. talk_ends model fits lacks buckets g' (talk model buckets g' request_limit p left) p.store more kept kept' stands stands' times times' served served' a d f i s)
 
@@ -108,7 +109,7 @@ returns-in-Err-clause-talks g c = λ g' p st.
     let more : ℕ = n - 1 in
     let e = c.in-Err.fault in
     turn_then model fits lacks buckets g' (λ left. talk model buckets g' request_limit p left) p.store more n kept kept' stands stands' times times' served served' (Err e)
-    (λ left a f. Talks (talk model buckets g' request_limit p left) (Reached model fits lacks stands' p.store) times' served' (Err e) a f)
+    (λ left a f. Talks (talk model buckets g' request_limit p left) (Reached model fits lacks stands' p.store) (OverflowsAmong model fits lacks p.store) times' served' (Err e) a f)
     (g.L.Link.present c.args.link.now) (g.L.Link.present c.requests.link) (g.L.Link.present c.serve_request.new.link) (omega arith)
     (c.requests.invariant.talk g' p st) c.serve_request.ensures.present (c.in-Err.ensures.serves g')
     (λ left a d f i s. talk_stops model fits lacks buckets g' (talk model buckets g' request_limit p left) p.store more kept kept' stands stands' times times' served served' a d f i e s)
@@ -122,12 +123,13 @@ returns-clause-talks g c = λ g' p st.
     let model = g.S.Storage.model in
     let buckets = c.args.buckets.now in
     let holds = Reached model g.S.Storage.fits g.S.Storage.lacks (g.S.Storage.stands c.requests.store) p.store in
+    let overflows = OverflowsAmong model g.S.Storage.fits g.S.Storage.lacks p.store in
     let times = g.C.Clock.times c.requests.clock in
     let served = c.requests.served in
     let kept = c.requests.kept.bytes.items in
-    on_present (λ a b. OnLeft (λ left. InTalk model buckets g' (talk model buckets g' request_limit p left) holds times served c.requests.more kept a b) a.left) (λ a b. OnLeft (λ left. Talks (talk model buckets g' request_limit p left) holds times served (Ok tt) a b) a.left)
+    on_present (λ a b. OnLeft (λ left. InTalk model buckets g' (talk model buckets g' request_limit p left) holds times served c.requests.more kept a b) a.left) (λ a b. OnLeft (λ left. Talks (talk model buckets g' request_limit p left) holds overflows times served (Ok tt) a b) a.left)
     (g.L.Link.present c.args.link.now) (g.L.Link.present c.requests.link)
     (λ a b h.
-    on_left (λ left. Talks (talk model buckets g' request_limit p left) holds times served (Ok tt) a b) a.left
-    (λ left e. talk_is_over model buckets g' (talk model buckets g' request_limit p left) c.requests.more kept holds times served a b (omega arith) (at_left (λ l. InTalk model buckets g' (talk model buckets g' request_limit p l) holds times served c.requests.more kept a b) a.left left e h)))
+    on_left (λ left. Talks (talk model buckets g' request_limit p left) holds overflows times served (Ok tt) a b) a.left
+    (λ left e. talk_is_over model buckets g' (talk model buckets g' request_limit p left) c.requests.more kept holds overflows times served a b (omega arith) (at_left (λ l. InTalk model buckets g' (talk model buckets g' request_limit p l) holds times served c.requests.more kept a b) a.left left e h)))
     (c.requests.invariant.talk g' p st)

@@ -2,9 +2,9 @@ use Rattle.std.proofs.Common.{◌≡◌, inl, inr, map, refl, ap, ◌∙◌}
 use Rattle.layout_roles.specs.declared.role.Role.{Role}
 use Rattle.serve_cluster.specs.Standing.{StandsFor}
 use Rattle.serve_run.specs.Start.{opened}
-use Rattle.serve_run.specs.Served.{nodes_of, begun, serving, told}
+use Rattle.serve_run.specs.Served.{nodes_of, told}
 use Rattle.serve_run.specs.Answer.{to_show}
-use Rattle.serve_run.proofs.Serving.{stands_begun, begins, left, how_stopped, tail_is, unshown_is, unshown_stops}
+use Rattle.serve_run.proofs.Serving.{begins_as, left, how_stopped, members_are, tail_is, unshown_is, unshown_stops}
 use Rattle.serve_run.proofs.server.served.Goals as goal
 
 pub serve-requires-clause-state : goal.serve-requires-clause-state
@@ -15,34 +15,25 @@ serve-requires-clause-state g c =
 pub returns-in_err-count-clause-how : goal.returns-in_err-count-clause-how
 returns-in_err-count-clause-how g c = λ g'.
     let p = c.args.plan.now in
-    let o = c.in_ok-world.ensures.opened in
-    let roles = ap (map (λ (role : Role). role.node)) c.as_slice.ensures in
-    let members : c.in_ok-members.members ≡ nodes_of p = c.in_ok-members.ensures.nodes ∙ roles in
-    let stands : StandsFor c.new-cluster.result (begun p o.first) = stands_begun c.new-cluster.result p o.first c.in_ok-copy.field-0 (c.in_ok-copy.ensures.same ∙ members) (c.new-cluster.ensures (opened p o.first) o.stands) in
-    let times = g.C.Clock.times c.args.clock.now in
-    let coming = g.L.Link.coming c.args.link.now in
-    how_stopped c.promises_are_kept.ensures g' p o.first o.is_of o.lawful o.fit c.in_ok-buckets.buckets c.in_ok-buckets.ensures.in_order (StandsFor c.serve.new.store) c.serve.new.served
-    (g.C.Clock.times c.serve.new.clock) (g.L.Link.coming c.serve.new.link) (g.L.Link.past c.args.link.now) (g.L.Link.past c.serve.new.link)
-    (StandsFor c.new-cluster.result) stands times coming c.args.asked.count c.from_residual-in_err-count.result c.in_err-count.field-0.0 c.from_residual-in_err-count.ensures.1 c.in_err-count.ensures.goes
-    (λ ts e. c.in_err-count.ensures.served g' (serving p o.first ts) (begins p o.first (StandsFor c.new-cluster.result) times (record { kept = 0; time = 0 }) ts stands refl e))
+    let members = members_are p c.as_slice.result.now c.in_ok-members.members c.as_slice.ensures c.in_ok-members.ensures.nodes in
+    let b = begins_as p c.in_ok-world.world c.new-cluster.result c.in_ok-copy.field-0 c.in_ok-world.ensures.opened (c.in_ok-copy.ensures.same ∙ members) c.new-cluster.ensures in
+    how_stopped c.promises_are_kept.ensures g' p (StandsFor c.new-cluster.result) b c.in_ok-buckets.buckets c.in_ok-buckets.ensures.in_order (StandsFor c.serve.new.store) c.serve.new.served
+    (g.C.Clock.times c.args.clock.now) (g.C.Clock.times c.serve.new.clock) (g.L.Link.coming c.args.link.now) (g.L.Link.coming c.serve.new.link) (g.L.Link.past c.args.link.now) (g.L.Link.past c.serve.new.link)
+    c.args.asked.count c.from_residual-in_err-count.result c.in_err-count.field-0.0 c.from_residual-in_err-count.ensures.1 c.in_err-count.ensures.goes (c.in_err-count.ensures.served g')
 
 pub returns-in_err-text-clause-how : goal.returns-in_err-text-clause-how
 returns-in_err-text-clause-how g c = λ g'.
     let p = c.args.plan.now in
-    let o = c.in_ok-world.ensures.opened in
-    let roles = ap (map (λ (role : Role). role.node)) c.as_slice.ensures in
-    let members : c.in_ok-members.members ≡ nodes_of p = c.in_ok-members.ensures.nodes ∙ roles in
-    let stands : StandsFor c.new-cluster.result (begun p o.first) = stands_begun c.new-cluster.result p o.first c.in_ok-copy.field-0 (c.in_ok-copy.ensures.same ∙ members) (c.new-cluster.ensures (opened p o.first) o.stands) in
+    let members = members_are p c.as_slice.result.now c.in_ok-members.members c.as_slice.ensures c.in_ok-members.ensures.nodes in
+    let b = begins_as p c.in_ok-world.world c.new-cluster.result c.in_ok-copy.field-0 c.in_ok-world.ensures.opened (c.in_ok-copy.ensures.same ∙ members) c.new-cluster.ensures in
     let times = g.C.Clock.times c.args.clock.now in
+    let times' = g.C.Clock.times c.serve.new.clock in
     let coming = g.L.Link.coming c.args.link.now in
-    let l =
-    left c.promises_are_kept.ensures g' p o.first o.is_of o.lawful o.fit c.in_ok-buckets.buckets c.in_ok-buckets.ensures.in_order (StandsFor c.serve.new.store) c.serve.new.served
-    (g.C.Clock.times c.serve.new.clock) (g.L.Link.coming c.serve.new.link) (g.L.Link.past c.args.link.now) (g.L.Link.past c.serve.new.link) c.in_ok-count.count times coming
-    (c.in_ok-count.ensures.goes (begun p o.first) stands)
-    (λ ts e. c.in_ok-count.ensures.served g' (serving p o.first ts) (begins p o.first (StandsFor c.new-cluster.result) times (record { kept = 0; time = 0 }) ts stands refl e))
-    in
-    let t = told times (g.C.Clock.times c.serve.new.clock) coming (g.L.Link.coming c.serve.new.link) (g.L.Link.past c.args.link.now) (g.L.Link.past c.serve.new.link) in
-    unshown_stops g' p t c.args.asked.count c.from_residual-in_err-text.result c.in_err-text.field-0.0 c.from_residual-in_err-text.ensures.1
+    let coming' = g.L.Link.coming c.serve.new.link in
+    let past = g.L.Link.past c.args.link.now in
+    let past' = g.L.Link.past c.serve.new.link in
+    let l = left c.promises_are_kept.ensures g' p (StandsFor c.new-cluster.result) b c.in_ok-buckets.buckets c.in_ok-buckets.ensures.in_order (StandsFor c.serve.new.store) c.serve.new.served times times' coming coming' past past' c.in_ok-count.count c.in_ok-count.ensures.goes (c.in_ok-count.ensures.served g') in
+    unshown_stops g' p (told times times' coming coming' past past') c.args.asked.count c.from_residual-in_err-text.result c.in_err-text.field-0.0 c.from_residual-in_err-text.ensures.1
     (elim c.in_err-text.ensures.causes [
       | inl e ↦ inl e
       | inr h ↦ inr (h.0, to_show c.in_ok-count.count l.has (unshown_is p c.as_slice-2.result.now (c.as_slice-2.ensures ∙ members) l.at.run _ l.run (h.1 l.at.run (c.world.ensures l.at l.stands))))
@@ -51,17 +42,12 @@ returns-in_err-text-clause-how g c = λ g'.
 pub returns-clause-how : goal.returns-clause-how
 returns-clause-how g c = λ g'.
     let p = c.args.plan.now in
-    let o = c.in_ok-world.ensures.opened in
-    let roles = ap (map (λ (role : Role). role.node)) c.as_slice.ensures in
-    let members : c.in_ok-members.members ≡ nodes_of p = c.in_ok-members.ensures.nodes ∙ roles in
-    let stands : StandsFor c.new-cluster.result (begun p o.first) = stands_begun c.new-cluster.result p o.first c.in_ok-copy.field-0 (c.in_ok-copy.ensures.same ∙ members) (c.new-cluster.ensures (opened p o.first) o.stands) in
-    let times = g.C.Clock.times c.args.clock.now in
-    let coming = g.L.Link.coming c.args.link.now in
+    let members = members_are p c.as_slice.result.now c.in_ok-members.members c.as_slice.ensures c.in_ok-members.ensures.nodes in
+    let b = begins_as p c.in_ok-world.world c.new-cluster.result c.in_ok-copy.field-0 c.in_ok-world.ensures.opened (c.in_ok-copy.ensures.same ∙ members) c.new-cluster.ensures in
     let l =
-    left c.promises_are_kept.ensures g' p o.first o.is_of o.lawful o.fit c.in_ok-buckets.buckets c.in_ok-buckets.ensures.in_order (StandsFor c.serve.new.store) c.serve.new.served
-    (g.C.Clock.times c.serve.new.clock) (g.L.Link.coming c.serve.new.link) (g.L.Link.past c.args.link.now) (g.L.Link.past c.serve.new.link) c.in_ok-count.count times coming
-    (c.in_ok-count.ensures.goes (begun p o.first) stands)
-    (λ ts e. c.in_ok-count.ensures.served g' (serving p o.first ts) (begins p o.first (StandsFor c.new-cluster.result) times (record { kept = 0; time = 0 }) ts stands refl e))
+    left c.promises_are_kept.ensures g' p (StandsFor c.new-cluster.result) b c.in_ok-buckets.buckets c.in_ok-buckets.ensures.in_order (StandsFor c.serve.new.store) c.serve.new.served
+    (g.C.Clock.times c.args.clock.now) (g.C.Clock.times c.serve.new.clock) (g.L.Link.coming c.args.link.now) (g.L.Link.coming c.serve.new.link) (g.L.Link.past c.args.link.now) (g.L.Link.past c.serve.new.link)
+    c.in_ok-count.count c.in_ok-count.ensures.goes (c.in_ok-count.ensures.served g')
     in
     record {
       number = c.in_ok-count.count;

@@ -1,12 +1,12 @@
 use Rattle.std.proofs.Common.{Ok, Err, IfOk, [], ◌∷◌, ◌∙◌, ap, subst}
 use Rattle.cluster_machine.specs.declared.step.Step.TheVariants.{Tick}
 use Rattle.store_model.specs.Run.{plainly}
-use Rattle.store_model.specs.Acts.{moves}
+use Rattle.store_model.specs.Acts.{moves, asks}
 use Rattle.s3_world.specs.Stands.{Starts}
-use Rattle.serve_model.specs.Clusters.{asker, acts_to_ask}
-use Rattle.serve_cluster.specs.Acting.{Finishes}
-use Rattle.serve_cluster.proofs.Acting.{store_after, started_store, ask_lacks, lacks_more, cause_more, causes_next}
-use Rattle.serve_cluster.proofs.Carrying.{has_store, refused, opened, asks_so, lacks_so, starts_as, cause_as}
+use Rattle.serve_model.specs.Clusters.{asker, acts_opened}
+use Rattle.serve_cluster.specs.Acting.{LacksRoom, Finishes}
+use Rattle.serve_cluster.proofs.Acting.{store_after, started_store, ask_lacks, ticking_lacks, asking_lacks, cause_more, causes_next}
+use Rattle.serve_cluster.proofs.Carrying.{has_store, refused, opened, opened_full, lacks_so, starts_as, cause_as}
 use Rattle.serve_cluster.proofs.cluster.ClusterStorage.carry.Goals as goal
 
 pub start-requires-clause-stands : goal.start-requires-clause-stands
@@ -28,11 +28,10 @@ pub returns-in-Ok-Ok-clause-causes : goal.returns-in-Ok-Ok-clause-causes
 returns-in-Ok-Ok-clause-causes c =
     causes_next c.finish.result
     (λ full.
-    lacks_so c.args.self.now c.args.time c.args.order
-    (lacks_more c.args.self.now.world c.start.new.self (acts_to_ask c.args.self.now.members c.saturating_sub-ms.result c.args.order)
-    (asks_so c.args.self.now c.args.time c.args.order c.saturating_sub-ms.result c.max-self.result c.saturating_sub-ms.ensures c.max-self.ensures c.requires.keyed c.tick.new.world c.in-Ok.ensures.does c.start.new.self (Ok c.in-Ok-Ok.number)
-    (subst (λ n. Starts c.tick.new.world c.start.new.self (Ok c.in-Ok-Ok.number) n c.args.order) (c.asker.ensures ∙ ap asker c.as_slice.ensures) (starts_as c.tick.new.world c.start.new.self c.asker.result c.args.order c.start.result c.in-Ok-Ok.field-0 (Ok c.in-Ok-Ok.number) c.in-Ok-Ok.is c.in-Ok-Ok.field-0-is c.start.ensures.starts)))
-    full))
+    lacks_so c.args.self.now c.args.time c.args.order c.saturating_sub-ms.result c.saturating_sub-ms.ensures
+    (opened_full c.args.self.now c.args.time c.args.order c.saturating_sub-ms.result c.max-self.result c.saturating_sub-ms.ensures c.max-self.ensures c.requires.keyed c.tick.new.world c.in-Ok.ensures.does c.start.new.self c.in-Ok-Ok.number
+    (subst (λ n. Starts c.tick.new.world c.start.new.self (Ok c.in-Ok-Ok.number) n c.args.order) (c.asker.ensures ∙ ap asker c.as_slice.ensures) (starts_as c.tick.new.world c.start.new.self c.asker.result c.args.order c.start.result c.in-Ok-Ok.field-0 (Ok c.in-Ok-Ok.number) c.in-Ok-Ok.is c.in-Ok-Ok.field-0-is c.start.ensures.starts))
+    (subst (λ m. LacksRoom c.start.new.self (λ t. acts_opened m t c.in-Ok-Ok.number)) c.as_slice-in-Ok-Ok.ensures full)))
     c.finish.ensures.causes
 
 pub returns-in-Ok-Err-clause-carries : goal.returns-in-Ok-Err-clause-carries
@@ -45,6 +44,15 @@ pub returns-clause-causes : goal.returns-clause-causes
 returns-clause-causes c =
     cause_more c.in-Err-start.memory
     (λ full.
-    lacks_so c.args.self.now c.args.time c.args.order
-    (lacks_more c.args.self.now.world c.tick.new.world (moves (plainly (Tick c.saturating_sub-ms.result)) ∷ []) c.in-Ok.ensures.does (ask_lacks c.tick.new.world c.asker.result c.args.order c.requires.keyed full)))
+    lacks_so c.args.self.now c.args.time c.args.order c.saturating_sub-ms.result c.saturating_sub-ms.ensures
+    (asking_lacks c.args.self.now.world c.tick.new.world c.args.self.now.members c.saturating_sub-ms.result c.args.order c.in-Ok.ensures.does
+    (subst (λ n. LacksRoom c.tick.new.world (λ _. asks n c.args.order ∷ [])) (c.asker.ensures ∙ ap asker c.as_slice.ensures) (ask_lacks c.tick.new.world c.asker.result c.args.order c.requires.keyed full))))
     (cause_as c.start.result c.in-Err-start.memory c.in-Err-start.is c.start.ensures.causes)
+
+pub returns-in-Err-clause-causes : goal.returns-in-Err-clause-causes
+returns-in-Err-clause-causes c =
+    cause_more c.in-Err.memory
+    (λ full.
+    lacks_so c.args.self.now c.args.time c.args.order c.saturating_sub-ms.result c.saturating_sub-ms.ensures
+    (ticking_lacks c.args.self.now.world c.args.self.now.members c.saturating_sub-ms.result c.args.order full))
+    c.in-Err.ensures.causes

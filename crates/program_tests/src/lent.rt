@@ -1,0 +1,106 @@
+//! One request on a world that its owner lends to the server.
+ghost use Rattle.std.specs.Prelude.{◌≡◌, None, IfOk, OnOk};
+ghost use Rattle.s3_world.specs.Stands.{HasStore, IsMeantEvent};
+ghost use Rattle.serve_model.specs.Serving.{HasState};
+ghost use Rattle.serve_cluster.specs.Standing.{StandsFor};
+
+use crate::recorder::Recorder;
+use crdt_core::{Bytes, List, Memory};
+use flow_model::{FlowEnd, Order};
+use http_wire::Kept;
+use lab_outside::{Link, MemClock, SureLink};
+use s3_world::{Event, S3World};
+use serve_cluster::Cluster;
+use serve_loop::{Storage, serve_request};
+use serve_model::Served;
+use std::alloc::Global;
+use std::test::Fail;
+
+const REQUEST: &[u8] = b"GET /pics/a.txt HTTP/1.1\r\nHost: localhost:3900\r\n\r\n";
+
+/// It is asked a second after the object was put.
+const ANSWER: &[u8] =
+    b"HTTP/1.1 200 OK\r\nDate: Tue, 14 Nov 2023 22:13:21 GMT\r\nContent-Length: 3\r\nETag: \"900150983cd24fb0d6963f7d28e17f72\"\r\nLast-Modified: Tue, 14 Nov 2023 22:13:20 GMT\r\nContent-Type: text/plain\r\nAccept-Ranges: bytes\r\n\r\nabc";
+
+/// An event on a world.
+fn stepped(world: &mut S3World, event: &Event) -> Result<(), Memory>
+    requires stands { HasStore world.old }
+    requires meant { IsMeantEvent event.now }
+    ensures stands { OnOk result (HasStore world.new) }
+{
+    let _ = world.step(event)?;
+    Ok(())
+}
+
+/// Three nodes with their first layout, and one bucket.
+fn three_nodes(alloc: Global) -> Result<Cluster, Memory>
+    ensures state { IfOk result (λ cluster. HasState (StandsFor cluster)) }
+{
+    let mut world = S3World::new(alloc)?;
+    stepped(&mut world, &Event::Trio)?;
+    let bucket = Event::Bucket(Bytes::from_slice(alloc, b"pics")?);
+    stepped(&mut world, &bucket)?;
+    let mut members = List::new(alloc);
+    members.push(1)?;
+    members.push(2)?;
+    members.push(3)?;
+    Ok(Cluster::new(world, members))
+}
+
+/// Puts three bytes with the header that S3 stores with them, and says whether they were stored.
+fn put(alloc: Global, cluster: &mut Cluster) -> Result<bool, Memory>
+    requires state { HasState (StandsFor cluster.old) }
+    ensures state { OnOk result (HasState (StandsFor cluster.new)) }
+{
+    let mut headers = List::new(alloc);
+    let name = Bytes::from_slice(alloc, b"content-type")?;
+    headers.push((name, Bytes::from_slice(alloc, b"text/plain")?))?;
+    let order = Order::Put {
+        bucket: Bytes::from_slice(alloc, b"pics")?,
+        key: Bytes::from_slice(alloc, b"a.txt")?,
+        body: Bytes::from_slice(alloc, b"abc")?,
+        headers,
+    };
+    let end = cluster.carry(1_700_000_000_000, order)?;
+    Ok(matches!(end, Some(FlowEnd::Stored { .. })))
+}
+
+/// Serves the first request of the next connection, and says whether that goes on.
+fn goes_on<L: Link>(alloc: Global, cluster: &mut Cluster, link: &mut L) -> Result<bool, Memory>
+    requires state { HasState (StandsFor cluster.old) }
+{
+    if link.next() != Ok(true) {
+        return Ok(false);
+    }
+    let mut buckets = List::new(alloc);
+    buckets.push(Bytes::from_slice(alloc, b"pics")?)?;
+    let mut clock = MemClock::new([1_700_000_001_000].to_vec(alloc)?);
+    let mut kept = Kept::new(alloc);
+    let mut served = Served { kept: 0, time: 0 };
+    let end = serve_request(
+        alloc,
+        cluster,
+        false,
+        link,
+        &mut kept,
+        &mut clock,
+        &mut served,
+        &buckets,
+    );
+    Ok(end == Ok(true))
+}
+
+/// The owner of a world puts an object, lends the world for one request over a connection, and has it again.
+#[test]
+fn lent_world_get(rt: HostRuntime) -> Result<(), Fail> {
+    let alloc = rt.alloc();
+    let mut cluster = three_nodes(alloc)?;
+    assert!(rt; put(alloc, &mut cluster)?);
+    let mut coming = Vec::new(alloc);
+    coming.push(REQUEST.to_vec(alloc)?)?;
+    let mut link = Recorder::new(alloc, SureLink::new(alloc, coming, 1024)?);
+    assert!(rt; goes_on(alloc, &mut cluster, &mut link)?);
+    assert_eq!(rt; link.written(), ANSWER);
+    assert_eq!(rt; cluster.world().requests(), 2);
+    Ok(())
+}
