@@ -49,7 +49,7 @@ after_parts s [] rest = refl
 after_parts s (a ∷ first) rest = after_parts (acted s a).state first rest
 
 -- a block whose hash stays in is found when others are taken out
-kept_at : (out : List ℕ → Bool) (bs : List Block) (hash given : List ℕ) → out hash ≡ false → block_at bs hash ≡ Some given → block_at (filter (λ (b : Block). not (out b.hash)) bs) hash ≡ Some given
+pub kept_at : (out : List ℕ → Bool) (bs : List Block) (hash given : List ℕ) → out hash ≡ false → block_at bs hash ≡ Some given → block_at (filter (λ (b : Block). not (out b.hash)) bs) hash ≡ Some given
 kept_at out [] hash given stays at = at
 kept_at out (b ∷ bs) hash given stays at =
     elim (same_bytes b.hash hash) as (λ t. same_bytes b.hash hash ≡ t → cond t (Some b.bytes) (block_at bs hash) ≡ Some given → block_at (cond (not (out b.hash)) (b ∷ filter (λ (b : Block). not (out b.hash)) bs) (filter (λ (b : Block). not (out b.hash)) bs)) hash ≡ Some given) [
@@ -124,7 +124,7 @@ module _ (l : Layout) where
   -- ---- a member works
 
   -- a block that is needed isn't due
-  not_due : (w : World) → AllStocked (blake2b 32) words any_join w → (n : ℕ) (key : List ℕ) (row : AnyRow) (hash : List ℕ) → row_at any_join words (w.nodes n).accepted 3 key ≡ Some row → words.live_block row ≡ Some hash → is_due any_join words (w.time + w.skew_of n) (w.nodes n) hash ≡ false
+  pub not_due : (w : World) → AllStocked (blake2b 32) words any_join w → (n : ℕ) (key : List ℕ) (row : AnyRow) (hash : List ℕ) → row_at any_join words (w.nodes n).accepted 3 key ≡ Some row → words.live_block row ≡ Some hash → is_due any_join words (w.time + w.skew_of n) (w.nodes n) hash ≡ false
   not_due w stocked n key row hash e live =
       ap (λ b. b && is_old (w.time + w.skew_of n) (note_of (w.nodes n).notes hash)) (counts_row schema_laws (w.nodes n).accepted (stocked.nodes n).proper 3 key row hash e live)
 
@@ -171,7 +171,7 @@ module _ (l : Layout) where
   abbrev pub StillHolds : Plain → State → State → Type 0
   StillHolds P t u = Holding l P u × (u.ends ≡ t.ends)
 
-  all_work : (P : Plain) (ns : List ℕ) (t : State) → Holding l P t → StillHolds P t (after_acts t (map (λ n. moves (plainly (Work n))) ns))
+  pub all_work : (P : Plain) (ns : List ℕ) (t : State) → Holding l P t → StillHolds P t (after_acts t (map (λ n. moves (plainly (Work n))) ns))
   all_work P [] t h = (h, refl)
   all_work P (n ∷ ns) t h = let u = (acted t (moves (plainly (Work n)))).state in let rest = all_work P ns u (works_hold P t n h) in (rest.0, rest.1)
 

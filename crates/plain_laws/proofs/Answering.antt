@@ -3,12 +3,14 @@ use Rattle.std.proofs.Common.{◌≡◌, ℕ, suc, true, false, Option, Some, No
 use Rattle.std.specs.Prelude.{if◌then◌else◌}
 use Rattle.std.specs.List.{Contains}
 use Rattle.std.proofs.lemmas.Bool.{and_parts}
+use Rattle.crdt_core.proofs.Each.{all_weaker}
 use Rattle.blake2_hash.specs.Hash.{digest_of}
 use Rattle.crdt_rows.specs.declared.any_row.AnyRow.{AnyRow}
 use Rattle.crdt_rows.specs.AnyRow.{any_join}
 use Rattle.object_schema.specs.Schema.{words}
 use Rattle.wire_messages.specs.declared.phase.Phase.{Phase}
 use Rattle.wire_messages.specs.declared.phase.PhaseEnd.TheVariants.{Row}
+use Rattle.cluster_machine.specs.Node.{Block}
 use Rattle.cluster_machine.specs.Rows.{block_at}
 use Rattle.cluster_machine.specs.Worlds.{FitAll}
 use Rattle.flow_model.specs.declared.order.Order.{Order}
@@ -35,7 +37,8 @@ use Rattle.serve_model.specs.Stores.{Carried}
 use Rattle.serve_model.specs.Clusters.{Cluster, cluster, fits}
 use Rattle.drained_laws.proofs.Weights.{none_waits}
 use Rattle.plain_laws.specs.Plain.{Has, never, deleted, object, Plain, has_at, row_of, at_time, counted, tells, with_object, answered, plain, IsMap}
-use Rattle.plain_laws.specs.Holds.{nodes_at, Holds, Agrees, IsInRow}
+use Rattle.plain_laws.specs.Holds.{nodes_at, Holds, IsInRow}
+use Rattle.plain_laws.specs.Blocks.{IsKept, IsBlockAt}
 use Rattle.plain_laws.proofs.Frames.{none_found}
 use Rattle.plain_laws.proofs.Holding.{Holding, IsAlike, holds_on}
 use Rattle.plain_laws.proofs.Seeking.{a_row}
@@ -43,16 +46,25 @@ use Rattle.plain_laws.proofs.Looks.{AllHad, Turn, drained_found}
 use Rattle.plain_laws.proofs.Starting.{number, reading_state, opened_is, starts}
 use Rattle.plain_laws.proofs.Saids.{said_inline, said_long, said_deleted}
 use Rattle.plain_laws.proofs.Ordered.{carries_map}
-use Rattle.plain_laws.proofs.Carrying.{now, asker_now, asker_is, holding_now, has_key, refused_holds, drain_fits, carried_holds}
+use Rattle.plain_laws.proofs.Given.{AllKept}
+use Rattle.plain_laws.proofs.Keeping.{Follows, AllKeep, each_is_kept, kept_such}
+use Rattle.plain_laws.proofs.Carrying.{now, asker_now, asker_is, holding_now, has_key, refused_holds, refused_keeps, drain_fits, served_state, served_holds, served_keeps, carried_holds, carried_keeps}
+
+-- the blocks that nodes keep at first are blocks that they may keep
+pub kept_before : (c : Cluster) (P : Plain) (order : Order) → AllKeep (IsBlockAt c P order) c.run.world
+kept_before c P order n = all_weaker (λ (b : Block). IsKept c.run.world b.bytes) (λ (b : Block). IsBlockAt c P order b.bytes) (λ b k. inl k) (c.run.world.nodes n).blocks (each_is_kept c.run.world n)
 
 -- the order is refused by both
-pub agrees_refused : (c : Cluster) (P : Plain) (h : Holds c P) (time : ℕ) (order : Order) → are_buckets P.buckets (buckets_of order) ≡ false → Agrees c P time order
+pub agrees_refused : (c : Cluster) (P : Plain) (h : Holds c P) (time : ℕ) (order : Order) → are_buckets P.buckets (buckets_of order) ≡ false → Follows c P time order
 agrees_refused c P h time order e =
     let r = refused_holds c P h time order e in
     let is : plain.carries P time order ≡ record { state = at_time P time; end = None } = ap (λ b. if b then answered (counted (at_time P time)) order else record { state = at_time P time; end = None }) e in
     record {
-      end = r.0 ∙ sym (ap (λ (x : Carried Plain). x.end) is);
-      holds = subst (λ (Q : Plain). Holds (cluster.carries c time order).state Q) (sym (ap (λ (x : Carried Plain). x.state) is)) r.1;
+      agrees = record {
+        end = r.0 ∙ sym (ap (λ (x : Carried Plain). x.end) is);
+        holds = subst (λ (Q : Plain). Holds (cluster.carries c time order).state Q) (sym (ap (λ (x : Carried Plain). x.state) is)) r.1;
+      };
+      keeps = kept_such (IsBlockAt c P order) (cluster.carries c time order).state.run.world (refused_keeps c P h time order e (IsBlockAt c P order) (kept_before c P order));
     }
 
 -- a request that reads ends so, as the map's order does, which changes nothing
@@ -94,16 +106,28 @@ module _ (c : Cluster) (P : Plain) (h : Holds c P) (time : ℕ) (order : Order) 
   row_there name there = λ m here. (holding_now c P h time order).rows name m there here
 
   -- it is answered as the map answers
-  pub answers_so : (carried : Carried Plain) → plain.carries P time order ≡ carried → (Q : Plain) (end : FlowEnd) → carried ≡ record { state = Q; end = Some end } → Q.ticked ≡ (at_time P time).ticked → Q.asked ≡ suc P.asked →
-      (let u = (drains all_messages (opened before (asker_now c P h time order) order).state).state in Holding h.layout Q u → u.ends ≡ before.ends ++ (number before, end) ∷ [] → Agrees c P time order)
-  answers_so carried carried_is Q end is ticked asked = λ holding ends.
-      let same = carried_is ∙ is in
-      let map : IsMap Q = subst IsMap (ap (λ (x : Carried Plain). x.state) same) (carries_map P time order (has_key c P h time order fit) h.map) in
-      let r = carried_holds c P h time order known Q end ticked asked map holding ends in
-      record {
+  module _ (carried : Carried Plain) (carried_is : plain.carries P time order ≡ carried) (Q : Plain) (end : FlowEnd) (is : carried ≡ record { state = Q; end = Some end }) (ticked : Q.ticked ≡ (at_time P time).ticked) (asked : Q.asked ≡ suc P.asked) where
+    same : plain.carries P time order ≡ record { state = Q; end = Some end }
+    same = carried_is ∙ is
+
+    is_map : IsMap Q
+    is_map = subst IsMap (ap (λ (x : Carried Plain). x.state) same) (carries_map P time order (has_key c P h time order fit) h.map)
+
+    follows_so : ((cluster.carries c time order).end ≡ Some end) × Holds (cluster.carries c time order).state Q → AllKeep (IsBlockAt c P order) (cluster.carries c time order).state.run.world → Follows c P time order
+    follows_so r keeps = record {
+      agrees = record {
         end = r.0 ∙ sym (ap (λ (x : Carried Plain). x.end) same);
         holds = subst (λ (Q : Plain). Holds (cluster.carries c time order).state Q) (sym (ap (λ (x : Carried Plain). x.state) same)) r.1;
-      }
+      };
+      keeps = kept_such (IsBlockAt c P order) (cluster.carries c time order).state.run.world keeps;
+    }
+
+    pub answers_so : (let u = (drains all_messages (opened before (asker_now c P h time order) order).state).state in Holding h.layout Q u → AllKeep (IsBlockAt c P order) u.world → u.ends ≡ before.ends ++ (number before, end) ∷ [] → Follows c P time order)
+    answers_so = λ holding keeps ends. follows_so (carried_holds c P h time order known Q end ticked asked is_map holding ends) (carried_keeps c P h time order known Q end ticked asked is_map holding ends (IsBlockAt c P order) keeps)
+
+    -- where the rounds after it change something
+    pub serves_so : Holding h.layout Q (served_state c P h time order known) → AllKeep (IsBlockAt c P order) (served_state c P h time order known).world → (served_state c P h time order known).ends ≡ before.ends ++ (number before, end) ∷ [] → Follows c P time order
+    serves_so holding keeps ends = follows_so (served_holds c P h time order known Q end ticked asked is_map holding ends) (served_keeps c P h time order known Q end ticked asked is_map holding ends (IsBlockAt c P order) keeps)
 
   pub carried_as : plain.carries P time order ≡ answered after order
   carried_as = ap (λ b. if b then answered after order else record { state = at_time P time; end = None }) known
@@ -114,7 +138,7 @@ module _ (c : Cluster) (P : Plain) (h : Holds c P) (time : ℕ) (order : Order) 
 
   -- a request that reads until it ends, and changes nothing
   module _ (Course : Flow → Phase AnyRow → Type 0) (end : FlowEnd) (turn : (flow : Flow) (phase : Phase AnyRow) → Course flow phase → Turns Course (End end) flow phase) where
-    pub reads_agree : (flow : Flow) (phase : Phase AnyRow) → Course flow phase → started order (number before) before.block ≡ (flow, phase) → answered after order ≡ record { state = after; end = Some end } → Agrees c P time order
+    pub reads_agree : (flow : Flow) (phase : Phase AnyRow) → Course flow phase → started order (number before) before.block ≡ (flow, phase) → answered after order ≡ record { state = after; end = Some end } → Follows c P time order
     reads_agree flow phase course begins_so answers =
         let l = h.layout in
         let n = asker_now c P h time order in
@@ -148,6 +172,7 @@ module _ (c : Cluster) (P : Plain) (h : Holds c P) (time : ℕ) (order : Order) 
         let held : Holding l after u = holds_on l (at_time P time) before u holding alike (at_time P time).clock (at_time P time).ticked (suc P.asked) (omega arith) (done.frame.time ∙ holding.clock) (done.frame.requests ∙ asked_so) (done.frame.asked ∙ asked_so) in
         answers_so (answered after order) carried_as after end answers refl refl
         (subst (λ (t : State). Holding l after (drains all_messages t).state) (sym opened_so) held)
+        (subst (λ (t : State). AllKeep (IsBlockAt c P order) (drains all_messages t).state.world) (sym opened_so) (λ m. subst (AllKept (IsBlockAt c P order)) (sym (found.reading.1.kept m)) (kept_before c P order m)))
         (subst (λ (t : State). (drains all_messages t).state.ends ≡ before.ends ++ (q, end) ∷ []) (sym opened_so) done.ends_so)
 
   -- a request for one row
@@ -155,7 +180,7 @@ module _ (c : Cluster) (P : Plain) (h : Holds c P) (time : ℕ) (order : Order) 
   OneRow name flow other phase = (other ≡ flow) × (phase ≡ asks_for name)
 
   -- which ends when it has that
-  pub row_reads_agree : (name : Name) → Contains P.buckets name.bucket → (flow : Flow) → started order (number before) before.block ≡ (flow, asks_for name) → EndsAs flow (row_of name (has_at P name)) after (answered after order) → Agrees c P time order
+  pub row_reads_agree : (name : Name) → Contains P.buckets name.bucket → (flow : Flow) → started order (number before) before.block ≡ (flow, asks_for name) → EndsAs flow (row_of name (has_at P name)) after (answered after order) → Follows c P time order
   row_reads_agree name there flow begins_so e =
       reads_agree (OneRow name flow) e.end (λ f p same. subst (λ f. Turns (OneRow name flow) (End e.end) f p) (sym same.0) (subst (Turns (OneRow name flow) (End e.end) flow) (sym same.1) the_turn)) flow (asks_for name) (refl, refl) begins_so e.is
     where

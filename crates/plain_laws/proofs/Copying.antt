@@ -1,4 +1,4 @@
--- A copy of what isn't kept in blocks, over what isn't kept in blocks, from a cluster that holds a map: it reads, and then writes.
+-- A copy of what isn't kept in blocks, from a cluster that holds a map: it reads, and then writes.
 use Rattle.std.proofs.Common.{◌≡◌, ◌⊎◌, ℕ, true, false, Option, Some, None, List, [], ◌∷◌, refl, sym, ap, ◌∙◌, subst, inl, inr}
 use Rattle.std.specs.Prelude.{◌&&◌}
 use Rattle.std.specs.Option.{unwrap_or}
@@ -39,7 +39,8 @@ use Rattle.store_laws.proofs.Placing.{asks_is_step}
 use Rattle.serve_model.specs.Stores.{Carried}
 use Rattle.serve_model.specs.Clusters.{Cluster, fits}
 use Rattle.plain_laws.specs.Plain.{Has, never, deleted, object, Plain, has_at, row_of, at_time, counted, writes, with_object, answered}
-use Rattle.plain_laws.specs.Holds.{nodes_at, Holds, Agrees, IsInRow, CopiesRow}
+use Rattle.plain_laws.specs.Holds.{nodes_at, Holds, IsInRow, CopiesRow}
+use Rattle.plain_laws.proofs.Keeping.{Follows}
 use Rattle.plain_laws.proofs.Draining.{drains_keep}
 use Rattle.plain_laws.proofs.Saids.{said_inline, said_deleted}
 use Rattle.plain_laws.proofs.Seeking.{Sought, a_row}
@@ -51,7 +52,7 @@ use Rattle.plain_laws.proofs.Answering.{agrees_refused, row_there, row_reads_agr
 use Rattle.plain_laws.proofs.Writing.{Reads, MayWrite, HasWritten, write_next, write_ends, wrote_agrees, flow as write_flow}
 
 module _ (c : Cluster) (P : Plain) (h : Holds c P) (clash : NoClash P.buckets) (time : ℕ) (order : Order) (known : are_buckets P.buckets (buckets_of order) ≡ true) (fit : fits c time order)
-    (source name : Name) (here : Contains P.buckets source.bucket) (there : Contains P.buckets name.bucket) (read_flow : Flow) (version : Version) (block : ℕ) (content written : Content) (is_there : has_at P source ≡ object version block content) (short : is_long written.body ≡ false) (in_row : IsInRow (has_at P name)) where
+    (source name : Name) (here : Contains P.buckets source.bucket) (there : Contains P.buckets name.bucket) (read_flow : Flow) (version : Version) (block : ℕ) (content written : Content) (is_there : has_at P source ≡ object version block content) (short : is_long written.body ≡ false) where
   abbrev before : State
   before = now c P h time order
 
@@ -71,7 +72,7 @@ module _ (c : Cluster) (P : Plain) (h : Holds c P) (clash : NoClash P.buckets) (
   w = wish.Content written
 
   abbrev then_flow : Flow
-  then_flow = write_flow c P h clash time order known fit name there w short in_row
+  then_flow = write_flow c P h clash time order known fit name there w short
 
   abbrev sought : Sought AnyRow
   sought = a_row 1 (row_key source) value
@@ -87,22 +88,22 @@ module _ (c : Cluster) (P : Plain) (h : Holds c P) (clash : NoClash P.buckets) (
 
   module _ (reads_then : (t : ℕ) → next read_flow (Row value) t ≡ More then_flow (asks_for name)) where
     -- it has read its source: it reads the row of its object
-    looks_again : (m : ℕ) (t : State) → HasRead l h.is_layout before n q (kind_of order) (name_of order) read_flow sought set all_here m t → Reads c P h clash time order known fit name there w short in_row (delivers t m).state
+    looks_again : (m : ℕ) (t : State) → HasRead l h.is_layout before n q (kind_of order) (name_of order) read_flow sought set all_here m t → Reads c P h clash time order known fit name there w short (delivers t m).state
     looks_again m t r =
         let g = seeks_then l h.is_layout before n q (kind_of order) (name_of order) read_flow sought set all_here then_flow (asks_for name) (a_row 1 (row_key name) (row_of name (has_at P name))) (refl, refl) (asks_is_step q name) m t r (reads_then (clock (moved l h.is_layout before n q m t).world n)) in
         record { open_so = g.0; reading = g.1.0; owed = g.1.1 }
 
     abbrev Copies : State → Type 0
-    Copies t = Looks t ⊎ MayWrite c P h clash time order known fit name there w short in_row t
+    Copies t = Looks t ⊎ MayWrite c P h clash time order known fit name there w short t
 
     copies_next : (m : ℕ) (t : State) → Copies t → undelivered t.world ≡ Some m → FitAll any_join words t.world (delivers t m).moves → Copies (delivers t m).state
     copies_next m t (inl a) waits fits = elim (reads_on l h.is_layout before n q (kind_of order) (name_of order) read_flow sought set all_here m t a waits fits) [
       | inl r ↦ inl r
       | inr r ↦ inr (inl (looks_again m t r))
     ]
-    copies_next m t (inr g) waits fits = inr (write_next c P h clash time order known fit name there w short in_row m t g waits fits)
+    copies_next m t (inr g) waits fits = inr (write_next c P h clash time order known fit name there w short m t g waits fits)
 
-    copies_agree : started order q before.block ≡ (read_flow, asks_for source) → answered (counted (at_time P time)) order ≡ writes (counted (at_time P time)) name w → Agrees c P time order
+    copies_agree : started order q before.block ≡ (read_flow, asks_for source) → answered (counted (at_time P time)) order ≡ writes (counted (at_time P time)) name w → Follows c P time order
     copies_agree begins_so answered_so =
         let holding = holding_now c P h time order in
         let begun = starts l h.is_layout (at_time P time) before holding n (asker_is c P h time order) order read_flow (asks_for source) sought (refl, refl) (asks_is_step q source) begins_so all_here in
@@ -111,18 +112,18 @@ module _ (c : Cluster) (P : Plain) (h : Holds c P) (clash : NoClash P.buckets) (
         let fit' : FitAll any_join words start.world (drains all_messages start).moves = subst (λ (t : State). FitAll any_join words t.world (drains all_messages t).moves) opened_so (drain_fits c P h time order known fit) in
         let u : State = (drains all_messages start).state in
         let none = emptied_from start begun.open_so.is.marked fit' in
-        let ended : HasWritten c P h clash time order known fit name there w short in_row u = elim (drains_keep Copies copies_next all_messages start (inl begun) fit') [
+        let ended : HasWritten c P h clash time order known fit name there w short u = elim (drains_keep Copies copies_next all_messages start (inl begun) fit') [
           | inl g ↦ absurd (reads_out l h.is_layout before n q (kind_of order) (name_of order) read_flow sought set all_here u g none)
-          | inr g ↦ write_ends c P h clash time order known fit name there w short in_row u g none
+          | inr g ↦ write_ends c P h clash time order known fit name there w short u g none
         ] in
-        wrote_agrees c P h clash time order known fit name there w short in_row answered_so
-        (subst (λ (t : State). HasWritten c P h clash time order known fit name there w short in_row (drains all_messages t).state) (sym opened_so) ended)
+        wrote_agrees c P h clash time order known fit name there w short answered_so
+        (subst (λ (t : State). HasWritten c P h clash time order known fit name there w short (drains all_messages t).state) (sym opened_so) ended)
         (subst (λ (t : State). undelivered (drains all_messages t).state.world ≡ None) (sym opened_so) none)
 
 -- ---- by what is there
 
 module _ (c : Cluster) (P : Plain) (h : Holds c P) (clash : NoClash P.buckets) (time : ℕ) (from_bucket from_key bucket key : List ℕ) (headers : Option (List (List ℕ × List ℕ)))
-    (known : are_buckets P.buckets (from_bucket ∷ bucket ∷ []) ≡ true) (fit : fits c time (order.Copy from_bucket from_key bucket key headers)) (in_row : IsInRow (has_at P (record { bucket = bucket; key = key }))) where
+    (known : are_buckets P.buckets (from_bucket ∷ bucket ∷ []) ≡ true) (fit : fits c time (order.Copy from_bucket from_key bucket key headers)) where
   abbrev copy : Order
   copy = order.Copy from_bucket from_key bucket key headers
 
@@ -150,7 +151,7 @@ module _ (c : Cluster) (P : Plain) (h : Holds c P) (clash : NoClash P.buckets) (
   there : Contains P.buckets bucket
   there = bucket_in P.buckets bucket (and_parts (is_bucket P.buckets bucket) true (and_parts (is_bucket P.buckets from_bucket) (is_bucket P.buckets bucket && true) known).1).0
 
-  copy_by : (has : Has) → has_at P source ≡ has → IsInRow has → Agrees c P time copy
+  copy_by : (has : Has) → has_at P source ≡ has → IsInRow has → Follows c P time copy
   copy_by never e i =
       row_reads_agree c P h time copy known fit source here flow refl
       (record { end = Nothing; ends = λ t. ap (λ has. looked (number begun) begun.block (aim.Copy name headers) (said_of (row_of source has))) e; is = ap by_what e })
@@ -159,13 +160,13 @@ module _ (c : Cluster) (P : Plain) (h : Holds c P) (clash : NoClash P.buckets) (
       (record { end = Nothing; ends = λ t. ap (λ has. looked (number begun) begun.block (aim.Copy name headers) (said_of (row_of source has))) e ∙ ap (looked (number begun) begun.block (aim.Copy name headers)) (said_deleted source version); is = ap by_what e })
   copy_by (object version block content) e i =
       let written : Content = record { body = content.body; headers = unwrap_or headers content.headers } in
-      copies_agree c P h clash time copy known fit source name here there flow version block content written e i in_row
+      copies_agree c P h clash time copy known fit source name here there flow version block content written e i
       (λ t. ap (λ has. looked (number begun) begun.block (aim.Copy name headers) (said_of (row_of source has))) e ∙ ap (looked (number begun) begun.block (aim.Copy name headers)) (said_inline source version block content i))
       refl (ap by_what e)
 
-copy_agrees : (c : Cluster) (P : Plain) (time : ℕ) (order : Order) → (h : Holds c P) → NoClash P.buckets → fits c time order → CopiesRow P order → are_buckets P.buckets (buckets_of order) ≡ true → Agrees c P time order
+copy_agrees : (c : Cluster) (P : Plain) (time : ℕ) (order : Order) → (h : Holds c P) → NoClash P.buckets → fits c time order → CopiesRow P order → are_buckets P.buckets (buckets_of order) ≡ true → Follows c P time order
 copy_agrees c P time (order.Copy from_bucket from_key bucket key headers) h clash fit allowed known =
-    copy_by c P h clash time from_bucket from_key bucket key headers known fit allowed.1 (has_at P (record { bucket = from_bucket; key = from_key })) refl allowed.0
+    copy_by c P h clash time from_bucket from_key bucket key headers known fit (has_at P (record { bucket = from_bucket; key = from_key })) refl allowed
 copy_agrees c P time (order.Put bucket key body headers) h clash fit allowed known = absurd allowed
 copy_agrees c P time (order.Delete bucket key) h clash fit allowed known = absurd allowed
 copy_agrees c P time (order.Get bucket key) h clash fit allowed known = absurd allowed
@@ -173,9 +174,9 @@ copy_agrees c P time (order.Head bucket key) h clash fit allowed known = absurd 
 copy_agrees c P time (order.List bucket prefix) h clash fit allowed known = absurd allowed
 
 -- whether or not the buckets are there
-pub copies_row_agree : (c : Cluster) (P : Plain) (time : ℕ) (order : Order) → Holds c P → NoClash P.buckets → fits c time order → CopiesRow P order → Agrees c P time order
+pub copies_row_agree : (c : Cluster) (P : Plain) (time : ℕ) (order : Order) → Holds c P → NoClash P.buckets → fits c time order → CopiesRow P order → Follows c P time order
 copies_row_agree c P time order h clash fit allowed =
-    elim (are_buckets P.buckets (buckets_of order)) as (λ b. are_buckets P.buckets (buckets_of order) ≡ b → Agrees c P time order) [
+    elim (are_buckets P.buckets (buckets_of order)) as (λ b. are_buckets P.buckets (buckets_of order) ≡ b → Follows c P time order) [
       | true ↦ λ e. copy_agrees c P time order h clash fit allowed e
       | false ↦ λ e. agrees_refused c P h time order e
     ] refl

@@ -100,12 +100,16 @@ pub record SameOf (w v : World) (id : ℕ) : Type 0 where
   pub row : (n : ℕ) → row_at any_join words (v.nodes n).accepted 2 (eight id) ≡ row_at any_join words (w.nodes n).accepted 2 (eight id)
   pub references : (n : ℕ) (hash : List ℕ) → length hash ≡ 32 → row_at any_join words (v.nodes n).accepted 3 (hash ++ eight id) ≡ row_at any_join words (w.nodes n).accepted 3 (hash ++ eight id)
 
+-- the blocks that live references of this version need stay
+abbrev pub KeepsOf : World → World → ℕ → Type 0
+KeepsOf w v id = (n : ℕ) (hash : List ℕ) (row : AnyRow) (given : List ℕ) → length hash ≡ 32 → row_at any_join words (w.nodes n).accepted 3 (hash ++ eight id) ≡ Some row → words.live_block row ≡ Some hash → block_at (w.nodes n).blocks hash ≡ Some given → block_at (v.nodes n).blocks hash ≡ Some given
+
 -- a version's blocks stay where the rows of the later tables stay, and the blocks that they need
-pub blocks_moved : (l : Layout) (w v : World) → KeepsBlocks w v → (has : Has) → ((version : Version) → version_in has ≡ Some version → SameOf w v version.id) → HasItsBlocks l w has → HasItsBlocks l v has
-blocks_moved l w v keeps never same h = h
-blocks_moved l w v keeps (deleted version) same h = h
-blocks_moved l w v keeps (object version block c) same h = λ long.
-    let of_it : SameOf w v version.id = same version refl in
+pub blocks_stay : (l : Layout) (w v : World) (has : Has) → ((version : Version) → version_in has ≡ Some version → SameOf w v version.id × KeepsOf w v version.id) → HasItsBlocks l w has → HasItsBlocks l v has
+blocks_stay l w v never same h = h
+blocks_stay l w v (deleted version) same h = h
+blocks_stay l w v (object version block c) same h = λ long.
+    let of_it : SameOf w v version.id = (same version refl).0 in
     let b : HasBlocks l w version block c = h long in
     record {
       count = b.count;
@@ -113,8 +117,11 @@ blocks_moved l w v keeps (object version block c) same h = λ long.
       no_more = b.no_more;
       named = λ n there. ap (λ o. named_by o (length c.body)) (of_it.row n) ∙ b.named n there;
       referenced = λ i n has there. of_it.references n (piece_hash block c.body i).0 (digest_length (piece block c.body i)) ∙ b.referenced i n has there;
-      kept = λ i n has there. keeps n ((piece_hash block c.body i).0 ++ eight version.id) (reference_row version.id block c.body i) (piece_hash block c.body i).0 (piece block c.body i) (b.referenced i n has there) refl (b.kept i n has there);
+      kept = λ i n has there. (same version refl).1 n (piece_hash block c.body i).0 (reference_row version.id block c.body i) (piece block c.body i) (digest_length (piece block c.body i)) (b.referenced i n has there) refl (b.kept i n has there);
     }
+
+pub blocks_moved : (l : Layout) (w v : World) → KeepsBlocks w v → (has : Has) → ((version : Version) → version_in has ≡ Some version → SameOf w v version.id) → HasItsBlocks l w has → HasItsBlocks l v has
+blocks_moved l w v keeps has same = blocks_stay l w v has (λ version e. (same version e, λ n hash row given size at live there. keeps n (hash ++ eight version.id) row hash given at live there))
 
 -- nothing goes on after a change either, and no row was accepted
 pub record IsAlike (l : Layout) (t u : State) : Type 0 where

@@ -39,7 +39,8 @@ use Rattle.drained_laws.proofs.Drained.{filter_append}
 use Rattle.drained_laws.proofs.Posts.{three_at}
 use Rattle.drained_laws.proofs.Views.{among_here}
 use Rattle.plain_laws.specs.Plain.{Plain, rows_under, at_time}
-use Rattle.plain_laws.specs.Holds.{nodes_at, Holds, Agrees, Lists}
+use Rattle.plain_laws.specs.Holds.{nodes_at, Holds, Lists}
+use Rattle.plain_laws.proofs.Keeping.{Follows}
 use Rattle.plain_laws.proofs.Holding.{Holding}
 use Rattle.plain_laws.proofs.Saids.{twice}
 use Rattle.plain_laws.proofs.Seeking.{a_window}
@@ -186,14 +187,14 @@ module _ (c : Cluster) (P : Plain) (h : Holds c P) (time : ℕ) (bucket prefix :
       subst (λ f. Turns c P h time list known fit Course (End end) f phase) (sym c'.flow_is)
       (subst (Turns c P h time list known fit Course (End end) (flow_with c'.so_far)) (sym c'.phase_is) (turn_at c'.after c'.so_far c'.total))
 
-  pub list_agrees : Agrees c P time list
+  pub list_agrees : Follows c P time list
   list_agrees =
       reads_agree c P h time list known fit Course end turn (flow_with []) (asks_past bucket prefix [])
       (record { after = []; so_far = []; flow_is = refl; phase_is = refl; total = ap shown_rows (under_past bucket prefix P.entries h.map.keyed) }) refl refl
 
 -- ---- by the bucket
 
-list_agree_by : (c : Cluster) (P : Plain) (time : ℕ) (order : Order) → (h : Holds c P) → fits c time order → Lists order → are_buckets P.buckets (buckets_of order) ≡ true → Agrees c P time order
+list_agree_by : (c : Cluster) (P : Plain) (time : ℕ) (order : Order) → (h : Holds c P) → fits c time order → Lists order → are_buckets P.buckets (buckets_of order) ≡ true → Follows c P time order
 list_agree_by c P time (order.List bucket prefix) h fit is known = list_agrees c P h time bucket prefix known fit
 list_agree_by c P time (order.Put bucket key body headers) h fit is known = absurd is
 list_agree_by c P time (order.Get bucket key) h fit is known = absurd is
@@ -202,9 +203,9 @@ list_agree_by c P time (order.Delete bucket key) h fit is known = absurd is
 list_agree_by c P time (order.Copy from_bucket from_key bucket key headers) h fit is known = absurd is
 
 -- whether or not the bucket is there
-pub lists_agree : (c : Cluster) (P : Plain) (time : ℕ) (order : Order) → Holds c P → fits c time order → Lists order → Agrees c P time order
+pub lists_agree : (c : Cluster) (P : Plain) (time : ℕ) (order : Order) → Holds c P → fits c time order → Lists order → Follows c P time order
 lists_agree c P time order h fit is =
-    elim (are_buckets P.buckets (buckets_of order)) as (λ b. are_buckets P.buckets (buckets_of order) ≡ b → Agrees c P time order) [
+    elim (are_buckets P.buckets (buckets_of order)) as (λ b. are_buckets P.buckets (buckets_of order) ≡ b → Follows c P time order) [
       | true ↦ λ e. list_agree_by c P time order h fit is e
       | false ↦ λ e. agrees_refused c P h time order e
     ] refl

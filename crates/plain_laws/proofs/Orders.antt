@@ -25,13 +25,13 @@ use Rattle.plain_laws.proofs.Copying.{copies_row_agree}
 use Rattle.plain_laws.proofs.Listing.{lists_agree}
 
 row_order_agrees : (c : Cluster) (P : Plain) (time : ℕ) (order : Order) → Holds c P → NoClash P.buckets → AllInRows P → fits c time order → IsOfRows order → Agrees c P time order
-row_order_agrees c P time (order.Put bucket key body headers) h clash small fit short = writes_row_agree c P time (order.Put bucket key body headers) h clash fit (short, small (record { bucket = bucket; key = key }))
-row_order_agrees c P time (order.Get bucket key) h clash small fit short = reads_agree_all c P time (order.Get bucket key) h fit tt
-row_order_agrees c P time (order.Head bucket key) h clash small fit short = reads_agree_all c P time (order.Head bucket key) h fit tt
-row_order_agrees c P time (order.Delete bucket key) h clash small fit short = writes_row_agree c P time (order.Delete bucket key) h clash fit (small (record { bucket = bucket; key = key }))
+row_order_agrees c P time (order.Put bucket key body headers) h clash small fit short = (writes_row_agree c P time (order.Put bucket key body headers) h clash fit short).agrees
+row_order_agrees c P time (order.Get bucket key) h clash small fit short = (reads_agree_all c P time (order.Get bucket key) h fit tt).agrees
+row_order_agrees c P time (order.Head bucket key) h clash small fit short = (reads_agree_all c P time (order.Head bucket key) h fit tt).agrees
+row_order_agrees c P time (order.Delete bucket key) h clash small fit short = (writes_row_agree c P time (order.Delete bucket key) h clash fit tt).agrees
 row_order_agrees c P time (order.Copy from_bucket from_key bucket key headers) h clash small fit short =
-    copies_row_agree c P time (order.Copy from_bucket from_key bucket key headers) h clash fit (small (record { bucket = from_bucket; key = from_key }), small (record { bucket = bucket; key = key }))
-row_order_agrees c P time (order.List bucket prefix) h clash small fit short = lists_agree c P time (order.List bucket prefix) h fit tt
+    (copies_row_agree c P time (order.Copy from_bucket from_key bucket key headers) h clash fit (small (record { bucket = from_bucket; key = from_key }))).agrees
+row_order_agrees c P time (order.List bucket prefix) h clash small fit short = (lists_agree c P time (order.List bucket prefix) h fit tt).agrees
 
 -- no object is in blocks, and the buckets are these
 record StaysInRows (buckets : List (List ℕ)) (Q : Plain) : Type 0 where

@@ -80,9 +80,9 @@ module _ (q : ℕ) (name : Name) (version : Version) (block : ℕ) (c : Content)
 
   -- ---- the object's row
 
-  module _ (value : Option AnyRow) (is : IsOld name version (Blocks (meta_of c) (piece_hash block c.body 0)) refl value) (b : List AnyRow) (had : row_at any_join words b 1 (row_key name) ≡ value) where
+  module _ (Gone : AnyRow → Type 0) (value : Option AnyRow) (is : IsOld name version (Blocks (meta_of c) (piece_hash block c.body 0)) refl Gone value) (b : List AnyRow) (had : row_at any_join words b 1 (row_key name) ≡ value) where
     abbrev Stage : Option AnyRow → Type 0
-    Stage o = IsStage name version (Blocks (meta_of c) (piece_hash block c.body 0)) refl value is o
+    Stage o = IsStage name version (Blocks (meta_of c) (piece_hash block c.body 0)) refl Gone value is o
 
     abbrev at : List AnyRow → Option AnyRow
     at news = row_at any_join words (news ++ b) 1 (row_key name)
@@ -90,10 +90,10 @@ module _ (q : ℕ) (name : Name) (version : Version) (block : ℕ) (c : Content)
     comes : (r : AnyRow) (older : List AnyRow) → IsMine r → Stage (row_at any_join words older 1 (row_key name)) → Stage (row_at any_join words (r ∷ older) 1 (row_key name))
     comes r older (inl e) st =
         subst (λ r. Stage (row_at any_join words (r ∷ older) 1 (row_key name))) (sym e)
-        (subst Stage (sym (joins_there U older 1 (row_key name) refl refl)) (begun_comes name version (Blocks (meta_of c) (piece_hash block c.body 0)) refl value is (row_at any_join words older 1 (row_key name)) st).0)
+        (subst Stage (sym (joins_there U older 1 (row_key name) refl refl)) (begun_comes name version (Blocks (meta_of c) (piece_hash block c.body 0)) refl Gone value is (row_at any_join words older 1 (row_key name)) st).0)
     comes r older (inr (inl e)) st =
         subst (λ r. Stage (row_at any_join words (r ∷ older) 1 (row_key name))) (sym e)
-        (inr (inr (joins_there C older 1 (row_key name) refl refl ∙ (whole_comes name version (Blocks (meta_of c) (piece_hash block c.body 0)) refl value is (row_at any_join words older 1 (row_key name)) st).0)))
+        (inr (inr (joins_there C older 1 (row_key name) refl refl ∙ (whole_comes name version (Blocks (meta_of c) (piece_hash block c.body 0)) refl Gone value is (row_at any_join words older 1 (row_key name)) st).0)))
     comes r older (inr (inr (inl v))) st =
         subst Stage (sym (passes_by r older 1 (row_key name) (λ t k. two_tables 1 2 (omega arith) (sym t ∙ ap words.table v.2)))) st
     comes r older (inr (inr (inr v))) st =
@@ -108,16 +108,16 @@ module _ (q : ℕ) (name : Name) (version : Version) (block : ℕ) (c : Content)
     whole_there [] all h = absurd h
     whole_there (r ∷ news) all (inl e) =
         ap (λ r. row_at any_join words (r ∷ (news ++ b)) 1 (row_key name)) e
-        ∙ (joins_there C (news ++ b) 1 (row_key name) refl refl ∙ (whole_comes name version (Blocks (meta_of c) (piece_hash block c.body 0)) refl value is (at news) (stage_of news all.1)).0)
+        ∙ (joins_there C (news ++ b) 1 (row_key name) refl refl ∙ (whole_comes name version (Blocks (meta_of c) (piece_hash block c.body 0)) refl Gone value is (at news) (stage_of news all.1)).0)
     whole_there (r ∷ news) all (inr h) = stays r all.0 (whole_there news all.1 h)
       where
         stays : (r : AnyRow) → IsMine r → at news ≡ Some C → at (r ∷ news) ≡ Some C
         stays r (inl e) now =
             ap (λ r. row_at any_join words (r ∷ (news ++ b)) 1 (row_key name)) e
-            ∙ (joins_there U (news ++ b) 1 (row_key name) refl refl ∙ (ap (λ o. option_join any_join o (Some U)) now ∙ whole_stays name version (Blocks (meta_of c) (piece_hash block c.body 0)) refl value is))
+            ∙ (joins_there U (news ++ b) 1 (row_key name) refl refl ∙ (ap (λ o. option_join any_join o (Some U)) now ∙ whole_stays name version (Blocks (meta_of c) (piece_hash block c.body 0)) refl Gone value is))
         stays r (inr (inl e)) now =
             ap (λ r. row_at any_join words (r ∷ (news ++ b)) 1 (row_key name)) e
-            ∙ (joins_there C (news ++ b) 1 (row_key name) refl refl ∙ (whole_comes name version (Blocks (meta_of c) (piece_hash block c.body 0)) refl value is (at news) (inr (inr now))).0)
+            ∙ (joins_there C (news ++ b) 1 (row_key name) refl refl ∙ (whole_comes name version (Blocks (meta_of c) (piece_hash block c.body 0)) refl Gone value is (at news) (inr (inr now))).0)
         stays r (inr (inr (inl v))) now = passes_by r (news ++ b) 1 (row_key name) (λ t k. two_tables 1 2 (omega arith) (sym t ∙ ap words.table v.2)) ∙ now
         stays r (inr (inr (inr v))) now = passes_by r (news ++ b) 1 (row_key name) (λ t k. two_tables 1 3 (omega arith) (sym t ∙ ap words.table v.2)) ∙ now
 

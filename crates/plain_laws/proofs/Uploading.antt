@@ -1,6 +1,6 @@
--- A put of bytes that are kept in blocks, over what isn't kept in blocks, to a cluster that holds a map.
-use Rattle.std.proofs.Common.{◌≡◌, ◌≤◌, ◌<◌, ◌+◌, ◌^◌, ℕ, zero, suc, max, true, false, Option, Some, None, List, [], ◌∷◌, ◌++◌, length, map, refl, sym, ap, ap₂, ◌∙◌, subst, inl, inr, arith}
-use Rattle.std.specs.Prelude.{IsTrue, Bool, nat_lt, cond}
+-- A put of bytes that are kept in blocks, to a cluster that holds a map.
+use Rattle.std.proofs.Common.{◌≡◌, ◌≤◌, ◌<◌, ◌+◌, ◌^◌, ℕ, zero, suc, max, true, false, Option, Some, None, List, [], ◌∷◌, ◌++◌, length, map, refl, sym, ap, ap₂, ◌∙◌, subst, inl, inr, arith, ◌⊎◌}
+use Rattle.std.specs.Prelude.{IsTrue, Bool, nat_lt, cond, ◌&&◌, ⊤}
 use Rattle.std.specs.List.{AllByRecursion, Contains}
 use Rattle.std.proofs.lemmas.Bool.{false≢true, lt-ltb, ltb-true, ltb-false}
 use Rattle.std.proofs.lemmas.Option.{same_Some}
@@ -12,10 +12,9 @@ use Rattle.crdt_rows.specs.declared.version.Version.{Version}
 use Rattle.crdt_rows.specs.declared.body.Body.TheVariants.{Blocks}
 use Rattle.crdt_rows.specs.declared.any_row.AnyRow.{AnyRow}
 use Rattle.crdt_rows.specs.AnyRow.{any_join}
-use Rattle.crdt_rows.specs.RowLaws.{any_laws}
 use Rattle.object_schema.specs.Schema.{words}
 use Rattle.object_schema.specs.Laws.{schema_laws, eight_same}
-use Rattle.table_model.specs.Rows.{row_at}
+use Rattle.table_model.specs.Rows.{row_at, is_at, AllProper}
 use Rattle.quorum_model.specs.Quorum.{is_among}
 use Rattle.wire_messages.specs.declared.phase.Phase.TheVariants.{Store}
 use Rattle.wire_messages.specs.declared.phase.PhaseEnd.TheVariants.{Row}
@@ -37,7 +36,7 @@ use Rattle.flow_model.specs.declared.flow.FlowStep.{FlowStep}
 use Rattle.flow_model.specs.declared.flow.FlowStep.TheVariants.{More}
 use Rattle.flow_model.specs.declared.flow.FlowEnd.{FlowEnd}
 use Rattle.flow_model.specs.Blocks.{piece, piece_hash, has_piece, is_long}
-use Rattle.flow_model.specs.Rows.{row_key, meta_of, uploading, in_blocks, inline, version_row, reference_row, block_rows}
+use Rattle.flow_model.specs.Rows.{row_key, meta_of, uploading, in_blocks, inline, version_row, reference_row, block_rows, complete}
 use Rattle.flow_model.specs.Says.{named_by}
 use Rattle.flow_laws.proofs.Cut.{has_first}
 use Rattle.flow_model.specs.Next.{drawn, completes, writes as flow_writes, next}
@@ -48,33 +47,48 @@ use Rattle.store_model.specs.Run.{State, are_buckets, opened, delivers, drains}
 use Rattle.store_model.specs.Acts.{all_messages}
 use Rattle.store_laws.proofs.Emptied.{emptied_from}
 use Rattle.store_laws.proofs.Objects.{key_parts, digest_length}
-use Rattle.store_laws.proofs.Placing.{asks_is_step}
+use Rattle.store_laws.proofs.Placing.{asks_is_step, uploading_is_placed, complete_is_placed, piece_has_hash}
 use Rattle.serve_model.specs.Clusters.{Cluster, fits}
-use Rattle.drained_laws.specs.Waiting.{SomeOf, Has as IsIn, waiting}
+use Rattle.drained_laws.specs.Waiting.{SomeOf, Has as IsIn}
 use Rattle.drained_laws.specs.Accounts.{Brings, IsDue}
 use Rattle.drained_laws.proofs.Waits.{some_left, some_right}
 use Rattle.drained_laws.proofs.Weights.{none_waits}
-use Rattle.drained_laws.proofs.Drained.{equal_when_drained}
 use Rattle.plain_laws.specs.Plain.{Has, Plain, same_name, has_at, row_of, last_ts, at_time, counted, version_of, version_in, made, writes, answered}
-use Rattle.plain_laws.specs.Holds.{nodes_at, HasBlocks, HasItsBlocks, Holds, Agrees, IsInRow, AllBlocks, NoTwins, PutsBlocks}
-use Rattle.plain_laws.proofs.Frames.{none_found}
-use Rattle.plain_laws.proofs.Holding.{Holding, blocks_moved}
-use Rattle.plain_laws.proofs.Entries.{names_equal, has_new, has_others}
-use Rattle.plain_laws.proofs.Smalls.{before_by, IsOldRow, old_row}
+use Rattle.plain_laws.specs.Holds.{nodes_at, HasBlocks, Holds, Agrees, AllBlocks, NoTwins, PutsBlocks}
+use Rattle.plain_laws.proofs.Holding.{Holding}
+use Rattle.plain_laws.proofs.Smalls.{before_by}
 use Rattle.plain_laws.proofs.Saids.{ts_of_row}
 use Rattle.plain_laws.proofs.Seeking.{a_row}
 use Rattle.plain_laws.proofs.Requests.{base}
 use Rattle.plain_laws.proofs.Given.{AllKept}
 use Rattle.plain_laws.proofs.Looks.{AllHad}
-use Rattle.plain_laws.proofs.Writes.{Course, AreSuch, new_rows, sent_to, Written, news_mine, accepted_so, Going, going_next, has_written}
-use Rattle.plain_laws.proofs.Uploads.{IsOld, none_old, small_old, begun_comes, whole_comes}
+use Rattle.plain_laws.proofs.Writes.{Course, AreSuch, new_rows, sent_to, all_mine, Written, Going, going_next, has_written}
+use Rattle.plain_laws.proofs.Queues.{CallsFor}
+use Rattle.plain_laws.proofs.Uploads.{IsOld, none_old, whole_old, begun_comes, whole_comes}
+use Rattle.plain_laws.proofs.GivenUp.{IsOldRow, old_row, GivesUp, gone_calls, not_object, not_version, not_reference}
+use Rattle.plain_laws.proofs.Sifted.{Sifted, sifted}
+use Rattle.plain_laws.proofs.Clearing.{Clearing, accepted_are, all_news, rounds_clear}
+use Rattle.plain_laws.proofs.Becoming.{IsOther, becomes_held}
 use Rattle.plain_laws.proofs.Parts.{IsCount, some_count, flow_at, rows_at, end as upload_end, upload_course, Mine, upload_such}
-use Rattle.plain_laws.proofs.Stages.{later, passes_by, joins_there, two_tables, stage_of, whole_there, naming_of, naming_comes, ref_of, ref_comes, ref_there, names_all}
+use Rattle.plain_laws.proofs.Stages.{later, joins_there, two_tables, stage_of, whole_there, naming_of, naming_comes, ref_of, ref_comes, ref_there, names_all}
 use Rattle.plain_laws.proofs.Starting.{number, reading_state, opened_is, starts}
 use Rattle.plain_laws.proofs.Draining.{drains_keep}
-use Rattle.plain_laws.proofs.Carrying.{now, asker_now, asker_is, holding_now, open_fits, drain_fits}
-use Rattle.plain_laws.proofs.Answering.{agrees_refused, one_bucket, row_there, answers_so, carried_as}
+use Rattle.plain_laws.proofs.Carrying.{now, asker_now, asker_is, holding_now, open_fits, drain_fits, rounds_fit, served_state}
+use Rattle.plain_laws.proofs.Answering.{agrees_refused, one_bucket, row_there, carried_as, serves_so, kept_before}
 use Rattle.plain_laws.proofs.Writing.{one_name}
+use Rattle.plain_laws.proofs.Accepted.{not_at}
+use Rattle.plain_laws.proofs.Descending.{schema_descends}
+use Rattle.machine_origins.proofs.Good.{IsGood}
+use Rattle.drained_laws.specs.Outboxes.{HasLeft}
+use Rattle.drained_laws.proofs.Working.{box_left}
+use Rattle.crdt_core.proofs.Each.{all_append, all_weaker}
+use Rattle.std.proofs.lemmas.List.Elements.{recursion_from_All}
+use Rattle.cluster_machine.specs.Trio.{trio, stage_trio}
+use Rattle.cluster_machine.specs.declared.applied.Applied.{Applied}
+use Rattle.layout_roles.specs.declared.cut.Cut.{Cut}
+use Rattle.crdt_core.specs.Order.{option_join}
+use Rattle.plain_laws.specs.Blocks.{IsBlockAt, AreApart, PutsLong}
+use Rattle.plain_laws.proofs.Keeping.{Follows, kept_such}
 
 -- a block that is found is one of those that are kept
 found_kept : (Bytes : List ℕ → Type 0) (bs : List Block) (hash given : List ℕ) → AllKept Bytes bs → block_at bs hash ≡ Some given → Bytes given
@@ -85,19 +99,19 @@ found_kept Bytes (b ∷ bs) hash given all e =
       | false ↦ λ f. found_kept Bytes bs hash given all.1 f
     ] e
 
--- what is there is nothing, or a version that isn't kept in blocks
-old_is : (name : Name) (has : Has) → IsInRow has → (version : Version) (block : ℕ) (c : Content) → last_ts has < version.ts → IsOld name version (Blocks (meta_of c) (piece_hash block c.body 0)) refl (row_of name has)
-old_is name has in_row version block c later = by (row_of name has) (old_row name has in_row)
+-- what is there is nothing, or an earlier version, which is given up
+old_is : (name : Name) (has : Has) (version : Version) (block : ℕ) (c : Content) → last_ts has < version.ts → IsOld name version (Blocks (meta_of c) (piece_hash block c.body 0)) refl (GivesUp has) (row_of name has)
+old_is name has version block c later = by (row_of name has) (old_row name has)
   where
-    by : (value : Option AnyRow) → ((r : AnyRow) → value ≡ Some r → IsOldRow name (last_ts has) r) → IsOld name version (Blocks (meta_of c) (piece_hash block c.body 0)) refl value
-    by None old = none_old name version (Blocks (meta_of c) (piece_hash block c.body 0)) refl
+    by : (value : Option AnyRow) → ((r : AnyRow) → value ≡ Some r → IsOldRow name has r) → IsOld name version (Blocks (meta_of c) (piece_hash block c.body 0)) refl (GivesUp has) value
+    by None old = none_old name version (Blocks (meta_of c) (piece_hash block c.body 0)) refl (GivesUp has)
     by (Some r) old =
         let o = old r refl in
-        subst (λ r. IsOld name version (Blocks (meta_of c) (piece_hash block c.body 0)) refl (Some r)) (sym o.small.is)
-        (small_old name version (Blocks (meta_of c) (piece_hash block c.body 0)) refl o.version o.small.body o.small.fits o.small.none (before_by o.version version (subst (λ t. t < version.ts) (sym o.ts_is) later)))
+        subst (λ r. IsOld name version (Blocks (meta_of c) (piece_hash block c.body 0)) refl (GivesUp has) (Some r)) (sym o.whole.is)
+        (whole_old name version (Blocks (meta_of c) (piece_hash block c.body 0)) refl (GivesUp has) o.version o.whole.body o.whole.fits (before_by o.version version (subst (λ t. t < version.ts) (sym o.ts_is) later)) (record { version = o.version; there = o.there; is = inl refl }))
 
 module _ (c : Cluster) (P : Plain) (h : Holds c P) (clash : NoClash P.buckets) (time : ℕ) (order : Order) (known : are_buckets P.buckets (buckets_of order) ≡ true) (fit : fits c time order)
-    (name : Name) (there : Contains P.buckets name.bucket) (content : Content) (long : is_long content.body ≡ true) (in_row : IsInRow (has_at P name))
+    (name : Name) (there : Contains P.buckets name.bucket) (content : Content) (long : is_long content.body ≡ true)
     (Bytes : List ℕ → Type 0) (one_digest : (a b : List ℕ) → Bytes a → Bytes b → blake2b 32 a ≡ blake2b 32 b → a ≡ b) (kept_so : (m : ℕ) → AllKept Bytes (c.run.world.nodes m).blocks)
     (count : ℕ) (counts : IsCount c.run.block content.body count) (pieces : (i : ℕ) → has_piece c.run.block content.body i ≡ true → Bytes (piece c.run.block content.body i))
     (small : number (now c P h time order) < 2 ^ 64) where
@@ -122,8 +136,11 @@ module _ (c : Cluster) (P : Plain) (h : Holds c P) (clash : NoClash P.buckets) (
   abbrev after : Plain
   after = counted (at_time P time)
 
+  abbrev has : Has
+  has = has_at P name
+
   abbrev value : Option AnyRow
-  value = row_of name (has_at P name)
+  value = row_of name has
 
   abbrev version : Version
   version = version_of after name
@@ -152,10 +169,10 @@ module _ (c : Cluster) (P : Plain) (h : Holds c P) (clash : NoClash P.buckets) (
   low_id : version.id < 2 ^ 64
   low_id = subst (λ i. i < 2 ^ 64) asked_so small
 
-  old : IsOld name version (Blocks (meta_of content) (piece_hash block body 0)) refl value
-  old = old_is name (has_at P name) in_row version block content later_than
+  old : IsOld name version (Blocks (meta_of content) (piece_hash block body 0)) refl (GivesUp has) value
+  old = old_is name has version block content later_than
     where
-      later_than : last_ts (has_at P name) < version.ts
+      later_than : last_ts has < version.ts
       later_than = omega arith
 
   clock_is : before.world.time + before.world.skew_of n ≡ after.clock
@@ -176,20 +193,30 @@ module _ (c : Cluster) (P : Plain) (h : Holds c P) (clash : NoClash P.buckets) (
   abbrev stored_rows : ℕ → List (AnyRow × Option (List ℕ))
   stored_rows j = rows_at q name version block content long count counts j
 
-  abbrev IsMine : AnyRow → Type 0
-  IsMine r = Mine q name version block content long count counts r
+  -- a row of the upload
+  abbrev OfUpload : AnyRow → Type 0
+  OfUpload r = Mine q name version block content long count counts r
 
-  course : Course q flows stored_rows (suc count) end
+  -- one that gives up what was there
+  abbrev IsGone : AnyRow → Type 0
+  IsGone r = IsTrue (words.is_proper r) × GivesUp has r
+
+  abbrev IsMine : AnyRow → Type 0
+  IsMine r = OfUpload r ⊎ IsGone r
+
+  pub course : Course q flows stored_rows (suc count) end
   course = upload_course q name version block content long count counts low_id
 
-  writes_so : next flow (Row value) (before.world.time + before.world.skew_of n) ≡ More (flows 0) (Store (stored_rows 0))
+  pub writes_so : next flow (Row value) (before.world.time + before.world.skew_of n) ≡ More (flows 0) (Store (stored_rows 0))
   writes_so = ap (λ v. flow_writes q block name v w) drawn_is ∙ begins long
     where
       begins : is_long body ≡ true → flow_writes q block name version w ≡ More (flows 0) (Store (stored_rows 0))
       begins e = ap (λ b. elim b as (λ b. FlowStep) [ true ↦ More (flows 0) (Store (stored_rows 0)) | false ↦ completes q block name version w ]) e
 
-  such : AreSuch stored_rows IsMine Bytes
-  such = upload_such q name version block content long count counts Bytes pieces
+  pub such : AreSuch stored_rows IsMine Bytes
+  such =
+      let s = upload_such q name version block content long count counts Bytes pieces in
+      record { mine = λ j. all_weaker OfUpload IsMine (λ r o. inl o) (new_rows stored_rows j) (s.mine j); given = s.given }
 
   abbrev all : AllHad l h.is_layout before n q (kind_of order) (name_of order) (a_row 1 (row_key name) value) (nodes_at l (digest_of name.bucket).0)
   all = row_there c P h time order known fit name there
@@ -200,49 +227,98 @@ module _ (c : Cluster) (P : Plain) (h : Holds c P) (clash : NoClash P.buckets) (
   no_reference : (m i : ℕ) → row_at any_join words (had m) 3 ((piece_hash block body i).0 ++ eight version.id) ≡ None
   no_reference m i = holding.fresh.references m version.id (piece_hash block body i).0 (omega arith) low_id (digest_length (piece block body i))
 
-  -- no row of it calls for another one where it comes
-  idle_so : (m : ℕ) (news : List AnyRow) → AllByRecursion IsMine news → (r : AnyRow) → IsMine r → IsDue words layouts l m r →
-      (let older = news ++ base l h.is_layout before n q m in called_for any_join words (row_at any_join words older (words.table r) (words.key r)) (row_at any_join words (r ∷ older) (words.table r) (words.key r)) ≡ [])
-  idle_so m news mine r (inl e) due =
+  abbrev proper : (m : ℕ) → AllProper words (before.world.nodes m).accepted
+  proper = (holding_now c P h time order).equal.proper
+
+  upload_proper : (r : AnyRow) → OfUpload r → IsTrue (words.is_proper r)
+  upload_proper r (inl e) = subst (λ r. IsTrue (words.is_proper r)) (sym e) (uploading_is_placed name version).0
+  upload_proper r (inr (inl e)) =
+      let whole : complete name version block w ≡ in_blocks name version block content = ap (λ b. elim b as (λ b. AnyRow) [ true ↦ in_blocks name version block content | false ↦ inline name version content ]) long in
+      subst (λ r. IsTrue (words.is_proper r)) (sym (e ∙ sym whole)) (complete_is_placed name version block w).0
+  upload_proper r (inr (inr (inl v))) = subst (λ r. IsTrue (words.is_proper r)) (sym v.2) (lt-ltb version.id (2 ^ 64) low_id)
+  upload_proper r (inr (inr (inr v))) = subst (λ r. IsTrue (words.is_proper r)) (sym v.2) (ap₂ (λ a b. a && b) (piece_has_hash block body v.0) (lt-ltb version.id (2 ^ 64) low_id))
+
+  all_good : (m : ℕ) (news : List AnyRow) → AllByRecursion IsMine news → AllByRecursion (IsGood words (λ r. ⊤)) (news ++ had m)
+  all_good m news mine =
+      all_append (IsGood words (λ r. ⊤)) news (had m) (all_weaker IsMine (IsGood words (λ r. ⊤)) (λ r is. record { proper = elim is [ inl o ↦ upload_proper r o | inr g ↦ g.0 ]; has = tt }) news mine)
+      (all_weaker (λ r. IsTrue (words.is_proper r)) (IsGood words (λ r. ⊤)) (λ r p. record { proper = p; has = tt }) (had m) (recursion_from_All (λ r. IsTrue (words.is_proper r)) (had m) (proper m)))
+
+  -- where no row lies that gives up what was there
+  old_apart : (v : Version) → version_in has ≡ Some v → eight v.id ≡ eight version.id → ⊥
+  old_apart v e same =
+      let at_most : v.id ≤ P.asked = h.map.numbered.asked name v e in
+      let less : v.id < 2 ^ 64 = omega (arith, at_most, low_id) in
+      let is = eight_same v.id version.id (lt-ltb v.id (2 ^ 64) less) (lt-ltb version.id (2 ^ 64) low_id) same in
+      omega (arith, at_most, is)
+
+  abbrev key_of : ℕ → List ℕ
+  key_of i = (piece_hash block body i).0 ++ eight version.id
+
+  gone_from_object : (r : AnyRow) → IsGone r → is_at words 1 (row_key name) r ≡ false
+  gone_from_object r g = not_at any_join words r 1 (row_key name) (λ t k. not_object has r g.1 t)
+
+  gone_from_version : (r : AnyRow) → IsGone r → is_at words 2 (eight version.id) r ≡ false
+  gone_from_version r g = not_at any_join words r 2 (eight version.id) (λ t k. not_version has r g.1 version.id old_apart t k)
+
+  gone_from_reference : (i : ℕ) (r : AnyRow) → IsGone r → is_at words 3 (key_of i) r ≡ false
+  gone_from_reference i r g = not_at any_join words r 3 (key_of i) (λ t k. not_reference has r g.1 version.id old_apart (piece_hash block body i).0 (digest_length (piece block body i)) g.0 t k)
+
+  -- the rows of the upload among those that came
+  its_rows : (m : ℕ) (news : List AnyRow) → AllByRecursion IsMine news → Sifted OfUpload IsGone (had m) news
+  its_rows m news mine = sifted OfUpload IsGone (had m) news mine
+
+  -- the rows that these call for where they come give up what was there
+  pub queues_so : (m : ℕ) (news : List AnyRow) → AllByRecursion IsMine news → (r : AnyRow) → IsMine r → IsDue words layouts l m r → CallsFor (GivesUp has) (news ++ base l h.is_layout before n q m) r
+  queues_so m news mine r (inr g) due = gone_calls has (news ++ had m) (all_good m news mine) r g.1
+  queues_so m news mine r (inl (inl e)) due =
       let older = news ++ had m in
-      let here = subst (IsDue words layouts l m) e due in
-      let stage = stage_of q name version block content long count counts value old (had m) (all m here) news mine in
-      subst (λ r. called_for any_join words (row_at any_join words older (words.table r) (words.key r)) (row_at any_join words (r ∷ older) (words.table r) (words.key r)) ≡ []) (sym e)
-      (ap (called_for any_join words (row_at any_join words older 1 (row_key name))) (joins_there (uploading name version) older 1 (row_key name) refl refl)
-      ∙ (begun_comes name version (Blocks (meta_of content) (piece_hash block body 0)) refl value old (row_at any_join words older 1 (row_key name)) stage).1)
-  idle_so m news mine r (inr (inl e)) due =
+      let own = its_rows m news mine in
+      let stage = stage_of q name version block content long count counts (GivesUp has) value old (had m) (all m (subst (IsDue words layouts l m) e due)) own.first own.all in
+      let comes = begun_comes name version (Blocks (meta_of content) (piece_hash block body 0)) refl (GivesUp has) value old (row_at any_join words (own.first ++ had m) 1 (row_key name)) stage in
+      let there : row_at any_join words older 1 (row_key name) ≡ row_at any_join words (own.first ++ had m) 1 (row_key name) = own.same 1 (row_key name) gone_from_object in
+      subst (CallsFor (GivesUp has) older) (sym e)
+      (subst (λ (o : Option AnyRow). AllByRecursion (GivesUp has) (called_for any_join words (row_at any_join words older 1 (row_key name)) o)) (sym (joins_there (uploading name version) older 1 (row_key name) refl refl))
+      (subst (λ (o : Option AnyRow). AllByRecursion (GivesUp has) (called_for any_join words o (option_join any_join o (Some (uploading name version))))) (sym there) (subst (AllByRecursion (GivesUp has)) (sym comes.1) tt)))
+  queues_so m news mine r (inl (inr (inl e))) due =
       let older = news ++ had m in
-      let here = subst (IsDue words layouts l m) e due in
-      let stage = stage_of q name version block content long count counts value old (had m) (all m here) news mine in
-      subst (λ r. called_for any_join words (row_at any_join words older (words.table r) (words.key r)) (row_at any_join words (r ∷ older) (words.table r) (words.key r)) ≡ []) (sym e)
-      (ap (called_for any_join words (row_at any_join words older 1 (row_key name))) (joins_there (in_blocks name version block content) older 1 (row_key name) refl refl)
-      ∙ (whole_comes name version (Blocks (meta_of content) (piece_hash block body 0)) refl value old (row_at any_join words older 1 (row_key name)) stage).1)
-  idle_so m news mine r (inr (inr (inl v))) due =
+      let own = its_rows m news mine in
+      let stage = stage_of q name version block content long count counts (GivesUp has) value old (had m) (all m (subst (IsDue words layouts l m) e due)) own.first own.all in
+      let comes = whole_comes name version (Blocks (meta_of content) (piece_hash block body 0)) refl (GivesUp has) value old (row_at any_join words (own.first ++ had m) 1 (row_key name)) stage in
+      let there : row_at any_join words older 1 (row_key name) ≡ row_at any_join words (own.first ++ had m) 1 (row_key name) = own.same 1 (row_key name) gone_from_object in
+      subst (CallsFor (GivesUp has) older) (sym e)
+      (subst (λ (o : Option AnyRow). AllByRecursion (GivesUp has) (called_for any_join words (row_at any_join words older 1 (row_key name)) o)) (sym (joins_there (in_blocks name version block content) older 1 (row_key name) refl refl))
+      (subst (λ (o : Option AnyRow). AllByRecursion (GivesUp has) (called_for any_join words o (option_join any_join o (Some (in_blocks name version block content))))) (sym there) comes.1))
+  queues_so m news mine r (inl (inr (inr (inl v)))) due =
       let older = news ++ had m in
-      let naming = naming_of q name version block content long count counts (had m) (no_version m) news mine in
-      subst (λ r. called_for any_join words (row_at any_join words older (words.table r) (words.key r)) (row_at any_join words (r ∷ older) (words.table r) (words.key r)) ≡ []) (sym v.2)
-      (ap (called_for any_join words (row_at any_join words older 2 (eight version.id))) (joins_there (version_row version.id block body v.0) older 2 (eight version.id) refl refl)
-      ∙ (naming_comes q name version block content long count counts v.0 (row_at any_join words older 2 (eight version.id)) naming).1)
-  idle_so m news mine r (inr (inr (inr v))) due =
+      let own = its_rows m news mine in
+      let naming = naming_of q name version block content long count counts (had m) (no_version m) own.first own.all in
+      let comes = naming_comes q name version block content long count counts v.0 (row_at any_join words (own.first ++ had m) 2 (eight version.id)) naming in
+      let there : row_at any_join words older 2 (eight version.id) ≡ row_at any_join words (own.first ++ had m) 2 (eight version.id) = own.same 2 (eight version.id) gone_from_version in
+      subst (CallsFor (GivesUp has) older) (sym v.2)
+      (subst (λ (o : Option AnyRow). AllByRecursion (GivesUp has) (called_for any_join words (row_at any_join words older 2 (eight version.id)) o)) (sym (joins_there (version_row version.id block body v.0) older 2 (eight version.id) refl refl))
+      (subst (λ (o : Option AnyRow). AllByRecursion (GivesUp has) (called_for any_join words o (option_join any_join o (Some (version_row version.id block body v.0))))) (sym there) (subst (AllByRecursion (GivesUp has)) (sym comes.1) tt)))
+  queues_so m news mine r (inl (inr (inr (inr v)))) due =
       let older = news ++ had m in
-      let key : List ℕ = (piece_hash block body v.0).0 ++ eight version.id in
-      let ref = ref_of q name version block content long count counts (had m) v.0 (no_reference m v.0) news mine in
-      subst (λ r. called_for any_join words (row_at any_join words older (words.table r) (words.key r)) (row_at any_join words (r ∷ older) (words.table r) (words.key r)) ≡ []) (sym v.2)
-      (ap (called_for any_join words (row_at any_join words older 3 key)) (joins_there (reference_row version.id block body v.0) older 3 key refl refl)
-      ∙ (ref_comes q name version block content long count counts v.0 (row_at any_join words older 3 key) ref).1)
+      let own = its_rows m news mine in
+      let ref = ref_of q name version block content long count counts (had m) v.0 (no_reference m v.0) own.first own.all in
+      let comes = ref_comes q name version block content long count counts v.0 (row_at any_join words (own.first ++ had m) 3 (key_of v.0)) ref in
+      let there : row_at any_join words older 3 (key_of v.0) ≡ row_at any_join words (own.first ++ had m) 3 (key_of v.0) = own.same 3 (key_of v.0) (gone_from_reference v.0) in
+      subst (CallsFor (GivesUp has) older) (sym v.2)
+      (subst (λ (o : Option AnyRow). AllByRecursion (GivesUp has) (called_for any_join words (row_at any_join words older 3 (key_of v.0)) o)) (sym (joins_there (reference_row version.id block body v.0) older 3 (key_of v.0) refl refl))
+      (subst (λ (o : Option AnyRow). AllByRecursion (GivesUp has) (called_for any_join words o (option_join any_join o (Some (reference_row version.id block body v.0))))) (sym there) (subst (AllByRecursion (GivesUp has)) (sym comes.1) tt)))
 
   -- the request while it writes, and when it has written
-  abbrev MayWrite : State → Type 0
-  MayWrite t = Going l h.is_layout before n q (kind_of order) (name_of order) name flow value all flows stored_rows (suc count) end course writes_so IsMine Bytes such kept_so idle_so t
+  abbrev pub MayWrite : State → Type 0
+  MayWrite t = Going l h.is_layout before n q (kind_of order) (name_of order) name flow value all flows stored_rows (suc count) end course writes_so IsMine Bytes such kept_so proper (GivesUp has) queues_so t
 
-  abbrev HasWritten : State → Type 0
-  HasWritten t = Written l h.is_layout before n q (kind_of order) (name_of order) name flow value all flows stored_rows (suc count) end course writes_so IsMine Bytes such kept_so idle_so t
+  abbrev pub HasWritten : State → Type 0
+  HasWritten t = Written l h.is_layout before n q (kind_of order) (name_of order) name flow value all flows stored_rows (suc count) end course writes_so IsMine Bytes such kept_so proper (GivesUp has) queues_so t
 
-  write_next : (m : ℕ) (t : State) → MayWrite t → undelivered t.world ≡ Some m → FitAll any_join words t.world (delivers t m).moves → MayWrite (delivers t m).state
-  write_next = going_next l h.is_layout before n q (kind_of order) (name_of order) name flow value all flows stored_rows (suc count) end course writes_so IsMine Bytes such kept_so idle_so
+  pub write_next : (m : ℕ) (t : State) → MayWrite t → undelivered t.world ≡ Some m → FitAll any_join words t.world (delivers t m).moves → MayWrite (delivers t m).state
+  write_next = going_next l h.is_layout before n q (kind_of order) (name_of order) name flow value all flows stored_rows (suc count) end course writes_so IsMine Bytes such kept_so proper (GivesUp has) queues_so
 
-  write_ends : (t : State) → MayWrite t → undelivered t.world ≡ None → HasWritten t
-  write_ends = has_written l h.is_layout before n q (kind_of order) (name_of order) name flow value all flows stored_rows (suc count) end course writes_so IsMine Bytes such kept_so idle_so
+  pub write_ends : (t : State) → MayWrite t → undelivered t.world ≡ None → HasWritten t
+  write_ends = has_written l h.is_layout before n q (kind_of order) (name_of order) name flow value all flows stored_rows (suc count) end course writes_so IsMine Bytes such kept_so proper (GivesUp has) queues_so
 
   -- what was stored of a phase was sent
   sent_has : (j i : ℕ) (r : AnyRow) → i ≤ j → IsIn (new_rows stored_rows i) r → IsIn (sent_to stored_rows j) r
@@ -274,88 +350,95 @@ module _ (c : Cluster) (P : Plain) (h : Holds c P) (clash : NoClash P.buckets) (
       ap (λ b. map (λ (r : AnyRow × Option (List ℕ)). r.0) (elim b as (λ b. List (AnyRow × Option (List ℕ))) [ true ↦ block_rows version.id block body count | false ↦ (in_blocks name version block content, None) ∷ [] ])) counts.no_more in
       sent_has (suc count) (suc count) (in_blocks name version block content) (omega arith) (subst (λ rs. IsIn rs (in_blocks name version block content)) (sym rows) (inl refl))
 
-  -- where it has written, and nothing waits, both agree
-  uploaded_agrees : block ≡ P.block → answered after order ≡ writes after name w → (let u = (drains all_messages (opened before n order).state).state in HasWritten u → undelivered u.world ≡ None → Agrees c P time order)
-  uploaded_agrees block_is answered_so = λ written none_left.
-      let u : State = (drains all_messages (opened before n order).state).state in
-      let done = written.done_so in
-      let none : waiting u.world ≡ [] = none_waits u.world none_left in
-      let accepted : (m : ℕ) → (u.world.nodes m).accepted ≡ done.is.account.news m ++ had m =
-      accepted_so l h.is_layout before n q (kind_of order) (name_of order) name flow value all flows stored_rows (suc count) end course writes_so IsMine Bytes such kept_so idle_so u.world done.is (suc count) done.sent_so in
-      let news : (m : ℕ) → AllByRecursion IsMine (done.is.account.news m) =
-      news_mine l h.is_layout before n q (kind_of order) (name_of order) name flow value all flows stored_rows (suc count) end course writes_so IsMine Bytes such kept_so idle_so u.world done.is (suc count) done.sent_so in
+  -- no row of the upload lies elsewhere
+  upload_not_object : (other : Name) → Contains P.buckets other.bucket → same_name name other ≡ false → (r : AnyRow) → OfUpload r → words.table r ≡ 1 → words.key r ≡ row_key other → ⊥
+  upload_not_object other too apart r (inl e) t k = one_name P.buckets clash name other there too (sym (ap words.key e) ∙ k) apart
+  upload_not_object other too apart r (inr (inl e)) t k = one_name P.buckets clash name other there too (sym (ap words.key e) ∙ k) apart
+  upload_not_object other too apart r (inr (inr (inl v))) t k = two_tables 1 2 (omega arith) (sym t ∙ ap words.table v.2)
+  upload_not_object other too apart r (inr (inr (inr v))) t k = two_tables 1 3 (omega arith) (sym t ∙ ap words.table v.2)
+
+  upload_not_version : (id : ℕ) → (eight version.id ≡ eight id → ⊥) → (r : AnyRow) → OfUpload r → words.table r ≡ 2 → words.key r ≡ eight id → ⊥
+  upload_not_version id apart r (inl e) t k = two_tables 1 2 (omega arith) (sym (ap words.table e) ∙ t)
+  upload_not_version id apart r (inr (inl e)) t k = two_tables 1 2 (omega arith) (sym (ap words.table e) ∙ t)
+  upload_not_version id apart r (inr (inr (inl v))) t k = apart (sym (ap words.key v.2) ∙ k)
+  upload_not_version id apart r (inr (inr (inr v))) t k = two_tables 2 3 (omega arith) (sym t ∙ ap words.table v.2)
+
+  upload_not_reference : (id : ℕ) (hash : List ℕ) → length hash ≡ 32 → (eight version.id ≡ eight id → ⊥) → (r : AnyRow) → OfUpload r → words.table r ≡ 3 → words.key r ≡ hash ++ eight id → ⊥
+  upload_not_reference id hash size apart r (inl e) t k = two_tables 1 3 (omega arith) (sym (ap words.table e) ∙ t)
+  upload_not_reference id hash size apart r (inr (inl e)) t k = two_tables 1 3 (omega arith) (sym (ap words.table e) ∙ t)
+  upload_not_reference id hash size apart r (inr (inr (inl v))) t k = two_tables 2 3 (omega arith) (sym (ap words.table v.2) ∙ t)
+  upload_not_reference id hash size apart r (inr (inr (inr v))) t k =
+      apart (key_parts (piece_hash block body v.0) (record { 0 = hash }) (eight version.id) (eight id) (digest_length (piece block body v.0)) size (sym (ap words.key v.2) ∙ k)).1
+
+  -- ---- the rounds after it
+
+  abbrev sent : List AnyRow
+  sent = sent_to stored_rows (suc count)
+
+  abbrev Clears : State → Type 0
+  Clears u = Clearing l h.is_layout before n q end sent proper IsMine (GivesUp has) Bytes queues_so (λ r p g. inr (p, g)) u
+
+  -- no row of the write lies at this place
+  abbrev Apart : ℕ → List ℕ → Type 0
+  Apart table key = (r : AnyRow) → IsMine r → is_at words table key r ≡ false
+
+  written_clears : (u : State) → HasWritten u → Clears u
+  written_clears u written = record {
+    sent = sent;
+    done_so = written.done_so;
+    mine = all_mine l h.is_layout before n q (kind_of order) (name_of order) name flow value all flows stored_rows (suc count) end course writes_so IsMine Bytes such kept_so proper (GivesUp has) queues_so (suc count);
+    was = λ r sent. sent;
+    waits = record { queued = written.keeps.queued; given = written.keeps.given };
+    kept = λ m key r hash given apart e live at. written.keeps.kept m hash given at;
+  }
+
+  -- where no row of the write lies
+  apart_object : (other : Name) → Contains P.buckets other.bucket → same_name name other ≡ false → Apart 1 (row_key other)
+  apart_object other too apart r is = not_at any_join words r 1 (row_key other) (λ t k. elim is [ inl o ↦ upload_not_object other too apart r o t k | inr g ↦ not_object has r g.1 t ])
+
+  apart_version : (id : ℕ) → IsOther c P h time order known fit name id → Apart 2 (eight id)
+  apart_version id apart r is = not_at any_join words r 2 (eight id) (λ t k. elim is [ inl o ↦ upload_not_version id apart.1 r o t k | inr g ↦ not_version has r g.1 id apart.0 t k ])
+
+  apart_reference : (id : ℕ) (hash : List ℕ) → length hash ≡ 32 → IsOther c P h time order known fit name id → Apart 3 (hash ++ eight id)
+  apart_reference id hash size apart r is =
+      not_at any_join words r 3 (hash ++ eight id) (λ t k. elim is [ inl o ↦ upload_not_reference id hash size apart.1 r o t k | inr g ↦ not_reference has r g.1 id apart.0 hash size g.0 t k ])
+
+  -- where the rounds are over the cluster holds what the map has become
+  cleared_holds : block ≡ P.block → (u : State) → Clears u → HasLeft words layouts l 3 u.world → Holding l Q u
+  cleared_holds block_is u cleared left =
+      let done = cleared.done_so in
+      let accepted = accepted_are l h.is_layout before n q end sent proper IsMine (GivesUp has) Bytes queues_so (λ r p g. inr (p, g)) u cleared in
+      let news = all_news l h.is_layout before n q end sent proper IsMine (GivesUp has) Bytes queues_so (λ r p g. inr (p, g)) u cleared in
+      let own : (m : ℕ) → Sifted OfUpload IsGone (had m) (done.is.account.news m) = λ m. its_rows m (done.is.account.news m) (news m) in
       -- what was sent came
-      let came : (r : AnyRow) → IsIn (sent_to stored_rows (suc count)) r → (m : ℕ) → IsDue words layouts l m r → IsIn (done.is.account.news m) r = λ r sent m due.
-      elim (done.is.sound.all r (subst (λ rs. IsIn rs r) (sym done.sent_so) sent) m due) [
-        | inl has ↦ has
-        | inr brought ↦ absurd (subst (SomeOf (Brings words layouts l m r)) none brought)
-      ] in
-      -- what nodes have at another place
-      let elsewhere : (m table : ℕ) (key : List ℕ) → ((r : AnyRow) → IsMine r → words.table r ≡ table → words.key r ≡ key → ⊥) → row_at any_join words (u.world.nodes m).accepted table key ≡ row_at any_join words (had m) table key =
-      λ m table key other. ap (λ rs. row_at any_join words rs table key) (accepted m) ∙ passed_all (had m) table key other (done.is.account.news m) (news m) in
-      let here : (m : ℕ) → IsTrue (is_among m (nodes_at l (digest_of name.bucket).0)) → row_at any_join words (u.world.nodes m).accepted 1 (row_key name) ≡ Some (in_blocks name version block content) = λ m is.
-      ap (λ rs. row_at any_join words rs 1 (row_key name)) (accepted m)
-      ∙ whole_there q name version block content long count counts value old (had m) (all m is) (done.is.account.news m) (news m) (came (in_blocks name version block content) whole_sent m is) in
-      let new : Has = made version after.block w in
-      let new_row : row_of name new ≡ Some (in_blocks name version block content) =
+      let came : (r : AnyRow) → (IsGone r → ⊥) → IsIn sent r → (m : ℕ) → IsDue words layouts l m r → IsIn (own m).first r = λ r not_gone was m due.
+      (own m).has r not_gone (elim (done.is.sound.all r (subst (λ rs. IsIn rs r) (sym done.sent_so) (cleared.was r was)) m due) [
+        | inl came ↦ came
+        | inr brought ↦ absurd (subst (SomeOf (Brings words layouts l m r)) left.none brought)
+      ]) in
+      -- what nodes have where no row lies that gives up what was there
+      let at : (m table : ℕ) (key : List ℕ) → ((r : AnyRow) → IsGone r → is_at words table key r ≡ false) → row_at any_join words (u.world.nodes m).accepted table key ≡ row_at any_join words ((own m).first ++ had m) table key =
+      λ m table key apart. ap (λ rs. row_at any_join words rs table key) (accepted m) ∙ (own m).same table key apart in
+      let new_row : row_of name (made version after.block w) ≡ Some (in_blocks name version block content) =
       ap (λ b. Some (elim b as (λ b. AnyRow) [ true ↦ in_blocks name version after.block content | false ↦ inline name version content ])) long ∙ ap (λ b. Some (in_blocks name version b content)) (sym block_is) in
-      let rows_so : (other : Name) (m : ℕ) → Contains P.buckets other.bucket → IsTrue (is_among m (nodes_at l (digest_of other.bucket).0)) → row_at any_join words (u.world.nodes m).accepted 1 (row_key other) ≡ row_of other (has_at Q other) =
-      λ other m too is. elim (same_name name other) as (λ b. same_name name other ≡ b → row_at any_join words (u.world.nodes m).accepted 1 (row_key other) ≡ row_of other (has_at Q other)) [
-        | true ↦ λ e.
-            subst (λ x. IsTrue (is_among m (nodes_at l (digest_of x.bucket).0)) → row_at any_join words (u.world.nodes m).accepted 1 (row_key x) ≡ row_of x (has_at Q x)) (names_equal name other e)
-            (λ is. here m is ∙ sym (ap (row_of name) (has_new name new P.entries) ∙ new_row)) is
-        | false ↦ λ e.
-            elsewhere m 1 (row_key other) (λ r mine t k. not_object other too e r mine t k)
-            ∙ (holding.rows other m too is ∙ ap (row_of other) (sym (has_others name new other e P.entries)))
-      ] refl in
-      let references : (i m : ℕ) → has_piece block body i ≡ true → IsTrue (is_among m (nodes_at l (piece_hash block body i).0)) → row_at any_join words (u.world.nodes m).accepted 3 ((piece_hash block body i).0 ++ eight version.id) ≡ Some (reference_row version.id block body i) =
-      λ i m e is. ap (λ rs. row_at any_join words rs 3 ((piece_hash block body i).0 ++ eight version.id)) (accepted m)
-      ∙ ref_there q name version block content long count counts (had m) i (no_reference m i) (done.is.account.news m) (news m) (came (reference_row version.id block body i) (block_sent i e).1 m is) in
+      let references : (i m : ℕ) → has_piece block body i ≡ true → IsTrue (is_among m (nodes_at l (piece_hash block body i).0)) → row_at any_join words (u.world.nodes m).accepted 3 (key_of i) ≡ Some (reference_row version.id block body i) =
+      λ i m e is. at m 3 (key_of i) (gone_from_reference i)
+      ∙ ref_there q name version block content long count counts (had m) i (no_reference m i) (own m).first (own m).all (came (reference_row version.id block body i) (λ g. not_reference has _ g.1 version.id old_apart (piece_hash block body i).0 (digest_length (piece block body i)) g.0 refl refl) (block_sent i e).1 m is) in
       let its_blocks : HasBlocks l u.world version block content = record {
         count = count;
         pieces_there = counts.there;
         no_more = counts.no_more;
-        named = λ m is. ap (λ rs. named_by (row_at any_join words rs 2 (eight version.id)) (length body)) (accepted m)
-            ∙ (let last = last_of_count in names_all q name version block content long count counts (had m) (no_version m) (done.is.account.news m) (news m) (λ i e. came (version_row version.id block body i) (block_sent i e).0 m is) last.0 last.1);
+        named = λ m is. ap (λ o. named_by o (length body)) (at m 2 (eight version.id) gone_from_version)
+            ∙ (let last = last_of_count in names_all q name version block content long count counts (had m) (no_version m) (own m).first (own m).all
+            (λ i e. came (version_row version.id block body i) (λ g. not_version has _ g.1 version.id old_apart refl refl) (block_sent i e).0 m is) last.0 last.1);
         referenced = λ i m e is. references i m e is;
-        kept = λ i m e is. its_bytes (u.world.nodes m).blocks (piece_hash block body i).0 (piece block body i) (written.keeps.given.nodes m) (pieces i e)
-            ((done.frame.stocked.nodes m).has 3 ((piece_hash block body i).0 ++ eight version.id) (reference_row version.id block body i) (piece_hash block body i).0 (references i m e is) refl) refl;
+        kept = λ i m e is. its_bytes (u.world.nodes m).blocks (piece_hash block body i).0 (piece block body i) (cleared.waits.given.nodes m) (pieces i e)
+            ((done.frame.stocked.nodes m).has 3 (key_of i) (reference_row version.id block body i) (piece_hash block body i).0 (references i m e is) refl) refl;
       } in
-      let new_blocks : HasItsBlocks l u.world new = λ e. subst (λ b. HasBlocks l u.world version b content) block_is its_blocks in
-      let blocks_so : (other : Name) → Contains P.buckets other.bucket → HasItsBlocks l u.world (has_at Q other) =
-      λ other too. elim (same_name name other) as (λ b. same_name name other ≡ b → HasItsBlocks l u.world (has_at Q other)) [
-        | true ↦ λ e. subst (λ x. HasItsBlocks l u.world (has_at Q x)) (names_equal name other e) (subst (HasItsBlocks l u.world) (sym (has_new name new P.entries)) new_blocks)
-        | false ↦ λ e. subst (HasItsBlocks l u.world) (sym (has_others name new other e P.entries))
-            (blocks_moved l before.world u.world (λ m key row hash given f live at. written.keeps.kept m hash given at) (has_at P other)
-            (λ v f. let apart = other_id other v f in record {
-              row = λ m. elsewhere m 2 (eight v.id) (λ r mine t k. not_version v.id apart r mine t k);
-              references = λ m hash size. elsewhere m 3 (hash ++ eight v.id) (λ r mine t k. not_reference v.id hash size apart r mine t k);
-            }) (holding.blocks other too))
-      ] refl in
-      let held : Holding l Q u = record {
-        rest = record {
-          views = done.is.sound.views;
-          marked = done.is.marked;
-          delivered = none;
-          calls = λ m. none_found (u.world.nodes m).calls (done.none m);
-          items = written.keeps.idle;
-        };
-        skews = λ m. done.frame.skews m ∙ holding.skews m;
-        equal = equal_when_drained any_laws schema_laws layouts l had u.world done.is none holding.equal;
-        stocked = done.frame.stocked;
-        rows = rows_so;
-        blocks = blocks_so;
-        buckets = done.frame.buckets ∙ holding.buckets;
-        block = done.frame.block ∙ holding.block;
-        clock = done.frame.time ∙ holding.clock;
-        requests = done.frame.requests ∙ asked_so;
-        asked = done.frame.asked ∙ asked_so;
-        fresh = record {
-          versions = λ m id later_id low. elsewhere m 2 (eight id) (λ r mine t k. not_version id (apart_later id low later_id) r mine t k) ∙ holding.fresh.versions m id (omega (arith, later_id)) low;
-          references = λ m id hash later_id low size. elsewhere m 3 (hash ++ eight id) (λ r mine t k. not_reference id hash size (apart_later id low later_id) r mine t k) ∙ holding.fresh.references m id hash (omega (arith, later_id)) low size;
-        };
-      } in
-      answers_so c P h time order known fit (answered after order) (carried_as c P h time order known fit) Q end answered_so refl refl held done.ends_so
+      becomes_held c P h time order known fit name w end sent IsMine (GivesUp has) Bytes queues_so (λ r p g. inr (p, g)) apart_object apart_version apart_reference u cleared left
+      (λ m is. at m 1 (row_key name) gone_from_object
+      ∙ (whole_there q name version block content long count counts (GivesUp has) value old (had m) (all m is) (own m).first (own m).all (came (in_blocks name version block content) (λ g. not_object has _ g.1 refl) whole_sent m is) ∙ sym new_row))
+      (λ e. subst (λ b. HasBlocks l u.world version b content) block_is its_blocks)
     where
       last_of_count : (last : ℕ) × (count ≡ suc last)
       last_of_count = by count refl
@@ -371,45 +454,19 @@ module _ (c : Cluster) (P : Plain) (h : Holds c P) (clash : NoClash P.buckets) (
             | Some given ↦ λ e beside. ap Some (one_digest given bytes (found_kept Bytes bs hash given kept e) is (beside ∙ sym digest))
           ] refl has
 
-      passed_all : (b : List AnyRow) (table : ℕ) (key : List ℕ) → ((r : AnyRow) → IsMine r → words.table r ≡ table → words.key r ≡ key → ⊥) → (news : List AnyRow) → AllByRecursion IsMine news → row_at any_join words (news ++ b) table key ≡ row_at any_join words b table key
-      passed_all b table key other [] all = refl
-      passed_all b table key other (r ∷ news) all = passes_by r (news ++ b) table key (other r all.0) ∙ passed_all b table key other news all.1
-
-      not_object : (other : Name) → Contains P.buckets other.bucket → same_name name other ≡ false → (r : AnyRow) → IsMine r → words.table r ≡ 1 → words.key r ≡ row_key other → ⊥
-      not_object other too apart r (inl e) t k = one_name P.buckets clash name other there too (sym (ap words.key e) ∙ k) apart
-      not_object other too apart r (inr (inl e)) t k = one_name P.buckets clash name other there too (sym (ap words.key e) ∙ k) apart
-      not_object other too apart r (inr (inr (inl v))) t k = two_tables 1 2 (omega arith) (sym t ∙ ap words.table v.2)
-      not_object other too apart r (inr (inr (inr v))) t k = two_tables 1 3 (omega arith) (sym t ∙ ap words.table v.2)
-
-      not_version : (id : ℕ) → (eight version.id ≡ eight id → ⊥) → (r : AnyRow) → IsMine r → words.table r ≡ 2 → words.key r ≡ eight id → ⊥
-      not_version id apart r (inl e) t k = two_tables 1 2 (omega arith) (sym (ap words.table e) ∙ t)
-      not_version id apart r (inr (inl e)) t k = two_tables 1 2 (omega arith) (sym (ap words.table e) ∙ t)
-      not_version id apart r (inr (inr (inl v))) t k = apart (sym (ap words.key v.2) ∙ k)
-      not_version id apart r (inr (inr (inr v))) t k = two_tables 2 3 (omega arith) (sym t ∙ ap words.table v.2)
-
-      not_reference : (id : ℕ) (hash : List ℕ) → length hash ≡ 32 → (eight version.id ≡ eight id → ⊥) → (r : AnyRow) → IsMine r → words.table r ≡ 3 → words.key r ≡ hash ++ eight id → ⊥
-      not_reference id hash size apart r (inl e) t k = two_tables 1 3 (omega arith) (sym (ap words.table e) ∙ t)
-      not_reference id hash size apart r (inr (inl e)) t k = two_tables 1 3 (omega arith) (sym (ap words.table e) ∙ t)
-      not_reference id hash size apart r (inr (inr (inl v))) t k = two_tables 2 3 (omega arith) (sym (ap words.table v.2) ∙ t)
-      not_reference id hash size apart r (inr (inr (inr v))) t k =
-          apart (key_parts (piece_hash block body v.0) (record { 0 = hash }) (eight version.id) (eight id) (digest_length (piece block body v.0)) size (sym (ap words.key v.2) ∙ k)).1
-
-      apart_id : (id : ℕ) → id < 2 ^ 64 → (version.id ≡ id → ⊥) → eight version.id ≡ eight id → ⊥
-      apart_id id low other e = other (eight_same version.id id (lt-ltb version.id (2 ^ 64) low_id) (lt-ltb id (2 ^ 64) low) e)
-
-      apart_later : (id : ℕ) → id < 2 ^ 64 → suc P.asked < id → eight version.id ≡ eight id → ⊥
-      apart_later id low later_id = apart_id id low (λ e. absurd (omega (arith, e, later_id)))
-
-      other_id : (other : Name) (v : Version) → version_in (has_at P other) ≡ Some v → eight version.id ≡ eight v.id → ⊥
-      other_id other v f =
-          let at_most : v.id ≤ P.asked = h.map.numbered.asked other v f in
-          let bound : version.id < 2 ^ 64 = low_id in
-          apart_id v.id (omega (arith, at_most, bound)) (λ e. absurd (omega (arith, e, at_most)))
+  -- where it has written, and nothing waits, both agree
+  pub uploaded_agrees : ((bytes : List ℕ) → Bytes bytes → IsBlockAt c P order bytes) → block ≡ P.block → answered after order ≡ writes after name w → (let u = (drains all_messages (opened before n order).state).state in HasWritten u → undelivered u.world ≡ None → Follows c P time order)
+  uploaded_agrees such_blocks block_is answered_so = λ written none_left.
+      let u : State = (drains all_messages (opened before n order).state).state in
+      let left : HasLeft words layouts l 1 u.world = box_left schema_laws schema_descends layouts l h.is_layout had proper Applied Cut trio stage_trio 1 u.world written.keeps.boxed (none_waits u.world none_left) in
+      let served = rounds_clear l h.is_layout before n q end sent proper IsMine (GivesUp has) Bytes queues_so (λ r p g. inr (p, g)) c.members h.members_are u (written_clears u written) left (rounds_fit c P h time order known fit) in
+      serves_so c P h time order known fit (answered after order) (carried_as c P h time order known fit) Q end answered_so refl refl (cleared_holds block_is (served_state c P h time order known) served.0 served.1)
+      (λ m. all_weaker (λ (b : Block). Bytes b.bytes) (λ (b : Block). IsBlockAt c P order b.bytes) (λ b is. such_blocks b.bytes is) ((served_state c P h time order known).world.nodes m).blocks (served.0.waits.given.nodes m)) served.0.done_so.ends_so
 
 -- ---- a put
 
 module _ (c : Cluster) (P : Plain) (h : Holds c P) (clash : NoClash P.buckets) (time : ℕ) (bucket key body : List ℕ) (headers : List (List ℕ × List ℕ)) (known : are_buckets P.buckets (bucket ∷ []) ≡ true) (fit : fits c time (order.Put bucket key body headers))
-    (is_such : List ℕ → Bool) (blocks : AllBlocks is_such c.run.world) (apart : NoTwins is_such) (some : 1 ≤ P.block) where
+    (apart : AreApart (IsBlockAt c P (order.Put bucket key body headers))) (some : 1 ≤ P.block) where
   abbrev put : Order
   put = order.Put bucket key body headers
 
@@ -422,13 +479,14 @@ module _ (c : Cluster) (P : Plain) (h : Holds c P) (clash : NoClash P.buckets) (
   abbrev start_state : State
   start_state = now c P h time put
 
-  put_agrees : is_long body ≡ true → IsInRow (has_at P its_name) → ((i : ℕ) → has_piece P.block body i ≡ true → IsTrue (is_such (piece P.block body i))) → Agrees c P time put
-  put_agrees long in_row pieces =
+  put_agrees : is_long body ≡ true → Follows c P time put
+  put_agrees long =
       let l = h.layout in
       let m = asker_now c P h time put in
       let r = number start_state in
       let too = one_bucket P.buckets bucket known in
-      let such : List ℕ → Type 0 = λ bytes. IsTrue (is_such bytes) in
+      let such : List ℕ → Type 0 = IsBlockAt c P put in
+      let blocks = kept_before c P put in
       let counted = some_count c.run.block body (subst (λ b. 1 ≤ b) (sym h.block) some) in
       let first_flow : Flow = record { id = r; block = c.run.block; stage = Drawing its_name (wish.Content its_content) } in
       let sought = a_row 1 (row_key its_name) (row_of its_name (has_at P its_name)) in
@@ -441,27 +499,46 @@ module _ (c : Cluster) (P : Plain) (h : Holds c P) (clash : NoClash P.buckets) (
       let fit' : FitAll any_join words start.world (drains all_messages start).moves = subst (λ (t : State). FitAll any_join words t.world (drains all_messages t).moves) opened_so (drain_fits c P h time put known fit) in
       let u : State = (drains all_messages start).state in
       let none = emptied_from start begun.open_so.is.marked fit' in
-      let pieces_so : (i : ℕ) → has_piece c.run.block body i ≡ true → IsTrue (is_such (piece c.run.block body i)) = subst (λ b. (i : ℕ) → has_piece b body i ≡ true → IsTrue (is_such (piece b body i))) (sym h.block) pieces in
-      let May : State → Type 0 = λ t. MayWrite c P h clash time put known fit its_name too its_content long in_row such apart blocks counted.0 counted.1 pieces_so small t in
-      let Has' : State → Type 0 = λ t. HasWritten c P h clash time put known fit its_name too its_content long in_row such apart blocks counted.0 counted.1 pieces_so small t in
-      let kept = drains_keep May (write_next c P h clash time put known fit its_name too its_content long in_row such apart blocks counted.0 counted.1 pieces_so small) all_messages start (inl begun) fit' in
-      let ended = write_ends c P h clash time put known fit its_name too its_content long in_row such apart blocks counted.0 counted.1 pieces_so small u kept none in
-      uploaded_agrees c P h clash time put known fit its_name too its_content long in_row such apart blocks counted.0 counted.1 pieces_so small h.block refl
+      let pieces_so : (i : ℕ) → has_piece c.run.block body i ≡ true → such (piece c.run.block body i) = subst (λ b. (i : ℕ) → has_piece b body i ≡ true → such (piece b body i)) (sym h.block) (λ i e. inr (i, long, e, refl)) in
+      let May : State → Type 0 = λ t. MayWrite c P h clash time put known fit its_name too its_content long such apart blocks counted.0 counted.1 pieces_so small t in
+      let Has' : State → Type 0 = λ t. HasWritten c P h clash time put known fit its_name too its_content long such apart blocks counted.0 counted.1 pieces_so small t in
+      let kept = drains_keep May (write_next c P h clash time put known fit its_name too its_content long such apart blocks counted.0 counted.1 pieces_so small) all_messages start (inl begun) fit' in
+      let ended = write_ends c P h clash time put known fit its_name too its_content long such apart blocks counted.0 counted.1 pieces_so small u kept none in
+      uploaded_agrees c P h clash time put known fit its_name too its_content long such apart blocks counted.0 counted.1 pieces_so small (λ bytes is. is) h.block refl
       (subst (λ (t : State). Has' (drains all_messages t).state) (sym opened_so) ended)
       (subst (λ (t : State). undelivered (drains all_messages t).state.world ≡ None) (sym opened_so) none)
 
-put_agrees_by : (c : Cluster) (P : Plain) (time : ℕ) (order : Order) (is_such : List ℕ → Bool) → (h : Holds c P) → NoClash P.buckets → 1 ≤ P.block → AllBlocks is_such c.run.world → NoTwins is_such → fits c time order → PutsBlocks P is_such order → are_buckets P.buckets (buckets_of order) ≡ true → Agrees c P time order
-put_agrees_by c P time (order.Put bucket key body headers) is_such h clash some blocks apart fit is known = put_agrees c P h clash time bucket key body headers known fit is_such blocks apart some is.0 is.1 is.2
-put_agrees_by c P time (order.Get bucket key) is_such h clash some blocks apart fit is known = absurd is
-put_agrees_by c P time (order.Head bucket key) is_such h clash some blocks apart fit is known = absurd is
-put_agrees_by c P time (order.Delete bucket key) is_such h clash some blocks apart fit is known = absurd is
-put_agrees_by c P time (order.Copy from_bucket from_key bucket key headers) is_such h clash some blocks apart fit is known = absurd is
-put_agrees_by c P time (order.List bucket prefix) is_such h clash some blocks apart fit is known = absurd is
+put_agrees_by : (c : Cluster) (P : Plain) (time : ℕ) (order : Order) → (h : Holds c P) → NoClash P.buckets → 1 ≤ P.block → AreApart (IsBlockAt c P order) → fits c time order → PutsLong order → are_buckets P.buckets (buckets_of order) ≡ true → Follows c P time order
+put_agrees_by c P time (order.Put bucket key body headers) h clash some apart fit is known = put_agrees c P h clash time bucket key body headers known fit apart some is
+put_agrees_by c P time (order.Get bucket key) h clash some apart fit is known = absurd is
+put_agrees_by c P time (order.Head bucket key) h clash some apart fit is known = absurd is
+put_agrees_by c P time (order.Delete bucket key) h clash some apart fit is known = absurd is
+put_agrees_by c P time (order.Copy from_bucket from_key bucket key headers) h clash some apart fit is known = absurd is
+put_agrees_by c P time (order.List bucket prefix) h clash some apart fit is known = absurd is
 
 -- whether or not the bucket is there
-pub puts_blocks_agree : (c : Cluster) (P : Plain) (time : ℕ) (order : Order) (is_such : List ℕ → Bool) → Holds c P → NoClash P.buckets → 1 ≤ P.block → AllBlocks is_such c.run.world → NoTwins is_such → fits c time order → PutsBlocks P is_such order → Agrees c P time order
-puts_blocks_agree c P time order is_such h clash some blocks apart fit is =
-    elim (are_buckets P.buckets (buckets_of order)) as (λ b. are_buckets P.buckets (buckets_of order) ≡ b → Agrees c P time order) [
-      | true ↦ λ e. put_agrees_by c P time order is_such h clash some blocks apart fit is e
+pub puts_blocks_follow : (c : Cluster) (P : Plain) (time : ℕ) (order : Order) → Holds c P → NoClash P.buckets → 1 ≤ P.block → AreApart (IsBlockAt c P order) → fits c time order → PutsLong order → Follows c P time order
+puts_blocks_follow c P time order h clash some apart fit is =
+    elim (are_buckets P.buckets (buckets_of order)) as (λ b. are_buckets P.buckets (buckets_of order) ≡ b → Follows c P time order) [
+      | true ↦ λ e. put_agrees_by c P time order h clash some apart fit is e
       | false ↦ λ e. agrees_refused c P h time order e
     ] refl
+
+-- the same, where a test says of which strings blocks are
+module _ (c : Cluster) (P : Plain) (is_such : List ℕ → Bool) (blocks : AllBlocks is_such c.run.world) where
+  put_such : (order : Order) → PutsBlocks P is_such order → PutsLong order × ((bytes : List ℕ) → IsBlockAt c P order bytes → IsTrue (is_such bytes))
+  put_such (order.Put bucket key body headers) is = (is.0, such)
+    where
+      such : (bytes : List ℕ) → IsBlockAt c P (order.Put bucket key body headers) bytes → IsTrue (is_such bytes)
+      such bytes (inl kept) = kept_such (λ bytes. IsTrue (is_such bytes)) c.run.world blocks bytes kept
+      such bytes (inr p) = subst (λ bytes. IsTrue (is_such bytes)) (sym p.3) (is.1 p.0 p.2)
+  put_such (order.Get bucket key) is = absurd is
+  put_such (order.Head bucket key) is = absurd is
+  put_such (order.Delete bucket key) is = absurd is
+  put_such (order.Copy from_bucket from_key bucket key headers) is = absurd is
+  put_such (order.List bucket prefix) is = absurd is
+
+pub puts_blocks_agree : (c : Cluster) (P : Plain) (time : ℕ) (order : Order) (is_such : List ℕ → Bool) → Holds c P → NoClash P.buckets → 1 ≤ P.block → AllBlocks is_such c.run.world → NoTwins is_such → fits c time order → PutsBlocks P is_such order → Agrees c P time order
+puts_blocks_agree c P time order is_such h clash some blocks apart fit is =
+    let p = put_such c P is_such blocks order is in
+    (puts_blocks_follow c P time order h clash some (λ a b such other e. apart a b (p.1 a such) (p.1 b other) e) fit p.0).agrees

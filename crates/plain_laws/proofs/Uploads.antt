@@ -1,6 +1,7 @@
--- Rows of an object while it is uploaded over what isn't kept in blocks: what they merge to, and that no change calls for another row.
-use Rattle.std.proofs.Common.{◌≡◌, ◌⊎◌, true, false, Option, Some, None, List, [], ◌∷◌, ◌++◌, map, refl, sym, ap, ap₂, ◌∙◌, subst, inl, inr}
+-- Rows of an object while it is uploaded: what they merge to, and that changes call for no row but the end of an earlier version.
+use Rattle.std.proofs.Common.{◌≡◌, ◌⊎◌, true, Option, Some, None, List, [], ◌∷◌, ◌++◌, map, refl, sym, ap, ap₂, ◌∙◌, subst, inl, inr}
 use Rattle.std.specs.Prelude.{◌&&◌, not, is_none, option_map}
+use Rattle.std.specs.List.{AllByRecursion}
 use Rattle.std.specs.declared.cmp.Ordering.TheVariants.{Less, Equal, Greater}
 use Rattle.std.specs.Cmp.{tied_itself}
 use Rattle.crdt_core.specs.declared.max.Max.{Max}
@@ -35,7 +36,9 @@ use Rattle.object_schema.specs.Triggers.{in_order, has_blocks, is_aborted, versi
 use Rattle.cluster_machine.specs.Rows.{called_for}
 use Rattle.flow_model.specs.declared.flow.Name.{Name}
 use Rattle.flow_model.specs.Rows.{object_row, uploading}
-use Rattle.plain_laws.proofs.Smalls.{row_with, later_stays, triggers_none}
+use Rattle.crdt_core.proofs.Each.{all_weaker}
+use Rattle.plain_laws.proofs.Smalls.{row_with, later_stays}
+use Rattle.plain_laws.proofs.GivenUp.{ends_one}
 
 module _ (name : Name) (version : Version) (body : Body) (fits : is_sized (Complete body) ≡ true) where
   abbrev begun : ObjectRow
@@ -76,9 +79,9 @@ module _ (name : Name) (version : Version) (body : Body) (fits : is_sized (Compl
       by (Inline meta bytes) f = refl
       by (Blocks meta first) f = let same : version_cmp version version ≡ Equal = tied_itself version_total version in rw same refl
 
-  -- ---- over a version that isn't kept in blocks
+  -- ---- over an earlier version
 
-  module _ (u : Version) (old : Body) (fit : is_sized (Complete old) ≡ true) (none : has_blocks (Complete old) ≡ false) (less : version_cmp u version ≡ Less) where
+  module _ (u : Version) (old : Body) (fit : is_sized (Complete old) ≡ true) (less : version_cmp u version ≡ Less) where
     abbrev a : ObjectRow
     a = row_with name u (Complete old) fit
 
@@ -118,58 +121,62 @@ module _ (name : Name) (version : Version) (body : Body) (fits : is_sized (Compl
         ++ versions_that (λ e. is_aborted (Some e.1.0) && not (is_aborted (option_map (λ (x : Max State). x.0) (value_at version_cmp e.0 es)))) fs))
 
     from_old : words.triggered V VU ≡ []
-    from_old = ap (by_entries ((u, record { 0 = Complete old }) ∷ [])) mixed_entries ∙ by old none
+    from_old = ap (by_entries ((u, record { 0 = Complete old }) ∷ [])) mixed_entries ∙ by old
       where
-        by : (b : Body) → has_blocks (Complete b) ≡ false → by_entries ((u, record { 0 = Complete b }) ∷ []) ((u, record { 0 = Complete b }) ∷ (version, record { 0 = Uploading }) ∷ []) ≡ []
-        by Marker n = refl
-        by (Inline meta bytes) n = refl
-        by (Blocks meta first) n = absurd (cc)
+        by : (b : Body) → by_entries ((u, record { 0 = Complete b }) ∷ []) ((u, record { 0 = Complete b }) ∷ (version, record { 0 = Uploading }) ∷ []) ≡ []
+        by Marker = refl
+        by (Inline meta bytes) = refl
+        by (Blocks meta first) = rw (tied_itself version_total u) refl
 
     from_mixed : words.triggered VU VU ≡ []
-    from_mixed = ap₂ by_entries mixed_entries mixed_entries ∙ by old none
+    from_mixed = ap₂ by_entries mixed_entries mixed_entries ∙ by old
       where
-        by : (b : Body) → has_blocks (Complete b) ≡ false → (let es : List (Version × Max State) = (u, record { 0 = Complete b }) ∷ (version, record { 0 = Uploading }) ∷ [] in by_entries es es ≡ [])
-        by Marker n = rw (greater, tied_itself version_total version) refl
-        by (Inline meta bytes) n = rw (greater, tied_itself version_total version) refl
-        by (Blocks meta first) n = absurd (cc)
+        by : (b : Body) → (let es : List (Version × Max State) = (u, record { 0 = Complete b }) ∷ (version, record { 0 = Uploading }) ∷ [] in by_entries es es ≡ [])
+        by Marker = rw (greater, tied_itself version_total version) refl
+        by (Inline meta bytes) = rw (greater, tied_itself version_total version) refl
+        by (Blocks meta first) = rw (tied_itself version_total u, greater, tied_itself version_total version) refl
 
-    to_whole : words.triggered VU C ≡ []
-    to_whole = ap (λ es. by_entries es ((version, record { 0 = Complete body }) ∷ [])) mixed_entries ∙ by old none
+    -- the whole version ends the earlier one, where that is kept in blocks
+    abbrev EndsOld : List AnyRow → Type 0
+    EndsOld rs = AllByRecursion (λ r. r ≡ deleted_version u) rs
+
+    to_whole : EndsOld (words.triggered VU C)
+    to_whole = subst (λ es. EndsOld (by_entries es ((version, record { 0 = Complete body }) ∷ []))) (sym mixed_entries) (by old)
       where
-        by : (b : Body) → has_blocks (Complete b) ≡ false → by_entries ((u, record { 0 = Complete b }) ∷ (version, record { 0 = Uploading }) ∷ []) ((version, record { 0 = Complete body }) ∷ []) ≡ []
-        by Marker n = rw (tied_itself version_total version) refl
-        by (Inline meta bytes) n = rw (tied_itself version_total version) refl
-        by (Blocks meta first) n = absurd (cc)
+        by : (b : Body) → EndsOld (by_entries ((u, record { 0 = Complete b }) ∷ (version, record { 0 = Uploading }) ∷ []) ((version, record { 0 = Complete body }) ∷ []))
+        by Marker = rw (tied_itself version_total version) tt
+        by (Inline meta bytes) = rw (tied_itself version_total version) tt
+        by (Blocks meta first) = rw (less, tied_itself version_total version) (refl, tt)
 
     old_whole : any_join V C ≡ C
     old_whole = later_stays name u version old body fit fits less
 
-    old_to_whole : words.triggered V C ≡ []
-    old_to_whole = triggers_none name u version old body fit fits none
+    old_to_whole : EndsOld (words.triggered V C)
+    old_to_whole = ends_one name u version old body fit fits
 
   -- ---- over what is there, or nothing
 
-  -- what is there: nothing, or a version that isn't kept in blocks
-  pub record IsOld (value : Option AnyRow) : Type 0 where
+  -- what is there: nothing, or an earlier version, of which the changes call for such rows
+  pub record IsOld (Gone : AnyRow → Type 0) (value : Option AnyRow) : Type 0 where
     pub joined : option_join any_join value (Some C) ≡ Some C
     pub begins : called_for any_join words value (option_join any_join value (Some U)) ≡ []
-    pub whole_none_so : called_for any_join words value (Some C) ≡ []
+    pub whole_ends : AllByRecursion Gone (called_for any_join words value (Some C))
     pub again : called_for any_join words (option_join any_join value (Some U)) (option_join any_join value (Some U)) ≡ []
-    pub completes : called_for any_join words (option_join any_join value (Some U)) (Some C) ≡ []
+    pub completes : AllByRecursion Gone (called_for any_join words (option_join any_join value (Some U)) (Some C))
 
-  pub none_old : IsOld None
-  none_old = record { joined = refl; begins = refl; whole_none_so = refl; again = begun_none; completes = begun_whole_none }
+  pub none_old : (Gone : AnyRow → Type 0) → IsOld Gone None
+  none_old Gone = record { joined = refl; begins = refl; whole_ends = tt; again = begun_none; completes = subst (AllByRecursion Gone) (sym begun_whole_none) tt }
 
-  pub small_old : (u : Version) (old : Body) (fit : is_sized (Complete old) ≡ true) → has_blocks (Complete old) ≡ false → version_cmp u version ≡ Less → IsOld (Some (object_row name u (Complete old) fit))
-  small_old u old fit none less = record {
-    joined = ap Some (old_whole u old fit none less);
-    begins = from_old u old fit none less;
-    whole_none_so = old_to_whole u old fit none less;
-    again = from_mixed u old fit none less;
-    completes = to_whole u old fit none less;
+  pub whole_old : (Gone : AnyRow → Type 0) (u : Version) (old : Body) (fit : is_sized (Complete old) ≡ true) → version_cmp u version ≡ Less → Gone (deleted_version u) → IsOld Gone (Some (object_row name u (Complete old) fit))
+  whole_old Gone u old fit less gone = record {
+    joined = ap Some (old_whole u old fit less);
+    begins = from_old u old fit less;
+    whole_ends = all_weaker (λ r. r ≡ deleted_version u) Gone (λ r e. subst Gone (sym e) gone) _ (old_to_whole u old fit less);
+    again = from_mixed u old fit less;
+    completes = all_weaker (λ r. r ≡ deleted_version u) Gone (λ r e. subst Gone (sym e) gone) _ (to_whole u old fit less);
   }
 
-  module _ (value : Option AnyRow) (is : IsOld value) where
+  module _ (Gone : AnyRow → Type 0) (value : Option AnyRow) (is : IsOld Gone value) where
     abbrev pub begun_value : Option AnyRow
     begun_value = option_join any_join value (Some U)
 
@@ -200,11 +207,12 @@ module _ (name : Name) (version : Version) (body : Body) (fits : is_sized (Compl
         (inr (inr whole_stays), ap (called_for any_join words (Some C)) whole_stays ∙ whole_none)
 
     -- the complete row comes
-    pub whole_comes : (o : Option AnyRow) → IsStage o → (option_join any_join o (Some C) ≡ Some C) × (called_for any_join words o (option_join any_join o (Some C)) ≡ [])
-    whole_comes o (inl e) = subst (λ o. (option_join any_join o (Some C) ≡ Some C) × (called_for any_join words o (option_join any_join o (Some C)) ≡ [])) (sym e) (is.joined, ap (called_for any_join words value) is.joined ∙ is.whole_none_so)
-    whole_comes o (inr (inl e)) =
-        subst (λ o. (option_join any_join o (Some C) ≡ Some C) × (called_for any_join words o (option_join any_join o (Some C)) ≡ [])) (sym e)
-        (begun_completed, ap (called_for any_join words begun_value) begun_completed ∙ is.completes)
+    abbrev WholeSo : Option AnyRow → Type 0
+    WholeSo o = (option_join any_join o (Some C) ≡ Some C) × AllByRecursion Gone (called_for any_join words o (option_join any_join o (Some C)))
+
+    pub whole_comes : (o : Option AnyRow) → IsStage o → WholeSo o
+    whole_comes o (inl e) = subst WholeSo (sym e) (is.joined, subst (λ o. AllByRecursion Gone (called_for any_join words value o)) (sym is.joined) is.whole_ends)
+    whole_comes o (inr (inl e)) = subst WholeSo (sym e) (begun_completed, subst (λ o. AllByRecursion Gone (called_for any_join words begun_value o)) (sym begun_completed) is.completes)
     whole_comes o (inr (inr e)) =
-        subst (λ o. (option_join any_join o (Some C) ≡ Some C) × (called_for any_join words o (option_join any_join o (Some C)) ≡ [])) (sym e)
-        (laws.idempotent (Some C), ap (called_for any_join words (Some C)) (laws.idempotent (Some C)) ∙ whole_none)
+        subst WholeSo (sym e)
+        (laws.idempotent (Some C), subst (AllByRecursion Gone) (sym (ap (called_for any_join words (Some C)) (laws.idempotent (Some C)) ∙ whole_none)) tt)

@@ -10,7 +10,8 @@ use Rattle.layout_roles.specs.declared.cut.Cut.{Cut}
 use Rattle.crdt_rows.specs.declared.any_row.AnyRow.{AnyRow}
 use Rattle.crdt_rows.specs.AnyRow.{any_join}
 use Rattle.object_schema.specs.Schema.{words}
-use Rattle.table_model.specs.Rows.{row_at}
+use Rattle.object_schema.specs.Laws.{schema_laws}
+use Rattle.table_model.specs.Rows.{AllProper}
 use Rattle.wire_messages.specs.declared.message.Message.{Message}
 use Rattle.wire_messages.specs.declared.message.Message.TheVariants.{Get, Row as RowIs, Range, Rows, BlockGet, Block as BlockIs, NoBlock, NotHere}
 use Rattle.wire_messages.specs.declared.phase.Phase.TheVariants.{Store}
@@ -19,14 +20,13 @@ use Rattle.cluster_machine.specs.declared.applied.Applied.{Applied}
 use Rattle.cluster_machine.specs.declared.step.Refusal.TheVariants.{VersionLimit}
 use Rattle.cluster_machine.specs.declared.step.Step.TheVariants as step
 use Rattle.cluster_machine.specs.Layouts.{layouts}
-use Rattle.cluster_machine.specs.Node.{Packet, says, shows}
+use Rattle.cluster_machine.specs.Node.{Item}
 use Rattle.cluster_machine.specs.Phases.{is_spelled}
 use Rattle.cluster_machine.specs.Blocks.{BringsBlocks}
-use Rattle.cluster_machine.specs.Rows.{block_at, called_for}
-use Rattle.cluster_machine.specs.Receives.{receives, hears}
+use Rattle.cluster_machine.specs.Rows.{block_at}
 use Rattle.cluster_machine.specs.World.{Sent, numbered, clock, undelivered}
-use Rattle.cluster_machine.specs.Worlds.{Done as Effect, FitAll}
-use Rattle.cluster_machine.specs.Step.{none_given, did, received, at_message, applied}
+use Rattle.cluster_machine.specs.Worlds.{Done as Effect, FitAll, does}
+use Rattle.cluster_machine.specs.Step.{none_given, applied}
 use Rattle.cluster_machine.specs.Run.{IsLayout, IsStep}
 use Rattle.cluster_machine.specs.Trio.{trio, stage_trio}
 use Rattle.history_model.specs.declared.record.Kind.{Kind}
@@ -36,21 +36,20 @@ use Rattle.flow_model.specs.declared.flow.FlowStep.TheVariants.{More, End}
 use Rattle.flow_model.specs.declared.flow.FlowEnd.{FlowEnd}
 use Rattle.flow_model.specs.Rows.{row_key}
 use Rattle.flow_model.specs.Next.{next}
-use Rattle.store_model.specs.Run.{World, State, Outcome, Asked, Draw, plainly, phases, effect, draws_of, takes, follow, goes_on, goes, finishes, delivers}
+use Rattle.store_model.specs.Run.{World, State, Outcome, Asked, Draw, plainly, phases, draws_of, takes, follow, goes_on, goes, finishes, delivers}
 use Rattle.crdt_core.proofs.Each.{all_append, all_weaker}
-use Rattle.drained_laws.specs.Waiting.{Has, fresh, waiting}
-use Rattle.drained_laws.specs.Accounts.{Carries, IsDue, IsUsual, IsAccounted}
+use Rattle.drained_laws.specs.Waiting.{fresh, waiting}
+use Rattle.drained_laws.specs.Accounts.{Carries, IsDue, IsAccounted}
 use Rattle.drained_laws.proofs.Replies.{carries_more}
-use Rattle.machine_origins.proofs.Lists.{all_parts}
-use Rattle.drained_laws.proofs.Waits.{taken, all_has}
-use Rattle.drained_laws.proofs.Deliveries.{one_changes}
-use Rattle.drained_laws.proofs.Steps.{at_number}
 use Rattle.drained_laws.proofs.Drained.{no_phase_when_drained}
 use Rattle.drained_laws.proofs.Weights.{first_fresh, none_waits}
 use Rattle.plain_laws.specs.Holds.{nodes_at}
 use Rattle.plain_laws.proofs.Frames.{begin_is}
-use Rattle.plain_laws.proofs.Accepted.{stays_idle, keeps_block}
-use Rattle.plain_laws.proofs.Given.{AreGiven, AllKept, StoresGiven, IsGiven, given_next}
+use Rattle.drained_laws.proofs.OutboxSteps.{Boxed}
+use Rattle.drained_laws.proofs.Working.{delivers_box, boxes_next, idle_box}
+use Rattle.plain_laws.proofs.Given.{AreGiven, AllKept, StoresGiven, IsGiven}
+use Rattle.plain_laws.proofs.Descending.{schema_descends}
+use Rattle.plain_laws.proofs.Queues.{CallsFor, AllQueued, news_mine as all_news_mine, accepted_so as all_accepted_so, waits_next}
 use Rattle.plain_laws.proofs.Seeking.{Sought, a_row, IsOfSearch, IsSeeking}
 use Rattle.plain_laws.proofs.Requests.{IsResting, IsStoring, storing_stays, storing_open, storing_ends, base, Open, Done, moved, ends_of, delivered_open, delivered_done, finished, finished_leaves, stores_next, stores_items, stores_blocks, stores_given}
 use Rattle.plain_laws.proofs.Looks.{AllHad, asks, Asking, HasRead, reads_on, reads_out, sees, open_seen}
@@ -81,8 +80,8 @@ module _ (l : Layout) (layout : IsLayout layouts 256 l) (before : State) (n q : 
     (flow_at : ℕ → Flow) (rows_at : ℕ → List (AnyRow × Option (List ℕ))) (last : ℕ) (end : FlowEnd) (course : Course q flow_at rows_at last end)
     (writes_so : next flow (Row value) (before.world.time + before.world.skew_of n) ≡ More (flow_at 0) (Store (rows_at 0)))
     (Mine : AnyRow → Type 0) (Bytes : List ℕ → Type 0) (such : AreSuch rows_at Mine Bytes) (given_before : (m : ℕ) → AllKept Bytes (before.world.nodes m).blocks)
-    (idle_so : (m : ℕ) (news : List AnyRow) → AllByRecursion Mine news → (r : AnyRow) → Mine r → IsDue words layouts l m r →
-    (let older = news ++ base l layout before n q m in called_for any_join words (row_at any_join words older (words.table r) (words.key r)) (row_at any_join words (r ∷ older) (words.table r) (words.key r)) ≡ [])) where
+    (proper : (m : ℕ) → AllProper words (before.world.nodes m).accepted) (Queued : AnyRow → Type 0)
+    (queues : (m : ℕ) (news : List AnyRow) → AllByRecursion Mine news → (r : AnyRow) → Mine r → IsDue words layouts l m r → CallsFor Queued (news ++ base l layout before n q m) r) where
   abbrev had : ℕ → List AnyRow
   had = base l layout before n q
 
@@ -107,53 +106,35 @@ module _ (l : Layout) (layout : IsLayout layouts 256 l) (before : State) (n q : 
 
   -- ---- what deliveries keep
 
-  -- outboxes are empty, blocks that were there are there, and others came beside rows
+  abbrev Box : World → Type 0
+  Box w = Boxed schema_laws schema_descends layouts l layout had proper 1 w
+
+  -- such rows wait in outboxes, of which account is kept; blocks that were there are there, and others came beside rows
   pub record Keeps (w : World) : Type 0 where
-    pub idle : (m : ℕ) → (w.nodes m).items ≡ []
+    pub queued : AllQueued Queued w
+    pub boxed : Box w
     pub kept : (m : ℕ) (hash given : List ℕ) → block_at (before.world.nodes m).blocks hash ≡ Some given → block_at (w.nodes m).blocks hash ≡ Some given
     pub given : IsGiven Bytes w
 
   module _ (w : World) (is : IsAccounted words layouts l had w) (j : ℕ) (sent_so : is.account.sent ≡ sent_at j) where
+    sent_mine : AllByRecursion Mine is.account.sent
+    sent_mine = subst (AllByRecursion Mine) (sym sent_so) (all_mine j)
+
     pub news_mine : (m : ℕ) → AllByRecursion Mine (is.account.news m)
-    news_mine m = all_weaker (λ r. Has is.account.sent r × IsDue words layouts l m r) Mine (λ r h. all_has Mine (sent_at j) r (all_mine j) (subst (λ rs. Has rs r) sent_so h.0)) (is.account.news m) (is.sound.only m)
+    news_mine = all_news_mine l had Mine Queued Bytes queues w is sent_mine
 
     pub accepted_so : (m : ℕ) → (w.nodes m).accepted ≡ is.account.news m ++ had m
-    accepted_so m = is.sound.accepted m ∙ ap (λ (b : ℕ → List AnyRow). is.account.news m ++ b m) is.began_so
+    accepted_so = all_accepted_so l had Mine Queued Bytes queues w is sent_mine
 
-    calls_none : (m : ℕ) (r : AnyRow) → Has is.account.sent r → IsDue words layouts l m r → called_for any_join words (row_at any_join words (w.nodes m).accepted (words.table r) (words.key r)) (row_at any_join words (r ∷ (w.nodes m).accepted) (words.table r) (words.key r)) ≡ []
-    calls_none m r was due =
-        subst (λ older. called_for any_join words (row_at any_join words older (words.table r) (words.key r)) (row_at any_join words (r ∷ older) (words.table r) (words.key r)) ≡ []) (sym (accepted_so m))
-        (idle_so m (is.account.news m) (news_mine m) r (all_has Mine (sent_at j) r (all_mine j) (subst (λ rs. Has rs r) sent_so was)) due)
-
-    module _ (keeps : Keeps w) where
-      abbrev Stays : World → Type 0
-      Stays v = ((m : ℕ) → (v.nodes m).items ≡ []) × ((m : ℕ) (hash given : List ℕ) → block_at (before.world.nodes m).blocks hash ≡ Some given → block_at (v.nodes m).blocks hash ≡ Some given)
-
-      stays_packet : (m : ℕ) (p : Packet AnyRow Layout) (first rest : List (Sent AnyRow Layout)) (from to moment : ℕ) → waiting w ≡ first ++ record { from = from; to = to; packet = p; moment = moment } ∷ rest →
-          (let e : Effect AnyRow = received m (did w to (receives any_join words layouts to (clock w to) (w.nodes to) from p)) in Stays (applied w e))
-      stays_packet m (shows v) first rest from to moment was =
-          absurd (all_parts (IsUsual words layouts l is.account.sent) first (record { from = from; to = to; packet = shows v; moment = moment } ∷ rest) (subst (AllByRecursion (IsUsual words layouts l is.account.sent)) was is.sound.messages)).1.0.2
-      stays_packet m (says g) first rest from to moment was =
-          let usual = subst (AllByRecursion (IsUsual words layouts l is.account.sent)) was is.sound.messages in
-          let u = (all_parts (IsUsual words layouts l is.account.sent) first (record { from = from; to = to; packet = says g; moment = moment } ∷ rest) usual).1.0 in
-          let d = hears any_join words layouts to (clock w to) (w.nodes to) from g in
-          let one = is.sound.views to u.1 in (
-            one_changes (λ o y. y.items ≡ []) to d.node w.nodes
-                (stays_idle any_join words layouts l is.account.sent to (clock w to) (w.nodes to) one from (keeps.idle to) (λ r was due. calls_none to r was due) g u.2)
-                (λ o other. keeps.idle o),
-            one_changes (λ o y. (hash given : List ℕ) → block_at (before.world.nodes o).blocks hash ≡ Some given → block_at y.blocks hash ≡ Some given) to d.node w.nodes
-                (λ hash given at. keeps_block any_join words layouts l is.account.sent to (clock w to) (w.nodes to) one from hash given (keeps.kept to hash given at) g u.2)
-                (λ o other hash given at. keeps.kept o hash given at),
-          )
-
-      pub keeps_next : (m : ℕ) → numbered w.marks m ≡ Some fresh → Keeps (applied w (effect (record before { world = w }) (plainly (step.Deliver m))))
-      keeps_next m c =
-          let x = at_number w.messages w.marks m fresh is.marked c in
-          let f : Sent AnyRow Layout → Effect AnyRow = λ sent. received m (did w sent.to (receives any_join words layouts sent.to (clock w sent.to) (w.nodes sent.to) sent.from sent.packet)) in
-          let t = taken w.messages w.marks m x.0 x.1 c in
-          let stays = subst (λ (e : Effect AnyRow). Stays (applied w e)) (sym (ap (λ o. at_message w f o (numbered w.marks m)) x.1 ∙ ap (at_message w f (Some x.0)) c))
-          (stays_packet m x.0.packet t.before t.after x.0.from x.0.to x.0.moment t.was) in
-          record { idle = stays.0; kept = stays.1; given = given_next Bytes any_join words layouts l Applied Cut had w is keeps.given trio stage_trio m (none_given VersionLimit) c }
+    pub keeps_next : Keeps w → (m : ℕ) → numbered w.marks m ≡ Some fresh → Keeps (applied w (does any_join words w (plainly (step.Deliver m))))
+    keeps_next keeps m c =
+        let waits = waits_next l had Mine Queued Bytes queues w is sent_mine (record { queued = keeps.queued; given = keeps.given }) m c in
+        record {
+          queued = waits.0.queued;
+          boxed = delivers_box schema_laws schema_descends layouts l layout had proper Applied Cut w is trio stage_trio 1 m (none_given VersionLimit) c keeps.boxed;
+          kept = λ o hash given at. waits.1 o hash given (keeps.kept o hash given at);
+          given = waits.0.given;
+        }
 
   -- while it reads nodes keep what they kept, and no row is on its way
   search_given : (w : World) (phase : ℕ) → IsSeeking phase sought set had (λ m. (before.world.nodes m).blocks) w → IsGiven Bytes w
@@ -200,7 +181,8 @@ module _ (l : Layout) (layout : IsLayout layouts 256 l) (before : State) (n q : 
 
     stores_keep : Keeps began.world
     stores_keep = record {
-      idle = λ m. stores_items l layout before n q sent asked IsResting u a (rows_at j) (course.is_step j) spells (course.brings j) draws (flow_at j) m ∙ keeps.idle m;
+      queued = λ m. subst (AllByRecursion (λ (item : Item AnyRow). Queued item.row)) (sym (stores_items l layout before n q sent asked IsResting u a (rows_at j) (course.is_step j) spells (course.brings j) draws (flow_at j) m)) (keeps.queued m);
+      boxed = boxes_next schema_laws schema_descends layouts l layout had proper Applied Cut u.world a.is trio stage_trio (phases q (Store (rows_at j))).step (none_given VersionLimit) tt (course.is_step j) fits.0.1 keeps.boxed;
       kept = λ m hash given at. ap (λ bs. block_at bs hash) (stores_blocks l layout before n q sent asked IsResting u a (rows_at j) (course.is_step j) spells (course.brings j) draws (flow_at j) m) ∙ keeps.kept m hash given at;
       given = stores_given l layout before n q sent asked IsResting u a (rows_at j) (course.is_step j) spells (course.brings j) draws (flow_at j) Bytes (such.given j) keeps.given;
     }
@@ -216,7 +198,12 @@ module _ (l : Layout) (layout : IsLayout layouts 256 l) (before : State) (n q : 
       let a : Open l layout before n q [] asked IsResting u = open_seen l layout before n q kind object flow sought set all m t r in
       let out_is : goes_on t' (ends_of l layout before n q m t) ≡ goes u q asked draws (flow_at 0) (Store (rows_at 0)) = r.out_is ∙ ap (takes u q asked draws) (ap (next flow (Row value)) now_is ∙ writes_so) in
       let more : FitAll any_join words u.world (phases q (Store (rows_at 0)) ∷ []) = subst (λ (o : Outcome). FitAll any_join words t'.world o.moves) out_is fits.1 in
-      let keeps : Keeps u.world = record { idle = r.reading.1.idle; kept = λ o hash given at. ap (λ bs. block_at bs hash) (r.reading.1.kept o) ∙ at; given = search_given t'.world r.reading.0 r.reading.1 } in
+      let keeps : Keeps u.world = record {
+        queued = λ o. subst (AllByRecursion (λ (item : Item AnyRow). Queued item.row)) (sym (r.reading.1.idle o)) tt;
+        boxed = idle_box schema_laws schema_descends layouts l layout had proper Applied Cut trio stage_trio u.world r.reading.1.idle;
+        kept = λ o hash given at. ap (λ bs. block_at bs hash) (r.reading.1.kept o) ∙ at;
+        given = search_given t'.world r.reading.0 r.reading.1;
+      } in
       let state_is : (delivers t m).state ≡ (goes u q asked draws (flow_at 0) (Store (rows_at 0))).state = ap (λ (o : Outcome). o.state) out_is in
       subst (Storing 0) (sym state_is) (record { low = omega arith; open_so = stores_open [] asked u a keeps 0 draws more; keeps = stores_keep [] asked u a keeps 0 draws more })
 
@@ -262,11 +249,14 @@ module _ (l : Layout) (layout : IsLayout layouts 256 l) (before : State) (n q : 
                   let f = finished l layout before n q (sent_at j) (storing_so j) IsResting u x end in
                   let left = finished_leaves l layout before n q (sent_at j) (storing_so j) IsResting u x end in
                   let ends : next (flow_at j) Kept now ≡ End end = ap (λ i. next (flow_at i) Kept now) same ∙ course.ends_so now in
-                  let state_is : (delivers t m).state ≡ (finishes u q (storing_so j) end).state = ap (λ (o : Outcome). o.state) (comes ∙ ap (takes u q (storing_so j) draws) ends) in
+                  let out_is : goes_on t' (ends_of l layout before n q m t) ≡ finishes u q (storing_so j) end = comes ∙ ap (takes u q (storing_so j) draws) ends in
+                  let state_is : (delivers t m).state ≡ (finishes u q (storing_so j) end).state = ap (λ (o : Outcome). o.state) out_is in
+                  let closes : FitAll any_join words u.world (plainly (step.Close q) ∷ []) = subst (λ (o : Outcome). FitAll any_join words t'.world o.moves) out_is fits.1 in
                   inr (subst Written (sym state_is) (record {
                     done_so = subst (λ i. Done l layout before n q (sent_at i) end (finishes u q (storing_so j) end).state) same f;
                     keeps = record {
-                      idle = λ o. left.items o ∙ keeps.idle o;
+                      queued = λ o. subst (AllByRecursion (λ (item : Item AnyRow). Queued item.row)) (sym (left.items o)) (keeps.queued o);
+                      boxed = boxes_next schema_laws schema_descends layouts l layout had proper Applied Cut u.world x.is trio stage_trio (step.Close q) (none_given VersionLimit) tt tt closes.0.1 keeps.boxed;
                       kept = λ o hash given at. ap (λ bs. block_at bs hash) (left.blocks o) ∙ keeps.kept o hash given at;
                       given = record { nodes = λ o. subst (AllKept Bytes) (sym (left.blocks o)) (keeps.given.nodes o); messages = subst (AllByRecursion (λ (x : Sent AnyRow Layout). Carries (StoresGiven Bytes) x.packet)) (sym left.waits) keeps.given.messages };
                     };

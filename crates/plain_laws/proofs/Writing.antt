@@ -1,8 +1,8 @@
--- A delete, and a put of bytes that aren't kept in blocks, over what isn't kept in blocks, to a cluster that holds a map.
-use Rattle.std.proofs.Common.{◌≡◌, ◌⊎◌, ◌≤◌, ◌<◌, ◌+◌, ℕ, suc, max, true, false, Option, Some, None, List, [], ◌∷◌, ◌++◌, refl, sym, ap, ap₂, ◌∙◌, subst, inl, inr, arith}
+-- A delete, and a put of bytes that aren't kept in blocks, to a cluster that holds a map.
+use Rattle.std.proofs.Common.{◌≡◌, ◌⊎◌, ◌<◌, ◌+◌, ℕ, suc, max, true, false, Option, Some, None, List, [], ◌∷◌, ◌++◌, refl, sym, ap, ap₂, ◌∙◌, subst, inl, inr, arith, length}
 use Rattle.std.specs.Prelude.{IsTrue, ⊤}
 use Rattle.std.specs.List.{AllByRecursion, Contains}
-use Rattle.std.proofs.lemmas.List.Elements.{All-nil, All-cons}
+use Rattle.std.proofs.lemmas.List.Elements.{All-nil, All-cons, recursion_from_All}
 use Rattle.blake2_hash.specs.Blake2b.{blake2b}
 use Rattle.row_codec.specs.Spelling.{eight}
 use Rattle.cluster_machine.specs.Node.{Block}
@@ -18,7 +18,7 @@ use Rattle.crdt_rows.specs.RowLaws.{any_laws}
 use Rattle.object_schema.specs.Schema.{words}
 use Rattle.object_schema.specs.Laws.{schema_laws}
 use Rattle.table_schema.specs.Words.{partition_at}
-use Rattle.table_model.specs.Rows.{row_at}
+use Rattle.table_model.specs.Rows.{row_at, is_at, AllProper}
 use Rattle.wire_messages.specs.declared.phase.PhaseEnd.TheVariants.{Row, Kept}
 use Rattle.quorum_model.specs.Quorum.{is_among}
 use Rattle.cluster_machine.specs.World.{undelivered}
@@ -49,26 +49,39 @@ use Rattle.serve_model.specs.Clusters.{Cluster, fits}
 use Rattle.drained_laws.specs.Waiting.{SomeOf, Has as IsIn, waiting}
 use Rattle.drained_laws.specs.Accounts.{Brings, IsDue}
 use Rattle.drained_laws.proofs.Weights.{none_waits}
-use Rattle.drained_laws.proofs.Drained.{equal_when_drained}
 use Rattle.plain_laws.specs.Plain.{Has, Plain, same_name, has_at, row_of, last_ts, at_time, counted, version_of, made, meta_made, writes, answered}
-use Rattle.plain_laws.specs.Holds.{nodes_at, HasItsBlocks, Holds, Agrees, IsInRow, WritesRow}
-use Rattle.plain_laws.proofs.Frames.{none_found}
-use Rattle.plain_laws.proofs.Holding.{Holding, blocks_moved}
-use Rattle.plain_laws.proofs.Entries.{name_itself, names_equal, has_new, has_others}
-use Rattle.plain_laws.proofs.Smalls.{IsSmall, IsShort, short_row, small_table, small_key, small_position, small_bare, small_calls_none, new_joined, new_calls_none}
-use Rattle.plain_laws.proofs.Accepted.{over, passed, not_at, has_either, has_row}
+use Rattle.plain_laws.specs.Holds.{nodes_at, HasItsBlocks, Holds, WritesRow}
+use Rattle.plain_laws.proofs.Holding.{Holding}
+use Rattle.plain_laws.proofs.Entries.{name_itself}
+use Rattle.plain_laws.proofs.Smalls.{IsSmall, IsShort, short_row, small_table, small_key, small_position, small_bare, small_calls_none}
+use Rattle.plain_laws.proofs.Accepted.{over, not_at, has_either, has_row, IsRowOrApart}
 use Rattle.plain_laws.proofs.Saids.{ts_of_row}
 use Rattle.plain_laws.proofs.Starting.{number, reading_state, opened_is, starts}
 use Rattle.plain_laws.proofs.Given.{AllKept}
 use Rattle.plain_laws.proofs.Requests.{base}
-use Rattle.plain_laws.proofs.Writes.{Course, AreSuch, Written, news_mine, accepted_so, Going, going_next, has_written}
+use Rattle.plain_laws.proofs.Writes.{Course, AreSuch, Written, Going, going_next, has_written}
 use Rattle.plain_laws.proofs.Seeking.{a_row}
 use Rattle.plain_laws.proofs.Looks.{AllHad, Asking}
 use Rattle.plain_laws.proofs.Draining.{drains_keep}
 use Rattle.crdt_core.specs.Order.{option_join}
 use Rattle.cluster_machine.specs.Rows.{called_for}
-use Rattle.plain_laws.proofs.Carrying.{now, asker_now, asker_is, holding_now, drain_fits}
-use Rattle.plain_laws.proofs.Answering.{agrees_refused, row_there, answers_so, carried_as, one_bucket}
+use Rattle.plain_laws.proofs.Carrying.{now, asker_now, asker_is, holding_now, drain_fits, rounds_fit, served_state}
+use Rattle.plain_laws.proofs.Answering.{agrees_refused, row_there, carried_as, one_bucket, serves_so}
+use Rattle.plain_laws.proofs.GivenUp.{GivesUp, whole_row, later_joined, later_calls, gone_calls, not_object, not_version, not_reference}
+use Rattle.plain_laws.proofs.Queues.{CallsFor}
+use Rattle.plain_laws.proofs.Clearing.{Clearing, accepted_are, all_news, rounds_clear}
+use Rattle.plain_laws.proofs.Becoming.{IsOther, becomes_held}
+use Rattle.plain_laws.proofs.Stages.{two_tables}
+use Rattle.plain_laws.proofs.Descending.{schema_descends}
+use Rattle.machine_origins.proofs.Good.{IsGood}
+use Rattle.drained_laws.specs.Outboxes.{HasLeft}
+use Rattle.drained_laws.proofs.Working.{box_left}
+use Rattle.crdt_core.proofs.Each.{all_append, all_weaker}
+use Rattle.cluster_machine.specs.Trio.{trio, stage_trio}
+use Rattle.cluster_machine.specs.declared.applied.Applied.{Applied}
+use Rattle.layout_roles.specs.declared.cut.Cut.{Cut}
+use Rattle.plain_laws.specs.Blocks.{IsKept, IsBlockAt}
+use Rattle.plain_laws.proofs.Keeping.{Follows, each_is_kept}
 
 -- ---- what a write does when it has read
 
@@ -100,7 +113,7 @@ one_name buckets clash a b there too same apart =
     the_name x y = record { bucket = x; key = y }
 
 module _ (c : Cluster) (P : Plain) (h : Holds c P) (clash : NoClash P.buckets) (time : ℕ) (order : Order) (known : are_buckets P.buckets (buckets_of order) ≡ true) (fit : fits c time order)
-    (name : Name) (there : Contains P.buckets name.bucket) (w : Wish) (short : IsShort w) (in_row : IsInRow (has_at P name)) where
+    (name : Name) (there : Contains P.buckets name.bucket) (w : Wish) (short : IsShort w) where
   abbrev pub before : State
   before = now c P h time order
 
@@ -179,19 +192,13 @@ module _ (c : Cluster) (P : Plain) (h : Holds c P) (clash : NoClash P.buckets) (
   pub position_is : words.position row ≡ (digest_of name.bucket).0
   position_is = small_position name version row small
 
-  pub joined : option_join any_join value (Some row) ≡ Some row
-  joined = new_joined name has in_row version row small later_than
+  joined : option_join any_join value (Some row) ≡ Some row
+  joined = later_joined name has version row (whole_row name version before.block w) later_than
 
-  pub calls_none : called_for any_join words value (Some row) ≡ []
-  calls_none = new_calls_none name has in_row version row small later_than
-
-  pub itself : any_join row row ≡ row
+  itself : any_join row row ≡ row
   itself = any_laws.idempotent row
 
-  pub itself_none : words.triggered row row ≡ []
-  itself_none = small_calls_none name version version row row small small
-
-  pub bare : words.live_block row ≡ None
+  bare : words.live_block row ≡ None
   bare = small_bare name version row small
 
   pub ends_so : (t : ℕ) → next next_flow Kept t ≡ End end
@@ -213,127 +220,136 @@ module _ (c : Cluster) (P : Plain) (h : Holds c P) (clash : NoClash P.buckets) (
     brings = λ j. All-cons (λ (r : AnyRow × Option (List ℕ)). IsBeside (blake2b 32) (words.live_block r.0) r.1) (row, None) [] (subst (λ o. IsBeside (blake2b 32) o None) (sym bare) refl) (All-nil _);
   }
 
+  -- its row, or what gives up what was there
   abbrev pub Mine : AnyRow → Type 0
-  Mine r = r ≡ row
+  Mine r = IsTrue (words.is_proper r) × ((r ≡ row) ⊎ GivesUp has r)
 
+  -- no block comes
   abbrev pub Bytes : List ℕ → Type 0
-  Bytes bytes = ⊤
+  Bytes bytes = IsKept c.run.world bytes
+
+  its_row : Mine row
+  its_row = ((complete_is_placed name version before.block w).0, inl refl)
 
   pub such : AreSuch rows_at Mine Bytes
-  such = record { mine = λ j. (refl, tt); given = λ j. (tt, tt) }
-
-  any_block : (bs : List Block) → AllKept Bytes bs
-  any_block [] = tt
-  any_block (b ∷ bs) = (tt, any_block bs)
+  such = record { mine = λ j. (its_row, tt); given = λ j. (tt, tt) }
 
   pub given_before : (m : ℕ) → AllKept Bytes (before.world.nodes m).blocks
-  given_before m = any_block (before.world.nodes m).blocks
+  given_before m = each_is_kept c.run.world m
+
+  abbrev pub had : ℕ → List AnyRow
+  had = base l h.is_layout before n q
+
+  abbrev pub proper : (m : ℕ) → AllProper words (before.world.nodes m).accepted
+  proper = (holding_now c P h time order).equal.proper
+
+  -- at the object's place its row is the only one
+  row_or_apart : (news : List AnyRow) → AllByRecursion Mine news → AllByRecursion (IsRowOrApart any_join words row 1 (row_key name)) news
+  row_or_apart news mine =
+      all_weaker Mine (IsRowOrApart any_join words row 1 (row_key name)) (λ r m. elim m.1 [ inl same ↦ inl same | inr g ↦ inr (not_at any_join words r 1 (row_key name) (λ t k. not_object has r g t)) ]) news mine
 
   called_at : (older : List AnyRow) → (row_at any_join words older 1 (row_key name) ≡ value) ⊎ (row_at any_join words older 1 (row_key name) ≡ Some row) →
-      called_for any_join words (row_at any_join words older 1 (row_key name)) (row_at any_join words (row ∷ older) 1 (row_key name)) ≡ []
+      AllByRecursion (GivesUp has) (called_for any_join words (row_at any_join words older 1 (row_key name)) (row_at any_join words (row ∷ older) 1 (row_key name)))
   called_at older (inl e) =
-      ap (called_for any_join words (row_at any_join words older 1 (row_key name))) (over any_join words row 1 (row_key name) table_is key_is older ∙ (ap (λ o. option_join any_join o (Some row)) e ∙ joined))
-      ∙ (ap (λ o. called_for any_join words o (Some row)) e ∙ calls_none)
+      subst (λ (o : Option AnyRow). AllByRecursion (GivesUp has) (called_for any_join words (row_at any_join words older 1 (row_key name)) o)) (sym (over any_join words row 1 (row_key name) table_is key_is older ∙ (ap (λ o. option_join any_join o (Some row)) e ∙ joined)))
+      (subst (λ (o : Option AnyRow). AllByRecursion (GivesUp has) (called_for any_join words o (Some row))) (sym e) (later_calls name has version row (whole_row name version before.block w) later_than))
   called_at older (inr e) =
-      ap (called_for any_join words (row_at any_join words older 1 (row_key name))) (over any_join words row 1 (row_key name) table_is key_is older ∙ (ap (λ o. option_join any_join o (Some row)) e ∙ ap Some itself))
-      ∙ (ap (λ o. called_for any_join words o (Some row)) e ∙ itself_none)
+      subst (λ (o : Option AnyRow). AllByRecursion (GivesUp has) (called_for any_join words (row_at any_join words older 1 (row_key name)) o)) (sym (over any_join words row 1 (row_key name) table_is key_is older ∙ (ap (λ o. option_join any_join o (Some row)) e ∙ ap Some itself)))
+      (subst (λ (o : Option AnyRow). AllByRecursion (GivesUp has) (called_for any_join words o (Some row))) (sym e) (subst (AllByRecursion (GivesUp has)) (sym (small_calls_none name version version row row small small)) tt))
 
-  -- its row calls for none where it comes
-  pub idle_so : (m : ℕ) (news : List AnyRow) → AllByRecursion Mine news → (r : AnyRow) → Mine r → IsDue words layouts l m r →
-      (let older = news ++ base l h.is_layout before n q m in called_for any_join words (row_at any_join words older (words.table r) (words.key r)) (row_at any_join words (r ∷ older) (words.table r) (words.key r)) ≡ [])
-  idle_so m news mine r same due =
-      let older = news ++ base l h.is_layout before n q m in
-      let here : IsTrue (is_among m (nodes_at l (digest_of name.bucket).0)) = subst (λ p. IsTrue (is_among m (set_of layouts l (partition_at p)))) position_is (subst (IsDue words layouts l m) same due) in
-      subst (λ r. called_for any_join words (row_at any_join words older (words.table r) (words.key r)) (row_at any_join words (r ∷ older) (words.table r) (words.key r)) ≡ []) (sym same)
-      (subst (λ t. called_for any_join words (row_at any_join words older t (words.key row)) (row_at any_join words (row ∷ older) t (words.key row)) ≡ []) (sym table_is)
-      (subst (λ k. called_for any_join words (row_at any_join words older 1 k) (row_at any_join words (row ∷ older) 1 k) ≡ []) (sym key_is)
-      (called_at older (has_either any_join words row 1 (row_key name) table_is key_is value joined itself (base l h.is_layout before n q m) (all m here) news mine))))
+  all_good : (m : ℕ) (news : List AnyRow) → AllByRecursion Mine news → AllByRecursion (IsGood words (λ r. ⊤)) (news ++ had m)
+  all_good m news mine =
+      all_append (IsGood words (λ r. ⊤)) news (had m) (all_weaker Mine (IsGood words (λ r. ⊤)) (λ r m. record { proper = m.0; has = tt }) news mine)
+      (all_weaker (λ r. IsTrue (words.is_proper r)) (IsGood words (λ r. ⊤)) (λ r p. record { proper = p; has = tt }) (had m) (recursion_from_All (λ r. IsTrue (words.is_proper r)) (had m) (proper m)))
+
+  -- the rows that these call for where they come give up what was there
+  pub queues_so : (m : ℕ) (news : List AnyRow) → AllByRecursion Mine news → (r : AnyRow) → Mine r → IsDue words layouts l m r → CallsFor (GivesUp has) (news ++ had m) r
+  queues_so m news mine r is due = elim is.1 [
+    | inl same ↦
+        let older = news ++ had m in
+        let here : IsTrue (is_among m (nodes_at l (digest_of name.bucket).0)) = subst (λ p. IsTrue (is_among m (set_of layouts l (partition_at p)))) position_is (subst (IsDue words layouts l m) same due) in
+        subst (CallsFor (GivesUp has) older) (sym same)
+        (subst (λ t. AllByRecursion (GivesUp has) (called_for any_join words (row_at any_join words older t (words.key row)) (row_at any_join words (row ∷ older) t (words.key row)))) (sym table_is)
+        (subst (λ k. AllByRecursion (GivesUp has) (called_for any_join words (row_at any_join words older 1 k) (row_at any_join words (row ∷ older) 1 k))) (sym key_is)
+        (called_at older (has_either any_join words row 1 (row_key name) table_is key_is value joined itself (had m) (all m here) news (row_or_apart news mine)))))
+    | inr g ↦ gone_calls has (news ++ had m) (all_good m news mine) r g
+  ]
 
   -- the request while it writes, and when it has written
   abbrev pub Reads : State → Type 0
   Reads t = Asking l h.is_layout before n q (kind_of order) (name_of order) flow (a_row 1 (row_key name) value) (nodes_at l (digest_of name.bucket).0) all t
 
   abbrev pub MayWrite : State → Type 0
-  MayWrite t = Going l h.is_layout before n q (kind_of order) (name_of order) name flow value all flow_at rows_at 0 end course writes_so Mine Bytes such given_before idle_so t
+  MayWrite t = Going l h.is_layout before n q (kind_of order) (name_of order) name flow value all flow_at rows_at 0 end course writes_so Mine Bytes such given_before proper (GivesUp has) queues_so t
 
   abbrev pub HasWritten : State → Type 0
-  HasWritten t = Written l h.is_layout before n q (kind_of order) (name_of order) name flow value all flow_at rows_at 0 end course writes_so Mine Bytes such given_before idle_so t
+  HasWritten t = Written l h.is_layout before n q (kind_of order) (name_of order) name flow value all flow_at rows_at 0 end course writes_so Mine Bytes such given_before proper (GivesUp has) queues_so t
 
   pub write_next : (m : ℕ) (t : State) → MayWrite t → undelivered t.world ≡ Some m → FitAll any_join words t.world (delivers t m).moves → MayWrite (delivers t m).state
-  write_next = going_next l h.is_layout before n q (kind_of order) (name_of order) name flow value all flow_at rows_at 0 end course writes_so Mine Bytes such given_before idle_so
+  write_next = going_next l h.is_layout before n q (kind_of order) (name_of order) name flow value all flow_at rows_at 0 end course writes_so Mine Bytes such given_before proper (GivesUp has) queues_so
 
   pub write_ends : (t : State) → MayWrite t → undelivered t.world ≡ None → HasWritten t
-  write_ends = has_written l h.is_layout before n q (kind_of order) (name_of order) name flow value all flow_at rows_at 0 end course writes_so Mine Bytes such given_before idle_so
+  write_ends = has_written l h.is_layout before n q (kind_of order) (name_of order) name flow value all flow_at rows_at 0 end course writes_so Mine Bytes such given_before proper (GivesUp has) queues_so
+
+  -- ---- the rounds after it
+
+  abbrev Clears : State → Type 0
+  Clears u = Clearing l h.is_layout before n q end (row ∷ []) proper Mine (GivesUp has) Bytes queues_so (λ r p g. (p, inr g)) u
+
+  -- no row of the write lies at this place
+  abbrev Apart : ℕ → List ℕ → Type 0
+  Apart table key = (r : AnyRow) → Mine r → is_at words table key r ≡ false
+
+  written_clears : (u : State) → HasWritten u → Clears u
+  written_clears u written = record {
+    sent = row ∷ [];
+    done_so = written.done_so;
+    mine = (its_row, tt);
+    was = λ r sent. sent;
+    waits = record { queued = written.keeps.queued; given = written.keeps.given };
+    kept = λ m key r hash given apart e live at. written.keeps.kept m hash given at;
+  }
+
+  -- where no row of the write lies
+  apart_object : (other : Name) → Contains P.buckets other.bucket → same_name name other ≡ false → Apart 1 (row_key other)
+  apart_object other too apart r is = not_at any_join words r 1 (row_key other) (λ t k. elim is.1 [ inl e ↦ one_name P.buckets clash name other there too (sym key_is ∙ (ap words.key (sym e) ∙ k)) apart | inr g ↦ not_object has r g t ])
+
+  apart_version : (id : ℕ) → IsOther c P h time order known fit name id → Apart 2 (eight id)
+  apart_version id apart r is = not_at any_join words r 2 (eight id) (λ t k. elim is.1 [ inl e ↦ two_tables 1 2 (omega arith) (sym table_is ∙ (ap words.table (sym e) ∙ t)) | inr g ↦ not_version has r g id apart.0 t k ])
+
+  apart_reference : (id : ℕ) (hash : List ℕ) → length hash ≡ 32 → IsOther c P h time order known fit name id → Apart 3 (hash ++ eight id)
+  apart_reference id hash size apart r is =
+      not_at any_join words r 3 (hash ++ eight id) (λ t k. elim is.1 [ inl e ↦ two_tables 1 3 (omega arith) (sym table_is ∙ (ap words.table (sym e) ∙ t)) | inr g ↦ not_reference has r g id apart.0 hash size is.0 t k ])
+
+  -- where the rounds are over the cluster holds what the map has become
+  cleared_holds : (u : State) → Clears u → HasLeft words layouts l 3 u.world → Holding l Q u
+  cleared_holds u cleared left =
+      let done = cleared.done_so in
+      let accepted = accepted_are l h.is_layout before n q end (row ∷ []) proper Mine (GivesUp has) Bytes queues_so (λ r p g. (p, inr g)) u cleared in
+      let news = all_news l h.is_layout before n q end (row ∷ []) proper Mine (GivesUp has) Bytes queues_so (λ r p g. (p, inr g)) u cleared in
+      let came : (m : ℕ) → IsTrue (is_among m (nodes_at l (digest_of name.bucket).0)) → IsIn (done.is.account.news m) row = λ m here.
+      elim (done.is.sound.all row (subst (λ rs. IsIn rs row) (sym done.sent_so) (cleared.was row (inl refl))) m (subst (λ p. IsTrue (is_among m (set_of layouts l (partition_at p)))) (sym position_is) here)) [
+        | inl came ↦ came
+        | inr brought ↦ absurd (subst (SomeOf (Brings words layouts l m row)) left.none brought)
+      ] in
+      let new_row : row_of name (made version after.block w) ≡ Some row = made_row name version after.block w ∙ ap (λ b. Some (complete name version b w)) (sym holding.block) in
+      becomes_held c P h time order known fit name w end (row ∷ []) Mine (GivesUp has) Bytes queues_so (λ r p g. (p, inr g)) apart_object apart_version apart_reference u cleared left
+      (λ m is. ap (λ rs. row_at any_join words rs 1 (row_key name)) (accepted m)
+      ∙ (has_row any_join words row 1 (row_key name) table_is key_is value joined itself (had m) (all m is) (done.is.account.news m) (row_or_apart (done.is.account.news m) (news m)) (came m is) ∙ sym new_row))
+      (made_blocks l u.world version after.block w short)
 
   -- where it has written, and nothing waits, both agree
-  pub wrote_agrees : answered after order ≡ writes after name w → (let u = (drains all_messages (opened before n order).state).state in HasWritten u → undelivered u.world ≡ None → Agrees c P time order)
+  pub wrote_agrees : answered after order ≡ writes after name w → (let u = (drains all_messages (opened before n order).state).state in HasWritten u → undelivered u.world ≡ None → Follows c P time order)
   wrote_agrees answered_so = λ written none_left.
       let u : State = (drains all_messages (opened before n order).state).state in
-      let done = written.done_so in
       let none : waiting u.world ≡ [] = none_waits u.world none_left in
-      let accepted = accepted_so l h.is_layout before n q (kind_of order) (name_of order) name flow value all flow_at rows_at 0 end course writes_so Mine Bytes such given_before idle_so u.world done.is 0 done.sent_so in
-      let news = news_mine l h.is_layout before n q (kind_of order) (name_of order) name flow value all flow_at rows_at 0 end course writes_so Mine Bytes such given_before idle_so u.world done.is 0 done.sent_so in
-      let had : ℕ → List AnyRow = λ m. (before.world.nodes m).accepted in
-      -- what nodes have at another place
-      let elsewhere : (m table : ℕ) (key : List ℕ) → ((words.table row ≡ table) → (words.key row ≡ key) → ⊥) → row_at any_join words (u.world.nodes m).accepted table key ≡ row_at any_join words (had m) table key =
-      λ m table key other. ap (λ rs. row_at any_join words rs table key) (accepted m) ∙ passed any_join words row table key (not_at any_join words row table key other) (done.is.account.news m) (had m) (news m) in
-      -- and at the object's
-      let came : (m : ℕ) → IsTrue (is_among m (nodes_at l (digest_of name.bucket).0)) → IsIn (done.is.account.news m) row = λ m here.
-      elim (done.is.sound.all row (subst (λ rs. IsIn rs row) (sym done.sent_so) (inl refl)) m (subst (λ p. IsTrue (is_among m (set_of layouts l (partition_at p)))) (sym position_is) here)) [
-        | inl has ↦ has
-        | inr brought ↦ absurd (subst (SomeOf (Brings words layouts l m row)) none brought)
-      ] in
-      let here : (m : ℕ) → IsTrue (is_among m (nodes_at l (digest_of name.bucket).0)) → row_at any_join words (u.world.nodes m).accepted 1 (row_key name) ≡ Some row = λ m is.
-      ap (λ rs. row_at any_join words rs 1 (row_key name)) (accepted m)
-      ∙ has_row any_join words row 1 (row_key name) table_is key_is value joined itself (had m) (all m is) (done.is.account.news m) (news m) (came m is) in
-      let new : Has = made version after.block w in
-      let new_row : row_of name new ≡ Some row = made_row name version after.block w ∙ ap (λ b. Some (complete name version b w)) (sym holding.block) in
-      let rows_so : (other : Name) (m : ℕ) → Contains P.buckets other.bucket → IsTrue (is_among m (nodes_at l (digest_of other.bucket).0)) → row_at any_join words (u.world.nodes m).accepted 1 (row_key other) ≡ row_of other (has_at Q other) =
-      λ other m too is. elim (same_name name other) as (λ b. same_name name other ≡ b → row_at any_join words (u.world.nodes m).accepted 1 (row_key other) ≡ row_of other (has_at Q other)) [
-        | true ↦ λ e.
-            subst (λ x. IsTrue (is_among m (nodes_at l (digest_of x.bucket).0)) → row_at any_join words (u.world.nodes m).accepted 1 (row_key x) ≡ row_of x (has_at Q x)) (names_equal name other e)
-            (λ is. here m is ∙ sym (ap (row_of name) (has_new name new P.entries) ∙ new_row)) is
-        | false ↦ λ e.
-            elsewhere m 1 (row_key other) (λ t k. one_name P.buckets clash name other there too (sym key_is ∙ k) e)
-            ∙ (holding.rows other m too is ∙ ap (row_of other) (sym (has_others name new other e P.entries)))
-      ] refl in
-      let blocks_so : (other : Name) → Contains P.buckets other.bucket → HasItsBlocks l u.world (has_at Q other) =
-      λ other too. elim (same_name name other) as (λ b. same_name name other ≡ b → HasItsBlocks l u.world (has_at Q other)) [
-        | true ↦ λ e. subst (λ x. HasItsBlocks l u.world (has_at Q x)) (names_equal name other e) (subst (HasItsBlocks l u.world) (sym (has_new name new P.entries)) (made_blocks l u.world version after.block w short))
-        | false ↦ λ e. subst (HasItsBlocks l u.world) (sym (has_others name new other e P.entries))
-            (blocks_moved l before.world u.world (λ m key row hash given e live at. written.keeps.kept m hash given at) (has_at P other)
-            (λ v e. record { row = λ m. elsewhere m 2 (eight v.id) (λ t k. apart_tables 2 (sym table_is ∙ t) (omega arith)); references = λ m hash size. elsewhere m 3 (hash ++ eight v.id) (λ t k. apart_tables 3 (sym table_is ∙ t) (omega arith)) }) (holding.blocks other too))
-      ] refl in
-      let held : Holding l Q u = record {
-        rest = record {
-          views = done.is.sound.views;
-          marked = done.is.marked;
-          delivered = none;
-          calls = λ m. none_found (u.world.nodes m).calls (done.none m);
-          items = written.keeps.idle;
-        };
-        skews = λ m. done.frame.skews m ∙ holding.skews m;
-        equal = equal_when_drained any_laws schema_laws layouts l had u.world done.is none holding.equal;
-        stocked = done.frame.stocked;
-        rows = rows_so;
-        blocks = blocks_so;
-        buckets = done.frame.buckets ∙ holding.buckets;
-        block = done.frame.block ∙ holding.block;
-        clock = done.frame.time ∙ holding.clock;
-        requests = done.frame.requests ∙ asked_so;
-        asked = done.frame.asked ∙ asked_so;
-        fresh = record {
-          versions = λ m id later low. elsewhere m 2 (eight id) (λ t k. apart_tables 2 (sym table_is ∙ t) (omega arith)) ∙ holding.fresh.versions m id (omega (arith, later)) low;
-          references = λ m id hash later low size. elsewhere m 3 (hash ++ eight id) (λ t k. apart_tables 3 (sym table_is ∙ t) (omega arith)) ∙ holding.fresh.references m id hash (omega (arith, later)) low size;
-        };
-      } in
-      answers_so c P h time order known fit (answered after order) (carried_as c P h time order known fit) Q end answered_so refl refl held done.ends_so
-    where
-      apart_tables : (table : ℕ) → 1 ≡ table → 2 ≤ table → ⊥
-      apart_tables table e more = omega (arith, e, more)
+      let left : HasLeft words layouts l 1 u.world = box_left schema_laws schema_descends layouts l h.is_layout had proper Applied Cut trio stage_trio 1 u.world written.keeps.boxed none in
+      let served = rounds_clear l h.is_layout before n q end (row ∷ []) proper Mine (GivesUp has) Bytes queues_so (λ r p g. (p, inr g)) c.members h.members_are u (written_clears u written) left (rounds_fit c P h time order known fit) in
+      serves_so c P h time order known fit (answered after order) (carried_as c P h time order known fit) Q end answered_so refl refl (cleared_holds (served_state c P h time order known) served.0 served.1)
+      (λ m. all_weaker (λ (b : Block). Bytes b.bytes) (λ (b : Block). IsBlockAt c P order b.bytes) (λ b k. inl k) ((served_state c P h time order known).world.nodes m).blocks (served.0.waits.given.nodes m)) served.0.done_so.ends_so
 
   -- a request that begins as a write
-  pub writes_agree : started order q before.block ≡ (flow, asks_for name) → answered after order ≡ writes after name w → Agrees c P time order
+  pub writes_agree : started order q before.block ≡ (flow, asks_for name) → answered after order ≡ writes after name w → Follows c P time order
   writes_agree begins_so answered_so =
       let sought = a_row 1 (row_key name) value in
       let begun = starts l h.is_layout (at_time P time) before holding n (asker_is c P h time order) order flow (asks_for name) sought (refl, refl) (asks_is_step q name) begins_so all in
@@ -347,22 +363,22 @@ module _ (c : Cluster) (P : Plain) (h : Holds c P) (clash : NoClash P.buckets) (
       (subst (λ (t : State). HasWritten (drains all_messages t).state) (sym opened_so) ended)
       (subst (λ (t : State). undelivered (drains all_messages t).state.world ≡ None) (sym opened_so) none)
 
-write_agrees : (c : Cluster) (P : Plain) (time : ℕ) (order : Order) → (h : Holds c P) → NoClash P.buckets → fits c time order → WritesRow P order → are_buckets P.buckets (buckets_of order) ≡ true → Agrees c P time order
+write_agrees : (c : Cluster) (P : Plain) (time : ℕ) (order : Order) → (h : Holds c P) → NoClash P.buckets → fits c time order → WritesRow order → are_buckets P.buckets (buckets_of order) ≡ true → Follows c P time order
 write_agrees c P time (order.Put bucket key body headers) h clash fit allowed known =
     let name : Name = record { bucket = bucket; key = key } in
-    writes_agree c P h clash time (order.Put bucket key body headers) known fit name (one_bucket P.buckets bucket known) (wish.Content (record { body = body; headers = headers })) allowed.0 allowed.1 refl refl
+    writes_agree c P h clash time (order.Put bucket key body headers) known fit name (one_bucket P.buckets bucket known) (wish.Content (record { body = body; headers = headers })) allowed refl refl
 write_agrees c P time (order.Delete bucket key) h clash fit allowed known =
     let name : Name = record { bucket = bucket; key = key } in
-    writes_agree c P h clash time (order.Delete bucket key) known fit name (one_bucket P.buckets bucket known) wish.Marker tt allowed refl refl
+    writes_agree c P h clash time (order.Delete bucket key) known fit name (one_bucket P.buckets bucket known) wish.Marker tt refl refl
 write_agrees c P time (order.Get bucket key) h clash fit allowed known = absurd allowed
 write_agrees c P time (order.Head bucket key) h clash fit allowed known = absurd allowed
 write_agrees c P time (order.Copy from_bucket from_key bucket key headers) h clash fit allowed known = absurd allowed
 write_agrees c P time (order.List bucket prefix) h clash fit allowed known = absurd allowed
 
 -- whether or not the bucket is there
-pub writes_row_agree : (c : Cluster) (P : Plain) (time : ℕ) (order : Order) → Holds c P → NoClash P.buckets → fits c time order → WritesRow P order → Agrees c P time order
+pub writes_row_agree : (c : Cluster) (P : Plain) (time : ℕ) (order : Order) → Holds c P → NoClash P.buckets → fits c time order → WritesRow order → Follows c P time order
 writes_row_agree c P time order h clash fit allowed =
-    elim (are_buckets P.buckets (buckets_of order)) as (λ b. are_buckets P.buckets (buckets_of order) ≡ b → Agrees c P time order) [
+    elim (are_buckets P.buckets (buckets_of order)) as (λ b. are_buckets P.buckets (buckets_of order) ≡ b → Follows c P time order) [
       | true ↦ λ e. write_agrees c P time order h clash fit allowed e
       | false ↦ λ e. agrees_refused c P h time order e
     ] refl

@@ -100,15 +100,15 @@ Reads (order.Get bucket key) = ⊤
 Reads (order.Head bucket key) = ⊤
 Reads order = ⊥
 
--- a delete, or a put of bytes that aren't kept in blocks, over what isn't kept in blocks
-abbrev pub WritesRow : Plain → Order → Type 0
-WritesRow P (order.Put bucket key body headers) = (is_long body ≡ false) × IsInRow (has_at P (record { bucket = bucket; key = key }))
-WritesRow P (order.Delete bucket key) = IsInRow (has_at P (record { bucket = bucket; key = key }))
-WritesRow P order = ⊥
+-- a delete, or a put of bytes that aren't kept in blocks
+abbrev pub WritesRow : Order → Type 0
+WritesRow (order.Put bucket key body headers) = is_long body ≡ false
+WritesRow (order.Delete bucket key) = ⊤
+WritesRow order = ⊥
 
--- a copy of what isn't kept in blocks, over what isn't kept in blocks
+-- a copy of what isn't kept in blocks
 abbrev pub CopiesRow : Plain → Order → Type 0
-CopiesRow P (order.Copy from_bucket from_key bucket key headers) = IsInRow (has_at P (record { bucket = from_bucket; key = from_key })) × IsInRow (has_at P (record { bucket = bucket; key = key }))
+CopiesRow P (order.Copy from_bucket from_key bucket key headers) = IsInRow (has_at P (record { bucket = from_bucket; key = from_key }))
 CopiesRow P order = ⊥
 
 -- each block that a node keeps is such a string
@@ -119,10 +119,9 @@ AllBlocks is_such w = (n : ℕ) → AllByRecursion (λ (b : Block). IsTrue (is_s
 abbrev pub NoTwins : (List ℕ → Bool) → Type 0
 NoTwins is_such = (a b : List ℕ) → IsTrue (is_such a) → IsTrue (is_such b) → blake2b 32 a ≡ blake2b 32 b → a ≡ b
 
--- a put of bytes that are kept in blocks, each of which is such a string, over what isn't kept in blocks
+-- a put of bytes that are kept in blocks, each of which is such a string
 abbrev pub PutsBlocks : Plain → (List ℕ → Bool) → Order → Type 0
-PutsBlocks P is_such (order.Put bucket key body headers) =
-    (is_long body ≡ true) × IsInRow (has_at P (record { bucket = bucket; key = key })) × ((i : ℕ) → has_piece P.block body i ≡ true → IsTrue (is_such (piece P.block body i)))
+PutsBlocks P is_such (order.Put bucket key body headers) = (is_long body ≡ true) × ((i : ℕ) → has_piece P.block body i ≡ true → IsTrue (is_such (piece P.block body i)))
 PutsBlocks P is_such order = ⊥
 
 -- a list

@@ -3,7 +3,7 @@
 //!
 //! `Plain` (specs/) is the store that is one map; `Holds` says when a cluster holds one, and `Agrees` that it carries out an
 //! order as the map does: it ends with the map's answer, and then holds what the map has become. That is proved of
-//! gets, heads and lists, of puts and deletes over what isn't kept in blocks, and of copies where nothing of it is.
+//! every order, and so of any orders, one after the other.
 #![tactic(auto)]
 
 ghost use Rattle.std.specs.Prelude.{◌≡◌, ◌≤◌, ℕ, Bool, List, [], ◌∷◌, Some, None};
@@ -22,6 +22,7 @@ ghost use Rattle.serve_model.specs.Stores.{OrdersFit, after_orders};
 ghost use Rattle.serve_model.specs.Clusters.{Cluster, cluster, fits};
 ghost use Rattle.plain_laws.specs.Plain.{Plain, plain, IsNumbered, AreInOrder};
 ghost use Rattle.plain_laws.specs.Holds.{Holds, Agrees, Reads, WritesRow, CopiesRow, AllBlocks, NoTwins, PutsBlocks, Lists, AllInRows, IsOfRows, ends_of};
+ghost use Rattle.plain_laws.specs.Blocks.{IsBlockAt, KeepsNoOther, AreApart, Copies, IsPut, IsSomeBlock};
 
 /// A first layout that is installed where nothing has happened yet, with whatever buckets and size of blocks, holds the
 /// empty map.
@@ -36,22 +37,28 @@ pub fn reads_answer_as_the_map_does()
     ensures { (c : Cluster) (P : Plain) (time : ℕ) (order : Order) → Holds c P → fits c time order → Reads order → Agrees c P time order }
 {}
 
-/// A delete, and a put of bytes that aren't kept in blocks, over what isn't kept in blocks, ends with the map's answer, and
-/// the cluster holds what the map has become; where no two names of buckets have one digest.
+/// A delete, and a put of bytes that aren't kept in blocks, ends with the map's answer, and the cluster holds what the map
+/// has become, whatever was there, in blocks too; where no two names of buckets have one digest.
 pub fn writes_answer_as_the_map_does()
-    ensures { (c : Cluster) (P : Plain) (time : ℕ) (order : Order) → Holds c P → NoClash P.buckets → fits c time order → WritesRow P order → Agrees c P time order }
+    ensures { (c : Cluster) (P : Plain) (time : ℕ) (order : Order) → Holds c P → NoClash P.buckets → fits c time order → WritesRow order → Agrees c P time order }
 {}
 
-/// A put of bytes that are kept in blocks, over what isn't kept in blocks, ends with the map's answer, and the cluster holds
-/// what the map has become; where blocks have a byte at least, no two names of buckets have one digest, and neither have two
+/// A put of bytes that are kept in blocks ends with the map's answer, and the cluster holds what the map has become, whatever
+/// was there; where blocks have a byte at least, no two names of buckets have one digest, and neither have two
 /// strings among the blocks that nodes keep and those of these bytes.
 pub fn puts_in_blocks_answer_as_the_map_does()
     ensures { (c : Cluster) (P : Plain) (time : ℕ) (order : Order) (is_such : List ℕ → Bool) → Holds c P → NoClash P.buckets → 1 ≤ P.block → AllBlocks is_such c.run.world → NoTwins is_such → fits c time order → PutsBlocks P is_such order → Agrees c P time order }
 {}
 
-/// So does a copy of what isn't kept in blocks, over what isn't kept in blocks.
+/// So does a copy of what isn't kept in blocks, whatever was there.
 pub fn copies_answer_as_the_map_does()
     ensures { (c : Cluster) (P : Plain) (time : ℕ) (order : Order) → Holds c P → NoClash P.buckets → fits c time order → CopiesRow P order → Agrees c P time order }
+{}
+
+/// So does a copy of anything; where blocks have a byte at least, no two names of buckets have one digest, and neither have two
+/// strings among the blocks that nodes keep and those into which the source's bytes are cut.
+pub fn copies_of_blocks_answer_as_the_map_does()
+    ensures { (c : Cluster) (P : Plain) (time : ℕ) (order : Order) → Holds c P → NoClash P.buckets → 1 ≤ P.block → AreApart (IsBlockAt c P order) → fits c time order → Copies order → Agrees c P time order }
 {}
 
 /// A list ends with the map's answer, and the cluster holds the same map: window after window shows the rows of the bucket's
@@ -67,6 +74,25 @@ pub fn small_stores_answer_as_the_map_does()
     ensures held { (c : Cluster) (P : Plain) (orders : List (ℕ × Order)) → Holds c P → NoClash P.buckets → AllInRows P → AllByRecursion (λ (o : ℕ × Order). IsOfRows o.1) orders → OrdersFit cluster fits c orders →
         (ends_of cluster c orders ≡ ends_of plain P orders) × Holds (after_orders cluster c orders) (after_orders plain P orders) }
     ensures started { (first : Layout) (buckets : List (List ℕ)) (block : ℕ) (orders : List (ℕ × Order)) → IsFirst first → NoClash buckets → AllByRecursion (λ (o : ℕ × Order). IsOfRows o.1) orders →
+        (let c : Cluster = record { run = (acted (record start { buckets = buckets; block = block }) (installs first)).state; ticked = 0; members = layouts.reading.members first } in
+        OrdersFit cluster fits c orders →
+        ends_of cluster c orders ≡ ends_of plain (record { buckets = buckets; block = block; clock = 0; ticked = 0; asked = 0; entries = [] }) orders) }
+{}
+
+/// A block that a node keeps after an order was kept by some node before, or is one of those into which the bytes are cut that
+/// the order writes.
+pub fn nodes_keep_no_other_blocks()
+    ensures { (c : Cluster) (P : Plain) (time : ℕ) (order : Order) → Holds c P → NoClash P.buckets → 1 ≤ P.block → AreApart (IsBlockAt c P order) → fits c time order → KeepsNoOther c P time order }
+{}
+
+/// Any orders, one after the other, end as the map's do, and the cluster then holds what the map has become; where blocks have
+/// a byte at least, no two names of buckets have one digest, and neither have two blocks: those that nodes keep, those into
+/// which the map's objects are cut, and those into which the bytes are cut that are put. So it is from a first layout on,
+/// where there are at first no blocks but those that are put.
+pub fn stores_answer_as_the_map_does()
+    ensures held { (c : Cluster) (P : Plain) (orders : List (ℕ × Order)) → Holds c P → NoClash P.buckets → 1 ≤ P.block → AreApart (IsSomeBlock c P orders) → OrdersFit cluster fits c orders →
+        (ends_of cluster c orders ≡ ends_of plain P orders) × Holds (after_orders cluster c orders) (after_orders plain P orders) }
+    ensures started { (first : Layout) (buckets : List (List ℕ)) (block : ℕ) (orders : List (ℕ × Order)) → IsFirst first → NoClash buckets → 1 ≤ block → AreApart (IsPut block orders) →
         (let c : Cluster = record { run = (acted (record start { buckets = buckets; block = block }) (installs first)).state; ticked = 0; members = layouts.reading.members first } in
         OrdersFit cluster fits c orders →
         ends_of cluster c orders ≡ ends_of plain (record { buckets = buckets; block = block; clock = 0; ticked = 0; asked = 0; entries = [] }) orders) }
