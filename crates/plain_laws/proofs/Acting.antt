@@ -38,7 +38,7 @@ use Rattle.drained_laws.specs.Calm.{IsAtRest}
 use Rattle.drained_laws.proofs.Waits.{all_fresh, sent_wait, forgotten_wait}
 use Rattle.drained_laws.proofs.Deliveries.{one_changes}
 use Rattle.drained_laws.proofs.Weights.{marked_next}
-use Rattle.plain_laws.specs.Plain.{Plain}
+use Rattle.serve_model.specs.Plain.{Plain}
 use Rattle.plain_laws.proofs.Draining.{drained_same, none_undelivered}
 use Rattle.plain_laws.proofs.Holding.{Holding, KeepsBlocks, holds_on}
 

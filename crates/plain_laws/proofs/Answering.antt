@@ -36,7 +36,7 @@ use Rattle.store_laws.proofs.Placing.{asks_is_step}
 use Rattle.serve_model.specs.Stores.{Carried}
 use Rattle.serve_model.specs.Clusters.{Cluster, cluster, fits}
 use Rattle.drained_laws.proofs.Weights.{none_waits}
-use Rattle.plain_laws.specs.Plain.{Has, never, deleted, object, Plain, has_at, row_of, at_time, counted, tells, with_object, answered, plain, IsMap}
+use Rattle.serve_model.specs.Plain.{Has, never, deleted, object, Plain, has_at, row_of, at_time, counted, tells, with_object, answered, plain, IsMap}
 use Rattle.plain_laws.specs.Holds.{nodes_at, Holds, IsInRow}
 use Rattle.plain_laws.specs.Blocks.{IsKept, IsBlockAt}
 use Rattle.plain_laws.proofs.Frames.{none_found}

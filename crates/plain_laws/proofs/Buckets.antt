@@ -28,7 +28,7 @@ use Rattle.store_laws.proofs.Objects.{key_parts, digest_length}
 use Rattle.store_laws.proofs.Orders.{past_front, begins_front, at_parts, at_own}
 use Rattle.store_laws.proofs.Elements.{same_bytes}
 use Rattle.store_laws.proofs.Rows.{complete_row}
-use Rattle.plain_laws.specs.Plain.{Has, never, deleted, object, Entry, same_name, has_among, row_of, with_row, rows_under, IsBefore, AreInOrder}
+use Rattle.serve_model.specs.Plain.{Has, never, deleted, object, Entry, same_name, has_among, row_of, with_row, rows_under, IsBefore, AreInOrder}
 use Rattle.plain_laws.proofs.Entries.{bytes_itself, name_itself, names_equal}
 use Rattle.plain_laws.proofs.Windows.{is_asked, KeysAscend, AreOfTable}
 

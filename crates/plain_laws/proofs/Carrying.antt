@@ -19,7 +19,7 @@ use Rattle.serve_model.specs.Clusters.{Cluster, asker, acts_to_ask, round, acts_
 use Rattle.drained_laws.specs.Calm.{IsMember}
 use Rattle.drained_laws.proofs.Views.{among_here}
 use Rattle.drained_laws.proofs.Posts.{three_at, member_at}
-use Rattle.plain_laws.specs.Plain.{Plain, at_time, IsMap}
+use Rattle.serve_model.specs.Plain.{Plain, at_time, IsMap}
 use Rattle.plain_laws.specs.Holds.{Holds}
 use Rattle.plain_laws.proofs.Holding.{Holding, held, holds_again}
 use Rattle.plain_laws.proofs.Frames.{member_one, opening_of, open_is}

@@ -38,7 +38,7 @@ use Rattle.store_laws.proofs.Emptied.{emptied_from}
 use Rattle.store_laws.proofs.Placing.{asks_is_step}
 use Rattle.serve_model.specs.Stores.{Carried}
 use Rattle.serve_model.specs.Clusters.{Cluster, fits}
-use Rattle.plain_laws.specs.Plain.{Has, never, deleted, object, Plain, has_at, row_of, at_time, counted, writes, with_object, answered}
+use Rattle.serve_model.specs.Plain.{Has, never, deleted, object, Plain, has_at, row_of, at_time, counted, writes, with_object, answered}
 use Rattle.plain_laws.specs.Holds.{nodes_at, Holds, IsInRow, CopiesRow}
 use Rattle.plain_laws.proofs.Keeping.{Follows}
 use Rattle.plain_laws.proofs.Draining.{drains_keep}

@@ -30,7 +30,7 @@ use Rattle.table_model.specs.Rows.{row_at}
 use Rattle.crdt_core.proofs.Each.{all_weaker}
 use Rattle.machine_origins.proofs.Good.{IsGood, IsFound, any_rules, row_found}
 use Rattle.store_laws.proofs.Objects.{key_parts}
-use Rattle.plain_laws.specs.Plain.{Has, never, deleted, object, row_of, last_ts, version_in}
+use Rattle.serve_model.specs.Plain.{Has, never, deleted, object, row_of, last_ts, version_in}
 use Rattle.plain_laws.proofs.Queues.{CallsFor}
 use Rattle.plain_laws.proofs.Smalls.{before_by, row_with, later_stays}
 

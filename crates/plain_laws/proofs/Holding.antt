@@ -26,7 +26,7 @@ use Rattle.store_laws.proofs.Objects.{digest_length}
 use Rattle.crdt_rows.specs.declared.version.Version.{Version}
 use Rattle.drained_laws.specs.Calm.{IsAtRest}
 use Rattle.drained_laws.specs.Drained.{AreEqual, accepted_in}
-use Rattle.plain_laws.specs.Plain.{Has, never, deleted, object, Plain, has_at, row_of, version_in, IsMap}
+use Rattle.serve_model.specs.Plain.{Has, never, deleted, object, Plain, has_at, row_of, version_in, IsMap}
 use Rattle.plain_laws.specs.Holds.{nodes_at, HasBlocks, HasItsBlocks, IsFresh, Holds}
 
 -- what holds of the state of a cluster that holds a map, but for the ends of requests

@@ -18,7 +18,7 @@ use Rattle.store_model.specs.Run.{World, State, plainly}
 use Rattle.store_model.specs.Acts.{Act, moves, drain, acted, after_acts, all_messages}
 use Rattle.serve_model.specs.Clusters.{Cluster, round}
 use Rattle.drained_laws.proofs.Deliveries.{one_changes}
-use Rattle.plain_laws.specs.Plain.{Plain}
+use Rattle.serve_model.specs.Plain.{Plain}
 use Rattle.plain_laws.specs.Holds.{Agrees}
 use Rattle.plain_laws.specs.Blocks.{IsKept, KeepsNoOther}
 use Rattle.plain_laws.proofs.Given.{AllKept}

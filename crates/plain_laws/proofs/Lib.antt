@@ -40,3 +40,4 @@ pub mod First
 pub mod Stores
 pub mod Numbered
 pub mod Ordered
+mod Served

@@ -38,7 +38,7 @@ use Rattle.serve_model.specs.Clusters.{Cluster, fits}
 use Rattle.drained_laws.proofs.Drained.{filter_append}
 use Rattle.drained_laws.proofs.Posts.{three_at}
 use Rattle.drained_laws.proofs.Views.{among_here}
-use Rattle.plain_laws.specs.Plain.{Plain, rows_under, at_time}
+use Rattle.serve_model.specs.Plain.{Plain, rows_under, at_time}
 use Rattle.plain_laws.specs.Holds.{nodes_at, Holds, Lists}
 use Rattle.plain_laws.proofs.Keeping.{Follows}
 use Rattle.plain_laws.proofs.Holding.{Holding}

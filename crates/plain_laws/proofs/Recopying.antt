@@ -34,9 +34,9 @@ use Rattle.store_laws.proofs.Emptied.{emptied_from}
 use Rattle.store_laws.proofs.Placing.{asks_is_step}
 use Rattle.serve_model.specs.Stores.{Carried}
 use Rattle.serve_model.specs.Clusters.{Cluster, fits}
-use Rattle.plain_laws.specs.Plain.{Has, never, deleted, object, Plain, has_at, row_of, at_time, counted, writes, with_object}
+use Rattle.serve_model.specs.Plain.{Has, never, deleted, object, Plain, has_at, row_of, at_time, counted, writes, with_object, IsPiece, AreApart}
 use Rattle.plain_laws.specs.Holds.{nodes_at, Holds, IsInRow}
-use Rattle.plain_laws.specs.Blocks.{IsPiece, body_in, IsBlockAt, AreApart, Copies as IsCopy}
+use Rattle.plain_laws.specs.Blocks.{body_in, IsBlockAt, Copies as IsCopy}
 use Rattle.plain_laws.proofs.Draining.{drains_keep}
 use Rattle.plain_laws.proofs.Seeking.{a_row, position_of}
 use Rattle.plain_laws.proofs.Looks.{Turn, Reads, HasAll, reads_next, reads_all, seeks_then}

@@ -18,7 +18,7 @@ use Rattle.flow_model.specs.declared.flow.Wish.TheVariants as wish
 use Rattle.flow_model.specs.Blocks.{piece_hash, is_long}
 use Rattle.flow_model.specs.Rows as row
 use Rattle.flow_model.specs.Says.{marked, inline, in_blocks, of_state, said_of, greatest_ts}
-use Rattle.plain_laws.specs.Plain.{Has, never, deleted, object, row_of, last_ts}
+use Rattle.serve_model.specs.Plain.{Has, never, deleted, object, row_of, last_ts}
 
 -- a row with one complete version says that one
 pub said_complete : (name : Name) (version : Version) (body : Body) (fits : is_sized (Complete body) ≡ true) → said_of (Some (row.object_row name version (Complete body) fits)) ≡ of_state version (Some (Complete body))

@@ -21,9 +21,9 @@ use Rattle.store_model.specs.Run.{are_buckets, start}
 use Rattle.store_model.specs.Acts.{installs, acted}
 use Rattle.serve_model.specs.Stores.{Carried, OrdersFit, after_orders}
 use Rattle.serve_model.specs.Clusters.{Cluster, cluster, fits}
-use Rattle.plain_laws.specs.Plain.{Has, never, deleted, object, Plain, same_name, has_at, at_time, counted, version_of, made, writes, with_object, answered, plain}
+use Rattle.serve_model.specs.Plain.{Has, never, deleted, object, Plain, same_name, has_at, at_time, counted, version_of, made, writes, with_object, answered, plain, IsPiece, body_put, AreApart}
 use Rattle.plain_laws.specs.Holds.{Holds, ends_of}
-use Rattle.plain_laws.specs.Blocks.{IsPiece, body_in, body_put, body_written, IsBlockAt, AreApart, IsPut, IsOfMap, IsSomeBlock}
+use Rattle.plain_laws.specs.Blocks.{body_in, body_written, IsBlockAt, IsPut, IsOfMap, IsSomeBlock}
 use Rattle.plain_laws.proofs.Entries.{names_equal, has_new, has_others}
 use Rattle.plain_laws.proofs.First.{at_node}
 use Rattle.plain_laws.proofs.Keeping.{Follows}
@@ -50,10 +50,10 @@ order_follows c P time (order.List bucket prefix) h clash some apart fit = lists
 -- ---- what the map has after an order
 
 -- buckets and the size of blocks stay, and under each name are the bytes that were there, or those that the order writes
-record Grows (P : Plain) (order : Order) (Q : Plain) : Type 0 where
-  buckets : Q.buckets ≡ P.buckets
-  block : Q.block ≡ P.block
-  bodies : (name : Name) → (body_in (has_at Q name) ≡ body_in (has_at P name)) ⊎ (body_in (has_at Q name) ≡ body_written P order)
+pub record Grows (P : Plain) (order : Order) (Q : Plain) : Type 0 where
+  pub buckets : Q.buckets ≡ P.buckets
+  pub block : Q.block ≡ P.block
+  pub bodies : (name : Name) → (body_in (has_at Q name) ≡ body_in (has_at P name)) ⊎ (body_in (has_at Q name) ≡ body_written P order)
 
 module _ (P : Plain) (time : ℕ) (order : Order) where
   abbrev after : Plain
@@ -89,7 +89,7 @@ answered_grows P time (order.Copy from_bucket from_key bucket key headers) =
     (λ version c e. writes_grow P time (order.Copy from_bucket from_key bucket key headers) (record { bucket = bucket; key = key }) (wish.Content (record { body = c.body; headers = unwrap_or headers c.headers })) (sym e))
 answered_grows P time (order.List bucket prefix) = as_it_is P time (order.List bucket prefix)
 
-carries_grow : (P : Plain) (time : ℕ) (order : Order) → Grows P order (plain.carries P time order).state
+pub carries_grow : (P : Plain) (time : ℕ) (order : Order) → Grows P order (plain.carries P time order).state
 carries_grow P time order =
     elim (are_buckets P.buckets (buckets_of order)) as (λ b. Grows P order (if b then answered (counted (at_time P time)) order else record { state = at_time P time; end = None }).state) [
       | true ↦ answered_grows P time order
@@ -98,21 +98,21 @@ carries_grow P time order =
 
 -- ---- of which blocks digests have to be different
 
-module _ (c : Cluster) (P : Plain) (o : ℕ × Order) (orders : List (ℕ × Order)) where
-  -- what is written was there, or is put
-  written_or_put : (order : Order) (bytes : List ℕ) → IsPiece P.block (body_written P order) bytes → IsOfMap P bytes ⊎ IsPiece P.block (body_put order) bytes
-  written_or_put (order.Copy from_bucket from_key bucket key headers) bytes p = inl (record { bucket = from_bucket; key = from_key }, p)
-  written_or_put (order.Put bucket key body headers) bytes p = inr p
-  written_or_put (order.Get bucket key) bytes p = inr p
-  written_or_put (order.Head bucket key) bytes p = inr p
-  written_or_put (order.Delete bucket key) bytes p = inr p
-  written_or_put (order.List bucket prefix) bytes p = inr p
+-- what is written was there, or is put
+pub written_or_put : (P : Plain) (order : Order) (bytes : List ℕ) → IsPiece P.block (body_written P order) bytes → IsOfMap P bytes ⊎ IsPiece P.block (body_put order) bytes
+written_or_put P (order.Copy from_bucket from_key bucket key headers) bytes p = inl (record { bucket = from_bucket; key = from_key }, p)
+written_or_put P (order.Put bucket key body headers) bytes p = inr p
+written_or_put P (order.Get bucket key) bytes p = inr p
+written_or_put P (order.Head bucket key) bytes p = inr p
+written_or_put P (order.Delete bucket key) bytes p = inr p
+written_or_put P (order.List bucket prefix) bytes p = inr p
 
+module _ (c : Cluster) (P : Plain) (o : ℕ × Order) (orders : List (ℕ × Order)) where
   abbrev IsOne : List ℕ → Type 0
   IsOne bytes = IsSomeBlock c P (o ∷ orders) bytes
 
   of_written : (bytes : List ℕ) → IsPiece P.block (body_written P o.1) bytes → IsOne bytes
-  of_written bytes p = elim (written_or_put o.1 bytes p) [
+  of_written bytes p = elim (written_or_put P o.1 bytes p) [
     | inl was ↦ inr (inl was)
     | inr put ↦ inr (inr (inl put))
   ]

@@ -53,7 +53,7 @@ use Rattle.drained_laws.specs.Waiting.{SomeOf, Has as IsIn}
 use Rattle.drained_laws.specs.Accounts.{Brings, IsDue}
 use Rattle.drained_laws.proofs.Waits.{some_left, some_right}
 use Rattle.drained_laws.proofs.Weights.{none_waits}
-use Rattle.plain_laws.specs.Plain.{Has, Plain, same_name, has_at, row_of, last_ts, at_time, counted, version_of, version_in, made, writes, answered}
+use Rattle.serve_model.specs.Plain.{Has, Plain, same_name, has_at, row_of, last_ts, at_time, counted, version_of, version_in, made, writes, answered, AreApart}
 use Rattle.plain_laws.specs.Holds.{nodes_at, HasBlocks, Holds, Agrees, AllBlocks, NoTwins, PutsBlocks}
 use Rattle.plain_laws.proofs.Holding.{Holding}
 use Rattle.plain_laws.proofs.Smalls.{before_by}
@@ -87,7 +87,7 @@ use Rattle.cluster_machine.specs.Trio.{trio, stage_trio}
 use Rattle.cluster_machine.specs.declared.applied.Applied.{Applied}
 use Rattle.layout_roles.specs.declared.cut.Cut.{Cut}
 use Rattle.crdt_core.specs.Order.{option_join}
-use Rattle.plain_laws.specs.Blocks.{IsBlockAt, AreApart, PutsLong}
+use Rattle.plain_laws.specs.Blocks.{IsBlockAt, PutsLong}
 use Rattle.plain_laws.proofs.Keeping.{Follows, kept_such}
 
 -- a block that is found is one of those that are kept

@@ -49,7 +49,7 @@ use Rattle.serve_model.specs.Clusters.{Cluster, fits}
 use Rattle.drained_laws.specs.Waiting.{SomeOf, Has as IsIn, waiting}
 use Rattle.drained_laws.specs.Accounts.{Brings, IsDue}
 use Rattle.drained_laws.proofs.Weights.{none_waits}
-use Rattle.plain_laws.specs.Plain.{Has, Plain, same_name, has_at, row_of, last_ts, at_time, counted, version_of, made, meta_made, writes, answered}
+use Rattle.serve_model.specs.Plain.{Has, Plain, same_name, has_at, row_of, last_ts, at_time, counted, version_of, made, meta_made, writes, answered}
 use Rattle.plain_laws.specs.Holds.{nodes_at, HasItsBlocks, Holds, WritesRow}
 use Rattle.plain_laws.proofs.Holding.{Holding}
 use Rattle.plain_laws.proofs.Entries.{name_itself}

@@ -9,7 +9,7 @@ use Rattle.flow_model.specs.declared.flow.Name.{Name}
 use Rattle.flow_model.specs.Blocks.{piece, has_piece, is_long}
 use Rattle.store_model.specs.Run.{World}
 use Rattle.serve_model.specs.Clusters.{Cluster, cluster}
-use Rattle.plain_laws.specs.Plain.{Has, never, deleted, object, Plain, has_at}
+use Rattle.serve_model.specs.Plain.{Has, never, deleted, object, Plain, has_at, IsPiece, body_put}
 
 -- ---- one order
 
@@ -17,20 +17,11 @@ use Rattle.plain_laws.specs.Plain.{Has, never, deleted, object, Plain, has_at}
 abbrev pub IsKept : World → List ℕ → Type 0
 IsKept w bytes = (n : ℕ) × OneOf (λ (b : Block). b.bytes ≡ bytes) (w.nodes n).blocks
 
--- bytes that are kept in blocks are cut into this one
-abbrev pub IsPiece : ℕ → List ℕ → List ℕ → Type 0
-IsPiece block body bytes = (i : ℕ) × (is_long body ≡ true) × (has_piece block body i ≡ true) × (bytes ≡ piece block body i)
-
 -- the bytes of what is there
 abbrev pub body_in : Has → List ℕ
 body_in never = []
 body_in (deleted version) = []
 body_in (object version block c) = c.body
-
--- the bytes that an order puts
-abbrev pub body_put : Order → List ℕ
-body_put (order.Put bucket key body headers) = body
-body_put order = []
 
 -- the bytes that an order writes: those that it puts, and those of a copy's source
 abbrev pub body_written : Plain → Order → List ℕ
@@ -44,10 +35,6 @@ IsBlockAt c P order bytes = IsKept c.run.world bytes ⊎ IsPiece P.block (body_w
 -- a block that a node keeps after the order some node kept before, or what the order writes is cut into it
 abbrev pub KeepsNoOther : Cluster → Plain → ℕ → Order → Type 0
 KeepsNoOther c P time order = (bytes : List ℕ) → IsKept (cluster.carries c time order).state.run.world bytes → IsBlockAt c P order bytes
-
--- no two such strings have one digest
-abbrev pub AreApart : (List ℕ → Type 0) → Type 0
-AreApart IsSuch = (a b : List ℕ) → IsSuch a → IsSuch b → blake2b 32 a ≡ blake2b 32 b → a ≡ b
 
 -- a put of bytes that are kept in blocks
 abbrev pub PutsLong : Order → Type 0

@@ -31,7 +31,7 @@ use Rattle.serve_model.specs.Stores.{Store}
 use Rattle.serve_model.specs.Clusters.{Cluster, cluster}
 use Rattle.drained_laws.specs.Calm.{IsAtRest}
 use Rattle.drained_laws.specs.Drained.{AreEqual, accepted_in}
-use Rattle.plain_laws.specs.Plain.{Has, never, deleted, object, Plain, has_at, row_of, plain, IsMap}
+use Rattle.serve_model.specs.Plain.{Has, never, deleted, object, Plain, has_at, row_of, plain, IsMap}
 
 -- the nodes that a layout gives what lies at this position
 abbrev pub nodes_at : Layout → List ℕ → List ℕ

@@ -1,3 +1,3 @@
-pub mod Plain
 pub mod Holds
 pub mod Blocks
+pub mod Served

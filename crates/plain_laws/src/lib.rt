@@ -18,11 +18,15 @@ ghost use Rattle.flow_model.specs.Rows.{meta_of};
 ghost use Rattle.store_model.specs.Fresh.{NoClash};
 ghost use Rattle.store_model.specs.Run.{start};
 ghost use Rattle.store_model.specs.Acts.{installs, acted};
-ghost use Rattle.serve_model.specs.Stores.{OrdersFit, after_orders};
+ghost use Rattle.lab_outside.specs.Connection.{Connection};
+ghost use Rattle.serve_model.specs.Stores.{OrdersFit, after_orders, fits_asking};
 ghost use Rattle.serve_model.specs.Clusters.{Cluster, cluster, fits};
-ghost use Rattle.plain_laws.specs.Plain.{Plain, plain, IsNumbered, AreInOrder};
+ghost use Rattle.serve_model.specs.Talk.{Grammar, Serving};
+ghost use Rattle.serve_model.specs.Connections.{AreServed, NoneRose};
+ghost use Rattle.serve_model.specs.Plain.{Plain, plain, IsNumbered, AreInOrder, AreApart};
 ghost use Rattle.plain_laws.specs.Holds.{Holds, Agrees, Reads, WritesRow, CopiesRow, AllBlocks, NoTwins, PutsBlocks, Lists, AllInRows, IsOfRows, ends_of};
-ghost use Rattle.plain_laws.specs.Blocks.{IsBlockAt, KeepsNoOther, AreApart, Copies, IsPut, IsSomeBlock};
+ghost use Rattle.plain_laws.specs.Blocks.{IsBlockAt, KeepsNoOther, Copies, IsPut, IsSomeBlock};
+ghost use Rattle.plain_laws.specs.Served.{IsServedBlock, HoldsApart, AreServedFrom};
 
 /// A first layout that is installed where nothing has happened yet, with whatever buckets and size of blocks, holds the
 /// empty map.
@@ -96,6 +100,14 @@ pub fn stores_answer_as_the_map_does()
         (let c : Cluster = record { run = (acted (record start { buckets = buckets; block = block }) (installs first)).state; ticked = 0; members = layouts.reading.members first } in
         OrdersFit cluster fits c orders →
         ends_of cluster c orders ≡ ends_of plain (record { buckets = buckets; block = block; clock = 0; ticked = 0; asked = 0; entries = [] }) orders) }
+{}
+
+/// Connections that are served over a cluster that holds a map are served as from the map: each connection's text is the one
+/// that a server over the map writes, byte for byte; where no connection's count of faults rose, and no two blocks have one
+/// digest: those that nodes keep, and those into which the map's objects and the bytes that are put are cut.
+pub fn connections_are_served_as_from_the_map()
+    ensures { (buckets : List (List ℕ)) (g : Grammar) (p s : Serving Cluster) (P : Plain) (came : List (List ℕ)) (gone : List Connection) → HoldsApart p.store P → AreApart (IsServedBlock buckets g p P came) → NoneRose gone →
+        AreServed cluster buckets g (fits_asking fits) p came gone s → AreServedFrom P buckets g p came gone s }
 {}
 
 /// An object is put, read, asked for, deleted, and read once more, at times 100 to 104; the delete's timestamp is the

@@ -13,7 +13,7 @@ use Rattle.serve_model.specs.declared.served.Served.{Served}
 use Rattle.serve_model.specs.declared.served.ServeFault.{ServeFault}
 use Rattle.serve_model.specs.declared.served.ServeFault.TheVariants.{Kept}
 use Rattle.serve_model.specs.Faults.{fault_of}
-use Rattle.serve_model.specs.Stores.{Store, Asking, OverflowsAmong}
+use Rattle.serve_model.specs.Stores.{Store, Asking, OverflowsAmong, known_from}
 use Rattle.serve_model.specs.Judging.{answer_to, counted_after}
 use Rattle.serve_model.specs.Talk.{Serving, Turn, text_of, closes_of, counted, counting, kept_limit, having_asked, answer_turn, end_turn, order_turn}
 use Rattle.serve_model.specs.Serving.{CarriedOut, Reached, Goes, GivesUp, Says, Stands, SaysOn, ServesOn}
@@ -50,39 +50,39 @@ module _ {S : Type 0} (store : Store S) (fits lacks : S → ℕ → Order → Ty
     turn_then end f left = ap (λ e. having_asked asking (end_turn r e (record p { store = (store.carries p.store r.time order).state }) (kept ++ left))) (sym (f p.store st.store).end_is)
 
     -- it didn't end
-    pub carried_none : (o : Option Connection) → ((s : S) → holds s → CarriedOut store fits lacks holds' s r.time order None) → ServesOn (λ left. order_turn store r order p (kept ++ left)) (Reached store fits lacks holds' p.store) (OverflowsAmong store fits lacks p.store) times served (Ok false) kept o o
+    pub carried_none : (o : Option Connection) → ((s : S) → holds s → CarriedOut store fits lacks holds' s r.time order None) → ServesOn (λ left. order_turn store r order p (kept ++ left)) (Reached store fits lacks holds' p.store) (known_from store fits lacks p.store) times served (Ok false) kept o o
     carried_none o f =
         let p' : Serving S = record p { store = (store.carries p.store r.time order).state } in
-        serves_same (Reached store fits lacks holds' p.store) (OverflowsAmong store fits lacks p.store) times served (λ left. having_asked asking (answer_turn r Nothing p' (kept ++ left))) (λ left. order_turn store r order p (kept ++ left)) (Ok false) kept o o (turn_then None f)
-        (asked_serves (Reached store fits lacks holds' p.store) (OverflowsAmong store fits lacks p.store) times served (Ok false) kept o o asking (λ left. answer_turn r Nothing p' (kept ++ left)) asks_more
-        (says_serves (Reached store fits lacks holds' p.store) (OverflowsAmong store fits lacks p.store) times served (Ok false) kept o o [] true p' (stands_then None f) (on_present_same (Says [] true (Ok false)) o silence_says)))
+        serves_same (Reached store fits lacks holds' p.store) (known_from store fits lacks p.store) times served (λ left. having_asked asking (answer_turn r Nothing p' (kept ++ left))) (λ left. order_turn store r order p (kept ++ left)) (Ok false) kept o o (turn_then None f)
+        (asked_serves (Reached store fits lacks holds' p.store) (known_from store fits lacks p.store) times served (Ok false) kept o o asking (λ left. answer_turn r Nothing p' (kept ++ left)) (f p.store st.store).fit asks_more
+        (says_serves (Reached store fits lacks holds' p.store) (known_from store fits lacks p.store) times served (Ok false) kept o o [] true p' (stands_then None f) (on_present_same (Says [] true (Ok false)) o silence_says)))
 
     -- it ended, and too many bytes were copied
     pub carried_limits : (served' : Served) (o : Option Connection) (end : FlowEnd) (size : ℕ) → ((s : S) → holds s → CarriedOut store fits lacks holds' s r.time order (Some end)) → size ≡ counted_after r.ask end → kept_limit < served.kept + size
-        → ServesOn (λ left. order_turn store r order p (kept ++ left)) (Reached store fits lacks holds' p.store) (OverflowsAmong store fits lacks p.store) times served' (Err Kept) kept o o
+        → ServesOn (λ left. order_turn store r order p (kept ++ left)) (Reached store fits lacks holds' p.store) (known_from store fits lacks p.store) times served' (Err Kept) kept o o
     carried_limits served' o end size f same lt =
         let p' : Serving S = record p { store = (store.carries p.store r.time order).state } in
         let H = Reached store fits lacks holds' p.store in
-        let O = OverflowsAmong store fits lacks p.store in
+        let O = known_from store fits lacks p.store in
         let P : ℕ → Type 0 = λ n. ServesOn (λ left. counting n p' (λ q. answer_turn r (answer_to r.ask end) q (kept ++ left))) H O times served' (Err Kept) kept o o in
         let t : List ℕ → Turn S = λ left. counting (counted_after r.ask end) p' (λ q. answer_turn r (answer_to r.ask end) q (kept ++ left)) in
         serves_same H O times served' (λ left. having_asked asking (t left)) (λ left. order_turn store r order p (kept ++ left)) (Err Kept) kept o o (turn_then (Some end) f)
-        (asked_serves H O times served' (Err Kept) kept o o asking t asks_more
+        (asked_serves H O times served' (Err Kept) kept o o asking t (f p.store st.store).fit asks_more
         (subst P same (counting_limits H O times size p' (λ left q. answer_turn r (answer_to r.ask end) q (kept ++ left)) kept served' served o st.kept lt)))
 
     -- it ended, and that was answered
     pub carried_said : (served' : Served) (result : Result Bool ServeFault) (o n : Option Connection) (end : FlowEnd) (size : ℕ) → ((s : S) → holds s → CarriedOut store fits lacks holds' s r.time order (Some end)) → size ≡ counted_after r.ask end
         → served'.kept ≡ served.kept + size → served'.time ≡ served.time → served.kept + size ≤ kept_limit → SaysOn (text_of r (answer_to r.ask end)) (closes_of r (answer_to r.ask end)) result o n
-        → ServesOn (λ left. order_turn store r order p (kept ++ left)) (Reached store fits lacks holds' p.store) (OverflowsAmong store fits lacks p.store) times served' result kept o n
+        → ServesOn (λ left. order_turn store r order p (kept ++ left)) (Reached store fits lacks holds' p.store) (known_from store fits lacks p.store) times served' result kept o n
     carried_said served' result o n end size f same more time le says =
         let p' : Serving S = record p { store = (store.carries p.store r.time order).state } in
         let H = Reached store fits lacks holds' p.store in
-        let O = OverflowsAmong store fits lacks p.store in
+        let O = known_from store fits lacks p.store in
         let a = answer_to r.ask end in
         let P : ℕ → Type 0 = λ k. ServesOn (λ left. counting k p' (λ q. answer_turn r a q (kept ++ left))) H O times served' result kept o n in
         let t : List ℕ → Turn S = λ left. counting (counted_after r.ask end) p' (λ q. answer_turn r a q (kept ++ left)) in
         serves_same H O times served' (λ left. having_asked asking (t left)) (λ left. order_turn store r order p (kept ++ left)) result kept o n (turn_then (Some end) f)
-        (asked_serves H O times served' result kept o n asking t asks_more
+        (asked_serves H O times served' result kept o n asking t (f p.store st.store).fit asks_more
         (subst P same
         (counting_serves H O times size p' (λ left q. answer_turn r a q (kept ++ left)) kept served' served result o n st.kept le
         (says_serves H O times served' result kept o n (text_of r a) (closes_of r a) (counted size p') (stands_counted H times served served' size p' more time (stands_then (Some end) f)) says))))

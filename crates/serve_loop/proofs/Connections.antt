@@ -7,7 +7,7 @@ use Rattle.flow_model.specs.declared.order.Order.{Order}
 use Rattle.serve_model.specs.declared.served.Served.{Served}
 use Rattle.serve_model.specs.declared.served.ServeFault.{ServeFault}
 use Rattle.serve_model.specs.declared.served.ServeFault.TheVariants.{Kept}
-use Rattle.serve_model.specs.Stores.{Store, Asking, OverflowsAmong}
+use Rattle.serve_model.specs.Stores.{Store, Asking, fits_asking, Known, OverflowsAmong, known_from}
 use Rattle.serve_model.specs.Talk.{Grammar, Serving, talk, request_limit}
 use Rattle.serve_model.specs.Serving.{Reached, GivesUp, Stands, OnLeft}
 use Rattle.serve_model.specs.Connections.{Talks, whole, cut_off, limited, given_up, IsPrefixOf, IsServed, exact, part, AreServed, ServesAll, EndsSo, too_many, begun, ServesAllButLast}
@@ -36,15 +36,15 @@ same_fault r a b h k = cc
 
 -- ---- one connection
 
-module _ {S : Type 0} (store : Store S) (buckets : List (List ℕ)) (g : Grammar) where
+module _ {S : Type 0} (store : Store S) (buckets : List (List ℕ)) (g : Grammar) (known : Known S) where
   record ServedOnce (p : Serving S) (bytes : List ℕ) (holds : S → Type 0) (times : Option (List ℕ)) (served : Served) (d : Connection) : Type 0 where
     serving : Serving S
-    is_served : IsServed store buckets g p bytes d serving
+    is_served : IsServed store buckets g known.fits p bytes d serving
     stands : Stands holds times served serving
 
-  module _ (p : Serving S) (bytes : List ℕ) (holds : S → Type 0) (overflows : List (Asking S) → Type 0) (times : Option (List ℕ)) (served : Served) (c d : Connection) (fresh : IsFresh c) where
-    served_once : Talks (talk store buckets g request_limit p bytes) holds overflows times served (Ok tt) c d → ServedOnce p bytes holds times served d
-    served_once (whole ok over w st n) = record { serving = (talk store buckets g request_limit p bytes).serving; is_served = exact over (written_is c.written d.written (talk store buckets g request_limit p bytes).text fresh.unwritten w) refl; stands = st }
+  module _ (p : Serving S) (bytes : List ℕ) (holds : S → Type 0) (times : Option (List ℕ)) (served : Served) (c d : Connection) (fresh : IsFresh c) where
+    served_once : Talks (talk store buckets g request_limit p bytes) holds known times served (Ok tt) c d → ServedOnce p bytes holds times served d
+    served_once (whole ok over w asked st n) = record { serving = (talk store buckets g request_limit p bytes).serving; is_served = exact over (written_is c.written d.written (talk store buckets g request_limit p bytes).text fresh.unwritten w) asked refl; stands = st }
     served_once (cut_off q ok n w st r) =
         let P : ℕ → Type 0 = λ k. Rose k d.faults in
         record { serving = q; is_served = part (subst P fresh.faultless n) (prefix_is c.written d.written (talk store buckets g request_limit p bytes).text fresh.unwritten w) r; stands = st }
@@ -52,9 +52,9 @@ module _ {S : Type 0} (store : Store S) (buckets : List (List ℕ)) (g : Grammar
     served_once (given_up e err why w n) = absurd (ok_is_no_error (Ok tt) e refl err)
 
     -- where serving ends with it, for a reason that holds of what was served before it too
-    ends_so : (before : List (Asking S) → Type 0) → (overflows (talk store buckets g request_limit p bytes).asks → before (talk store buckets g request_limit p bytes).asks) → (e : ServeFault) → Talks (talk store buckets g request_limit p bytes) holds overflows times served (Err e) c d
+    ends_so : (before : List (Asking S) → Type 0) → (known.overflows (talk store buckets g request_limit p bytes).asks → before (talk store buckets g request_limit p bytes).asks) → (e : ServeFault) → Talks (talk store buckets g request_limit p bytes) holds known times served (Err e) c d
         → EndsSo store buckets g before (talk store buckets g request_limit p bytes) d e
-    ends_so before f e (whole ok over w st n) = absurd (ok_is_no_error (Err e) e ok refl)
+    ends_so before f e (whole ok over w asked st n) = absurd (ok_is_no_error (Err e) e ok refl)
     ends_so before f e (cut_off q ok n w st r) = absurd (ok_is_no_error (Err e) e ok refl)
     ends_so before f e (limited err over w n) =
         let P : ServeFault → Type 0 = EndsSo store buckets g before (talk store buckets g request_limit p bytes) d in
@@ -62,12 +62,12 @@ module _ {S : Type 0} (store : Store S) (buckets : List (List ℕ)) (g : Grammar
     ends_so before f e (given_up m err why w n) =
         let asks = (talk store buckets g request_limit p bytes).asks in
         let Q : ServeFault → Type 0 = GivesUp before asks in
-        begun e (subst Q (sym (same_fault (Err e) e m refl err)) (gives_up_for m overflows before asks asks f why)) (prefix_is c.written d.written (talk store buckets g request_limit p bytes).text fresh.unwritten w)
+        begun e (subst Q (sym (same_fault (Err e) e m refl err)) (gives_up_for m known.overflows before asks asks f why)) (prefix_is c.written d.written (talk store buckets g request_limit p bytes).text fresh.unwritten w)
 
   -- ---- one connection more
 
-  are_more : (p q q' : Serving S) (came : List (List ℕ)) (gone : List Connection) (bytes : List ℕ) (d : Connection) → AreServed store buckets g p came gone q → IsServed store buckets g q bytes d q' → AreServed store buckets g p (came ++ bytes ∷ []) (gone ++ d ∷ []) q'
-  are_more p q q' [] [] bytes d h s = let P : Serving S → Type 0 = λ x. IsServed store buckets g x bytes d q' in (q', subst P h s, refl)
+  are_more : (p q q' : Serving S) (came : List (List ℕ)) (gone : List Connection) (bytes : List ℕ) (d : Connection) → AreServed store buckets g known.fits p came gone q → IsServed store buckets g known.fits q bytes d q' → AreServed store buckets g known.fits p (came ++ bytes ∷ []) (gone ++ d ∷ []) q'
+  are_more p q q' [] [] bytes d h s = let P : Serving S → Type 0 = λ x. IsServed store buckets g known.fits x bytes d q' in (q', subst P h s, refl)
   are_more p q q' [] (y ∷ gone) bytes d h s = absurd h
   are_more p q q' (x ∷ came) [] bytes d h s = absurd h
   are_more p q q' (x ∷ came) (y ∷ gone) bytes d (mid, first, rest) s = (mid, first, are_more mid q q' came gone bytes d rest s)
@@ -89,20 +89,20 @@ comes_of (bytes ∷ rest) new c h = record { bytes = bytes; rest = rest; first =
 
 module _ {S : Type 0} (store : Store S) (fits lacks : S → ℕ → Order → Type 0) (buckets : List (List ℕ)) (g : Grammar) (p : Serving S) (number : ℕ) (holds holds' : S → Type 0) (times times' : Option (List ℕ)) (served served' : Served) (past past1 past2 : List Connection) where
   Talked : Result Unit ServeFault → Connection → Connection → Type 0
-  Talked r c d = (q : Serving S) → Stands holds times served q → OnLeft (λ left. Talks (talk store buckets g request_limit q left) (Reached store fits lacks holds' q.store) (OverflowsAmong store fits lacks q.store) times' served' r c d) c.left
+  Talked r c d = (q : Serving S) → Stands holds times served q → OnLeft (λ left. Talks (talk store buckets g request_limit q left) (Reached store fits lacks holds' q.store) (known_from store fits lacks q.store) times' served' r c d) c.left
 
-  module _ (coming : List (List ℕ)) (old new : Option (List (List ℕ))) (c d : Connection) (a : ServesAll store buckets g p number (Reached store fits lacks holds p.store) times served coming old past past1) (takes : TakesNext old new (Some c)) (fresh : IsFresh c) (goes : past2 ≡ past1 ++ d ∷ []) where
+  module _ (coming : List (List ℕ)) (old new : Option (List (List ℕ))) (c d : Connection) (a : ServesAll store buckets g (fits_asking fits) p number (Reached store fits lacks holds p.store) times served coming old past past1) (takes : TakesNext old new (Some c)) (fresh : IsFresh c) (goes : past2 ≡ past1 ++ d ∷ []) where
     next_comes : Comes a.to_come new c
     next_comes = let Q : Option (List (List ℕ)) → Type 0 = λ o. TakesNext o new (Some c) in comes_of a.to_come new c (subst Q a.comes_new takes)
 
-    one_talk : (r : Result Unit ServeFault) (k : Comes a.to_come new c) → ((q : Serving S) → Stands holds times served q → OnLeft (λ left. Talks (talk store buckets g request_limit q left) (Reached store fits lacks holds' q.store) (OverflowsAmong store fits lacks q.store) times' served' r c d) c.left)
-        → Talks (talk store buckets g request_limit a.serving k.bytes) (Reached store fits lacks holds' a.serving.store) (OverflowsAmong store fits lacks a.serving.store) times' served' r c d
-    one_talk r k talks = at_left (λ left. Talks (talk store buckets g request_limit a.serving left) (Reached store fits lacks holds' a.serving.store) (OverflowsAmong store fits lacks a.serving.store) times' served' r c d) c.left k.bytes k.left (talks a.serving (stands_plain store fits lacks holds times served p.store a.serving a.stands))
+    one_talk : (r : Result Unit ServeFault) (k : Comes a.to_come new c) → ((q : Serving S) → Stands holds times served q → OnLeft (λ left. Talks (talk store buckets g request_limit q left) (Reached store fits lacks holds' q.store) (known_from store fits lacks q.store) times' served' r c d) c.left)
+        → Talks (talk store buckets g request_limit a.serving k.bytes) (Reached store fits lacks holds' a.serving.store) (known_from store fits lacks a.serving.store) times' served' r c d
+    one_talk r k talks = at_left (λ left. Talks (talk store buckets g request_limit a.serving left) (Reached store fits lacks holds' a.serving.store) (known_from store fits lacks a.serving.store) times' served' r c d) c.left k.bytes k.left (talks a.serving (stands_plain store fits lacks holds times served p.store a.serving a.stands))
 
-    one_more : ((q : Serving S) → Stands holds times served q → OnLeft (λ left. Talks (talk store buckets g request_limit q left) (Reached store fits lacks holds' q.store) (OverflowsAmong store fits lacks q.store) times' served' (Ok tt) c d) c.left) → ServesAll store buckets g p (number + 1) (Reached store fits lacks holds' p.store) times' served' coming new past past2
+    one_more : ((q : Serving S) → Stands holds times served q → OnLeft (λ left. Talks (talk store buckets g request_limit q left) (Reached store fits lacks holds' q.store) (known_from store fits lacks q.store) times' served' (Ok tt) c d) c.left) → ServesAll store buckets g (fits_asking fits) p (number + 1) (Reached store fits lacks holds' p.store) times' served' coming new past past2
     one_more talks =
         let k = next_comes in
-        let s = served_once store buckets g a.serving k.bytes (Reached store fits lacks holds' a.serving.store) (OverflowsAmong store fits lacks a.serving.store) times' served' c d fresh (one_talk (Ok tt) k talks) in
+        let s = served_once store buckets g (known_from store fits lacks a.serving.store) a.serving k.bytes (Reached store fits lacks holds' a.serving.store) times' served' c d fresh (one_talk (Ok tt) k talks) in
         record {
           came = a.came ++ k.bytes ∷ [];
           to_come = k.rest;
@@ -112,11 +112,11 @@ module _ {S : Type 0} (store : Store S) (fits lacks : S → ℕ → Order → Ty
           goes = goes ∙ ap (λ x. x ++ d ∷ []) a.goes ∙ append_assoc past a.gone (d ∷ []);
           count = length-append a.gone (d ∷ []) ∙ ap (λ n. n + 1) a.count;
           serving = s.serving;
-          are_served = are_more store buckets g p a.serving s.serving a.came a.gone k.bytes d a.are_served s.is_served;
+          are_served = are_more store buckets g (known_from store fits lacks p.store) p a.serving s.serving a.came a.gone k.bytes d a.are_served s.is_served;
           stands = stands_more store fits lacks holds' times' served' p.store a.serving.store s.serving a.stands.store.1 s.stands;
         }
 
-    last_begun : (e : ServeFault) → ((q : Serving S) → Stands holds times served q → OnLeft (λ left. Talks (talk store buckets g request_limit q left) (Reached store fits lacks holds' q.store) (OverflowsAmong store fits lacks q.store) times' served' (Err e) c d) c.left) → ServesAllButLast store buckets g (OverflowsAmong store fits lacks p.store) p e coming past past2
+    last_begun : (e : ServeFault) → ((q : Serving S) → Stands holds times served q → OnLeft (λ left. Talks (talk store buckets g request_limit q left) (Reached store fits lacks holds' q.store) (known_from store fits lacks q.store) times' served' (Err e) c d) c.left) → ServesAllButLast store buckets g (fits_asking fits) (OverflowsAmong store fits lacks p.store) p e coming past past2
     last_begun e talks =
         let k = next_comes in
         record {
@@ -129,41 +129,41 @@ module _ {S : Type 0} (store : Store S) (fits lacks : S → ℕ → Order → Ty
           goes = goes ∙ ap (λ x. x ++ d ∷ []) a.goes;
           serving = a.serving;
           are_served = a.are_served;
-          ends = ends_so store buckets g a.serving k.bytes (Reached store fits lacks holds' a.serving.store) (OverflowsAmong store fits lacks a.serving.store) times' served' c d fresh (OverflowsAmong store fits lacks p.store)
+          ends = ends_so store buckets g (known_from store fits lacks a.serving.store) a.serving k.bytes (Reached store fits lacks holds' a.serving.store) times' served' c d fresh (OverflowsAmong store fits lacks p.store)
               (let asks = (talk store buckets g request_limit a.serving k.bytes).asks in among_more store fits lacks p.store a.serving.store asks asks a.stands.store.1 (λ x h. h)) e (one_talk (Err e) k talks);
         }
 
   -- ---- over a link
 
-  pub all_more : (o old new : Option (List (List ℕ))) (m n : Option Connection) → IfSome o (λ coming. ServesAll store buckets g p number (Reached store fits lacks holds p.store) times served coming old past past1) → TakesNext old new m → IsSome m → IsSome n → IfSome m IsFresh → past2 ≡ past1 ++ option_to_list n
-      → ((q : Serving S) → Stands holds times served q → OnPresent (λ c d. OnLeft (λ left. Talks (talk store buckets g request_limit q left) (Reached store fits lacks holds' q.store) (OverflowsAmong store fits lacks q.store) times' served' (Ok tt) c d) c.left) m n)
-      → IfSome o (λ coming. ServesAll store buckets g p (number + 1) (Reached store fits lacks holds' p.store) times' served' coming new past past2)
+  pub all_more : (o old new : Option (List (List ℕ))) (m n : Option Connection) → IfSome o (λ coming. ServesAll store buckets g (fits_asking fits) p number (Reached store fits lacks holds p.store) times served coming old past past1) → TakesNext old new m → IsSome m → IsSome n → IfSome m IsFresh → past2 ≡ past1 ++ option_to_list n
+      → ((q : Serving S) → Stands holds times served q → OnPresent (λ c d. OnLeft (λ left. Talks (talk store buckets g request_limit q left) (Reached store fits lacks holds' q.store) (known_from store fits lacks q.store) times' served' (Ok tt) c d) c.left) m n)
+      → IfSome o (λ coming. ServesAll store buckets g (fits_asking fits) p (number + 1) (Reached store fits lacks holds' p.store) times' served' coming new past past2)
   all_more None old new m n a takes here there fresh goes talks = tt
   all_more (Some coming) old new None n a takes here there fresh goes talks = cc
   all_more (Some coming) old new (Some c) None a takes here there fresh goes talks = cc
   all_more (Some coming) old new (Some c) (Some d) a takes here there fresh goes talks = one_more coming old new c d a takes fresh goes talks
 
-  pub all_but_last : (e : ServeFault) (o old new : Option (List (List ℕ))) (m n : Option Connection) → IfSome o (λ coming. ServesAll store buckets g p number (Reached store fits lacks holds p.store) times served coming old past past1) → TakesNext old new m → IsSome m → IsSome n → IfSome m IsFresh → past2 ≡ past1 ++ option_to_list n
-      → ((q : Serving S) → Stands holds times served q → OnPresent (λ c d. OnLeft (λ left. Talks (talk store buckets g request_limit q left) (Reached store fits lacks holds' q.store) (OverflowsAmong store fits lacks q.store) times' served' (Err e) c d) c.left) m n)
-      → IfSome o (λ coming. ServesAllButLast store buckets g (OverflowsAmong store fits lacks p.store) p e coming past past2)
+  pub all_but_last : (e : ServeFault) (o old new : Option (List (List ℕ))) (m n : Option Connection) → IfSome o (λ coming. ServesAll store buckets g (fits_asking fits) p number (Reached store fits lacks holds p.store) times served coming old past past1) → TakesNext old new m → IsSome m → IsSome n → IfSome m IsFresh → past2 ≡ past1 ++ option_to_list n
+      → ((q : Serving S) → Stands holds times served q → OnPresent (λ c d. OnLeft (λ left. Talks (talk store buckets g request_limit q left) (Reached store fits lacks holds' q.store) (known_from store fits lacks q.store) times' served' (Err e) c d) c.left) m n)
+      → IfSome o (λ coming. ServesAllButLast store buckets g (fits_asking fits) (OverflowsAmong store fits lacks p.store) p e coming past past2)
   all_but_last e None old new m n a takes here there fresh goes talks = tt
   all_but_last e (Some coming) old new None n a takes here there fresh goes talks = cc
   all_but_last e (Some coming) old new (Some c) None a takes here there fresh goes talks = cc
   all_but_last e (Some coming) old new (Some c) (Some d) a takes here there fresh goes talks = last_begun coming old new c d a takes fresh goes e talks
 
-module _ {S : Type 0} (store : Store S) (buckets : List (List ℕ)) (g : Grammar) (p : Serving S) (holds : S → Type 0) (times : Option (List ℕ)) (served : Served) where
-  pub all_begin : (o o' : Option (List (List ℕ))) (past past' : List Connection) → o' ≡ o → past' ≡ past → Stands holds times served p → IfSome o (λ coming. ServesAll store buckets g p 0 holds times served coming o' past past')
+module _ {S : Type 0} (store : Store S) (buckets : List (List ℕ)) (g : Grammar) (FitsIt : Asking S → Type 0) (p : Serving S) (holds : S → Type 0) (times : Option (List ℕ)) (served : Served) where
+  pub all_begin : (o o' : Option (List (List ℕ))) (past past' : List Connection) → o' ≡ o → past' ≡ past → Stands holds times served p → IfSome o (λ coming. ServesAll store buckets g FitsIt p 0 holds times served coming o' past past')
   all_begin None o' past past' e k st = tt
   all_begin (Some coming) o' past past' e k st =
       record { came = []; to_come = coming; comes = refl; comes_new = e; gone = []; goes = k ∙ sym (append-nil past); count = refl; serving = p; are_served = refl; stands = st }
 
   -- no further connection came
   module _ (number : ℕ) (past past1 past2 : List Connection) where
-    same_all : (coming : List (List ℕ)) (old new : Option (List (List ℕ))) → new ≡ old → past2 ≡ past1 ++ [] → ServesAll store buckets g p number holds times served coming old past past1 → ServesAll store buckets g p number holds times served coming new past past2
+    same_all : (coming : List (List ℕ)) (old new : Option (List (List ℕ))) → new ≡ old → past2 ≡ past1 ++ [] → ServesAll store buckets g FitsIt p number holds times served coming old past past1 → ServesAll store buckets g FitsIt p number holds times served coming new past past2
     same_all coming old new e k a =
         record { came = a.came; to_come = a.to_come; comes = a.comes; comes_new = e ∙ a.comes_new; gone = a.gone; goes = k ∙ append-nil past1 ∙ a.goes; count = a.count; serving = a.serving; are_served = a.are_served; stands = a.stands }
 
-    pub all_same : (o old new : Option (List (List ℕ))) → new ≡ old → past2 ≡ past1 ++ [] → IfSome o (λ coming. ServesAll store buckets g p number holds times served coming old past past1) → IfSome o (λ coming. ServesAll store buckets g p number holds times served coming new past past2)
+    pub all_same : (o old new : Option (List (List ℕ))) → new ≡ old → past2 ≡ past1 ++ [] → IfSome o (λ coming. ServesAll store buckets g FitsIt p number holds times served coming old past past1) → IfSome o (λ coming. ServesAll store buckets g FitsIt p number holds times served coming new past past2)
     all_same None old new e k a = tt
     all_same (Some coming) old new e k a = same_all coming old new e k a
 
@@ -171,7 +171,7 @@ module _ {S : Type 0} (store : Store S) (buckets : List (List ℕ)) (g : Grammar
     none_left [] new h = (h.0, refl)
     none_left (bytes ∷ rest) new h = absurd h.1
 
-    pub all_over : (o old new : Option (List (List ℕ))) → TakesNext old new None → past2 ≡ past1 ++ [] → IfSome o (λ coming. ServesAll store buckets g p number holds times served coming old past past1) → IfSome o (λ coming. ServesAll store buckets g p number holds times served coming new past past2)
+    pub all_over : (o old new : Option (List (List ℕ))) → TakesNext old new None → past2 ≡ past1 ++ [] → IfSome o (λ coming. ServesAll store buckets g FitsIt p number holds times served coming old past past1) → IfSome o (λ coming. ServesAll store buckets g FitsIt p number holds times served coming new past past2)
     all_over None old new takes k a = tt
     all_over (Some coming) old new takes k a =
         let Q : Option (List (List ℕ)) → Type 0 = λ o. TakesNext o new None in

@@ -13,7 +13,7 @@ use Rattle.flow_model.specs.declared.flow.FlowEnd.{FlowEnd}
 use Rattle.serve_model.specs.declared.served.Served.{Served}
 use Rattle.serve_model.specs.declared.served.ServeFault.{ServeFault}
 use Rattle.serve_model.specs.declared.served.ServeFault.TheVariants.{Kept, Number, Memory}
-use Rattle.serve_model.specs.Stores.{Store, Asking, Leads}
+use Rattle.serve_model.specs.Stores.{Store, Asking, Leads, Known}
 use Rattle.serve_model.specs.Talk.{Serving, goes, exceeds, unless_closed, Turn, passing, having_asked, after, said, exceeded, counted, counting, kept_limit}
 use Rattle.serve_model.specs.Serving.{CarriedOut, Reached, Goes, Says, said as was_said, cut_short, unsaid, Stands, Continues, IsPassed, at_end, before, GivesUp, Serves, done, cut_off, limited, given_up, OnLeft, SaysOn, ServesOn}
 
@@ -76,42 +76,42 @@ gives_up_for Memory O P xs ys f h = h
 
 -- ---- one request
 
-module _ {S : Type 0} (holds : S → Type 0) (overflows : List (Asking S) → Type 0) (times : Option (List ℕ)) (served : Served) where
+module _ {S : Type 0} (holds : S → Type 0) (known : Known S) (times : Option (List ℕ)) (served : Served) where
   module _ (t u : List ℕ → Turn S) (r : Result Bool ServeFault) (kept : List ℕ) (o n : Option Connection) where
     -- from one turn to another, whatever is left
-    turn_for_turn : ((left : List ℕ) (c d : Connection) → Serves (t left) holds overflows times served r kept c d → Serves (u left) holds overflows times served r kept c d) → ServesOn t holds overflows times served r kept o n → ServesOn u holds overflows times served r kept o n
+    turn_for_turn : ((left : List ℕ) (c d : Connection) → Serves (t left) holds known times served r kept c d → Serves (u left) holds known times served r kept c d) → ServesOn t holds known times served r kept o n → ServesOn u holds known times served r kept o n
     turn_for_turn f h =
-        on_present (λ c d. OnLeft (λ left. Serves (t left) holds overflows times served r kept c d) c.left) (λ c d. OnLeft (λ left. Serves (u left) holds overflows times served r kept c d) c.left) o n
-        (λ c d x. on_left (λ left. Serves (u left) holds overflows times served r kept c d) c.left (λ left e. f left c d (at_left (λ l. Serves (t l) holds overflows times served r kept c d) c.left left e x))) h
+        on_present (λ c d. OnLeft (λ left. Serves (t left) holds known times served r kept c d) c.left) (λ c d. OnLeft (λ left. Serves (u left) holds known times served r kept c d) c.left) o n
+        (λ c d x. on_left (λ left. Serves (u left) holds known times served r kept c d) c.left (λ left e. f left c d (at_left (λ l. Serves (t l) holds known times served r kept c d) c.left left e x))) h
 
     -- a turn that is stated in another way
-    pub serves_same : ((left : List ℕ) → u left ≡ t left) → ServesOn t holds overflows times served r kept o n → ServesOn u holds overflows times served r kept o n
-    serves_same same h = turn_for_turn (λ left c d s. let Q : Turn S → Type 0 = λ v. Serves v holds overflows times served r kept c d in subst Q (sym (same left)) s) h
+    pub serves_same : ((left : List ℕ) → u left ≡ t left) → ServesOn t holds known times served r kept o n → ServesOn u holds known times served r kept o n
+    serves_same same h = turn_for_turn (λ left c d s. let Q : Turn S → Type 0 = λ v. Serves v holds known times served r kept c d in subst Q (sym (same left)) s) h
 
   passed_more : (p q serving : Serving S) (passed : List (Serving S)) → IsPassed passed serving q → IsPassed (p ∷ passed) serving q
   passed_more p q serving passed (at_end e) = at_end e
   passed_more p q serving passed (before (k, lt, e)) = before (suc k, omega (arith, lt), e)
 
-  passing_one : (p : Serving S) (t : Turn S) (r : Result Bool ServeFault) (kept : List ℕ) (c d : Connection) → Serves t holds overflows times served r kept c d → Serves (passing p t) holds overflows times served r kept c d
-  passing_one p t r kept c d (done on ok w st go n) = done on ok w st go n
+  passing_one : (p : Serving S) (t : Turn S) (r : Result Bool ServeFault) (kept : List ℕ) (c d : Connection) → Serves t holds known times served r kept c d → Serves (passing p t) holds known times served r kept c d
+  passing_one p t r kept c d (done on ok w all st go n) = done on ok w all st go n
   passing_one p t r kept c d (cut_off q ok n w st is) = cut_off q ok n w st (passed_more p q t.serving t.passed is)
   passing_one p t r kept c d (limited err is w n) = limited err is w n
   passing_one p t r kept c d (given_up e err why w n) = given_up e err why w n
 
-  asked_one : (a : Asking S) (t : Turn S) (r : Result Bool ServeFault) (kept : List ℕ) (c d : Connection) → (overflows t.asks → overflows (a ∷ t.asks)) → Serves t holds overflows times served r kept c d → Serves (having_asked a t) holds overflows times served r kept c d
-  asked_one a t r kept c d f (done on ok w st go n) = done on ok w st go n
-  asked_one a t r kept c d f (cut_off q ok n w st is) = cut_off q ok n w st is
-  asked_one a t r kept c d f (limited err is w n) = limited err is w n
-  asked_one a t r kept c d f (given_up e err why w n) = given_up e err (gives_up_for e overflows overflows t.asks (a ∷ t.asks) f why) w n
+  asked_one : (a : Asking S) (t : Turn S) (r : Result Bool ServeFault) (kept : List ℕ) (c d : Connection) → known.fits a → (known.overflows t.asks → known.overflows (a ∷ t.asks)) → Serves t holds known times served r kept c d → Serves (having_asked a t) holds known times served r kept c d
+  asked_one a t r kept c d fit f (done on ok w all st go n) = done on ok w (fit, all) st go n
+  asked_one a t r kept c d fit f (cut_off q ok n w st is) = cut_off q ok n w st is
+  asked_one a t r kept c d fit f (limited err is w n) = limited err is w n
+  asked_one a t r kept c d fit f (given_up e err why w n) = given_up e err (gives_up_for e known.overflows known.overflows t.asks (a ∷ t.asks) f why) w n
 
-  after_one : (text : List ℕ) (t : Turn S) (r : Result Bool ServeFault) (kept : List ℕ) (c d f : Connection) → Wrote c.written d.written text → c.faults ≤ d.faults → Serves t holds overflows times served r kept d f → Serves (after text t) holds overflows times served r kept c f
-  after_one text t r kept c d f first le (done on ok w st go n) = done on ok (wrote_more c.written d.written f.written text t.text first w) st go (omega (arith, le, n))
+  after_one : (text : List ℕ) (t : Turn S) (r : Result Bool ServeFault) (kept : List ℕ) (c d f : Connection) → Wrote c.written d.written text → c.faults ≤ d.faults → Serves t holds known times served r kept d f → Serves (after text t) holds known times served r kept c f
+  after_one text t r kept c d f first le (done on ok w all st go n) = done on ok (wrote_more c.written d.written f.written text t.text first w) all st go (omega (arith, le, n))
   after_one text t r kept c d f first le (cut_off q ok n w st is) = cut_off q ok (rose_after c.faults d.faults f.faults le n) (wrote_prefix_after c.written d.written f.written text t.text first w) st is
   after_one text t r kept c d f first le (limited err is w n) = limited err is (wrote_more c.written d.written f.written text t.text first w) (omega (arith, le, n))
   after_one text t r kept c d f first le (given_up e err why w n) = given_up e err why (wrote_prefix_after c.written d.written f.written text t.text first w) (omega (arith, le, n))
 
-  says_one : (text : List ℕ) (close : Bool) (p : Serving S) (kept left : List ℕ) (r : Result Bool ServeFault) (c d : Connection) → c.left ≡ Some left → Stands holds times served p → Says text close r c d → Serves (said text close p (kept ++ left)) holds overflows times served r kept c d
-  says_one text close p kept left r c d told st (was_said ok w l n) = done (not close) ok w st (continues close kept left d.left (l ∙ told)) n
+  says_one : (text : List ℕ) (close : Bool) (p : Serving S) (kept left : List ℕ) (r : Result Bool ServeFault) (c d : Connection) → c.left ≡ Some left → Stands holds times served p → Says text close r c d → Serves (said text close p (kept ++ left)) holds known times served r kept c d
+  says_one text close p kept left r c d told st (was_said ok w l n) = done (not close) ok w tt st (continues close kept left d.left (l ∙ told)) n
   says_one text close p kept left r c d told st (cut_short ok w n) = cut_off p ok n w st (at_end refl)
   says_one text close p kept left r c d told st (unsaid err same) =
       let P : Connection → Type 0 = λ x. WrotePrefix c.written x.written text in
@@ -119,44 +119,44 @@ module _ {S : Type 0} (holds : S → Type 0) (overflows : List (Asking S) → Ty
 
   module _ (r : Result Bool ServeFault) (kept : List ℕ) (o n : Option Connection) where
     -- an answer was written
-    pub says_serves : (text : List ℕ) (close : Bool) (p : Serving S) → Stands holds times served p → SaysOn text close r o n → ServesOn (λ left. said text close p (kept ++ left)) holds overflows times served r kept o n
+    pub says_serves : (text : List ℕ) (close : Bool) (p : Serving S) → Stands holds times served p → SaysOn text close r o n → ServesOn (λ left. said text close p (kept ++ left)) holds known times served r kept o n
     says_serves text close p st h =
-        on_present (Says text close r) (λ c d. OnLeft (λ left. Serves (said text close p (kept ++ left)) holds overflows times served r kept c d) c.left) o n
-        (λ c d s. on_left (λ left. Serves (said text close p (kept ++ left)) holds overflows times served r kept c d) c.left (λ left e. says_one text close p kept left r c d e st s)) h
+        on_present (Says text close r) (λ c d. OnLeft (λ left. Serves (said text close p (kept ++ left)) holds known times served r kept c d) c.left) o n
+        (λ c d s. on_left (λ left. Serves (said text close p (kept ++ left)) holds known times served r kept c d) c.left (λ left e. says_one text close p kept left r c d e st s)) h
 
     -- what was passed before is passed
-    pub passing_serves : (p : Serving S) (t : List ℕ → Turn S) → ServesOn t holds overflows times served r kept o n → ServesOn (λ left. passing p (t left)) holds overflows times served r kept o n
+    pub passing_serves : (p : Serving S) (t : List ℕ → Turn S) → ServesOn t holds known times served r kept o n → ServesOn (λ left. passing p (t left)) holds known times served r kept o n
     passing_serves p t h = turn_for_turn t (λ left. passing p (t left)) r kept o n (λ left c d s. passing_one p (t left) r kept c d s) h
 
     -- the store was asked this before
-    pub asked_serves : (a : Asking S) (t : List ℕ → Turn S) → ((asks : List (Asking S)) → overflows asks → overflows (a ∷ asks)) → ServesOn t holds overflows times served r kept o n → ServesOn (λ left. having_asked a (t left)) holds overflows times served r kept o n
-    asked_serves a t f h = turn_for_turn t (λ left. having_asked a (t left)) r kept o n (λ left c d s. asked_one a (t left) r kept c d (f (t left).asks) s) h
+    pub asked_serves : (a : Asking S) (t : List ℕ → Turn S) → known.fits a → ((asks : List (Asking S)) → known.overflows asks → known.overflows (a ∷ asks)) → ServesOn t holds known times served r kept o n → ServesOn (λ left. having_asked a (t left)) holds known times served r kept o n
+    asked_serves a t fit f h = turn_for_turn t (λ left. having_asked a (t left)) r kept o n (λ left c d s. asked_one a (t left) r kept c d fit (f (t left).asks) s) h
 
   -- nothing was done, and serving is given up
-  pub gives_up : (t : List ℕ → Turn S) (e : ServeFault) (kept : List ℕ) (o : Option Connection) → ((left : List ℕ) → GivesUp overflows (t left).asks e) → ServesOn t holds overflows times served (Err e) kept o o
+  pub gives_up : (t : List ℕ → Turn S) (e : ServeFault) (kept : List ℕ) (o : Option Connection) → ((left : List ℕ) → GivesUp known.overflows (t left).asks e) → ServesOn t holds known times served (Err e) kept o o
   gives_up t e kept o why =
-      on_present_same (λ c d. OnLeft (λ left. Serves (t left) holds overflows times served (Err e) kept c d) c.left) o
-      (λ c. on_left (λ left. Serves (t left) holds overflows times served (Err e) kept c c) c.left (λ left told. given_up e refl (why left) (nothing_written c.written (t left).text) (omega arith)))
+      on_present_same (λ c d. OnLeft (λ left. Serves (t left) holds known times served (Err e) kept c d) c.left) o
+      (λ c. on_left (λ left. Serves (t left) holds known times served (Err e) kept c c) c.left (λ left told. given_up e refl (why left) (nothing_written c.written (t left).text) (omega arith)))
 
   -- too many bytes were put or copied
-  pub is_limited : (t : List ℕ → Turn S) (kept : List ℕ) (o : Option Connection) → ((left : List ℕ) → (t left).next ≡ exceeds) → ((left : List ℕ) → (t left).text ≡ []) → ServesOn t holds overflows times served (Err Kept) kept o o
+  pub is_limited : (t : List ℕ → Turn S) (kept : List ℕ) (o : Option Connection) → ((left : List ℕ) → (t left).next ≡ exceeds) → ((left : List ℕ) → (t left).text ≡ []) → ServesOn t holds known times served (Err Kept) kept o o
   is_limited t kept o next text =
-      on_present_same (λ c d. OnLeft (λ left. Serves (t left) holds overflows times served (Err Kept) kept c d) c.left) o
-      (λ c. on_left (λ left. Serves (t left) holds overflows times served (Err Kept) kept c c) c.left
+      on_present_same (λ c d. OnLeft (λ left. Serves (t left) holds known times served (Err Kept) kept c d) c.left) o
+      (λ c. on_left (λ left. Serves (t left) holds known times served (Err Kept) kept c c) c.left
       (λ left told. let Q : List ℕ → Type 0 = Wrote c.written c.written in limited refl (next left) (subst Q (sym (text left)) (wrote_none c.written)) (omega arith)))
 
   -- something was written before
-  pub after_serves : (E : Type 0) (text : List ℕ) (t : List ℕ → Turn S) (r : Result Bool ServeFault) (kept : List ℕ) (o m n : Option Connection) → OnPresent (WritesWhole {E = E} (Ok tt) text) o m → ServesOn t holds overflows times served r kept m n → ServesOn (λ left. after text (t left)) holds overflows times served r kept o n
+  pub after_serves : (E : Type 0) (text : List ℕ) (t : List ℕ → Turn S) (r : Result Bool ServeFault) (kept : List ℕ) (o m n : Option Connection) → OnPresent (WritesWhole {E = E} (Ok tt) text) o m → ServesOn t holds known times served r kept m n → ServesOn (λ left. after text (t left)) holds known times served r kept o n
   after_serves E text t r kept o m n w h =
-      on_present_then (WritesWhole {E = E} (Ok tt) text) (λ c d. OnLeft (λ left. Serves (t left) holds overflows times served r kept c d) c.left) (λ c d. OnLeft (λ left. Serves (after text (t left)) holds overflows times served r kept c d) c.left) o m n
-      (λ c d f a s. on_left (λ left. Serves (after text (t left)) holds overflows times served r kept c f) c.left
-      (λ left e. after_one text (t left) r kept c d f a.ok a.counted (at_left (λ l. Serves (t l) holds overflows times served r kept d f) d.left left (a.unread ∙ e) s))) w h
+      on_present_then (WritesWhole {E = E} (Ok tt) text) (λ c d. OnLeft (λ left. Serves (t left) holds known times served r kept c d) c.left) (λ c d. OnLeft (λ left. Serves (after text (t left)) holds known times served r kept c d) c.left) o m n
+      (λ c d f a s. on_left (λ left. Serves (after text (t left)) holds known times served r kept c f) c.left
+      (λ left e. after_one text (t left) r kept c d f a.ok a.counted (at_left (λ l. Serves (t l) holds known times served r kept d f) d.left left (a.unread ∙ e) s))) w h
 
   -- it wasn't written whole
-  pub part_serves : {E : Type 0} (e : E) (text : List ℕ) (t : List ℕ → Turn S) (p : Serving S) (kept : List ℕ) (o n : Option Connection) → Stands holds times served p → ((left : List ℕ) → IsPassed (t left).passed (t left).serving p) → OnPresent (WritesWhole (Err e) text) o n → ServesOn (λ left. after text (t left)) holds overflows times served (Ok false) kept o n
+  pub part_serves : {E : Type 0} (e : E) (text : List ℕ) (t : List ℕ → Turn S) (p : Serving S) (kept : List ℕ) (o n : Option Connection) → Stands holds times served p → ((left : List ℕ) → IsPassed (t left).passed (t left).serving p) → OnPresent (WritesWhole (Err e) text) o n → ServesOn (λ left. after text (t left)) holds known times served (Ok false) kept o n
   part_serves e text t p kept o n st is w =
-      on_present (WritesWhole (Err e) text) (λ c d. OnLeft (λ left. Serves (after text (t left)) holds overflows times served (Ok false) kept c d) c.left) o n
-      (λ c d a. on_left (λ left. Serves (after text (t left)) holds overflows times served (Ok false) kept c d) c.left
+      on_present (WritesWhole (Err e) text) (λ c d. OnLeft (λ left. Serves (after text (t left)) holds known times served (Ok false) kept c d) c.left) o n
+      (λ c d a. on_left (λ left. Serves (after text (t left)) holds known times served (Ok false) kept c d) c.left
       (λ left told. cut_off p refl a.fault (wrote_prefix_more c.written d.written text (t left).text a.err) st (is left))) w
 
 -- ---- what reading leaves
@@ -169,36 +169,36 @@ pub record IsFailed (c d : Connection) : Type 0 where
   pub unwritten : d.written ≡ c.written
   pub rose : Rose c.faults d.faults
 
-module _ {S : Type 0} (holds : S → Type 0) (overflows : List (Asking S) → Type 0) (times : Option (List ℕ)) (served : Served) (r : Result Bool ServeFault) (kept kept' new : List ℕ) (o m n : Option Connection) where
-  quiet_one : (t : Turn S) (c d f : Connection) → IsQuiet c d → Serves t holds overflows times served r new d f → Serves t holds overflows times served r new c f
+module _ {S : Type 0} (holds : S → Type 0) (known : Known S) (times : Option (List ℕ)) (served : Served) (r : Result Bool ServeFault) (kept kept' new : List ℕ) (o m n : Option Connection) where
+  quiet_one : (t : Turn S) (c d f : Connection) → IsQuiet c d → Serves t holds known times served r new d f → Serves t holds known times served r new c f
   quiet_one t c d f q s =
       let Q : Option (List ℕ) → Type 0 = λ x. Wrote c.written x [] in
-      after_one holds overflows times served [] t r new c d f (subst Q (sym q.unwritten) (wrote_none c.written)) q.counted s
+      after_one holds known times served [] t r new c d f (subst Q (sym q.unwritten) (wrote_none c.written)) q.counted s
 
   -- bytes were read, and what is stated of all of them is what is stated so of the rest, which was served
   pub read_then : (P : List ℕ → List ℕ → Type 0) (t u : List ℕ → Turn S) → OnPresent (λ c d. IsQuiet c d × OnAll P kept kept' c d) o m → ((all rest : List ℕ) → P all rest → t all ≡ u rest)
-      → ServesOn (λ left. u (kept' ++ left)) holds overflows times served r new m n → ServesOn (λ left. t (kept ++ left)) holds overflows times served r new o n
+      → ServesOn (λ left. u (kept' ++ left)) holds known times served r new m n → ServesOn (λ left. t (kept ++ left)) holds known times served r new o n
   read_then P t u reads same h =
-      on_present_then (λ c d. IsQuiet c d × OnAll P kept kept' c d) (λ c d. OnLeft (λ left. Serves (u (kept' ++ left)) holds overflows times served r new c d) c.left) (λ c d. OnLeft (λ left. Serves (t (kept ++ left)) holds overflows times served r new c d) c.left) o m n
-      (λ c d f a s. on_left (λ left. Serves (t (kept ++ left)) holds overflows times served r new c f) c.left
+      on_present_then (λ c d. IsQuiet c d × OnAll P kept kept' c d) (λ c d. OnLeft (λ left. Serves (u (kept' ++ left)) holds known times served r new c d) c.left) (λ c d. OnLeft (λ left. Serves (t (kept ++ left)) holds known times served r new c d) c.left) o m n
+      (λ c d f a s. on_left (λ left. Serves (t (kept ++ left)) holds known times served r new c f) c.left
       (λ left e.
       let x = still_told P kept kept' left c.left d.left e a.1 in
-      let Q : Turn S → Type 0 = λ v. Serves v holds overflows times served r new c f in
+      let Q : Turn S → Type 0 = λ v. Serves v holds known times served r new c f in
       subst Q (sym (same (kept ++ left) (kept' ++ x.then_left) x.holds))
-      (quiet_one (u (kept' ++ x.then_left)) c d f a.0 (at_left (λ l. Serves (u (kept' ++ l)) holds overflows times served r new d f) d.left x.then_left x.told s)))) reads h
+      (quiet_one (u (kept' ++ x.then_left)) c d f a.0 (at_left (λ l. Serves (u (kept' ++ l)) holds known times served r new d f) d.left x.then_left x.told s)))) reads h
 
-module _ {S : Type 0} (holds : S → Type 0) (overflows : List (Asking S) → Type 0) (times : Option (List ℕ)) (served : Served) (kept : List ℕ) (o n : Option Connection) (t : List ℕ → Turn S) where
+module _ {S : Type 0} (holds : S → Type 0) (known : Known S) (times : Option (List ℕ)) (served : Served) (kept : List ℕ) (o n : Option Connection) (t : List ℕ → Turn S) where
   -- a read failed
-  pub read_fails : (p : Serving S) → Stands holds times served p → ((left : List ℕ) → IsPassed (t left).passed (t left).serving p) → OnPresent IsFailed o n → ServesOn t holds overflows times served (Ok false) kept o n
+  pub read_fails : (p : Serving S) → Stands holds times served p → ((left : List ℕ) → IsPassed (t left).passed (t left).serving p) → OnPresent IsFailed o n → ServesOn t holds known times served (Ok false) kept o n
   read_fails p st is reads =
-      on_present IsFailed (λ c d. OnLeft (λ left. Serves (t left) holds overflows times served (Ok false) kept c d) c.left) o n
-      (λ c d a. on_left (λ left. Serves (t left) holds overflows times served (Ok false) kept c d) c.left (λ left told. cut_off p refl a.rose (nothing_after c d a.unwritten (t left).text) st (is left))) reads
+      on_present IsFailed (λ c d. OnLeft (λ left. Serves (t left) holds known times served (Ok false) kept c d) c.left) o n
+      (λ c d a. on_left (λ left. Serves (t left) holds known times served (Ok false) kept c d) c.left (λ left told. cut_off p refl a.rose (nothing_after c d a.unwritten (t left).text) st (is left))) reads
 
   -- memory was wanting
-  pub read_wants : OnPresent IsQuiet o n → ServesOn t holds overflows times served (Err Memory) kept o n
+  pub read_wants : OnPresent IsQuiet o n → ServesOn t holds known times served (Err Memory) kept o n
   read_wants reads =
-      on_present IsQuiet (λ c d. OnLeft (λ left. Serves (t left) holds overflows times served (Err Memory) kept c d) c.left) o n
-      (λ c d q. on_left (λ left. Serves (t left) holds overflows times served (Err Memory) kept c d) c.left (λ left told. given_up Memory refl tt (nothing_after c d q.unwritten (t left).text) q.counted)) reads
+      on_present IsQuiet (λ c d. OnLeft (λ left. Serves (t left) holds known times served (Err Memory) kept c d) c.left) o n
+      (λ c d q. on_left (λ left. Serves (t left) holds known times served (Err Memory) kept c d) c.left (λ left told. given_up Memory refl tt (nothing_after c d q.unwritten (t left).text) q.counted)) reads
 
 -- ---- bytes that are counted
 
@@ -210,16 +210,16 @@ counting_beyond : {S : Type 0} (size : ℕ) (p : Serving S) (go : Serving S → 
 unfolding counting
 counting_beyond size p go lt = cond-true (nat_lt kept_limit (p.kept + size)) (exceeded (counted size p)) (go (counted size p)) (lt-ltb kept_limit (p.kept + size) lt)
 
-module _ {S : Type 0} (holds : S → Type 0) (overflows : List (Asking S) → Type 0) (times : Option (List ℕ)) (size : ℕ) (p : Serving S) (go : List ℕ → Serving S → Turn S) (kept : List ℕ) where
+module _ {S : Type 0} (holds : S → Type 0) (known : Known S) (times : Option (List ℕ)) (size : ℕ) (p : Serving S) (go : List ℕ → Serving S → Turn S) (kept : List ℕ) where
   -- they aren't too many
-  pub counting_serves : (served old : Served) (r : Result Bool ServeFault) (o n : Option Connection) → old.kept ≡ p.kept → old.kept + size ≤ kept_limit → ServesOn (λ left. go left (counted size p)) holds overflows times served r kept o n → ServesOn (λ left. counting size p (go left)) holds overflows times served r kept o n
+  pub counting_serves : (served old : Served) (r : Result Bool ServeFault) (o n : Option Connection) → old.kept ≡ p.kept → old.kept + size ≤ kept_limit → ServesOn (λ left. go left (counted size p)) holds known times served r kept o n → ServesOn (λ left. counting size p (go left)) holds known times served r kept o n
   counting_serves served old r o n is le h =
-      serves_same holds overflows times served (λ left. go left (counted size p)) (λ left. counting size p (go left)) r kept o n (λ left. counting_within size p (go left) (let Q : ℕ → Type 0 = λ k. k + size ≤ kept_limit in subst Q is le)) h
+      serves_same holds known times served (λ left. go left (counted size p)) (λ left. counting size p (go left)) r kept o n (λ left. counting_within size p (go left) (let Q : ℕ → Type 0 = λ k. k + size ≤ kept_limit in subst Q is le)) h
 
-  pub counting_limits : (served old : Served) (o : Option Connection) → old.kept ≡ p.kept → kept_limit < old.kept + size → ServesOn (λ left. counting size p (go left)) holds overflows times served (Err Kept) kept o o
+  pub counting_limits : (served old : Served) (o : Option Connection) → old.kept ≡ p.kept → kept_limit < old.kept + size → ServesOn (λ left. counting size p (go left)) holds known times served (Err Kept) kept o o
   counting_limits served old o is lt =
       let more : kept_limit < p.kept + size = let Q : ℕ → Type 0 = λ k. kept_limit < k + size in subst Q is lt in
-      is_limited holds overflows times served (λ left. counting size p (go left)) kept o
+      is_limited holds known times served (λ left. counting size p (go left)) kept o
       (λ left. ap (λ (t : Turn S). t.next) (counting_beyond size p (go left) more)) (λ left. ap (λ (t : Turn S). t.text) (counting_beyond size p (go left) more))
 
 -- what is counted

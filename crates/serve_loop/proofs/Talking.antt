@@ -1,7 +1,7 @@
 -- Requests of one connection, one after the other.
 use Rattle.std.proofs.Common.{◌≡◌, ℕ, zero, suc, ◌≤◌, ◌==◌, List, [], ◌∷◌, ◌++◌, Option, Some, None, Bool, true, false, IsSome, Result, Ok, Err, refl, sym, ◌∙◌, ap, subst, append_assoc, append-nil, arith}
 use Rattle.std.proofs.lemmas.List.Elements.{Contains-append_left, Contains-append_right}
-use Rattle.std.specs.List.{Contains}
+use Rattle.std.specs.List.{AllByRecursion, Contains}
 use Rattle.lab_outside.specs.Connection.{Connection, OnPresent}
 use Rattle.lab_outside.specs.Bytes.{Wrote, WrotePrefix}
 use Rattle.lab_outside.proofs.Bytes.{wrote_none, wrote_more, wrote_prefix_after, wrote_prefix_more}
@@ -10,7 +10,7 @@ use Rattle.flow_model.specs.declared.order.Order.{Order}
 use Rattle.serve_model.specs.declared.served.Served.{Served}
 use Rattle.serve_model.specs.declared.served.ServeFault.{ServeFault}
 use Rattle.serve_model.specs.declared.served.ServeFault.TheVariants.{Kept, Number, Memory}
-use Rattle.serve_model.specs.Stores.{Store, Asking, after_orders, OrdersFit, Leads, Overflows, OverflowsAmong}
+use Rattle.serve_model.specs.Stores.{Store, Asking, after_orders, OrdersFit, Leads, Overflows, fits_asking, Known, OverflowsAmong, known_from}
 use Rattle.serve_model.specs.Talk.{Grammar, Serving, Next, goes, closes, exceeds, Turn, turn, Talk, go_on, talk}
 use Rattle.serve_model.specs.Serving.{HasState, Reached, Goes, Stands, Continues, IsPassed, at_end, before, GivesUp, Serves, done, cut_off, limited, given_up, OnLeft, ServesOn}
 use Rattle.serve_model.specs.Connections.{Talks, whole, cut_off as talk_cut, limited as talk_limited, given_up as talk_given_up}
@@ -76,6 +76,10 @@ module _ {S : Type 0} (store : Store S) (fits lacks : S → ℕ → Order → Ty
   stands_plain holds times served s q st = record { store = st.store.0; clock = st.clock; time = st.time; kept = st.kept }
 
 -- ---- what was said and passed before
+
+all_append : {A : Type 0} (Q : A → Type 0) (xs ys : List A) → AllByRecursion Q xs → AllByRecursion Q ys → AllByRecursion Q (xs ++ ys)
+all_append Q [] ys h k = k
+all_append Q (x ∷ xs) ys h k = (h.0, all_append Q xs ys h.1 k)
 
 -- a text, what was passed and what the store was asked come before a talk
 abbrev pub prefixed : {S : Type 0} → List ℕ → List (Serving S) → List (Asking S) → Talk S → Talk S
@@ -183,8 +187,8 @@ module _ {S : Type 0} (store : Store S) (buckets : List (List ℕ)) (g : Grammar
 
 -- ---- so far
 
--- so far a first part of what is stated of all bytes was written, and what is stated of the rest is to come
-pub record InTalk {S : Type 0} (store : Store S) (buckets : List (List ℕ)) (g : Grammar) (all : Talk S) (holds : S → Type 0) (times : Option (List ℕ)) (served : Served) (more : ℕ) (kept : List ℕ) (c d : Connection) : Type 0 where
+-- so far a first part of what is stated of all bytes was written, each order that the store was asked fits, and what is stated of the rest is to come
+pub record InTalk {S : Type 0} (store : Store S) (FitsIt : Asking S → Type 0) (buckets : List (List ℕ)) (g : Grammar) (all : Talk S) (holds : S → Type 0) (times : Option (List ℕ)) (served : Served) (more : ℕ) (kept : List ℕ) (c d : Connection) : Type 0 where
   pub text : List ℕ
   pub passed : List (Serving S)
   pub asks : List (Asking S)
@@ -192,12 +196,13 @@ pub record InTalk {S : Type 0} (store : Store S) (buckets : List (List ℕ)) (g 
   pub left : List ℕ
   pub told : d.left ≡ Some left
   pub wrote : Wrote c.written d.written text
+  pub fit : AllByRecursion FitsIt asks
   pub stands : Stands holds times served serving
   pub counted : c.faults ≤ d.faults
   pub is : all ≡ prefixed text passed asks (talk store buckets g more serving (kept ++ left))
 
-module _ {S : Type 0} (store : Store S) (buckets : List (List ℕ)) (g : Grammar) where
-  pub talk_begins : (limit more : ℕ) (p : Serving S) (bytes : List ℕ) (holds : S → Type 0) (times : Option (List ℕ)) (served : Served) (kept : List ℕ) (c : Connection) → c.left ≡ Some bytes → kept ≡ [] → more ≡ limit → Stands holds times served p → InTalk store buckets g (talk store buckets g limit p bytes) holds times served more kept c c
+module _ {S : Type 0} (store : Store S) (FitsIt : Asking S → Type 0) (buckets : List (List ℕ)) (g : Grammar) where
+  pub talk_begins : (limit more : ℕ) (p : Serving S) (bytes : List ℕ) (holds : S → Type 0) (times : Option (List ℕ)) (served : Served) (kept : List ℕ) (c : Connection) → c.left ≡ Some bytes → kept ≡ [] → more ≡ limit → Stands holds times served p → InTalk store FitsIt buckets g (talk store buckets g limit p bytes) holds times served more kept c c
   talk_begins limit more p bytes holds times served kept c told none all st =
       record {
         text = [];
@@ -207,19 +212,20 @@ module _ {S : Type 0} (store : Store S) (buckets : List (List ℕ)) (g : Grammar
         left = bytes;
         told = told;
         wrote = wrote_none c.written;
+        fit = tt;
         stands = st;
         counted = omega arith;
         is = ap (λ n. talk store buckets g n p bytes) (sym all) ∙ ap (λ k. talk store buckets g more p (k ++ bytes)) (sym none);
       }
 
 module _ {S : Type 0} (store : Store S) (fits lacks : S → ℕ → Order → Type 0) (buckets : List (List ℕ)) (g : Grammar) (all : Talk S) (start : S) (more : ℕ) (kept kept' : List ℕ) (holds holds' : S → Type 0) (times times' : Option (List ℕ)) (served served' : Served) (c d f : Connection)
-    (i : InTalk store buckets g all (Reached store fits lacks holds start) times served (suc more) kept c d) where
+    (i : InTalk store (fits_asking fits) buckets g all (Reached store fits lacks holds start) times served (suc more) kept c d) where
   abbrev pub Follows : Result Bool ServeFault → Type 0
-  Follows r = Serves (turn store buckets g (more == 0) i.serving (kept ++ i.left)) (Reached store fits lacks holds' i.serving.store) (OverflowsAmong store fits lacks i.serving.store) times' served' r kept' d f
+  Follows r = Serves (turn store buckets g (more == 0) i.serving (kept ++ i.left)) (Reached store fits lacks holds' i.serving.store) (known_from store fits lacks i.serving.store) times' served' r kept' d f
 
   -- the request was served, and the connection goes on
-  pub talk_goes_on : Follows (Ok true) → InTalk store buckets g all (Reached store fits lacks holds' start) times' served' more kept' c f
-  talk_goes_on (done on ok w st go n) =
+  pub talk_goes_on : Follows (Ok true) → InTalk store (fits_asking fits) buckets g all (Reached store fits lacks holds' start) times' served' more kept' c f
+  talk_goes_on (done on ok w asked st go n) =
       let t = turn store buckets g (more == 0) i.serving (kept ++ i.left) in
       let o = goes_on t.next kept' f.left on (same_ok (Ok true) true on refl ok) go in
       let u = talk store buckets g more t.serving (kept' ++ o.left) in
@@ -232,6 +238,7 @@ module _ {S : Type 0} (store : Store S) (fits lacks : S → ℕ → Order → Ty
         left = o.left;
         told = o.told;
         wrote = wrote_more c.written d.written f.written i.text t.text i.wrote w;
+        fit = all_append (fits_asking fits) i.asks t.asks i.fit asked;
         stands = stands_more store fits lacks holds' times' served' start i.serving.store t.serving i.stands.store.1 st;
         counted = omega (arith, i.counted, n);
         is = i.is ∙ ap (prefixed i.text i.passed i.asks) next
@@ -272,27 +279,27 @@ module _ {S : Type 0} (store : Store S) (fits lacks : S → ℕ → Order → Ty
       (among_more store fits lacks start i.serving.store t.asks all.asks i.stands.store.1 asks_of_all) why
 
   -- the connection ends after it
-  pub talk_ends : Follows (Ok false) → Talks all (Reached store fits lacks holds' start) (OverflowsAmong store fits lacks start) times' served' (Ok tt) c f
-  talk_ends (done on ok w st go n) =
+  pub talk_ends : Follows (Ok false) → Talks all (Reached store fits lacks holds' start) (known_from store fits lacks start) times' served' (Ok tt) c f
+  talk_ends (done on ok w asked st go n) =
       let t = turn store buckets g (more == 0) i.serving (kept ++ i.left) in
       let off : talk store buckets g (suc more) i.serving (kept ++ i.left) ≡ record { text = t.text; passed = t.passed; asks = t.asks; serving = t.serving; is_over = false } = talk_with store buckets g more i.serving (kept ++ i.left) closes (ends_here t.next kept' f.left on (same_ok (Ok false) false on refl ok) go) in
       let is : all ≡ record { text = i.text ++ t.text; passed = i.passed ++ t.passed; asks = i.asks ++ t.asks; serving = t.serving; is_over = false } = i.is ∙ ap (prefixed i.text i.passed i.asks) off in
-      let P : Talk S → Type 0 = λ x. Talks x (Reached store fits lacks holds' start) (OverflowsAmong store fits lacks start) times' served' (Ok tt) c f in
-      subst P (sym is) (whole refl refl (wrote_more c.written d.written f.written i.text t.text i.wrote w) (stands_more store fits lacks holds' times' served' start i.serving.store t.serving i.stands.store.1 st) (omega (arith, i.counted, n)))
+      let P : Talk S → Type 0 = λ x. Talks x (Reached store fits lacks holds' start) (known_from store fits lacks start) times' served' (Ok tt) c f in
+      subst P (sym is) (whole refl refl (wrote_more c.written d.written f.written i.text t.text i.wrote w) (all_append (fits_asking fits) i.asks t.asks i.fit asked) (stands_more store fits lacks holds' times' served' start i.serving.store t.serving i.stands.store.1 st) (omega (arith, i.counted, n)))
   talk_ends (cut_off q ok n w st of) =
       talk_cut q refl (rose_after c.faults d.faults f.faults i.counted n) (part_of_all w) (stands_more store fits lacks holds' times' served' start i.serving.store q i.stands.store.1 st) (passed_of_all q of)
   talk_ends (limited err next w n) = absurd (ok_is_no_error (Ok false) false Kept refl err)
   talk_ends (given_up m err why w n) = absurd (ok_is_no_error (Ok false) false m refl err)
 
   -- serving ends in it
-  pub talk_stops : (e : ServeFault) → Follows (Err e) → Talks all (Reached store fits lacks holds' start) (OverflowsAmong store fits lacks start) times' served' (Err e) c f
-  talk_stops e (done on ok w st go n) = absurd (ok_is_no_error (Err e) on e ok refl)
+  pub talk_stops : (e : ServeFault) → Follows (Err e) → Talks all (Reached store fits lacks holds' start) (known_from store fits lacks start) times' served' (Err e) c f
+  talk_stops e (done on ok w asked st go n) = absurd (ok_is_no_error (Err e) on e ok refl)
   talk_stops e (cut_off q ok n w st of) = absurd (ok_is_no_error (Err e) false e ok refl)
   talk_stops e (limited err next w n) =
       let t = turn store buckets g (more == 0) i.serving (kept ++ i.left) in
       let over : talk store buckets g (suc more) i.serving (kept ++ i.left) ≡ record { text = t.text; passed = t.passed; asks = t.asks; serving = t.serving; is_over = true } = talk_with store buckets g more i.serving (kept ++ i.left) exceeds next in
       let is : all ≡ record { text = i.text ++ t.text; passed = i.passed ++ t.passed; asks = i.asks ++ t.asks; serving = t.serving; is_over = true } = i.is ∙ ap (prefixed i.text i.passed i.asks) over in
-      let P : Talk S → Type 0 = λ x. Talks x (Reached store fits lacks holds' start) (OverflowsAmong store fits lacks start) times' served' (Err e) c f in
+      let P : Talk S → Type 0 = λ x. Talks x (Reached store fits lacks holds' start) (known_from store fits lacks start) times' served' (Err e) c f in
       subst P (sym is) (talk_limited (ap Err (same_err (Err e) e Kept refl err)) refl (wrote_more c.written d.written f.written i.text t.text i.wrote w) (omega (arith, i.counted, n)))
   talk_stops e (given_up m err why w n) =
       let same : e ≡ m = same_err (Err e) e m refl err in
@@ -301,30 +308,30 @@ module _ {S : Type 0} (store : Store S) (fits lacks : S → ℕ → Order → Ty
 
 -- as many requests were answered as one connection may have
 module _ {S : Type 0} (store : Store S) (buckets : List (List ℕ)) (g : Grammar) where
-  pub talk_is_over : (all : Talk S) (more : ℕ) (kept : List ℕ) (holds : S → Type 0) (overflows : List (Asking S) → Type 0) (times : Option (List ℕ)) (served : Served) (c d : Connection) → more ≡ 0 → InTalk store buckets g all holds times served more kept c d → Talks all holds overflows times served (Ok tt) c d
-  talk_is_over all more kept holds overflows times served c d over i =
+  pub talk_is_over : (all : Talk S) (more : ℕ) (kept : List ℕ) (holds : S → Type 0) (known : Known S) (times : Option (List ℕ)) (served : Served) (c d : Connection) → more ≡ 0 → InTalk store known.fits buckets g all holds times served more kept c d → Talks all holds known times served (Ok tt) c d
+  talk_is_over all more kept holds known times served c d over i =
       let rest : talk store buckets g more i.serving (kept ++ i.left) ≡ record { text = []; passed = []; asks = []; serving = i.serving; is_over = false } = ap (λ n. talk store buckets g n i.serving (kept ++ i.left)) over ∙ talk_none store buckets g i.serving (kept ++ i.left) in
       let is : all ≡ record { text = i.text ++ []; passed = i.passed ++ []; asks = i.asks ++ []; serving = i.serving; is_over = false } = i.is ∙ ap (prefixed i.text i.passed i.asks) rest in
-      let P : Talk S → Type 0 = λ x. Talks x holds overflows times served (Ok tt) c d in
+      let P : Talk S → Type 0 = λ x. Talks x holds known times served (Ok tt) c d in
       let Q : List ℕ → Type 0 = Wrote c.written d.written in
-      subst P (sym is) (whole refl refl (subst Q (sym (append-nil i.text)) i.wrote) i.stands i.counted)
+      subst P (sym is) (whole refl refl (subst Q (sym (append-nil i.text)) i.wrote) (all_append known.fits i.asks [] i.fit tt) i.stands i.counted)
 
 -- ---- over the connection that is present
 
 -- a turn more, whatever is to follow from it
 module _ {S : Type 0} (store : Store S) (fits lacks : S → ℕ → Order → Type 0) (buckets : List (List ℕ)) (g : Grammar) (all : List ℕ → Talk S) (start : S) (more n : ℕ) (kept kept' : List ℕ) (holds holds' : S → Type 0) (times times' : Option (List ℕ)) (served served' : Served) (r : Result Bool ServeFault) (Next' : List ℕ → Connection → Connection → Type 0) (o m k : Option Connection) where
-  pub turn_then : n ≡ suc more → OnPresent (λ c d. OnLeft (λ left. InTalk store buckets g (all left) (Reached store fits lacks holds start) times served n kept c d) c.left) o m → IsSome k
-      → ((q : Serving S) → Stands holds times served q → ServesOn (λ left. turn store buckets g (more == 0) q (kept ++ left)) (Reached store fits lacks holds' q.store) (OverflowsAmong store fits lacks q.store) times' served' r kept' m k)
-      → ((left : List ℕ) (c d f : Connection) (i : InTalk store buckets g (all left) (Reached store fits lacks holds start) times served (suc more) kept c d) → Follows store fits lacks buckets g (all left) start more kept kept' holds holds' times times' served served' c d f i r → Next' left c f)
+  pub turn_then : n ≡ suc more → OnPresent (λ c d. OnLeft (λ left. InTalk store (fits_asking fits) buckets g (all left) (Reached store fits lacks holds start) times served n kept c d) c.left) o m → IsSome k
+      → ((q : Serving S) → Stands holds times served q → ServesOn (λ left. turn store buckets g (more == 0) q (kept ++ left)) (Reached store fits lacks holds' q.store) (known_from store fits lacks q.store) times' served' r kept' m k)
+      → ((left : List ℕ) (c d f : Connection) (i : InTalk store (fits_asking fits) buckets g (all left) (Reached store fits lacks holds start) times served (suc more) kept c d) → Follows store fits lacks buckets g (all left) start more kept kept' holds holds' times times' served served' c d f i r → Next' left c f)
       → OnPresent (λ c f. OnLeft (λ left. Next' left c f) c.left) o k
   turn_then e inv some serves step =
-      on_present_bind (λ c d. OnLeft (λ left. InTalk store buckets g (all left) (Reached store fits lacks holds start) times served n kept c d) c.left) (λ c f. OnLeft (λ left. Next' left c f) c.left) o m k inv some
+      on_present_bind (λ c d. OnLeft (λ left. InTalk store (fits_asking fits) buckets g (all left) (Reached store fits lacks holds start) times served n kept c d) c.left) (λ c f. OnLeft (λ left. Next' left c f) c.left) o m k inv some
       (λ c d f em ek h.
       on_left (λ left. Next' left c f) c.left
       (λ left el.
-      let P : ℕ → Type 0 = λ x. InTalk store buckets g (all left) (Reached store fits lacks holds start) times served x kept c d in
-      let i = subst P e (at_left (λ l. InTalk store buckets g (all l) (Reached store fits lacks holds start) times served n kept c d) c.left left el h) in
+      let P : ℕ → Type 0 = λ x. InTalk store (fits_asking fits) buckets g (all left) (Reached store fits lacks holds start) times served x kept c d in
+      let i = subst P e (at_left (λ l. InTalk store (fits_asking fits) buckets g (all l) (Reached store fits lacks holds start) times served n kept c d) c.left left el h) in
       step left c d f i
-      (at_left (λ l. Serves (turn store buckets g (more == 0) i.serving (kept ++ l)) (Reached store fits lacks holds' i.serving.store) (OverflowsAmong store fits lacks i.serving.store) times' served' r kept' d f) d.left i.left i.told
-      (at_present (λ d f. OnLeft (λ l. Serves (turn store buckets g (more == 0) i.serving (kept ++ l)) (Reached store fits lacks holds' i.serving.store) (OverflowsAmong store fits lacks i.serving.store) times' served' r kept' d f) d.left) m k d f em ek
+      (at_left (λ l. Serves (turn store buckets g (more == 0) i.serving (kept ++ l)) (Reached store fits lacks holds' i.serving.store) (known_from store fits lacks i.serving.store) times' served' r kept' d f) d.left i.left i.told
+      (at_present (λ d f. OnLeft (λ l. Serves (turn store buckets g (more == 0) i.serving (kept ++ l)) (Reached store fits lacks holds' i.serving.store) (known_from store fits lacks i.serving.store) times' served' r kept' d f) d.left) m k d f em ek
       (serves i.serving (stands_plain store fits lacks holds times served start i.serving i.stands))))))

@@ -6,7 +6,7 @@ ghost use Rattle.store_model.specs.Acts.{HasKey};
 ghost use Rattle.s3_model.specs.Asks.{is_method, asked_of};
 ghost use Rattle.serve_model.specs.declared.served.ServeFault.TheVariants.{Memory as Wanting};
 ghost use Rattle.serve_model.specs.Judging.{IsKeyed, order_of, reply_without, answer_to};
-ghost use Rattle.serve_model.specs.Stores.{OverflowsAmong};
+ghost use Rattle.serve_model.specs.Stores.{known_from};
 ghost use Rattle.serve_model.specs.Talk.{Grammar, Serving, first_of, later_of, time_from, request_of, path_shown as path_of_refusal, interim as interim_of, bad_head, head_refusal, text_of, closes_of, clocked, order_turn, plan_turn, whole_turn, body_turn, waiting_turn, request_turn, head_turn, turn};
 ghost use Rattle.serve_model.specs.Serving.{HasState, Reached, Goes, Stands, SaysOn, ServesOn};
 
@@ -42,7 +42,7 @@ fn carry<S: Storage, L: Link>(
     requires present { IsSome (L.present link.old) }
     ensures present { IsSome (L.present link.new) }
     ensures serves { (p : Serving S.State) (times : Option (List ℕ)) (kept : List ℕ) → Stands (S.stands store.old) times served.old p →
-        ServesOn (λ left. order_turn S.model request.now order p (kept ++ left)) (Reached S.model S.fits S.lacks (S.stands store.new) p.store) (OverflowsAmong S.model S.fits S.lacks p.store) times served.new result kept (L.present link.old) (L.present link.new) }
+        ServesOn (λ left. order_turn S.model request.now order p (kept ++ left)) (Reached S.model S.fits S.lacks (S.stands store.new) p.store) (known_from S.model S.fits S.lacks p.store) times served.new result kept (L.present link.old) (L.present link.new) }
     ensures goes { Goes S.model S.fits S.lacks (S.stands store.old) (S.stands store.new) result }
     ensures stays { Stays (L.coming link.old) (L.coming link.new) (L.past link.old) (L.past link.new) (L.faults link.old) (L.faults link.new) }
 {
@@ -92,7 +92,7 @@ fn serve_whole<S: Storage, L: Link>(
     requires present { IsSome (L.present link.old) }
     ensures present { IsSome (L.present link.new) }
     ensures serves { (p : Serving S.State) (times : Option (List ℕ)) (kept : List ℕ) → Stands (S.stands store.old) times served.old p →
-        ServesOn (λ left. whole_turn S.model buckets.now request.now body p (kept ++ left)) (Reached S.model S.fits S.lacks (S.stands store.new) p.store) (OverflowsAmong S.model S.fits S.lacks p.store) times served.new result kept (L.present link.old) (L.present link.new) }
+        ServesOn (λ left. whole_turn S.model buckets.now request.now body p (kept ++ left)) (Reached S.model S.fits S.lacks (S.stands store.new) p.store) (known_from S.model S.fits S.lacks p.store) times served.new result kept (L.present link.old) (L.present link.new) }
     ensures goes { Goes S.model S.fits S.lacks (S.stands store.old) (S.stands store.new) result }
     ensures stays { Stays (L.coming link.old) (L.coming link.new) (L.past link.old) (L.past link.new) (L.faults link.old) (L.faults link.new) }
 {
@@ -118,7 +118,7 @@ fn serve_judged<S: Storage, L: Link>(
     requires present { IsSome (L.present link.old) }
     ensures present { IsSome (L.present link.new) }
     ensures serves { (p : Serving S.State) (times : Option (List ℕ)) (kept : List ℕ) → Stands (S.stands store.old) times served.old p →
-        ServesOn (λ left. plan_turn S.model buckets.now request.now (order_of request.now.ask body) p (kept ++ left)) (Reached S.model S.fits S.lacks (S.stands store.new) p.store) (OverflowsAmong S.model S.fits S.lacks p.store) times served.new result kept (L.present link.old) (L.present link.new) }
+        ServesOn (λ left. plan_turn S.model buckets.now request.now (order_of request.now.ask body) p (kept ++ left)) (Reached S.model S.fits S.lacks (S.stands store.new) p.store) (known_from S.model S.fits S.lacks p.store) times served.new result kept (L.present link.old) (L.present link.new) }
     ensures goes { Goes S.model S.fits S.lacks (S.stands store.old) (S.stands store.new) result }
     ensures stays { Stays (L.coming link.old) (L.coming link.new) (L.past link.old) (L.past link.new) (L.faults link.old) (L.faults link.new) }
 {
@@ -163,7 +163,7 @@ fn serve_body<S: Storage, L: Link>(
     requires present { IsSome (L.present link.old) }
     ensures present { IsSome (L.present link.new) }
     ensures serves { (p : Serving S.State) (times : Option (List ℕ)) → Stands (S.stands store.old) times served.old p →
-        ServesOn (λ left. body_turn S.model buckets.now request.now p (kept.old.bytes.items ++ left)) (Reached S.model S.fits S.lacks (S.stands store.new) p.store) (OverflowsAmong S.model S.fits S.lacks p.store) times served.new result kept.new.bytes.items (L.present link.old) (L.present link.new) }
+        ServesOn (λ left. body_turn S.model buckets.now request.now p (kept.old.bytes.items ++ left)) (Reached S.model S.fits S.lacks (S.stands store.new) p.store) (known_from S.model S.fits S.lacks p.store) times served.new result kept.new.bytes.items (L.present link.old) (L.present link.new) }
     ensures goes { Goes S.model S.fits S.lacks (S.stands store.old) (S.stands store.new) result }
     ensures stays { Stays (L.coming link.old) (L.coming link.new) (L.past link.old) (L.past link.new) (L.faults link.old) (L.faults link.new) }
 {
@@ -206,7 +206,7 @@ fn serve_waiting<S: Storage, L: Link>(
     requires present { IsSome (L.present link.old) }
     ensures present { IsSome (L.present link.new) }
     ensures serves { (p : Serving S.State) (times : Option (List ℕ)) → Stands (S.stands store.old) times served.old p →
-        ServesOn (λ left. waiting_turn S.model buckets.now request.now p (kept.old.bytes.items ++ left)) (Reached S.model S.fits S.lacks (S.stands store.new) p.store) (OverflowsAmong S.model S.fits S.lacks p.store) times served.new result kept.new.bytes.items (L.present link.old) (L.present link.new) }
+        ServesOn (λ left. waiting_turn S.model buckets.now request.now p (kept.old.bytes.items ++ left)) (Reached S.model S.fits S.lacks (S.stands store.new) p.store) (known_from S.model S.fits S.lacks p.store) times served.new result kept.new.bytes.items (L.present link.old) (L.present link.new) }
     ensures goes { Goes S.model S.fits S.lacks (S.stands store.old) (S.stands store.new) result }
     ensures stays { Stays (L.coming link.old) (L.coming link.new) (L.past link.old) (L.past link.new) (L.faults link.old) (L.faults link.new) }
 {
@@ -231,7 +231,7 @@ fn serve_understood<S: Storage, L: Link>(
     requires present { IsSome (L.present link.old) }
     ensures present { IsSome (L.present link.new) }
     ensures serves { (p : Serving S.State) (times : Option (List ℕ)) → Stands (S.stands store.old) times served.old p →
-        ServesOn (λ left. request_turn S.model buckets.now request.now p (kept.old.bytes.items ++ left)) (Reached S.model S.fits S.lacks (S.stands store.new) p.store) (OverflowsAmong S.model S.fits S.lacks p.store) times served.new result kept.new.bytes.items (L.present link.old) (L.present link.new) }
+        ServesOn (λ left. request_turn S.model buckets.now request.now p (kept.old.bytes.items ++ left)) (Reached S.model S.fits S.lacks (S.stands store.new) p.store) (known_from S.model S.fits S.lacks p.store) times served.new result kept.new.bytes.items (L.present link.old) (L.present link.new) }
     ensures goes { Goes S.model S.fits S.lacks (S.stands store.old) (S.stands store.new) result }
     ensures stays { Stays (L.coming link.old) (L.coming link.new) (L.past link.old) (L.past link.new) (L.faults link.old) (L.faults link.new) }
 {
@@ -321,7 +321,7 @@ fn serve_ask<S: Storage, L: Link>(
     requires present { IsSome (L.present link.old) }
     ensures present { IsSome (L.present link.new) }
     ensures serves { (p : Serving S.State) (times : Option (List ℕ)) → Stands (S.stands store.old) times served.old p →
-        ServesOn (λ left. request_turn S.model buckets.now (request_of last now head.now ask) p (kept.old.bytes.items ++ left)) (Reached S.model S.fits S.lacks (S.stands store.new) p.store) (OverflowsAmong S.model S.fits S.lacks p.store) times served.new result kept.new.bytes.items (L.present link.old) (L.present link.new) }
+        ServesOn (λ left. request_turn S.model buckets.now (request_of last now head.now ask) p (kept.old.bytes.items ++ left)) (Reached S.model S.fits S.lacks (S.stands store.new) p.store) (known_from S.model S.fits S.lacks p.store) times served.new result kept.new.bytes.items (L.present link.old) (L.present link.new) }
     ensures goes { Goes S.model S.fits S.lacks (S.stands store.old) (S.stands store.new) result }
     ensures stays { Stays (L.coming link.old) (L.coming link.new) (L.past link.old) (L.past link.new) (L.faults link.old) (L.faults link.new) }
 {
@@ -347,7 +347,7 @@ fn serve_head<S: Storage, L: Link>(
     requires present { IsSome (L.present link.old) }
     ensures present { IsSome (L.present link.new) }
     ensures serves { (p : Serving S.State) (times : Option (List ℕ)) → Stands (S.stands store.old) times served.old p →
-        ServesOn (λ left. head_turn S.model buckets.now last now (Some head.now) p (kept.old.bytes.items ++ left)) (Reached S.model S.fits S.lacks (S.stands store.new) p.store) (OverflowsAmong S.model S.fits S.lacks p.store) times served.new result kept.new.bytes.items (L.present link.old) (L.present link.new) }
+        ServesOn (λ left. head_turn S.model buckets.now last now (Some head.now) p (kept.old.bytes.items ++ left)) (Reached S.model S.fits S.lacks (S.stands store.new) p.store) (known_from S.model S.fits S.lacks p.store) times served.new result kept.new.bytes.items (L.present link.old) (L.present link.new) }
     ensures goes { Goes S.model S.fits S.lacks (S.stands store.old) (S.stands store.new) result }
     ensures stays { Stays (L.coming link.old) (L.coming link.new) (L.past link.old) (L.past link.new) (L.faults link.old) (L.faults link.new) }
 {
@@ -387,7 +387,7 @@ fn serve_found<S: Storage, L: Link, C: Clock>(
     requires present { IsSome (L.present link.old) }
     ensures present { IsSome (L.present link.new) }
     ensures serves { (p : Serving S.State) → Stands (S.stands store.old) (C.times clock.old) served.old p →
-        ServesOn (λ left. head_turn S.model buckets.now last (clocked p).time (Some head.now) (clocked p) (kept.old.bytes.items ++ left)) (Reached S.model S.fits S.lacks (S.stands store.new) p.store) (OverflowsAmong S.model S.fits S.lacks p.store) (C.times clock.new) served.new result kept.new.bytes.items (L.present link.old) (L.present link.new) }
+        ServesOn (λ left. head_turn S.model buckets.now last (clocked p).time (Some head.now) (clocked p) (kept.old.bytes.items ++ left)) (Reached S.model S.fits S.lacks (S.stands store.new) p.store) (known_from S.model S.fits S.lacks p.store) (C.times clock.new) served.new result kept.new.bytes.items (L.present link.old) (L.present link.new) }
     ensures goes { Goes S.model S.fits S.lacks (S.stands store.old) (S.stands store.new) result }
     ensures stays { Stays (L.coming link.old) (L.coming link.new) (L.past link.old) (L.past link.new) (L.faults link.old) (L.faults link.new) }
 {
@@ -443,7 +443,7 @@ pub fn serve_request<S: Storage, L: Link, C: Clock>(
     // store, clock and counts stand for, and they stand for what is stated then, to which lawful orders lead. Where the
     // connection's count of faults rose, or memory was wanting, it's a first part of that.
     ensures serves { (g : Grammar) (p : Serving S.State) → Stands (S.stands store.old) (C.times clock.old) served.old p →
-        ServesOn (λ left. turn S.model buckets.now g last p (kept.old.bytes.items ++ left)) (Reached S.model S.fits S.lacks (S.stands store.new) p.store) (OverflowsAmong S.model S.fits S.lacks p.store) (C.times clock.new) served.new result kept.new.bytes.items (L.present link.old) (L.present link.new) }
+        ServesOn (λ left. turn S.model buckets.now g last p (kept.old.bytes.items ++ left)) (Reached S.model S.fits S.lacks (S.stands store.new) p.store) (known_from S.model S.fits S.lacks p.store) (C.times clock.new) served.new result kept.new.bytes.items (L.present link.old) (L.present link.new) }
 
     // Whatever link and clock tell: lawful orders lead to a state that the store stands for, and `Number` comes only
     // where they lead to an order without room.

@@ -1,7 +1,7 @@
 //! All connections, served one after the other.
 ghost use Rattle.std.specs.Prelude.{◌≡◌, ◌<◌, ◌≤◌, [], Some, None, Err, IfOk, IfSome};
 ghost use Rattle.lab_outside.specs.Rose.{Rose};
-ghost use Rattle.serve_model.specs.Stores.{OverflowsAmong};
+ghost use Rattle.serve_model.specs.Stores.{known_from};
 ghost use Rattle.serve_model.specs.Talk.{Grammar, Serving};
 ghost use Rattle.serve_model.specs.Serving.{HasState, Reached, Stands};
 ghost use Rattle.serve_loop.specs.Service.{Ends, Leaves};
@@ -43,7 +43,7 @@ pub fn serve<S: Storage, L: Link, C: Clock>(
     // first part of that where its count of faults rose. Where serving ended early it's so for all connections but the
     // last.
     ensures served { (g : Grammar) (p : Serving S.State) → Stands (S.stands store.old) (C.times clock.old) served.old p → IfSome (L.coming link.old) (λ coming.
-        Ends S.model buckets.now g p (Reached S.model S.fits S.lacks (S.stands store.new) p.store) (OverflowsAmong S.model S.fits S.lacks p.store) (C.times clock.new) served.new result coming (L.coming link.new) (L.past link.old) (L.past link.new)) }
+        Ends S.model buckets.now g p (Reached S.model S.fits S.lacks (S.stands store.new) p.store) (known_from S.model S.fits S.lacks p.store) (C.times clock.new) served.new result coming (L.coming link.new) (L.past link.old) (L.past link.new)) }
 
     // Whatever link and clock tell: lawful orders lead to a state that the store stands for.
     ensures goes { Leaves S.model S.fits S.lacks (S.stands store.old) (S.stands store.new) result }

@@ -5,3 +5,4 @@ pub mod Judging
 pub mod Talk
 pub mod Serving
 pub mod Connections
+pub mod Plain

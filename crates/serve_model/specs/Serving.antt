@@ -1,6 +1,6 @@
 -- How code serves one request: what it writes, and what its store, its clock and its counts stand for then.
 use Rattle.std.specs.Prelude.{◌≡◌, ℕ, ◌≤◌, ⊤, Bool, false, true, not, List, ◌++◌, Option, Some, None, Result, Ok, Err}
-use Rattle.std.specs.List.{Contains}
+use Rattle.std.specs.List.{AllByRecursion, Contains}
 use Rattle.lab_outside.specs.Connection.{Connection, OnPresent}
 use Rattle.lab_outside.specs.Rose.{Rose}
 use Rattle.lab_outside.specs.Bytes.{Wrote, WrotePrefix}
@@ -9,7 +9,7 @@ use Rattle.flow_model.specs.declared.flow.FlowEnd.{FlowEnd}
 use Rattle.serve_model.specs.declared.served.Served.{Served}
 use Rattle.serve_model.specs.declared.served.ServeFault.{ServeFault}
 use Rattle.serve_model.specs.declared.served.ServeFault.TheVariants.{Kept, Number, Memory}
-use Rattle.serve_model.specs.Stores.{Store, Asking, Leads, Overflows}
+use Rattle.serve_model.specs.Stores.{Store, Asking, Known, Leads, Overflows}
 use Rattle.serve_model.specs.Talk.{Serving, Next, goes, closes, exceeds, Turn}
 
 -- ---- a store of the code
@@ -71,12 +71,12 @@ GivesUp overflows asks Kept = ⊥
 GivesUp overflows asks Number = overflows asks
 GivesUp overflows asks Memory = ⊤
 
--- what is stated of one request was written, and store, clock and counts stand for what is served then; or a first part was written, as the count of faults rose, and they stand for something on the way; or it's stated that serving ends, as too many bytes were put or copied; or a first part was written, as memory was wanting or the order that the store was asked has no room
-pub data Serves {S : Type 0} (t : Turn S) (holds : S → Type 0) (overflows : List (Asking S) → Type 0) (times : Option (List ℕ)) (served : Served) (result : Result Bool ServeFault) (kept : List ℕ) (c d : Connection) : Type 0 where
-  done : (on : Bool) → result ≡ Ok on → Wrote c.written d.written t.text → Stands holds times served t.serving → Continues t.next on kept d.left → c.faults ≤ d.faults → Serves t holds overflows times served result kept c d
-  cut_off : (q : Serving S) → result ≡ Ok false → Rose c.faults d.faults → WrotePrefix c.written d.written t.text → Stands holds times served q → IsPassed t.passed t.serving q → Serves t holds overflows times served result kept c d
-  limited : result ≡ Err Kept → t.next ≡ exceeds → Wrote c.written d.written t.text → c.faults ≤ d.faults → Serves t holds overflows times served result kept c d
-  given_up : (e : ServeFault) → result ≡ Err e → GivesUp overflows t.asks e → WrotePrefix c.written d.written t.text → c.faults ≤ d.faults → Serves t holds overflows times served result kept c d
+-- what is stated of one request was written, each order that the store was asked fits, and store, clock and counts stand for what is served then; or a first part was written, as the count of faults rose, and they stand for something on the way; or it's stated that serving ends, as too many bytes were put or copied; or a first part was written, as memory was wanting or the order that the store was asked has no room
+pub data Serves {S : Type 0} (t : Turn S) (holds : S → Type 0) (known : Known S) (times : Option (List ℕ)) (served : Served) (result : Result Bool ServeFault) (kept : List ℕ) (c d : Connection) : Type 0 where
+  done : (on : Bool) → result ≡ Ok on → Wrote c.written d.written t.text → AllByRecursion known.fits t.asks → Stands holds times served t.serving → Continues t.next on kept d.left → c.faults ≤ d.faults → Serves t holds known times served result kept c d
+  cut_off : (q : Serving S) → result ≡ Ok false → Rose c.faults d.faults → WrotePrefix c.written d.written t.text → Stands holds times served q → IsPassed t.passed t.serving q → Serves t holds known times served result kept c d
+  limited : result ≡ Err Kept → t.next ≡ exceeds → Wrote c.written d.written t.text → c.faults ≤ d.faults → Serves t holds known times served result kept c d
+  given_up : (e : ServeFault) → result ≡ Err e → GivesUp known.overflows t.asks e → WrotePrefix c.written d.written t.text → c.faults ≤ d.faults → Serves t holds known times served result kept c d
 
 -- so it is of the bytes that are told to be left
 abbrev pub OnLeft : (List ℕ → Type 0) → Option (List ℕ) → Type 0
@@ -88,5 +88,5 @@ abbrev pub SaysOn : List ℕ → Bool → Result Bool ServeFault → Option Conn
 SaysOn text close result old new = OnPresent (Says text close result) old new
 
 -- what is stated of a request, from the bytes on that are told to be left, was served on the connection that is present
-abbrev pub ServesOn : {S : Type 0} → (List ℕ → Turn S) → (S → Type 0) → (List (Asking S) → Type 0) → Option (List ℕ) → Served → Result Bool ServeFault → List ℕ → Option Connection → Option Connection → Type 0
-ServesOn turn holds overflows times served result kept old new = OnPresent (λ c d. OnLeft (λ left. Serves (turn left) holds overflows times served result kept c d) c.left) old new
+abbrev pub ServesOn : {S : Type 0} → (List ℕ → Turn S) → (S → Type 0) → Known S → Option (List ℕ) → Served → Result Bool ServeFault → List ℕ → Option Connection → Option Connection → Type 0
+ServesOn turn holds known times served result kept old new = OnPresent (λ c d. OnLeft (λ left. Serves (turn left) holds known times served result kept c d) c.left) old new

@@ -19,6 +19,15 @@ pub record Asking (S : Type 0) : Type 0 where
   pub time : ℕ
   pub order : Order
 
+-- an order fits when it is asked
+abbrev pub fits_asking : {S : Type 0} → (S → ℕ → Order → Type 0) → Asking S → Type 0
+fits_asking fits a = fits a.state a.time a.order
+
+-- what is known of the orders that a store is asked: that one fits, and that among several one has no room
+pub record Known (S : Type 0) : Type 1 where
+  pub fits : Asking S → Type 0
+  pub overflows : List (Asking S) → Type 0
+
 module _ {S : Type 0} (store : Store S) where
   -- the state after orders, each with its time
   abbrev pub after_orders : S → List (ℕ × Order) → S
@@ -46,3 +55,7 @@ module _ {S : Type 0} (store : Store S) where
   pub record OverflowsAmong (fits lacks : S → ℕ → Order → Type 0) (s : S) (asks : List (Asking S)) : Type 0 where
     pub at : Overflows fits lacks s
     pub is_asked : Contains asks at.asking
+
+  -- what is known of orders that are asked once others led from a state to where they are
+  abbrev pub known_from : (fits lacks : S → ℕ → Order → Type 0) → S → Known S
+  known_from fits lacks s = record { fits = fits_asking fits; overflows = OverflowsAmong fits lacks s }

@@ -4,4 +4,5 @@ pub mod Sized
 pub mod Opening
 pub mod Requests
 pub mod Serving
+pub mod FromMap
 pub mod Ending

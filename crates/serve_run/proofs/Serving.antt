@@ -13,7 +13,7 @@ use Rattle.serve_model.specs.declared.served.Served.{Served}
 use Rattle.serve_model.specs.declared.served.ServeFault.{ServeFault}
 use Rattle.serve_model.specs.declared.served.ServeFault.TheVariants as fault
 use Rattle.serve_model.specs.Clusters.{Cluster, cluster, fits, lacks}
-use Rattle.serve_model.specs.Stores.{OverflowsAmong}
+use Rattle.serve_model.specs.Stores.{fits_asking, OverflowsAmong, known_from}
 use Rattle.serve_model.specs.Talk.{Grammar, Serving}
 use Rattle.serve_model.specs.Serving.{HasState, Reached, Stands}
 use Rattle.serve_model.specs.Connections.{ServesAll, ServesAllButLast}
@@ -94,7 +94,7 @@ tail_is p number nodes text same s t e h = subst (λ (x : State). text ≡ tail_
 module _ (keeps : EveryRunKeepsPromises) (g : Grammar) (p : Plan) (holds0 : Cluster → Type 0) (b : BeginsAs p holds0) (buckets : List (List ℕ)) (in_order : AreInOrder p.config.buckets buckets) (holds : Cluster → Type 0) (counts : Served)
     (times times' : Option (List ℕ)) (coming coming' : Option (List (List ℕ))) (past past' : List Connection) where
   abbrev All : List ℕ → ℕ → List (List ℕ) → Type 0
-  All ts number cs = ServesAll cluster buckets g (serving p b.first ts) number (Reached cluster fits lacks holds (begun p b.first)) times' counts cs coming' past past'
+  All ts number cs = ServesAll cluster buckets g (fits_asking fits) (serving p b.first ts) number (Reached cluster fits lacks holds (begun p b.first)) times' counts cs coming' past past'
 
   -- where nothing is told of the times or of the connections to come
   from_reached : (number : ℕ) (times : Option (List ℕ)) (coming : Option (List (List ℕ))) → HasState (Reached cluster fits lacks holds (begun p b.first)) →
@@ -110,7 +110,7 @@ module _ (keeps : EveryRunKeepsPromises) (g : Grammar) (p : Plan) (holds0 : Clus
           buckets = buckets;
           in_order = in_order;
           counts = counts;
-          served = none_told (λ ts cs. ServesAll cluster buckets g (serving p b.first ts) number (λ c. c.run ≡ state_after p b.first leads.orders) times' counts cs coming' past past') times coming untold;
+          served = none_told (λ ts cs. ServesAll cluster buckets g (fits_asking fits) (serving p b.first ts) number (λ c. c.run ≡ state_after p b.first leads.orders) times' counts cs coming' past past') times coming untold;
         };
         at = goes.0;
         stands = goes.1.0;
@@ -164,7 +164,7 @@ module _ (keeps : EveryRunKeepsPromises) (g : Grammar) (p : Plan) (holds0 : Clus
   left_early (Some ts) (Some cs) goes all = let a = all ts refl in (a.0, (from_all a.0 ts cs a.1).has)
 
   -- serving ended with a connection
-  broken_off : (fault : ServeFault) → Where (λ ts cs. ServesAllButLast cluster buckets g (OverflowsAmong cluster fits lacks (begun p b.first)) (serving p b.first ts) fault cs past past') times coming → HasBrokenOff g p fault (told times times' coming coming' past past')
+  broken_off : (fault : ServeFault) → Where (λ ts cs. ServesAllButLast cluster buckets g (fits_asking fits) (OverflowsAmong cluster fits lacks (begun p b.first)) (serving p b.first ts) fault cs past past') times coming → HasBrokenOff g p fault (told times times' coming coming' past past')
   broken_off fault all =
       record {
         first = b.first;
@@ -172,15 +172,15 @@ module _ (keeps : EveryRunKeepsPromises) (g : Grammar) (p : Plan) (holds0 : Clus
         kept = all_kept p b.first keeps b.lawful b.fit;
         buckets = buckets;
         in_order = in_order;
-        served = some_told (λ ts cs. ServesAllButLast cluster buckets g (OverflowsAmong cluster fits lacks (begun p b.first)) (serving p b.first ts) fault cs past past') times coming all;
+        served = some_told (λ ts cs. ServesAllButLast cluster buckets g (fits_asking fits) (OverflowsAmong cluster fits lacks (begun p b.first)) (serving p b.first ts) fault cs past past') times coming all;
       }
 
   -- what `serve` says of each state for which the code's cluster stood
   abbrev Says : Result ℕ ServeStop → Type 0
-  Says r = (q : Serving Cluster) → Stands holds0 times (record { kept = 0; time = 0 }) q → IfSome coming (λ cs. Ends cluster buckets g q (Reached cluster fits lacks holds q.store) (OverflowsAmong cluster fits lacks q.store) times' counts r cs coming' past past')
+  Says r = (q : Serving Cluster) → Stands holds0 times (record { kept = 0; time = 0 }) q → IfSome coming (λ cs. Ends cluster buckets g q (Reached cluster fits lacks holds q.store) (known_from cluster fits lacks q.store) times' counts r cs coming' past past')
 
   says_so : (r : Result ℕ ServeStop) → Says r →
-      Where (λ ts cs. Ends cluster buckets g (serving p b.first ts) (Reached cluster fits lacks holds (begun p b.first)) (OverflowsAmong cluster fits lacks (begun p b.first)) times' counts r cs coming' past past') times coming
+      Where (λ ts cs. Ends cluster buckets g (serving p b.first ts) (Reached cluster fits lacks holds (begun p b.first)) (known_from cluster fits lacks (begun p b.first)) times' counts r cs coming' past past') times coming
   says_so r served = λ ts e. served (serving p b.first ts) (begins p b.first holds0 times (record { kept = 0; time = 0 }) ts b.stands refl e)
 
   -- as many connections were served as were asked for, or no more came

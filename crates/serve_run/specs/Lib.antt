@@ -4,3 +4,4 @@ pub mod Stop
 pub mod Start
 pub mod Served
 pub mod Answer
+pub mod FromMap

@@ -14,7 +14,7 @@ use Rattle.store_anchors.specs.Promises.{KeepsPromises}
 use Rattle.text_model.specs.Transcript.{line_at, end_line}
 use Rattle.serve_model.specs.declared.served.Served.{Served}
 use Rattle.serve_model.specs.declared.served.ServeFault.{ServeFault}
-use Rattle.serve_model.specs.Stores.{OrdersFit, OverflowsAmong}
+use Rattle.serve_model.specs.Stores.{fits_asking, OrdersFit, OverflowsAmong}
 use Rattle.serve_model.specs.Clusters.{Cluster, cluster, acts_at, fits, lacks}
 use Rattle.serve_model.specs.Talk.{Grammar, Serving}
 use Rattle.serve_model.specs.Connections.{ServesAll, ServesAllButLast}
@@ -96,7 +96,7 @@ pub record HasServed (g : Grammar) (p : Plan) (number : ℕ) (t : Told) : Type 0
   pub buckets : List (List ℕ)
   pub in_order : AreInOrder p.config.buckets buckets
   pub counts : Served
-  pub served : WhereTold t (λ times coming. ServesAll cluster buckets g (serving p first times) number (λ c. c.run ≡ state_after p first orders) t.times_after counts coming t.coming_after t.past t.past_after)
+  pub served : WhereTold t (λ times coming. ServesAll cluster buckets g (fits_asking fits) (serving p first times) number (λ c. c.run ≡ state_after p first orders) t.times_after counts coming t.coming_after t.past t.past_after)
 
 -- serving ended with a connection, for this fault; where clock and link tell, all connections before it were served as it is stated, and what was written to it is what is stated of it, or a first part; and whatever orders can be carried out from the opened cluster on keep what is promised
 pub record HasBrokenOff (g : Grammar) (p : Plan) (fault : ServeFault) (t : Told) : Type 0 where
@@ -105,4 +105,4 @@ pub record HasBrokenOff (g : Grammar) (p : Plan) (fault : ServeFault) (t : Told)
   pub kept : (orders : List (ℕ × Order)) → OrdersFit cluster fits (begun p first) orders → AreKept (all_acts p first orders)
   pub buckets : List (List ℕ)
   pub in_order : AreInOrder p.config.buckets buckets
-  pub served : WhereTold t (λ times coming. ServesAllButLast cluster buckets g (OverflowsAmong cluster fits lacks (begun p first)) (serving p first times) fault coming t.past t.past_after)
+  pub served : WhereTold t (λ times coming. ServesAllButLast cluster buckets g (fits_asking fits) (OverflowsAmong cluster fits lacks (begun p first)) (serving p first times) fault coming t.past t.past_after)

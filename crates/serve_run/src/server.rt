@@ -20,6 +20,7 @@ use crate::words::{Asked, asked_by};
 use crdt_core::{Bytes, List, Memory, Value};
 use lab_main::{ends, usage};
 use lab_outside::{Clock, Link, Sink, Source, Status};
+use plain_laws::{a_first_layout_holds_the_empty_map, connections_are_served_as_from_the_map};
 use serve_cluster::Cluster;
 use serve_loop::serve;
 use serve_model::Served;
@@ -153,7 +154,9 @@ pub fn run<I: Source, O: Sink, L: Link, C: Clock>(
     // fresh, also by the records alone; what lines of reads tell of a version's bytes is as was written; and replicas that
     // accepted the same rows are equal. What was written is the text of the state after these acts; and where clock and
     // link tell, what was written to each connection is what is stated of its bytes, from what the connections before it
-    // left, or a first part of that where its count of faults rose, and they led to this very state.
+    // left, or a first part of that where its count of faults rose, and they led to this very state. Where no count of
+    // faults rose, and neither two names of buckets nor two of the blocks that are put have one digest, each connection's
+    // text is the one that a server writes which is one map from names to objects, with no cluster.
     ensures done { (g : Grammar) → result ≡ Status.Done → IsServedWhole g (map string_bytes words.now) (I.left input.old) (O.written output.old) (O.written output.new) (told (C.times clock.old) (C.times clock.new) (L.coming link.old) (L.coming link.new) (L.past link.old) (L.past link.new)) }
 
     // Done, Refused, Usage, LinkFault and Limit come with the whole text that is stated for the words and for what the
@@ -179,6 +182,8 @@ pub fn run<I: Source, O: Sink, L: Link, C: Clock>(
     ensures write_fault { result ≡ Status.WriteFault → Rose (O.faults output.old) (O.faults output.new) }
     ensures link_fault { result ≡ Status.LinkFault → Rose (L.faults link.old) (L.faults link.new) }
 {
+    a_first_layout_holds_the_empty_map();
+    connections_are_served_as_from_the_map();
     match asked_by(words) {
         Some(asked) => answered(alloc, asked, input, output, link, clock),
         None => usage(output),

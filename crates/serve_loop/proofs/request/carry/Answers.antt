@@ -1,6 +1,6 @@
 use Rattle.std.proofs.Common.{ℕ, List, ◌++◌, Some, None, Ok, Err, Bool, false, subst, sym}
 use Rattle.serve_model.specs.declared.served.ServeFault.{ServeFault}
-use Rattle.serve_model.specs.Stores.{OverflowsAmong}
+use Rattle.serve_model.specs.Stores.{OverflowsAmong, known_from}
 use Rattle.serve_model.specs.Talk.{order_turn}
 use Rattle.serve_model.specs.Serving.{Reached, Goes, ServesOn}
 use Rattle.serve_loop.proofs.Serving.{gives_up, carried_goes, carried_limits as limit_goes}
@@ -18,11 +18,11 @@ returns-in-Ok-None-clause-goes g c =
 pub returns-in-Err-clause-serves : goal.returns-in-Err-clause-serves
 returns-in-Err-clause-serves g c = λ p times kept st.
     let holds = Reached g.S.Storage.model g.S.Storage.fits g.S.Storage.lacks (g.S.Storage.stands c.carry.new.self) p.store in
-    let overflows = OverflowsAmong g.S.Storage.model g.S.Storage.fits g.S.Storage.lacks p.store in
+    let known = known_from g.S.Storage.model g.S.Storage.fits g.S.Storage.lacks p.store in
     let o = g.L.Link.present c.args.link.now in
     let t : List ℕ → _ = λ left. order_turn g.S.Storage.model c.args.request.now c.args.order p (kept ++ left) in
-    let P : ServeFault → Type 0 = λ e. ServesOn t holds overflows times c.args.served.now (Err e) kept o o in
-    subst P (sym c.from.ensures) (gives_up holds overflows times c.args.served.now t _ kept o
+    let P : ServeFault → Type 0 = λ e. ServesOn t holds known times c.args.served.now (Err e) kept o o in
+    subst P (sym c.from.ensures) (gives_up holds known times c.args.served.now t _ kept o
     (λ left. gives_asked g.S.Storage.model g.S.Storage.fits g.S.Storage.lacks (g.S.Storage.stands c.args.store.now) (g.S.Storage.stands c.carry.new.self) c.args.request.now c.args.order times kept p c.args.served.now st c.in-Err.memory _ c.in-Err.ensures.causes))
 
 pub returns-in-Err-clause-goes : goal.returns-in-Err-clause-goes

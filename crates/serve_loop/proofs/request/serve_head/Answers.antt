@@ -5,7 +5,7 @@ use Rattle.s3_model.specs.declared.fault.AskFault.TheVariants.{Refused}
 use Rattle.s3_model.specs.declared.fault.S3Fault.{S3Fault}
 use Rattle.s3_model.specs.Asks.{is_method, asked_of, Understands}
 use Rattle.serve_model.specs.declared.served.ServeFault.TheVariants.{Memory}
-use Rattle.serve_model.specs.Stores.{OverflowsAmong}
+use Rattle.serve_model.specs.Stores.{OverflowsAmong, known_from}
 use Rattle.serve_model.specs.Talk.{request_of, head_refusal, path_shown, said, request_turn, asked_turn, head_turn}
 use Rattle.serve_model.specs.Serving.{Reached}
 use Rattle.serve_loop.proofs.Serving.{serves_same, says_serves, stands_here, goes_here, gives_up}
@@ -27,8 +27,8 @@ returns-in-Ok-clause-serves g c = λ p times st.
     let model = g.S.Storage.model in
     let buckets = c.args.buckets.now in
     let holds = Reached model g.S.Storage.fits g.S.Storage.lacks (g.S.Storage.stands c.serve_ask.new.store) p.store in
-    let overflows = OverflowsAmong model g.S.Storage.fits g.S.Storage.lacks p.store in
-    serves_same holds overflows times c.serve_ask.new.served (λ left. request_turn model buckets (request_of last now head c.in-Ok.ask) p (kept ++ left)) (λ left. head_turn model buckets last now (Some head) p (kept ++ left)) c.serve_ask.result c.serve_ask.new.kept.bytes.items (g.L.Link.present c.args.link.now) (g.L.Link.present c.serve_ask.new.link)
+    let known = known_from model g.S.Storage.fits g.S.Storage.lacks p.store in
+    serves_same holds known times c.serve_ask.new.served (λ left. request_turn model buckets (request_of last now head c.in-Ok.ask) p (kept ++ left)) (λ left. head_turn model buckets last now (Some head) p (kept ++ left)) c.serve_ask.result c.serve_ask.new.kept.bytes.items (g.L.Link.present c.args.link.now) (g.L.Link.present c.serve_ask.new.link)
     (λ left. ap (λ x. asked_turn model buckets last now head x p (kept ++ left)) c.in-Ok.ensures)
     (c.serve_ask.ensures.serves p times st)
 
@@ -44,13 +44,13 @@ returns-in-Err-Refused-clause-serves g c = λ p times st.
     let served = c.args.served.now in
     let res = c.refuse_read.result in
     let holds = Reached model g.S.Storage.fits g.S.Storage.lacks (g.S.Storage.stands c.args.store.now) p.store in
-    let overflows = OverflowsAmong model g.S.Storage.fits g.S.Storage.lacks p.store in
+    let known = known_from model g.S.Storage.fits g.S.Storage.lacks p.store in
     let o = g.L.Link.present c.args.link.now in
     let n = g.L.Link.present c.refuse_read.new.link in
     let text = head_refusal fault (path_shown head) (is_method head (codes "HEAD")) now in
-    serves_same holds overflows times served (λ left. said text true p (kept ++ left)) (λ left. head_turn model buckets last now (Some head) p (kept ++ left)) res kept o n
+    serves_same holds known times served (λ left. said text true p (kept ++ left)) (λ left. head_turn model buckets last now (Some head) p (kept ++ left)) res kept o n
     (λ left. ap (λ x. asked_turn model buckets last now head x p (kept ++ left)) (understood_so head c.in-Err-Refused.field-0 fault c.in-Err-Refused.field-0-is c.in-Err-Refused.ensures))
-    (says_serves holds overflows times served res kept o n text true p (stands_here model g.S.Storage.fits g.S.Storage.lacks (g.S.Storage.stands c.args.store.now) times served p st) c.refuse_read.ensures.says)
+    (says_serves holds known times served res kept o n text true p (stands_here model g.S.Storage.fits g.S.Storage.lacks (g.S.Storage.stands c.args.store.now) times served p st) c.refuse_read.ensures.says)
 
 pub returns-in-Err-Refused-clause-goes : goal.returns-in-Err-Refused-clause-goes
 returns-in-Err-Refused-clause-goes g c = goes_here g.S.Storage.model g.S.Storage.fits g.S.Storage.lacks (g.S.Storage.stands c.args.store.now) c.refuse_read.result c.refuse_read.ensures.cause
@@ -59,4 +59,4 @@ pub returns-in-Err-Memory-clause-serves : goal.returns-in-Err-Memory-clause-serv
 returns-in-Err-Memory-clause-serves g c = λ p times st.
     let model = g.S.Storage.model in
     let kept = c.args.kept.now.bytes.items in
-    gives_up (Reached model g.S.Storage.fits g.S.Storage.lacks (g.S.Storage.stands c.args.store.now) p.store) (OverflowsAmong model g.S.Storage.fits g.S.Storage.lacks p.store) times c.args.served.now (λ left. head_turn model c.args.buckets.now c.args.last c.args.now (Some c.args.head.now) p (kept ++ left)) Memory kept (g.L.Link.present c.args.link.now) (λ left. tt)
+    gives_up (Reached model g.S.Storage.fits g.S.Storage.lacks (g.S.Storage.stands c.args.store.now) p.store) (known_from model g.S.Storage.fits g.S.Storage.lacks p.store) times c.args.served.now (λ left. head_turn model c.args.buckets.now c.args.last c.args.now (Some c.args.head.now) p (kept ++ left)) Memory kept (g.L.Link.present c.args.link.now) (λ left. tt)

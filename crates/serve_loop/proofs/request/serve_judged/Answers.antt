@@ -1,7 +1,7 @@
 use Rattle.std.proofs.Common.{◌++◌, ◌∙◌, sym, ap}
 use Rattle.serve_model.specs.declared.answer.Answer.TheVariants.{Reply}
 use Rattle.serve_model.specs.declared.served.ServeFault.TheVariants.{Memory}
-use Rattle.serve_model.specs.Stores.{OverflowsAmong}
+use Rattle.serve_model.specs.Stores.{OverflowsAmong, known_from}
 use Rattle.serve_model.specs.Talk.{text_of, closes_of, answer_turn, order_turn, plan_turn}
 use Rattle.serve_model.specs.Judging.{order_of, reply_without}
 use Rattle.serve_model.specs.Serving.{Reached}
@@ -18,10 +18,10 @@ returns-in-Ok-Some-clause-serves g c = λ p times kept st.
     let model = g.S.Storage.model in
     let buckets = c.args.buckets.now in
     let holds = Reached model g.S.Storage.fits g.S.Storage.lacks (g.S.Storage.stands c.carry.new.store) p.store in
-    let overflows = OverflowsAmong model g.S.Storage.fits g.S.Storage.lacks p.store in
+    let known = known_from model g.S.Storage.fits g.S.Storage.lacks p.store in
     let o = g.L.Link.present c.args.link.now in
     let n = g.L.Link.present c.carry.new.link in
-    serves_same holds overflows times c.carry.new.served (λ left. order_turn model r c.in-Ok-Some.order p (kept ++ left)) (λ left. plan_turn model buckets r (order_of r.ask c.args.body) p (kept ++ left)) c.carry.result kept o n
+    serves_same holds known times c.carry.new.served (λ left. order_turn model r c.in-Ok-Some.order p (kept ++ left)) (λ left. plan_turn model buckets r (order_of r.ask c.args.body) p (kept ++ left)) c.carry.result kept o n
     (λ left. ap (λ x. plan_turn model buckets r x p (kept ++ left)) (sym c.in-Ok-Some.ensures.same ∙ c.in-Ok-Some.field-0-is))
     (c.carry.ensures.serves p times kept st)
 
@@ -31,15 +31,15 @@ returns-in-Ok-None-clause-serves g c = λ p times kept st.
     let model = g.S.Storage.model in
     let buckets = c.args.buckets.now in
     let holds = Reached model g.S.Storage.fits g.S.Storage.lacks (g.S.Storage.stands c.args.store.now) p.store in
-    let overflows = OverflowsAmong model g.S.Storage.fits g.S.Storage.lacks p.store in
+    let known = known_from model g.S.Storage.fits g.S.Storage.lacks p.store in
     let a = Reply (reply_without buckets r.ask) in
     let served = c.args.served.now in
     let res = c.answer_without.result in
     let o = g.L.Link.present c.args.link.now in
     let n = g.L.Link.present c.answer_without.new.link in
-    serves_same holds overflows times served (λ left. answer_turn r a p (kept ++ left)) (λ left. plan_turn model buckets r (order_of r.ask c.args.body) p (kept ++ left)) res kept o n
+    serves_same holds known times served (λ left. answer_turn r a p (kept ++ left)) (λ left. plan_turn model buckets r (order_of r.ask c.args.body) p (kept ++ left)) res kept o n
     (λ left. ap (λ x. plan_turn model buckets r x p (kept ++ left)) (sym c.in-Ok-None.ensures.same ∙ c.in-Ok-None.field-0-is))
-    (says_serves holds overflows times served res kept o n (text_of r a) (closes_of r a) p (stands_here model g.S.Storage.fits g.S.Storage.lacks (g.S.Storage.stands c.args.store.now) times served p st) c.answer_without.ensures.says)
+    (says_serves holds known times served res kept o n (text_of r a) (closes_of r a) p (stands_here model g.S.Storage.fits g.S.Storage.lacks (g.S.Storage.stands c.args.store.now) times served p st) c.answer_without.ensures.says)
 
 pub returns-in-Ok-None-clause-goes : goal.returns-in-Ok-None-clause-goes
 returns-in-Ok-None-clause-goes g c = goes_here g.S.Storage.model g.S.Storage.fits g.S.Storage.lacks (g.S.Storage.stands c.args.store.now) c.answer_without.result c.answer_without.ensures.cause
@@ -48,4 +48,4 @@ pub returns-in-Err-clause-serves : goal.returns-in-Err-clause-serves
 returns-in-Err-clause-serves g c = λ p times kept st.
     let r = c.args.request.now in
     let model = g.S.Storage.model in
-    gives_up (Reached model g.S.Storage.fits g.S.Storage.lacks (g.S.Storage.stands c.args.store.now) p.store) (OverflowsAmong model g.S.Storage.fits g.S.Storage.lacks p.store) times c.args.served.now (λ left. plan_turn model c.args.buckets.now r (order_of r.ask c.args.body) p (kept ++ left)) Memory kept (g.L.Link.present c.args.link.now) (λ left. tt)
+    gives_up (Reached model g.S.Storage.fits g.S.Storage.lacks (g.S.Storage.stands c.args.store.now) p.store) (known_from model g.S.Storage.fits g.S.Storage.lacks p.store) times c.args.served.now (λ left. plan_turn model c.args.buckets.now r (order_of r.ask c.args.body) p (kept ++ left)) Memory kept (g.L.Link.present c.args.link.now) (λ left. tt)

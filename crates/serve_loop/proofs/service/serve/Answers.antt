@@ -1,5 +1,6 @@
 use Rattle.std.proofs.Common.{◌≡◌, ℕ, ◌∙◌, ◌++◌, List, true, Option, None, IsSome, option_to_list, Ok, Err, refl, sym, ap, subst, append-nil, arith}
 use Rattle.lab_outside.specs.Connection.{Connection, TakesNext}
+use Rattle.serve_model.specs.Stores.{fits_asking}
 use Rattle.serve_model.specs.Serving.{Reached}
 use Rattle.serve_model.specs.Connections.{ServesAll}
 use Rattle.serve_loop.proofs.Serving.{stands_here, here_reached}
@@ -17,8 +18,8 @@ returns-then-is_err-clause-served g c = λ g' p st.
     let new = g.L.Link.coming c.open.new.self in
     let past = g.L.Link.past c.args.link.now in
     let past' = g.L.Link.past c.open.new.self in
-    some_then (λ coming. ServesAll model c.args.buckets.now g' p 0 holds times served coming new past past') (λ coming. (n : ℕ) × ServesAll model c.args.buckets.now g' p n holds times served coming new past past') (g.L.Link.coming c.args.link.now) (λ coming a. (0, a))
-    (all_begin model c.args.buckets.now g' p holds times served (g.L.Link.coming c.args.link.now) new past past' c.open.ensures.still_coming c.open.ensures.still_past (stands_here model g.S.Storage.fits g.S.Storage.lacks stands times served p st))
+    some_then (λ coming. ServesAll model c.args.buckets.now g' (fits_asking g.S.Storage.fits) p 0 holds times served coming new past past') (λ coming. (n : ℕ) × ServesAll model c.args.buckets.now g' (fits_asking g.S.Storage.fits) p n holds times served coming new past past') (g.L.Link.coming c.args.link.now) (λ coming a. (0, a))
+    (all_begin model c.args.buckets.now g' (fits_asking g.S.Storage.fits) p holds times served (g.L.Link.coming c.args.link.now) new past past' c.open.ensures.still_coming c.open.ensures.still_past (stands_here model g.S.Storage.fits g.S.Storage.lacks stands times served p st))
 
 pub connections-init : goal.connections-init
 connections-init g c =
@@ -29,7 +30,7 @@ connections-init g c =
     record {
       absent = c.open.ensures.still_present ∙ c.requires.absent;
       all = λ g' p st.
-          all_begin model c.args.buckets.now g' p (Reached model g.S.Storage.fits g.S.Storage.lacks stands p.store) times served (g.L.Link.coming c.args.link.now) (g.L.Link.coming c.open.new.self) (g.L.Link.past c.args.link.now) (g.L.Link.past c.open.new.self)
+          all_begin model c.args.buckets.now g' (fits_asking g.S.Storage.fits) p (Reached model g.S.Storage.fits g.S.Storage.lacks stands p.store) times served (g.L.Link.coming c.args.link.now) (g.L.Link.coming c.open.new.self) (g.L.Link.past c.args.link.now) (g.L.Link.past c.open.new.self)
           c.open.ensures.still_coming c.open.ensures.still_past (stands_here model g.S.Storage.fits g.S.Storage.lacks stands times served p st);
       goes = λ s st. (s, here_reached model g.S.Storage.fits g.S.Storage.lacks stands s st);
       state = c.requires.state;
@@ -49,8 +50,8 @@ returns-in-Err-clause-served g c = λ g' p st.
     let new = g.L.Link.coming c.next.new.self in
     let past = g.L.Link.past c.args.link.now in
     let past' = g.L.Link.past c.next.new.self in
-    some_then (λ coming. ServesAll model c.args.buckets.now g' p number holds times served coming new past past') (λ coming. (n : ℕ) × ServesAll model c.args.buckets.now g' p n holds times served coming new past past') (g.L.Link.coming c.args.link.now) (λ coming a. (number, a))
-    (all_same model c.args.buckets.now g' p holds times served number past (g.L.Link.past l) past' (g.L.Link.coming c.args.link.now) (g.L.Link.coming l) new
+    some_then (λ coming. ServesAll model c.args.buckets.now g' (fits_asking g.S.Storage.fits) p number holds times served coming new past past') (λ coming. (n : ℕ) × ServesAll model c.args.buckets.now g' (fits_asking g.S.Storage.fits) p n holds times served coming new past past') (g.L.Link.coming c.args.link.now) (λ coming a. (number, a))
+    (all_same model c.args.buckets.now g' (fits_asking g.S.Storage.fits) p holds times served number past (g.L.Link.past l) past' (g.L.Link.coming c.args.link.now) (g.L.Link.coming l) new
     c.in-Err.ensures.kept (goes_with (g.L.Link.past l) past' past' (g.L.Link.present l) c.connections.invariant.absent c.in-Err.ensures.goes refl)
     (c.connections.invariant.all g' p st))
 

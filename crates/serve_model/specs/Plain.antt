@@ -1,5 +1,5 @@
 -- A plain store: one map from names to objects, which carries out one order after the other.
-use Rattle.std.specs.Prelude.{◌≡◌, ◌≤◌, ℕ, suc, ◌+◌, ◌-◌, max, Bool, false, ⊤, ◌&&◌, nat_eq, if◌then◌else◌, Option, Some, None, List, [], ◌∷◌, length}
+use Rattle.std.specs.Prelude.{◌≡◌, ◌≤◌, ℕ, suc, ◌+◌, ◌-◌, max, Bool, true, false, ⊤, ◌&&◌, nat_eq, if◌then◌else◌, Option, Some, None, List, [], ◌∷◌, length}
 use Rattle.std.specs.Option.{unwrap_or}
 use Rattle.std.specs.List.{AllByRecursion, starts_with}
 use Rattle.std.specs.Ordering.{nat_cmp, is_lt}
@@ -15,11 +15,13 @@ use Rattle.flow_model.specs.declared.flow.Wish.{Wish}
 use Rattle.flow_model.specs.declared.flow.Wish.TheVariants as wish
 use Rattle.flow_model.specs.declared.flow.FlowEnd.{FlowEnd}
 use Rattle.flow_model.specs.declared.flow.FlowEnd.TheVariants.{Stored, Found, Nothing, Listed}
+use Rattle.blake2_hash.specs.Blake2b.{blake2b}
+use Rattle.flow_model.specs.Blocks.{piece, has_piece, is_long}
 use Rattle.flow_model.specs.Rows.{meta_of, complete}
 use Rattle.flow_model.specs.Says.{shown_rows}
 use Rattle.store_model.specs.Orders.{buckets_of}
 use Rattle.store_model.specs.Run.{are_buckets}
-use Rattle.serve_model.specs.Stores.{Carried, Store}
+use Rattle.serve_model.specs.Stores.{Carried, Store, Asking}
 
 -- what the map has under a name
 pub data Has : Type 0 where
@@ -174,3 +176,22 @@ pub record IsMap (P : Plain) : Type 0 where
   pub numbered : IsNumbered P
   pub ordered : AreInOrder P.entries
   pub keyed : AllByRecursion (λ (e : Entry). 1 ≤ length e.name.key) P.entries
+
+-- ---- blocks
+
+-- bytes that are kept in blocks are cut into this one
+abbrev pub IsPiece : ℕ → List ℕ → List ℕ → Type 0
+IsPiece block body bytes = (i : ℕ) × (is_long body ≡ true) × (has_piece block body i ≡ true) × (bytes ≡ piece block body i)
+
+-- the bytes that an order puts
+abbrev pub body_put : Order → List ℕ
+body_put (order.Put bucket key body headers) = body
+body_put order = []
+
+-- what is asked puts bytes that are cut into this block
+abbrev pub PutsBlock : List ℕ → Asking Plain → Type 0
+PutsBlock bytes a = IsPiece a.state.block (body_put a.order) bytes
+
+-- no two such strings have one digest
+abbrev pub AreApart : (List ℕ → Type 0) → Type 0
+AreApart IsSuch = (a b : List ℕ) → IsSuch a → IsSuch b → blake2b 32 a ≡ blake2b 32 b → a ≡ b
