@@ -1,5 +1,5 @@
 -- What requests wait for and store: short keys and bytes, versions that were drawn, and blocks at places that are counted.
-use Rattle.std.specs.Prelude.{◌≡◌, ◌≤◌, ◌<◌, ◌+◌, ◌*◌, ◌^◌, ℕ, zero, suc, Bool, true, false, nat_lt, List, [], ◌∷◌, ◌++◌, Option, Some, None, option_map, length, map, take, drop, slice_index, refl, ⊤}
+use Rattle.std.specs.Prelude.{◌≡◌, ◌≤◌, ◌<◌, ◌+◌, ◌*◌, ◌^◌, ℕ, zero, suc, Bool, true, false, nat_lt, List, [], ◌∷◌, ◌++◌, Option, Some, None, length, map, take, drop, slice_index, refl, ⊤}
 use Rattle.std.specs.Option.{unwrap_or}
 use Rattle.std.specs.List.{All, AllByRecursion}
 use Rattle.std.proofs.lemmas.List.Elements.{recursion_from_All}
@@ -65,7 +65,7 @@ use Rattle.machine_origins.specs.Origins.{stored_by}
 use Rattle.machine_origins.proofs.Beginning.{IsPlaced}
 use Rattle.limit_rows.specs.Fitting.{Drawn, AreWithin, MetaFits, StateFits, RowFits, weight}
 use Rattle.limit_rows.proofs.Handed.{Grew, eight_is}
-use Rattle.limit_rows.proofs.Weights.{entries_say, eight_length, four_length, object_weight, version_weight, ref_weight}
+use Rattle.limit_rows.proofs.Weights.{mapped_value, entries_say, eight_length, four_length, object_weight, version_weight, ref_weight}
 use Rattle.limit_laws.proofs.Posts.{IsShort, within_more}
 use Rattle.limit_laws.proofs.Nodes.{StoredFits, PhaseFits}
 
@@ -195,10 +195,6 @@ one_value : {K V : Type 0} (R : K → K → Ordering) (identical : (a b : K) →
 one_value R identical k q x y Less e g = cc
 one_value R identical k q x y Equal e g = (sym (identical q k e), cc)
 one_value R identical k q x y Greater e g = cc
-
-mapped_value : {X : Type 0} (o : Option (Max X)) (s : X) → option_map (λ (m : Max X). m.0) o ≡ Some s → o ≡ Some (record { 0 = s })
-mapped_value None s e = cc
-mapped_value (Some m) s e = let same : m.0 ≡ s = cc in λ i. Some (record { 0 = same i })
 
 module _ (t : ℕ) (v : Drawn) (within : AreWithin t v) where
   one_says : (name : Name) (x : Version) (st : State) (sized : is_sized st ≡ true) → NameFits name → Has v.versions x → StateFits st → RowFits v (object_row name x st sized)

@@ -1,5 +1,5 @@
 -- Rows that fit: of versions that were drawn and blocks that were stored, with short keys and numbers in their ranges. Merges and changes hand this on.
-use Rattle.std.specs.Prelude.{◌≡◌, ◌<◌, ◌^◌, ℕ, ◌||◌, Bool, true, false, List, [], ◌∷◌, Option, Some, option_map, map, refl}
+use Rattle.std.specs.Prelude.{◌≡◌, ◌<◌, ◌^◌, ℕ, Bool, true, false, List, [], ◌∷◌, Option, Some, option_map, map}
 use Rattle.std.specs.List.{AllByRecursion}
 use Rattle.std.proofs.Common.{ap, sym, subst, ◌∙◌, inl, inr, arith}
 use Rattle.std.proofs.lemmas.Bool.{lt-ltb}
@@ -36,7 +36,7 @@ use Rattle.machine_origins.proofs.Good.{Rules}
 use Rattle.limit_rows.specs.Fitting.{Drawn, AreWithin, KeyFits, BlocksFit, RowFits}
 use Rattle.object_origins.proofs.Keys.{object_keys, version_ids, ref_keys}
 use Rattle.object_origins.proofs.Given.{entries_found, all_in_order, all_given}
-use Rattle.object_origins.proofs.Shown.{Facts, undeleted}
+use Rattle.object_origins.proofs.Shown.{Facts, neither, undeleted}
 
 -- more may have been drawn
 pub record Grew (v w : Drawn) : Type 0 where
@@ -73,10 +73,6 @@ module _ (facts : Facts) (t : ℕ) (v : Drawn) (within : AreWithin t v) where
     subst KeyFits (sym (facts.key a b same)) p.0,
     λ x s h. elim ((facts.joined a b same x s).0 h).0.0 [ inl in_a ↦ p.1 x s in_a | inr in_b ↦ q.1 x s in_b ],
   )
-
-  neither : (a b : Bool) → (a || b) ≡ false → (a ≡ false) × (b ≡ false)
-  neither true b e = cc
-  neither false b e = (refl, e)
 
   versions_fit : (a b : VersionRow) → a.id ≡ b.id → RowFits v (rows.Version a) → RowFits v (rows.Version b) → RowFits v (rows.Version (version_row_join a b))
   versions_fit a b same p q = (

@@ -85,10 +85,6 @@ module _ {X : Type 0} (f : X → ℕ) where
   total_least n [] a = omega arith
   total_least n (x ∷ xs) a = let rest : n * length xs ≤ total xs = total_least n xs a.1 in let here : n ≤ f x = a.0 in let more : n * suc (length xs) ≡ n * length xs + n = mul-suc n (length xs) in omega arith
 
-  pub total_most : (n : ℕ) (xs : List X) → AllByRecursion (λ x. f x ≤ n) xs → total xs ≤ n * length xs
-  total_most n [] a = omega arith
-  total_most n (x ∷ xs) a = let rest : total xs ≤ n * length xs = total_most n xs a.1 in let here : f x ≤ n = a.0 in let more : n * suc (length xs) ≡ n * length xs + n = mul-suc n (length xs) in omega arith
-
   -- without one of them
   record Without (ys : List X) (x : X) : Type 0 where
     others : List X

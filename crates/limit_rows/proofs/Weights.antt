@@ -1,5 +1,5 @@
 -- How many bytes a row counts: a row that fits has a spelling, and a merge counts no more than both rows, the rows that it calls for among it.
-use Rattle.std.specs.Prelude.{◌≡◌, ◌≤◌, ◌<◌, ◌^◌, ◌+◌, ◌*◌, ℕ, suc, Bool, true, false, not, ◌&&◌, ◌||◌, List, [], ◌∷◌, ◌++◌, Option, Some, None, option_map, is_none, map, filter, length, refl}
+use Rattle.std.specs.Prelude.{◌≡◌, ◌≤◌, ◌<◌, ◌^◌, ◌+◌, ◌*◌, ℕ, suc, Bool, true, false, not, ◌&&◌, List, [], ◌∷◌, ◌++◌, Option, Some, None, option_map, is_none, map, filter, length, refl}
 use Rattle.std.specs.List.{AllByRecursion, list_all, flat_map}
 use Rattle.std.specs.declared.cmp.Ordering.{Ordering}
 use Rattle.std.specs.declared.cmp.Ordering.TheVariants.{Less, Equal, Greater}
@@ -48,7 +48,7 @@ use Rattle.object_schema.specs.Triggers.{with_value, with_values, in_order, has_
 use Rattle.object_schema.specs.Schema.{words}
 use Rattle.object_origins.proofs.Keys.{object_keys, version_ids}
 use Rattle.object_origins.proofs.Given.{entries_found}
-use Rattle.object_origins.proofs.Shown.{Facts, undeleted}
+use Rattle.object_origins.proofs.Shown.{Facts, neither, undeleted}
 use Rattle.limit_rows.proofs.Totals.{AreApart, has_left, has_right, has_parts, has_filter, all_has, all_from, apart_filter, apart_append, total, total_append, total_least, total_ones, fewer}
 use Rattle.limit_rows.proofs.Keyed.{apart_keys, apart_entries, there}
 use Rattle.limit_rows.specs.Fitting.{Drawn, AreWithin, MetaFits, StateFits, SaysFits, RowFits, weight}
@@ -96,13 +96,14 @@ entries_say r = along (map_entries r.versions) (entries_found version_total (map
     along [] a = tt
     along (e ∷ es) a = (ap (option_map (λ (s : Max State). s.0)) a.0, along es a.1)
 
-held : {X : Type 0} (o : Option (Max X)) (s : X) → option_map (λ (m : Max X). m.0) o ≡ Some s → o ≡ Some (record { 0 = s })
-held None s e = cc
-held (Some m) s e = let same : m.0 ≡ s = cc in λ i. Some (record { 0 = same i })
+-- the value that was mapped
+pub mapped_value : {X : Type 0} (o : Option (Max X)) (s : X) → option_map (λ (m : Max X). m.0) o ≡ Some s → o ≡ Some (record { 0 = s })
+mapped_value None s e = cc
+mapped_value (Some m) s e = let same : m.0 ≡ s = cc in λ i. Some (record { 0 = same i })
 
 -- what it says is one of its entries
 said_there : (r : ObjectRow) (e : Entry) → HasState r e.0 e.1.0 → Has (map_entries r.versions) e
-said_there r e h = there version_total version_identical e.0 e.1 (map_entries r.versions) (held (value_at version_cmp e.0 (map_entries r.versions)) e.1.0 h)
+said_there r e h = there version_total version_identical e.0 e.1 (map_entries r.versions) (mapped_value (value_at version_cmp e.0 (map_entries r.versions)) e.1.0 h)
 
 pub object_weight : (r : ObjectRow) → is_hash r.bucket ≡ true → weight (rows.Object r) ≡ 41 + length r.key + total entry_weight (map_entries r.versions)
 object_weight r h =
@@ -204,7 +205,7 @@ places_say id (Present m) = along (map_entries m) (entries_found part_total (map
 places_say id Deleted = tt
 
 place_there : (id : ℕ) (d : Deletable BlockMap) (e : Place) → HasBlock (of_blocks id d) e.0 e.1.0 → Has (places d) e
-place_there id (Present m) e h = there part_total part_identical e.0 e.1 (map_entries m) (held (value_at part_cmp e.0 (map_entries m)) e.1.0 h)
+place_there id (Present m) e h = there part_total part_identical e.0 e.1 (map_entries m) (mapped_value (value_at part_cmp e.0 (map_entries m)) e.1.0 h)
 place_there id Deleted e h = cc
 
 places_apart : (d : Deletable BlockMap) → AreApart (map (λ (e : Place). e.0) (places d))
@@ -370,10 +371,6 @@ module _ (facts : Facts) (t : ℕ) (v : Drawn) (within : AreWithin t v) where
           let least : 1 * length es ≤ total place_weight es = total_least place_weight 1 es (all_from (λ e. 1 ≤ place_weight e) es (λ e i. place_least e)) in
           omega arith
       hashes_few i Deleted = omega arith
-
-  neither : (a b : Bool) → (a || b) ≡ false → (a ≡ false) × (b ≡ false)
-  neither true b e = cc
-  neither false b e = (refl, e)
 
   versions_count : (a b : VersionRow) → a.id ≡ b.id → weight (rows.Version (version_row_join a b)) + length (released a (version_row_join a b)) ≤ weight (rows.Version a) + weight (rows.Version b)
   versions_count a b same = versions_by a b (version_row_join a b).id (version_row_join a b).blocks (λ k x h.

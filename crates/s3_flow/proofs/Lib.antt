@@ -1,4 +1,3 @@
 pub mod Choices
 pub mod ObjectRows
-pub mod Shown
 pub mod Whole

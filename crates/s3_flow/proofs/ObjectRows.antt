@@ -1,5 +1,5 @@
 -- Rows by what they say.
-use Rattle.std.proofs.Common.{◌≡◌, ℕ, ◌*◌, true, false, Option, Some, None, List, [], ◌∷◌, take, drop, length, refl, ap, subst, ◌∙◌, arith}
+use Rattle.std.proofs.Common.{◌≡◌, ℕ, ◌*◌, true, false, Option, Some, None, List, [], ◌∷◌, take, drop, length, refl, ap, subst, ◌∙◌}
 use Rattle.std.specs.declared.cmp.Ord as ord
 use Rattle.std.specs.declared.cmp.PartialEq as partial_eq
 use Rattle.std.specs.declared.cmp.PartialOrd as partial_ord
@@ -46,12 +46,6 @@ pub the_in_blocks : (r : AnyRow) (name : Name) (version : Version) (meta : Meta)
     (block : ℕ) (c : Content) → meta ≡ meta_of c → first ≡ piece_hash block c.body 0 → r ≡ in_blocks name version block c
 the_in_blocks r name version meta first is block c same_meta same_first =
     is refl ∙ (ap (λ m. object_row name version (Complete (Blocks m first)) refl) same_meta ∙ ap (λ h. object_row name version (Complete (Blocks (meta_of c) h)) refl) same_first)
-
--- the first block begins at 0
-pub first_piece : (block : ℕ) (body : List ℕ) → take block (drop 0 body) ≡ piece block body 0
-first_piece block body =
-    let none : 0 * block ≡ 0 = omega arith in
-    rw none refl
 
 module _ {K V : Type 0} {o : ord.Ghosts K} {p : partial_eq.Ghosts K} {q : partial_ord.Ghosts K} where
   -- one entry merged into a map without entries

@@ -1,8 +1,9 @@
 -- What the words say.
-use Rattle.std.proofs.Common.{get_or, String, Global, ◌≡◌, ℕ, ◌<◌, ◌^◌, ◌⊎◌, Option, Some, None, List, [], ◌∷◌, decimal, length, sym, ◌∙◌, arith}
+use Rattle.std.proofs.Common.{get_or, String, Global, ◌≡◌, ℕ, ◌<◌, ◌^◌, ◌⊎◌, Option, Some, None, List, [], ◌∷◌, decimal, length, sym, ◌∙◌, subst, arith}
 use Rattle.std.specs.String.{string_bytes}
 use Rattle.std.proofs.lemmas.Fmt.{decimal_injective}
 use Rattle.serve_run.specs.declared.words.Asked.{Asked}
+use Rattle.lab_main.proofs.Words.{are_three}
 use Rattle.schedule_text.specs.Reads.{Finds}
 use Rattle.serve_run.specs.Words.{Spells, AsksFor, AreRead}
 
@@ -17,8 +18,4 @@ read_three a b c (Some x) h = h
 
 pub three_words : (words : List (String Global)) (a b c : String Global) (r : Option Asked) → length words ≡ 3 → a ≡ get_or words 0 a → b ≡ get_or words 1 b → c ≡ get_or words 2 c →
     Finds (λ (x : Asked). AsksFor (string_bytes a ∷ string_bytes b ∷ string_bytes c ∷ []) x.port x.count) r → AreRead words r
-three_words [] a b c r three is0 is1 is2 h = absurd (omega (arith, three))
-three_words (x ∷ []) a b c r three is0 is1 is2 h = absurd (omega (arith, three))
-three_words (x ∷ y ∷ []) a b c r three is0 is1 is2 h = absurd (omega (arith, three))
-three_words (x ∷ y ∷ z ∷ []) a b c r three is0 is1 is2 h = rw (is0, is1, is2) at (read_three a b c r h)
-three_words (x ∷ y ∷ z ∷ w ∷ more) a b c r three is0 is1 is2 h = absurd (omega (arith, three))
+three_words words a b c r three is0 is1 is2 h = subst (λ (ws : List (String Global)). AreRead ws r) (sym (are_three words a b c three is0 is1 is2)) (read_three a b c r h)

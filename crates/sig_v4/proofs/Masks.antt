@@ -1,17 +1,12 @@
 -- A key that is hashed byte by byte under a mask.
-use Rattle.std.proofs.Common.{◌≡◌, ℕ, zero, suc, ◌+◌, ◌-◌, ◌<◌, List, [], ◌∷◌, ◌++◌, refl, sym, ◌∙◌, ap, arith, length, map, take, drop, replicate, bit_xor, get_or}
+use Rattle.std.proofs.Common.{◌≡◌, ℕ, zero, suc, ◌+◌, ◌-◌, List, ◌∷◌, ◌++◌, refl, sym, ◌∙◌, ap, arith, length, map, take, drop, replicate, bit_xor}
 use Rattle.std.specs.Int.Bits.{xor_zero_l}
 use Rattle.std.proofs.lemmas.List.{map-append, drop-replicate, length-replicate, take_all}
-use Rattle.std.proofs.lemmas.Grind.{take_at_read}
 use Rattle.sig_v4.specs.Hmac.{masked}
 
 map_replicate : (f : ℕ → ℕ) (n a : ℕ) → map f (replicate n a) ≡ replicate n (f a)
 map_replicate f zero a = refl
 map_replicate f (suc n) a = ap (λ t. f a ∷ t) (map_replicate f n a)
-
--- one byte of the key more
-pub masked_step : (mask : ℕ) (key : List ℕ) (i d : ℕ) → i < length key → map (λ b. bit_xor b mask) (take i key) ++ bit_xor (get_or key i d) mask ∷ [] ≡ map (λ b. bit_xor b mask) (take (i + 1) key)
-masked_step mask key i d h = sym (ap (map (λ b. bit_xor b mask)) (take_at_read key i d h).1 ∙ map-append (λ b. bit_xor b mask) (take i key) (get_or key i d ∷ []))
 
 -- the key, and then the mask up to a block
 pub masked_is : (mask : ℕ) (key : List ℕ) → map (λ b. bit_xor b mask) key ++ take (64 - length key) (drop (length key) (replicate 64 mask)) ≡ masked mask key
