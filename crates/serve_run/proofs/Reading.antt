@@ -3,7 +3,7 @@ use Rattle.std.proofs.Common.{get_or, String, Global, ◌≡◌, ℕ, ◌<◌, �
 use Rattle.std.specs.String.{string_bytes}
 use Rattle.std.proofs.lemmas.Fmt.{decimal_injective}
 use Rattle.serve_run.specs.declared.words.Asked.{Asked}
-use Rattle.lab_main.proofs.Words.{are_three}
+use Rattle.lab_main.proofs.ThreeWords.{are_three}
 use Rattle.schedule_text.specs.Reads.{Finds}
 use Rattle.serve_run.specs.Words.{Spells, AsksFor, AreRead}
 

@@ -2,7 +2,7 @@
 use Rattle.std.proofs.Common.{get_or, String, Global, ◌≡◌, ℕ, ◌<◌, ◌^◌, ◌⊎◌, Option, Some, None, List, [], ◌∷◌, decimal, length, sym, ◌∙◌, subst, arith}
 use Rattle.std.specs.String.{string_bytes}
 use Rattle.std.proofs.lemmas.Fmt.{decimal_injective}
-use Rattle.lab_main.proofs.Words.{are_three}
+use Rattle.lab_main.proofs.ThreeWords.{are_three}
 use Rattle.schedule_text.specs.Reads.{Finds}
 use Rattle.workload_run.specs.declared.asked.Asked.{Asked}
 use Rattle.workload_run.specs.Words.{Says, AsksFor, AreRead}
