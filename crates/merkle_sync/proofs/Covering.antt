@@ -352,5 +352,5 @@ accounts_told tables past walk later asked (Push keys) covers tells = λ table k
       | inr (inr under) ↦ absurd (subst U tells.0 under)
     ]
 
-pub keeps_set : {H : Type 0} (hash : List ℕ → List ℕ) (trie : Trie H) (pairs : List Pair) → queued trie ≡ 0 → Keeps hash trie pairs → IsSet pairs
+pub keeps_set : {H B : Type 0} (hash : List ℕ → List ℕ) (trie : Trie H B) (pairs : List Pair) → queued trie ≡ 0 → Keeps hash trie pairs → IsSet pairs
 keeps_set hash trie pairs none keeps = subst IsSet (settled_is trie.queue.items pairs keeps.settled none keeps.pairs_are) keeps.tree_is.set

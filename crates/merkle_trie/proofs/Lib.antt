@@ -7,5 +7,6 @@ pub mod Outcomes
 pub mod Prefixes
 pub mod Showing
 pub mod Shown
+pub mod Taken
 pub mod Values
 pub mod Ways

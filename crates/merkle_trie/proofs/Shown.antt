@@ -109,7 +109,7 @@ find_long hash prefix pairs long all =
     (λ k d lt. let is = all k d lt in starts_long (slice_index_or pairs k d).0 prefix (let len = is.len in omega (arith, len, long)))))
 
 -- one level further along a prefix
-pub find_on : (hash : List ℕ → List ℕ) (tree : Tree) (pairs : List Pair) (prefix : List ℕ) (depth : ℕ) (here : Slot) (next : Option Slot) → depth < length prefix → length prefix ≤ 32 → slice_index prefix depth < 256 →
+pub find_on : {H B : Type 0} (hash : List ℕ → List ℕ) (tree : Tree H B) (pairs : List Pair) (prefix : List ℕ) (depth : ℕ) (here : Slot) (next : Option Slot) → depth < length prefix → length prefix ≤ 32 → slice_index prefix depth < 256 →
     IsTree hash tree pairs → slot_at hash (take depth prefix) pairs ≡ Some here → here.only ≡ None →
     ((children : List Child) → children_in tree.nodes (take depth prefix) ≡ Some children → next ≡ slot_in children (slice_index prefix depth)) → next ≡ slot_at hash (take (depth + 1) prefix) pairs
 find_on hash tree pairs prefix depth here next lt le low is slot-is only below =
@@ -144,7 +144,7 @@ some_same : {X : Type 0} (a b : X) → Some a ≡ Some b → a ≡ b
 some_same a b e = cc
 
 -- the children of a prefix of two pairs or more
-pub children_many : (hash : List ℕ → List ℕ) (tree : Tree) (pairs : List Pair) (prefix : List ℕ) (slot : Slot) (children seen : List Child) (values : List (ℕ × Hash32)) → IsTree hash tree pairs →
+pub children_many : {H B : Type 0} (hash : List ℕ → List ℕ) (tree : Tree H B) (pairs : List Pair) (prefix : List ℕ) (slot : Slot) (children seen : List Child) (values : List (ℕ × Hash32)) → IsTree hash tree pairs →
     slot_at hash prefix pairs ≡ Some slot → slot.only ≡ None → children_in tree.nodes prefix ≡ Some children → seen ≡ children → values ≡ map (λ c. (c.byte, c.slot.value)) seen → map bare values ≡ children_at hash prefix pairs
 children_many hash tree pairs prefix slot children seen values is slot-is only found same values-are =
     let two = slot_node hash (32 - length prefix) (length prefix) (with_prefix prefix pairs) slot slot-is only in
@@ -152,14 +152,14 @@ children_many hash tree pairs prefix slot children seen values is slot-is only f
     ap (map bare) (values-are ∙ ap (map (λ (c : Child). (c.byte, c.slot.value))) (same ∙ are)) ∙ (map_bare (entries_at hash prefix pairs) ∙ shown_children hash prefix pairs)
 
 -- there are children where two pairs have the prefix
-pub children_there : (hash : List ℕ → List ℕ) (tree : Tree) (pairs : List Pair) (prefix : List ℕ) (slot : Slot) → IsTree hash tree pairs → slot_at hash prefix pairs ≡ Some slot → slot.only ≡ None → children_in tree.nodes prefix ≡ None → ⊥
+pub children_there : {H B : Type 0} (hash : List ℕ → List ℕ) (tree : Tree H B) (pairs : List Pair) (prefix : List ℕ) (slot : Slot) → IsTree hash tree pairs → slot_at hash prefix pairs ≡ Some slot → slot.only ≡ None → children_in tree.nodes prefix ≡ None → ⊥
 children_there hash tree pairs prefix slot is slot-is only none =
     let two = slot_node hash (32 - length prefix) (length prefix) (with_prefix prefix pairs) slot slot-is only in
     let found : None ≡ Some (entries_at hash prefix pairs) = sym none ∙ is.nodes_are prefix (short_many prefix pairs is.set two) two in
     cc
 
 -- the child of one pair
-pub children_lone : (hash : List ℕ → List ℕ) (tree : Tree) (pairs : List Pair) (prefix : List ℕ) (slot : Slot) (only : Hash32) (values : List (ℕ × Hash32)) → IsTree hash tree pairs →
+pub children_lone : {H B : Type 0} (hash : List ℕ → List ℕ) (tree : Tree H B) (pairs : List Pair) (prefix : List ℕ) (slot : Slot) (only : Hash32) (values : List (ℕ × Hash32)) → IsTree hash tree pairs →
     slot_at hash prefix pairs ≡ Some slot → slot.only ≡ Some only → values ≡ cond (nat_lt (length prefix) 32) ((slice_index only.0 (length prefix), slot.value) ∷ []) [] → map bare values ≡ children_at hash prefix pairs
 children_lone hash tree pairs prefix slot only values is slot-is o are =
     let lone = slot_lone hash (32 - length prefix) (length prefix) (with_prefix prefix pairs) slot only slot-is o in

@@ -84,7 +84,7 @@ module _ (hash : List ℕ → List ℕ) (key : List ℕ) (key_len : length key �
       ]
 
   -- one level further down
-  pub leads_on : (old new : Tree) (pairs : List Pair) (depth : ℕ) (slot next : Option Slot) (makes_way : Bool) → depth < 32 → slice_index key depth < 256 →
+  pub leads_on : {H B : Type 0} (old new : Tree H B) (pairs : List Pair) (depth : ℕ) (slot next : Option Slot) (makes_way : Bool) → depth < 32 → slice_index key depth < 256 →
       is_above slot key makes_way ≡ true → new.top ≡ old.top → LeadsTo hash old pairs key (record { depth = depth; slot = slot }) →
       ((here : Slot) (only : Hash32) → slot ≡ Some here → here.only ≡ Some only → children_in new.nodes (take depth key) ≡ Some (record { byte = slice_index only.0 depth; slot = here } ∷ [])) →
       ((here : Slot) → slot ≡ Some here → here.only ≡ None → children_in new.nodes (take depth key) ≡ children_in old.nodes (take depth key)) →
@@ -110,7 +110,7 @@ module _ (hash : List ℕ → List ℕ) (key : List ℕ) (key_len : length key �
       }
 
 -- the same children everywhere
-pub same_tree : (hash : List ℕ → List ℕ) (old new : Tree) (pairs : List Pair) → new.top ≡ old.top → ((other : List ℕ) → children_in new.nodes other ≡ children_in old.nodes other) → IsTree hash old pairs → IsTree hash new pairs
+pub same_tree : {H B : Type 0} (hash : List ℕ → List ℕ) (old new : Tree H B) (pairs : List Pair) → new.top ≡ old.top → ((other : List ℕ) → children_in new.nodes other ≡ children_in old.nodes other) → IsTree hash old pairs → IsTree hash new pairs
 same_tree hash old new pairs top same is = record {
   set = is.set;
   top_is = top ∙ is.top_is;
@@ -123,7 +123,7 @@ byte_at key key_is n h = key_is.bytes_are n 0 (let len = key_is.len in omega (ar
 -- ---- up
 
 -- the slots at and below the first `left` bytes of the key hash, and those off the way, are of the later set
-pub record IsClimbing (hash : List ℕ → List ℕ) (tree : Tree) (pairs later : List Pair) (key : List ℕ) (depth left : ℕ) (slot : Option Slot) : Type 0 where
+pub record IsClimbing {H B : Type 0} (hash : List ℕ → List ℕ) (tree : Tree H B) (pairs later : List Pair) (key : List ℕ) (depth left : ℕ) (slot : Option Slot) : Type 0 where
   pub below : (prefix : List ℕ) → length prefix < 32 → 2 ≤ length (with_prefix prefix later) → (starts key prefix ≡ true → left ≤ length prefix) → children_in tree.nodes prefix ≡ Some (entries_at hash prefix later)
   pub path : IsPath hash tree.nodes pairs key left
   pub slot_is : slot ≡ slot_at hash (take left key) later
@@ -144,7 +144,7 @@ module _ (hash : List ℕ → List ℕ) (pairs later : List Pair) (key : List �
   off_way : (prefix : List ℕ) → starts key prefix ≡ false → slot_at hash prefix pairs ≡ slot_at hash prefix later
   off_way prefix h = ap (slot_of hash (32 - length prefix) (length prefix)) (sym (others prefix h))
 
-  pub climb_start : (tree : Tree) (depth : ℕ) (slot : Option Slot) → depth ≤ 32 → IsClimb hash tree pairs later key depth slot → IsClimbing hash tree pairs later key depth depth slot
+  pub climb_start : {H B : Type 0} (tree : Tree H B) (depth : ℕ) (slot : Option Slot) → depth ≤ 32 → IsClimb hash tree pairs later key depth slot → IsClimbing hash tree pairs later key depth depth slot
   climb_start tree depth slot le climb = record {
     below = λ prefix lt two long.
         elim (cases_Bool (starts key prefix)) [
@@ -165,7 +165,7 @@ module _ (hash : List ℕ → List ℕ) (pairs later : List Pair) (key : List �
   }
 
   -- one level further up
-  pub climb_on : (old mid new : Tree) (depth left : ℕ) (slot above : Option Slot) → left + 1 ≤ depth → depth ≤ 32 → IsClimbing hash old pairs later key depth (left + 1) slot → IsSet later →
+  pub climb_on : {H B : Type 0} (old mid new : Tree H B) (depth left : ℕ) (slot above : Option Slot) → left + 1 ≤ depth → depth ≤ 32 → IsClimbing hash old pairs later key depth (left + 1) slot → IsSet later →
       ((children : List Child) → children_in old.nodes (take left key) ≡ Some children → children_in mid.nodes (take left key) ≡ Some (with_slot (slice_index key left) slot children)) →
       ((children : List Child) → children_in old.nodes (take left key) ≡ Some children → length (with_slot (slice_index key left) slot children) ≤ 256 → above ≡ summary hash (with_slot (slice_index key left) slot children)) →
       ((other : List ℕ) → other ≢ take left key → children_in mid.nodes other ≡ children_in old.nodes other) →
@@ -223,7 +223,7 @@ module _ (hash : List ℕ → List ℕ) (pairs later : List Pair) (key : List �
       here_two (pair ∷ []) h is kept = absurd (omega arith)
       here_two (pair ∷ next ∷ rest) h is kept = kept _ is refl
 
-  pub climb_end : (tree : Tree) (depth : ℕ) (slot : Option Slot) → IsSet later → IsClimbing hash tree pairs later key depth 0 slot → IsTree hash (record tree { top = slot }) later
+  pub climb_end : {H B : Type 0} (tree : Tree H B) (depth : ℕ) (slot : Option Slot) → IsSet later → IsClimbing hash tree pairs later key depth 0 slot → IsTree hash (record tree { top = slot }) later
   climb_end tree depth slot set is = record {
     set = set;
     top_is = is.slot_is;
@@ -231,7 +231,7 @@ module _ (hash : List ℕ → List ℕ) (pairs later : List Pair) (key : List �
   }
 
   -- a level at which no room could be taken is the first one, so that nothing has changed
-  pub climb_stays : (start old new : Tree) (depth left : ℕ) (slot first : Option Slot) → left + 1 ≤ depth → depth ≤ 32 → IsClimb hash start pairs later key depth first → IsClimbing hash old pairs later key depth (left + 1) slot →
+  pub climb_stays : {H B : Type 0} (start old new : Tree H B) (depth left : ℕ) (slot first : Option Slot) → left + 1 ≤ depth → depth ≤ 32 → IsClimb hash start pairs later key depth first → IsClimbing hash old pairs later key depth (left + 1) slot →
       new.top ≡ start.top → ((other : List ℕ) → children_in new.nodes other ≡ children_in old.nodes other) →
       ((children : List Child) → children_in old.nodes (take left key) ≡ Some children → slot_in children (slice_index key left) ≡ None) →
       IsTree hash new pairs
@@ -250,12 +250,12 @@ module _ (hash : List ℕ → List ℕ) (pairs later : List Pair) (key : List �
             }
       ]
 
-pub climb_level : (hash : List ℕ → List ℕ) (tree : Tree) (pairs later : List Pair) (key : List ℕ) (depth a b : ℕ) (slot : Option Slot) → a ≡ b → IsClimbing hash tree pairs later key depth a slot → IsClimbing hash tree pairs later key depth b slot
+pub climb_level : {H B : Type 0} (hash : List ℕ → List ℕ) (tree : Tree H B) (pairs later : List Pair) (key : List ℕ) (depth a b : ℕ) (slot : Option Slot) → a ≡ b → IsClimbing hash tree pairs later key depth a slot → IsClimbing hash tree pairs later key depth b slot
 climb_level hash tree pairs later key depth a b slot e is = let P : ℕ → Type 0 = λ n. IsClimbing hash tree pairs later key depth n slot in subst P e is
 
 -- ---- a change
 
-module _ (hash : List ℕ → List ℕ) (tree : Tree) (pairs : List Pair) (key : List ℕ) (key_len : length key ≡ 32) (place : Place) (le : place.depth ≤ 32) (leads : LeadsTo hash tree pairs key place) where
+module _ {H B : Type 0} (hash : List ℕ → List ℕ) (tree : Tree H B) (pairs : List Pair) (key : List ℕ) (key_len : length key ≡ 32) (place : Place) (le : place.depth ≤ 32) (leads : LeadsTo hash tree pairs key place) where
   on_way : starts key (take place.depth key) ≡ true
   on_way = starts_take key place.depth (omega (arith, key_len, le))
 

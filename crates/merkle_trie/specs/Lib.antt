@@ -1,3 +1,4 @@
+pub mod Begun
 pub mod Equal
 pub mod Keeping
 pub mod Sets

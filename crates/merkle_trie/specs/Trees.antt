@@ -31,21 +31,21 @@ abbrev pub is_above : Option Slot → List ℕ → Bool → Bool
 is_above None key makes_way = false
 is_above (Some slot) key makes_way = goes_on slot.only key makes_way
 
-module _ (hash : List ℕ → List ℕ) where
+module _ {H B : Type 0} (hash : List ℕ → List ℕ) where
   -- the tree keeps this set
-  pub record IsTree (tree : Tree) (pairs : List Pair) : Type 0 where
+  pub record IsTree (tree : Tree H B) (pairs : List Pair) : Type 0 where
     pub set : IsSet pairs
     pub top_is : tree.top ≡ slot_at hash [] pairs
     pub nodes_are : NodesAre hash tree.nodes pairs
 
   -- the place is on the way to the key hash, with all levels above it
-  pub record LeadsTo (tree : Tree) (pairs : List Pair) (key : List ℕ) (place : Place) : Type 0 where
+  pub record LeadsTo (tree : Tree H B) (pairs : List Pair) (key : List ℕ) (place : Place) : Type 0 where
     pub tree_is : IsTree tree pairs
     pub slot_is : place.slot ≡ slot_at hash (take place.depth key) pairs
     pub path : IsPath hash tree.nodes pairs key place.depth
 
   -- the set is to become a later one, which differs in the pairs with the key hash alone, and has this slot at the place
-  pub record IsClimb (tree : Tree) (pairs later : List Pair) (key : List ℕ) (depth : ℕ) (slot : Option Slot) : Type 0 where
+  pub record IsClimb (tree : Tree H B) (pairs later : List Pair) (key : List ℕ) (depth : ℕ) (slot : Option Slot) : Type 0 where
     pub tree_is : IsTree tree pairs
     pub path : IsPath hash tree.nodes pairs key depth
     pub key_is : IsHash key

@@ -17,6 +17,7 @@
 mod change;
 mod hasher;
 mod laws;
+mod node;
 mod slot;
 mod tree;
 mod trie;

@@ -1,5 +1,5 @@
 //! What a trie keeps of the pairs with one prefix.
-ghost use Rattle.std.specs.Prelude.{◌≡◌, ℕ, slice_index, ◌+◌, ◌<◌, ◌≤◌, ◌∷◌, ◌++◌, length, OnOk, OnErr, None, take, nat_lt, slice_get};
+ghost use Rattle.std.specs.Prelude.{◌≡◌, ℕ, slice_index, ◌+◌, ◌*◌, ◌<◌, ◌≤◌, ◌∷◌, ◌++◌, length, OnOk, OnErr, None, take, nat_lt, slice_get};
 ghost use Rattle.std.specs.List.{prefix_len};
 ghost use Rattle.crdt_core.specs.Outcomes.{OnlyWant};
 ghost use Rattle.merkle_trie.specs.Slots.{has_byte, slot_in, with_slot, child_bytes, leaf, summary};
@@ -24,9 +24,6 @@ pub struct Child {
 
 // A tag and two hashes.
 const LEAF_LEN: usize = 65;
-
-// A tag, and a byte and a value for each next byte.
-const BRANCH_LEN: usize = 1 + 33 * 256;
 
 /// The slot of one pair.
 pub fn leaf_slot<H: Hasher>(key: &Hash32, row: &Hash32, hasher: &mut H) -> Slot
@@ -57,43 +54,14 @@ fn append(input: &mut [u8], at: usize, bytes: &[u8]) -> usize
     end
 }
 
-/// The slot of the pairs that have these children.
-pub fn summary<H: Hasher>(children: &[Child], hasher: &mut H) -> Option<Slot>
-    // There are never more, since each is of another byte.
-    ensures slot { length children.now ≤ 256 → result ≡ summary H.digest children.now }
-    ensures counted { H.count hasher.new ≤ H.count hasher.old + 1 }
-{
-    match children {
-        [] => None,
-        [child] if child.slot.only.is_some() => Some(child.slot),
-        _ => Some(Slot {
-            value: branch_value(children, hasher),
-            only: None,
-        }),
-    }
-}
-
-// The hash over a node's children.
-fn branch_value<H: Hasher>(children: &[Child], hasher: &mut H) -> Hash32
-    ensures value { length children.now ≤ 256 → result.0 ≡ H.digest (2 ∷ child_bytes children.now) }
-    ensures counted { H.count hasher.new ≤ H.count hasher.old + 1 }
-{
-    let mut input = [0; BRANCH_LEN];
-    let len = write_children(&mut input, children);
-    hasher.hash(&input[..len])
-}
-
-// Writes a node's tag and children, and says how many bytes that were.
-fn write_children(input: &mut [u8], children: &[Child]) -> usize
-    requires { length input.old ≡ 8449 }
+/// Writes what the children add to their node's bytes, and says how many bytes that were.
+pub fn write_children(input: &mut [u8], children: &[Child]) -> usize
+    requires { 33 * length children.now ≤ length input.old }
     ensures within { result ≤ length input.new }
-    ensures written { length children.now ≤ 256 → take result input.new ≡ 2 ∷ child_bytes children.now }
+    ensures written { take result input.new ≡ child_bytes children.now }
 {
-    let mut end = append(input, 0, &[2]);
+    let mut end = 0;
     for child in children {
-        if end + 33 > input.len() {
-            break;
-        }
         end = write_child(input, end, child);
     }
     end
@@ -108,8 +76,8 @@ fn write_child(input: &mut [u8], at: usize, child: &Child) -> usize
     append(input, byte_end, &child.slot.value.0)
 }
 
-// How many children are of smaller bytes.
-fn place(children: &[Child], byte: u8) -> usize
+/// How many children are of smaller bytes.
+pub fn place(children: &[Child], byte: u8) -> usize
     ensures is { result ≡ prefix_len (λ c. nat_lt c.byte byte) children.now }
     ensures within { result ≤ length children.now }
 {

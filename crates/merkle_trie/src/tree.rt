@@ -10,20 +10,21 @@ ghost use Rattle.merkle_trie.specs.Stands.{children_in, changed_by};
 ghost use Rattle.merkle_trie.specs.Trees.{IsTree, LeadsTo, IsClimb, is_above, is_lone};
 
 use crate::hasher::Hasher;
-use crate::slot::{Child, Slot, child_slot, leaf_slot, set_slot, summary};
+use crate::node::Node;
+use crate::slot::{Child, Slot, leaf_slot};
 use blake2_hash::Hash32;
-use crdt_core::{List, Memory};
+use crdt_core::Memory;
 use std::alloc::Global;
 use std::collections::BTreeMap;
 
 /// The children of prefixes.
-pub type Nodes = BTreeMap<Vec<u8>, List<Child>>;
+pub type Nodes<H> = BTreeMap<Vec<u8>, Node<H>>;
 
 /// The slots of a set of pairs.
 #[derive(Drop)]
-pub struct Tree {
+pub struct Tree<H: Hasher> {
     pub top: Option<Slot>,
-    pub nodes: Nodes,
+    pub nodes: Nodes<H>,
 }
 
 /// How far a key hash leads down, and the slot there.
@@ -33,9 +34,9 @@ pub struct Place {
     pub slot: Option<Slot>,
 }
 
-impl Tree {
+impl<H: Hasher> Tree<H> {
     /// Gives the key hash another row hash, or none. It hashes once for the pair and once for each level above it.
-    pub fn change<H: Hasher>(
+    pub fn change(
         &mut self,
         alloc: Global,
         key: &Hash32,
@@ -59,7 +60,7 @@ impl Tree {
         }
     }
 
-    fn put_pair<H: Hasher>(
+    fn put_pair(
         &mut self,
         alloc: Global,
         key: &Hash32,
@@ -77,12 +78,7 @@ impl Tree {
         Ok(())
     }
 
-    fn remove_pair<H: Hasher>(
-        &mut self,
-        alloc: Global,
-        key: &Hash32,
-        hasher: &mut H,
-    ) -> Result<(), Memory>
+    fn remove_pair(&mut self, alloc: Global, key: &Hash32, hasher: &mut H) -> Result<(), Memory>
         ensures ok { OnOk result ((pairs : List Pair) → IsTree H.digest self.old pairs → IsTree H.digest self.new (removed key.now.0 pairs)) }
         ensures err { OnErr result ((pairs : List Pair) → IsTree H.digest self.old pairs → IsTree H.digest self.new pairs) }
         ensures counted { H.count hasher.new ≤ H.count hasher.old + 33 }
@@ -130,8 +126,8 @@ impl Tree {
                     Ok(children)
                 }
                 None => match self.nodes.get(prefix) {
-                    Some(children) => {
-                        let values = child_values(alloc, children.as_slice())?;
+                    Some(node) => {
+                        let values = child_values(alloc, node.children())?;
                         Ok(values)
                     }
                     None => Ok(Vec::new(alloc)),
@@ -159,7 +155,7 @@ impl Tree {
     }
 
     // Puts a slot at the first `depth` bytes of the key hash, and the slots that follow from it above.
-    fn climb<H: Hasher>(
+    fn climb(
         &mut self,
         key: &Hash32,
         depth: usize,
@@ -212,9 +208,9 @@ fn is_above(slot: Option<Slot>, key: &Hash32, makes_way: bool) -> bool
 }
 
 // The slot one level further down the key hash.
-fn step_down(
+fn step_down<H: Hasher>(
     alloc: Global,
-    nodes: &mut Nodes,
+    nodes: &mut Nodes<H>,
     key: &Hash32,
     depth: usize,
     slot: Option<Slot>,
@@ -239,9 +235,9 @@ fn step_down(
 }
 
 // Keeps one child alone at a prefix.
-fn keep_alone(
+fn keep_alone<H: Hasher>(
     alloc: Global,
-    nodes: &mut Nodes,
+    nodes: &mut Nodes<H>,
     prefix: &[u8],
     byte: u8,
     slot: Slot,
@@ -251,19 +247,18 @@ fn keep_alone(
     ensures err { OnErr result ((other : List ℕ) → children_in nodes.new other ≡ children_in nodes.old other) }
     ensures want { OnlyWant result }
 {
-    let mut children = List::new(alloc);
-    children.push(Child { byte, slot })?;
+    let node = Node::alone(alloc, Child { byte, slot })?;
     let key = Vec::from_slice(alloc, prefix)?;
-    nodes.insert(key, children)?;
+    nodes.insert(key, node)?;
     Ok(())
 }
 
 // The slot at a byte after a prefix.
-pub fn slot_below(nodes: &Nodes, prefix: &[u8], byte: u8) -> Option<Slot>
+pub fn slot_below<H: Hasher>(nodes: &Nodes<H>, prefix: &[u8], byte: u8) -> Option<Slot>
     ensures { (children : List Child) → children_in nodes.now prefix.now ≡ Some children → result ≡ slot_in children byte }
 {
     match nodes.get(prefix) {
-        Some(children) => child_slot(children, byte),
+        Some(node) => node.slot(byte),
         None => None,
     }
 }
@@ -309,7 +304,7 @@ fn child_values(alloc: Global, children: &[Child]) -> Result<Vec<(u8, Hash32)>, 
 
 // Puts a slot one level up, and gives the slot that follows there.
 fn step_up<H: Hasher>(
-    nodes: &mut Nodes,
+    nodes: &mut Nodes<H>,
     key: &Hash32,
     depth: usize,
     slot: Option<Slot>,
@@ -327,8 +322,8 @@ fn step_up<H: Hasher>(
     ensures want { OnlyWant result }
 {
     match nodes.get_mut(&key.0[..depth]) {
-        Some(children) => match set_slot(children, key.0[depth], slot) {
-            Ok(()) => Ok(summary(children.as_slice(), hasher)),
+        Some(node) => match node.set(key.0[depth], slot) {
+            Ok(()) => Ok(node.summary(hasher)),
             Err(want) => Err(want),
         },
         None => Ok(None),
@@ -336,7 +331,7 @@ fn step_up<H: Hasher>(
 }
 
 // Drops the children of a prefix that fewer than two pairs have.
-fn drop_idle(nodes: &mut Nodes, prefix: &[u8], slot: Option<Slot>)
+fn drop_idle<H: Hasher>(nodes: &mut Nodes<H>, prefix: &[u8], slot: Option<Slot>)
     ensures others { (other : List ℕ) → other ≢ prefix.now → children_in nodes.new other ≡ children_in nodes.old other }
     ensures kept { (slot_here : Slot) → slot ≡ Some slot_here → slot_here.only ≡ None → children_in nodes.new prefix.now ≡ children_in nodes.old prefix.now }
 {

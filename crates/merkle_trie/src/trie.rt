@@ -14,17 +14,15 @@ use blake2_hash::Hash32;
 use crdt_core::{List, Memory};
 use std::alloc::Global;
 use std::collections::{BTreeMap, VecDeque};
-use std::marker::PhantomData;
 
 const NOTHING: Hash32 = Hash32([0; 32]);
 
 /// A set of pairs (key hash, row hash), with the value at each prefix of key hashes.
 #[derive(Drop)]
 pub struct Trie<H: Hasher = Blake> {
-    tree: Tree,
+    tree: Tree<H>,
     queue: VecDeque<Change>,
     alloc: Global,
-    hasher: PhantomData<H>,
 }
 
 impl<H: Hasher> Trie<H> {
@@ -40,7 +38,6 @@ impl<H: Hasher> Trie<H> {
             },
             queue: VecDeque::new(alloc),
             alloc,
-            hasher: PhantomData,
         }
     }
 
