@@ -6,8 +6,9 @@
 //! stands in table_model's specs/, as a function on the set, for any hash function; `specs/Sets.antt` has the rest.
 //!
 //! A `Trie` takes pairs by `put` and gives them up by `remove`. Both queue a change, and `settle` works the queue off:
-//! it changes the slots on the way to one key hash, so that a change calls the `Hasher` at most 33 times, however many
-//! pairs there are. A settled trie lends what it has: `root`, and `node`, `children` and `only` at a prefix.
+//! it changes the slots on the way to one key hash, so that a change makes at most 33 hashes by the `Hasher`, however many
+//! pairs there are. The hash of a node with many children goes on from one that was begun over the children before the
+//! changed one. A settled trie lends what it has: `root`, and `node`, `children` and `only` at a prefix.
 //!
 //! The contracts say which set a trie `Keeps`: `new` keeps the empty one, and each call leads from the set before to
 //! the one after. `sets_have_one_value` says that the order of a list of pairs doesn't count, and
