@@ -192,6 +192,10 @@ module _ (c : Cluster) (P : Plain) (h : Holds c P) (time : ℕ) (order : Order) 
               subst (λ (s : State). Holds (record { run = s; ticked = max c.ticked time; members = c.members }) Q) (sym (run_is ∙ (ap (λ (o : Outcome). after_acts o.state (acts_when o)) b ∙ past_is))) past_holds,
             )
 
+        -- nodes have the rows that they had then
+        pub served_rows : (Rows : (ℕ → List AnyRow) → Type 0) → Rows (λ m. (served_state.world.nodes m).accepted) → Rows (λ m. (carried_run.world.nodes m).accepted)
+        served_rows Rows had = subst (λ (s : State). Rows (λ m. (s.world.nodes m).accepted)) (sym (run_is ∙ (ap (λ (o : Outcome). after_acts o.state (acts_when o)) (begins_so true known) ∙ past_is))) had
+
         -- nodes keep such blocks as they kept then
         pub served_keeps : (Bytes : List ℕ → Type 0) → AllKeep Bytes served_state.world → AllKeep Bytes carried_run.world
         served_keeps Bytes all = subst (λ (s : State). AllKeep Bytes s.world) (sym (run_is ∙ (ap (λ (o : Outcome). after_acts o.state (acts_when o)) (begins_so true known) ∙ past_is))) all

@@ -1,5 +1,5 @@
 -- Two rounds of work after a write: members send the rows that wait in their outboxes, which then are empty.
-use Rattle.std.proofs.Common.{◌≡◌, ◌+◌, ℕ, zero, suc, true, false, Option, Some, None, List, [], ◌∷◌, ◌++◌, map, length, refl, sym, ap, ◌∙◌, subst, inl, inr, arith}
+use Rattle.std.proofs.Common.{◌≡◌, ◌+◌, ℕ, zero, suc, true, false, Option, Some, None, List, [], ◌∷◌, ◌++◌, map, length, refl, sym, ap, ◌∙◌, subst, inl, inr, arith, ◌⊎◌, ◌≤◌}
 use Rattle.std.specs.Prelude.{IsTrue, ⊤, ◌==◌}
 use Rattle.std.specs.List.{AllByRecursion, list_all, flat_map}
 use Rattle.std.proofs.lemmas.Bool.{and_parts, eqb-true, or_cases}
@@ -43,7 +43,7 @@ use Rattle.drained_laws.specs.Waiting.{Has, fresh, waiting}
 use Rattle.drained_laws.specs.Calm.{IsMember, IsCalmRun}
 use Rattle.drained_laws.specs.Accounts.{Carries, IsDue, IsAccounted}
 use Rattle.drained_laws.specs.Outboxes.{HasLeft, IsDelivery, works_of}
-use Rattle.drained_laws.proofs.Waits.{some_right, all_mapped}
+use Rattle.drained_laws.proofs.Waits.{some_right, all_mapped, some_left}
 use Rattle.drained_laws.proofs.Views.{all_among}
 use Rattle.drained_laws.proofs.Deliveries.{one_changes}
 use Rattle.drained_laws.proofs.Posts.{each_all, spelled_proper}
@@ -58,9 +58,10 @@ use Rattle.plain_laws.proofs.Descending.{schema_descends}
 use Rattle.plain_laws.proofs.Given.{AllKept, StoresGiven, IsGiven}
 use Rattle.plain_laws.proofs.Queues.{CallsFor, Waits, news_mine, accepted_so, waits_next}
 use Rattle.plain_laws.proofs.Requests.{base, Done, delivered_done}
+use Rattle.plain_laws.proofs.Owing.{IsOfSent, IsSentMessage, AllOwe, no_more, owes_next, items_sent}
 
 -- a member is among the members
-has_among : (ms : List ℕ) (n : ℕ) → is_among n ms ≡ true → Has ms n
+pub has_among : (ms : List ℕ) (n : ℕ) → is_among n ms ≡ true → Has ms n
 has_among [] n e = absurd (cc)
 has_among (m ∷ ms) n e = elim (or_cases (m == n) (is_among n ms) e) [ inl here ↦ inl (eqb-true m n here) | inr there ↦ inr (has_among ms n there) ]
 
@@ -125,19 +126,22 @@ module _ (l : Layout) (layout : IsLayout layouts 256 l) (before : State) (n q : 
     abbrev deliver : ℕ → Moving
     deliver m = plainly (step.Deliver m)
 
-    deliver_clears : (m : ℕ) → numbered w.marks m ≡ Some fresh → (effect u (deliver m)).is_spelled ≡ true → ((effect u (deliver m)).ends ≡ []) × Clearing (doing u (deliver m))
+    deliver_clears : (m : ℕ) → numbered w.marks m ≡ Some fresh → (effect u (deliver m)).is_spelled ≡ true → ((effect u (deliver m)).ends ≡ []) × ((v : Clearing (doing u (deliver m))) × (v.sent ≡ c.sent))
     deliver_clears m mark spelled =
         let d = delivered_done l layout before n q c.sent end m u c.done_so mark spelled in
         let next = waits_next l had Mine Queued Bytes queues w is sent_mine c.waits m mark in (
           d.0,
-          record {
-            sent = c.sent;
-            done_so = d.1;
-            mine = c.mine;
-            was = c.was;
-            waits = next.0;
-            kept = λ o key row hash given apart e live at. next.1 o hash given (c.kept o key row hash given apart e live at);
-          },
+          (
+            record {
+              sent = c.sent;
+              done_so = d.1;
+              mine = c.mine;
+              was = c.was;
+              waits = next.0;
+              kept = λ o key row hash given apart e live at. next.1 o hash given (c.kept o key row hash given apart e live at);
+            },
+            refl,
+          ),
         )
 
     -- ---- a member works
@@ -223,18 +227,35 @@ module _ (l : Layout) (layout : IsLayout layouts 256 l) (before : State) (n q : 
           kept_at (is_due any_join words (clock w m) y) y.blocks hash given (not_due l w c.done_so.frame.stocked m key row hash (elsewhere m 3 key apart ∙ e) live) (c.kept m key row hash given apart e live at))
           (λ o other. c.kept o)
 
-      work_clears : Clearing worked
-      work_clears = record {
-        sent = more ++ c.sent;
-        done_so = done_then;
-        mine = all_append Mine more c.sent (rows_mine y.items spelling (c.waits.queued m)) c.mine;
-        was = λ r h. some_right (λ z. z ≡ r) more c.sent (c.was r h);
-        waits = subst (Waits l had Mine Queued Bytes queues) (sym world_is) (record {
-          queued = one_changes (λ o z. AllByRecursion (λ (item : Item AnyRow). Queued item.row) z.items) m node w.nodes (c.waits.queued m) (λ o other. c.waits.queued o);
-          given = given_then;
-        });
-        kept = subst KeepsOthers (sym world_is) kept_then;
-      }
+      -- outboxes stay as they are
+      work_items : (o : ℕ) → (worked.world.nodes o).items ≡ (w.nodes o).items
+      work_items o = ap (λ (x : World). (x.nodes o).items) world_is ∙ one_changes (λ o z. z.items ≡ (w.nodes o).items) m node w.nodes refl (λ o other. refl) o
+
+      work_clears : (v : Clearing worked) × (v.sent ≡ more ++ c.sent)
+      work_clears = (
+        record {
+          sent = more ++ c.sent;
+          done_so = done_then;
+          mine = all_append Mine more c.sent (rows_mine y.items spelling (c.waits.queued m)) c.mine;
+          was = λ r h. some_right (λ z. z ≡ r) more c.sent (c.was r h);
+          waits = subst (Waits l had Mine Queued Bytes queues) (sym world_is) (record {
+            queued = one_changes (λ o z. AllByRecursion (λ (item : Item AnyRow). Queued item.row) z.items) m node w.nodes (c.waits.queued m) (λ o other. c.waits.queued o);
+            given = given_then;
+          });
+          kept = subst KeepsOthers (sym world_is) kept_then;
+        },
+        refl,
+      )
+
+      -- its items are sent
+      work_owes : (sent : ℕ → ℕ) (b : ℕ → List AnyRow) → AllOwe sent b w → AllByRecursion (λ (item : Item AnyRow). item.number ≤ sent m) y.items → AllOwe sent b worked.world
+      work_owes sent b owes low = subst (AllOwe sent b) (sym world_is) (no_more sent b w owes did_so is.marked (record {
+        marks = refl;
+        accepted = one_changes (λ o z. z.accepted ≡ (w.nodes o).accepted) m node w.nodes refl (λ o other. refl);
+        items = one_changes (λ o z. z.items ≡ (w.nodes o).items) m node w.nodes refl (λ o other. refl);
+        queued = one_changes (λ o z. z.queued ≡ (w.nodes o).queued) m node w.nodes refl (λ o other. refl);
+        sends = all_mapped (λ (p : Post AnyRow Layout). record { from = m; to = p.to; packet = p.packet; moment = w.time }) (λ (p : Post AnyRow Layout). Carries (IsOfSent sent m p.to) p.packet) (IsSentMessage sent) (λ p h. h) _ (items_sent sent m y.view y.items low);
+      }))
 
   -- ---- a round
 
@@ -248,28 +269,62 @@ module _ (l : Layout) (layout : IsLayout layouts 256 l) (before : State) (n q : 
   abbrev works_are : List ℕ → List Moving
   works_are ms = works_of (none_given VersionLimit) ms
 
-  works_clear : (ms : List ℕ) (u : State) → Clearing u → AllByRecursion (IsMember layouts l) ms → ActsFit u (works_each ms) →
-      Clearing (after_acts u (works_each ms)) × Calm u.world (works_are ms) × (after_run u.world (works_are ms) ≡ (after_acts u (works_each ms)).world)
-  works_clear [] u c members fits = (c, tt, refl)
+  -- the rows that wait in a node's outbox
+  abbrev pub items_rows : State → ℕ → List AnyRow
+  items_rows u m = map (λ (item : Item AnyRow). item.row) (u.world.nodes m).items
+
+  -- the row was sent before, or waits in an outbox of one of these
+  abbrev pub WasOrWaits : List ℕ → (u : State) → Clearing u → AnyRow → Type 0
+  WasOrWaits ms u c r = Has c.sent r ⊎ ((m : ℕ) × Has ms m × Has (items_rows u m) r)
+
+  -- such rows are sent then
+  abbrev pub Sends : List ℕ → (u : State) → Clearing u → (v : State) → Clearing v → Type 0
+  Sends ms u c v d = (r : AnyRow) → WasOrWaits ms u c r → Has d.sent r
+
+  -- items up to these numbers
+  abbrev pub AreUpTo : (ℕ → ℕ) → State → Type 0
+  AreUpTo sent u = (m : ℕ) → AllByRecursion (λ (item : Item AnyRow). item.number ≤ sent m) (u.world.nodes m).items
+
+  -- where no item was queued past those that are sent, what changes call for waits
+  abbrev pub OwesOn : State → State → Type 0
+  OwesOn u v = (sent : ℕ → ℕ) (b : ℕ → List AnyRow) → AllOwe sent b u.world → AreUpTo sent u → AllOwe sent b v.world
+
+  works_clear : (ms : List ℕ) (u : State) (c : Clearing u) → AllByRecursion (IsMember layouts l) ms → ActsFit u (works_each ms) →
+      (d : Clearing (after_acts u (works_each ms))) × Calm u.world (works_are ms) × (after_run u.world (works_are ms) ≡ (after_acts u (works_each ms)).world) × Sends ms u c (after_acts u (works_each ms)) d × OwesOn u (after_acts u (works_each ms))
+  works_clear [] u c members fits = (c, tt, refl, λ r h. elim h [ inl was ↦ was | inr w ↦ absurd w.1 ], λ sent b owes low. owes)
   works_clear (m ∷ ms) u c members fits =
       let spelled = fits.0.0.1 in
-      let rest = works_clear ms (acted u (moves (plainly (step.Work m)))).state (work_clears u c m members.0 spelled) members.1 fits.1 in
-      (rest.0, (members.0, tt, spelled, rest.1), rest.2)
+      let v = (acted u (moves (plainly (step.Work m)))).state in
+      let one = work_clears u c m members.0 spelled in
+      let rest = works_clear ms v one.0 members.1 fits.1 in
+      let before_so : (r : AnyRow) → Has (items_rows u m ++ c.sent) r → Has rest.0.sent r = λ r h. rest.3 r (inl (subst (λ rs. Has rs r) (sym one.1) h)) in (
+        rest.0,
+        (members.0, tt, spelled, rest.1),
+        rest.2,
+        λ r h. elim h [
+          | inl was ↦ before_so r (some_right (λ z. z ≡ r) (items_rows u m) c.sent was)
+          | inr w ↦ elim w.1 [
+            | inl same ↦ before_so r (some_left (λ z. z ≡ r) (items_rows u m) c.sent (subst (λ o. Has (items_rows u o) r) (sym same) w.2))
+            | inr more ↦ rest.3 r (inr (w.0, more, subst (λ (items : List (Item AnyRow)). Has (map (λ (item : Item AnyRow). item.row) items) r) (sym (work_items u c m members.0 spelled w.0)) w.2))
+          ]
+        ],
+        λ sent b owes low. rest.4 sent b (work_owes u c m members.0 spelled sent b owes (low m)) (λ o. subst (AllByRecursion (λ (item : Item AnyRow). item.number ≤ sent o)) (sym (work_items u c m members.0 spelled o)) (low o)),
+      )
 
   abbrev AllDelivery : List Moving → Type 0
   AllDelivery ms = AllByRecursion (λ (m : Moving). IsDelivery m.step) ms
 
-  abbrev Drained : State → Outcome → Type 0
-  Drained u o = Clearing o.state × Calm u.world o.moves × AllDelivery o.moves × (after_run u.world o.moves ≡ o.state.world)
+  abbrev Drained : (u : State) → Clearing u → Outcome → Type 0
+  Drained u c o = (d : Clearing o.state) × Calm u.world o.moves × AllDelivery o.moves × (after_run u.world o.moves ≡ o.state.world) × (d.sent ≡ c.sent) × ((sent : ℕ → ℕ) (b : ℕ → List AnyRow) → AllOwe sent b u.world → AllOwe sent b o.state.world)
 
   abbrev after_first : ℕ → State → Option ℕ → Outcome
   after_first k u o = elim o as (λ o. Outcome) [ None ↦ silent u | Some m ↦ let first = delivers u m in then_drains first (drains k first.state) ]
 
-  drains_clear : (k : ℕ) (u : State) → Clearing u → FitAll any_join words u.world (drains k u).moves → Drained u (drains k u)
-  drains_clear zero u c fits = (c, tt, tt, refl)
+  drains_clear : (k : ℕ) (u : State) (c : Clearing u) → FitAll any_join words u.world (drains k u).moves → Drained u c (drains k u)
+  drains_clear zero u c fits = (c, tt, tt, refl, refl, λ sent b owes. owes)
   drains_clear (suc k) u c fits =
-      elim (undelivered u.world) as (λ o. undelivered u.world ≡ o → FitAll any_join words u.world (after_first k u o).moves → Drained u (after_first k u o)) [
-        | None ↦ λ none fits. (c, tt, tt, refl)
+      elim (undelivered u.world) as (λ o. undelivered u.world ≡ o → FitAll any_join words u.world (after_first k u o).moves → Drained u c (after_first k u o)) [
+        | None ↦ λ none fits. (c, tt, tt, refl, refl, λ sent b owes. owes)
         | Some m ↦ λ waits fits.
             let move = plainly (step.Deliver m) in
             let e = effect u move in
@@ -278,8 +333,8 @@ module _ (l : Layout) (layout : IsLayout layouts 256 l) (before : State) (n q : 
             let d = deliver_clears u c m mark spelled in
             let first_is : delivers u m ≡ after_step move e (silent (doing u move)) = ap (λ ends. after_step move e (goes_on (doing u move) ends)) d.0 in
             let more = subst (λ (f : Outcome). FitAll any_join words u.world (then_drains f (drains k f.state)).moves) first_is fits in
-            let rest = drains_clear k (doing u move) d.1 more.1 in
-            subst (λ (f : Outcome). Drained u (then_drains f (drains k f.state))) (sym first_is) (rest.0, (mark, tt, spelled, rest.1), (tt, rest.2), rest.3)
+            let rest = drains_clear k (doing u move) d.1.0 more.1 in
+            subst (λ (f : Outcome). Drained u c (then_drains f (drains k f.state))) (sym first_is) (rest.0, (mark, tt, spelled, rest.1), (tt, rest.2), rest.3, rest.4 ∙ d.1.1, λ sent b owes. rest.5 sent b (owes_next sent b u.world owes l had c.done_so.is m mark))
       ] refl fits
 
   module _ (members : List ℕ) (members_are : members ≡ layouts.reading.members l) where
@@ -292,8 +347,12 @@ module _ (l : Layout) (layout : IsLayout layouts 256 l) (before : State) (n q : 
     abbrev Left : ℕ → State → Type 0
     Left t u = Clearing u × HasLeft words layouts l t u.world
 
+    -- what was sent before or waited in an outbox is sent then, and what changes called for since waits
+    abbrev pub Cleared : (u : State) → Clearing u → ℕ → State → Type 0
+    Cleared u c t v = (left : Left t v) × Sends members u c v left.0 × OwesOn u v
+
     -- each member works, and all is delivered
-    round_clears : (t : ℕ) (u : State) → Left t u → ActsFit u (round members) → Left (suc t) (after_acts u (round members))
+    round_clears : (t : ℕ) (u : State) (left : Left t u) → ActsFit u (round members) → Cleared u left.0 (suc t) (after_acts u (round members))
     round_clears t u left fits =
         let parts = fit_acts u (works_each members) (drain all_messages ∷ []) fits in
         let x = after_acts u (works_each members) in
@@ -305,11 +364,12 @@ module _ (l : Layout) (layout : IsLayout layouts 256 l) (before : State) (n q : 
         let later : HasLeft words layouts l (suc t) o.state.world =
         subst (HasLeft words layouts l (suc t)) same (round_leaves schema_laws schema_descends layouts l layout had proper Applied Cut trio stage_trio t u.world (none_given VersionLimit) members o.moves left.0.done_so.is left.1 every worked.1
         (subst (λ w. Calm w o.moves) (sym worked.2) drained.1) drained.2 (ap (λ (w : World). waiting w) same ∙ none)) in
-        subst (Left (suc t)) (sym (after_parts u (works_each members) (drain all_messages ∷ []))) (drained.0, later)
+        subst (Cleared u left.0 (suc t)) (sym (after_parts u (works_each members) (drain all_messages ∷ []))) ((drained.0, later), λ r h. subst (λ rs. Has rs r) (sym drained.4) (worked.3 r h), λ sent b owes low. drained.5 sent b (worked.4 sent b owes low))
 
     -- two rounds
-    pub rounds_clear : (u : State) → Clearing u → HasLeft words layouts l 1 u.world → ActsFit u (round members ++ round members) → Left 3 (after_acts u (round members ++ round members))
+    pub rounds_clear : (u : State) (c : Clearing u) → HasLeft words layouts l 1 u.world → ActsFit u (round members ++ round members) →
+        (one : Cleared u c 2 (after_acts u (round members))) × Cleared (after_acts u (round members)) one.0.0 3 (after_acts u (round members ++ round members))
     rounds_clear u c left fits =
         let parts = fit_acts u (round members) (round members) fits in
         let one = round_clears 1 u (c, left) parts.0 in
-        subst (Left 3) (sym (after_parts u (round members) (round members))) (round_clears 2 (after_acts u (round members)) one parts.1)
+        (one, subst (Cleared (after_acts u (round members)) one.0.0 3) (sym (after_parts u (round members) (round members))) (round_clears 2 (after_acts u (round members)) one.0 parts.1))

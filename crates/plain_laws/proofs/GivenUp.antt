@@ -1,5 +1,5 @@
 -- The rows by which a newer version of an object gives up the blocks of the one before.
-use Rattle.std.proofs.Common.{◌≡◌, ◌⊎◌, ◌<◌, ℕ, Bool, true, false, cond, Option, Some, None, List, [], ◌∷◌, ◌++◌, length, map, refl, sym, ap, ◌∙◌, subst, inl, inr, arith}
+use Rattle.std.proofs.Common.{◌≡◌, ◌⊎◌, ◌<◌, ℕ, Bool, true, false, cond, Option, Some, None, List, [], ◌∷◌, ◌++◌, length, map, refl, sym, ap, ◌∙◌, subst, inl, inr, arith, ◌^◌, ap₂}
 use Rattle.std.specs.Prelude.{IsTrue, ⊤}
 use Rattle.std.specs.List.{AllByRecursion}
 use Rattle.std.proofs.lemmas.Option.{same_Some}
@@ -18,7 +18,7 @@ use Rattle.crdt_rows.specs.AnyRow.{any_join}
 use Rattle.crdt_rows.specs.State.{is_sized}
 use Rattle.crdt_rows.specs.Version.{version_cmp}
 use Rattle.object_schema.specs.Schema.{words}
-use Rattle.object_schema.specs.Laws.{schema_laws}
+use Rattle.object_schema.specs.Laws.{schema_laws, eight_same}
 use Rattle.object_schema.specs.Triggers.{in_order, is_lost, deleted_version, deleted_reference, released}
 use Rattle.cluster_machine.specs.Rows.{called_for}
 use Rattle.flow_model.specs.declared.flow.Name.{Name}
@@ -26,13 +26,21 @@ use Rattle.flow_model.specs.declared.flow.Wish.{Wish}
 use Rattle.flow_model.specs.declared.flow.Wish.TheVariants as wish
 use Rattle.flow_model.specs.Blocks.{piece_hash, is_long}
 use Rattle.flow_model.specs.Rows.{meta_of, same_number, object_row, inline, in_blocks, complete}
-use Rattle.table_model.specs.Rows.{row_at}
+use Rattle.table_model.specs.Rows.{row_at, place_cmp, place, is_at}
 use Rattle.crdt_core.proofs.Each.{all_weaker}
 use Rattle.machine_origins.proofs.Good.{IsGood, IsFound, any_rules, row_found}
 use Rattle.store_laws.proofs.Objects.{key_parts}
 use Rattle.serve_model.specs.Plain.{Has, never, deleted, object, row_of, last_ts, version_in}
+use Rattle.drained_laws.specs.Waiting.{Has as IsIn}
 use Rattle.plain_laws.proofs.Queues.{CallsFor}
 use Rattle.plain_laws.proofs.Smalls.{before_by, row_with, later_stays}
+use Rattle.crdt_rows.specs.declared.body.Meta.{Meta}
+use Rattle.std.specs.declared.cmp.Ordering.TheVariants.{Less}
+use Rattle.plain_laws.proofs.Accepted.{IsRowOrApart, not_at}
+use Rattle.table_model.proofs.RowLaws.{place_identical}
+use Rattle.std.specs.Cmp.{Equal-is}
+use Rattle.std.proofs.lemmas.Bool.{and_parts, lt-ltb}
+use Rattle.row_codec.specs.Range.{is_hash, is_eight}
 
 -- ---- rows with one complete version
 
@@ -91,6 +99,15 @@ module _ (name : Name) (u v : Version) (old new : Body) (fit : is_sized (Complet
   by_lost : (t : Bool) → Ends (map deleted_version (in_order version_cmp (map (λ (e : Version × Max State). e.0) (cond t (entry ∷ []) []) ++ [])))
   by_lost true = (refl, tt)
   by_lost false = tt
+
+  -- where that is kept in blocks it does
+  pub ends_old : (meta : Meta) (first : Hash32) → old ≡ Blocks meta first → version_cmp u v ≡ Less → IsIn (words.triggered (object_row name u (Complete old) fit) (object_row name v (Complete new) fits)) (deleted_version u)
+  ends_old meta first is less = by old fit is
+    where
+      by : (b : Body) (f : is_sized (Complete b) ≡ true) → b ≡ Blocks meta first → IsIn (words.triggered (object_row name u (Complete b) f) (object_row name v (Complete new) fits)) (deleted_version u)
+      by (Blocks m h) f e = rw less (inl refl)
+      by Marker f e = absurd (cc)
+      by (Inline m bytes) f e = absurd (cc)
 
   pub ends_one : Ends (words.triggered (object_row name u (Complete old) fit) (object_row name v (Complete new) fits))
   ends_one = by_lost (is_lost (row_with name v (Complete new) fits) entry)
@@ -184,3 +201,31 @@ module _ (has : Has) (r : AnyRow) (g : GivesUp has r) where
           let whole : length h.hash.0 ≡ 32 = subst (λ r. length (words.position r) ≡ 32) h.is (schema_laws.position_is_32_bytes r proper) in
           apart g.version g.there (sym h.same ∙ (key_parts h.hash (record { 0 = hash }) (eight h.other) (eight id) whole size (sym (ap words.key h.is) ∙ k)).1)
     ]
+
+-- ---- the only rows at their places
+
+module _ (has : Has) (r : AnyRow) (g : GivesUp has r) (old : Version) (is_in : version_in has ≡ Some old) where
+  same_version : g.version ≡ old
+  same_version = same_Some g.version old (sym g.there ∙ is_in)
+
+  pub gives_row : IsRowOrApart any_join words (deleted_version old) 2 (eight old.id) r
+  gives_row = elim g.is [
+    | inl e ↦ inl (e ∙ ap deleted_version same_version)
+    | inr ends ↦ inr (not_at any_join words r 2 (eight old.id) (λ t k. other_table 3 2 (inr (omega arith)) (sym (ap words.table ends.is) ∙ t)))
+  ]
+
+  pub gives_reference : IsTrue (words.is_proper r) → old.id < 2 ^ 64 → (hash : Hash32) → length hash.0 ≡ 32 → IsRowOrApart any_join words (deleted_reference old.id hash) 3 (hash.0 ++ eight old.id) r
+  gives_reference proper low hash size = elim g.is [
+    | inl e ↦ inr (not_at any_join words r 3 (hash.0 ++ eight old.id) (λ t k. other_table 2 3 (inl (omega arith)) (sym (ap words.table e) ∙ t)))
+    | inr ends ↦ elim (is_at words 3 (hash.0 ++ eight old.id) r) as (λ b. is_at words 3 (hash.0 ++ eight old.id) r ≡ b → (r ≡ deleted_reference old.id hash) ⊎ (b ≡ false)) [
+      | true ↦ λ at.
+          let placed : (3, hash.0 ++ eight old.id) ≡ place words r = place_identical (3, hash.0 ++ eight old.id) (place words r) ((Equal-is (place_cmp (3, hash.0 ++ eight old.id) (place words r))).0 at) in
+          let k : hash.0 ++ eight old.id ≡ ends.hash.0 ++ eight ends.other = ap (λ (p : ℕ × List ℕ). p.1) placed ∙ ap words.key ends.is in
+          let own : length ends.hash.0 ≡ 32 = subst (λ r. length (words.position r) ≡ 32) ends.is (schema_laws.position_is_32_bytes r proper) in
+          let parts = key_parts hash ends.hash (eight old.id) (eight ends.other) size own k in
+          let eights = and_parts (is_hash ends.hash) (is_eight ends.other) (subst (λ r. words.is_proper r ≡ true) ends.is proper) in
+          let ids : old.id ≡ ends.other = eight_same old.id ends.other (lt-ltb old.id (2 ^ 64) low) eights.1 parts.1 in
+          inl (ends.is ∙ ap₂ deleted_reference (sym ids) (sym parts.0))
+      | false ↦ λ at. inr refl
+    ] refl
+  ]

@@ -19,6 +19,9 @@ pub mod Accepted
 pub mod Given
 pub mod Descending
 pub mod Queues
+pub mod Owing
+pub mod Ended
+pub mod Gone
 pub mod Writes
 pub mod Uploads
 pub mod Parts

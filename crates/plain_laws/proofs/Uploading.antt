@@ -18,8 +18,8 @@ use Rattle.table_model.specs.Rows.{row_at, is_at, AllProper}
 use Rattle.quorum_model.specs.Quorum.{is_among}
 use Rattle.wire_messages.specs.declared.phase.Phase.TheVariants.{Store}
 use Rattle.wire_messages.specs.declared.phase.PhaseEnd.TheVariants.{Row}
-use Rattle.cluster_machine.specs.Node.{Block}
-use Rattle.cluster_machine.specs.Layouts.{layouts}
+use Rattle.cluster_machine.specs.Node.{Block, Item}
+use Rattle.cluster_machine.specs.Layouts.{layouts, set_of}
 use Rattle.cluster_machine.specs.Blocks.{IsBeside, HasBlock}
 use Rattle.cluster_machine.specs.Rows.{same_bytes, block_at, called_for}
 use Rattle.cluster_machine.specs.World.{undelivered}
@@ -37,46 +37,46 @@ use Rattle.flow_model.specs.declared.flow.FlowStep.TheVariants.{More}
 use Rattle.flow_model.specs.declared.flow.FlowEnd.{FlowEnd}
 use Rattle.flow_model.specs.Blocks.{piece, piece_hash, has_piece, is_long}
 use Rattle.flow_model.specs.Rows.{row_key, meta_of, uploading, in_blocks, inline, version_row, reference_row, block_rows, complete}
-use Rattle.flow_model.specs.Says.{named_by}
+use Rattle.flow_model.specs.Says.{named_by, greatest_ts}
 use Rattle.flow_laws.proofs.Cut.{has_first}
 use Rattle.flow_model.specs.Next.{drawn, completes, writes as flow_writes, next}
 use Rattle.flow_model.specs.Flow.{asks_for}
 use Rattle.store_model.specs.Fresh.{NoClash}
 use Rattle.store_model.specs.Orders.{kind_of, name_of, buckets_of}
 use Rattle.store_model.specs.Run.{State, are_buckets, opened, delivers, drains}
-use Rattle.store_model.specs.Acts.{all_messages}
+use Rattle.store_model.specs.Acts.{all_messages, ActsFit, after_acts}
 use Rattle.store_laws.proofs.Emptied.{emptied_from}
 use Rattle.store_laws.proofs.Objects.{key_parts, digest_length}
 use Rattle.store_laws.proofs.Placing.{asks_is_step, uploading_is_placed, complete_is_placed, piece_has_hash}
-use Rattle.serve_model.specs.Clusters.{Cluster, fits}
-use Rattle.drained_laws.specs.Waiting.{SomeOf, Has as IsIn}
-use Rattle.drained_laws.specs.Accounts.{Brings, IsDue}
+use Rattle.serve_model.specs.Clusters.{Cluster, fits, round, cluster}
+use Rattle.drained_laws.specs.Waiting.{SomeOf, Has as IsIn, waiting}
+use Rattle.drained_laws.specs.Accounts.{Brings, IsDue, AreThree}
 use Rattle.drained_laws.proofs.Waits.{some_left, some_right}
 use Rattle.drained_laws.proofs.Weights.{none_waits}
-use Rattle.serve_model.specs.Plain.{Has, Plain, same_name, has_at, row_of, last_ts, at_time, counted, version_of, version_in, made, writes, answered, AreApart}
-use Rattle.plain_laws.specs.Holds.{nodes_at, HasBlocks, Holds, Agrees, AllBlocks, NoTwins, PutsBlocks}
+use Rattle.serve_model.specs.Plain.{Has, Plain, same_name, has_at, row_of, last_ts, at_time, counted, version_of, version_in, made, writes, answered, object, AreApart}
+use Rattle.plain_laws.specs.Holds.{nodes_at, HasBlocks, Holds, Agrees, AllBlocks, NoTwins, PutsBlocks, HasItsBlocks, IsGone}
 use Rattle.plain_laws.proofs.Holding.{Holding}
 use Rattle.plain_laws.proofs.Smalls.{before_by}
-use Rattle.plain_laws.proofs.Saids.{ts_of_row}
+use Rattle.plain_laws.proofs.Saids.{ts_of_row, ts_complete}
 use Rattle.plain_laws.proofs.Seeking.{a_row}
 use Rattle.plain_laws.proofs.Requests.{base}
 use Rattle.plain_laws.proofs.Given.{AllKept}
 use Rattle.plain_laws.proofs.Looks.{AllHad}
 use Rattle.plain_laws.proofs.Writes.{Course, AreSuch, new_rows, sent_to, all_mine, Written, Going, going_next, has_written}
 use Rattle.plain_laws.proofs.Queues.{CallsFor}
-use Rattle.plain_laws.proofs.Uploads.{IsOld, none_old, whole_old, begun_comes, whole_comes}
-use Rattle.plain_laws.proofs.GivenUp.{IsOldRow, old_row, GivesUp, gone_calls, not_object, not_version, not_reference}
+use Rattle.plain_laws.proofs.Uploads.{IsOld, none_old, whole_old, begun_comes, whole_comes, old_ends, mixed_ends, mixed_differs, again_begun, begun_completed}
+use Rattle.plain_laws.proofs.GivenUp.{IsOldRow, old_row, GivesUp, gone_calls, not_object, not_version, not_reference, gives_row, gives_reference}
 use Rattle.plain_laws.proofs.Sifted.{Sifted, sifted}
-use Rattle.plain_laws.proofs.Clearing.{Clearing, accepted_are, all_news, rounds_clear}
+use Rattle.plain_laws.proofs.Clearing.{Clearing, accepted_are, all_news, rounds_clear, has_among}
 use Rattle.plain_laws.proofs.Becoming.{IsOther, becomes_held}
 use Rattle.plain_laws.proofs.Parts.{IsCount, some_count, flow_at, rows_at, end as upload_end, upload_course, Mine, upload_such}
-use Rattle.plain_laws.proofs.Stages.{later, joins_there, two_tables, stage_of, whole_there, naming_of, naming_comes, ref_of, ref_comes, ref_there, names_all}
+use Rattle.plain_laws.proofs.Stages.{later, joins_there, two_tables, stage_of, whole_there, naming_of, naming_comes, ref_of, ref_comes, ref_there, names_all, passes_by}
 use Rattle.plain_laws.proofs.Starting.{number, reading_state, opened_is, starts}
 use Rattle.plain_laws.proofs.Draining.{drains_keep}
 use Rattle.plain_laws.proofs.Carrying.{now, asker_now, asker_is, holding_now, open_fits, drain_fits, rounds_fit, served_state}
-use Rattle.plain_laws.proofs.Answering.{agrees_refused, one_bucket, row_there, carried_as, serves_so, kept_before}
+use Rattle.plain_laws.proofs.Answering.{agrees_refused, one_bucket, row_there, carried_as, serves_so, kept_before, rows_so}
 use Rattle.plain_laws.proofs.Writing.{one_name}
-use Rattle.plain_laws.proofs.Accepted.{not_at}
+use Rattle.plain_laws.proofs.Accepted.{not_at, IsRowOrApart}
 use Rattle.plain_laws.proofs.Descending.{schema_descends}
 use Rattle.machine_origins.proofs.Good.{IsGood}
 use Rattle.drained_laws.specs.Outboxes.{HasLeft}
@@ -89,6 +89,17 @@ use Rattle.layout_roles.specs.declared.cut.Cut.{Cut}
 use Rattle.crdt_core.specs.Order.{option_join}
 use Rattle.plain_laws.specs.Blocks.{IsBlockAt, PutsLong}
 use Rattle.plain_laws.proofs.Keeping.{Follows, kept_such}
+use Rattle.plain_laws.proofs.Owing.{called_by, called_in}
+use Rattle.plain_laws.proofs.Gone.{item_there, all_gone}
+use Rattle.object_schema.specs.Triggers.{deleted_version, deleted_reference}
+use Rattle.std.proofs.lemmas.List.{append_cancel_right}
+use Rattle.drained_laws.proofs.Posts.{three_at, member_at}
+use Rattle.drained_laws.proofs.Views.{among_here}
+use Rattle.table_schema.specs.Words.{partition_of}
+use Rattle.crdt_rows.specs.Version.{version_cmp}
+use Rattle.std.specs.declared.cmp.Ordering.TheVariants.{Less}
+use Rattle.crdt_rows.specs.declared.body.Body.{Body}
+use Rattle.blake2_hash.specs.declared.digest.Hash32.{Hash32}
 
 -- a block that is found is one of those that are kept
 found_kept : (Bytes : List ℕ → Type 0) (bs : List Block) (hash given : List ℕ) → AllKept Bytes bs → block_at bs hash ≡ Some given → Bytes given
@@ -198,11 +209,11 @@ module _ (c : Cluster) (P : Plain) (h : Holds c P) (clash : NoClash P.buckets) (
   OfUpload r = Mine q name version block content long count counts r
 
   -- one that gives up what was there
-  abbrev IsGone : AnyRow → Type 0
-  IsGone r = IsTrue (words.is_proper r) × GivesUp has r
+  abbrev IsEnding : AnyRow → Type 0
+  IsEnding r = IsTrue (words.is_proper r) × GivesUp has r
 
   abbrev IsMine : AnyRow → Type 0
-  IsMine r = OfUpload r ⊎ IsGone r
+  IsMine r = OfUpload r ⊎ IsEnding r
 
   pub course : Course q flows stored_rows (suc count) end
   course = upload_course q name version block content long count counts low_id
@@ -254,18 +265,18 @@ module _ (c : Cluster) (P : Plain) (h : Holds c P) (clash : NoClash P.buckets) (
   abbrev key_of : ℕ → List ℕ
   key_of i = (piece_hash block body i).0 ++ eight version.id
 
-  gone_from_object : (r : AnyRow) → IsGone r → is_at words 1 (row_key name) r ≡ false
+  gone_from_object : (r : AnyRow) → IsEnding r → is_at words 1 (row_key name) r ≡ false
   gone_from_object r g = not_at any_join words r 1 (row_key name) (λ t k. not_object has r g.1 t)
 
-  gone_from_version : (r : AnyRow) → IsGone r → is_at words 2 (eight version.id) r ≡ false
+  gone_from_version : (r : AnyRow) → IsEnding r → is_at words 2 (eight version.id) r ≡ false
   gone_from_version r g = not_at any_join words r 2 (eight version.id) (λ t k. not_version has r g.1 version.id old_apart t k)
 
-  gone_from_reference : (i : ℕ) (r : AnyRow) → IsGone r → is_at words 3 (key_of i) r ≡ false
+  gone_from_reference : (i : ℕ) (r : AnyRow) → IsEnding r → is_at words 3 (key_of i) r ≡ false
   gone_from_reference i r g = not_at any_join words r 3 (key_of i) (λ t k. not_reference has r g.1 version.id old_apart (piece_hash block body i).0 (digest_length (piece block body i)) g.0 t k)
 
   -- the rows of the upload among those that came
-  its_rows : (m : ℕ) (news : List AnyRow) → AllByRecursion IsMine news → Sifted OfUpload IsGone (had m) news
-  its_rows m news mine = sifted OfUpload IsGone (had m) news mine
+  its_rows : (m : ℕ) (news : List AnyRow) → AllByRecursion IsMine news → Sifted OfUpload IsEnding (had m) news
+  its_rows m news mine = sifted OfUpload IsEnding (had m) news mine
 
   -- the rows that these call for where they come give up what was there
   pub queues_so : (m : ℕ) (news : List AnyRow) → AllByRecursion IsMine news → (r : AnyRow) → IsMine r → IsDue words layouts l m r → CallsFor (GivesUp has) (news ++ base l h.is_layout before n q m) r
@@ -382,7 +393,7 @@ module _ (c : Cluster) (P : Plain) (h : Holds c P) (clash : NoClash P.buckets) (
   abbrev Apart : ℕ → List ℕ → Type 0
   Apart table key = (r : AnyRow) → IsMine r → is_at words table key r ≡ false
 
-  written_clears : (u : State) → HasWritten u → Clears u
+  abbrev written_clears : (u : State) → HasWritten u → Clears u
   written_clears u written = record {
     sent = sent;
     done_so = written.done_so;
@@ -409,15 +420,15 @@ module _ (c : Cluster) (P : Plain) (h : Holds c P) (clash : NoClash P.buckets) (
       let done = cleared.done_so in
       let accepted = accepted_are l h.is_layout before n q end sent proper IsMine (GivesUp has) Bytes queues_so (λ r p g. inr (p, g)) u cleared in
       let news = all_news l h.is_layout before n q end sent proper IsMine (GivesUp has) Bytes queues_so (λ r p g. inr (p, g)) u cleared in
-      let own : (m : ℕ) → Sifted OfUpload IsGone (had m) (done.is.account.news m) = λ m. its_rows m (done.is.account.news m) (news m) in
+      let own : (m : ℕ) → Sifted OfUpload IsEnding (had m) (done.is.account.news m) = λ m. its_rows m (done.is.account.news m) (news m) in
       -- what was sent came
-      let came : (r : AnyRow) → (IsGone r → ⊥) → IsIn sent r → (m : ℕ) → IsDue words layouts l m r → IsIn (own m).first r = λ r not_gone was m due.
+      let came : (r : AnyRow) → (IsEnding r → ⊥) → IsIn sent r → (m : ℕ) → IsDue words layouts l m r → IsIn (own m).first r = λ r not_gone was m due.
       (own m).has r not_gone (elim (done.is.sound.all r (subst (λ rs. IsIn rs r) (sym done.sent_so) (cleared.was r was)) m due) [
         | inl came ↦ came
         | inr brought ↦ absurd (subst (SomeOf (Brings words layouts l m r)) left.none brought)
       ]) in
       -- what nodes have where no row lies that gives up what was there
-      let at : (m table : ℕ) (key : List ℕ) → ((r : AnyRow) → IsGone r → is_at words table key r ≡ false) → row_at any_join words (u.world.nodes m).accepted table key ≡ row_at any_join words ((own m).first ++ had m) table key =
+      let at : (m table : ℕ) (key : List ℕ) → ((r : AnyRow) → IsEnding r → is_at words table key r ≡ false) → row_at any_join words (u.world.nodes m).accepted table key ≡ row_at any_join words ((own m).first ++ had m) table key =
       λ m table key apart. ap (λ rs. row_at any_join words rs table key) (accepted m) ∙ (own m).same table key apart in
       let new_row : row_of name (made version after.block w) ≡ Some (in_blocks name version block content) =
       ap (λ b. Some (elim b as (λ b. AnyRow) [ true ↦ in_blocks name version after.block content | false ↦ inline name version content ])) long ∙ ap (λ b. Some (in_blocks name version b content)) (sym block_is) in
@@ -454,14 +465,216 @@ module _ (c : Cluster) (P : Plain) (h : Holds c P) (clash : NoClash P.buckets) (
             | Some given ↦ λ e beside. ap Some (one_digest given bytes (found_kept Bytes bs hash given kept e) is (beside ∙ sym digest))
           ] refl has
 
+  -- ---- what was there is given up
+
+  module _ (u : State) (written : HasWritten u) (none_left : undelivered u.world ≡ None) (old_version : Version) (old_block : ℕ) (old_content : Content) (was : has ≡ object old_version old_block old_content) (old_long : is_long old_content.body ≡ true) where
+    -- the end of the old version's row
+    abbrev ended : AnyRow
+    ended = deleted_version old_version
+
+    is_in : version_in has ≡ Some old_version
+    is_in = ap version_in was
+
+    old_at_most : old_version.id ≤ P.asked
+    old_at_most = h.map.numbered.asked name old_version is_in
+
+    old_low : old_version.id < 2 ^ 64
+    old_low = omega (arith, old_at_most, low_id)
+
+    later_than : last_ts has < version.ts
+    later_than = omega arith
+
+    less : version_cmp old_version version ≡ Less
+    less = before_by old_version version (subst (λ t. t < version.ts) (ap last_ts was) later_than)
+
+    abbrev old_first : Hash32
+    old_first = piece_hash old_block old_content.body 0
+
+    abbrev old_body : Body
+    old_body = Blocks (meta_of old_content) old_first
+
+    abbrev new_body : Body
+    new_body = Blocks (meta_of content) (piece_hash block body 0)
+
+    abbrev V : AnyRow
+    V = in_blocks name old_version old_block old_content
+
+    abbrev U : AnyRow
+    U = uploading name version
+
+    abbrev C : AnyRow
+    C = in_blocks name version block content
+
+    value_is : value ≡ Some V
+    value_is = ap (row_of name) was ∙ ap (λ b. Some (elim b as (λ b. AnyRow) [ true ↦ in_blocks name old_version old_block old_content | false ↦ inline name old_version old_content ])) old_long
+
+    abbrev begun : Option AnyRow
+    begun = option_join any_join value (Some U)
+
+    begun_is : begun ≡ Some (any_join V U)
+    begun_is = ap (λ o. option_join any_join o (Some U)) value_is
+
+    abbrev at : ℕ → List AnyRow → Option AnyRow
+    at m news = row_at any_join words (news ++ had m) 1 (row_key name)
+
+    -- a node has what it had, or that and the upload's beginning, or called for the end
+    abbrev Either : ℕ → List AnyRow → Type 0
+    Either m news = ((at m news ≡ value) ⊎ (at m news ≡ begun)) ⊎ IsIn (called_in (had m) news) ended
+
+    ends_value : IsIn (called_for any_join words value (Some C)) ended
+    ends_value = subst (λ (o : Option AnyRow). IsIn (called_for any_join words o (Some C)) ended) (sym value_is) (old_ends name version new_body refl old_version old_body refl less (meta_of old_content) old_first refl)
+
+    ends_begun : IsIn (called_for any_join words begun (Some C)) ended
+    ends_begun = subst (λ (o : Option AnyRow). IsIn (called_for any_join words o (Some C)) ended) (sym begun_is) (mixed_ends name version new_body refl old_version old_body refl less (meta_of old_content) old_first refl)
+
+    begun_again : option_join any_join begun (Some U) ≡ begun
+    begun_again = again_begun name version new_body refl (GivesUp has) value old
+
+    begun_whole : option_join any_join begun (Some C) ≡ Some C
+    begun_whole = begun_completed name version new_body refl (GivesUp has) value old
+
+    called_whole : (m : ℕ) (news : List AnyRow) (o : Option AnyRow) → at m news ≡ o → option_join any_join o (Some C) ≡ Some C → IsIn (called_for any_join words o (Some C)) ended → IsIn (called_by (news ++ had m) C) ended
+    called_whole m news o e whole_is calls =
+        subst (λ (x : Option AnyRow). IsIn (called_for any_join words (at m news) x) ended) (sym (joins_there C (news ++ had m) 1 (row_key name) refl refl))
+        (subst (λ (x : Option AnyRow). IsIn (called_for any_join words x (option_join any_join x (Some C))) ended) (sym e) (subst (λ (x : Option AnyRow). IsIn (called_for any_join words o x) ended) (sym whole_is) calls))
+
+    either_next : (m : ℕ) (r : AnyRow) (news : List AnyRow) → IsMine r → Either m news → Either m (r ∷ news)
+    either_next m r news mine (inr h) = inr (some_left (λ z. z ≡ ended) (called_in (had m) news) (called_by (news ++ had m) r) h)
+    either_next m r news (inr g) (inl h) =
+        let same = passes_by r (news ++ had m) 1 (row_key name) (λ t k. not_object has r g.1 t) in
+        inl (elim h [ inl e ↦ inl (same ∙ e) | inr e ↦ inr (same ∙ e) ])
+    either_next m r news (inl (inr (inr (inl v)))) (inl h) =
+        let same = passes_by r (news ++ had m) 1 (row_key name) (λ t k. two_tables 1 2 (omega arith) (sym t ∙ ap words.table v.2)) in
+        inl (elim h [ inl e ↦ inl (same ∙ e) | inr e ↦ inr (same ∙ e) ])
+    either_next m r news (inl (inr (inr (inr v)))) (inl h) =
+        let same = passes_by r (news ++ had m) 1 (row_key name) (λ t k. two_tables 1 3 (omega arith) (sym t ∙ ap words.table v.2)) in
+        inl (elim h [ inl e ↦ inl (same ∙ e) | inr e ↦ inr (same ∙ e) ])
+    either_next m r news (inl (inl e)) (inl h) =
+        let comes : at m (r ∷ news) ≡ option_join any_join (at m news) (Some U) = ap (λ r. at m (r ∷ news)) e ∙ joins_there U (news ++ had m) 1 (row_key name) refl refl in
+        inl (inr (comes ∙ elim h [ inl f ↦ ap (λ o. option_join any_join o (Some U)) f | inr f ↦ ap (λ o. option_join any_join o (Some U)) f ∙ begun_again ]))
+    either_next m r news (inl (inr (inl e))) (inl h) =
+        inr (some_right (λ z. z ≡ ended) (called_in (had m) news) (called_by (news ++ had m) r) (subst (λ r. IsIn (called_by (news ++ had m) r) ended) (sym e)
+        (elim h [ inl f ↦ called_whole m news value f old.joined ends_value | inr f ↦ called_whole m news begun f begun_whole ends_begun ])))
+
+    either_of : (m : ℕ) → row_at any_join words (had m) 1 (row_key name) ≡ value → (news : List AnyRow) → AllByRecursion IsMine news → Either m news
+    either_of m had_it [] mine = inl (inl had_it)
+    either_of m had_it (r ∷ news) mine = either_next m r news mine.0 (either_of m had_it news mine.1)
+
+    not_value : value ≡ Some C → ⊥
+    not_value e =
+        let whole : complete name version block w ≡ C = ap (λ b. elim b as (λ b. AnyRow) [ true ↦ in_blocks name version block content | false ↦ inline name version content ]) long in
+        let same : last_ts has ≡ version.ts = sym (ts_of_row name has) ∙ (ap greatest_ts (e ∙ ap Some (sym whole)) ∙ ts_complete name version block w) in
+        omega (arith, same, later_than)
+
+    not_begun : begun ≡ Some C → ⊥
+    not_begun e = mixed_differs name version new_body refl old_version old_body refl less (same_Some (any_join V U) C (sym begun_is ∙ e))
+
+    -- a node of the object
+    part_low : partition_of words C < 256
+    part_low = schema_laws.partition_is_byte C (upload_proper C (inr (inl refl)))
+
+    three : AreThree (set_of layouts l (partition_of words C))
+    three = three_at layouts l h.is_layout (partition_of words C) part_low
+
+    abbrev o : ℕ
+    o = three.one
+
+    in_set : is_among o (set_of layouts l (partition_of words C)) ≡ true
+    in_set = subst (λ ms. is_among three.one ms ≡ true) (sym three.are) (among_here three.one (three.two ∷ three.three ∷ []))
+
+    member_o : IsIn c.members o
+    member_o = has_among c.members o (subst (λ ms. is_among o ms ≡ true) (sym h.members_are) (member_at layouts l h.is_layout (partition_of words C) o part_low in_set))
+
+    none : waiting u.world ≡ []
+    none = none_waits u.world none_left
+
+    abbrev cleared : Clears u
+    cleared = written_clears u written
+
+    abbrev news_o : List AnyRow
+    news_o = cleared.done_so.is.account.news o
+
+    accepted_o : (u.world.nodes o).accepted ≡ news_o ++ had o
+    accepted_o = accepted_are l h.is_layout before n q end sent proper IsMine (GivesUp has) Bytes queues_so (λ r p g. inr (p, g)) u cleared o
+
+    mine_o : AllByRecursion IsMine news_o
+    mine_o = all_news l h.is_layout before n q end sent proper IsMine (GivesUp has) Bytes queues_so (λ r p g. inr (p, g)) u cleared o
+
+    came_o : IsIn news_o C
+    came_o = elim (cleared.done_so.is.sound.all C (subst (λ rs. IsIn rs C) (sym cleared.done_so.sent_so) (cleared.was C whole_sent)) o in_set) [
+      | inl it ↦ it
+      | inr brought ↦ absurd (subst (SomeOf (Brings words layouts l o C)) none brought)
+    ]
+
+    there_o : at o news_o ≡ Some C
+    there_o =
+        let own = its_rows o news_o mine_o in
+        own.same 1 (row_key name) gone_from_object
+        ∙ whole_there q name version block content long count counts (GivesUp has) value old (had o) (all o in_set) own.first own.all (own.has C (λ g. not_object has _ g.1 refl) came_o)
+
+    called_o : IsIn (called_in (had o) news_o) ended
+    called_o = elim (either_of o (all o in_set) news_o mine_o) [
+      | inl h ↦ elim h [ inl e ↦ absurd (not_value (sym e ∙ there_o)) | inr e ↦ absurd (not_begun (sym e ∙ there_o)) ]
+      | inr called ↦ called
+    ]
+
+    -- so it waits in the node's outbox
+    waits_o : IsIn (map (λ (item : Item AnyRow). item.row) (u.world.nodes o).items) ended
+    waits_o =
+        let owes = written.keeps.owes.each o in
+        let same : owes.news ≡ news_o = append_cancel_right owes.news news_o (had o) (sym owes.accepted ∙ accepted_o) in
+        item_there 0 ended (u.world.nodes o).items (owes.waits ended (subst (λ ns. IsIn (called_in (had o) ns) ended) (sym same) called_o))
+
+    left : HasLeft words layouts l 1 u.world
+    left = box_left schema_laws schema_descends layouts l h.is_layout had proper Applied Cut trio stage_trio 1 u.world written.keeps.boxed none
+
+    old_other : eight version.id ≡ eight old_version.id → ⊥
+    old_other same = old_apart old_version is_in (sym same)
+
+    of_version : (r : AnyRow) → IsMine r → IsRowOrApart any_join words ended 2 (eight old_version.id) r
+    of_version r (inl own) = inr (not_at any_join words r 2 (eight old_version.id) (λ t k. upload_not_version old_version.id old_other r own t k))
+    of_version r (inr g) = gives_row has r g.1 old_version is_in
+
+    of_reference : (i : ℕ) (r : AnyRow) → IsMine r → IsRowOrApart any_join words (deleted_reference old_version.id (piece_hash old_block old_content.body i)) 3 ((piece_hash old_block old_content.body i).0 ++ eight old_version.id) r
+    of_reference i r (inl own) =
+        inr (not_at any_join words r 3 ((piece_hash old_block old_content.body i).0 ++ eight old_version.id) (λ t k. upload_not_reference old_version.id (piece_hash old_block old_content.body i).0 (digest_length (piece old_block old_content.body i)) old_other r own t k))
+    of_reference i r (inr g) = gives_reference has r g.1 old_version is_in g.0 old_low (piece_hash old_block old_content.body i) (digest_length (piece old_block old_content.body i))
+
+    its_old_blocks : HasBlocks l before.world old_version old_block old_content
+    its_old_blocks = subst (HasItsBlocks l before.world) was (holding.blocks name there) old_long
+
+    -- no row of the upload lies at the old version's
+    sent_apart : AllByRecursion (λ r. is_at words 2 (eight old_version.id) r ≡ false) sent
+    sent_apart = all_weaker OfUpload (λ r. is_at words 2 (eight old_version.id) r ≡ false) (λ r own. not_at any_join words r 2 (eight old_version.id) (λ t k. upload_not_version old_version.id old_other r own t k)) sent (uploads_all (suc count))
+      where
+        uploads_all : (j : ℕ) → AllByRecursion OfUpload (sent_to stored_rows j)
+        uploads_all zero = all_append OfUpload (new_rows stored_rows 0) [] ((upload_such q name version block content long count counts Bytes pieces).mine 0) tt
+        uploads_all (suc j) = all_append OfUpload (new_rows stored_rows (suc j)) (sent_to stored_rows j) ((upload_such q name version block content long count counts Bytes pieces).mine (suc j)) (uploads_all j)
+
+    -- where the rounds are over, the old version is given up
+    pub wrote_gone : ActsFit u (round c.members ++ round c.members) → IsGone l (λ m. ((after_acts u (round c.members ++ round c.members)).world.nodes m).accepted) old_version old_block old_content
+    wrote_gone fits =
+        all_gone l h.is_layout before n q end sent proper IsMine (GivesUp has) Bytes queues_so (λ r p g. inr (p, g)) c.members h.members_are u cleared refl left fits old_version old_block old_content old_low its_old_blocks o member_o waits_o of_version of_reference
+        sent_apart
+
   -- where it has written, and nothing waits, both agree
   pub uploaded_agrees : ((bytes : List ℕ) → Bytes bytes → IsBlockAt c P order bytes) → block ≡ P.block → answered after order ≡ writes after name w → (let u = (drains all_messages (opened before n order).state).state in HasWritten u → undelivered u.world ≡ None → Follows c P time order)
   uploaded_agrees such_blocks block_is answered_so = λ written none_left.
       let u : State = (drains all_messages (opened before n order).state).state in
       let left : HasLeft words layouts l 1 u.world = box_left schema_laws schema_descends layouts l h.is_layout had proper Applied Cut trio stage_trio 1 u.world written.keeps.boxed (none_waits u.world none_left) in
       let served = rounds_clear l h.is_layout before n q end sent proper IsMine (GivesUp has) Bytes queues_so (λ r p g. inr (p, g)) c.members h.members_are u (written_clears u written) left (rounds_fit c P h time order known fit) in
-      serves_so c P h time order known fit (answered after order) (carried_as c P h time order known fit) Q end answered_so refl refl (cleared_holds block_is (served_state c P h time order known) served.0 served.1)
-      (λ m. all_weaker (λ (b : Block). Bytes b.bytes) (λ (b : Block). IsBlockAt c P order b.bytes) (λ b is. such_blocks b.bytes is) ((served_state c P h time order known).world.nodes m).blocks (served.0.waits.given.nodes m)) served.0.done_so.ends_so
+      serves_so c P h time order known fit (answered after order) (carried_as c P h time order known fit) Q end answered_so refl refl (cleared_holds block_is (served_state c P h time order known) served.1.0.0 served.1.0.1)
+      (λ m. all_weaker (λ (b : Block). Bytes b.bytes) (λ (b : Block). IsBlockAt c P order b.bytes) (λ b is. such_blocks b.bytes is) ((served_state c P h time order known).world.nodes m).blocks (served.1.0.0.waits.given.nodes m)) served.1.0.0.done_so.ends_so
+
+  -- and what was there in blocks is given up
+  pub uploads_give_up : block ≡ P.block → answered after order ≡ writes after name w → (let u = (drains all_messages (opened before n order).state).state in HasWritten u → undelivered u.world ≡ None →
+      (old_version : Version) (old_block : ℕ) (old_content : Content) → has ≡ object old_version old_block old_content → is_long old_content.body ≡ true → IsGone l (λ m. ((cluster.carries c time order).state.run.world.nodes m).accepted) old_version old_block old_content)
+  uploads_give_up block_is answered_so = λ written none_left old_version old_block old_content was old_long.
+      let u : State = (drains all_messages (opened before n order).state).state in
+      let left : HasLeft words layouts l 1 u.world = box_left schema_laws schema_descends layouts l h.is_layout had proper Applied Cut trio stage_trio 1 u.world written.keeps.boxed (none_waits u.world none_left) in
+      let served = (rounds_clear l h.is_layout before n q end sent proper IsMine (GivesUp has) Bytes queues_so (λ r p g. inr (p, g)) c.members h.members_are u (written_clears u written) left (rounds_fit c P h time order known fit)).1.0 in
+      rows_so c P h time order known fit (answered after order) (carried_as c P h time order known fit) Q end answered_so refl refl (cleared_holds block_is (served_state c P h time order known) served.0 served.1) served.0.done_so.ends_so
+      (λ rows. IsGone l rows old_version old_block old_content) (wrote_gone u written none_left old_version old_block old_content was old_long (rounds_fit c P h time order known fit))
 
 -- ---- a put
 
@@ -479,7 +692,11 @@ module _ (c : Cluster) (P : Plain) (h : Holds c P) (clash : NoClash P.buckets) (
   abbrev start_state : State
   start_state = now c P h time put
 
-  put_agrees : is_long body ≡ true → Follows c P time put
+  -- what was there in blocks is given up
+  abbrev GivesUpOld : Type 0
+  GivesUpOld = (version : Version) (block : ℕ) (content : Content) → has_at P its_name ≡ object version block content → is_long content.body ≡ true → IsGone h.layout (λ m. ((cluster.carries c time put).state.run.world.nodes m).accepted) version block content
+
+  put_agrees : is_long body ≡ true → Follows c P time put × GivesUpOld
   put_agrees long =
       let l = h.layout in
       let m = asker_now c P h time put in
@@ -504,12 +721,14 @@ module _ (c : Cluster) (P : Plain) (h : Holds c P) (clash : NoClash P.buckets) (
       let Has' : State → Type 0 = λ t. HasWritten c P h clash time put known fit its_name too its_content long such apart blocks counted.0 counted.1 pieces_so small t in
       let kept = drains_keep May (write_next c P h clash time put known fit its_name too its_content long such apart blocks counted.0 counted.1 pieces_so small) all_messages start (inl begun) fit' in
       let ended = write_ends c P h clash time put known fit its_name too its_content long such apart blocks counted.0 counted.1 pieces_so small u kept none in
-      uploaded_agrees c P h clash time put known fit its_name too its_content long such apart blocks counted.0 counted.1 pieces_so small (λ bytes is. is) h.block refl
-      (subst (λ (t : State). Has' (drains all_messages t).state) (sym opened_so) ended)
-      (subst (λ (t : State). undelivered (drains all_messages t).state.world ≡ None) (sym opened_so) none)
+      let done = subst (λ (t : State). Has' (drains all_messages t).state) (sym opened_so) ended in
+      let emptied = subst (λ (t : State). undelivered (drains all_messages t).state.world ≡ None) (sym opened_so) none in (
+        uploaded_agrees c P h clash time put known fit its_name too its_content long such apart blocks counted.0 counted.1 pieces_so small (λ bytes is. is) h.block refl done emptied,
+        uploads_give_up c P h clash time put known fit its_name too its_content long such apart blocks counted.0 counted.1 pieces_so small h.block refl done emptied,
+      )
 
 put_agrees_by : (c : Cluster) (P : Plain) (time : ℕ) (order : Order) → (h : Holds c P) → NoClash P.buckets → 1 ≤ P.block → AreApart (IsBlockAt c P order) → fits c time order → PutsLong order → are_buckets P.buckets (buckets_of order) ≡ true → Follows c P time order
-put_agrees_by c P time (order.Put bucket key body headers) h clash some apart fit is known = put_agrees c P h clash time bucket key body headers known fit apart some is
+put_agrees_by c P time (order.Put bucket key body headers) h clash some apart fit is known = (put_agrees c P h clash time bucket key body headers known fit apart some is).0
 put_agrees_by c P time (order.Get bucket key) h clash some apart fit is known = absurd is
 put_agrees_by c P time (order.Head bucket key) h clash some apart fit is known = absurd is
 put_agrees_by c P time (order.Delete bucket key) h clash some apart fit is known = absurd is
@@ -542,3 +761,13 @@ pub puts_blocks_agree : (c : Cluster) (P : Plain) (time : ℕ) (order : Order) (
 puts_blocks_agree c P time order is_such h clash some blocks apart fit is =
     let p = put_such c P is_such blocks order is in
     (puts_blocks_follow c P time order h clash some (λ a b such other e. apart a b (p.1 a such) (p.1 b other) e) fit p.0).agrees
+
+-- what such a put overwrites is given up
+pub puts_gone : (c : Cluster) (P : Plain) (time : ℕ) (order : Order) (h : Holds c P) → NoClash P.buckets → 1 ≤ P.block → AreApart (IsBlockAt c P order) → fits c time order → PutsLong order → are_buckets P.buckets (buckets_of order) ≡ true →
+    (version : Version) (block : ℕ) (content : Content) → has_at P (name_of order) ≡ object version block content → is_long content.body ≡ true → IsGone h.layout (λ m. ((cluster.carries c time order).state.run.world.nodes m).accepted) version block content
+puts_gone c P time (order.Put bucket key body headers) h clash some apart fit is known = (put_agrees c P h clash time bucket key body headers known fit apart some is).1
+puts_gone c P time (order.Get bucket key) h clash some apart fit is known = absurd is
+puts_gone c P time (order.Head bucket key) h clash some apart fit is known = absurd is
+puts_gone c P time (order.Delete bucket key) h clash some apart fit is known = absurd is
+puts_gone c P time (order.Copy from_bucket from_key bucket key headers) h clash some apart fit is known = absurd is
+puts_gone c P time (order.List bucket prefix) h clash some apart fit is known = absurd is

@@ -1,11 +1,11 @@
 -- A delete, and a put of bytes that aren't kept in blocks, to a cluster that holds a map.
-use Rattle.std.proofs.Common.{◌≡◌, ◌⊎◌, ◌<◌, ◌+◌, ℕ, suc, max, true, false, Option, Some, None, List, [], ◌∷◌, ◌++◌, refl, sym, ap, ap₂, ◌∙◌, subst, inl, inr, arith, length}
+use Rattle.std.proofs.Common.{◌≡◌, ◌⊎◌, ◌<◌, ◌+◌, ℕ, suc, max, true, false, Option, Some, None, List, [], ◌∷◌, ◌++◌, refl, sym, ap, ap₂, ◌∙◌, subst, inl, inr, arith, length, map, ◌^◌, ◌≤◌}
 use Rattle.std.specs.Prelude.{IsTrue, ⊤}
 use Rattle.std.specs.List.{AllByRecursion, Contains}
 use Rattle.std.proofs.lemmas.List.Elements.{All-nil, All-cons, recursion_from_All}
 use Rattle.blake2_hash.specs.Blake2b.{blake2b}
 use Rattle.row_codec.specs.Spelling.{eight}
-use Rattle.cluster_machine.specs.Node.{Block}
+use Rattle.cluster_machine.specs.Node.{Block, Item}
 use Rattle.cluster_machine.specs.Blocks.{IsBeside}
 use Rattle.std.proofs.lemmas.Bool.{false≢true}
 use Rattle.blake2_hash.specs.declared.digest.Hash32.{Hash32}
@@ -17,7 +17,7 @@ use Rattle.crdt_rows.specs.AnyRow.{any_join}
 use Rattle.crdt_rows.specs.RowLaws.{any_laws}
 use Rattle.object_schema.specs.Schema.{words}
 use Rattle.object_schema.specs.Laws.{schema_laws}
-use Rattle.table_schema.specs.Words.{partition_at}
+use Rattle.table_schema.specs.Words.{partition_at, partition_of}
 use Rattle.table_model.specs.Rows.{row_at, is_at, AllProper}
 use Rattle.wire_messages.specs.declared.phase.PhaseEnd.TheVariants.{Row, Kept}
 use Rattle.quorum_model.specs.Quorum.{is_among}
@@ -35,27 +35,27 @@ use Rattle.flow_model.specs.declared.flow.FlowStep.{FlowStep}
 use Rattle.flow_model.specs.declared.flow.FlowStep.TheVariants.{More, End}
 use Rattle.flow_model.specs.declared.flow.FlowEnd.{FlowEnd}
 use Rattle.flow_model.specs.declared.flow.FlowEnd.TheVariants.{Stored}
-use Rattle.flow_model.specs.Rows.{row_key, uploading, complete}
+use Rattle.flow_model.specs.Rows.{row_key, uploading, complete, meta_of, in_blocks, inline}
 use Rattle.flow_model.specs.Next.{drawn, stores, completes, writes as flow_writes, next}
 use Rattle.flow_model.specs.Flow.{asks_for, started}
 use Rattle.store_model.specs.Fresh.{NoClash}
 use Rattle.store_model.specs.Orders.{kind_of, name_of, buckets_of}
 use Rattle.store_model.specs.Run.{World, State, are_buckets, opened, delivers, drains}
-use Rattle.store_model.specs.Acts.{all_messages}
+use Rattle.store_model.specs.Acts.{all_messages, ActsFit, after_acts}
 use Rattle.store_laws.proofs.Objects.{key_parts, digest_length}
 use Rattle.store_laws.proofs.Emptied.{emptied_from}
 use Rattle.store_laws.proofs.Placing.{asks_is_step, one_is_step, complete_is_placed}
-use Rattle.serve_model.specs.Clusters.{Cluster, fits}
+use Rattle.serve_model.specs.Clusters.{Cluster, fits, round, cluster}
 use Rattle.drained_laws.specs.Waiting.{SomeOf, Has as IsIn, waiting}
-use Rattle.drained_laws.specs.Accounts.{Brings, IsDue}
+use Rattle.drained_laws.specs.Accounts.{Brings, IsDue, AreThree}
 use Rattle.drained_laws.proofs.Weights.{none_waits}
-use Rattle.serve_model.specs.Plain.{Has, Plain, same_name, has_at, row_of, last_ts, at_time, counted, version_of, made, meta_made, writes, answered}
-use Rattle.plain_laws.specs.Holds.{nodes_at, HasItsBlocks, Holds, WritesRow}
+use Rattle.serve_model.specs.Plain.{Has, Plain, same_name, has_at, row_of, last_ts, at_time, counted, version_of, made, meta_made, writes, answered, object, version_in}
+use Rattle.plain_laws.specs.Holds.{nodes_at, HasItsBlocks, Holds, WritesRow, HasBlocks, IsGone}
 use Rattle.plain_laws.proofs.Holding.{Holding}
 use Rattle.plain_laws.proofs.Entries.{name_itself}
-use Rattle.plain_laws.proofs.Smalls.{IsSmall, IsShort, short_row, small_table, small_key, small_position, small_bare, small_calls_none}
+use Rattle.plain_laws.proofs.Smalls.{IsSmall, IsShort, short_row, small_table, small_key, small_position, small_bare, small_calls_none, before_by}
 use Rattle.plain_laws.proofs.Accepted.{over, not_at, has_either, has_row, IsRowOrApart}
-use Rattle.plain_laws.proofs.Saids.{ts_of_row}
+use Rattle.plain_laws.proofs.Saids.{ts_of_row, ts_complete}
 use Rattle.plain_laws.proofs.Starting.{number, reading_state, opened_is, starts}
 use Rattle.plain_laws.proofs.Given.{AllKept}
 use Rattle.plain_laws.proofs.Requests.{base}
@@ -65,11 +65,11 @@ use Rattle.plain_laws.proofs.Looks.{AllHad, Asking}
 use Rattle.plain_laws.proofs.Draining.{drains_keep}
 use Rattle.crdt_core.specs.Order.{option_join}
 use Rattle.cluster_machine.specs.Rows.{called_for}
-use Rattle.plain_laws.proofs.Carrying.{now, asker_now, asker_is, holding_now, drain_fits, rounds_fit, served_state}
-use Rattle.plain_laws.proofs.Answering.{agrees_refused, row_there, carried_as, one_bucket, serves_so}
-use Rattle.plain_laws.proofs.GivenUp.{GivesUp, whole_row, later_joined, later_calls, gone_calls, not_object, not_version, not_reference}
+use Rattle.plain_laws.proofs.Carrying.{now, asker_now, asker_is, holding_now, drain_fits, rounds_fit, served_state, number_fits}
+use Rattle.plain_laws.proofs.Answering.{agrees_refused, row_there, carried_as, one_bucket, serves_so, rows_so}
+use Rattle.plain_laws.proofs.GivenUp.{GivesUp, whole_row, later_joined, later_calls, gone_calls, not_object, not_version, not_reference, ends_old, gives_row, gives_reference}
 use Rattle.plain_laws.proofs.Queues.{CallsFor}
-use Rattle.plain_laws.proofs.Clearing.{Clearing, accepted_are, all_news, rounds_clear}
+use Rattle.plain_laws.proofs.Clearing.{Clearing, accepted_are, all_news, rounds_clear, has_among}
 use Rattle.plain_laws.proofs.Becoming.{IsOther, becomes_held}
 use Rattle.plain_laws.proofs.Stages.{two_tables}
 use Rattle.plain_laws.proofs.Descending.{schema_descends}
@@ -82,6 +82,19 @@ use Rattle.cluster_machine.specs.declared.applied.Applied.{Applied}
 use Rattle.layout_roles.specs.declared.cut.Cut.{Cut}
 use Rattle.plain_laws.specs.Blocks.{IsKept, IsBlockAt}
 use Rattle.plain_laws.proofs.Keeping.{Follows, each_is_kept}
+use Rattle.plain_laws.proofs.Owing.{called_in}
+use Rattle.plain_laws.proofs.Ended.{either_called}
+use Rattle.std.proofs.lemmas.List.{append_cancel_right}
+use Rattle.drained_laws.proofs.Posts.{three_at, member_at}
+use Rattle.drained_laws.proofs.Views.{among_here}
+use Rattle.crdt_rows.specs.Version.{version_cmp}
+use Rattle.std.specs.declared.cmp.Ordering.TheVariants.{Less}
+use Rattle.flow_model.specs.declared.flow.Content.{Content}
+use Rattle.flow_model.specs.Blocks.{piece_hash, is_long, piece}
+use Rattle.crdt_rows.specs.declared.body.Body.TheVariants.{Blocks}
+use Rattle.object_schema.specs.Triggers.{deleted_version, deleted_reference}
+use Rattle.flow_model.specs.Says.{greatest_ts}
+use Rattle.plain_laws.proofs.Gone.{item_there, all_gone}
 
 -- ---- what a write does when it has read
 
@@ -300,7 +313,7 @@ module _ (c : Cluster) (P : Plain) (h : Holds c P) (clash : NoClash P.buckets) (
   abbrev Apart : ℕ → List ℕ → Type 0
   Apart table key = (r : AnyRow) → Mine r → is_at words table key r ≡ false
 
-  written_clears : (u : State) → HasWritten u → Clears u
+  abbrev written_clears : (u : State) → HasWritten u → Clears u
   written_clears u written = record {
     sent = row ∷ [];
     done_so = written.done_so;
@@ -338,30 +351,173 @@ module _ (c : Cluster) (P : Plain) (h : Holds c P) (clash : NoClash P.buckets) (
       ∙ (has_row any_join words row 1 (row_key name) table_is key_is value joined itself (had m) (all m is) (done.is.account.news m) (row_or_apart (done.is.account.news m) (news m)) (came m is) ∙ sym new_row))
       (made_blocks l u.world version after.block w short)
 
-  -- where it has written, and nothing waits, both agree
+  -- where it has written, and nothing waits, the rounds are over in the end
+  served_so : (let u = (drains all_messages (opened before n order).state).state in HasWritten u → undelivered u.world ≡ None → Clears (served_state c P h time order known) × HasLeft words layouts l 3 (served_state c P h time order known).world)
+  served_so = λ written none_left.
+      let u : State = (drains all_messages (opened before n order).state).state in
+      let left : HasLeft words layouts l 1 u.world = box_left schema_laws schema_descends layouts l h.is_layout had proper Applied Cut trio stage_trio 1 u.world written.keeps.boxed (none_waits u.world none_left) in
+      (rounds_clear l h.is_layout before n q end (row ∷ []) proper Mine (GivesUp has) Bytes queues_so (λ r p g. (p, inr g)) c.members h.members_are u (written_clears u written) left (rounds_fit c P h time order known fit)).1.0
+
+  -- and both agree
   pub wrote_agrees : answered after order ≡ writes after name w → (let u = (drains all_messages (opened before n order).state).state in HasWritten u → undelivered u.world ≡ None → Follows c P time order)
   wrote_agrees answered_so = λ written none_left.
-      let u : State = (drains all_messages (opened before n order).state).state in
-      let none : waiting u.world ≡ [] = none_waits u.world none_left in
-      let left : HasLeft words layouts l 1 u.world = box_left schema_laws schema_descends layouts l h.is_layout had proper Applied Cut trio stage_trio 1 u.world written.keeps.boxed none in
-      let served = rounds_clear l h.is_layout before n q end (row ∷ []) proper Mine (GivesUp has) Bytes queues_so (λ r p g. (p, inr g)) c.members h.members_are u (written_clears u written) left (rounds_fit c P h time order known fit) in
+      let served = served_so written none_left in
       serves_so c P h time order known fit (answered after order) (carried_as c P h time order known fit) Q end answered_so refl refl (cleared_holds (served_state c P h time order known) served.0 served.1)
       (λ m. all_weaker (λ (b : Block). Bytes b.bytes) (λ (b : Block). IsBlockAt c P order b.bytes) (λ b k. inl k) ((served_state c P h time order known).world.nodes m).blocks (served.0.waits.given.nodes m)) served.0.done_so.ends_so
 
-  -- a request that begins as a write
-  pub writes_agree : started order q before.block ≡ (flow, asks_for name) → answered after order ≡ writes after name w → Follows c P time order
-  writes_agree begins_so answered_so =
-      let sought = a_row 1 (row_key name) value in
-      let begun = starts l h.is_layout (at_time P time) before holding n (asker_is c P h time order) order flow (asks_for name) sought (refl, refl) (asks_is_step q name) begins_so all in
-      let opened_so = opened_is l h.is_layout (at_time P time) before holding n (asker_is c P h time order) order flow (asks_for name) sought (refl, refl) (asks_is_step q name) begins_so in
-      let start = reading_state l h.is_layout (at_time P time) before holding n (asker_is c P h time order) order flow (asks_for name) sought (refl, refl) (asks_is_step q name) begins_so in
-      let fit' : FitAll any_join words start.world (drains all_messages start).moves = subst (λ (t : State). FitAll any_join words t.world (drains all_messages t).moves) opened_so (drain_fits c P h time order known fit) in
-      let u : State = (drains all_messages start).state in
-      let none = emptied_from start begun.open_so.is.marked fit' in
-      let ended = write_ends u (drains_keep MayWrite write_next all_messages start (inl begun) fit') none in
-      wrote_agrees answered_so
-      (subst (λ (t : State). HasWritten (drains all_messages t).state) (sym opened_so) ended)
-      (subst (λ (t : State). undelivered (drains all_messages t).state.world ≡ None) (sym opened_so) none)
+  -- ---- what was there is given up
+
+  module _ (u : State) (written : HasWritten u) (none_left : undelivered u.world ≡ None) (old : Version) (old_block : ℕ) (content : Content) (was : has ≡ object old old_block content) (long : is_long content.body ≡ true) where
+    -- the end of the old version's row
+    abbrev ended : AnyRow
+    ended = deleted_version old
+
+    is_in : version_in has ≡ Some old
+    is_in = ap version_in was
+
+    old_low : old.id < 2 ^ 64
+    old_low =
+        let at_most : old.id ≤ P.asked = h.map.numbered.asked name old is_in in
+        let few : suc P.asked < 2 ^ 64 = number_fits c P h time order known fit in
+        omega (arith, at_most, few)
+
+    older : version_cmp old version ≡ Less
+    older = before_by old version (subst (λ t. t < version.ts) (ap last_ts was) later_than)
+
+    old_value : value ≡ Some (in_blocks name old old_block content)
+    old_value = ap (row_of name) was ∙ ap (λ b. Some (elim b as (λ b. AnyRow) [ true ↦ in_blocks name old old_block content | false ↦ inline name old content ])) long
+
+    -- the change of the object's row calls for it
+    calls_end : IsIn (called_for any_join words value (option_join any_join value (Some row))) ended
+    calls_end =
+        let whole = whole_row name version before.block w in
+        let first = piece_hash old_block content.body 0 in
+        subst (λ (o : Option AnyRow). IsIn (called_for any_join words value o) ended) (sym joined)
+        (subst (λ (o : Option AnyRow). IsIn (called_for any_join words o (Some row)) ended) (sym old_value)
+        (subst (λ (r : AnyRow). IsIn (words.triggered (in_blocks name old old_block content) r) ended) (sym whole.is)
+        (ends_old name old version (Blocks (meta_of content) first) whole.body refl whole.fits (meta_of content) first refl older)))
+
+    -- a node of the object
+    part_low : partition_of words row < 256
+    part_low = schema_laws.partition_is_byte row its_row.0
+
+    three : AreThree (set_of layouts l (partition_of words row))
+    three = three_at layouts l h.is_layout (partition_of words row) part_low
+
+    abbrev o : ℕ
+    o = three.one
+
+    in_set : is_among o (set_of layouts l (partition_of words row)) ≡ true
+    in_set = subst (λ ms. is_among three.one ms ≡ true) (sym three.are) (among_here three.one (three.two ∷ three.three ∷ []))
+
+    here_o : IsTrue (is_among o (nodes_at l (digest_of name.bucket).0))
+    here_o = subst (λ p. IsTrue (is_among o (set_of layouts l (partition_at p)))) position_is in_set
+
+    member_o : IsIn c.members o
+    member_o = has_among c.members o (subst (λ ms. is_among o ms ≡ true) (sym h.members_are) (member_at layouts l h.is_layout (partition_of words row) o part_low in_set))
+
+    none : waiting u.world ≡ []
+    none = none_waits u.world none_left
+
+    abbrev cleared : Clears u
+    cleared = written_clears u written
+
+    abbrev news_o : List AnyRow
+    news_o = cleared.done_so.is.account.news o
+
+    accepted_o : (u.world.nodes o).accepted ≡ news_o ++ had o
+    accepted_o = accepted_are l h.is_layout before n q end (row ∷ []) proper Mine (GivesUp has) Bytes queues_so (λ r p g. (p, inr g)) u cleared o
+
+    mine_o : AllByRecursion Mine news_o
+    mine_o = all_news l h.is_layout before n q end (row ∷ []) proper Mine (GivesUp has) Bytes queues_so (λ r p g. (p, inr g)) u cleared o
+
+    came_o : IsIn news_o row
+    came_o = elim (cleared.done_so.is.sound.all row (subst (λ rs. IsIn rs row) (sym cleared.done_so.sent_so) (cleared.was row (inl refl))) o in_set) [
+      | inl came ↦ came
+      | inr brought ↦ absurd (subst (SomeOf (Brings words layouts l o row)) none brought)
+    ]
+
+    not_old : value ≡ Some row → ⊥
+    not_old e =
+        let same : last_ts has ≡ version.ts = sym (ts_of_row name has) ∙ (ap greatest_ts e ∙ ts_complete name version before.block w) in
+        omega (arith, same, later_than)
+
+    called_o : IsIn (called_in (had o) news_o) ended
+    called_o = elim (either_called row 1 (row_key name) table_is key_is value (had o) (all o here_o) ended calls_end news_o (row_or_apart news_o mine_o)) [
+      | inl e ↦ absurd (not_old (sym e ∙ has_row any_join words row 1 (row_key name) table_is key_is value joined itself (had o) (all o here_o) news_o (row_or_apart news_o mine_o) came_o))
+      | inr called ↦ called
+    ]
+
+    -- so it waits in the node's outbox
+    waits_o : IsIn (map (λ (item : Item AnyRow). item.row) (u.world.nodes o).items) ended
+    waits_o =
+        let owes = written.keeps.owes.each o in
+        let same : owes.news ≡ news_o = append_cancel_right owes.news news_o (had o) (sym owes.accepted ∙ accepted_o) in
+        item_there 0 ended (u.world.nodes o).items (owes.waits ended (subst (λ ns. IsIn (called_in (had o) ns) ended) (sym same) called_o))
+
+    left : HasLeft words layouts l 1 u.world
+    left = box_left schema_laws schema_descends layouts l h.is_layout had proper Applied Cut trio stage_trio 1 u.world written.keeps.boxed none
+
+    -- the rows that end the old version stand in for those at their places
+    of_version : (r : AnyRow) → Mine r → IsRowOrApart any_join words ended 2 (eight old.id) r
+    of_version r mine = elim mine.1 [
+      | inl e ↦ inr (not_at any_join words r 2 (eight old.id) (λ t k. two_tables 1 2 (omega arith) (sym table_is ∙ (ap words.table (sym e) ∙ t))))
+      | inr g ↦ gives_row has r g old is_in
+    ]
+
+    of_reference : (i : ℕ) (r : AnyRow) → Mine r → IsRowOrApart any_join words (deleted_reference old.id (piece_hash old_block content.body i)) 3 ((piece_hash old_block content.body i).0 ++ eight old.id) r
+    of_reference i r mine = elim mine.1 [
+      | inl e ↦ inr (not_at any_join words r 3 ((piece_hash old_block content.body i).0 ++ eight old.id) (λ t k. two_tables 1 3 (omega arith) (sym table_is ∙ (ap words.table (sym e) ∙ t))))
+      | inr g ↦ gives_reference has r g old is_in mine.0 old_low (piece_hash old_block content.body i) (digest_length (piece old_block content.body i))
+    ]
+
+    its_blocks : HasBlocks l before.world old old_block content
+    its_blocks = subst (HasItsBlocks l before.world) was (holding.blocks name there) long
+
+    -- where the rounds are over, the old version is given up
+    pub wrote_gone : ActsFit u (round c.members ++ round c.members) → IsGone l (λ m. ((after_acts u (round c.members ++ round c.members)).world.nodes m).accepted) old old_block content
+    wrote_gone fits =
+        all_gone l h.is_layout before n q end (row ∷ []) proper Mine (GivesUp has) Bytes queues_so (λ r p g. (p, inr g)) c.members h.members_are u cleared refl left fits old old_block content old_low its_blocks o member_o waits_o of_version of_reference
+        (not_at any_join words row 2 (eight old.id) (λ t k. two_tables 1 2 (omega arith) (sym table_is ∙ t)), tt)
+
+  -- what was there in blocks is given up
+  abbrev pub GivesUpOld : Type 0
+  GivesUpOld = (old : Version) (old_block : ℕ) (content : Content) → has ≡ object old old_block content → is_long content.body ≡ true → IsGone l (λ m. ((cluster.carries c time order).state.run.world.nodes m).accepted) old old_block content
+
+  -- where it has written, and nothing waits
+  pub wrote_gives_up : answered after order ≡ writes after name w → (let u = (drains all_messages (opened before n order).state).state in HasWritten u → undelivered u.world ≡ None → GivesUpOld)
+  wrote_gives_up answered_so = λ written none_left old old_block content was long.
+      let u : State = (drains all_messages (opened before n order).state).state in
+      let served = served_so written none_left in
+      rows_so c P h time order known fit (answered after order) (carried_as c P h time order known fit) Q end answered_so refl refl (cleared_holds (served_state c P h time order known) served.0 served.1) served.0.done_so.ends_so
+      (λ rows. IsGone l rows old old_block content) (wrote_gone u written none_left old old_block content was long (rounds_fit c P h time order known fit))
+
+  -- ---- a request that begins as a write
+
+  module _ (begins_so : started order q before.block ≡ (flow, asks_for name)) (answered_so : answered after order ≡ writes after name w) where
+    abbrev drained : State
+    drained = (drains all_messages (opened before n order).state).state
+
+    wrote : HasWritten drained × (undelivered drained.world ≡ None)
+    wrote =
+        let sought = a_row 1 (row_key name) value in
+        let begun = starts l h.is_layout (at_time P time) before holding n (asker_is c P h time order) order flow (asks_for name) sought (refl, refl) (asks_is_step q name) begins_so all in
+        let opened_so = opened_is l h.is_layout (at_time P time) before holding n (asker_is c P h time order) order flow (asks_for name) sought (refl, refl) (asks_is_step q name) begins_so in
+        let start = reading_state l h.is_layout (at_time P time) before holding n (asker_is c P h time order) order flow (asks_for name) sought (refl, refl) (asks_is_step q name) begins_so in
+        let fit' : FitAll any_join words start.world (drains all_messages start).moves = subst (λ (t : State). FitAll any_join words t.world (drains all_messages t).moves) opened_so (drain_fits c P h time order known fit) in
+        let u : State = (drains all_messages start).state in
+        let none = emptied_from start begun.open_so.is.marked fit' in
+        let ended = write_ends u (drains_keep MayWrite write_next all_messages start (inl begun) fit') none in (
+          subst (λ (t : State). HasWritten (drains all_messages t).state) (sym opened_so) ended,
+          subst (λ (t : State). undelivered (drains all_messages t).state.world ≡ None) (sym opened_so) none,
+        )
+
+    pub writes_agree : Follows c P time order
+    writes_agree = wrote_agrees answered_so wrote.0 wrote.1
+
+    -- what was there in blocks is given up
+    pub writes_give_up : GivesUpOld
+    writes_give_up = wrote_gives_up answered_so wrote.0 wrote.1
 
 write_agrees : (c : Cluster) (P : Plain) (time : ℕ) (order : Order) → (h : Holds c P) → NoClash P.buckets → fits c time order → WritesRow order → are_buckets P.buckets (buckets_of order) ≡ true → Follows c P time order
 write_agrees c P time (order.Put bucket key body headers) h clash fit allowed known =
@@ -382,3 +538,17 @@ writes_row_agree c P time order h clash fit allowed =
       | true ↦ λ e. write_agrees c P time order h clash fit allowed e
       | false ↦ λ e. agrees_refused c P h time order e
     ] refl
+
+-- what a delete or such a put overwrites is given up
+pub writes_gone : (c : Cluster) (P : Plain) (time : ℕ) (order : Order) (h : Holds c P) → NoClash P.buckets → fits c time order → WritesRow order → are_buckets P.buckets (buckets_of order) ≡ true → (old : Version) (old_block : ℕ) (content : Content) → has_at P (name_of order) ≡ object old old_block content → is_long content.body ≡ true →
+    IsGone h.layout (λ m. ((cluster.carries c time order).state.run.world.nodes m).accepted) old old_block content
+writes_gone c P time (order.Put bucket key body headers) h clash fit allowed known =
+    let name : Name = record { bucket = bucket; key = key } in
+    writes_give_up c P h clash time (order.Put bucket key body headers) known fit name (one_bucket P.buckets bucket known) (wish.Content (record { body = body; headers = headers })) allowed refl refl
+writes_gone c P time (order.Delete bucket key) h clash fit allowed known =
+    let name : Name = record { bucket = bucket; key = key } in
+    writes_give_up c P h clash time (order.Delete bucket key) known fit name (one_bucket P.buckets bucket known) wish.Marker tt refl refl
+writes_gone c P time (order.Get bucket key) h clash fit allowed known = absurd allowed
+writes_gone c P time (order.Head bucket key) h clash fit allowed known = absurd allowed
+writes_gone c P time (order.Copy from_bucket from_key bucket key headers) h clash fit allowed known = absurd allowed
+writes_gone c P time (order.List bucket prefix) h clash fit allowed known = absurd allowed

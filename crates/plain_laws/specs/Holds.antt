@@ -7,7 +7,9 @@ use Rattle.blake2_hash.specs.Hash.{digest_of}
 use Rattle.crdt_rows.specs.declared.version.Version.{Version}
 use Rattle.crdt_rows.specs.AnyRow.{any_join}
 use Rattle.row_codec.specs.Spelling.{eight}
+use Rattle.crdt_rows.specs.declared.any_row.AnyRow.{AnyRow}
 use Rattle.object_schema.specs.Schema.{words}
+use Rattle.object_schema.specs.Triggers.{deleted_version, deleted_reference}
 use Rattle.table_schema.specs.Words.{partition_at}
 use Rattle.table_model.specs.Rows.{row_at}
 use Rattle.quorum_model.specs.Quorum.{is_among}
@@ -82,6 +84,12 @@ pub record Holds (c : Cluster) (P : Plain) : Type 0 where
   pub map : IsMap P
   pub fresh : IsFresh c.run.world P.asked
   pub ends : (q : ℕ) → P.asked < q → end_of c.run.ends q ≡ None
+
+-- of these accepted rows, node by node: the version's row is deleted at each of its nodes, and the reference to each block of the bytes at each node of the block
+pub record IsGone (l : Layout) (rows : ℕ → List AnyRow) (version : Version) (block : ℕ) (c : Content) : Type 0 where
+  pub row : (n : ℕ) → IsTrue (is_among n (nodes_at l (digest_of (eight version.id)).0)) → row_at any_join words (rows n) 2 (eight version.id) ≡ Some (deleted_version version)
+  pub references : (i n : ℕ) → IsTrue (has_piece block c.body i) → IsTrue (is_among n (nodes_at l (piece_hash block c.body i).0)) →
+      row_at any_join words (rows n) 3 ((piece_hash block c.body i).0 ++ eight version.id) ≡ Some (deleted_reference version.id (piece_hash block c.body i))
 
 -- the cluster carries out the order as the map does: it ends with the map's answer, and holds what the map has become
 pub record Agrees (c : Cluster) (P : Plain) (time : ℕ) (order : Order) : Type 0 where

@@ -6,26 +6,30 @@
 //! every order, and so of any orders, one after the other.
 #![tactic(auto)]
 
-ghost use Rattle.std.specs.Prelude.{◌≡◌, ◌≤◌, ℕ, Bool, List, [], ◌∷◌, Some, None};
+ghost use Rattle.std.specs.Prelude.{◌≡◌, ◌≤◌, ℕ, Bool, true, List, [], ◌∷◌, Option, Some, None};
 ghost use Rattle.std.specs.List.{AllByRecursion};
 ghost use Rattle.layout_roles.specs.declared.layout.Layout.{Layout};
 ghost use Rattle.cluster_machine.specs.Choices.{IsFirst};
 ghost use Rattle.cluster_machine.specs.Layouts.{layouts};
+ghost use Rattle.crdt_rows.specs.declared.version.Version.{Version};
+ghost use Rattle.flow_model.specs.declared.flow.Content.{Content};
 ghost use Rattle.flow_model.specs.declared.order.Order.{Order};
 ghost use Rattle.flow_model.specs.declared.order.Order.TheVariants as order;
 ghost use Rattle.flow_model.specs.declared.flow.FlowEnd.TheVariants.{Stored, Found, Nothing};
+ghost use Rattle.flow_model.specs.Blocks.{is_long};
 ghost use Rattle.flow_model.specs.Rows.{meta_of};
 ghost use Rattle.store_model.specs.Fresh.{NoClash};
-ghost use Rattle.store_model.specs.Run.{start};
+ghost use Rattle.store_model.specs.Orders.{name_of, buckets_of};
+ghost use Rattle.store_model.specs.Run.{start, are_buckets};
 ghost use Rattle.store_model.specs.Acts.{installs, acted};
 ghost use Rattle.lab_outside.specs.Connection.{Connection};
 ghost use Rattle.serve_model.specs.Stores.{OrdersFit, after_orders, fits_asking};
 ghost use Rattle.serve_model.specs.Clusters.{Cluster, cluster, fits};
 ghost use Rattle.serve_model.specs.Talk.{Grammar, Serving};
 ghost use Rattle.serve_model.specs.Connections.{AreServed, NoneRose};
-ghost use Rattle.serve_model.specs.Plain.{Plain, plain, IsNumbered, AreInOrder, AreApart};
-ghost use Rattle.plain_laws.specs.Holds.{Holds, Agrees, Reads, WritesRow, CopiesRow, AllBlocks, NoTwins, PutsBlocks, Lists, AllInRows, IsOfRows, ends_of};
-ghost use Rattle.plain_laws.specs.Blocks.{IsBlockAt, KeepsNoOther, Copies, IsPut, IsSomeBlock};
+ghost use Rattle.serve_model.specs.Plain.{object, Plain, has_at, plain, IsNumbered, AreInOrder, AreApart};
+ghost use Rattle.plain_laws.specs.Holds.{Holds, IsGone, Agrees, Reads, WritesRow, CopiesRow, AllBlocks, NoTwins, PutsBlocks, Lists, AllInRows, IsOfRows, ends_of};
+ghost use Rattle.plain_laws.specs.Blocks.{IsBlockAt, KeepsNoOther, PutsLong, Copies, IsPut, IsSomeBlock};
 ghost use Rattle.plain_laws.specs.Served.{IsServedBlock, HoldsApart, AreServedFrom};
 
 /// A first layout that is installed where nothing has happened yet, with whatever buckets and size of blocks, holds the
@@ -81,6 +85,23 @@ pub fn small_stores_answer_as_the_map_does()
         (let c : Cluster = record { run = (acted (record start { buckets = buckets; block = block }) (installs first)).state; ticked = 0; members = layouts.reading.members first } in
         OrdersFit cluster fits c orders →
         ends_of cluster c orders ≡ ends_of plain (record { buckets = buckets; block = block; clock = 0; ticked = 0; asked = 0; entries = [] }) orders) }
+{}
+
+/// What a delete, a put, or a copy of an object overwrites is given up, where it is kept in blocks: the version's row is deleted
+/// at each of its nodes then, and the reference to each of its blocks at each node of the block; where the order's buckets were
+/// made. Puts of bytes that are kept in blocks and copies have the premises of their laws.
+pub fn what_is_overwritten_is_given_up()
+    ensures small { (c : Cluster) (P : Plain) (time : ℕ) (order : Order) (h : Holds c P) → NoClash P.buckets → fits c time order → WritesRow order → are_buckets P.buckets (buckets_of order) ≡ true →
+        (version : Version) (block : ℕ) (content : Content) → has_at P (name_of order) ≡ object version block content → is_long content.body ≡ true →
+        IsGone h.layout (λ n. ((cluster.carries c time order).state.run.world.nodes n).accepted) version block content }
+    ensures in_blocks { (c : Cluster) (P : Plain) (time : ℕ) (order : Order) (h : Holds c P) → NoClash P.buckets → 1 ≤ P.block → AreApart (IsBlockAt c P order) → fits c time order → PutsLong order → are_buckets P.buckets (buckets_of order) ≡ true →
+        (version : Version) (block : ℕ) (content : Content) → has_at P (name_of order) ≡ object version block content → is_long content.body ≡ true →
+        IsGone h.layout (λ n. ((cluster.carries c time order).state.run.world.nodes n).accepted) version block content }
+    ensures copies { (c : Cluster) (P : Plain) (time : ℕ) (from_bucket from_key bucket key : List ℕ) (headers : Option (List (List ℕ × List ℕ))) → (let copy = order.Copy from_bucket from_key bucket key headers in
+        (h : Holds c P) → NoClash P.buckets → 1 ≤ P.block → AreApart (IsBlockAt c P copy) → fits c time copy → are_buckets P.buckets (from_bucket ∷ bucket ∷ []) ≡ true →
+        (source : Version) (source_block : ℕ) (source_content : Content) → has_at P (record { bucket = from_bucket; key = from_key }) ≡ object source source_block source_content →
+        (version : Version) (block : ℕ) (content : Content) → has_at P (record { bucket = bucket; key = key }) ≡ object version block content → is_long content.body ≡ true →
+        IsGone h.layout (λ n. ((cluster.carries c time copy).state.run.world.nodes n).accepted) version block content) }
 {}
 
 /// A block that a node keeps after an order was kept by some node before, or is one of those into which the bytes are cut that
