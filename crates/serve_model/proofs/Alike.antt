@@ -140,7 +140,8 @@ module _ {S T : Type 0} (one : Store S) (other : Store T) (Alike : S → T → T
           subst (λ n. TurnsSo (cut_turn one buckets g last p too_long) (said (bad_head n) true (clocked q) [])) m.time (said_alike (bad_head (clocked p).time) true (clocked p) (clocked q) [] m)
       cut_alike last p q unfinished l = said_alike [] true p q [] l
 
-      turn_alike : (last : Bool) (p : Serving S) (q : Serving T) (bytes : List ℕ) → Serves p q → TurnsSo (turn one buckets g last p bytes) (turn other buckets g last q bytes)
+      -- one request is served alike
+      pub turn_alike : (last : Bool) (p : Serving S) (q : Serving T) (bytes : List ℕ) → Serves p q → TurnsSo (turn one buckets g last p bytes) (turn other buckets g last q bytes)
       turn_alike last p q bytes l fit meant = let t = cut_alike last p q (cut bytes) l fit meant in record { text = t.text; serving = t.serving; next = t.next }
 
       -- what is written to a connection is alike, and what is served after it
