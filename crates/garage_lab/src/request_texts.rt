@@ -4,93 +4,461 @@ use lab_outside::Status;
 use std::test::Fail;
 
 /// A copy, and then a delete of its source.
-const COPY_OUTLIVES_ITS_SOURCE: &[u8] =
-    b"trio\nbucket pics\nbucket docs\ntick 1000\nput 1 pics a 3 97\ndrain 100\ncopy 2 pics a docs b\ndrain 100\ndelete 3 pics a\ndrain 100\nget 1 pics a\ndrain 100\nget 1 docs b\ndrain 100\n";
+const COPY_OUTLIVES_ITS_SOURCE: &[u8] = b"\
+    trio\n\
+    bucket pics\n\
+    bucket docs\n\
+    tick 1000\n\
+    put 1 pics a 3 97\n\
+    drain 100\n\
+    copy 2 pics a docs b\n\
+    drain 100\n\
+    delete 3 pics a\n\
+    drain 100\n\
+    get 1 pics a\n\
+    drain 100\n\
+    get 1 docs b\n\
+    drain 100\n";
 
 /// Its transcript, without the messages.
-const COPY_TEXT: &[u8] =
-    b"1 trio ok\n2 bucket ok\n3 bucket ok\n4 tick ok\n5 put ok 1\n6 drain ok\ndone 1 put 1000/1\n7 copy ok 2\n8 drain ok\ndone 2 copy 1000/2\n9 delete ok 3\n10 drain ok\ndone 3 delete 1001/3\n11 get ok 4\n12 drain ok\ndone 4 get none\n13 get ok 5\n14 drain ok\ndone 5 get 1000/2 3 900150983cd24fb0d6963f7d28e17f72\nnode 1 rows 2 blocks 0 top fe1f9af152ec839c2a34a37be66b562496d8f768400c49fe786abb203d16d375\nnode 2 rows 2 blocks 0 top fe1f9af152ec839c2a34a37be66b562496d8f768400c49fe786abb203d16d375\nnode 3 rows 2 blocks 0 top fe1f9af152ec839c2a34a37be66b562496d8f768400c49fe786abb203d16d375\nend 14 5 54\n";
+const COPY_TEXT: &[u8] = b"\
+    1 trio ok\n\
+    2 bucket ok\n\
+    3 bucket ok\n\
+    4 tick ok\n\
+    5 put ok 1\n\
+    6 drain ok\n\
+    done 1 put 1000/1\n\
+    7 copy ok 2\n\
+    8 drain ok\n\
+    done 2 copy 1000/2\n\
+    9 delete ok 3\n\
+    10 drain ok\n\
+    done 3 delete 1001/3\n\
+    11 get ok 4\n\
+    12 drain ok\n\
+    done 4 get none\n\
+    13 get ok 5\n\
+    14 drain ok\n\
+    done 5 get 1000/2 3 900150983cd24fb0d6963f7d28e17f72\n\
+    node 1 rows 2 blocks 0 top fe1f9af152ec839c2a34a37be66b562496d8f768400c49fe786abb203d16d375\n\
+    node 2 rows 2 blocks 0 top fe1f9af152ec839c2a34a37be66b562496d8f768400c49fe786abb203d16d375\n\
+    node 3 rows 2 blocks 0 top fe1f9af152ec839c2a34a37be66b562496d8f768400c49fe786abb203d16d375\n\
+    end 14 5 54\n";
 
 /// How it ends, with the messages.
-const COPY_END: &[u8] =
-    b"13 get ok 5\nsent 49 get 1 1\nsent 50 get 1 2\nsent 51 get 1 3\n14 drain ok\ngot 49\nsent 52 row 1 1\ngot 50\nsent 53 row 2 1\ngot 51\nsent 54 row 3 1\ngot 52\ngot 53\ndone 5 get 1000/2 3 900150983cd24fb0d6963f7d28e17f72\ngot 54\nnode 1 rows 2 blocks 0 top fe1f9af152ec839c2a34a37be66b562496d8f768400c49fe786abb203d16d375\nnode 2 rows 2 blocks 0 top fe1f9af152ec839c2a34a37be66b562496d8f768400c49fe786abb203d16d375\nnode 3 rows 2 blocks 0 top fe1f9af152ec839c2a34a37be66b562496d8f768400c49fe786abb203d16d375\nend 14 5 54\n";
+const COPY_END: &[u8] = b"\
+    13 get ok 5\n\
+    sent 49 get 1 1\n\
+    sent 50 get 1 2\n\
+    sent 51 get 1 3\n\
+    14 drain ok\n\
+    got 49\n\
+    sent 52 row 1 1\n\
+    got 50\n\
+    sent 53 row 2 1\n\
+    got 51\n\
+    sent 54 row 3 1\n\
+    got 52\n\
+    got 53\n\
+    done 5 get 1000/2 3 900150983cd24fb0d6963f7d28e17f72\n\
+    got 54\n\
+    node 1 rows 2 blocks 0 top fe1f9af152ec839c2a34a37be66b562496d8f768400c49fe786abb203d16d375\n\
+    node 2 rows 2 blocks 0 top fe1f9af152ec839c2a34a37be66b562496d8f768400c49fe786abb203d16d375\n\
+    node 3 rows 2 blocks 0 top fe1f9af152ec839c2a34a37be66b562496d8f768400c49fe786abb203d16d375\n\
+    end 14 5 54\n";
 
 /// Deletes of a key that was never written.
-const DELETES_OF_AN_ABSENT_KEY: &[u8] =
-    b"trio\nbucket pics\ntick 1000\ndelete 1 pics a\ndrain 100\ndelete 2 pics a\ndrain 100\nget 3 pics a\ndrain 100\nhead 3 pics a\ndrain 100\n";
+const DELETES_OF_AN_ABSENT_KEY: &[u8] = b"\
+    trio\n\
+    bucket pics\n\
+    tick 1000\n\
+    delete 1 pics a\n\
+    drain 100\n\
+    delete 2 pics a\n\
+    drain 100\n\
+    get 3 pics a\n\
+    drain 100\n\
+    head 3 pics a\n\
+    drain 100\n";
 
-const DELETES_TEXT: &[u8] =
-    b"1 trio ok\n2 bucket ok\n3 tick ok\n4 delete ok 1\n5 drain ok\ndone 1 delete 1000/1\n6 delete ok 2\n7 drain ok\ndone 2 delete 1001/2\n8 get ok 3\n9 drain ok\ndone 3 get none\n10 head ok 4\n11 drain ok\ndone 4 head none\nnode 1 rows 1 blocks 0 top bd99866c0956d700b718131b10e2085c6f460d121f71cb9b8528ee477a7b7ac5\nnode 2 rows 1 blocks 0 top bd99866c0956d700b718131b10e2085c6f460d121f71cb9b8528ee477a7b7ac5\nnode 3 rows 1 blocks 0 top bd99866c0956d700b718131b10e2085c6f460d121f71cb9b8528ee477a7b7ac5\nend 11 4 36\n";
+const DELETES_TEXT: &[u8] = b"\
+    1 trio ok\n\
+    2 bucket ok\n\
+    3 tick ok\n\
+    4 delete ok 1\n\
+    5 drain ok\n\
+    done 1 delete 1000/1\n\
+    6 delete ok 2\n\
+    7 drain ok\n\
+    done 2 delete 1001/2\n\
+    8 get ok 3\n\
+    9 drain ok\n\
+    done 3 get none\n\
+    10 head ok 4\n\
+    11 drain ok\n\
+    done 4 head none\n\
+    node 1 rows 1 blocks 0 top bd99866c0956d700b718131b10e2085c6f460d121f71cb9b8528ee477a7b7ac5\n\
+    node 2 rows 1 blocks 0 top bd99866c0956d700b718131b10e2085c6f460d121f71cb9b8528ee477a7b7ac5\n\
+    node 3 rows 1 blocks 0 top bd99866c0956d700b718131b10e2085c6f460d121f71cb9b8528ee477a7b7ac5\n\
+    end 11 4 36\n";
 
 /// What is said of an object, without its bytes, and the keys of its bucket.
-const HEAD_AND_LIST: &[u8] =
-    b"trio\nbucket pics\ntick 1000\nput 1 pics b 3 97\ndrain 100\nhead 2 pics b\ndrain 100\nput 3 pics a 4 97\ndrain 100\nlist 1 pics *\ndrain 100\n";
+const HEAD_AND_LIST: &[u8] = b"\
+    trio\n\
+    bucket pics\n\
+    tick 1000\n\
+    put 1 pics b 3 97\n\
+    drain 100\n\
+    head 2 pics b\n\
+    drain 100\n\
+    put 3 pics a 4 97\n\
+    drain 100\n\
+    list 1 pics *\n\
+    drain 100\n";
 
-const HEAD_TEXT: &[u8] =
-    b"1 trio ok\n2 bucket ok\n3 tick ok\n4 put ok 1\n5 drain ok\ndone 1 put 1000/1\n6 head ok 2\n7 drain ok\ndone 2 head 1000/1 3\n8 put ok 3\n9 drain ok\ndone 3 put 1000/3\n10 list ok 4\n11 drain ok\ndone 4 list 2\nkey a 1000/3 4\nkey b 1000/1 3\nnode 1 rows 2 blocks 0 top 33a5dffa5b19d1b706c94406d92db0df35145de206ce43a4f3dd6575c6289111\nnode 2 rows 2 blocks 0 top 33a5dffa5b19d1b706c94406d92db0df35145de206ce43a4f3dd6575c6289111\nnode 3 rows 2 blocks 0 top 33a5dffa5b19d1b706c94406d92db0df35145de206ce43a4f3dd6575c6289111\nend 11 4 36\n";
+const HEAD_TEXT: &[u8] = b"\
+    1 trio ok\n\
+    2 bucket ok\n\
+    3 tick ok\n\
+    4 put ok 1\n\
+    5 drain ok\n\
+    done 1 put 1000/1\n\
+    6 head ok 2\n\
+    7 drain ok\n\
+    done 2 head 1000/1 3\n\
+    8 put ok 3\n\
+    9 drain ok\n\
+    done 3 put 1000/3\n\
+    10 list ok 4\n\
+    11 drain ok\n\
+    done 4 list 2\n\
+    key a 1000/3 4\n\
+    key b 1000/1 3\n\
+    node 1 rows 2 blocks 0 top 33a5dffa5b19d1b706c94406d92db0df35145de206ce43a4f3dd6575c6289111\n\
+    node 2 rows 2 blocks 0 top 33a5dffa5b19d1b706c94406d92db0df35145de206ce43a4f3dd6575c6289111\n\
+    node 3 rows 2 blocks 0 top 33a5dffa5b19d1b706c94406d92db0df35145de206ce43a4f3dd6575c6289111\n\
+    end 11 4 36\n";
 
 /// An object of two blocks. The MD5 is of its 4,097 bytes.
 const TWO_BLOCKS: &[u8] =
     b"trio\nbucket pics\ntick 1000\nblock 4096\nput 1 pics a 4097 97\ndrain 1000\nget 2 pics a\ndrain 1000\n";
 
-const BLOCKS_TEXT: &[u8] =
-    b"1 trio ok\n2 bucket ok\n3 tick ok\n4 block ok\n5 put ok 1\n6 drain ok\ndone 1 put 1000/1\n7 get ok 2\n8 drain ok\ndone 2 get 1000/1 4097 bf42725ddfc8e00fa363605dbb7d1c2e\nnode 1 rows 4 blocks 2 top 33781ee0592674fca9502287d2f48315db994f9b7f7ded08a129cbf3113e7ae9\nnode 2 rows 4 blocks 2 top 33781ee0592674fca9502287d2f48315db994f9b7f7ded08a129cbf3113e7ae9\nnode 3 rows 4 blocks 2 top 33781ee0592674fca9502287d2f48315db994f9b7f7ded08a129cbf3113e7ae9\nend 8 2 66\n";
+const BLOCKS_TEXT: &[u8] = b"\
+    1 trio ok\n\
+    2 bucket ok\n\
+    3 tick ok\n\
+    4 block ok\n\
+    5 put ok 1\n\
+    6 drain ok\n\
+    done 1 put 1000/1\n\
+    7 get ok 2\n\
+    8 drain ok\n\
+    done 2 get 1000/1 4097 bf42725ddfc8e00fa363605dbb7d1c2e\n\
+    node 1 rows 4 blocks 2 top 33781ee0592674fca9502287d2f48315db994f9b7f7ded08a129cbf3113e7ae9\n\
+    node 2 rows 4 blocks 2 top 33781ee0592674fca9502287d2f48315db994f9b7f7ded08a129cbf3113e7ae9\n\
+    node 3 rows 4 blocks 2 top 33781ee0592674fca9502287d2f48315db994f9b7f7ded08a129cbf3113e7ae9\n\
+    end 8 2 66\n";
 
 /// Objects just below the size at which blocks begin, at it, of one whole block, and of a block and a byte. The first blocks
 /// of the last two are one.
-const SIZES_AROUND_A_BLOCK: &[u8] =
-    b"trio\nbucket pics\nblock 4096\nput 1 pics a 3071 0\ndrain 1000\nput 1 pics b 3072 0\ndrain 1000\nput 1 pics c 4096 0\ndrain 1000\nput 1 pics d 4097 0\ndrain 1000\n";
+const SIZES_AROUND_A_BLOCK: &[u8] = b"\
+    trio\n\
+    bucket pics\n\
+    block 4096\n\
+    put 1 pics a 3071 0\n\
+    drain 1000\n\
+    put 1 pics b 3072 0\n\
+    drain 1000\n\
+    put 1 pics c 4096 0\n\
+    drain 1000\n\
+    put 1 pics d 4097 0\n\
+    drain 1000\n";
 
-const SIZES_TEXT: &[u8] =
-    b"1 trio ok\n2 bucket ok\n3 block ok\n4 put ok 1\n5 drain ok\ndone 1 put 1/1\n6 put ok 2\n7 drain ok\ndone 2 put 1/2\n8 put ok 3\n9 drain ok\ndone 3 put 1/3\n10 put ok 4\n11 drain ok\ndone 4 put 1/4\nnode 1 rows 11 blocks 3 top 9124f35ec8372efed856b6a6a82473227c960d2ac352b698af44c3ff261f5c5e\nnode 2 rows 11 blocks 3 top 9124f35ec8372efed856b6a6a82473227c960d2ac352b698af44c3ff261f5c5e\nnode 3 rows 11 blocks 3 top 9124f35ec8372efed856b6a6a82473227c960d2ac352b698af44c3ff261f5c5e\nend 11 4 ";
+const SIZES_TEXT: &[u8] = b"\
+    1 trio ok\n\
+    2 bucket ok\n\
+    3 block ok\n\
+    4 put ok 1\n\
+    5 drain ok\n\
+    done 1 put 1/1\n\
+    6 put ok 2\n\
+    7 drain ok\n\
+    done 2 put 1/2\n\
+    8 put ok 3\n\
+    9 drain ok\n\
+    done 3 put 1/3\n\
+    10 put ok 4\n\
+    11 drain ok\n\
+    done 4 put 1/4\n\
+    node 1 rows 11 blocks 3 top 9124f35ec8372efed856b6a6a82473227c960d2ac352b698af44c3ff261f5c5e\n\
+    node 2 rows 11 blocks 3 top 9124f35ec8372efed856b6a6a82473227c960d2ac352b698af44c3ff261f5c5e\n\
+    node 3 rows 11 blocks 3 top 9124f35ec8372efed856b6a6a82473227c960d2ac352b698af44c3ff261f5c5e\n\
+    end 11 4 ";
 
 /// A block whose object is deleted, and which node 1 gives up ten minutes after.
-const DELETED_BLOCK: &[u8] =
-    b"trio\nbucket pics\nput 1 pics a 3072 0\ndrain 100\ndelete 1 pics a\ndrain 100\nwork 1\ndrain 100\nwork 1\ndrain 100\ntick 599999\nwork 1\ntick 1\nwork 1\n";
+const DELETED_BLOCK: &[u8] = b"\
+    trio\n\
+    bucket pics\n\
+    put 1 pics a 3072 0\n\
+    drain 100\n\
+    delete 1 pics a\n\
+    drain 100\n\
+    work 1\n\
+    drain 100\n\
+    work 1\n\
+    drain 100\n\
+    tick 599999\n\
+    work 1\n\
+    tick 1\n\
+    work 1\n";
 
-const DELETED_TEXT: &[u8] =
-    b"1 trio ok\n2 bucket ok\n3 put ok 1\n4 drain ok\ndone 1 put 1/1\n5 delete ok 2\n6 drain ok\ndone 2 delete 2/2\n7 work ok 1 0\n8 drain ok\n9 work ok 1 0\n10 drain ok\n11 tick ok\n12 work ok 0 0\n13 tick ok\n14 work ok 0 1\nnode 1 rows 3 blocks 0 top 54c79caf1a6f6a1ca982102abe568ef1c81de49bfbe840aa7d22889f28189420\nnode 2 rows 3 blocks 1 top 54c79caf1a6f6a1ca982102abe568ef1c81de49bfbe840aa7d22889f28189420\nnode 3 rows 3 blocks 1 top 54c79caf1a6f6a1ca982102abe568ef1c81de49bfbe840aa7d22889f28189420\nend 14 2 ";
+const DELETED_TEXT: &[u8] = b"\
+    1 trio ok\n\
+    2 bucket ok\n\
+    3 put ok 1\n\
+    4 drain ok\n\
+    done 1 put 1/1\n\
+    5 delete ok 2\n\
+    6 drain ok\n\
+    done 2 delete 2/2\n\
+    7 work ok 1 0\n\
+    8 drain ok\n\
+    9 work ok 1 0\n\
+    10 drain ok\n\
+    11 tick ok\n\
+    12 work ok 0 0\n\
+    13 tick ok\n\
+    14 work ok 0 1\n\
+    node 1 rows 3 blocks 0 top 54c79caf1a6f6a1ca982102abe568ef1c81de49bfbe840aa7d22889f28189420\n\
+    node 2 rows 3 blocks 1 top 54c79caf1a6f6a1ca982102abe568ef1c81de49bfbe840aa7d22889f28189420\n\
+    node 3 rows 3 blocks 1 top 54c79caf1a6f6a1ca982102abe568ef1c81de49bfbe840aa7d22889f28189420\n\
+    end 14 2 ";
 
 /// A copy of a key that was never written.
 const COPY_OF_AN_ABSENT_KEY: &[u8] =
     b"trio\nbucket pics\ntick 1000\ncopy 1 pics a pics b\ndrain 100\n";
 
-const ABSENT_COPY_TEXT: &[u8] =
-    b"1 trio ok\n2 bucket ok\n3 tick ok\n4 copy ok 1\nsent 1 get 1 1\nsent 2 get 1 2\nsent 3 get 1 3\n5 drain ok\ngot 1\nsent 4 row 1 1\ngot 2\nsent 5 row 2 1\ngot 3\nsent 6 row 3 1\ngot 4\ngot 5\ndone 1 copy none\ngot 6\nnode 1 rows 0 blocks 0 top 7e1c26a17bd3d7fa395f34897712e0533bd0d69b934e542d6a4a4fb3ce779cda\nnode 2 rows 0 blocks 0 top 7e1c26a17bd3d7fa395f34897712e0533bd0d69b934e542d6a4a4fb3ce779cda\nnode 3 rows 0 blocks 0 top 7e1c26a17bd3d7fa395f34897712e0533bd0d69b934e542d6a4a4fb3ce779cda\nend 5 1 6\n";
+const ABSENT_COPY_TEXT: &[u8] = b"\
+    1 trio ok\n\
+    2 bucket ok\n\
+    3 tick ok\n\
+    4 copy ok 1\n\
+    sent 1 get 1 1\n\
+    sent 2 get 1 2\n\
+    sent 3 get 1 3\n\
+    5 drain ok\n\
+    got 1\n\
+    sent 4 row 1 1\n\
+    got 2\n\
+    sent 5 row 2 1\n\
+    got 3\n\
+    sent 6 row 3 1\n\
+    got 4\n\
+    got 5\n\
+    done 1 copy none\n\
+    got 6\n\
+    node 1 rows 0 blocks 0 top 7e1c26a17bd3d7fa395f34897712e0533bd0d69b934e542d6a4a4fb3ce779cda\n\
+    node 2 rows 0 blocks 0 top 7e1c26a17bd3d7fa395f34897712e0533bd0d69b934e542d6a4a4fb3ce779cda\n\
+    node 3 rows 0 blocks 0 top 7e1c26a17bd3d7fa395f34897712e0533bd0d69b934e542d6a4a4fb3ce779cda\n\
+    end 5 1 6\n";
 
 /// A request whose node restarts, and one of its messages lost.
-const LOST_AND_RESTARTED: &[u8] =
-    b"trio\nbucket pics\ntick 1000\nskew 1 500\nput 1 pics a 1 97\nlose 1\ndeliver 1\nlose 1\nrestart 1\nexpire 1\nwork 2\nrepair 3\nput 1 pics a 1 97\ndrain 100\n";
+const LOST_AND_RESTARTED: &[u8] = b"\
+    trio\n\
+    bucket pics\n\
+    tick 1000\n\
+    skew 1 500\n\
+    put 1 pics a 1 97\n\
+    lose 1\n\
+    deliver 1\n\
+    lose 1\n\
+    restart 1\n\
+    expire 1\n\
+    work 2\n\
+    repair 3\n\
+    put 1 pics a 1 97\n\
+    drain 100\n";
 
-const RESTARTED_TEXT: &[u8] =
-    b"1 trio ok\n2 bucket ok\n3 tick ok\n4 skew ok\n5 put ok 1\n6 lose ok\n7 deliver refused Lost\n8 lose refused Lost\n9 restart ok\nended 1 restarted\n10 expire refused AlreadyEnded\n11 work ok 0 0\n12 repair ok\n13 put ok 2\n14 drain ok\ndone 2 put 1500/2\nnode 1 rows 1 blocks 0 top 59e4fe432da9f397be7643fc018a0244e119659a69a3629c23d5853caa8dff49\nnode 2 rows 1 blocks 0 top 59e4fe432da9f397be7643fc018a0244e119659a69a3629c23d5853caa8dff49\nnode 3 rows 1 blocks 0 top 59e4fe432da9f397be7643fc018a0244e119659a69a3629c23d5853caa8dff49\nend 14 2 17\n";
+const RESTARTED_TEXT: &[u8] = b"\
+    1 trio ok\n\
+    2 bucket ok\n\
+    3 tick ok\n\
+    4 skew ok\n\
+    5 put ok 1\n\
+    6 lose ok\n\
+    7 deliver refused Lost\n\
+    8 lose refused Lost\n\
+    9 restart ok\n\
+    ended 1 restarted\n\
+    10 expire refused AlreadyEnded\n\
+    11 work ok 0 0\n\
+    12 repair ok\n\
+    13 put ok 2\n\
+    14 drain ok\n\
+    done 2 put 1500/2\n\
+    node 1 rows 1 blocks 0 top 59e4fe432da9f397be7643fc018a0244e119659a69a3629c23d5853caa8dff49\n\
+    node 2 rows 1 blocks 0 top 59e4fe432da9f397be7643fc018a0244e119659a69a3629c23d5853caa8dff49\n\
+    node 3 rows 1 blocks 0 top 59e4fe432da9f397be7643fc018a0244e119659a69a3629c23d5853caa8dff49\n\
+    end 14 2 17\n";
 
 /// A list of which one answer is lost, and which the other two finish, without the key that was deleted.
-const LIST_WITHOUT_DELETED_KEYS: &[u8] =
-    b"trio\nbucket pics\ntick 1000\nput 1 pics a 3 97\ndrain 100\nput 1 pics b 4 97\ndrain 100\ndelete 2 pics a\ndrain 100\nlist 1 pics *\ndeliver 37\ndeliver 38\ndeliver 39\nlose 40\ndeliver 41\ndeliver 42\n";
+const LIST_WITHOUT_DELETED_KEYS: &[u8] = b"\
+    trio\n\
+    bucket pics\n\
+    tick 1000\n\
+    put 1 pics a 3 97\n\
+    drain 100\n\
+    put 1 pics b 4 97\n\
+    drain 100\n\
+    delete 2 pics a\n\
+    drain 100\n\
+    list 1 pics *\n\
+    deliver 37\n\
+    deliver 38\n\
+    deliver 39\n\
+    lose 40\n\
+    deliver 41\n\
+    deliver 42\n";
 
-const LOST_ANSWER_TEXT: &[u8] =
-    b"1 trio ok\n2 bucket ok\n3 tick ok\n4 put ok 1\n5 drain ok\ndone 1 put 1000/1\n6 put ok 2\n7 drain ok\ndone 2 put 1000/2\n8 delete ok 3\n9 drain ok\ndone 3 delete 1001/3\n10 list ok 4\n11 deliver ok\n12 deliver ok\n13 deliver ok\n14 lose ok\n15 deliver ok\n16 deliver ok\ndone 4 list 1\nkey b 1000/2 4\nnode 1 rows 2 blocks 0 top ";
+const LOST_ANSWER_TEXT: &[u8] = b"\
+    1 trio ok\n\
+    2 bucket ok\n\
+    3 tick ok\n\
+    4 put ok 1\n\
+    5 drain ok\n\
+    done 1 put 1000/1\n\
+    6 put ok 2\n\
+    7 drain ok\n\
+    done 2 put 1000/2\n\
+    8 delete ok 3\n\
+    9 drain ok\n\
+    done 3 delete 1001/3\n\
+    10 list ok 4\n\
+    11 deliver ok\n\
+    12 deliver ok\n\
+    13 deliver ok\n\
+    14 lose ok\n\
+    15 deliver ok\n\
+    16 deliver ok\n\
+    done 4 list 1\n\
+    key b 1000/2 4\n\
+    node 1 rows 2 blocks 0 top ";
 
 /// The put is acknowledged by two of three nodes when its node restarts.
 const RESTART_AFTER_QUORUM: &[u8] =
     b"trio\nbucket pics\nput 1 pics a 1 97\ndrain 9\nrestart 1\nget 2 pics a\ndrain 100\n";
 
-const QUORUM_TEXT: &[u8] =
-    b"1 trio ok\n2 bucket ok\n3 put ok 1\n4 drain ok\n5 restart ok\nended 1 restarted\n6 get ok 2\n7 drain ok\ndone 2 get 1/1 1 0cc175b9c0f1b6a831c399e269772661\nnode 1 rows 1 blocks 0 top e08502143c1177c4ca538ffec27c9eaa1bb9e0d3d5cdecdacfaf035de8fa2ff5\n";
+const QUORUM_TEXT: &[u8] = b"\
+    1 trio ok\n\
+    2 bucket ok\n\
+    3 put ok 1\n\
+    4 drain ok\n\
+    5 restart ok\n\
+    ended 1 restarted\n\
+    6 get ok 2\n\
+    7 drain ok\n\
+    done 2 get 1/1 1 0cc175b9c0f1b6a831c399e269772661\n\
+    node 1 rows 1 blocks 0 top e08502143c1177c4ca538ffec27c9eaa1bb9e0d3d5cdecdacfaf035de8fa2ff5\n";
 
 /// Two puts read an empty row, so both take the clock's time; then one node's clock is ahead.
-const CONCURRENT_PUTS_AND_SKEW: &[u8] =
-    b"trio\nbucket pics\ntick 5000\nput 1 pics a 1 97\nput 2 pics a 1 98\ndrain 100\nget 3 pics a\ndrain 100\nskew 1 3600000\nput 1 pics a 1 97\ndrain 100\nput 2 pics a 1 98\ndrain 100\n";
+const CONCURRENT_PUTS_AND_SKEW: &[u8] = b"\
+    trio\n\
+    bucket pics\n\
+    tick 5000\n\
+    put 1 pics a 1 97\n\
+    put 2 pics a 1 98\n\
+    drain 100\n\
+    get 3 pics a\n\
+    drain 100\n\
+    skew 1 3600000\n\
+    put 1 pics a 1 97\n\
+    drain 100\n\
+    put 2 pics a 1 98\n\
+    drain 100\n";
 
-const SKEW_TEXT: &[u8] =
-    b"1 trio ok\n2 bucket ok\n3 tick ok\n4 put ok 1\n5 put ok 2\n6 drain ok\ndone 1 put 5000/1\ndone 2 put 5000/2\n7 get ok 3\n8 drain ok\ndone 3 get 5000/2 1 92eb5ffee6ae2fec3ad71c777531578f\n9 skew ok\n10 put ok 4\n11 drain ok\ndone 4 put 3605000/4\n12 put ok 5\n13 drain ok\ndone 5 put 3605001/5\nnode 1 rows 1 blocks 0 top ";
+const SKEW_TEXT: &[u8] = b"\
+    1 trio ok\n\
+    2 bucket ok\n\
+    3 tick ok\n\
+    4 put ok 1\n\
+    5 put ok 2\n\
+    6 drain ok\n\
+    done 1 put 5000/1\n\
+    done 2 put 5000/2\n\
+    7 get ok 3\n\
+    8 drain ok\n\
+    done 3 get 5000/2 1 92eb5ffee6ae2fec3ad71c777531578f\n\
+    9 skew ok\n\
+    10 put ok 4\n\
+    11 drain ok\n\
+    done 4 put 3605000/4\n\
+    12 put ok 5\n\
+    13 drain ok\n\
+    done 5 put 3605001/5\n\
+    node 1 rows 1 blocks 0 top ";
 
 /// Requests of every kind, a restart, an expiry, and a get whose version row is read after its object was deleted. The
 /// finished reads and the writes of their keys that were acknowledged before them, in order: 1 of `a`, 2 of `a` and `b`,
 /// 1 of `c`, 2 of `b`, 1 of `a`, 2 of `b`, 2 of `d`.
-const CHECKED: &[u8] =
-    b"trio\nbucket pics\nblock 4096\nput 1 pics a 3 97\ndrain 100\nput 2 pics b 3 98\ndrain 100\nget 3 pics a\ndrain 100\nlist 1 pics *\ndrain 100\ncopy 1 pics a pics c\ndrain 100\nhead 2 pics c\ndrain 100\ndelete 3 pics b\ndrain 100\nget 2 pics b\ndrain 100\nput 1 pics a 4 97\ndrain 3\nrestart 1\nget 3 pics a\ndrain 100\nget 1 pics a\nexpire 11\ndrain 100\nlist 2 pics b\ndrain 100\nput 1 pics d 3072 0\ndrain 100\nget 2 pics d\ndeliver 133\ndeliver 134\ndeliver 136\ndeliver 137\ndelete 1 pics d\ndeliver 141\ndeliver 142\ndeliver 144\ndeliver 145\ndeliver 146\ndeliver 147\ndeliver 148\ndeliver 149\ndeliver 150\nwork 1\ndeliver 152\ndeliver 153\ndeliver 154\ndeliver 138\ndeliver 139\ndeliver 158\ndeliver 159\ndrain 200\nget 1 pics d\ndrain 100\n";
+const CHECKED: &[u8] = b"\
+    trio\n\
+    bucket pics\n\
+    block 4096\n\
+    put 1 pics a 3 97\n\
+    drain 100\n\
+    put 2 pics b 3 98\n\
+    drain 100\n\
+    get 3 pics a\n\
+    drain 100\n\
+    list 1 pics *\n\
+    drain 100\n\
+    copy 1 pics a pics c\n\
+    drain 100\n\
+    head 2 pics c\n\
+    drain 100\n\
+    delete 3 pics b\n\
+    drain 100\n\
+    get 2 pics b\n\
+    drain 100\n\
+    put 1 pics a 4 97\n\
+    drain 3\n\
+    restart 1\n\
+    get 3 pics a\n\
+    drain 100\n\
+    get 1 pics a\n\
+    expire 11\n\
+    drain 100\n\
+    list 2 pics b\n\
+    drain 100\n\
+    put 1 pics d 3072 0\n\
+    drain 100\n\
+    get 2 pics d\n\
+    deliver 133\n\
+    deliver 134\n\
+    deliver 136\n\
+    deliver 137\n\
+    delete 1 pics d\n\
+    deliver 141\n\
+    deliver 142\n\
+    deliver 144\n\
+    deliver 145\n\
+    deliver 146\n\
+    deliver 147\n\
+    deliver 148\n\
+    deliver 149\n\
+    deliver 150\n\
+    work 1\n\
+    deliver 152\n\
+    deliver 153\n\
+    deliver 154\n\
+    deliver 138\n\
+    deliver 139\n\
+    deliver 158\n\
+    deliver 159\n\
+    drain 200\n\
+    get 1 pics d\n\
+    drain 100\n";
 
 const CHECKED_END: &[u8] = b"fresh 11\nend 57 16 168\n";
 
@@ -141,8 +509,17 @@ fn copy_of_an_absent_key(rt: HostRuntime) -> Result<(), Fail> {
 }
 
 /// A get that read its object's row before a delete, and its block after it; then the deleted reference is queued.
-const GET_BESIDE_A_DELETE: &[u8] =
-    b"trio\nbucket pics\nput 1 pics a 3072 0\ndrain 100\nget 1 pics a\ndrain 3\ndelete 2 pics a\ndrain 30\nwork 1\ndrain 100\n";
+const GET_BESIDE_A_DELETE: &[u8] = b"\
+    trio\n\
+    bucket pics\n\
+    put 1 pics a 3072 0\n\
+    drain 100\n\
+    get 1 pics a\n\
+    drain 3\n\
+    delete 2 pics a\n\
+    drain 30\n\
+    work 1\n\
+    drain 100\n";
 
 /// What the transcript has of it, in this order. The MD5 is of the object's 3,072 bytes.
 const OUTLIVED_PARTS: [&[u8]; 6] = [

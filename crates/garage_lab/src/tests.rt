@@ -16,74 +16,741 @@ const REPEATED_GET_ANSWERS: &[u8] =
     b"trio\nbucket pics\ntick 1000\nput 1 pics a 3 97\ndrain 100\nget 2 pics a\ndeliver 14\ndeliver 14\ndrain 100";
 
 /// What is told of the first six lines of both.
-const PUT: &[u8] =
-    b"1 trio ok\n2 bucket ok\n3 tick ok\n4 put ok 1\nsent 1 get 1 1\nsent 2 get 1 2\nsent 3 get 1 3\n5 drain ok\ngot 1\nsent 4 row 1 1\ngot 2\nsent 5 row 2 1\ngot 3\nsent 6 row 3 1\ngot 4\ngot 5\nsent 7 store 1 1\nsent 8 store 1 2\nsent 9 store 1 3\ngot 6\ngot 7\nsent 10 stored 1 1\ngot 8\nsent 11 stored 2 1\ngot 9\nsent 12 stored 3 1\ngot 10\ngot 11\ndone 1 put 1000/1\ngot 12\n6 get ok 2\nsent 13 get 2 1\nsent 14 get 2 2\nsent 15 get 2 3\n";
+const PUT: &[u8] = b"\
+    1 trio ok\n\
+    2 bucket ok\n\
+    3 tick ok\n\
+    4 put ok 1\n\
+    sent 1 get 1 1\n\
+    sent 2 get 1 2\n\
+    sent 3 get 1 3\n\
+    5 drain ok\n\
+    got 1\n\
+    sent 4 row 1 1\n\
+    got 2\n\
+    sent 5 row 2 1\n\
+    got 3\n\
+    sent 6 row 3 1\n\
+    got 4\n\
+    got 5\n\
+    sent 7 store 1 1\n\
+    sent 8 store 1 2\n\
+    sent 9 store 1 3\n\
+    got 6\n\
+    got 7\n\
+    sent 10 stored 1 1\n\
+    got 8\n\
+    sent 11 stored 2 1\n\
+    got 9\n\
+    sent 12 stored 3 1\n\
+    got 10\n\
+    got 11\n\
+    done 1 put 1000/1\n\
+    got 12\n\
+    6 get ok 2\n\
+    sent 13 get 2 1\n\
+    sent 14 get 2 2\n\
+    sent 15 get 2 3\n";
 
-const FIRST_GET: &[u8] =
-    b"7 drain ok\ngot 13\nsent 16 row 1 2\ngot 14\nsent 17 row 2 2\ngot 15\nsent 18 row 3 2\ngot 16\ngot 17\ndone 2 get 1000/1 3 900150983cd24fb0d6963f7d28e17f72\ngot 18\nnode 1 rows 1 blocks 0 top 087ba7b7095045284bb9c4115b2a2c69aa1046e928faf9626fd9ebcdeff5c1ff\nnode 2 rows 1 blocks 0 top 087ba7b7095045284bb9c4115b2a2c69aa1046e928faf9626fd9ebcdeff5c1ff\nnode 3 rows 1 blocks 0 top 087ba7b7095045284bb9c4115b2a2c69aa1046e928faf9626fd9ebcdeff5c1ff\nend 7 2 18\n";
+const FIRST_GET: &[u8] = b"\
+    7 drain ok\n\
+    got 13\n\
+    sent 16 row 1 2\n\
+    got 14\n\
+    sent 17 row 2 2\n\
+    got 15\n\
+    sent 18 row 3 2\n\
+    got 16\n\
+    got 17\n\
+    done 2 get 1000/1 3 900150983cd24fb0d6963f7d28e17f72\n\
+    got 18\n\
+    node 1 rows 1 blocks 0 top 087ba7b7095045284bb9c4115b2a2c69aa1046e928faf9626fd9ebcdeff5c1ff\n\
+    node 2 rows 1 blocks 0 top 087ba7b7095045284bb9c4115b2a2c69aa1046e928faf9626fd9ebcdeff5c1ff\n\
+    node 3 rows 1 blocks 0 top 087ba7b7095045284bb9c4115b2a2c69aa1046e928faf9626fd9ebcdeff5c1ff\n\
+    end 7 2 18\n";
 
-const REPEATED_GET: &[u8] =
-    b"7 deliver ok\ngot 14\nsent 16 row 2 2\n8 deliver ok\ngot 14\nsent 17 row 2 2\n9 drain ok\ngot 13\nsent 18 row 1 2\ngot 15\nsent 19 row 3 2\ngot 16\ngot 17\ngot 18\ndone 2 get 1000/1 3 900150983cd24fb0d6963f7d28e17f72\ngot 19\nnode 1 rows 1 blocks 0 top 087ba7b7095045284bb9c4115b2a2c69aa1046e928faf9626fd9ebcdeff5c1ff\nnode 2 rows 1 blocks 0 top 087ba7b7095045284bb9c4115b2a2c69aa1046e928faf9626fd9ebcdeff5c1ff\nnode 3 rows 1 blocks 0 top 087ba7b7095045284bb9c4115b2a2c69aa1046e928faf9626fd9ebcdeff5c1ff\nend 9 2 19\n";
+const REPEATED_GET: &[u8] = b"\
+    7 deliver ok\n\
+    got 14\n\
+    sent 16 row 2 2\n\
+    8 deliver ok\n\
+    got 14\n\
+    sent 17 row 2 2\n\
+    9 drain ok\n\
+    got 13\n\
+    sent 18 row 1 2\n\
+    got 15\n\
+    sent 19 row 3 2\n\
+    got 16\n\
+    got 17\n\
+    got 18\n\
+    done 2 get 1000/1 3 900150983cd24fb0d6963f7d28e17f72\n\
+    got 19\n\
+    node 1 rows 1 blocks 0 top 087ba7b7095045284bb9c4115b2a2c69aa1046e928faf9626fd9ebcdeff5c1ff\n\
+    node 2 rows 1 blocks 0 top 087ba7b7095045284bb9c4115b2a2c69aa1046e928faf9626fd9ebcdeff5c1ff\n\
+    node 3 rows 1 blocks 0 top 087ba7b7095045284bb9c4115b2a2c69aa1046e928faf9626fd9ebcdeff5c1ff\n\
+    end 9 2 19\n";
 
 /// A layout is applied while a put is open.
-const ACK_WAITS_FOR_OPEN_REQUEST: &[u8] =
-    b"trio\nbucket pics\nrole 1 a gateway\nrole 2 b gateway\nrole 3 c gateway\nrole 4 a 1000\nrole 5 b 1000\nrole 6 c 1000\nput 1 pics a 1 97\napply 1\nack 1\nexpire 1\nack 1\n";
+const ACK_WAITS_FOR_OPEN_REQUEST: &[u8] = b"\
+    trio\n\
+    bucket pics\n\
+    role 1 a gateway\n\
+    role 2 b gateway\n\
+    role 3 c gateway\n\
+    role 4 a 1000\n\
+    role 5 b 1000\n\
+    role 6 c 1000\n\
+    put 1 pics a 1 97\n\
+    apply 1\n\
+    ack 1\n\
+    expire 1\n\
+    ack 1\n";
 
 /// Its transcript.
-const OPEN_REQUEST_TEXT: &[u8] =
-    b"1 trio ok\n2 bucket ok\n3 role ok\n4 role ok\n5 role ok\n6 role ok\n7 role ok\n8 role ok\n9 put ok 1\nsent 1 get 1 1\nsent 2 get 1 2\nsent 3 get 1 3\n10 apply ok 2\nsize 3\nredundancy 3\np 0 255 4 5 6\ncut 4 750\nc 0 255 up z:a z:b z:c\ncn 4 5 6\n11 ack ok 1\n12 expire ok\nended 1 expired\n13 ack ok 2\nnode 1 rows 0 blocks 0 top 7e1c26a17bd3d7fa395f34897712e0533bd0d69b934e542d6a4a4fb3ce779cda\nnode 2 rows 0 blocks 0 top 7e1c26a17bd3d7fa395f34897712e0533bd0d69b934e542d6a4a4fb3ce779cda\nnode 3 rows 0 blocks 0 top 7e1c26a17bd3d7fa395f34897712e0533bd0d69b934e542d6a4a4fb3ce779cda\nend 13 1 3\n";
+const OPEN_REQUEST_TEXT: &[u8] = b"\
+    1 trio ok\n\
+    2 bucket ok\n\
+    3 role ok\n\
+    4 role ok\n\
+    5 role ok\n\
+    6 role ok\n\
+    7 role ok\n\
+    8 role ok\n\
+    9 put ok 1\n\
+    sent 1 get 1 1\n\
+    sent 2 get 1 2\n\
+    sent 3 get 1 3\n\
+    10 apply ok 2\n\
+    size 3\n\
+    redundancy 3\n\
+    p 0 255 4 5 6\n\
+    cut 4 750\n\
+    c 0 255 up z:a z:b z:c\n\
+    cn 4 5 6\n\
+    11 ack ok 1\n\
+    12 expire ok\n\
+    ended 1 expired\n\
+    13 ack ok 2\n\
+    node 1 rows 0 blocks 0 top 7e1c26a17bd3d7fa395f34897712e0533bd0d69b934e542d6a4a4fb3ce779cda\n\
+    node 2 rows 0 blocks 0 top 7e1c26a17bd3d7fa395f34897712e0533bd0d69b934e542d6a4a4fb3ce779cda\n\
+    node 3 rows 0 blocks 0 top 7e1c26a17bd3d7fa395f34897712e0533bd0d69b934e542d6a4a4fb3ce779cda\n\
+    end 13 1 3\n";
 
 /// Two more layouts, all acknowledged, and no round.
-const READ_AT_OLDEST_VERSION: &[u8] =
-    b"trio\nbucket pics\nput 1 pics a 1 97\ndrain 100\nrole 1 a gateway\nrole 2 b gateway\nrole 3 c gateway\nrole 4 a 1000\nrole 5 b 1000\nrole 6 c 1000\napply 1\nrole 4 a gateway\nrole 5 b gateway\nrole 6 c gateway\nrole 7 a 1000\nrole 8 b 1000\nrole 9 c 1000\napply 1\ngossip 1 2\ngossip 1 3\ngossip 1 4\ngossip 1 5\ngossip 1 6\ngossip 1 7\ngossip 1 8\ngossip 1 9\ndrain 100\nack 1\nack 2\nack 3\nack 4\nack 5\nack 6\nack 7\nack 8\nack 9\ngossip 1 4\ngossip 2 4\ngossip 3 4\ngossip 4 4\ngossip 5 4\ngossip 6 4\ngossip 7 4\ngossip 8 4\ngossip 9 4\ndrain 100\nsync 4\nget 4 pics a\ndrain 100\n";
+const READ_AT_OLDEST_VERSION: &[u8] = b"\
+    trio\n\
+    bucket pics\n\
+    put 1 pics a 1 97\n\
+    drain 100\n\
+    role 1 a gateway\n\
+    role 2 b gateway\n\
+    role 3 c gateway\n\
+    role 4 a 1000\n\
+    role 5 b 1000\n\
+    role 6 c 1000\n\
+    apply 1\n\
+    role 4 a gateway\n\
+    role 5 b gateway\n\
+    role 6 c gateway\n\
+    role 7 a 1000\n\
+    role 8 b 1000\n\
+    role 9 c 1000\n\
+    apply 1\n\
+    gossip 1 2\n\
+    gossip 1 3\n\
+    gossip 1 4\n\
+    gossip 1 5\n\
+    gossip 1 6\n\
+    gossip 1 7\n\
+    gossip 1 8\n\
+    gossip 1 9\n\
+    drain 100\n\
+    ack 1\n\
+    ack 2\n\
+    ack 3\n\
+    ack 4\n\
+    ack 5\n\
+    ack 6\n\
+    ack 7\n\
+    ack 8\n\
+    ack 9\n\
+    gossip 1 4\n\
+    gossip 2 4\n\
+    gossip 3 4\n\
+    gossip 4 4\n\
+    gossip 5 4\n\
+    gossip 6 4\n\
+    gossip 7 4\n\
+    gossip 8 4\n\
+    gossip 9 4\n\
+    drain 100\n\
+    sync 4\n\
+    get 4 pics a\n\
+    drain 100\n";
 
 /// Its transcript, without the messages.
-const OLDEST_READ_TEXT: &[u8] =
-    b"1 trio ok\n2 bucket ok\n3 put ok 1\n4 drain ok\ndone 1 put 1/1\n5 role ok\n6 role ok\n7 role ok\n8 role ok\n9 role ok\n10 role ok\n11 apply ok 2\nsize 3\nredundancy 3\np 0 255 4 5 6\ncut 4 750\nc 0 255 up z:a z:b z:c\ncn 4 5 6\n12 role ok\n13 role ok\n14 role ok\n15 role ok\n16 role ok\n17 role ok\n18 apply ok 3\nsize 3\nredundancy 3\np 0 255 7 8 9\ncut 4 750\nc 0 255 up z:a z:b z:c\ncn 7 8 9\n19 gossip ok\n20 gossip ok\n21 gossip ok\n22 gossip ok\n23 gossip ok\n24 gossip ok\n25 gossip ok\n26 gossip ok\n27 drain ok\n28 ack ok 3\n29 ack ok 3\n30 ack ok 3\n31 ack ok 3\n32 ack ok 3\n33 ack ok 3\n34 ack ok 3\n35 ack ok 3\n36 ack ok 3\n37 gossip ok\n38 gossip ok\n39 gossip ok\n40 gossip ok\n41 gossip ok\n42 gossip ok\n43 gossip ok\n44 gossip ok\n45 gossip ok\n46 drain ok\n47 sync ok idle 1 3\n48 get ok 2\n49 drain ok\ndone 2 get 1/1 1 0cc175b9c0f1b6a831c399e269772661\nnode 1 rows 1 blocks 0 top e08502143c1177c4ca538ffec27c9eaa1bb9e0d3d5cdecdacfaf035de8fa2ff5\nnode 2 rows 1 blocks 0 top e08502143c1177c4ca538ffec27c9eaa1bb9e0d3d5cdecdacfaf035de8fa2ff5\nnode 3 rows 1 blocks 0 top e08502143c1177c4ca538ffec27c9eaa1bb9e0d3d5cdecdacfaf035de8fa2ff5\nnode 4 rows 0 blocks 0 top 7e1c26a17bd3d7fa395f34897712e0533bd0d69b934e542d6a4a4fb3ce779cda\nnode 5 rows 0 blocks 0 top 7e1c26a17bd3d7fa395f34897712e0533bd0d69b934e542d6a4a4fb3ce779cda\nnode 6 rows 0 blocks 0 top 7e1c26a17bd3d7fa395f34897712e0533bd0d69b934e542d6a4a4fb3ce779cda\nnode 7 rows 0 blocks 0 top 7e1c26a17bd3d7fa395f34897712e0533bd0d69b934e542d6a4a4fb3ce779cda\nnode 8 rows 0 blocks 0 top 7e1c26a17bd3d7fa395f34897712e0533bd0d69b934e542d6a4a4fb3ce779cda\nnode 9 rows 0 blocks 0 top 7e1c26a17bd3d7fa395f34897712e0533bd0d69b934e542d6a4a4fb3ce779cda\nend 49 2 35\n";
+const OLDEST_READ_TEXT: &[u8] = b"\
+    1 trio ok\n\
+    2 bucket ok\n\
+    3 put ok 1\n\
+    4 drain ok\n\
+    done 1 put 1/1\n\
+    5 role ok\n\
+    6 role ok\n\
+    7 role ok\n\
+    8 role ok\n\
+    9 role ok\n\
+    10 role ok\n\
+    11 apply ok 2\n\
+    size 3\n\
+    redundancy 3\n\
+    p 0 255 4 5 6\n\
+    cut 4 750\n\
+    c 0 255 up z:a z:b z:c\n\
+    cn 4 5 6\n\
+    12 role ok\n\
+    13 role ok\n\
+    14 role ok\n\
+    15 role ok\n\
+    16 role ok\n\
+    17 role ok\n\
+    18 apply ok 3\n\
+    size 3\n\
+    redundancy 3\n\
+    p 0 255 7 8 9\n\
+    cut 4 750\n\
+    c 0 255 up z:a z:b z:c\n\
+    cn 7 8 9\n\
+    19 gossip ok\n\
+    20 gossip ok\n\
+    21 gossip ok\n\
+    22 gossip ok\n\
+    23 gossip ok\n\
+    24 gossip ok\n\
+    25 gossip ok\n\
+    26 gossip ok\n\
+    27 drain ok\n\
+    28 ack ok 3\n\
+    29 ack ok 3\n\
+    30 ack ok 3\n\
+    31 ack ok 3\n\
+    32 ack ok 3\n\
+    33 ack ok 3\n\
+    34 ack ok 3\n\
+    35 ack ok 3\n\
+    36 ack ok 3\n\
+    37 gossip ok\n\
+    38 gossip ok\n\
+    39 gossip ok\n\
+    40 gossip ok\n\
+    41 gossip ok\n\
+    42 gossip ok\n\
+    43 gossip ok\n\
+    44 gossip ok\n\
+    45 gossip ok\n\
+    46 drain ok\n\
+    47 sync ok idle 1 3\n\
+    48 get ok 2\n\
+    49 drain ok\n\
+    done 2 get 1/1 1 0cc175b9c0f1b6a831c399e269772661\n\
+    node 1 rows 1 blocks 0 top e08502143c1177c4ca538ffec27c9eaa1bb9e0d3d5cdecdacfaf035de8fa2ff5\n\
+    node 2 rows 1 blocks 0 top e08502143c1177c4ca538ffec27c9eaa1bb9e0d3d5cdecdacfaf035de8fa2ff5\n\
+    node 3 rows 1 blocks 0 top e08502143c1177c4ca538ffec27c9eaa1bb9e0d3d5cdecdacfaf035de8fa2ff5\n\
+    node 4 rows 0 blocks 0 top 7e1c26a17bd3d7fa395f34897712e0533bd0d69b934e542d6a4a4fb3ce779cda\n\
+    node 5 rows 0 blocks 0 top 7e1c26a17bd3d7fa395f34897712e0533bd0d69b934e542d6a4a4fb3ce779cda\n\
+    node 6 rows 0 blocks 0 top 7e1c26a17bd3d7fa395f34897712e0533bd0d69b934e542d6a4a4fb3ce779cda\n\
+    node 7 rows 0 blocks 0 top 7e1c26a17bd3d7fa395f34897712e0533bd0d69b934e542d6a4a4fb3ce779cda\n\
+    node 8 rows 0 blocks 0 top 7e1c26a17bd3d7fa395f34897712e0533bd0d69b934e542d6a4a4fb3ce779cda\n\
+    node 9 rows 0 blocks 0 top 7e1c26a17bd3d7fa395f34897712e0533bd0d69b934e542d6a4a4fb3ce779cda\n\
+    end 49 2 35\n";
 
 /// How it ends, with the messages.
-const OLDEST_READ_END: &[u8] =
-    b"47 sync ok idle 1 3\n48 get ok 2\nsent 30 get 4 1\nsent 31 get 4 2\nsent 32 get 4 3\n49 drain ok\ngot 30\nsent 33 row 1 4\ngot 31\nsent 34 row 2 4\ngot 32\nsent 35 row 3 4\ngot 33\ngot 34\ndone 2 get 1/1 1 0cc175b9c0f1b6a831c399e269772661\ngot 35\nnode 1 rows 1 blocks 0 top e08502143c1177c4ca538ffec27c9eaa1bb9e0d3d5cdecdacfaf035de8fa2ff5\nnode 2 rows 1 blocks 0 top e08502143c1177c4ca538ffec27c9eaa1bb9e0d3d5cdecdacfaf035de8fa2ff5\nnode 3 rows 1 blocks 0 top e08502143c1177c4ca538ffec27c9eaa1bb9e0d3d5cdecdacfaf035de8fa2ff5\nnode 4 rows 0 blocks 0 top 7e1c26a17bd3d7fa395f34897712e0533bd0d69b934e542d6a4a4fb3ce779cda\nnode 5 rows 0 blocks 0 top 7e1c26a17bd3d7fa395f34897712e0533bd0d69b934e542d6a4a4fb3ce779cda\nnode 6 rows 0 blocks 0 top 7e1c26a17bd3d7fa395f34897712e0533bd0d69b934e542d6a4a4fb3ce779cda\nnode 7 rows 0 blocks 0 top 7e1c26a17bd3d7fa395f34897712e0533bd0d69b934e542d6a4a4fb3ce779cda\nnode 8 rows 0 blocks 0 top 7e1c26a17bd3d7fa395f34897712e0533bd0d69b934e542d6a4a4fb3ce779cda\nnode 9 rows 0 blocks 0 top 7e1c26a17bd3d7fa395f34897712e0533bd0d69b934e542d6a4a4fb3ce779cda\nend 49 2 35\n";
+const OLDEST_READ_END: &[u8] = b"\
+    47 sync ok idle 1 3\n\
+    48 get ok 2\n\
+    sent 30 get 4 1\n\
+    sent 31 get 4 2\n\
+    sent 32 get 4 3\n\
+    49 drain ok\n\
+    got 30\n\
+    sent 33 row 1 4\n\
+    got 31\n\
+    sent 34 row 2 4\n\
+    got 32\n\
+    sent 35 row 3 4\n\
+    got 33\n\
+    got 34\n\
+    done 2 get 1/1 1 0cc175b9c0f1b6a831c399e269772661\n\
+    got 35\n\
+    node 1 rows 1 blocks 0 top e08502143c1177c4ca538ffec27c9eaa1bb9e0d3d5cdecdacfaf035de8fa2ff5\n\
+    node 2 rows 1 blocks 0 top e08502143c1177c4ca538ffec27c9eaa1bb9e0d3d5cdecdacfaf035de8fa2ff5\n\
+    node 3 rows 1 blocks 0 top e08502143c1177c4ca538ffec27c9eaa1bb9e0d3d5cdecdacfaf035de8fa2ff5\n\
+    node 4 rows 0 blocks 0 top 7e1c26a17bd3d7fa395f34897712e0533bd0d69b934e542d6a4a4fb3ce779cda\n\
+    node 5 rows 0 blocks 0 top 7e1c26a17bd3d7fa395f34897712e0533bd0d69b934e542d6a4a4fb3ce779cda\n\
+    node 6 rows 0 blocks 0 top 7e1c26a17bd3d7fa395f34897712e0533bd0d69b934e542d6a4a4fb3ce779cda\n\
+    node 7 rows 0 blocks 0 top 7e1c26a17bd3d7fa395f34897712e0533bd0d69b934e542d6a4a4fb3ce779cda\n\
+    node 8 rows 0 blocks 0 top 7e1c26a17bd3d7fa395f34897712e0533bd0d69b934e542d6a4a4fb3ce779cda\n\
+    node 9 rows 0 blocks 0 top 7e1c26a17bd3d7fa395f34897712e0533bd0d69b934e542d6a4a4fb3ce779cda\n\
+    end 49 2 35\n";
 
 /// Node 3 leaves, and learns of it before node 2 does.
-const MEMBER_OF_ITS_NEWEST_VERSION: &[u8] =
-    b"trio\nbucket pics\nrole 3 none\nrole 4 c 1000\napply 1\ngossip 1 3\ndrain 1\nget 3 pics a\napply 2\nget 2 pics a\nget 2 none a\n";
+const MEMBER_OF_ITS_NEWEST_VERSION: &[u8] = b"\
+    trio\n\
+    bucket pics\n\
+    role 3 none\n\
+    role 4 c 1000\n\
+    apply 1\n\
+    gossip 1 3\n\
+    drain 1\n\
+    get 3 pics a\n\
+    apply 2\n\
+    get 2 pics a\n\
+    get 2 none a\n";
 
 /// Its transcript.
-const LEAVING_TEXT: &[u8] =
-    b"1 trio ok\n2 bucket ok\n3 role ok\n4 role ok\n5 apply ok 2\nsize 3\nredundancy 3\np 0 255 1 2 4\ncut 4 750\nc 0 255 up z:a z:b z:c\ncn 1 2 4\n6 gossip ok\nsent 1 view 1 3\n7 drain ok\ngot 1\n8 get refused NotMember\n9 apply refused VersionTaken 2\n10 get ok 1\nsent 2 get 2 1\nsent 3 get 2 2\nsent 4 get 2 3\n11 get refused NoSuchBucket\nnode 1 rows 0 blocks 0 top 7e1c26a17bd3d7fa395f34897712e0533bd0d69b934e542d6a4a4fb3ce779cda\nnode 2 rows 0 blocks 0 top 7e1c26a17bd3d7fa395f34897712e0533bd0d69b934e542d6a4a4fb3ce779cda\nnode 3 rows 0 blocks 0 top 7e1c26a17bd3d7fa395f34897712e0533bd0d69b934e542d6a4a4fb3ce779cda\nend 11 1 4\n";
+const LEAVING_TEXT: &[u8] = b"\
+    1 trio ok\n\
+    2 bucket ok\n\
+    3 role ok\n\
+    4 role ok\n\
+    5 apply ok 2\n\
+    size 3\n\
+    redundancy 3\n\
+    p 0 255 1 2 4\n\
+    cut 4 750\n\
+    c 0 255 up z:a z:b z:c\n\
+    cn 1 2 4\n\
+    6 gossip ok\n\
+    sent 1 view 1 3\n\
+    7 drain ok\n\
+    got 1\n\
+    8 get refused NotMember\n\
+    9 apply refused VersionTaken 2\n\
+    10 get ok 1\n\
+    sent 2 get 2 1\n\
+    sent 3 get 2 2\n\
+    sent 4 get 2 3\n\
+    11 get refused NoSuchBucket\n\
+    node 1 rows 0 blocks 0 top 7e1c26a17bd3d7fa395f34897712e0533bd0d69b934e542d6a4a4fb3ce779cda\n\
+    node 2 rows 0 blocks 0 top 7e1c26a17bd3d7fa395f34897712e0533bd0d69b934e542d6a4a4fb3ce779cda\n\
+    node 3 rows 0 blocks 0 top 7e1c26a17bd3d7fa395f34897712e0533bd0d69b934e542d6a4a4fb3ce779cda\n\
+    end 11 1 4\n";
 
 /// A layout of other nodes, known to all, and one round.
-pub const ROUND_MOVES_ONE_PARTITION: &[u8] =
-    b"trio\nbucket pics\nput 1 pics a 1 97\ndrain 100\nrole 4 a 1000\nrole 5 b 1000\nrole 6 c 1000\nrole 1 a gateway\nrole 2 b gateway\nrole 3 c gateway\napply 1\ngossip 1 2\ngossip 1 3\ngossip 1 4\ngossip 1 5\ngossip 1 6\ndrain 100\nack 1\nack 2\nack 3\nack 4\nack 5\nack 6\ngossip 1 1\ngossip 2 1\ngossip 3 1\ngossip 4 1\ngossip 5 1\ngossip 6 1\ndrain 100\ngossip 1 1\ngossip 1 2\ngossip 1 3\ngossip 1 4\ngossip 1 5\ngossip 1 6\ndrain 100\nsync 1\ndrain 100\nsync 4\n";
+pub const ROUND_MOVES_ONE_PARTITION: &[u8] = b"\
+    trio\n\
+    bucket pics\n\
+    put 1 pics a 1 97\n\
+    drain 100\n\
+    role 4 a 1000\n\
+    role 5 b 1000\n\
+    role 6 c 1000\n\
+    role 1 a gateway\n\
+    role 2 b gateway\n\
+    role 3 c gateway\n\
+    apply 1\n\
+    gossip 1 2\n\
+    gossip 1 3\n\
+    gossip 1 4\n\
+    gossip 1 5\n\
+    gossip 1 6\n\
+    drain 100\n\
+    ack 1\n\
+    ack 2\n\
+    ack 3\n\
+    ack 4\n\
+    ack 5\n\
+    ack 6\n\
+    gossip 1 1\n\
+    gossip 2 1\n\
+    gossip 3 1\n\
+    gossip 4 1\n\
+    gossip 5 1\n\
+    gossip 6 1\n\
+    drain 100\n\
+    gossip 1 1\n\
+    gossip 1 2\n\
+    gossip 1 3\n\
+    gossip 1 4\n\
+    gossip 1 5\n\
+    gossip 1 6\n\
+    drain 100\n\
+    sync 1\n\
+    drain 100\n\
+    sync 4\n";
 
 /// Its transcript, without the messages.
-const ONE_ROUND_TEXT: &[u8] =
-    b"1 trio ok\n2 bucket ok\n3 put ok 1\n4 drain ok\ndone 1 put 1/1\n5 role ok\n6 role ok\n7 role ok\n8 role ok\n9 role ok\n10 role ok\n11 apply ok 2\nsize 3\nredundancy 3\np 0 255 4 5 6\ncut 4 750\nc 0 255 up z:a z:b z:c\ncn 4 5 6\n12 gossip ok\n13 gossip ok\n14 gossip ok\n15 gossip ok\n16 gossip ok\n17 drain ok\n18 ack ok 2\n19 ack ok 2\n20 ack ok 2\n21 ack ok 2\n22 ack ok 2\n23 ack ok 2\n24 gossip ok\n25 gossip ok\n26 gossip ok\n27 gossip ok\n28 gossip ok\n29 gossip ok\n30 drain ok\n31 gossip ok\n32 gossip ok\n33 gossip ok\n34 gossip ok\n35 gossip ok\n36 gossip ok\n37 drain ok\n38 sync ok 2\n39 drain ok\nsynced 1 2\n40 sync ok idle 1 2\nnode 1 rows 1 blocks 0 top e08502143c1177c4ca538ffec27c9eaa1bb9e0d3d5cdecdacfaf035de8fa2ff5\nnode 2 rows 1 blocks 0 top e08502143c1177c4ca538ffec27c9eaa1bb9e0d3d5cdecdacfaf035de8fa2ff5\nnode 3 rows 1 blocks 0 top e08502143c1177c4ca538ffec27c9eaa1bb9e0d3d5cdecdacfaf035de8fa2ff5\nnode 4 rows 1 blocks 0 top e08502143c1177c4ca538ffec27c9eaa1bb9e0d3d5cdecdacfaf035de8fa2ff5\nnode 5 rows 1 blocks 0 top e08502143c1177c4ca538ffec27c9eaa1bb9e0d3d5cdecdacfaf035de8fa2ff5\nnode 6 rows 1 blocks 0 top e08502143c1177c4ca538ffec27c9eaa1bb9e0d3d5cdecdacfaf035de8fa2ff5\nend 40 1 35\n";
+const ONE_ROUND_TEXT: &[u8] = b"\
+    1 trio ok\n\
+    2 bucket ok\n\
+    3 put ok 1\n\
+    4 drain ok\n\
+    done 1 put 1/1\n\
+    5 role ok\n\
+    6 role ok\n\
+    7 role ok\n\
+    8 role ok\n\
+    9 role ok\n\
+    10 role ok\n\
+    11 apply ok 2\n\
+    size 3\n\
+    redundancy 3\n\
+    p 0 255 4 5 6\n\
+    cut 4 750\n\
+    c 0 255 up z:a z:b z:c\n\
+    cn 4 5 6\n\
+    12 gossip ok\n\
+    13 gossip ok\n\
+    14 gossip ok\n\
+    15 gossip ok\n\
+    16 gossip ok\n\
+    17 drain ok\n\
+    18 ack ok 2\n\
+    19 ack ok 2\n\
+    20 ack ok 2\n\
+    21 ack ok 2\n\
+    22 ack ok 2\n\
+    23 ack ok 2\n\
+    24 gossip ok\n\
+    25 gossip ok\n\
+    26 gossip ok\n\
+    27 gossip ok\n\
+    28 gossip ok\n\
+    29 gossip ok\n\
+    30 drain ok\n\
+    31 gossip ok\n\
+    32 gossip ok\n\
+    33 gossip ok\n\
+    34 gossip ok\n\
+    35 gossip ok\n\
+    36 gossip ok\n\
+    37 drain ok\n\
+    38 sync ok 2\n\
+    39 drain ok\n\
+    synced 1 2\n\
+    40 sync ok idle 1 2\n\
+    node 1 rows 1 blocks 0 top e08502143c1177c4ca538ffec27c9eaa1bb9e0d3d5cdecdacfaf035de8fa2ff5\n\
+    node 2 rows 1 blocks 0 top e08502143c1177c4ca538ffec27c9eaa1bb9e0d3d5cdecdacfaf035de8fa2ff5\n\
+    node 3 rows 1 blocks 0 top e08502143c1177c4ca538ffec27c9eaa1bb9e0d3d5cdecdacfaf035de8fa2ff5\n\
+    node 4 rows 1 blocks 0 top e08502143c1177c4ca538ffec27c9eaa1bb9e0d3d5cdecdacfaf035de8fa2ff5\n\
+    node 5 rows 1 blocks 0 top e08502143c1177c4ca538ffec27c9eaa1bb9e0d3d5cdecdacfaf035de8fa2ff5\n\
+    node 6 rows 1 blocks 0 top e08502143c1177c4ca538ffec27c9eaa1bb9e0d3d5cdecdacfaf035de8fa2ff5\n\
+    end 40 1 35\n";
 
 /// How it ends, with the messages.
-const ONE_ROUND_END: &[u8] =
-    b"38 sync ok 2\nsent 30 store 1 4\nsent 31 store 1 5\nsent 32 store 1 6\n39 drain ok\ngot 30\nsent 33 stored 4 1\ngot 31\nsent 34 stored 5 1\ngot 32\nsent 35 stored 6 1\ngot 33\ngot 34\nsynced 1 2\ngot 35\n40 sync ok idle 1 2\nnode 1 rows 1 blocks 0 top e08502143c1177c4ca538ffec27c9eaa1bb9e0d3d5cdecdacfaf035de8fa2ff5\nnode 2 rows 1 blocks 0 top e08502143c1177c4ca538ffec27c9eaa1bb9e0d3d5cdecdacfaf035de8fa2ff5\nnode 3 rows 1 blocks 0 top e08502143c1177c4ca538ffec27c9eaa1bb9e0d3d5cdecdacfaf035de8fa2ff5\nnode 4 rows 1 blocks 0 top e08502143c1177c4ca538ffec27c9eaa1bb9e0d3d5cdecdacfaf035de8fa2ff5\nnode 5 rows 1 blocks 0 top e08502143c1177c4ca538ffec27c9eaa1bb9e0d3d5cdecdacfaf035de8fa2ff5\nnode 6 rows 1 blocks 0 top e08502143c1177c4ca538ffec27c9eaa1bb9e0d3d5cdecdacfaf035de8fa2ff5\nend 40 1 35\n";
+const ONE_ROUND_END: &[u8] = b"\
+    38 sync ok 2\n\
+    sent 30 store 1 4\n\
+    sent 31 store 1 5\n\
+    sent 32 store 1 6\n\
+    39 drain ok\n\
+    got 30\n\
+    sent 33 stored 4 1\n\
+    got 31\n\
+    sent 34 stored 5 1\n\
+    got 32\n\
+    sent 35 stored 6 1\n\
+    got 33\n\
+    got 34\n\
+    synced 1 2\n\
+    got 35\n\
+    40 sync ok idle 1 2\n\
+    node 1 rows 1 blocks 0 top e08502143c1177c4ca538ffec27c9eaa1bb9e0d3d5cdecdacfaf035de8fa2ff5\n\
+    node 2 rows 1 blocks 0 top e08502143c1177c4ca538ffec27c9eaa1bb9e0d3d5cdecdacfaf035de8fa2ff5\n\
+    node 3 rows 1 blocks 0 top e08502143c1177c4ca538ffec27c9eaa1bb9e0d3d5cdecdacfaf035de8fa2ff5\n\
+    node 4 rows 1 blocks 0 top e08502143c1177c4ca538ffec27c9eaa1bb9e0d3d5cdecdacfaf035de8fa2ff5\n\
+    node 5 rows 1 blocks 0 top e08502143c1177c4ca538ffec27c9eaa1bb9e0d3d5cdecdacfaf035de8fa2ff5\n\
+    node 6 rows 1 blocks 0 top e08502143c1177c4ca538ffec27c9eaa1bb9e0d3d5cdecdacfaf035de8fa2ff5\n\
+    end 40 1 35\n";
 
 /// The example of a whole layout change under load.
-const LAYOUT_CHANGE_UNDER_LOAD: &[u8] =
-    b"# Three nodes hold everything. One put, and all its messages.\ntrio\nbucket photos\ntick 1000\nput 1 photos cat 5 1\ndrain 100\n\n# Nodes 4 to 6 shall hold everything; nodes 1 to 3 stay as gateways for now.\nrole 1 a gateway\nrole 2 b gateway\nrole 3 c gateway\nrole 4 a 1000\nrole 5 b 1000\nrole 6 c 1000\napply 1\n\n# Two puts of one key begin at nodes that don't know version 2 yet. Then the view spreads.\nput 2 photos cat 3 10\nput 3 photos cat 4 20\ngossip 1 2\ngossip 1 3\ngossip 1 4\ngossip 1 5\ngossip 1 6\ndrain 11\nack 2\ndrain 6\n\n# The first put is acknowledged by nodes 1 and 2 of the old set and 4 and 5 of the new one. All else waits.\ndeliver 30\ndeliver 31\ndeliver 33\ndeliver 34\ndeliver 42\ndeliver 43\ndeliver 44\ndeliver 45\nget 6 photos cat\ndeliver 47\ndeliver 48\ndeliver 49\ndeliver 50\n\n# What waited comes now, and the second put is acknowledged.\ndrain 100\nack 1\nack 2\nack 3\nack 4\nack 5\nack 6\nsync 1\ngossip 2 1\ngossip 3 1\ngossip 4 1\ngossip 5 1\ngossip 6 1\ndrain 100\ngossip 1 2\ndrain 100\n\n# Two of the old nodes push their rows to the new ones, while a put runs at a new node.\nsync 1\nsync 2\ntick 500\nput 4 photos cat 6 30\ndrain 100\nget 5 photos cat\ndrain 100\ngossip 2 1\ndrain 100\n\n# Nodes that know of both read at version 2 and say so.\ngossip 1 2\ngossip 1 3\ngossip 1 4\ngossip 1 5\ngossip 1 6\ndrain 100\nsyncack 1\nsyncack 2\nsyncack 3\nsyncack 4\nsyncack 5\nclean 1\nsyncack 6\ngossip 2 1\ngossip 3 1\ngossip 4 1\ngossip 5 1\ngossip 6 1\ndrain 100\n\n# Version 1 goes, and with it the rows at nodes 1 to 3.\nclean 1\ngossip 1 2\ngossip 1 3\ngossip 1 4\ngossip 1 5\ngossip 1 6\ndrain 100\n\n# The old nodes leave.\nrole 1 none\nrole 2 none\nrole 3 none\napply 4\ngossip 4 1\ndrain 100\nget 1 photos cat\nget 6 photos cat\ndrain 100\n";
+const LAYOUT_CHANGE_UNDER_LOAD: &[u8] = b"\
+    # Three nodes hold everything. One put, and all its messages.\n\
+    trio\n\
+    bucket photos\n\
+    tick 1000\n\
+    put 1 photos cat 5 1\n\
+    drain 100\n\n\
+    # Nodes 4 to 6 shall hold everything; nodes 1 to 3 stay as gateways for now.\n\
+    role 1 a gateway\n\
+    role 2 b gateway\n\
+    role 3 c gateway\n\
+    role 4 a 1000\n\
+    role 5 b 1000\n\
+    role 6 c 1000\n\
+    apply 1\n\n\
+    # Two puts of one key begin at nodes that don't know version 2 yet. Then the view spreads.\n\
+    put 2 photos cat 3 10\n\
+    put 3 photos cat 4 20\n\
+    gossip 1 2\n\
+    gossip 1 3\n\
+    gossip 1 4\n\
+    gossip 1 5\n\
+    gossip 1 6\n\
+    drain 11\n\
+    ack 2\n\
+    drain 6\n\n\
+    # The first put is acknowledged by nodes 1 and 2 of the old set and 4 and 5 of the new one. All else waits.\n\
+    deliver 30\n\
+    deliver 31\n\
+    deliver 33\n\
+    deliver 34\n\
+    deliver 42\n\
+    deliver 43\n\
+    deliver 44\n\
+    deliver 45\n\
+    get 6 photos cat\n\
+    deliver 47\n\
+    deliver 48\n\
+    deliver 49\n\
+    deliver 50\n\n\
+    # What waited comes now, and the second put is acknowledged.\n\
+    drain 100\n\
+    ack 1\n\
+    ack 2\n\
+    ack 3\n\
+    ack 4\n\
+    ack 5\n\
+    ack 6\n\
+    sync 1\n\
+    gossip 2 1\n\
+    gossip 3 1\n\
+    gossip 4 1\n\
+    gossip 5 1\n\
+    gossip 6 1\n\
+    drain 100\n\
+    gossip 1 2\n\
+    drain 100\n\n\
+    # Two of the old nodes push their rows to the new ones, while a put runs at a new node.\n\
+    sync 1\n\
+    sync 2\n\
+    tick 500\n\
+    put 4 photos cat 6 30\n\
+    drain 100\n\
+    get 5 photos cat\n\
+    drain 100\n\
+    gossip 2 1\n\
+    drain 100\n\n\
+    # Nodes that know of both read at version 2 and say so.\n\
+    gossip 1 2\n\
+    gossip 1 3\n\
+    gossip 1 4\n\
+    gossip 1 5\n\
+    gossip 1 6\n\
+    drain 100\n\
+    syncack 1\n\
+    syncack 2\n\
+    syncack 3\n\
+    syncack 4\n\
+    syncack 5\n\
+    clean 1\n\
+    syncack 6\n\
+    gossip 2 1\n\
+    gossip 3 1\n\
+    gossip 4 1\n\
+    gossip 5 1\n\
+    gossip 6 1\n\
+    drain 100\n\n\
+    # Version 1 goes, and with it the rows at nodes 1 to 3.\n\
+    clean 1\n\
+    gossip 1 2\n\
+    gossip 1 3\n\
+    gossip 1 4\n\
+    gossip 1 5\n\
+    gossip 1 6\n\
+    drain 100\n\n\
+    # The old nodes leave.\n\
+    role 1 none\n\
+    role 2 none\n\
+    role 3 none\n\
+    apply 4\n\
+    gossip 4 1\n\
+    drain 100\n\
+    get 1 photos cat\n\
+    get 6 photos cat\n\
+    drain 100\n";
 
 /// Its transcript, without the messages.
-const CHANGE_TEXT: &[u8] =
-    b"2 trio ok\n3 bucket ok\n4 tick ok\n5 put ok 1\n6 drain ok\ndone 1 put 1000/1\n9 role ok\n10 role ok\n11 role ok\n12 role ok\n13 role ok\n14 role ok\n15 apply ok 2\nsize 3\nredundancy 3\np 0 255 4 5 6\ncut 4 750\nc 0 255 up z:a z:b z:c\ncn 4 5 6\n18 put ok 2\n19 put ok 3\n20 gossip ok\n21 gossip ok\n22 gossip ok\n23 gossip ok\n24 gossip ok\n25 drain ok\n26 ack ok 1\n27 drain ok\n30 deliver ok\n31 deliver ok\n32 deliver ok\n33 deliver ok\n34 deliver ok\n35 deliver ok\n36 deliver ok\n37 deliver ok\ndone 2 put 1001/2\n38 get ok 4\n39 deliver ok\n40 deliver ok\n41 deliver ok\n42 deliver ok\ndone 4 get 1001/2 3 94263e4d553bcec128704e354b659526\n45 drain ok\ndone 3 put 1001/3\n46 ack ok 2\n47 ack ok 2\n48 ack ok 2\n49 ack ok 2\n50 ack ok 2\n51 ack ok 2\n52 sync ok idle 1 1\n53 gossip ok\n54 gossip ok\n55 gossip ok\n56 gossip ok\n57 gossip ok\n58 drain ok\n59 gossip ok\n60 drain ok\n63 sync ok 2\n64 sync ok 2\n65 tick ok\n66 put ok 5\n67 drain ok\nsynced 1 2\nsynced 2 2\ndone 5 put 1500/5\n68 get ok 6\n69 drain ok\ndone 6 get 1500/5 6 7d6df592ee911d375a6f13bae4c7552a\n70 gossip ok\n71 drain ok\n74 gossip ok\n75 gossip ok\n76 gossip ok\n77 gossip ok\n78 gossip ok\n79 drain ok\n80 syncack ok 2\n81 syncack ok 2\n82 syncack ok 2\n83 syncack ok 2\n84 syncack ok 2\n85 clean ok 1\n86 syncack ok 2\n87 gossip ok\n88 gossip ok\n89 gossip ok\n90 gossip ok\n91 gossip ok\n92 drain ok\n95 clean ok 2\n96 gossip ok\n97 gossip ok\n98 gossip ok\n99 gossip ok\n100 gossip ok\n101 drain ok\n104 role ok\n105 role ok\n106 role ok\n107 apply ok 3\nsize 3\nredundancy 3\np 0 255 4 5 6\ncut 4 750\nc 0 255 up z:a z:b z:c\ncn 4 5 6\n108 gossip ok\n109 drain ok\n110 get refused NotMember\n111 get ok 7\n112 drain ok\ndone 7 get 1500/5 6 7d6df592ee911d375a6f13bae4c7552a\nnode 1 rows 0 blocks 0 top 7e1c26a17bd3d7fa395f34897712e0533bd0d69b934e542d6a4a4fb3ce779cda\nnode 2 rows 0 blocks 0 top 7e1c26a17bd3d7fa395f34897712e0533bd0d69b934e542d6a4a4fb3ce779cda\nnode 3 rows 0 blocks 0 top 7e1c26a17bd3d7fa395f34897712e0533bd0d69b934e542d6a4a4fb3ce779cda\nnode 4 rows 1 blocks 0 top e4ca31171f8e7d150312a021b4ff6e0727351a2f0db6b3f57aac2ef91ffeedd8\nnode 5 rows 1 blocks 0 top e4ca31171f8e7d150312a021b4ff6e0727351a2f0db6b3f57aac2ef91ffeedd8\nnode 6 rows 1 blocks 0 top e4ca31171f8e7d150312a021b4ff6e0727351a2f0db6b3f57aac2ef91ffeedd8\nend 95 7 124\n";
+const CHANGE_TEXT: &[u8] = b"\
+    2 trio ok\n\
+    3 bucket ok\n\
+    4 tick ok\n\
+    5 put ok 1\n\
+    6 drain ok\n\
+    done 1 put 1000/1\n\
+    9 role ok\n\
+    10 role ok\n\
+    11 role ok\n\
+    12 role ok\n\
+    13 role ok\n\
+    14 role ok\n\
+    15 apply ok 2\n\
+    size 3\n\
+    redundancy 3\n\
+    p 0 255 4 5 6\n\
+    cut 4 750\n\
+    c 0 255 up z:a z:b z:c\n\
+    cn 4 5 6\n\
+    18 put ok 2\n\
+    19 put ok 3\n\
+    20 gossip ok\n\
+    21 gossip ok\n\
+    22 gossip ok\n\
+    23 gossip ok\n\
+    24 gossip ok\n\
+    25 drain ok\n\
+    26 ack ok 1\n\
+    27 drain ok\n\
+    30 deliver ok\n\
+    31 deliver ok\n\
+    32 deliver ok\n\
+    33 deliver ok\n\
+    34 deliver ok\n\
+    35 deliver ok\n\
+    36 deliver ok\n\
+    37 deliver ok\n\
+    done 2 put 1001/2\n\
+    38 get ok 4\n\
+    39 deliver ok\n\
+    40 deliver ok\n\
+    41 deliver ok\n\
+    42 deliver ok\n\
+    done 4 get 1001/2 3 94263e4d553bcec128704e354b659526\n\
+    45 drain ok\n\
+    done 3 put 1001/3\n\
+    46 ack ok 2\n\
+    47 ack ok 2\n\
+    48 ack ok 2\n\
+    49 ack ok 2\n\
+    50 ack ok 2\n\
+    51 ack ok 2\n\
+    52 sync ok idle 1 1\n\
+    53 gossip ok\n\
+    54 gossip ok\n\
+    55 gossip ok\n\
+    56 gossip ok\n\
+    57 gossip ok\n\
+    58 drain ok\n\
+    59 gossip ok\n\
+    60 drain ok\n\
+    63 sync ok 2\n\
+    64 sync ok 2\n\
+    65 tick ok\n\
+    66 put ok 5\n\
+    67 drain ok\n\
+    synced 1 2\n\
+    synced 2 2\n\
+    done 5 put 1500/5\n\
+    68 get ok 6\n\
+    69 drain ok\n\
+    done 6 get 1500/5 6 7d6df592ee911d375a6f13bae4c7552a\n\
+    70 gossip ok\n\
+    71 drain ok\n\
+    74 gossip ok\n\
+    75 gossip ok\n\
+    76 gossip ok\n\
+    77 gossip ok\n\
+    78 gossip ok\n\
+    79 drain ok\n\
+    80 syncack ok 2\n\
+    81 syncack ok 2\n\
+    82 syncack ok 2\n\
+    83 syncack ok 2\n\
+    84 syncack ok 2\n\
+    85 clean ok 1\n\
+    86 syncack ok 2\n\
+    87 gossip ok\n\
+    88 gossip ok\n\
+    89 gossip ok\n\
+    90 gossip ok\n\
+    91 gossip ok\n\
+    92 drain ok\n\
+    95 clean ok 2\n\
+    96 gossip ok\n\
+    97 gossip ok\n\
+    98 gossip ok\n\
+    99 gossip ok\n\
+    100 gossip ok\n\
+    101 drain ok\n\
+    104 role ok\n\
+    105 role ok\n\
+    106 role ok\n\
+    107 apply ok 3\n\
+    size 3\n\
+    redundancy 3\n\
+    p 0 255 4 5 6\n\
+    cut 4 750\n\
+    c 0 255 up z:a z:b z:c\n\
+    cn 4 5 6\n\
+    108 gossip ok\n\
+    109 drain ok\n\
+    110 get refused NotMember\n\
+    111 get ok 7\n\
+    112 drain ok\n\
+    done 7 get 1500/5 6 7d6df592ee911d375a6f13bae4c7552a\n\
+    node 1 rows 0 blocks 0 top 7e1c26a17bd3d7fa395f34897712e0533bd0d69b934e542d6a4a4fb3ce779cda\n\
+    node 2 rows 0 blocks 0 top 7e1c26a17bd3d7fa395f34897712e0533bd0d69b934e542d6a4a4fb3ce779cda\n\
+    node 3 rows 0 blocks 0 top 7e1c26a17bd3d7fa395f34897712e0533bd0d69b934e542d6a4a4fb3ce779cda\n\
+    node 4 rows 1 blocks 0 top e4ca31171f8e7d150312a021b4ff6e0727351a2f0db6b3f57aac2ef91ffeedd8\n\
+    node 5 rows 1 blocks 0 top e4ca31171f8e7d150312a021b4ff6e0727351a2f0db6b3f57aac2ef91ffeedd8\n\
+    node 6 rows 1 blocks 0 top e4ca31171f8e7d150312a021b4ff6e0727351a2f0db6b3f57aac2ef91ffeedd8\n\
+    end 95 7 124\n";
 
 /// Four nodes in three zones, two of them in lyon.
-const THREE_ZONES: &[u8] =
-    b"[[node]]\nid = 1\nzone = 'lille'\ncapacity = 2_000_000_000_000\n[[node]]\nid = 2\nzone = 'paris'\ncapacity = 2_000_000_000_000\n[[node]]\nid = 3\nzone = 'lyon'\ncapacity = 1_000_000_000_000\n[[node]]\nid = 4\nzone = 'lyon'\ncapacity = 2_000_000_000_000\n";
+const THREE_ZONES: &[u8] = b"\
+    [[node]]\n\
+    id = 1\n\
+    zone = 'lille'\n\
+    capacity = 2_000_000_000_000\n\
+    [[node]]\n\
+    id = 2\n\
+    zone = 'paris'\n\
+    capacity = 2_000_000_000_000\n\
+    [[node]]\n\
+    id = 3\n\
+    zone = 'lyon'\n\
+    capacity = 1_000_000_000_000\n\
+    [[node]]\n\
+    id = 4\n\
+    zone = 'lyon'\n\
+    capacity = 2_000_000_000_000\n";
 
 /// Three nodes in two zones, and a gateway.
-const GATEWAY_HAS_NO_COPIES: &[u8] =
-    b"redundancy = 2\n[[node]]\nid = 1\nzone = 'lille'\ncapacity = 500_000_000_000\n[[node]]\nid = 2\nzone = 'paris'\ncapacity = 500_000_000_000\n[[node]]\nid = 3\nzone = 'paris'\ncapacity = 1_000_000_000_000\n[[node]]\nid = 4\nzone = 'lyon'\ngateway = true\n";
+const GATEWAY_HAS_NO_COPIES: &[u8] = b"\
+    redundancy = 2\n\
+    [[node]]\n\
+    id = 1\n\
+    zone = 'lille'\n\
+    capacity = 500_000_000_000\n\
+    [[node]]\n\
+    id = 2\n\
+    zone = 'paris'\n\
+    capacity = 500_000_000_000\n\
+    [[node]]\n\
+    id = 3\n\
+    zone = 'paris'\n\
+    capacity = 1_000_000_000_000\n\
+    [[node]]\n\
+    id = 4\n\
+    zone = 'lyon'\n\
+    gateway = true\n";
 
 /// Three nodes in two zones, where three are asked for.
-const TOO_FEW_ZONES: &[u8] =
-    b"redundancy = 3\n[[node]]\nid = 1\nzone = 'lille'\ncapacity = 2_000_000_000_000\n[[node]]\nid = 2\nzone = 'paris'\ncapacity = 2_000_000_000_000\n[[node]]\nid = 3\nzone = 'paris'\ncapacity = 2_000_000_000_000\n";
+const TOO_FEW_ZONES: &[u8] = b"\
+    redundancy = 3\n\
+    [[node]]\n\
+    id = 1\n\
+    zone = 'lille'\n\
+    capacity = 2_000_000_000_000\n\
+    [[node]]\n\
+    id = 2\n\
+    zone = 'paris'\n\
+    capacity = 2_000_000_000_000\n\
+    [[node]]\n\
+    id = 3\n\
+    zone = 'paris'\n\
+    capacity = 2_000_000_000_000\n";
 
 const USAGE: &[u8] =
     b"usage: garage_lab layout | replay [--check] | workload N SEED | serve PORT COUNT\n";
@@ -98,22 +765,74 @@ const GATEWAY_TEXT: &[u8] =
     b"size 1953125000\nredundancy 2\np 0 255 1 2 3\ncut 1953125001 766\nc 0 255 up down z:lille z:paris\ncn 1 2\n";
 
 /// Node 4 takes the place of node 3, which leaves.
-const ONE_NODE_REPLACED: &[u8] =
-    b"[[node]]\nid = 1\nzone = 'a'\ncapacity = 1000\n[[node]]\nid = 2\nzone = 'b'\ncapacity = 1000\n[[node]]\nid = 4\nzone = 'c'\ncapacity = 1000\n[[old]]\nfirst = 0\nlast = 255\nnodes = [1, 2, 3]\n";
+const ONE_NODE_REPLACED: &[u8] = b"\
+    [[node]]\n\
+    id = 1\n\
+    zone = 'a'\n\
+    capacity = 1000\n\
+    [[node]]\n\
+    id = 2\n\
+    zone = 'b'\n\
+    capacity = 1000\n\
+    [[node]]\n\
+    id = 4\n\
+    zone = 'c'\n\
+    capacity = 1000\n\
+    [[old]]\n\
+    first = 0\n\
+    last = 255\n\
+    nodes = [1, 2, 3]\n";
 
 /// A second node comes to zone c, and both have room for 166 partitions.
-const HALVES_IN_ONE_ZONE: &[u8] =
-    b"[[node]]\nid = 1\nzone = 'a'\ncapacity = 1000\n[[node]]\nid = 2\nzone = 'b'\ncapacity = 1000\n[[node]]\nid = 3\nzone = 'c'\ncapacity = 500\n[[node]]\nid = 4\nzone = 'c'\ncapacity = 500\n[[old]]\nfirst = 0\nlast = 255\nnodes = [1, 2, 3]\n";
+const HALVES_IN_ONE_ZONE: &[u8] = b"\
+    [[node]]\n\
+    id = 1\n\
+    zone = 'a'\n\
+    capacity = 1000\n\
+    [[node]]\n\
+    id = 2\n\
+    zone = 'b'\n\
+    capacity = 1000\n\
+    [[node]]\n\
+    id = 3\n\
+    zone = 'c'\n\
+    capacity = 500\n\
+    [[node]]\n\
+    id = 4\n\
+    zone = 'c'\n\
+    capacity = 500\n\
+    [[old]]\n\
+    first = 0\n\
+    last = 255\n\
+    nodes = [1, 2, 3]\n";
 
 /// Repairs of a node without rows and of none, and a lost message that wasn't sent.
 const REPAIR_WITHOUT_ROWS: &[u8] = b"trio\nrepair 1\nrepair 4\nlose 1\n";
 
-const REPAIR_TEXT: &[u8] =
-    b"1 trio ok\n2 repair ok\n3 repair refused NotMember\n4 lose refused NoSuchMessage\nnode 1 rows 0 blocks 0 top 7e1c26a17bd3d7fa395f34897712e0533bd0d69b934e542d6a4a4fb3ce779cda\nnode 2 rows 0 blocks 0 top 7e1c26a17bd3d7fa395f34897712e0533bd0d69b934e542d6a4a4fb3ce779cda\nnode 3 rows 0 blocks 0 top 7e1c26a17bd3d7fa395f34897712e0533bd0d69b934e542d6a4a4fb3ce779cda\nend 4 0 0\n";
+const REPAIR_TEXT: &[u8] = b"\
+    1 trio ok\n\
+    2 repair ok\n\
+    3 repair refused NotMember\n\
+    4 lose refused NoSuchMessage\n\
+    node 1 rows 0 blocks 0 top 7e1c26a17bd3d7fa395f34897712e0533bd0d69b934e542d6a4a4fb3ce779cda\n\
+    node 2 rows 0 blocks 0 top 7e1c26a17bd3d7fa395f34897712e0533bd0d69b934e542d6a4a4fb3ce779cda\n\
+    node 3 rows 0 blocks 0 top 7e1c26a17bd3d7fa395f34897712e0533bd0d69b934e542d6a4a4fb3ce779cda\n\
+    end 4 0 0\n";
 
 /// Three nodes, and no old sets.
-const NO_OLD_SETS: &[u8] =
-    b"[[node]]\nid = 1\nzone = 'a'\ncapacity = 1000\n[[node]]\nid = 2\nzone = 'b'\ncapacity = 1000\n[[node]]\nid = 3\nzone = 'c'\ncapacity = 1000\n";
+const NO_OLD_SETS: &[u8] = b"\
+    [[node]]\n\
+    id = 1\n\
+    zone = 'a'\n\
+    capacity = 1000\n\
+    [[node]]\n\
+    id = 2\n\
+    zone = 'b'\n\
+    capacity = 1000\n\
+    [[node]]\n\
+    id = 3\n\
+    zone = 'c'\n\
+    capacity = 1000\n";
 
 const ID_OUT_OF_RANGE: &[u8] = b"node = [{ id = 65 }]";
 

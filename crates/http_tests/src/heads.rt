@@ -7,11 +7,22 @@ use std::test::Fail;
 // What clients send, and what it says.
 const CLIENTS: [(&[u8], &[u8]); 3] = [
     (
-        b"GET /pics/a%20b?list-type=2&prefix= HTTP/1.1\r\nHost: localhost:3900\r\nUser-Agent: curl/8.5.0\r\nAccept: */*\r\n\r\n",
+        b"\
+            GET /pics/a%20b?list-type=2&prefix= HTTP/1.1\r\n\
+            Host: localhost:3900\r\n\
+            User-Agent: curl/8.5.0\r\n\
+            Accept: */*\r\n\r\n",
         b"GET /pics/a%20b?list-type=2&prefix= 1[Host=localhost:3900][User-Agent=curl/8.5.0][Accept=*/*]",
     ),
     (
-        b"PUT /pics/key HTTP/1.1\r\nHost: 127.0.0.1:3900\r\nAccept-Encoding: identity\r\nUser-Agent: Boto3/1.34.0 md/Botocore#1.34.0\r\nContent-MD5: kAFQmDzST7DWlj99KOF/cg==\r\nExpect: 100-continue\r\nContent-Length: 3\r\n\r\n",
+        b"\
+            PUT /pics/key HTTP/1.1\r\n\
+            Host: 127.0.0.1:3900\r\n\
+            Accept-Encoding: identity\r\n\
+            User-Agent: Boto3/1.34.0 md/Botocore#1.34.0\r\n\
+            Content-MD5: kAFQmDzST7DWlj99KOF/cg==\r\n\
+            Expect: 100-continue\r\n\
+            Content-Length: 3\r\n\r\n",
         b"PUT /pics/key 1[Host=127.0.0.1:3900][Accept-Encoding=identity][User-Agent=Boto3/1.34.0 md/Botocore#1.34.0][Content-MD5=kAFQmDzST7DWlj99KOF/cg==][Expect=100-continue][Content-Length=3]",
     ),
     (

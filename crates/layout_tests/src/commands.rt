@@ -45,10 +45,14 @@ fn whole_layouts(rt: HostRuntime) -> Result<(), Fail> {
 /// The layouts whose sets are free: the lines before them, and the cut.
 #[test]
 fn layouts_with_free_sets(rt: HostRuntime) -> Result<(), Fail> {
-    let four_nodes_three_zones =
-        b"redundancy = 'maximum'\nnode = [{ id = 1, zone = 'a', capacity = 1000 }, { id = 2, zone = 'b', capacity = 1000 }, { id = 3, zone = 'c', capacity = 1000 }, { id = 4, zone = 'c', capacity = 500 }]";
-    let two_zones_of_two =
-        b"redundancy = 2\nnode = [{ id = 1, zone = 'a', capacity = 300 }, { id = 2, zone = 'a', capacity = 300 }, { id = 3, zone = 'b', capacity = 300 }, { id = 4, zone = 'b', capacity = 300 }]";
+    let four_nodes_three_zones = b"\
+        redundancy = 'maximum'\n\
+        node = [{ id = 1, zone = 'a', capacity = 1000 }, { id = 2, zone = 'b', capacity = 1000 }, \
+        { id = 3, zone = 'c', capacity = 1000 }, { id = 4, zone = 'c', capacity = 500 }]";
+    let two_zones_of_two = b"\
+        redundancy = 2\n\
+        node = [{ id = 1, zone = 'a', capacity = 300 }, { id = 2, zone = 'a', capacity = 300 }, \
+        { id = 3, zone = 'b', capacity = 300 }, { id = 4, zone = 'b', capacity = 300 }]";
     let rows: [(&[u8], &[u8], &[u8]); 2] = [
         (
             four_nodes_three_zones,
@@ -75,8 +79,10 @@ fn layouts_with_free_sets(rt: HostRuntime) -> Result<(), Fail> {
 fn refusals(rt: HostRuntime) -> Result<(), Fail> {
     let capacity_below_256 =
         b"node = [{ id = 1, zone = 'a', capacity = 255 }, { id = 2, zone = 'b', capacity = 255 }, { id = 3, zone = 'c', capacity = 255 }]";
-    let too_few_zones =
-        b"redundancy = 3\nnode = [{ id = 1, zone = 'a', capacity = 9 }, { id = 2, zone = 'b', capacity = 9 }, { id = 3, zone = 'b', capacity = 9 }]";
+    let too_few_zones = b"\
+        redundancy = 3\n\
+        node = [{ id = 1, zone = 'a', capacity = 9 }, { id = 2, zone = 'b', capacity = 9 }, \
+        { id = 3, zone = 'b', capacity = 9 }]";
     let too_few_nodes =
         b"node = [{ id = 1, zone = 'a', capacity = 9 }, { id = 2, zone = 'b', capacity = 9 }]";
     let rows: [(&[u8], &[u8]); 14] = [

@@ -15,8 +15,23 @@ const LAYOUT: u8 = 64;
 
 const SERVE: u8 = 16;
 
-const THREE: &str =
-    "redundancy = 2\nblock_size = 7\n[[node]]\nid = 9\nzone = 'c'\ncapacity = 1000\n[[node]]\nid = 1\nzone = 'a'\ncapacity = 1000\ngateway = false\n[[node]]\nid = 2\nzone = 'b'\ncapacity = 1000\nlabel = 'ignored'\n";
+const THREE: &str = "\
+    redundancy = 2\n\
+    block_size = 7\n\
+    [[node]]\n\
+    id = 9\n\
+    zone = 'c'\n\
+    capacity = 1000\n\
+    [[node]]\n\
+    id = 1\n\
+    zone = 'a'\n\
+    capacity = 1000\n\
+    gateway = false\n\
+    [[node]]\n\
+    id = 2\n\
+    zone = 'b'\n\
+    capacity = 1000\n\
+    label = 'ignored'\n";
 
 fn config(alloc: Global, text: &str, greatest: u8) -> Result<Config, Memory>
     ensures { IfOk result (λ config. IsRedundancy config.redundancy) }

@@ -18,8 +18,10 @@ fn has(text: &[u8], part: &[u8]) -> bool {
 /// Node 4 takes the place of node 3, and each of its 256 copies.
 #[test]
 fn one_node_replaced(rt: HostRuntime) -> Result<(), Fail> {
-    let input =
-        b"node = [{ id = 1, zone = 'a', capacity = 1000 }, { id = 2, zone = 'b', capacity = 1000 }, { id = 4, zone = 'c', capacity = 1000 }]\nold = [{ first = 0, last = 255, nodes = [1, 2, 3] }]";
+    let input = b"\
+        node = [{ id = 1, zone = 'a', capacity = 1000 }, { id = 2, zone = 'b', capacity = 1000 }, \
+        { id = 4, zone = 'c', capacity = 1000 }]\n\
+        old = [{ first = 0, last = 255, nodes = [1, 2, 3] }]";
     let wanted =
         b"size 3\nredundancy 3\np 0 255 1 2 4\ncut 4 750\nc 0 255 up z:a z:b z:c\ncn 1 2 4\nmoves 256\nq 0 ";
     let (status, text) = answered_by(rt.alloc(), input, true)?;
@@ -33,8 +35,10 @@ fn one_node_replaced(rt: HostRuntime) -> Result<(), Fail> {
 /// their nodes in any order.
 #[test]
 fn capacity_forces_moves(rt: HostRuntime) -> Result<(), Fail> {
-    let input =
-        b"node = [{ id = 1, zone = 'a', capacity = 1000 }, { id = 2, zone = 'b', capacity = 1000 }, { id = 3, zone = 'c', capacity = 500 }, { id = 4, zone = 'c', capacity = 500 }]\nold = [{ first = 0, last = 99, nodes = [3, 1, 2] }, { first = 100, last = 255, nodes = [2, 3, 1] }]";
+    let input = b"\
+        node = [{ id = 1, zone = 'a', capacity = 1000 }, { id = 2, zone = 'b', capacity = 1000 }, \
+        { id = 3, zone = 'c', capacity = 500 }, { id = 4, zone = 'c', capacity = 500 }]\n\
+        old = [{ first = 0, last = 99, nodes = [3, 1, 2] }, { first = 100, last = 255, nodes = [2, 3, 1] }]";
     let (status, text) = answered_by(rt.alloc(), input, true)?;
     assert_eq!(rt; status, Status::Done);
     assert!(rt; text.as_slice().starts_with(b"size 3\nredundancy 3\np 0 "));
@@ -66,7 +70,9 @@ fn moves_refused(rt: HostRuntime) -> Result<(), Fail> {
             b"bad field old\n",
         ),
         (
-            b"node = []\nold = [{ first = 0, last = 9, nodes = [1, 2, 3] }, { first = 11, last = 255, nodes = [1, 2, 3] }]",
+            b"\
+                node = []\n\
+                old = [{ first = 0, last = 9, nodes = [1, 2, 3] }, { first = 11, last = 255, nodes = [1, 2, 3] }]",
             b"bad field old\n",
         ),
         (
@@ -90,7 +96,10 @@ fn moves_refused(rt: HostRuntime) -> Result<(), Fail> {
             b"too few nodes 0\n",
         ),
         (
-            b"node = [{ id = 1, zone = 'a', capacity = 255 }, { id = 2, zone = 'b', capacity = 255 }, { id = 3, zone = 'c', capacity = 255 }]\nold = [{ first = 0, last = 255, nodes = [1, 2, 3] }]",
+            b"\
+                node = [{ id = 1, zone = 'a', capacity = 255 }, { id = 2, zone = 'b', capacity = 255 }, \
+                { id = 3, zone = 'c', capacity = 255 }]\n\
+                old = [{ first = 0, last = 255, nodes = [1, 2, 3] }]",
             b"no assignment\ncut 1 765\nc 0 255 up z:a z:b z:c\ncn 1 2 3\n",
         ),
     ];

@@ -19,8 +19,15 @@ use std::test::Fail;
 const REQUEST: &[u8] = b"GET /pics/a.txt HTTP/1.1\r\nHost: localhost:3900\r\n\r\n";
 
 /// It is asked a second after the object was put.
-const ANSWER: &[u8] =
-    b"HTTP/1.1 200 OK\r\nDate: Tue, 14 Nov 2023 22:13:21 GMT\r\nContent-Length: 3\r\nETag: \"900150983cd24fb0d6963f7d28e17f72\"\r\nLast-Modified: Tue, 14 Nov 2023 22:13:20 GMT\r\nContent-Type: text/plain\r\nAccept-Ranges: bytes\r\n\r\nabc";
+const ANSWER: &[u8] = b"\
+    HTTP/1.1 200 OK\r\n\
+    Date: Tue, 14 Nov 2023 22:13:21 GMT\r\n\
+    Content-Length: 3\r\n\
+    ETag: \"900150983cd24fb0d6963f7d28e17f72\"\r\n\
+    Last-Modified: Tue, 14 Nov 2023 22:13:20 GMT\r\n\
+    Content-Type: text/plain\r\n\
+    Accept-Ranges: bytes\r\n\r\n\
+    abc";
 
 /// An event on a world.
 fn stepped(world: &mut S3World, event: &Event) -> Result<(), Memory>

@@ -12,8 +12,14 @@ use std::net::{Ipv4Addr, TcpListener, TcpStream};
 use std::test::Fail;
 
 /// The answer to a get of a key that isn't there, on a connection that closes then.
-const NO_KEY: &[u8] =
-    b"HTTP/1.1 404 Not Found\r\nDate: Tue, 14 Nov 2023 22:13:20 GMT\r\nContent-Length: 132\r\nContent-Type: application/xml\r\nConnection: close\r\n\r\n<?xml version=\"1.0\" encoding=\"UTF-8\"?>\n<Error><Code>NoSuchKey</Code><Message>NoSuchKey</Message><Resource>/pics/a</Resource></Error>";
+const NO_KEY: &[u8] = b"\
+    HTTP/1.1 404 Not Found\r\n\
+    Date: Tue, 14 Nov 2023 22:13:20 GMT\r\n\
+    Content-Length: 132\r\n\
+    Content-Type: application/xml\r\n\
+    Connection: close\r\n\r\n\
+    <?xml version=\"1.0\" encoding=\"UTF-8\"?>\n\
+    <Error><Code>NoSuchKey</Code><Message>NoSuchKey</Message><Resource>/pics/a</Resource></Error>";
 
 /// How a server ended, and what was written to the output.
 #[derive(Drop)]

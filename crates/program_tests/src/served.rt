@@ -7,48 +7,293 @@ use std::alloc::Global;
 use std::test::Fail;
 
 /// Three nodes in three zones, each with the same room.
-pub const THREE_NODES: &[u8] =
-    b"buckets = ['pics']\n[[node]]\nid = 1\nzone = 'a'\ncapacity = 1000\n[[node]]\nid = 2\nzone = 'b'\ncapacity = 1000\n[[node]]\nid = 3\nzone = 'c'\ncapacity = 1000\n";
+pub const THREE_NODES: &[u8] = b"\
+    buckets = ['pics']\n\
+    [[node]]\n\
+    id = 1\n\
+    zone = 'a'\n\
+    capacity = 1000\n\
+    [[node]]\n\
+    id = 2\n\
+    zone = 'b'\n\
+    capacity = 1000\n\
+    [[node]]\n\
+    id = 3\n\
+    zone = 'c'\n\
+    capacity = 1000\n";
 
 /// An object is written, read in every way that is served, deleted, and read once more.
-pub const ONE_OBJECT: &[u8] =
-    b"PUT /pics/a.txt HTTP/1.1\r\nHost: localhost:3900\r\nUser-Agent: curl\r\nAccept: */*\r\nContent-Length: 3\r\nExpect: 100-continue\r\n\r\nabcGET /pics/a.txt HTTP/1.1\r\n\r\nHEAD /pics/a.txt HTTP/1.1\r\n\r\nGET /pics/a.txt HTTP/1.1\r\nRange: bytes=0-0\r\n\r\nGET /pics/a.txt HTTP/1.1\r\nRange: bytes=3-\r\n\r\nDELETE /pics/a.txt HTTP/1.1\r\n\r\nGET /pics/a.txt HTTP/1.1\r\n\r\n";
+pub const ONE_OBJECT: &[u8] = b"\
+    PUT /pics/a.txt HTTP/1.1\r\n\
+    Host: localhost:3900\r\n\
+    User-Agent: curl\r\n\
+    Accept: */*\r\n\
+    Content-Length: 3\r\n\
+    Expect: 100-continue\r\n\r\n\
+    abc\
+    GET /pics/a.txt HTTP/1.1\r\n\r\n\
+    HEAD /pics/a.txt HTTP/1.1\r\n\r\n\
+    GET /pics/a.txt HTTP/1.1\r\n\
+    Range: bytes=0-0\r\n\r\n\
+    GET /pics/a.txt HTTP/1.1\r\n\
+    Range: bytes=3-\r\n\r\n\
+    DELETE /pics/a.txt HTTP/1.1\r\n\r\n\
+    GET /pics/a.txt HTTP/1.1\r\n\r\n";
 
 /// Its answers: a put, a get, a head, a range, one past the end, a delete, and the key that isn't there any more.
-pub const ONE_ANSWERS: &[u8] =
-    b"HTTP/1.1 100 Continue\r\n\r\nHTTP/1.1 200 OK\r\nDate: Tue, 14 Nov 2023 22:13:20 GMT\r\nContent-Length: 0\r\nETag: \"900150983cd24fb0d6963f7d28e17f72\"\r\n\r\nHTTP/1.1 200 OK\r\nDate: Tue, 14 Nov 2023 22:13:20 GMT\r\nContent-Length: 3\r\nETag: \"900150983cd24fb0d6963f7d28e17f72\"\r\nLast-Modified: Tue, 14 Nov 2023 22:13:20 GMT\r\nContent-Type: application/octet-stream\r\nAccept-Ranges: bytes\r\n\r\nabcHTTP/1.1 200 OK\r\nDate: Tue, 14 Nov 2023 22:13:20 GMT\r\nContent-Length: 3\r\nETag: \"900150983cd24fb0d6963f7d28e17f72\"\r\nLast-Modified: Tue, 14 Nov 2023 22:13:20 GMT\r\nContent-Type: application/octet-stream\r\nAccept-Ranges: bytes\r\n\r\nHTTP/1.1 206 Partial Content\r\nDate: Tue, 14 Nov 2023 22:13:20 GMT\r\nContent-Length: 1\r\nETag: \"900150983cd24fb0d6963f7d28e17f72\"\r\nLast-Modified: Tue, 14 Nov 2023 22:13:20 GMT\r\nContent-Type: application/octet-stream\r\nAccept-Ranges: bytes\r\nContent-Range: bytes 0-0/3\r\n\r\naHTTP/1.1 416 Range Not Satisfiable\r\nDate: Tue, 14 Nov 2023 22:13:20 GMT\r\nContent-Length: 142\r\nContent-Type: application/xml\r\n\r\n<?xml version=\"1.0\" encoding=\"UTF-8\"?>\n<Error><Code>InvalidRange</Code><Message>InvalidRange</Message><Resource>/pics/a.txt</Resource></Error>HTTP/1.1 204 No Content\r\nDate: Tue, 14 Nov 2023 22:13:20 GMT\r\n\r\nHTTP/1.1 404 Not Found\r\nDate: Tue, 14 Nov 2023 22:13:20 GMT\r\nContent-Length: 136\r\nContent-Type: application/xml\r\n\r\n<?xml version=\"1.0\" encoding=\"UTF-8\"?>\n<Error><Code>NoSuchKey</Code><Message>NoSuchKey</Message><Resource>/pics/a.txt</Resource></Error>";
+pub const ONE_ANSWERS: &[u8] = b"\
+    HTTP/1.1 100 Continue\r\n\r\n\
+    HTTP/1.1 200 OK\r\n\
+    Date: Tue, 14 Nov 2023 22:13:20 GMT\r\n\
+    Content-Length: 0\r\n\
+    ETag: \"900150983cd24fb0d6963f7d28e17f72\"\r\n\r\n\
+    HTTP/1.1 200 OK\r\n\
+    Date: Tue, 14 Nov 2023 22:13:20 GMT\r\n\
+    Content-Length: 3\r\n\
+    ETag: \"900150983cd24fb0d6963f7d28e17f72\"\r\n\
+    Last-Modified: Tue, 14 Nov 2023 22:13:20 GMT\r\n\
+    Content-Type: application/octet-stream\r\n\
+    Accept-Ranges: bytes\r\n\r\n\
+    abc\
+    HTTP/1.1 200 OK\r\n\
+    Date: Tue, 14 Nov 2023 22:13:20 GMT\r\n\
+    Content-Length: 3\r\n\
+    ETag: \"900150983cd24fb0d6963f7d28e17f72\"\r\n\
+    Last-Modified: Tue, 14 Nov 2023 22:13:20 GMT\r\n\
+    Content-Type: application/octet-stream\r\n\
+    Accept-Ranges: bytes\r\n\r\n\
+    HTTP/1.1 206 Partial Content\r\n\
+    Date: Tue, 14 Nov 2023 22:13:20 GMT\r\n\
+    Content-Length: 1\r\n\
+    ETag: \"900150983cd24fb0d6963f7d28e17f72\"\r\n\
+    Last-Modified: Tue, 14 Nov 2023 22:13:20 GMT\r\n\
+    Content-Type: application/octet-stream\r\n\
+    Accept-Ranges: bytes\r\n\
+    Content-Range: bytes 0-0/3\r\n\r\n\
+    aHTTP/1.1 416 Range Not Satisfiable\r\n\
+    Date: Tue, 14 Nov 2023 22:13:20 GMT\r\n\
+    Content-Length: 142\r\n\
+    Content-Type: application/xml\r\n\r\n\
+    <?xml version=\"1.0\" encoding=\"UTF-8\"?>\n\
+    <Error><Code>InvalidRange</Code><Message>InvalidRange</Message>\
+    <Resource>/pics/a.txt</Resource></Error>\
+    HTTP/1.1 204 No Content\r\n\
+    Date: Tue, 14 Nov 2023 22:13:20 GMT\r\n\r\n\
+    HTTP/1.1 404 Not Found\r\n\
+    Date: Tue, 14 Nov 2023 22:13:20 GMT\r\n\
+    Content-Length: 136\r\n\
+    Content-Type: application/xml\r\n\r\n\
+    <?xml version=\"1.0\" encoding=\"UTF-8\"?>\n\
+    <Error><Code>NoSuchKey</Code><Message>NoSuchKey</Message><Resource>/pics/a.txt</Resource></Error>";
 
 /// Four keys, and lists of them: cut at a slash, two entries a page, and from its token on; none, too many and no number of entries; with texts encoded.
-const LISTS: &[u8] =
-    b"PUT /pics/x/1 HTTP/1.1\r\nContent-Length: 3\r\n\r\nabcPUT /pics/x/2 HTTP/1.1\r\nContent-Length: 3\r\n\r\nabcPUT /pics/y HTTP/1.1\r\nContent-Length: 3\r\n\r\nabcPUT /pics/a%26%3Cb HTTP/1.1\r\nContent-Length: 3\r\n\r\nabcGET /pics?list-type=2&delimiter=/&max-keys=2 HTTP/1.1\r\n\r\nGET /pics?list-type=2&delimiter=/&max-keys=2&continuation-token=70782f HTTP/1.1\r\n\r\nGET /pics?list-type=2&max-keys=0 HTTP/1.1\r\n\r\nGET /pics?list-type=2&max-keys=1001&prefix=y HTTP/1.1\r\n\r\nGET /pics?list-type=2&max-keys=x HTTP/1.1\r\n\r\nGET /pics?list-type=2&encoding-type=url&start-after=x/2&prefix=a%26 HTTP/1.1\r\n\r\n";
+const LISTS: &[u8] = b"\
+    PUT /pics/x/1 HTTP/1.1\r\n\
+    Content-Length: 3\r\n\r\n\
+    abc\
+    PUT /pics/x/2 HTTP/1.1\r\n\
+    Content-Length: 3\r\n\r\n\
+    abc\
+    PUT /pics/y HTTP/1.1\r\n\
+    Content-Length: 3\r\n\r\n\
+    abc\
+    PUT /pics/a%26%3Cb HTTP/1.1\r\n\
+    Content-Length: 3\r\n\r\n\
+    abc\
+    GET /pics?list-type=2&delimiter=/&max-keys=2 HTTP/1.1\r\n\r\n\
+    GET /pics?list-type=2&delimiter=/&max-keys=2&continuation-token=70782f HTTP/1.1\r\n\r\n\
+    GET /pics?list-type=2&max-keys=0 HTTP/1.1\r\n\r\n\
+    GET /pics?list-type=2&max-keys=1001&prefix=y HTTP/1.1\r\n\r\n\
+    GET /pics?list-type=2&max-keys=x HTTP/1.1\r\n\r\n\
+    GET /pics?list-type=2&encoding-type=url&start-after=x/2&prefix=a%26 HTTP/1.1\r\n\r\n";
 
 /// Their answers.
-const LISTS_ANSWERS: &[u8] =
-    b"HTTP/1.1 200 OK\r\nDate: Tue, 14 Nov 2023 22:13:20 GMT\r\nContent-Length: 0\r\nETag: \"900150983cd24fb0d6963f7d28e17f72\"\r\n\r\nHTTP/1.1 200 OK\r\nDate: Tue, 14 Nov 2023 22:13:20 GMT\r\nContent-Length: 0\r\nETag: \"900150983cd24fb0d6963f7d28e17f72\"\r\n\r\nHTTP/1.1 200 OK\r\nDate: Tue, 14 Nov 2023 22:13:20 GMT\r\nContent-Length: 0\r\nETag: \"900150983cd24fb0d6963f7d28e17f72\"\r\n\r\nHTTP/1.1 200 OK\r\nDate: Tue, 14 Nov 2023 22:13:20 GMT\r\nContent-Length: 0\r\nETag: \"900150983cd24fb0d6963f7d28e17f72\"\r\n\r\nHTTP/1.1 200 OK\r\nDate: Tue, 14 Nov 2023 22:13:20 GMT\r\nContent-Length: 564\r\nContent-Type: application/xml\r\n\r\n<?xml version=\"1.0\" encoding=\"UTF-8\"?>\n<ListBucketResult xmlns=\"http://s3.amazonaws.com/doc/2006-03-01/\"><Name>pics</Name><Prefix></Prefix><Delimiter>/</Delimiter><MaxKeys>2</MaxKeys><KeyCount>2</KeyCount><IsTruncated>true</IsTruncated><NextContinuationToken>70782f</NextContinuationToken><Contents><Key>a&amp;&lt;b</Key><LastModified>2023-11-14T22:13:20.000Z</LastModified><ETag>&quot;900150983cd24fb0d6963f7d28e17f72&quot;</ETag><Size>3</Size><StorageClass>STANDARD</StorageClass></Contents><CommonPrefixes><Prefix>x/</Prefix></CommonPrefixes></ListBucketResult>HTTP/1.1 200 OK\r\nDate: Tue, 14 Nov 2023 22:13:20 GMT\r\nContent-Length: 495\r\nContent-Type: application/xml\r\n\r\n<?xml version=\"1.0\" encoding=\"UTF-8\"?>\n<ListBucketResult xmlns=\"http://s3.amazonaws.com/doc/2006-03-01/\"><Name>pics</Name><Prefix></Prefix><Delimiter>/</Delimiter><MaxKeys>2</MaxKeys><KeyCount>1</KeyCount><IsTruncated>false</IsTruncated><ContinuationToken>70782f</ContinuationToken><Contents><Key>y</Key><LastModified>2023-11-14T22:13:20.000Z</LastModified><ETag>&quot;900150983cd24fb0d6963f7d28e17f72&quot;</ETag><Size>3</Size><StorageClass>STANDARD</StorageClass></Contents></ListBucketResult>HTTP/1.1 200 OK\r\nDate: Tue, 14 Nov 2023 22:13:20 GMT\r\nContent-Length: 232\r\nContent-Type: application/xml\r\n\r\n<?xml version=\"1.0\" encoding=\"UTF-8\"?>\n<ListBucketResult xmlns=\"http://s3.amazonaws.com/doc/2006-03-01/\"><Name>pics</Name><Prefix></Prefix><MaxKeys>0</MaxKeys><KeyCount>0</KeyCount><IsTruncated>false</IsTruncated></ListBucketResult>HTTP/1.1 200 OK\r\nDate: Tue, 14 Nov 2023 22:13:20 GMT\r\nContent-Length: 430\r\nContent-Type: application/xml\r\n\r\n<?xml version=\"1.0\" encoding=\"UTF-8\"?>\n<ListBucketResult xmlns=\"http://s3.amazonaws.com/doc/2006-03-01/\"><Name>pics</Name><Prefix>y</Prefix><MaxKeys>1000</MaxKeys><KeyCount>1</KeyCount><IsTruncated>false</IsTruncated><Contents><Key>y</Key><LastModified>2023-11-14T22:13:20.000Z</LastModified><ETag>&quot;900150983cd24fb0d6963f7d28e17f72&quot;</ETag><Size>3</Size><StorageClass>STANDARD</StorageClass></Contents></ListBucketResult>HTTP/1.1 400 Bad Request\r\nDate: Tue, 14 Nov 2023 22:13:20 GMT\r\nContent-Length: 142\r\nContent-Type: application/xml\r\n\r\n<?xml version=\"1.0\" encoding=\"UTF-8\"?>\n<Error><Code>InvalidArgument</Code><Message>InvalidArgument</Message><Resource>/pics</Resource></Error>HTTP/1.1 200 OK\r\nDate: Tue, 14 Nov 2023 22:13:20 GMT\r\nContent-Length: 299\r\nContent-Type: application/xml\r\n\r\n<?xml version=\"1.0\" encoding=\"UTF-8\"?>\n<ListBucketResult xmlns=\"http://s3.amazonaws.com/doc/2006-03-01/\"><Name>pics</Name><Prefix>a%26</Prefix><MaxKeys>1000</MaxKeys><EncodingType>url</EncodingType><KeyCount>0</KeyCount><IsTruncated>false</IsTruncated><StartAfter>x/2</StartAfter></ListBucketResult>";
+const LISTS_ANSWERS: &[u8] = b"\
+    HTTP/1.1 200 OK\r\n\
+    Date: Tue, 14 Nov 2023 22:13:20 GMT\r\n\
+    Content-Length: 0\r\n\
+    ETag: \"900150983cd24fb0d6963f7d28e17f72\"\r\n\r\n\
+    HTTP/1.1 200 OK\r\n\
+    Date: Tue, 14 Nov 2023 22:13:20 GMT\r\n\
+    Content-Length: 0\r\n\
+    ETag: \"900150983cd24fb0d6963f7d28e17f72\"\r\n\r\n\
+    HTTP/1.1 200 OK\r\n\
+    Date: Tue, 14 Nov 2023 22:13:20 GMT\r\n\
+    Content-Length: 0\r\n\
+    ETag: \"900150983cd24fb0d6963f7d28e17f72\"\r\n\r\n\
+    HTTP/1.1 200 OK\r\n\
+    Date: Tue, 14 Nov 2023 22:13:20 GMT\r\n\
+    Content-Length: 0\r\n\
+    ETag: \"900150983cd24fb0d6963f7d28e17f72\"\r\n\r\n\
+    HTTP/1.1 200 OK\r\n\
+    Date: Tue, 14 Nov 2023 22:13:20 GMT\r\n\
+    Content-Length: 564\r\n\
+    Content-Type: application/xml\r\n\r\n\
+    <?xml version=\"1.0\" encoding=\"UTF-8\"?>\n\
+    <ListBucketResult xmlns=\"http://s3.amazonaws.com/doc/2006-03-01/\"><Name>pics</Name><Prefix></Prefix>\
+    <Delimiter>/</Delimiter><MaxKeys>2</MaxKeys><KeyCount>2</KeyCount><IsTruncated>true</IsTruncated>\
+    <NextContinuationToken>70782f</NextContinuationToken><Contents><Key>a&amp;&lt;b</Key>\
+    <LastModified>2023-11-14T22:13:20.000Z</LastModified>\
+    <ETag>&quot;900150983cd24fb0d6963f7d28e17f72&quot;</ETag><Size>3</Size>\
+    <StorageClass>STANDARD</StorageClass></Contents><CommonPrefixes>\
+    <Prefix>x/</Prefix></CommonPrefixes></ListBucketResult>\
+    HTTP/1.1 200 OK\r\n\
+    Date: Tue, 14 Nov 2023 22:13:20 GMT\r\n\
+    Content-Length: 495\r\n\
+    Content-Type: application/xml\r\n\r\n\
+    <?xml version=\"1.0\" encoding=\"UTF-8\"?>\n\
+    <ListBucketResult xmlns=\"http://s3.amazonaws.com/doc/2006-03-01/\"><Name>pics</Name><Prefix></Prefix>\
+    <Delimiter>/</Delimiter><MaxKeys>2</MaxKeys><KeyCount>1</KeyCount><IsTruncated>false</IsTruncated>\
+    <ContinuationToken>70782f</ContinuationToken><Contents><Key>y</Key>\
+    <LastModified>2023-11-14T22:13:20.000Z</LastModified>\
+    <ETag>&quot;900150983cd24fb0d6963f7d28e17f72&quot;</ETag><Size>3</Size>\
+    <StorageClass>STANDARD</StorageClass></Contents></ListBucketResult>\
+    HTTP/1.1 200 OK\r\n\
+    Date: Tue, 14 Nov 2023 22:13:20 GMT\r\n\
+    Content-Length: 232\r\n\
+    Content-Type: application/xml\r\n\r\n\
+    <?xml version=\"1.0\" encoding=\"UTF-8\"?>\n\
+    <ListBucketResult xmlns=\"http://s3.amazonaws.com/doc/2006-03-01/\"><Name>pics</Name><Prefix></Prefix>\
+    <MaxKeys>0</MaxKeys><KeyCount>0</KeyCount>\
+    <IsTruncated>false</IsTruncated></ListBucketResult>\
+    HTTP/1.1 200 OK\r\n\
+    Date: Tue, 14 Nov 2023 22:13:20 GMT\r\n\
+    Content-Length: 430\r\n\
+    Content-Type: application/xml\r\n\r\n\
+    <?xml version=\"1.0\" encoding=\"UTF-8\"?>\n\
+    <ListBucketResult xmlns=\"http://s3.amazonaws.com/doc/2006-03-01/\"><Name>pics</Name><Prefix>y</Prefix>\
+    <MaxKeys>1000</MaxKeys><KeyCount>1</KeyCount><IsTruncated>false</IsTruncated><Contents><Key>y</Key>\
+    <LastModified>2023-11-14T22:13:20.000Z</LastModified>\
+    <ETag>&quot;900150983cd24fb0d6963f7d28e17f72&quot;</ETag><Size>3</Size>\
+    <StorageClass>STANDARD</StorageClass></Contents></ListBucketResult>\
+    HTTP/1.1 400 Bad Request\r\n\
+    Date: Tue, 14 Nov 2023 22:13:20 GMT\r\n\
+    Content-Length: 142\r\n\
+    Content-Type: application/xml\r\n\r\n\
+    <?xml version=\"1.0\" encoding=\"UTF-8\"?>\n\
+    <Error><Code>InvalidArgument</Code><Message>InvalidArgument</Message>\
+    <Resource>/pics</Resource></Error>\
+    HTTP/1.1 200 OK\r\n\
+    Date: Tue, 14 Nov 2023 22:13:20 GMT\r\n\
+    Content-Length: 299\r\n\
+    Content-Type: application/xml\r\n\r\n\
+    <?xml version=\"1.0\" encoding=\"UTF-8\"?>\n\
+    <ListBucketResult xmlns=\"http://s3.amazonaws.com/doc/2006-03-01/\"><Name>pics</Name><Prefix>a%26</Prefix>\
+    <MaxKeys>1000</MaxKeys><EncodingType>url</EncodingType><KeyCount>0</KeyCount>\
+    <IsTruncated>false</IsTruncated><StartAfter>x/2</StartAfter></ListBucketResult>";
 
 /// A copy, and one of an absent source; right and wrong digests; the buckets, one that isn't there, and a put without its length.
-const COPIES: &[u8] =
-    b"PUT /pics/a.txt HTTP/1.1\r\nContent-Length: 3\r\n\r\nabcPUT /pics/b HTTP/1.1\r\nx-amz-copy-source: /pics/a.txt\r\nContent-Length: 0\r\n\r\nPUT /pics/b HTTP/1.1\r\nx-amz-copy-source: /pics/none\r\nContent-Length: 0\r\n\r\nPUT /pics/a.txt HTTP/1.1\r\nContent-Length: 3\r\nContent-MD5: kAFQmDzST7DWlj99KOF/cg==\r\n\r\nabcPUT /pics/a.txt HTTP/1.1\r\nContent-Length: 3\r\nContent-MD5: kAFQmDzST7DWlj99KOF/cg==\r\n\r\nabdGET / HTTP/1.1\r\n\r\nGET /none/a HTTP/1.1\r\n\r\nPUT /pics/a.txt HTTP/1.1\r\n\r\n";
+const COPIES: &[u8] = b"\
+    PUT /pics/a.txt HTTP/1.1\r\n\
+    Content-Length: 3\r\n\r\n\
+    abc\
+    PUT /pics/b HTTP/1.1\r\n\
+    x-amz-copy-source: /pics/a.txt\r\n\
+    Content-Length: 0\r\n\r\n\
+    PUT /pics/b HTTP/1.1\r\n\
+    x-amz-copy-source: /pics/none\r\n\
+    Content-Length: 0\r\n\r\n\
+    PUT /pics/a.txt HTTP/1.1\r\n\
+    Content-Length: 3\r\n\
+    Content-MD5: kAFQmDzST7DWlj99KOF/cg==\r\n\r\n\
+    abc\
+    PUT /pics/a.txt HTTP/1.1\r\n\
+    Content-Length: 3\r\n\
+    Content-MD5: kAFQmDzST7DWlj99KOF/cg==\r\n\r\n\
+    abd\
+    GET / HTTP/1.1\r\n\r\n\
+    GET /none/a HTTP/1.1\r\n\r\n\
+    PUT /pics/a.txt HTTP/1.1\r\n\r\n";
 
 /// Their answers.
-const COPIES_ANSWERS: &[u8] =
-    b"HTTP/1.1 200 OK\r\nDate: Tue, 14 Nov 2023 22:13:20 GMT\r\nContent-Length: 0\r\nETag: \"900150983cd24fb0d6963f7d28e17f72\"\r\n\r\nHTTP/1.1 200 OK\r\nDate: Tue, 14 Nov 2023 22:13:20 GMT\r\nContent-Length: 234\r\nContent-Type: application/xml\r\n\r\n<?xml version=\"1.0\" encoding=\"UTF-8\"?>\n<CopyObjectResult xmlns=\"http://s3.amazonaws.com/doc/2006-03-01/\"><LastModified>2023-11-14T22:13:20.000Z</LastModified><ETag>&quot;900150983cd24fb0d6963f7d28e17f72&quot;</ETag></CopyObjectResult>HTTP/1.1 404 Not Found\r\nDate: Tue, 14 Nov 2023 22:13:20 GMT\r\nContent-Length: 132\r\nContent-Type: application/xml\r\n\r\n<?xml version=\"1.0\" encoding=\"UTF-8\"?>\n<Error><Code>NoSuchKey</Code><Message>NoSuchKey</Message><Resource>/pics/b</Resource></Error>HTTP/1.1 200 OK\r\nDate: Tue, 14 Nov 2023 22:13:20 GMT\r\nContent-Length: 0\r\nETag: \"900150983cd24fb0d6963f7d28e17f72\"\r\n\r\nHTTP/1.1 400 Bad Request\r\nDate: Tue, 14 Nov 2023 22:13:20 GMT\r\nContent-Length: 136\r\nContent-Type: application/xml\r\n\r\n<?xml version=\"1.0\" encoding=\"UTF-8\"?>\n<Error><Code>BadDigest</Code><Message>BadDigest</Message><Resource>/pics/a.txt</Resource></Error>HTTP/1.1 200 OK\r\nDate: Tue, 14 Nov 2023 22:13:20 GMT\r\nContent-Length: 313\r\nContent-Type: application/xml\r\n\r\n<?xml version=\"1.0\" encoding=\"UTF-8\"?>\n<ListAllMyBucketsResult xmlns=\"http://s3.amazonaws.com/doc/2006-03-01/\"><Owner><ID>garage-lab</ID><DisplayName>garage-lab</DisplayName></Owner><Buckets><Bucket><Name>pics</Name><CreationDate>1970-01-01T00:00:00.000Z</CreationDate></Bucket></Buckets></ListAllMyBucketsResult>HTTP/1.1 404 Not Found\r\nDate: Tue, 14 Nov 2023 22:13:20 GMT\r\nContent-Length: 138\r\nContent-Type: application/xml\r\n\r\n<?xml version=\"1.0\" encoding=\"UTF-8\"?>\n<Error><Code>NoSuchBucket</Code><Message>NoSuchBucket</Message><Resource>/none/a</Resource></Error>HTTP/1.1 411 Length Required\r\nDate: Tue, 14 Nov 2023 22:13:20 GMT\r\nContent-Length: 158\r\nContent-Type: application/xml\r\nConnection: close\r\n\r\n<?xml version=\"1.0\" encoding=\"UTF-8\"?>\n<Error><Code>MissingContentLength</Code><Message>MissingContentLength</Message><Resource>/pics/a.txt</Resource></Error>";
+const COPIES_ANSWERS: &[u8] = b"\
+    HTTP/1.1 200 OK\r\n\
+    Date: Tue, 14 Nov 2023 22:13:20 GMT\r\n\
+    Content-Length: 0\r\n\
+    ETag: \"900150983cd24fb0d6963f7d28e17f72\"\r\n\r\n\
+    HTTP/1.1 200 OK\r\n\
+    Date: Tue, 14 Nov 2023 22:13:20 GMT\r\n\
+    Content-Length: 234\r\n\
+    Content-Type: application/xml\r\n\r\n\
+    <?xml version=\"1.0\" encoding=\"UTF-8\"?>\n\
+    <CopyObjectResult xmlns=\"http://s3.amazonaws.com/doc/2006-03-01/\">\
+    <LastModified>2023-11-14T22:13:20.000Z</LastModified>\
+    <ETag>&quot;900150983cd24fb0d6963f7d28e17f72&quot;</ETag></CopyObjectResult>\
+    HTTP/1.1 404 Not Found\r\n\
+    Date: Tue, 14 Nov 2023 22:13:20 GMT\r\n\
+    Content-Length: 132\r\n\
+    Content-Type: application/xml\r\n\r\n\
+    <?xml version=\"1.0\" encoding=\"UTF-8\"?>\n\
+    <Error><Code>NoSuchKey</Code><Message>NoSuchKey</Message>\
+    <Resource>/pics/b</Resource></Error>\
+    HTTP/1.1 200 OK\r\n\
+    Date: Tue, 14 Nov 2023 22:13:20 GMT\r\n\
+    Content-Length: 0\r\n\
+    ETag: \"900150983cd24fb0d6963f7d28e17f72\"\r\n\r\n\
+    HTTP/1.1 400 Bad Request\r\n\
+    Date: Tue, 14 Nov 2023 22:13:20 GMT\r\n\
+    Content-Length: 136\r\n\
+    Content-Type: application/xml\r\n\r\n\
+    <?xml version=\"1.0\" encoding=\"UTF-8\"?>\n\
+    <Error><Code>BadDigest</Code><Message>BadDigest</Message>\
+    <Resource>/pics/a.txt</Resource></Error>\
+    HTTP/1.1 200 OK\r\n\
+    Date: Tue, 14 Nov 2023 22:13:20 GMT\r\n\
+    Content-Length: 313\r\n\
+    Content-Type: application/xml\r\n\r\n\
+    <?xml version=\"1.0\" encoding=\"UTF-8\"?>\n\
+    <ListAllMyBucketsResult xmlns=\"http://s3.amazonaws.com/doc/2006-03-01/\"><Owner><ID>garage-lab</ID>\
+    <DisplayName>garage-lab</DisplayName></Owner><Buckets><Bucket><Name>pics</Name>\
+    <CreationDate>1970-01-01T00:00:00.000Z</CreationDate></Bucket></Buckets></ListAllMyBucketsResult>HTTP/1.1 \
+    404 Not Found\r\n\
+    Date: Tue, 14 Nov 2023 22:13:20 GMT\r\n\
+    Content-Length: 138\r\n\
+    Content-Type: application/xml\r\n\r\n\
+    <?xml version=\"1.0\" encoding=\"UTF-8\"?>\n\
+    <Error><Code>NoSuchBucket</Code><Message>NoSuchBucket</Message>\
+    <Resource>/none/a</Resource></Error>\
+    HTTP/1.1 411 Length Required\r\n\
+    Date: Tue, 14 Nov 2023 22:13:20 GMT\r\n\
+    Content-Length: 158\r\n\
+    Content-Type: application/xml\r\n\
+    Connection: close\r\n\r\n\
+    <?xml version=\"1.0\" encoding=\"UTF-8\"?>\n\
+    <Error><Code>MissingContentLength</Code><Message>MissingContentLength</Message>\
+    <Resource>/pics/a.txt</Resource></Error>";
 
 /// The connection ends before the announced body does.
 const SHORT_BODY: &[u8] = b"PUT /pics/a.txt HTTP/1.1\r\nContent-Length: 4\r\n\r\nabc";
 
-const SHORT_ANSWER: &[u8] =
-    b"HTTP/1.1 400 Bad Request\r\nDate: Tue, 14 Nov 2023 22:13:20 GMT\r\nContent-Length: 146\r\nContent-Type: application/xml\r\nConnection: close\r\n\r\n<?xml version=\"1.0\" encoding=\"UTF-8\"?>\n<Error><Code>IncompleteBody</Code><Message>IncompleteBody</Message><Resource>/pics/a.txt</Resource></Error>";
+const SHORT_ANSWER: &[u8] = b"\
+    HTTP/1.1 400 Bad Request\r\n\
+    Date: Tue, 14 Nov 2023 22:13:20 GMT\r\n\
+    Content-Length: 146\r\n\
+    Content-Type: application/xml\r\n\
+    Connection: close\r\n\r\n\
+    <?xml version=\"1.0\" encoding=\"UTF-8\"?>\n\
+    <Error><Code>IncompleteBody</Code><Message>IncompleteBody</Message><Resource>/pics/a.txt</Resource></Error>";
 
 /// Multipart uploads aren't served.
 const UPLOADS: &[u8] = b"GET /pics?uploads HTTP/1.1\r\n\r\n";
 
-const UPLOADS_ANSWER: &[u8] =
-    b"HTTP/1.1 501 Not Implemented\r\nDate: Tue, 14 Nov 2023 22:13:20 GMT\r\nContent-Length: 140\r\nContent-Type: application/xml\r\nConnection: close\r\n\r\n<?xml version=\"1.0\" encoding=\"UTF-8\"?>\n<Error><Code>NotImplemented</Code><Message>NotImplemented</Message><Resource>/pics</Resource></Error>";
+const UPLOADS_ANSWER: &[u8] = b"\
+    HTTP/1.1 501 Not Implemented\r\n\
+    Date: Tue, 14 Nov 2023 22:13:20 GMT\r\n\
+    Content-Length: 140\r\n\
+    Content-Type: application/xml\r\n\
+    Connection: close\r\n\r\n\
+    <?xml version=\"1.0\" encoding=\"UTF-8\"?>\n\
+    <Error><Code>NotImplemented</Code><Message>NotImplemented</Message><Resource>/pics</Resource></Error>";
 
 /// A head that is too long has no path.
-const LONG_ANSWER: &[u8] =
-    b"HTTP/1.1 400 Bad Request\r\nDate: Tue, 14 Nov 2023 22:13:20 GMT\r\nContent-Length: 135\r\nContent-Type: application/xml\r\nConnection: close\r\n\r\n<?xml version=\"1.0\" encoding=\"UTF-8\"?>\n<Error><Code>InvalidRequest</Code><Message>InvalidRequest</Message><Resource></Resource></Error>";
+const LONG_ANSWER: &[u8] = b"\
+    HTTP/1.1 400 Bad Request\r\n\
+    Date: Tue, 14 Nov 2023 22:13:20 GMT\r\n\
+    Content-Length: 135\r\n\
+    Content-Type: application/xml\r\n\
+    Connection: close\r\n\r\n\
+    <?xml version=\"1.0\" encoding=\"UTF-8\"?>\n\
+    <Error><Code>InvalidRequest</Code><Message>InvalidRequest</Message><Resource></Resource></Error>";
 
 /// What a server of one connection that has these bytes did.
 #[derive(Drop)]

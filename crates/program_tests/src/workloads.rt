@@ -6,8 +6,15 @@ use std::test::Fail;
 use workload_run::run;
 
 /// Three nodes without rows: a bucket, a size of blocks, the loss of message 5, which wasn't sent, and a drain.
-const FIVE_EVENTS: &[u8] =
-    b"workload 5 0\nfinished 0 ended 0 open 0\nversions 1\nnode 1 rows 0 blocks 0 top 7e1c26a17bd3d7fa395f34897712e0533bd0d69b934e542d6a4a4fb3ce779cda\nnode 2 rows 0 blocks 0 top 7e1c26a17bd3d7fa395f34897712e0533bd0d69b934e542d6a4a4fb3ce779cda\nnode 3 rows 0 blocks 0 top 7e1c26a17bd3d7fa395f34897712e0533bd0d69b934e542d6a4a4fb3ce779cda\nfresh 0\nend 5 0 0\n";
+const FIVE_EVENTS: &[u8] = b"\
+    workload 5 0\n\
+    finished 0 ended 0 open 0\n\
+    versions 1\n\
+    node 1 rows 0 blocks 0 top 7e1c26a17bd3d7fa395f34897712e0533bd0d69b934e542d6a4a4fb3ce779cda\n\
+    node 2 rows 0 blocks 0 top 7e1c26a17bd3d7fa395f34897712e0533bd0d69b934e542d6a4a4fb3ce779cda\n\
+    node 3 rows 0 blocks 0 top 7e1c26a17bd3d7fa395f34897712e0533bd0d69b934e542d6a4a4fb3ce779cda\n\
+    fresh 0\n\
+    end 5 0 0\n";
 
 /// The status and the text of a run with these words.
 fn summarized(alloc: Global, words: &[&str]) -> Result<(Status, Vec<u8>), Fail> {

@@ -68,7 +68,12 @@ fn lines(alloc: Global, date: &[u8]) -> Result<Vec<u8>, AllocError> {
     let mut text = Vec::from_slice(alloc, b"HTTP/1.1 200 OK\r\nDate: ")?;
     text.extend_from_slice(date)?;
     text.extend_from_slice(
-        b"\r\nContent-Length: 234\r\nContent-Type: application/xml\r\n\r\n<?xml version=\"1.0\" encoding=\"UTF-8\"?>\n<CopyObjectResult xmlns=\"http://s3.amazonaws.com/doc/2006-03-01/\"><LastModified>",
+        b"\
+            \r\n\
+            Content-Length: 234\r\n\
+            Content-Type: application/xml\r\n\r\n\
+            <?xml version=\"1.0\" encoding=\"UTF-8\"?>\n\
+            <CopyObjectResult xmlns=\"http://s3.amazonaws.com/doc/2006-03-01/\"><LastModified>",
     )?;
     Ok(text)
 }

@@ -39,7 +39,17 @@ const READ: [(&str, &[u8]); 3] = [
     ("", b"garage"),
     ("region = 'eu-west-3'\nkey = []", b"eu-west-3"),
     (
-        "[[key]]\nid = 'GK1'\nsecret = 'a/B+9'\nread = ['pics', 'logs', 'pics']\nwrite = []\n[[key]]\nid = 'gk1'\nsecret = 's'\nread = []\nwrite = ['logs']\n",
+        "\
+            [[key]]\n\
+            id = 'GK1'\n\
+            secret = 'a/B+9'\n\
+            read = ['pics', 'logs', 'pics']\n\
+            write = []\n\
+            [[key]]\n\
+            id = 'gk1'\n\
+            secret = 's'\n\
+            read = []\n\
+            write = ['logs']\n",
         b"garage\nGK1 a/B+9 reads pics logs pics; writes;\ngk1 s reads; writes logs;",
     ),
 ];
@@ -77,7 +87,17 @@ const REFUSED: [(&str, FieldName); 9] = [
     ),
     ("[[key]]\nid = 'a'\nsecret = 's'\nread = []", FieldName::Key),
     (
-        "[[key]]\nid = 'a'\nsecret = 's'\nread = []\nwrite = []\n[[key]]\nid = 'a'\nsecret = 't'\nread = []\nwrite = []",
+        "\
+            [[key]]\n\
+            id = 'a'\n\
+            secret = 's'\n\
+            read = []\n\
+            write = []\n\
+            [[key]]\n\
+            id = 'a'\n\
+            secret = 't'\n\
+            read = []\n\
+            write = []",
         FieldName::Key,
     ),
 ];

@@ -76,19 +76,52 @@ const SECRET: &[u8] = b"wJalrXUtnFEMI/K7MDENG/bPxRfiCYEXAMPLEKEY";
 // lifecycle, GET of a bucket's list), and their signatures.
 const EXAMPLES: [(&[u8], &[u8]); 4] = [
     (
-        b"GET\n/test.txt\n\nhost:examplebucket.s3.amazonaws.com\nrange:bytes=0-9\nx-amz-content-sha256:e3b0c44298fc1c149afbf4c8996fb92427ae41e4649b934ca495991b7852b855\nx-amz-date:20130524T000000Z\n\nhost;range;x-amz-content-sha256;x-amz-date\ne3b0c44298fc1c149afbf4c8996fb92427ae41e4649b934ca495991b7852b855",
+        b"\
+            GET\n\
+            /test.txt\n\n\
+            host:examplebucket.s3.amazonaws.com\n\
+            range:bytes=0-9\n\
+            x-amz-content-sha256:e3b0c44298fc1c149afbf4c8996fb92427ae41e4649b934ca495991b7852b855\n\
+            x-amz-date:20130524T000000Z\n\n\
+            host;range;x-amz-content-sha256;x-amz-date\n\
+            e3b0c44298fc1c149afbf4c8996fb92427ae41e4649b934ca495991b7852b855",
         b"f0e8bdb87c964420e857bd35b5d6ed310bd44f0170aba48dd91039c6036bdb41",
     ),
     (
-        b"PUT\n/test%24file.text\n\ndate:Fri, 24 May 2013 00:00:00 GMT\nhost:examplebucket.s3.amazonaws.com\nx-amz-content-sha256:44ce7dd67c959e0d3524ffac1771dfbba87d2b6b4b4e99e42034a8b803f8b072\nx-amz-date:20130524T000000Z\nx-amz-storage-class:REDUCED_REDUNDANCY\n\ndate;host;x-amz-content-sha256;x-amz-date;x-amz-storage-class\n44ce7dd67c959e0d3524ffac1771dfbba87d2b6b4b4e99e42034a8b803f8b072",
+        b"\
+            PUT\n\
+            /test%24file.text\n\n\
+            date:Fri, 24 May 2013 00:00:00 GMT\n\
+            host:examplebucket.s3.amazonaws.com\n\
+            x-amz-content-sha256:44ce7dd67c959e0d3524ffac1771dfbba87d2b6b4b4e99e42034a8b803f8b072\n\
+            x-amz-date:20130524T000000Z\n\
+            x-amz-storage-class:REDUCED_REDUNDANCY\n\n\
+            date;host;x-amz-content-sha256;x-amz-date;x-amz-storage-class\n\
+            44ce7dd67c959e0d3524ffac1771dfbba87d2b6b4b4e99e42034a8b803f8b072",
         b"98ad721746da40c64f1a55b78f14c238d841ea1380cd77a1b5971af0ece108bd",
     ),
     (
-        b"GET\n/\nlifecycle=\nhost:examplebucket.s3.amazonaws.com\nx-amz-content-sha256:e3b0c44298fc1c149afbf4c8996fb92427ae41e4649b934ca495991b7852b855\nx-amz-date:20130524T000000Z\n\nhost;x-amz-content-sha256;x-amz-date\ne3b0c44298fc1c149afbf4c8996fb92427ae41e4649b934ca495991b7852b855",
+        b"\
+            GET\n\
+            /\n\
+            lifecycle=\n\
+            host:examplebucket.s3.amazonaws.com\n\
+            x-amz-content-sha256:e3b0c44298fc1c149afbf4c8996fb92427ae41e4649b934ca495991b7852b855\n\
+            x-amz-date:20130524T000000Z\n\n\
+            host;x-amz-content-sha256;x-amz-date\n\
+            e3b0c44298fc1c149afbf4c8996fb92427ae41e4649b934ca495991b7852b855",
         b"fea454ca298b7da1c68078a5d1bdbfbbe0d65c699e0f91ac7a200a0136783543",
     ),
     (
-        b"GET\n/\nmax-keys=2&prefix=J\nhost:examplebucket.s3.amazonaws.com\nx-amz-content-sha256:e3b0c44298fc1c149afbf4c8996fb92427ae41e4649b934ca495991b7852b855\nx-amz-date:20130524T000000Z\n\nhost;x-amz-content-sha256;x-amz-date\ne3b0c44298fc1c149afbf4c8996fb92427ae41e4649b934ca495991b7852b855",
+        b"\
+            GET\n\
+            /\n\
+            max-keys=2&prefix=J\n\
+            host:examplebucket.s3.amazonaws.com\n\
+            x-amz-content-sha256:e3b0c44298fc1c149afbf4c8996fb92427ae41e4649b934ca495991b7852b855\n\
+            x-amz-date:20130524T000000Z\n\n\
+            host;x-amz-content-sha256;x-amz-date\n\
+            e3b0c44298fc1c149afbf4c8996fb92427ae41e4649b934ca495991b7852b855",
         b"34b48302e7b5fa45bde8084f4b7868a86f0a534bc59db6670ed5711ef69dc6f7",
     ),
 ];
@@ -106,8 +139,11 @@ fn signatures_of_the_documentation(rt: HostRuntime) -> Result<(), Fail> {
 }
 
 // The text to sign of the first example.
-const TEXT: &[u8] =
-    b"AWS4-HMAC-SHA256\n20130524T000000Z\n20130524/us-east-1/s3/aws4_request\n7344ae5b7ee6c3e7e6b0fe0640412a37625d1fbfff95c48bbb2dc43964946972";
+const TEXT: &[u8] = b"\
+    AWS4-HMAC-SHA256\n\
+    20130524T000000Z\n\
+    20130524/us-east-1/s3/aws4_request\n\
+    7344ae5b7ee6c3e7e6b0fe0640412a37625d1fbfff95c48bbb2dc43964946972";
 
 #[test]
 fn text_of_the_documentation(rt: HostRuntime) -> Result<(), Fail> {
