@@ -1,5 +1,5 @@
 -- Connections are served as from the map: a cluster that holds it answers alike.
-use Rattle.std.proofs.Common.{◌≡◌, ◌≤◌, ◌⊎◌, ℕ, List, [], ◌∷◌, refl, sym, subst, inl, inr}
+use Rattle.std.proofs.Common.{◌≡◌, ◌≤◌, ◌⊎◌, ℕ, Bool, List, [], ◌∷◌, refl, sym, subst, inl, inr}
 use Rattle.std.specs.List.{AllByRecursion}
 use Rattle.crdt_core.specs.Members.{OneOf}
 use Rattle.lab_outside.specs.Connection.{Connection}
@@ -7,12 +7,12 @@ use Rattle.flow_model.specs.declared.order.Order.{Order}
 use Rattle.store_model.specs.Fresh.{NoClash}
 use Rattle.serve_model.specs.Stores.{Asking, fits_asking}
 use Rattle.serve_model.specs.Clusters.{Cluster, cluster, fits}
-use Rattle.serve_model.specs.Talk.{Grammar, Serving, talk, request_limit}
+use Rattle.serve_model.specs.Talk.{Grammar, Serving, turn, talk, request_limit}
 use Rattle.serve_model.specs.Connections.{AreServed, SomeAsked, NoneRose}
 use Rattle.serve_model.specs.Plain.{Plain, has_at, plain, IsPiece, PutsBlock, AreApart}
-use Rattle.serve_model.proofs.Alike.{Serves, AllMeant, served_alike}
+use Rattle.serve_model.proofs.Alike.{Serves, turn_alike, AllMeant, served_alike}
 use Rattle.plain_laws.specs.Blocks.{IsKept, body_in, body_written, IsBlockAt, IsOfMap}
-use Rattle.plain_laws.specs.Served.{over_map, IsServedBlock, HoldsApart, AreServedFrom}
+use Rattle.plain_laws.specs.Served.{over_map, IsServedBlock, HoldsApart, AreServedFrom, IsTurnBlock, IsTurnFrom}
 use Rattle.plain_laws.proofs.Stores.{written_or_put, carries_grow, order_follows}
 
 module _ (IsSuch : List ℕ → Type 0) (apart : AreApart IsSuch) where
@@ -83,3 +83,17 @@ served_from buckets g p s P came gone h apart none served =
     let meant = all_meant IsSuch apart buckets g (over_map P p) came (λ bytes k. inr (inr k)) in
     let k = served_alike cluster plain (HoldsSuch IsSuch apart) (fits_asking fits) (PutsSuch IsSuch apart) (agrees IsSuch apart) buckets g came gone p s (over_map P p) begins meant none served in
     record { serving = k.0; are_served = k.1.0; holds = k.1.1.store.map }
+
+pub turned_from : (buckets : List (List ℕ)) (g : Grammar) (last : Bool) (p : Serving Cluster) (P : Plain) (request : List ℕ) → HoldsApart p.store P → AreApart (IsTurnBlock buckets g last p P request) →
+    AllByRecursion (fits_asking fits) (turn cluster buckets g last p request).asks → IsTurnFrom P buckets g last p request
+turned_from buckets g last p P request h apart fit =
+    let IsSuch : List ℕ → Type 0 = IsTurnBlock buckets g last p P request in
+    let begins : Serves cluster plain (HoldsSuch IsSuch apart) (fits_asking fits) (PutsSuch IsSuch apart) (agrees IsSuch apart) p (over_map P p) = record {
+      store = record { map = h; kept = λ bytes k. inl k; of_map = λ bytes m. inr (inl m) };
+      times = refl;
+      time = refl;
+      kept = refl;
+    } in
+    let meant = all_such IsSuch apart buckets g (turn plain buckets g last (over_map P p) request).asks (λ bytes k. inr (inr k)) in
+    let t = turn_alike cluster plain (HoldsSuch IsSuch apart) (fits_asking fits) (PutsSuch IsSuch apart) (agrees IsSuch apart) buckets g last p (over_map P p) request begins fit meant in
+    record { text = t.text; next = t.next; holds = t.serving.store.map }

@@ -1,9 +1,10 @@
 -- What a server over a cluster writes, and one over the map.
-use Rattle.std.specs.Prelude.{◌⊎◌, ◌≤◌, ℕ, ⊤, List}
+use Rattle.std.specs.Prelude.{◌≡◌, ◌⊎◌, ◌≤◌, ℕ, Bool, ⊤, List}
+use Rattle.crdt_core.specs.Members.{OneOf}
 use Rattle.lab_outside.specs.Connection.{Connection}
 use Rattle.store_model.specs.Fresh.{NoClash}
-use Rattle.serve_model.specs.Clusters.{Cluster}
-use Rattle.serve_model.specs.Talk.{Grammar, Serving}
+use Rattle.serve_model.specs.Clusters.{Cluster, cluster}
+use Rattle.serve_model.specs.Talk.{Grammar, Serving, turn}
 use Rattle.serve_model.specs.Connections.{AreServed, SomeAsked}
 use Rattle.serve_model.specs.Plain.{Plain, plain, PutsBlock, AreApart}
 use Rattle.plain_laws.specs.Holds.{Holds}
@@ -28,3 +29,13 @@ pub record AreServedFrom (P : Plain) (buckets : List (List ℕ)) (g : Grammar) (
   pub serving : Serving Plain
   pub are_served : AreServed plain buckets g (λ a. ⊤) (over_map P p) came gone serving
   pub holds : HoldsApart s.store serving.store
+
+-- a node keeps this block, or an object of the map or what one request puts is cut into it
+abbrev pub IsTurnBlock : List (List ℕ) → Grammar → Bool → Serving Cluster → Plain → List ℕ → List ℕ → Type 0
+IsTurnBlock buckets g last p P request bytes = IsKept p.store.run.world bytes ⊎ (IsOfMap P bytes ⊎ OneOf (PutsBlock bytes) (turn plain buckets g last (over_map P p) request).asks)
+
+-- the first request in these bytes is served as from the map: what is written and how the connection goes on is the same, and the cluster then holds what the map has become
+pub record IsTurnFrom (P : Plain) (buckets : List (List ℕ)) (g : Grammar) (last : Bool) (p : Serving Cluster) (request : List ℕ) : Type 0 where
+  pub text : (turn cluster buckets g last p request).text ≡ (turn plain buckets g last (over_map P p) request).text
+  pub next : (turn cluster buckets g last p request).next ≡ (turn plain buckets g last (over_map P p) request).next
+  pub holds : HoldsApart (turn cluster buckets g last p request).serving.store (turn plain buckets g last (over_map P p) request).serving.store

@@ -25,12 +25,12 @@ ghost use Rattle.store_model.specs.Acts.{installs, acted};
 ghost use Rattle.lab_outside.specs.Connection.{Connection};
 ghost use Rattle.serve_model.specs.Stores.{OrdersFit, after_orders, fits_asking};
 ghost use Rattle.serve_model.specs.Clusters.{Cluster, cluster, fits};
-ghost use Rattle.serve_model.specs.Talk.{Grammar, Serving};
+ghost use Rattle.serve_model.specs.Talk.{Grammar, Serving, turn};
 ghost use Rattle.serve_model.specs.Connections.{AreServed, NoneRose};
 ghost use Rattle.serve_model.specs.Plain.{object, Plain, has_at, plain, IsNumbered, AreInOrder, AreApart};
 ghost use Rattle.plain_laws.specs.Holds.{Holds, IsGone, Agrees, Reads, WritesRow, CopiesRow, AllBlocks, NoTwins, PutsBlocks, Lists, AllInRows, IsOfRows, ends_of};
 ghost use Rattle.plain_laws.specs.Blocks.{IsBlockAt, KeepsNoOther, PutsLong, Copies, IsPut, IsSomeBlock};
-ghost use Rattle.plain_laws.specs.Served.{IsServedBlock, HoldsApart, AreServedFrom};
+ghost use Rattle.plain_laws.specs.Served.{IsServedBlock, HoldsApart, AreServedFrom, IsTurnBlock, IsTurnFrom};
 
 /// A first layout that is installed where nothing has happened yet, with whatever buckets and size of blocks, holds the
 /// empty map.
@@ -129,6 +129,13 @@ pub fn stores_answer_as_the_map_does()
 pub fn connections_are_served_as_from_the_map()
     ensures { (buckets : List (List ℕ)) (g : Grammar) (p s : Serving Cluster) (P : Plain) (came : List (List ℕ)) (gone : List Connection) → HoldsApart p.store P → AreApart (IsServedBlock buckets g p P came) → NoneRose gone →
         AreServed cluster buckets g (fits_asking fits) p came gone s → AreServedFrom P buckets g p came gone s }
+{}
+
+/// So is one request on a world that is lent: what is written, how the connection goes on, and what is held then; where the
+/// order that it asks fits.
+pub fn a_request_is_served_as_from_the_map()
+    ensures { (buckets : List (List ℕ)) (g : Grammar) (last : Bool) (p : Serving Cluster) (P : Plain) (request : List ℕ) → HoldsApart p.store P → AreApart (IsTurnBlock buckets g last p P request) →
+        AllByRecursion (fits_asking fits) (turn cluster buckets g last p request).asks → IsTurnFrom P buckets g last p request }
 {}
 
 /// An object is put, read, asked for, deleted, and read once more, at times 100 to 104; the delete's timestamp is the
