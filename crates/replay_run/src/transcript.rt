@@ -71,8 +71,9 @@ pub fn replay<O: Sink>(
 ) -> Result<(), ReplayStop>
     requires meant { All (λ e. IsMeantEvent e.event) events.now }
 
-    // Ok comes with the whole account. Number and Sent come where what was written, with the line of that limit, is how
-    // a replay of the events ends; and Write and Memory after a first part of it.
+    // Ok comes with the whole account. Sent comes where what was written, with the line of that limit, is how a replay of
+    // the events ends; Number where a step has no room or a node can't be shown, which no schedule brings; and Write and
+    // Memory after a first part of it.
     ensures whole { OnOk result (IsWhole account events.now (O.written output.old) (O.written output.new)) }
     ensures halts { IfErr result (λ stop. Halts account events.now stop (O.written output.old) (O.written output.new)) }
 

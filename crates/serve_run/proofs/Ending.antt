@@ -10,8 +10,7 @@ use Rattle.serve_run.specs.declared.stop.Stop.{Stop}
 use Rattle.serve_run.specs.declared.stop.Stop.TheVariants.{Read, Link, Memory, LongInput, Refused, Kept, Number}
 use Rattle.serve_run.specs.Words.{AsksFor}
 use Rattle.serve_run.specs.Plan.{WasRead}
-use Rattle.serve_run.proofs.FromMap.{FirstHolds, ServedFrom, is_from_map}
-use Rattle.serve_run.specs.Served.{Told}
+use Rattle.serve_run.specs.Told.{Told}
 use Rattle.lab_main.specs.Ends.{Ends, said, cut_off}
 use Rattle.serve_run.specs.Stop.{status_of, said_of, IsOfInput, IsTold}
 use Rattle.serve_run.specs.Answer.{HasEnded, HasStopped, IsEnd, long_input, refused, served, link_failed, too_much, no_room, EndsSo, IsStated, IsSilent, Answers, AnswersPrefix, IsAnswer, usage, asked, IsServedWhole}
@@ -133,7 +132,7 @@ no_link_fault is d e = cc
 no_usage : (is : Status) → is ≡ status.Done → is ≡ status.Usage → ⊥
 no_usage is d e = cc
 
-module _ (first_holds : FirstHolds) (served_from : ServedFrom) (g : Grammar) (words : List (List ℕ)) (input old new : Option (List ℕ)) (t : Told) (text : List ℕ) (wrote : Wrote old new text) where
+module _ (g : Grammar) (words : List (List ℕ)) (input old new : Option (List ℕ)) (t : Told) (text : List ℕ) (wrote : Wrote old new text) where
   done_served : (port count : ℕ) → AsksFor words port count → (p : Plan) → WasRead input p → HasEnded g p count t text → IsServedWhole g words input old new t
   done_served port count asks p read h =
       record {
@@ -146,7 +145,6 @@ module _ (first_holds : FirstHolds) (served_from : ServedFrom) (g : Grammar) (wo
         within = h.within;
         short = h.short;
         has = h.has;
-        from_map = is_from_map first_holds served_from g p h.number t read.is_plan.sized h.has;
         wrote = subst (Wrote old new) h.text_is wrote;
       }
 

@@ -1,6 +1,6 @@
 -- A server's connections are served as by a server that is one map.
-use Rattle.std.proofs.Common.{◌≡◌, ◌≤◌, ℕ, inl, inr, List, [], ◌∷◌, ◌++◌, map, Option, Some, None, IfSome, refl, sym, ◌∙◌, ap, subst, append_assoc, append-nil}
-use Rattle.std.proofs.lemmas.List.{append_cancel_left, append_cancel_right}
+use Rattle.std.proofs.Common.{◌≡◌, ◌≤◌, ◌+◌, ℕ, suc, inl, inr, List, [], ◌∷◌, ◌++◌, length, length-append, map, refl, sym, ◌∙◌, ap, subst, arith, append_assoc, append-nil}
+use Rattle.std.proofs.lemmas.List.{append_cancel_left}
 use Rattle.lab_outside.specs.Connection.{Connection}
 use Rattle.layout_roles.specs.declared.layout.Layout.{Layout}
 use Rattle.layout_roles.specs.declared.role.Role.{Role}
@@ -12,16 +12,16 @@ use Rattle.store_model.specs.Fresh.{NoClash}
 use Rattle.serve_model.specs.Stores.{fits_asking}
 use Rattle.serve_model.specs.Clusters.{Cluster, cluster, fits}
 use Rattle.serve_model.specs.Talk.{Grammar, Serving}
-use Rattle.serve_model.specs.Connections.{AreServed, SomeAsked, NoneRose, ServesAll}
+use Rattle.serve_model.specs.Connections.{IsServed, AreServed, SomeAsked, NoneRose}
 use Rattle.serve_model.specs.Plain.{Plain as Map, plain, PutsBlock, AreApart}
 use Rattle.plain_laws.specs.Holds.{Holds}
 use Rattle.plain_laws.specs.Blocks.{IsKept, IsOfMap}
-use Rattle.plain_laws.specs.Served.{over_map, IsServedBlock, HoldsApart, AreServedFrom}
+use Rattle.plain_laws.specs.Served.{IsServedBlock, HoldsApart, AreServedFrom}
 use Rattle.plain_laws.proofs.Stores.{all_put}
 use Rattle.serve_run.specs.declared.plan.Plan.{Plan}
 use Rattle.serve_run.specs.Start.{preparing, opening, opened, IsOf}
-use Rattle.serve_run.specs.Served.{Told, WhereTold, HasServed, nodes_of, begun, acts_of, state_after, serving}
-use Rattle.serve_run.specs.FromMap.{empty_map, map_serving, AreServedFromMap, IsFromMap}
+use Rattle.serve_run.specs.Served.{nodes_of, begun, serving}
+use Rattle.serve_run.specs.FromMap.{empty_map, map_serving, AreServedFromMap, AreFromMap}
 
 -- ---- the first state
 
@@ -39,10 +39,8 @@ last_is_first : (s : State) (acts : List Act) (first : Layout) (later : List Act
 last_is_first s [] first later h = h.0.0
 last_is_first s (a ∷ acts) first later h = last_is_first (acted s a).state acts first later h.1
 
-installs_first : (p : Plan) (first : Layout) (later : List Act) → AreLawfulActs start (opening p.config.buckets p.config.block_size first ++ later) → IsFirst first
-installs_first p first later h =
-    last_is_first start (preparing p.config.buckets p.config.block_size) first later
-    (subst (AreLawfulActs start) (append_assoc (preparing p.config.buckets p.config.block_size) (installs first ∷ []) later) h)
+pub installs_first : (p : Plan) (first : Layout) → AreLawfulActs start (opening p.config.buckets p.config.block_size first) → IsFirst first
+installs_first p first h = last_is_first start (preparing p.config.buckets p.config.block_size) first [] h
 
 -- what the law on first layouts says
 abbrev pub FirstHolds : Type 0
@@ -71,55 +69,71 @@ none_there p first bytes m = all_put first p.config.buckets p.config.block_size 
 none_kept : (p : Plan) (first : Layout) (bytes : List ℕ) → IsKept (opened p first).world bytes → ⊥
 none_kept p first bytes k = all_put first p.config.buckets p.config.block_size [] bytes (inl (subst (λ (s : State). IsKept s.world bytes) (opened_is p first) k))
 
+-- ---- the first connections
+
+-- the first of the connections that were served one after the other, with these texts
+record Front (buckets : List (List ℕ)) (g : Grammar) (q : Serving Cluster) (came : List (List ℕ)) (gone : List Connection) : Type 0 where
+  pub front : List (List ℕ)
+  pub back : List (List ℕ)
+  pub comes : came ≡ front ++ back
+  pub long : length front ≡ length gone
+  pub at : Serving Cluster
+  pub served : AreServed cluster buckets g (fits_asking fits) q front gone at
+
+head_is : {A : Type 0} (x y : A) (xs ys : List A) → x ∷ xs ≡ y ∷ ys → x ≡ y
+head_is x y xs ys e = cc
+
+tail_is : {A : Type 0} (x y : A) (xs ys : List A) → x ∷ xs ≡ y ∷ ys → xs ≡ ys
+tail_is x y xs ys e = cc
+
+lengths : {A : Type 0} (xs ys : List A) → xs ≡ ys → length xs ≡ length ys
+lengths xs ys e = ap length e
+
+front_of : (buckets : List (List ℕ)) (g : Grammar) (came : List (List ℕ)) (all gone later more : List Connection) (q s : Serving Cluster) → AreServed cluster buckets g (fits_asking fits) q came all s → all ++ more ≡ gone ++ later → length more ≤ length later → Front buckets g q came gone
+front_of buckets g came all [] later more q s h e le = record { front = []; back = came; comes = refl; long = refl; at = q; served = refl }
+front_of buckets g came [] (d ∷ gone) later more q s h e le =
+    let long : length more ≡ suc (length gone + length later) = lengths more (d ∷ gone ++ later) e ∙ ap suc (length-append gone later) in
+    absurd (omega (arith, long, le))
+front_of buckets g [] (x ∷ all) (d ∷ gone) later more q s h e le = absurd h
+front_of buckets g (bytes ∷ came) (x ∷ all) (d ∷ gone) later more q s h e le =
+    let rest = front_of buckets g came all gone later more h.0 s h.2 (tail_is x d (all ++ more) (gone ++ later) e) le in
+    let first = subst (λ y. IsServed cluster buckets g (fits_asking fits) q bytes y h.0) (head_is x d (all ++ more) (gone ++ later) e) h.1 in
+    record { front = bytes ∷ rest.front; back = rest.back; comes = ap (λ x. bytes ∷ x) rest.comes; long = ap suc rest.long; at = rest.at; served = (h.0, first, rest.served) }
+
+-- lists of one length with which one list begins are the same
+same_front : {A : Type 0} (front came back later : List A) → front ++ back ≡ came ++ later → length front ≡ length came → front ≡ came
+same_front [] [] back later e l = refl
+same_front [] (y ∷ came) back later e l = absurd (omega (arith, l))
+same_front (x ∷ front) [] back later e l = absurd (omega (arith, l))
+same_front (x ∷ front) (y ∷ came) back later e l =
+    let heads = head_is x y (front ++ back) (came ++ later) e in
+    let rest = same_front front came back later (tail_is x y (front ++ back) (came ++ later) e) (omega (arith, l)) in
+    λ i. heads i ∷ rest i
+
 -- ---- the connections that came
 
-some_is : {A : Type 0} (o : Option A) (a b : A) → o ≡ Some a → o ≡ Some b → a ≡ b
-some_is o a b h k = cc
+module _ (first_holds : FirstHolds) (served_from : ServedFrom) (g : Grammar) (p : Plan) (sized : 1 ≤ p.config.block_size) (first : Layout) (is_of : IsOf p first) (is_first : IsFirst first) (buckets : List (List ℕ)) (times : List ℕ) where
+  -- at first no block is kept, and nothing is in the map
+  abbrev Puts : List (List ℕ) → List ℕ → Type 0
+  Puts came bytes = SomeAsked plain buckets g (PutsBlock bytes) (map_serving p times) came
 
-where_told : (t : Told) (P Q : List ℕ → List (List ℕ) → Type 0) → ((times : List ℕ) (coming : List (List ℕ)) → P times coming → Q times coming) → WhereTold t P → WhereTold t Q
-where_told t P Q f h = told_so t.times t.coming h
-  where
-    told_so : (a : Option (List ℕ)) (b : Option (List (List ℕ))) → IfSome a (λ times. IfSome b (λ coming. P times coming)) → IfSome a (λ times. IfSome b (λ coming. Q times coming))
-    told_so None b k = tt
-    told_so (Some times) None k = tt
-    told_so (Some times) (Some coming) k = f times coming k
+  is_put : (came : List (List ℕ)) (bytes : List ℕ) → IsServedBlock buckets g (serving p first times) (empty_map p) came bytes → Puts came bytes
+  is_put came bytes (inl kept) = absurd (none_kept p first bytes kept)
+  is_put came bytes (inr (inl m)) = absurd (none_there p first bytes m)
+  is_put came bytes (inr (inr put)) = put
 
-module _ (first_holds : FirstHolds) (served_from : ServedFrom) (g : Grammar) (p : Plan) (number : ℕ) (t : Told) (sized : 1 ≤ p.config.block_size) (has : HasServed g p number t) where
-  first_is : IsFirst has.first
-  first_is = installs_first p has.first (acts_of (begun p has.first) has.orders) has.kept.lawful
+  from_map_here : NoClash p.config.buckets → (came : List (List ℕ)) (gone : List Connection) (s : Serving Cluster) → AreServed cluster buckets g (fits_asking fits) (serving p first times) came gone s → NoneRose gone → AreApart (Puts came) → AreServedFromMap g p buckets times came gone
+  from_map_here clash came gone s served none apart =
+      let begins : HoldsApart (begun p first) (empty_map p) = record { holds = begun_holds first_holds p first is_of is_first; clash = clash; some = sized } in
+      let k = served_from buckets g (serving p first times) s (empty_map p) came gone begins (λ x y h l e. apart x y (is_put came x h) (is_put came y l) e) none served in
+      (k.serving, k.are_served)
 
-  abbrev All : List ℕ → List (List ℕ) → Type 0
-  All times coming = ServesAll cluster has.buckets g (fits_asking fits) (serving p has.first times) number (λ c. c.run ≡ state_after p has.first has.orders) t.times_after has.counts coming t.coming_after t.past t.past_after
-
-  module _ (clash : NoClash p.config.buckets) (times : List ℕ) (coming : List (List ℕ)) (a : All times coming) (came to_come : List (List ℕ)) (gone : List Connection) (comes : coming ≡ came ++ to_come) (new : t.coming_after ≡ Some to_come) (goes : t.past_after ≡ t.past ++ gone) where
-    came_is : a.came ≡ came
-    came_is =
-        let rest : a.to_come ≡ to_come = some_is t.coming_after a.to_come to_come a.comes_new new in
-        append_cancel_right a.came came to_come (ap (λ x. a.came ++ x) (sym rest) ∙ sym a.comes ∙ comes)
-
-    gone_is : a.gone ≡ gone
-    gone_is = append_cancel_left t.past a.gone gone (sym a.goes ∙ goes)
-
-    served_here : AreServed cluster has.buckets g (fits_asking fits) (serving p has.first times) came gone a.serving
-    served_here =
-        subst (λ x. AreServed cluster has.buckets g (fits_asking fits) (serving p has.first times) x gone a.serving) came_is
-        (subst (λ x. AreServed cluster has.buckets g (fits_asking fits) (serving p has.first times) a.came x a.serving) gone_is a.are_served)
-
-    -- at first no block is kept, and nothing is in the map
-    abbrev Puts : List ℕ → Type 0
-    Puts bytes = SomeAsked plain has.buckets g (PutsBlock bytes) (map_serving p times) came
-
-    is_put : (bytes : List ℕ) → IsServedBlock has.buckets g (serving p has.first times) (empty_map p) came bytes → Puts bytes
-    is_put bytes (inl kept) = absurd (none_kept p has.first bytes kept)
-    is_put bytes (inr (inl m)) = absurd (none_there p has.first bytes m)
-    is_put bytes (inr (inr put)) = put
-
-    from_map_here : NoneRose gone → AreApart Puts → AreServedFromMap g p has.buckets times came gone
-    from_map_here none apart =
-        let first : HoldsApart (begun p has.first) (empty_map p) = record { holds = begun_holds first_holds p has.first has.is_of first_is; clash = clash; some = sized } in
-        let k = served_from has.buckets g (serving p has.first times) a.serving (empty_map p) came gone first (λ x y h l e. apart x y (is_put x h) (is_put y l) e) none served_here in
-        (k.serving, k.are_served)
-
-  pub is_from_map : IsFromMap g p has.buckets t
-  is_from_map clash =
-      where_told t All _ (λ times coming a. λ came to_come gone comes new goes none apart. from_map_here clash times coming a came to_come gone comes new goes none apart) has.served
+  pub are_from_map : NoClash p.config.buckets → (left_out : ℕ) (past past_after : List Connection) (coming came to_come : List (List ℕ)) (all more : List Connection) (s : Serving Cluster) → AreServed cluster buckets g (fits_asking fits) (serving p first times) came all s →
+      coming ≡ came ++ to_come → past_after ≡ past ++ (all ++ more) → length more ≤ left_out → AreFromMap g p buckets left_out past past_after times coming
+  are_from_map clash left_out past past_after coming came to_come all more s served comes goes few = λ front back gone later comes_so goes_so long out none apart.
+      let same : all ++ more ≡ gone ++ later = append_cancel_left past (all ++ more) (gone ++ later) (sym goes ∙ goes_so ∙ append_assoc past gone later) in
+      let f = front_of buckets g came all gone later more (serving p first times) s served same (omega (arith, few, out)) in
+      let joined : f.front ++ (f.back ++ to_come) ≡ front ++ back = sym (append_assoc f.front f.back to_come) ∙ ap (λ x. x ++ to_come) (sym f.comes) ∙ sym comes ∙ comes_so in
+      let is : f.front ≡ front = same_front f.front front (f.back ++ to_come) back joined (f.long ∙ sym long) in
+      let served_here = subst (λ x. AreServed cluster buckets g (fits_asking fits) (serving p first times) x gone f.at) is f.served in
+      from_map_here clash front gone f.at served_here none apart

@@ -3,8 +3,7 @@ use Rattle.std.proofs.Common.{◌≡◌, ℕ, List, [], ◌∷◌, refl, sym, �
 use Rattle.layout_roles.specs.declared.layout.Layout.{Layout}
 use Rattle.flow_model.specs.declared.order.Order.{Order}
 use Rattle.store_model.specs.Run.{start}
-use Rattle.store_model.specs.Acts.{Act, after_acts, AreLawfulActs, ActsFit}
-use Rattle.store_model.specs.Moments.{AtEachMoment}
+use Rattle.store_model.specs.Acts.{after_acts, AreLawfulActs, ActsFit}
 use Rattle.serve_model.specs.Stores.{after_orders, OrdersFit}
 use Rattle.serve_model.specs.Clusters.{Cluster, cluster, acts_at, fits}
 use Rattle.serve_cluster.proofs.Acting.{acts_after, acts_lawful, acts_fit}

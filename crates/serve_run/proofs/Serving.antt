@@ -1,5 +1,5 @@
 -- From what serving says of the code's cluster to what is stated of a server.
-use Rattle.std.proofs.Common.{◌≡◌, ◌⊎◌, inl, inr, IsTrue, ℕ, List, Option, Some, None, Result, Ok, Err, IfSome, map, refl, sym, ◌∙◌, ap, subst}
+use Rattle.std.proofs.Common.{◌≡◌, ◌≤◌, ◌⊎◌, inl, inr, IsTrue, ℕ, List, [], ◌∷◌, ◌++◌, length, append-nil, append_assoc, arith, Option, Some, None, Result, Ok, Err, IfSome, map, refl, sym, ◌∙◌, ap, subst}
 use Rattle.std.specs.Result.{IsErrAnd}
 use Rattle.std.specs.List.{list_any}
 use Rattle.crdt_core.specs.declared.memory.Memory.{Memory as Why}
@@ -9,6 +9,7 @@ use Rattle.layout_roles.specs.declared.layout.Layout.{Layout}
 use Rattle.layout_roles.specs.declared.role.Role.{Role}
 use Rattle.store_model.specs.Run.{State, start}
 use Rattle.store_model.specs.Acts.{AreLawfulActs, ActsFit}
+use Rattle.store_model.specs.Fresh.{NoClash}
 use Rattle.serve_model.specs.declared.served.Served.{Served}
 use Rattle.serve_model.specs.declared.served.ServeFault.{ServeFault}
 use Rattle.serve_model.specs.declared.served.ServeFault.TheVariants as fault
@@ -16,7 +17,7 @@ use Rattle.serve_model.specs.Clusters.{Cluster, cluster, fits, lacks}
 use Rattle.serve_model.specs.Stores.{fits_asking, OverflowsAmong, known_from}
 use Rattle.serve_model.specs.Talk.{Grammar, Serving}
 use Rattle.serve_model.specs.Serving.{HasState, Reached, Stands}
-use Rattle.serve_model.specs.Connections.{ServesAll, ServesAllButLast}
+use Rattle.serve_model.specs.Connections.{AreServed, ServesAll, ServesAllButLast}
 use Rattle.serve_loop.specs.declared.service.ServeStop.{ServeStop}
 use Rattle.serve_loop.specs.declared.service.ServeStop.TheVariants as ended
 use Rattle.serve_loop.specs.Service.{Ends, Leaves}
@@ -29,10 +30,13 @@ use Rattle.world_text.specs.Shown.{is_unshown}
 use Rattle.s3_world.specs.declared.world.S3World.{S3World}
 use Rattle.s3_world.specs.Stands.{IsStore}
 use Rattle.serve_run.specs.Start.{opening, opened, IsOf, IsOpened}
-use Rattle.serve_run.specs.Served.{nodes_of, begun, state_after, tail, tail_of, Told, serving, told, AreInOrder, HasServed, HasBrokenOff}
+use Rattle.serve_run.specs.Told.{Told, told}
+use Rattle.serve_run.specs.FromMap.{AreFromMap}
+use Rattle.serve_run.specs.Served.{nodes_of, begun, state_after, tail, tail_of, serving, AreInOrder, HasServed, HasBrokenOff}
 use Rattle.serve_run.specs.Stop.{stop_of_memory, stop_of_serving}
 use Rattle.serve_run.specs.Answer.{IsUnshown, LacksRoom, for_order, HasStopped, HowServed}
 use Rattle.serve_run.proofs.Requests.{run_is, all_kept}
+use Rattle.serve_run.proofs.FromMap.{FirstHolds, ServedFrom, installs_first, are_from_map}
 
 -- connections were served, and the code's cluster stands for one with the state after the orders
 pub record Left (g : Grammar) (p : Plan) (number : ℕ) (times times' : Option (List ℕ)) (coming coming' : Option (List (List ℕ))) (past past' : List Connection) (holds : Cluster → Type 0) : Type 0 where
@@ -55,6 +59,10 @@ module _ (P : List ℕ → List (List ℕ) → Type 0) where
   some_told : (times : Option (List ℕ)) (coming : Option (List (List ℕ))) → ((ts : List ℕ) → times ≡ Some ts → IfSome coming (λ cs. P ts cs)) → IfSome times (λ ts. IfSome coming (λ cs. P ts cs))
   some_told None coming all = tt
   some_told (Some ts) coming all = all ts refl
+
+where_some : {A : Type 0} (P Q : A → Type 0) (o : Option A) → ((x : A) → P x → Q x) → IfSome o P → IfSome o Q
+where_some P Q None f h = tt
+where_some P Q (Some x) f h = f x h
 
 -- what the code's cluster stands for when serving begins: the opened cluster, to which lawful acts led that fit
 pub record BeginsAs (p : Plan) (holds : Cluster → Type 0) : Type 0 where
@@ -91,10 +99,16 @@ module _ (g : Grammar) (p : Plan) (t : Told) where
 pub tail_is : (p : Plan) (number : ℕ) (nodes text : List ℕ) → nodes ≡ nodes_of p → (s t : State) → s ≡ t → text ≡ tail p.certified.sets.sets nodes number s → text ≡ tail_of p number t
 tail_is p number nodes text same s t e h = subst (λ (x : State). text ≡ tail_of p number x) e (subst (λ ns. text ≡ tail p.certified.sets.sets ns number s) same h)
 
-module _ (keeps : EveryRunKeepsPromises) (g : Grammar) (p : Plan) (holds0 : Cluster → Type 0) (b : BeginsAs p holds0) (buckets : List (List ℕ)) (in_order : AreInOrder p.config.buckets buckets) (holds : Cluster → Type 0) (counts : Served)
+module _ (keeps : EveryRunKeepsPromises) (first_holds : FirstHolds) (served_from : ServedFrom) (g : Grammar) (p : Plan) (sized : 1 ≤ p.config.block_size) (holds0 : Cluster → Type 0) (b : BeginsAs p holds0) (buckets : List (List ℕ)) (in_order : AreInOrder p.config.buckets buckets) (holds : Cluster → Type 0) (counts : Served)
     (times times' : Option (List ℕ)) (coming coming' : Option (List (List ℕ))) (past past' : List Connection) where
   abbrev All : List ℕ → ℕ → List (List ℕ) → Type 0
   All ts number cs = ServesAll cluster buckets g (fits_asking fits) (serving p b.first ts) number (Reached cluster fits lacks holds (begun p b.first)) times' counts cs coming' past past'
+
+  -- the connections that were served are served as from the map
+  from_here : NoClash p.config.buckets → (ts : List ℕ) (cs : List (List ℕ)) (left_out : ℕ) (came to_come : List (List ℕ)) (all more : List Connection) (s : Serving Cluster) → AreServed cluster buckets g (fits_asking fits) (serving p b.first ts) came all s →
+      cs ≡ came ++ to_come → past' ≡ past ++ (all ++ more) → length more ≤ left_out → AreFromMap g p buckets left_out past past' ts cs
+  from_here clash ts cs left_out came to_come all more s served comes goes few =
+      are_from_map first_holds served_from g p sized b.first b.is_of (installs_first p b.first b.lawful) buckets ts clash left_out past past' cs came to_come all more s served comes goes few
 
   -- where nothing is told of the times or of the connections to come
   from_reached : (number : ℕ) (times : Option (List ℕ)) (coming : Option (List (List ℕ))) → HasState (Reached cluster fits lacks holds (begun p b.first)) →
@@ -111,6 +125,7 @@ module _ (keeps : EveryRunKeepsPromises) (g : Grammar) (p : Plan) (holds0 : Clus
           in_order = in_order;
           counts = counts;
           served = none_told (λ ts cs. ServesAll cluster buckets g (fits_asking fits) (serving p b.first ts) number (λ c. c.run ≡ state_after p b.first leads.orders) times' counts cs coming' past past') times coming untold;
+          from_map = λ clash. none_told (AreFromMap g p buckets 0 past past') times coming untold;
         };
         at = goes.0;
         stands = goes.1.0;
@@ -142,6 +157,7 @@ module _ (keeps : EveryRunKeepsPromises) (g : Grammar) (p : Plan) (holds0 : Clus
             are_served = a.are_served;
             stands = record { store = run; clock = a.stands.clock; time = a.stands.time; kept = a.stands.kept };
           };
+          from_map = λ clash. from_here clash ts cs 0 a.came a.to_come a.gone [] a.serving a.are_served a.comes (a.goes ∙ ap (λ x. past ++ x) (sym (append-nil a.gone))) (omega arith);
         };
         at = a.serving.store;
         stands = a.stands.store.0;
@@ -164,7 +180,10 @@ module _ (keeps : EveryRunKeepsPromises) (g : Grammar) (p : Plan) (holds0 : Clus
   left_early (Some ts) (Some cs) goes all = let a = all ts refl in (a.0, (from_all a.0 ts cs a.1).has)
 
   -- serving ended with a connection
-  broken_off : (fault : ServeFault) → Where (λ ts cs. ServesAllButLast cluster buckets g (fits_asking fits) (OverflowsAmong cluster fits lacks (begun p b.first)) (serving p b.first ts) fault cs past past') times coming → HasBrokenOff g p fault (told times times' coming coming' past past')
+  abbrev ButLast : ServeFault → List ℕ → List (List ℕ) → Type 0
+  ButLast fault ts cs = ServesAllButLast cluster buckets g (fits_asking fits) (OverflowsAmong cluster fits lacks (begun p b.first)) (serving p b.first ts) fault cs past past'
+
+  broken_off : (fault : ServeFault) → Where (ButLast fault) times coming → HasBrokenOff g p fault (told times times' coming coming' past past')
   broken_off fault all =
       record {
         first = b.first;
@@ -172,7 +191,8 @@ module _ (keeps : EveryRunKeepsPromises) (g : Grammar) (p : Plan) (holds0 : Clus
         kept = all_kept p b.first keeps b.lawful b.fit;
         buckets = buckets;
         in_order = in_order;
-        served = some_told (λ ts cs. ServesAllButLast cluster buckets g (fits_asking fits) (OverflowsAmong cluster fits lacks (begun p b.first)) (serving p b.first ts) fault cs past past') times coming all;
+        served = some_told (ButLast fault) times coming all;
+        from_map = λ clash. some_told (AreFromMap g p buckets 1 past past') times coming (λ ts e. where_some (ButLast fault ts) (AreFromMap g p buckets 1 past past' ts) coming (λ cs a. from_here clash ts cs 1 a.came (a.bytes ∷ a.to_come) a.gone (a.last ∷ []) a.serving a.are_served a.comes (a.goes ∙ append_assoc past a.gone (a.last ∷ [])) (omega arith)) (all ts e));
       }
 
   -- what `serve` says of each state for which the code's cluster stood

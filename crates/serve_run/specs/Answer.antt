@@ -1,5 +1,5 @@
 -- What the program answers: the status and the text that are stated for its words and for what the outside tells.
-use Rattle.std.specs.Prelude.{◌≡◌, ℕ, ◌<◌, ◌≤◌, ⊤, IsTrue, List, [], ◌∷◌, ◌++◌, length, codes, Option, Some, IfSome, Result, Ok, Err}
+use Rattle.std.specs.Prelude.{◌≡◌, ℕ, ◌<◌, ◌≤◌, ⊤, IsTrue, List, [], length, Option, Some, IfSome, Result, Ok, Err}
 use Rattle.std.specs.List.{list_any}
 use Rattle.lab_outside.specs.declared.exit.Status.{Status}
 use Rattle.lab_outside.specs.declared.exit.Status.TheVariants as status
@@ -16,8 +16,8 @@ use Rattle.serve_run.specs.declared.stop.Stop.{Stop}
 use Rattle.serve_run.specs.declared.stop.Stop.TheVariants.{Link, Memory, Kept, Number}
 use Rattle.serve_run.specs.Words.{AsksFor}
 use Rattle.serve_run.specs.Plan.{input_limit, IsRefused, OfInput, WasRead}
-use Rattle.serve_run.specs.Served.{Told, HasServed, HasBrokenOff, nodes_of, begun, state_after, tail_of}
-use Rattle.serve_run.specs.FromMap.{IsFromMap}
+use Rattle.serve_run.specs.Told.{Told}
+use Rattle.serve_run.specs.Served.{HasServed, HasBrokenOff, nodes_of, begun, state_after, tail_of}
 use Rattle.serve_run.specs.Stop.{input_line, kept_line, number_line, status_of, said_of, IsTold}
 
 -- ---- why a number has no room
@@ -105,7 +105,7 @@ pub record AnswersPrefix (Stated : Status → List ℕ → Type 0) (old new : Op
   pub stated : Stated is text
   pub wrote : WrotePrefix old new text
 
--- what Done says: the words ask for a server; the plan is the one that the input says; so many connections were served, no more than are asked for, and fewer only where no more come; each was written what is stated of its bytes; all that was done keeps what is promised; where no fault cut a connection off and digests differ, each connection was written what a server writes that is one map; and what was written to the output is the text of the state that was left
+-- what Done says: the words ask for a server; the plan is the one that the input says; so many connections were served, no more than are asked for, and fewer only where no more come; each was written what is stated of its bytes; all that was done keeps what is promised; and what was written to the output is the text of the state that was left
 pub record IsServedWhole (g : Grammar) (words : List (List ℕ)) (input old new : Option (List ℕ)) (t : Told) : Type 0 where
   pub port : ℕ
   pub count : ℕ
@@ -116,5 +116,4 @@ pub record IsServedWhole (g : Grammar) (words : List (List ℕ)) (input old new 
   pub within : number ≤ count
   pub short : number < count → IfSome t.coming (λ coming. t.coming_after ≡ Some [])
   pub has : HasServed g plan number t
-  pub from_map : IsFromMap g plan has.buckets t
   pub wrote : Wrote old new (tail_of plan number (state_after plan has.first has.orders))

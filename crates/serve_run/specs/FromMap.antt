@@ -1,12 +1,12 @@
 -- What a server that is one map would write.
-use Rattle.std.specs.Prelude.{◌≡◌, ℕ, ⊤, List, [], ◌++◌, Option, Some}
+use Rattle.std.specs.Prelude.{◌≡◌, ◌≤◌, ℕ, ⊤, List, [], ◌++◌, length}
 use Rattle.lab_outside.specs.Connection.{Connection}
 use Rattle.store_model.specs.Fresh.{NoClash}
 use Rattle.serve_model.specs.Talk.{Grammar, Serving}
 use Rattle.serve_model.specs.Connections.{AreServed, SomeAsked, NoneRose}
 use Rattle.serve_model.specs.Plain.{Plain as Map, plain, PutsBlock, AreApart}
 use Rattle.serve_run.specs.declared.plan.Plan.{Plan}
-use Rattle.serve_run.specs.Served.{Told, WhereTold}
+use Rattle.serve_run.specs.Told.{Told, WhereTold}
 
 -- the empty map with a plan's buckets and size of blocks
 abbrev pub empty_map : Plan → Map
@@ -20,9 +20,12 @@ map_serving p times = record { store = empty_map p; times = times; time = 0; kep
 abbrev pub AreServedFromMap : Grammar → Plan → List (List ℕ) → List ℕ → List (List ℕ) → List Connection → Type 0
 AreServedFromMap g p buckets times came gone = (q : Serving Map) × AreServed plain buckets g (λ a. ⊤) (map_serving p times) came gone q
 
--- where clock and link tell: the connections that came, no count of whose faults rose, are served as by that server, if no two names of buckets have one digest, and no two blocks into which it is asked to put bytes
-abbrev pub IsFromMap : Grammar → Plan → List (List ℕ) → Told → Type 0
-IsFromMap g p buckets t =
-    NoClash p.config.buckets → WhereTold t (λ times coming.
-    (came to_come : List (List ℕ)) (gone : List Connection) → coming ≡ came ++ to_come → t.coming_after ≡ Some to_come → t.past_after ≡ t.past ++ gone → NoneRose gone → AreApart (λ bytes. SomeAsked plain buckets g (PutsBlock bytes) (map_serving p times) came) →
-    AreServedFromMap g p buckets times came gone)
+-- the first of the connections to come were served with these texts, all but at least so many, and no count of their faults rose: they are served as by that server, if no two blocks into which it is asked to put bytes have one digest
+abbrev pub AreFromMap : Grammar → Plan → List (List ℕ) → ℕ → List Connection → List Connection → List ℕ → List (List ℕ) → Type 0
+AreFromMap g p buckets left_out past past_after times coming =
+    (came to_come : List (List ℕ)) (gone later : List Connection) → coming ≡ came ++ to_come → past_after ≡ past ++ gone ++ later → length came ≡ length gone → left_out ≤ length later → NoneRose gone → AreApart (λ bytes. SomeAsked plain buckets g (PutsBlock bytes) (map_serving p times) came) →
+    AreServedFromMap g p buckets times came gone
+
+-- so it is where clock and link tell, and no two names of buckets have one digest
+abbrev pub IsFromMap : Grammar → Plan → List (List ℕ) → ℕ → Told → Type 0
+IsFromMap g p buckets left_out t = NoClash p.config.buckets → WhereTold t (AreFromMap g p buckets left_out t.past t.past_after)

@@ -1,8 +1,7 @@
 -- What a server did: the acts of its requests, what is promised of them, and what was written to its connections.
-use Rattle.std.specs.Prelude.{◌≡◌, ℕ, List, [], ◌∷◌, ◌++◌, map, flat_map, length, Option, IfSome, IsPermutation, IsSorted}
+use Rattle.std.specs.Prelude.{◌≡◌, ℕ, List, [], ◌∷◌, ◌++◌, map, flat_map, length, IsPermutation, IsSorted}
 use Rattle.std.specs.Ordering.{nat_cmp}
 use Rattle.std.specs.Cmp.Lexicographic.{slice_cmp}
-use Rattle.lab_outside.specs.Connection.{Connection}
 use Rattle.layout_roles.specs.declared.layout.Layout.{Layout}
 use Rattle.layout_roles.specs.Fits.{NodeSet}
 use Rattle.layout_roles.specs.Text.{set_lines}
@@ -20,6 +19,8 @@ use Rattle.serve_model.specs.Talk.{Grammar, Serving}
 use Rattle.serve_model.specs.Connections.{ServesAll, ServesAllButLast}
 use Rattle.serve_run.specs.declared.plan.Plan.{Plan}
 use Rattle.serve_run.specs.Start.{opening, opened, IsOf}
+use Rattle.serve_run.specs.Told.{Told, WhereTold}
+use Rattle.serve_run.specs.FromMap.{IsFromMap}
 
 -- ---- the acts
 
@@ -62,18 +63,6 @@ tail sets nodes number s = set_lines sets ++ flat_map (line_at s.world) nodes ++
 abbrev pub tail_of : Plan → ℕ → State → List ℕ
 tail_of p number s = tail p.certified.sets.sets (nodes_of p) number s
 
--- what clock and link tell before and after: times to be given, connections to come, and connections that came
-pub record Told : Type 0 where
-  pub times : Option (List ℕ)
-  pub times_after : Option (List ℕ)
-  pub coming : Option (List (List ℕ))
-  pub coming_after : Option (List (List ℕ))
-  pub past : List Connection
-  pub past_after : List Connection
-
-abbrev pub told : Option (List ℕ) → Option (List ℕ) → Option (List (List ℕ)) → Option (List (List ℕ)) → List Connection → List Connection → Told
-told times times' coming coming' past past' = record { times = times; times_after = times'; coming = coming; coming_after = coming'; past = past; past_after = past' }
-
 -- the same names, in order of their bytes
 pub record AreInOrder (buckets names : List (List ℕ)) : Type 0 where
   pub same : IsPermutation buckets names
@@ -83,11 +72,7 @@ pub record AreInOrder (buckets names : List (List ℕ)) : Type 0 where
 abbrev pub serving : Plan → Layout → List ℕ → Serving Cluster
 serving p first times = record { store = begun p first; times = times; time = 0; kept = 0 }
 
--- so it is of the times and the connections to come, where both are told
-abbrev pub WhereTold : Told → (List ℕ → List (List ℕ) → Type 0) → Type 0
-WhereTold t P = IfSome t.times (λ times. IfSome t.coming (λ coming. P times coming))
-
--- orders were carried out from the opened cluster on; and where clock and link tell, so many connections were served as it is stated of their bytes, one after the other, which led to the state after these orders
+-- orders were carried out from the opened cluster on; and where clock and link tell, so many connections were served as it is stated of their bytes, one after the other, which led to the state after these orders; the first ones up to a fault are served as by a server that is one map
 pub record HasServed (g : Grammar) (p : Plan) (number : ℕ) (t : Told) : Type 0 where
   pub first : Layout
   pub is_of : IsOf p first
@@ -97,8 +82,9 @@ pub record HasServed (g : Grammar) (p : Plan) (number : ℕ) (t : Told) : Type 0
   pub in_order : AreInOrder p.config.buckets buckets
   pub counts : Served
   pub served : WhereTold t (λ times coming. ServesAll cluster buckets g (fits_asking fits) (serving p first times) number (λ c. c.run ≡ state_after p first orders) t.times_after counts coming t.coming_after t.past t.past_after)
+  pub from_map : IsFromMap g p buckets 0 t
 
--- serving ended with a connection, for this fault; where clock and link tell, all connections before it were served as it is stated, and what was written to it is what is stated of it, or a first part; and whatever orders can be carried out from the opened cluster on keep what is promised
+-- serving ended with a connection, for this fault; where clock and link tell, all connections before it were served as it is stated, and what was written to it is what is stated of it, or a first part; and whatever orders can be carried out from the opened cluster on keep what is promised; the connections before the last one, up to a fault, are served as by a server that is one map
 pub record HasBrokenOff (g : Grammar) (p : Plan) (fault : ServeFault) (t : Told) : Type 0 where
   pub first : Layout
   pub is_of : IsOf p first
@@ -106,3 +92,4 @@ pub record HasBrokenOff (g : Grammar) (p : Plan) (fault : ServeFault) (t : Told)
   pub buckets : List (List ℕ)
   pub in_order : AreInOrder p.config.buckets buckets
   pub served : WhereTold t (λ times coming. ServesAllButLast cluster buckets g (fits_asking fits) (OverflowsAmong cluster fits lacks (begun p first)) (serving p first times) fault coming t.past t.past_after)
+  pub from_map : IsFromMap g p buckets 1 t

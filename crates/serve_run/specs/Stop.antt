@@ -1,13 +1,11 @@
 -- Why nothing was served to the end: the status and the text that go with it.
-use Rattle.std.specs.Prelude.{◌≡◌, ⊤, ℕ, ◌<◌, List, [], ◌∷◌, ◌++◌, codes, length, Option, IfSome}
+use Rattle.std.specs.Prelude.{◌≡◌, ⊤, ℕ, ◌<◌, List, [], ◌∷◌, ◌++◌, codes, length, Option, Some, IfSome}
 use Rattle.crdt_core.specs.declared.memory.Memory.{Memory as Why}
 use Rattle.crdt_core.specs.declared.memory.Memory.TheVariants.{Want, Full}
 use Rattle.lab_outside.specs.declared.exit.Status.{Status}
 use Rattle.lab_outside.specs.declared.exit.Status.TheVariants as status
 use Rattle.lab_outside.specs.declared.whole.ReadStop.{ReadStop}
 use Rattle.lab_outside.specs.declared.whole.ReadStop.TheVariants as read
-use Rattle.lab_outside.specs.Rose.{Rose}
-use Rattle.lab_outside.specs.Bytes.{Wrote, WrotePrefix}
 use Rattle.serve_model.specs.declared.served.ServeFault.TheVariants as fault
 use Rattle.serve_loop.specs.declared.service.ServeStop.{ServeStop}
 use Rattle.serve_loop.specs.declared.service.ServeStop.TheVariants as ended
@@ -93,6 +91,17 @@ IsOfServing Memory = ⊤
 IsOfServing Kept = ⊤
 IsOfServing Number = ⊤
 IsOfServing stop = ⊥
+
+-- the input is the cause: it can't be read, is too long, or is refused
+abbrev pub IsOfReading : Stop → Type 0
+IsOfReading Read = ⊤
+IsOfReading LongInput = ⊤
+IsOfReading (Refused line) = ⊤
+IsOfReading stop = ⊥
+
+-- the input, where it is told, is longer than it may be
+abbrev pub IsTooLong : Option (List ℕ) → Type 0
+IsTooLong input = (bytes : List ℕ) × (input ≡ Some bytes) × (input_limit < length bytes)
 
 -- the status goes with a text, and isn't one of reading or of memory
 abbrev pub IsTold : Stop → Type 0

@@ -6,10 +6,11 @@ ghost use Rattle.lab_outside.specs.Rose.{Rose};
 ghost use Rattle.lab_outside.specs.Bytes.{Wrote};
 ghost use Rattle.serve_model.specs.Talk.{Grammar};
 ghost use Rattle.serve_run.specs.Words.{AskNothing};
-ghost use Rattle.serve_run.specs.Stop.{status_of, said_of, IsOfServing, IsTold};
+ghost use Rattle.serve_run.specs.Stop.{status_of, said_of, IsOfServing, IsOfReading, IsTooLong, IsTold};
 ghost use Rattle.lab_main.specs.Ends.{Ends};
 ghost use Rattle.serve_run.specs.Plan.{IsPlan};
-ghost use Rattle.serve_run.specs.Served.{told, AreInOrder};
+ghost use Rattle.serve_run.specs.Told.{told};
+ghost use Rattle.serve_run.specs.Served.{AreInOrder};
 ghost use Rattle.serve_run.specs.Answer.{HowServed, IsEnd, EndsSo, IsStated, IsSilent, Answers, AnswersPrefix, IsAnswer, IsServedWhole};
 
 use crate::plan::{Plan, read_plan};
@@ -52,6 +53,8 @@ fn served<L: Link, C: Clock>(
     ensures fault { result ≡ Err Stop.Link → Rose (L.faults link.old) (L.faults link.new) }
 {
     promises_are_kept();
+    a_first_layout_holds_the_empty_map();
+    connections_are_served_as_from_the_map();
     let world = installed(alloc, plan)?;
     let members = nodes(alloc, plan.config.roles.list.as_slice())?;
     let buckets = in_order(&plan.config.buckets)?;
@@ -88,6 +91,8 @@ fn read_and_served<I: Source, L: Link, C: Clock>(
     requires absent { L.present link.old ≡ None }
     ensures ends { (g : Grammar) → EndsSo g asked.count (I.left input.old) (told (C.times clock.old) (C.times clock.new) (L.coming link.old) (L.coming link.new) (L.past link.old) (L.past link.new)) result }
     ensures end { OnOk result (IsAtEnd (I.left input.new)) }
+    ensures untouched { IfErr result (λ stop. IsOfReading stop → (link.new ≡ link.old) × (clock.new ≡ clock.old)) }
+    ensures unopened { IsTooLong (I.left input.old) → (link.new ≡ link.old) × (clock.new ≡ clock.old) }
     ensures read_fault { result ≡ Err Stop.Read → Rose (I.faults input.old) (I.faults input.new) }
     ensures link_fault { result ≡ Err Stop.Link → Rose (L.faults link.old) (L.faults link.new) }
 {
@@ -126,6 +131,8 @@ fn answered<I: Source, O: Sink, L: Link, C: Clock>(
     ensures prefix { (g : Grammar) → result ≡ Status.WriteFault → AnswersPrefix (IsEnd g asked.count (I.left input.old) (told (C.times clock.old) (C.times clock.new) (L.coming link.old) (L.coming link.new) (L.past link.old) (L.past link.new))) (O.written output.old) (O.written output.new) }
     ensures silent { IsSilent result → Wrote (O.written output.old) (O.written output.new) [] }
     ensures end { result ≡ Status.Done → IsAtEnd (I.left input.new) }
+    ensures untouched { (result ≡ Status.Refused) ⊎ (result ≡ Status.ReadFault) → (link.new ≡ link.old) × (clock.new ≡ clock.old) }
+    ensures unopened { IsTooLong (I.left input.old) → (link.new ≡ link.old) × (clock.new ≡ clock.old) }
     ensures no_usage { result ≡ Status.Usage → ⊥ }
     ensures read_fault { result ≡ Status.ReadFault → Rose (I.faults input.old) (I.faults input.new) }
     ensures write_fault { result ≡ Status.WriteFault → Rose (O.faults output.old) (O.faults output.new) }
@@ -154,9 +161,9 @@ pub fn run<I: Source, O: Sink, L: Link, C: Clock>(
     // fresh, also by the records alone; what lines of reads tell of a version's bytes is as was written; and replicas that
     // accepted the same rows are equal. What was written is the text of the state after these acts; and where clock and
     // link tell, what was written to each connection is what is stated of its bytes, from what the connections before it
-    // left, or a first part of that where its count of faults rose, and they led to this very state. Where no count of
-    // faults rose, and neither two names of buckets nor two of the blocks that are put have one digest, each connection's
-    // text is the one that a server writes which is one map from names to objects, with no cluster.
+    // left, or a first part of that where its count of faults rose, and they led to this very state. Of the first ones, up
+    // to the one with the first fault, each text is the one that a server writes which is one map from names to objects,
+    // with no cluster, where neither two names of buckets nor two of the blocks that they put have one digest.
     ensures done { (g : Grammar) → result ≡ Status.Done → IsServedWhole g (map string_bytes words.now) (I.left input.old) (O.written output.old) (O.written output.new) (told (C.times clock.old) (C.times clock.new) (L.coming link.old) (L.coming link.new) (L.past link.old) (L.past link.new)) }
 
     // Done, Refused, Usage, LinkFault and Limit come with the whole text that is stated for the words and for what the
@@ -177,13 +184,14 @@ pub fn run<I: Source, O: Sink, L: Link, C: Clock>(
     ensures unread { AskNothing words.now → input.new ≡ input.old }
     ensures unopened { AskNothing words.now → link.new ≡ link.old }
 
+    // Where the input is refused, can't be read or is too long, link and clock are as before.
+    ensures untouched { (result ≡ Status.Refused) ⊎ (result ≡ Status.ReadFault) ⊎ IsTooLong (I.left input.old) → (link.new ≡ link.old) × (clock.new ≡ clock.old) }
+
     // A fault comes only where the count of its object rose in this call.
     ensures read_fault { result ≡ Status.ReadFault → Rose (I.faults input.old) (I.faults input.new) }
     ensures write_fault { result ≡ Status.WriteFault → Rose (O.faults output.old) (O.faults output.new) }
     ensures link_fault { result ≡ Status.LinkFault → Rose (L.faults link.old) (L.faults link.new) }
 {
-    a_first_layout_holds_the_empty_map();
-    connections_are_served_as_from_the_map();
     match asked_by(words) {
         Some(asked) => answered(alloc, asked, input, output, link, clock),
         None => usage(output),

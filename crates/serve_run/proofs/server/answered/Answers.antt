@@ -1,5 +1,5 @@
 use Rattle.lab_outside.specs.declared.exit.Status.TheVariants.{Done}
-use Rattle.serve_run.specs.Served.{told}
+use Rattle.serve_run.specs.Told.{told}
 use Rattle.serve_run.specs.Answer.{IsEnd}
 use Rattle.serve_run.proofs.Ending.{no_write_done, wrote_whole, wrote_part, stopped_whole, stopped_part}
 use Rattle.serve_run.proofs.server.answered.Goals as goal

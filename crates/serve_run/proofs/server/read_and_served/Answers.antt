@@ -1,5 +1,5 @@
 use Rattle.std.proofs.Common.{refl}
-use Rattle.serve_run.specs.Served.{told}
+use Rattle.serve_run.specs.Told.{told}
 use Rattle.serve_run.specs.Answer.{served}
 use Rattle.serve_run.proofs.Ending.{unserved, ends_early}
 use Rattle.serve_run.proofs.server.read_and_served.Goals as goal

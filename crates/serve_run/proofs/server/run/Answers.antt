@@ -1,7 +1,7 @@
 use Rattle.std.proofs.Common.{map, refl, sym, subst}
 use Rattle.std.specs.String.{string_bytes}
 use Rattle.lab_outside.specs.declared.exit.Status.TheVariants.{Usage}
-use Rattle.serve_run.specs.Served.{told}
+use Rattle.serve_run.specs.Told.{told}
 use Rattle.lab_main.specs.Ends.{usage_line}
 use Rattle.serve_run.specs.Answer.{IsStated, IsAnswer, usage}
 use Rattle.serve_run.proofs.Ending.{no_write_usage, wrote_part, asked_answers, asked_prefix, done_whole}
@@ -15,7 +15,7 @@ returns-in-Some-clause-done g c = λ g' e.
     let words = map string_bytes c.args.words.now in
     let t = told (g.C.Clock.times c.args.clock.now) (g.C.Clock.times c.answered.new.clock) (g.L.Link.coming c.args.link.now) (g.L.Link.coming c.answered.new.link) (g.L.Link.past c.args.link.now) (g.L.Link.past c.answered.new.link) in
     let a = asked_answers g' words input t c.in-Some.asked.port c.in-Some.asked.count c.in-Some.ensures c.answered.result old new (c.answered.ensures.answers g' (subst IsStated (sym e) tt)) in
-    done_whole c.a_first_layout_holds_the_empty_map.ensures c.connections_are_served_as_from_the_map.ensures g' words input old new t a.text a.wrote c.answered.result e a.stated
+    done_whole g' words input old new t a.text a.wrote c.answered.result e a.stated
 
 pub returns-in-Some-clause-answers : goal.returns-in-Some-clause-answers
 returns-in-Some-clause-answers g c = λ g' k.
