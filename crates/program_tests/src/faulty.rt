@@ -70,14 +70,6 @@ impl FaultyLink {
             self.past = Some(faults);
         }
     }
-
-    /// A call of the connection that is present failed.
-    fn fail(&mut self) -> Failed {
-        if let Some(faults) = self.present {
-            self.present = Some(faults.saturating_add(1));
-        }
-        Failed
-    }
 }
 
 impl Link for FaultyLink {
@@ -111,16 +103,26 @@ impl Link for FaultyLink {
     }
 
     fn read(&mut self, into: &mut [u8]) -> Result<usize, Failed> {
+        let Some(faults) = self.present else {
+            return Err(Failed);
+        };
         match self.bytes.read(into) {
             Ok(count) => Ok(count),
-            Err(_) => Err(self.fail()),
+            Err(_) => {
+                self.present = Some(faults.saturating_add(1));
+                Err(Failed)
+            }
         }
     }
 
     fn write(&mut self, from: &[u8]) -> Result<usize, Failed> {
+        let Some(faults) = self.present else {
+            return Err(Failed);
+        };
         self.writes = self.writes.saturating_add(1);
         if self.fault == Fault::Write(self.writes) {
-            return Err(self.fail());
+            self.present = Some(faults.saturating_add(1));
+            return Err(Failed);
         }
         let _ = self.written.extend_from_slice(from);
         Ok(from.len())

@@ -69,8 +69,9 @@ fn each_write_fails(rt: HostRuntime) -> Result<(), Fail> {
         assert_eq!(rt; end.status, Status::Done, "at write {k}");
         assert!(rt; end.output.starts_with(b"p 0 255 1 2 3\nnode 1 rows "));
         assert_eq!(rt; link.writes(), k);
-        assert!(rt; ONE_ANSWERS.starts_with(link.written()));
-        let rest = &ONE_ANSWERS[link.written().len()..];
+        let Some(rest) = ONE_ANSWERS.strip_prefix(link.written()) else {
+            return Err(Fail::new("other answers"));
+        };
         assert!(rt; rest.starts_with(b"HTTP/1.1 "));
     }
     Ok(())
