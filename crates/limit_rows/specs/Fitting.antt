@@ -51,9 +51,11 @@ abbrev pub KeyFits : Hash32 × List ℕ → Type 0
 KeyFits k = (is_hash k.0 ≡ true) × (are_bytes k.1 ≡ true) × (length k.1 ≤ 64)
 
 module _ (v : Drawn) where
+  -- each version of an object's row was drawn, in a state that fits
   abbrev pub SaysFits : ObjectRow → Type 0
   SaysFits r = (x : Version) (s : State) → HasState r x s → Has v.versions x × StateFits s
 
+  -- each block of a version's row was stored at its place, and its numbers fit
   abbrev pub BlocksFit : VersionRow → Type 0
   BlocksFit r = (p : Part) (b : BlockRef) → HasBlock r p b → Has v.parts p × (block_in_range b ≡ true)
 

@@ -74,6 +74,7 @@ time_element ms = element (codes "LastModified") (list_time ms)
 abbrev pub quoted_text : List ℕ → List ℕ
 quoted_text digest = codes "&quot;" ++ encode_lower digest ++ codes "&quot;"
 
+-- an object's digest as an element
 abbrev pub etag_element : List ℕ → List ℕ
 etag_element digest = element (codes "ETag") (quoted_text digest)
 
@@ -134,6 +135,7 @@ abbrev pub encoding_element : Bool → List ℕ
 encoding_element true = element (codes "EncodingType") (codes "url")
 encoding_element false = []
 
+-- a truth value as text
 abbrev pub truth : Bool → List ℕ
 truth true = codes "true"
 truth false = codes "false"

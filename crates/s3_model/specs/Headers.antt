@@ -58,6 +58,7 @@ stored_names = codes "content-type" ∷ codes "cache-control" ∷ codes "content
 abbrev pub is_stored : List ℕ × List ℕ → Bool
 is_stored h = is_one_of stored_names h.0 || begins_word h.0 (codes "x-amz-meta-")
 
+-- a header is Content-Type, in whatever case
 abbrev pub is_content_type : List ℕ × List ℕ → Bool
 is_content_type h = is_word h.0 (codes "content-type")
 

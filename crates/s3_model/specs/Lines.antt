@@ -24,6 +24,7 @@ length_line length = header_line (codes "Content-Length") (decimal length)
 abbrev pub quoted : List ℕ → List ℕ
 quoted digest = codes "\"" ++ encode_lower digest ++ codes "\""
 
+-- the header of an object's digest
 abbrev pub etag_line : List ℕ → List ℕ
 etag_line digest = header_line (codes "ETag") (quoted digest)
 

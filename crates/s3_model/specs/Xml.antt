@@ -47,6 +47,7 @@ written url text = if url then flat_map url_byte text else text
 abbrev pub open_tag : List ℕ → List ℕ
 open_tag name = codes "<" ++ name ++ codes ">"
 
+-- the tag at an element's end
 abbrev pub close_tag : List ℕ → List ℕ
 close_tag name = codes "</" ++ name ++ codes ">"
 

@@ -26,6 +26,7 @@ pub record TookEnd (new : S3World) (s : State) (q : ℕ) (end : Option FlowEnd) 
   pub end_is : end ≡ end_of s.ends q
   pub does : DoneActs new s (acts_past_end q end)
 
+-- whatever run the store stood for, the end of request q was taken in it
 abbrev pub TakesEnd : S3World → S3World → ℕ → Option FlowEnd → Type 0
 TakesEnd old new q end = (s : State) → IsStore old s → TookEnd new s q end
 
@@ -34,5 +35,6 @@ pub record Finished (new : S3World) (s : State) (members : List ℕ) (q : ℕ) (
   pub end_is : end ≡ end_in members s q
   pub does : DoneActs new s (acts_opened members s q)
 
+-- whatever run the store stood for, request q was brought to its end in it
 abbrev pub Finishes : S3World → S3World → List ℕ → ℕ → Option FlowEnd → Type 0
 Finishes old new members q end = (s : State) → IsStore old s → Finished new s members q end

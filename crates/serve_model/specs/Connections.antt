@@ -19,6 +19,7 @@ pub data Talks {S : Type 0} (t : Talk S) (holds : S → Type 0) (known : Known S
   limited : result ≡ Err Kept → t.is_over ≡ true → Wrote c.written d.written t.text → c.faults ≤ d.faults → Talks t holds known times served result c d
   given_up : (e : ServeFault) → result ≡ Err e → GivesUp known.overflows t.asks e → WrotePrefix c.written d.written t.text → c.faults ≤ d.faults → Talks t holds known times served result c d
 
+-- bytes are the first part of a text, or all of it
 abbrev pub IsPrefixOf : List ℕ → List ℕ → Type 0
 IsPrefixOf front text = (rest : List ℕ) × (front ++ rest ≡ text)
 

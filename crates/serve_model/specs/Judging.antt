@@ -135,19 +135,23 @@ abbrev pub copied : Version → Option Meta → Answer
 copied version None = answer.Nothing
 copied version (Some meta) = answer.Reply (reply.Copied version meta.etag)
 
+-- an upload whose order ended so
 abbrev pub answer_to_put : FlowEnd → Answer
 answer_to_put (Stored version meta) = stored version meta
 answer_to_put _ = answer.Nothing
 
+-- a copy whose order ended so: its source may not be there
 abbrev pub answer_to_copy : FlowEnd → Answer
 answer_to_copy (Stored version meta) = copied version meta
 answer_to_copy Nothing = answer.Refusal NoSuchKey
 answer_to_copy _ = answer.Nothing
 
+-- a delete whose order ended so
 abbrev pub answer_to_delete : FlowEnd → Answer
 answer_to_delete (Stored version meta) = answer.Reply reply.Deleted
 answer_to_delete _ = answer.Nothing
 
+-- a list whose order ended so: its page of the rows
 abbrev pub answer_to_list : ListAsk → FlowEnd → Answer
 answer_to_list list (Listed rows) = answer.Reply (reply.Page (page_of list rows))
 answer_to_list list _ = answer.Nothing

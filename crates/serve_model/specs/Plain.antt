@@ -45,6 +45,7 @@ pub record Plain : Type 0 where
 
 -- ---- the map
 
+-- two names have the same bucket and key
 abbrev pub same_name : Name → Name → Bool
 same_name a b = pointwise nat_eq a.bucket b.bucket && pointwise nat_eq a.key b.key
 

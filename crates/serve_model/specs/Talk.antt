@@ -47,10 +47,12 @@ time_limit = 253402000000000
 abbrev pub request_limit : ℕ
 request_limit = 1000
 
+-- the first of the times that the clock gives, 0 where there is none
 abbrev pub first_of : List ℕ → ℕ
 first_of [] = 0
 first_of (t ∷ ts) = t
 
+-- the times that the clock gives after the first; the last one stays
 abbrev pub later_of : List ℕ → List ℕ
 later_of [] = []
 later_of (t ∷ []) = t ∷ []
@@ -66,6 +68,7 @@ pub data Next : Type 0 where
   closes : Next
   exceeds : Next
 
+-- the connection goes on with these bytes unless it closes
 abbrev pub unless_closed : Bool → List ℕ → Next
 unless_closed true rest = closes
 unless_closed false rest = goes rest
