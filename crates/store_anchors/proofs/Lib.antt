@@ -4,6 +4,7 @@ pub mod Among
 pub mod Anchored
 pub mod Busy
 pub mod Cited
+pub mod Copied
 pub mod Going
 pub mod Kept
 pub mod Laid
@@ -15,5 +16,6 @@ pub mod Placed
 pub mod Reading
 pub mod Staying
 pub mod Steps
+pub mod Taking
 pub mod Told
 pub mod Whole
