@@ -1,5 +1,7 @@
 -- What a request does whose phase ended keeps the invariant, whatever it waits for.
 use Rattle.history_model.specs.declared.record.Kind.TheVariants as kind
+use Rattle.history_model.specs.declared.record.Record.{Record}
+use Rattle.history_model.specs.Fresh.{Below, IsAcknowledged}
 use Rattle.blake2_hash.specs.Hash.{digest_of}
 use Rattle.flow_model.specs.declared.flow.FlowStep.TheVariants.{More, Wait, End}
 use Rattle.std.specs.Prelude.{◌≡◌, ◌≤◌, ◌<◌, ◌*◌, ◌^◌, nat_lt, ℕ, zero, suc, true, false, Option, Some, None, List, [], ◌∷◌, ◌++◌, length, refl, ⊤, ◌+◌, ◌⊎◌}
@@ -13,7 +15,6 @@ use Rattle.crdt_rows.specs.declared.body.Meta.{Meta}
 use Rattle.crdt_rows.specs.declared.version_row.BlockRef.{BlockRef}
 use Rattle.crdt_rows.specs.declared.object_row.ObjectRow.{ObjectRow}
 use Rattle.crdt_rows.specs.declared.any_row.AnyRow.{AnyRow}
-use Rattle.crdt_rows.specs.declared.any_row.AnyRow.TheVariants as rows
 use Rattle.crdt_rows.specs.AnyRow.{any_join}
 use Rattle.object_schema.specs.Schema.{words}
 use Rattle.wire_messages.specs.declared.phase.Phase.TheVariants.{Store}
@@ -36,7 +37,7 @@ use Rattle.flow_model.specs.declared.flow.FlowStep.{FlowStep}
 use Rattle.flow_model.specs.declared.flow.FlowEnd.TheVariants.{Stored, Found, Nothing, Listed, Superseded}
 use Rattle.flow_model.specs.Blocks.{has_piece, is_long}
 use Rattle.flow_model.specs.Rows.{meta_of, uploading, block_rows, version_row, reference_row}
-use Rattle.flow_model.specs.Says.{Said, none, marked, inline, in_blocks, said_by, said_of, Named, whole, deleted, named_by, shown_rows}
+use Rattle.flow_model.specs.Says.{Said, none, marked, inline, in_blocks, said_of, Named, whole, deleted, named_by, shown_rows}
 use Rattle.flow_model.specs.Next.{drawn, stores, more, found, looked, reads_on, gathers, opened, lists, completes, writes, uploads, goes_on as flow_goes_on}
 use Rattle.store_model.specs.Run.{Moving, State, Asked, Draw, effect, phases, set_flow, takes, draws_of}
 use Rattle.md5.specs.Md5.{md5}
@@ -58,9 +59,11 @@ use Rattle.store_model.specs.Fresh.{NoClash}
 use Rattle.store_model.specs.Run.{Outcome, doing, plainly}
 use Rattle.store_model.specs.Written.{IsWritten}
 use Rattle.store_laws.proofs.Placing.{piece_has_hash}
-use Rattle.store_laws.proofs.Rows.{SaysWritten, FoundIn, IsOf, IsFound as IsFoundIn, found as found_in_row}
-use Rattle.store_laws.proofs.Sound.{AsksFor, AsksRow, IsAimOf, HasSeen}
-use Rattle.store_laws.proofs.Values.{given_good, read_written}
+use Rattle.store_laws.proofs.Rows.{SaysWritten, FoundIn}
+use Rattle.store_laws.proofs.Sound.{IsAimOf, HasSeen, WasAcknowledged, began}
+use Rattle.store_laws.proofs.Covering.{IsSaid}
+use Rattle.store_laws.proofs.Records.{acknowledged_is, is_in}
+use Rattle.store_laws.proofs.Values.{read_written}
 use Rattle.store_laws.proofs.Acting.{number_fits}
 use Rattle.store_anchors.specs.Copied.{Copying, IsTaken}
 use Rattle.store_anchors.specs.Stored.{blocks_of}
@@ -70,8 +73,9 @@ use Rattle.store_anchors.proofs.Kept.{IsFound, AsksNames, Fetches, IsPassed, IsR
 use Rattle.store_anchors.proofs.Laid.{blocks_old}
 use Rattle.store_anchors.proofs.Lines.{Tells, tells_none, tells_one, step_whole, nothing_whole, stored_whole, get_whole, head_whole}
 use Rattle.store_anchors.proofs.Naming.{named}
-use Rattle.store_anchors.proofs.Reading.{finds, gave, piece_there}
-use Rattle.store_anchors.proofs.Taking.{AreTaken, FollowsCopies, HasSource, IsFollowed, Knows, KnowsOn, followed_first, followed_set}
+use Rattle.store_anchors.proofs.Reading.{finds, piece_there}
+use Rattle.store_anchors.proofs.Sources.{not_below, said_found}
+use Rattle.store_anchors.proofs.Taking.{AreTaken, FollowsCopies, HasBegun, HasSource, IsFollowed, IsFollowedIn, Knows, KnowsOn, followed_first, followed_set, followed_told}
 use Rattle.store_anchors.proofs.Told.{AreApart}
 use Rattle.store_anchors.proofs.Going.{GoesLaid}
 use Rattle.store_laws.proofs.Elements.{there}
@@ -101,6 +105,17 @@ says_all blocks draws v meta body h clash =
     let same : body ≡ h.content.body = h.body_is (λ long. clash) in
     record { content = h.content; was_written = h.was_written; size_is = ap (λ (b : List ℕ). Some (length b)) same; digest_is = ap (λ (b : List ℕ). Some (md5 b)) same }
 
+-- what was acknowledged before a place of a history
+acknowledged_was : (h : List Record) (i : ℕ) (name : Name) (w : Version) → IsAcknowledged h i name.bucket name.key w → WasAcknowledged h name w
+acknowledged_was h i name w a = record {
+  request = a.request;
+  node = a.began.0;
+  kind = a.kind;
+  writes = a.writes;
+  has_begun = is_in h a.place _ a.began.1;
+  has_finished = is_in h a.end _ (acknowledged_is h a.place a.request a.end w a.finished).0;
+}
+
 -- one block more
 pieces_more : (block : ℕ) (body : List ℕ) (i n : ℕ) → pieces block body i (suc n) ≡ pieces block body i n ++ piece block body (i + n)
 pieces_more block body i zero = let same : i + zero ≡ i = omega arith in rw same (append-nil (piece block body i))
@@ -127,18 +142,18 @@ module _ (cited : Cited) (moves : List Moving) (s : State) (q : ℕ) (a : Asked)
 
   -- the request is this copy
   abbrev pub IsIt : Copying → Type 0
-  IsIt copy = (copy.request ≡ q) × IsFollowed (blocks_of moves) s.draws s.asked copy
+  IsIt copy = (copy.request ≡ q) × IsFollowedIn moves s copy
 
   -- what the request knows where it is a copy
   know : (stage : Stage) → a.flow ≡ Some (flow_of q block stage) → (copy : Copying) → IsIt copy → Knows (blocks_of moves) s.draws copy stage
   know stage flow_is copy it = it.1.knows a (flow_of q block stage) (ap (numbered s.asked) it.0 ∙ at) flow_is
 
   -- a copy follows where the request goes
-  follows : (ds : List Draw) (flow : Option Flow) (rest : List Moving) → AllByRecursion (λ (d : Draw). d.request ≡ q) ds → ((copy : Copying) → IsIt copy → KnowsOn (blocks_of moves) s.draws s.asked q a at ds flow copy) →
-      (copy : Copying) → IsFollowed (blocks_of moves) s.draws s.asked copy → IsFollowed (blocks_of (moves ++ rest)) (ds ++ s.draws) (set_flow s q a flow) copy
+  follows : (ds : List Draw) (flow : Option Flow) (rest : List Moving) → AllByRecursion (λ (d : Draw). d.request ≡ q) ds → ((copy : Copying) → IsIt copy → KnowsOn (blocks_of moves) s.draws s.asked s.history q a at ds flow copy) →
+      (copy : Copying) → IsFollowedIn moves s copy → IsFollowed (blocks_of (moves ++ rest)) (ds ++ s.draws) (set_flow s q a flow) s.history copy
   follows ds flow rest own knows copy h =
-      followed_first moves rest (ds ++ s.draws) (set_flow s q a flow) copy
-      (followed_set (blocks_of moves) s.draws s.asked q a at ds flow own (λ copy request it. knows copy (request, it)) copy h)
+      followed_first moves rest (ds ++ s.draws) (set_flow s q a flow) s.history copy
+      (followed_set (blocks_of moves) s.draws s.asked s.history q a at ds flow own (λ copy request it. knows copy (request, it)) copy h)
 
   -- the request draws and goes on
   draws_on : (ds : List Draw) (stage : Stage) (phase : Phase AnyRow) → GoesLaid cited moves s q a at rests block laid ds stage phase → AllByRecursion (λ (d : Draw). d.request ≡ q) ds →
@@ -160,7 +175,7 @@ module _ (cited : Cited) (moves : List Moving) (s : State) (q : ℕ) (a : Asked)
       let m : Moving = plainly (step.Close q) in (
         finishes_laid cited moves s q a at rests block laid end passed fits,
         tells_one (past (moves ++ m ∷ []) (doing s m).world s.draws) (line_of q a.kind end) (λ clash. is_whole (λ x y h k e. clash x y (blocks_old moves m x h) (blocks_old moves m y k) e)),
-        follows [] None (m ∷ []) tt (λ copy it. ((λ f e. cc), it.1.taken)),
+        λ copy h. followed_told (blocks_of (moves ++ m ∷ [])) s.draws (set_flow s q a None) s.history (record_of q end ∷ []) copy (follows [] None (m ∷ []) tt (λ copy it. ((λ f e. cc), it.1.taken)) copy h),
       )
 
   waits : (stage : Stage) → a.flow ≡ Some (flow_of q block stage) → StepLaid [] (Wait (flow_of q block stage))
@@ -184,6 +199,7 @@ module _ (cited : Cited) (moves : List Moving) (s : State) (q : ℕ) (a : Asked)
       record {
         draw = f.draw;
         drawn = f.drawn;
+        fresh = λ i w ack. subst (λ (u : Version). ¬ Below u w) (sym f.version) (source.2 w (acknowledged_was copy.history i copy.source w ack));
         bucket = f.bucket;
         key = f.key;
         was = h.content;
@@ -369,28 +385,23 @@ module _ (cited : Cited) (moves : List Moving) (s : State) (q : ℕ) (a : Asked)
   own_version v aim.Head is seen passed k = (let no : kind.Get ≡ kind.Head = sym k ∙ is in cc)
   own_version v (aim.Copy name headers) is seen passed k = (let no : kind.Get ≡ kind.Copy = sym k ∙ is.0 in cc)
 
-  said_source : (r : ObjectRow) (name : Name) (aim : Aim) → a.flow ≡ Some (flow_of q block (Looking name aim)) → (said : Said) → IsFoundIn s.draws r name said → SaysSource cited moves s q a at rests block laid said aim
-  said_source r name aim flow_is (inline v meta body) f = λ copy it. let k = know cited moves s q a at rests block laid (Looking name aim) flow_is copy it in (subst (λ (n : Name). FoundIn s.draws n v) k.0 f, k.1)
-  said_source r name aim flow_is (in_blocks v meta first) f = λ copy it. let k = know cited moves s q a at rests block laid (Looking name aim) flow_is copy it in (subst (λ (n : Name). FoundIn s.draws n v) k.0 f, k.1)
-  said_source r name aim flow_is none f = tt
-  said_source r name aim flow_is (marked v) f = tt
+  -- what a read gave of an object is of the source, where the request is a copy
+  module _ (name : Name) (aim : Aim) (value : Option AnyRow) (flow_is : a.flow ≡ Some (flow_of q block (Looking name aim))) (end : HasRead s.asked s.history s.world.reads q value) where
+    has_source : (v : Version) (said : Said) → said_of value ≡ said → ((u : Version) → IsSaid u said → v ≡ u) → FoundIn s.draws name v → FoundSource cited moves s q a at rests block laid v aim
+    has_source v said e one f copy it =
+        let k = know cited moves s q a at rests block laid (Looking name aim) flow_is copy it in
+        let b : HasBegun s.history copy = it.1.began in
+        let cut : s.history ≡ copy.history ++ began q b.node b.kind b.name ∷ b.after = subst (λ (r : ℕ). s.history ≡ copy.history ++ began r b.node b.kind b.name ∷ b.after) it.0 b.cut in (
+          subst (λ (n : Name). FoundIn s.draws n v) k.0 f,
+          k.1,
+          λ w ack. not_below cited moves s sound laid q a at block name aim flow_is value end copy.history b.after b.node b.kind b.name cut said v e one w (subst (λ (n : Name). WasAcknowledged copy.history n w) (sym k.0) ack),
+        )
 
-  -- a row that a read gave of its object says nothing but versions of it
-  read_source : (name : Name) (aim : Aim) (value : Option AnyRow) → a.flow ≡ Some (flow_of q block (Looking name aim)) → HasRead s.asked s.history s.world.reads q value →
-      SaysSource cited moves s q a at rests block laid (said_of value) aim
-  read_source name aim None flow_is end = tt
-  read_source name aim (Some (rows.Version r)) flow_is end = tt
-  read_source name aim (Some (rows.Ref r)) flow_is end = tt
-  read_source name aim (Some (rows.Object r)) flow_is end =
-      let w = end.is_asking.waits in
-      let some_is : Some w.one ≡ Some a = sym w.is_there ∙ at in
-      let one_is : w.one ≡ a = cc in
-      let flows : Some w.flow ≡ Some (flow_of q block (Looking name aim)) = sym w.flow_is ∙ (ap (λ (x : Asked). x.flow) one_is ∙ flow_is) in
-      let same : w.flow ≡ flow_of q block (Looking name aim) = cc in
-      let asks : AsksRow name end.question = subst (λ (f : Flow). AsksFor f.stage end.question) same end.is_asking.asks in
-      let given = gave cited moves s sound laid end.question (rows.Object r) end.is_there in
-      let good : IsOf s.draws (rows.Object r) = (given_good cited.every s q sound (Some (rows.Object r)) end (rows.Object r) refl).0 in
-      said_source r name aim flow_is (said_by r) (found_in_row s.draws r name good (given.2 ∙ asks.1))
+    read_source : (said : Said) → said_of value ≡ said → SaysSource cited moves s q a at rests block laid said aim
+    read_source (inline v meta body) e = has_source v (inline v meta body) e (λ u is. is) (said_found cited moves s sound laid q a at block name aim flow_is value end (inline v meta body) e (λ no. cc)).1
+    read_source (in_blocks v meta first) e = has_source v (in_blocks v meta first) e (λ u is. is) (said_found cited moves s sound laid q a at block name aim flow_is value end (in_blocks v meta first) e (λ no. cc)).1
+    read_source none e = tt
+    read_source (marked v) e = tt
 
   pub stage_laid : (now : ℕ) (stage : Stage) (end : PhaseEnd AnyRow) → StageLaid now stage end
   stage_laid now (Drawing name w) (Answered value) flow_is stage end got = writes_laid cited moves s q a at rests block laid name (drawn q value now) w (length s.history) (know cited moves s q a at rests block laid (Drawing name w) flow_is)
@@ -400,7 +411,7 @@ module _ (cited : Cited) (moves : List Moving) (s : State) (q : ℕ) (a : Asked)
       uploads_laid cited moves s q a at rests block laid name v c k (λ room. subst (λ (i : ℕ). i < 2 ^ 64) (sym id_is) (number_fits s q a (effect s (phases q (Store (block_rows v.id block c.body k)))) at sound room)) flow_is got
   stage_laid now (Completing v meta) Kept flow_is stage end got = ends cited moves s q a at rests block laid (Stored v meta) (λ p id e. cc) (λ clash. stored_whole s.draws a.kind v meta stage q)
   stage_laid now (Looking name aim) (Answered value) flow_is stage end got =
-      looked_laid cited moves s q a at rests block laid apart aim (said_of value) stage.0 (read_source name aim value flow_is end) (read_written cited.every s q sound value end) (λ v meta first e. finds cited moves s sound laid got.question value got.is_there v meta first e)
+      looked_laid cited moves s q a at rests block laid apart aim (said_of value) stage.0 (read_source name aim value flow_is end (said_of value) refl) (read_written cited.every s q sound value end) (λ v meta first e. finds cited moves s sound laid got.question value got.is_there v meta first e)
   stage_laid now (Opening v meta aim) (Answered value) flow_is stage end got =
       let asks : AsksNames (past moves s.world s.draws) v meta got.question = got.asks a (flow_of q block (Opening v meta aim)) at flow_is in
       opened_laid cited moves s q a at rests block laid apart aim v meta value stage.0 (know cited moves s q a at rests block laid (Opening v meta aim) flow_is) (own_version v aim stage.0 stage.1) asks.found (named cited moves s sound apart laid v meta asks.found got.question asks.table asks.key asks.kept value got.is_there)

@@ -31,7 +31,7 @@ use Rattle.blake2_hash.specs.Hash.{digest_of}
 use Rattle.flow_model.specs.Rows.{row_key}
 use Rattle.flow_model.specs.Flow.{asks_for, asks_past}
 use Rattle.store_model.specs.Orders.{buckets_of}
-use Rattle.store_model.specs.Run.{Moving, State, start, Asked, Outcome, silent, refusal, plainly, effect, doing, are_buckets, phases, new_request, opened, begins, follows, follow, goes_on, delivers, then_drains, drains, Draw}
+use Rattle.store_model.specs.Run.{Moving, State, start, Asked, Outcome, silent, refusal, plainly, effect, doing, are_buckets, phases, new_request, opened, began_with, begins, follows, follow, goes_on, delivers, then_drains, drains, Draw}
 use Rattle.store_model.specs.Acts.{Act, moves, installs, asks, delivery, drain, forgets, takes as takes_end, adds, cuts, acted, after_acts, IsOuter, IsLawfulAct, AreLawfulActs, ActsFit}
 use Rattle.store_laws.specs.Promised.{moves_in}
 use Rattle.store_laws.proofs.Acts.{fit_parts, delivers_keeps, delivers_lead, outer_calm, act_keeps}
@@ -68,7 +68,7 @@ use Rattle.store_anchors.specs.Copied.{Copying}
 use Rattle.store_anchors.specs.Stored.{blocks_of}
 use Rattle.store_anchors.proofs.Cited.{Cited}
 use Rattle.store_anchors.proofs.Lines.{Tells, tells_later, tells_none, tells_both, step_whole}
-use Rattle.store_anchors.proofs.Taking.{IsFollowed, followed_first, followed_joined, followed_pushed}
+use Rattle.store_anchors.proofs.Taking.{IsFollowedIn, followed_first, followed_joined, followed_pushed, followed_told}
 use Rattle.store_anchors.proofs.Told.{AreApart}
 use Rattle.store_anchors.proofs.Kept.{IsPart, Past, IsRowOf}
 use Rattle.store_anchors.proofs.Laid.{Asks, blocks_first, laid_told, digest, Holds, past, past_after, IsLaidIn, laid_forgetting, laid_installing}
@@ -93,7 +93,7 @@ module _ (cited : Cited) where
 
   -- and nothing is told
   silent_laid : (ms : List Moving) (s : State) → IsLaidIn ms s → OutcomeLaid ms s (silent s)
-  silent_laid ms s laid = (nothing_laid ms s laid, tells_none (past (ms ++ []) s.world s.draws), followed_first ms [] s.draws s.asked)
+  silent_laid ms s laid = (nothing_laid ms s laid, tells_none (past (ms ++ []) s.world s.draws), followed_first ms [] s.draws s.asked s.history)
 
   -- ---- deliveries
 
@@ -143,7 +143,7 @@ module _ (cited : Cited) where
       (calm_ends s (effect s d) sound calm) (calm_got cited ms s d (tt, tt, tt, fits.0.1, tt) (calm_now cited ms s d tt laid) laid) fits.1 in (
         joined ms (d ∷ []) o.moves o.state rest.0,
         tells_both (past (ms ++ d ∷ o.moves) o.state.world o.state.draws) (effect s d).tells o.lines (step_whole (past (ms ++ d ∷ o.moves) o.state.world o.state.draws) s d) (told_joined ms (d ∷ []) o.moves o rest.1),
-        λ copy h. followed_joined ms (d ∷ []) o.moves o.state.draws o.state.asked copy (rest.2 copy (followed_first ms (d ∷ []) s.draws s.asked copy h)),
+        λ copy h. followed_joined ms (d ∷ []) o.moves o.state copy (rest.2 copy (followed_first ms (d ∷ []) s.draws s.asked s.history copy h)),
       )
 
   drains_laid : (n : ℕ) (ms : List Moving) (s : State) → FitAll any_join words s.world (drains n s).moves → IsSound s → IsOnceIn s → IsLaidIn ms s → OutcomeLaid ms s (drains n s)
@@ -163,7 +163,7 @@ module _ (cited : Cited) where
             let now : Past = past (ms ++ (first.moves ++ rest.moves)) rest.state.world rest.state.draws in (
               joined ms first.moves rest.moves rest.state more.0,
               tells_both now first.lines rest.lines (first_told ms first rest.moves rest.state.world rest.state.draws (drains_grows n first.state) one.1) (told_joined ms first.moves rest.moves rest more.1),
-              λ copy h. followed_joined ms first.moves rest.moves rest.state.draws rest.state.asked copy (more.2 copy (one.2 copy h)),
+              λ copy h. followed_joined ms first.moves rest.moves rest.state copy (more.2 copy (one.2 copy h)),
             )
       ] fits
 
@@ -228,7 +228,10 @@ module _ (cited : Cited) where
               let first : Moving = phases q (started o q s.block).1 in (
                 opened_laid ms s n o member fits sound laid,
                 step_whole (past (ms ++ (opened s n o).moves) (opened s n o).state.world s.draws) (doing s (plainly (step.Open n))) first,
-                λ copy h. followed_first ms (opened s n o).moves s.draws (opened s n o).state.asked copy (followed_pushed (blocks_of ms) s.draws s.asked (new_request n o (started o q s.block).0) copy h),
+                λ copy h.
+                    let a : Asked = new_request n o (started o q s.block).0 in
+                    followed_first ms (opened s n o).moves s.draws (s.asked ++ a ∷ []) (opened s n o).state.history copy
+                    (followed_told (blocks_of ms) s.draws (s.asked ++ a ∷ []) s.history (began_with q n o ∷ []) copy (followed_pushed (blocks_of ms) s.draws s.asked s.history a copy h)),
               )
           | false ↦ λ fits. silent_laid ms s laid
         ]
@@ -260,31 +263,31 @@ module _ (cited : Cited) where
       let now : IsLaidIn (ms ++ m ∷ []) (doing s m) = calm_laid cited ms s m calm.0 calm.2 (outer_brings m.step lawful.0) lawful.1 calm.1 lawful.2 fits laid in (
         laid_told (ms ++ m ∷ []) (doing s m).world s.asked s.draws s.history (endings m.step (effect s m)) (λ q id c. absurd (endings_superseded m.step (effect s m) q id c)) now,
         step_whole (past (ms ++ m ∷ []) (doing s m).world s.draws) s m,
-        followed_first ms (m ∷ []) s.draws s.asked,
+        λ copy h. followed_first ms (m ∷ []) s.draws s.asked (s.history ++ endings m.step (effect s m)) copy (followed_told (blocks_of ms) s.draws s.asked s.history (endings m.step (effect s m)) copy h),
       )
   act_laid ms s (asks n o) lawful fits sound once laid = begins_laid ms s n o fits sound laid
   act_laid ms s (delivery m) lawful fits sound once laid = delivers_laid ms s m fits sound (draws_apart s sound once) laid
   act_laid ms s (drain n) lawful fits sound once laid = drains_laid n ms s fits sound once laid
   act_laid ms s (installs first) lawful fits sound once laid =
       let now : State = record s { world = installed any_join words s.world first } in
-      (nothing_laid ms now (laid_installing ms s first lawful.0 lawful.1 laid), tells_none (past (ms ++ []) now.world s.draws), followed_first ms [] s.draws s.asked)
+      (nothing_laid ms now (laid_installing ms s first lawful.0 lawful.1 laid), tells_none (past (ms ++ []) now.world s.draws), followed_first ms [] s.draws s.asked s.history)
   act_laid ms s forgets lawful fits sound once laid =
       let now : State = record s { world = forget_delivered s.world } in
-      (nothing_laid ms now (laid_forgetting ms s laid), tells_none (past (ms ++ []) now.world s.draws), followed_first ms [] s.draws s.asked)
-  act_laid ms s (takes_end q) lawful fits sound once laid = (nothing_laid ms s laid, tells_none (past (ms ++ []) s.world s.draws), followed_first ms [] s.draws s.asked)
-  act_laid ms s (adds name) lawful fits sound once laid = (nothing_laid ms s laid, tells_none (past (ms ++ []) s.world s.draws), followed_first ms [] s.draws s.asked)
-  act_laid ms s (cuts block) lawful fits sound once laid = (nothing_laid ms s laid, tells_none (past (ms ++ []) s.world s.draws), followed_first ms [] s.draws s.asked)
+      (nothing_laid ms now (laid_forgetting ms s laid), tells_none (past (ms ++ []) now.world s.draws), followed_first ms [] s.draws s.asked s.history)
+  act_laid ms s (takes_end q) lawful fits sound once laid = (nothing_laid ms s laid, tells_none (past (ms ++ []) s.world s.draws), followed_first ms [] s.draws s.asked s.history)
+  act_laid ms s (adds name) lawful fits sound once laid = (nothing_laid ms s laid, tells_none (past (ms ++ []) s.world s.draws), followed_first ms [] s.draws s.asked s.history)
+  act_laid ms s (cuts block) lawful fits sound once laid = (nothing_laid ms s laid, tells_none (past (ms ++ []) s.world s.draws), followed_first ms [] s.draws s.asked s.history)
 
   -- what holds after acts, and of their lines; and copies stay followed
   abbrev ActsHeld : List Moving → State → List Act → Type 0
   ActsHeld ms s as' =
       let end : State = after_acts s as' in
       IsHeld (ms ++ moves_in s as') end × Tells (past (ms ++ moves_in s as') end.world end.draws) (lines_told s as') ×
-      ((copy : Copying) → IsFollowed (blocks_of ms) s.draws s.asked copy → IsFollowed (blocks_of (ms ++ moves_in s as')) end.draws end.asked copy)
+      ((copy : Copying) → IsFollowedIn ms s copy → IsFollowedIn (ms ++ moves_in s as') end copy)
 
   pub acts_held : (ms : List Moving) (s : State) (as' : List Act) → AreLawfulActs s as' → ActsFit s as' → IsHeld ms s → ActsHeld ms s as'
   acts_held ms s [] lawful fit h =
-      (record { sound = h.sound; once = h.once; laid = nothing_laid ms s h.laid }, tells_none (past (ms ++ []) s.world s.draws), followed_first ms [] s.draws s.asked)
+      (record { sound = h.sound; once = h.once; laid = nothing_laid ms s h.laid }, tells_none (past (ms ++ []) s.world s.draws), followed_first ms [] s.draws s.asked s.history)
   acts_held ms s (a ∷ as') lawful fit h =
       let o : Outcome = acted s a in
       let end : State = after_acts o.state as' in
@@ -294,7 +297,7 @@ module _ (cited : Cited) where
         subst (λ k. IsHeld k end) (append_assoc ms o.moves rest) more.0,
         tells_both (past (ms ++ (o.moves ++ rest)) end.world end.draws) o.lines (lines_told o.state as') (first_told ms o rest end.world end.draws (acts_grow o.state as') one.1)
             (subst (λ k. Tells (past k end.world end.draws) (lines_told o.state as')) (append_assoc ms o.moves rest) more.1),
-        λ copy h. followed_joined ms o.moves rest end.draws end.asked copy (more.2 copy (one.2 copy h)),
+        λ copy h. followed_joined ms o.moves rest end copy (more.2 copy (one.2 copy h)),
       )
 
   pub start_laid : IsLaidIn [] start

@@ -17,12 +17,12 @@ use Rattle.store_model.specs.Acts.{Act, asks, acted, after_acts, AreLawfulActs, 
 use Rattle.store_laws.specs.Promised.{moves_in}
 use Rattle.store_laws.proofs.Places.{numbered_last, numbered_within}
 use Rattle.store_laws.proofs.Records.{is_in}
-use Rattle.store_laws.proofs.Sound.{IsSound}
+use Rattle.store_laws.proofs.Sound.{IsSound, began}
 use Rattle.store_anchors.specs.Copied.{Copying, order_of, CopiesSources}
 use Rattle.store_anchors.specs.Stored.{blocks_of}
 use Rattle.store_anchors.proofs.Acts.{IsHeld, acts_held, start_held}
 use Rattle.store_anchors.proofs.Cited.{Cited}
-use Rattle.store_anchors.proofs.Taking.{AreTaken, IsFollowed, Knows, none_taken, followed_joined, taken_of}
+use Rattle.store_anchors.proofs.Taking.{AreTaken, IsFollowedIn, Knows, none_taken, followed_joined, taken_of}
 
 -- ---- acts before others
 
@@ -54,8 +54,8 @@ next_is_new s sound d c e =
     let lengths : length s.asked ≡ length s.world.requests = sound.lengths in
     absurd (omega arith)
 
-opened_follows : (ms : List Moving) (s : State) (n : ℕ) (copy : Copying) (name : Name) → IsSound s → suc (length s.world.requests) ≡ copy.request → IsFollowed (blocks_of ms) s.draws (opened s n (order_of copy name)).state.asked copy
-opened_follows ms s n copy name sound is =
+opened_follows : (ms : List Moving) (s : State) (n : ℕ) (copy : Copying) (name : Name) → IsSound s → s.history ≡ copy.history → suc (length s.world.requests) ≡ copy.request → IsFollowedIn ms (opened s n (order_of copy name)).state copy
+opened_follows ms s n copy name sound past is =
     let o : Order = order_of copy name in
     let q : ℕ = suc (length s.world.requests) in
     let flow : Flow = (started o q s.block).0 in
@@ -66,6 +66,7 @@ opened_follows ms s n copy name sound is =
       kind = kind_of o;
       name = name_of o;
       was_asked = record { one = a; is_there = there; kind_is = refl; name_is = refl };
+      began = record { node = n; kind = kind_of o; name = name_of o; after = []; cut = λ i. past i ++ began (is i) n (kind_of o) (name_of o) ∷ [] };
       knows = λ b f at flow_is.
           let some_is : Some a ≡ Some b = sym there ∙ at in
           let one_is : a ≡ b = cc in
@@ -81,14 +82,13 @@ number_is p q e = cc
 no_number : (q : ℕ) → Empty ≡ One q → ⊥
 no_number q e = cc
 
-begins_follows : (ms : List Moving) (s : State) (n : ℕ) (copy : Copying) (name : Name) → IsSound s → (begins s n (order_of copy name)).words ≡ One copy.request →
-    IsFollowed (blocks_of (ms ++ (begins s n (order_of copy name)).moves)) (begins s n (order_of copy name)).state.draws (begins s n (order_of copy name)).state.asked copy
-begins_follows ms s n copy name sound =
+begins_follows : (ms : List Moving) (s : State) (n : ℕ) (copy : Copying) (name : Name) → IsSound s → s.history ≡ copy.history → (let o = begins s n (order_of copy name) in o.words ≡ One copy.request → IsFollowedIn (ms ++ o.moves) o.state copy)
+begins_follows ms s n copy name sound past =
     let o : Order = order_of copy name in
-    let Follows : Outcome → Type 0 = λ (x : Outcome). x.words ≡ One copy.request → IsFollowed (blocks_of (ms ++ x.moves)) x.state.draws x.state.asked copy in
+    let Follows : Outcome → Type 0 = λ (x : Outcome). x.words ≡ One copy.request → IsFollowedIn (ms ++ x.moves) x.state copy in
     elim (is_member_at layouts s.world n) as (λ b. Follows (if b then (if are_buckets s.buckets (buckets_of o) then opened s n o else refusal s NoSuchBucket) else refusal s NotMember)) [
       | true ↦ elim (are_buckets s.buckets (buckets_of o)) as (λ b. Follows (if b then opened s n o else refusal s NoSuchBucket)) [
-        | true ↦ λ is. opened_follows (ms ++ (opened s n o).moves) s n copy name sound (number_is (suc (length s.world.requests)) copy.request is)
+        | true ↦ λ is. opened_follows (ms ++ (opened s n o).moves) s n copy name sound past (number_is (suc (length s.world.requests)) copy.request is)
         | false ↦ λ is. absurd (no_number copy.request is)
       ]
       | false ↦ λ is. absurd (no_number copy.request is)
@@ -97,9 +97,9 @@ begins_follows ms s n copy name sound =
 -- ---- the law
 
 module _ (cited : Cited) where
-  asked_copies : (copy : Copying) (before : List Act) (node : ℕ) (name : Name) (after : List Act) → (let acts = before ++ asks node (order_of copy name) ∷ after in AreLawfulActs start acts → ActsFit start acts →
-      (acted (after_acts start before) (asks node (order_of copy name))).words ≡ One copy.request → IsFollowed (blocks_of (moves_in start acts)) (after_acts start acts).draws (after_acts start acts).asked copy)
-  asked_copies copy before node name after lawful fit begins =
+  asked_copies : (copy : Copying) (before : List Act) (node : ℕ) (name : Name) (after : List Act) → (after_acts start before).history ≡ copy.history → (let acts = before ++ asks node (order_of copy name) ∷ after in AreLawfulActs start acts → ActsFit start acts →
+      (acted (after_acts start before) (asks node (order_of copy name))).words ≡ One copy.request → IsFollowedIn (moves_in start acts) (after_acts start acts) copy)
+  asked_copies copy before node name after past lawful fit begins =
       let a : Act = asks node (order_of copy name) in
       let s : State = after_acts start before in
       let ms : List Moving = moves_in start before in
@@ -107,20 +107,19 @@ module _ (cited : Cited) where
       let laws = lawful_first start before (a ∷ after) lawful in
       let fits = fit_first start before (a ∷ after) fit in
       let first : IsHeld ms s = (acts_held cited [] start before laws.0 fits.0 (start_held cited)).0 in
-      let begun_held : IsHeld (ms ++ (o.moves ++ [])) o.state = (acts_held cited ms s (a ∷ []) (laws.1.0, tt) (fits.1.0, tt) first).0 in
-      let now : IsHeld (ms ++ o.moves) o.state = subst (λ (k : List Moving). IsHeld (ms ++ k) o.state) (append-nil o.moves) begun_held in
-      let begun : IsFollowed (blocks_of (ms ++ o.moves)) o.state.draws o.state.asked copy = begins_follows ms s node copy name first.sound begins in
+      let held_then : IsHeld (ms ++ (o.moves ++ [])) o.state = (acts_held cited ms s (a ∷ []) (laws.1.0, tt) (fits.1.0, tt) first).0 in
+      let now : IsHeld (ms ++ o.moves) o.state = subst (λ (k : List Moving). IsHeld (ms ++ k) o.state) (append-nil o.moves) held_then in
+      let begun : IsFollowedIn (ms ++ o.moves) o.state copy = begins_follows ms s node copy name first.sound past begins in
       let last : State = after_acts o.state after in
-      let all : IsFollowed (blocks_of (ms ++ (o.moves ++ moves_in o.state after))) last.draws last.asked copy =
-      followed_joined ms o.moves (moves_in o.state after) last.draws last.asked copy ((acts_held cited (ms ++ o.moves) o.state after laws.1.1 fits.1.1 now).2 copy begun) in
-      let ends : IsFollowed (blocks_of (moves_in start (before ++ a ∷ after))) last.draws last.asked copy = subst (λ (k : List Moving). IsFollowed (blocks_of k) last.draws last.asked copy) (sym (moves_after start before (a ∷ after))) all in
-      subst (λ (x : State). IsFollowed (blocks_of (moves_in start (before ++ a ∷ after))) x.draws x.asked copy) (sym (acts_after start before (a ∷ after))) ends
+      let all : IsFollowedIn (ms ++ (o.moves ++ moves_in o.state after)) last copy =
+      followed_joined ms o.moves (moves_in o.state after) last copy ((acts_held cited (ms ++ o.moves) o.state after laws.1.1 fits.1.1 now).2 copy begun) in
+      let ends : IsFollowedIn (moves_in start (before ++ a ∷ after)) last copy = subst (λ (k : List Moving). IsFollowedIn k last copy) (sym (moves_after start before (a ∷ after))) all in
+      subst (λ (x : State). IsFollowedIn (moves_in start (before ++ a ∷ after)) x copy) (sym (acts_after start before (a ∷ after))) ends
 
   pub copies : (acts : List Act) → AreLawfulActs start acts → ActsFit start acts → CopiesSources acts
   copies acts lawful fit copy asked newer d older cut own =
       let moves : List Act = asked.before ++ asks asked.node (order_of copy asked.name) ∷ asked.after in
-      let followed : IsFollowed (blocks_of (moves_in start moves)) (after_acts start moves).draws (after_acts start moves).asked copy =
-      asked_copies copy asked.before asked.node asked.name asked.after (subst (AreLawfulActs start) asked.acts_are lawful) (subst (ActsFit start) asked.acts_are fit) asked.begins in
-      let here : IsFollowed (blocks_of (moves_in start acts)) (after_acts start acts).draws (after_acts start acts).asked copy =
-      subst (λ (as' : List Act). IsFollowed (blocks_of (moves_in start as')) (after_acts start as').draws (after_acts start as').asked copy) (sym asked.acts_are) followed in
+      let followed : IsFollowedIn (moves_in start moves) (after_acts start moves) copy =
+      asked_copies copy asked.before asked.node asked.name asked.after asked.history_is (subst (AreLawfulActs start) asked.acts_are lawful) (subst (ActsFit start) asked.acts_are fit) asked.begins in
+      let here : IsFollowedIn (moves_in start acts) (after_acts start acts) copy = subst (λ (as' : List Act). IsFollowedIn (moves_in start as') (after_acts start as') copy) (sym asked.acts_are) followed in
       taken_of (blocks_of (moves_in start acts)) copy newer d older (subst (AreTaken (blocks_of (moves_in start acts)) copy) cut here.taken) own

@@ -66,7 +66,8 @@ pub fn gets_read_whole_versions()
 
 /// Each version that a copy drew has the bytes that a write wished which had drawn a version of its source before, bytes in
 /// blocks included where no two blocks that the acts stored have one digest; and the headers that were given for the copy,
-/// or else those of that write.
+/// or else those of that write. The version that it takes is not below one with which a write of its source was
+/// acknowledged before the copy began.
 pub fn copies_take_what_was_written()
     ensures { (acts : List Act) → AreLawfulActs start acts → ActsFit start acts → CopiesSources acts }
 {
