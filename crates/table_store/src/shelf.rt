@@ -52,7 +52,7 @@ pub fn find<'a, R>(shelf: &'a Shelf<R>, key: &[u8]) -> Option<&'a R>
     Some(&shelf.rows.get(key)?.row)
 }
 
-/// What it tells that a row was taken in: the block that the row at its place needed before, and what the merge
+/// What is told of a row that was taken in: the block that the row at its place needed before, and what the merge
 /// changed.
 #[derive(Debug, Drop)]
 pub struct Taken<R> {
@@ -60,8 +60,8 @@ pub struct Taken<R> {
     pub change: Change<R>,
 }
 
-// Merges a row into the one that stands at its place. The row that came is kept, with what the other has beside it:
-// a join is the same either way.
+// Merges a row with the one that stands at its place. The row that came takes the other in and is put there, which is
+// the same, since a join is commutative.
 fn merge_at<S: Schema>(
     alloc: Global,
     there: &mut Placed<S::Row>,
