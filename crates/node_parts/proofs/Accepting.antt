@@ -1,6 +1,7 @@
 -- Contents that accept rows: what is queued, and what later rows leave of it.
 use Rattle.std.proofs.Common.{◌≡◌, ◌<◌, ◌+◌, ◌^◌, ℕ, zero, suc, true, false, cond, List, [], ◌∷◌, ◌++◌, Option, Some, None, is_some, length, IsTrue, get_or, take, drop, refl, sym, ap, ◌∙◌, subst, append_assoc, arith, add-one, drop-cons, length-append, length-take-le}
 use Rattle.std.specs.List.{AllZip, AllByRecursion}
+use Rattle.std.specs.Option.{option_and_then}
 use Rattle.std.proofs.lemmas.List.Elements.{All-cons, All-from_recursion, recursion_from_All}
 use Rattle.crdt_core.specs.Order.{option_join}
 use Rattle.blake2_hash.specs.declared.digest.Hash32.{Hash32}
@@ -75,6 +76,10 @@ module _ {R : Type 0} (join : R → R → R) (s : Words R) where
       }
 
 -- ---- a row that is accepted
+
+pub needs_is : {R : Type 0} (join : R → R → R) (s : Words R) (there : Option R) → option_and_then s.live_block there ≡ block_of join s there
+needs_is join s None = refl
+needs_is join s (Some r) = refl
 
 module _ {R : Type 0} {join : R → R → R} {s : Words R} (laws : Laws join s) where
   called_by : (before : Option R) (r : R) → called_for join s before (option_join join before (Some r)) ≡ (change_of join s before r).triggered

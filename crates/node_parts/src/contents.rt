@@ -6,10 +6,9 @@ ghost use Rattle.crdt_core.specs.Outcomes.{OnlyWant, WantOr};
 ghost use Rattle.blake2_hash.specs.Blake2b.{blake2b};
 ghost use Rattle.layout_roles.specs.declared.layout.Layout.{Layout};
 ghost use Rattle.table_schema.specs.Words.{partition_of};
-ghost use Rattle.table_model.specs.Rows.{find_row};
 ghost use Rattle.block_resync.specs.Outbox.{IsNumbered};
 ghost use Rattle.cluster_machine.specs.Node.{Node, new_node};
-ghost use Rattle.cluster_machine.specs.Rows.{accepts, block_of};
+ghost use Rattle.cluster_machine.specs.Rows.{accepts};
 ghost use Rattle.cluster_machine.specs.Blocks.{IsBeside, IsRowWithBlock};
 ghost use Rattle.cluster_machine.specs.Acts.{unconfirmed, without_due};
 ghost use Rattle.node_parts.specs.Contents.{IsContents, item_at, Turns, Exceeds, Accepts, CannotAccept, Drops, CountsDue, Confirms, SendsItems};
@@ -18,7 +17,6 @@ use crate::packet::Envelope;
 use crate::posts::send_each;
 use crate::references::{delete_all, end_references, refer};
 use crate::sets::{is_given, nodes_of, stored_sets};
-use blake2_hash::Hash32;
 use block_bytes::Block;
 use block_resync::{Item, Resync};
 use block_store::Blocks;
@@ -51,34 +49,18 @@ impl<S: Schema> Contents<S> {
         })
     }
 
-    // The block that the row at the place of this one needs.
-    fn needed_at(&self, row: &S::Row) -> Result<Option<Hash32>, Memory>
-        ensures is { IfOk result (λ hash. option_map (λ h. h.0) hash ≡ block_of S.Row.join S.words (find_row S.words (S.words.table row.now) (S.words.key row.now) self.now.table)) }
-        ensures want { OnlyWant result }
-    {
-        let key = S::key(self.alloc, row)?;
-        match self.table.get(S::table(row), key.as_slice()) {
-            Some(there) => Ok(S::live_block(there)),
-            None => Ok(None),
-        }
-    }
-
     // Merges a row in, keeps the block that it needs and that came with it, and queues the rows that this calls for.
-    fn accept(&mut self, row: &S::Row, given: &Option<Block>, now: u64) -> Result<(), Memory>
-        requires proper { IsTrue (S.words.is_proper row.now) }
-        requires beside { IsBeside (blake2b 32) (S.words.live_block row.now) given.now }
-        ensures accepts { OnOk result (Turns S.Row.join S.words self.old self.new (λ x. accepts S.Row.join S.words now x row.now given.now)) }
-        ensures causes { WantOr result (Exceeds S.Row.join S.words self.old (λ x. accepts S.Row.join S.words now x row.now given.now)) }
+    fn accept(&mut self, row: S::Row, given: &Option<Block>, now: u64) -> Result<(), Memory>
+        requires proper { IsTrue (S.words.is_proper row) }
+        requires beside { IsBeside (blake2b 32) (S.words.live_block row) given.now }
+        ensures accepts { OnOk result (Turns S.Row.join S.words self.old self.new (λ x. accepts S.Row.join S.words now x row given.now)) }
+        ensures causes { WantOr result (Exceeds S.Row.join S.words self.old (λ x. accepts S.Row.join S.words now x row given.now)) }
     {
-        let before = self.needed_at(row)?;
-        let change = self.table.merge_in(row)?;
-        let after = if change.is_live {
-            S::live_block(row)
-        } else {
-            None
-        };
-        refer(&mut self.blocks, before, after, given, now)?;
-        for called in change.triggered.as_slice() {
+        let needed = S::live_block(&row);
+        let taken = self.table.take_in(row)?;
+        let after = if taken.change.is_live { needed } else { None };
+        refer(&mut self.blocks, taken.before, after, given, now)?;
+        for called in taken.change.triggered.as_slice() {
             let bytes = S::row_bytes(self.alloc, called)?;
             let _ = self.outbox.push(bytes)?;
         }
@@ -94,7 +76,7 @@ impl<S: Schema> Contents<S> {
     {
         for stored in rows {
             match S::row_from(self.alloc, stored.0.as_slice()) {
-                Ok(row) => self.accept(&row, &stored.1, now)?,
+                Ok(row) => self.accept(row, &stored.1, now)?,
                 Err(RowFault::NotARow) => {}
                 Err(RowFault::Memory) => return Err(Memory::Want),
             }

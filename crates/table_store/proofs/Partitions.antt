@@ -1,5 +1,5 @@
 -- The rows of a partition by the keys that the index has of it.
-use Rattle.std.specs.Prelude.{◌≡◌, ℕ, Bool, true, false, cond, not, ◌&&◌, ◌||◌, List, [], ◌∷◌, Option, Some, None, Result, Ok, Err, OnOk, OnErr, Vec, filter, filter_map, is_some, is_none, refl}
+use Rattle.std.specs.Prelude.{◌≡◌, ℕ, Bool, true, false, cond, not, ◌&&◌, ◌||◌, List, [], ◌∷◌, Option, Some, None, Result, Ok, Err, OnOk, OnErr, Vec, filter, filter_map, is_some, refl}
 use Rattle.std.proofs.Common.{ap, sym, ◌∙◌, subst}
 use Rattle.std.proofs.lemmas.Bool.{eqb-true, eqb-false, and_parts}
 use Rattle.std.specs.List.{AllByRecursion, list_all, cons_option}
@@ -17,11 +17,10 @@ use Rattle.std.proofs.lemmas.Cmp.{nat_list_cmp_total, tied_back}
 use Rattle.std.proofs.lemmas.Option.{same_Some}
 use Rattle.crdt_core.specs.IdentityLaws.{slice_identical, nat_identical}
 use Rattle.crdt_core.specs.LexLaws.{turned}
-use Rattle.table_schema.specs.Words.{Words}
 use Rattle.table_store.proofs.Keys.{ne_cmp}
 use Rattle.table_store.specs.declared.shelf.Placed.{Placed}
 use Rattle.table_store.specs.Index.{has_key, keys_under}
-use Rattle.table_store.specs.Shelf.{shelf_rows, given, in_partition, placed_at, row_in, has_key_of, is_indexed, merged_at, vec_cmp}
+use Rattle.table_store.specs.Shelf.{shelf_rows, given, in_partition, placed_at, row_in, has_key_of, is_indexed, vec_cmp}
 
 -- ---- keys in order
 
@@ -193,11 +192,10 @@ module _ {R Z : Type 0} where
         let both = and_parts (is_indexed index e) (list_all (is_indexed index) es) all in
         found_by key found e es both.0 (indexed_found key found es both.1) (is_eq (slice_cmp nat_cmp key e.0.items)) refl h
 
-    -- it has the key of a row that is merged in
-    pub has_merged : (s : Words R) (key : List ℕ) (placed : Placed R) (row : R) (es : List (Vec ℕ Z × Placed R)) (old : Option (Placed R)) (is-new : Bool) → is-new ≡ is_none old →
-        (is-new ≡ true → has_key key (keys_under index placed.partition) ≡ true) → placed.partition ≡ merged_at s old row → placed_at key es ≡ old → list_all (is_indexed index) es ≡ true → has_key key (keys_under index placed.partition) ≡ true
-    has_merged s key placed row es None is-new e has at found all = has e
-    has_merged s key placed row es (Some old) is-new e has at found all = ap (λ q. has_key key (keys_under index q)) at ∙ indexed_found key old es all found
+    -- a row that is put in the place of one of its partition
+    pub indexed_again : (k : Vec ℕ Z) (v old : Placed R) (es new : List (Vec ℕ Z × Placed R)) → new ≡ insert_entry vec_cmp es k v → v.partition ≡ old.partition → placed_at k.items es ≡ Some old → list_all (is_indexed index) es ≡ true → list_all (is_indexed index) new ≡ true
+    indexed_again k v old es new put same found all =
+        ap (list_all (is_indexed index)) put ∙ indexed_put k v es (ap (λ q. has_key k.items (keys_under index q)) same ∙ indexed_found k.items old es all found) all
 
 -- ---- rows that are dropped
 

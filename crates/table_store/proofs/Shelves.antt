@@ -5,8 +5,8 @@ use Rattle.std.proofs.lemmas.List.Elements.{All-cons, All-head, All-tail, All-we
 use Rattle.std.specs.List.{AllByRecursion}
 use Rattle.std.specs.List.Sorted.{IsStrictlySortedBy}
 use Rattle.std.proofs.lemmas.Map.Keys.{sorted_head, sorted_tail}
-use Rattle.std.specs.Map.{keys_of}
-use Rattle.std.specs.BTreeMap.{insert_entry}
+use Rattle.std.specs.Map.{keys_of, set_value}
+use Rattle.std.specs.BTreeMap.{insert_entry, is_at as at}
 use Rattle.std.specs.declared.cmp.Ordering.{Ordering}
 use Rattle.std.specs.declared.cmp.Ordering.TheVariants.{Less, Equal, Greater}
 use Rattle.std.specs.Ordering.{nat_cmp, is_eq, ordering_then}
@@ -20,12 +20,17 @@ use Rattle.table_schema.specs.Words.{Words, partition_at, partition_of}
 use Rattle.table_schema.specs.Laws.{Same, Laws}
 use Rattle.table_model.specs.Rows.{row_cmp, is_at, merged_in, find_row, is_past, rows_in, without}
 use Rattle.table_store.specs.declared.shelf.Placed.{Placed}
-use Rattle.table_store.specs.Shelf.{shelf_rows, shelf_find, in_partition, is_after, IsPlaced, AllPlaced, placed_at, merged_with, merged_at, vec_cmp}
+use Rattle.table_store.specs.Shelf.{shelf_rows, shelf_find, in_partition, is_after, IsPlaced, AllPlaced, placed_at, vec_cmp}
 
 then_not : (o p : Ordering) → is_eq o ≡ false → is_eq (ordering_then o p) ≡ false
 then_not Less p h = refl
 then_not Equal p h = cc
 then_not Greater p h = refl
+
+-- what stands at a row's place after it is merged in
+abbrev pub merged_with : {R : Type 0} → (R → R → R) → Option R → R → R
+merged_with join None row = row
+merged_with join (Some old) row = join old row
 
 test_agrees : {X Y : Type 0} (f : X → Bool) (g : Y → Bool) (h : X → Y) (xs : List X) → All (λ x. f x ≡ g (h x)) xs → map h (filter f xs) ≡ filter g (map h xs)
 test_agrees f g h [] all = refl
@@ -54,10 +59,45 @@ module _ {R Z : Type 0} where
         | false ↦ find_is_lookup key es
       ]
 
+  -- what a look-up by a key gave is what stands there
+  pub at_same : (o : Option (Placed R)) (q key : List ℕ) (es : List (Vec ℕ Z × Placed R)) → o ≡ placed_at q es → q ≡ key → placed_at key es ≡ o
+  at_same o q key es is one = sym (is ∙ ap (λ k. placed_at k es) one)
+
   -- no key is the one that is below all
   none_under : (key : List ℕ) (k : Vec ℕ Z) (es : List (Vec ℕ Z × Placed R)) → slice_cmp nat_cmp key k.items ≡ Less → AllByRecursion (λ q. vec_cmp k q ≡ Less) (keys_of es) → shelf_find key es ≡ None
   none_under key k [] h all = refl
   none_under key k (e ∷ es) h all = rw (nat_list_cmp_total.trans key k.items e.0.items h all.0) (none_under key k es h all.1)
+
+  -- ---- what is set at a key that is there
+
+  abbrev set_at : Vec ℕ Z → Placed R → List (Vec ℕ Z × Placed R) → List (Vec ℕ Z × Placed R)
+  set_at k v es = set_value (at (λ (x : Vec ℕ Z). slice_cmp nat_cmp k.items x.items)) es v
+
+  set_by : (k : Vec ℕ Z) (v : Placed R) (row : R) (e : Vec ℕ Z × Placed R) (es : List (Vec ℕ Z × Placed R)) → AllByRecursion (λ q. vec_cmp e.0 q ≡ Less) (keys_of es) →
+      (shelf_find k.items es ≡ Some row → set_at k v es ≡ insert_entry vec_cmp es k v) → (o : Ordering) → vec_cmp k e.0 ≡ o → shelf_find k.items (e ∷ es) ≡ Some row → set_at k v (e ∷ es) ≡ insert_entry vec_cmp (e ∷ es) k v
+  set_by k v row e es above rest Less o is = let none : shelf_find k.items (e ∷ es) ≡ None = rw o (none_under k.items e.0 es o above) in cc
+  set_by k v row e es above rest Equal o is = rw o refl
+  set_by k v row e es above rest Greater o is =
+      let later : shelf_find k.items (e ∷ es) ≡ shelf_find k.items es = rw o refl in
+      let same : set_at k v es ≡ insert_entry vec_cmp es k v = rest (sym later ∙ is) in
+      rw o (ap (λ l. e ∷ l) same)
+
+  set_is_put : (k : Vec ℕ Z) (v : Placed R) (row : R) (es : List (Vec ℕ Z × Placed R)) → IsStrictlySortedBy vec_cmp (keys_of es) → shelf_find k.items es ≡ Some row → set_at k v es ≡ insert_entry vec_cmp es k v
+  set_is_put k v row [] sorted is = cc
+  set_is_put k v row (e ∷ es) sorted is =
+      set_by k v row e es (sorted_head vec_cmp e.0 (keys_of es) sorted) (set_is_put k v row es (sorted_tail vec_cmp e.0 (keys_of es) sorted)) (vec_cmp k e.0) refl is
+
+  pub row_there : (key : List ℕ) (old : Placed R) (es : List (Vec ℕ Z × Placed R)) → placed_at key es ≡ Some old → shelf_find key es ≡ Some old.row
+  row_there key old es found = sym (find_is_lookup key es) ∙ ap (option_map (λ p. p.row)) found
+
+  pub none_there : (key : List ℕ) (es : List (Vec ℕ Z × Placed R)) → placed_at key es ≡ None → shelf_find key es ≡ None
+  none_there key es found = sym (find_is_lookup key es) ∙ ap (option_map (λ p. p.row)) found
+
+  -- what is written in the place of what was found at a key is put there
+  pub written_is_put : (k : Vec ℕ Z) (v old : Placed R) (es new : List (Vec ℕ Z × Placed R)) (key : List ℕ) → key ≡ k.items → IsStrictlySortedBy vec_cmp (keys_of es) → placed_at k.items es ≡ Some old →
+      new ≡ set_value (at (λ (x : Vec ℕ Z). slice_cmp nat_cmp key x.items)) es v → new ≡ insert_entry vec_cmp es k v
+  written_is_put k v old es new key one sorted found written =
+      written ∙ (ap (λ q. set_value (at (λ (x : Vec ℕ Z). slice_cmp nat_cmp q x.items)) es v) one ∙ set_is_put k v old.row es sorted (row_there k.items old es found))
 
   module _ (s : Words R) (n : ℕ) where
     at_key : (key : List ℕ) (e : Vec ℕ Z × Placed R) → IsPlaced s n e → is_at s n key e.1.row ≡ is_eq (slice_cmp nat_cmp key e.0.items)
@@ -168,19 +208,20 @@ module _ {R Z : Type 0} (s : Words R) (n : ℕ) (prefix after : List ℕ) where
 
 -- ---- the entry that a merge puts
 
-module _ {R Z : Type 0} {join : R → R → R} {s : Words R} (laws : Laws join s) (n : ℕ) where
-  pub entry_by : (r : R) (k : Vec ℕ Z) (v : Placed R) (old : Option (Placed R)) →
-      IsTrue (s.is_proper r) → s.table r ≡ n → k.items ≡ s.key r → v.partition ≡ merged_at s old r → v.row ≡ merged_with join (option_map (λ p. p.row) old) r →
-      ((found : Placed R) → old ≡ Some found → IsFound s n (s.key r) found) → IsPlaced s n (k, v)
-  entry_by r k v None proper t h p is found =
+module _ {R Z : Type 0} (s : Words R) (n : ℕ) (r : R) (k : Vec ℕ Z) (v : Placed R) (proper : IsTrue (s.is_proper r)) (t : s.table r ≡ n) (h : k.items ≡ s.key r) where
+  -- a row that is new at its place
+  pub entry_new : v.partition ≡ partition_of s r → v.row ≡ r → IsPlaced s n (k, v)
+  entry_new p is =
       record {
         proper = rw is proper;
         table_is = ap s.table is ∙ t;
         key_is = h ∙ sym (ap s.key is);
         partition_is = p ∙ sym (ap (partition_of s) is);
       }
-  entry_by r k v (Some old) proper t h p is found =
-      let was = found old refl in
+
+  -- a row that is merged with the one that was found there
+  pub entry_merged : {join : R → R → R} → Laws join s → (old : Placed R) → v.partition ≡ old.partition → v.row ≡ join old.row r → IsFound s n (s.key r) old → IsPlaced s n (k, v)
+  entry_merged {join} laws old p is was =
       let same : Same s old.row r = record { first_proper = was.proper; second_proper = proper; table = was.table_is ∙ sym t; key = was.key_is } in
       let again : Same s (join old.row r) old.row = record {
         first_proper = laws.joined_is_proper old.row r same;

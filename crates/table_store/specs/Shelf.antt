@@ -65,16 +65,6 @@ module _ {R Z : Type 0} where
   abbrev pub AllPlaced : Words R → ℕ → List (Vec ℕ Z × Placed R) → Type 0
   AllPlaced s table es = All (IsPlaced s table) es
 
--- what stands at a row's place after it is merged in
-abbrev pub merged_with : {R : Type 0} → (R → R → R) → Option R → R → R
-merged_with join None row = row
-merged_with join (Some old) row = join old row
-
--- the partition that it is in then
-abbrev pub merged_at : {R : Type 0} → Words R → Option (Placed R) → R → ℕ
-merged_at s None row = partition_of s row
-merged_at s (Some old) row = old.partition
-
 -- the first elements, up to the first that fails the test
 abbrev pub leading : {X : Type 0} → (X → Bool) → List X → List X
 leading test [] = []

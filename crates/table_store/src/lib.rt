@@ -1,15 +1,16 @@
 //! One node's rows: of each table number and key the merge of all rows that the node accepted there.
 //!
-//! To contracts a `Table` is the list of its rows, in order of table, then of key. `merge_in` merges one row into that
-//! list, `get`, `range` and `rows_of` read it, `drop_partition` takes a partition's rows out of it, `len` counts
-//! them, and `top` is the hash over the roots of all partitions. What these words mean stands in table_model's specs/, for any rows that have a schema. There it is
-//! also proved that the list after any merges and drops holds at each place the join of the rows accepted there, and
-//! depends on the set of the rows accepted alone.
+//! To contracts a `Table` is the list of its rows, in order of table, then of key. `take_in` merges one row into that
+//! list, and `merge_in` a copy of one; `get`, `range` and `rows_of` read it, `drop_partition` takes a partition's rows
+//! out of it, `len` counts them, and `top` is the hash over the roots of all partitions. What these words mean stands
+//! in table_model's specs/, for any rows that have a schema. There it is also proved that the list after any merges and
+//! drops holds at each place the join of the rows accepted there, and depends on the set of the rows accepted alone.
 //!
 //! Inside, each of the three tables is an ordered map by row key, so that a look-up is logarithmic and a range
 //! proportional to what it gives. Beside it stands an index (src/index.rt): the keys of each partition's rows, in order.
 //! So `rows_of` and `drop_partition` take a look-up for each row that they give or drop, and next to nothing where a
-//! partition has none; `merge_in` writes into the index where a row is new, and keeps a row's partition else.
+//! partition has none. `take_in` takes one look-up where a row is there, whose partition it keeps; where the row is new
+//! it writes into the index.
 #![tactic(auto)]
 
 mod index;
@@ -19,5 +20,6 @@ mod shelf;
 mod table;
 mod window;
 
+pub use shelf::Taken;
 pub use table::Table;
 pub use table_model::Change;

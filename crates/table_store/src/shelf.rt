@@ -1,12 +1,13 @@
 //! The rows of one table by their keys.
-ghost use Rattle.std.specs.Prelude.{◌≡◌, ℕ, ◌&&◌, ◌++◌, [], not, IsTrue, true, is_none, is_some, IfOk, OnOk, OnErr, option_copied, option_map, map, filter, option_to_list};
+ghost use Rattle.std.specs.Prelude.{◌≡◌, ℕ, ◌&&◌, ◌++◌, [], not, IsTrue, Some, is_some, IfOk, OnOk, OnErr, option_copied, option_map, map, filter, option_to_list};
 ghost use Rattle.std.specs.List.{list_all};
+ghost use Rattle.std.specs.Option.{option_and_then};
 ghost use Rattle.std.specs.BTreeMap.{IsOrdered};
 ghost use Rattle.crdt_core.specs.Outcomes.{OnlyWant};
 ghost use Rattle.table_model.specs.Rows.{merged_in, live_blocks, change_of};
 ghost use Rattle.std.specs.Global.{Vec};
-ghost use Rattle.table_store.specs.Index.{has_key, keys_under};
-ghost use Rattle.table_store.specs.Shelf.{shelf_rows, AllPlaced, shelf_find, merged_with, merged_at, in_partition, row_in, has_key_of, is_indexed, vec_cmp};
+ghost use Rattle.table_store.specs.Index.{has_key};
+ghost use Rattle.table_store.specs.Shelf.{shelf_rows, AllPlaced, shelf_find, in_partition, row_in, has_key_of, is_indexed, vec_cmp};
 
 use crate::index::{Index, add_key};
 use blake2_hash::Hash32;
@@ -51,98 +52,74 @@ pub fn find<'a, R>(shelf: &'a Shelf<R>, key: &[u8]) -> Option<&'a R>
     Some(&shelf.rows.get(key)?.row)
 }
 
-/// What stands at a row's place after it is merged in, and what the merge tells.
-#[derive(Drop)]
-struct Merging<R> {
-    placed: Placed<R>,
-    is_new: bool,
-    change: Change<R>,
+/// What is told of a row that was taken in: the block that the row at its place needed before, and what the merge
+/// changed.
+#[derive(Debug, Drop)]
+pub struct Taken<R> {
+    pub before: Option<Hash32>,
+    pub change: Change<R>,
 }
 
-fn prepare<S: Schema>(
+// Merges a row with the one that stands at its place. The row that came takes the other in and is put there, which is
+// the same, since a join is commutative.
+fn merge_at<S: Schema>(
     alloc: Global,
-    old: Option<&Placed<S::Row>>,
-    row: &S::Row,
-) -> Result<Merging<S::Row>, Memory>
-    ensures row { IfOk result (λ merging. merging.placed.row ≡ merged_with S.Row.join (option_map (λ p. p.row) (option_copied old.entry)) row.now) }
-    ensures partition { IfOk result (λ merging. merging.placed.partition ≡ merged_at S.words (option_copied old.entry) row.now) }
-    ensures is_new { IfOk result (λ merging. merging.is_new ≡ is_none (option_copied old.entry)) }
-    ensures change { IfOk result (λ merging. merging.change ≡ change_of S.Row.join S.words (option_map (λ p. p.row) (option_copied old.entry)) row.now) }
+    there: &mut Placed<S::Row>,
+    row: S::Row,
+) -> Result<Taken<S::Row>, Memory>
+    ensures row { OnOk result (there.new.row ≡ S.Row.join there.old.row row) }
+    ensures partition { there.new.partition ≡ there.old.partition }
+    ensures before { IfOk result (λ taken. option_map (λ h. h.0) taken.before ≡ S.words.live_block there.old.row) }
+    ensures change { IfOk result (λ taken. taken.change ≡ change_of S.Row.join S.words (Some there.old.row) row) }
+    ensures unchanged { OnErr result (there.new ≡ there.old) }
     ensures want { OnlyWant result }
 {
-    match old {
-        None => {
-            let placed = Placed {
-                partition: partition::<S>(row),
-                row: row.copy()?,
-            };
-            let change = Change {
-                triggered: List::new(alloc),
-                was_live: false,
-                is_live: S::live_block(row).is_some(),
-            };
-            Ok(Merging {
-                placed,
-                is_new: true,
-                change,
-            })
-        }
-        Some(old) => {
-            let mut merged = old.row.copy()?;
-            merged.merge(row)?;
-            let triggered = S::triggers(alloc, &old.row, &merged)?;
-            let change = Change {
-                triggered: List::from_vec(triggered),
-                was_live: S::live_block(&old.row).is_some(),
-                is_live: S::live_block(&merged).is_some(),
-            };
-            let placed = Placed {
-                partition: old.partition,
-                row: merged,
-            };
-            Ok(Merging {
-                placed,
-                is_new: false,
-                change,
-            })
-        }
-    }
-}
-
-// Adds the key of a row to those of its partition, where the row is new.
-fn index_new<R>(
-    alloc: Global,
-    index: &mut Index,
-    merging: &Merging<R>,
-    key: &[u8],
-) -> Result<(), Memory>
-    ensures has { OnOk result (merging.now.is_new ≡ true → IsTrue (has_key key.now (keys_under index.new merging.now.placed.partition))) }
-    ensures others { (q : ℕ) (other : Vec ℕ) → IsTrue (has_key other.items (keys_under index.old q)) → IsTrue (has_key other.items (keys_under index.new q)) }
-    ensures want { OnlyWant result }
-{
-    if merging.is_new {
-        add_key(alloc, index, merging.placed.partition, key)?;
-    }
-    Ok(())
+    let mut merged = row;
+    merged.merge(&there.row)?;
+    let triggered = S::triggers(alloc, &there.row, &merged)?;
+    let before = S::live_block(&there.row);
+    let change = Change {
+        triggered: List::from_vec(triggered),
+        was_live: before.is_some(),
+        is_live: S::live_block(&merged).is_some(),
+    };
+    there.row = merged;
+    Ok(Taken { before, change })
 }
 
 /// Merges a row in at its key. All room is taken before a row changes.
-pub fn merge_into<S: Schema>(
+pub fn take_into<S: Schema>(
     alloc: Global,
     shelf: &mut Shelf<S::Row>,
-    row: &S::Row,
-) -> Result<Change<S::Row>, Memory>
-    ensures rows { OnOk result ((table : ℕ) → S.words.table row.now ≡ table → AllPlaced S.words table shelf.old.rows.entries → shelf_rows shelf.new.rows.entries ≡ merged_in S.Row.join S.words row.now (shelf_rows shelf.old.rows.entries)) }
-    ensures placed { OnOk result ((table : ℕ) → S.words.table row.now ≡ table → AllPlaced S.words table shelf.old.rows.entries → AllPlaced S.words table shelf.new.rows.entries) }
-    ensures change { IfOk result (λ change. change ≡ change_of S.Row.join S.words (shelf_find (S.words.key row.now) shelf.old.rows.entries) row.now) }
+    row: S::Row,
+) -> Result<Taken<S::Row>, Memory>
+    ensures rows { OnOk result ((table : ℕ) → S.words.table row ≡ table → AllPlaced S.words table shelf.old.rows.entries → shelf_rows shelf.new.rows.entries ≡ merged_in S.Row.join S.words row (shelf_rows shelf.old.rows.entries)) }
+    ensures placed { OnOk result ((table : ℕ) → S.words.table row ≡ table → AllPlaced S.words table shelf.old.rows.entries → AllPlaced S.words table shelf.new.rows.entries) }
+    ensures before { IfOk result (λ taken. option_map (λ h. h.0) taken.before ≡ option_and_then S.words.live_block (shelf_find (S.words.key row) shelf.old.rows.entries)) }
+    ensures change { IfOk result (λ taken. taken.change ≡ change_of S.Row.join S.words (shelf_find (S.words.key row) shelf.old.rows.entries) row) }
     ensures unchanged { OnErr result (shelf.new.rows.entries ≡ shelf.old.rows.entries) }
     ensures want { OnlyWant result }
 {
-    let key = S::key(alloc, row)?.into_vec();
-    let merging = prepare::<S>(alloc, shelf.rows.get(key.as_slice()), row)?;
-    index_new(alloc, &mut shelf.index, &merging, key.as_slice())?;
-    shelf.rows.insert(key, merging.placed)?;
-    Ok(merging.change)
+    let key = S::key(alloc, &row)?.into_vec();
+    if let Some(there) = shelf.rows.get_mut(key.as_slice()) {
+        let taken = merge_at::<S>(alloc, there, row)?;
+        return Ok(taken);
+    }
+    let placed = Placed {
+        partition: partition::<S>(&row),
+        row,
+    };
+    let change = Change {
+        triggered: List::new(alloc),
+        was_live: false,
+        is_live: S::live_block(&placed.row).is_some(),
+    };
+    add_key(alloc, &mut shelf.index, placed.partition, key.as_slice())?;
+    shelf.rows.insert(key, placed)?;
+    Ok(Taken {
+        before: None,
+        change,
+    })
 }
 
 // The row at a key, where it is in this partition.

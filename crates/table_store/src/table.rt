@@ -1,14 +1,15 @@
 //! The rows of a node.
-ghost use Rattle.std.specs.Prelude.{◌≡◌, ◌⊎◌, false, [], length, map, IsTrue, IfOk, OnOk, OnErr, IsOk, option_copied};
+ghost use Rattle.std.specs.Prelude.{◌≡◌, ◌⊎◌, false, [], length, map, IsTrue, IfOk, OnOk, OnErr, IsOk, option_copied, option_map};
 ghost use Rattle.crdt_core.specs.Outcomes.{OnlyWant, WantOr};
 ghost use Rattle.table_model.specs.Top.{any_unspelled, top};
 ghost use Rattle.table_model.specs.Rows.{merged_in, change_of, find_row, range, rows_in, without, live_blocks};
+ghost use Rattle.std.specs.Option.{option_and_then};
 
 use crate::roots::take_roots;
-use crate::shelf::{Shelf, drop_rows, find, merge_into, push_blocks, push_partition};
+use crate::shelf::{Shelf, Taken, drop_rows, find, push_blocks, push_partition, take_into};
 use crate::window::rows_past;
 use blake2_hash::{Blake2b, Hash32};
-use crdt_core::Memory;
+use crdt_core::{Crdt, Memory};
 use std::alloc::Global;
 use std::marker::Model;
 use table_model::Change;
@@ -67,30 +68,42 @@ impl<S: Schema> Table<S> {
         }
     }
 
-    /// Merges a row in, and tells what that changed.
-    pub fn merge_in(&mut self, row: &S::Row) -> Result<Change<S::Row>, Memory>
-        ensures rows { OnOk result (self.new ≡ merged_in S.Row.join S.words row.now self.old) }
-        ensures change { IfOk result (λ change. change ≡ change_of S.Row.join S.words (find_row S.words (S.words.table row.now) (S.words.key row.now) self.old) row.now) }
+    /// Merges a row in, and tells what that changed, and which block the row at its place needed before.
+    pub fn take_in(&mut self, row: S::Row) -> Result<Taken<S::Row>, Memory>
+        ensures rows { OnOk result (self.new ≡ merged_in S.Row.join S.words row self.old) }
+        ensures before { IfOk result (λ taken. option_map (λ h. h.0) taken.before ≡ option_and_then S.words.live_block (find_row S.words (S.words.table row) (S.words.key row) self.old)) }
+        ensures change { IfOk result (λ taken. taken.change ≡ change_of S.Row.join S.words (find_row S.words (S.words.table row) (S.words.key row) self.old) row) }
         ensures unchanged { OnErr result (self.new ≡ self.old) }
         ensures want { OnlyWant result }
     {
         if self.len() == usize::MAX {
             return Err(Memory::Want);
         }
-        match S::table(row) {
+        match S::table(&row) {
             1 => {
-                let change = merge_into::<S>(self.alloc, &mut self.first, row)?;
-                Ok(change)
+                let taken = take_into::<S>(self.alloc, &mut self.first, row)?;
+                Ok(taken)
             }
             2 => {
-                let change = merge_into::<S>(self.alloc, &mut self.second, row)?;
-                Ok(change)
+                let taken = take_into::<S>(self.alloc, &mut self.second, row)?;
+                Ok(taken)
             }
             _ => {
-                let change = merge_into::<S>(self.alloc, &mut self.third, row)?;
-                Ok(change)
+                let taken = take_into::<S>(self.alloc, &mut self.third, row)?;
+                Ok(taken)
             }
         }
+    }
+
+    /// Merges a copy of a row in, and tells what that changed.
+    pub fn merge_in(&mut self, row: &S::Row) -> Result<Change<S::Row>, Memory>
+        ensures rows { OnOk result (self.new ≡ merged_in S.Row.join S.words row.now self.old) }
+        ensures change { IfOk result (λ change. change ≡ change_of S.Row.join S.words (find_row S.words (S.words.table row.now) (S.words.key row.now) self.old) row.now) }
+        ensures unchanged { OnErr result (self.new ≡ self.old) }
+        ensures want { OnlyWant result }
+    {
+        let taken = self.take_in(row.copy()?)?;
+        Ok(taken.change)
     }
 
     /// The first `limit` rows of a table whose key begins with the prefix and is greater than `after`, in order of

@@ -13,6 +13,7 @@
 //!     def top(rows): return H(b''.join(value([(H(k), H(r)) for t, q, k, r in rows if (t, q) == (table, p)])
 //!         for table in (1, 2, 3) for p in range(256)))
 use crate::made::{BUCKET, Made, Shape, row};
+use blake2_hash::Hash32;
 use crdt_core::Memory;
 use crdt_rows::AnyRow;
 use object_schema::S3Schema;
@@ -32,9 +33,27 @@ const ROWS: [Made; 4] = [
 fn table(alloc: Global, rows: &[Made]) -> Result<Table<S3Schema>, Memory> {
     let mut table = Table::new(alloc)?;
     for made in rows {
-        table.merge_in(&row(alloc, *made)?)?;
+        table.take_in(row(alloc, *made)?)?;
     }
     Ok(table)
+}
+
+// References to one block and of one version stand at one place.
+#[test]
+fn rows_that_are_taken_in_tell_what_was_needed(rt: HostRuntime) -> Result<(), Fail> {
+    let block = Hash32([0x11; 32]);
+    let mut table: Table<S3Schema> = Table::new(rt.alloc())?;
+    for (deleted, before, is_live) in [
+        (false, None, true),
+        (false, Some(block), true),
+        (true, Some(block), false),
+        (false, None, false),
+    ] {
+        let taken = table.take_in(row(rt.alloc(), Made::Reference(0x11, 6, deleted))?)?;
+        assert_eq!(rt; (taken.before, taken.change.is_live), (before, is_live));
+    }
+    assert_eq!(rt; table.len(), 1);
+    Ok(())
 }
 
 // How many rows of the bucket come first past a key, at most two, and whether there are more.
