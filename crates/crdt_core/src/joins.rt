@@ -51,7 +51,7 @@ pub fn copy_rows<R: Crdt>(alloc: Global, rows: &[R]) -> Result<List<R>, Memory>
     ensures same { IfOk result (λ copies. copies ≡ rows.now) }
     ensures want { OnlyWant result }
 {
-    let mut copies = List::new(alloc);
+    let mut copies = List::from_vec(Vec::with_capacity(alloc, rows.len())?);
     for row in rows {
         copies.push(row.copy()?)?;
     }

@@ -11,6 +11,7 @@ use crate::value::Value;
 use std::alloc::Global;
 use std::cmp::Ordering;
 use std::marker::Model;
+use std::mem;
 
 /// A list of values.
 #[derive(Debug, Drop)]
@@ -111,6 +112,11 @@ impl<T> List<T> {
         ensures err { OnErr result ((self.new ≡ self.old) × (other.new ≡ other.old)) }
         ensures want { OnlyWant result }
     {
+        // A list without rows takes the other's room with them.
+        if self.rows.is_empty() {
+            mem::swap(&mut self.rows, &mut other.rows);
+            return Ok(());
+        }
         match self.rows.append(&mut other.rows) {
             Ok(()) => Ok(()),
             Err(_) => Err(Memory::Want),
@@ -137,6 +143,10 @@ impl<T: Drop> List<T> {
         ensures err { OnErr result (self.new ≡ self.old) }
         ensures want { OnlyWant result }
     {
+        // Most lists of entries keep one, so the first takes room for itself alone.
+        if self.rows.is_empty() {
+            self.rows.reserve_exact(1)?;
+        }
         match self.rows.insert(index, row) {
             Ok(()) => Ok(()),
             Err(_) => Err(Memory::Want),
@@ -220,7 +230,7 @@ impl<T: Value> Value for List<T> {
     ghost identical = { slice_identical T.identical };
 
     fn copy(&self) -> Result<List<T>, Memory> {
-        let mut made = List::new(self.allocator());
+        let mut made = List::from_vec(Vec::with_capacity(self.allocator(), self.len())?);
         for row in &self.rows {
             made.push(row.copy()?)?;
         }

@@ -162,7 +162,8 @@ fn merge_entries<K: Value, V: Crdt>(
     ensures merged { IfOk result (λ es. es ≡ merged K.cmp V.join ours.now theirs.now) }
     ensures want { OnlyWant result }
 {
-    let mut made = List::new(alloc);
+    let least = ours.len().max(theirs.len());
+    let mut made = List::from_vec(Vec::with_capacity(alloc, least)?);
     let mut i = 0;
     let mut k = 0;
     while i < ours.len() && k < theirs.len() {
@@ -196,7 +197,8 @@ impl<K: Value, V: Crdt> Crdt for Map<K, V> {
     ghost join_laws = { map_laws K.total K.identical V.join_laws };
 
     fn copy(&self) -> Result<Map<K, V>, Memory> {
-        let mut entries = List::new(self.entries.allocator());
+        let room = Vec::with_capacity(self.entries.allocator(), self.entries.len())?;
+        let mut entries = List::from_vec(room);
         push_copies(&mut entries, self.entries.as_slice())?;
         Ok(Map { entries })
     }

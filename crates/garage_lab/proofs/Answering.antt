@@ -1,5 +1,5 @@
 -- One status is stated for what is asked and an input, but for a replay's layouts; and what follows for the calls that give it.
-use Rattle.std.proofs.Common.{◌≡◌, ℕ, Option, Some, None, IsSome, List, [], ◌∷◌, ◌++◌, length, refl, sym, ap, ◌∙◌, subst, append-nil, arith, ◌⊎◌, inl, inr}
+use Rattle.std.proofs.Common.{◌≡◌, ℕ, Option, Some, None, IsSome, List, [], ◌++◌, length, refl, sym, ap, ◌∙◌, subst, append-nil, arith, ◌⊎◌, inl, inr}
 use Rattle.lab_outside.specs.declared.exit.Status.{Status}
 use Rattle.lab_outside.specs.declared.exit.Status.TheVariants.{Done, Refused, Usage, ReadFault, WriteFault, LinkFault, Memory as MemoryStatus, Limit}
 use Rattle.lab_outside.specs.Bytes.{Wrote, WrotePrefix}
@@ -12,7 +12,7 @@ use Rattle.text_model.specs.Reading.{Reading, schedule, bad_line as first_bad, t
 use Rattle.text_model.specs.Transcript.{turns_text, transcript}
 use Rattle.replay_run.specs.declared.account.Account.{Account}
 use Rattle.replay_run.specs.declared.account.Account.TheVariants.{Transcript, Checked}
-use Rattle.replay_run.specs.Account.{front, fresh_line, closing, IsText}
+use Rattle.replay_run.specs.Account.{front, closing, IsText}
 use Rattle.garage_lab.specs.declared.command.Command.{Command}
 use Rattle.garage_lab.specs.declared.command.Command.TheVariants.{Layout, Moves, Replay}
 use Rattle.garage_lab.specs.declared.stop.Stop.{Stop}
@@ -26,7 +26,7 @@ use Rattle.garage_lab.specs.Replay.{IsTranscribed, checked_transcript, IsChecked
 use Rattle.layout_command.specs.Answer.{IsAnswer as IsLayoutAnswer}
 use Rattle.layout_command.specs.Moves.{IsMovesAnswer}
 use Rattle.lab_main.specs.Ends.{said, cut_off, usage_line}
-use Rattle.garage_lab.specs.Answer.{input_line, events_line, bad_line_text, IsAnswer, usage, long_input, bad_line, many_events, laid_out, moved, replayed, IsStated, Answers, AnswersPrefix, ReplayPrefix, nothing_yet, of_stated, of_events, IsOfReplay, Completes, IsAnswered, Says, ended, unsaid}
+use Rattle.garage_lab.specs.Answer.{input_line, events_line, bad_line_text, IsAnswer, usage, long_input, bad_line, many_events, laid_out, moved, replayed, IsStated, Answers, AnswersPrefix, ReplayPrefix, nothing_yet, of_stated, of_events, IsOfReplay, AreOfReplay, Completes, IsAnswered, Says, ended, unsaid}
 use Rattle.garage_lab.specs.Stop.{status_of, said_of, IsNearly, Halts}
 use Rattle.garage_lab.proofs.Texts.{prefix_none, prefix_kept}
 use Rattle.lab_main.proofs.Writing.{wrote_nothing}
@@ -70,11 +70,11 @@ of_replay account events status text (whole turns are played e w) = subst IsOfRe
 of_replay account events status text (sent before stops e w) = subst IsOfReplay (sym e) tt
 
 -- one status is stated, but for what a replay's layouts decide
-abbrev pub Agree : Option Command → Status → Status → Type 0
-Agree asked s t = (s ≡ t) ⊎ ((account : Account) × ((asked ≡ Some (Replay account)) × IsOfReplay s × IsOfReplay t))
+abbrev pub Agree : Option Command → List ℕ → Status → Status → Type 0
+Agree asked input s t = (s ≡ t) ⊎ AreOfReplay asked input t s
 
 module _ (one : OneStatus) (one_moves : OneMovesStatus) (asked : Option Command) (input : List ℕ) (s t : Status) (a b : List ℕ) where
-  pub statuses_agree : IsAnswer asked input s a → IsAnswer asked input t b → Agree asked s t
+  pub statuses_agree : IsAnswer asked input s a → IsAnswer asked input t b → Agree asked input s t
   statuses_agree (usage none e w) (usage also d v) = inl (e ∙ sym d)
   statuses_agree (usage none e w) (long_input also more d v) = absurd (none_or_some asked none also)
   statuses_agree (usage none e w) (bad_line m other also less worse d v) = cc
@@ -123,7 +123,15 @@ module _ (one : OneStatus) (one_moves : OneMovesStatus) (asked : Option Command)
   statuses_agree (replayed account events is short spells stated) (many_events other also less many d v) = absurd (none_too_many (reading input) events spells many)
   statuses_agree (replayed account events is short spells stated) (laid_out also less too) = absurd (both_asked asked account also is)
   statuses_agree (replayed account events is short spells stated) (moved also less too) = absurd (moves_and_replay asked account also is)
-  statuses_agree (replayed account events is short spells stated) (replayed other others also less spell too) = inr (account, (is, of_replay account events s a stated, of_replay other others t b too))
+  statuses_agree (replayed account events is short spells stated) (replayed other others also less spell too) = inr (record {
+    account = account;
+    asks = is;
+    short = short;
+    events = events;
+    spells = spells;
+    stated = of_replay other others t b too;
+    answered = of_replay account events s a stated;
+  })
 
 -- only the usage is stated for words that ask for no command
 module _ (asked : Option Command) (input : List ℕ) (result : Status) (old new : Option (List ℕ)) (faults risen : ℕ) (none : asked ≡ None) where
@@ -278,9 +286,9 @@ done_checks asked input old new asks kept h =
       promises = promises;
     }
 
-agree_completes : (asked : Option Command) (result status : Status) → Agree asked result status → Completes asked status result
-agree_completes asked result status (inl same) = inl same
-agree_completes asked result status (inr h) = inr (inr (h.0, (h.1.0, h.1.2, h.1.1)))
+agree_completes : (asked : Option Command) (input : List ℕ) (result status : Status) → Agree asked input result status → Completes asked input status result
+agree_completes asked input result status (inl same) = inl same
+agree_completes asked input result status (inr h) = inr (inr h)
 
 module _ (asked : Option Command) (input : List ℕ) (old new : Option (List ℕ)) (Reads Writes : Type 0) (no_read : Reads → ⊥) (no_write : Writes → ⊥) where
   -- where no fault comes, what is stated was written whole, or memory was wanting
@@ -295,6 +303,6 @@ module _ (asked : Option Command) (input : List ℕ) (old new : Option (List ℕ
   is_answered MemoryStatus answers reads writes links = inr refl
 
 -- the stated answer comes then, or one that other layouts bring
-pub completes : OneStatus → OneMovesStatus → (asked : Option Command) (input : List ℕ) (result : Status) (old new : Option (List ℕ)) → IsAnswered asked input result old new → (status : Status) (text : List ℕ) → IsAnswer asked input status text → Completes asked status result
-completes one one_moves asked input result old new (inl h) status text stated = agree_completes asked result status (statuses_agree one one_moves asked input result status h.text text h.stated stated)
+pub completes : OneStatus → OneMovesStatus → (asked : Option Command) (input : List ℕ) (result : Status) (old new : Option (List ℕ)) → IsAnswered asked input result old new → (status : Status) (text : List ℕ) → IsAnswer asked input status text → Completes asked input status result
+completes one one_moves asked input result old new (inl h) status text stated = agree_completes asked input result status (statuses_agree one one_moves asked input result status h.text text h.stated stated)
 completes one one_moves asked input result old new (inr want) status text stated = inr (inl want)

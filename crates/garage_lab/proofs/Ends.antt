@@ -1,6 +1,6 @@
 -- How the calls of a replay end, where the source tells its bytes.
-use Rattle.std.proofs.Common.{◌≡◌, ℕ, ◌<◌, ◌≤◌, Option, Some, None, Result, Ok, Err, IfErr, List, [], length, refl, sym, ap, ◌∙◌, subst, IfSome}
-use Rattle.std.specs.Result.{IsErrAnd, OnErr, OnOk}
+use Rattle.std.proofs.Common.{◌≡◌, ℕ, ◌<◌, ◌≤◌, Option, Some, None, Result, Ok, Err, IfErr, List, [], length, refl, sym, ◌∙◌, subst, IfSome}
+use Rattle.std.specs.Result.{IsErrAnd}
 use Rattle.lab_outside.specs.declared.exit.Status.{Status}
 use Rattle.lab_outside.specs.declared.exit.Status.TheVariants.{Done, ReadFault, WriteFault, LinkFault, Limit}
 use Rattle.lab_outside.specs.Rose.{Rose}
@@ -152,7 +152,7 @@ module _ (asked : Option Command) (result : Status) (old new : Option (List ℕ)
   some_answered (Some bytes) answers = λ r w. is_answered asked bytes old new Reads Writes r w result answers reads writes links
 
   pub some_completes : OneStatus → OneMovesStatus → (left : Option (List ℕ)) → (IsStated result → IfSome left (λ bytes. Answers asked bytes result old new)) →
-      IfSome left (λ bytes. (status : Status) (text : List ℕ) → IsAnswer asked bytes status text → (Reads → ⊥) → (Writes → ⊥) → Completes asked status result)
+      IfSome left (λ bytes. (status : Status) (text : List ℕ) → IsAnswer asked bytes status text → (Reads → ⊥) → (Writes → ⊥) → Completes asked bytes status result)
   some_completes one one_moves None answers = tt
   some_completes one one_moves (Some bytes) answers = λ status text stated r w.
       completes one one_moves asked bytes result old new (is_answered asked bytes old new Reads Writes r w result answers reads writes links) status text stated

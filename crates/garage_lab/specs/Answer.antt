@@ -101,9 +101,19 @@ IsOfReplay Done = ⊤
 IsOfReplay Limit = ⊤
 IsOfReplay _ = ⊥
 
--- where this status is stated, it is answered, or memory was wanting; a replay may end with the status that other layouts bring
-abbrev pub Completes : Option Command → Status → Status → Type 0
-Completes asked status result = (result ≡ status) ⊎ (result ≡ Memory) ⊎ ((account : Account) × ((asked ≡ Some (Replay account)) × IsOfReplay status × IsOfReplay result))
+-- the input spells a schedule that is replayed, and both statuses are such
+pub record AreOfReplay (asked : Option Command) (input : List ℕ) (status result : Status) : Type 0 where
+  pub account : Account
+  pub asks : asked ≡ Some (Replay account)
+  pub short : length input ≤ input_limit
+  pub events : List Numbered
+  pub spells : IsSchedule input events
+  pub stated : IsOfReplay status
+  pub answered : IsOfReplay result
+
+-- where this status is stated, it is answered, or memory was wanting; a replay of a schedule may end with the status that other layouts bring
+abbrev pub Completes : Option Command → List ℕ → Status → Status → Type 0
+Completes asked input status result = (result ≡ status) ⊎ (result ≡ Memory) ⊎ AreOfReplay asked input status result
 
 -- the status and the whole text that are stated were written, or memory was wanting
 abbrev pub IsAnswered : Option Command → List ℕ → Status → Option (List ℕ) → Option (List ℕ) → Type 0

@@ -1,12 +1,12 @@
 -- Why a command gave up: the status and the last text that go with it, and what was written before.
-use Rattle.std.specs.Prelude.{◌≡◌, ℕ, ⊤, List, [], ◌++◌, Option, Some}
+use Rattle.std.specs.Prelude.{ℕ, ⊤, List, [], ◌++◌, Option, Some}
 use Rattle.crdt_core.specs.declared.memory.Memory.{Memory as Why}
 use Rattle.crdt_core.specs.declared.memory.Memory.TheVariants.{Want, Full}
 use Rattle.lab_outside.specs.declared.exit.Status.{Status}
 use Rattle.lab_outside.specs.declared.exit.Status.TheVariants.{Refused, ReadFault, WriteFault, Memory as MemoryStatus, Limit}
 use Rattle.lab_outside.specs.declared.whole.ReadStop.{ReadStop}
 use Rattle.lab_outside.specs.declared.whole.ReadStop.TheVariants.{Failed, Memory as ReadMemory}
-use Rattle.lab_outside.specs.Bytes.{Wrote, WrotePrefix}
+use Rattle.lab_outside.specs.Bytes.{Wrote}
 use Rattle.schedule_text.specs.declared.fault.ScheduleFault.{ScheduleFault}
 use Rattle.schedule_text.specs.declared.fault.ScheduleFault.TheVariants.{BadLine as FaultLine, TooManyEvents as FaultMany, Memory as FaultMemory}
 use Rattle.replay_run.specs.declared.account.Account.{Account}

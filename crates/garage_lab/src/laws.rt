@@ -10,11 +10,11 @@ use limit_laws::schedules_are_within_limits;
 use replay_run::every_replay_ends;
 use schedule_text::every_text_reads;
 
-/// No input is without a stated answer, whatever is asked: each text is a schedule, has a first bad line or too many
+/// For each input an answer is stated, whatever is asked: each text is a schedule, has a first bad line or too many
 /// events, each configuration has a layout or a cause for which there is none, and a replay of each schedule has a stated
 /// end. Of a layout with the fewest moves nothing is said.
 pub fn some_answer_is_stated()
-    ensures { (asked : Option Command) (input : List ℕ) → (asked ≡ Some Moves → ⊥) → ((status : Status) (text : List ℕ) → IsAnswer asked input status text → ⊥) → ⊥ }
+    ensures { (asked : Option Command) (input : List ℕ) → (asked ≡ Some Moves → ⊥) → (status : Status) × ((text : List ℕ) × IsAnswer asked input status text) }
 {
     every_text_reads();
     schedules_are_within_limits();

@@ -6,7 +6,7 @@
 //! written for which input, and why each other answer comes. `command` tells the commands apart, and `input`
 //! reads the input. For a replay `schedule` reads the events, and replay_run writes an account of them; `layout`
 //! reads a configuration and computes what is answered. `stop` is why any of them gave up, and `laws` says that
-//! no input is without a stated answer.
+//! for each input an answer is stated.
 #![tactic(auto)]
 
 mod command;

@@ -19,7 +19,7 @@ use lab_main::{ends, usage};
 use lab_outside::{Clock, Link, Sink, Source, Status};
 use layout_command::{one_moves_status, one_status};
 use limit_laws::schedules_are_within_limits;
-use replay_run::{Account, no_replay_lacks_room};
+use replay_run::{Account, lawful_turns_end_once, no_replay_lacks_room};
 use std::alloc::Global;
 use store_anchors::promises_are_kept;
 
@@ -228,12 +228,13 @@ pub fn run<I: Source, O: Sink, L: Link, C: Clock>(
     ensures moves_prefix { asked_by words.now ≡ Some Command.Moves → IfSome (I.left input.old) (λ bytes. LayoutPrefix Command.Moves bytes (O.written output.old) (O.written output.new)) }
 
     // Where no count of faults rises, a status and the whole text that are stated come, or memory was wanting. One
-    // status is stated, but that a replay of events may end with Done or Limit, as the layouts decide that were chosen:
-    // that of the bytes sent, since no schedule comes to a number or row that has no place.
+    // status is stated, but that a replay of a schedule may end with Done or Limit, as the layouts decide that were chosen:
+    // that of the bytes sent, since no schedule comes to a number or row that has no place. Given the layouts, one of them
+    // is stated.
     ensures answered { IfSome (I.left input.old) (λ bytes. (Rose (I.faults input.old) (I.faults input.new) → ⊥) → (Rose (O.faults output.old) (O.faults output.new) → ⊥) →
         IsAnswered (asked_by words.now) bytes result (O.written output.old) (O.written output.new)) }
     ensures complete { IfSome (I.left input.old) (λ bytes. (status : Status) (text : List ℕ) → IsAnswer (asked_by words.now) bytes status text →
-        (Rose (I.faults input.old) (I.faults input.new) → ⊥) → (Rose (O.faults output.old) (O.faults output.new) → ⊥) → Completes (asked_by words.now) status result) }
+        (Rose (I.faults input.old) (I.faults input.new) → ⊥) → (Rose (O.faults output.old) (O.faults output.new) → ⊥) → Completes (asked_by words.now) bytes status result) }
 
     // Words that ask for no command bring Usage, with nothing read; no other words do.
     ensures usage { result ≡ Status.Usage → asked_by words.now ≡ None }
@@ -256,5 +257,6 @@ pub fn run<I: Source, O: Sink, L: Link, C: Clock>(
     one_status();
     one_moves_status();
     some_answer_is_stated();
+    lawful_turns_end_once();
     answer(alloc, words, input, output)
 }

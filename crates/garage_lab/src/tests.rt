@@ -819,6 +819,105 @@ const REPAIR_TEXT: &[u8] = b"\
     node 3 rows 0 blocks 0 top 7e1c26a17bd3d7fa395f34897712e0533bd0d69b934e542d6a4a4fb3ce779cda\n\
     end 4 0 0\n";
 
+/// The last line lacks its line feed.
+const TRIO_WITHOUT_LINE_FEED: &[u8] = b"trio";
+
+const TRIO_TEXT: &[u8] = b"\
+    1 trio ok\n\
+    node 1 rows 0 blocks 0 top 7e1c26a17bd3d7fa395f34897712e0533bd0d69b934e542d6a4a4fb3ce779cda\n\
+    node 2 rows 0 blocks 0 top 7e1c26a17bd3d7fa395f34897712e0533bd0d69b934e542d6a4a4fb3ce779cda\n\
+    node 3 rows 0 blocks 0 top 7e1c26a17bd3d7fa395f34897712e0533bd0d69b934e542d6a4a4fb3ce779cda\n\
+    end 1 0 0\n";
+
+/// Of a put's rows one is lost, one comes twice, and of a get's questions one is lost.
+const LOST_STORE_AND_REPEATED_DELIVERIES: &[u8] = b"\
+    trio\n\
+    bucket pics\n\
+    put 1 pics a 1 97\n\
+    drain 6\n\
+    lose 9\n\
+    deliver 7\n\
+    deliver 7\n\
+    deliver 8\n\
+    drain 10\n\
+    get 3 pics a\n\
+    lose 13\n\
+    drain 10\n";
+
+/// Its transcript: two answers of node 1 confirm once, and nodes 2 and 3 answer the get.
+const LOST_STORE_TEXT: &[u8] = b"\
+    1 trio ok\n\
+    2 bucket ok\n\
+    3 put ok 1\n\
+    sent 1 get 1 1\n\
+    sent 2 get 1 2\n\
+    sent 3 get 1 3\n\
+    4 drain ok\n\
+    got 1\n\
+    sent 4 row 1 1\n\
+    got 2\n\
+    sent 5 row 2 1\n\
+    got 3\n\
+    sent 6 row 3 1\n\
+    got 4\n\
+    got 5\n\
+    sent 7 store 1 1\n\
+    sent 8 store 1 2\n\
+    sent 9 store 1 3\n\
+    got 6\n\
+    5 lose ok\n\
+    6 deliver ok\n\
+    got 7\n\
+    sent 10 stored 1 1\n\
+    7 deliver ok\n\
+    got 7\n\
+    sent 11 stored 1 1\n\
+    8 deliver ok\n\
+    got 8\n\
+    sent 12 stored 2 1\n\
+    9 drain ok\n\
+    got 10\n\
+    got 11\n\
+    got 12\n\
+    done 1 put 1/1\n\
+    10 get ok 2\n\
+    sent 13 get 3 1\n\
+    sent 14 get 3 2\n\
+    sent 15 get 3 3\n\
+    11 lose ok\n\
+    12 drain ok\n\
+    got 14\n\
+    sent 16 row 2 3\n\
+    got 15\n\
+    sent 17 row 3 3\n\
+    got 16\n\
+    got 17\n\
+    done 2 get 1/1 1 0cc175b9c0f1b6a831c399e269772661\n\
+    node 1 rows 1 blocks 0 top e08502143c1177c4ca538ffec27c9eaa1bb9e0d3d5cdecdacfaf035de8fa2ff5\n\
+    node 2 rows 1 blocks 0 top e08502143c1177c4ca538ffec27c9eaa1bb9e0d3d5cdecdacfaf035de8fa2ff5\n\
+    node 3 rows 0 blocks 0 top 7e1c26a17bd3d7fa395f34897712e0533bd0d69b934e542d6a4a4fb3ce779cda\n\
+    end 12 2 17\n";
+
+/// Three nodes in one zone, where three zones are asked for, and then two.
+const REDUNDANCY_OVER_ONE_ZONE: &[u8] = b"\
+    redundancy 3\n\
+    role 1 a 1000\n\
+    role 2 a 1000\n\
+    role 3 a 1000\n\
+    apply 1\n\
+    redundancy 2\n\
+    apply 1\n";
+
+const REDUNDANCY_TEXT: &[u8] = b"\
+    1 redundancy ok\n\
+    2 role ok\n\
+    3 role ok\n\
+    4 role ok\n\
+    5 apply refused TooFewZones 1 3\n\
+    6 redundancy ok\n\
+    7 apply refused TooFewZones 1 2\n\
+    end 7 0 0\n";
+
 /// Three nodes, and no old sets.
 const NO_OLD_SETS: &[u8] = b"\
     [[node]]\n\
@@ -889,7 +988,7 @@ fn first_put_and_get(rt: HostRuntime) -> Result<(), Fail> {
 /// Schedules with their whole transcripts, each in two parts.
 #[test]
 fn transcripts(rt: HostRuntime) -> Result<(), Fail> {
-    let rows: [(&[u8], &[u8], &[u8]); 7] = [
+    let rows: [(&[u8], &[u8], &[u8]); 10] = [
         (FIRST_PUT_AND_GET, PUT, FIRST_GET),
         (REPEATED_GET_ANSWERS, PUT, REPEATED_GET),
         (b"", b"end 0 0 0\n", b""),
@@ -897,6 +996,9 @@ fn transcripts(rt: HostRuntime) -> Result<(), Fail> {
         (MEMBER_OF_ITS_NEWEST_VERSION, LEAVING_TEXT, b""),
         (EMPTY_WORLD, EMPTY_WORLD_TEXT, b""),
         (REPAIR_WITHOUT_ROWS, REPAIR_TEXT, b""),
+        (TRIO_WITHOUT_LINE_FEED, TRIO_TEXT, b""),
+        (LOST_STORE_AND_REPEATED_DELIVERIES, LOST_STORE_TEXT, b""),
+        (REDUNDANCY_OVER_ONE_ZONE, REDUNDANCY_TEXT, b""),
     ];
     for (schedule, first, second) in rows {
         let (status, text) = played(rt.alloc(), &["replay"], schedule, &[], &[])?;

@@ -23,7 +23,10 @@ const CLIENTS: [(&[u8], &[u8]); 3] = [
             Content-MD5: kAFQmDzST7DWlj99KOF/cg==\r\n\
             Expect: 100-continue\r\n\
             Content-Length: 3\r\n\r\n",
-        b"PUT /pics/key 1[Host=127.0.0.1:3900][Accept-Encoding=identity][User-Agent=Boto3/1.34.0 md/Botocore#1.34.0][Content-MD5=kAFQmDzST7DWlj99KOF/cg==][Expect=100-continue][Content-Length=3]",
+        b"\
+            PUT /pics/key 1[Host=127.0.0.1:3900][Accept-Encoding=identity]\
+            [User-Agent=Boto3/1.34.0 md/Botocore#1.34.0][Content-MD5=kAFQmDzST7DWlj99KOF/cg==]\
+            [Expect=100-continue][Content-Length=3]",
     ),
     (
         b"HEAD / HTTP/1.0\nx-amz-meta-a: \t two  words \t\nEmpty:\n\n",

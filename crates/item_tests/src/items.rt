@@ -6,7 +6,7 @@ use k2v_rows::{K2vRow, K2vValue};
 use k2v_schema::{K2vSchema, decode, encode};
 use std::alloc::Global;
 use std::test::Fail;
-use table_schema::Schema;
+use table_schema::{RowFault, Schema};
 
 const BUCKET: Hash32 = Hash32([0x22; 32]);
 
@@ -18,6 +18,26 @@ const FIRST_BYTES: &[u8] = b"\
     \x22\x22\x22\x22\x22\x22\x22\x22\x22\x22\x22\x22\x22\x22\x22\x22\
     \0\0\0\x01p\0\0\0\x01s\0\0\0\x01\
     \x01\0\0\0\0\0\0\0\0\0\0\0\x01\
+    \0\0\0\0\0\0\0\x01\x01\0\0\0\x01a";
+
+// The same with two nodes: node 1 has discarded up to time 1 and has no value, and node 2 has discarded nothing and
+// deleted at time 2.
+const DELETED_BYTES: &[u8] = b"\
+    \x04\
+    \x22\x22\x22\x22\x22\x22\x22\x22\x22\x22\x22\x22\x22\x22\x22\x22\
+    \x22\x22\x22\x22\x22\x22\x22\x22\x22\x22\x22\x22\x22\x22\x22\x22\
+    \0\0\0\x01p\0\0\0\x01s\0\0\0\x02\
+    \x01\0\0\0\0\0\0\0\x01\0\0\0\0\
+    \x02\0\0\0\0\0\0\0\0\0\0\0\x01\
+    \0\0\0\0\0\0\0\x02\0";
+
+// The first bytes, but that node 1 has discarded up to time 1, at which its value stands.
+const DISCARDED_BYTES: &[u8] = b"\
+    \x04\
+    \x22\x22\x22\x22\x22\x22\x22\x22\x22\x22\x22\x22\x22\x22\x22\x22\
+    \x22\x22\x22\x22\x22\x22\x22\x22\x22\x22\x22\x22\x22\x22\x22\x22\
+    \0\0\0\x01p\0\0\0\x01s\0\0\0\x01\
+    \x01\0\0\0\0\0\0\0\x01\0\0\0\x01\
     \0\0\0\0\0\0\0\x01\x01\0\0\0\x01a";
 
 // The bucket, "p" behind its length, and "s".
@@ -68,6 +88,33 @@ fn writes_of_two_nodes_stand_side_by_side(rt: HostRuntime) -> Result<(), Fail> {
     assert!(rt; merged == other);
     assert!(rt; merged != first);
     assert_eq!(rt; merged.token()?.len(), 2);
+    Ok(())
+}
+
+// Node 2 deletes what it has read of node 1.
+#[test]
+fn a_write_replaces_what_its_token_saw(rt: HostRuntime) -> Result<(), Fail> {
+    let alloc = rt.alloc();
+    let mut row = write_at(alloc, 1, b'a')?;
+    let token = row.token()?;
+    assert!(rt; row.can_put(2, 2, &token));
+    row.put(2, 2, K2vValue::Deleted, &token)?;
+    assert_eq!(rt; encode(alloc, &row)?.as_slice(), DELETED_BYTES);
+    let Ok(read) = decode(alloc, DELETED_BYTES) else {
+        return Err(Fail::new("not read"));
+    };
+    assert!(rt; read == row);
+    Ok(())
+}
+
+#[test]
+fn a_value_at_its_discard_time_is_no_row(rt: HostRuntime) -> Result<(), Fail> {
+    assert!(rt;
+        match decode(rt.alloc(), DISCARDED_BYTES) {
+            Err(RowFault::NotARow) => true,
+            _ => false,
+        }
+    );
     Ok(())
 }
 

@@ -24,9 +24,11 @@ use Rattle.k2v_rows.specs.declared.writes.Writes.{Writes}
 use Rattle.k2v_rows.specs.declared.k2v_row.K2vRow.{K2vRow}
 use Rattle.k2v_rows.specs.Later.{are_later}
 use Rattle.k2v_rows.specs.Value.{value_cmp}
-use Rattle.k2v_rows.specs.Writes.{writes_of, writes_join, is_past, past_joined, none_past, join-discard, join-get}
+use Rattle.k2v_rows.specs.Writes.{writes_of, writes_join}
+use Rattle.k2v_rows.specs.WritesLaws.{is_past, past_joined, none_past, join-discard, join-get}
 use Rattle.k2v_rows.specs.Token.{WritesMap, TimeMap, entries_join, discarded, raised}
-use Rattle.k2v_rows.specs.Row.{item_key, item_cmp, item_total, row_join, discard_in, value_in, time_in, discard_at, value_of, time_at, written, can_put, after_put}
+use Rattle.k2v_rows.specs.Row.{item_key, item_cmp, row_join, discard_in, value_in, time_in, discard_at, value_of, time_at, written, can_put, after_put}
+use Rattle.k2v_rows.specs.RowLaws.{item_total}
 
 larger_max : (a b : ℕ) → larger nat_cmp a b ≡ max a b
 larger_max a b =

@@ -14,7 +14,8 @@ use Rattle.crdt_core.specs.MapLaws.{map_join-entries, same_map}
 use Rattle.k2v_rows.specs.declared.value.K2vValue.{K2vValue}
 use Rattle.k2v_rows.specs.declared.writes.Writes.{Writes}
 use Rattle.k2v_rows.specs.Later.{are_later}
-use Rattle.k2v_rows.specs.Writes.{greatest_time, same_writes, of_discard, of_values}
+use Rattle.k2v_rows.specs.Writes.{greatest_time}
+use Rattle.k2v_rows.specs.WritesLaws.{same_writes, of_discard, of_values}
 use Rattle.k2v_rows.specs.Token.{WritesMap, TimeMap, entries_join, token_entries, discarded, raised}
 use Rattle.k2v_rows.specs.Row.{written}
 

@@ -1,6 +1,9 @@
 pub mod Later
 pub mod Value
+pub mod ValueLaws
 pub mod Values
 pub mod Writes
+pub mod WritesLaws
 pub mod Token
 pub mod Row
+pub mod RowLaws

@@ -153,7 +153,8 @@ fn are_before(token: &[(u8, Max<u64>)], time: u64) -> bool
 }
 
 impl Crdt for K2vRow {
-    ghost use Rattle.k2v_rows.specs.Row.{row_join, row_laws};
+    ghost use Rattle.k2v_rows.specs.Row.{row_join};
+    ghost use Rattle.k2v_rows.specs.RowLaws.{row_laws};
 
     ghost join = { row_join };
 

@@ -2,7 +2,8 @@
 ghost use Rattle.std.specs.Prelude.{◌≡◌, refl};
 ghost use Rattle.std.specs.Cmp.{partial_equiv_from_equiv, partial_order_from_total, eq_by_cmp_equiv};
 ghost use Rattle.std.specs.Ordering.{eq_by_cmp, as_partial_cmp};
-ghost use Rattle.k2v_rows.specs.Value.{value_cmp, value_total, value_identical};
+ghost use Rattle.k2v_rows.specs.Value.{value_cmp};
+ghost use Rattle.k2v_rows.specs.ValueLaws.{value_total, value_identical};
 
 use crdt_core::{Bytes, Memory, Value};
 use std::cmp::Ordering;

@@ -114,7 +114,8 @@ fn merge_values(
 }
 
 impl Crdt for Writes {
-    ghost use Rattle.k2v_rows.specs.Writes.{writes_join, writes_laws};
+    ghost use Rattle.k2v_rows.specs.Writes.{writes_join};
+    ghost use Rattle.k2v_rows.specs.WritesLaws.{writes_laws};
 
     ghost join = { writes_join };
 

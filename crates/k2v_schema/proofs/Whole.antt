@@ -11,7 +11,8 @@ use Rattle.row_codec.specs.Reading.{eight_at, both_at, tested_at, hash_at, field
 use Rattle.row_codec.specs.Rows.{map_at}
 use Rattle.k2v_schema.specs.Range.{in_range, has_bytes}
 use Rattle.k2v_schema.specs.Spelling.{spelled}
-use Rattle.k2v_schema.specs.Reading.{byte_at, value_at, writes_parts, writes_from, writes_there, writes_at, row_parts, row_from, row_there, rest_at, row_at, read, read_spelled}
+use Rattle.k2v_schema.specs.Reading.{byte_at, value_at, writes_from, writes_at, row_from, rest_at, row_at, read}
+use Rattle.k2v_schema.specs.ReadingLaws.{writes_parts, writes_there, row_parts, row_there, read_spelled}
 
 pub writes_taken : (bytes : List ℕ) (discard : ℕ) (after : List ℕ) (values : ValueMap) (rest : List ℕ) (w : Writes)
     → eight_at bytes ≡ Some (discard, after) → map_at eight_at (max_at value_at) after ≡ Some (values, rest)

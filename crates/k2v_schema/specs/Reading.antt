@@ -1,22 +1,11 @@
--- Rows are read as they are spelled.
-use Rattle.std.proofs.Common.{◌≡◌, ℕ, zero, suc, Bool, true, false, cond, eqb, length, List, [], ◌∷◌, ◌++◌, Option, Some, None, refl, sym, ap, subst, ◌∙◌}
-use Rattle.std.specs.Prelude.{◌&&◌, ◌==◌, ◌↔◌, nat_lt, ◌^◌, if◌then◌else◌}
-use Rattle.std.specs.List.{list_all}
-use Rattle.std.proofs.lemmas.List.{append-nil, nil_from_length}
-use Rattle.std.proofs.lemmas.Bool.{eqb-true}
+-- Which row is read from bytes, and which bytes are a row's.
+use Rattle.std.proofs.Common.{◌≡◌, ℕ, zero, suc, Bool, true, false, length, List, [], ◌∷◌, Option, Some, None, refl}
+use Rattle.std.specs.Prelude.{◌&&◌, ◌==◌, if◌then◌else◌}
 use Rattle.blake2_hash.specs.declared.digest.Hash32.{Hash32}
-use Rattle.crdt_core.specs.declared.max.Max.{Max}
-use Rattle.crdt_core.specs.EntryLaws.{and_parts, and_both}
 use Rattle.crdt_core.specs.Map.{map_entries}
-use Rattle.row_codec.specs.Reads.{◌>>=◌, are_bytes, IsBytes, Begins, Reads}
-use Rattle.row_codec.specs.Range.{is_hash, is_eight, is_below, are_short}
-use Rattle.row_codec.specs.Spelling.{eight, field, counted}
+use Rattle.row_codec.specs.Reads.{◌>>=◌, are_bytes}
 use Rattle.row_codec.specs.Reading.{eight_at, field_at, both_at, made_at, tested_at, hash_at, max_at}
-use Rattle.row_codec.specs.NumberLaws.{eight_reads, field_reads, bind_some, some_is, byte_rest}
-use Rattle.row_codec.specs.JoinedLaws.{both_reads, made_reads, tested_reads}
-use Rattle.row_codec.specs.PartLaws.{hash_reads, max_reads}
 use Rattle.row_codec.specs.Rows.{map_at}
-use Rattle.row_codec.specs.RowLaws.{map_reads}
 use Rattle.k2v_rows.specs.declared.value.K2vValue.{K2vValue}
 use Rattle.k2v_rows.specs.declared.value.K2vValue.TheVariants.{Deleted, Value}
 use Rattle.k2v_rows.specs.declared.writes.Writes.{Writes}
@@ -24,10 +13,8 @@ use Rattle.k2v_rows.specs.declared.k2v_row.K2vRow.{K2vRow}
 use Rattle.k2v_rows.specs.Later.{are_later, is_short}
 use Rattle.k2v_rows.specs.Values.{ValueMap}
 use Rattle.k2v_rows.specs.Token.{WritesMap}
-use Rattle.k2v_rows.specs.Writes.{same_writes}
-use Rattle.k2v_rows.specs.Row.{same_row}
-use Rattle.k2v_schema.specs.Range.{is_byte, value_in_range, writes_in_range, in_range, is_short_value, are_short_writes, has_bytes}
-use Rattle.k2v_schema.specs.Spelling.{byte, value, writes, spelled}
+use Rattle.k2v_schema.specs.Range.{in_range, has_bytes}
+use Rattle.k2v_schema.specs.Spelling.{spelled}
 
 -- ---- bytes
 
@@ -36,55 +23,17 @@ unfoldable pub byte_at : List ℕ → Option (ℕ × List ℕ)
 byte_at [] = None
 byte_at (b ∷ rest) = Some (b, rest)
 
-byte_takes : (bytes : List ℕ) (x : ℕ) (rest : List ℕ) → IsBytes bytes → byte_at bytes ≡ Some (x, rest) → Begins is_byte (λ b. true) byte bytes x rest
-unfolding byte_at
-byte_takes [] x rest fits e = absurd cc
-byte_takes (b ∷ bytes) x rest fits e =
-    subst (λ (q : ℕ × List ℕ). Begins is_byte (λ b. true) byte (b ∷ bytes) q.0 q.1) (some_is (b, bytes) (x, rest) e)
-    (record { parts = refl; fits = (and_parts (nat_lt b (2 ^ 8)) (are_bytes bytes) fits).0; short = refl })
-
-pub byte_reads : Reads is_byte (λ b. true) byte byte_at
-unfolding byte_at
-byte_reads = record { bytes = λ b fits. and_both (is_byte b) true fits refl; takes = byte_takes; again = λ b rest fits short. refl }
-
 -- ---- what writes leave
 
--- by the first byte
+-- what a write left, and the bytes behind it: 00 is a deletion, 01 comes before a value's bytes
 unfoldable pub value_at : List ℕ → Option (K2vValue × List ℕ)
 value_at [] = None
 value_at (zero ∷ rest) = Some (Deleted, rest)
 value_at (suc zero ∷ rest) = made_at Value field_at rest
 value_at (suc (suc n) ∷ rest) = None
 
-value_takes : (bytes : List ℕ) (x : K2vValue) (rest : List ℕ) → IsBytes bytes → value_at bytes ≡ Some (x, rest) → Begins value_in_range is_short_value value bytes x rest
-unfolding value_at made_at
-value_takes [] x rest fits e = absurd cc
-value_takes (zero ∷ bytes) x rest fits e = subst (λ (q : K2vValue × List ℕ). Begins value_in_range is_short_value value (0 ∷ bytes) q.0 q.1) (some_is (Deleted, bytes) (x, rest) e) (record { parts = refl; fits = refl; short = refl })
-value_takes (suc zero ∷ bytes) x rest fits e =
-    let b = bind_some (field_at bytes) (λ y. Some (Value y.0, y.1)) (x, rest) e in
-    let t = field_reads.takes bytes b.0.0 b.0.1 (byte_rest 1 bytes fits) b.1 in
-    subst (λ (q : K2vValue × List ℕ). Begins value_in_range is_short_value value (1 ∷ bytes) q.0 q.1) (some_is _ _ b.2) (record { parts = ap (λ (y : List ℕ). 1 ∷ y) t.parts; fits = t.fits; short = t.short })
-value_takes (suc (suc n) ∷ bytes) x rest fits e = absurd cc
-
-value_again : (x : K2vValue) (rest : List ℕ) → value_in_range x ≡ true → is_short_value x ≡ true → value_at (value x ++ rest) ≡ Some (x, rest)
-unfolding value_at made_at
-value_again Deleted rest fits short = refl
-value_again (Value bytes) rest fits short = rw (field_reads.again bytes rest fits short) refl
-
-value_bytes : (x : K2vValue) → value_in_range x ≡ true → IsBytes (value x)
-value_bytes Deleted fits = refl
-value_bytes (Value bytes) fits = field_reads.bytes bytes fits
-
-pub value_reads : Reads value_in_range is_short_value value value_at
-value_reads = record { bytes = value_bytes; takes = value_takes; again = value_again }
-
--- ---- the writes of a node
-
--- what one node's writes are made of
-abbrev pub writes_parts : Writes → ℕ × ValueMap
-writes_parts w = (w.discard.0, w.values)
-
-abbrev writes_by : (t : ℕ × ValueMap) (b : Bool) → are_later t.0 (map_entries t.1) ≡ b → Option Writes
+-- the writes with this discard time and these values, where the test of their times passed
+abbrev pub writes_by : (t : ℕ × ValueMap) (b : Bool) → are_later t.0 (map_entries t.1) ≡ b → Option Writes
 writes_by t true h = Some (record { discard = record { 0 = t.0 }; values = t.1; kept = h })
 writes_by t false h = None
 
@@ -92,27 +41,9 @@ writes_by t false h = None
 abbrev pub writes_from : ℕ × ValueMap → Option Writes
 writes_from t = writes_by t (are_later t.0 (map_entries t.1)) refl
 
-writes_back_by : (t : ℕ × ValueMap) (b : Bool) (h : are_later t.0 (map_entries t.1) ≡ b) (w : Writes) → writes_by t b h ≡ Some w → writes_parts w ≡ t
-writes_back_by t true h w e = sym (ap writes_parts (some_is _ _ e))
-writes_back_by t false h w e = absurd cc
-
-writes_there_by : (w : Writes) (b : Bool) (h : are_later w.discard.0 (map_entries w.values) ≡ b) → writes_by (writes_parts w) b h ≡ Some w
-writes_there_by w true h = ap Some (same_writes _ w refl refl)
-writes_there_by w false h = let no : true ≡ false = sym w.kept ∙ h in cc
-
-pub writes_there : (w : Writes) → writes_from (writes_parts w) ≡ Some w
-writes_there w = writes_there_by w (are_later w.discard.0 (map_entries w.values)) refl
-
-writes_back : (t : ℕ × ValueMap) (w : Writes) → writes_from t ≡ Some w → writes_parts w ≡ t
-writes_back t w e = writes_back_by t (are_later t.0 (map_entries t.1)) refl w e
-
 -- one node's writes, and the bytes behind them
 unfoldable pub writes_at : List ℕ → Option (Writes × List ℕ)
 writes_at = tested_at writes_from (both_at eight_at (map_at eight_at (max_at value_at)))
-
-pub writes_reads : Reads writes_in_range are_short_writes writes writes_at
-unfolding writes_at
-writes_reads = tested_reads writes_from writes_parts writes_there writes_back (both_reads eight_reads (map_reads eight_reads (max_reads value_reads)))
 
 -- ---- rows
 
@@ -120,11 +51,8 @@ writes_reads = tested_reads writes_from writes_parts writes_there writes_back (b
 abbrev pub RowParts : Type 0
 RowParts = Hash32 × (List ℕ × (List ℕ × WritesMap))
 
--- the parts of a row
-abbrev pub row_parts : K2vRow → RowParts
-row_parts r = (r.bucket, (r.pk, (r.sk, r.entries)))
-
-abbrev row_by : (t : RowParts) (b : Bool) → is_short t.1.0 ≡ b → Option K2vRow
+-- the row of these parts, where the test of its partition key passed
+abbrev pub row_by : (t : RowParts) (b : Bool) → is_short t.1.0 ≡ b → Option K2vRow
 row_by t true h = Some (record { bucket = t.0; pk = t.1.0; sk = t.1.1.0; entries = t.1.1.1; short = h })
 row_by t false h = None
 
@@ -132,33 +60,11 @@ row_by t false h = None
 abbrev pub row_from : RowParts → Option K2vRow
 row_from t = row_by t (is_short t.1.0) refl
 
-row_back_by : (t : RowParts) (b : Bool) (h : is_short t.1.0 ≡ b) (r : K2vRow) → row_by t b h ≡ Some r → row_parts r ≡ t
-row_back_by t true h r e = sym (ap row_parts (some_is _ _ e))
-row_back_by t false h r e = absurd cc
-
-row_there_by : (r : K2vRow) (b : Bool) (h : is_short r.pk ≡ b) → row_by (row_parts r) b h ≡ Some r
-row_there_by r true h = ap Some (same_row _ r refl)
-row_there_by r false h = let no : true ≡ false = sym r.short ∙ h in cc
-
-pub row_there : (r : K2vRow) → row_from (row_parts r) ≡ Some r
-row_there r = row_there_by r (is_short r.pk) refl
-
-row_back : (t : RowParts) (r : K2vRow) → row_from t ≡ Some r → row_parts r ≡ t
-row_back t r e = row_back_by t (is_short t.1.0) refl r e
-
--- what stands behind the first byte
-abbrev rest_of : K2vRow → List ℕ
-rest_of r = r.bucket.0 ++ (field r.pk ++ (field r.sk ++ counted (λ e. byte e.0 ++ writes e.1) (map_entries r.entries)))
-
 -- the row behind the table's byte, and the bytes behind it
 unfoldable pub rest_at : List ℕ → Option (K2vRow × List ℕ)
 rest_at = tested_at row_from (both_at hash_at (both_at field_at (both_at field_at (map_at byte_at writes_at))))
 
-rest_reads : Reads in_range has_bytes rest_of rest_at
-unfolding rest_at
-rest_reads = tested_reads row_from row_parts row_there row_back (both_reads hash_reads (both_reads field_reads (both_reads field_reads (map_reads byte_reads writes_reads))))
-
--- by the first byte
+-- the row whose bytes begin with 04, and the bytes behind it
 unfoldable pub row_at : List ℕ → Option (K2vRow × List ℕ)
 row_at [] = None
 row_at (zero ∷ rest) = None
@@ -167,22 +73,6 @@ row_at (suc (suc zero) ∷ rest) = None
 row_at (suc (suc (suc zero)) ∷ rest) = None
 row_at (suc (suc (suc (suc zero))) ∷ rest) = rest_at rest
 row_at (suc (suc (suc (suc (suc n)))) ∷ rest) = None
-
-row_takes : (bytes : List ℕ) (x : K2vRow) (rest : List ℕ) → IsBytes bytes → row_at bytes ≡ Some (x, rest) → Begins in_range has_bytes spelled bytes x rest
-unfolding row_at
-row_takes [] x rest fits e = absurd cc
-row_takes (zero ∷ bytes) x rest fits e = absurd cc
-row_takes (suc zero ∷ bytes) x rest fits e = absurd cc
-row_takes (suc (suc zero) ∷ bytes) x rest fits e = absurd cc
-row_takes (suc (suc (suc zero)) ∷ bytes) x rest fits e = absurd cc
-row_takes (suc (suc (suc (suc zero))) ∷ bytes) x rest fits e =
-    let t = rest_reads.takes bytes x rest (byte_rest 4 bytes fits) e in
-    record { parts = ap (λ (y : List ℕ). 4 ∷ y) t.parts; fits = t.fits; short = t.short }
-row_takes (suc (suc (suc (suc (suc n)))) ∷ bytes) x rest fits e = absurd cc
-
-pub row_reads : Reads in_range has_bytes spelled row_at
-unfolding row_at
-row_reads = record { bytes = λ r fits. rest_reads.bytes r fits; takes = row_takes; again = λ r rest fits short. rest_reads.again r rest fits short }
 
 -- ---- a row alone
 
@@ -193,33 +83,3 @@ spelling r = if in_range r && has_bytes r then Some (spelled r) else None
 -- the row that has these bytes
 abbrev pub read : List ℕ → Option K2vRow
 read bytes = if are_bytes bytes then (row_at bytes >>= λ found. if length found.1 == 0 then Some found.0 else None) else None
-
-pub read_spelled : (r : K2vRow) → in_range r ≡ true → has_bytes r ≡ true → read (spelled r) ≡ Some r
-read_spelled r fits short =
-    let again : row_at (spelled r) ≡ Some (r, []) = ap row_at (sym (append-nil (spelled r))) ∙ row_reads.again r [] fits short in
-    rw (row_reads.bytes r fits, again) refl
-
-cond_true : {A : Type 0} (b : Bool) (o : Option A) (y : A) → cond b o None ≡ Some y → (b ≡ true) × (o ≡ Some y)
-cond_true true o y e = (refl, e)
-cond_true false o y e = absurd cc
-
-pub read_takes : (bytes : List ℕ) (r : K2vRow) → read bytes ≡ Some r → (bytes ≡ spelled r) × (in_range r ≡ true) × (has_bytes r ≡ true)
-read_takes bytes r e =
-    let a = cond_true (are_bytes bytes) (row_at bytes >>= λ found. cond (eqb (length found.1) 0) (Some found.0) None) r e in
-    let b = bind_some (row_at bytes) (λ found. cond (eqb (length found.1) 0) (Some found.0) None) r a.1 in
-    let c = cond_true (eqb (length b.0.1) 0) (Some b.0.0) r b.2 in
-    let t = row_reads.takes bytes b.0.0 b.0.1 a.0 b.1 in
-    let nothing : b.0.1 ≡ [] = nil_from_length b.0.1 (eqb-true _ _ c.0) in
-    let whole : bytes ≡ spelled b.0.0 = t.parts ∙ ap (λ (y : List ℕ). spelled b.0.0 ++ y) nothing ∙ append-nil (spelled b.0.0) in
-    let same : b.0.0 ≡ r = some_is _ _ c.1 in
-    (whole ∙ ap spelled same, ap in_range (sym same) ∙ t.fits, ap has_bytes (sym same) ∙ t.short)
-
--- bytes are read as a row exactly where they are its spelling
-pub reads_back : (r : K2vRow) (bytes : List ℕ) → (read bytes ≡ Some r) ↔ (spelling r ≡ Some bytes)
-reads_back r bytes = (
-  (λ e. let t = read_takes bytes r e in rw (t.1, t.2) (ap Some (sym t.0))),
-  (λ e.
-      let a = cond_true (in_range r && has_bytes r) (Some (spelled r)) bytes e in
-      let b = and_parts (in_range r) (has_bytes r) a.0 in
-      ap read (sym (some_is _ _ a.1)) ∙ read_spelled r b.0 b.1),
-)

@@ -10,7 +10,8 @@ ghost use Rattle.row_codec.specs.Reads.{are_bytes};
 ghost use Rattle.row_codec.specs.Spelling.{four, eight, field};
 ghost use Rattle.k2v_schema.specs.Range.{is_byte};
 ghost use Rattle.k2v_schema.specs.Spelling.{byte};
-ghost use Rattle.k2v_schema.specs.Reading.{byte_at, byte_reads};
+ghost use Rattle.k2v_schema.specs.Reading.{byte_at};
+ghost use Rattle.k2v_schema.specs.ReadingLaws.{byte_reads};
 
 use crate::field::Field;
 use blake2_hash::Hash32;

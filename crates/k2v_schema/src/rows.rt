@@ -2,7 +2,8 @@
 ghost use Rattle.std.specs.Prelude.{◌≡◌};
 ghost use Rattle.row_codec.specs.Gives.{Gives};
 ghost use Rattle.k2v_schema.specs.Range.{value_in_range, writes_in_range, in_range, is_short_value, are_short_writes, has_bytes};
-ghost use Rattle.k2v_schema.specs.Reading.{value_at, value_reads, writes_at, writes_reads, row_at, row_reads, rest_at};
+ghost use Rattle.k2v_schema.specs.Reading.{value_at, writes_at, row_at, rest_at};
+ghost use Rattle.k2v_schema.specs.ReadingLaws.{value_reads, writes_reads, row_reads};
 ghost use Rattle.k2v_schema.specs.Spelling.{value, writes, spelled};
 
 use crate::field::Field;

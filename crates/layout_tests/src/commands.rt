@@ -18,12 +18,15 @@ pub fn answered_by(alloc: Global, input: &[u8], moves: bool) -> Result<(Status, 
 /// The layouts whose sets are the only ones: the whole text.
 #[test]
 fn whole_layouts(rt: HostRuntime) -> Result<(), Fail> {
-    let three_equal_zones =
-        b"node = [{ id = 1, zone = 'a', capacity = 1000 }, { id = 2, zone = 'b', capacity = 1000 }, { id = 3, zone = 'c', capacity = 1000 }]";
-    let gateway_has_no_copies =
-        b"node = [{ id = 4, zone = 'd', gateway = true }, { id = 2, zone = 'b', capacity = 1000 }, { id = 1, zone = 'a', capacity = 1000 }, { id = 3, zone = 'c', capacity = 1000 }]";
-    let capacity_at_256 =
-        b"node = [{ id = 1, zone = 'a', capacity = 256 }, { id = 2, zone = 'b', capacity = 256 }, { id = 3, zone = 'c', capacity = 256 }]";
+    let three_equal_zones = b"\
+        node = [{ id = 1, zone = 'a', capacity = 1000 }, { id = 2, zone = 'b', capacity = 1000 }, \
+        { id = 3, zone = 'c', capacity = 1000 }]";
+    let gateway_has_no_copies = b"\
+        node = [{ id = 4, zone = 'd', gateway = true }, { id = 2, zone = 'b', capacity = 1000 }, \
+        { id = 1, zone = 'a', capacity = 1000 }, { id = 3, zone = 'c', capacity = 1000 }]";
+    let capacity_at_256 = b"\
+        node = [{ id = 1, zone = 'a', capacity = 256 }, { id = 2, zone = 'b', capacity = 256 }, \
+        { id = 3, zone = 'c', capacity = 256 }]";
     let of_1000 =
         b"size 3\nredundancy 3\np 0 255 1 2 3\ncut 4 750\nc 0 255 up z:a z:b z:c\ncn 1 2 3\n";
     let of_256 =

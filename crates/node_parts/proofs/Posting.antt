@@ -30,3 +30,14 @@ module _ {R : Type 0} where
       posts_more from old mid new (to_each (take i nodes) m) (to_each (get_or nodes i d ∷ []) copied) p q
       ∙ ap (λ c. map posted old ++ map (λ m. (from, m)) (to_each (take i nodes) m ++ to_each (get_or nodes i d ∷ []) c)) same
       ∙ ap (λ posts. map posted old ++ map (λ m. (from, m)) posts) (sym (to_each_more nodes i d m lt))
+
+  -- the message itself went to the last node
+  pub sent_to_last : (from : ℕ) (old mid new : List (Envelope R)) (nodes others : List ℕ) (i last : ℕ) (m own : Message R) → nodes ≡ others ++ last ∷ [] → take i others ≡ others → own ≡ m →
+      Posts from old mid (to_each (take i others) m) → Posts from mid new (to_each (last ∷ []) own) → Posts from old new (to_each nodes m)
+  sent_to_last from old mid new nodes others i last m own are all same p q =
+      posts_more from old mid new (to_each (take i others) m) (to_each (last ∷ []) own) p q
+      ∙ ap (λ posts. map posted old ++ map (λ m. (from, m)) posts)
+      (ap (λ o. to_each (take i others) m ++ to_each (last ∷ []) o) same
+      ∙ ap (λ ns. to_each ns m ++ to_each (last ∷ []) m) all
+      ∙ sym (map-append (λ n. record { to = n; packet = says m }) others (last ∷ []))
+      ∙ ap (λ ns. to_each ns m) (sym are))

@@ -76,7 +76,7 @@ impl Beginning {
             p,
             rows,
         };
-        send_each(out, self.node, nodes.as_slice(), &message)?;
+        send_each(out, self.node, nodes.as_slice(), message)?;
         Tally::new(self.alloc, view.oldest(), sets.as_slice())
     }
 
@@ -127,7 +127,7 @@ impl Beginning {
                     table: *table,
                     key: key.copy()?,
                 };
-                send_each(out, self.node, &nodes, &message)?;
+                send_each(out, self.node, &nodes, message)?;
                 Ok(Present::Asking(ReadCall::new(nodes)))
             }
             Phase::Range {
@@ -146,7 +146,7 @@ impl Beginning {
                     prefix: prefix.copy()?,
                     after: after.copy()?,
                 };
-                send_each(out, self.node, &nodes, &message)?;
+                send_each(out, self.node, &nodes, message)?;
                 Ok(Present::Scanning(RangeCall::new(nodes)))
             }
             Phase::Store { rows } => {
@@ -162,7 +162,7 @@ impl Beginning {
                     at,
                     hash: *hash,
                 };
-                send_each(out, self.node, &nodes, &message)?;
+                send_each(out, self.node, &nodes, message)?;
                 Ok(Present::Fetching)
             }
         }

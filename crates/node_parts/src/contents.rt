@@ -191,7 +191,7 @@ impl<S: Schema> Contents<S> {
                 p,
                 rows,
             };
-            send_each(out, node, nodes.as_slice(), &message)?;
+            send_each(out, node, nodes.as_slice(), message)?;
         }
         Ok(items.len() as u64)
     }

@@ -24,7 +24,7 @@ fn copy_stored(rows: &List<(Bytes, Option<Block>)>) -> Result<List<(Bytes, Optio
     ensures same { IfOk result (λ copied. copied ≡ rows.now) }
     ensures want { OnlyWant result }
 {
-    let mut copied = List::new(rows.allocator());
+    let mut copied = List::from_vec(Vec::with_capacity(rows.allocator(), rows.len())?);
     for row in rows.as_slice() {
         copied.push((row.0.copy()?, share_block(&row.1)?))?;
     }
@@ -143,18 +143,21 @@ pub fn send<R: Drop>(
     Ok(())
 }
 
-/// Sends a message from a node to each of these.
+/// Sends a message from a node to each of these: itself to the last one, and copies to the others.
 pub fn send_each<R: Crdt>(
     out: &mut Vec<Envelope<R>>,
     from: u8,
     nodes: &[u8],
-    message: &Message<R>,
+    message: Message<R>,
 ) -> Result<(), Memory>
-    ensures sent { OnOk result (Posts from out.old.items out.new.items (to_each nodes.now message.now)) }
+    ensures sent { OnOk result (Posts from out.old.items out.new.items (to_each nodes.now message)) }
     ensures want { OnlyWant result }
 {
-    for to in nodes {
-        send(out, from, *to, copy_of(message)?)?;
+    let Some((last, others)) = nodes.split_last() else {
+        return Ok(());
+    };
+    for to in others {
+        send(out, from, *to, copy_of(&message)?)?;
     }
-    Ok(())
+    send(out, from, *last, message)
 }

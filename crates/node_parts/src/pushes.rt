@@ -88,7 +88,7 @@ impl Sender {
             p,
             rows: bytes_of_each::<S>(self.alloc, rows.as_slice(), blocks)?,
         };
-        send_each(out, self.node, nodes, &message)?;
+        send_each(out, self.node, nodes, message)?;
         Ok(true)
     }
 

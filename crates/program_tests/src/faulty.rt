@@ -62,7 +62,8 @@ impl FaultyLink {
     /// Ends the connection, if it is present.
     fn settle(&mut self)
         ensures present { self.new.present ≡ None }
-        ensures past { option_to_list (option_map untold self.new.past) ≡ option_to_list (option_map untold self.old.past) ++ option_to_list (option_map untold self.old.present) }
+        ensures past { option_to_list (option_map untold self.new.past)
+            ≡ option_to_list (option_map untold self.old.past) ++ option_to_list (option_map untold self.old.present) }
         ensures faults { self.new.faults ≡ self.old.faults }
     {
         if let Some(faults) = self.present {

@@ -11,6 +11,8 @@ mod links;
 #[cfg(test)]
 mod recorder;
 #[cfg(test)]
+mod refusals;
+#[cfg(test)]
 mod served;
 #[cfg(test)]
 mod workloads;

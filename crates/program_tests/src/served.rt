@@ -86,7 +86,8 @@ pub const ONE_ANSWERS: &[u8] = b"\
     <?xml version=\"1.0\" encoding=\"UTF-8\"?>\n\
     <Error><Code>NoSuchKey</Code><Message>NoSuchKey</Message><Resource>/pics/a.txt</Resource></Error>";
 
-/// Four keys, and lists of them: cut at a slash, two entries a page, and from its token on; none, too many and no number of entries; with texts encoded.
+/// Four keys, and lists of them: cut at a slash, two entries a page, and from its token on; none, too many and no number of
+/// entries; with texts encoded. Then a fifth key, `c~+ é`, and two entries with their texts encoded, cut at `&`.
 const LISTS: &[u8] = b"\
     PUT /pics/x/1 HTTP/1.1\r\n\
     Content-Length: 3\r\n\r\n\
@@ -105,7 +106,11 @@ const LISTS: &[u8] = b"\
     GET /pics?list-type=2&max-keys=0 HTTP/1.1\r\n\r\n\
     GET /pics?list-type=2&max-keys=1001&prefix=y HTTP/1.1\r\n\r\n\
     GET /pics?list-type=2&max-keys=x HTTP/1.1\r\n\r\n\
-    GET /pics?list-type=2&encoding-type=url&start-after=x/2&prefix=a%26 HTTP/1.1\r\n\r\n";
+    GET /pics?list-type=2&encoding-type=url&start-after=x/2&prefix=a%26 HTTP/1.1\r\n\r\n\
+    PUT /pics/c~+%20%c3%a9 HTTP/1.1\r\n\
+    Content-Length: 3\r\n\r\n\
+    abc\
+    GET /pics?list-type=2&encoding-type=url&delimiter=%26&max-keys=2 HTTP/1.1\r\n\r\n";
 
 /// Their answers.
 const LISTS_ANSWERS: &[u8] = b"\
@@ -180,7 +185,23 @@ const LISTS_ANSWERS: &[u8] = b"\
     <?xml version=\"1.0\" encoding=\"UTF-8\"?>\n\
     <ListBucketResult xmlns=\"http://s3.amazonaws.com/doc/2006-03-01/\"><Name>pics</Name><Prefix>a%26</Prefix>\
     <MaxKeys>1000</MaxKeys><EncodingType>url</EncodingType><KeyCount>0</KeyCount>\
-    <IsTruncated>false</IsTruncated><StartAfter>x/2</StartAfter></ListBucketResult>";
+    <IsTruncated>false</IsTruncated><StartAfter>x/2</StartAfter></ListBucketResult>\
+    HTTP/1.1 200 OK\r\n\
+    Date: Tue, 14 Nov 2023 22:13:20 GMT\r\n\
+    Content-Length: 0\r\n\
+    ETag: \"900150983cd24fb0d6963f7d28e17f72\"\r\n\r\n\
+    HTTP/1.1 200 OK\r\n\
+    Date: Tue, 14 Nov 2023 22:13:20 GMT\r\n\
+    Content-Length: 611\r\n\
+    Content-Type: application/xml\r\n\r\n\
+    <?xml version=\"1.0\" encoding=\"UTF-8\"?>\n\
+    <ListBucketResult xmlns=\"http://s3.amazonaws.com/doc/2006-03-01/\"><Name>pics</Name><Prefix></Prefix>\
+    <Delimiter>%26</Delimiter><MaxKeys>2</MaxKeys><EncodingType>url</EncodingType><KeyCount>2</KeyCount>\
+    <IsTruncated>true</IsTruncated><NextContinuationToken>6b637e2b20c3a9</NextContinuationToken>\
+    <Contents><Key>c~%2B%20%C3%A9</Key><LastModified>2023-11-14T22:13:20.000Z</LastModified>\
+    <ETag>&quot;900150983cd24fb0d6963f7d28e17f72&quot;</ETag><Size>3</Size>\
+    <StorageClass>STANDARD</StorageClass></Contents><CommonPrefixes>\
+    <Prefix>a%26</Prefix></CommonPrefixes></ListBucketResult>";
 
 /// A copy, and one of an absent source; right and wrong digests; the buckets, one that isn't there, and a put without its length.
 const COPIES: &[u8] = b"\
@@ -297,10 +318,10 @@ const LONG_ANSWER: &[u8] = b"\
 
 /// What a server of one connection that has these bytes did.
 #[derive(Drop)]
-struct Session {
-    status: Status,
+pub struct Session {
+    pub status: Status,
     output: Vec<u8>,
-    written: Vec<u8>,
+    pub written: Vec<u8>,
 }
 
 /// The words that ask for a server of one connection.
@@ -315,7 +336,7 @@ pub fn words_of(alloc: Global, port: u16) -> Result<Vec<String>, Fail> {
 }
 
 /// A server of one connection that has these bytes, over three nodes.
-fn served(alloc: Global, bytes: &[u8]) -> Result<Session, Fail> {
+pub fn served(alloc: Global, bytes: &[u8]) -> Result<Session, Fail> {
     let words = words_of(alloc, 3900)?;
     let mut coming = Vec::new(alloc);
     coming.push(bytes.to_vec(alloc)?)?;
@@ -376,13 +397,30 @@ fn head_without_end(rt: HostRuntime) -> Result<(), Fail> {
     Ok(())
 }
 
-/// Wherever the connection's input ends, the server goes on to its own end.
+/// Whether these are the first answers of the object's, each whole, and a further one is to follow.
+pub fn are_first_answers(written: &[u8]) -> bool {
+    ONE_ANSWERS
+        .strip_prefix(written)
+        .is_some_and(|rest| rest.starts_with(b"HTTP/1.1 "))
+}
+
+/// Wherever the connection's input ends, the server goes on to its own end. Whole answers were written, and where it ends
+/// past the first head, before the last of the body's three bytes, the refusal of that body.
 #[test]
 fn cut_after_each_byte(rt: HostRuntime) -> Result<(), Fail> {
     for count in 0..ONE_OBJECT.len() {
         let session = served(rt.alloc(), &ONE_OBJECT[..count])?;
         assert_eq!(rt; session.status, Status::Done);
         assert!(rt; session.output.starts_with(b"p 0 255 1 2 3\nnode 1 rows "));
+        let refusal: &[u8] = match count {
+            122..=124 => SHORT_ANSWER,
+            _ => b"",
+        };
+        let answers = session.written.strip_suffix(refusal);
+        assert!(rt;
+            answers.is_some_and(are_first_answers),
+            "after byte {count}"
+        );
     }
     Ok(())
 }

@@ -6,6 +6,7 @@ pub mod Stepping
 pub mod Running
 pub mod Staged
 pub mod Lawful
+pub mod Cutting
 pub mod Ending
 pub mod Meant
 pub mod Checked

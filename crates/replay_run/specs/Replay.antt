@@ -54,6 +54,15 @@ pub record StopsAfter (IsSo : Step → Type 0) (events : List Numbered) (before 
   pub lawful : IsLawful (run start before) next
   pub stops : StopsAt IsSo (steps_of (run start before) next.numbered.event next.choice)
 
+-- given these turns, a replay is cut off: those before are played, and of the next one's steps the first after which it doesn't go on has sent too much; any turns come later
+pub record CutOff (turns : List Turn) : Type 0 where
+  pub before : List Turn
+  pub next : Turn
+  pub later : List Turn
+  pub whole : turns ≡ before ++ next ∷ later
+  pub played : ArePlayed before
+  pub stops : StopsAt SendsTooMuch (steps_of (run start before) next.numbered.event next.choice)
+
 -- one of nodes 1 to 16 has a row without a spelling
 abbrev pub IsUnshown : State → Type 0
 IsUnshown s = IsTrue (list_any (is_unshown s.world) (range_with_len 1 16))

@@ -1,10 +1,14 @@
 //! What holds of the ends that are stated.
-ghost use Rattle.std.specs.Prelude.{ℕ, List};
+ghost use Rattle.std.specs.Prelude.{ℕ, ◌++◌, ◌⊎◌, List};
 ghost use Rattle.lab_outside.specs.declared.exit.Status.{Status};
 ghost use Rattle.store_model.specs.declared.event.Numbered.{Numbered};
+ghost use Rattle.store_model.specs.Run.{start};
+ghost use Rattle.store_model.specs.Events.{Turn, events_of};
+ghost use Rattle.store_model.specs.Turns.{AreLawful};
 ghost use Rattle.replay_run.specs.declared.account.Account.{Account};
-ghost use Rattle.text_model.specs.Played.{AreScheduled};
-ghost use Rattle.replay_run.specs.Replay.{ReplayLacksRoom, IsReplay};
+ghost use Rattle.replay_run.specs.Account.{front};
+ghost use Rattle.text_model.specs.Played.{ArePlayed, AreScheduled};
+ghost use Rattle.replay_run.specs.Replay.{sent_line, CutOff, ReplayLacksRoom, IsReplay};
 
 use limit_laws::{played_nodes_are_shown, played_turns_have_room};
 
@@ -17,10 +21,21 @@ pub fn no_replay_lacks_room()
     played_nodes_are_shown();
 }
 
-/// A replay of such events has a stated end: each event can be given something lawful, and after each of its steps there is
-/// room, and no more was sent than may be or more.
-pub fn every_replay_ends()
-    ensures { (account : Account) (events : List Numbered) → AreScheduled events → ((status : Status) (text : List ℕ) → IsReplay account events status text → ⊥) → ⊥ }
+/// Given lawful layouts, a replay of such events has one end: all its turns are played, or it is cut off where more was sent
+/// than may be, and never both. Done is stated of turns that are played; and where they are cut off, the limit, with what is
+/// written of the turns before and the line of that limit.
+pub fn lawful_turns_end_once()
+    ensures one { (turns : List Turn) → AreScheduled (events_of turns) → AreLawful start turns → ArePlayed turns ⊎ CutOff turns }
+    ensures never_both { (turns : List Turn) → ArePlayed turns → CutOff turns → ⊥ }
+    ensures done { (account : Account) (turns : List Turn) → ArePlayed turns → (text : List ℕ) × IsReplay account (events_of turns) Status.Done text }
+    ensures limit { (account : Account) (turns : List Turn) → AreLawful start turns → (cut : CutOff turns) → IsReplay account (events_of turns) Status.Limit (front account cut.before ++ sent_line) }
 {
-    no_replay_lacks_room();
+    played_turns_have_room();
+}
+
+/// A replay of such events has a stated end: each event can be given something lawful, and lawful turns are played or cut off.
+pub fn every_replay_ends()
+    ensures { (account : Account) (events : List Numbered) → AreScheduled events → (status : Status) × ((text : List ℕ) × IsReplay account events status text) }
+{
+    lawful_turns_end_once();
 }

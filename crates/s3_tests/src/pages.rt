@@ -130,7 +130,11 @@ fn an_entry_has_the_version_and_the_metadata(rt: HostRuntime) -> Result<(), Fail
     let ask = ask(alloc, b"y", b"", past_key(alloc, b"")?, 9)?;
     let shown = page(alloc, rows.as_slice(), &ask)?;
     assert!(rt;
-        matches!(shown.entries.get(0), Some(Entry::Object(_, version, meta)) if version.ts == 951_782_400_999 && meta.size == 3 && meta.etag == ETAG)
+        matches!(
+            shown.entries.get(0),
+            Some(Entry::Object(_, version, meta))
+                if version.ts == 951_782_400_999 && meta.size == 3 && meta.etag == ETAG
+        )
     );
     assert!(rt; meta(alloc)?.headers.len() == 2);
     Ok(())

@@ -31,7 +31,7 @@ use Rattle.blake2_hash.specs.Hash.{digest_of}
 use Rattle.flow_model.specs.Rows.{row_key}
 use Rattle.flow_model.specs.Flow.{asks_for, asks_past}
 use Rattle.store_model.specs.Orders.{buckets_of}
-use Rattle.store_model.specs.Run.{Moving, State, start, Asked, Outcome, silent, refusal, plainly, effect, doing, are_buckets, phases, new_request, opened, begins, follows, follow, goes_on, delivers, then_drains, drains, Draw}
+use Rattle.store_model.specs.Run.{Moving, State, start, Asked, Outcome, silent, refusal, plainly, effect, doing, are_buckets, phases, new_request, opened, began_with, begins, follows, follow, goes_on, delivers, then_drains, drains, Draw}
 use Rattle.store_model.specs.Acts.{Act, moves, installs, asks, delivery, drain, forgets, takes as takes_end, adds, cuts, acted, after_acts, IsOuter, IsLawfulAct, AreLawfulActs, ActsFit}
 use Rattle.store_laws.specs.Promised.{moves_in}
 use Rattle.store_laws.proofs.Acts.{fit_parts, delivers_keeps, delivers_lead, outer_calm, act_keeps}
@@ -64,8 +64,11 @@ use Rattle.store_model.specs.Written.{lines_told}
 use Rattle.store_laws.proofs.Elements.{cons_cases}
 use Rattle.store_laws.proofs.Once.{delivers_once}
 use Rattle.store_laws.proofs.Saying.{drains_grows, acts_grow}
+use Rattle.store_anchors.specs.Copied.{Copying}
+use Rattle.store_anchors.specs.Stored.{blocks_of}
 use Rattle.store_anchors.proofs.Cited.{Cited}
 use Rattle.store_anchors.proofs.Lines.{Tells, tells_later, tells_none, tells_both, step_whole}
+use Rattle.store_anchors.proofs.Taking.{IsFollowedIn, followed_first, followed_joined, followed_pushed, followed_told}
 use Rattle.store_anchors.proofs.Told.{AreApart}
 use Rattle.store_anchors.proofs.Kept.{IsPart, Past, IsRowOf}
 use Rattle.store_anchors.proofs.Laid.{Asks, blocks_first, laid_told, digest, Holds, past, past_after, IsLaidIn, laid_forgetting, laid_installing}
@@ -89,29 +92,29 @@ module _ (cited : Cited) where
   nothing_laid ms s laid = subst (λ k. IsLaidIn k s) (sym (append-nil ms)) laid
 
   -- and nothing is told
-  silent_laid : (ms : List Moving) (s : State) → IsLaidIn ms s → OutcomeLaid ms (silent s)
-  silent_laid ms s laid = (nothing_laid ms s laid, tells_none (past (ms ++ []) s.world s.draws))
+  silent_laid : (ms : List Moving) (s : State) → IsLaidIn ms s → OutcomeLaid ms s (silent s)
+  silent_laid ms s laid = (nothing_laid ms s laid, tells_none (past (ms ++ []) s.world s.draws), followed_first ms [] s.draws s.asked s.history)
 
   -- ---- deliveries
 
   follows_laid : (ms : List Moving) (s : State) (q : ℕ) (a : Asked) → numbered s.asked q ≡ Some a → Rests s q → IsSound s → AreApart s.draws → IsLaidIn ms s → (end : PhaseEnd AnyRow) (flow : Option Flow) → a.flow ≡ flow →
-      IsEnd s.asked s.draws s.history s.saw s.world.kept s.world.reads q end → HasGot s.asked (past ms s.world s.draws) s.world.reads q end → FitAll any_join words s.world (follows s q a end flow).moves → OutcomeLaid ms (follows s q a end flow)
+      IsEnd s.asked s.draws s.history s.saw s.world.kept s.world.reads q end → HasGot s.asked (past ms s.world s.draws) s.world.reads q end → FitAll any_join words s.world (follows s q a end flow).moves → OutcomeLaid ms s (follows s q a end flow)
   follows_laid ms s q a at rests sound apart laid end None flow_is is_end got fits = silent_laid ms s laid
   follows_laid ms s q a at rests sound apart laid end (Some flow) flow_is is_end got fits =
       let stage = sound.stages q a flow at flow_is in
       let same : flow ≡ flow_of q flow.block flow.stage = (λ i. record { id = stage.0 i; block = flow.block; stage = flow.stage }) in
       let seeing : State = record s { saw = record { request = q; end = end } ∷ s.saw } in
-      subst (λ (f : Flow). FitAll any_join words s.world (follows s q a end (Some f)).moves → OutcomeLaid ms (follows s q a end (Some f))) (sym same)
+      subst (λ (f : Flow). FitAll any_join words s.world (follows s q a end (Some f)).moves → OutcomeLaid ms s (follows s q a end (Some f))) (sym same)
       (stage_laid cited ms seeing q a at rests flow.block (saw_sound s (record { request = q; end = end }) (gave_drawn cited.every s q sound end is_end) sound) apart laid (clock s.world a.node) flow.stage end (flow_is ∙ ap Some same) stage.1 (read_of s q end is_end) got) fits
 
   follow_laid : (ms : List Moving) (s : State) (q : ℕ) (asked : Option Asked) (end : PhaseEnd AnyRow) → numbered s.asked q ≡ asked → Rests s q → IsSound s → AreApart s.draws → IsLaidIn ms s → IsEnd s.asked s.draws s.history s.saw s.world.kept s.world.reads q end → HasGot s.asked (past ms s.world s.draws) s.world.reads q end →
-      FitAll any_join words s.world (follow s q asked end).moves → OutcomeLaid ms (follow s q asked end)
+      FitAll any_join words s.world (follow s q asked end).moves → OutcomeLaid ms s (follow s q asked end)
   follow_laid ms s q None end at rests sound apart laid is_end got fits = silent_laid ms s laid
   follow_laid ms s q (Some a) end at rests sound apart laid is_end got fits = follows_laid ms s q a at rests sound apart laid end a.flow refl is_end got fits
 
   goes_on_laid : (ms : List Moving) (s : State) (ends : List (Ended AnyRow)) → IsSound s → AreApart s.draws → IsLaidIn ms s →
       AllByRecursion (λ (e : Ended AnyRow). IsEnd s.asked s.draws s.history s.saw s.world.kept s.world.reads e.request e.how × Rests s e.request) ends → AllByRecursion (λ (e : Ended AnyRow). HasGot s.asked (past ms s.world s.draws) s.world.reads e.request e.how) ends →
-      FitAll any_join words s.world (goes_on s ends).moves → OutcomeLaid ms (goes_on s ends)
+      FitAll any_join words s.world (goes_on s ends).moves → OutcomeLaid ms s (goes_on s ends)
   goes_on_laid ms s [] sound apart laid h got fits = silent_laid ms s laid
   goes_on_laid ms s (e ∷ es) sound apart laid h got fits = follow_laid ms s e.request (numbered s.asked e.request) e.how refl h.0.1 sound apart laid h.0.0 got.0 fits
 
@@ -128,37 +131,39 @@ module _ (cited : Cited) where
   told_joined : (ms first rest : List Moving) (o : Outcome) → Tells (past ((ms ++ first) ++ rest) o.state.world o.state.draws) o.lines → Tells (past (ms ++ (first ++ rest)) o.state.world o.state.draws) o.lines
   told_joined ms first rest o told = subst (λ k. Tells (past k o.state.world o.state.draws) o.lines) (append_assoc ms first rest) told
 
-  pub delivers_laid : (ms : List Moving) (s : State) (m : ℕ) → FitAll any_join words s.world (delivers s m).moves → IsSound s → AreApart s.draws → IsLaidIn ms s → OutcomeLaid ms (delivers s m)
+  pub delivers_laid : (ms : List Moving) (s : State) (m : ℕ) → FitAll any_join words s.world (delivers s m).moves → IsSound s → AreApart s.draws → IsLaidIn ms s → OutcomeLaid ms s (delivers s m)
   delivers_laid ms s m fits sound apart laid =
       let d : Moving = plainly (step.Deliver m) in
       let calm = is_calm cited.every s d tt sound in
       let o : Outcome = goes_on (doing s d) (effect s d).ends in
-      let rest : OutcomeLaid (ms ++ d ∷ []) o =
+      let rest : OutcomeLaid (ms ++ d ∷ []) (doing s d) o =
       goes_on_laid (ms ++ d ∷ []) (doing s d) (effect s d).ends
       (step_sound s d sound (tt, tt, tt, fits.0.1, tt) (All-nil (IsGood s.draws)) (calm_fine s (effect s d) sound calm)) apart
       (calm_laid cited ms s d tt refl tt tt tt tt (fits.0, tt) laid)
       (calm_ends s (effect s d) sound calm) (calm_got cited ms s d (tt, tt, tt, fits.0.1, tt) (calm_now cited ms s d tt laid) laid) fits.1 in (
         joined ms (d ∷ []) o.moves o.state rest.0,
         tells_both (past (ms ++ d ∷ o.moves) o.state.world o.state.draws) (effect s d).tells o.lines (step_whole (past (ms ++ d ∷ o.moves) o.state.world o.state.draws) s d) (told_joined ms (d ∷ []) o.moves o rest.1),
+        λ copy h. followed_joined ms (d ∷ []) o.moves o.state copy (rest.2 copy (followed_first ms (d ∷ []) s.draws s.asked s.history copy h)),
       )
 
-  drains_laid : (n : ℕ) (ms : List Moving) (s : State) → FitAll any_join words s.world (drains n s).moves → IsSound s → IsOnceIn s → IsLaidIn ms s → OutcomeLaid ms (drains n s)
+  drains_laid : (n : ℕ) (ms : List Moving) (s : State) → FitAll any_join words s.world (drains n s).moves → IsSound s → IsOnceIn s → IsLaidIn ms s → OutcomeLaid ms s (drains n s)
   drains_laid zero ms s fits sound once laid = silent_laid ms s laid
   drains_laid (suc n) ms s fits sound once laid =
       elim (undelivered s.world) as (λ o. FitAll any_join words s.world (elim o as (λ o. Outcome) [ None ↦ silent s | Some m ↦ let o = delivers s m in then_drains o (drains n o.state) ]).moves →
-      OutcomeLaid ms (elim o as (λ o. Outcome) [ None ↦ silent s | Some m ↦ let o = delivers s m in then_drains o (drains n o.state) ])) [
+      OutcomeLaid ms s (elim o as (λ o. Outcome) [ None ↦ silent s | Some m ↦ let o = delivers s m in then_drains o (drains n o.state) ])) [
         | None ↦ λ fits. silent_laid ms s laid
         | Some m ↦ λ fits.
             let first : Outcome = delivers s m in
             let rest : Outcome = drains n first.state in
             let parts = fit_parts any_join words s.world first.moves rest.moves fits in
             let leads : world_run any_join words s.world first.moves ≡ first.state.world = delivers_lead s m in
-            let one : OutcomeLaid ms first = delivers_laid ms s m parts.0 sound (draws_apart s sound once) laid in
-            let more : OutcomeLaid (ms ++ first.moves) rest =
+            let one : OutcomeLaid ms s first = delivers_laid ms s m parts.0 sound (draws_apart s sound once) laid in
+            let more : OutcomeLaid (ms ++ first.moves) first.state rest =
             drains_laid n (ms ++ first.moves) first.state (subst (λ w. FitAll any_join words w rest.moves) leads parts.1) (delivers_keeps cited.every s m parts.0 sound) (delivers_once s m once) one.0 in
             let now : Past = past (ms ++ (first.moves ++ rest.moves)) rest.state.world rest.state.draws in (
               joined ms first.moves rest.moves rest.state more.0,
               tells_both now first.lines rest.lines (first_told ms first rest.moves rest.state.world rest.state.draws (drains_grows n first.state) one.1) (told_joined ms first.moves rest.moves rest more.1),
+              λ copy h. followed_joined ms first.moves rest.moves rest.state copy (more.2 copy (one.2 copy h)),
             )
       ] fits
 
@@ -212,16 +217,22 @@ module _ (cited : Cited) where
       opens_laid ms s a stage (asks_past bucket prefix []) refl tt member (scan_is_meant q bucket prefix []) (scan_is_step q bucket prefix []) tt refl
       (range_begins (past_after (ms ++ plainly (step.Open n) ∷ []) now (phases q (asks_past bucket prefix []))) now.world.kept s.block stage (digest_of bucket) prefix [] tt) fits sound laid
 
-  begins_laid : (ms : List Moving) (s : State) (n : ℕ) (o : Order) → FitAll any_join words s.world (begins s n o).moves → IsSound s → IsLaidIn ms s → OutcomeLaid ms (begins s n o)
+  begins_laid : (ms : List Moving) (s : State) (n : ℕ) (o : Order) → FitAll any_join words s.world (begins s n o).moves → IsSound s → IsLaidIn ms s → OutcomeLaid ms s (begins s n o)
   begins_laid ms s n o fits sound laid =
       elim (is_member_at layouts s.world n) as (λ b. is_member_at layouts s.world n ≡ b →
       FitAll any_join words s.world (if b then (if are_buckets s.buckets (buckets_of o) then opened s n o else refusal s NoSuchBucket) else refusal s NotMember).moves →
-      OutcomeLaid ms (if b then (if are_buckets s.buckets (buckets_of o) then opened s n o else refusal s NoSuchBucket) else refusal s NotMember)) [
-        | true ↦ λ member. elim (are_buckets s.buckets (buckets_of o)) as (λ b. FitAll any_join words s.world (if b then opened s n o else refusal s NoSuchBucket).moves → OutcomeLaid ms (if b then opened s n o else refusal s NoSuchBucket)) [
+      OutcomeLaid ms s (if b then (if are_buckets s.buckets (buckets_of o) then opened s n o else refusal s NoSuchBucket) else refusal s NotMember)) [
+        | true ↦ λ member. elim (are_buckets s.buckets (buckets_of o)) as (λ b. FitAll any_join words s.world (if b then opened s n o else refusal s NoSuchBucket).moves → OutcomeLaid ms s (if b then opened s n o else refusal s NoSuchBucket)) [
           | true ↦ λ fits.
               let q : ℕ = suc (length s.world.requests) in
-              let first : Moving = phases q (started o q s.block).1 in
-              (opened_laid ms s n o member fits sound laid, step_whole (past (ms ++ (opened s n o).moves) (opened s n o).state.world s.draws) (doing s (plainly (step.Open n))) first)
+              let first : Moving = phases q (started o q s.block).1 in (
+                opened_laid ms s n o member fits sound laid,
+                step_whole (past (ms ++ (opened s n o).moves) (opened s n o).state.world s.draws) (doing s (plainly (step.Open n))) first,
+                λ copy h.
+                    let a : Asked = new_request n o (started o q s.block).0 in
+                    followed_first ms (opened s n o).moves s.draws (s.asked ++ a ∷ []) (opened s n o).state.history copy
+                    (followed_told (blocks_of ms) s.draws (s.asked ++ a ∷ []) s.history (began_with q n o ∷ []) copy (followed_pushed (blocks_of ms) s.draws s.asked s.history a copy h)),
+              )
           | false ↦ λ fits. silent_laid ms s laid
         ]
         | false ↦ λ _ fits. silent_laid ms s laid
@@ -246,38 +257,47 @@ module _ (cited : Cited) where
   endings_superseded (step.Restart n) e q id c = none_superseded Restarted (λ id e. cc) e.lost q id c
   endings_superseded _ e q id c = none_in _ c
 
-  pub act_laid : (ms : List Moving) (s : State) (a : Act) → IsLawfulAct s a → FitAll any_join words s.world (acted s a).moves → IsSound s → IsOnceIn s → IsLaidIn ms s → OutcomeLaid ms (acted s a)
+  pub act_laid : (ms : List Moving) (s : State) (a : Act) → IsLawfulAct s a → FitAll any_join words s.world (acted s a).moves → IsSound s → IsOnceIn s → IsLaidIn ms s → OutcomeLaid ms s (acted s a)
   act_laid ms s (moves m) lawful fits sound once laid =
       let calm = outer_calm cited.every m.step lawful.0 in
       let now : IsLaidIn (ms ++ m ∷ []) (doing s m) = calm_laid cited ms s m calm.0 calm.2 (outer_brings m.step lawful.0) lawful.1 calm.1 lawful.2 fits laid in (
         laid_told (ms ++ m ∷ []) (doing s m).world s.asked s.draws s.history (endings m.step (effect s m)) (λ q id c. absurd (endings_superseded m.step (effect s m) q id c)) now,
         step_whole (past (ms ++ m ∷ []) (doing s m).world s.draws) s m,
+        λ copy h. followed_first ms (m ∷ []) s.draws s.asked (s.history ++ endings m.step (effect s m)) copy (followed_told (blocks_of ms) s.draws s.asked s.history (endings m.step (effect s m)) copy h),
       )
   act_laid ms s (asks n o) lawful fits sound once laid = begins_laid ms s n o fits sound laid
   act_laid ms s (delivery m) lawful fits sound once laid = delivers_laid ms s m fits sound (draws_apart s sound once) laid
   act_laid ms s (drain n) lawful fits sound once laid = drains_laid n ms s fits sound once laid
   act_laid ms s (installs first) lawful fits sound once laid =
       let now : State = record s { world = installed any_join words s.world first } in
-      (nothing_laid ms now (laid_installing ms s first lawful.0 lawful.1 laid), tells_none (past (ms ++ []) now.world s.draws))
+      (nothing_laid ms now (laid_installing ms s first lawful.0 lawful.1 laid), tells_none (past (ms ++ []) now.world s.draws), followed_first ms [] s.draws s.asked s.history)
   act_laid ms s forgets lawful fits sound once laid =
       let now : State = record s { world = forget_delivered s.world } in
-      (nothing_laid ms now (laid_forgetting ms s laid), tells_none (past (ms ++ []) now.world s.draws))
-  act_laid ms s (takes_end q) lawful fits sound once laid = (nothing_laid ms s laid, tells_none (past (ms ++ []) s.world s.draws))
-  act_laid ms s (adds name) lawful fits sound once laid = (nothing_laid ms s laid, tells_none (past (ms ++ []) s.world s.draws))
-  act_laid ms s (cuts block) lawful fits sound once laid = (nothing_laid ms s laid, tells_none (past (ms ++ []) s.world s.draws))
+      (nothing_laid ms now (laid_forgetting ms s laid), tells_none (past (ms ++ []) now.world s.draws), followed_first ms [] s.draws s.asked s.history)
+  act_laid ms s (takes_end q) lawful fits sound once laid = (nothing_laid ms s laid, tells_none (past (ms ++ []) s.world s.draws), followed_first ms [] s.draws s.asked s.history)
+  act_laid ms s (adds name) lawful fits sound once laid = (nothing_laid ms s laid, tells_none (past (ms ++ []) s.world s.draws), followed_first ms [] s.draws s.asked s.history)
+  act_laid ms s (cuts block) lawful fits sound once laid = (nothing_laid ms s laid, tells_none (past (ms ++ []) s.world s.draws), followed_first ms [] s.draws s.asked s.history)
 
-  acts_held : (ms : List Moving) (s : State) (as' : List Act) → AreLawfulActs s as' → ActsFit s as' → IsHeld ms s →
-      IsHeld (ms ++ moves_in s as') (after_acts s as') × Tells (past (ms ++ moves_in s as') (after_acts s as').world (after_acts s as').draws) (lines_told s as')
-  acts_held ms s [] lawful fit h = (record { sound = h.sound; once = h.once; laid = nothing_laid ms s h.laid }, tells_none (past (ms ++ []) s.world s.draws))
+  -- what holds after acts, and of their lines; and copies stay followed
+  abbrev ActsHeld : List Moving → State → List Act → Type 0
+  ActsHeld ms s as' =
+      let end : State = after_acts s as' in
+      IsHeld (ms ++ moves_in s as') end × Tells (past (ms ++ moves_in s as') end.world end.draws) (lines_told s as') ×
+      ((copy : Copying) → IsFollowedIn ms s copy → IsFollowedIn (ms ++ moves_in s as') end copy)
+
+  pub acts_held : (ms : List Moving) (s : State) (as' : List Act) → AreLawfulActs s as' → ActsFit s as' → IsHeld ms s → ActsHeld ms s as'
+  acts_held ms s [] lawful fit h =
+      (record { sound = h.sound; once = h.once; laid = nothing_laid ms s h.laid }, tells_none (past (ms ++ []) s.world s.draws), followed_first ms [] s.draws s.asked s.history)
   acts_held ms s (a ∷ as') lawful fit h =
       let o : Outcome = acted s a in
       let end : State = after_acts o.state as' in
-      let one : OutcomeLaid ms o = act_laid ms s a lawful.0 fit.0 h.sound h.once h.laid in
-      let more = acts_held (ms ++ o.moves) o.state as' lawful.1 fit.1 (record { sound = act_keeps cited.every s a lawful.0 fit.0 h.sound; once = act_once s a h.sound h.once; laid = one.0 }) in
+      let one : OutcomeLaid ms s o = act_laid ms s a lawful.0 fit.0 h.sound h.once h.laid in
+      let more : ActsHeld (ms ++ o.moves) o.state as' = acts_held (ms ++ o.moves) o.state as' lawful.1 fit.1 (record { sound = act_keeps cited.every s a lawful.0 fit.0 h.sound; once = act_once s a h.sound h.once; laid = one.0 }) in
       let rest : List Moving = moves_in o.state as' in (
         subst (λ k. IsHeld k end) (append_assoc ms o.moves rest) more.0,
         tells_both (past (ms ++ (o.moves ++ rest)) end.world end.draws) o.lines (lines_told o.state as') (first_told ms o rest end.world end.draws (acts_grow o.state as') one.1)
             (subst (λ k. Tells (past k end.world end.draws) (lines_told o.state as')) (append_assoc ms o.moves rest) more.1),
+        λ copy h. followed_joined ms o.moves rest end copy (more.2 copy (one.2 copy h)),
       )
 
   pub start_laid : IsLaidIn [] start
@@ -291,12 +311,13 @@ module _ (cited : Cited) where
     superseded = λ q id c. absurd (none_in _ c);
   }
 
-  all_held : (as' : List Act) → AreLawfulActs start as' → ActsFit start as' → IsHeld (moves_in start as') (after_acts start as') × Tells (past (moves_in start as') (after_acts start as').world (after_acts start as').draws) (lines_told start as')
-  all_held as' lawful fit = acts_held [] start as' lawful fit (record { sound = start_sound; once = start_once; laid = start_laid })
+  -- nothing has happened
+  pub start_held : IsHeld [] start
+  start_held = record { sound = start_sound; once = start_once; laid = start_laid }
 
   pub held : (as' : List Act) → AreLawfulActs start as' → ActsFit start as' → IsHeld (moves_in start as') (after_acts start as')
-  held as' lawful fit = (all_held as' lawful fit).0
+  held as' lawful fit = (acts_held [] start as' lawful fit start_held).0
 
   -- the lines of acts tell of whole versions
   pub told : (as' : List Act) → AreLawfulActs start as' → ActsFit start as' → Tells (past (moves_in start as') (after_acts start as').world (after_acts start as').draws) (lines_told start as')
-  told as' lawful fit = (all_held as' lawful fit).1
+  told as' lawful fit = (acts_held [] start as' lawful fit start_held).1

@@ -190,7 +190,7 @@ module _ (cited : Cited) where
             let parts = fit_parts any_join words s.world first.moves rest.moves fits in
             let leads : world_run any_join words s.world first.moves ≡ first.state.world = delivers_lead s m in
             let apart : AreApart s.draws = draws_apart s sound once in
-            let one : OutcomeLaid ms first = delivers_laid cited ms s m parts.0 sound apart laid in
+            let one : OutcomeLaid ms s first = delivers_laid cited ms s m parts.0 sound apart laid in
             drains_busy n (ms ++ first.moves) first.state (subst (λ w. FitAll any_join words w rest.moves) leads parts.1) (delivers_keeps cited.every s m parts.0 sound) (delivers_once s m once) one.0
             (delivers_busy ms s m parts.0 sound apart laid busy)
       ] fits
@@ -228,7 +228,7 @@ module _ (cited : Cited) where
   acts_busy ms s [] lawful fit h busy = busy
   acts_busy ms s (a ∷ as') lawful fit h busy =
       let o : Outcome = acted s a in
-      let one : OutcomeLaid ms o = act_laid cited ms s a lawful.0 fit.0 h.sound h.once h.laid in
+      let one : OutcomeLaid ms s o = act_laid cited ms s a lawful.0 fit.0 h.sound h.once h.laid in
       acts_busy (ms ++ o.moves) o.state as' lawful.1 fit.1 (record { sound = act_keeps cited.every s a lawful.0 fit.0 h.sound; once = act_once s a h.sound h.once; laid = one.0 }) (act_busy ms s a lawful.0 fit.0 h busy)
 
   -- no request rests after acts

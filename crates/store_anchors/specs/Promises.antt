@@ -12,9 +12,10 @@ use Rattle.store_model.specs.Equal.{AreEqual}
 use Rattle.store_model.specs.Written.{GivesWhatWasWritten}
 use Rattle.store_laws.specs.Promised.{UsesGreatest, GoesOn, IsRightlySuperseded, IsAnchored}
 use Rattle.store_anchors.specs.Stored.{BlocksDiffer}
+use Rattle.store_anchors.specs.Copied.{CopiesSources}
 use Rattle.store_anchors.specs.Whole.{GivesAllBytes}
 
--- what is promised of acts: each phase of a read gave at least all rows that were kept before it began, and each layout in use has the greatest partition size; answered reads are fresh, also by the records alone where the buckets' names have different digests; what they tell of a version's bytes is as was written, also of bytes in blocks where no two blocks have one digest; a get or copy ends superseded only where what it read was overwritten, and no request waits for what never comes; replicas are equal; and acknowledged blocks that are not deleted lie at a node with a live reference
+-- what is promised of acts: each phase of a read gave at least all rows that were kept before it began, and each layout in use has the greatest partition size; answered reads are fresh, also by the records alone where the buckets' names have different digests; what they tell of a version's bytes is as was written, also of bytes in blocks where no two blocks have one digest; a copy takes what was written to its source; a get or copy ends superseded only where what it read was overwritten, and no request waits for what never comes; replicas are equal; and acknowledged blocks that are not deleted lie at a node with a live reference
 pub record KeepsPromises (acts : List Act) : Type 0 where
   pub kept : KeptReads any_join words (after_acts start acts).world
   pub greatest : UsesGreatest (after_acts start acts).world
@@ -22,6 +23,7 @@ pub record KeepsPromises (acts : List Act) : Type 0 where
   pub recorded : NoClash (after_acts start acts).buckets → Fresh (after_acts start acts).history
   pub written : GivesWhatWasWritten acts
   pub whole : BlocksDiffer acts → GivesAllBytes acts
+  pub copied : CopiesSources acts
   pub superseded : IsRightlySuperseded acts
   pub goes_on : GoesOn (after_acts start acts)
   pub equal : AreEqual acts

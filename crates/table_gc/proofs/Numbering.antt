@@ -1,5 +1,5 @@
 -- Items whose numbers ascend: the one with a number, and what stays when cs change.
-use Rattle.std.proofs.Common.{◌≡◌, ◌<◌, ◌≤◌, ℕ, zero, suc, ◌+◌, true, false, ◌==◌, List, [], ◌∷◌, ◌++◌, Some, None, length, map, not, cond, get_or, Result, Ok, Err, refl, sym, ap, ◌∙◌, arith}
+use Rattle.std.proofs.Common.{◌≡◌, ◌<◌, ◌≤◌, ℕ, zero, suc, ◌+◌, true, false, ◌==◌, List, [], ◌∷◌, ◌++◌, Some, None, length, map, not, cond, Result, Ok, Err, refl, sym, ap, ◌∙◌, arith}
 use Rattle.std.specs.Prelude.{if◌then◌else◌, slice_get, slice_set, remove, OnOk, OnErr}
 use Rattle.std.specs.List.{AllByRecursion, filter, find}
 use Rattle.std.specs.Option.{unwrap_or, is_some}
@@ -140,11 +140,6 @@ pub set_same : (cs : List Collection) (i : ℕ) (v y : Collection) → slice_get
 set_same [] i v y at_i e = absurd (let no : false ≡ true = ap is_some at_i in cc)
 set_same (x ∷ xs) zero v y at_i e = ap (λ z. z ∷ xs) (e ∙ sym (some_same x v at_i))
 set_same (x ∷ xs) (suc i) v y at_i e = ap (λ t. x ∷ t) (set_same xs i v y at_i e)
-
-pub read_at : (cs : List Collection) (i : ℕ) (v : Collection) → slice_get cs i ≡ Some v → v ≡ get_or cs i v
-read_at [] i v at_i = refl
-read_at (x ∷ xs) zero v at_i = sym (some_same x v at_i)
-read_at (x ∷ xs) (suc i) v at_i = read_at xs i v at_i
 
 set_numbers : (cs : List Collection) (i : ℕ) (v y : Collection) → slice_get cs i ≡ Some v → y.number ≡ v.number → numbers (slice_set cs i y) ≡ numbers cs
 set_numbers [] i v y at_i e = absurd (let no : false ≡ true = ap is_some at_i in cc)

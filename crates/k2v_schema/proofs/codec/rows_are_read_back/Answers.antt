@@ -1,4 +1,4 @@
-use Rattle.k2v_schema.specs.Reading.{reads_back}
+use Rattle.k2v_schema.specs.ReadingLaws.{reads_back}
 use Rattle.k2v_schema.proofs.Whole.{none_reads}
 use Rattle.k2v_schema.proofs.codec.rows_are_read_back.Goals as goal
 

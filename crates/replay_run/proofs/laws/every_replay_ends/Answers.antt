@@ -1,7 +1,7 @@
-use Rattle.replay_run.specs.Replay.{in_step}
 use Rattle.replay_run.proofs.Ending.{replay_ends}
 use Rattle.replay_run.proofs.Meant.{schedules_are_meant}
 use Rattle.replay_run.proofs.laws.every_replay_ends.Goals as goal
 
 pub returns : goal.returns
-returns c = λ account events within never. replay_ends account events (λ before stops. c.no_replay_lacks_room.ensures events within (in_step before stops)) never (schedules_are_meant events within)
+returns c = λ account events within.
+    replay_ends c.lawful_turns_end_once.ensures.one c.lawful_turns_end_once.ensures.done c.lawful_turns_end_once.ensures.limit account events within (schedules_are_meant events within)

@@ -10,6 +10,7 @@ returns c acts lawful fit moment is =
       recorded = c.records_are_fresh.ensures moment run.0 run.1;
       written = c.reads_give_what_was_written.ensures moment run.0 run.1;
       whole = c.gets_read_whole_versions.ensures.bytes moment run.0 run.1;
+      copied = c.copies_take_what_was_written.ensures moment run.0 run.1;
       superseded = c.gets_read_whole_versions.ensures.superseded moment run.0 run.1;
       goes_on = c.gets_read_whole_versions.ensures.goes_on moment run.0 run.1;
       equal = c.replicas_are_equal.ensures moment run.0 run.1;

@@ -1,7 +1,8 @@
 use Rattle.std.proofs.Common.{◌≡◌, ◌∙◌}
 use Rattle.crdt_core.specs.Map.{map_entries, map_single}
 use Rattle.k2v_rows.specs.Token.{entries_join, raised}
-use Rattle.k2v_rows.specs.Row.{item_key, written, same_row}
+use Rattle.k2v_rows.specs.Row.{item_key, written}
+use Rattle.k2v_rows.specs.RowLaws.{same_row}
 use Rattle.k2v_rows.proofs.Tokens.{written_is}
 use Rattle.k2v_rows.proofs.k2v_row.K2vRow.put.Goals as goal
 

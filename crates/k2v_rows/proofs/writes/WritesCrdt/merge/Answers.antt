@@ -3,7 +3,7 @@ use Rattle.crdt_core.specs.Map.{map_entries, map_join}
 use Rattle.crdt_core.specs.Max.{max_join}
 use Rattle.k2v_rows.specs.Later.{are_later}
 use Rattle.k2v_rows.specs.Value.{value_cmp}
-use Rattle.k2v_rows.specs.Writes.{values_after}
+use Rattle.k2v_rows.specs.WritesLaws.{values_after}
 use Rattle.k2v_rows.proofs.writes.WritesCrdt.merge.Goals as goal
 
 -- the merged values are after the discard time
