@@ -10,6 +10,7 @@ use Rattle.wire_messages.specs.declared.phase.Phase.{Phase}
 use Rattle.wire_messages.specs.declared.phase.PhaseEnd.{PhaseEnd}
 use Rattle.cluster_machine.specs.declared.step.LocalEnd.{LocalEnd}
 use Rattle.cluster_machine.specs.Node.{Node as Model, Call as Opened, Post, Ended, Did, quiet}
+use Rattle.cluster_machine.specs.Ties as ties
 use Rattle.cluster_machine.specs.Phases.{begins}
 use Rattle.cluster_machine.specs.Acts.{Acted}
 use Rattle.cluster_machine.specs.World.{packet_size}
@@ -102,19 +103,19 @@ CannotHand {S} {R} join s node here there round =
 module _ {S R : Type 0} (join : R → R → R) (s : Words R) where
   -- whatever node the code's node stood for, the call did what f does to it
   abbrev pub Does : Node S R → Node S R → List (Envelope R) → List (Envelope R) → Option (ℕ × PhaseEnd R) → (ℕ → Model R Layout → Did R Layout) → Type 0
-  Does old new old_out new_out given f = (id : ℕ) (x : Model R Layout) → StandsFor join s old id x → Done join s new id old_out new_out given (f id x)
+  Does old new old_out new_out given f = (id : ℕ) → ties.Steps (λ v x. StandsFor join s v id x) old (λ x. Done join s new id old_out new_out given (f id x))
 
   -- the same of an action, which ends so
   abbrev pub Acts : Node S R → Node S R → List (Envelope R) → List (Envelope R) → LocalEnd → (ℕ → Model R Layout → Acted R Layout) → Type 0
-  Acts old new old_out new_out how f = (id : ℕ) (x : Model R Layout) → StandsFor join s old id x → Done join s new id old_out new_out None (f id x).did × (how ≡ (f id x).how)
+  Acts old new old_out new_out how f = (id : ℕ) → ties.Steps (λ v x. StandsFor join s v id x) old (λ x. Done join s new id old_out new_out None (f id x).did × (how ≡ (f id x).how))
 
   -- the same of a change without messages
   abbrev pub Becomes : Node S R → Node S R → (ℕ → Model R Layout → Model R Layout) → Type 0
-  Becomes old new f = (id : ℕ) (x : Model R Layout) → StandsFor join s old id x → StandsFor join s new id (f id x)
+  Becomes old new f = (id : ℕ) → ties.Steps (λ v x. StandsFor join s v id x) old (λ x. StandsFor join s new id (f id x))
 
   -- after what f does some number or row would not fit
   abbrev pub Overflows : Node S R → (ℕ → Model R Layout → Did R Layout) → Type 0
-  Overflows old f = (id : ℕ) (x : Model R Layout) → StandsFor join s old id x → Fits s (f id x) → ⊥
+  Overflows old f = (id : ℕ) → ties.Overflows (λ v x. StandsFor join s v id x) old (λ x. Fits s (f id x))
 
 -- a phase of an open request begins; of another one none does
 abbrev pub begins_at : {R : Type 0} → Words R → List R → Model R Layout → Phase R → Option (Opened R) → Did R Layout

@@ -11,6 +11,7 @@ use Rattle.table_model.specs.Rows.{AllProper, rows}
 use Rattle.quorum_model.specs.Quorum.{is_among}
 use Rattle.block_resync.specs.declared.item.Item.{Item}
 use Rattle.cluster_machine.specs.Node.{Node, Item as Waiting, Block, Note}
+use Rattle.cluster_machine.specs.Ties as ties
 use Rattle.cluster_machine.specs.Phases.{is_spelled}
 use Rattle.cluster_machine.specs.Rows.{accepts_all, drops, block_at, count_of, note_of}
 use Rattle.cluster_machine.specs.Receives.{item_came}
@@ -69,11 +70,11 @@ pub record Holds {R : Type 0} (s : Words R) (x : Node R Layout) : Type 0 where
 module _ {S R : Type 0} (join : R → R → R) (s : Words R) where
   -- whatever node the contents stood for, they stand for the one that f leaves
   abbrev pub Turns : Contents S R → Contents S R → (Node R Layout → Node R Layout) → Type 0
-  Turns old new f = (x : Node R Layout) → IsContents join s old x → Became join s new x (f x)
+  Turns old new f = ties.Steps (IsContents join s) old (λ x. Became join s new x (f x))
 
   -- the node that f leaves has too much for the code
   abbrev pub Exceeds : Contents S R → (Node R Layout → Node R Layout) → Type 0
-  Exceeds old f = (x : Node R Layout) → IsContents join s old x → Holds s (f x) → ⊥
+  Exceeds old f = ties.Overflows (IsContents join s) old (λ x. Holds s (f x))
 
   -- the contents took these rows with their blocks, at this moment
   abbrev pub Accepts : Contents S R → Contents S R → ℕ → List (List ℕ × Option (List ℕ)) → Type 0
@@ -89,7 +90,7 @@ module _ {S R : Type 0} (join : R → R → R) (s : Words R) where
 
   -- this many blocks of the node are due
   abbrev pub CountsDue : Contents S R → ℕ → ℕ → Type 0
-  CountsDue c now number = (x : Node R Layout) → IsContents join s c x → number ≡ length (filter (λ b. is_due join s now x b.hash) x.blocks)
+  CountsDue c now number = ties.Steps (IsContents join s) c (λ x. number ≡ length (filter (λ b. is_due join s now x b.hash) x.blocks))
 
   -- a node confirms an item
   abbrev pub Confirms : Contents S R → Contents S R → View → ℕ → ℕ → Type 0

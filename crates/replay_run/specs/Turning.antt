@@ -4,6 +4,7 @@ use Rattle.std.specs.List.{AllByRecursion}
 use Rattle.cluster_machine.specs.declared.line.Line.{Line}
 use Rattle.cluster_machine.specs.declared.applied.Applied.{Applied}
 use Rattle.cluster_machine.specs.Choices.{Decision}
+use Rattle.cluster_machine.specs.Ties as ties
 use Rattle.store_model.specs.declared.event.Event.{Event}
 use Rattle.store_model.specs.declared.event.Event.TheVariants.{Drain}
 use Rattle.store_model.specs.declared.event.Numbered.{Numbered}
@@ -67,8 +68,8 @@ pub record StopsIn (IsSo : Step → Type 0) (s : State) (event : Event) : Type 0
 abbrev pub StepStops : S3World → Event → ReplayStop → Type 0
 StepStops old event Write = ⊥
 StepStops old event Memory = ⊤
-StepStops old event Number = (s : State) → IsStore old s → StepIs LacksRoom s event
-StepStops old event Sent = (s : State) → IsStore old s → StepIs SendsTooMuch s event
+StepStops old event Number = ties.Steps IsStore old (λ s. StepIs LacksRoom s event)
+StepStops old event Sent = ties.Steps IsStore old (λ s. StepIs SendsTooMuch s event)
 
 -- up to n deliveries were done, told these lines, and after each of them the replay goes on
 pub record Delivers (new : S3World) (lines : List (Line Applied)) (n : ℕ) (s : State) : Type 0 where
@@ -80,15 +81,15 @@ pub record Delivers (new : S3World) (lines : List (Line Applied)) (n : ℕ) (s :
 abbrev pub DrainStops : S3World → ℕ → ReplayStop → Type 0
 DrainStops old n Write = ⊥
 DrainStops old n Memory = ⊤
-DrainStops old n Number = (s : State) → IsStore old s → StopsAt LacksRoom (deliveries n s)
-DrainStops old n Sent = (s : State) → IsStore old s → StopsAt SendsTooMuch (deliveries n s)
+DrainStops old n Number = ties.Steps IsStore old (λ s. StopsAt LacksRoom (deliveries n s))
+DrainStops old n Sent = ties.Steps IsStore old (λ s. StopsAt SendsTooMuch (deliveries n s))
 
 -- why an event gave up
 abbrev pub EventStops : S3World → Event → ReplayStop → Type 0
 EventStops old event Write = ⊥
 EventStops old event Memory = ⊤
-EventStops old event Number = (s : State) → IsStore old s → StopsIn LacksRoom s event
-EventStops old event Sent = (s : State) → IsStore old s → StopsIn SendsTooMuch s event
+EventStops old event Number = ties.Steps IsStore old (λ s. StopsIn LacksRoom s event)
+EventStops old event Sent = ties.Steps IsStore old (λ s. StopsIn SendsTooMuch s event)
 
 -- the event was given something lawful, the store stands for the state after it, the replay goes on, and this is what is written of what it tells
 pub record TurnsTo (account : Account) (new : S3World) (s : State) (e : Numbered) (text : List ℕ) : Type 0 where
@@ -100,20 +101,20 @@ pub record TurnsTo (account : Account) (new : S3World) (s : State) (e : Numbered
 
 -- whatever state it stood for, it did this event and wrote this
 abbrev pub TurnsOne : Account → S3World → S3World → Numbered → List ℕ → Type 0
-TurnsOne account old new e text = (s : State) → IsStore old s → TurnsTo account new s e text
+TurnsOne account old new e text = ties.Steps IsStore old (λ s. TurnsTo account new s e text)
 
 -- whatever state the store stands for, one of nodes 1 to 16 has such a row
 abbrev pub CannotTell : S3World → Type 0
-CannotTell store = (s : State) → IsStore store s → IsUnshown s
+CannotTell store = ties.Steps IsStore store IsUnshown
 
 -- whatever state the store stands for, this is the line of a check of it, or nothing where none is asked for
 abbrev pub TellsLine : Account → S3World → List ℕ → Type 0
-TellsLine account store line = (s : State) → IsStore store s → IsLine account s.history line
+TellsLine account store line = ties.Steps IsStore store (λ s. IsLine account s.history line)
 
 -- whatever state the store stands for, this is written first of it
 abbrev pub TellsOpening : Account → S3World → List ℕ → Type 0
-TellsOpening account store text = (s : State) → IsStore store s → text ≡ opening account s
+TellsOpening account store text = ties.Steps IsStore store (λ s. text ≡ opening account s)
 
 -- whatever state the store stands for, this is what is written after so many events
 abbrev pub TellsTail : Account → S3World → ℕ → List ℕ → Type 0
-TellsTail account store events text = (s : State) → IsStore store s → IsTail account events s text
+TellsTail account store events text = ties.Steps IsStore store (λ s. IsTail account events s text)

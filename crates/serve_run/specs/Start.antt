@@ -1,6 +1,7 @@
 -- The world in which a server begins, as acts from nothing.
 use Rattle.std.specs.Prelude.{◌≡◌, ℕ, List, [], ◌∷◌, ◌++◌, map}
 use Rattle.layout_roles.specs.declared.layout.Layout.{Layout}
+use Rattle.cluster_machine.specs.Ties as ties
 use Rattle.store_model.specs.Run.{State, start}
 use Rattle.store_model.specs.Acts.{Act, adds, cuts, installs, after_acts, AreLawfulActs, ActsFit}
 use Rattle.s3_world.specs.declared.world.S3World.{S3World}
@@ -21,7 +22,7 @@ opened p first = after_acts start (opening p.config.buckets p.config.block_size 
 
 -- whatever state the world stood for, it did these acts
 abbrev pub Does : S3World → S3World → List Act → Type 0
-Does old new acts = (s : State) → IsStore old s → IsStore new (after_acts s acts)
+Does old new acts = ties.Steps IsStore old (λ s. IsStore new (after_acts s acts))
 
 -- this is the plan's layout as version 1
 pub record IsOf (p : Plan) (first : Layout) : Type 0 where

@@ -14,6 +14,7 @@ use Rattle.wire_messages.specs.declared.phase.PhaseEnd.{PhaseEnd}
 use Rattle.cluster_machine.specs.declared.step.LocalEnd.{LocalEnd}
 use Rattle.cluster_machine.specs.Layouts.{has_none, is_member, layouts}
 use Rattle.cluster_machine.specs.Node.{Node as Model, Did, new_node}
+use Rattle.cluster_machine.specs.Ties as ties
 use Rattle.cluster_machine.specs.Phases.{opened}
 use Rattle.cluster_machine.specs.World as machine
 use Rattle.cluster_machine.specs.Acts.{Acted, appends}
@@ -77,19 +78,19 @@ pub record DidAt {S R : Type 0} (join : R → R → R) (s : Words R) (new : Node
 module _ {S R : Type 0} (join : R → R → R) (s : Words R) where
   -- whatever nodes they stood for, node n did what f does
   abbrev pub DoesAt : Nodes S R → Nodes S R → ℕ → List (Envelope R) → List (Envelope R) → Option (ℕ × PhaseEnd R) → (Model R Layout → Did R Layout) → Type 0
-  DoesAt old new n old_out new_out given f = (xs : ℕ → Model R Layout) → AreNodes join s old xs → DidAt join s new n xs old_out new_out given (f (xs n))
+  DoesAt old new n old_out new_out given f = ties.Steps (AreNodes join s) old (λ xs. DidAt join s new n xs old_out new_out given (f (xs n)))
 
   -- node n acts as the model says, and answers so
   abbrev pub ActsAt : Nodes S R → Nodes S R → ℕ → List (Envelope R) → List (Envelope R) → LocalEnd → (Model R Layout → Acted R Layout) → Type 0
-  ActsAt old new n old_out new_out how f = (xs : ℕ → Model R Layout) → AreNodes join s old xs → DidAt join s new n xs old_out new_out None (f (xs n)).did × (how ≡ (f (xs n)).how)
+  ActsAt old new n old_out new_out how f = ties.Steps (AreNodes join s) old (λ xs. DidAt join s new n xs old_out new_out None (f (xs n)).did × (how ≡ (f (xs n)).how))
 
   -- node n became this, and the others stay
   abbrev pub BecomesAt : Nodes S R → Nodes S R → ℕ → (Model R Layout → Model R Layout) → Type 0
-  BecomesAt old new n f = (xs : ℕ → Model R Layout) → AreNodes join s old xs → AreNodes join s new (with_node n (f (xs n)) xs)
+  BecomesAt old new n f = ties.Steps (AreNodes join s) old (λ xs. AreNodes join s new (with_node n (f (xs n)) xs))
 
   -- after what f does some number or row would not fit
   abbrev pub OverflowsAt : Nodes S R → ℕ → (Model R Layout → Did R Layout) → Type 0
-  OverflowsAt old n f = (xs : ℕ → Model R Layout) → AreNodes join s old xs → Fits s (f (xs n)) → ⊥
+  OverflowsAt old n f = ties.Overflows (AreNodes join s) old (λ xs. Fits s (f (xs n)))
 
 -- a line in the words of the machine
 abbrev pub shown_line : NodeLine → machine.NodeLine

@@ -5,6 +5,7 @@ use Rattle.crdt_rows.specs.AnyRow.{any_join}
 use Rattle.object_schema.specs.Schema.{words}
 use Rattle.table_model.specs.Rows.{rows}
 use Rattle.table_model.specs.Top.{any_unspelled}
+use Rattle.cluster_machine.specs.Ties as ties
 use Rattle.store_model.specs.Run.{World, State}
 use Rattle.text_model.specs.Transcript.{line_at}
 use Rattle.s3_world.specs.declared.world.S3World.{S3World}
@@ -16,16 +17,16 @@ is_unshown w n = any_unspelled words (rows any_join words (w.nodes n).accepted)
 
 -- whatever state the code's world stands for, this is the line of node n
 abbrev pub ShowsNode : S3World → ℕ → List ℕ → Type 0
-ShowsNode world n text = (s : State) → IsStore world s → text ≡ line_at s.world n
+ShowsNode world n text = ties.Steps IsStore world (λ s. text ≡ line_at s.world n)
 
 -- whatever state it stands for, these are the lines of these nodes
 abbrev pub ShowsNodes : S3World → List ℕ → List ℕ → Type 0
-ShowsNodes world nodes text = (s : State) → IsStore world s → text ≡ flat_map (line_at s.world) nodes
+ShowsNodes world nodes text = ties.Steps IsStore world (λ s. text ≡ flat_map (line_at s.world) nodes)
 
 -- whatever state it stands for, node n can't be shown
 abbrev pub CannotShow : S3World → ℕ → Type 0
-CannotShow world n = (s : State) → IsStore world s → IsTrue (is_unshown s.world n)
+CannotShow world n = ties.Steps IsStore world (λ s. IsTrue (is_unshown s.world n))
 
 -- whatever state it stands for, one of these nodes can't
 abbrev pub CannotShowSome : S3World → List ℕ → Type 0
-CannotShowSome world nodes = (s : State) → IsStore world s → IsTrue (list_any (is_unshown s.world) nodes)
+CannotShowSome world nodes = ties.Steps IsStore world (λ s. IsTrue (list_any (is_unshown s.world) nodes))
