@@ -26,7 +26,8 @@ use Rattle.garage_lab.specs.Replay.{IsTranscribed, checked_transcript, IsChecked
 use Rattle.layout_command.specs.Answer.{IsAnswer as IsLayoutAnswer}
 use Rattle.layout_command.specs.Moves.{IsMovesAnswer}
 use Rattle.lab_main.specs.Ends.{said, cut_off, usage_line}
-use Rattle.garage_lab.specs.Answer.{input_line, events_line, bad_line_text, IsAnswer, usage, long_input, bad_line, many_events, laid_out, moved, replayed, IsStated, Answers, AnswersPrefix, ReplayPrefix, nothing_yet, of_stated, of_events, IsOfReplay, AreOfReplay, Completes, IsAnswered, Says, ended, unsaid}
+use Rattle.lab_main.specs.Limits.{input_line}
+use Rattle.garage_lab.specs.Answer.{events_line, bad_line_text, IsAnswer, usage, long_input, bad_line, many_events, laid_out, moved, replayed, IsStated, Answers, AnswersPrefix, ReplayPrefix, nothing_yet, of_stated, of_events, IsOfReplay, AreOfReplay, Completes, IsAnswered, Says, ended, unsaid}
 use Rattle.garage_lab.specs.Stop.{status_of, said_of, IsNearly, Halts}
 use Rattle.garage_lab.proofs.Texts.{prefix_none, prefix_kept}
 use Rattle.lab_main.proofs.Writing.{wrote_nothing}

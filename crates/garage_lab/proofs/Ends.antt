@@ -20,7 +20,8 @@ use Rattle.replay_run.specs.Stop.{IsPart, of_turns, of_all, IsWhole, LacksLine, 
 use Rattle.store_anchors.specs.Promises.{EveryRunKeepsPromises}
 use Rattle.garage_lab.specs.Replay.{IsTranscribed, IsChecked}
 use Rattle.lab_main.specs.Ends.{said, cut_off, usage_line}
-use Rattle.garage_lab.specs.Answer.{input_limit, IsAnswer, long_input, bad_line, many_events, replayed, IsStated, Answers, AnswersPrefix, ReplayPrefix, nothing_yet, of_stated, of_events, Completes, IsAnswered, Says, ended, unsaid}
+use Rattle.lab_main.specs.Limits.{input_limit}
+use Rattle.garage_lab.specs.Answer.{IsAnswer, long_input, bad_line, many_events, replayed, IsStated, Answers, AnswersPrefix, ReplayPrefix, nothing_yet, of_stated, of_events, Completes, IsAnswered, Says, ended, unsaid}
 use Rattle.garage_lab.specs.Stop.{status_of, said_of, stop_of_replay, Halts, IsNearly, IsOfInput}
 use Rattle.garage_lab.proofs.Stating.{EveryFits}
 use Rattle.garage_lab.proofs.Answering.{OneStatus, OneMovesStatus, stated_prefix, unknown_prefix, stopped_answers, stopped_prefix, done_transcribes, done_checks, is_answered, completes}

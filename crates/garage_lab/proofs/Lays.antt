@@ -16,7 +16,8 @@ use Rattle.garage_lab.specs.declared.stop.Stop.{Stop}
 use Rattle.garage_lab.specs.declared.stop.Stop.TheVariants.{Read, Write, Memory, LongInput, TooManyEvents, BadLine, Number, Sent}
 use Rattle.garage_lab.specs.Layout.{IsPrinted, IsPrintedMoves}
 use Rattle.lab_main.specs.Ends.{said, cut_off}
-use Rattle.garage_lab.specs.Answer.{input_limit, input_line, IsAnswer, usage, long_input, bad_line, many_events, laid_out, moved, replayed, IsStated, IsOfLayout, Answers, LayoutPrefix, nothing, begun, Says, ended, unsaid}
+use Rattle.lab_main.specs.Limits.{input_limit, input_line}
+use Rattle.garage_lab.specs.Answer.{IsAnswer, usage, long_input, bad_line, many_events, laid_out, moved, replayed, IsStated, IsOfLayout, Answers, LayoutPrefix, nothing, begun, Says, ended, unsaid}
 use Rattle.garage_lab.specs.Stop.{status_of, said_of, IsOfReading}
 use Rattle.garage_lab.proofs.Answering.{both_asked, layout_and_moves, moves_and_replay, silent_wrote, silent_unstated}
 use Rattle.lab_outside.proofs.Bytes.{wrote_prefix_whole}

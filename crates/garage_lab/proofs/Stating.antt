@@ -12,7 +12,8 @@ use Rattle.replay_run.specs.declared.account.Account.{Account}
 use Rattle.garage_lab.specs.declared.command.Command.{Command}
 use Rattle.garage_lab.specs.declared.command.Command.TheVariants.{Layout, Moves, Replay}
 use Rattle.lab_main.specs.Ends.{usage_line}
-use Rattle.garage_lab.specs.Answer.{input_limit, input_line, events_line, bad_line_text, IsAnswer, usage, long_input, bad_line, many_events, laid_out, replayed}
+use Rattle.lab_main.specs.Limits.{input_limit, input_line}
+use Rattle.garage_lab.specs.Answer.{events_line, bad_line_text, IsAnswer, usage, long_input, bad_line, many_events, laid_out, replayed}
 
 -- a text is a schedule, has a first bad line, or has too many events
 abbrev pub Reads : List ℕ → Type 0

@@ -1,7 +1,6 @@
 -- What was written before and after.
 use Rattle.std.specs.String.{string_bytes}
-use Rattle.std.proofs.Common.{get_or, String, Global, ◌≡◌, ℕ, ◌+◌, ◌<◌, ◌≤◌, Option, Some, None, List, [], ◌∷◌, ◌++◌, refl, ap, ◌∙◌, subst, append_assoc, arith, length, take, IfSome}
-use Rattle.std.proofs.lemmas.List.{length-take}
+use Rattle.std.proofs.Common.{get_or, String, Global, ◌≡◌, ℕ, ◌<◌, ◌≤◌, Option, List, [], ◌∷◌, ◌++◌, refl, ap, ◌∙◌, append_assoc, arith, length}
 use Rattle.lab_outside.specs.Bytes.{Wrote, WrotePrefix}
 use Rattle.garage_lab.specs.Command.{command_named, asked_by}
 use Rattle.lab_outside.proofs.Bytes.{wrote_more}
@@ -21,22 +20,6 @@ prefix_kept old mid new text h k = record {
   whole = append_assoc h.front [] h.rest ∙ h.whole;
   wrote = wrote_more old mid new h.front [] h.wrote k;
 }
-
--- an input that was read to one byte past a limit
-pub longer : (left : Option (List ℕ)) (limit : ℕ) (all : List ℕ) → limit < length all → IfSome left (λ bytes. all ≡ take (limit + 1) bytes) → IfSome left (λ bytes. limit < length bytes)
-longer None limit all more h = tt
-longer (Some bytes) limit all more h = omega (arith, ap length h, length-take (limit + 1) bytes)
-
-pub not_longer : (left : Option (List ℕ)) (limit : ℕ) (all : List ℕ) → length all ≤ limit → IfSome left (λ bytes. all ≡ take (limit + 1) bytes) → IfSome left (λ bytes. length bytes ≤ limit → all ≡ bytes) →
-    IfSome left (λ bytes. (length bytes ≤ limit) × (all ≡ bytes))
-not_longer None limit all less h short = tt
-not_longer (Some bytes) limit all less h short =
-    let fits : length bytes ≤ limit = omega (arith, ap length h, length-take (limit + 1) bytes) in (fits, short fits)
-
--- what holds of all that was read holds of the input
-pub of_all : (P : List ℕ → Type 0) (left : Option (List ℕ)) (limit : ℕ) (all : List ℕ) → IfSome left (λ bytes. (length bytes ≤ limit) × (all ≡ bytes)) → P all → IfSome left (λ bytes. (length bytes ≤ limit) × P bytes)
-of_all P None limit all read p = tt
-of_all P (Some bytes) limit all read p = (read.0, subst P read.1 p)
 
 -- one word names a command, and no word or more than one ask for none
 pub one_word : (words : List (String Global)) (word : String Global) → 1 ≤ length words → length words < 2 → word ≡ get_or words 0 word → command_named (string_bytes word) ≡ asked_by words

@@ -3,6 +3,7 @@ use Rattle.std.specs.Prelude.{◌≡◌, ◌⊎◌, ℕ, ◌<◌, ◌≤◌, ⊤
 use Rattle.lab_outside.specs.declared.exit.Status.{Status}
 use Rattle.lab_outside.specs.declared.exit.Status.TheVariants.{Done, Refused, Usage, ReadFault, WriteFault, LinkFault, Memory, Limit}
 use Rattle.lab_main.specs.Ends.{Ends, usage_line}
+use Rattle.lab_main.specs.Limits.{input_limit, input_line}
 use Rattle.lab_outside.specs.Bytes.{Wrote, WrotePrefix}
 use Rattle.store_model.specs.declared.event.Numbered.{Numbered}
 use Rattle.text_model.specs.Reading.{IsSchedule, IsFirstBadLine, HasTooManyEvents}
@@ -14,14 +15,6 @@ use Rattle.replay_run.specs.Account.{front}
 use Rattle.garage_lab.specs.declared.command.Command.{Command}
 use Rattle.garage_lab.specs.declared.command.Command.TheVariants.{Layout, Moves, Replay}
 use Rattle.replay_run.specs.Replay.{AreFirst, IsReplay}
-
--- how many bytes the input may have
-abbrev pub input_limit : ℕ
-input_limit = 8388608
-
--- the input is longer than the program takes
-abbrev pub input_line : List ℕ
-input_line = codes "limit input 8388608" ++ 10 ∷ []
 
 -- the input has more events than a schedule may have
 abbrev pub events_line : List ℕ

@@ -2,7 +2,7 @@
 ghost use Rattle.std.specs.Prelude.{◌≡◌, ◌⊎◌, ◌+◌, ◌<◌, ◌≤◌, length, drop, Some, Err, IfOk, OnOk, IfErr, IfSome};
 ghost use Rattle.std.specs.Io.KnownBytes.{IsAtEnd};
 ghost use Rattle.lab_outside.specs.Rose.{Rose};
-ghost use Rattle.garage_lab.specs.Answer.{input_limit};
+ghost use Rattle.lab_main.specs.Limits.{input_limit};
 ghost use Rattle.garage_lab.specs.Stop.{IsSaid, IsOfReading};
 
 use crate::stop::Stop;

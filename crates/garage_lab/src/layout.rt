@@ -4,7 +4,8 @@ ghost use Rattle.std.specs.Io.KnownBytes.{IsAtEnd};
 ghost use Rattle.lab_outside.specs.Rose.{Rose};
 ghost use Rattle.layout_command.specs.Answer.{IsAnswer as IsLayoutAnswer};
 ghost use Rattle.layout_command.specs.Moves.{IsMovesAnswer};
-ghost use Rattle.garage_lab.specs.Answer.{input_limit, IsOfLayout};
+ghost use Rattle.lab_main.specs.Limits.{input_limit};
+ghost use Rattle.garage_lab.specs.Answer.{IsOfLayout};
 ghost use Rattle.garage_lab.specs.Stop.{IsSaid, IsOfReading};
 
 use crate::input::read_input;

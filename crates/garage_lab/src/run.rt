@@ -6,7 +6,8 @@ ghost use Rattle.lab_outside.specs.Rose.{Rose};
 ghost use Rattle.garage_lab.specs.Replay.{IsTranscribed, IsChecked};
 ghost use Rattle.garage_lab.specs.Layout.{IsPrinted, IsPrintedMoves};
 ghost use Rattle.garage_lab.specs.Command.{asked_by};
-ghost use Rattle.garage_lab.specs.Answer.{input_limit, bad_line_text, IsAnswer, IsStated, IsAfterReading, Answers, AnswersPrefix, LayoutPrefix, ReplayPrefix, Completes, IsAnswered, Says};
+ghost use Rattle.lab_main.specs.Limits.{input_limit};
+ghost use Rattle.garage_lab.specs.Answer.{bad_line_text, IsAnswer, IsStated, IsAfterReading, Answers, AnswersPrefix, LayoutPrefix, ReplayPrefix, Completes, IsAnswered, Says};
 ghost use Rattle.garage_lab.specs.Stop.{status_of, said_of, Halts, IsSaid};
 
 use crate::command::{Command, asked_by};

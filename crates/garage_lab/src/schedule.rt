@@ -5,7 +5,7 @@ ghost use Rattle.std.specs.Io.KnownBytes.{IsAtEnd};
 ghost use Rattle.lab_outside.specs.Rose.{Rose};
 ghost use Rattle.text_model.specs.Reading.{IsSchedule, IsFirstBadLine, HasTooManyEvents};
 ghost use Rattle.s3_world.specs.Stands.{IsMeantEvent};
-ghost use Rattle.garage_lab.specs.Answer.{input_limit};
+ghost use Rattle.lab_main.specs.Limits.{input_limit};
 ghost use Rattle.garage_lab.specs.Stop.{IsSaid, IsOfInput};
 
 use crate::input::read_input;

@@ -1,6 +1,6 @@
 use Rattle.std.proofs.Common.{arith}
-use Rattle.garage_lab.specs.Answer.{input_limit}
-use Rattle.garage_lab.proofs.Texts.{longer, not_longer}
+use Rattle.lab_main.specs.Limits.{input_limit}
+use Rattle.lab_main.proofs.Input.{longer, not_longer}
 use Rattle.garage_lab.proofs.input.read_input.Goals as goal
 
 pub returns-then-len-gt-INPUT_LIMIT-clause-long_input : goal.returns-then-len-gt-INPUT_LIMIT-clause-long_input

@@ -1,6 +1,6 @@
 use Rattle.layout_command.specs.Answer.{IsAnswer as IsLayoutAnswer}
-use Rattle.garage_lab.specs.Answer.{input_limit}
-use Rattle.garage_lab.proofs.Texts.{of_all}
+use Rattle.lab_main.specs.Limits.{input_limit}
+use Rattle.lab_main.proofs.Input.{of_all}
 use Rattle.garage_lab.proofs.layout.read_layout.Goals as goal
 
 pub returns-clause-stated : goal.returns-clause-stated

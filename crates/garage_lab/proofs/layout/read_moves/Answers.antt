@@ -1,6 +1,6 @@
 use Rattle.layout_command.specs.Moves.{IsMovesAnswer}
-use Rattle.garage_lab.specs.Answer.{input_limit}
-use Rattle.garage_lab.proofs.Texts.{of_all}
+use Rattle.lab_main.specs.Limits.{input_limit}
+use Rattle.lab_main.proofs.Input.{of_all}
 use Rattle.garage_lab.proofs.Lays.{moves_of_layout}
 use Rattle.garage_lab.proofs.layout.read_moves.Goals as goal
 

@@ -1,7 +1,7 @@
 use Rattle.std.proofs.Common.{ap, Err}
-use Rattle.garage_lab.specs.Answer.{input_limit}
+use Rattle.lab_main.specs.Limits.{input_limit}
 use Rattle.text_model.specs.Reading.{IsSchedule, IsFirstBadLine, HasTooManyEvents}
-use Rattle.garage_lab.proofs.Texts.{of_all}
+use Rattle.lab_main.proofs.Input.{of_all}
 use Rattle.replay_run.proofs.Meant.{schedule_is_meant}
 use Rattle.garage_lab.proofs.Stops.{bad_line_back, many_events_back}
 use Rattle.garage_lab.proofs.schedule.read_schedule.Goals as goal
