@@ -189,10 +189,10 @@ module _ (l : Layout) where
 
   -- ---- ends are taken, and delivered messages forgotten
 
-  pub takes_hold : (P : Plain) (t : State) (q : ℕ) → Holding l P t → Holding l P (after_acts t (takes q ∷ forgets ∷ []))
-  takes_hold P t q h =
+  pub forgets_hold : (P : Plain) (t : State) → Holding l P t → Holding l P (acted t forgets).state
+  forgets_hold P t h =
       let w : World = t.world in
-      let u = after_acts t (takes q ∷ forgets ∷ []) in
+      let u = (acted t forgets).state in
       holds_on l P t u h (record {
         rest = record {
           views = h.rest.views;
@@ -208,6 +208,25 @@ module _ (l : Layout) where
         buckets = refl;
         block = refl;
       }) P.clock P.ticked P.asked (omega arith) h.clock h.requests h.asked
+
+  -- of the end that was taken it says nothing
+  pub takes_hold : (P : Plain) (t : State) (q : ℕ) → Holding l P t → Holding l P (after_acts t (takes q ∷ forgets ∷ []))
+  takes_hold P t q h =
+      let u = (acted t (takes q)).state in
+      forgets_hold P u (record {
+        rest = h.rest;
+        skews = h.skews;
+        equal = h.equal;
+        stocked = h.stocked;
+        rows = h.rows;
+        blocks = h.blocks;
+        buckets = h.buckets;
+        block = h.block;
+        clock = h.clock;
+        requests = h.requests;
+        asked = h.asked;
+        fresh = h.fresh;
+      })
 
 -- ---- ends
 

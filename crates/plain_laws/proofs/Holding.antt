@@ -83,6 +83,12 @@ holds_again members l t k P layout same h map ticked ends = record {
   ends = ends;
 }
 
+-- the cluster in another state that holds its map at some time, where no end of a request was taken or came
+pub holds_in : (c : Cluster) (P : Plain) (h : Holds c P) (t : State) (clock : ℕ) → Holding h.layout (record P { clock = clock }) t → t.ends ≡ c.run.ends → Holds (record c { run = t }) (record P { clock = clock })
+holds_in c P h t clock holding ends =
+    holds_again c.members h.layout t c.ticked (record P { clock = clock }) h.is_layout h.members_are holding (record { numbered = record { asked = h.map.numbered.asked; apart = h.map.numbered.apart }; ordered = h.map.ordered; keyed = h.map.keyed }) h.ticked
+    (λ q later. ap (λ es. end_of es q) ends ∙ h.ends q later)
+
 -- the same accepted rows, node by node
 pub equal_moved : (l : Layout) (a b : ℕ → List AnyRow) → ((n : ℕ) → b n ≡ a n) → AreEqual any_join words layouts l a → AreEqual any_join words layouts l b
 equal_moved l a b same equal = record {

@@ -1,5 +1,5 @@
 -- Connections are served as from the map: a cluster that holds it answers alike.
-use Rattle.std.proofs.Common.{◌≡◌, ◌≤◌, ◌⊎◌, ℕ, Bool, List, [], ◌∷◌, refl, sym, subst, inl, inr}
+use Rattle.std.proofs.Common.{◌≡◌, ◌≤◌, ℕ, Bool, List, [], ◌∷◌, refl, sym, subst, inl, inr}
 use Rattle.std.specs.List.{AllByRecursion}
 use Rattle.crdt_core.specs.Members.{OneOf}
 use Rattle.lab_outside.specs.Connection.{Connection}

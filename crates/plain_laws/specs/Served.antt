@@ -6,7 +6,7 @@ use Rattle.store_model.specs.Fresh.{NoClash}
 use Rattle.serve_model.specs.Clusters.{Cluster, cluster}
 use Rattle.serve_model.specs.Talk.{Grammar, Serving, turn}
 use Rattle.serve_model.specs.Connections.{AreServed, SomeAsked}
-use Rattle.serve_model.specs.Plain.{Plain, plain, PutsBlock, AreApart}
+use Rattle.serve_model.specs.Plain.{Plain, plain, PutsBlock}
 use Rattle.plain_laws.specs.Holds.{Holds}
 use Rattle.plain_laws.specs.Blocks.{IsKept, IsOfMap}
 

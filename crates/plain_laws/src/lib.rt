@@ -6,9 +6,10 @@
 //! every order, and so of any orders, one after the other.
 #![tactic(auto)]
 
-ghost use Rattle.std.specs.Prelude.{◌≡◌, ◌≤◌, ℕ, Bool, true, List, [], ◌∷◌, Option, Some, None};
+ghost use Rattle.std.specs.Prelude.{◌≡◌, ◌≤◌, ◌+◌, ℕ, Bool, true, List, [], ◌∷◌, Option, Some, None};
 ghost use Rattle.std.specs.List.{AllByRecursion};
 ghost use Rattle.layout_roles.specs.declared.layout.Layout.{Layout};
+ghost use Rattle.cluster_machine.specs.declared.step.Step.TheVariants.{Tick};
 ghost use Rattle.cluster_machine.specs.Choices.{IsFirst};
 ghost use Rattle.cluster_machine.specs.Layouts.{layouts};
 ghost use Rattle.crdt_rows.specs.declared.version.Version.{Version};
@@ -18,19 +19,22 @@ ghost use Rattle.flow_model.specs.declared.order.Order.TheVariants as order;
 ghost use Rattle.flow_model.specs.declared.flow.FlowEnd.TheVariants.{Stored, Found, Nothing};
 ghost use Rattle.flow_model.specs.Blocks.{is_long};
 ghost use Rattle.flow_model.specs.Rows.{meta_of};
+ghost use Rattle.s3_model.specs.declared.ask.Ask.{Ask};
 ghost use Rattle.store_model.specs.Fresh.{NoClash};
 ghost use Rattle.store_model.specs.Orders.{name_of, buckets_of};
-ghost use Rattle.store_model.specs.Run.{start, are_buckets};
-ghost use Rattle.store_model.specs.Acts.{installs, acted};
+ghost use Rattle.store_model.specs.Run.{start, are_buckets, plainly};
+ghost use Rattle.store_model.specs.Acts.{moves, installs, forgets, acted, after_acts};
 ghost use Rattle.lab_outside.specs.Connection.{Connection};
 ghost use Rattle.serve_model.specs.Stores.{OrdersFit, after_orders, fits_asking};
-ghost use Rattle.serve_model.specs.Clusters.{Cluster, cluster, fits};
-ghost use Rattle.serve_model.specs.Talk.{Grammar, Serving, turn};
+ghost use Rattle.serve_model.specs.Clusters.{Cluster, cluster, round, fits};
+ghost use Rattle.serve_model.specs.Talk.{Grammar, Serving, closes, turn};
+ghost use Rattle.serve_model.specs.Judging.{refusal_in, order_of};
 ghost use Rattle.serve_model.specs.Connections.{AreServed, NoneRose};
 ghost use Rattle.serve_model.specs.Plain.{object, Plain, has_at, plain, IsNumbered, AreInOrder, AreApart};
-ghost use Rattle.plain_laws.specs.Holds.{Holds, IsGone, Agrees, Reads, WritesRow, CopiesRow, AllBlocks, NoTwins, PutsBlocks, Lists, AllInRows, IsOfRows, ends_of};
+ghost use Rattle.plain_laws.specs.Holds.{Holds, IsGone, Agrees, IsTold, Reads, WritesRow, CopiesRow, AllBlocks, NoTwins, PutsBlocks, Lists, AllInRows, IsOfRows, ends_of};
 ghost use Rattle.plain_laws.specs.Blocks.{IsBlockAt, KeepsNoOther, PutsLong, Copies, IsPut, IsSomeBlock};
 ghost use Rattle.plain_laws.specs.Served.{IsServedBlock, HoldsApart, AreServedFrom, IsTurnBlock, IsTurnFrom};
+ghost use Rattle.plain_laws.specs.Closing.{ClosesFor, IsAnswered};
 
 /// A first layout that is installed where nothing has happened yet, with whatever buckets and size of blocks, holds the
 /// empty map.
@@ -38,6 +42,24 @@ pub fn a_first_layout_holds_the_empty_map()
     ensures { (first : Layout) (buckets : List (List ℕ)) (block ticked : ℕ) → IsFirst first →
         Holds (record { run = (acted (record start { buckets = buckets; block = block }) (installs first)).state; ticked = ticked; members = layouts.reading.members first })
         (record { buckets = buckets; block = block; clock = 0; ticked = ticked; asked = 0; entries = [] }) }
+{}
+
+/// A cluster that holds a map holds it when time passes, when nodes work and all is delivered, whichever nodes and in whatever
+/// order, and when delivered messages are forgotten.
+pub fn ticks_work_and_forgetting_keep_the_map()
+    ensures ticks { (c : Cluster) (P : Plain) (ms : ℕ) → Holds c P → Holds (record c { run = (acted c.run (moves (plainly (Tick ms)))).state }) (record P { clock = P.clock + ms }) }
+    ensures rounds { (c : Cluster) (P : Plain) (nodes : List ℕ) → Holds c P → Holds (record c { run = after_acts c.run (round nodes) }) P }
+    ensures forgets { (c : Cluster) (P : Plain) → Holds c P → Holds (record c { run = (acted c.run forgets).state }) P }
+{}
+
+/// Whatever is ordered, the cluster ends it with the map's answer, and holds what the map has become; where blocks have a byte
+/// at least, no two names of buckets have one digest, and neither have two strings among the blocks that nodes keep and
+/// those into which the bytes are cut that the order writes. So each order whose buckets were made ends, and none because
+/// what it read was overwritten meanwhile.
+pub fn an_order_is_answered_as_by_the_map()
+    ensures agrees { (c : Cluster) (P : Plain) (time : ℕ) (order : Order) → Holds c P → NoClash P.buckets → 1 ≤ P.block → AreApart (IsBlockAt c P order) → fits c time order → Agrees c P time order }
+    ensures ended { (c : Cluster) (P : Plain) (time : ℕ) (order : Order) → Holds c P → NoClash P.buckets → 1 ≤ P.block → AreApart (IsBlockAt c P order) → fits c time order → are_buckets P.buckets (buckets_of order) ≡ true →
+        IsTold (cluster.carries c time order).end }
 {}
 
 /// A get or a head ends with the map's answer, and the cluster holds the same map, whatever is kept in blocks.
@@ -148,6 +170,18 @@ pub fn a_plain_store_in_use()
         ((100, order.Put bucket key (1 ∷ 2 ∷ []) []) ∷ (101, order.Get bucket key) ∷ (102, order.Head bucket key) ∷ (103, order.Delete bucket key) ∷ (104, order.Get bucket key) ∷ (103, order.Delete bucket key) ∷ (103, order.Delete bucket key) ∷ []) ≡
         Some (Stored (record { ts = 100; id = 1 }) (Some meta)) ∷ Some (Found (record { ts = 100; id = 1 }) meta (1 ∷ 2 ∷ [])) ∷ Some (Found (record { ts = 100; id = 1 }) meta [])
         ∷ Some (Stored (record { ts = 103; id = 4 }) None) ∷ Some Nothing ∷ Some (Stored (record { ts = 104; id = 6 }) None) ∷ Some (Stored (record { ts = 105; id = 7 }) None) ∷ [] }
+{}
+
+/// A server over the map closes a connection after a request for a stated cause alone: it is the last one that is answered, its
+/// head or body has no end, its head is refused, or the client asks for it. For each order that a request asks ends, and
+/// its end has an answer after which the connection may go on; so it is over a cluster that holds a map, with the
+/// premises of one request. Each bucket that the server knows is one of the map's.
+pub fn connections_close_for_stated_causes()
+    ensures answered { (P : Plain) (time : ℕ) (buckets : List (List ℕ)) (ask : Ask) (body : List ℕ) (order : Order) → are_buckets P.buckets buckets ≡ true → refusal_in buckets ask body ≡ None → order_of ask body ≡ Some order →
+        IsAnswered ask (plain.carries P time order).end }
+    ensures of_map { (buckets : List (List ℕ)) (g : Grammar) (last : Bool) (p : Serving Plain) (request : List ℕ) → are_buckets p.store.buckets buckets ≡ true → (turn plain buckets g last p request).next ≡ closes → ClosesFor g last request }
+    ensures of_cluster { (buckets : List (List ℕ)) (g : Grammar) (last : Bool) (p : Serving Cluster) (P : Plain) (request : List ℕ) → HoldsApart p.store P → AreApart (IsTurnBlock buckets g last p P request) →
+        AllByRecursion (fits_asking fits) (turn cluster buckets g last p request).asks → are_buckets P.buckets buckets ≡ true → (turn cluster buckets g last p request).next ≡ closes → ClosesFor g last request }
 {}
 
 /// In every map that orders lead to from the empty one, each version has the number of an order that was asked, and the

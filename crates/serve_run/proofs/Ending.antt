@@ -1,5 +1,5 @@
 -- From what a server did to the status and the text of its end.
-use Rattle.std.proofs.Common.{◌≡◌, ℕ, List, [], Option, Result, Ok, Err, refl, sym, ◌∙◌, subst}
+use Rattle.std.proofs.Common.{◌≡◌, ◌⊎◌, ℕ, List, [], Option, Result, Ok, Err, refl, sym, ◌∙◌, subst, inl, inr}
 use Rattle.std.specs.Result.{IsErrAnd}
 use Rattle.lab_outside.specs.declared.exit.Status.{Status}
 use Rattle.lab_outside.specs.declared.exit.Status.TheVariants as status
@@ -41,7 +41,31 @@ module _ (g : Grammar) (count : ℕ) (input : Option (List ℕ)) (t : Told) wher
   ends_early (Ok text) stop is h = absurd is
   ends_early (Err e) stop is h = subst (λ (s : Stop). IsTold s → IsEnd g count input t (status_of s) (said_of s)) (sym is) h
 
--- the statuses of the reasons
+-- ---- a read that failed
+
+-- what was read before, where that succeeded
+pub read_before : {A B : Type 0} (x : A) (r : Result B Stop) (Same : Type 0) → (◌≡◌ {A = Result A Stop} (Ok x) (Err Read)) ⊎ Same → (r ≡ Err Read) ⊎ Same
+read_before x r Same (inl e) = absurd (cc)
+read_before x r Same (inr same) = inr same
+
+-- the same stop is handed on
+pub read_on : {A B : Type 0} (stop : Stop) (r : Result B Stop) (Same : Type 0) → IsErrAnd r (λ e. e ≡ stop) → (◌≡◌ {A = Result A Stop} (Err stop) (Err Read)) ⊎ Same → (r ≡ Err Read) ⊎ Same
+read_on stop (Ok y) Same is h = absurd is
+read_on stop (Err e) Same is (inl h) = inl (cc)
+read_on stop (Err e) Same is (inr same) = inr same
+
+-- it has its status
+pub read_status : {A : Type 0} (stop : Stop) (is : Status) (Same : Type 0) → (stop ≡ Read → is ≡ status.ReadFault) → (◌≡◌ {A = Result A Stop} (Err stop) (Err Read)) ⊎ Same → (is ≡ status.ReadFault) ⊎ Same
+read_status stop is Same says (inl e) = inl (says (cc))
+read_status stop is Same says (inr same) = inr same
+
+-- no other end has it
+pub no_read_status : {A : Type 0} (x : A) (is : Status) (Same : Type 0) → (◌≡◌ {A = Result A Stop} (Ok x) (Err Read)) ⊎ Same → (is ≡ status.ReadFault) ⊎ Same
+no_read_status x is Same (inl e) = absurd (cc)
+no_read_status x is Same (inr same) = inr same
+
+-- ---- the statuses of the reasons
+
 stated_told : (stop : Stop) → IsStated (status_of stop) → IsTold stop
 stated_told Read h = absurd h
 stated_told Memory h = absurd h
@@ -133,7 +157,7 @@ no_usage : (is : Status) → is ≡ status.Done → is ≡ status.Usage → ⊥
 no_usage is d e = cc
 
 module _ (g : Grammar) (words : List (List ℕ)) (input old new : Option (List ℕ)) (t : Told) (text : List ℕ) (wrote : Wrote old new text) where
-  done_served : (port count : ℕ) → AsksFor words port count → (p : Plan) → WasRead input p → HasEnded g p count t text → IsServedWhole g words input old new t
+  pub done_served : (port count : ℕ) → AsksFor words port count → (p : Plan) → WasRead input p → HasEnded g p count t text → IsServedWhole g words input old new t
   done_served port count asks p read h =
       record {
         port = port;

@@ -6,3 +6,4 @@ pub mod Requests
 pub mod Serving
 pub mod FromMap
 pub mod Ending
+pub mod Completing

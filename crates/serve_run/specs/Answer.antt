@@ -117,3 +117,10 @@ pub record IsServedWhole (g : Grammar) (words : List (List ℕ)) (input old new 
   pub short : number < count → IfSome t.coming (λ coming. t.coming_after ≡ Some [])
   pub has : HasServed g plan number t
   pub wrote : Wrote old new (tail_of plan number (state_after plan has.first has.orders))
+
+-- what comes where the input says a plan and no fault rose: all was served, too many bytes were put or copied, or there was no room, each with the whole text that is stated, or memory was wanting, and nothing was written
+pub data Completes (g : Grammar) (words : List (List ℕ)) (input old new : Option (List ℕ)) (t : Told) (is : Status) : Type 0 where
+  served_whole : IsServedWhole g words input old new t → is ≡ status.Done → Completes g words input old new t is
+  over_limit : (p : Plan) → WasRead input p → HasBrokenOff g p fault.Kept t → is ≡ status.Limit → Wrote old new kept_line → Completes g words input old new t is
+  without_room : (p : Plan) → WasRead input p → LacksRoom g p t → is ≡ status.Limit → Wrote old new number_line → Completes g words input old new t is
+  without_memory : is ≡ status.Memory → Wrote old new [] → Completes g words input old new t is

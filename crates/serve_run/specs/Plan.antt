@@ -1,5 +1,5 @@
 -- What a server is made of, and what its input says.
-use Rattle.std.specs.Prelude.{◌≡◌, ℕ, ◌≤◌, List, length, IsUtf8, Option, Ok, Err, IfSome}
+use Rattle.std.specs.Prelude.{◌≡◌, ℕ, ◌≤◌, List, length, IsUtf8, Option, Some, Ok, Err, IfSome}
 use Rattle.lab_outside.specs.declared.exit.Status.TheVariants.{Refused}
 use Rattle.layout_roles.specs.Fits.{IsGreatest}
 use Rattle.layout_text.specs.declared.config.FieldName.{FieldName}
@@ -38,6 +38,13 @@ pub data IsRefused (bytes line : List ℕ) : Type 0 where
 -- where the input tells its bytes, they are no more than they may be, and so it is of them
 abbrev pub OfInput : (List ℕ → Type 0) → Option (List ℕ) → Type 0
 OfInput P input = IfSome input (λ bytes. (length bytes ≤ input_limit) × P bytes)
+
+-- the input is told, is no longer than it may be, and says this plan
+pub record SaysPlan (input : Option (List ℕ)) (p : Plan) : Type 0 where
+  pub bytes : List ℕ
+  pub told : input ≡ Some bytes
+  pub short : length bytes ≤ input_limit
+  pub is_said : IsSaid bytes p
 
 -- the plan that was read
 pub record WasRead (input : Option (List ℕ)) (p : Plan) : Type 0 where

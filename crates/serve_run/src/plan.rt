@@ -1,5 +1,5 @@
 //! The cluster that the input says, with its layout.
-ghost use Rattle.std.specs.Prelude.{◌≡◌, ◌≤◌, Ok, Err, IfOk, OnOk, IfErr};
+ghost use Rattle.std.specs.Prelude.{◌≡◌, ◌≤◌, ◌⊎◌, Ok, Err, IfOk, OnOk, IfErr};
 ghost use Rattle.std.specs.Io.KnownBytes.{IsAtEnd};
 ghost use Rattle.lab_outside.specs.Rose.{Rose};
 ghost use Rattle.layout_roles.specs.Certificates.{IsRedundancy};
@@ -91,6 +91,7 @@ pub fn read_plan<I: Source>(alloc: Global, input: &mut I) -> Result<Plan, Stop>
     ensures end { OnOk result (IsAtEnd (I.left input.new)) }
     ensures causes { IfErr result (IsOfInput (I.left input.old)) }
     ensures fault { result ≡ Err Stop.Read → Rose (I.faults input.old) (I.faults input.new) }
+    ensures told { (result ≡ Err Stop.Read) ⊎ (I.faults input.new ≡ I.faults input.old) }
 {
     let bytes = read_up_to(alloc, input, INPUT_LIMIT)?;
     if bytes.len() > INPUT_LIMIT {

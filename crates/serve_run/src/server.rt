@@ -1,17 +1,17 @@
 //! The program as one call.
-ghost use Rattle.std.specs.Prelude.{IsPermutation, IsSorted, ◌≡◌, ◌⊎◌, [], map, None, Err, IfOk, OnOk, IfErr, string_bytes};
+ghost use Rattle.std.specs.Prelude.{IsPermutation, IsSorted, ◌≡◌, ◌⊎◌, ℕ, [], map, None, Err, IfOk, OnOk, IfErr, string_bytes};
 ghost use Rattle.std.specs.Io.KnownBytes.{IsAtEnd};
 ghost use Rattle.crdt_core.specs.Outcomes.{OnlyWant};
 ghost use Rattle.lab_outside.specs.Rose.{Rose};
 ghost use Rattle.lab_outside.specs.Bytes.{Wrote};
 ghost use Rattle.serve_model.specs.Talk.{Grammar};
-ghost use Rattle.serve_run.specs.Words.{AskNothing};
+ghost use Rattle.serve_run.specs.Words.{AsksFor, AskNothing};
 ghost use Rattle.serve_run.specs.Stop.{status_of, said_of, IsOfServing, IsOfReading, IsTooLong, IsTold};
 ghost use Rattle.lab_main.specs.Ends.{Ends};
-ghost use Rattle.serve_run.specs.Plan.{IsPlan};
+ghost use Rattle.serve_run.specs.Plan.{IsPlan, SaysPlan};
 ghost use Rattle.serve_run.specs.Told.{told};
 ghost use Rattle.serve_run.specs.Served.{AreInOrder};
-ghost use Rattle.serve_run.specs.Answer.{HowServed, IsEnd, EndsSo, IsStated, IsSilent, Answers, AnswersPrefix, IsAnswer, IsServedWhole};
+ghost use Rattle.serve_run.specs.Answer.{HowServed, IsEnd, EndsSo, IsStated, IsSilent, Answers, AnswersPrefix, IsAnswer, IsServedWhole, Completes};
 
 use crate::plan::{Plan, read_plan};
 use crate::start::{installed, nodes};
@@ -21,6 +21,7 @@ use crate::words::{Asked, asked_by};
 use crdt_core::{Bytes, List, Memory, Value};
 use lab_main::{ends, usage};
 use lab_outside::{Clock, Link, Sink, Source, Status};
+use layout_roles::smaller_sizes;
 use plain_laws::{a_first_layout_holds_the_empty_map, connections_are_served_as_from_the_map};
 use serve_cluster::Cluster;
 use serve_loop::serve;
@@ -94,6 +95,7 @@ fn read_and_served<I: Source, L: Link, C: Clock>(
     ensures untouched { IfErr result (λ stop. IsOfReading stop → (link.new ≡ link.old) × (clock.new ≡ clock.old)) }
     ensures unopened { IsTooLong (I.left input.old) → (link.new ≡ link.old) × (clock.new ≡ clock.old) }
     ensures read_fault { result ≡ Err Stop.Read → Rose (I.faults input.old) (I.faults input.new) }
+    ensures read_told { (result ≡ Err Stop.Read) ⊎ (I.faults input.new ≡ I.faults input.old) }
     ensures link_fault { result ≡ Err Stop.Link → Rose (L.faults link.old) (L.faults link.new) }
 {
     let plan = read_plan(alloc, input)?;
@@ -104,6 +106,8 @@ fn read_and_served<I: Source, L: Link, C: Clock>(
 /// Says why nothing was served to the end, where that is said in the output.
 fn stopped<O: Sink>(output: &mut O, stop: &Stop) -> Status
     ensures told { result ≡ Status.WriteFault → IsTold stop.now }
+    ensures read { stop.now ≡ Stop.Read → result ≡ Status.ReadFault }
+    ensures write_told { (result ≡ Status.WriteFault) ⊎ (O.faults output.new ≡ O.faults output.old) }
     ensures ends { Ends (status_of stop.now) (said_of stop.now) result (O.written output.old) (O.written output.new) (O.faults output.old) (O.faults output.new) }
 {
     match stop {
@@ -136,6 +140,8 @@ fn answered<I: Source, O: Sink, L: Link, C: Clock>(
     ensures no_usage { result ≡ Status.Usage → ⊥ }
     ensures read_fault { result ≡ Status.ReadFault → Rose (I.faults input.old) (I.faults input.new) }
     ensures write_fault { result ≡ Status.WriteFault → Rose (O.faults output.old) (O.faults output.new) }
+    ensures read_told { (result ≡ Status.ReadFault) ⊎ (I.faults input.new ≡ I.faults input.old) }
+    ensures write_told { (result ≡ Status.WriteFault) ⊎ (O.faults output.new ≡ O.faults output.old) }
     ensures link_fault { result ≡ Status.LinkFault → Rose (L.faults link.old) (L.faults link.new) }
 {
     match read_and_served(alloc, asked, input, link, clock) {
@@ -175,6 +181,12 @@ pub fn run<I: Source, O: Sink, L: Link, C: Clock>(
     ensures prefix { (g : Grammar) → result ≡ Status.WriteFault → AnswersPrefix (IsAnswer g (map string_bytes words.now) (I.left input.old) (told (C.times clock.old) (C.times clock.new) (L.coming link.old) (L.coming link.new) (L.past link.old) (L.past link.new))) (O.written output.old) (O.written output.new) }
     ensures silent { IsSilent result → Wrote (O.written output.old) (O.written output.new) [] }
 
+    // Where the words ask for a server, the input says a plan and no count of faults rose, the input isn't refused: all was
+    // served, or a limit on what is served was passed, each with the whole text that is stated, or memory was wanting.
+    ensures complete { (g : Grammar) (port count : ℕ) (p : Plan) → AsksFor (map string_bytes words.now) port count → SaysPlan (I.left input.old) p →
+        (Rose (I.faults input.old) (I.faults input.new) → ⊥) → (Rose (O.faults output.old) (O.faults output.new) → ⊥) → (Rose (L.faults link.old) (L.faults link.new) → ⊥) →
+        Completes g (map string_bytes words.now) (I.left input.old) (O.written output.old) (O.written output.new) (told (C.times clock.old) (C.times clock.new) (L.coming link.old) (L.coming link.new) (L.past link.old) (L.past link.new)) result }
+
     // After Done the source was read to its end.
     ensures end { result ≡ Status.Done → IsAtEnd (I.left input.new) }
 
@@ -187,11 +199,15 @@ pub fn run<I: Source, O: Sink, L: Link, C: Clock>(
     // Where the input is refused, can't be read or is too long, link and clock are as before.
     ensures untouched { (result ≡ Status.Refused) ⊎ (result ≡ Status.ReadFault) ⊎ IsTooLong (I.left input.old) → (link.new ≡ link.old) × (clock.new ≡ clock.old) }
 
-    // A fault comes only where the count of its object rose in this call.
+    // A fault comes only where the count of its object rose in this call, and where that of the input or of the output rose it
+    // comes, not want of memory or another status.
     ensures read_fault { result ≡ Status.ReadFault → Rose (I.faults input.old) (I.faults input.new) }
     ensures write_fault { result ≡ Status.WriteFault → Rose (O.faults output.old) (O.faults output.new) }
+    ensures read_told { (result ≡ Status.ReadFault) ⊎ (I.faults input.new ≡ I.faults input.old) }
+    ensures write_told { (result ≡ Status.WriteFault) ⊎ (O.faults output.new ≡ O.faults output.old) }
     ensures link_fault { result ≡ Status.LinkFault → Rose (L.faults link.old) (L.faults link.new) }
 {
+    smaller_sizes();
     match asked_by(words) {
         Some(asked) => answered(alloc, asked, input, output, link, clock),
         None => usage(output),

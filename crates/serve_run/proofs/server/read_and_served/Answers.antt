@@ -1,7 +1,7 @@
-use Rattle.std.proofs.Common.{refl}
+use Rattle.std.proofs.Common.{refl, Ok}
 use Rattle.serve_run.specs.Told.{told}
 use Rattle.serve_run.specs.Answer.{served}
-use Rattle.serve_run.proofs.Ending.{unserved, ends_early}
+use Rattle.serve_run.proofs.Ending.{unserved, ends_early, read_before, read_on}
 use Rattle.serve_run.proofs.server.read_and_served.Goals as goal
 
 pub returns-in_err-text-clause-ends : goal.returns-in_err-text-clause-ends
@@ -13,3 +13,12 @@ returns-in_err-text-clause-ends g c = λ g'.
 
 pub returns-clause-ends : goal.returns-clause-ends
 returns-clause-ends g c = λ g'. served c.in_ok-plan.plan c.in_ok-plan.ensures.read (c.in_ok-text.ensures.how g') refl
+
+pub returns-in_err-plan-clause-read_told : goal.returns-in_err-plan-clause-read_told
+returns-in_err-plan-clause-read_told g c = read_on c.in_err-plan.field-0.0 c.from_residual.result _ c.from_residual.ensures.1 c.in_err-plan.ensures.told
+
+pub returns-in_err-text-clause-read_told : goal.returns-in_err-text-clause-read_told
+returns-in_err-text-clause-read_told g c = read_before c.in_ok-plan.plan c.from_residual-in_err-text.result _ c.in_ok-plan.ensures.told
+
+pub returns-clause-read_told : goal.returns-clause-read_told
+returns-clause-read_told g c = read_before c.in_ok-plan.plan (Ok c.in_ok-text.text) _ c.in_ok-plan.ensures.told

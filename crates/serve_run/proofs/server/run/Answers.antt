@@ -5,6 +5,7 @@ use Rattle.serve_run.specs.Told.{told}
 use Rattle.lab_main.specs.Ends.{usage_line}
 use Rattle.serve_run.specs.Answer.{IsStated, IsAnswer, usage}
 use Rattle.serve_run.proofs.Ending.{no_write_usage, wrote_part, asked_answers, asked_prefix, done_whole}
+use Rattle.serve_run.proofs.Completing.{completed}
 use Rattle.serve_run.proofs.server.run.Goals as goal
 
 pub returns-in-Some-clause-done : goal.returns-in-Some-clause-done
@@ -22,6 +23,20 @@ returns-in-Some-clause-answers g c = λ g' k.
     let t = told (g.C.Clock.times c.args.clock.now) (g.C.Clock.times c.answered.new.clock) (g.L.Link.coming c.args.link.now) (g.L.Link.coming c.answered.new.link) (g.L.Link.past c.args.link.now) (g.L.Link.past c.answered.new.link) in
     asked_answers g' (map string_bytes c.args.words.now) (g.I.Source.left c.args.input.now) t c.in-Some.asked.port c.in-Some.asked.count c.in-Some.ensures c.answered.result
     (g.O.Sink.written c.args.output.now) (g.O.Sink.written c.answered.new.output) (c.answered.ensures.answers g' k)
+
+pub returns-in-Some-clause-complete : goal.returns-in-Some-clause-complete
+returns-in-Some-clause-complete g c = λ g' port count p asks says no_read no_write no_link.
+    let input = g.I.Source.left c.args.input.now in
+    let old = g.O.Sink.written c.args.output.now in
+    let new = g.O.Sink.written c.answered.new.output in
+    let words = map string_bytes c.args.words.now in
+    let t = told (g.C.Clock.times c.args.clock.now) (g.C.Clock.times c.answered.new.clock) (g.L.Link.coming c.args.link.now) (g.L.Link.coming c.answered.new.link) (g.L.Link.past c.args.link.now) (g.L.Link.past c.answered.new.link) in
+    completed c.smaller_sizes.ensures g' words input old new t p says port count asks c.answered.result
+    (λ k. asked_answers g' words input t c.in-Some.asked.port c.in-Some.asked.count c.in-Some.ensures c.answered.result old new (c.answered.ensures.answers g' k)) c.answered.ensures.silent
+    c.answered.ensures.no_usage (λ e. no_read (c.answered.ensures.read_fault e)) (λ e. no_write (c.answered.ensures.write_fault e)) (λ e. no_link (c.answered.ensures.link_fault e))
+
+pub returns-in-None-clause-complete : goal.returns-in-None-clause-complete
+returns-in-None-clause-complete g c = λ g' port count p asks says no_read no_write no_link. absurd (c.in-None.ensures port count asks)
 
 pub returns-in-Some-clause-prefix : goal.returns-in-Some-clause-prefix
 returns-in-Some-clause-prefix g c = λ g' e.

@@ -1,0 +1,69 @@
+-- An input that says a plan isn't refused, and so without faults its server is served, passes a limit or wants memory.
+use Rattle.std.proofs.Common.{◌≡◌, ◌≤◌, ◌<◌, ℕ, List, [], Option, Ok, IfSome, refl, subst, arith, length}
+use Rattle.lab_outside.specs.declared.exit.Status.{Status}
+use Rattle.lab_outside.specs.declared.exit.Status.TheVariants as status
+use Rattle.lab_outside.specs.Bytes.{Wrote}
+use Rattle.layout_roles.specs.Text.{layout_text}
+use Rattle.layout_text.specs.Settings.{Settings, settings_of, said}
+use Rattle.layout_command.specs.Answer.{IsLaidOut, layout}
+use Rattle.layout_command.proofs.Stated.{SmallerSizes, laid_status, same_settings}
+use Rattle.serve_model.specs.Talk.{Grammar}
+use Rattle.serve_run.specs.declared.plan.Plan.{Plan}
+use Rattle.serve_run.specs.Words.{AsksFor}
+use Rattle.serve_run.specs.Plan.{greatest_node, input_limit, IsSaid, IsRefused, not_text, not_toml, bad_field, no_layout, OfInput, SaysPlan}
+use Rattle.serve_run.specs.Told.{Told}
+use Rattle.serve_run.specs.Answer.{IsEnd, long_input, refused, served, link_failed, too_much, no_room, IsStated, IsSilent, IsAnswer, usage, asked, Answers, Completes, served_whole, over_limit, without_room, without_memory}
+use Rattle.serve_run.proofs.Ending.{done_served}
+
+module _ (smaller : SmallerSizes) where
+  -- settings with a layout aren't refused
+  not_laid_out : (p : Plan) (bytes line : List ℕ) → IsSaid bytes p → (settings : Settings) → said greatest_node bytes ≡ Ok settings → IsLaidOut settings status.Refused line → ⊥
+  not_laid_out p bytes line s settings says unfit =
+      let same : settings ≡ settings_of p.config = same_settings smaller (said greatest_node bytes) settings (settings_of p.config) says s.says in
+      let e : status.Refused ≡ status.Done =
+      laid_status smaller (settings_of p.config) status.Refused status.Done line (layout_text (settings_of p.config).roles p.certified)
+      (subst (λ (o : Settings). IsLaidOut o status.Refused line) same unfit) (layout p.certified s.enough s.layout refl refl) in
+      cc
+
+  -- no bytes say a plan and are refused
+  not_refused : (p : Plan) (bytes line : List ℕ) → IsSaid bytes p → IsRefused bytes line → ⊥
+  not_refused p bytes line s (not_text h w) = h s.is_text
+  not_refused p bytes line s (not_toml u e w) = let says = s.says in cc
+  not_refused p bytes line s (bad_field name u e w) = let says = s.says in cc
+  not_refused p bytes line s (no_layout settings u says unfit) = not_laid_out p bytes line s settings says unfit
+
+  module _ (g : Grammar) (words : List (List ℕ)) (input old new : Option (List ℕ)) (t : Told) (p : Plan) (says : SaysPlan input p) where
+    -- what is known of the input is known of the bytes that say the plan
+    of_bytes : (P : List ℕ → Type 0) → IfSome input P → P says.bytes
+    of_bytes P h = subst (λ i. IfSome i P) says.told h
+
+    too_long : IfSome input (λ bytes. input_limit < length bytes) → ⊥
+    too_long h = let more = of_bytes (λ bytes. input_limit < length bytes) h in omega (arith, more, says.short)
+
+    refusal : (line : List ℕ) → OfInput (λ bytes. IsRefused bytes line) input → ⊥
+    refusal line h = not_refused p says.bytes line says.is_said (of_bytes (λ bytes. (length bytes ≤ input_limit) × IsRefused bytes line) h).1
+
+    module _ (is : Status) (no_link : is ≡ status.LinkFault → ⊥) where
+      by_end : (port count : ℕ) → AsksFor words port count → (text : List ℕ) → Wrote old new text → IsEnd g count input t is text → Completes g words input old new t is
+      by_end port count asks text wrote (long_input more e w) = absurd (too_long more)
+      by_end port count asks text wrote (refused h e) = absurd (refusal text h)
+      by_end port count asks text wrote (served q read h e) = served_whole (done_served g words input old new t text wrote port count asks q read h) e
+      by_end port count asks text wrote (link_failed q read number h e w) = absurd (no_link e)
+      by_end port count asks text wrote (too_much q read h e w) = over_limit q read h e (subst (Wrote old new) w wrote)
+      by_end port count asks text wrote (no_room q read h e w) = without_room q read h e (subst (Wrote old new) w wrote)
+
+      by_answer : (port count : ℕ) → AsksFor words port count → (text : List ℕ) → Wrote old new text → IsAnswer g words input t is text → Completes g words input old new t is
+      by_answer port count asks text wrote (usage none e w) = absurd (none port count asks)
+      by_answer port count asks text wrote (asked _ other its h) = by_end _ other its text wrote h
+
+    -- each status that is left
+    pub completed : (port count : ℕ) → AsksFor words port count → (is : Status) → (IsStated is → Answers (IsAnswer g words input t) is old new) → (IsSilent is → Wrote old new []) →
+        (is ≡ status.Usage → ⊥) → (is ≡ status.ReadFault → ⊥) → (is ≡ status.WriteFault → ⊥) → (is ≡ status.LinkFault → ⊥) → Completes g words input old new t is
+    completed port count asks status.Done answers silent no_usage no_read no_write no_link = let a = answers tt in by_answer status.Done no_link port count asks a.text a.wrote a.stated
+    completed port count asks status.Refused answers silent no_usage no_read no_write no_link = let a = answers tt in by_answer status.Refused no_link port count asks a.text a.wrote a.stated
+    completed port count asks status.Limit answers silent no_usage no_read no_write no_link = let a = answers tt in by_answer status.Limit no_link port count asks a.text a.wrote a.stated
+    completed port count asks status.Usage answers silent no_usage no_read no_write no_link = absurd (no_usage refl)
+    completed port count asks status.ReadFault answers silent no_usage no_read no_write no_link = absurd (no_read refl)
+    completed port count asks status.WriteFault answers silent no_usage no_read no_write no_link = absurd (no_write refl)
+    completed port count asks status.LinkFault answers silent no_usage no_read no_write no_link = absurd (no_link refl)
+    completed port count asks status.Memory answers silent no_usage no_read no_write no_link = without_memory refl (silent tt)
