@@ -107,10 +107,6 @@ module _ {X : Type 0} where
 
 -- ---- pairs
 
--- each key hash is as long as this
-pub all_long : (pairs : List Pair) (n : ℕ) → n ≤ 32 → All (λ pair. IsHash pair.0) pairs → All (λ pair. n ≤ length pair.0) pairs
-all_long pairs n h all = λ k d lt. let is = all k d lt in omega (arith, is.len)
-
 pub prefix_more : (prefix : List ℕ) (byte : ℕ) (pairs : List Pair) → length prefix < 32 → All (λ pair. IsHash pair.0) pairs →
     with_prefix (prefix ++ byte ∷ []) pairs ≡ with_byte (length prefix) byte (with_prefix prefix pairs)
 prefix_more prefix byte pairs h all =

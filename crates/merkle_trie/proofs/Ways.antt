@@ -109,14 +109,6 @@ module _ (hash : List ℕ → List ℕ) (key : List ℕ) (key_len : length key �
         path = down_path old.nodes new.nodes pairs depth lt leads.path at (some_is _ here is) others;
       }
 
--- the same children everywhere
-pub same_tree : {H B : Type 0} (hash : List ℕ → List ℕ) (old new : Tree H B) (pairs : List Pair) → new.top ≡ old.top → ((other : List ℕ) → children_in new.nodes other ≡ children_in old.nodes other) → IsTree hash old pairs → IsTree hash new pairs
-same_tree hash old new pairs top same is = record {
-  set = is.set;
-  top_is = top ∙ is.top_is;
-  nodes_are = λ prefix lt two. same prefix ∙ is.nodes_are prefix lt two;
-}
-
 byte_at : (key : List ℕ) → IsHash key → (n : ℕ) → n < 32 → slice_index key n < 256
 byte_at key key_is n h = key_is.bytes_are n 0 (let len = key_is.len in omega (arith, len))
 

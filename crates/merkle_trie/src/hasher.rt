@@ -51,7 +51,10 @@ pub struct Blake {
 }
 
 impl Blake {
-    pub fn new() -> Blake {
+    /// A hasher that hasn't hashed yet.
+    pub fn new() -> Blake
+        ensures { result.hashes ≡ 0 }
+    {
         Blake { hashes: 0 }
     }
 
