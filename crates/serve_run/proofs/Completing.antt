@@ -10,7 +10,8 @@ use Rattle.layout_command.proofs.Stated.{SmallerSizes, laid_status, same_setting
 use Rattle.serve_model.specs.Talk.{Grammar}
 use Rattle.serve_run.specs.declared.plan.Plan.{Plan}
 use Rattle.serve_run.specs.Words.{AsksFor}
-use Rattle.serve_run.specs.Plan.{greatest_node, input_limit, IsSaid, IsRefused, not_text, not_toml, bad_field, no_layout, OfInput, SaysPlan}
+use Rattle.lab_main.specs.Limits.{input_limit}
+use Rattle.serve_run.specs.Plan.{greatest_node, IsSaid, IsRefused, not_text, not_toml, bad_field, no_layout, OfInput, SaysPlan}
 use Rattle.serve_run.specs.Told.{Told}
 use Rattle.serve_run.specs.Answer.{IsEnd, long_input, refused, served, link_failed, too_much, no_room, IsStated, IsSilent, IsAnswer, usage, asked, Answers, Completes, served_whole, over_limit, without_room, without_memory}
 use Rattle.serve_run.proofs.Ending.{done_served}

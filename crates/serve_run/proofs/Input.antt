@@ -1,25 +1,14 @@
 -- What the input says, and which stop it is where it says no plan.
-use Rattle.std.proofs.Common.{◌≡◌, ℕ, ◌+◌, ◌<◌, ◌≤◌, Option, Some, None, Result, Ok, Err, IfErr, IfSome, List, length, take, ap, sym, subst, arith}
-use Rattle.std.proofs.lemmas.List.{length-take}
+use Rattle.std.proofs.Common.{◌≡◌, ℕ, ◌+◌, ◌≤◌, Option, Result, Ok, Err, IfErr, IfSome, List, length, take, sym, subst}
 use Rattle.std.specs.Prelude.{IsUtf8}
 use Rattle.std.specs.Result.{IsErrAnd}
+use Rattle.lab_main.proofs.Input.{not_longer, of_all}
 use Rattle.layout_text.specs.Settings.{Settings, said}
 use Rattle.serve_run.specs.declared.stop.Stop.{Stop}
 use Rattle.serve_run.specs.declared.stop.Stop.TheVariants.{Read, Link, Memory, LongInput, Refused, Kept, Number}
-use Rattle.serve_run.specs.Plan.{greatest_node, input_limit, IsRefused, no_layout}
+use Rattle.lab_main.specs.Limits.{input_limit}
+use Rattle.serve_run.specs.Plan.{greatest_node, IsRefused, no_layout}
 use Rattle.serve_run.specs.Stop.{IsOfText, IsOfSettings, IsOfInput}
-
--- an input that was read to one byte past a limit
-pub longer : (left : Option (List ℕ)) (limit : ℕ) (all : List ℕ) → limit < length all → IfSome left (λ bytes. all ≡ take (limit + 1) bytes) → IfSome left (λ bytes. limit < length bytes)
-longer None limit all more h = tt
-longer (Some bytes) limit all more h = omega (arith, ap length h, length-take (limit + 1) bytes)
-
--- what holds of all that was read holds of the input
-pub of_all : (P : List ℕ → Type 0) (left : Option (List ℕ)) (limit : ℕ) (all : List ℕ) → length all ≤ limit → IfSome left (λ bytes. all ≡ take (limit + 1) bytes) → IfSome left (λ bytes. length bytes ≤ limit → all ≡ bytes) → P all →
-    IfSome left (λ bytes. (length bytes ≤ limit) × P bytes)
-of_all P None limit all less h short p = tt
-of_all P (Some bytes) limit all less h short p =
-    let fits : length bytes ≤ limit = omega (arith, ap length h, length-take (limit + 1) bytes) in (fits, subst P (short fits) p)
 
 -- the same stop is handed on
 pub handed_on : {A : Type 0} (P : Stop → Type 0) (r : Result A Stop) (stop : Stop) → IsErrAnd r (λ e. e ≡ stop) → P stop → IfErr r P
@@ -40,7 +29,7 @@ text_of_settings text settings u says Number h = absurd h
 pub input_of_text : (left : Option (List ℕ)) (all : List ℕ) → length all ≤ input_limit → IfSome left (λ bytes. all ≡ take (input_limit + 1) bytes) → IfSome left (λ bytes. length bytes ≤ input_limit → all ≡ bytes) →
     (stop : Stop) → IsOfText all stop → IsOfInput left stop
 input_of_text left all less h short Memory t = tt
-input_of_text left all less h short (Refused line) t = of_all (λ bytes. IsRefused bytes line) left input_limit all less h short t
+input_of_text left all less h short (Refused line) t = of_all (λ bytes. IsRefused bytes line) left input_limit all (not_longer left input_limit all less h short) t
 input_of_text left all less h short Read t = absurd t
 input_of_text left all less h short Link t = absurd t
 input_of_text left all less h short LongInput t = absurd t

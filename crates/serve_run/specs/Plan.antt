@@ -12,10 +12,6 @@ use Rattle.serve_run.specs.declared.plan.Plan.{Plan}
 abbrev pub greatest_node : ℕ
 greatest_node = 16
 
--- how many bytes the input may have
-abbrev pub input_limit : ℕ
-input_limit = 8388608
-
 -- the sets have the greatest partition size for the configured roles, and blocks have a byte or more
 pub record IsPlan (p : Plan) : Type 0 where
   pub greatest : IsGreatest p.config.roles.list p.certified.r p.certified.size p.certified.sets.sets

@@ -11,7 +11,8 @@ use Rattle.serve_loop.specs.declared.service.ServeStop.{ServeStop}
 use Rattle.serve_loop.specs.declared.service.ServeStop.TheVariants as ended
 use Rattle.layout_text.specs.Settings.{Settings}
 use Rattle.layout_command.specs.Answer.{IsLaidOut}
-use Rattle.serve_run.specs.Plan.{input_limit, IsRefused, OfInput}
+use Rattle.lab_main.specs.Limits.{input_limit}
+use Rattle.serve_run.specs.Plan.{IsRefused, OfInput}
 use Rattle.serve_run.specs.declared.stop.Stop.{Stop}
 use Rattle.serve_run.specs.declared.stop.Stop.TheVariants.{Read, Link, Memory, LongInput, Refused, Kept, Number}
 
@@ -41,10 +42,6 @@ status_of LongInput = status.Limit
 status_of (Refused line) = status.Refused
 status_of Kept = status.Limit
 status_of Number = status.Limit
-
--- the input is longer than it may be
-abbrev pub input_line : List ℕ
-input_line = codes "limit input 8388608" ++ 10 ∷ []
 
 -- more bytes were put or copied than may be
 abbrev pub kept_line : List ℕ
