@@ -1,5 +1,6 @@
 //! A connection in memory of whose calls one fails.
-ghost use Rattle.std.specs.Prelude.{◌≡◌, ◌&&◌, ◌||◌, not, IsTrue, None, option_map, option_to_list, is_some, ◌++◌};
+ghost use Rattle.std.specs.Prelude.{◌≡◌, ◌≤◌, ◌&&◌, ◌||◌, not, IsTrue, None, option_map, option_to_list, is_some, ◌++◌};
+ghost use Rattle.lab_outside.specs.Rose.{Rose};
 ghost use Rattle.lab_outside.specs.TcpConnection.{untold};
 
 use lab_outside::{Failed, Link, MemSource, Source};
@@ -12,6 +13,14 @@ pub enum Fault {
     Write(u64),
     /// The first wait for a connection, after which none comes.
     Next,
+}
+
+/// The count after one fault more.
+fn raised(faults: u64) -> u64
+    ensures counted { faults ≤ result }
+    ensures rose { Rose faults result }
+{
+    faults.saturating_add(1)
 }
 
 /// One connection in memory. It takes what is written to it, and tells no bytes.
@@ -110,7 +119,7 @@ impl Link for FaultyLink {
         match self.bytes.read(into) {
             Ok(count) => Ok(count),
             Err(_) => {
-                self.present = Some(faults.saturating_add(1));
+                self.present = Some(raised(faults));
                 Err(Failed)
             }
         }
@@ -122,7 +131,7 @@ impl Link for FaultyLink {
         };
         self.writes = self.writes.saturating_add(1);
         if self.fault == Fault::Write(self.writes) {
-            self.present = Some(faults.saturating_add(1));
+            self.present = Some(raised(faults));
             return Err(Failed);
         }
         let _ = self.written.extend_from_slice(from);

@@ -108,7 +108,7 @@ const REQUESTS: [(&[u8], usize, &[u8], Refusal); 13] = [
 fn the_first_refusal(rt: HostRuntime) -> Result<(), Fail> {
     for (front, count, back, (status, code)) in REQUESTS {
         let mut bytes = front.to_vec(rt.alloc())?;
-        bytes.resize(front.len() + count, b'x')?;
+        bytes.resize(front.len().saturating_add(count), b'x')?;
         bytes.extend_from_slice(back)?;
         let session = served(rt.alloc(), &bytes)?;
         assert_eq!(rt; session.status, Status::Done);
