@@ -19,7 +19,7 @@ use Rattle.replay_run.specs.declared.stop.ReplayStop.TheVariants.{Write, Memory,
 use Rattle.replay_run.specs.Account.{IsText, summary_lines, closing}
 use Rattle.text_model.specs.Played.{ArePlayed}
 use Rattle.replay_run.specs.Replay.{sent_line, ReplayLacksRoom, IsReplay, whole, sent}
-use Rattle.replay_run.specs.Stop.{IsPart, of_turns as part_of_turns, of_all, IsWhole, LacksLine, Halts, number_line, stop_of_memory}
+use Rattle.replay_run.specs.Stop.{IsPart, of_turns as part_of_turns, of_all, IsWhole, LacksLine, Halts, stop_of_memory}
 use Rattle.replay_run.proofs.Leading.{played_fits}
 use Rattle.replay_run.proofs.Causes.{wanting}
 use Rattle.replay_run.proofs.Running.{part_none}
