@@ -6,7 +6,8 @@ use Rattle.object_schema.specs.Schema.{words}
 use Rattle.cluster_machine.specs.World.{Sent, Mark, World, first_waiting, undelivered}
 use Rattle.cluster_machine.specs.Worlds.{FitAll}
 use Rattle.store_model.specs.Run.{World as StoreWorld, State, Outcome, silent, delivers, then_drains, drains}
-use Rattle.store_laws.proofs.Acts.{fit_parts, delivers_lead}
+use Rattle.store_model.proofs.Leads.{delivers_lead}
+use Rattle.store_laws.proofs.Acts.{fit_parts}
 use Rattle.drained_laws.specs.Waiting.{waiting_among, waiting}
 
 -- what the state is after deliveries up to a number, where the first that waits is so

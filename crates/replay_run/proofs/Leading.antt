@@ -1,5 +1,5 @@
 -- The moves of a step lead to its state, and so everything fits after an event whose steps go on.
-use Rattle.std.proofs.Common.{◌≡◌, ℕ, zero, suc, ◌<◌, ◌^◌, Bool, true, false, if◌then◌else◌, Option, Some, None, List, [], ◌∷◌, refl, sym, ap, ◌∙◌, subst, arith}
+use Rattle.std.proofs.Common.{◌≡◌, ℕ, zero, suc, ◌<◌, ◌^◌, Bool, true, false, if◌then◌else◌, Option, Some, None, List, [], ◌∷◌, refl, sym, subst, arith}
 use Rattle.std.specs.Prelude.{⊤}
 use Rattle.std.specs.List.{AllByRecursion}
 use Rattle.crdt_rows.specs.AnyRow.{any_join}
@@ -18,7 +18,8 @@ use Rattle.store_model.specs.declared.event.Event.TheVariants.{Put, Get, Head, D
 use Rattle.store_model.specs.Run.{World, Moving, State, Outcome, silent, refusal, are_buckets, opened, begins, delivers, then_drains, drains, start}
 use Rattle.store_model.specs.Events.{Turn, object_bytes, outcome, after}
 use Rattle.store_model.specs.Turns.{AllFit}
-use Rattle.s3_world.proofs.Leads.{Leads, delivers_leads, run_more, fit_more}
+use Rattle.store_model.proofs.Leads.{Leads, delivers_lead}
+use Rattle.s3_world.proofs.Parts.{fit_more}
 use Rattle.text_model.specs.Played.{Step, deliveries, steps_of, HasSent, GoesOn, AllGoOn}
 
 one_leads : (s : State) (b : Bool) (x y : Outcome) → Leads s x → Leads s y → Leads s (if b then x else y)
@@ -30,16 +31,6 @@ begins_leads s n order =
     let found = are_buckets s.buckets (buckets_of order) in
     one_leads s (is_member_at layouts s.world n) (if found then opened s n order else refusal s NoSuchBucket) (refusal s NotMember) (one_leads s found (opened s n order) (refusal s NoSuchBucket) refl refl) refl
 
-drains_lead : (n : ℕ) (s : State) → Leads s (drains n s)
-drains_lead zero s = refl
-drains_lead (suc n) s =
-    elim (undelivered s.world) as (λ o. Leads s (elim o as (λ o. Outcome) [ None ↦ silent s | Some m ↦ let o = delivers s m in then_drains o (drains n o.state) ])) [
-      | None ↦ refl
-      | Some m ↦
-          let o : Outcome = delivers s m in
-          run_more s.world o.moves (drains n o.state).moves ∙ ap (λ w. world_run any_join words w (drains n o.state).moves) (delivers_leads s m) ∙ drains_lead n o.state
-    ]
-
 pub event_leads : (s : State) (event : Event) (choice : Decision) → Leads s (outcome s event choice)
 event_leads s (Put n bucket key size fill) choice = begins_leads s n (order.Put bucket key (object_bytes size fill) [])
 event_leads s (Get n bucket key) choice = begins_leads s n (order.Get bucket key)
@@ -47,7 +38,7 @@ event_leads s (Head n bucket key) choice = begins_leads s n (order.Head bucket k
 event_leads s (Delete n bucket key) choice = begins_leads s n (order.Delete bucket key)
 event_leads s (Copy n from_bucket from_key bucket key) choice = begins_leads s n (order.Copy from_bucket from_key bucket key None)
 event_leads s (Keys n bucket prefix) choice = begins_leads s n (order.List bucket prefix)
-event_leads s (Deliver m) choice = delivers_leads s m
+event_leads s (Deliver m) choice = delivers_lead s m
 event_leads s (Drain n) choice = drains_lead n s
 event_leads s event choice = refl
 
@@ -66,7 +57,7 @@ delivered_in_steps zero s = tt
 delivered_in_steps (suc n) s =
     elim (undelivered s.world) as (λ o. AreSteps s (elim o as (λ o. List Step) [ None ↦ [] | Some m ↦ record { from = s; outcome = delivers s m } ∷ deliveries n (delivers s m).state ])) [
       | None ↦ tt
-      | Some m ↦ (refl, delivers_leads s m, delivered_in_steps n (delivers s m).state)
+      | Some m ↦ (refl, delivers_lead s m, delivered_in_steps n (delivers s m).state)
     ]
 
 pub are_steps : (s : State) (event : Event) (choice : Decision) → AreSteps s (steps_of s event choice)
@@ -95,7 +86,7 @@ delivered_fit (suc n) s =
       | None ↦ λ h. tt
       | Some m ↦ λ h.
           let o : Outcome = delivers s m in
-          fit_more s.world o.moves (drains n o.state).moves h.0.fits (subst (λ w. FitAll any_join words w (drains n o.state).moves) (sym (delivers_leads s m)) (delivered_fit n o.state h.1))
+          fit_more s.world o.moves (drains n o.state).moves h.0.fits (subst (λ w. FitAll any_join words w (drains n o.state).moves) (sym (delivers_lead s m)) (delivered_fit n o.state h.1))
     ]
 
 steps_fit : (s : State) (event : Event) (choice : Decision) → AllByRecursion GoesOn (steps_of s event choice) → FitAll any_join words s.world (outcome s event choice).moves

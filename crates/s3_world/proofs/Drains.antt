@@ -13,7 +13,8 @@ use Rattle.store_model.specs.Run.{Moving, State, Outcome, silent, delivers, then
 use Rattle.store_model.specs.Turns.{FitsOutcome}
 use Rattle.s3_world.specs.declared.world.S3World.{S3World}
 use Rattle.s3_world.specs.Stands.{IsStore, HasStore, Does, Plays, Overflows}
-use Rattle.s3_world.proofs.Leads.{delivers_leads, run_more, fit_more, room_first, room_rest, all_first, all_rest}
+use Rattle.store_model.proofs.Leads.{delivers_lead, run_more}
+use Rattle.s3_world.proofs.Parts.{fit_more, room_first, room_rest, all_first, all_rest}
 
 -- the outcome of some deliveries, and then of others
 abbrev after_these : List Moving → List Version → List (Line Applied) → Outcome → Outcome
@@ -79,7 +80,7 @@ module _ (first now : S3World) (lines : List (Line Applied)) (left rest count m 
         moves = h.moves ++ o.moves;
         versions = h.versions ++ o.new_versions;
         fits = fit_more s.world h.moves o.moves h.fits (subst (λ w. FitAll any_join words w o.moves) (sym h.leads) does.fits);
-        leads = run_more s.world h.moves o.moves ∙ ap (λ w. run any_join words w o.moves) h.leads ∙ delivers_leads h.state m;
+        leads = run_more s.world h.moves o.moves ∙ ap (λ w. run any_join words w o.moves) h.leads ∙ delivers_lead h.state m;
         all =
             h.all
             ∙ ap (after_these h.moves h.versions lines) (one_left h.state h.stands)

@@ -4,7 +4,7 @@ pub mod Delivers
 pub mod Drains
 pub mod Ends
 pub mod Follows
-pub mod Leads
+pub mod Parts
 pub mod Listed
 pub mod Objects
 pub mod Opens

@@ -34,7 +34,8 @@ use Rattle.store_model.specs.Orders.{buckets_of}
 use Rattle.store_model.specs.Run.{Moving, State, start, Asked, Outcome, silent, refusal, plainly, effect, doing, are_buckets, phases, new_request, opened, began_with, begins, follows, follow, goes_on, delivers, then_drains, drains, Draw}
 use Rattle.store_model.specs.Acts.{Act, moves, installs, asks, delivery, drain, forgets, takes as takes_end, adds, cuts, acted, after_acts, IsOuter, IsLawfulAct, AreLawfulActs, ActsFit}
 use Rattle.store_laws.specs.Promised.{moves_in}
-use Rattle.store_laws.proofs.Acts.{fit_parts, delivers_keeps, delivers_lead, outer_calm, act_keeps}
+use Rattle.store_model.proofs.Leads.{delivers_lead}
+use Rattle.store_laws.proofs.Acts.{fit_parts, delivers_keeps, outer_calm, act_keeps}
 use Rattle.store_laws.proofs.Alike.{alike_same}
 use Rattle.store_laws.proofs.Elements.{none_in, no_entry}
 use Rattle.store_laws.proofs.Enders.{is_calm}

@@ -42,7 +42,8 @@ use Rattle.store_model.specs.Orders.{buckets_of}
 use Rattle.store_model.specs.Run.{Moving, State, start, Asked, Draw, Outcome, silent, refusal, plainly, effect, doing, are_buckets, opened as opens_request, begins, draws_of, takes, follows, follow, goes_on, delivers, then_drains, drains}
 use Rattle.store_model.specs.Acts.{Act, moves, installs, asks, delivery, drain, forgets, takes as takes_end, adds, cuts, acted, after_acts, IsLawfulAct, AreLawfulActs, ActsFit}
 use Rattle.store_laws.specs.Promised.{GoesOn}
-use Rattle.store_laws.proofs.Acts.{fit_parts, delivers_keeps, delivers_lead, act_keeps}
+use Rattle.store_model.proofs.Leads.{delivers_lead}
+use Rattle.store_laws.proofs.Acts.{fit_parts, delivers_keeps, act_keeps}
 use Rattle.store_laws.proofs.Enders.{is_calm}
 use Rattle.store_laws.proofs.Ends.{ends_are}
 use Rattle.store_laws.proofs.Going.{flow_of}

@@ -15,7 +15,7 @@ use Rattle.cluster_machine.specs.declared.step.Step.{Step}
 use Rattle.cluster_machine.specs.declared.step.Step.TheVariants as step
 use Rattle.cluster_machine.specs.Node.{Question, Ended}
 use Rattle.cluster_machine.specs.Run.{IsStep}
-use Rattle.cluster_machine.specs.World.{clock, is_member_at, numbered, undelivered}
+use Rattle.cluster_machine.specs.World.{is_member_at, numbered, undelivered}
 use Rattle.machine_origins.specs.Origins.{stored_by}
 use Rattle.cluster_machine.specs.Worlds.{Model, Doing, next as world_next, Done as Effect, IsMeant, IsLawful, FitAll, run as world_run}
 use Rattle.history_model.specs.declared.record.Cause.TheVariants.{Expired, Restarted}
@@ -27,14 +27,13 @@ use Rattle.flow_model.specs.declared.flow.Aim.TheVariants as aim
 use Rattle.flow_model.specs.declared.flow.Stage.{Stage}
 use Rattle.flow_model.specs.declared.flow.Stage.TheVariants.{Drawing, Looking, Listing}
 use Rattle.flow_model.specs.declared.flow.Flow.{Flow}
-use Rattle.flow_model.specs.declared.flow.FlowStep.{FlowStep}
-use Rattle.flow_model.specs.declared.flow.FlowStep.TheVariants.{More, Wait, End}
 use Rattle.flow_model.specs.Flow.{asks_for, asks_past}
 use Rattle.flow_model.specs.Next.{next}
 use Rattle.store_model.specs.Orders.{buckets_of}
-use Rattle.store_model.specs.Run.{Moving, State, start, Asked, Draw, Outcome, silent, refusal, plainly, effect, doing, is_bucket, are_buckets, phases, new_request, opened, begins, draws_of, takes, follows, follow, goes_on, delivers, then_drains, drains}
+use Rattle.store_model.specs.Run.{Moving, State, start, Asked, Outcome, silent, refusal, plainly, effect, doing, is_bucket, are_buckets, phases, new_request, opened, begins, takes, follows, follow, goes_on, delivers, then_drains, drains}
 use Rattle.store_model.specs.Acts.{Act, moves, installs, asks, delivery, drain, forgets, takes as takes_end, without_end, adds, cuts, endings, plain, acted, after_acts, IsOuter, HasKey, IsLawfulAct, AreLawfulActs, ActsFit}
 use Rattle.store_model.specs.Fresh.{IsFresh}
+use Rattle.store_model.proofs.Leads.{delivers_lead}
 use Rattle.store_laws.proofs.Elements.{bucket_in, none_in}
 use Rattle.store_laws.proofs.Calm.{IsCalmStep}
 use Rattle.store_laws.proofs.Every.{EveryWorld}
@@ -66,41 +65,6 @@ fit_parts join ws w (m ∷ first) rest fits = let more = fit_parts join ws (worl
 pub run_parts : {R : Type 0} (join : R → R → R) (ws : Words R) (w : Model R) (first rest : List (Doing R)) → world_run join ws w (first ++ rest) ≡ world_run join ws (world_run join ws w first) rest
 run_parts join ws w [] rest = refl
 run_parts join ws w (m ∷ first) rest = run_parts join ws (world_next join ws w m) first rest
-
--- the steps of an outcome lead to its world
-takes_leads : (s : State) (q : ℕ) (a : Asked) (ds : List Draw) (st : FlowStep) → world_run any_join words s.world (takes s q a ds st).moves ≡ (takes s q a ds st).state.world
-takes_leads s q a ds (More flow phase) = refl
-takes_leads s q a ds (Wait flow) = refl
-takes_leads s q a ds (End end) = refl
-
-follows_leads : (s : State) (q : ℕ) (a : Asked) (end : PhaseEnd AnyRow) (flow : Option Flow) → world_run any_join words s.world (follows s q a end flow).moves ≡ (follows s q a end flow).state.world
-follows_leads s q a end None = refl
-follows_leads s q a end (Some flow) =
-    let now = clock s.world a.node in
-    takes_leads (record s { saw = record { request = q; end = end } ∷ s.saw }) q a (draws_of s q flow.block flow.stage end now) (next flow end now)
-
-follow_leads : (s : State) (q : ℕ) (asked : Option Asked) (end : PhaseEnd AnyRow) → world_run any_join words s.world (follow s q asked end).moves ≡ (follow s q asked end).state.world
-follow_leads s q None end = refl
-follow_leads s q (Some a) end = follows_leads s q a end a.flow
-
-pub goes_on_leads : (s : State) (ends : List (Ended AnyRow)) → world_run any_join words s.world (goes_on s ends).moves ≡ (goes_on s ends).state.world
-goes_on_leads s [] = refl
-goes_on_leads s (e ∷ es) = follow_leads s e.request (numbered s.asked e.request) e.how
-
-pub delivers_lead : (s : State) (m : ℕ) → world_run any_join words s.world (delivers s m).moves ≡ (delivers s m).state.world
-delivers_lead s m = goes_on_leads (doing s (plainly (step.Deliver m))) (effect s (plainly (step.Deliver m))).ends
-
-pub drains_lead : (n : ℕ) (s : State) → world_run any_join words s.world (drains n s).moves ≡ (drains n s).state.world
-drains_lead zero s = refl
-drains_lead (suc n) s =
-    elim (undelivered s.world) as (λ o. (let r = elim o as (λ o. Outcome) [ None ↦ silent s | Some m ↦ let o = delivers s m in then_drains o (drains n o.state) ] in world_run any_join words s.world r.moves ≡ r.state.world)) [
-      | None ↦ refl
-      | Some m ↦
-          let first : Outcome = delivers s m in
-          run_parts any_join words s.world first.moves (drains n first.state).moves
-          ∙ ap (λ w. world_run any_join words w (drains n first.state).moves) (delivers_lead s m)
-          ∙ drains_lead n first.state
-    ]
 
 -- a list writes nothing
 no_write : {k : Kind} → k ≡ kind.List → IsTrue (is_write k) → {A : Type 0} → A

@@ -26,7 +26,8 @@ use Rattle.store_model.specs.Run.{World, Moving, State, Asked, Draw, Outcome, si
 use Rattle.store_model.specs.Acts.{all_messages}
 use Rattle.store_laws.proofs.Alike.{KeepMore}
 use Rattle.store_laws.proofs.Sound.{IsReached}
-use Rattle.store_laws.proofs.Acts.{run_parts, delivers_lead, drains_lead}
+use Rattle.store_model.proofs.Leads.{delivers_lead, drains_lead}
+use Rattle.store_laws.proofs.Acts.{run_parts}
 
 -- ---- marks
 

@@ -8,7 +8,8 @@ use Rattle.cluster_machine.specs.Worlds.{Model, Doing, FitAll, next as world_nex
 use Rattle.store_model.specs.Run.{World, State, Outcome, silent, delivers, then_drains, drains}
 use Rattle.store_model.specs.Acts.{Act, drain, acted, after_acts, AreLawfulActs, ActsFit}
 use Rattle.store_model.specs.Moments.{IsMoment, between, within}
-use Rattle.store_laws.proofs.Acts.{fit_parts, delivers_lead}
+use Rattle.store_model.proofs.Leads.{delivers_lead}
+use Rattle.store_laws.proofs.Acts.{fit_parts}
 
 lawful_first : (s : State) (before after : List Act) → AreLawfulActs s (before ++ after) → AreLawfulActs s before
 lawful_first s [] after h = tt

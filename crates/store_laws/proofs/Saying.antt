@@ -59,7 +59,8 @@ use Rattle.store_laws.proofs.Values.{read_written}
 use Rattle.store_laws.proofs.Stepping.{step_sound, calm_fine, calm_ends}
 use Rattle.store_laws.proofs.Enders.{is_calm}
 use Rattle.store_laws.proofs.Starting.{start_sound}
-use Rattle.store_laws.proofs.Acts.{fit_parts, delivers_keeps, goes_on_leads, act_keeps}
+use Rattle.store_model.proofs.Leads.{goes_on_leads}
+use Rattle.store_laws.proofs.Acts.{fit_parts, delivers_keeps, act_keeps}
 use Rattle.store_laws.proofs.Once.{draws_differ}
 use Rattle.store_laws.proofs.Telling.{Tells, Grows, tells_later, tells_none, tells_one, tells_both, step_tells}
 
