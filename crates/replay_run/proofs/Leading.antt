@@ -18,7 +18,7 @@ use Rattle.store_model.specs.declared.event.Event.TheVariants.{Put, Get, Head, D
 use Rattle.store_model.specs.Run.{World, Moving, State, Outcome, silent, refusal, are_buckets, opened, begins, delivers, then_drains, drains, start}
 use Rattle.store_model.specs.Events.{Turn, object_bytes, outcome, after}
 use Rattle.store_model.specs.Turns.{AllFit}
-use Rattle.store_model.proofs.Leads.{Leads, delivers_lead}
+use Rattle.store_model.proofs.Leads.{Leads, delivers_lead, drains_lead}
 use Rattle.s3_world.proofs.Parts.{fit_more}
 use Rattle.text_model.specs.Played.{Step, deliveries, steps_of, HasSent, GoesOn, AllGoOn}
 
