@@ -1,5 +1,5 @@
 //! Numbers, strings of bytes and digests.
-ghost use Rattle.std.specs.Prelude.{◌≡◌, ◌++◌, true, IsTrue, OnOk};
+ghost use Rattle.std.specs.Prelude.{◌≡◌, ◌++◌, true, None, IsTrue, OnOk, OnErr};
 ghost use Rattle.crdt_core.specs.Outcomes.{OnlyWant};
 ghost use Rattle.row_codec.specs.Gives.{Gives};
 ghost use Rattle.row_codec.specs.NumberLaws.{eight_reads, field_reads};
@@ -25,7 +25,8 @@ pub const LIMIT: usize = 1 << 32;
 // The first N bytes, and the rest.
 #[tactic(auto, unfolding(row_codec::specs::Reading::bytes_at))]
 fn front<const N: usize>(bytes: &[u8]) -> Result<(&[u8; N], &[u8]), Fault>
-    ensures { Gives (λ x. (x.0.now, x.1.now)) result (bytes_at N bytes.now) }
+    ensures gives { Gives (λ x. (x.0.now, x.1.now)) result (bytes_at N bytes.now) }
+    ensures ended { OnErr result (bytes_at N bytes.now ≡ None) }
 {
     match bytes.split_first_chunk::<N>() {
         Some((front, rest)) => Ok((front, rest)),
@@ -51,9 +52,11 @@ pub fn put_count(count: u32, out: &mut Bytes) -> Result<(), Memory>
     out.extend_from_slice(&count.to_be_bytes())
 }
 
+/// The count that the first 4 bytes are, and the rest. It takes no memory.
 #[tactic(auto, unfolding(row_codec::specs::Reading::four_at))]
 pub fn take_count(bytes: &[u8]) -> Result<(u32, &[u8]), Fault>
-    ensures { Gives (λ x. (x.0, x.1.now)) result (four_at bytes.now) }
+    ensures gives { Gives (λ x. (x.0, x.1.now)) result (four_at bytes.now) }
+    ensures ended { OnErr result (four_at bytes.now ≡ None) }
 {
     let (count, rest) = front::<4>(bytes)?;
     Ok((u32::from_be_bytes(*count), rest))
