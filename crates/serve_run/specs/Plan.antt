@@ -1,6 +1,7 @@
 -- What a server is made of, and what its input says.
 use Rattle.std.specs.Prelude.{◌≡◌, ℕ, ◌≤◌, List, length, IsUtf8, Option, Some, Ok, Err, IfSome}
 use Rattle.lab_outside.specs.declared.exit.Status.TheVariants.{Refused}
+use Rattle.lab_main.specs.Limits.{input_limit}
 use Rattle.layout_roles.specs.Fits.{IsGreatest}
 use Rattle.layout_text.specs.declared.config.FieldName.{FieldName}
 use Rattle.layout_text.specs.declared.config.ConfigFault.TheVariants.{NotToml, Field}

@@ -11,7 +11,7 @@ use Rattle.serve_loop.specs.declared.service.ServeStop.{ServeStop}
 use Rattle.serve_loop.specs.declared.service.ServeStop.TheVariants as ended
 use Rattle.layout_text.specs.Settings.{Settings}
 use Rattle.layout_command.specs.Answer.{IsLaidOut}
-use Rattle.lab_main.specs.Limits.{input_limit}
+use Rattle.lab_main.specs.Limits.{input_limit, input_line}
 use Rattle.serve_run.specs.Plan.{IsRefused, OfInput}
 use Rattle.serve_run.specs.declared.stop.Stop.{Stop}
 use Rattle.serve_run.specs.declared.stop.Stop.TheVariants.{Read, Link, Memory, LongInput, Refused, Kept, Number}
