@@ -1,0 +1,5 @@
+use Rattle.program_tests.proofs.lent.stepped.Goals as goal
+
+-- the event leads to a state
+pub returns : goal.returns
+returns c = record { stands = (_, (c.in_ok-step.ensures.plays c.requires.stands.0 c.requires.stands.1).does.stands) }
