@@ -15,9 +15,8 @@ use Rattle.garage_lab.specs.declared.stop.Stop.TheVariants.{Read, Write, Memory,
 use Rattle.replay_run.specs.declared.stop.ReplayStop.{ReplayStop}
 use Rattle.replay_run.specs.declared.stop.ReplayStop.TheVariants as halt
 use Rattle.replay_run.specs.Replay.{sent_line}
-use Rattle.replay_run.specs.Stop.{number_line}
 use Rattle.garage_lab.specs.declared.command.Command.TheVariants.{Replay}
-use Rattle.lab_main.specs.Limits.{input_line}
+use Rattle.lab_main.specs.Limits.{input_line, number_line}
 use Rattle.garage_lab.specs.Answer.{events_line, bad_line_text, IsAnswer, ReplayPrefix}
 
 -- why a read of the input stopped

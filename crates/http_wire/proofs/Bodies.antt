@@ -22,13 +22,6 @@ all_kept kept front size after c d e t short =
     let cut : length front ≡ min size (length kept) = ap length e ∙ length-take size kept in
     e ∙ take_all size kept (omega arith)
 
--- all bytes of the body have come
-pub filled_body : (kept front rest : List ℕ) (size : ℕ) (after : List ℕ) (c d : Connection) → front ≡ take size kept → rest ≡ drop size kept → FillsPlace size front (Ok tt) after c d → ReadsBody kept size (Ok after) rest c d
-filled_body kept front rest size after c d e f h = elim (cases_lt (length kept) size) [ inl short ↦ short_body short | inr long ↦ long_body long ]
-  where
-    longer : length after ≡ length front + length h.0.taken
-    longer = ap length h.0.seen_is ∙ length-append front h.0.taken
-
     -- all that was kept belongs to the body
     short_body : length kept < size → ReadsBody kept size (Ok after) rest c d
     short_body short =
@@ -58,17 +51,6 @@ filled_body kept front rest size after c d e f h = elim (cases_lt (length kept) 
               };
           body_is = record { whole = sym (ap (λ x. x ++ rest) (same ∙ e) ∙ ap (λ x. take size kept ++ x) f ∙ take-append-drop size kept); size_is = h.1 };
         }
-
--- fewer bytes have come, and all are kept then
-pub unfilled_body : (kept front : List ℕ) (size : ℕ) (after : List ℕ) (end : HeadEnd) (c d : Connection) → front ≡ take size kept → FillsPlace size front (Err end) after c d → ReadsBody kept size (Err end) after c d
-unfilled_body kept front size after Bad c d e h = absurd h
-unfilled_body kept front size after TooLong c d e h = absurd h
-unfilled_body kept front size after Memory c d e h = absurd h
-unfilled_body kept front size after Closed c d e h = let P : List ℕ → Type 0 = λ x. Takes x after c d in (subst P (all_kept kept front size after c d e h.0 h.1) h.0, h.1, h.2)
-unfilled_body kept front size after Failed c d e h =
-    let then : Connection = record d { faults = c.faults } in
-    let P : List ℕ → Type 0 = λ x. Takes x after c then in
-    (subst P (all_kept kept front size after c then e h.0.0 h.1) h.0.0, h.0.1)
 
 -- bytes that are read stand behind those that had come
 pub place_grows : (a m k : ℕ) (xs ys : List ℕ) → a ≤ length xs → m ≤ length ys → take (a + m) (put_mid a k xs ys) ≡ take a xs ++ take m ys

@@ -41,13 +41,6 @@ written_more old now new bytes rest n w k =
       wrote = wrote_more old now new w.front (take n rest) w.wrote k;
     }
 
-pub written_all : (old now : Option (List ℕ)) (bytes rest : List ℕ) → Written old now bytes rest → length rest ≡ 0 → Wrote old now bytes
-written_all old now bytes [] w e = let P : List ℕ → Type 0 = Wrote old now in subst P (sym (append-nil w.front) ∙ w.whole) w.wrote
-written_all old now bytes (b ∷ rest) w e = absurd (omega arith)
-
-pub written_part : (old now : Option (List ℕ)) (bytes rest : List ℕ) → Written old now bytes rest → WrotePrefix old now bytes
-written_part old now bytes rest w = record { front = w.front; rest = rest; whole = w.whole; wrote = w.wrote }
-
 -- a first part of what comes next is a first part of both
 pub wrote_prefix_after : (old mid new : Option (List ℕ)) (a b : List ℕ) → Wrote old mid a → WrotePrefix mid new b → WrotePrefix old new (a ++ b)
 wrote_prefix_after old mid new a b h k =

@@ -12,7 +12,7 @@ use Rattle.layout_roles.specs.Zones.{Name, name_of, nodes_ascend, is_storage, st
 use Rattle.layout_roles.specs.Fits.{NodeSet, has_node, IsThree, zones_of}
 use Rattle.layout_flow.proofs.Sums.{yes, no, sum_by-plus, sum_by-agree, sum_by-below, sum_by-swap, sum_by-map, sum_by-none, sum_by-constant}
 use Rattle.layout_flow.proofs.Lightest.{is_one, is_two, is_three, one_to_three}
-use Rattle.layout_roles.proofs.Names.{same_true}
+use Rattle.layout_roles.proofs.ZoneNames.{same_true}
 use Rattle.layout_flow.proofs.Zones.{count-cons, count_none, count_some, count_at, count_times, same_itself, names_once, zone_once, sum_by_zones, stored_once}
 
 -- ---- the roles of the nodes of a set

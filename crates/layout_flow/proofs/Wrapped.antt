@@ -15,7 +15,7 @@ use Rattle.layout_flow.specs.Totals.{copies_in}
 use Rattle.layout_roles.specs.Sets.{put_node, in_order}
 use Rattle.layout_flow.specs.Closed.{copies_for, copies_of, zone_copies, all_copies}
 use Rattle.layout_flow.proofs.Sums.{yes, no, sum_by-agree, sum_by-below, sum_by-map, sum_by-filter}
-use Rattle.layout_roles.proofs.Names.{same_true}
+use Rattle.layout_roles.proofs.ZoneNames.{same_true}
 use Rattle.layout_flow.proofs.Zones.{count-cons, count_none, count_some, count_at, count_filter, any_from_count, any_of_one, names_once, stored_once, zones_once}
 use Rattle.layout_flow.proofs.Lies.{Lies, lies_short, lies_take, lies_flat, any_flat, any_take, any_replicate, All-flat_map}
 

@@ -10,7 +10,7 @@ use Rattle.std.proofs.lemmas.List.Elements.{All-cons, All-nil}
 use Rattle.layout_roles.specs.declared.role.Role.{Role}
 use Rattle.layout_roles.specs.Zones.{Name, name_of, ascend_from, nodes_ascend, is_storage, storage_nodes, put_in_order, same_name, with_name, zone_names, is_in_zone, nodes_in, zones}
 use Rattle.layout_flow.proofs.Sums.{yes, no, sum_by-agree, sum_by-below, sum_by-swap, sum_by-filter, sum_by-map}
-use Rattle.layout_roles.proofs.Names.{same_true}
+use Rattle.layout_roles.proofs.ZoneNames.{same_true}
 
 -- ---- tests and counts
 

@@ -22,10 +22,6 @@ use Rattle.layout_moves.specs.Listing.{with_potential}
 
 -- ---- the dearest
 
-pub dearest_more : (asks : ℕ → ℕ) (nodes : List ℕ) (i d : ℕ) → i < length nodes → dearest asks (take (i + 1) nodes) ≡ max (dearest asks (take i nodes)) (asks (get_or nodes i d))
-dearest_more asks nodes i d h =
-    ap (dearest asks) (take_more nodes i d h) ∙ max_push (dearest asks) asks refl (λ _ _. refl) (take i nodes) (get_or nodes i d)
-
 pub dearest_more_yes : (asks : ℕ → ℕ) (test : ℕ → Bool) (nodes : List ℕ) (i d : ℕ) → i < length nodes → test (get_or nodes i d) ≡ true →
     dearest asks (filter test (take (i + 1) nodes)) ≡ max (dearest asks (filter test (take i nodes))) (asks (get_or nodes i d))
 dearest_more_yes asks test nodes i d h t =

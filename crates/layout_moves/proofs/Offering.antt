@@ -24,33 +24,6 @@ pub recast : (test other : ℕ → Bool) (asks : ℕ → ℕ) (best : Option Off
 recast test other asks None same c = record { least = λ n h. c.least n (sym (same n) ∙ h); made = tt }
 recast test other asks (Some offer) same c = record { least = λ n h. c.least n (sym (same n) ∙ h); made = (same offer.node ∙ c.made.0, c.made.1) }
 
-pub cheaper_none : (test : ℕ → Bool) (asks : ℕ → ℕ) (offer : Offer) → IsCheapest test asks None → offer.price ≡ asks offer.node → IsCheapest (λ node. test node || nat_eq node offer.node) asks (Some offer)
-cheaper_none test asks offer c e = record {
-  least = λ n h. elim (or_cases (test n) (nat_eq n offer.node) h) [
-    | inl t ↦ absurd (c.least n t)
-    | inr s ↦ let same = ap asks (eqb-true n offer.node s) in omega arith
-  ];
-  made = (or_right (test offer.node) (nat_eq offer.node offer.node) (eq-eqb offer.node offer.node refl), e);
-}
-
-pub cheaper_new : (test : ℕ → Bool) (asks : ℕ → ℕ) (before offer : Offer) → offer.price < before.price → IsCheapest test asks (Some before) → offer.price ≡ asks offer.node → IsCheapest (λ node. test node || nat_eq node offer.node) asks (Some offer)
-cheaper_new test asks before offer less c e = record {
-  least = λ n h. elim (or_cases (test n) (nat_eq n offer.node) h) [
-    | inl t ↦ let l : before.price ≤ asks n = c.least n t in omega arith
-    | inr s ↦ let same = ap asks (eqb-true n offer.node s) in omega arith
-  ];
-  made = (or_right (test offer.node) (nat_eq offer.node offer.node) (eq-eqb offer.node offer.node refl), e);
-}
-
-pub cheaper_old : (test : ℕ → Bool) (asks : ℕ → ℕ) (before offer : Offer) → before.price ≤ offer.price → IsCheapest test asks (Some before) → offer.price ≡ asks offer.node → IsCheapest (λ node. test node || nat_eq node offer.node) asks (Some before)
-cheaper_old test asks before offer le c e = record {
-  least = λ n h. elim (or_cases (test n) (nat_eq n offer.node) h) [
-    | inl t ↦ c.least n t
-    | inr s ↦ let same = ap asks (eqb-true n offer.node s) in omega arith
-  ];
-  made = (or_left (test before.node) (nat_eq before.node offer.node) c.made.0, c.made.1);
-}
-
 equal_either : (a b : ℕ) → (a == b) ≡ nat_eq b a
 equal_either a b = elim (cases_Bool (a == b)) [
   | inl t ↦ t ∙ sym (eq-eqb b a (sym (eqb-true a b t)))
@@ -179,11 +152,6 @@ bid_next fee zs each old sets prices out i best after is kept made last = record
   ];
   made = made;
 }
-
-pub bid_skip : (fee : ℕ) (zs : List (List Role)) (each : ℕ) (old sets : List NodeSet) (prices : List ℕ) (out i : ℕ) (best : Option Bid) → IsLeastBid fee zs each old sets prices out i best →
-    ((node : ℕ) → IsTrue (has_node out (set_at sets i)) → IsTrue (may_take each (set_at sets i) out zs node) → ⊥) → IsLeastBid fee zs each old sets prices out (i + 1) best
-bid_skip fee zs each old sets prices out i best is none =
-    bid_next fee zs each old sets prices out i best best is (λ low high h. h) (weaker fee zs each old sets prices out i best is.made) (λ has node t. absurd (none node has t))
 
 pub bid_made : (fee : ℕ) (zs : List (List Role)) (each : ℕ) (old sets : List NodeSet) (prices : List ℕ) (out i : ℕ) (best after : Option Bid) (bid : Bid) → IsLeastBid fee zs each old sets prices out i best →
     ((low high : ℕ) → RisesAtMost best low high → RisesAtMost after low high) → ((low high : ℕ) → low + bid.rise ≤ high + 1 → RisesAtMost after low high) → (after ≡ best) ⊎ (after ≡ Some bid) →

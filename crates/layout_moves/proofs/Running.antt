@@ -11,7 +11,7 @@ use Rattle.layout_roles.specs.Zones.{Name, name_of, nodes_ascend, is_numbered, i
 use Rattle.layout_roles.specs.Fits.{NodeSet, has_node, load, room, partitions, is_storage_node, Fits}
 use Rattle.layout_flow.proofs.Sums.{no, sum_by-filter, sum_by-agree, sum_by-none}
 use Rattle.layout_flow.proofs.Zones.{count_none, zone_once}
-use Rattle.layout_roles.proofs.Names.{same_true}
+use Rattle.layout_roles.proofs.ZoneNames.{same_true}
 use Rattle.layout_flow.proofs.Spread.{in_set, spread_from_few}
 use Rattle.layout_moves.specs.Moves.{set_at}
 use Rattle.layout_moves.specs.Prices.{kept, IsBase, IsCheap, IsSwap, asked}
@@ -165,15 +165,6 @@ fits_from roles r size sets low great ascend whole bases within = record {
 }
 
 -- ---- between slices and lists
-
-pub cheap_moved : (roles : List Role) (r : ℕ) (old sets sets' : List NodeSet) (prices prices' : List ℕ) (groups : List (List Role)) → sets' ≡ sets → prices' ≡ prices → groups ≡ zones roles → length sets ≡ 256 →
-    ((p : ℕ) → p < 256 → IsCheap 1 (4 - r) (zones roles) (asked 66 (set_at old p) prices) (set_at sets p)) →
-    (p : ℕ) → p < length sets' → IsCheap 1 (4 - r) groups (asked 66 (set_at old p) prices') (set_at sets' p)
-cheap_moved roles r old sets sets' prices prices' groups e f g whole cheap p less =
-    let len = ap (λ (xs : List NodeSet). length xs) e in
-    subst (λ (zs : List (List Role)). IsCheap 1 (4 - r) zs (asked 66 (set_at old p) prices') (set_at sets' p)) (sym g)
-    (subst (λ (xs : List ℕ). IsCheap 1 (4 - r) (zones roles) (asked 66 (set_at old p) xs) (set_at sets' p)) (sym f)
-    (subst (λ (xs : List NodeSet). IsCheap 1 (4 - r) (zones roles) (asked 66 (set_at old p) prices) (set_at xs p)) (sym e) (cheap p (omega arith))))
 
 pub bid_moved : (roles : List Role) (r : ℕ) (old sets sets' : List NodeSet) (prices prices' : List ℕ) (groups : List (List Role)) (out : ℕ) (best : Option Bid) → sets' ≡ sets → prices' ≡ prices → groups ≡ zones roles → length sets ≡ 256 →
     IsLeastBid 66 groups (4 - r) old sets' prices' out (length sets') best → IsLeastBid 66 (zones roles) (4 - r) old sets prices out 256 best

@@ -35,12 +35,6 @@ three_sum f (a ∷ b ∷ []) e = absurd (omega arith)
 three_sum f (a ∷ b ∷ c ∷ []) e = omega (arith, sum_by-cons f a (b ∷ c ∷ []), sum_by-cons f b (c ∷ []), sum_by-cons f c [])
 three_sum f (a ∷ b ∷ c ∷ d ∷ rest) e = absurd (omega arith)
 
-pub swap_first : (set : NodeSet) (out new : ℕ) → length set ≡ 3 → get_or set 0 0 ≡ out → IsSwap set out new (in_order new (get_or set 1 0) (get_or set 2 0))
-swap_first set out new three e = record { sums = λ f. omega (arith, order_sum f new (get_or set 1 0) (get_or set 2 0), three_sum f set three, ap f e) }
-
-pub swap_second : (set : NodeSet) (out new : ℕ) → length set ≡ 3 → get_or set 1 0 ≡ out → IsSwap set out new (in_order (get_or set 0 0) new (get_or set 2 0))
-swap_second set out new three e = record { sums = λ f. omega (arith, order_sum f (get_or set 0 0) new (get_or set 2 0), three_sum f set three, ap f e) }
-
 pub swap_third : (set : NodeSet) (out new : ℕ) → length set ≡ 3 → get_or set 2 0 ≡ out → IsSwap set out new (in_order (get_or set 0 0) (get_or set 1 0) new)
 swap_third set out new three e = record { sums = λ f. omega (arith, order_sum f (get_or set 0 0) (get_or set 1 0) new, three_sum f set three, ap f e) }
 

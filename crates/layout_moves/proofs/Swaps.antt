@@ -64,9 +64,6 @@ kept_as_sum set zone different =
     (λ k d h. any_as_count (nat_eq (get_or zone k d).node) set (distinct_once (get_or zone k d).node set different)) in
     a ∙ sum_by-swap (λ (role : Role) (n : ℕ). cond (nat_eq role.node n) 1 0) zone set
 
-has_as_count : (node : ℕ) (set : NodeSet) → IsDistinct nat_eq set → cond {A = ℕ} (has_node node set) 1 0 ≡ count_by (nat_eq node) set
-has_as_count node set different = any_as_count (nat_eq node) set (distinct_once node set different)
-
 -- ---- a swap
 
 pub record Swapped (roles : List Role) (each : ℕ) (set : NodeSet) (out new : ℕ) (after : NodeSet) : Type 0 where
@@ -76,13 +73,6 @@ pub record Swapped (roles : List Role) (each : ℕ) (set : NodeSet) (out new : �
   pub stored : IsTrue (is_storage_node roles new)
   pub taken : IsTrue (may_take each set out (zones roles) new)
   pub swap : IsSwap set out new after
-
-bit_le : (b : Bool) → cond {A = ℕ} b 1 0 ≤ 1
-bit_le true = le_refl 1
-bit_le false = omega arith
-
-equal_as_count : (m n : ℕ) → cond {A = ℕ} (nat_eq m n) 1 0 ≤ 1
-equal_as_count m n = bit_le (nat_eq m n)
 
 -- in whom the nodes of the sets differ
 swap_count : (set after : NodeSet) (out new m : ℕ) → IsSwap set out new after → count_by (nat_eq m) after + cond (nat_eq m out) 1 0 ≡ count_by (nat_eq m) set + cond (nat_eq m new) 1 0

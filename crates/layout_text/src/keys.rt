@@ -12,6 +12,7 @@ ghost use Rattle.layout_text.specs.Keys.{is_region_byte, is_region, is_id_byte, 
 use crate::config::{ConfigFault, FieldName};
 use crate::values;
 use crdt_core::{Bytes, List, Memory};
+use layout_roles::is_name_byte;
 use std::alloc::Global;
 use toml::{Table, Value};
 
@@ -40,7 +41,7 @@ pub struct Access {
 fn is_region_byte(byte: u8) -> bool
     ensures { result ≡ is_region_byte byte }
 {
-    values::is_name_byte(byte) || byte == b'-'
+    is_name_byte(byte) || byte == b'-'
 }
 
 fn are_region_bytes(bytes: &[u8]) -> bool
@@ -58,7 +59,7 @@ fn is_region(text: &[u8]) -> bool
 fn is_id_byte(byte: u8) -> bool
     ensures { result ≡ is_id_byte byte }
 {
-    values::is_name_byte(byte) || matches!(byte, b'A'..=b'Z')
+    is_name_byte(byte) || matches!(byte, b'A'..=b'Z')
 }
 
 fn are_id_bytes(bytes: &[u8]) -> bool

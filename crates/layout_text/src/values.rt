@@ -1,14 +1,13 @@
 //! The values of a configuration's keys.
-ghost use Rattle.std.specs.Prelude.{◌≡◌, ◌<◌, ◌≤◌, ◌-◌, IfSome, ◌&&◌, length, slice_index, option_map, option_copied, option_and_then};
-ghost use Rattle.std.specs.List.{list_all, list_any};
+ghost use Rattle.std.specs.Prelude.{◌≡◌, ◌≤◌, IfSome, option_map, option_copied, option_and_then};
+ghost use Rattle.std.specs.List.{list_any};
 ghost use Rattle.toml.specs.Data.{get_member, as_array};
 ghost use Rattle.toml.specs.View.{view, array_view, table_view};
 ghost use Rattle.layout_roles.specs.Zones.{same_name};
-ghost use Rattle.layout_roles.specs.Names.{is_name_byte, is_bucket_byte, is_bucket_name, is_zone_name};
 ghost use Rattle.layout_text.specs.Values.{between, number_in, redundancy_of, redundancy_in, bucket_of, block_size_in, is_taken, id_in, zone_of, zone_in, is_set, kind_in};
 
 use crdt_core::Bytes;
-use layout_roles::{Kind, Redundancy, Role};
+use layout_roles::{Kind, Redundancy, Role, is_bucket_name, is_zone_name};
 use toml::value::Array;
 use toml::{Table, Value};
 
@@ -77,37 +76,6 @@ pub(crate) fn redundancy(root: &Table) -> Option<Redundancy>
     }
 }
 
-pub(crate) fn is_name_byte(byte: u8) -> bool
-    ensures { result ≡ is_name_byte byte }
-{
-    matches!(byte, b'a'..=b'z' | b'0'..=b'9')
-}
-
-fn is_bucket_byte(byte: u8) -> bool
-    ensures { result ≡ is_bucket_byte byte }
-{
-    is_name_byte(byte) || byte == b'-' || byte == b'.'
-}
-
-fn are_bucket_bytes(bytes: &[u8]) -> bool
-    ensures { result ≡ list_all is_bucket_byte bytes.now }
-{
-    bytes.iter().all(|byte| is_bucket_byte(*byte))
-}
-
-fn has_name_ends(name: &[u8]) -> bool
-    requires { 0 < length name.now }
-    ensures { result ≡ (is_name_byte (slice_index name.now 0) && is_name_byte (slice_index name.now (length name.now - 1))) }
-{
-    is_name_byte(name[0]) && is_name_byte(name[name.len() - 1])
-}
-
-fn is_bucket_name(name: &[u8]) -> bool
-    ensures { result ≡ is_bucket_name name.now }
-{
-    3 <= name.len() && name.len() <= 63 && are_bucket_bytes(name) && has_name_ends(name)
-}
-
 /// A bucket's name that none of these before it is: 3 to 63 lower-case letters, digits, `-` and `.`, the
 /// first and the last a letter or digit.
 pub(crate) fn bucket_of<'a>(before: &[Bytes], value: &'a Value) -> Option<&'a str>
@@ -154,18 +122,6 @@ pub(crate) fn id(greatest: u8, before: &[Role], node: &Table) -> Option<u8>
     let value = value_at(node, "id")?;
     let id = number_in(value, 1, u64::from(greatest.min(64)))? as u8;
     if is_taken(before, id) { None } else { Some(id) }
-}
-
-fn are_name_bytes(bytes: &[u8]) -> bool
-    ensures { result ≡ list_all is_name_byte bytes.now }
-{
-    bytes.iter().all(|byte| is_name_byte(*byte))
-}
-
-fn is_zone_name(name: &[u8]) -> bool
-    ensures { result ≡ is_zone_name name.now }
-{
-    1 <= name.len() && name.len() <= 16 && are_name_bytes(name)
 }
 
 fn zone_of(value: &Value) -> Option<&str>

@@ -265,16 +265,6 @@ module _ (q : ℕ) (name : Name) (version : Version) (block : ℕ) (c : Content)
   is_part (suc last) r (inl e) = (suc last, omega arith, sym e)
   is_part (suc last) r (inr h) = let rest = is_part last r h in let low = rest.1 in (rest.0, omega (arith, low), rest.2)
 
-  at_version : (i : ℕ) → is_at words 2 (eight id) (version_row id block c.body i) ≡ true
-  at_version i =
-      elim (is_at words 2 (eight id) (version_row id block c.body i)) as (λ t. is_at words 2 (eight id) (version_row id block c.body i) ≡ t → t ≡ true) [
-        | true ↦ λ e. refl
-        | false ↦ λ e. absurd (some_none (sym (joins_there (version_row id block c.body i) [] 2 (eight id) refl refl) ∙ ap (λ t. cond t (option_join any_join None (Some (version_row id block c.body i))) None) e))
-      ] refl
-    where
-      some_none : {x : AnyRow} → Some x ≡ None → ⊥
-      some_none e = cc
-
   module _ (b : List AnyRow) (had : row_at any_join words b 2 (eight id) ≡ None) (news : List AnyRow) (mine : AllByRecursion IsMine news) (came : (i : ℕ) → has_piece block c.body i ≡ true → Has news (version_row id block c.body i)) (last : ℕ) (last_is : count ≡ suc last) where
     -- nothing was there before
     none_there : (older : List AnyRow) → row_at any_join words older 2 (eight id) ≡ None → (r : AnyRow) → Has older r → is_at words 2 (eight id) r ≡ true → ⊥

@@ -7,6 +7,7 @@ use Rattle.cluster_machine.specs.World.{undelivered}
 use Rattle.store_model.specs.declared.event.Event.TheVariants.{Deliver}
 use Rattle.store_model.specs.declared.event.Told.{Told}
 use Rattle.store_model.specs.Run.{State, Outcome, silent, delivers, then_drains, drains}
+use Rattle.store_model.proofs.Drains.{drains_one, drains_none}
 use Rattle.s3_world.specs.declared.world.S3World.{S3World}
 use Rattle.s3_world.specs.Stands.{IsStore, HasStore}
 use Rattle.replay_run.specs.declared.stop.ReplayStop.{ReplayStop}
@@ -19,13 +20,6 @@ use Rattle.replay_run.proofs.Causes.{all_push}
 -- a delivery as a step
 abbrev pub delivered : State → ℕ → Step
 delivered s m = record { from = s; outcome = delivers s m }
-
-drains_one : (n m : ℕ) (s : State) → undelivered s.world ≡ Some m → drains (suc n) s ≡ then_drains (delivers s m) (drains n (delivers s m).state)
-drains_one n m s e = rw (e, drains) refl
-
-drains_none : (n : ℕ) (s : State) → undelivered s.world ≡ None → drains n s ≡ silent s
-drains_none zero s e = refl
-drains_none (suc n) s e = rw (e, drains) refl
 
 deliveries_one : (n m : ℕ) (s : State) → undelivered s.world ≡ Some m → deliveries (suc n) s ≡ delivered s m ∷ deliveries n (delivers s m).state
 deliveries_one n m s e = rw (e, deliveries) refl

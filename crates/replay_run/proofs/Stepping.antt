@@ -1,5 +1,5 @@
 -- An event, step by step.
-use Rattle.std.proofs.Common.{◌≡◌, ℕ, zero, suc, ◌<◌, ◌≤◌, Some, None, Result, Ok, Err, IfOk, List, [], ◌∷◌, refl, sym, ap, subst}
+use Rattle.std.proofs.Common.{◌≡◌, ℕ, ◌<◌, ◌≤◌, Some, None, Result, Ok, Err, IfOk, List, [], ◌∷◌, refl, sym, ap, subst}
 use Rattle.std.specs.List.{AllByRecursion}
 use Rattle.cluster_machine.specs.declared.line.Line.{Line}
 use Rattle.cluster_machine.specs.declared.step.Refusal.TheVariants.{VersionLimit}
@@ -7,11 +7,11 @@ use Rattle.cluster_machine.specs.declared.step.Words.TheVariants.{Empty}
 use Rattle.cluster_machine.specs.declared.applied.Applied.{Applied}
 use Rattle.cluster_machine.specs.Choices.{Decision}
 use Rattle.cluster_machine.specs.Step.{none_given}
-use Rattle.cluster_machine.specs.World.{undelivered}
 use Rattle.store_model.specs.declared.event.Event.{Event}
 use Rattle.store_model.specs.declared.event.Event.TheVariants.{Drain}
 use Rattle.store_model.specs.declared.event.Told.{Told}
-use Rattle.store_model.specs.Run.{State, Outcome, silent, delivers, then_drains, drains}
+use Rattle.store_model.specs.Run.{State, Outcome, delivers, drains}
+use Rattle.store_model.proofs.Drains.{drains_quietly, drains_empty}
 use Rattle.s3_world.specs.declared.world.S3World.{S3World}
 use Rattle.s3_world.specs.Stands.{IsStore, PlaysEvent, OverflowsEvent, EventLacksRoom}
 use Rattle.replay_run.specs.declared.stop.ReplayStop.{ReplayStop}
@@ -33,15 +33,6 @@ module _ (old new : S3World) (told : Told) (event : Event) (plays : PlaysEvent o
 -- there was no room for it
 pub step_lacks : (old : S3World) (event : Event) → OverflowsEvent old event → StepStops old event Number
 step_lacks old event full = λ s d. let no : EventLacksRoom s event = full s d in record { choice = no.choice; lawful = no.lawful; is_so = no.lacks }
-
--- a drain says nothing but what its deliveries tell
-drains_quietly : (n : ℕ) (s : State) → (drains n s).refused ≡ None
-drains_quietly zero s = refl
-drains_quietly (suc n) s = elim (undelivered s.world) as (λ o. (elim o as (λ o. Outcome) [ None ↦ silent s | Some m ↦ let o = delivers s m in then_drains o (drains n o.state) ]).refused ≡ None) [ None ↦ refl | Some m ↦ refl ]
-
-drains_empty : (n : ℕ) (s : State) → (drains n s).words ≡ Empty
-drains_empty zero s = refl
-drains_empty (suc n) s = elim (undelivered s.world) as (λ o. (elim o as (λ o. Outcome) [ None ↦ silent s | Some m ↦ let o = delivers s m in then_drains o (drains n o.state) ]).words ≡ Empty) [ None ↦ refl | Some m ↦ refl ]
 
 nothing_given : Decision
 nothing_given = none_given VersionLimit

@@ -1,5 +1,5 @@
 -- Why a replay gave up, and what was written before.
-use Rattle.std.specs.Prelude.{◌≡◌, ℕ, List, [], ◌∷◌, ◌++◌, codes, Option}
+use Rattle.std.specs.Prelude.{◌≡◌, ℕ, List, ◌++◌, Option}
 use Rattle.crdt_core.specs.declared.memory.Memory.{Memory as Why}
 use Rattle.crdt_core.specs.declared.memory.Memory.TheVariants.{Want, Full}
 use Rattle.lab_outside.specs.declared.exit.Status.TheVariants.{Limit}
@@ -17,10 +17,6 @@ use Rattle.replay_run.specs.Replay.{sent_line, AreFirst, ReplayLacksRoom, IsRepl
 abbrev pub stop_of_memory : Why → ReplayStop
 stop_of_memory Want = Memory
 stop_of_memory Full = Number
-
--- the line of a number or row that has no room, which no schedule brings
-abbrev pub number_line : List ℕ
-number_line = codes "limit number" ++ 10 ∷ []
 
 -- all events were played, and all of their account was written
 pub record IsWhole (account : Account) (events : List Numbered) (old new : Option (List ℕ)) : Type 0 where

@@ -8,16 +8,6 @@ least_here test n end h =
     let more : end - n ≡ suc (end - (n + 1)) = omega arith in
     ap (least test n) more
 
--- it passes
-pub least_found : (test : ℕ → Bool) (n end : ℕ) → n < end → test n ≡ true → least test n (end - n) ≡ Some n
-least_found test n end h passes = least_here test n end h ∙ ap (λ b. if b then Some n else least test (n + 1) (end - (n + 1))) passes
-
 -- it doesn't
 pub least_later : (test : ℕ → Bool) (n end : ℕ) → n < end → test n ≡ false → least test n (end - n) ≡ least test (n + 1) (end - (n + 1))
 least_later test n end h fails = least_here test n end h ∙ ap (λ b. if b then Some n else least test (n + 1) (end - (n + 1))) fails
-
--- none is left
-pub least_none : (test : ℕ → Bool) (n end : ℕ) → end ≤ n → least test n (end - n) ≡ None
-least_none test n end h =
-    let none : end - n ≡ 0 = omega arith in
-    ap (least test n) none

@@ -1,12 +1,13 @@
 //! Words that are names.
 ghost use Rattle.std.specs.Prelude.{◌≡◌, ◌↔◌, IsTrue};
 ghost use Rattle.std.specs.List.{list_all};
-ghost use Rattle.layout_roles.specs.Names.{is_between, is_name_byte, is_bucket_byte, is_bucket_name, is_zone_name};
+ghost use Rattle.layout_roles.specs.Names.{is_between, is_bucket_name, is_zone_name};
 ghost use Rattle.text_model.specs.Grammar.{is_key_byte, is_key, prefix_word, is_prefix};
 ghost use Rattle.schedule_text.specs.Reads.{Reads};
 
 use crate::fault::LineFault;
 use crdt_core::Bytes;
+use layout_roles::{is_bucket_name, is_zone_name};
 use std::alloc::Global;
 
 /// Whether a word is this name.
@@ -14,18 +15,6 @@ pub(crate) fn is(word: &[u8], name: &[u8]) -> bool
     ensures { IsTrue result ↔ (word.now ≡ name.now) }
 {
     word == name
-}
-
-fn is_name_byte(byte: u8) -> bool
-    ensures { result ≡ is_name_byte byte }
-{
-    matches!(byte, b'a'..=b'z' | b'0'..=b'9')
-}
-
-fn is_bucket_byte(byte: u8) -> bool
-    ensures { result ≡ is_bucket_byte byte }
-{
-    is_name_byte(byte) || byte == b'-' || byte == b'.'
 }
 
 fn is_key_byte(byte: u8) -> bool
@@ -40,42 +29,10 @@ fn is_between(n: usize, low: usize, high: usize) -> bool
     low <= n && n <= high
 }
 
-fn are_bucket_bytes(word: &[u8]) -> bool
-    ensures { result ≡ list_all is_bucket_byte word.now }
-{
-    word.iter().all(|byte| is_bucket_byte(*byte))
-}
-
-fn are_zone_bytes(word: &[u8]) -> bool
-    ensures { result ≡ list_all is_name_byte word.now }
-{
-    word.iter().all(|byte| is_name_byte(*byte))
-}
-
 fn are_key_bytes(word: &[u8]) -> bool
     ensures { result ≡ list_all is_key_byte word.now }
 {
     word.iter().all(|byte| is_key_byte(*byte))
-}
-
-fn is_bucket_name(word: &[u8]) -> bool
-    ensures { result ≡ is_bucket_name word.now }
-{
-    match word {
-        [first, .., last] => {
-            is_between(word.len(), 3, 63)
-                && are_bucket_bytes(word)
-                && is_name_byte(*first)
-                && is_name_byte(*last)
-        }
-        _ => false,
-    }
-}
-
-fn is_zone_name(word: &[u8]) -> bool
-    ensures { result ≡ is_zone_name word.now }
-{
-    is_between(word.len(), 1, 16) && are_zone_bytes(word)
 }
 
 fn is_key(word: &[u8]) -> bool

@@ -15,11 +15,11 @@ use Rattle.serve_run.specs.declared.plan.Plan.{Plan}
 use Rattle.serve_run.specs.declared.stop.Stop.{Stop}
 use Rattle.serve_run.specs.declared.stop.Stop.TheVariants.{Link, Memory, Kept, Number}
 use Rattle.serve_run.specs.Words.{AsksFor}
-use Rattle.lab_main.specs.Limits.{input_limit, input_line}
+use Rattle.lab_main.specs.Limits.{input_limit, input_line, number_line}
 use Rattle.serve_run.specs.Plan.{IsRefused, OfInput, WasRead}
 use Rattle.serve_run.specs.Told.{Told}
 use Rattle.serve_run.specs.Served.{HasServed, HasBrokenOff, nodes_of, begun, state_after, tail_of}
-use Rattle.serve_run.specs.Stop.{kept_line, number_line, status_of, said_of, IsTold}
+use Rattle.serve_run.specs.Stop.{kept_line, status_of, said_of, IsTold}
 
 -- ---- why a number has no room
 

@@ -11,7 +11,7 @@ use Rattle.serve_loop.specs.declared.service.ServeStop.{ServeStop}
 use Rattle.serve_loop.specs.declared.service.ServeStop.TheVariants as ended
 use Rattle.layout_text.specs.Settings.{Settings}
 use Rattle.layout_command.specs.Answer.{IsLaidOut}
-use Rattle.lab_main.specs.Limits.{input_limit, input_line}
+use Rattle.lab_main.specs.Limits.{input_limit, input_line, number_line}
 use Rattle.serve_run.specs.Plan.{IsRefused, OfInput}
 use Rattle.serve_run.specs.declared.stop.Stop.{Stop}
 use Rattle.serve_run.specs.declared.stop.Stop.TheVariants.{Read, Link, Memory, LongInput, Refused, Kept, Number}
@@ -46,10 +46,6 @@ status_of Number = status.Limit
 -- more bytes were put or copied than may be
 abbrev pub kept_line : List ℕ
 kept_line = codes "limit kept 536870912" ++ 10 ∷ []
-
--- a number would pass its type's greatest value, or a row has no spelling
-abbrev pub number_line : List ℕ
-number_line = codes "limit number" ++ 10 ∷ []
 
 -- the line that is written of each
 abbrev pub said_of : Stop → List ℕ

@@ -17,6 +17,7 @@ use Rattle.cluster_machine.specs.World.{Mark, Sent, Request, empty, first_waitin
 use Rattle.cluster_machine.specs.declared.step.Refusal.TheVariants.{Lost}
 use Rattle.cluster_machine.specs.Receives.{receives}
 use Rattle.cluster_machine.specs.Step.{marked, applied, begun, beginning, closing, refusal, received, did, at_message}
+use Rattle.cluster_machine.proofs.Marks.{length_marked}
 use Rattle.cluster_machine.specs.Worlds.{Done as Effect, FitAll, does, next, installs, run as world_run}
 use Rattle.flow_model.specs.declared.flow.Flow.{Flow}
 use Rattle.flow_model.specs.declared.flow.FlowStep.{FlowStep}
@@ -107,15 +108,6 @@ there : {A : Type 0} (xs : List A) (i : ℕ) → i < length xs → (x : A) × (s
 there [] i h = absurd (omega arith)
 there (y ∷ xs) zero h = (y, refl)
 there (y ∷ xs) (suc i) h = there xs i (omega arith)
-
-length_set : {A : Type 0} (xs : List A) (i : ℕ) (x : A) → length (slice_set xs i x) ≡ length xs
-length_set [] i x = refl
-length_set (y ∷ xs) zero x = refl
-length_set (y ∷ xs) (suc i) x = ap suc (length_set xs i x)
-
-length_marked : (ms : List Mark) (o : Option (ℕ × Mark)) → length (marked ms o) ≡ length ms
-length_marked ms None = refl
-length_marked ms (Some m) = length_set ms (m.0 - 1) m.1
 
 -- ---- worlds
 

@@ -3,7 +3,8 @@ ghost use Rattle.std.specs.Prelude.{◌≡◌, ◌⊎◌, ◌≤◌, ℕ, map, s
 ghost use Rattle.lab_outside.specs.Rose.{Rose};
 ghost use Rattle.lab_main.specs.Ends.{Ends};
 ghost use Rattle.replay_run.specs.Replay.{sent_line};
-ghost use Rattle.replay_run.specs.Stop.{number_line, Halts, IsWhole};
+ghost use Rattle.lab_main.specs.Limits.{number_line};
+ghost use Rattle.replay_run.specs.Stop.{Halts, IsWhole};
 ghost use Rattle.workload.specs.Schedule.{schedule};
 ghost use Rattle.workload_run.specs.Words.{AsksFor, AskNothing};
 ghost use Rattle.workload_run.specs.Answer.{IsStated, IsOfWorkload, Answers, Begins, IsSummarized};

@@ -140,20 +140,5 @@ counted rows bucket key t = sum_by_both _ _ _ (before_split bucket key t) rows
 abbrev pub AddedUp : List Record → ℕ → List Row → Type 0
 AddedUp h n rows = (f : Row → ℕ) → sum_by f rows ≡ sum_below (λ b. sum_of f (ack_at h b)) n
 
-pub added_none : (h : List Record) (n : ℕ) (rows : List Row) → ack_at h n ≡ None → AddedUp h n rows → AddedUp h (n + 1) rows
-added_none h n rows none t f =
-    let zero_of : sum_of f (ack_at h n) ≡ 0 = ap (sum_of f) none in
-    let next : n + 1 ≡ suc n = omega arith in
-    let before = t f in
-    ap (λ m. m) before ∙ (omega (arith, zero_of) ∙ ap (sum_below (λ b. sum_of f (ack_at h b))) (sym next))
-
-pub added_one : (h : List Record) (n : ℕ) (r : Row) (rows : List Row) → ack_at h n ≡ Some r → AddedUp h n rows → AddedUp h (n + 1) (rows ++ r ∷ [])
-added_one h n r rows some t f =
-    let one_of : sum_of f (ack_at h n) ≡ f r = ap (sum_of f) some in
-    let next : n + 1 ≡ suc n = omega arith in
-    let before = t f in
-    let pushed = sum_by_push f rows r in
-    pushed ∙ (omega (arith, before, one_of) ∙ ap (sum_below (λ b. sum_of f (ack_at h b))) (sym next))
-
 pub added_sorted : (h : List Record) (xs ys : List Row) → AddedUp h (length h) xs → IsPermutation xs ys → IsSorted row_cmp ys → IsTable h ys
 added_sorted h xs ys t shuffled sorted = record { sorted = sorted; told = λ f. sum_by-IsPermutation f xs ys shuffled ∙ t f }

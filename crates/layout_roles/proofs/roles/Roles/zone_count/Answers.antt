@@ -2,7 +2,7 @@ use Rattle.std.proofs.Common.{◌≡◌, ◌<◌, Bool, true, false, not, ◌&&�
 use Rattle.std.specs.List.{list_any}
 use Rattle.std.proofs.lemmas.Bool.{and_parts, not-true}
 use Rattle.layout_roles.specs.Zones.{is_storage, name_of, is_in_zone}
-use Rattle.layout_roles.proofs.Names.{count_new, count_same}
+use Rattle.layout_roles.proofs.ZoneNames.{count_new, count_same}
 use Rattle.layout_roles.proofs.roles.Roles.zone_count.Goals as goal
 use Rattle.layout_roles.proofs.roles.Roles.zone_count.Goals.{then-opens_zone, else-opens_zone}
 
