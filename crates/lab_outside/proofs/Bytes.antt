@@ -1,5 +1,5 @@
 -- Reads and writes one after the other.
-use Rattle.std.proofs.Common.{◌≡◌, ℕ, ◌+◌, ◌≤◌, Option, Some, None, List, [], ◌∷◌, ◌++◌, refl, sym, ◌∙◌, ap, subst, append_assoc, append-nil, length, arith, take, drop, length-take-le}
+use Rattle.std.proofs.Common.{◌≡◌, ℕ, ◌+◌, ◌≤◌, Option, Some, None, List, [], ◌++◌, refl, sym, ◌∙◌, ap, append_assoc, append-nil, length, take, drop, length-take-le}
 use Rattle.std.proofs.lemmas.List.{drop-drop, take-append-drop, take_at}
 use Rattle.std.specs.Io.KnownBytes.{Consumes}
 use Rattle.lab_outside.specs.Bytes.{Wrote, WrotePrefix}

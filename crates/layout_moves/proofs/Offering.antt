@@ -2,7 +2,7 @@
 use Rattle.std.proofs.Common.{◌≡◌, ℕ, ◌+◌, ◌<◌, ◌≤◌, Bool, true, false, not, ◌&&◌, ◌||◌, ◌==◌, nat_eq, IsTrue, List, [], length, get_or, take, refl, sym, ap, ◌∙◌, subst, ◌⊎◌, inl, inr, arith, eqb-true}
 use Rattle.std.specs.Prelude.{Option, Some, None, IfSome}
 use Rattle.std.specs.List.{All, list_any}
-use Rattle.std.proofs.lemmas.Bool.{cases_Bool, cases_lt, or_cases, eq-eqb, eqb-false, ne_eqb}
+use Rattle.std.proofs.lemmas.Bool.{cases_Bool, cases_lt, eq-eqb, eqb-false, ne_eqb}
 use Rattle.std.proofs.lemmas.List.Folds.{list_any_more}
 use Rattle.layout_roles.specs.declared.role.Role.{Role}
 use Rattle.layout_roles.specs.Fits.{NodeSet, has_node}
@@ -11,7 +11,6 @@ use Rattle.layout_moves.specs.Prices.{may_take, is_open, lies, asked, IsCheap}
 use Rattle.layout_moves.specs.Offers.{AtMost, IsCheapest, Needs, RisesAtMost, IsLeastBid}
 use Rattle.layout_moves.specs.declared.offers.Offer.{Offer}
 use Rattle.layout_moves.specs.declared.bids.Bid.{Bid}
-use Rattle.layout_moves.proofs.Near.{or_left, or_right}
 use Rattle.layout_moves.proofs.Steps.{found}
 
 -- no copy of some nodes of the set could move to a node that asks less by more than 1

@@ -10,7 +10,7 @@ use Rattle.cluster_machine.specs.Step.{none_given}
 use Rattle.store_model.specs.declared.event.Event.{Event}
 use Rattle.store_model.specs.declared.event.Event.TheVariants.{Drain}
 use Rattle.store_model.specs.declared.event.Told.{Told}
-use Rattle.store_model.specs.Run.{State, Outcome, delivers, drains}
+use Rattle.store_model.specs.Run.{State}
 use Rattle.store_model.proofs.Drains.{drains_quietly, drains_empty}
 use Rattle.s3_world.specs.declared.world.S3World.{S3World}
 use Rattle.s3_world.specs.Stands.{IsStore, PlaysEvent, OverflowsEvent, EventLacksRoom}

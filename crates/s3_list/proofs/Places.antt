@@ -1,5 +1,5 @@
 -- The first place that passes a test, and the entries of a page.
-use Rattle.std.proofs.Common.{◌≡◌, ℕ, suc, ◌+◌, ◌-◌, ◌<◌, ◌≤◌, Bool, true, false, if◌then◌else◌, Some, None, ap, ◌∙◌, arith}
+use Rattle.std.proofs.Common.{◌≡◌, ℕ, suc, ◌+◌, ◌-◌, ◌<◌, Bool, false, if◌then◌else◌, Some, ap, ◌∙◌, arith}
 use Rattle.http_model.specs.Cut.{least}
 
 -- the next place passes, or a later one is the first
