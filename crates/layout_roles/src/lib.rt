@@ -1,4 +1,5 @@
-//! The roles that nodes have in a layout, and the sets of nodes that a layout gives its partitions.
+//! The roles that nodes have in a layout, the sets of nodes that a layout gives its partitions, and the names of zones
+//! and buckets.
 #![tactic(auto)]
 
 mod assignment;

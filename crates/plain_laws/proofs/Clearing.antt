@@ -37,6 +37,7 @@ use Rattle.machine_origins.proofs.Lists.{all_any, all_filter}
 use Rattle.flow_model.specs.declared.flow.FlowEnd.{FlowEnd}
 use Rattle.store_model.specs.Run.{World, Moving, State, Outcome, plainly, effect, doing, silent, after_step, goes_on, delivers, then_drains, drains}
 use Rattle.store_model.specs.Acts.{moves, drain, ActsFit, acted, after_acts, all_messages}
+use Rattle.store_model.proofs.Acts.{acts_after, fit_in_parts}
 use Rattle.store_laws.proofs.Emptied.{emptied_from}
 use Rattle.serve_model.specs.Clusters.{works as works_each, round}
 use Rattle.drained_laws.specs.Waiting.{Has, fresh, waiting}
@@ -51,9 +52,8 @@ use Rattle.drained_laws.proofs.Steps.{worked_so}
 use Rattle.drained_laws.proofs.OutboxSteps.{waits_more}
 use Rattle.drained_laws.proofs.Weights.{first_fresh, none_waits}
 use Rattle.drained_laws.proofs.Working.{work_is, round_leaves}
-use Rattle.plain_laws.proofs.Acting.{after_parts, kept_at, not_due}
+use Rattle.plain_laws.proofs.Acting.{kept_at, not_due}
 use Rattle.plain_laws.proofs.Accepted.{passed}
-use Rattle.plain_laws.proofs.Carrying.{fit_acts}
 use Rattle.plain_laws.proofs.Descending.{schema_descends}
 use Rattle.plain_laws.proofs.Given.{AllKept, StoresGiven, IsGiven}
 use Rattle.plain_laws.proofs.Queues.{CallsFor, Waits, news_mine, accepted_so, waits_next}
@@ -354,7 +354,7 @@ module _ (l : Layout) (layout : IsLayout layouts 256 l) (before : State) (n q : 
     -- each member works, and all is delivered
     round_clears : (t : ℕ) (u : State) (left : Left t u) → ActsFit u (round members) → Cleared u left.0 (suc t) (after_acts u (round members))
     round_clears t u left fits =
-        let parts = fit_acts u (works_each members) (drain all_messages ∷ []) fits in
+        let parts = fit_in_parts u (works_each members) (drain all_messages ∷ []) fits in
         let x = after_acts u (works_each members) in
         let worked = works_clear members u left.0 all_members parts.0 in
         let o = drains all_messages x in
@@ -364,12 +364,12 @@ module _ (l : Layout) (layout : IsLayout layouts 256 l) (before : State) (n q : 
         let later : HasLeft words layouts l (suc t) o.state.world =
         subst (HasLeft words layouts l (suc t)) same (round_leaves schema_laws schema_descends layouts l layout had proper Applied Cut trio stage_trio t u.world (none_given VersionLimit) members o.moves left.0.done_so.is left.1 every worked.1
         (subst (λ w. Calm w o.moves) (sym worked.2) drained.1) drained.2 (ap (λ (w : World). waiting w) same ∙ none)) in
-        subst (Cleared u left.0 (suc t)) (sym (after_parts u (works_each members) (drain all_messages ∷ []))) ((drained.0, later), λ r h. subst (λ rs. Has rs r) (sym drained.4) (worked.3 r h), λ sent b owes low. drained.5 sent b (worked.4 sent b owes low))
+        subst (Cleared u left.0 (suc t)) (sym (acts_after u (works_each members) (drain all_messages ∷ []))) ((drained.0, later), λ r h. subst (λ rs. Has rs r) (sym drained.4) (worked.3 r h), λ sent b owes low. drained.5 sent b (worked.4 sent b owes low))
 
     -- two rounds
     pub rounds_clear : (u : State) (c : Clearing u) → HasLeft words layouts l 1 u.world → ActsFit u (round members ++ round members) →
         (one : Cleared u c 2 (after_acts u (round members))) × Cleared (after_acts u (round members)) one.0.0 3 (after_acts u (round members ++ round members))
     rounds_clear u c left fits =
-        let parts = fit_acts u (round members) (round members) fits in
+        let parts = fit_in_parts u (round members) (round members) fits in
         let one = round_clears 1 u (c, left) parts.0 in
-        (one, subst (Cleared (after_acts u (round members)) one.0.0 3) (sym (after_parts u (round members) (round members))) (round_clears 2 (after_acts u (round members)) one.0 parts.1))
+        (one, subst (Cleared (after_acts u (round members)) one.0.0 3) (sym (acts_after u (round members) (round members))) (round_clears 2 (after_acts u (round members)) one.0 parts.1))

@@ -15,14 +15,11 @@ use Rattle.store_model.specs.Run.{State, plainly}
 use Rattle.store_model.specs.Acts.{Act, moves, asks, drain, forgets, takes, acted, after_acts, end_of, all_messages, AreLawfulActs, ActsFit, IsLawfulAct, HasKey}
 use Rattle.store_model.specs.Events.{act_of}
 use Rattle.store_model.specs.Turns.{FitsOutcome}
+use Rattle.store_model.proofs.Acts.{acts_after}
 use Rattle.s3_world.specs.declared.world.S3World.{S3World}
 use Rattle.s3_world.specs.Stands.{IsStore, HasStore, Becomes, Carries, Starts, Overflows, PlaysEvent, OverflowsEvent, EventLacksRoom, DoesEvent}
 use Rattle.serve_model.specs.Clusters.{asker, acts_to_ask, acts_to_end, acts_past_end, acts_opened, acts_then, end_then, end_in, asking, acts_of_request, end_of_request, number_in, expiry, works, ActLacksRoom}
 use Rattle.serve_cluster.specs.Acting.{DoneActs, DoesActs, LacksRoom, TakesEnd, Finishes}
-
-pub acts_after : (s : State) (xs ys : List Act) → after_acts s (xs ++ ys) ≡ after_acts (after_acts s xs) ys
-acts_after s [] ys = refl
-acts_after s (x ∷ xs) ys = acts_after (acted s x).state xs ys
 
 pub acts_lawful : (s : State) (xs ys : List Act) → AreLawfulActs s xs → AreLawfulActs (after_acts s xs) ys → AreLawfulActs s (xs ++ ys)
 acts_lawful s [] ys h k = k

@@ -4,9 +4,10 @@ use Rattle.layout_roles.specs.declared.layout.Layout.{Layout}
 use Rattle.flow_model.specs.declared.order.Order.{Order}
 use Rattle.store_model.specs.Run.{start}
 use Rattle.store_model.specs.Acts.{after_acts, AreLawfulActs, ActsFit}
+use Rattle.store_model.proofs.Acts.{acts_after}
 use Rattle.serve_model.specs.Stores.{after_orders, OrdersFit}
 use Rattle.serve_model.specs.Clusters.{Cluster, cluster, acts_at, fits}
-use Rattle.serve_cluster.proofs.Acting.{acts_after, acts_lawful, acts_fit}
+use Rattle.serve_cluster.proofs.Acting.{acts_lawful, acts_fit}
 use Rattle.store_anchors.specs.Promises.{EveryRunKeepsPromises}
 use Rattle.serve_run.specs.declared.plan.Plan.{Plan}
 use Rattle.serve_run.specs.Start.{opening}

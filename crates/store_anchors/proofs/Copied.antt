@@ -14,6 +14,7 @@ use Rattle.flow_model.specs.Flow.{started}
 use Rattle.store_model.specs.Orders.{buckets_of, kind_of, name_of}
 use Rattle.store_model.specs.Run.{Moving, State, Outcome, Asked, Draw, start, new_request, opened, begins, refusal, are_buckets}
 use Rattle.store_model.specs.Acts.{Act, asks, acted, after_acts, AreLawfulActs, ActsFit}
+use Rattle.store_model.proofs.Acts.{acts_after, lawful_in_parts, fit_in_parts}
 use Rattle.store_laws.specs.Promised.{moves_in}
 use Rattle.store_laws.proofs.Places.{numbered_last, numbered_within}
 use Rattle.store_laws.proofs.Records.{is_in}
@@ -26,22 +27,10 @@ use Rattle.store_anchors.proofs.Taking.{AreTaken, IsFollowedIn, Knows, none_take
 
 -- ---- acts before others
 
-acts_after : (s : State) (before after : List Act) → after_acts s (before ++ after) ≡ after_acts (after_acts s before) after
-acts_after s [] after = refl
-acts_after s (a ∷ before) after = acts_after (acted s a).state before after
-
 moves_after : (s : State) (before after : List Act) → moves_in s (before ++ after) ≡ moves_in s before ++ moves_in (after_acts s before) after
 moves_after s [] after = refl
 moves_after s (a ∷ before) after =
     ap (λ (ms : List Moving). (acted s a).moves ++ ms) (moves_after (acted s a).state before after) ∙ sym (append_assoc (acted s a).moves (moves_in (acted s a).state before) (moves_in (after_acts (acted s a).state before) after))
-
-lawful_first : (s : State) (before after : List Act) → AreLawfulActs s (before ++ after) → AreLawfulActs s before × AreLawfulActs (after_acts s before) after
-lawful_first s [] after h = (tt, h)
-lawful_first s (a ∷ before) after h = let rest = lawful_first (acted s a).state before after h.1 in ((h.0, rest.0), rest.1)
-
-fit_first : (s : State) (before after : List Act) → ActsFit s (before ++ after) → ActsFit s before × ActsFit (after_acts s before) after
-fit_first s [] after h = (tt, h)
-fit_first s (a ∷ before) after h = let rest = fit_first (acted s a).state before after h.1 in ((h.0, rest.0), rest.1)
 
 -- ---- a copy begins
 
@@ -104,8 +93,8 @@ module _ (cited : Cited) where
       let s : State = after_acts start before in
       let ms : List Moving = moves_in start before in
       let o : Outcome = acted s a in
-      let laws = lawful_first start before (a ∷ after) lawful in
-      let fits = fit_first start before (a ∷ after) fit in
+      let laws = lawful_in_parts start before (a ∷ after) lawful in
+      let fits = fit_in_parts start before (a ∷ after) fit in
       let first : IsHeld ms s = (acts_held cited [] start before laws.0 fits.0 (start_held cited)).0 in
       let held_then : IsHeld (ms ++ (o.moves ++ [])) o.state = (acts_held cited ms s (a ∷ []) (laws.1.0, tt) (fits.1.0, tt) first).0 in
       let now : IsHeld (ms ++ o.moves) o.state = subst (λ (k : List Moving). IsHeld (ms ++ k) o.state) (append-nil o.moves) held_then in

@@ -9,15 +9,8 @@ use Rattle.store_model.specs.Run.{World, State, Outcome, silent, delivers, then_
 use Rattle.store_model.specs.Acts.{Act, drain, acted, after_acts, AreLawfulActs, ActsFit}
 use Rattle.store_model.specs.Moments.{IsMoment, between, within}
 use Rattle.store_model.proofs.Leads.{delivers_lead}
+use Rattle.store_model.proofs.Acts.{lawful_in_parts, fit_in_parts}
 use Rattle.store_laws.proofs.Acts.{fit_parts}
-
-lawful_first : (s : State) (before after : List Act) → AreLawfulActs s (before ++ after) → AreLawfulActs s before
-lawful_first s [] after h = tt
-lawful_first s (a ∷ before) after h = (h.0, lawful_first (acted s a).state before after h.1)
-
-fit_first : (s : State) (before after : List Act) → ActsFit s (before ++ after) → ActsFit s before
-fit_first s [] after h = tt
-fit_first s (a ∷ before) after h = (h.0, fit_first (acted s a).state before after h.1)
 
 lawful_last : (s : State) (before after : List Act) (a : Act) → AreLawfulActs s (before ++ after) → AreLawfulActs (after_acts s before) (a ∷ []) → AreLawfulActs s (before ++ a ∷ [])
 lawful_last s [] after a h last = last
@@ -49,7 +42,7 @@ fewer_fit (suc k) (suc n) s low fits =
     ] fits
 
 pub moment_runs : (s : State) (acts moment : List Act) → AreLawfulActs s acts → ActsFit s acts → IsMoment acts moment → AreLawfulActs s moment × ActsFit s moment
-moment_runs s acts moment lawful fit (between before after is) = (lawful_first s before after (subst (AreLawfulActs s) is lawful), fit_first s before after (subst (ActsFit s) is fit))
+moment_runs s acts moment lawful fit (between before after is) = ((lawful_in_parts s before after (subst (AreLawfulActs s) is lawful)).0, (fit_in_parts s before after (subst (ActsFit s) is fit)).0)
 moment_runs s acts moment lawful fit (within before after n k is low) =
     let then : State = after_acts s before in (
       lawful_last s before (drain n ∷ after) (drain k) (subst (AreLawfulActs s) is lawful) (tt, tt),
