@@ -1,6 +1,7 @@
 //! Numbers, strings of bytes and digests.
-ghost use Rattle.std.specs.Prelude.{◌≡◌, ◌++◌, true, None, IsTrue, OnOk, OnErr};
+ghost use Rattle.std.specs.Prelude.{◌≡◌, ◌++◌, true, IsTrue, IfErr, OnOk};
 ghost use Rattle.crdt_core.specs.Outcomes.{OnlyWant};
+ghost use Rattle.row_codec.specs.declared.fault.Fault.TheVariants as faults;
 ghost use Rattle.row_codec.specs.Gives.{Gives};
 ghost use Rattle.row_codec.specs.NumberLaws.{eight_reads, field_reads};
 ghost use Rattle.row_codec.specs.PartLaws.{hash_reads};
@@ -26,7 +27,7 @@ pub const LIMIT: usize = 1 << 32;
 #[tactic(auto, unfolding(row_codec::specs::Reading::bytes_at))]
 fn front<const N: usize>(bytes: &[u8]) -> Result<(&[u8; N], &[u8]), Fault>
     ensures gives { Gives (λ x. (x.0.now, x.1.now)) result (bytes_at N bytes.now) }
-    ensures ended { OnErr result (bytes_at N bytes.now ≡ None) }
+    ensures no_memory { IfErr result (λ e. e ≡ faults.NotARow) }
 {
     match bytes.split_first_chunk::<N>() {
         Some((front, rest)) => Ok((front, rest)),
@@ -56,7 +57,7 @@ pub fn put_count(count: u32, out: &mut Bytes) -> Result<(), Memory>
 #[tactic(auto, unfolding(row_codec::specs::Reading::four_at))]
 pub fn take_count(bytes: &[u8]) -> Result<(u32, &[u8]), Fault>
     ensures gives { Gives (λ x. (x.0, x.1.now)) result (four_at bytes.now) }
-    ensures ended { OnErr result (four_at bytes.now ≡ None) }
+    ensures no_memory { IfErr result (λ e. e ≡ faults.NotARow) }
 {
     let (count, rest) = front::<4>(bytes)?;
     Ok((u32::from_be_bytes(*count), rest))
@@ -81,8 +82,12 @@ impl Field for u8 {
         out.push(*self)
     }
 
+    /// Takes no memory.
     #[tactic(auto, unfolding(crate::specs::Reading::byte_at))]
-    fn take(_alloc: Global, bytes: &[u8]) -> Result<(u8, &[u8]), Fault> {
+    fn take(_alloc: Global, bytes: &[u8]) -> Result<(u8, &[u8]), Fault>
+        ensures gives { Gives (λ x. (x.0, x.1.now)) result (byte_at bytes.now) }
+        ensures no_memory { IfErr result (λ e. e ≡ faults.NotARow) }
+    {
         match bytes {
             [first, rest @ ..] => Ok((*first, rest)),
             [] => Err(Fault::NotARow),
@@ -110,8 +115,12 @@ impl Field for u64 {
         out.extend_from_slice(&self.to_be_bytes())
     }
 
+    /// Takes no memory.
     #[tactic(auto, unfolding(row_codec::specs::Reading::eight_at))]
-    fn take(_alloc: Global, bytes: &[u8]) -> Result<(u64, &[u8]), Fault> {
+    fn take(_alloc: Global, bytes: &[u8]) -> Result<(u64, &[u8]), Fault>
+        ensures gives { Gives (λ x. (x.0, x.1.now)) result (eight_at bytes.now) }
+        ensures no_memory { IfErr result (λ e. e ≡ faults.NotARow) }
+    {
         let (number, rest) = front::<8>(bytes)?;
         Ok((u64::from_be_bytes(*number), rest))
     }
@@ -136,8 +145,12 @@ impl Field for Hash32 {
         put_bytes(&self.0, out)
     }
 
+    /// Takes no memory.
     #[tactic(auto, unfolding(row_codec::specs::Reading::hash_at, row_codec::specs::Reading::made_at))]
-    fn take(_alloc: Global, bytes: &[u8]) -> Result<(Hash32, &[u8]), Fault> {
+    fn take(_alloc: Global, bytes: &[u8]) -> Result<(Hash32, &[u8]), Fault>
+        ensures gives { Gives (λ x. (x.0, x.1.now)) result (hash_at bytes.now) }
+        ensures no_memory { IfErr result (λ e. e ≡ faults.NotARow) }
+    {
         let (block, rest) = front::<32>(bytes)?;
         Ok((Hash32(*block), rest))
     }
