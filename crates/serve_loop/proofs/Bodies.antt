@@ -10,7 +10,6 @@ use Rattle.serve_model.specs.declared.answer.Answer.TheVariants.{Refusal}
 use Rattle.serve_model.specs.declared.request.Request.{Request}
 use Rattle.serve_model.specs.Stores.{Store}
 use Rattle.serve_model.specs.Talk.{Serving, passing, answer_turn, whole_turn, body_turn}
-use Rattle.serve_model.specs.Serving.{IsPassed, before}
 use Rattle.serve_loop.proofs.Serving.{IsQuiet, IsFailed}
 
 all_taken : (xs : List ℕ) → take (length xs) xs ≡ xs
@@ -40,11 +39,6 @@ module _ {S : Type 0} (store : Store S) (buckets : List (List ℕ)) (r : Request
       ap (passing p)
       (cond-false (nat_le r.length (length all)) (whole_turn store buckets r (take r.length all) p (drop r.length all)) (answer_turn r (Refusal IncompleteBody) p all) (lt-leb r.length (length all) h.0)
       ∙ ap (answer_turn r (Refusal IncompleteBody) p) (sym h.1))
-
-  -- what is served before the body is read is passed
-  pub body_passed : (rest : List ℕ) → IsPassed (body_turn store buckets r p rest).passed (body_turn store buckets r p rest).serving p
-  unfolding body_turn
-  body_passed rest = before (0, omega arith, refl)
 
 pub takes_quiet : (kept seen : List ℕ) (c d : Connection) → Takes kept seen c d → IsQuiet c d
 takes_quiet kept seen c d t = record { unwritten = t.unwritten; counted = omega (arith, t.steady) }

@@ -8,9 +8,10 @@ use Rattle.serve_model.specs.declared.served.Served.{Served}
 use Rattle.serve_model.specs.declared.served.ServeFault.{ServeFault}
 use Rattle.serve_model.specs.declared.served.ServeFault.TheVariants.{Kept}
 use Rattle.serve_model.specs.Stores.{Store, Asking, fits_asking, Known, OverflowsAmong, known_from}
-use Rattle.serve_model.specs.Talk.{Grammar, Serving, talk, request_limit}
-use Rattle.serve_model.specs.Serving.{Reached, GivesUp, Stands, OnLeft}
-use Rattle.serve_model.specs.Connections.{Talks, whole, cut_off, limited, given_up, IsPrefixOf, IsServed, exact, part, AreServed, ServesAll, EndsSo, too_many, begun, ServesAllButLast}
+use Rattle.serve_model.specs.Talk.{Grammar, Serving, Stop, talk, request_limit}
+use Rattle.serve_model.specs.Serving.{Reached, ComesTo, CutOffAt, GivesUp, Stands, OnLeft}
+use Rattle.serve_model.specs.Connections.{Talks, whole, cut_off, limited, given_up, IsPrefixOf, IsUpTo, IsServed, exact, part, AreServed, ServesAll, EndsSo, too_many, begun, ServesAllButLast}
+use Rattle.serve_model.proofs.Ones.{one_weaker, one_at, at_one}
 use Rattle.serve_loop.proofs.Serving.{at_left, gives_up_for}
 use Rattle.serve_loop.proofs.Talking.{stands_more, stands_plain, among_more}
 
@@ -43,26 +44,36 @@ module _ {S : Type 0} (store : Store S) (buckets : List (List ℕ)) (g : Grammar
     stands : Stands holds times served serving
 
   module _ (p : Serving S) (bytes : List ℕ) (holds : S → Type 0) (times : Option (List ℕ)) (served : Served) (c d : Connection) (fresh : IsFresh c) where
+    -- what was written up to a stop
+    up_to : (stop : Stop S) → ComesTo known.fits c d stop → IsUpTo store buckets g known.fits d stop
+    up_to stop h = (prefix_is c.written d.written stop.text fresh.unwritten h.0, h.1)
+
     served_once : Talks (talk store buckets g request_limit p bytes) holds known times served (Ok tt) c d → ServedOnce p bytes holds times served d
     served_once (whole ok over w asked st n) = record { serving = (talk store buckets g request_limit p bytes).serving; is_served = exact over (written_is c.written d.written (talk store buckets g request_limit p bytes).text fresh.unwritten w) asked refl; stands = st }
-    served_once (cut_off q ok n w st r) =
+    served_once (cut_off ok n stops) =
+        let t = talk store buckets g request_limit p bytes in
         let P : ℕ → Type 0 = λ k. Rose k d.faults in
-        record { serving = q; is_served = part (subst P fresh.faultless n) (prefix_is c.written d.written (talk store buckets g request_limit p bytes).text fresh.unwritten w) r; stands = st }
-    served_once (limited err over w n) = absurd (ok_is_no_error (Ok tt) Kept refl err)
-    served_once (given_up e err why w n) = absurd (ok_is_no_error (Ok tt) e refl err)
+        let at = one_at (CutOffAt known.fits holds times served c d) t.stops stops in
+        record {
+          serving = at.0.serving;
+          is_served = part (subst P fresh.faultless n) (at_one (λ (stop : Stop S). IsUpTo store buckets g known.fits d stop × (at.0.serving ≡ stop.serving)) t.stops at.0 at.1.0 (up_to at.0 at.1.1.0, refl));
+          stands = at.1.1.1;
+        }
+    served_once (limited err over w asked n) = absurd (ok_is_no_error (Ok tt) Kept refl err)
+    served_once (given_up e err why at n) = absurd (ok_is_no_error (Ok tt) e refl err)
 
     -- where serving ends with it, for a reason that holds of what was served before it too
     ends_so : (before : List (Asking S) → Type 0) → (known.overflows (talk store buckets g request_limit p bytes).asks → before (talk store buckets g request_limit p bytes).asks) → (e : ServeFault) → Talks (talk store buckets g request_limit p bytes) holds known times served (Err e) c d
-        → EndsSo store buckets g before (talk store buckets g request_limit p bytes) d e
+        → EndsSo store buckets g known.fits before (talk store buckets g request_limit p bytes) d e
     ends_so before f e (whole ok over w asked st n) = absurd (ok_is_no_error (Err e) e ok refl)
-    ends_so before f e (cut_off q ok n w st r) = absurd (ok_is_no_error (Err e) e ok refl)
-    ends_so before f e (limited err over w n) =
-        let P : ServeFault → Type 0 = EndsSo store buckets g before (talk store buckets g request_limit p bytes) d in
-        subst P (sym (same_fault (Err e) e Kept refl err)) (too_many over (written_is c.written d.written (talk store buckets g request_limit p bytes).text fresh.unwritten w))
-    ends_so before f e (given_up m err why w n) =
+    ends_so before f e (cut_off ok n at) = absurd (ok_is_no_error (Err e) e ok refl)
+    ends_so before f e (limited err over w asked n) =
+        let P : ServeFault → Type 0 = EndsSo store buckets g known.fits before (talk store buckets g request_limit p bytes) d in
+        subst P (sym (same_fault (Err e) e Kept refl err)) (too_many over (written_is c.written d.written (talk store buckets g request_limit p bytes).text fresh.unwritten w) asked)
+    ends_so before f e (given_up m err why at n) =
         let asks = (talk store buckets g request_limit p bytes).asks in
         let Q : ServeFault → Type 0 = GivesUp before asks in
-        begun e (subst Q (sym (same_fault (Err e) e m refl err)) (gives_up_for m known.overflows before asks asks f why)) (prefix_is c.written d.written (talk store buckets g request_limit p bytes).text fresh.unwritten w)
+        begun e (subst Q (sym (same_fault (Err e) e m refl err)) (gives_up_for m known.overflows before asks asks f why)) (one_weaker (ComesTo known.fits c d) (IsUpTo store buckets g known.fits d) up_to (talk store buckets g request_limit p bytes).stops at)
 
   -- ---- one connection more
 

@@ -8,7 +8,7 @@ use Rattle.http_model.proofs.HeadFacts.{head_unique}
 use Rattle.serve_model.specs.declared.served.Served.{Served}
 use Rattle.serve_model.specs.Stores.{Store}
 use Rattle.serve_model.specs.Talk.{Grammar, Serving, first_of, later_of, time_from, clocked, passing, said, bad_head, head_turn, cut_turn, turn}
-use Rattle.serve_model.specs.Serving.{Stands, IsPassed, before}
+use Rattle.serve_model.specs.Serving.{Stands}
 
 -- ---- the time
 
@@ -54,7 +54,3 @@ module _ {S : Type 0} (store : Store S) (buckets : List (List ℕ)) (g : Grammar
 
   pub turn_of_end : (all rest : List ℕ) → (cut all ≡ unfinished) × (rest ≡ all) → turn store buckets g last p all ≡ passing p (said [] true p rest)
   turn_of_end all rest h = ap (λ x. passing p (cut_turn store buckets g last p x)) h.0
-
-  -- what was served before it is passed
-  pub turn_passed : (all : List ℕ) → IsPassed (turn store buckets g last p all).passed (turn store buckets g last p all).serving p
-  turn_passed all = before (0, omega arith, refl)

@@ -1,4 +1,5 @@
 pub mod Serving
+pub mod Begins
 pub mod Bodies
 pub mod Heads
 pub mod Keys

@@ -1,5 +1,7 @@
 -- What is shown of a request on the connection that is present.
-use Rattle.std.proofs.Common.{◌≡◌, ℕ, suc, ◌+◌, ◌≤◌, ◌<◌, List, [], ◌∷◌, ◌++◌, Option, Some, None, Bool, true, false, not, Result, Ok, Err, IfErr, refl, sym, ◌∙◌, ap, subst, arith, nat_lt}
+use Rattle.std.proofs.Common.{◌≡◌, ℕ, suc, ◌+◌, ◌≤◌, ◌<◌, List, [], ◌∷◌, ◌++◌, map, Option, Some, None, Bool, true, false, not, Result, Ok, Err, IfErr, refl, sym, ◌∙◌, ap, subst, arith, nat_lt, inl, inr}
+use Rattle.std.specs.List.{AllByRecursion}
+use Rattle.crdt_core.specs.Members.{OneOf}
 use Rattle.std.proofs.lemmas.Bool.{lt-ltb, le-ltb, cond-true, cond-false}
 use Rattle.lab_outside.specs.Connection.{Connection, OnPresent, WritesWhole}
 use Rattle.lab_outside.specs.Rose.{Rose}
@@ -14,8 +16,9 @@ use Rattle.serve_model.specs.declared.served.Served.{Served}
 use Rattle.serve_model.specs.declared.served.ServeFault.{ServeFault}
 use Rattle.serve_model.specs.declared.served.ServeFault.TheVariants.{Kept, Number, Memory}
 use Rattle.serve_model.specs.Stores.{Store, Asking, Leads, Known}
-use Rattle.serve_model.specs.Talk.{Serving, goes, exceeds, unless_closed, Turn, passing, having_asked, after, said, exceeded, counted, counting, kept_limit}
-use Rattle.serve_model.specs.Serving.{CarriedOut, Reached, Goes, Says, said as was_said, cut_short, unsaid, Stands, Continues, IsPassed, at_end, before, GivesUp, Serves, done, cut_off, limited, given_up, OnLeft, SaysOn, ServesOn}
+use Rattle.serve_model.specs.Talk.{Serving, goes, exceeds, unless_closed, Stop, Turn, behind, passing, having_asked, after, said, exceeded, counted, counting, kept_limit}
+use Rattle.serve_model.specs.Serving.{CarriedOut, Reached, Goes, Says, said as was_said, cut_short, unsaid, Stands, Continues, ComesTo, CutOffAt, GivesUp, Serves, done, cut_off, limited, given_up, OnLeft, SaysOn, ServesOn}
+use Rattle.serve_model.proofs.Ones.{one_weaker, one_mapped}
 
 -- ---- bytes that are told to be left
 
@@ -74,6 +77,40 @@ gives_up_for Kept O P xs ys f h = h
 gives_up_for Number O P xs ys f h = f h
 gives_up_for Memory O P xs ys f h = h
 
+-- ---- stops
+
+-- it may be cut off before the store is asked
+abbrev pub Begins : {S : Type 0} → Turn S → Type 0
+Begins t = OneOf (λ stop. stop.asks ≡ []) t.stops
+
+-- and this is served there
+abbrev pub BeginsWith : {S : Type 0} → Serving S → Turn S → Type 0
+BeginsWith p t = OneOf (λ stop. (stop.asks ≡ []) × (stop.serving ≡ p)) t.stops
+
+module _ {S : Type 0} (fits : Asking S → Type 0) (holds : S → Type 0) (times : Option (List ℕ)) (served : Served) where
+  none_asked : (stop : Stop S) → stop.asks ≡ [] → AllByRecursion fits stop.asks
+  none_asked stop e = let P : List (Asking S) → Type 0 = AllByRecursion fits in subst P (sym e) tt
+
+  -- nothing was written
+  unwritten_comes : (c d : Connection) → d.written ≡ c.written → (t : Turn S) → Begins t → OneOf (ComesTo fits c d) t.stops
+  unwritten_comes c d same t b = one_weaker (λ (stop : Stop S). stop.asks ≡ []) (ComesTo fits c d) (λ stop e. (nothing_after c d same stop.text, none_asked stop e)) t.stops b
+
+  -- and it was cut off
+  unwritten_cut : (p : Serving S) (c d : Connection) → d.written ≡ c.written → Stands holds times served p → (t : Turn S) → BeginsWith p t → OneOf (CutOffAt fits holds times served c d) t.stops
+  unwritten_cut p c d same st t b =
+      one_weaker (λ (stop : Stop S). (stop.asks ≡ []) × (stop.serving ≡ p)) (CutOffAt fits holds times served c d)
+      (λ stop e. let P : Serving S → Type 0 = Stands holds times served in ((nothing_after c d same stop.text, none_asked stop e.0), subst P (sym e.1) st)) t.stops b
+
+  -- a first part of a text was written that comes before it
+  part_cut : (p : Serving S) (text : List ℕ) (c d : Connection) → WrotePrefix c.written d.written text → Stands holds times served p → (t : Turn S) → BeginsWith p t → OneOf (CutOffAt fits holds times served c d) (map (behind text []) t.stops)
+  part_cut p text c d w st t b =
+      one_mapped (λ (stop : Stop S). (stop.asks ≡ []) × (stop.serving ≡ p)) (CutOffAt fits holds times served c d) (behind text [])
+      (λ stop e. let P : Serving S → Type 0 = Stands holds times served in ((wrote_prefix_more c.written d.written text stop.text w, none_asked stop e.0), subst P (sym e.1) st)) t.stops b
+
+  -- a text was written before
+  comes_after : (text : List ℕ) (c d f : Connection) → Wrote c.written d.written text → (stop : Stop S) → ComesTo fits d f stop → ComesTo fits c f (behind text [] stop)
+  comes_after text c d f first stop h = (wrote_prefix_after c.written d.written f.written text stop.text first h.0, h.1)
+
 -- ---- one request
 
 module _ {S : Type 0} (holds : S → Type 0) (known : Known S) (times : Option (List ℕ)) (served : Served) where
@@ -88,34 +125,35 @@ module _ {S : Type 0} (holds : S → Type 0) (known : Known S) (times : Option (
     pub serves_same : ((left : List ℕ) → u left ≡ t left) → ServesOn t holds known times served r kept o n → ServesOn u holds known times served r kept o n
     serves_same same h = turn_for_turn (λ left c d s. let Q : Turn S → Type 0 = λ v. Serves v holds known times served r kept c d in subst Q (sym (same left)) s) h
 
-  passed_more : (p q serving : Serving S) (passed : List (Serving S)) → IsPassed passed serving q → IsPassed (p ∷ passed) serving q
-  passed_more p q serving passed (at_end e) = at_end e
-  passed_more p q serving passed (before (k, lt, e)) = before (suc k, omega (arith, lt), e)
-
   passing_one : (p : Serving S) (t : Turn S) (r : Result Bool ServeFault) (kept : List ℕ) (c d : Connection) → Serves t holds known times served r kept c d → Serves (passing p t) holds known times served r kept c d
   passing_one p t r kept c d (done on ok w all st go n) = done on ok w all st go n
-  passing_one p t r kept c d (cut_off q ok n w st is) = cut_off q ok n w st (passed_more p q t.serving t.passed is)
-  passing_one p t r kept c d (limited err is w n) = limited err is w n
-  passing_one p t r kept c d (given_up e err why w n) = given_up e err why w n
+  passing_one p t r kept c d (cut_off ok n at) = cut_off ok n (inr at)
+  passing_one p t r kept c d (limited err is w all n) = limited err is w all n
+  passing_one p t r kept c d (given_up e err why at n) = given_up e err why (inr at) n
 
   asked_one : (a : Asking S) (t : Turn S) (r : Result Bool ServeFault) (kept : List ℕ) (c d : Connection) → known.fits a → (known.overflows t.asks → known.overflows (a ∷ t.asks)) → Serves t holds known times served r kept c d → Serves (having_asked a t) holds known times served r kept c d
   asked_one a t r kept c d fit f (done on ok w all st go n) = done on ok w (fit, all) st go n
-  asked_one a t r kept c d fit f (cut_off q ok n w st is) = cut_off q ok n w st is
-  asked_one a t r kept c d fit f (limited err is w n) = limited err is w n
-  asked_one a t r kept c d fit f (given_up e err why w n) = given_up e err (gives_up_for e known.overflows known.overflows t.asks (a ∷ t.asks) f why) w n
+  asked_one a t r kept c d fit f (cut_off ok n at) =
+      cut_off ok n (one_mapped (CutOffAt known.fits holds times served c d) (CutOffAt known.fits holds times served c d) (behind [] (a ∷ [])) (λ stop h. ((h.0.0, (fit, h.0.1)), h.1)) t.stops at)
+  asked_one a t r kept c d fit f (limited err is w all n) = limited err is w (fit, all) n
+  asked_one a t r kept c d fit f (given_up e err why at n) =
+      given_up e err (gives_up_for e known.overflows known.overflows t.asks (a ∷ t.asks) f why) (one_mapped (ComesTo known.fits c d) (ComesTo known.fits c d) (behind [] (a ∷ [])) (λ stop h. (h.0, (fit, h.1))) t.stops at) n
 
   after_one : (text : List ℕ) (t : Turn S) (r : Result Bool ServeFault) (kept : List ℕ) (c d f : Connection) → Wrote c.written d.written text → c.faults ≤ d.faults → Serves t holds known times served r kept d f → Serves (after text t) holds known times served r kept c f
   after_one text t r kept c d f first le (done on ok w all st go n) = done on ok (wrote_more c.written d.written f.written text t.text first w) all st go (omega (arith, le, n))
-  after_one text t r kept c d f first le (cut_off q ok n w st is) = cut_off q ok (rose_after c.faults d.faults f.faults le n) (wrote_prefix_after c.written d.written f.written text t.text first w) st is
-  after_one text t r kept c d f first le (limited err is w n) = limited err is (wrote_more c.written d.written f.written text t.text first w) (omega (arith, le, n))
-  after_one text t r kept c d f first le (given_up e err why w n) = given_up e err why (wrote_prefix_after c.written d.written f.written text t.text first w) (omega (arith, le, n))
+  after_one text t r kept c d f first le (cut_off ok n at) =
+      cut_off ok (rose_after c.faults d.faults f.faults le n)
+      (one_mapped (CutOffAt known.fits holds times served d f) (CutOffAt known.fits holds times served c f) (behind text []) (λ stop h. (comes_after known.fits holds times served text c d f first stop h.0, h.1)) t.stops at)
+  after_one text t r kept c d f first le (limited err is w all n) = limited err is (wrote_more c.written d.written f.written text t.text first w) all (omega (arith, le, n))
+  after_one text t r kept c d f first le (given_up e err why at n) =
+      given_up e err why (one_mapped (ComesTo known.fits d f) (ComesTo known.fits c f) (behind text []) (comes_after known.fits holds times served text c d f first) t.stops at) (omega (arith, le, n))
 
   says_one : (text : List ℕ) (close : Bool) (p : Serving S) (kept left : List ℕ) (r : Result Bool ServeFault) (c d : Connection) → c.left ≡ Some left → Stands holds times served p → Says text close r c d → Serves (said text close p (kept ++ left)) holds known times served r kept c d
   says_one text close p kept left r c d told st (was_said ok w l n) = done (not close) ok w tt st (continues close kept left d.left (l ∙ told)) n
-  says_one text close p kept left r c d told st (cut_short ok w n) = cut_off p ok n w st (at_end refl)
+  says_one text close p kept left r c d told st (cut_short ok w n) = cut_off ok n (inl ((w, tt), st))
   says_one text close p kept left r c d told st (unsaid err same) =
       let P : Connection → Type 0 = λ x. WrotePrefix c.written x.written text in
-      given_up Memory err tt (subst P (sym same) (nothing_written c.written text)) (let Q : Connection → Type 0 = λ x. c.faults ≤ x.faults in subst Q (sym same) (omega arith))
+      given_up Memory err tt (inl (subst P (sym same) (nothing_written c.written text), tt)) (let Q : Connection → Type 0 = λ x. c.faults ≤ x.faults in subst Q (sym same) (omega arith))
 
   module _ (r : Result Bool ServeFault) (kept : List ℕ) (o n : Option Connection) where
     -- an answer was written
@@ -124,7 +162,7 @@ module _ {S : Type 0} (holds : S → Type 0) (known : Known S) (times : Option (
         on_present (Says text close r) (λ c d. OnLeft (λ left. Serves (said text close p (kept ++ left)) holds known times served r kept c d) c.left) o n
         (λ c d s. on_left (λ left. Serves (said text close p (kept ++ left)) holds known times served r kept c d) c.left (λ left e. says_one text close p kept left r c d e st s)) h
 
-    -- what was passed before is passed
+    -- a stop more
     pub passing_serves : (p : Serving S) (t : List ℕ → Turn S) → ServesOn t holds known times served r kept o n → ServesOn (λ left. passing p (t left)) holds known times served r kept o n
     passing_serves p t h = turn_for_turn t (λ left. passing p (t left)) r kept o n (λ left c d s. passing_one p (t left) r kept c d s) h
 
@@ -133,17 +171,20 @@ module _ {S : Type 0} (holds : S → Type 0) (known : Known S) (times : Option (
     asked_serves a t fit f h = turn_for_turn t (λ left. having_asked a (t left)) r kept o n (λ left c d s. asked_one a (t left) r kept c d fit (f (t left).asks) s) h
 
   -- nothing was done, and serving is given up
-  pub gives_up : (t : List ℕ → Turn S) (e : ServeFault) (kept : List ℕ) (o : Option Connection) → ((left : List ℕ) → GivesUp known.overflows (t left).asks e) → ServesOn t holds known times served (Err e) kept o o
-  gives_up t e kept o why =
+  pub gives_up : (t : List ℕ → Turn S) (e : ServeFault) (kept : List ℕ) (o : Option Connection) → ((left : List ℕ) → Begins (t left)) → ((left : List ℕ) → GivesUp known.overflows (t left).asks e) → ServesOn t holds known times served (Err e) kept o o
+  gives_up t e kept o begins why =
       on_present_same (λ c d. OnLeft (λ left. Serves (t left) holds known times served (Err e) kept c d) c.left) o
-      (λ c. on_left (λ left. Serves (t left) holds known times served (Err e) kept c c) c.left (λ left told. given_up e refl (why left) (nothing_written c.written (t left).text) (omega arith)))
+      (λ c. on_left (λ left. Serves (t left) holds known times served (Err e) kept c c) c.left (λ left told. given_up e refl (why left) (unwritten_comes known.fits holds times served c c refl (t left) (begins left)) (omega arith)))
 
   -- too many bytes were put or copied
-  pub is_limited : (t : List ℕ → Turn S) (kept : List ℕ) (o : Option Connection) → ((left : List ℕ) → (t left).next ≡ exceeds) → ((left : List ℕ) → (t left).text ≡ []) → ServesOn t holds known times served (Err Kept) kept o o
-  is_limited t kept o next text =
+  pub is_limited : (t : List ℕ → Turn S) (kept : List ℕ) (o : Option Connection) → ((left : List ℕ) → (t left).next ≡ exceeds) → ((left : List ℕ) → (t left).text ≡ []) → ((left : List ℕ) → (t left).asks ≡ []) → ServesOn t holds known times served (Err Kept) kept o o
+  is_limited t kept o next text asks =
       on_present_same (λ c d. OnLeft (λ left. Serves (t left) holds known times served (Err Kept) kept c d) c.left) o
       (λ c. on_left (λ left. Serves (t left) holds known times served (Err Kept) kept c c) c.left
-      (λ left told. let Q : List ℕ → Type 0 = Wrote c.written c.written in limited refl (next left) (subst Q (sym (text left)) (wrote_none c.written)) (omega arith)))
+      (λ left told.
+      let Q : List ℕ → Type 0 = Wrote c.written c.written in
+      let P : List (Asking S) → Type 0 = AllByRecursion known.fits in
+      limited refl (next left) (subst Q (sym (text left)) (wrote_none c.written)) (subst P (sym (asks left)) tt) (omega arith)))
 
   -- something was written before
   pub after_serves : (E : Type 0) (text : List ℕ) (t : List ℕ → Turn S) (r : Result Bool ServeFault) (kept : List ℕ) (o m n : Option Connection) → OnPresent (WritesWhole {E = E} (Ok tt) text) o m → ServesOn t holds known times served r kept m n → ServesOn (λ left. after text (t left)) holds known times served r kept o n
@@ -153,11 +194,11 @@ module _ {S : Type 0} (holds : S → Type 0) (known : Known S) (times : Option (
       (λ left e. after_one text (t left) r kept c d f a.ok a.counted (at_left (λ l. Serves (t l) holds known times served r kept d f) d.left left (a.unread ∙ e) s))) w h
 
   -- it wasn't written whole
-  pub part_serves : {E : Type 0} (e : E) (text : List ℕ) (t : List ℕ → Turn S) (p : Serving S) (kept : List ℕ) (o n : Option Connection) → Stands holds times served p → ((left : List ℕ) → IsPassed (t left).passed (t left).serving p) → OnPresent (WritesWhole (Err e) text) o n → ServesOn (λ left. after text (t left)) holds known times served (Ok false) kept o n
-  part_serves e text t p kept o n st is w =
+  pub part_serves : {E : Type 0} (e : E) (text : List ℕ) (t : List ℕ → Turn S) (p : Serving S) (kept : List ℕ) (o n : Option Connection) → Stands holds times served p → ((left : List ℕ) → BeginsWith p (t left)) → OnPresent (WritesWhole (Err e) text) o n → ServesOn (λ left. after text (t left)) holds known times served (Ok false) kept o n
+  part_serves e text t p kept o n st begins w =
       on_present (WritesWhole (Err e) text) (λ c d. OnLeft (λ left. Serves (after text (t left)) holds known times served (Ok false) kept c d) c.left) o n
       (λ c d a. on_left (λ left. Serves (after text (t left)) holds known times served (Ok false) kept c d) c.left
-      (λ left told. cut_off p refl a.fault (wrote_prefix_more c.written d.written text (t left).text a.err) st (is left))) w
+      (λ left told. cut_off refl a.fault (part_cut known.fits holds times served p text c d a.err st (t left) (begins left)))) w
 
 -- ---- what reading leaves
 
@@ -170,10 +211,22 @@ pub record IsFailed (c d : Connection) : Type 0 where
   pub rose : Rose c.faults d.faults
 
 module _ {S : Type 0} (holds : S → Type 0) (known : Known S) (times : Option (List ℕ)) (served : Served) (r : Result Bool ServeFault) (kept kept' new : List ℕ) (o m n : Option Connection) where
-  quiet_one : (t : Turn S) (c d f : Connection) → IsQuiet c d → Serves t holds known times served r new d f → Serves t holds known times served r new c f
-  quiet_one t c d f q s =
+  quiet_comes : (c d f : Connection) → IsQuiet c d → (stop : Stop S) → ComesTo known.fits d f stop → ComesTo known.fits c f stop
+  quiet_comes c d f q stop h =
       let Q : Option (List ℕ) → Type 0 = λ x. Wrote c.written x [] in
-      after_one holds known times served [] t r new c d f (subst Q (sym q.unwritten) (wrote_none c.written)) q.counted s
+      (wrote_prefix_after c.written d.written f.written [] stop.text (subst Q (sym q.unwritten) (wrote_none c.written)) h.0, h.1)
+
+  quiet_wrote : (c d f : Connection) (text : List ℕ) → IsQuiet c d → Wrote d.written f.written text → Wrote c.written f.written text
+  quiet_wrote c d f text q w =
+      let Q : Option (List ℕ) → Type 0 = λ x. Wrote c.written x [] in
+      wrote_more c.written d.written f.written [] text (subst Q (sym q.unwritten) (wrote_none c.written)) w
+
+  quiet_one : (t : Turn S) (c d f : Connection) → IsQuiet c d → Serves t holds known times served r new d f → Serves t holds known times served r new c f
+  quiet_one t c d f q (done on ok w all st go n) = done on ok (quiet_wrote c d f t.text q w) all st go (omega (arith, q.counted, n))
+  quiet_one t c d f q (cut_off ok n at) =
+      cut_off ok (rose_after c.faults d.faults f.faults q.counted n) (one_weaker (CutOffAt known.fits holds times served d f) (CutOffAt known.fits holds times served c f) (λ stop h. (quiet_comes c d f q stop h.0, h.1)) t.stops at)
+  quiet_one t c d f q (limited err is w all n) = limited err is (quiet_wrote c d f t.text q w) all (omega (arith, q.counted, n))
+  quiet_one t c d f q (given_up e err why at n) = given_up e err why (one_weaker (ComesTo known.fits d f) (ComesTo known.fits c f) (quiet_comes c d f q) t.stops at) (omega (arith, q.counted, n))
 
   -- bytes were read, and what is stated of all of them is what is stated so of the rest, which was served
   pub read_then : (P : List ℕ → List ℕ → Type 0) (t u : List ℕ → Turn S) → OnPresent (λ c d. IsQuiet c d × OnAll P kept kept' c d) o m → ((all rest : List ℕ) → P all rest → t all ≡ u rest)
@@ -189,16 +242,16 @@ module _ {S : Type 0} (holds : S → Type 0) (known : Known S) (times : Option (
 
 module _ {S : Type 0} (holds : S → Type 0) (known : Known S) (times : Option (List ℕ)) (served : Served) (kept : List ℕ) (o n : Option Connection) (t : List ℕ → Turn S) where
   -- a read failed
-  pub read_fails : (p : Serving S) → Stands holds times served p → ((left : List ℕ) → IsPassed (t left).passed (t left).serving p) → OnPresent IsFailed o n → ServesOn t holds known times served (Ok false) kept o n
-  read_fails p st is reads =
+  pub read_fails : (p : Serving S) → Stands holds times served p → ((left : List ℕ) → BeginsWith p (t left)) → OnPresent IsFailed o n → ServesOn t holds known times served (Ok false) kept o n
+  read_fails p st begins reads =
       on_present IsFailed (λ c d. OnLeft (λ left. Serves (t left) holds known times served (Ok false) kept c d) c.left) o n
-      (λ c d a. on_left (λ left. Serves (t left) holds known times served (Ok false) kept c d) c.left (λ left told. cut_off p refl a.rose (nothing_after c d a.unwritten (t left).text) st (is left))) reads
+      (λ c d a. on_left (λ left. Serves (t left) holds known times served (Ok false) kept c d) c.left (λ left told. cut_off refl a.rose (unwritten_cut known.fits holds times served p c d a.unwritten st (t left) (begins left)))) reads
 
   -- memory was wanting
-  pub read_wants : OnPresent IsQuiet o n → ServesOn t holds known times served (Err Memory) kept o n
-  read_wants reads =
+  pub read_wants : ((left : List ℕ) → Begins (t left)) → OnPresent IsQuiet o n → ServesOn t holds known times served (Err Memory) kept o n
+  read_wants begins reads =
       on_present IsQuiet (λ c d. OnLeft (λ left. Serves (t left) holds known times served (Err Memory) kept c d) c.left) o n
-      (λ c d q. on_left (λ left. Serves (t left) holds known times served (Err Memory) kept c d) c.left (λ left told. given_up Memory refl tt (nothing_after c d q.unwritten (t left).text) q.counted)) reads
+      (λ c d q. on_left (λ left. Serves (t left) holds known times served (Err Memory) kept c d) c.left (λ left told. given_up Memory refl tt (unwritten_comes known.fits holds times served c d q.unwritten (t left) (begins left)) q.counted)) reads
 
 -- ---- bytes that are counted
 
@@ -220,7 +273,7 @@ module _ {S : Type 0} (holds : S → Type 0) (known : Known S) (times : Option (
   counting_limits served old o is lt =
       let more : kept_limit < p.kept + size = let Q : ℕ → Type 0 = λ k. kept_limit < k + size in subst Q is lt in
       is_limited holds known times served (λ left. counting size p (go left)) kept o
-      (λ left. ap (λ (t : Turn S). t.next) (counting_beyond size p (go left) more)) (λ left. ap (λ (t : Turn S). t.text) (counting_beyond size p (go left) more))
+      (λ left. ap (λ (t : Turn S). t.next) (counting_beyond size p (go left) more)) (λ left. ap (λ (t : Turn S). t.text) (counting_beyond size p (go left) more)) (λ left. ap (λ (t : Turn S). t.asks) (counting_beyond size p (go left) more))
 
 -- what is counted
 pub stands_counted : {S : Type 0} (holds : S → Type 0) (times : Option (List ℕ)) (old new : Served) (size : ℕ) (p : Serving S) → new.kept ≡ old.kept + size → new.time ≡ old.time → Stands holds times old p → Stands holds times new (counted size p)

@@ -1,19 +1,21 @@
 -- Requests of one connection, one after the other.
-use Rattle.std.proofs.Common.{◌≡◌, ℕ, zero, suc, ◌≤◌, ◌==◌, List, [], ◌∷◌, ◌++◌, Option, Some, None, Bool, true, false, IsSome, Result, Ok, Err, refl, sym, ◌∙◌, ap, subst, append_assoc, append-nil, arith}
+use Rattle.std.proofs.Common.{◌≡◌, ℕ, zero, suc, ◌≤◌, ◌==◌, List, [], ◌∷◌, ◌++◌, map, Option, Some, None, Bool, true, false, IsSome, Result, Ok, Err, refl, sym, ◌∙◌, ap, subst, append_assoc, append-nil, arith, ap₂}
 use Rattle.std.proofs.lemmas.List.Elements.{Contains-append_left, Contains-append_right}
 use Rattle.std.specs.List.{AllByRecursion, Contains}
+use Rattle.crdt_core.specs.Members.{OneOf}
 use Rattle.lab_outside.specs.Connection.{Connection, OnPresent}
-use Rattle.lab_outside.specs.Bytes.{Wrote, WrotePrefix}
-use Rattle.lab_outside.proofs.Bytes.{wrote_none, wrote_more, wrote_prefix_after, wrote_prefix_more}
+use Rattle.lab_outside.specs.Bytes.{Wrote}
+use Rattle.lab_outside.proofs.Bytes.{wrote_none, wrote_more, wrote_prefix_after}
 use Rattle.lab_outside.proofs.Rose.{rose_after}
 use Rattle.flow_model.specs.declared.order.Order.{Order}
 use Rattle.serve_model.specs.declared.served.Served.{Served}
 use Rattle.serve_model.specs.declared.served.ServeFault.{ServeFault}
 use Rattle.serve_model.specs.declared.served.ServeFault.TheVariants.{Kept, Number, Memory}
 use Rattle.serve_model.specs.Stores.{Store, Asking, after_orders, OrdersFit, Leads, Overflows, fits_asking, Known, OverflowsAmong, known_from}
-use Rattle.serve_model.specs.Talk.{Grammar, Serving, Next, goes, closes, exceeds, Turn, turn, Talk, go_on, talk}
-use Rattle.serve_model.specs.Serving.{HasState, Reached, Goes, Stands, Continues, IsPassed, at_end, before, GivesUp, Serves, done, cut_off, limited, given_up, OnLeft, ServesOn}
+use Rattle.serve_model.specs.Talk.{Grammar, Serving, Next, goes, closes, exceeds, Stop, behind, Turn, turn, Talk, go_on, talk}
+use Rattle.serve_model.specs.Serving.{HasState, Reached, Goes, Stands, Continues, ComesTo, CutOffAt, GivesUp, Serves, done, cut_off, limited, given_up, OnLeft, ServesOn}
 use Rattle.serve_model.specs.Connections.{Talks, whole, cut_off as talk_cut, limited as talk_limited, given_up as talk_given_up}
+use Rattle.serve_model.proofs.Ones.{one_left, one_right, one_mapped}
 use Rattle.serve_loop.proofs.Serving.{on_left, at_left, gives_up_for}
 
 -- ---- the connection that is present
@@ -75,19 +77,36 @@ module _ {S : Type 0} (store : Store S) (fits lacks : S → ℕ → Order → Ty
   pub stands_plain : (holds : S → Type 0) (times : Option (List ℕ)) (served : Served) (s : S) (q : Serving S) → Stands (Reached store fits lacks holds s) times served q → Stands holds times served q
   stands_plain holds times served s q st = record { store = st.store.0; clock = st.clock; time = st.time; kept = st.kept }
 
--- ---- what was said and passed before
+-- ---- what was said and asked before
 
 all_append : {A : Type 0} (Q : A → Type 0) (xs ys : List A) → AllByRecursion Q xs → AllByRecursion Q ys → AllByRecursion Q (xs ++ ys)
 all_append Q [] ys h k = k
 all_append Q (x ∷ xs) ys h k = (h.0, all_append Q xs ys h.1 k)
 
--- a text, what was passed and what the store was asked come before a talk
-abbrev pub prefixed : {S : Type 0} → List ℕ → List (Serving S) → List (Asking S) → Talk S → Talk S
-prefixed text passed asks u = record { text = text ++ u.text; passed = passed ++ u.passed; asks = asks ++ u.asks; serving = u.serving; is_over = u.is_over }
+-- a text, stops and what the store was asked come before a talk
+abbrev pub prefixed : {S : Type 0} → List ℕ → List (Stop S) → List (Asking S) → Talk S → Talk S
+prefixed text stops asks u = record { text = text ++ u.text; stops = stops ++ map (behind text asks) u.stops; asks = asks ++ u.asks; serving = u.serving; is_over = u.is_over }
 
-passed_after : {S : Type 0} (xs ys : List (Serving S)) (serving q : Serving S) → IsPassed ys serving q → IsPassed (xs ++ ys) serving q
-passed_after xs ys serving q (at_end e) = at_end e
-passed_after xs ys serving q (before h) = before (Contains-append_right xs ys q h)
+module _ {S : Type 0} (text : List ℕ) (asks : List (Asking S)) where
+  stops_append : (xs ys : List (Stop S)) → map (behind text asks) (xs ++ ys) ≡ map (behind text asks) xs ++ map (behind text asks) ys
+  stops_append [] ys = refl
+  stops_append (x ∷ xs) ys = ap (λ zs. behind text asks x ∷ zs) (stops_append xs ys)
+
+  behind_twice : (text' : List ℕ) (asks' : List (Asking S)) (xs : List (Stop S)) → map (behind text asks) (map (behind text' asks') xs) ≡ map (behind (text ++ text') (asks ++ asks')) xs
+  behind_twice text' asks' [] = refl
+  behind_twice text' asks' (x ∷ xs) =
+      let one : behind text asks (behind text' asks' x) ≡ behind (text ++ text') (asks ++ asks') x = ap₂ (λ t a. record { text = t; asks = a; serving = x.serving }) (sym (append_assoc text text' x.text)) (sym (append_assoc asks asks' x.asks)) in
+      ap₂ (λ y ys. y ∷ ys) one (behind_twice text' asks' xs)
+
+  -- and before what comes before it
+  prefixed_twice : (stops : List (Stop S)) (text' : List ℕ) (stops' : List (Stop S)) (asks' : List (Asking S)) (u : Talk S) →
+      prefixed text stops asks (prefixed text' stops' asks' u) ≡ prefixed (text ++ text') (stops ++ map (behind text asks) stops') (asks ++ asks') u
+  prefixed_twice stops text' stops' asks' u =
+      let at : stops ++ map (behind text asks) (stops' ++ map (behind text' asks') u.stops) ≡ (stops ++ map (behind text asks) stops') ++ map (behind (text ++ text') (asks ++ asks')) u.stops =
+      ap (λ x. stops ++ x) (stops_append stops' (map (behind text' asks') u.stops) ∙ ap (λ x. map (behind text asks) stops' ++ x) (behind_twice text' asks' u.stops)) ∙ sym (append_assoc stops (map (behind text asks) stops') (map (behind (text ++ text') (asks ++ asks')) u.stops)) in
+      ap (λ x. record { text = x; stops = stops ++ map (behind text asks) (stops' ++ map (behind text' asks') u.stops); asks = asks ++ (asks' ++ u.asks); serving = u.serving; is_over = u.is_over }) (sym (append_assoc text text' u.text))
+      ∙ ap (λ x. record { text = (text ++ text') ++ u.text; stops = x; asks = asks ++ (asks' ++ u.asks); serving = u.serving; is_over = u.is_over }) at
+      ∙ ap (λ x. record { text = (text ++ text') ++ u.text; stops = (stops ++ map (behind text asks) stops') ++ map (behind (text ++ text') (asks ++ asks')) u.stops; asks = x; serving = u.serving; is_over = u.is_over }) (sym (append_assoc asks asks' u.asks))
 
 -- ---- one more turn
 
@@ -125,7 +144,7 @@ ok_is_no_error : (r : Result Bool ServeFault) (a : Bool) (e : ServeFault) → r 
 ok_is_no_error r a e h k = cc
 
 module _ {S : Type 0} (store : Store S) (buckets : List (List ℕ)) (g : Grammar) where
-  talk_none : (p : Serving S) (bytes : List ℕ) → talk store buckets g 0 p bytes ≡ record { text = []; passed = []; asks = []; serving = p; is_over = false }
+  talk_none : (p : Serving S) (bytes : List ℕ) → talk store buckets g 0 p bytes ≡ record { text = []; stops = []; asks = []; serving = p; is_over = false }
   unfolding talk
   talk_none p bytes = refl
 
@@ -137,42 +156,16 @@ module _ {S : Type 0} (store : Store S) (buckets : List (List ℕ)) (g : Grammar
     talk_with : (next : Next) → (turn store buckets g (more == 0) p bytes).next ≡ next → talk store buckets g (suc more) p bytes ≡ go_on (talk store buckets g more) (turn store buckets g (more == 0) p bytes) next
     talk_with next e = talk_next more p bytes ∙ ap (go_on (talk store buckets g more) (turn store buckets g (more == 0) p bytes)) e
 
-  -- what is served first is passed
-  go_on_passes : (more : ℕ) (p : Serving S) (t : Turn S) (next : Next) → Contains t.passed p → Contains (go_on (talk store buckets g more) t next).passed p
-  go_on_passes more p t (goes rest) h = Contains-append_left t.passed (talk store buckets g more t.serving rest).passed p h
-  go_on_passes more p t closes h = h
-  go_on_passes more p t exceeds h = h
+  -- a turn's stops are the talk's
+  go_on_stops : (P : Stop S → Type 0) (more : ℕ) (t : Turn S) (next : Next) → OneOf P t.stops → OneOf P (go_on (talk store buckets g more) t next).stops
+  go_on_stops P more t (goes rest) h = one_left P t.stops (map (behind t.text t.asks) (talk store buckets g more t.serving rest).stops) h
+  go_on_stops P more t closes h = h
+  go_on_stops P more t exceeds h = h
 
-  talk_passes : (more : ℕ) (p : Serving S) (bytes : List ℕ) → IsPassed (talk store buckets g more p bytes).passed (talk store buckets g more p bytes).serving p
-  unfolding talk
-  talk_passes zero p bytes = at_end refl
-  talk_passes (suc more) p bytes = before (go_on_passes more p (turn store buckets g (more == 0) p bytes) (turn store buckets g (more == 0) p bytes).next (0, omega arith, refl))
-
-  -- what the turn passes
-  go_on_passed : (more : ℕ) (q : Serving S) (t : Turn S) (next : Next) → IsPassed t.passed t.serving q → IsPassed (go_on (talk store buckets g more) t next).passed (go_on (talk store buckets g more) t next).serving q
-  go_on_passed more q t (goes rest) (before h) = before (Contains-append_left t.passed (talk store buckets g more t.serving rest).passed q h)
-  go_on_passed more q t (goes rest) (at_end e) =
-      let u = talk store buckets g more t.serving rest in
-      let Q : Serving S → Type 0 = λ x. IsPassed (t.passed ++ u.passed) u.serving x in
-      subst Q (sym e) (passed_after t.passed u.passed u.serving t.serving (talk_passes more t.serving rest))
-  go_on_passed more q t closes h = h
-  go_on_passed more q t exceeds h = h
-
-  turn_passes : (more : ℕ) (p q : Serving S) (bytes : List ℕ) → IsPassed (turn store buckets g (more == 0) p bytes).passed (turn store buckets g (more == 0) p bytes).serving q → IsPassed (talk store buckets g (suc more) p bytes).passed (talk store buckets g (suc more) p bytes).serving q
-  turn_passes more p q bytes h =
-      let P : Talk S → Type 0 = λ u. IsPassed u.passed u.serving q in
-      subst P (sym (talk_next more p bytes)) (go_on_passed more q (turn store buckets g (more == 0) p bytes) (turn store buckets g (more == 0) p bytes).next h)
-
-  -- a turn's text is a first part of the talk's
-  go_on_prefix : (more : ℕ) (t : Turn S) (next : Next) (old new : Option (List ℕ)) → WrotePrefix old new t.text → WrotePrefix old new (go_on (talk store buckets g more) t next).text
-  go_on_prefix more t (goes rest) old new w = wrote_prefix_more old new t.text (talk store buckets g more t.serving rest).text w
-  go_on_prefix more t closes old new w = w
-  go_on_prefix more t exceeds old new w = w
-
-  turn_prefix : (more : ℕ) (p : Serving S) (bytes : List ℕ) (old new : Option (List ℕ)) → WrotePrefix old new (turn store buckets g (more == 0) p bytes).text → WrotePrefix old new (talk store buckets g (suc more) p bytes).text
-  turn_prefix more p bytes old new w =
-      let P : Talk S → Type 0 = λ u. WrotePrefix old new u.text in
-      subst P (sym (talk_next more p bytes)) (go_on_prefix more (turn store buckets g (more == 0) p bytes) (turn store buckets g (more == 0) p bytes).next old new w)
+  turn_stops : (P : Stop S → Type 0) (more : ℕ) (p : Serving S) (bytes : List ℕ) → OneOf P (turn store buckets g (more == 0) p bytes).stops → OneOf P (talk store buckets g (suc more) p bytes).stops
+  turn_stops P more p bytes h =
+      let Q : Talk S → Type 0 = λ u. OneOf P u.stops in
+      subst Q (sym (talk_next more p bytes)) (go_on_stops P more (turn store buckets g (more == 0) p bytes) (turn store buckets g (more == 0) p bytes).next h)
 
   -- what the turn asks, the talk asks
   go_on_asks : (more : ℕ) (t : Turn S) (next : Next) (x : Asking S) → Contains t.asks x → Contains (go_on (talk store buckets g more) t next).asks x
@@ -190,7 +183,7 @@ module _ {S : Type 0} (store : Store S) (buckets : List (List ℕ)) (g : Grammar
 -- so far a first part of what is stated of all bytes was written, each order that the store was asked fits, and what is stated of the rest is to come
 pub record InTalk {S : Type 0} (store : Store S) (FitsIt : Asking S → Type 0) (buckets : List (List ℕ)) (g : Grammar) (all : Talk S) (holds : S → Type 0) (times : Option (List ℕ)) (served : Served) (more : ℕ) (kept : List ℕ) (c d : Connection) : Type 0 where
   pub text : List ℕ
-  pub passed : List (Serving S)
+  pub stops : List (Stop S)
   pub asks : List (Asking S)
   pub serving : Serving S
   pub left : List ℕ
@@ -199,14 +192,21 @@ pub record InTalk {S : Type 0} (store : Store S) (FitsIt : Asking S → Type 0) 
   pub fit : AllByRecursion FitsIt asks
   pub stands : Stands holds times served serving
   pub counted : c.faults ≤ d.faults
-  pub is : all ≡ prefixed text passed asks (talk store buckets g more serving (kept ++ left))
+  pub is : all ≡ prefixed text stops asks (talk store buckets g more serving (kept ++ left))
+
+none_behind : {S : Type 0} (xs : List (Stop S)) → map (behind [] []) xs ≡ xs
+none_behind [] = refl
+none_behind (x ∷ xs) = ap (λ ys. x ∷ ys) (none_behind xs)
+
+prefixed_none : {S : Type 0} (u : Talk S) → prefixed [] [] [] u ≡ u
+prefixed_none u = ap (λ x. record u { stops = x }) (none_behind u.stops)
 
 module _ {S : Type 0} (store : Store S) (FitsIt : Asking S → Type 0) (buckets : List (List ℕ)) (g : Grammar) where
   pub talk_begins : (limit more : ℕ) (p : Serving S) (bytes : List ℕ) (holds : S → Type 0) (times : Option (List ℕ)) (served : Served) (kept : List ℕ) (c : Connection) → c.left ≡ Some bytes → kept ≡ [] → more ≡ limit → Stands holds times served p → InTalk store FitsIt buckets g (talk store buckets g limit p bytes) holds times served more kept c c
   talk_begins limit more p bytes holds times served kept c told none all st =
       record {
         text = [];
-        passed = [];
+        stops = [];
         asks = [];
         serving = p;
         left = bytes;
@@ -215,7 +215,7 @@ module _ {S : Type 0} (store : Store S) (FitsIt : Asking S → Type 0) (buckets 
         fit = tt;
         stands = st;
         counted = omega arith;
-        is = ap (λ n. talk store buckets g n p bytes) (sym all) ∙ ap (λ k. talk store buckets g more p (k ++ bytes)) (sym none);
+        is = ap (λ n. talk store buckets g n p bytes) (sym all) ∙ ap (λ k. talk store buckets g more p (k ++ bytes)) (sym none) ∙ sym (prefixed_none (talk store buckets g more p (kept ++ bytes)));
       }
 
 module _ {S : Type 0} (store : Store S) (fits lacks : S → ℕ → Order → Type 0) (buckets : List (List ℕ)) (g : Grammar) (all : Talk S) (start : S) (more : ℕ) (kept kept' : List ℕ) (holds holds' : S → Type 0) (times times' : Option (List ℕ)) (served served' : Served) (c d f : Connection)
@@ -229,10 +229,10 @@ module _ {S : Type 0} (store : Store S) (fits lacks : S → ℕ → Order → Ty
       let t = turn store buckets g (more == 0) i.serving (kept ++ i.left) in
       let o = goes_on t.next kept' f.left on (same_ok (Ok true) true on refl ok) go in
       let u = talk store buckets g more t.serving (kept' ++ o.left) in
-      let next : talk store buckets g (suc more) i.serving (kept ++ i.left) ≡ prefixed t.text t.passed t.asks u = talk_with store buckets g more i.serving (kept ++ i.left) (goes (kept' ++ o.left)) o.next_is in
+      let next : talk store buckets g (suc more) i.serving (kept ++ i.left) ≡ prefixed t.text t.stops t.asks u = talk_with store buckets g more i.serving (kept ++ i.left) (goes (kept' ++ o.left)) o.next_is in
       record {
         text = i.text ++ t.text;
-        passed = i.passed ++ t.passed;
+        stops = i.stops ++ map (behind i.text i.asks) t.stops;
         asks = i.asks ++ t.asks;
         serving = t.serving;
         left = o.left;
@@ -241,30 +241,27 @@ module _ {S : Type 0} (store : Store S) (fits lacks : S → ℕ → Order → Ty
         fit = all_append (fits_asking fits) i.asks t.asks i.fit asked;
         stands = stands_more store fits lacks holds' times' served' start i.serving.store t.serving i.stands.store.1 st;
         counted = omega (arith, i.counted, n);
-        is = i.is ∙ ap (prefixed i.text i.passed i.asks) next
-            ∙ ap (λ x. record { text = x; passed = i.passed ++ (t.passed ++ u.passed); asks = i.asks ++ (t.asks ++ u.asks); serving = u.serving; is_over = u.is_over }) (sym (append_assoc i.text t.text u.text))
-            ∙ ap (λ x. record { text = (i.text ++ t.text) ++ u.text; passed = x; asks = i.asks ++ (t.asks ++ u.asks); serving = u.serving; is_over = u.is_over }) (sym (append_assoc i.passed t.passed u.passed))
-            ∙ ap (λ x. record { text = (i.text ++ t.text) ++ u.text; passed = (i.passed ++ t.passed) ++ u.passed; asks = x; serving = u.serving; is_over = u.is_over }) (sym (append_assoc i.asks t.asks u.asks));
+        is = i.is ∙ ap (prefixed i.text i.stops i.asks) next ∙ prefixed_twice i.text i.asks i.stops t.text t.stops t.asks u;
       }
-  talk_goes_on (cut_off q err n w st of) = absurd (true_is_false (same_ok (Ok true) true false refl err))
+  talk_goes_on (cut_off err n at) = absurd (true_is_false (same_ok (Ok true) true false refl err))
     where
       true_is_false : true ≡ false → ⊥
       true_is_false e = cc
-  talk_goes_on (limited err next w n) = absurd (ok_is_no_error (Ok true) true Kept refl err)
-  talk_goes_on (given_up m err why w n) = absurd (ok_is_no_error (Ok true) true m refl err)
+  talk_goes_on (limited err next w asked n) = absurd (ok_is_no_error (Ok true) true Kept refl err)
+  talk_goes_on (given_up m err why at n) = absurd (ok_is_no_error (Ok true) true m refl err)
 
-  -- the turn's part of all
-  part_of_all : WrotePrefix d.written f.written (turn store buckets g (more == 0) i.serving (kept ++ i.left)).text → WrotePrefix c.written f.written all.text
-  part_of_all w =
+  -- the turn's stops are stops of all
+  stops_of_all : (P Q : Stop S → Type 0) → ((stop : Stop S) → P stop → Q (behind i.text i.asks stop)) → OneOf P (turn store buckets g (more == 0) i.serving (kept ++ i.left)).stops → OneOf Q all.stops
+  stops_of_all P Q f h =
       let v = talk store buckets g (suc more) i.serving (kept ++ i.left) in
-      let P : List ℕ → Type 0 = WrotePrefix c.written f.written in
-      subst P (sym (ap (λ (x : Talk S). x.text) i.is)) (wrote_prefix_after c.written d.written f.written i.text v.text i.wrote (turn_prefix store buckets g more i.serving (kept ++ i.left) d.written f.written w))
+      let R : Talk S → Type 0 = λ u. OneOf Q u.stops in
+      subst R (sym i.is) (one_right Q i.stops (map (behind i.text i.asks) v.stops) (one_mapped P Q (behind i.text i.asks) f v.stops (turn_stops store buckets g P more i.serving (kept ++ i.left) h)))
 
-  passed_of_all : (q : Serving S) → IsPassed (turn store buckets g (more == 0) i.serving (kept ++ i.left)).passed (turn store buckets g (more == 0) i.serving (kept ++ i.left)).serving q → IsPassed all.passed all.serving q
-  passed_of_all q h =
-      let v = talk store buckets g (suc more) i.serving (kept ++ i.left) in
-      let P : Talk S → Type 0 = λ x. IsPassed x.passed x.serving q in
-      subst P (sym i.is) (passed_after i.passed v.passed v.serving q (turn_passes store buckets g more i.serving q (kept ++ i.left) h))
+  comes_so_far : (stop : Stop S) → ComesTo (fits_asking fits) d f stop → ComesTo (fits_asking fits) c f (behind i.text i.asks stop)
+  comes_so_far stop h = (wrote_prefix_after c.written d.written f.written i.text stop.text i.wrote h.0, all_append (fits_asking fits) i.asks stop.asks i.fit h.1)
+
+  cut_off_there : (stop : Stop S) → CutOffAt (fits_asking fits) (Reached store fits lacks holds' i.serving.store) times' served' d f stop → CutOffAt (fits_asking fits) (Reached store fits lacks holds' start) times' served' c f (behind i.text i.asks stop)
+  cut_off_there stop h = (comes_so_far stop h.0, stands_more store fits lacks holds' times' served' start i.serving.store stop.serving i.stands.store.1 h.1)
 
   asks_of_all : (x : Asking S) → Contains (turn store buckets g (more == 0) i.serving (kept ++ i.left)).asks x → Contains all.asks x
   asks_of_all x h =
@@ -282,36 +279,37 @@ module _ {S : Type 0} (store : Store S) (fits lacks : S → ℕ → Order → Ty
   pub talk_ends : Follows (Ok false) → Talks all (Reached store fits lacks holds' start) (known_from store fits lacks start) times' served' (Ok tt) c f
   talk_ends (done on ok w asked st go n) =
       let t = turn store buckets g (more == 0) i.serving (kept ++ i.left) in
-      let off : talk store buckets g (suc more) i.serving (kept ++ i.left) ≡ record { text = t.text; passed = t.passed; asks = t.asks; serving = t.serving; is_over = false } = talk_with store buckets g more i.serving (kept ++ i.left) closes (ends_here t.next kept' f.left on (same_ok (Ok false) false on refl ok) go) in
-      let is : all ≡ record { text = i.text ++ t.text; passed = i.passed ++ t.passed; asks = i.asks ++ t.asks; serving = t.serving; is_over = false } = i.is ∙ ap (prefixed i.text i.passed i.asks) off in
+      let off : talk store buckets g (suc more) i.serving (kept ++ i.left) ≡ record { text = t.text; stops = t.stops; asks = t.asks; serving = t.serving; is_over = false } = talk_with store buckets g more i.serving (kept ++ i.left) closes (ends_here t.next kept' f.left on (same_ok (Ok false) false on refl ok) go) in
+      let is : all ≡ record { text = i.text ++ t.text; stops = i.stops ++ map (behind i.text i.asks) t.stops; asks = i.asks ++ t.asks; serving = t.serving; is_over = false } = i.is ∙ ap (prefixed i.text i.stops i.asks) off in
       let P : Talk S → Type 0 = λ x. Talks x (Reached store fits lacks holds' start) (known_from store fits lacks start) times' served' (Ok tt) c f in
       subst P (sym is) (whole refl refl (wrote_more c.written d.written f.written i.text t.text i.wrote w) (all_append (fits_asking fits) i.asks t.asks i.fit asked) (stands_more store fits lacks holds' times' served' start i.serving.store t.serving i.stands.store.1 st) (omega (arith, i.counted, n)))
-  talk_ends (cut_off q ok n w st of) =
-      talk_cut q refl (rose_after c.faults d.faults f.faults i.counted n) (part_of_all w) (stands_more store fits lacks holds' times' served' start i.serving.store q i.stands.store.1 st) (passed_of_all q of)
-  talk_ends (limited err next w n) = absurd (ok_is_no_error (Ok false) false Kept refl err)
-  talk_ends (given_up m err why w n) = absurd (ok_is_no_error (Ok false) false m refl err)
+  talk_ends (cut_off ok n at) =
+      talk_cut refl (rose_after c.faults d.faults f.faults i.counted n)
+      (stops_of_all (CutOffAt (fits_asking fits) (Reached store fits lacks holds' i.serving.store) times' served' d f) (CutOffAt (fits_asking fits) (Reached store fits lacks holds' start) times' served' c f) cut_off_there at)
+  talk_ends (limited err next w asked n) = absurd (ok_is_no_error (Ok false) false Kept refl err)
+  talk_ends (given_up m err why at n) = absurd (ok_is_no_error (Ok false) false m refl err)
 
   -- serving ends in it
   pub talk_stops : (e : ServeFault) → Follows (Err e) → Talks all (Reached store fits lacks holds' start) (known_from store fits lacks start) times' served' (Err e) c f
   talk_stops e (done on ok w asked st go n) = absurd (ok_is_no_error (Err e) on e ok refl)
-  talk_stops e (cut_off q ok n w st of) = absurd (ok_is_no_error (Err e) false e ok refl)
-  talk_stops e (limited err next w n) =
+  talk_stops e (cut_off ok n at) = absurd (ok_is_no_error (Err e) false e ok refl)
+  talk_stops e (limited err next w asked n) =
       let t = turn store buckets g (more == 0) i.serving (kept ++ i.left) in
-      let over : talk store buckets g (suc more) i.serving (kept ++ i.left) ≡ record { text = t.text; passed = t.passed; asks = t.asks; serving = t.serving; is_over = true } = talk_with store buckets g more i.serving (kept ++ i.left) exceeds next in
-      let is : all ≡ record { text = i.text ++ t.text; passed = i.passed ++ t.passed; asks = i.asks ++ t.asks; serving = t.serving; is_over = true } = i.is ∙ ap (prefixed i.text i.passed i.asks) over in
+      let over : talk store buckets g (suc more) i.serving (kept ++ i.left) ≡ record { text = t.text; stops = t.stops; asks = t.asks; serving = t.serving; is_over = true } = talk_with store buckets g more i.serving (kept ++ i.left) exceeds next in
+      let is : all ≡ record { text = i.text ++ t.text; stops = i.stops ++ map (behind i.text i.asks) t.stops; asks = i.asks ++ t.asks; serving = t.serving; is_over = true } = i.is ∙ ap (prefixed i.text i.stops i.asks) over in
       let P : Talk S → Type 0 = λ x. Talks x (Reached store fits lacks holds' start) (known_from store fits lacks start) times' served' (Err e) c f in
-      subst P (sym is) (talk_limited (ap Err (same_err (Err e) e Kept refl err)) refl (wrote_more c.written d.written f.written i.text t.text i.wrote w) (omega (arith, i.counted, n)))
-  talk_stops e (given_up m err why w n) =
+      subst P (sym is) (talk_limited (ap Err (same_err (Err e) e Kept refl err)) refl (wrote_more c.written d.written f.written i.text t.text i.wrote w) (all_append (fits_asking fits) i.asks t.asks i.fit asked) (omega (arith, i.counted, n)))
+  talk_stops e (given_up m err why at n) =
       let same : e ≡ m = same_err (Err e) e m refl err in
       let Q : ServeFault → Type 0 = GivesUp (OverflowsAmong store fits lacks start) all.asks in
-      talk_given_up e refl (subst Q (sym same) (why_of_all m why)) (part_of_all w) (omega (arith, i.counted, n))
+      talk_given_up e refl (subst Q (sym same) (why_of_all m why)) (stops_of_all (ComesTo (fits_asking fits) d f) (ComesTo (fits_asking fits) c f) comes_so_far at) (omega (arith, i.counted, n))
 
 -- as many requests were answered as one connection may have
 module _ {S : Type 0} (store : Store S) (buckets : List (List ℕ)) (g : Grammar) where
   pub talk_is_over : (all : Talk S) (more : ℕ) (kept : List ℕ) (holds : S → Type 0) (known : Known S) (times : Option (List ℕ)) (served : Served) (c d : Connection) → more ≡ 0 → InTalk store known.fits buckets g all holds times served more kept c d → Talks all holds known times served (Ok tt) c d
   talk_is_over all more kept holds known times served c d over i =
-      let rest : talk store buckets g more i.serving (kept ++ i.left) ≡ record { text = []; passed = []; asks = []; serving = i.serving; is_over = false } = ap (λ n. talk store buckets g n i.serving (kept ++ i.left)) over ∙ talk_none store buckets g i.serving (kept ++ i.left) in
-      let is : all ≡ record { text = i.text ++ []; passed = i.passed ++ []; asks = i.asks ++ []; serving = i.serving; is_over = false } = i.is ∙ ap (prefixed i.text i.passed i.asks) rest in
+      let rest : talk store buckets g more i.serving (kept ++ i.left) ≡ record { text = []; stops = []; asks = []; serving = i.serving; is_over = false } = ap (λ n. talk store buckets g n i.serving (kept ++ i.left)) over ∙ talk_none store buckets g i.serving (kept ++ i.left) in
+      let is : all ≡ record { text = i.text ++ []; stops = i.stops ++ []; asks = i.asks ++ []; serving = i.serving; is_over = false } = i.is ∙ ap (prefixed i.text i.stops i.asks) rest in
       let P : Talk S → Type 0 = λ x. Talks x holds known times served (Ok tt) c d in
       let Q : List ℕ → Type 0 = Wrote c.written d.written in
       subst P (sym is) (whole refl refl (subst Q (sym (append-nil i.text)) i.wrote) (all_append known.fits i.asks [] i.fit tt) i.stands i.counted)

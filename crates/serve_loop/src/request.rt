@@ -441,7 +441,9 @@ pub fn serve_request<S: Storage, L: Link, C: Clock>(
 
     // What is written is what is stated of the first request in the bytes that are kept and left, from each state that
     // store, clock and counts stand for, and they stand for what is stated then, to which lawful orders lead. Where the
-    // connection's count of faults rose, or memory was wanting, it's a first part of that.
+    // connection's count of faults rose it was cut off at one of the stops that are stated, for which they stand, and where
+    // memory was wanting it came to one: what is written is a first part of the text up to there, and each order before it
+    // fits.
     ensures serves { (g : Grammar) (p : Serving S.State) → Stands (S.stands store.old) (C.times clock.old) served.old p →
         ServesOn (λ left. turn S.model buckets.now g last p (kept.old.bytes.items ++ left)) (Reached S.model S.fits S.lacks (S.stands store.new) p.store) (known_from S.model S.fits S.lacks p.store) (C.times clock.new) served.new result kept.new.bytes.items (L.present link.old) (L.present link.new) }
 

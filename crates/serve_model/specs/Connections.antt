@@ -4,45 +4,55 @@ use Rattle.std.specs.List.{AllByRecursion}
 use Rattle.crdt_core.specs.Members.{OneOf}
 use Rattle.lab_outside.specs.Connection.{Connection}
 use Rattle.lab_outside.specs.Rose.{Rose}
-use Rattle.lab_outside.specs.Bytes.{Wrote, WrotePrefix}
+use Rattle.lab_outside.specs.Bytes.{Wrote}
 use Rattle.serve_model.specs.declared.served.Served.{Served}
 use Rattle.serve_model.specs.declared.served.ServeFault.{ServeFault}
 use Rattle.serve_model.specs.declared.served.ServeFault.TheVariants.{Kept}
 use Rattle.serve_model.specs.Stores.{Store, Asking, Known}
-use Rattle.serve_model.specs.Talk.{Grammar, Serving, Talk, talk, request_limit}
-use Rattle.serve_model.specs.Serving.{Stands, IsPassed, GivesUp}
+use Rattle.serve_model.specs.Talk.{Grammar, Serving, Stop, Talk, talk, request_limit}
+use Rattle.serve_model.specs.Serving.{Stands, ComesTo, CutOffAt, GivesUp}
 
--- what is stated of a connection was written, each order that the store was asked fits, and store, clock and counts stand for what is served then; or a first part was written, as the count of faults rose; or serving ends with it, as too many bytes were put or copied; or a first part was written, as memory was wanting or one of the orders that the store is asked has no room
+-- what is stated of a connection was written, each order that the store was asked fits, and store, clock and counts stand for what is served then; or it was cut off at one of its stops, as the count of faults rose; or serving ends with it, as too many bytes were put or copied, and each order fits too; or it came to one of its stops, as memory was wanting or one of the orders that the store is asked has no room
 pub data Talks {S : Type 0} (t : Talk S) (holds : S → Type 0) (known : Known S) (times : Option (List ℕ)) (served : Served) (result : Result Unit ServeFault) (c d : Connection) : Type 0 where
   whole : result ≡ Ok tt → t.is_over ≡ false → Wrote c.written d.written t.text → AllByRecursion known.fits t.asks → Stands holds times served t.serving → c.faults ≤ d.faults → Talks t holds known times served result c d
-  cut_off : (q : Serving S) → result ≡ Ok tt → Rose c.faults d.faults → WrotePrefix c.written d.written t.text → Stands holds times served q → IsPassed t.passed t.serving q → Talks t holds known times served result c d
-  limited : result ≡ Err Kept → t.is_over ≡ true → Wrote c.written d.written t.text → c.faults ≤ d.faults → Talks t holds known times served result c d
-  given_up : (e : ServeFault) → result ≡ Err e → GivesUp known.overflows t.asks e → WrotePrefix c.written d.written t.text → c.faults ≤ d.faults → Talks t holds known times served result c d
+  cut_off : result ≡ Ok tt → Rose c.faults d.faults → OneOf (CutOffAt known.fits holds times served c d) t.stops → Talks t holds known times served result c d
+  limited : result ≡ Err Kept → t.is_over ≡ true → Wrote c.written d.written t.text → AllByRecursion known.fits t.asks → c.faults ≤ d.faults → Talks t holds known times served result c d
+  given_up : (e : ServeFault) → result ≡ Err e → GivesUp known.overflows t.asks e → OneOf (ComesTo known.fits c d) t.stops → c.faults ≤ d.faults → Talks t holds known times served result c d
 
--- bytes are the first part of a text, or all of it
-abbrev pub IsPrefixOf : List ℕ → List ℕ → Type 0
-IsPrefixOf front text = (rest : List ℕ) × (front ++ rest ≡ text)
+-- these are the first of those, or all of them
+abbrev pub IsPrefixOf : {A : Type 0} → List A → List A → Type 0
+IsPrefixOf {A} front all = (rest : List A) × (front ++ rest ≡ all)
+
+-- a stop lies within a connection: its text is a first part of the connection's, and its orders are the first of those that it asks
+abbrev pub LiesWithin : {S : Type 0} → Talk S → Stop S → Type 0
+LiesWithin t stop = IsPrefixOf stop.text t.text × IsPrefixOf stop.asks t.asks
 
 module _ {S : Type 0} (store : Store S) (buckets : List (List ℕ)) (g : Grammar) where
   -- what is stated of a connection with these bytes
   abbrev pub stated : Serving S → List ℕ → Talk S
   stated p bytes = talk store buckets g request_limit p bytes
 
-  -- some order that connections with these bytes ask, one after the other, is so
-  abbrev pub SomeAsked : (Asking S → Type 0) → Serving S → List (List ℕ) → Type 0
-  SomeAsked IsSo p [] = ⊥
-  SomeAsked IsSo p (bytes ∷ more) = OneOf IsSo (stated p bytes).asks ⊎ SomeAsked IsSo (stated p bytes).serving more
-
-  -- what is stated of a connection was written and ends serving, or a first part was written, as memory was wanting or one of the orders that the store is asked has no room
-  pub data EndsSo (overflows : List (Asking S) → Type 0) (t : Talk S) (d : Connection) : ServeFault → Type 0 where
-    too_many : t.is_over ≡ true → IfSome d.written (λ written. written ≡ t.text) → EndsSo overflows t d Kept
-    begun : (e : ServeFault) → GivesUp overflows t.asks e → IfSome d.written (λ written. IsPrefixOf written t.text) → EndsSo overflows t d e
+  -- some order is so that these connections, which have these bytes, ask one after the other: the first one asks it, or those behind it do, from what is served at its end, or, where its count of faults rose, from what is served wherever it may be cut off
+  abbrev pub SomeAsked : (Asking S → Type 0) → Serving S → List (List ℕ) → List Connection → Type 0
+  SomeAsked IsSo p [] ds = ⊥
+  SomeAsked IsSo p (bytes ∷ more) [] = ⊥
+  SomeAsked IsSo p (bytes ∷ more) (d ∷ ds) =
+      OneOf IsSo (stated p bytes).asks ⊎ SomeAsked IsSo (stated p bytes).serving more ds ⊎ (Rose 0 d.faults × OneOf (λ (stop : Stop S). SomeAsked IsSo stop.serving more ds) (stated p bytes).stops)
 
   module _ (fits : Asking S → Type 0) where
-    -- what is stated of a connection's bytes was written to it, and each order that the store was asked fits; or a first part where its count of faults rose; and what is served after it
+    -- a connection came as far as a stop, or not quite: a first part of its text was written to it, and each order that the store was asked before it fits
+    abbrev pub IsUpTo : Connection → Stop S → Type 0
+    IsUpTo d stop = IfSome d.written (λ written. IsPrefixOf written stop.text) × AllByRecursion fits stop.asks
+
+    -- what is stated of a connection was written and ends serving, and each order that the store was asked fits; or it came to one of its stops, as memory was wanting or one of the orders that the store is asked has no room
+    pub data EndsSo (overflows : List (Asking S) → Type 0) (t : Talk S) (d : Connection) : ServeFault → Type 0 where
+      too_many : t.is_over ≡ true → IfSome d.written (λ written. written ≡ t.text) → AllByRecursion fits t.asks → EndsSo overflows t d Kept
+      begun : (e : ServeFault) → GivesUp overflows t.asks e → OneOf (IsUpTo d) t.stops → EndsSo overflows t d e
+
+    -- what is stated of a connection's bytes was written to it, and each order that the store was asked fits; or it was cut off at one of its stops, as its count of faults rose; and what is served after it
     pub data IsServed (p : Serving S) (bytes : List ℕ) (d : Connection) (q : Serving S) : Type 0 where
       exact : (stated p bytes).is_over ≡ false → IfSome d.written (λ written. written ≡ (stated p bytes).text) → AllByRecursion fits (stated p bytes).asks → q ≡ (stated p bytes).serving → IsServed p bytes d q
-      part : Rose 0 d.faults → IfSome d.written (λ written. IsPrefixOf written (stated p bytes).text) → IsPassed (stated p bytes).passed (stated p bytes).serving q → IsServed p bytes d q
+      part : Rose 0 d.faults → OneOf (λ stop. IsUpTo d stop × (q ≡ stop.serving)) (stated p bytes).stops → IsServed p bytes d q
 
     -- connections with these bytes were served one after the other
     abbrev pub AreServed : Serving S → List (List ℕ) → List Connection → Serving S → Type 0
@@ -76,7 +86,3 @@ module _ {S : Type 0} (store : Store S) (buckets : List (List ℕ)) (g : Grammar
       pub serving : Serving S
       pub are_served : AreServed p came gone serving
       pub ends : EndsSo overflows (stated serving bytes) last fault
-
--- no count of faults of these connections rose
-abbrev pub NoneRose : List Connection → Type 0
-NoneRose gone = AllByRecursion (λ (d : Connection). Rose 0 d.faults → ⊥) gone

@@ -1,6 +1,7 @@
 -- How code serves one request: what it writes, and what its store, its clock and its counts stand for then.
 use Rattle.std.specs.Prelude.{◌≡◌, ℕ, ◌≤◌, ⊤, Bool, false, true, not, List, ◌++◌, Option, Some, None, Result, Ok, Err}
-use Rattle.std.specs.List.{AllByRecursion, Contains}
+use Rattle.std.specs.List.{AllByRecursion}
+use Rattle.crdt_core.specs.Members.{OneOf}
 use Rattle.lab_outside.specs.Connection.{Connection, OnPresent}
 use Rattle.lab_outside.specs.Rose.{Rose}
 use Rattle.lab_outside.specs.Bytes.{Wrote, WrotePrefix}
@@ -10,7 +11,7 @@ use Rattle.serve_model.specs.declared.served.Served.{Served}
 use Rattle.serve_model.specs.declared.served.ServeFault.{ServeFault}
 use Rattle.serve_model.specs.declared.served.ServeFault.TheVariants.{Kept, Number, Memory}
 use Rattle.serve_model.specs.Stores.{Store, Asking, Known, Leads, Overflows}
-use Rattle.serve_model.specs.Talk.{Serving, Next, goes, closes, exceeds, Turn}
+use Rattle.serve_model.specs.Talk.{Serving, Next, goes, closes, exceeds, Stop, Turn}
 
 -- ---- a store of the code
 
@@ -60,10 +61,13 @@ Continues exceeds on kept left = ⊥
 Continues (goes rest) on kept None = ⊥
 Continues (goes rest) on kept (Some left) = (on ≡ true) × (rest ≡ kept ++ left)
 
--- this is what is served at the end, or was on the way there
-pub data IsPassed {S : Type 0} (passed : List (Serving S)) (serving q : Serving S) : Type 0 where
-  at_end : q ≡ serving → IsPassed passed serving q
-  before : Contains passed q → IsPassed passed serving q
+-- it came as far as a stop, or not quite: a first part of its text was written, and each order that the store was asked before it fits
+abbrev pub ComesTo : {S : Type 0} → (Asking S → Type 0) → Connection → Connection → Stop S → Type 0
+ComesTo fits c d stop = WrotePrefix c.written d.written stop.text × AllByRecursion fits stop.asks
+
+-- it was cut off at a stop: it came so far, and store, clock and counts stand for what is served there
+abbrev pub CutOffAt : {S : Type 0} → (Asking S → Type 0) → (S → Type 0) → Option (List ℕ) → Served → Connection → Connection → Stop S → Type 0
+CutOffAt fits holds times served c d stop = ComesTo fits c d stop × Stands holds times served stop.serving
 
 -- serving is given up, since one of these orders has no room, or since memory was wanting
 abbrev pub GivesUp : {S : Type 0} → (List (Asking S) → Type 0) → List (Asking S) → ServeFault → Type 0
@@ -71,12 +75,12 @@ GivesUp overflows asks Kept = ⊥
 GivesUp overflows asks Number = overflows asks
 GivesUp overflows asks Memory = ⊤
 
--- what is stated of one request was written, each order that the store was asked fits, and store, clock and counts stand for what is served then; or a first part was written, as the count of faults rose, and they stand for something on the way; or it's stated that serving ends, as too many bytes were put or copied; or a first part was written, as memory was wanting or the order that the store was asked has no room
+-- what is stated of one request was written, each order that the store was asked fits, and store, clock and counts stand for what is served then; or it was cut off at one of its stops, as the count of faults rose; or it's stated that serving ends, as too many bytes were put or copied, and each order fits too; or it came to one of its stops, as memory was wanting or the order that the store was asked has no room
 pub data Serves {S : Type 0} (t : Turn S) (holds : S → Type 0) (known : Known S) (times : Option (List ℕ)) (served : Served) (result : Result Bool ServeFault) (kept : List ℕ) (c d : Connection) : Type 0 where
   done : (on : Bool) → result ≡ Ok on → Wrote c.written d.written t.text → AllByRecursion known.fits t.asks → Stands holds times served t.serving → Continues t.next on kept d.left → c.faults ≤ d.faults → Serves t holds known times served result kept c d
-  cut_off : (q : Serving S) → result ≡ Ok false → Rose c.faults d.faults → WrotePrefix c.written d.written t.text → Stands holds times served q → IsPassed t.passed t.serving q → Serves t holds known times served result kept c d
-  limited : result ≡ Err Kept → t.next ≡ exceeds → Wrote c.written d.written t.text → c.faults ≤ d.faults → Serves t holds known times served result kept c d
-  given_up : (e : ServeFault) → result ≡ Err e → GivesUp known.overflows t.asks e → WrotePrefix c.written d.written t.text → c.faults ≤ d.faults → Serves t holds known times served result kept c d
+  cut_off : result ≡ Ok false → Rose c.faults d.faults → OneOf (CutOffAt known.fits holds times served c d) t.stops → Serves t holds known times served result kept c d
+  limited : result ≡ Err Kept → t.next ≡ exceeds → Wrote c.written d.written t.text → AllByRecursion known.fits t.asks → c.faults ≤ d.faults → Serves t holds known times served result kept c d
+  given_up : (e : ServeFault) → result ≡ Err e → GivesUp known.overflows t.asks e → OneOf (ComesTo known.fits c d) t.stops → c.faults ≤ d.faults → Serves t holds known times served result kept c d
 
 -- so it is of the bytes that are told to be left
 abbrev pub OnLeft : (List ℕ → Type 0) → Option (List ℕ) → Type 0

@@ -1,5 +1,5 @@
 -- What is written to a connection: a function of its bytes, over a store, the times that a clock still gives, and what was counted.
-use Rattle.std.specs.Prelude.{ℕ, zero, suc, ◌+◌, Bool, true, false, ◌||◌, ◌&&◌, ◌==◌, nat_le, nat_lt, min, max, List, [], ◌∷◌, ◌++◌, length, take, drop, codes, Option, Some, None, Result, Ok, Err, if◌then◌else◌}
+use Rattle.std.specs.Prelude.{ℕ, zero, suc, ◌+◌, Bool, true, false, ◌||◌, ◌&&◌, ◌==◌, nat_le, nat_lt, min, max, List, [], ◌∷◌, ◌++◌, map, length, take, drop, codes, Option, Some, None, Result, Ok, Err, if◌then◌else◌}
 use Rattle.flow_model.specs.declared.order.Order.{Order}
 use Rattle.flow_model.specs.declared.flow.FlowEnd.{FlowEnd}
 use Rattle.http_model.specs.declared.head.Head.{Head}
@@ -73,10 +73,16 @@ abbrev pub unless_closed : Bool → List ℕ → Next
 unless_closed true rest = closes
 unless_closed false rest = goes rest
 
--- what comes of one request: what is written, what was passed on the way, what the store is asked, what is served from then on, and how the connection goes on
+-- a place where a connection may be cut off: the text of which a first part is written then, the orders that the store was asked before, and what is served then
+pub record Stop (S : Type 0) : Type 0 where
+  pub text : List ℕ
+  pub asks : List (Asking S)
+  pub serving : Serving S
+
+-- what comes of one request: what is written, where it may be cut off, what the store is asked, what is served from then on, and how the connection goes on
 pub record Turn (S : Type 0) : Type 0 where
   pub text : List ℕ
-  pub passed : List (Serving S)
+  pub stops : List (Stop S)
   pub asks : List (Asking S)
   pub serving : Serving S
   pub next : Next
@@ -139,21 +145,29 @@ module _ {S : Type 0} where
   abbrev pub counted : ℕ → Serving S → Serving S
   counted size p = record p { kept = p.kept + size }
 
-  -- this was passed before
+  -- a place where this text is written, and the store wasn't asked before
+  abbrev pub stop : List ℕ → Serving S → Stop S
+  stop text p = record { text = text; asks = []; serving = p }
+
+  -- a place before which this text was written and these orders were asked too
+  abbrev pub behind : List ℕ → List (Asking S) → Stop S → Stop S
+  behind text asks s = record { text = text ++ s.text; asks = asks ++ s.asks; serving = s.serving }
+
+  -- it may be cut off here already, with nothing written
   abbrev pub passing : Serving S → Turn S → Turn S
-  passing p t = record t { passed = p ∷ t.passed }
+  passing p t = record t { stops = stop [] p ∷ t.stops }
 
   -- the store was asked this before
   abbrev pub having_asked : Asking S → Turn S → Turn S
-  having_asked a t = record t { asks = a ∷ t.asks }
+  having_asked a t = record t { stops = map (behind [] (a ∷ [])) t.stops; asks = a ∷ t.asks }
 
   -- something was written before
   abbrev pub after : List ℕ → Turn S → Turn S
-  after text t = record t { text = text ++ t.text }
+  after text t = record t { text = text ++ t.text; stops = map (behind text []) t.stops }
 
-  -- something is written, and then the connection closes or goes on with the rest
+  -- something is written, in which it may be cut off, and then the connection closes or goes on with the rest
   abbrev pub said : List ℕ → Bool → Serving S → List ℕ → Turn S
-  said text close p rest = record { text = text; passed = []; asks = []; serving = p; next = unless_closed close rest }
+  said text close p rest = record { text = text; stops = stop text p ∷ []; asks = []; serving = p; next = unless_closed close rest }
 
   -- a request is answered
   abbrev pub answer_turn : Request → Answer → Serving S → List ℕ → Turn S
@@ -161,7 +175,7 @@ module _ {S : Type 0} where
 
   -- too many bytes were put or copied
   abbrev pub exceeded : Serving S → Turn S
-  exceeded p = record { text = []; passed = []; asks = []; serving = p; next = exceeds }
+  exceeded p = record { text = []; stops = stop [] p ∷ []; asks = []; serving = p; next = exceeds }
 
   -- so many bytes more are put or copied, and if they aren't too many, it goes on so
   unfoldable pub counting : ℕ → Serving S → (Serving S → Turn S) → Turn S
@@ -172,11 +186,11 @@ module _ {S : Type 0} where
   end_turn r None p rest = answer_turn r answer.Nothing p rest
   end_turn r (Some end) p rest = counting (counted_after r.ask end) p (λ q. answer_turn r (answer_to r.ask end) q rest)
 
-  -- the store carries out an order
+  -- the store carries out an order, unless it is cut off before
   abbrev pub order_turn : Store S → Request → Order → Serving S → List ℕ → Turn S
   order_turn store r order p rest =
       let c = store.carries p.store r.time order in
-      having_asked (record { state = p.store; time = r.time; order = order }) (end_turn r c.end (record p { store = c.state }) rest)
+      passing p (having_asked (record { state = p.store; time = r.time; order = order }) (end_turn r c.end (record p { store = c.state }) rest))
 
   module _ (store : Store S) (buckets : List (List ℕ)) where
     -- nothing refuses the request before the store is asked
@@ -226,10 +240,10 @@ module _ {S : Type 0} where
       abbrev pub turn : Bool → Serving S → List ℕ → Turn S
       turn last p bytes = passing p (cut_turn last p (cut bytes))
 
--- what is written to a connection, what is passed on the way, what the store is asked, one order after the other, what is served then, and whether serving ends with it
+-- what is written to a connection, where it may be cut off, what the store is asked, one order after the other, what is served then, and whether serving ends with it
 pub record Talk (S : Type 0) : Type 0 where
   pub text : List ℕ
-  pub passed : List (Serving S)
+  pub stops : List (Stop S)
   pub asks : List (Asking S)
   pub serving : Serving S
   pub is_over : Bool
@@ -239,11 +253,11 @@ module _ {S : Type 0} where
   abbrev pub go_on : (Serving S → List ℕ → Talk S) → Turn S → Next → Talk S
   go_on talk t (goes rest) =
       let u = talk t.serving rest in
-      record { text = t.text ++ u.text; passed = t.passed ++ u.passed; asks = t.asks ++ u.asks; serving = u.serving; is_over = u.is_over }
-  go_on talk t closes = record { text = t.text; passed = t.passed; asks = t.asks; serving = t.serving; is_over = false }
-  go_on talk t exceeds = record { text = t.text; passed = t.passed; asks = t.asks; serving = t.serving; is_over = true }
+      record { text = t.text ++ u.text; stops = t.stops ++ map (behind t.text t.asks) u.stops; asks = t.asks ++ u.asks; serving = u.serving; is_over = u.is_over }
+  go_on talk t closes = record { text = t.text; stops = t.stops; asks = t.asks; serving = t.serving; is_over = false }
+  go_on talk t exceeds = record { text = t.text; stops = t.stops; asks = t.asks; serving = t.serving; is_over = true }
 
   -- a connection with these bytes, on which so many requests are answered at most
   unfoldable pub talk : Store S → List (List ℕ) → Grammar → ℕ → Serving S → List ℕ → Talk S
-  talk store buckets g zero p bytes = record { text = []; passed = []; asks = []; serving = p; is_over = false }
+  talk store buckets g zero p bytes = record { text = []; stops = []; asks = []; serving = p; is_over = false }
   talk store buckets g (suc more) p bytes = let t = turn store buckets g (more == 0) p bytes in go_on (talk store buckets g more) t t.next

@@ -1,10 +1,10 @@
 //! What is written to the connections of an S3 server: a function of their bytes, over any store that answers orders.
 //!
 //! A store is a record of one function (`Stores`): an order at a time gives the state after it and its end. `Talk` says
-//! what comes of one request, of a connection with its requests one after the other, and which states are passed on the
-//! way; it judges a request by the refusals in their order (s3_model, `Judging`), and answers by s3_model's bytes. The
-//! store of today is the cluster itself, whose requests are acts of a run (`Clusters`). `Serving` and `Served` say how
-//! code serves one request and all connections. The crate has no code: these types, which model and code share.
+//! what comes of one request, of a connection with its requests one after the other, and where it may be cut off; it
+//! judges a request by the refusals in their order (s3_model, `Judging`), and answers by s3_model's bytes. The store of
+//! today is the cluster itself, whose requests are acts of a run (`Clusters`). `Serving` and `Connections` say how code
+//! serves one request and all connections. The crate has no code: these types, which model and code share.
 //! What is said of answers rests on one reader of heads, which there is (`grammar_is_there`, `grammar_is_one`).
 #![tactic(auto)]
 

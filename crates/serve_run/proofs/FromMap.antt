@@ -1,5 +1,6 @@
 -- A server's connections are served as by a server that is one map.
 use Rattle.std.proofs.Common.{◌≡◌, ◌≤◌, ◌+◌, ℕ, suc, inl, inr, List, [], ◌∷◌, ◌++◌, length, length-append, map, refl, sym, ◌∙◌, ap, subst, arith, append_assoc, append-nil}
+use Rattle.std.specs.Prelude.{⊤}
 use Rattle.std.proofs.lemmas.List.{append_cancel_left}
 use Rattle.lab_outside.specs.Connection.{Connection}
 use Rattle.layout_roles.specs.declared.layout.Layout.{Layout}
@@ -9,19 +10,23 @@ use Rattle.cluster_machine.specs.Layouts.{layouts}
 use Rattle.store_model.specs.Run.{State, start}
 use Rattle.store_model.specs.Acts.{Act, adds, cuts, installs, acted, after_acts, AreLawfulActs}
 use Rattle.store_model.specs.Fresh.{NoClash}
-use Rattle.serve_model.specs.Stores.{fits_asking}
+use Rattle.serve_model.specs.declared.served.ServeFault.{ServeFault}
+use Rattle.serve_model.specs.declared.served.ServeFault.TheVariants as cause
+use Rattle.serve_model.specs.Stores.{Store, Asking, fits_asking}
 use Rattle.serve_model.specs.Clusters.{Cluster, cluster, fits}
-use Rattle.serve_model.specs.Talk.{Grammar, Serving}
-use Rattle.serve_model.specs.Connections.{IsServed, AreServed, SomeAsked, NoneRose}
+use Rattle.serve_model.specs.Talk.{Grammar, Serving, Stop, Talk, talk, request_limit}
+use Rattle.serve_model.specs.Serving.{GivesUp}
+use Rattle.serve_model.specs.Connections.{stated, IsServed, AreServed, SomeAsked, EndsSo, too_many, begun as has_begun, ServesAllButLast}
+use Rattle.serve_model.proofs.Ones.{one_weaker}
 use Rattle.serve_model.specs.Plain.{Plain as Map, plain, PutsBlock, AreApart}
 use Rattle.plain_laws.specs.Holds.{Holds}
 use Rattle.plain_laws.specs.Blocks.{IsKept, IsOfMap}
-use Rattle.plain_laws.specs.Served.{IsServedBlock, HoldsApart, AreServedFrom}
+use Rattle.plain_laws.specs.Served.{IsServedBlock, HoldsApart, AreServedFrom, EndsFrom}
 use Rattle.plain_laws.proofs.Stores.{all_put}
 use Rattle.serve_run.specs.declared.plan.Plan.{Plan}
 use Rattle.serve_run.specs.Start.{preparing, opening, opened, IsOf}
 use Rattle.serve_run.specs.Served.{nodes_of, begun, serving}
-use Rattle.serve_run.specs.FromMap.{empty_map, map_serving, AreServedFromMap, AreFromMap}
+use Rattle.serve_run.specs.FromMap.{empty_map, map_serving, AreServedFromMap, PutsApart, AreFromMap, AreFromMapButLast}
 
 -- ---- the first state
 
@@ -48,10 +53,26 @@ FirstHolds = (first : Layout) (buckets : List (List ℕ)) (block ticked : ℕ) �
     Holds (record { run = (acted (record start { buckets = buckets; block = block }) (installs first)).state; ticked = ticked; members = layouts.reading.members first })
     (record { buckets = buckets; block = block; clock = 0; ticked = ticked; asked = 0; entries = [] })
 
--- what the law on connections says
+-- what the laws on connections say
 abbrev pub ServedFrom : Type 0
-ServedFrom = (buckets : List (List ℕ)) (g : Grammar) (p s : Serving Cluster) (P : Map) (came : List (List ℕ)) (gone : List Connection) → HoldsApart p.store P → AreApart (IsServedBlock buckets g p P came) → NoneRose gone →
+ServedFrom = (buckets : List (List ℕ)) (g : Grammar) (p s : Serving Cluster) (P : Map) (came : List (List ℕ)) (gone : List Connection) → HoldsApart p.store P → AreApart (IsServedBlock buckets g p P came gone) →
     AreServed cluster buckets g (fits_asking fits) p came gone s → AreServedFrom P buckets g p came gone s
+
+abbrev pub EndedFrom : Type 0
+EndedFrom = (buckets : List (List ℕ)) (g : Grammar) (p s : Serving Cluster) (P : Map) (came : List (List ℕ)) (gone : List Connection) (bytes : List ℕ) (last : Connection) (fault : ServeFault) →
+    HoldsApart p.store P → AreApart (IsServedBlock buckets g p P (came ++ bytes ∷ []) (gone ++ last ∷ [])) → AreServed cluster buckets g (fits_asking fits) p came gone s →
+    EndsSo cluster buckets g (fits_asking fits) (λ asks. ⊤) (stated cluster buckets g s bytes) last fault → EndsFrom P buckets g p came gone bytes last fault
+
+-- whatever order had no room
+module _ {S : Type 0} (store : Store S) (buckets : List (List ℕ)) (g : Grammar) (FitsIt : Asking S → Type 0) (t : Talk S) (d : Connection) (overflows : List (Asking S) → Type 0) where
+  any_order : (fault : ServeFault) → GivesUp overflows t.asks fault → GivesUp (λ (asks : List (Asking S)). ⊤) t.asks fault
+  any_order cause.Kept why = why
+  any_order cause.Number why = tt
+  any_order cause.Memory why = tt
+
+  ends_anyhow : (fault : ServeFault) → EndsSo store buckets g FitsIt overflows t d fault → EndsSo store buckets g FitsIt (λ asks. ⊤) t d fault
+  ends_anyhow fault (too_many over wrote fit) = too_many over wrote fit
+  ends_anyhow fault (has_begun e why stops) = has_begun e (any_order e why) stops
 
 begun_holds : FirstHolds → (p : Plan) (first : Layout) → IsOf p first → IsFirst first → Holds (begun p first) (empty_map p)
 begun_holds law p first of is =
@@ -110,30 +131,70 @@ same_front (x ∷ front) (y ∷ came) back later e l =
     let rest = same_front front came back later (tail_is x y (front ++ back) (came ++ later) e) (omega (arith, l)) in
     λ i. heads i ∷ rest i
 
+-- what the first connections ask of those to come
+module _ (buckets : List (List ℕ)) (g : Grammar) (IsSo : Asking Map → Type 0) where
+  asked_before : (came more : List (List ℕ)) (gone : List Connection) (q : Serving Map) → SomeAsked plain buckets g IsSo q came gone → SomeAsked plain buckets g IsSo q (came ++ more) gone
+  asked_before [] more gone q h = absurd h
+  asked_before (bytes ∷ came) more [] q h = absurd h
+  asked_before (bytes ∷ came) more (d ∷ gone) q (inl one) = inl one
+  asked_before (bytes ∷ came) more (d ∷ gone) q (inr (inl later)) = inr (inl (asked_before came more gone (talk plain buckets g request_limit q bytes).serving later))
+  asked_before (bytes ∷ came) more (d ∷ gone) q (inr (inr (rose, at))) =
+      inr
+      (inr (
+        rose,
+        one_weaker (λ (s : Stop Map). SomeAsked plain buckets g IsSo s.serving came gone) (λ (s : Stop Map). SomeAsked plain buckets g IsSo s.serving (came ++ more) gone) (λ s h. asked_before came more gone s.serving h) (talk plain buckets g request_limit q bytes).stops at,
+      ))
+
 -- ---- the connections that came
 
 module _ (first_holds : FirstHolds) (served_from : ServedFrom) (g : Grammar) (p : Plan) (sized : 1 ≤ p.config.block_size) (first : Layout) (is_of : IsOf p first) (is_first : IsFirst first) (buckets : List (List ℕ)) (times : List ℕ) where
   -- at first no block is kept, and nothing is in the map
-  abbrev Puts : List (List ℕ) → List ℕ → Type 0
-  Puts came bytes = SomeAsked plain buckets g (PutsBlock bytes) (map_serving p times) came
+  abbrev Puts : List (List ℕ) → List Connection → List ℕ → Type 0
+  Puts came gone bytes = SomeAsked plain buckets g (PutsBlock bytes) (map_serving p times) came gone
 
-  is_put : (came : List (List ℕ)) (bytes : List ℕ) → IsServedBlock buckets g (serving p first times) (empty_map p) came bytes → Puts came bytes
-  is_put came bytes (inl kept) = absurd (none_kept p first bytes kept)
-  is_put came bytes (inr (inl m)) = absurd (none_there p first bytes m)
-  is_put came bytes (inr (inr put)) = put
+  is_put : (came : List (List ℕ)) (gone : List Connection) (bytes : List ℕ) → IsServedBlock buckets g (serving p first times) (empty_map p) came gone bytes → Puts came gone bytes
+  is_put came gone bytes (inl kept) = absurd (none_kept p first bytes kept)
+  is_put came gone bytes (inr (inl m)) = absurd (none_there p first bytes m)
+  is_put came gone bytes (inr (inr put)) = put
 
-  from_map_here : NoClash p.config.buckets → (came : List (List ℕ)) (gone : List Connection) (s : Serving Cluster) → AreServed cluster buckets g (fits_asking fits) (serving p first times) came gone s → NoneRose gone → AreApart (Puts came) → AreServedFromMap g p buckets times came gone
-  from_map_here clash came gone s served none apart =
-      let begins : HoldsApart (begun p first) (empty_map p) = record { holds = begun_holds first_holds p first is_of is_first; clash = clash; some = sized } in
-      let k = served_from buckets g (serving p first times) s (empty_map p) came gone begins (λ x y h l e. apart x y (is_put came x h) (is_put came y l) e) none served in
+  at_first : NoClash p.config.buckets → HoldsApart (begun p first) (empty_map p)
+  at_first clash = record { holds = begun_holds first_holds p first is_of is_first; clash = clash; some = sized }
+
+  from_map_here : NoClash p.config.buckets → (came : List (List ℕ)) (gone : List Connection) (s : Serving Cluster) → AreServed cluster buckets g (fits_asking fits) (serving p first times) came gone s → PutsApart g p buckets times came gone → AreServedFromMap g p buckets times came gone
+  from_map_here clash came gone s served apart =
+      let k = served_from buckets g (serving p first times) s (empty_map p) came gone (at_first clash) (λ x y h l e. apart x y (is_put came gone x h) (is_put came gone y l) e) served in
       (k.serving, k.are_served)
 
   pub are_from_map : NoClash p.config.buckets → (left_out : ℕ) (past past_after : List Connection) (coming came to_come : List (List ℕ)) (all more : List Connection) (s : Serving Cluster) → AreServed cluster buckets g (fits_asking fits) (serving p first times) came all s →
       coming ≡ came ++ to_come → past_after ≡ past ++ (all ++ more) → length more ≤ left_out → AreFromMap g p buckets left_out past past_after times coming
-  are_from_map clash left_out past past_after coming came to_come all more s served comes goes few = λ front back gone later comes_so goes_so long out none apart.
+  are_from_map clash left_out past past_after coming came to_come all more s served comes goes few = λ front back gone later comes_so goes_so long out apart.
       let same : all ++ more ≡ gone ++ later = append_cancel_left past (all ++ more) (gone ++ later) (sym goes ∙ goes_so ∙ append_assoc past gone later) in
       let f = front_of buckets g came all gone later more (serving p first times) s served same (omega (arith, few, out)) in
       let joined : f.front ++ (f.back ++ to_come) ≡ front ++ back = sym (append_assoc f.front f.back to_come) ∙ ap (λ x. x ++ to_come) (sym f.comes) ∙ sym comes ∙ comes_so in
       let is : f.front ≡ front = same_front f.front front (f.back ++ to_come) back joined (f.long ∙ sym long) in
       let served_here = subst (λ x. AreServed cluster buckets g (fits_asking fits) (serving p first times) x gone f.at) is f.served in
-      from_map_here clash front gone f.at served_here none apart
+      from_map_here clash front gone f.at served_here apart
+
+  -- serving ended with the last of them
+  pub end_from_map : EndedFrom → NoClash p.config.buckets → (overflows : List (Asking Cluster) → Type 0) (fault : ServeFault) (past past_after : List Connection) (coming : List (List ℕ)) →
+      ServesAllButLast cluster buckets g (fits_asking fits) overflows (serving p first times) fault coming past past_after → AreFromMapButLast g p buckets fault past past_after times coming
+  end_from_map ended_from clash overflows fault past past_after coming a = λ gone goes_so apart.
+      let front = a.came ++ a.bytes ∷ [] in
+      let back = a.gone ++ a.last ∷ [] in
+      let same : gone ≡ back = append_cancel_left past gone back (sym goes_so ∙ a.goes ∙ append_assoc past a.gone (a.last ∷ [])) in
+      let all : coming ≡ front ++ a.to_come = a.comes ∙ sym (append_assoc a.came (a.bytes ∷ []) a.to_come) in
+      let there : PutsApart g p buckets times (front ++ a.to_come) back = subst (λ x. PutsApart g p buckets times x back) all (subst (λ x. PutsApart g p buckets times coming x) same apart) in
+      let put : (bytes : List ℕ) → IsServedBlock buckets g (serving p first times) (empty_map p) front back bytes → Puts (front ++ a.to_come) back bytes = λ bytes h. asked_before buckets g (PutsBlock bytes) front a.to_come back (map_serving p times) (is_put front back bytes h) in
+      let k = ended_from buckets g (serving p first times) a.serving (empty_map p) a.came a.gone a.bytes a.last fault (at_first clash) (λ x y h l e. there x y (put x h) (put y l) e) a.are_served (ends_anyhow cluster buckets g (fits_asking fits) (stated cluster buckets g a.serving a.bytes) a.last overflows fault a.ends) in
+      record {
+        came = a.came;
+        bytes = a.bytes;
+        to_come = a.to_come;
+        comes = a.comes;
+        gone = a.gone;
+        last = a.last;
+        goes = a.goes;
+        serving = k.serving;
+        are_served = k.are_served;
+        ends = k.ends;
+      }

@@ -31,12 +31,12 @@ use Rattle.s3_world.specs.declared.world.S3World.{S3World}
 use Rattle.s3_world.specs.Stands.{IsStore}
 use Rattle.serve_run.specs.Start.{opening, opened, IsOf, IsOpened}
 use Rattle.serve_run.specs.Told.{Told, told}
-use Rattle.serve_run.specs.FromMap.{AreFromMap}
+use Rattle.serve_run.specs.FromMap.{AreFromMap, AreFromMapButLast}
 use Rattle.serve_run.specs.Served.{nodes_of, begun, state_after, tail, tail_of, serving, AreInOrder, HasServed, HasBrokenOff}
 use Rattle.serve_run.specs.Stop.{stop_of_memory, stop_of_serving}
 use Rattle.serve_run.specs.Answer.{IsUnshown, LacksRoom, for_order, HasStopped, HowServed}
 use Rattle.serve_run.proofs.Requests.{run_is, all_kept}
-use Rattle.serve_run.proofs.FromMap.{FirstHolds, ServedFrom, installs_first, are_from_map}
+use Rattle.serve_run.proofs.FromMap.{FirstHolds, ServedFrom, EndedFrom, installs_first, are_from_map, end_from_map}
 
 -- connections were served, and the code's cluster stands for one with the state after the orders
 pub record Left (g : Grammar) (p : Plan) (number : ℕ) (times times' : Option (List ℕ)) (coming coming' : Option (List (List ℕ))) (past past' : List Connection) (holds : Cluster → Type 0) : Type 0 where
@@ -183,8 +183,8 @@ module _ (keeps : EveryRunKeepsPromises) (first_holds : FirstHolds) (served_from
   abbrev ButLast : ServeFault → List ℕ → List (List ℕ) → Type 0
   ButLast fault ts cs = ServesAllButLast cluster buckets g (fits_asking fits) (OverflowsAmong cluster fits lacks (begun p b.first)) (serving p b.first ts) fault cs past past'
 
-  broken_off : (fault : ServeFault) → Where (ButLast fault) times coming → HasBrokenOff g p fault (told times times' coming coming' past past')
-  broken_off fault all =
+  broken_off : EndedFrom → (fault : ServeFault) → Where (ButLast fault) times coming → HasBrokenOff g p fault (told times times' coming coming' past past')
+  broken_off ended_from fault all =
       record {
         first = b.first;
         is_of = b.is_of;
@@ -193,6 +193,11 @@ module _ (keeps : EveryRunKeepsPromises) (first_holds : FirstHolds) (served_from
         in_order = in_order;
         served = some_told (ButLast fault) times coming all;
         from_map = λ clash. some_told (AreFromMap g p buckets 1 past past') times coming (λ ts e. where_some (ButLast fault ts) (AreFromMap g p buckets 1 past past' ts) coming (λ cs a. from_here clash ts cs 1 a.came (a.bytes ∷ a.to_come) a.gone (a.last ∷ []) a.serving a.are_served a.comes (a.goes ∙ append_assoc past a.gone (a.last ∷ [])) (omega arith)) (all ts e));
+        ends_from_map = λ clash.
+            some_told (AreFromMapButLast g p buckets fault past past') times coming
+            (λ ts e.
+            where_some (ButLast fault ts) (AreFromMapButLast g p buckets fault past past' ts) coming
+            (λ cs a. end_from_map first_holds served_from g p sized b.first b.is_of (installs_first p b.first b.lawful) buckets ts ended_from clash (OverflowsAmong cluster fits lacks (begun p b.first)) fault past past' cs a) (all ts e));
       }
 
   -- what `serve` says of each state for which the code's cluster stood
@@ -208,13 +213,13 @@ module _ (keeps : EveryRunKeepsPromises) (first_holds : FirstHolds) (served_from
   left number goes served = left_where number times coming (goes (begun p b.first) b.stands) (says_so (Ok number) served)
 
   -- serving stopped early
-  has_stopped : (stop : ServeStop) → Leaves cluster fits lacks holds0 holds (Err stop) → Says (Err stop) → HasStopped g p (told times times' coming coming' past past') (stop_of_serving stop)
+  has_stopped : EndedFrom → (stop : ServeStop) → Leaves cluster fits lacks holds0 holds (Err stop) → Says (Err stop) → HasStopped g p (told times times' coming coming' past past') (stop_of_serving stop)
   unfolding broken_off
-  has_stopped ended.Link goes served = left_early times coming (goes (begun p b.first) b.stands) (says_so (Err ended.Link) served)
-  has_stopped (ended.Fault fault.Kept) goes served = broken_off fault.Kept (says_so (Err (ended.Fault fault.Kept)) served)
-  has_stopped (ended.Fault fault.Number) goes served = for_order (broken_off fault.Number (says_so (Err (ended.Fault fault.Number)) served)) (goes (begun p b.first) b.stands)
-  has_stopped (ended.Fault fault.Memory) goes served = tt
+  has_stopped ended_from ended.Link goes served = left_early times coming (goes (begun p b.first) b.stands) (says_so (Err ended.Link) served)
+  has_stopped ended_from (ended.Fault fault.Kept) goes served = broken_off ended_from fault.Kept (says_so (Err (ended.Fault fault.Kept)) served)
+  has_stopped ended_from (ended.Fault fault.Number) goes served = for_order (broken_off ended_from fault.Number (says_so (Err (ended.Fault fault.Number)) served)) (goes (begun p b.first) b.stands)
+  has_stopped ended_from (ended.Fault fault.Memory) goes served = tt
 
-  pub how_stopped : (count : ℕ) (r : Result (List ℕ) Stop) (stop : ServeStop) → IsErrAnd r (λ e. e ≡ stop_of_serving stop) → Leaves cluster fits lacks holds0 holds (Err stop) → Says (Err stop) → HowServed g p count (told times times' coming coming' past past') r
-  how_stopped count (Ok text) stop is goes served = absurd is
-  how_stopped count (Err e) stop is goes served = subst (HasStopped g p (told times times' coming coming' past past')) (sym is) (has_stopped stop goes served)
+  pub how_stopped : EndedFrom → (count : ℕ) (r : Result (List ℕ) Stop) (stop : ServeStop) → IsErrAnd r (λ e. e ≡ stop_of_serving stop) → Leaves cluster fits lacks holds0 holds (Err stop) → Says (Err stop) → HowServed g p count (told times times' coming coming' past past') r
+  how_stopped ended_from count (Ok text) stop is goes served = absurd is
+  how_stopped ended_from count (Err e) stop is goes served = subst (HasStopped g p (told times times' coming coming' past past')) (sym is) (has_stopped ended_from stop goes served)

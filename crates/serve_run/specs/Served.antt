@@ -20,7 +20,7 @@ use Rattle.serve_model.specs.Connections.{ServesAll, ServesAllButLast}
 use Rattle.serve_run.specs.declared.plan.Plan.{Plan}
 use Rattle.serve_run.specs.Start.{opening, opened, IsOf}
 use Rattle.serve_run.specs.Told.{Told, WhereTold}
-use Rattle.serve_run.specs.FromMap.{IsFromMap}
+use Rattle.serve_run.specs.FromMap.{IsFromMap, EndsFromMap}
 
 -- ---- the acts
 
@@ -72,7 +72,7 @@ pub record AreInOrder (buckets names : List (List ℕ)) : Type 0 where
 abbrev pub serving : Plan → Layout → List ℕ → Serving Cluster
 serving p first times = record { store = begun p first; times = times; time = 0; kept = 0 }
 
--- orders were carried out from the opened cluster on; and where clock and link tell, so many connections were served as it is stated of their bytes, one after the other, which led to the state after these orders; the first ones up to a fault are served as by a server that is one map
+-- orders were carried out from the opened cluster on; and where clock and link tell, so many connections were served as it is stated of their bytes, one after the other, which led to the state after these orders; and they are served as by a server that is one map
 pub record HasServed (g : Grammar) (p : Plan) (number : ℕ) (t : Told) : Type 0 where
   pub first : Layout
   pub is_of : IsOf p first
@@ -84,7 +84,7 @@ pub record HasServed (g : Grammar) (p : Plan) (number : ℕ) (t : Told) : Type 0
   pub served : WhereTold t (λ times coming. ServesAll cluster buckets g (fits_asking fits) (serving p first times) number (λ c. c.run ≡ state_after p first orders) t.times_after counts coming t.coming_after t.past t.past_after)
   pub from_map : IsFromMap g p buckets 0 t
 
--- serving ended with a connection, for this fault; where clock and link tell, all connections before it were served as it is stated, and what was written to it is what is stated of it, or a first part; and whatever orders can be carried out from the opened cluster on keep what is promised; the connections before the last one, up to a fault, are served as by a server that is one map
+-- serving ended with a connection, for this fault; where clock and link tell, all connections before it were served as it is stated, and what was written to it is what is stated of it, or a first part; and whatever orders can be carried out from the opened cluster on keep what is promised; and the connections are served, and serving ends with the last one, as by a server that is one map
 pub record HasBrokenOff (g : Grammar) (p : Plan) (fault : ServeFault) (t : Told) : Type 0 where
   pub first : Layout
   pub is_of : IsOf p first
@@ -93,3 +93,4 @@ pub record HasBrokenOff (g : Grammar) (p : Plan) (fault : ServeFault) (t : Told)
   pub in_order : AreInOrder p.config.buckets buckets
   pub served : WhereTold t (λ times coming. ServesAllButLast cluster buckets g (fits_asking fits) (OverflowsAmong cluster fits lacks (begun p first)) (serving p first times) fault coming t.past t.past_after)
   pub from_map : IsFromMap g p buckets 1 t
+  pub ends_from_map : EndsFromMap g p buckets fault t

@@ -167,16 +167,18 @@ pub fn run<I: Source, O: Sink, L: Link, C: Clock>(
     // fresh, also by the records alone; what lines of reads tell of a version's bytes is as was written; and replicas that
     // accepted the same rows are equal. What was written is the text of the state after these acts; and where clock and
     // link tell, what was written to each connection is what is stated of its bytes, from what the connections before it
-    // left, or a first part of that where its count of faults rose, and they led to this very state. Of the first ones, up
-    // to the one with the first fault, each text is the one that a server writes which is one map from names to objects,
-    // with no cluster, where neither two names of buckets nor two of the blocks that they put have one digest.
+    // left, or a first part of that where its count of faults rose, and they led to this very state. And each text is the one
+    // that a server writes which is one map from names to objects, with no cluster, or a first part of that where its count
+    // of faults rose; and the next connections are served from the map as the requests that were carried out have left it;
+    // where neither two names of buckets nor two of the blocks that they put have one digest.
     ensures done { (g : Grammar) → result ≡ Status.Done → IsServedWhole g (map string_bytes words.now) (I.left input.old) (O.written output.old) (O.written output.new) (told (C.times clock.old) (C.times clock.new) (L.coming link.old) (L.coming link.new) (L.past link.old) (L.past link.new)) }
 
     // Done, Refused, Usage, LinkFault and Limit come with the whole text that is stated for the words and for what the
     // outside tells, and WriteFault with a first part of one: the line of a refusal is the first one that the input
     // deserves, and `limit input` comes only where the input is too long, the others only where it isn't. After LinkFault,
-    // and where too many bytes were put or copied, serving up to there is stated as after Done. ReadFault and Memory
-    // come with nothing.
+    // and where too many bytes were put or copied or a number had no room, serving up to there is stated as after Done, and
+    // of the last connection, with which serving ended, that its text is that of the map too, or a first part. ReadFault and
+    // Memory come with nothing.
     ensures answers { (g : Grammar) → IsStated result → Answers (IsAnswer g (map string_bytes words.now) (I.left input.old) (told (C.times clock.old) (C.times clock.new) (L.coming link.old) (L.coming link.new) (L.past link.old) (L.past link.new))) result (O.written output.old) (O.written output.new) }
     ensures prefix { (g : Grammar) → result ≡ Status.WriteFault → AnswersPrefix (IsAnswer g (map string_bytes words.now) (I.left input.old) (told (C.times clock.old) (C.times clock.new) (L.coming link.old) (L.coming link.new) (L.past link.old) (L.past link.new))) (O.written output.old) (O.written output.new) }
     ensures silent { IsSilent result → Wrote (O.written output.old) (O.written output.new) [] }

@@ -5,6 +5,7 @@ use Rattle.serve_model.specs.Talk.{order_turn}
 use Rattle.serve_model.specs.Serving.{Reached, Goes, ServesOn}
 use Rattle.serve_loop.proofs.Serving.{gives_up, carried_goes, carried_limits as limit_goes}
 use Rattle.serve_loop.proofs.Carrying.{gives_asked, gives_goes, carried_none, carried_limits, carried_said}
+use Rattle.serve_loop.proofs.Begins.{order_begins}
 use Rattle.serve_loop.proofs.request.carry.Goals as goal
 
 pub returns-in-Ok-None-clause-serves : goal.returns-in-Ok-None-clause-serves
@@ -22,7 +23,7 @@ returns-in-Err-clause-serves g c = λ p times kept st.
     let o = g.L.Link.present c.args.link.now in
     let t : List ℕ → _ = λ left. order_turn g.S.Storage.model c.args.request.now c.args.order p (kept ++ left) in
     let P : ServeFault → Type 0 = λ e. ServesOn t holds known times c.args.served.now (Err e) kept o o in
-    subst P (sym c.from.ensures) (gives_up holds known times c.args.served.now t _ kept o
+    subst P (sym c.from.ensures) (gives_up holds known times c.args.served.now t _ kept o (λ left. order_begins g.S.Storage.model c.args.request.now c.args.order p (kept ++ left))
     (λ left. gives_asked g.S.Storage.model g.S.Storage.fits g.S.Storage.lacks (g.S.Storage.stands c.args.store.now) (g.S.Storage.stands c.carry.new.self) c.args.request.now c.args.order times kept p c.args.served.now st c.in-Err.memory _ c.in-Err.ensures.causes))
 
 pub returns-in-Err-clause-goes : goal.returns-in-Err-clause-goes

@@ -9,7 +9,8 @@ use Rattle.serve_model.specs.Stores.{OverflowsAmong, known_from}
 use Rattle.serve_model.specs.Talk.{text_of, closes_of, passing, answer_turn, whole_turn, body_turn}
 use Rattle.serve_model.specs.Serving.{Reached}
 use Rattle.serve_loop.proofs.Serving.{IsQuiet, IsFailed, on_present_both, read_then, read_fails, read_wants, passing_serves, says_serves, stands_here, goes_here}
-use Rattle.serve_loop.proofs.Bodies.{whole_body, short_body, body_passed, takes_quiet, fails_failed}
+use Rattle.serve_loop.proofs.Bodies.{whole_body, short_body, takes_quiet, fails_failed}
+use Rattle.serve_loop.proofs.Begins.{begins_so, body_begins}
 use Rattle.serve_loop.proofs.request.serve_body.Goals as goal
 
 pub returns-in-Ok-clause-serves : goal.returns-in-Ok-clause-serves
@@ -70,6 +71,7 @@ returns-in-Err-Memory-clause-serves g c = λ p times st.
     let o = g.L.Link.present c.args.link.now in
     let m = g.L.Link.present c.read_body.new.link in
     read_wants (Reached model g.S.Storage.fits g.S.Storage.lacks (g.S.Storage.stands c.args.store.now) p.store) (known_from model g.S.Storage.fits g.S.Storage.lacks p.store) times c.args.served.now mid o m (λ left. body_turn model c.args.buckets.now r p (kept ++ left))
+    (λ left. begins_so p (body_turn model c.args.buckets.now r p (kept ++ left)) (body_begins model c.args.buckets.now r p (kept ++ left)))
     (on_present (ReadsBody kept r.length (Err Wanting) mid) IsQuiet o m (λ x y h. takes_quiet kept mid x y h.0) (rw c.in-Err-Memory.field-0-is at c.in-Err-Memory.ensures.reads))
 
 pub returns-in-Err-Failed-clause-serves : goal.returns-in-Err-Failed-clause-serves
@@ -82,5 +84,5 @@ returns-in-Err-Failed-clause-serves g c = λ p times st.
     let o = g.L.Link.present c.args.link.now in
     let m = g.L.Link.present c.read_body.new.link in
     read_fails (Reached model g.S.Storage.fits g.S.Storage.lacks (g.S.Storage.stands c.args.store.now) p.store) (known_from model g.S.Storage.fits g.S.Storage.lacks p.store) times c.args.served.now mid o m (λ left. body_turn model buckets r p (kept ++ left)) p
-    (stands_here model g.S.Storage.fits g.S.Storage.lacks (g.S.Storage.stands c.args.store.now) times c.args.served.now p st) (λ left. body_passed model buckets r p (kept ++ left))
+    (stands_here model g.S.Storage.fits g.S.Storage.lacks (g.S.Storage.stands c.args.store.now) times c.args.served.now p st) (λ left. body_begins model buckets r p (kept ++ left))
     (on_present (ReadsBody kept r.length (Err Failed) mid) IsFailed o m (λ x y h. fails_failed kept mid x y h) (rw c.in-Err-Failed.field-0-is at c.in-Err-Failed.ensures.reads))

@@ -10,6 +10,7 @@ use Rattle.serve_model.specs.Talk.{request_of, head_refusal, path_shown, said, r
 use Rattle.serve_model.specs.Serving.{Reached}
 use Rattle.serve_loop.proofs.Serving.{serves_same, says_serves, stands_here, goes_here, gives_up}
 use Rattle.serve_loop.proofs.Keys.{ask_keyed}
+use Rattle.serve_loop.proofs.Begins.{head_begins}
 use Rattle.serve_loop.proofs.request.serve_head.Goals as goal
 
 understood_so : (head : Head) (f : AskFault) (fault : S3Fault) → f ≡ Refused fault → Understands head (Err f) → asked_of head ≡ Err fault
@@ -59,4 +60,4 @@ pub returns-in-Err-Memory-clause-serves : goal.returns-in-Err-Memory-clause-serv
 returns-in-Err-Memory-clause-serves g c = λ p times st.
     let model = g.S.Storage.model in
     let kept = c.args.kept.now.bytes.items in
-    gives_up (Reached model g.S.Storage.fits g.S.Storage.lacks (g.S.Storage.stands c.args.store.now) p.store) (known_from model g.S.Storage.fits g.S.Storage.lacks p.store) times c.args.served.now (λ left. head_turn model c.args.buckets.now c.args.last c.args.now (Some c.args.head.now) p (kept ++ left)) Memory kept (g.L.Link.present c.args.link.now) (λ left. tt)
+    gives_up (Reached model g.S.Storage.fits g.S.Storage.lacks (g.S.Storage.stands c.args.store.now) p.store) (known_from model g.S.Storage.fits g.S.Storage.lacks p.store) times c.args.served.now (λ left. head_turn model c.args.buckets.now c.args.last c.args.now (Some c.args.head.now) p (kept ++ left)) Memory kept (g.L.Link.present c.args.link.now) (λ left. head_begins model c.args.buckets.now c.args.last c.args.now (Some c.args.head.now) p (kept ++ left)) (λ left. tt)

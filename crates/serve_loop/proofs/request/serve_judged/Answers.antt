@@ -7,6 +7,7 @@ use Rattle.serve_model.specs.Judging.{order_of, reply_without}
 use Rattle.serve_model.specs.Serving.{Reached}
 use Rattle.serve_loop.proofs.Serving.{serves_same, says_serves, stands_here, goes_here, gives_up}
 use Rattle.serve_loop.proofs.Keys.{order_keyed}
+use Rattle.serve_loop.proofs.Begins.{plan_begins}
 use Rattle.serve_loop.proofs.request.serve_judged.Goals as goal
 
 pub carry-requires-clause-keyed : goal.carry-requires-clause-keyed
@@ -48,4 +49,4 @@ pub returns-in-Err-clause-serves : goal.returns-in-Err-clause-serves
 returns-in-Err-clause-serves g c = λ p times kept st.
     let r = c.args.request.now in
     let model = g.S.Storage.model in
-    gives_up (Reached model g.S.Storage.fits g.S.Storage.lacks (g.S.Storage.stands c.args.store.now) p.store) (known_from model g.S.Storage.fits g.S.Storage.lacks p.store) times c.args.served.now (λ left. plan_turn model c.args.buckets.now r (order_of r.ask c.args.body) p (kept ++ left)) Memory kept (g.L.Link.present c.args.link.now) (λ left. tt)
+    gives_up (Reached model g.S.Storage.fits g.S.Storage.lacks (g.S.Storage.stands c.args.store.now) p.store) (known_from model g.S.Storage.fits g.S.Storage.lacks p.store) times c.args.served.now (λ left. plan_turn model c.args.buckets.now r (order_of r.ask c.args.body) p (kept ++ left)) Memory kept (g.L.Link.present c.args.link.now) (λ left. plan_begins model c.args.buckets.now r (order_of r.ask c.args.body) p (kept ++ left)) (λ left. tt)

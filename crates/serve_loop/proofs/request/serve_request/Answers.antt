@@ -8,7 +8,8 @@ use Rattle.serve_model.specs.Talk.{clocked, passing, said, bad_head, head_turn, 
 use Rattle.serve_model.specs.Serving.{Reached, Says, SaysOn}
 use Rattle.serve_loop.proofs.Serving.{IsQuiet, IsFailed, on_present_both, read_then, read_fails, read_wants, passing_serves, says_serves, silence_says, stands_here, goes_here}
 use Rattle.serve_loop.proofs.Bodies.{takes_quiet, fails_failed}
-use Rattle.serve_loop.proofs.Heads.{stands_clocked, turn_of_head, turn_of_bad, turn_of_long, turn_of_end, turn_passed}
+use Rattle.serve_loop.proofs.Heads.{stands_clocked, turn_of_head, turn_of_bad, turn_of_long, turn_of_end}
+use Rattle.serve_loop.proofs.Begins.{begins_so, turn_begins}
 use Rattle.serve_loop.proofs.request.serve_request.Goals as goal
 
 pub returns-in-Ok-clause-serves : goal.returns-in-Ok-clause-serves
@@ -131,7 +132,7 @@ returns-in-Err-Failed-clause-serves g c = λ g' p st.
     let o = g.L.Link.present c.args.link.now in
     let m = g.L.Link.present c.read_head.new.link in
     read_fails (Reached model g.S.Storage.fits g.S.Storage.lacks stands p.store) (known_from model g.S.Storage.fits g.S.Storage.lacks p.store) (g.C.Clock.times c.args.clock.now) c.args.served.now mid o m (λ left. turn model buckets g' c.args.last p (kept ++ left)) p
-    (stands_here model g.S.Storage.fits g.S.Storage.lacks stands (g.C.Clock.times c.args.clock.now) c.args.served.now p st) (λ left. turn_passed model buckets g' c.args.last p (kept ++ left))
+    (stands_here model g.S.Storage.fits g.S.Storage.lacks stands (g.C.Clock.times c.args.clock.now) c.args.served.now p st) (λ left. turn_begins model buckets g' c.args.last p (kept ++ left))
     (on_present (ReadsHead kept (Err Failed) mid) IsFailed o m (λ x y h. fails_failed kept mid x y h) (rw c.in-Err-Failed.field-0-is at c.in-Err-Failed.ensures.reads))
 
 pub returns-in-Err-Memory-clause-serves : goal.returns-in-Err-Memory-clause-serves
@@ -142,4 +143,5 @@ returns-in-Err-Memory-clause-serves g c = λ g' p st.
     let o = g.L.Link.present c.args.link.now in
     let m = g.L.Link.present c.read_head.new.link in
     read_wants (Reached model g.S.Storage.fits g.S.Storage.lacks (g.S.Storage.stands c.args.store.now) p.store) (known_from model g.S.Storage.fits g.S.Storage.lacks p.store) (g.C.Clock.times c.args.clock.now) c.args.served.now mid o m (λ left. turn model c.args.buckets.now g' c.args.last p (kept ++ left))
+    (λ left. begins_so p (turn model c.args.buckets.now g' c.args.last p (kept ++ left)) (turn_begins model c.args.buckets.now g' c.args.last p (kept ++ left)))
     (on_present (ReadsHead kept (Err Wanting) mid) IsQuiet o m (λ x y h. takes_quiet kept mid x y h) (rw c.in-Err-Memory.field-0-is at c.in-Err-Memory.ensures.reads))

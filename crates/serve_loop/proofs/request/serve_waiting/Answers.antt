@@ -5,7 +5,7 @@ use Rattle.serve_model.specs.Stores.{OverflowsAmong, known_from}
 use Rattle.serve_model.specs.Talk.{interim as interim_of, body_turn}
 use Rattle.serve_model.specs.Serving.{Reached}
 use Rattle.serve_loop.proofs.Serving.{after_serves, part_serves, stands_here}
-use Rattle.serve_loop.proofs.Bodies.{body_passed}
+use Rattle.serve_loop.proofs.Begins.{body_begins}
 use Rattle.serve_loop.proofs.request.serve_waiting.Goals as goal
 
 pub returns-in-Ok-clause-serves : goal.returns-in-Ok-clause-serves
@@ -34,5 +34,5 @@ returns-in-Err-clause-serves g c = λ p times st.
     let m = g.L.Link.present c.send_whole.new.link in
     let P : List ℕ → Type 0 = λ t. OnPresent (WritesWhole (Err c.in-Err.field-0) t) o m in
     part_serves holds known times c.args.served.now {E = Failed} c.in-Err.field-0 (interim_of r.waits) (λ left. body_turn model buckets r p (kept ++ left)) p kept o m
-    (stands_here model g.S.Storage.fits g.S.Storage.lacks (g.S.Storage.stands c.args.store.now) times c.args.served.now p st) (λ left. body_passed model buckets r p (kept ++ left))
+    (stands_here model g.S.Storage.fits g.S.Storage.lacks (g.S.Storage.stands c.args.store.now) times c.args.served.now p st) (λ left. body_begins model buckets r p (kept ++ left))
     (subst P c.interim.ensures c.in-Err.ensures.writes)

@@ -6,6 +6,7 @@ use Rattle.serve_model.specs.Talk.{text_of, closes_of, answer_turn, plan_turn, j
 use Rattle.serve_model.specs.Judging.{order_of, refusal_in}
 use Rattle.serve_model.specs.Serving.{Reached}
 use Rattle.serve_loop.proofs.Serving.{serves_same, says_serves, stands_here, goes_here, gives_up}
+use Rattle.serve_loop.proofs.Begins.{whole_begins}
 use Rattle.serve_loop.proofs.request.serve_whole.Goals as goal
 
 pub returns-in-Ok-Some-clause-serves : goal.returns-in-Ok-Some-clause-serves
@@ -43,4 +44,4 @@ returns-in-Ok-None-clause-serves g c = λ p times kept st.
 pub returns-in-Err-clause-serves : goal.returns-in-Err-clause-serves
 returns-in-Err-clause-serves g c = λ p times kept st.
     let model = g.S.Storage.model in
-    gives_up (Reached model g.S.Storage.fits g.S.Storage.lacks (g.S.Storage.stands c.args.store.now) p.store) (known_from model g.S.Storage.fits g.S.Storage.lacks p.store) times c.args.served.now (λ left. whole_turn model c.args.buckets.now c.args.request.now c.args.body p (kept ++ left)) Memory kept (g.L.Link.present c.args.link.now) (λ left. tt)
+    gives_up (Reached model g.S.Storage.fits g.S.Storage.lacks (g.S.Storage.stands c.args.store.now) p.store) (known_from model g.S.Storage.fits g.S.Storage.lacks p.store) times c.args.served.now (λ left. whole_turn model c.args.buckets.now c.args.request.now c.args.body p (kept ++ left)) Memory kept (g.L.Link.present c.args.link.now) (λ left. whole_begins model c.args.buckets.now c.args.request.now c.args.body p (kept ++ left)) (λ left. tt)
