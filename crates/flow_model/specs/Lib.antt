@@ -3,3 +3,4 @@ pub mod Rows
 pub mod Says
 pub mod Flow
 pub mod Next
+pub mod Overdrawn

@@ -5,13 +5,19 @@
 //! (`More`), go on waiting (`Wait`), or end (`End`). Nothing here knows of nodes, messages or quorums; the
 //! coordinator's clock is all that a flow is told of its cluster.
 //!
+//! `Flows` is a trait of two calls, which give what the two functions say. Code that drives requests takes its flows by
+//! it. There is no code here.
+//!
 //! In specs/: the rows that requests store (`Rows`), the blocks that bytes are cut into (`Blocks`), what a row says
-//! of its object and a version row of its blocks (`Says`), and the two functions (`Flow`, `Next`). The types are
-//! shared by the definitions and by the code that does what they say.
+//! of its object and a version row of its blocks (`Says`), the two functions (`Flow`, `Next`), and when a write would
+//! draw a timestamp past its type (`Overdrawn`). The types are shared by the definitions and by the code that does what
+//! they say.
 #![tactic(auto)]
 
 mod flow;
+mod flows;
 mod order;
 
 pub use flow::{Aim, Content, Flow, FlowEnd, FlowStep, Name, Stage, Wish};
+pub use flows::Flows;
 pub use order::Order;

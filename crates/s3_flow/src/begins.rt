@@ -1,19 +1,18 @@
 //! What a request begins with.
-ghost use Rattle.std.specs.Prelude.{◌≡◌, ◌<◌, IfOk};
+ghost use Rattle.std.specs.Prelude.{◌≡◌, IfOk};
 ghost use Rattle.crdt_core.specs.Outcomes.{OnlyWant};
-ghost use Rattle.flow_model.specs.Flow.{started, draws, looks};
+ghost use Rattle.flow_model.specs.Flow.{draws, looks};
 
-use crate::phases::{asks_for, asks_past};
+use crate::phases::asks_for;
 use crate::request::Request;
-use crdt_core::{Bytes, List, Memory};
+use crdt_core::Memory;
 use crdt_rows::AnyRow;
-use flow_model::{Aim, Content, Flow, Name, Order, Stage, Wish};
-use object_bytes::ObjectBytes;
+use flow_model::{Aim, Flow, Name, Stage, Wish};
 use std::alloc::Global;
 use wire_messages::Phase;
 
-// A write asks for the row of the object that it writes.
-fn draws(
+/// A write asks for the row of the object that it writes.
+pub fn draws(
     alloc: Global,
     request: Request,
     name: Name,
@@ -26,8 +25,8 @@ fn draws(
     Ok((request.at(Stage::Drawing { name, wish }), phase))
 }
 
-// A read asks for the object's row.
-fn looks(
+/// A read asks for the object's row.
+pub fn looks(
     alloc: Global,
     request: Request,
     name: Name,
@@ -38,58 +37,4 @@ fn looks(
 {
     let phase = asks_for(alloc, &name)?;
     Ok((request.at(Stage::Looking { name, aim }), phase))
-}
-
-/// Begins the request with this number, at a time when blocks have this size in bytes, which isn't 0: what it waits
-/// for, and the phase whose end it waits for.
-pub fn start(
-    alloc: Global,
-    order: Order,
-    id: u64,
-    block: u32,
-) -> Result<(Flow, Phase<AnyRow>), Memory>
-    requires { 0 < block }
-    ensures is { IfOk result (λ begun. begun ≡ started order id block) }
-    ensures want { OnlyWant result }
-{
-    let request = Request { id, block };
-    match order {
-        Order::Put {
-            bucket,
-            key,
-            body,
-            headers,
-        } => {
-            let body = ObjectBytes::new(body);
-            let wish = Wish::Content(Content { body, headers });
-            draws(alloc, request, Name { bucket, key }, wish)
-        }
-        Order::Get { bucket, key } => looks(alloc, request, Name { bucket, key }, Aim::Get),
-        Order::Head { bucket, key } => looks(alloc, request, Name { bucket, key }, Aim::Head),
-        Order::Delete { bucket, key } => draws(alloc, request, Name { bucket, key }, Wish::Marker),
-        Order::Copy {
-            from_bucket,
-            from_key,
-            bucket,
-            key,
-            headers,
-        } => {
-            let source = Name {
-                bucket: from_bucket,
-                key: from_key,
-            };
-            let name = Name { bucket, key };
-            looks(alloc, request, source, Aim::Copy { name, headers })
-        }
-        Order::List { bucket, prefix } => {
-            let phase = asks_past(alloc, &bucket, &prefix, Bytes::new(alloc))?;
-            let rows = List::new(alloc);
-            let stage = Stage::Listing {
-                bucket,
-                prefix,
-                rows,
-            };
-            Ok((request.at(stage), phase))
-        }
-    }
 }

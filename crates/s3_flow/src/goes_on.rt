@@ -2,8 +2,8 @@
 ghost use Rattle.std.specs.Prelude.{◌≡◌, ◌<◌, ℕ, IfOk};
 ghost use Rattle.crdt_core.specs.Outcomes.{OnlyWant, WantOr};
 ghost use Rattle.wire_messages.specs.declared.phase.PhaseEnd.TheVariants as end_of;
-ghost use Rattle.flow_model.specs.Next.{goes_on, next};
-ghost use Rattle.s3_flow.specs.Overdrawn.{IsOverdrawn};
+ghost use Rattle.flow_model.specs.Next.{goes_on};
+ghost use Rattle.flow_model.specs.Overdrawn.{IsOverdrawn};
 
 use crate::reads::{gathers, lists, looked, opened};
 use crate::request::Request;
@@ -11,12 +11,11 @@ use crate::writes::{drawn, uploads, writes};
 use block_bytes::Block;
 use crdt_core::{Bytes, List, Memory};
 use crdt_rows::AnyRow;
-use flow_model::{Flow, FlowEnd, FlowStep, Stage};
+use flow_model::{FlowEnd, FlowStep, Stage};
 use std::alloc::Global;
-use wire_messages::PhaseEnd;
 
-// A row was read.
-fn after_row(
+/// A row was read.
+pub fn after_row(
     alloc: Global,
     request: Request,
     stage: Stage,
@@ -40,8 +39,8 @@ fn after_row(
     }
 }
 
-// A window of rows was read.
-fn after_window(
+/// A window of rows was read.
+pub fn after_window(
     alloc: Global,
     request: Request,
     stage: Stage,
@@ -61,8 +60,8 @@ fn after_window(
     }
 }
 
-// What was stored is kept.
-fn after_kept(alloc: Global, request: Request, stage: Stage) -> Result<FlowStep, Memory>
+/// What was stored is kept.
+pub fn after_kept(alloc: Global, request: Request, stage: Stage) -> Result<FlowStep, Memory>
     requires { 0 < request.block }
     ensures is { (now : ℕ) → IfOk result (λ step. step ≡ goes_on request.id request.block stage end_of.Kept now) }
     ensures want { OnlyWant result }
@@ -81,8 +80,8 @@ fn after_kept(alloc: Global, request: Request, stage: Stage) -> Result<FlowStep,
     }
 }
 
-// A block was read.
-fn after_block(
+/// A block was read.
+pub fn after_block(
     alloc: Global,
     request: Request,
     stage: Stage,
@@ -103,24 +102,5 @@ fn after_block(
             gathers(alloc, request, aim, version, meta, left, body)
         }
         other => Ok(request.waits(other)),
-    }
-}
-
-/// What a request does when its phase has ended, at this time of its coordinator's clock in milliseconds. With an end
-/// of another kind than it waits for it waits on. `Full` is answered exactly where a write would draw a timestamp of
-/// 2^64.
-pub fn next(alloc: Global, flow: Flow, end: PhaseEnd<AnyRow>, now: u64) -> Result<FlowStep, Memory>
-    requires { 0 < flow.block }
-    ensures is { IfOk result (λ step. step ≡ next flow end now) }
-    ensures causes { WantOr result (IsOverdrawn flow.id flow.stage end now) }
-    ensures never_past { IfOk result (λ step. IsOverdrawn flow.id flow.stage end now → ⊥) }
-{
-    let Flow { id, block, stage } = flow;
-    let request = Request { id, block };
-    match end {
-        PhaseEnd::Row(value) => after_row(alloc, request, stage, value, now),
-        PhaseEnd::Window { rows, end } => after_window(alloc, request, stage, rows, end),
-        PhaseEnd::Kept => after_kept(alloc, request, stage),
-        PhaseEnd::Block(block) => after_block(alloc, request, stage, block),
     }
 }

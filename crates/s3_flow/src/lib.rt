@@ -1,5 +1,7 @@
 //! The requests of the object store, phase by phase.
 //!
+//! `ObjectFlows` is the instance of flow_model's trait `Flows` for them:
+//!
 //! - `start` begins a request: it gives a `Flow` and the phase that it waits for.
 //! - `next` takes a flow and the end of its phase, and gives a `FlowStep`: the flow with its next phase, the flow that
 //!   waits on, or the end of the request.
@@ -15,6 +17,7 @@
 mod begins;
 mod blocks;
 mod goes_on;
+mod objects;
 mod phases;
 mod reads;
 mod request;
@@ -22,5 +25,4 @@ mod rows;
 mod says;
 mod writes;
 
-pub use begins::start;
-pub use goes_on::next;
+pub use objects::ObjectFlows;

@@ -14,11 +14,12 @@ use Rattle.store_model.specs.Turns.{FitsOutcome}
 use Rattle.world_core.specs.Stands.{Turns}
 use Rattle.s3_world.specs.declared.asked.Asked.{Asked}
 use Rattle.s3_world.specs.declared.world.S3World.{S3World}
-use Rattle.s3_world.specs.Stands.{IsSized, IsStore, Does, Becomes, Carries, Plays, Overflows}
+use Rattle.s3_world.specs.Driven.{IsSized}
+use Rattle.s3_world.specs.Stands.{IsStore, Does, Becomes, Carries, Plays, Overflows}
 
-module _ (old new : S3World) (buckets : new.buckets ≡ old.buckets) (block : new.block ≡ old.block) (requests : new.requests ≡ old.requests) (ends : new.ends ≡ old.ends) (history : new.history ≡ old.history) where
+module _ (old new : S3World) (buckets : new.buckets ≡ old.buckets) (block : new.block ≡ old.block) (requests : new.driver.requests ≡ old.driver.requests) (ends : new.driver.ends ≡ old.driver.ends) (history : new.driver.history ≡ old.driver.history) where
   -- the world alone changed
-  world_becomes : (f : World → World) → Turns any_join words old.world new.world f → Becomes old new (λ s. silent (record s { world = f s.world }))
+  world_becomes : (f : World → World) → Turns any_join words old.driver.world new.driver.world f → Becomes old new (λ s. silent (record s { world = f s.world }))
   world_becomes f turns s d = record {
     world = turns s.world d.world;
     buckets = buckets ∙ d.buckets;
@@ -30,11 +31,11 @@ module _ (old new : S3World) (buckets : new.buckets ≡ old.buckets) (block : ne
     flows = subst (AllByRecursion (λ (a : Asked). IsSized a.flow)) (sym requests) d.flows;
   }
 
-  pub on_installed : (first : Layout) (r : Result Unit Memory) → OnOk r (Turns any_join words old.world new.world (λ w. installed any_join words w first)) → OnOk r (Becomes old new (λ s. acted s (installs first)))
+  pub on_installed : (first : Layout) (r : Result Unit Memory) → OnOk r (Turns any_join words old.driver.world new.driver.world (λ w. installed any_join words w first)) → OnOk r (Becomes old new (λ s. acted s (installs first)))
   on_installed first (Ok done) h = world_becomes (λ w. installed any_join words w first) h
   on_installed first (Err e) h = tt
 
-  pub on_unchanged : (r : Result Unit Memory) → OnErr r (Turns any_join words old.world new.world (λ w. w)) → OnErr r (Becomes old new silent)
+  pub on_unchanged : (r : Result Unit Memory) → OnErr r (Turns any_join words old.driver.world new.driver.world (λ w. w)) → OnErr r (Becomes old new silent)
   on_unchanged (Ok done) h = tt
   on_unchanged (Err e) h = world_becomes (λ w. w) h
 

@@ -12,34 +12,31 @@ use Rattle.store_model.specs.Run.{State, plainly, effect, doing, goes_on, delive
 use Rattle.world_core.specs.declared.report.Report.{Report}
 use Rattle.world_core.specs.Stands.{Steps, ended}
 use Rattle.s3_world.specs.declared.asked.Asked.{Asked}
-use Rattle.s3_world.specs.declared.world.S3World.{S3World}
-use Rattle.s3_world.specs.Stands.{IsSized, IsStore, HasStore, Does, Plays}
+use Rattle.s3_world.specs.declared.driver.Driver.{Driver}
+use Rattle.s3_world.specs.Driven.{IsSized, IsDriven, HasRun, Does, Plays}
 
-module _ (old mid : S3World) (m : ℕ) (report : Report AnyRow) (steps : Steps any_join words old.world mid.world report (Deliver m)) (buckets : mid.buckets ≡ old.buckets) (block : mid.block ≡ old.block)
+module _ {F : Type 0} (old mid : Driver F) (m : ℕ) (report : Report AnyRow) (steps : Steps any_join words old.world mid.world report (Deliver m))
     (requests : mid.requests ≡ old.requests) (ends : mid.ends ≡ old.ends) (history : mid.history ≡ old.history) where
-  is_next : (s : State) → IsStore old s → IsStore mid (doing s (plainly (Deliver m)))
+  is_next : (s : State) → IsDriven old s → IsDriven mid (doing s (plainly (Deliver m)))
   is_next s d = record {
     world = (steps s.world d.world).does.stands;
-    buckets = buckets ∙ d.buckets;
-    block = block ∙ d.block;
     requests = requests ∙ d.requests;
     ends = ends ∙ d.ends;
     history = ap (λ h. h.0) history ∙ d.history;
-    sized = d.sized;
     flows = subst (AllByRecursion (λ (a : Asked). IsSized a.flow)) (sym requests) d.flows;
   }
 
-  pub has_next : HasStore old → HasStore mid
+  pub has_next : HasRun old → HasRun mid
   has_next h = (doing h.0 (plainly (Deliver m)), is_next h.0 h.1)
 
-  pub delivered_plays : (new : S3World) (more : Told) → Plays mid new more (λ s. goes_on s (map ended report.ends)) →
+  pub delivered_plays : (new : Driver F) (more : Told) → Plays mid new more (λ s. goes_on s (map ended report.ends)) →
       Plays old new (record { refused = report.refused; words = report.words; lines = report.lines ++ more.lines }) (λ s. delivers s m)
   delivered_plays new more plays s d =
       let here : State = doing s (plainly (Deliver m)) in
       let did = (steps s.world d.world).does in
       let after : Does new more here (goes_on here (effect s (plainly (Deliver m))).ends) = subst (λ (es : List (Ended AnyRow)). Does new more here (goes_on here es)) did.tells.ends (plays here (is_next s d)) in
       record {
-        stands = record { world = after.stands.world; buckets = after.stands.buckets; block = after.stands.block; requests = after.stands.requests; ends = after.stands.ends; history = after.stands.history; sized = after.stands.sized; flows = after.stands.flows };
+        stands = record { world = after.stands.world; requests = after.stands.requests; ends = after.stands.ends; history = after.stands.history; flows = after.stands.flows };
         tells = record {
           refused = did.tells.refused;
           words = did.tells.words;

@@ -11,8 +11,8 @@ use Rattle.cluster_machine.specs.Worlds.{FitAll, HaveRoom, run}
 use Rattle.store_model.specs.declared.event.Told.{Told}
 use Rattle.store_model.specs.Run.{Moving, State, Outcome, silent, delivers, then_drains, drains}
 use Rattle.store_model.specs.Turns.{FitsOutcome}
-use Rattle.s3_world.specs.declared.world.S3World.{S3World}
-use Rattle.s3_world.specs.Stands.{IsStore, HasStore, Does, Plays, Overflows}
+use Rattle.s3_world.specs.declared.driver.Driver.{Driver}
+use Rattle.s3_world.specs.Driven.{IsDriven, HasRun, Does, Plays, Overflows}
 use Rattle.store_model.proofs.Leads.{delivers_lead, run_more}
 use Rattle.s3_world.proofs.Parts.{fit_more, room_first, room_rest, all_first, all_rest}
 
@@ -20,20 +20,20 @@ use Rattle.s3_world.proofs.Parts.{fit_more, room_first, room_rest, all_first, al
 abbrev after_these : List Moving → List Version → List (Line Applied) → Outcome → Outcome
 after_these moves versions lines o = record { state = o.state; moves = moves ++ o.moves; new_versions = versions ++ o.new_versions; refused = None; words = Empty; lines = lines ++ o.lines }
 
--- the store came to some state, and what was done with up to so many deliveries from there is all
-pub record Drained (store : S3World) (lines : List (Line Applied)) (left : ℕ) (s : State) (whole : Outcome) : Type 0 where
+-- the driver came to some state, and what was done with up to so many deliveries from there is all
+pub record Drained {F : Type 0} (driver : Driver F) (lines : List (Line Applied)) (left : ℕ) (s : State) (whole : Outcome) : Type 0 where
   pub state : State
-  pub stands : IsStore store state
+  pub stands : IsDriven driver state
   pub moves : List Moving
   pub versions : List Version
   pub fits : FitAll any_join words s.world moves
   pub leads : run any_join words s.world moves ≡ state.world
   pub all : whole ≡ after_these moves versions lines (drains left state)
 
--- whatever state the first store stood for
-pub record Draining (first now : S3World) (lines : List (Line Applied)) (left count : ℕ) : Type 0 where
-  pub store : HasStore now
-  pub drained : (s : State) → IsStore first s → Drained now lines left s (drains count s)
+-- whatever state the first driver stood for
+pub record Draining {F : Type 0} (first now : Driver F) (lines : List (Line Applied)) (left count : ℕ) : Type 0 where
+  pub held : HasRun now
+  pub drained : (s : State) → IsDriven first s → Drained now lines left s (drains count s)
 
 drains_quietly : (n : ℕ) (s : State) → (drains n s).refused ≡ None
 drains_quietly zero s = refl
@@ -43,9 +43,9 @@ drains_empty : (n : ℕ) (s : State) → (drains n s).words ≡ Empty
 drains_empty zero s = refl
 drains_empty (suc n) s = elim (undelivered s.world) as (λ o. (elim o as (λ o. Outcome) [ None ↦ silent s | Some m ↦ let o = delivers s m in then_drains o (drains n o.state) ]).words ≡ Empty) [ None ↦ refl | Some m ↦ refl ]
 
-pub draining_none : (store : S3World) (count : ℕ) → HasStore store → Draining store store [] count count
-draining_none store count has = record {
-  store = has;
+pub draining_none : {F : Type 0} (driver : Driver F) (count : ℕ) → HasRun driver → Draining driver driver [] count count
+draining_none driver count has = record {
+  held = has;
   drained = λ s d. record {
     state = s;
     stands = d;
@@ -64,11 +64,11 @@ drains_none : (n : ℕ) (s : State) → undelivered s.world ≡ None → drains 
 drains_none zero s e = refl
 drains_none (suc n) s e = rw (e, drains) refl
 
-module _ (first now : S3World) (lines : List (Line Applied)) (left rest count m : ℕ) (e : left ≡ suc rest) (so_far : Draining first now lines left count) (least : (s : State) → IsStore now s → Some m ≡ undelivered s.world) where
-  one_left : (s : State) → IsStore now s → drains left s ≡ then_drains (delivers s m) (drains rest (delivers s m).state)
+module _ {F : Type 0} (first now : Driver F) (lines : List (Line Applied)) (left rest count m : ℕ) (e : left ≡ suc rest) (so_far : Draining first now lines left count) (least : (s : State) → IsDriven now s → Some m ≡ undelivered s.world) where
+  one_left : (s : State) → IsDriven now s → drains left s ≡ then_drains (delivers s m) (drains rest (delivers s m).state)
   one_left s d = ap (λ k. drains k s) e ∙ drains_one rest m s (sym (least s d))
 
-  draining_more : (new : S3World) (told : Told) → Plays now new told (λ s. delivers s m) → (s : State) → IsStore first s → Drained new (lines ++ told.lines) rest s (drains count s)
+  draining_more : (new : Driver F) (told : Told) → Plays now new told (λ s. delivers s m) → (s : State) → IsDriven first s → Drained new (lines ++ told.lines) rest s (drains count s)
   draining_more new told plays s d =
       let h = so_far.drained s d in
       let o : Outcome = delivers h.state m in
@@ -91,8 +91,8 @@ module _ (first now : S3World) (lines : List (Line Applied)) (left rest count m 
             });
       }
 
-  pub draining_on : (new : S3World) (told : Told) → Plays now new told (λ s. delivers s m) → Draining first new (lines ++ told.lines) rest count
-  draining_on new told plays = record { store = ((delivers so_far.store.0 m).state, (plays so_far.store.0 so_far.store.1).stands); drained = draining_more new told plays }
+  pub draining_on : (new : Driver F) (told : Told) → Plays now new told (λ s. delivers s m) → Draining first new (lines ++ told.lines) rest count
+  draining_on new told plays = record { held = ((delivers so_far.held.0 m).state, (plays so_far.held.0 so_far.held.1).stands); drained = draining_more new told plays }
 
   pub drain_overflows : Overflows now (λ s. delivers s m) → Overflows first (λ s. drains count s)
   drain_overflows full s d fits =
@@ -105,8 +105,8 @@ module _ (first now : S3World) (lines : List (Line Applied)) (left rest count m 
         all_first (λ (v : Version). v.ts < 2 ^ 64) o.new_versions then.new_versions (all_rest (λ (v : Version). v.ts < 2 ^ 64) h.versions (o.new_versions ++ then.new_versions) here.1),
       )
 
-module _ (first now : S3World) (lines : List (Line Applied)) (left count : ℕ) (so_far : Draining first now lines left count) where
-  drained_plays : ((s : State) → IsStore now s → drains left s ≡ silent s) → Plays first now (record { refused = None; words = Empty; lines = lines }) (λ s. drains count s)
+module _ {F : Type 0} (first now : Driver F) (lines : List (Line Applied)) (left count : ℕ) (so_far : Draining first now lines left count) where
+  drained_plays : ((s : State) → IsDriven now s → drains left s ≡ silent s) → Plays first now (record { refused = None; words = Empty; lines = lines }) (λ s. drains count s)
   drained_plays ends s d =
       let h = so_far.drained s d in
       let is : drains count s ≡ record { state = h.state; moves = h.moves; new_versions = h.versions; refused = None; words = Empty; lines = lines } =
@@ -120,7 +120,7 @@ module _ (first now : S3World) (lines : List (Line Applied)) (left count : ℕ) 
         fits = h.fits;
       })
 
-  pub drained_early : ((s : State) → IsStore now s → None ≡ undelivered s.world) → Plays first now (record { refused = None; words = Empty; lines = lines }) (λ s. drains count s)
+  pub drained_early : ((s : State) → IsDriven now s → None ≡ undelivered s.world) → Plays first now (record { refused = None; words = Empty; lines = lines }) (λ s. drains count s)
   drained_early none = drained_plays (λ s d. drains_none left s (sym (none s d)))
 
   pub drained_all : left ≡ 0 → Plays first now (record { refused = None; words = Empty; lines = lines }) (λ s. drains count s)

@@ -11,8 +11,8 @@ use Rattle.store_model.specs.Run.{State}
 use Rattle.store_model.specs.Acts.{takes, acted, end_of, without_end}
 use Rattle.world_core.specs.Stands.{StandsFor}
 use Rattle.s3_world.specs.declared.asked.Asked.{Asked}
-use Rattle.s3_world.specs.declared.world.S3World.{S3World}
-use Rattle.s3_world.specs.Stands.{place_in, IsSized, IsStore, Becomes}
+use Rattle.s3_world.specs.declared.driver.Driver.{Driver}
+use Rattle.s3_world.specs.Driven.{place_in, IsSized, IsDriven, Becomes}
 
 module _ (q : ℕ) where
   abbrev is_of : ℕ × FlowEnd → Bool
@@ -48,38 +48,32 @@ module _ (q : ℕ) where
   pub placed : (es : List (ℕ × FlowEnd)) (o : Option ℕ) → o ≡ position is_of es → IsPlaced es o
   placed es o e = at_zero es o (subst (IsPlacedFrom es 0) (sym (e ∙ position_from-zero is_of es)) (placed_from es 0))
 
-module _ (old : S3World) (q : ℕ) where
+module _ {F : Type 0} (old : Driver F) (q : ℕ) where
   -- the end that was taken
-  pub taken_there : (i : ℕ) (e : ℕ × FlowEnd) → Some i ≡ place_in old.ends q → slice_get old.ends i ≡ Some e → (s : State) → IsStore old s → Some e.1 ≡ end_of s.ends q
+  pub taken_there : (i : ℕ) (e : ℕ × FlowEnd) → Some i ≡ place_in old.ends q → slice_get old.ends i ≡ Some e → (s : State) → IsDriven old s → Some e.1 ≡ end_of s.ends q
   taken_there i e at there s d =
       let p = placed q old.ends (Some i) at in
       sym (ap (λ es. end_of es q) (sym d.ends) ∙ (p.1 ∙ ap (option_map (λ (e : ℕ × FlowEnd). e.1)) there))
 
-  pub taken_nowhere : None ≡ place_in old.ends q → (s : State) → IsStore old s → None ≡ end_of s.ends q
+  pub taken_nowhere : None ≡ place_in old.ends q → (s : State) → IsDriven old s → None ≡ end_of s.ends q
   taken_nowhere at s d = sym (ap (λ es. end_of es q) (sym d.ends) ∙ (placed q old.ends None at).0)
 
   -- the ends without it
-  pub left_there : (new : S3World) (i : ℕ) → Some i ≡ place_in old.ends q → new.world ≡ old.world → new.buckets ≡ old.buckets → new.block ≡ old.block → new.requests ≡ old.requests → new.ends ≡ remove old.ends i → new.history ≡ old.history →
+  pub left_there : (new : Driver F) (i : ℕ) → Some i ≡ place_in old.ends q → new.world ≡ old.world → new.requests ≡ old.requests → new.ends ≡ remove old.ends i → new.history ≡ old.history →
       Becomes old new (λ s. acted s (takes q))
-  left_there new i at world buckets block requests ends history s d = record {
+  left_there new i at world requests ends history s d = record {
     world = subst (λ w. StandsFor any_join words w s.world) (sym world) d.world;
-    buckets = buckets ∙ d.buckets;
-    block = block ∙ d.block;
     requests = requests ∙ d.requests;
     ends = ends ∙ (sym (placed q old.ends (Some i) at).2 ∙ ap (λ es. without_end es q) d.ends);
     history = ap (λ h. h.0) history ∙ d.history;
-    sized = d.sized;
     flows = subst (AllByRecursion (λ (a : Asked). IsSized a.flow)) (sym requests) d.flows;
   }
 
   pub left_nowhere : None ≡ place_in old.ends q → Becomes old old (λ s. acted s (takes q))
   left_nowhere at s d = record {
     world = d.world;
-    buckets = d.buckets;
-    block = d.block;
     requests = d.requests;
     ends = sym (placed q old.ends None at).1 ∙ ap (λ es. without_end es q) d.ends;
     history = d.history;
-    sized = d.sized;
     flows = d.flows;
   }

@@ -27,7 +27,7 @@ use Rattle.flow_model.specs.declared.flow.FlowEnd.{FlowEnd}
 use Rattle.flow_model.specs.Blocks.{is_long}
 use Rattle.flow_model.specs.Rows as row
 use Rattle.flow_model.specs.Next as flow
-use Rattle.s3_flow.specs.Overdrawn.{IsOverdrawn}
+use Rattle.flow_model.specs.Overdrawn.{IsOverdrawn}
 use Rattle.store_model.specs.declared.event.Told.{Told}
 use Rattle.store_model.specs.Answers.{record_of, line_of}
 use Rattle.store_model.specs.Run.{State, Asked as Waiting, Draw, Outcome, silent, takes, goes, finishes, follows, follow, draws_of, versions_drawn}
@@ -35,14 +35,14 @@ use Rattle.store_model.specs.Turns.{FitsOutcome}
 use Rattle.world_core.specs.declared.report.Report.{Report}
 use Rattle.world_core.specs.Stands.{StandsFor, Steps, Overflows as WorldOverflows}
 use Rattle.s3_world.specs.declared.asked.Asked.{Asked}
-use Rattle.s3_world.specs.declared.world.S3World.{S3World}
-use Rattle.s3_world.specs.Stands.{kept, IsSized, IsStore, HasStore, Does, Plays, Overflows, Finishes}
+use Rattle.s3_world.specs.declared.driver.Driver.{Driver}
+use Rattle.s3_world.specs.Driven.{kept, IsSized, IsDriven, HasRun, Does, Plays, Overflows, Finishes}
 use Rattle.s3_world.proofs.Phases.{IsGood, StepIsGood, next_is_good}
 use Rattle.s3_world.proofs.Places.{numbered_place, get_kept, get_none, set_twice, set_same, all_set, all_get}
 
 -- ---- nothing
 
-pub silent_plays : (old : S3World) (told : Told) → told ≡ record { refused = None; words = Empty; lines = [] } → Plays old old told silent
+pub silent_plays : {F : Type 0} (old : Driver F) (told : Told) → told ≡ record { refused = None; words = Empty; lines = [] } → Plays old old told silent
 silent_plays old told says s d = record {
   stands = d;
   tells = record { refused = ap (λ (t : Told). t.refused) says; words = ap (λ (t : Told). t.words) says; lines = ap (λ (t : Told). t.lines) says };
@@ -50,19 +50,19 @@ silent_plays old told says s d = record {
 }
 
 -- nobody asked under this number
-pub follow_nobody : (old : S3World) (q : ℕ) (end : PhaseEnd AnyRow) (told : Told) → (q ≡ 0) ⊎ (length old.requests < q) → told ≡ record { refused = None; words = Empty; lines = [] } →
+pub follow_nobody : {F : Type 0} (old : Driver F) (q : ℕ) (end : PhaseEnd AnyRow) (told : Told) → (q ≡ 0) ⊎ (length old.requests < q) → told ≡ record { refused = None; words = Empty; lines = [] } →
     Plays old old told (λ s. follow s q (numbered s.asked q) end)
 follow_nobody old q end told none says s d =
     let P : Outcome → Type 0 = λ o. Does old told s o in
     let nobody : numbered s.asked q ≡ None = get_none s.asked q (subst (λ (rs : List Asked). (q ≡ 0) ⊎ (length rs < q)) d.requests none) in
     subst P (sym (ap (λ o. follow s q o end) nobody)) (silent_plays old told says s d)
 
-module _ (old : S3World) (i q : ℕ) (place : i + 1 ≡ q) (a : Asked) (at : slice_get old.requests i ≡ Some a) (end : PhaseEnd AnyRow) where
+module _ {F : Type 0} (old : Driver F) (i q : ℕ) (place : i + 1 ≡ q) (a : Asked) (at : slice_get old.requests i ≡ Some a) (end : PhaseEnd AnyRow) where
   -- the model's request
-  abbrev waiting : (s : State) → IsStore old s → (m : Waiting) × (slice_get s.asked i ≡ Some m) × (kept m ≡ a)
+  abbrev waiting : (s : State) → IsDriven old s → (m : Waiting) × (slice_get s.asked i ≡ Some m) × (kept m ≡ a)
   waiting s d = get_kept s.asked i a (sym (ap (λ rs. slice_get rs i) d.requests) ∙ at)
 
-  followed : (s : State) (d : IsStore old s) → follow s q (numbered s.asked q) end ≡ follows s q (waiting s d).0 end a.flow
+  followed : (s : State) (d : IsDriven old s) → follow s q (numbered s.asked q) end ≡ follows s q (waiting s d).0 end a.flow
   followed s d =
       let m = waiting s d in
       ap (λ o. follow s q o end) (numbered_place s.asked i q place ∙ m.1) ∙ ap (λ (x : Asked). follows s q m.0 end x.flow) m.2
@@ -80,32 +80,32 @@ module _ (old : S3World) (i q : ℕ) (place : i + 1 ≡ q) (a : Asked) (at : sli
       subst P (sym same) whole
 
   module _ (f : Flow) (going : a.flow ≡ Some f) where
-    pub sized : HasStore old → 0 < f.block
+    pub sized : HasRun old → 0 < f.block
     sized has = subst IsSized going (all_get (λ (x : Asked). IsSized x.flow) old.requests i a has.1.flows at)
 
     abbrev seen : State → State
     seen s = record s { saw = record { request = q; end = end } ∷ s.saw }
 
     -- what it draws
-    abbrev drawn : (s : State) → IsStore old s → List Draw
+    abbrev drawn : (s : State) → IsDriven old s → List Draw
     drawn s d = draws_of s q f.block f.stage end (clock s.world (waiting s d).0.node)
 
     module _ (now : ℕ) (is_now : (w : Model AnyRow) → StandsFor any_join words old.world w → now ≡ clock w a.node) where
-      time : (s : State) (d : IsStore old s) → clock s.world (waiting s d).0.node ≡ now
+      time : (s : State) (d : IsDriven old s) → clock s.world (waiting s d).0.node ≡ now
       time s d = ap (λ (x : Asked). clock s.world x.node) (waiting s d).2 ∙ sym (is_now s.world d.world)
 
-      taken : (s : State) (d : IsStore old s) → follow s q (numbered s.asked q) end ≡ takes (seen s) q (waiting s d).0 (drawn s d) (flow.next f end now)
+      taken : (s : State) (d : IsDriven old s) → follow s q (numbered s.asked q) end ≡ takes (seen s) q (waiting s d).0 (drawn s d) (flow.next f end now)
       taken s d = followed s d ∙ ap (follows s q (waiting s d).0 end) going ∙ ap (λ t. takes (seen s) q (waiting s d).0 (drawn s d) (flow.next f end t)) (time s d)
 
       module _ (does : FlowStep) (is : does ≡ flow.next f end now) where
-        done : (s : State) (d : IsStore old s) → follow s q (numbered s.asked q) end ≡ takes (seen s) q (waiting s d).0 (drawn s d) does
+        done : (s : State) (d : IsDriven old s) → follow s q (numbered s.asked q) end ≡ takes (seen s) q (waiting s d).0 (drawn s d) does
         done s d = taken s d ∙ ap (takes (seen s) q (waiting s d).0 (drawn s d)) (sym is)
 
         good : StepIsGood f.block does
         good = subst (StepIsGood f.block) (sym is) (next_is_good f end now)
 
         -- the requests after this one waits for something else
-        asked_now : (s : State) (d : IsStore old s) (x y : Asked) (then : Option Flow) → y ≡ record a { flow = then } →
+        asked_now : (s : State) (d : IsDriven old s) (x y : Asked) (then : Option Flow) → y ≡ record a { flow = then } →
             slice_set (slice_set old.requests i x) i y ≡ map kept (slice_set s.asked (q - 1) (record (waiting s d).0 { flow = then }))
         asked_now s d x y then is_y =
             let m = waiting s d in
@@ -114,7 +114,7 @@ module _ (old : S3World) (i q : ℕ) (place : i + 1 ≡ q) (a : Asked) (at : sli
             set_twice old.requests i x y ∙ ap (λ rs. slice_set rs i y) d.requests ∙ ap (slice_set (map kept s.asked) i) now_kept
             ∙ sym (map-set kept s.asked i (record m.0 { flow = then })) ∙ ap (λ n. map kept (slice_set s.asked n (record m.0 { flow = then }))) at_place
 
-        sized_now : (s : State) (d : IsStore old s) (x y : Asked) → IsSized x.flow → IsSized y.flow → AllByRecursion (λ (b : Asked). IsSized b.flow) (slice_set (slice_set old.requests i x) i y)
+        sized_now : (s : State) (d : IsDriven old s) (x y : Asked) → IsSized x.flow → IsSized y.flow → AllByRecursion (λ (b : Asked). IsSized b.flow) (slice_set (slice_set old.requests i x) i y)
         sized_now s d x y has_x has_y = let P : Asked → Type 0 = λ b. IsSized b.flow in all_set P (slice_set old.requests i x) i y (all_set P old.requests i x d.flows has_x) has_y
 
         module _ (g : Flow) (phase : Phase AnyRow) (more : does ≡ More g phase) where
@@ -124,11 +124,11 @@ module _ (old : S3World) (i q : ℕ) (place : i + 1 ≡ q) (a : Asked) (at : sli
           same_block : g.block ≡ f.block
           same_block = let h : StepIsGood f.block (More g phase) = subst (StepIsGood f.block) more good in h.0
 
-          pub more_plays : (new : S3World) (x : Asked) (report : Report AnyRow) (told : Told) → Steps any_join words old.world new.world report (step.Phase q phase) → x.flow ≡ None →
-              new.buckets ≡ old.buckets → new.block ≡ old.block → new.ends ≡ old.ends → new.history ≡ old.history →
+          pub more_plays : (new : Driver F) (x : Asked) (report : Report AnyRow) (told : Told) → Steps any_join words old.world new.world report (step.Phase q phase) → x.flow ≡ None →
+              new.ends ≡ old.ends → new.history ≡ old.history →
               new.requests ≡ slice_set (slice_set old.requests i x) i (record a { flow = Some g }) → told ≡ record { refused = None; words = Empty; lines = report.lines } →
               Plays old new told (λ s. follow s q (numbered s.asked q) end)
-          more_plays new x report told steps none buckets block ends history requests says s d =
+          more_plays new x report told steps none ends history requests says s d =
               let m = waiting s d in
               let then = (steps s.world d.world).does in
               let P : Outcome → Type 0 = λ o. Does new told s o in
@@ -136,12 +136,9 @@ module _ (old : S3World) (i q : ℕ) (place : i + 1 ≡ q) (a : Asked) (at : sli
               subst P (sym (done s d ∙ ap (takes (seen s) q m.0 (drawn s d)) more)) (record {
                 stands = record {
                   world = then.stands;
-                  buckets = buckets ∙ d.buckets;
-                  block = block ∙ d.block;
                   requests = requests ∙ asked_now s d x (record a { flow = Some g }) (Some g) refl;
                   ends = ends ∙ d.ends;
                   history = ap (λ h. h.0) history ∙ d.history;
-                  sized = d.sized;
                   flows = subst (AllByRecursion (λ (b : Asked). IsSized b.flow)) (sym requests) (sized_now s d x (record a { flow = Some g }) (subst IsSized (sym none) tt) has_block);
                 };
                 tells = record {
@@ -163,19 +160,16 @@ module _ (old : S3World) (i q : ℕ) (place : i + 1 ≡ q) (a : Asked) (at : sli
               Plays old (record old { requests = slice_set (slice_set old.requests i x) i (record a { flow = Some g }) }) told (λ s. follow s q (numbered s.asked q) end)
           wait_plays x told none says s d =
               let m = waiting s d in
-              let new : S3World = record old { requests = slice_set (slice_set old.requests i x) i (record a { flow = Some g }) } in
+              let new : Driver F = record old { requests = slice_set (slice_set old.requests i x) i (record a { flow = Some g }) } in
               let P : Outcome → Type 0 = λ o. Does new told s o in
               let same : g.block ≡ f.block = (let h : StepIsGood f.block (Wait g) = subst (StepIsGood f.block) wait good in h) in
               let has_block : 0 < g.block = subst (λ b. 0 < b) (sym same) (sized (s, d)) in
               subst P (sym (done s d ∙ ap (takes (seen s) q m.0 (drawn s d)) wait)) (record {
                 stands = record {
                   world = d.world;
-                  buckets = d.buckets;
-                  block = d.block;
                   requests = asked_now s d x (record a { flow = Some g }) (Some g) refl;
                   ends = d.ends;
                   history = d.history;
-                  sized = d.sized;
                   flows = sized_now s d x (record a { flow = Some g }) (subst IsSized (sym none) tt) has_block;
                 };
                 tells = record { refused = ap (λ (t : Told). t.refused) says; words = ap (λ (t : Told). t.words) says; lines = ap (λ (t : Told). t.lines) says };
@@ -183,30 +177,27 @@ module _ (old : S3World) (i q : ℕ) (place : i + 1 ≡ q) (a : Asked) (at : sli
               })
 
         module _ (last : FlowEnd) (ends : does ≡ End last) (none : Option Flow) (is_none : none ≡ None) where
-          abbrev mid : S3World
+          abbrev mid : Driver F
           mid = record old { requests = slice_set old.requests i (record a { flow = none }) }
 
-          end_does : (new : S3World) (told : Told) → Finishes mid new told q a.kind last → Plays old new told (λ s. follow s q (numbered s.asked q) end)
+          end_does : (new : Driver F) (told : Told) → Finishes mid new told q a.kind last → Plays old new told (λ s. follow s q (numbered s.asked q) end)
           end_does new told fin s d =
               let m = waiting s d in
               let then = (fin.closes s.world d.world).does in
               let P : Outcome → Type 0 = λ o. Does new told s o in
               let gone : Asked = record a { flow = none } in
-              let requests : new.requests ≡ slice_set old.requests i gone = ap (λ (n : S3World). n.requests) fin.rest in
+              let requests : new.requests ≡ slice_set old.requests i gone = ap (λ (n : Driver F). n.requests) fin.rest in
               let now_kept : gone ≡ kept (record m.0 { flow = None }) = ap (λ (o : Option Flow). record a { flow = o }) is_none ∙ ap (λ (b : Asked). record b { flow = None }) (sym m.2) in
               let at_place : i ≡ q - 1 = omega arith in
               let same_kind : a.kind ≡ m.0.kind = ap (λ (b : Asked). b.kind) (sym m.2) in
               subst P (sym (done s d ∙ ap (takes (seen s) q m.0 (drawn s d)) ends)) (record {
                 stands = record {
                   world = then.stands;
-                  buckets = ap (λ (n : S3World). n.buckets) fin.rest ∙ d.buckets;
-                  block = ap (λ (n : S3World). n.block) fin.rest ∙ d.block;
                   requests =
                       requests ∙ ap (λ rs. slice_set rs i gone) d.requests ∙ ap (slice_set (map kept s.asked) i) now_kept
                       ∙ sym (map-set kept s.asked i (record m.0 { flow = None })) ∙ ap (λ n. map kept (slice_set s.asked n (record m.0 { flow = None }))) at_place;
-                  ends = ap (λ (n : S3World). n.ends) fin.rest ∙ ap (λ es. es ++ (q, last) ∷ []) d.ends;
-                  history = ap (λ (n : S3World). n.history.0) fin.rest ∙ ap (λ h. h ++ record_of q last ∷ []) d.history;
-                  sized = d.sized;
+                  ends = ap (λ (n : Driver F). n.ends) fin.rest ∙ ap (λ es. es ++ (q, last) ∷ []) d.ends;
+                  history = ap (λ (n : Driver F). n.history.0) fin.rest ∙ ap (λ h. h ++ record_of q last ∷ []) d.history;
                   flows =
                       let Q : Asked → Type 0 = λ b. IsSized b.flow in
                       subst (AllByRecursion Q) (sym requests) (all_set Q old.requests i gone d.flows (subst IsSized (sym is_none) tt));
@@ -219,7 +210,7 @@ module _ (old : S3World) (i q : ℕ) (place : i + 1 ≡ q) (a : Asked) (at : sli
                 fits = ((then.stands.fits, then.spelled), tt);
               })
 
-          pub end_plays : (new : S3World) (r : Result Told Memory) → IfOk r (λ told. Finishes mid new told q a.kind last) → IfOk r (λ told. Plays old new told (λ s. follow s q (numbered s.asked q) end))
+          pub end_plays : (new : Driver F) (r : Result Told Memory) → IfOk r (λ told. Finishes mid new told q a.kind last) → IfOk r (λ told. Plays old new told (λ s. follow s q (numbered s.asked q) end))
           end_plays new (Err e) h = tt
           end_plays new (Ok told) h = end_does new told h
 

@@ -4,6 +4,7 @@ pub mod Delivers
 pub mod Drains
 pub mod Ends
 pub mod Follows
+pub mod Keeping
 pub mod Parts
 pub mod Listed
 pub mod Objects
@@ -11,3 +12,4 @@ pub mod Opens
 pub mod Phases
 pub mod Places
 pub mod Played
+pub mod Storing

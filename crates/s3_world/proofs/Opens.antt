@@ -23,12 +23,9 @@ use Rattle.world_core.specs.declared.world.World.{World}
 use Rattle.world_core.specs.declared.report.Report.{Report}
 use Rattle.world_core.specs.Stands.{StandsFor, IsWorld, Steps, Overflows as WorldOverflows}
 use Rattle.s3_world.specs.declared.asked.Asked.{Asked}
-use Rattle.s3_world.specs.declared.world.S3World.{S3World}
-use Rattle.s3_world.specs.Stands.{kept, IsSized, IsStore, HasStore, PlaysIf, OverflowsIf}
+use Rattle.s3_world.specs.declared.driver.Driver.{Driver}
+use Rattle.s3_world.specs.Driven.{kept, IsSized, IsReady, IsDriven, HasRun, PlaysIf, OverflowsIf}
 use Rattle.s3_world.proofs.Phases.{IsGood, first_is_good}
-
-abbrev IsMember : ℕ → State → Type 0
-IsMember n s = is_member_at layouts s.world n ≡ true
 
 opened_count : (w : Model AnyRow) (n : ℕ) → is_member_at layouts w n ≡ true → length (next any_join words w (plainly (Open n))).requests ≡ suc (length w.requests)
 opened_count w n m =
@@ -40,27 +37,27 @@ pub all_push : {A : Type 0} (P : A → Type 0) (xs : List A) (x : A) → AllByRe
 all_push P [] x all here = (here, tt)
 all_push P (y ∷ xs) x all here = (all.0, all_push P xs x all.1 here)
 
-module _ (old : S3World) (node : ℕ) (order : Order) (mid : World S3Schema AnyRow) (report : Report AnyRow) (first : Steps any_join words old.world mid report (Open node)) where
+module _ {F : Type 0} (old : Driver F) (node : ℕ) (order : Order) (block : ℕ) (mid : World S3Schema AnyRow) (report : Report AnyRow) (first : Steps any_join words old.world mid report (Open node)) where
   abbrev here : State → Model AnyRow
   here s = next any_join words s.world (plainly (Open node))
 
-  stands : (s : State) → IsStore old s → StandsFor any_join words mid (here s)
+  stands : (s : State) → IsDriven old s → StandsFor any_join words mid (here s)
   stands s d = (first s.world d.world).does.stands
 
-  pub opened_stands : HasStore old → IsWorld any_join words mid
+  pub opened_stands : HasRun old → IsWorld any_join words mid
   opened_stands store = (here store.0, stands store.0 store.1)
 
-  module _ (number : ℕ) (flow : Flow) (phase : Phase AnyRow) (is_first : (flow, phase) ≡ started order number old.block) (counted : (w : Model AnyRow) → StandsFor any_join words mid w → number ≡ length w.requests) where
-    the_number : (s : State) → IsStore old s → IsMember node s → number ≡ suc (length s.world.requests)
-    the_number s d m = counted (here s) (stands s d) ∙ opened_count s.world node m
+  module _ (number : ℕ) (flow : Flow) (phase : Phase AnyRow) (has_bytes : 0 < block) (is_first : (flow, phase) ≡ started order number block) (counted : (w : Model AnyRow) → StandsFor any_join words mid w → number ≡ length w.requests) where
+    the_number : (s : State) → IsDriven old s → IsReady node block s → number ≡ suc (length s.world.requests)
+    the_number s d m = counted (here s) (stands s d) ∙ opened_count s.world node m.0
 
-    begun : (s : State) → IsStore old s → IsMember node s → (flow, phase) ≡ started order (suc (length s.world.requests)) s.block
-    begun s d m = is_first ∙ ap (λ q. started order q old.block) (the_number s d m) ∙ ap (started order (suc (length s.world.requests))) d.block
+    begun : (s : State) → IsDriven old s → IsReady node block s → (flow, phase) ≡ started order (suc (length s.world.requests)) s.block
+    begun s d m = is_first ∙ ap (λ q. started order q block) (the_number s d m) ∙ ap (started order (suc (length s.world.requests))) (sym m.1)
 
-    pub opened_plays : (new : S3World) (more : Report AnyRow) (told : Told) → Steps any_join words mid new.world more (Begin number phase) → new.buckets ≡ old.buckets → new.block ≡ old.block → new.ends ≡ old.ends →
+    pub opened_plays : (new : Driver F) (more : Report AnyRow) (told : Told) → Steps any_join words mid new.world more (Begin number phase) → new.ends ≡ old.ends →
         new.requests ≡ old.requests ++ record { node = node; kind = kind_of order; flow = Some flow } ∷ [] → new.history.0 ≡ old.history.0 ++ began_with number node order ∷ [] →
-        told.refused ≡ None → told.words ≡ One number → told.lines ≡ more.lines → PlaysIf (IsMember node) old new told (λ s. opened s node order)
-    opened_plays new more told second buckets block ends requests history refused words_are lines s d m =
+        told.refused ≡ None → told.words ≡ One number → told.lines ≡ more.lines → PlaysIf (IsReady node block) old new told (λ s. opened s node order)
+    opened_plays new more told second ends requests history refused words_are lines s d m =
         let q = suc (length s.world.requests) in
         let count = the_number s d m in
         let begins = begun s d m in
@@ -69,26 +66,23 @@ module _ (old : S3World) (node : ℕ) (order : Order) (mid : World S3Schema AnyR
         let one = (first s.world d.world).does in
         let two = (subst P count (subst Q (ap (λ x. x.1) begins) second) (here s) (stands s d)).does in
         let fresh : Asked = record { node = node; kind = kind_of order; flow = Some flow } in
-        let sized : IsSized (Some flow) = subst (λ b. 0 < b) (sym (ap (λ (x : Flow × Phase AnyRow). x.0.block) is_first ∙ (first_is_good order number old.block).0 ∙ d.block)) d.sized in
+        let sized : IsSized (Some flow) = subst (λ b. 0 < b) (sym (ap (λ (x : Flow × Phase AnyRow). x.0.block) is_first ∙ (first_is_good order number block).0)) has_bytes in
         record {
           stands = record {
             world = two.stands;
-            buckets = buckets ∙ d.buckets;
-            block = block ∙ d.block;
             requests =
                 requests ∙ ap (λ rs. rs ++ fresh ∷ []) d.requests
                 ∙ ap (λ (f : Flow). map kept s.asked ++ record { node = node; kind = kind_of order; flow = Some f } ∷ []) (ap (λ x. x.0) begins)
                 ∙ sym (map_push kept s.asked (new_request node order (started order q s.block).0));
             ends = ends ∙ d.ends;
             history = history ∙ ap (λ n. old.history.0 ++ began_with n node order ∷ []) count ∙ ap (λ h. h ++ began_with q node order ∷ []) d.history;
-            sized = d.sized;
             flows = subst (AllByRecursion (λ (a : Asked). IsSized a.flow)) (sym requests) (all_push (λ (a : Asked). IsSized a.flow) old.requests fresh d.flows sized);
           };
           tells = record { refused = refused; words = words_are ∙ ap One count; lines = lines ∙ two.tells.lines };
           fits = ((one.stands.fits, one.spelled), ((two.stands.fits, two.spelled), tt));
         }
 
-    pub opened_overflows : WorldOverflows any_join words mid (Begin number phase) → OverflowsIf (IsMember node) old (λ s. opened s node order)
+    pub opened_overflows : WorldOverflows any_join words mid (Begin number phase) → OverflowsIf (IsReady node block) old (λ s. opened s node order)
     opened_overflows full s d m fits =
         let P : ℕ → Type 0 = λ q. WorldOverflows any_join words mid (Begin q (started order (suc (length s.world.requests)) s.block).1) in
         let Q : Phase AnyRow → Type 0 = λ p. WorldOverflows any_join words mid (Begin number p) in

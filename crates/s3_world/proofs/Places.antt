@@ -5,7 +5,7 @@ use Rattle.std.specs.List.{AllByRecursion}
 use Rattle.cluster_machine.specs.World.{numbered}
 use Rattle.store_model.specs.Run.{Asked as Waiting}
 use Rattle.s3_world.specs.declared.asked.Asked.{Asked}
-use Rattle.s3_world.specs.Stands.{kept}
+use Rattle.s3_world.specs.Driven.{kept}
 
 pub numbered_place : (xs : List Waiting) (i q : ℕ) → i + 1 ≡ q → numbered xs q ≡ slice_get xs i
 numbered_place xs i zero e = absurd (omega arith)

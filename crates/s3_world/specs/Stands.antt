@@ -28,30 +28,19 @@ use Rattle.world_core.specs.declared.report.Report.{Report}
 use Rattle.world_core.specs.Stands.{StandsFor, Steps}
 use Rattle.s3_world.specs.declared.asked.Asked.{Asked}
 use Rattle.s3_world.specs.declared.world.S3World.{S3World}
+use Rattle.s3_world.specs.Driven.{kept, IsSized, LacksRoom}
+pub use Rattle.s3_world.specs.Driven.{Tells}
 
--- what the code keeps of a request
-abbrev pub kept : Waiting → Asked
-kept m = record { node = m.node; kind = m.kind; flow = m.flow }
-
--- the place of the end of a request among the ends
-abbrev pub place_in : List (ℕ × FlowEnd) → ℕ → Option ℕ
-place_in ends q = position (λ e. e.0 == q) ends
-
--- if the request goes on, its blocks have bytes
-abbrev pub IsSized : Option Flow → Type 0
-IsSized None = ⊤
-IsSized (Some f) = 0 < f.block
-
--- the code's store is this state of the model
+-- the code's store is this state of the model: its driver is, and its buckets and size of blocks are the state's
 pub record IsStore (c : S3World) (s : State) : Type 0 where
-  pub world : StandsFor any_join words c.world s.world
+  pub world : StandsFor any_join words c.driver.world s.world
   pub buckets : c.buckets ≡ s.buckets
   pub block : c.block ≡ s.block
-  pub requests : c.requests ≡ map kept s.asked
-  pub ends : c.ends ≡ s.ends
-  pub history : c.history.0 ≡ s.history
+  pub requests : c.driver.requests ≡ map kept s.asked
+  pub ends : c.driver.ends ≡ s.ends
+  pub history : c.driver.history.0 ≡ s.history
   pub sized : 0 < s.block
-  pub flows : AllByRecursion (λ (a : Asked). IsSized a.flow) c.requests
+  pub flows : AllByRecursion (λ (a : Asked). IsSized a.flow) c.driver.requests
 
 -- the store stands for some state: it was not given up
 abbrev pub HasStore : S3World → Type 0
@@ -72,12 +61,6 @@ abbrev pub IsQuiet : Step AnyRow → Type 0
 IsQuiet (step.Expire q) = ⊥
 IsQuiet (step.Restart n) = ⊥
 IsQuiet _ = ⊤
-
--- the code tells what the model tells
-pub record Tells (told : Told) (o : Outcome) : Type 0 where
-  pub refused : told.refused ≡ o.refused
-  pub words : told.words ≡ o.words
-  pub lines : told.lines ≡ o.lines
 
 -- the store stands for the state after this outcome, and tells it; after each of its steps every number fits
 pub record Does (new : S3World) (told : Told) (s : State) (o : Outcome) : Type 0 where
@@ -128,12 +111,6 @@ pub record DoesStep (new : S3World) (told : Told) (s : State) (st : Step AnyRow)
 abbrev pub PlaysStep : S3World → S3World → Told → Step AnyRow → Type 0
 PlaysStep old new told st = ties.Steps IsStore old (λ s. DoesStep new told s st)
 
--- with something lawful given there is no room after the step
-pub record LacksRoom (s : State) (st : Step AnyRow) : Type 0 where
-  pub choice : Decision
-  pub lawful : IsLawfulStep s.world st choice
-  pub lacks : FitsOutcome s (plain s (record { step = st; choice = choice })) → ⊥
-
 -- whatever state it stood for, this step would not fit
 abbrev pub OverflowsStep : S3World → Step AnyRow → Type 0
 OverflowsStep old st = ties.Steps IsStore old (λ s. LacksRoom s st)
@@ -157,10 +134,3 @@ pub record EventLacksRoom (s : State) (event : Event) : Type 0 where
 -- whatever state it stood for, this event would not fit
 abbrev pub OverflowsEvent : S3World → Event → Type 0
 OverflowsEvent old event = ties.Steps IsStore old (λ s. EventLacksRoom s event)
-
--- request q was closed in the world, its end and its record stand last, and its line is told
-pub record Finishes (old new : S3World) (told : Told) (q : ℕ) (kind : Kind) (end : FlowEnd) : Type 0 where
-  pub report : Report AnyRow
-  pub closes : Steps any_join words old.world new.world report (step.Close q)
-  pub rest : new ≡ record old { world = new.world; ends = old.ends ++ (q, end) ∷ []; history = record { 0 = old.history.0 ++ record_of q end ∷ [] } }
-  pub tells : told ≡ record { refused = None; words = Empty; lines = line_of q kind end ∷ [] }

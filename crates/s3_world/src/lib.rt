@@ -12,6 +12,7 @@
 
 mod answers;
 mod asked;
+mod driver;
 mod events;
 mod orders;
 mod world;

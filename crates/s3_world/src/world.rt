@@ -1,5 +1,5 @@
-//! The state of a run as code, and its acts.
-ghost use Rattle.std.specs.Prelude.{◌≡◌, [], ◌∷◌, ◌++◌, ◌<◌, ◌≤◌, ◌⊎◌, ◌+◌, ◌^◌, length, map, slice_get, slice_set, option_map, true, OnOk, OnErr, IfOk, IfErr, IfSome, IfNone, Some, None, IsTrue};
+//! The state of a run as code, and its acts: the driver's instance for objects, with buckets and the size of blocks.
+ghost use Rattle.std.specs.Prelude.{◌≡◌, [], ◌∷◌, ◌++◌, ◌≤◌, length, option_map, true, OnOk, OnErr, IfOk, Some, None, IsTrue};
 ghost use Rattle.crdt_core.specs.Outcomes.{OnlyWant, WantOr};
 ghost use Rattle.blake2_hash.specs.Blake2b.{blake2b};
 ghost use Rattle.object_schema.specs.Schema.{words};
@@ -7,86 +7,45 @@ ghost use Rattle.table_model.specs.Rows.{rows};
 ghost use Rattle.table_model.specs.Top.{any_unspelled};
 ghost use Rattle.cluster_machine.specs.declared.step.Words.TheVariants.{Empty};
 ghost use Rattle.cluster_machine.specs.declared.step.Step.TheVariants as step;
-ghost use Rattle.cluster_machine.specs.World.{is_member_at, undelivered, sent_bytes, node_line, numbered};
+ghost use Rattle.cluster_machine.specs.World.{is_member_at, undelivered, sent_bytes, node_line};
 ghost use Rattle.cluster_machine.specs.Layouts.{layouts};
 ghost use Rattle.view_model.specs.Layouts.{reading};
 ghost use Rattle.cluster_machine.specs.Blocks.{StepBringsBlocks};
 ghost use Rattle.cluster_machine.specs.Choices.{IsFirst};
 ghost use Rattle.cluster_machine.specs.Worlds.{IsMeant};
-ghost use Rattle.history_model.specs.declared.record.Cause.TheVariants.{Restarted};
-ghost use Rattle.history_model.specs.declared.record.Record.TheVariants.{Ended as HasEnded};
 ghost use Rattle.flow_model.specs.declared.order.Order.{Order as Ordered};
 ghost use Rattle.crdt_rows.specs.AnyRow.{any_join};
 ghost use Rattle.world_core.specs.Nodes.{shown_line};
-ghost use Rattle.world_core.specs.Stands.{ended, IsWorld, Overflows as WorldOverflows};
-ghost use Rattle.store_model.specs.Run.{State, start as nothing_yet, begins, opened, follow, goes_on, delivers, drains, silent};
-ghost use Rattle.store_model.specs.Acts.{HasKey, acted, installs, asks, drain, forgets, takes, end_of, without_end, all_messages};
-ghost use Rattle.s3_world.specs.Stands.{place_in, IsMeantEvent, IsQuiet, Finishes};
+ghost use Rattle.store_model.specs.Run.{State, start as nothing_yet, begins, opened, delivers, drains, silent};
+ghost use Rattle.store_model.specs.Acts.{HasKey, acted, installs, asks, drain, forgets, takes, end_of, all_messages};
+ghost use Rattle.s3_world.specs.Stands.{IsMeantEvent, IsQuiet};
 
-use crate::answers::{line_of, record_of};
-use crate::asked::Asked;
+use crate::driver::{Driver, accepted};
 use crate::events::{copy, delete, get, head, list, put};
-use crate::orders::{are_buckets, began_with, kind_of};
-use cluster_machine::applied::{Line, Refusal};
+use crate::orders::are_buckets;
+use cluster_machine::applied::Refusal;
 use cluster_machine::{Step, Words};
 use crdt_core::{Bytes, List, Memory, Value};
 use crdt_rows::AnyRow;
-use flow_model::{Flow, FlowEnd, FlowStep, Order};
-use history_model::{Cause, History, Kind, Record};
+use flow_model::{FlowEnd, Order};
+use history_model::History;
 use layout_roles::{Kind as RoleKind, Layout, Zone};
-use object_schema::S3Schema;
-use s3_flow::{next, start};
+use s3_flow::ObjectFlows;
 use std::alloc::Global;
 use store_model::{Event, Told};
-use wire_messages::PhaseEnd;
-use world_core::{NodeLine, World};
+use world_core::NodeLine;
 
 /// How many bytes a block has, where no schedule says otherwise: a mebibyte.
 const BLOCK_SIZE: u32 = 1_048_576;
 
-/// A cluster with buckets, its requests with what each waits for, and their history.
+/// The store of objects: the driver of their requests, the buckets, and the size of blocks.
 #[derive(Drop)]
 pub struct S3World {
-    alloc: Global,
-    world: World<S3Schema>,
+    driver: Driver<ObjectFlows>,
     buckets: List<Bytes>,
     /// The size of the blocks of later requests, in bytes.
     block: u32,
-    /// Request q is at place q - 1.
-    requests: List<Asked>,
-    /// How requests ended by themselves, until that is taken.
-    ends: List<(u64, FlowEnd)>,
-    history: History,
-}
-
-// The place of a number from 1, among this many.
-fn place(number: u64, count: usize) -> Option<usize>
-    ensures found { IfSome result (λ i. (i + 1 ≡ number) × (i < count)) }
-    ensures none { IfNone result ((number ≡ 0) ⊎ (count < number)) }
-{
-    if number >= 1 && number <= count as u64 {
-        Some((number - 1) as usize)
-    } else {
-        None
-    }
-}
-
-// The place of the end of a request among those that weren't taken.
-fn place_of(ends: &[(u64, FlowEnd)], request: u64) -> Option<usize>
-    ensures { result ≡ place_in ends.now request }
-{
-    ends.iter().position(|end| end.0 == request)
-}
-
-// An event that was accepted, and has no words.
-fn accepted(lines: List<Line>) -> Told
-    ensures { result ≡ record { refused = None; words = Empty; lines = lines } }
-{
-    Told {
-        refused: None,
-        words: Words::Empty,
-        lines,
-    }
+    alloc: Global,
 }
 
 // A copy of a role.
@@ -100,23 +59,7 @@ fn copy_role(role: &Option<(Zone, RoleKind)>) -> Result<Option<(Zone, RoleKind)>
     }
 }
 
-// The records of requests that a restart lost go to the end of the history.
-fn push_lost(history: &mut List<Record>, lost: &[u64]) -> Result<(), Memory>
-    ensures ok { OnOk result (history.new ≡ history.old ++ map (λ q. HasEnded q Restarted) lost.now) }
-    ensures want { OnlyWant result }
-{
-    for request in lost {
-        history.push(Record::Ended {
-            request: *request,
-            cause: Cause::Restarted,
-        })?;
-    }
-    Ok(())
-}
-
 impl S3World {
-    ghost use Rattle.flow_model.specs.declared.flow.Flow.{Flow};
-    ghost use Rattle.s3_world.specs.declared.asked.Asked.{Asked};
     ghost use Rattle.s3_world.specs.Stands.{IsStore, HasStore, Becomes, Carries, Starts, Plays, PlaysIf, PlaysStep, PlaysEvent, Overflows, OverflowsIf, OverflowsStep, OverflowsEvent};
 
     /// Nothing has happened.
@@ -125,13 +68,10 @@ impl S3World {
         ensures want { OnlyWant result }
     {
         Ok(S3World {
-            alloc,
-            world: World::new(alloc)?,
+            driver: Driver::new(alloc, ObjectFlows)?,
             buckets: List::new(alloc),
             block: BLOCK_SIZE,
-            requests: List::new(alloc),
-            ends: List::new(alloc),
-            history: History(List::new(alloc)),
+            alloc,
         })
     }
 
@@ -139,35 +79,35 @@ impl S3World {
     pub fn requests(&self) -> u64
         ensures { (s : State) → IsStore self.now s → result ≡ length s.world.requests }
     {
-        self.world.requests()
+        self.driver.world.requests()
     }
 
     /// How many messages were ever sent.
     pub fn sent(&self) -> u64
         ensures { (s : State) → IsStore self.now s → result ≡ length s.world.messages }
     {
-        self.world.sent()
+        self.driver.world.sent()
     }
 
     /// How many bytes the messages count that were ever sent.
     pub fn sent_bytes(&self) -> u64
         ensures { (s : State) → IsStore self.now s → sent_bytes words s.world.messages ≡ Some result }
     {
-        self.world.sent_bytes()
+        self.driver.world.sent_bytes()
     }
 
     /// The least number of a message that was neither delivered nor lost.
     pub fn undelivered(&self) -> Option<u64>
         ensures { (s : State) → IsStore self.now s → result ≡ undelivered s.world }
     {
-        self.world.undelivered()
+        self.driver.world.undelivered()
     }
 
     /// How many layout versions were applied.
     pub fn applied(&self) -> u32
         ensures { (s : State) → IsStore self.now s → result ≡ s.world.applied }
     {
-        self.world.applied()
+        self.driver.world.applied()
     }
 
     /// What a node shows of itself, None where it knows no layout version.
@@ -175,14 +115,14 @@ impl S3World {
         ensures line { IfOk result (λ line. (s : State) → IsStore self.now s → option_map shown_line line ≡ node_line any_join words layouts s.world node) }
         ensures causes { WantOr result ((s : State) → IsStore self.now s → IsTrue (any_unspelled words (rows any_join words (s.world.nodes node).accepted))) }
     {
-        self.world.node_line(node)
+        self.driver.world.node_line(node)
     }
 
     /// The records of all requests, the oldest first.
     pub fn history(&self) -> &History
         ensures { (s : State) → IsStore self.now s → result.now.0 ≡ s.history }
     {
-        &self.history
+        &self.driver.history
     }
 
     /// Puts a first layout into the views of its nodes, all or none; from then on version 1 counts as applied.
@@ -195,7 +135,7 @@ impl S3World {
         ensures unchanged { OnErr result (Becomes self.old self.new silent) }
         ensures want { OnlyWant result }
     {
-        self.world.install(first, nodes)
+        self.driver.world.install(first, nodes)
     }
 
     /// Opens a request at a node and gives its number, or says why not.
@@ -219,10 +159,7 @@ impl S3World {
         ensures end { (s : State) → IsStore self.old s → result ≡ end_of s.ends request }
         ensures taken { Becomes self.old self.new (λ s. acted s (takes request)) }
     {
-        match place_of(self.ends.as_slice(), request) {
-            Some(i) => Some(self.ends.remove(i).1),
-            None => None,
-        }
+        self.driver.take_end(request)
     }
 
     /// Delivers the least message that was neither delivered nor lost, until none is left.
@@ -240,7 +177,7 @@ impl S3World {
         requires stands { HasStore self.old }
         ensures { Becomes self.old self.new (λ s. acted s forgets) }
     {
-        self.world.forget_delivered();
+        self.driver.world.forget_delivered();
     }
 
     /// Takes the next event. After an error the world is to be given up.
@@ -332,42 +269,7 @@ impl S3World {
         ensures plays { IfOk result (λ told. PlaysStep self.old self.new told step) }
         ensures causes { WantOr result (OverflowsStep self.old step) }
     {
-        let report = self.world.step(step)?;
-        Ok(Told {
-            refused: report.refused,
-            words: report.words,
-            lines: report.lines,
-        })
-    }
-
-    // Ends a request that is open.
-    fn expire(&mut self, request: u64) -> Result<Told, Memory>
-        requires stands { HasStore self.old }
-        ensures plays { IfOk result (λ told. PlaysStep self.old self.new told (step.Expire request)) }
-        ensures causes { WantOr result (OverflowsStep self.old (step.Expire request)) }
-    {
-        let report = self.world.step(Step::Expire(request))?;
-        if report.refused.is_none() {
-            self.history.0.push(Record::Ended {
-                request,
-                cause: Cause::Expired,
-            })?;
-        }
-        Ok(Told {
-            refused: report.refused,
-            words: report.words,
-            lines: report.lines,
-        })
-    }
-
-    // A node loses its open requests.
-    fn restart(&mut self, node: u8) -> Result<Told, Memory>
-        requires stands { HasStore self.old }
-        ensures plays { IfOk result (λ told. PlaysStep self.old self.new told (step.Restart node)) }
-        ensures causes { WantOr result (OverflowsStep self.old (step.Restart node)) }
-    {
-        let report = self.world.step(Step::Restart(node))?;
-        push_lost(&mut self.history.0, report.lost.as_slice())?;
+        let report = self.driver.world.step(step)?;
         Ok(Told {
             refused: report.refused,
             words: report.words,
@@ -409,7 +311,7 @@ impl S3World {
         ensures plays { IfOk result (λ told. Plays self.old self.new told (λ s. begins s node order)) }
         ensures causes { WantOr result (Overflows self.old (λ s. begins s node order)) }
     {
-        if !self.world.member(node) {
+        if !self.driver.world.member(node) {
             return Ok(self.refusal(Refusal::NotMember));
         }
         if !are_buckets(&self.buckets, &order) {
@@ -424,83 +326,7 @@ impl S3World {
         ensures plays { IfOk result (λ told. PlaysIf (λ s. is_member_at layouts s.world node ≡ true) self.old self.new told (λ s. opened s node order)) }
         ensures causes { WantOr result (OverflowsIf (λ s. is_member_at layouts s.world node ≡ true) self.old (λ s. opened s node order)) }
     {
-        let _ = self.world.step(Step::Open(node))?;
-        let number = self.world.requests();
-        let kind = kind_of(&order);
-        let began = began_with(number, node, &order)?;
-        let (flow, phase) = start(self.alloc, order, number, self.block)?;
-        let report = self.world.step(Step::Phase(number, phase))?;
-        self.requests.push(Asked {
-            node,
-            kind,
-            flow: Some(flow),
-        })?;
-        self.history.0.push(began)?;
-        Ok(Told {
-            refused: None,
-            words: Words::One(number),
-            lines: report.lines,
-        })
-    }
-
-    // A request is done.
-    fn finishes(&mut self, request: u64, kind: Kind, end: FlowEnd) -> Result<Told, Memory>
-        requires stands { IsWorld any_join words self.old.world }
-        ensures finishes { IfOk result (λ told. Finishes self.old self.new told request kind end) }
-        ensures causes { WantOr result (WorldOverflows any_join words self.old.world (step.Close request)) }
-    {
-        let _ = self.world.step(Step::Close(request))?;
-        let record = record_of(self.alloc, request, &end)?;
-        self.history.0.push(record)?;
-        let line = line_of(self.alloc, request, kind, &end)?;
-        let mut lines = List::new(self.alloc);
-        lines.push(line)?;
-        self.ends.push((request, end))?;
-        Ok(accepted(lines))
-    }
-
-    // What a request does when its phase ended.
-    fn follow(&mut self, request: u64, end: PhaseEnd<AnyRow>) -> Result<Told, Memory>
-        requires stands { HasStore self.old }
-        ensures plays { IfOk result (λ told. Plays self.old self.new told (λ s. follow s request (numbered s.asked request) end)) }
-        ensures causes { WantOr result (Overflows self.old (λ s. follow s request (numbered s.asked request) end)) }
-    {
-        let Some(i) = place(request, self.requests.len()) else {
-            return Ok(accepted(List::new(self.alloc)));
-        };
-        let asked = self.requests.at_mut(i);
-        let Some(flow) = asked.flow.take() else {
-            return Ok(accepted(List::new(self.alloc)));
-        };
-        let (node, kind) = (asked.node, asked.kind);
-        let now = self.world.clock(node);
-        match next(self.alloc, flow, end, now)? {
-            FlowStep::More(flow, phase) => {
-                let report = self.world.step(Step::Phase(request, phase))?;
-                let flow = Some(flow);
-                self.requests.set(i, Asked { node, kind, flow });
-                Ok(accepted(report.lines))
-            }
-            FlowStep::Wait(flow) => {
-                let flow = Some(flow);
-                self.requests.set(i, Asked { node, kind, flow });
-                Ok(accepted(List::new(self.alloc)))
-            }
-            FlowStep::End(end) => self.finishes(request, kind, end),
-        }
-    }
-
-    // What the request does whose phase ended, if one did.
-    fn goes_on(&mut self, mut ends: List<(u64, PhaseEnd<AnyRow>)>) -> Result<Told, Memory>
-        requires stands { HasStore self.old }
-        ensures plays { IfOk result (λ told. Plays self.old self.new told (λ s. goes_on s (map ended ends))) }
-        ensures causes { WantOr result (Overflows self.old (λ s. goes_on s (map ended ends))) }
-    {
-        if ends.is_empty() {
-            return Ok(accepted(List::new(self.alloc)));
-        }
-        let (request, end) = ends.remove(0);
-        self.follow(request, end)
+        self.driver.opened(node, order, self.block)
     }
 
     // Delivers a message.
@@ -509,15 +335,7 @@ impl S3World {
         ensures plays { IfOk result (λ told. Plays self.old self.new told (λ s. delivers s message)) }
         ensures causes { WantOr result (Overflows self.old (λ s. delivers s message)) }
     {
-        let report = self.world.step(Step::Deliver(message))?;
-        let mut told = self.goes_on(report.ends)?;
-        let mut lines = report.lines;
-        lines.append(&mut told.lines)?;
-        Ok(Told {
-            refused: report.refused,
-            words: report.words,
-            lines,
-        })
+        self.driver.delivers(message)
     }
 
     // Delivers the least message that was neither delivered nor lost, up to `count` times.
@@ -526,16 +344,24 @@ impl S3World {
         ensures plays { IfOk result (λ told. Plays self.old self.new told (λ s. drains count s)) }
         ensures causes { WantOr result (Overflows self.old (λ s. drains count s)) }
     {
-        let mut lines = List::new(self.alloc);
-        let mut left = count;
-        while left > 0 {
-            let Some(message) = self.world.undelivered() else {
-                return Ok(accepted(lines));
-            };
-            let mut told = self.delivers(message)?;
-            lines.append(&mut told.lines)?;
-            left -= 1;
-        }
-        Ok(accepted(lines))
+        self.driver.drains(count)
+    }
+
+    // Ends a request that is open.
+    fn expire(&mut self, request: u64) -> Result<Told, Memory>
+        requires stands { HasStore self.old }
+        ensures plays { IfOk result (λ told. PlaysStep self.old self.new told (step.Expire request)) }
+        ensures causes { WantOr result (OverflowsStep self.old (step.Expire request)) }
+    {
+        self.driver.expire(request)
+    }
+
+    // A node loses its open requests.
+    fn restart(&mut self, node: u8) -> Result<Told, Memory>
+        requires stands { HasStore self.old }
+        ensures plays { IfOk result (λ told. PlaysStep self.old self.new told (step.Restart node)) }
+        ensures causes { WantOr result (OverflowsStep self.old (step.Restart node)) }
+    {
+        self.driver.restart(node)
     }
 }

@@ -1,11 +1,14 @@
-use Rattle.std.proofs.Common.{refl}
-use Rattle.s3_world.proofs.Delivers.{has_next, delivered_plays}
+use Rattle.store_model.specs.Run.{delivers}
+use Rattle.s3_world.proofs.Causes.{same_causes}
+use Rattle.s3_world.proofs.Keeping.{delivers_keeps}
+use Rattle.s3_world.proofs.Storing.{has_run, plays, overflows}
 use Rattle.s3_world.proofs.world.S3World.delivers.Goals as goal
 
-pub goes_on-requires : goal.goes_on-requires
-goes_on-requires c = record { stands = has_next c.args.self.now _ c.args.message c.in_ok-report.report c.in_ok-report.ensures.steps refl refl refl refl refl c.requires.stands }
+pub delivers-requires : goal.delivers-requires
+delivers-requires c = record { stands = has_run c.args.self.now c.requires.stands }
 
 pub returns-clause-plays : goal.returns-clause-plays
-returns-clause-plays c = λ s d.
-    rw c.in_ok-append.ensures.ok.0
-    (delivered_plays c.args.self.now _ c.args.message c.in_ok-report.report c.in_ok-report.ensures.steps refl refl refl refl refl c.goes_on.new.self c.in_ok-told.told c.in_ok-told.ensures.plays s d)
+returns-clause-plays c = plays c.args.self.now c.delivers.new.self (λ s. delivers s c.args.message) (λ s. delivers_keeps s c.args.message) c.delivers.result c.delivers.ensures.plays
+
+pub returns-clause-causes : goal.returns-clause-causes
+returns-clause-causes c = same_causes c.delivers.result (overflows c.args.self.now (λ s. delivers s c.args.message)) c.delivers.ensures.causes

@@ -1,27 +1,14 @@
-use Rattle.std.proofs.Common.{arith, ◌-◌}
-use Rattle.s3_world.proofs.Causes.{handed_on}
-use Rattle.s3_world.proofs.Drains.{draining_none, draining_on, drained_early, drained_all, drain_overflows}
+use Rattle.store_model.specs.Run.{drains}
+use Rattle.s3_world.proofs.Causes.{same_causes}
+use Rattle.s3_world.proofs.Keeping.{drains_keeps}
+use Rattle.s3_world.proofs.Storing.{has_run, plays, overflows}
 use Rattle.s3_world.proofs.world.S3World.drains.Goals as goal
 
-pub loop-left-init : goal.loop-left-init
-loop-left-init c = rw c.new-lines.ensures (draining_none c.args.self.now c.args.count c.requires.stands)
-
-pub returns-in_default-clause-plays : goal.returns-in_default-clause-plays
-returns-in_default-clause-plays c =
-    rw c.accepted.ensures (drained_early c.args.self.now c.loop-left.self c.loop-left.lines c.loop-left.left c.args.count c.loop-left.invariant (λ s d. c.in_default.ensures s.world d.world))
-
-pub returns-in_err-told-clause-causes : goal.returns-in_err-told-clause-causes
-returns-in_err-told-clause-causes c =
-    handed_on c.from_residual.result c.in_err-told.field-0.0 c.from_residual.ensures.1
-    (drain_overflows c.args.self.now c.loop-left.self c.loop-left.lines c.loop-left.left (c.loop-left.left - 1) c.args.count c.in-Some.message (omega arith) c.loop-left.invariant (λ s d. c.in-Some.ensures s.world d.world))
-    c.in_err-told.ensures.causes
-
-pub loop-left-preserved : goal.loop-left-preserved
-loop-left-preserved c =
-    rw c.in_ok-append.ensures.ok.0 (
-    draining_on c.args.self.now c.loop-left.self c.loop-left.lines c.loop-left.left (c.loop-left.left - 1) c.args.count c.in-Some.message (omega arith) c.loop-left.invariant
-    (λ s d. c.in-Some.ensures s.world d.world) c.delivers.new.self c.in_ok-told.told c.in_ok-told.ensures.plays)
+pub drains-requires : goal.drains-requires
+drains-requires c = record { stands = has_run c.args.self.now c.requires.stands }
 
 pub returns-clause-plays : goal.returns-clause-plays
-returns-clause-plays c =
-    rw c.accepted-2.ensures (drained_all c.args.self.now c.loop-left.self c.loop-left.lines c.loop-left.left c.args.count c.loop-left.invariant (omega arith))
+returns-clause-plays c = plays c.args.self.now c.drains.new.self (λ s. drains c.args.count s) (λ s. drains_keeps c.args.count s) c.drains.result c.drains.ensures.plays
+
+pub returns-clause-causes : goal.returns-clause-causes
+returns-clause-causes c = same_causes c.drains.result (overflows c.args.self.now (λ s. drains c.args.count s)) c.drains.ensures.causes

@@ -1,16 +1,10 @@
-use Rattle.std.proofs.Common.{refl, ap, ◌∙◌}
-use Rattle.s3_world.specs.Stands.{place_in}
-use Rattle.s3_world.proofs.Ends.{taken_there, taken_nowhere, left_there, left_nowhere}
+use Rattle.std.proofs.Common.{refl}
+use Rattle.store_model.specs.Acts.{acted, takes}
+use Rattle.s3_world.proofs.Storing.{is_driven, becomes}
 use Rattle.s3_world.proofs.world.S3World.take_end.Goals as goal
 
-pub returns-in-Some-clause-end : goal.returns-in-Some-clause-end
-returns-in-Some-clause-end c = taken_there c.args.self.now c.args.request c.in-Some.i c.remove.result (c.in-Some.ensures ∙ ap (λ es. place_in es c.args.request) c.as_slice.ensures) c.remove.ensures.value
+pub returns-clause-end : goal.returns-clause-end
+returns-clause-end c = λ s d. c.take_end.ensures.end s (is_driven c.args.self.now s d)
 
-pub returns-in-Some-clause-taken : goal.returns-in-Some-clause-taken
-returns-in-Some-clause-taken c = left_there c.args.self.now c.args.request _ c.in-Some.i (c.in-Some.ensures ∙ ap (λ es. place_in es c.args.request) c.as_slice.ensures) refl refl refl refl c.remove.ensures.rest refl
-
-pub returns-in-None-clause-end : goal.returns-in-None-clause-end
-returns-in-None-clause-end c = taken_nowhere c.args.self.now c.args.request (c.in-None.ensures ∙ ap (λ es. place_in es c.args.request) c.as_slice.ensures)
-
-pub returns-in-None-clause-taken : goal.returns-in-None-clause-taken
-returns-in-None-clause-taken c = left_nowhere c.args.self.now c.args.request (c.in-None.ensures ∙ ap (λ es. place_in es c.args.request) c.as_slice.ensures)
+pub returns-clause-taken : goal.returns-clause-taken
+returns-clause-taken c = becomes c.args.self.now c.take_end.new.self (λ s. acted s (takes c.args.request)) (λ s. (refl, refl)) c.take_end.ensures.taken

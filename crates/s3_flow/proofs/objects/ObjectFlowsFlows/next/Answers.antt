@@ -1,4 +1,4 @@
-use Rattle.s3_flow.proofs.goes_on.next.Goals as goal
+use Rattle.s3_flow.proofs.objects.ObjectFlowsFlows.next.Goals as goal
 
 pub returns-in-Window-clause-is : goal.returns-in-Window-clause-is
 returns-in-Window-clause-is c = rw c.in-Window.is (c.after_window.ensures.is c.args.now)

@@ -1,0 +1,44 @@
+//! What a driver of requests calls.
+ghost use Rattle.std.specs.Prelude.{◌≡◌, ◌<◌, IfOk};
+ghost use Rattle.crdt_core.specs.Outcomes.{OnlyWant, WantOr};
+ghost use Rattle.flow_model.specs.Flow.{started};
+ghost use Rattle.flow_model.specs.Next.{next};
+ghost use Rattle.flow_model.specs.Overdrawn.{IsOverdrawn};
+
+use crate::flow::{Flow, FlowStep};
+use crate::order::Order;
+use crdt_core::Memory;
+use crdt_rows::AnyRow;
+use std::alloc::Global;
+use wire_messages::{Phase, PhaseEnd};
+
+/// Requests, phase by phase, by the two functions of specs/: all that a driver of requests knows of how they go on.
+pub trait Flows: Drop {
+    /// Begins the request with this number, at a time when blocks have this size in bytes, which isn't 0: what it waits
+    /// for, and the phase whose end it waits for.
+    fn start(
+        &self,
+        alloc: Global,
+        order: Order,
+        id: u64,
+        block: u32,
+    ) -> Result<(Flow, Phase<AnyRow>), Memory>
+        requires { 0 < block }
+        ensures is { IfOk result (λ begun. begun ≡ started order id block) }
+        ensures want { OnlyWant result };
+
+    /// What a request does when its phase has ended, at this time of its coordinator's clock in milliseconds. With an
+    /// end of another kind than it waits for it waits on. `Full` is answered exactly where a write would draw a
+    /// timestamp of 2^64.
+    fn next(
+        &self,
+        alloc: Global,
+        flow: Flow,
+        end: PhaseEnd<AnyRow>,
+        now: u64,
+    ) -> Result<FlowStep, Memory>
+        requires { 0 < flow.block }
+        ensures is { IfOk result (λ step. step ≡ next flow end now) }
+        ensures causes { WantOr result (IsOverdrawn flow.id flow.stage end now) }
+        ensures never_past { IfOk result (λ step. IsOverdrawn flow.id flow.stage end now → ⊥) };
+}

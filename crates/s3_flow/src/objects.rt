@@ -1,0 +1,86 @@
+//! The requests of the object store as flows.
+
+use crate::begins::{draws, looks};
+use crate::goes_on::{after_block, after_kept, after_row, after_window};
+use crate::phases::asks_past;
+use crate::request::Request;
+use crdt_core::{Bytes, List, Memory};
+use crdt_rows::AnyRow;
+use flow_model::{Aim, Content, Flow, FlowStep, Flows, Name, Order, Stage, Wish};
+use object_bytes::ObjectBytes;
+use std::alloc::Global;
+use wire_messages::{Phase, PhaseEnd};
+
+/// The flows of the object store's requests. It keeps nothing.
+#[derive(Drop)]
+pub struct ObjectFlows;
+
+impl Flows for ObjectFlows {
+    fn start(
+        &self,
+        alloc: Global,
+        order: Order,
+        id: u64,
+        block: u32,
+    ) -> Result<(Flow, Phase<AnyRow>), Memory> {
+        let request = Request { id, block };
+        match order {
+            Order::Put {
+                bucket,
+                key,
+                body,
+                headers,
+            } => {
+                let body = ObjectBytes::new(body);
+                let wish = Wish::Content(Content { body, headers });
+                draws(alloc, request, Name { bucket, key }, wish)
+            }
+            Order::Get { bucket, key } => looks(alloc, request, Name { bucket, key }, Aim::Get),
+            Order::Head { bucket, key } => looks(alloc, request, Name { bucket, key }, Aim::Head),
+            Order::Delete { bucket, key } => {
+                draws(alloc, request, Name { bucket, key }, Wish::Marker)
+            }
+            Order::Copy {
+                from_bucket,
+                from_key,
+                bucket,
+                key,
+                headers,
+            } => {
+                let source = Name {
+                    bucket: from_bucket,
+                    key: from_key,
+                };
+                let name = Name { bucket, key };
+                looks(alloc, request, source, Aim::Copy { name, headers })
+            }
+            Order::List { bucket, prefix } => {
+                let phase = asks_past(alloc, &bucket, &prefix, Bytes::new(alloc))?;
+                let rows = List::new(alloc);
+                let stage = Stage::Listing {
+                    bucket,
+                    prefix,
+                    rows,
+                };
+                Ok((request.at(stage), phase))
+            }
+        }
+    }
+
+    fn next(
+        &self,
+        alloc: Global,
+        flow: Flow,
+        end: PhaseEnd<AnyRow>,
+        now: u64,
+    ) -> Result<FlowStep, Memory> {
+        let Flow { id, block, stage } = flow;
+        let request = Request { id, block };
+        match end {
+            PhaseEnd::Row(value) => after_row(alloc, request, stage, value, now),
+            PhaseEnd::Window { rows, end } => after_window(alloc, request, stage, rows, end),
+            PhaseEnd::Kept => after_kept(alloc, request, stage),
+            PhaseEnd::Block(block) => after_block(alloc, request, stage, block),
+        }
+    }
+}

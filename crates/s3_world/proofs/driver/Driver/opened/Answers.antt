@@ -1,0 +1,26 @@
+use Rattle.std.proofs.Common.{refl, [], ◌∷◌, ◌++◌, Some, ap, ◌∙◌}
+use Rattle.s3_world.proofs.Causes.{handed_on}
+use Rattle.s3_world.proofs.Opens.{opened_stands, opened_overflows, opened_plays, first_phase}
+use Rattle.s3_world.proofs.driver.Driver.opened.Goals as goal
+
+pub step-requires-2-clause-stands : goal.step-requires-2-clause-stands
+step-requires-2-clause-stands g c = opened_stands c.args.self.now c.args.node c.args.order c.args.block c.step.new.self c.in_ok-step.field-0 c.in_ok-step.ensures.steps c.requires.stands
+
+pub step-requires-2-clause-meant : goal.step-requires-2-clause-meant
+step-requires-2-clause-meant g c = (first_phase c.args.order c.requests-number.result c.args.block c.in_ok-flow.flow c.in_ok-flow.phase c.in_ok-flow.ensures.is).short
+
+pub step-requires-2-clause-stocked : goal.step-requires-2-clause-stocked
+step-requires-2-clause-stocked g c = (first_phase c.args.order c.requests-number.result c.args.block c.in_ok-flow.flow c.in_ok-flow.phase c.in_ok-flow.ensures.is).stocked
+
+pub returns-in_err-report-clause-causes : goal.returns-in_err-report-clause-causes
+returns-in_err-report-clause-causes g c =
+    handed_on c.from_residual-in_err-report.result c.in_err-report.field-0.0 c.from_residual-in_err-report.ensures.1
+    (opened_overflows c.args.self.now c.args.node c.args.order c.args.block c.step.new.self c.in_ok-step.field-0 c.in_ok-step.ensures.steps c.requests-number.result c.in_ok-flow.flow c.in_ok-flow.phase c.requires.sized c.in_ok-flow.ensures.is c.requests-number.ensures)
+    c.in_err-report.ensures.causes
+
+pub returns-clause-plays : goal.returns-clause-plays
+returns-clause-plays g c =
+    opened_plays c.args.self.now c.args.node c.args.order c.args.block c.step.new.self c.in_ok-step.field-0 c.in_ok-step.ensures.steps c.requests-number.result c.in_ok-flow.flow c.in_ok-flow.phase c.requires.sized c.in_ok-flow.ensures.is c.requests-number.ensures
+    _ c.in_ok-report.report _ c.in_ok-report.ensures.steps refl
+    (c.in_ok-push.ensures.ok ∙ ap (λ kind. c.args.self.now.requests ++ (record { node = c.args.node; kind = kind; flow = Some c.in_ok-flow.flow }) ∷ []) c.kind_of-kind.ensures)
+    (c.in_ok-push-2.ensures.ok ∙ ap (λ r. c.args.self.now.history.0 ++ r ∷ []) c.in_ok-began.ensures.is) refl refl refl

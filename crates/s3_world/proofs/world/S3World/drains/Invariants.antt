@@ -1,8 +1,0 @@
-use Rattle.s3_world.proofs.Drains.{Draining}
-use Rattle.s3_world.proofs.world.S3World.drains.Given as goal
-
-abbrev pub invariant-loop-left : goal.invariant-loop-left
-invariant-loop-left l = Draining l.fn.self l.self l.lines l.left l.fn.count
-
-abbrev pub decreases-loop-left : goal.decreases-loop-left
-decreases-loop-left l = l.left

@@ -1,0 +1,278 @@
+//! The driver of requests: they are opened, taken from phase to phase and ended over a cluster, as any flows say.
+ghost use Rattle.std.specs.Prelude.{◌≡◌, [], ◌∷◌, ◌++◌, ◌<◌, ◌⊎◌, ◌+◌, ◌^◌, length, map, slice_get, slice_set, OnOk, IfOk, IfErr, IfSome, IfNone, Some, None};
+ghost use Rattle.crdt_core.specs.Outcomes.{OnlyWant, WantOr};
+ghost use Rattle.crdt_rows.specs.AnyRow.{any_join};
+ghost use Rattle.object_schema.specs.Schema.{words};
+ghost use Rattle.cluster_machine.specs.declared.step.Words.TheVariants.{Empty};
+ghost use Rattle.cluster_machine.specs.declared.step.Step.TheVariants as step;
+ghost use Rattle.cluster_machine.specs.World.{numbered};
+ghost use Rattle.history_model.specs.declared.record.Cause.TheVariants.{Restarted};
+ghost use Rattle.history_model.specs.declared.record.Record.TheVariants.{Ended as HasEnded};
+ghost use Rattle.world_core.specs.Stands.{ended, IsWorld, Overflows as WorldOverflows};
+ghost use Rattle.store_model.specs.Run.{State, start as nothing_yet, opened, follow, goes_on, delivers, drains};
+ghost use Rattle.store_model.specs.Acts.{acted, takes, end_of, without_end};
+ghost use Rattle.s3_world.specs.Driven.{place_in};
+
+use crate::answers::{line_of, record_of};
+use crate::asked::Asked;
+use crate::orders::{began_with, kind_of};
+use cluster_machine::applied::Line;
+use cluster_machine::{Step, Words};
+use crdt_core::{List, Memory};
+use crdt_rows::AnyRow;
+use flow_model::{FlowEnd, FlowStep, Flows, Order};
+use history_model::{Cause, History, Kind, Record};
+use object_schema::S3Schema;
+use std::alloc::Global;
+use store_model::Told;
+use wire_messages::PhaseEnd;
+use world_core::World;
+
+/// A cluster with its requests, each with what it waits for, and their history. How a request begins and goes on is what
+/// the flows say. Steps of the world that concern no request are taken on `world` itself.
+#[derive(Drop)]
+pub struct Driver<F: Flows> {
+    pub world: World<S3Schema>,
+    /// The records of all requests, the oldest first.
+    pub history: History,
+    /// Request q is at place q - 1.
+    requests: List<Asked>,
+    /// How requests ended by themselves, until that is taken.
+    ends: List<(u64, FlowEnd)>,
+    flows: F,
+    alloc: Global,
+}
+
+// The place of a number from 1, among this many.
+fn place(number: u64, count: usize) -> Option<usize>
+    ensures found { IfSome result (λ i. (i + 1 ≡ number) × (i < count)) }
+    ensures none { IfNone result ((number ≡ 0) ⊎ (count < number)) }
+{
+    if number >= 1 && number <= count as u64 {
+        Some((number - 1) as usize)
+    } else {
+        None
+    }
+}
+
+// The place of the end of a request among those that weren't taken.
+fn place_of(ends: &[(u64, FlowEnd)], request: u64) -> Option<usize>
+    ensures { result ≡ place_in ends.now request }
+{
+    ends.iter().position(|end| end.0 == request)
+}
+
+/// An event that was accepted, and has no words.
+pub fn accepted(lines: List<Line>) -> Told
+    ensures { result ≡ record { refused = None; words = Empty; lines = lines } }
+{
+    Told {
+        refused: None,
+        words: Words::Empty,
+        lines,
+    }
+}
+
+// The records of requests that a restart lost go to the end of the history.
+fn push_lost(history: &mut List<Record>, lost: &[u64]) -> Result<(), Memory>
+    ensures ok { OnOk result (history.new ≡ history.old ++ map (λ q. HasEnded q Restarted) lost.now) }
+    ensures want { OnlyWant result }
+{
+    for request in lost {
+        history.push(Record::Ended {
+            request: *request,
+            cause: Cause::Restarted,
+        })?;
+    }
+    Ok(())
+}
+
+impl<F: Flows> Driver<F> {
+    ghost use Rattle.flow_model.specs.declared.flow.Flow.{Flow};
+    ghost use Rattle.s3_world.specs.declared.asked.Asked.{Asked};
+    ghost use Rattle.s3_world.specs.Driven.{IsDriven, HasRun, IsReady, Becomes, Plays, PlaysIf, PlaysStep, Overflows, OverflowsIf, OverflowsStep, Finishes};
+
+    /// Nothing has happened.
+    pub fn new(alloc: Global, flows: F) -> Result<Driver<F>, Memory>
+        ensures starts { IfOk result (λ driver. IsDriven driver nothing_yet) }
+        ensures want { OnlyWant result }
+    {
+        Ok(Driver {
+            world: World::new(alloc)?,
+            history: History(List::new(alloc)),
+            requests: List::new(alloc),
+            ends: List::new(alloc),
+            flows,
+            alloc,
+        })
+    }
+
+    /// How a request ended by itself. None where it never began, is open, was expired or lost by a restart, or its end was
+    /// taken.
+    pub fn take_end(&mut self, request: u64) -> Option<FlowEnd>
+        ensures end { (s : State) → IsDriven self.old s → result ≡ end_of s.ends request }
+        ensures taken { Becomes self.old self.new (λ s. acted s (takes request)) }
+    {
+        match place_of(self.ends.as_slice(), request) {
+            Some(i) => Some(self.ends.remove(i).1),
+            None => None,
+        }
+    }
+
+    /// A request begins at a member with its first phase, where blocks have this size in bytes.
+    pub fn opened(&mut self, node: u8, order: Order, block: u32) -> Result<Told, Memory>
+        requires stands { HasRun self.old }
+        requires sized { 0 < block }
+        ensures plays { IfOk result (λ told. PlaysIf (IsReady node block) self.old self.new told (λ s. opened s node order)) }
+        ensures causes { WantOr result (OverflowsIf (IsReady node block) self.old (λ s. opened s node order)) }
+    {
+        let _ = self.world.step(Step::Open(node))?;
+        let number = self.world.requests();
+        let kind = kind_of(&order);
+        let began = began_with(number, node, &order)?;
+        let (flow, phase) = self.flows.start(self.alloc, order, number, block)?;
+        let report = self.world.step(Step::Phase(number, phase))?;
+        self.requests.push(Asked {
+            node,
+            kind,
+            flow: Some(flow),
+        })?;
+        self.history.0.push(began)?;
+        Ok(Told {
+            refused: None,
+            words: Words::One(number),
+            lines: report.lines,
+        })
+    }
+
+    /// Ends a request that is open.
+    pub fn expire(&mut self, request: u64) -> Result<Told, Memory>
+        requires stands { HasRun self.old }
+        ensures plays { IfOk result (λ told. PlaysStep self.old self.new told (step.Expire request)) }
+        ensures causes { WantOr result (OverflowsStep self.old (step.Expire request)) }
+    {
+        let report = self.world.step(Step::Expire(request))?;
+        if report.refused.is_none() {
+            self.history.0.push(Record::Ended {
+                request,
+                cause: Cause::Expired,
+            })?;
+        }
+        Ok(Told {
+            refused: report.refused,
+            words: report.words,
+            lines: report.lines,
+        })
+    }
+
+    /// A node loses its open requests.
+    pub fn restart(&mut self, node: u8) -> Result<Told, Memory>
+        requires stands { HasRun self.old }
+        ensures plays { IfOk result (λ told. PlaysStep self.old self.new told (step.Restart node)) }
+        ensures causes { WantOr result (OverflowsStep self.old (step.Restart node)) }
+    {
+        let report = self.world.step(Step::Restart(node))?;
+        push_lost(&mut self.history.0, report.lost.as_slice())?;
+        Ok(Told {
+            refused: report.refused,
+            words: report.words,
+            lines: report.lines,
+        })
+    }
+
+    // A request is done.
+    fn finishes(&mut self, request: u64, kind: Kind, end: FlowEnd) -> Result<Told, Memory>
+        requires stands { IsWorld any_join words self.old.world }
+        ensures finishes { IfOk result (λ told. Finishes self.old self.new told request kind end) }
+        ensures causes { WantOr result (WorldOverflows any_join words self.old.world (step.Close request)) }
+    {
+        let _ = self.world.step(Step::Close(request))?;
+        let record = record_of(self.alloc, request, &end)?;
+        self.history.0.push(record)?;
+        let line = line_of(self.alloc, request, kind, &end)?;
+        let mut lines = List::new(self.alloc);
+        lines.push(line)?;
+        self.ends.push((request, end))?;
+        Ok(accepted(lines))
+    }
+
+    // What a request does when its phase ended.
+    fn follow(&mut self, request: u64, end: PhaseEnd<AnyRow>) -> Result<Told, Memory>
+        requires stands { HasRun self.old }
+        ensures plays { IfOk result (λ told. Plays self.old self.new told (λ s. follow s request (numbered s.asked request) end)) }
+        ensures causes { WantOr result (Overflows self.old (λ s. follow s request (numbered s.asked request) end)) }
+    {
+        let Some(i) = place(request, self.requests.len()) else {
+            return Ok(accepted(List::new(self.alloc)));
+        };
+        let asked = self.requests.at_mut(i);
+        let Some(flow) = asked.flow.take() else {
+            return Ok(accepted(List::new(self.alloc)));
+        };
+        let (node, kind) = (asked.node, asked.kind);
+        let now = self.world.clock(node);
+        match self.flows.next(self.alloc, flow, end, now)? {
+            FlowStep::More(flow, phase) => {
+                let report = self.world.step(Step::Phase(request, phase))?;
+                let flow = Some(flow);
+                self.requests.set(i, Asked { node, kind, flow });
+                Ok(accepted(report.lines))
+            }
+            FlowStep::Wait(flow) => {
+                let flow = Some(flow);
+                self.requests.set(i, Asked { node, kind, flow });
+                Ok(accepted(List::new(self.alloc)))
+            }
+            FlowStep::End(end) => self.finishes(request, kind, end),
+        }
+    }
+
+    // What the request does whose phase ended, if one did.
+    fn goes_on(&mut self, mut ends: List<(u64, PhaseEnd<AnyRow>)>) -> Result<Told, Memory>
+        requires stands { HasRun self.old }
+        ensures plays { IfOk result (λ told. Plays self.old self.new told (λ s. goes_on s (map ended ends))) }
+        ensures causes { WantOr result (Overflows self.old (λ s. goes_on s (map ended ends))) }
+    {
+        if ends.is_empty() {
+            return Ok(accepted(List::new(self.alloc)));
+        }
+        let (request, end) = ends.remove(0);
+        self.follow(request, end)
+    }
+
+    /// Delivers a message.
+    pub fn delivers(&mut self, message: u64) -> Result<Told, Memory>
+        requires stands { HasRun self.old }
+        ensures plays { IfOk result (λ told. Plays self.old self.new told (λ s. delivers s message)) }
+        ensures causes { WantOr result (Overflows self.old (λ s. delivers s message)) }
+    {
+        let report = self.world.step(Step::Deliver(message))?;
+        let mut told = self.goes_on(report.ends)?;
+        let mut lines = report.lines;
+        lines.append(&mut told.lines)?;
+        Ok(Told {
+            refused: report.refused,
+            words: report.words,
+            lines,
+        })
+    }
+
+    /// Delivers the least message that was neither delivered nor lost, up to `count` times.
+    pub fn drains(&mut self, count: u64) -> Result<Told, Memory>
+        requires stands { HasRun self.old }
+        ensures plays { IfOk result (λ told. Plays self.old self.new told (λ s. drains count s)) }
+        ensures causes { WantOr result (Overflows self.old (λ s. drains count s)) }
+    {
+        let mut lines = List::new(self.alloc);
+        let mut left = count;
+        while left > 0 {
+            let Some(message) = self.world.undelivered() else {
+                return Ok(accepted(lines));
+            };
+            let mut told = self.delivers(message)?;
+            lines.append(&mut told.lines)?;
+            left -= 1;
+        }
+        Ok(accepted(lines))
+    }
+}
