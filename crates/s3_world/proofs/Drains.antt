@@ -1,5 +1,5 @@
 -- Deliveries of the least message that was neither delivered nor lost, one by one.
-use Rattle.std.proofs.Common.{◌≡◌, ℕ, zero, suc, ◌<◌, ◌^◌, Some, None, List, [], ◌++◌, refl, sym, ap, ◌∙◌, subst, append_assoc, append-nil}
+use Rattle.std.proofs.Common.{◌≡◌, ℕ, suc, ◌<◌, ◌^◌, Some, None, List, [], ◌++◌, refl, sym, ap, ◌∙◌, subst, append_assoc, append-nil}
 use Rattle.crdt_rows.specs.declared.version.Version.{Version}
 use Rattle.crdt_rows.specs.AnyRow.{any_join}
 use Rattle.object_schema.specs.Schema.{words}
@@ -13,6 +13,7 @@ use Rattle.store_model.specs.Run.{Moving, State, Outcome, silent, delivers, then
 use Rattle.store_model.specs.Turns.{FitsOutcome}
 use Rattle.s3_world.specs.declared.driver.Driver.{Driver}
 use Rattle.s3_world.specs.Driven.{IsDriven, HasRun, Does, Plays, Overflows}
+use Rattle.store_model.proofs.Drains.{drains_quietly, drains_empty, drains_one, drains_none}
 use Rattle.store_model.proofs.Leads.{delivers_lead, run_more}
 use Rattle.s3_world.proofs.Parts.{fit_more, room_first, room_rest, all_first, all_rest}
 
@@ -35,14 +36,6 @@ pub record Draining {F : Type 0} (first now : Driver F) (lines : List (Line Appl
   pub held : HasRun now
   pub drained : (s : State) → IsDriven first s → Drained now lines left s (drains count s)
 
-drains_quietly : (n : ℕ) (s : State) → (drains n s).refused ≡ None
-drains_quietly zero s = refl
-drains_quietly (suc n) s = elim (undelivered s.world) as (λ o. (elim o as (λ o. Outcome) [ None ↦ silent s | Some m ↦ let o = delivers s m in then_drains o (drains n o.state) ]).refused ≡ None) [ None ↦ refl | Some m ↦ refl ]
-
-drains_empty : (n : ℕ) (s : State) → (drains n s).words ≡ Empty
-drains_empty zero s = refl
-drains_empty (suc n) s = elim (undelivered s.world) as (λ o. (elim o as (λ o. Outcome) [ None ↦ silent s | Some m ↦ let o = delivers s m in then_drains o (drains n o.state) ]).words ≡ Empty) [ None ↦ refl | Some m ↦ refl ]
-
 pub draining_none : {F : Type 0} (driver : Driver F) (count : ℕ) → HasRun driver → Draining driver driver [] count count
 draining_none driver count has = record {
   held = has;
@@ -56,13 +49,6 @@ draining_none driver count has = record {
     all = λ i. record (drains count s) { refused = drains_quietly count s i; words = drains_empty count s i };
   };
 }
-
-drains_one : (n m : ℕ) (s : State) → undelivered s.world ≡ Some m → drains (suc n) s ≡ then_drains (delivers s m) (drains n (delivers s m).state)
-drains_one n m s e = rw (e, drains) refl
-
-drains_none : (n : ℕ) (s : State) → undelivered s.world ≡ None → drains n s ≡ silent s
-drains_none zero s e = refl
-drains_none (suc n) s e = rw (e, drains) refl
 
 module _ {F : Type 0} (first now : Driver F) (lines : List (Line Applied)) (left rest count m : ℕ) (e : left ≡ suc rest) (so_far : Draining first now lines left count) (least : (s : State) → IsDriven now s → Some m ≡ undelivered s.world) where
   one_left : (s : State) → IsDriven now s → drains left s ≡ then_drains (delivers s m) (drains rest (delivers s m).state)
