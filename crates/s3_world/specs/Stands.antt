@@ -1,5 +1,5 @@
 -- When the code's store stands for a state of the model, and what an act does to it.
-use Rattle.std.specs.Prelude.{◌≡◌, ◌==◌, ◌<◌, ◌≤◌, ℕ, ⊤, Option, Some, None, Result, Ok, Err, List, [], ◌∷◌, ◌++◌, length, map, position}
+use Rattle.std.specs.Prelude.{◌≡◌, ◌<◌, ◌≤◌, ℕ, ⊤, Some, None, Result, Ok, Err, length, map}
 use Rattle.std.specs.List.{AllByRecursion}
 use Rattle.crdt_rows.specs.declared.any_row.AnyRow.{AnyRow}
 use Rattle.crdt_rows.specs.AnyRow.{any_join}
@@ -9,23 +9,18 @@ use Rattle.cluster_machine.specs.declared.step.Step.{Step}
 use Rattle.cluster_machine.specs.declared.step.Step.TheVariants as step
 use Rattle.layout_roles.specs.declared.cut.Cut.{Cut}
 use Rattle.cluster_machine.specs.declared.step.Refusal.{Refusal}
-use Rattle.cluster_machine.specs.declared.step.Words.TheVariants.{Empty, One}
+use Rattle.cluster_machine.specs.declared.step.Words.TheVariants.{One}
 use Rattle.cluster_machine.specs.Choices.{Decision}
 use Rattle.cluster_machine.specs.Worlds.{IsMeant, IsLawfulStep, FitAll}
-use Rattle.history_model.specs.declared.record.Kind.{Kind}
 use Rattle.flow_model.specs.declared.order.Order.{Order}
-use Rattle.flow_model.specs.declared.flow.Flow.{Flow}
-use Rattle.flow_model.specs.declared.flow.FlowEnd.{FlowEnd}
 use Rattle.store_model.specs.declared.event.Event.{Event}
 use Rattle.store_model.specs.declared.event.Event.TheVariants.{Block, Role, Redundancy, Put, Delete, Copy}
 use Rattle.store_model.specs.declared.event.Told.{Told}
-use Rattle.store_model.specs.Answers.{record_of, line_of}
-use Rattle.store_model.specs.Run.{State, Asked as Waiting, Outcome}
+use Rattle.store_model.specs.Run.{State, Outcome}
 use Rattle.store_model.specs.Acts.{plain, asks, acted, IsLawfulAct}
 use Rattle.store_model.specs.Events.{act_of, outcome}
 use Rattle.store_model.specs.Turns.{FitsOutcome}
-use Rattle.world_core.specs.declared.report.Report.{Report}
-use Rattle.world_core.specs.Stands.{StandsFor, Steps}
+use Rattle.world_core.specs.Stands.{StandsFor}
 use Rattle.s3_world.specs.declared.asked.Asked.{Asked}
 use Rattle.s3_world.specs.declared.world.S3World.{S3World}
 use Rattle.s3_world.specs.Driven.{kept, IsSized, LacksRoom}
