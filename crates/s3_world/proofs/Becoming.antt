@@ -1,5 +1,5 @@
 -- A store whose world changed without a step, and a drain that delivers all messages.
-use Rattle.std.proofs.Common.{◌≡◌, ◌^◌, ◌-◌, ℕ, Result, Ok, Err, refl, sym, ap, ◌∙◌, subst}
+use Rattle.std.proofs.Common.{◌≡◌, ◌^◌, ◌-◌, Result, Ok, Err, refl, sym, ap, ◌∙◌, subst}
 use Rattle.std.specs.Prelude.{OnOk, OnErr}
 use Rattle.std.specs.List.{AllByRecursion}
 use Rattle.crdt_core.specs.declared.memory.Memory.{Memory}
@@ -8,14 +8,14 @@ use Rattle.object_schema.specs.Schema.{words}
 use Rattle.layout_roles.specs.declared.layout.Layout.{Layout}
 use Rattle.cluster_machine.specs.Worlds.{installed}
 use Rattle.store_model.specs.declared.event.Told.{Told}
-use Rattle.store_model.specs.Run.{World, State, Outcome, silent, drains}
+use Rattle.store_model.specs.Run.{World, silent, drains}
 use Rattle.store_model.specs.Acts.{installs, drain, all_messages, acted}
 use Rattle.store_model.specs.Turns.{FitsOutcome}
 use Rattle.world_core.specs.Stands.{Turns}
 use Rattle.s3_world.specs.declared.asked.Asked.{Asked}
 use Rattle.s3_world.specs.declared.world.S3World.{S3World}
 use Rattle.s3_world.specs.Driven.{IsSized}
-use Rattle.s3_world.specs.Stands.{IsStore, Does, Becomes, Carries, Plays, Overflows}
+use Rattle.s3_world.specs.Stands.{Does, Becomes, Carries, Plays, Overflows}
 
 module _ (old new : S3World) (buckets : new.buckets ≡ old.buckets) (block : new.block ≡ old.block) (requests : new.driver.requests ≡ old.driver.requests) (ends : new.driver.ends ≡ old.driver.ends) (history : new.driver.history ≡ old.driver.history) where
   -- the world alone changed

@@ -1,4 +1,4 @@
-//! The driver of requests: they are opened, taken from phase to phase and ended over a cluster, as any flows say.
+//! The driver of requests, over any flows: they are opened, taken from phase to phase, and ended, over a cluster.
 ghost use Rattle.std.specs.Prelude.{◌≡◌, [], ◌∷◌, ◌++◌, ◌<◌, ◌⊎◌, ◌+◌, ◌^◌, length, map, slice_get, slice_set, OnOk, IfOk, IfErr, IfSome, IfNone, Some, None};
 ghost use Rattle.crdt_core.specs.Outcomes.{OnlyWant, WantOr};
 ghost use Rattle.crdt_rows.specs.AnyRow.{any_join};

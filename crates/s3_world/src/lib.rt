@@ -6,8 +6,10 @@
 //! computes its layout; which one is free, and it is lawful. A call fails only for want of memory, or where a number or a
 //! row would not fit. After an error the world is given up.
 //!
-//! Inside, `Asked` is what is kept of a request, `orders` says of an order what it does and for which object, `answers`
-//! makes the record and the line of a request that ended, and `events` the orders of a schedule.
+//! Inside, a `Driver` opens requests, follows them, delivers and drains, over any `Flows` (flow_model); an `S3World` is the
+//! one with the flows of objects, with buckets and the size of blocks. `Asked` is what is kept of a request, `orders` says
+//! of an order what it does and for which object, `answers` makes the record and the line of a request that ended, and
+//! `events` the orders of a schedule.
 #![tactic(auto)]
 
 mod answers;
