@@ -13,7 +13,7 @@ use Rattle.serve_run.specs.Plan.{WasRead}
 use Rattle.serve_run.specs.Told.{Told}
 use Rattle.lab_main.specs.Ends.{Ends, said, cut_off}
 use Rattle.serve_run.specs.Stop.{status_of, said_of, IsOfInput, IsTold}
-use Rattle.serve_run.specs.Answer.{HasEnded, HasStopped, IsEnd, long_input, refused, served, link_failed, too_much, no_room, EndsSo, IsStated, IsSilent, Answers, AnswersPrefix, IsAnswer, usage, asked, IsServedWhole}
+use Rattle.serve_run.specs.Answer.{HasEnded, HasStopped, IsEnd, long_input, refused, served, link_failed, too_much, no_room, EndsSo, IsStated, IsSilent, Answers, AnswersPrefix, IsAnswer, usage, asked, IsServedWhole, WantsMemory, of_server}
 
 module _ (g : Grammar) (count : ℕ) (input : Option (List ℕ)) (t : Told) where
   -- the input was no plan
@@ -40,6 +40,44 @@ module _ (g : Grammar) (count : ℕ) (input : Option (List ℕ)) (t : Told) wher
   pub ends_early : (r : Result (List ℕ) Stop) (stop : Stop) → IsErrAnd r (λ e. e ≡ stop) → (IsTold stop → IsEnd g count input t (status_of stop) (said_of stop)) → EndsSo g count input t r
   ends_early (Ok text) stop is h = absurd is
   ends_early (Err e) stop is h = subst (λ (s : Stop). IsTold s → IsEnd g count input t (status_of s) (said_of s)) (sym is) h
+
+-- ---- memory that was wanting
+
+module _ (g : Grammar) (input : Option (List ℕ)) (t : Told) where
+  -- the same stop is handed on
+  pub wants_on : (p : Plan) → WasRead input p → (r : Result (List ℕ) Stop) (stop : Stop) → IsErrAnd r (λ e. e ≡ stop) → HasStopped g p t stop → r ≡ Err Memory → WantsMemory g input t
+  wants_on p read (Ok text) stop is h e = absurd is
+  wants_on p read (Err f) stop is h e =
+      let same : f ≡ Memory = cc in
+      of_server p read (subst (HasStopped g p t) (sym is ∙ same) h)
+
+  pub wants_none : (text : List ℕ) → (◌≡◌ {A = Result (List ℕ) Stop} (Ok text) (Err Memory)) → WantsMemory g input t
+  wants_none text e = absurd (cc)
+
+  -- no other end has it
+  pub no_want : (is : Status) (text : List ℕ) (result : Status) (old new : Option (List ℕ)) (faults risen : ℕ) → (is ≡ status.Memory → ⊥) → Ends is text result old new faults risen → result ≡ status.Memory → WantsMemory g input t
+  no_want is text result old new faults risen other (said e wrote) f = absurd (other (sym e ∙ f))
+  no_want is text result old new faults risen other (cut_off e rose wrote) f = absurd (cc)
+
+-- one stop has its status
+memory_stop : (stop : Stop) → status_of stop ≡ status.Memory → stop ≡ Memory
+memory_stop Memory h = refl
+memory_stop Read h = absurd (cc)
+memory_stop LongInput h = absurd (cc)
+memory_stop (Refused line) h = absurd (cc)
+memory_stop Link h = absurd (cc)
+memory_stop Kept h = absurd (cc)
+memory_stop Number h = absurd (cc)
+
+pub stopped_wants : (stop : Stop) (result : Status) (old new : Option (List ℕ)) (faults risen : ℕ) → Ends (status_of stop) (said_of stop) result old new faults risen → result ≡ status.Memory → stop ≡ Memory
+stopped_wants stop result old new faults risen (said e wrote) f = memory_stop stop (sym e ∙ f)
+stopped_wants stop result old new faults risen (cut_off e rose wrote) f = absurd (cc)
+
+pub no_want_done : status.Done ≡ status.Memory → ⊥
+no_want_done h = cc
+
+pub no_want_usage : status.Usage ≡ status.Memory → ⊥
+no_want_usage h = cc
 
 -- ---- a read that failed
 

@@ -34,7 +34,7 @@ use Rattle.serve_run.specs.Told.{Told, told}
 use Rattle.serve_run.specs.FromMap.{AreFromMap, AreFromMapButLast}
 use Rattle.serve_run.specs.Served.{nodes_of, begun, state_after, tail, tail_of, serving, AreInOrder, HasServed, HasBrokenOff}
 use Rattle.serve_run.specs.Stop.{stop_of_memory, stop_of_serving}
-use Rattle.serve_run.specs.Answer.{IsUnshown, LacksRoom, for_order, HasStopped, HowServed}
+use Rattle.serve_run.specs.Answer.{IsUnshown, LacksRoom, for_order, at_first, afterwards, within, HasStopped, HowServed}
 use Rattle.serve_run.proofs.Requests.{run_is, all_kept}
 use Rattle.serve_run.proofs.FromMap.{FirstHolds, ServedFrom, EndedFrom, installs_first, are_from_map, end_from_map}
 
@@ -86,14 +86,23 @@ unshown_is p nodes same s t e h = subst (IsUnshown p) e (subst (λ ns. IsTrue (l
 
 -- why the text of the end couldn't be made
 module _ (g : Grammar) (p : Plan) (t : Told) where
-  stops_showing : (why : Why) → (why ≡ Want) ⊎ ((why ≡ Full) × LacksRoom g p t) → HasStopped g p t (stop_of_memory why)
-  stops_showing Want h = tt
-  stops_showing Full (inl e) = cc
-  stops_showing Full (inr h) = h.1
+  stops_showing : (number : ℕ) → HasServed g p number t → (why : Why) → (why ≡ Want) ⊎ ((why ≡ Full) × LacksRoom g p t) → HasStopped g p t (stop_of_memory why)
+  stops_showing number has Want h = afterwards number has
+  stops_showing number has Full (inl e) = cc
+  stops_showing number has Full (inr h) = h.1
 
-  pub unshown_stops : (count : ℕ) (r : Result (List ℕ) Stop) (why : Why) → IsErrAnd r (λ e. e ≡ stop_of_memory why) → (why ≡ Want) ⊎ ((why ≡ Full) × LacksRoom g p t) → HowServed g p count t r
-  unshown_stops count (Ok text) why is h = absurd is
-  unshown_stops count (Err e) why is h = subst (HasStopped g p t) (sym is) (stops_showing why h)
+  pub unshown_stops : (number : ℕ) → HasServed g p number t → (count : ℕ) (r : Result (List ℕ) Stop) (why : Why) → IsErrAnd r (λ e. e ≡ stop_of_memory why) → (why ≡ Want) ⊎ ((why ≡ Full) × LacksRoom g p t) → HowServed g p count t r
+  unshown_stops number has count (Ok text) why is h = absurd is
+  unshown_stops number has count (Err e) why is h = subst (HasStopped g p t) (sym is) (stops_showing number has why h)
+
+  -- memory was wanting before a connection was served
+  wants_first : t.past_after ≡ t.past → (why : Why) → why ≡ Want → HasStopped g p t (stop_of_memory why)
+  wants_first same Want e = at_first same
+  wants_first same Full e = cc
+
+  pub first_stops : t.past_after ≡ t.past → (count : ℕ) (r : Result (List ℕ) Stop) (why : Why) → IsErrAnd r (λ e. e ≡ stop_of_memory why) → why ≡ Want → HowServed g p count t r
+  first_stops same count (Ok text) why is h = absurd is
+  first_stops same count (Err e) why is h = subst (HasStopped g p t) (sym is) (wants_first same why h)
 
 -- the text is that of the state that was left
 pub tail_is : (p : Plan) (number : ℕ) (nodes text : List ℕ) → nodes ≡ nodes_of p → (s t : State) → s ≡ t → text ≡ tail p.certified.sets.sets nodes number s → text ≡ tail_of p number t
@@ -218,7 +227,7 @@ module _ (keeps : EveryRunKeepsPromises) (first_holds : FirstHolds) (served_from
   has_stopped ended_from ended.Link goes served = left_early times coming (goes (begun p b.first) b.stands) (says_so (Err ended.Link) served)
   has_stopped ended_from (ended.Fault fault.Kept) goes served = broken_off ended_from fault.Kept (says_so (Err (ended.Fault fault.Kept)) served)
   has_stopped ended_from (ended.Fault fault.Number) goes served = for_order (broken_off ended_from fault.Number (says_so (Err (ended.Fault fault.Number)) served)) (goes (begun p b.first) b.stands)
-  has_stopped ended_from (ended.Fault fault.Memory) goes served = tt
+  has_stopped ended_from (ended.Fault fault.Memory) goes served = within (broken_off ended_from fault.Memory (says_so (Err (ended.Fault fault.Memory)) served))
 
   pub how_stopped : EndedFrom → (count : ℕ) (r : Result (List ℕ) Stop) (stop : ServeStop) → IsErrAnd r (λ e. e ≡ stop_of_serving stop) → Leaves cluster fits lacks holds0 holds (Err stop) → Says (Err stop) → HowServed g p count (told times times' coming coming' past past') r
   how_stopped ended_from count (Ok text) stop is goes served = absurd is

@@ -42,12 +42,18 @@ pub record HasEnded (g : Grammar) (p : Plan) (count : ℕ) (t : Told) (text : Li
   pub has : HasServed g p number t
   pub text_is : text ≡ tail_of p number (state_after p has.first has.orders)
 
+-- memory was wanting before a connection was served, or after so many, or with one more, with which serving ended
+pub data IsWanting (g : Grammar) (p : Plan) (t : Told) : Type 0 where
+  at_first : t.past_after ≡ t.past → IsWanting g p t
+  afterwards : (number : ℕ) → HasServed g p number t → IsWanting g p t
+  within : HasBrokenOff g p fault.Memory t → IsWanting g p t
+
 -- why serving stopped early: the link failed after so many connections, too many bytes were put or copied, there was no room, or memory was wanting
 abbrev pub HasStopped : Grammar → Plan → Told → Stop → Type 0
 HasStopped g p t Link = (number : ℕ) × HasServed g p number t
 HasStopped g p t Kept = HasBrokenOff g p fault.Kept t
 HasStopped g p t Number = LacksRoom g p t
-HasStopped g p t Memory = ⊤
+HasStopped g p t Memory = IsWanting g p t
 HasStopped g p t stop = ⊥
 
 -- how serving ended
@@ -118,6 +124,11 @@ pub record IsServedWhole (g : Grammar) (words : List (List ℕ)) (input old new 
   pub short : number < count → IfSome t.coming (λ coming. t.coming_after ≡ Some [])
   pub has : HasServed g plan number t
   pub wrote : Wrote old new (tail_of plan number (state_after plan has.first has.orders))
+
+-- what Memory says: memory was wanting before the input was read, or of a server of the plan that it says
+pub data WantsMemory (g : Grammar) (input : Option (List ℕ)) (t : Told) : Type 0 where
+  unread : t.past_after ≡ t.past → WantsMemory g input t
+  of_server : (p : Plan) → WasRead input p → IsWanting g p t → WantsMemory g input t
 
 -- what comes where the input says a plan and no fault rose: all was served, too many bytes were put or copied, or there was no room, each with the whole text that is stated, or memory was wanting, and nothing was written
 pub data Completes (g : Grammar) (words : List (List ℕ)) (input old new : Option (List ℕ)) (t : Told) (is : Status) : Type 0 where

@@ -11,7 +11,7 @@ ghost use Rattle.lab_main.specs.Ends.{Ends};
 ghost use Rattle.serve_run.specs.Plan.{IsPlan, SaysPlan};
 ghost use Rattle.serve_run.specs.Told.{told};
 ghost use Rattle.serve_run.specs.Served.{AreInOrder};
-ghost use Rattle.serve_run.specs.Answer.{HowServed, IsEnd, EndsSo, IsStated, IsSilent, Answers, AnswersPrefix, IsAnswer, IsServedWhole, Completes};
+ghost use Rattle.serve_run.specs.Answer.{HowServed, IsEnd, EndsSo, IsStated, IsSilent, Answers, AnswersPrefix, IsAnswer, IsServedWhole, WantsMemory, Completes};
 
 use crate::plan::{Plan, read_plan};
 use crate::start::{installed, nodes};
@@ -92,6 +92,7 @@ fn read_and_served<I: Source, L: Link, C: Clock>(
     requires absent { L.present link.old ≡ None }
     ensures ends { (g : Grammar) → EndsSo g asked.count (I.left input.old) (told (C.times clock.old) (C.times clock.new) (L.coming link.old) (L.coming link.new) (L.past link.old) (L.past link.new)) result }
     ensures end { OnOk result (IsAtEnd (I.left input.new)) }
+    ensures wants { (g : Grammar) → result ≡ Err Stop.Memory → WantsMemory g (I.left input.old) (told (C.times clock.old) (C.times clock.new) (L.coming link.old) (L.coming link.new) (L.past link.old) (L.past link.new)) }
     ensures untouched { IfErr result (λ stop. IsOfReading stop → (link.new ≡ link.old) × (clock.new ≡ clock.old)) }
     ensures unopened { IsTooLong (I.left input.old) → (link.new ≡ link.old) × (clock.new ≡ clock.old) }
     ensures read_fault { result ≡ Err Stop.Read → Rose (I.faults input.old) (I.faults input.new) }
@@ -134,6 +135,7 @@ fn answered<I: Source, O: Sink, L: Link, C: Clock>(
     ensures answers { (g : Grammar) → IsStated result → Answers (IsEnd g asked.count (I.left input.old) (told (C.times clock.old) (C.times clock.new) (L.coming link.old) (L.coming link.new) (L.past link.old) (L.past link.new))) result (O.written output.old) (O.written output.new) }
     ensures prefix { (g : Grammar) → result ≡ Status.WriteFault → AnswersPrefix (IsEnd g asked.count (I.left input.old) (told (C.times clock.old) (C.times clock.new) (L.coming link.old) (L.coming link.new) (L.past link.old) (L.past link.new))) (O.written output.old) (O.written output.new) }
     ensures silent { IsSilent result → Wrote (O.written output.old) (O.written output.new) [] }
+    ensures wants { (g : Grammar) → result ≡ Status.Memory → WantsMemory g (I.left input.old) (told (C.times clock.old) (C.times clock.new) (L.coming link.old) (L.coming link.new) (L.past link.old) (L.past link.new)) }
     ensures end { result ≡ Status.Done → IsAtEnd (I.left input.new) }
     ensures untouched { (result ≡ Status.Refused) ⊎ (result ≡ Status.ReadFault) → (link.new ≡ link.old) × (clock.new ≡ clock.old) }
     ensures unopened { IsTooLong (I.left input.old) → (link.new ≡ link.old) × (clock.new ≡ clock.old) }
@@ -182,6 +184,10 @@ pub fn run<I: Source, O: Sink, L: Link, C: Clock>(
     ensures answers { (g : Grammar) → IsStated result → Answers (IsAnswer g (map string_bytes words.now) (I.left input.old) (told (C.times clock.old) (C.times clock.new) (L.coming link.old) (L.coming link.new) (L.past link.old) (L.past link.new))) result (O.written output.old) (O.written output.new) }
     ensures prefix { (g : Grammar) → result ≡ Status.WriteFault → AnswersPrefix (IsAnswer g (map string_bytes words.now) (I.left input.old) (told (C.times clock.old) (C.times clock.new) (L.coming link.old) (L.coming link.new) (L.past link.old) (L.past link.new))) (O.written output.old) (O.written output.new) }
     ensures silent { IsSilent result → Wrote (O.written output.old) (O.written output.new) [] }
+
+    // After Memory no connection was served, or they were served as after Done, or all but the last one, with which serving
+    // ended: what was written to it is a first part of what is stated of its bytes, and of the map's text.
+    ensures wants { (g : Grammar) → result ≡ Status.Memory → WantsMemory g (I.left input.old) (told (C.times clock.old) (C.times clock.new) (L.coming link.old) (L.coming link.new) (L.past link.old) (L.past link.new)) }
 
     // Where the words ask for a server, the input says a plan and no count of faults rose, the input isn't refused: all was
     // served, or a limit on what is served was passed, each with the whole text that is stated, or memory was wanting.

@@ -1,7 +1,8 @@
+use Rattle.std.proofs.Common.{Err, ap}
 use Rattle.lab_outside.specs.declared.exit.Status.TheVariants.{Done}
 use Rattle.serve_run.specs.Told.{told}
 use Rattle.serve_run.specs.Answer.{IsEnd}
-use Rattle.serve_run.proofs.Ending.{no_write_done, wrote_whole, wrote_part, stopped_whole, stopped_part, read_status, no_read_status}
+use Rattle.serve_run.proofs.Ending.{no_write_done, no_want, no_want_done, stopped_wants, wrote_whole, wrote_part, stopped_whole, stopped_part, read_status, no_read_status}
 use Rattle.serve_run.proofs.server.answered.Goals as goal
 
 pub returns-in-Ok-clause-answers : goal.returns-in-Ok-clause-answers
@@ -33,3 +34,11 @@ returns-in-Ok-clause-read_told g c = no_read_status c.in-Ok.text c.ends.result _
 
 pub returns-in-Err-clause-read_told : goal.returns-in-Err-clause-read_told
 returns-in-Err-clause-read_told g c = read_status c.in-Err.stop c.stopped.result _ c.stopped.ensures.read c.in-Err.ensures.read_told
+
+pub returns-in-Ok-clause-wants : goal.returns-in-Ok-clause-wants
+returns-in-Ok-clause-wants g c = λ g' e.
+    let t = told (g.C.Clock.times c.args.clock.now) (g.C.Clock.times c.read_and_served.new.clock) (g.L.Link.coming c.args.link.now) (g.L.Link.coming c.read_and_served.new.link) (g.L.Link.past c.args.link.now) (g.L.Link.past c.read_and_served.new.link) in
+    no_want g' (g.I.Source.left c.args.input.now) t Done c.in-Ok.text c.ends.result (g.O.Sink.written c.args.output.now) (g.O.Sink.written c.ends.new.output) (g.O.Sink.faults c.args.output.now) (g.O.Sink.faults c.ends.new.output) no_want_done (rw c.as_slice.ensures at c.ends.ensures.says) e
+
+pub returns-in-Err-clause-wants : goal.returns-in-Err-clause-wants
+returns-in-Err-clause-wants g c = λ g' e. c.in-Err.ensures.wants g' (ap Err (stopped_wants c.in-Err.stop c.stopped.result (g.O.Sink.written c.args.output.now) (g.O.Sink.written c.stopped.new.output) (g.O.Sink.faults c.args.output.now) (g.O.Sink.faults c.stopped.new.output) c.stopped.ensures.ends e))

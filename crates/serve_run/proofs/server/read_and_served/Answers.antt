@@ -1,7 +1,7 @@
 use Rattle.std.proofs.Common.{refl, Ok}
 use Rattle.serve_run.specs.Told.{told}
-use Rattle.serve_run.specs.Answer.{served}
-use Rattle.serve_run.proofs.Ending.{unserved, ends_early, read_before, read_on}
+use Rattle.serve_run.specs.Answer.{served, unread}
+use Rattle.serve_run.proofs.Ending.{unserved, ends_early, wants_on, wants_none, read_before, read_on}
 use Rattle.serve_run.proofs.server.read_and_served.Goals as goal
 
 pub returns-in_err-text-clause-ends : goal.returns-in_err-text-clause-ends
@@ -22,3 +22,16 @@ returns-in_err-text-clause-read_told g c = read_before c.in_ok-plan.plan c.from_
 
 pub returns-clause-read_told : goal.returns-clause-read_told
 returns-clause-read_told g c = read_before c.in_ok-plan.plan (Ok c.in_ok-text.text) _ c.in_ok-plan.ensures.told
+
+pub returns-in_err-plan-clause-wants : goal.returns-in_err-plan-clause-wants
+returns-in_err-plan-clause-wants g c = λ g' e. unread refl
+
+pub returns-in_err-text-clause-wants : goal.returns-in_err-text-clause-wants
+returns-in_err-text-clause-wants g c = λ g' e.
+    let t = told (g.C.Clock.times c.args.clock.now) (g.C.Clock.times c.served.new.clock) (g.L.Link.coming c.args.link.now) (g.L.Link.coming c.served.new.link) (g.L.Link.past c.args.link.now) (g.L.Link.past c.served.new.link) in
+    wants_on g' (g.I.Source.left c.args.input.now) t c.in_ok-plan.plan c.in_ok-plan.ensures.read c.from_residual-in_err-text.result c.in_err-text.field-0.0 c.from_residual-in_err-text.ensures.1 (c.in_err-text.ensures.how g') e
+
+pub returns-clause-wants : goal.returns-clause-wants
+returns-clause-wants g c = λ g' e.
+    let t = told (g.C.Clock.times c.args.clock.now) (g.C.Clock.times c.served.new.clock) (g.L.Link.coming c.args.link.now) (g.L.Link.coming c.served.new.link) (g.L.Link.past c.args.link.now) (g.L.Link.past c.served.new.link) in
+    wants_none g' (g.I.Source.left c.args.input.now) t c.in_ok-text.text e

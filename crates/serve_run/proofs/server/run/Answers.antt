@@ -4,7 +4,7 @@ use Rattle.lab_outside.specs.declared.exit.Status.TheVariants.{Usage}
 use Rattle.serve_run.specs.Told.{told}
 use Rattle.lab_main.specs.Ends.{usage_line}
 use Rattle.serve_run.specs.Answer.{IsStated, IsAnswer, usage}
-use Rattle.serve_run.proofs.Ending.{no_write_usage, wrote_part, asked_answers, asked_prefix, done_whole}
+use Rattle.serve_run.proofs.Ending.{no_write_usage, no_want, no_want_usage, wrote_part, asked_answers, asked_prefix, done_whole}
 use Rattle.serve_run.proofs.Completing.{completed}
 use Rattle.serve_run.proofs.server.run.Goals as goal
 
@@ -49,3 +49,11 @@ returns-in-None-clause-prefix g c = λ g' e.
     let t = told (g.C.Clock.times c.args.clock.now) (g.C.Clock.times c.args.clock.now) (g.L.Link.coming c.args.link.now) (g.L.Link.coming c.args.link.now) (g.L.Link.past c.args.link.now) (g.L.Link.past c.args.link.now) in
     wrote_part c.usage.result (g.O.Sink.written c.args.output.now) (g.O.Sink.written c.usage.new.output) (g.O.Sink.faults c.args.output.now) (g.O.Sink.faults c.usage.new.output)
     (IsAnswer g' (map string_bytes c.args.words.now) (g.I.Source.left c.args.input.now) t) Usage usage_line c.usage.ensures.says (usage c.in-None.ensures refl refl) no_write_usage e
+
+pub returns-in-Some-clause-wants : goal.returns-in-Some-clause-wants
+returns-in-Some-clause-wants g c = λ g' e. c.answered.ensures.wants g' e
+
+pub returns-in-None-clause-wants : goal.returns-in-None-clause-wants
+returns-in-None-clause-wants g c = λ g' e.
+    let t = told (g.C.Clock.times c.args.clock.now) (g.C.Clock.times c.args.clock.now) (g.L.Link.coming c.args.link.now) (g.L.Link.coming c.args.link.now) (g.L.Link.past c.args.link.now) (g.L.Link.past c.args.link.now) in
+    no_want g' (g.I.Source.left c.args.input.now) t Usage usage_line c.usage.result (g.O.Sink.written c.args.output.now) (g.O.Sink.written c.usage.new.output) (g.O.Sink.faults c.args.output.now) (g.O.Sink.faults c.usage.new.output) no_want_usage c.usage.ensures.says e
