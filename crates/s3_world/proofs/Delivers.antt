@@ -1,19 +1,22 @@
 -- A delivery: a step of the world, and then what the request does whose phase ended.
-use Rattle.std.proofs.Common.{◌≡◌, ℕ, List, ◌++◌, sym, ap, ◌∙◌, subst}
-use Rattle.std.specs.Prelude.{map}
+use Rattle.std.proofs.Common.{◌≡◌, ℕ, Some, List, [], ◌∷◌, ◌++◌, sym, ap, ◌∙◌, subst}
+use Rattle.std.specs.Prelude.{map, slice_get}
 use Rattle.std.specs.List.{AllByRecursion}
 use Rattle.crdt_rows.specs.declared.any_row.AnyRow.{AnyRow}
 use Rattle.crdt_rows.specs.AnyRow.{any_join}
 use Rattle.object_schema.specs.Schema.{words}
 use Rattle.cluster_machine.specs.declared.step.Step.TheVariants.{Deliver}
+use Rattle.wire_messages.specs.declared.phase.PhaseEnd.{PhaseEnd}
 use Rattle.cluster_machine.specs.Node.{Ended}
+use Rattle.cluster_machine.specs.World.{numbered}
 use Rattle.store_model.specs.declared.event.Told.{Told}
-use Rattle.store_model.specs.Run.{State, plainly, effect, doing, goes_on, delivers}
+use Rattle.store_model.specs.Run.{State, Outcome, plainly, effect, doing, follow, goes_on, delivers}
+use Rattle.store_model.specs.Turns.{FitsOutcome}
 use Rattle.world_core.specs.declared.report.Report.{Report}
 use Rattle.world_core.specs.Stands.{Steps, ended}
 use Rattle.s3_world.specs.declared.asked.Asked.{Asked}
 use Rattle.s3_world.specs.declared.driver.Driver.{Driver}
-use Rattle.s3_world.specs.Driven.{IsSized, IsDriven, HasRun, Does, Plays}
+use Rattle.s3_world.specs.Driven.{IsSized, IsDriven, HasRun, Does, Plays, Overflows}
 
 module _ {F : Type 0} (old mid : Driver F) (m : ℕ) (report : Report AnyRow) (steps : Steps any_join words old.world mid.world report (Deliver m))
     (requests : mid.requests ≡ old.requests) (ends : mid.ends ≡ old.ends) (history : mid.history ≡ old.history) where
@@ -44,3 +47,11 @@ module _ {F : Type 0} (old mid : Driver F) (m : ℕ) (report : Report AnyRow) (s
         };
         fits = ((did.stands.fits, did.spelled), after.fits);
       }
+
+-- the request goes on whose phase ended first
+goes_first : (ends : List (ℕ × PhaseEnd AnyRow)) (e : ℕ × PhaseEnd AnyRow) → slice_get ends 0 ≡ Some e → (s : State) → goes_on s (map ended ends) ≡ follow s e.0 (numbered s.asked e.0) e.1
+goes_first [] e h s = absurd (cc)
+goes_first (x ∷ xs) e h s = let same : x ≡ e = cc in ap (λ (y : ℕ × PhaseEnd AnyRow). follow s y.0 (numbered s.asked y.0) y.1) same
+
+pub goes_overflows : {F : Type 0} (old : Driver F) (ends : List (ℕ × PhaseEnd AnyRow)) (e : ℕ × PhaseEnd AnyRow) → slice_get ends 0 ≡ Some e → Overflows old (λ s. follow s e.0 (numbered s.asked e.0) e.1) → Overflows old (λ s. goes_on s (map ended ends))
+goes_overflows old ends e h lacks s d fits = lacks s d (subst (λ (o : Outcome). FitsOutcome s o) (goes_first ends e h s) fits)
