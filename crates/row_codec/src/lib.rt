@@ -6,6 +6,7 @@
 //!
 //! - `encode` writes the bytes of a row. A row with a length or a count of 2^32 or more has none, and `encode`
 //!   answers `Full` for exactly such rows.
+//! - `length` is how many bytes that are, and writes none.
 //! - `decode` gives the row that has some bytes, or `NotARow` exactly where no row has them: where the bytes end
 //!   within a row or go on behind it, where entries of a map don't ascend, where a version that isn't the first of
 //!   an object is complete, or where inline bytes aren't as many as their size says.
@@ -28,7 +29,7 @@ mod order;
 mod parts;
 mod rows;
 
-pub use codec::{decode, encode, rows_are_read_back};
+pub use codec::{decode, encode, length, rows_are_read_back};
 pub use fault::Fault;
 pub use maps::{are_ascending, map_of};
 pub use order::states_are_ordered_as_bytes;

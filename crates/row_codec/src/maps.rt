@@ -11,7 +11,7 @@ ghost use Rattle.row_codec.specs.Spelling.{counted, deletable, flag};
 
 use crate::fault::Fault;
 use crate::field::Field;
-use crate::lists::{are_short, put_items};
+use crate::lists::{are_short, items_len, put_items};
 use crdt_core::{Bool, Bytes, Crdt, Deletable, List, Map, Memory, Value};
 use std::alloc::Global;
 use std::cmp::Ordering;
@@ -29,6 +29,10 @@ impl Field for Bool {
 
     fn is_short(&self) -> bool {
         true
+    }
+
+    fn spelled_len(&self) -> Option<usize> {
+        Some(1)
     }
 
     fn put(&self, out: &mut Bytes) -> Result<(), Memory> {
@@ -60,6 +64,13 @@ impl<V: Crdt + Field> Field for Deletable<V> {
         match self {
             Deletable::Present(value) => value.is_short(),
             Deletable::Deleted => true,
+        }
+    }
+
+    fn spelled_len(&self) -> Option<usize> {
+        match self {
+            Deletable::Present(value) => value.spelled_len()?.checked_add(1),
+            Deletable::Deleted => Some(1),
         }
     }
 
@@ -126,6 +137,10 @@ impl<K: Value + Field, V: Crdt + Field> Field for Map<K, V> {
 
     fn is_short(&self) -> bool {
         are_short(self.as_slice())
+    }
+
+    fn spelled_len(&self) -> Option<usize> {
+        items_len(self.as_slice())
     }
 
     fn put(&self, out: &mut Bytes) -> Result<(), Memory> {

@@ -1,5 +1,5 @@
 //! Numbers, strings of bytes and digests.
-ghost use Rattle.std.specs.Prelude.{◌≡◌, ◌++◌, true, IsTrue, OnOk};
+ghost use Rattle.std.specs.Prelude.{◌≡◌, ◌++◌, true, length, IsTrue, OnOk};
 ghost use Rattle.crdt_core.specs.Outcomes.{OnlyWant};
 ghost use Rattle.row_codec.specs.Gives.{Gives};
 ghost use Rattle.row_codec.specs.NumberLaws.{bytes_reads, four_reads, eight_reads, field_reads};
@@ -38,6 +38,14 @@ fn put_bytes(bytes: &[u8], out: &mut Bytes) -> Result<(), Memory>
     out.extend_from_slice(bytes)
 }
 
+// How many bytes these are, each below 256.
+fn bytes_len(bytes: &[u8]) -> usize
+    ensures is { result ≡ length bytes.now }
+    ensures in_range { IsTrue (are_bytes bytes.now) }
+{
+    bytes.len()
+}
+
 impl Field for u32 {
     ghost in_range = { is_four };
 
@@ -51,6 +59,11 @@ impl Field for u32 {
 
     fn is_short(&self) -> bool {
         true
+    }
+
+    #[tactic(auto, unfolding(crate::specs::Spelling::four))]
+    fn spelled_len(&self) -> Option<usize> {
+        Some(self.to_be_bytes().len())
     }
 
     #[tactic(auto, unfolding(crate::specs::Spelling::four))]
@@ -81,6 +94,11 @@ impl Field for u64 {
     }
 
     #[tactic(auto, unfolding(crate::specs::Spelling::eight))]
+    fn spelled_len(&self) -> Option<usize> {
+        Some(self.to_be_bytes().len())
+    }
+
+    #[tactic(auto, unfolding(crate::specs::Spelling::eight))]
     fn put(&self, out: &mut Bytes) -> Result<(), Memory> {
         out.extend_from_slice(&self.to_be_bytes())
     }
@@ -105,6 +123,10 @@ impl<const N: usize> Field for [u8; N] {
 
     fn is_short(&self) -> bool {
         true
+    }
+
+    fn spelled_len(&self) -> Option<usize> {
+        Some(bytes_len(self))
     }
 
     fn put(&self, out: &mut Bytes) -> Result<(), Memory> {
@@ -132,6 +154,10 @@ impl Field for Hash32 {
         true
     }
 
+    fn spelled_len(&self) -> Option<usize> {
+        Some(bytes_len(&self.0))
+    }
+
     fn put(&self, out: &mut Bytes) -> Result<(), Memory> {
         put_bytes(&self.0, out)
     }
@@ -156,6 +182,11 @@ impl Field for Bytes {
 
     fn is_short(&self) -> bool {
         self.len() < LIMIT
+    }
+
+    #[tactic(auto, unfolding(crate::specs::Spelling::four))]
+    fn spelled_len(&self) -> Option<usize> {
+        bytes_len(self.as_slice()).checked_add(4)
     }
 
     fn put(&self, out: &mut Bytes) -> Result<(), Memory> {

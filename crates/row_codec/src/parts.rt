@@ -27,6 +27,10 @@ impl Field for Version {
         true
     }
 
+    fn spelled_len(&self) -> Option<usize> {
+        self.ts.spelled_len()?.checked_add(self.id.spelled_len()?)
+    }
+
     fn put(&self, out: &mut Bytes) -> Result<(), Memory> {
         self.ts.put(out)?;
         self.id.put(out)
@@ -53,6 +57,12 @@ impl Field for Part {
 
     fn is_short(&self) -> bool {
         true
+    }
+
+    fn spelled_len(&self) -> Option<usize> {
+        self.part
+            .spelled_len()?
+            .checked_add(self.offset.spelled_len()?)
     }
 
     fn put(&self, out: &mut Bytes) -> Result<(), Memory> {
@@ -83,6 +93,12 @@ impl Field for BlockRef {
         true
     }
 
+    fn spelled_len(&self) -> Option<usize> {
+        self.hash
+            .spelled_len()?
+            .checked_add(self.size.spelled_len()?)
+    }
+
     fn put(&self, out: &mut Bytes) -> Result<(), Memory> {
         self.hash.put(out)?;
         self.size.put(out)
@@ -109,6 +125,14 @@ impl Field for Meta {
 
     fn is_short(&self) -> bool {
         self.headers.is_short()
+    }
+
+    fn spelled_len(&self) -> Option<usize> {
+        let fixed = self
+            .size
+            .spelled_len()?
+            .checked_add(self.etag.spelled_len()?)?;
+        fixed.checked_add(self.headers.spelled_len()?)
     }
 
     fn put(&self, out: &mut Bytes) -> Result<(), Memory> {
@@ -149,6 +173,20 @@ impl Field for State {
             State::Uploading | State::Aborted | State::Complete(Body::Marker) => true,
             State::Complete(Body::Inline(meta, bytes)) => meta.is_short() && bytes.is_short(),
             State::Complete(Body::Blocks(meta, _)) => meta.is_short(),
+        }
+    }
+
+    fn spelled_len(&self) -> Option<usize> {
+        match self {
+            State::Uploading | State::Aborted | State::Complete(Body::Marker) => Some(1),
+            State::Complete(Body::Inline(meta, bytes)) => {
+                let body = meta.spelled_len()?.checked_add(bytes.spelled_len()?)?;
+                body.checked_add(1)
+            }
+            State::Complete(Body::Blocks(meta, first)) => {
+                let body = meta.spelled_len()?.checked_add(first.spelled_len()?)?;
+                body.checked_add(1)
+            }
         }
     }
 

@@ -27,6 +27,14 @@ impl Field for ObjectRow {
         self.key.is_short() && self.versions.is_short()
     }
 
+    fn spelled_len(&self) -> Option<usize> {
+        let names = self
+            .bucket
+            .spelled_len()?
+            .checked_add(self.key.spelled_len()?)?;
+        names.checked_add(self.versions.spelled_len()?)
+    }
+
     fn put(&self, out: &mut Bytes) -> Result<(), Memory> {
         self.bucket.put(out)?;
         self.key.put(out)?;
@@ -60,6 +68,12 @@ impl Field for VersionRow {
         self.blocks.is_short()
     }
 
+    fn spelled_len(&self) -> Option<usize> {
+        self.id
+            .spelled_len()?
+            .checked_add(self.blocks.spelled_len()?)
+    }
+
     fn put(&self, out: &mut Bytes) -> Result<(), Memory> {
         self.id.put(out)?;
         self.blocks.put(out)
@@ -86,6 +100,14 @@ impl Field for RefRow {
 
     fn is_short(&self) -> bool {
         true
+    }
+
+    fn spelled_len(&self) -> Option<usize> {
+        let names = self
+            .hash
+            .spelled_len()?
+            .checked_add(self.id.spelled_len()?)?;
+        names.checked_add(self.deleted.spelled_len()?)
     }
 
     fn put(&self, out: &mut Bytes) -> Result<(), Memory> {
@@ -119,6 +141,14 @@ impl Field for AnyRow {
             AnyRow::Object(row) => row.is_short(),
             AnyRow::Version(row) => row.is_short(),
             AnyRow::Ref(row) => row.is_short(),
+        }
+    }
+
+    fn spelled_len(&self) -> Option<usize> {
+        match self {
+            AnyRow::Object(row) => row.spelled_len()?.checked_add(1),
+            AnyRow::Version(row) => row.spelled_len()?.checked_add(1),
+            AnyRow::Ref(row) => row.spelled_len()?.checked_add(1),
         }
     }
 

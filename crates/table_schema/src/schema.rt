@@ -1,5 +1,5 @@
 //! What a schema is.
-ghost use Rattle.std.specs.Prelude.{◌≡◌, ◌⊎◌, IsTrue, IfOk, IfErr, OnOk, OnErr, None, Some, option_map};
+ghost use Rattle.std.specs.Prelude.{◌≡◌, ◌⊎◌, IsTrue, IfOk, IfErr, OnOk, OnErr, None, Some, length, option_map};
 ghost use Rattle.crdt_core.specs.Outcomes.{OnlyWant, WantOr};
 ghost use Rattle.table_schema.specs.Words.{Words, partition_of};
 ghost use Rattle.table_schema.specs.Laws.{Laws};
@@ -61,6 +61,12 @@ pub trait Schema {
     /// The row's bytes. `Full` where a length or a count of the row is too great to be written.
     fn row_bytes(alloc: Global, row: &Self::Row) -> Result<Bytes, Memory>
         ensures are { IfOk result (λ bytes. words.spelling row.now ≡ Some bytes) }
+        ensures causes { WantOr result (words.spelling row.now ≡ None) };
+
+    /// How many bytes the row has; none is written. `Full` where a length or a count of the row is too great to be
+    /// written, and `Want` where no memory has room for so many bytes.
+    fn row_length(row: &Self::Row) -> Result<usize, Memory>
+        ensures is { IfOk result (λ n. option_map length (words.spelling row.now) ≡ Some n) }
         ensures causes { WantOr result (words.spelling row.now ≡ None) };
 
     /// The row that has these bytes.
