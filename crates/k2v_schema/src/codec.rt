@@ -1,5 +1,5 @@
 //! A row's bytes, and the row of bytes.
-ghost use Rattle.std.specs.Prelude.{◌≡◌, ◌≢◌, ◌⊎◌, ◌↔◌, ℕ, List, false, IsTrue, IfOk, IfErr, Some, None};
+ghost use Rattle.std.specs.Prelude.{◌≡◌, ◌≢◌, ◌⊎◌, ◌↔◌, ℕ, List, length, false, IsTrue, IfOk, IfErr, Some, None};
 ghost use Rattle.crdt_core.specs.Outcomes.{WantOr};
 ghost use Rattle.crdt_core.specs.declared.memory.Memory.TheVariants.{Full};
 ghost use Rattle.k2v_rows.specs.declared.k2v_row.K2vRow.{K2vRow};
@@ -30,6 +30,24 @@ pub fn encode(alloc: Global, row: &K2vRow) -> Result<Bytes, Memory>
     let mut out = Bytes::new(alloc);
     row.put(&mut out)?;
     Ok(out)
+}
+
+/// How many bytes a row has; none is written. `Full` where one of its lengths or counts is 2^32 or more, and `Want`
+/// where no memory has room for so many bytes.
+pub fn length(row: &K2vRow) -> Result<usize, Memory>
+    ensures is { IfOk result (λ n. n ≡ length (spelled row.now)) }
+    ensures short { IfOk result (λ n. IsTrue (has_bytes row.now)) }
+    ensures in_range { IfOk result (λ n. IsTrue (in_range row.now)) }
+    ensures causes { WantOr result (has_bytes row.now ≡ false) }
+    ensures full { has_bytes row.now ≡ false → result ≡ Err Full }
+{
+    if !row.is_short() {
+        return Err(Memory::Full);
+    }
+    match row.spelled_len() {
+        Some(len) => Ok(len),
+        None => Err(Memory::Want),
+    }
 }
 
 // A row, and nothing after it.

@@ -1,5 +1,5 @@
 //! A part of a row, its bytes, and how it is read from them.
-ghost use Rattle.std.specs.Prelude.{◌≡◌, ◌++◌, ℕ, Bool, List, Option, IsTrue, OnOk};
+ghost use Rattle.std.specs.Prelude.{◌≡◌, ◌++◌, ℕ, Bool, List, length, Option, IfSome, IsTrue, OnOk};
 ghost use Rattle.crdt_core.specs.Outcomes.{OnlyWant};
 ghost use Rattle.row_codec.specs.Gives.{Gives};
 ghost use Rattle.row_codec.specs.Reads.{Reads};
@@ -23,6 +23,11 @@ pub trait Field: Drop {
 
     fn is_short(&self) -> bool
         ensures { result ≡ is_short self.now };
+
+    /// How many bytes spell it; none is written. `None` where the number is too great for a `usize`.
+    fn spelled_len(&self) -> Option<usize>
+        ensures is { IfSome result (λ n. n ≡ length (spelled self.now)) }
+        ensures in_range { IfSome result (λ n. IsTrue (in_range self.now)) };
 
     /// Writes the bytes at the end.
     fn put(&self, out: &mut Bytes) -> Result<(), Memory>

@@ -11,6 +11,7 @@
 //!
 //! - `encode` writes the bytes of a row. A row with a length or a count of 2^32 or more has none, and `encode`
 //!   answers `Full` for exactly such rows.
+//! - `length` is how many bytes that are, and writes none.
 //! - `decode` gives the row that has some bytes, or `NotARow` exactly where no row has them.
 //! - `rows_are_read_back` says that the two agree.
 //!
@@ -26,5 +27,5 @@ mod place;
 mod rows;
 mod schema;
 
-pub use codec::{decode, encode, rows_are_read_back};
+pub use codec::{decode, encode, length, rows_are_read_back};
 pub use schema::K2vSchema;

@@ -1,5 +1,5 @@
 //! Pairs, and lists of values.
-ghost use Rattle.std.specs.Prelude.{◌≡◌, ◌&&◌, ◌++◌, IsTrue, OnOk};
+ghost use Rattle.std.specs.Prelude.{◌≡◌, ◌&&◌, ◌++◌, length, IfSome, IsTrue, OnOk};
 ghost use Rattle.std.specs.List.{list_all, flat_map};
 ghost use Rattle.crdt_core.specs.Outcomes.{OnlyWant};
 ghost use Rattle.row_codec.specs.Gives.{Gives};
@@ -30,6 +30,10 @@ impl<A: Field, B: Field> Field for (A, B) {
         self.0.is_short() && self.1.is_short()
     }
 
+    fn spelled_len(&self) -> Option<usize> {
+        self.0.spelled_len()?.checked_add(self.1.spelled_len()?)
+    }
+
     fn put(&self, out: &mut Bytes) -> Result<(), Memory> {
         self.0.put(out)?;
         self.1.put(out)
@@ -56,6 +60,10 @@ impl<T: Value + Field> Field for Max<T> {
 
     fn is_short(&self) -> bool {
         self.0.is_short()
+    }
+
+    fn spelled_len(&self) -> Option<usize> {
+        self.0.spelled_len()
     }
 
     fn put(&self, out: &mut Bytes) -> Result<(), Memory> {
@@ -87,6 +95,17 @@ fn put_each<T: Field>(items: &[T], out: &mut Bytes) -> Result<(), Memory>
     Ok(())
 }
 
+fn each_len<T: Field>(items: &[T]) -> Option<usize>
+    ensures is { IfSome result (λ n. n ≡ length (flat_map T.spelled items.now)) }
+    ensures in_range { IfSome result (λ n. IsTrue (list_all T.in_range items.now)) }
+{
+    let mut total: usize = 0;
+    for item in items {
+        total = total.checked_add(item.spelled_len()?)?;
+    }
+    Some(total)
+}
+
 fn take_each<T: Field>(alloc: Global, count: u32, bytes: &[u8]) -> Result<(List<T>, &[u8]), Fault>
     ensures { Gives (λ x. (x.0, x.1.now)) result (each_at T.read count bytes.now) }
 {
@@ -109,6 +128,15 @@ pub fn put_items<T: Field>(items: &[T], out: &mut Bytes) -> Result<(), Memory>
 {
     put_count(items.len() as u32, out)?;
     put_each(items, out)
+}
+
+/// How many bytes a count and each of the items have.
+#[tactic(auto, unfolding(row_codec::specs::Spelling::four))]
+pub fn items_len<T: Field>(items: &[T]) -> Option<usize>
+    ensures is { IfSome result (λ n. n ≡ length (counted T.spelled items.now)) }
+    ensures in_range { IfSome result (λ n. IsTrue (list_all T.in_range items.now)) }
+{
+    each_len(items)?.checked_add(4)
 }
 
 /// Fewer than 2^32 items, each of them short.

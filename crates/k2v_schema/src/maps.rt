@@ -8,7 +8,7 @@ ghost use Rattle.row_codec.specs.RowLaws.{map_reads};
 ghost use Rattle.row_codec.specs.Spelling.{counted};
 
 use crate::field::Field;
-use crate::lists::{are_short, put_items, take_items};
+use crate::lists::{are_short, items_len, put_items, take_items};
 use crdt_core::{Bytes, Crdt, Map, Memory, Value};
 use row_codec::{Fault, are_ascending, map_of};
 use std::alloc::Global;
@@ -26,6 +26,10 @@ impl<K: Value + Field, V: Crdt + Field> Field for Map<K, V> {
 
     fn is_short(&self) -> bool {
         are_short(self.as_slice())
+    }
+
+    fn spelled_len(&self) -> Option<usize> {
+        items_len(self.as_slice())
     }
 
     fn put(&self, out: &mut Bytes) -> Result<(), Memory> {

@@ -1,5 +1,5 @@
 //! Numbers, strings of bytes and digests.
-ghost use Rattle.std.specs.Prelude.{◌≡◌, ◌++◌, true, IsTrue, IfErr, OnOk};
+ghost use Rattle.std.specs.Prelude.{◌≡◌, ◌++◌, true, length, IsTrue, IfErr, OnOk};
 ghost use Rattle.crdt_core.specs.Outcomes.{OnlyWant};
 ghost use Rattle.row_codec.specs.declared.fault.Fault.TheVariants as faults;
 ghost use Rattle.row_codec.specs.Gives.{Gives};
@@ -44,6 +44,14 @@ fn put_bytes(bytes: &[u8], out: &mut Bytes) -> Result<(), Memory>
     out.extend_from_slice(bytes)
 }
 
+// How many bytes these are, each below 256.
+fn bytes_len(bytes: &[u8]) -> usize
+    ensures is { result ≡ length bytes.now }
+    ensures in_range { IsTrue (are_bytes bytes.now) }
+{
+    bytes.len()
+}
+
 /// A count of 4 bytes, the highest first.
 #[tactic(auto, unfolding(row_codec::specs::Spelling::four))]
 pub fn put_count(count: u32, out: &mut Bytes) -> Result<(), Memory>
@@ -76,6 +84,10 @@ impl Field for u8 {
 
     fn is_short(&self) -> bool {
         true
+    }
+
+    fn spelled_len(&self) -> Option<usize> {
+        Some(self.to_be_bytes().len())
     }
 
     fn put(&self, out: &mut Bytes) -> Result<(), Memory> {
@@ -111,6 +123,11 @@ impl Field for u64 {
     }
 
     #[tactic(auto, unfolding(row_codec::specs::Spelling::eight))]
+    fn spelled_len(&self) -> Option<usize> {
+        Some(self.to_be_bytes().len())
+    }
+
+    #[tactic(auto, unfolding(row_codec::specs::Spelling::eight))]
     fn put(&self, out: &mut Bytes) -> Result<(), Memory> {
         out.extend_from_slice(&self.to_be_bytes())
     }
@@ -141,6 +158,10 @@ impl Field for Hash32 {
         true
     }
 
+    fn spelled_len(&self) -> Option<usize> {
+        Some(bytes_len(&self.0))
+    }
+
     fn put(&self, out: &mut Bytes) -> Result<(), Memory> {
         put_bytes(&self.0, out)
     }
@@ -169,6 +190,11 @@ impl Field for Bytes {
 
     fn is_short(&self) -> bool {
         self.len() < LIMIT
+    }
+
+    #[tactic(auto, unfolding(row_codec::specs::Spelling::four))]
+    fn spelled_len(&self) -> Option<usize> {
+        bytes_len(self.as_slice()).checked_add(4)
     }
 
     fn put(&self, out: &mut Bytes) -> Result<(), Memory> {

@@ -31,6 +31,13 @@ impl Field for K2vValue {
         }
     }
 
+    fn spelled_len(&self) -> Option<usize> {
+        match self {
+            K2vValue::Deleted => Some(1),
+            K2vValue::Value(bytes) => bytes.spelled_len()?.checked_add(1),
+        }
+    }
+
     fn put(&self, out: &mut Bytes) -> Result<(), Memory> {
         match self {
             K2vValue::Deleted => out.push(0),
@@ -67,6 +74,13 @@ impl Field for Writes {
 
     fn is_short(&self) -> bool {
         self.values.is_short()
+    }
+
+    fn spelled_len(&self) -> Option<usize> {
+        self.discard
+            .0
+            .spelled_len()?
+            .checked_add(self.values.spelled_len()?)
     }
 
     fn put(&self, out: &mut Bytes) -> Result<(), Memory> {
@@ -113,6 +127,13 @@ impl Field for K2vRow {
 
     fn is_short(&self) -> bool {
         self.pk.is_short() && self.sk.is_short() && self.entries.is_short()
+    }
+
+    fn spelled_len(&self) -> Option<usize> {
+        let keys = self.pk.spelled_len()?.checked_add(self.sk.spelled_len()?)?;
+        let names = self.bucket.spelled_len()?.checked_add(keys)?;
+        let rest = names.checked_add(self.entries.spelled_len()?)?;
+        rest.checked_add(1)
     }
 
     fn put(&self, out: &mut Bytes) -> Result<(), Memory> {

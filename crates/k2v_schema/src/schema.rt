@@ -2,7 +2,7 @@
 ghost use Rattle.k2v_schema.specs.Laws.{schema_laws};
 ghost use Rattle.k2v_schema.specs.Schema.{words};
 
-use crate::codec::{decode, encode};
+use crate::codec::{decode, encode, length};
 use crate::place;
 use blake2_hash::Hash32;
 use crdt_core::{Bytes, Memory};
@@ -54,6 +54,10 @@ impl Schema for K2vSchema {
 
     fn row_bytes(alloc: Global, row: &K2vRow) -> Result<Bytes, Memory> {
         encode(alloc, row)
+    }
+
+    fn row_length(row: &K2vRow) -> Result<usize, Memory> {
+        length(row)
     }
 
     fn row_from(alloc: Global, bytes: &[u8]) -> Result<K2vRow, RowFault> {

@@ -9,7 +9,7 @@ use crate::version_triggers::version_triggers;
 use blake2_hash::Hash32;
 use crdt_core::{Bytes, Deletable, Max, Memory};
 use crdt_rows::{AnyRow, Body, State, Version};
-use row_codec::{decode, encode};
+use row_codec::{decode, encode, length};
 use std::alloc::Global;
 use table_schema::{RowFault, Schema};
 
@@ -90,6 +90,10 @@ impl Schema for S3Schema {
 
     fn row_bytes(alloc: Global, row: &AnyRow) -> Result<Bytes, Memory> {
         encode(alloc, row)
+    }
+
+    fn row_length(row: &AnyRow) -> Result<usize, Memory> {
+        length(row)
     }
 
     fn row_from(alloc: Global, bytes: &[u8]) -> Result<AnyRow, RowFault> {
