@@ -51,9 +51,9 @@ enum Kind {
 
 fn measured(alloc: Global, kind: Kind) -> Result<u64, Memory> {
     match kind {
-        Kind::Rows => size::<S3Schema>(alloc, &rows(alloc)?),
-        Kind::Store => size::<S3Schema>(alloc, &store(alloc)?),
-        Kind::Stored => size::<S3Schema>(alloc, &Message::Stored(Tag::Item { number: 1 })),
+        Kind::Rows => size::<S3Schema>(&rows(alloc)?),
+        Kind::Store => size::<S3Schema>(&store(alloc)?),
+        Kind::Stored => size::<S3Schema>(&Message::Stored(Tag::Item { number: 1 })),
     }
 }
 

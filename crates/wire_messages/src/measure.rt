@@ -2,28 +2,27 @@
 ghost use Rattle.std.specs.Prelude.{◌≡◌, ◌≤◌, ◌⊎◌, ◌+◌, ◌^◌, Some, None, IfOk, IfErr, sum_by};
 ghost use Rattle.crdt_core.specs.Outcomes.{WantOr};
 ghost use Rattle.crdt_core.specs.declared.memory.Memory.TheVariants.{Full};
-ghost use Rattle.wire_messages.specs.Size.{size, row_length, rows_length, stored_length, block_length, plus, IsTooGreat};
+ghost use Rattle.wire_messages.specs.Size.{size, rows_length, stored_length, block_length, plus, IsTooGreat};
 
 use crate::message::Message;
 use block_bytes::Block;
 use crdt_core::{Bytes, Memory};
-use std::alloc::Global;
 use table_schema::Schema;
 
 /// 64, plus the bytes of the message's rows, blocks, keys and prefixes. `Full` where a row has no bytes, or the
 /// number is too great.
-pub fn size<S: Schema>(alloc: Global, message: &Message<S::Row>) -> Result<u64, Memory>
+pub fn size<S: Schema>(message: &Message<S::Row>) -> Result<u64, Memory>
     ensures is { IfOk result (λ n. size S.words message.now ≡ Some n) }
     ensures causes { WantOr result (IsTooGreat (size S.words message.now)) }
 {
     match message {
         Message::Get { key, .. } => add(64, key.len()),
         Message::Row { row, .. } => match row {
-            Some(row) => add(64, row_length::<S>(alloc, row)?),
+            Some(row) => add(64, S::row_length(row)?),
             None => Ok(64),
         },
         Message::Range { prefix, after, .. } => add(add(64, prefix.len())?, after.len()),
-        Message::Rows { rows, .. } => add_rows::<S>(alloc, 64, rows.as_slice()),
+        Message::Rows { rows, .. } => add_rows::<S>(64, rows.as_slice()),
         Message::Store { rows, .. } => add_stored(64, rows.as_slice()),
         Message::Block { bytes, .. } => add(64, bytes.len()),
         Message::Stored(_)
@@ -45,21 +44,13 @@ fn add(total: u64, length: usize) -> Result<u64, Memory>
     }
 }
 
-fn row_length<S: Schema>(alloc: Global, row: &S::Row) -> Result<usize, Memory>
-    ensures is { IfOk result (λ n. row_length S.words row.now ≡ Some n) }
-    ensures causes { WantOr result (row_length S.words row.now ≡ None) }
-{
-    let bytes = S::row_bytes(alloc, row)?;
-    Ok(bytes.len())
-}
-
-fn add_rows<S: Schema>(alloc: Global, start: u64, rows: &[S::Row]) -> Result<u64, Memory>
+fn add_rows<S: Schema>(start: u64, rows: &[S::Row]) -> Result<u64, Memory>
     ensures is { IfOk result (λ n. plus (Some start) (rows_length S.words rows.now) ≡ Some n) }
     ensures causes { WantOr result (IsTooGreat (plus (Some start) (rows_length S.words rows.now))) }
 {
     let mut total = start;
     for row in rows {
-        total = add(total, row_length::<S>(alloc, row)?)?;
+        total = add(total, S::row_length(row)?)?;
     }
     Ok(total)
 }

@@ -55,12 +55,12 @@ pub struct Post<R> {
 }
 
 /// How many bytes a packet counts; a view counts 1,600 for each of its versions.
-fn packet_size<S: Schema>(alloc: Global, packet: &Packet<S::Row>) -> Result<u64, Memory>
+fn packet_size<S: Schema>(packet: &Packet<S::Row>) -> Result<u64, Memory>
     ensures is { IfOk result (λ n. packet_bytes S.words packet.now ≡ Some n) }
     ensures causes { WantOr result (IsWord (packet_bytes S.words packet.now) → ⊥) }
 {
     match packet {
-        Packet::Msg(message) => size::<S>(alloc, message),
+        Packet::Msg(message) => size::<S>(message),
         Packet::View(view) => {
             let versions = view.layouts().len() as u64;
             match versions.checked_mul(1600) {
@@ -160,7 +160,6 @@ impl<R: Drop> Post<R> {
 /// Sends these messages, in order, and puts a line for each at the end.
 pub fn send<S: Schema>(
     post: &mut Post<S::Row>,
-    alloc: Global,
     envelopes: Vec<Envelope<S::Row>>,
     lines: &mut List<Line>,
 ) -> Result<(), Memory>
@@ -171,7 +170,7 @@ pub fn send<S: Schema>(
         IsPost S.words post.old messages marks → AreSent envelopes.items sent → IsWord (sent_bytes S.words (messages ++ sent)) → ⊥) }
 {
     for envelope in envelopes {
-        put::<S>(post, alloc, envelope, lines)?;
+        put::<S>(post, envelope, lines)?;
     }
     Ok(())
 }
@@ -179,7 +178,6 @@ pub fn send<S: Schema>(
 /// Sends one message.
 fn put<S: Schema>(
     post: &mut Post<S::Row>,
-    alloc: Global,
     envelope: Envelope<S::Row>,
     lines: &mut List<Line>,
 ) -> Result<(), Memory>
@@ -190,7 +188,7 @@ fn put<S: Schema>(
     ensures causes { WantOr result ((messages : List (Sent S.Row Layout)) (marks : List Mark) (m : Sent S.Row Layout) →
         IsPost S.words post.old messages marks → IsSent envelope m → IsWord (sent_bytes S.words (messages ++ m ∷ [])) → ⊥) }
 {
-    let size = packet_size::<S>(alloc, &envelope.packet)?;
+    let size = packet_size::<S>(&envelope.packet)?;
     let Some(bytes) = post.bytes.checked_add(size) else {
         return Err(Memory::Full);
     };

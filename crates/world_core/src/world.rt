@@ -332,7 +332,7 @@ impl<S: Schema> World<S> {
         ensures tells { OnOk result (SendsOut S.Row.join S.words self.old self.new node before out.items lines.old lines.new) }
         ensures causes { WantOr result (CannotSend S.words self.old out.items) }
     {
-        send::<S>(&mut self.post, self.alloc, out, lines)?;
+        send::<S>(&mut self.post, out, lines)?;
         push_synced(lines, node, before, self.nodes.synced(node))?;
         Ok(())
     }
