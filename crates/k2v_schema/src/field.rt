@@ -1,5 +1,5 @@
 //! A part of a row, its bytes, and how it is read from them.
-ghost use Rattle.std.specs.Prelude.{◌≡◌, ◌++◌, ℕ, Bool, List, length, Option, IfSome, IsTrue, OnOk};
+ghost use Rattle.std.specs.Prelude.{◌≡◌, ◌≤◌, ◌^◌, ◌++◌, ℕ, Bool, List, length, Option, IfSome, IfNone, IsTrue, OnOk};
 ghost use Rattle.crdt_core.specs.Outcomes.{OnlyWant};
 ghost use Rattle.row_codec.specs.Gives.{Gives};
 ghost use Rattle.row_codec.specs.Reads.{Reads};
@@ -27,6 +27,7 @@ pub trait Field: Drop {
     /// How many bytes spell it; none is written. `None` where the number is too great for a `usize`.
     fn spelled_len(&self) -> Option<usize>
         ensures is { IfSome result (λ n. n ≡ length (spelled self.now)) }
+        ensures none { IfNone result (2 ^ 64 ≤ length (spelled self.now)) }
         ensures in_range { IfSome result (λ n. IsTrue (in_range self.now)) };
 
     /// Writes the bytes at the end.

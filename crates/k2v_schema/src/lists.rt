@@ -1,5 +1,5 @@
 //! Pairs, and lists of values.
-ghost use Rattle.std.specs.Prelude.{◌≡◌, ◌&&◌, ◌++◌, length, IfSome, IsTrue, OnOk};
+ghost use Rattle.std.specs.Prelude.{◌≡◌, ◌≤◌, ◌^◌, ◌&&◌, ◌++◌, length, IfSome, IfNone, IsTrue, OnOk};
 ghost use Rattle.std.specs.List.{list_all, flat_map};
 ghost use Rattle.crdt_core.specs.Outcomes.{OnlyWant};
 ghost use Rattle.row_codec.specs.Gives.{Gives};
@@ -97,6 +97,7 @@ fn put_each<T: Field>(items: &[T], out: &mut Bytes) -> Result<(), Memory>
 
 fn each_len<T: Field>(items: &[T]) -> Option<usize>
     ensures is { IfSome result (λ n. n ≡ length (flat_map T.spelled items.now)) }
+    ensures none { IfNone result (2 ^ 64 ≤ length (flat_map T.spelled items.now)) }
     ensures in_range { IfSome result (λ n. IsTrue (list_all T.in_range items.now)) }
 {
     let mut total: usize = 0;
@@ -134,6 +135,7 @@ pub fn put_items<T: Field>(items: &[T], out: &mut Bytes) -> Result<(), Memory>
 #[tactic(auto, unfolding(row_codec::specs::Spelling::four))]
 pub fn items_len<T: Field>(items: &[T]) -> Option<usize>
     ensures is { IfSome result (λ n. n ≡ length (counted T.spelled items.now)) }
+    ensures none { IfNone result (2 ^ 64 ≤ length (counted T.spelled items.now)) }
     ensures in_range { IfSome result (λ n. IsTrue (list_all T.in_range items.now)) }
 {
     each_len(items)?.checked_add(4)

@@ -44,7 +44,7 @@ fn put_bytes(bytes: &[u8], out: &mut Bytes) -> Result<(), Memory>
     out.extend_from_slice(bytes)
 }
 
-// How many bytes these are, each below 256.
+// How many bytes these are. Bytes in hand are in range.
 fn bytes_len(bytes: &[u8]) -> usize
     ensures is { result ≡ length bytes.now }
     ensures in_range { IsTrue (are_bytes bytes.now) }

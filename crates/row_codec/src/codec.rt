@@ -1,7 +1,7 @@
 //! A row's bytes, and the row of bytes.
-ghost use Rattle.std.specs.Prelude.{◌≡◌, ◌≢◌, ◌⊎◌, ◌↔◌, ℕ, List, length, false, IsTrue, IfOk, IfErr, Some, None};
+ghost use Rattle.std.specs.Prelude.{◌≡◌, ◌≤◌, ◌^◌, ◌≢◌, ◌⊎◌, ◌↔◌, ℕ, List, length, false, IsTrue, IfOk, IfErr, Some, None};
 ghost use Rattle.crdt_core.specs.Outcomes.{WantOr};
-ghost use Rattle.crdt_core.specs.declared.memory.Memory.TheVariants.{Full};
+ghost use Rattle.crdt_core.specs.declared.memory.Memory.TheVariants.{Full, Want};
 ghost use Rattle.crdt_rows.specs.declared.any_row.AnyRow.{AnyRow};
 ghost use Rattle.table_schema.specs.declared.schema.RowFault.TheVariants as faults;
 ghost use Rattle.row_codec.specs.Gives.{Gives};
@@ -54,6 +54,7 @@ pub fn encode(alloc: Global, row: &AnyRow) -> Result<Bytes, Memory>
 /// where no memory has room for so many bytes.
 pub fn length(row: &AnyRow) -> Result<usize, Memory>
     ensures is { IfOk result (λ n. n ≡ length (spelled row.now)) }
+    ensures want { IfErr result (λ e. e ≡ Want → 2 ^ 64 ≤ length (spelled row.now)) }
     ensures short { IfOk result (λ n. IsTrue (has_bytes row.now)) }
     ensures in_range { IfOk result (λ n. IsTrue (in_range row.now)) }
     ensures causes { WantOr result (has_bytes row.now ≡ false) }
