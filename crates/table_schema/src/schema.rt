@@ -1,6 +1,7 @@
 //! What a schema is.
-ghost use Rattle.std.specs.Prelude.{◌≡◌, ◌⊎◌, IsTrue, IfOk, IfErr, OnOk, OnErr, None, Some, length, option_map};
+ghost use Rattle.std.specs.Prelude.{◌≡◌, ◌≤◌, ◌⊎◌, ◌^◌, ℕ, List, IsTrue, IfOk, IfErr, OnOk, OnErr, None, Some, length, option_map};
 ghost use Rattle.crdt_core.specs.Outcomes.{OnlyWant, WantOr};
+ghost use Rattle.crdt_core.specs.declared.memory.Memory.TheVariants.{Want};
 ghost use Rattle.table_schema.specs.Words.{Words, partition_of};
 ghost use Rattle.table_schema.specs.Laws.{Laws};
 ghost use Rattle.table_schema.specs.declared.schema.RowFault.TheVariants.{NotARow, Memory as WantsMemory};
@@ -67,6 +68,7 @@ pub trait Schema {
     /// written, and `Want` where no memory has room for so many bytes.
     fn row_length(row: &Self::Row) -> Result<usize, Memory>
         ensures is { IfOk result (λ n. option_map length (words.spelling row.now) ≡ Some n) }
+        ensures want { IfErr result (λ e. e ≡ Want → (bytes : List ℕ) → words.spelling row.now ≡ Some bytes → 2 ^ 64 ≤ length bytes) }
         ensures causes { WantOr result (words.spelling row.now ≡ None) };
 
     /// The row that has these bytes.
