@@ -1,6 +1,6 @@
 -- Laws that impls cite; what is defined here serves their proofs alone.
 -- What the schema keeps.
-use Rattle.std.proofs.Common.{◌≡◌, ℕ, suc, ◌<◌, ◌≤◌, true, ◌⊎◌, inl, inr, List, [], ◌++◌, length, take, drop, Some, None, refl, sym, ap, subst, ◌∙◌, add-one, arith, lit≤}
+use Rattle.std.proofs.Common.{◌≡◌, ℕ, suc, ◌<◌, true, ◌⊎◌, inl, inr, List, ◌++◌, length, take, drop, Some, None, refl, sym, ap, subst, ◌∙◌, add-one, arith, lit≤}
 use Rattle.std.specs.Prelude.{slice_index, ◌&&◌}
 use Rattle.std.specs.List.{flat_map}
 use Rattle.std.specs.Int.{w64, to_le_bytes}
@@ -17,11 +17,10 @@ use Rattle.row_codec.specs.NumberLaws.{block_length, field_reads, some_is}
 use Rattle.row_codec.specs.Reading.{field_at}
 use Rattle.row_codec.specs.Spelling.{field}
 use Rattle.table_schema.specs.Laws.{Same, Laws}
-use Rattle.table_schema.specs.Words.{partition_of}
 use Rattle.k2v_schema.specs.Reading.{spelling}
 use Rattle.k2v_schema.specs.ReadingLaws.{reads_back, read_takes}
 use Rattle.k2v_schema.specs.Range.{in_range}
-use Rattle.k2v_schema.specs.Schema.{is_proper, position_of, key_of, words}
+use Rattle.k2v_schema.specs.Schema.{is_proper, words}
 
 -- ---- digests
 

@@ -1,5 +1,5 @@
 -- The rows of items as a schema.
-use Rattle.std.specs.Prelude.{ℕ, Bool, false, ◌&&◌, List, [], ◌++◌, Option, None}
+use Rattle.std.specs.Prelude.{ℕ, Bool, false, ◌&&◌, List, [], ◌++◌, None}
 use Rattle.blake2_hash.specs.Blake2b.{blake2b}
 use Rattle.k2v_rows.specs.declared.k2v_row.K2vRow.{K2vRow}
 use Rattle.row_codec.specs.Reads.{are_bytes}
