@@ -65,7 +65,10 @@ fn marker(alloc: Global, key: &[u8]) -> Result<AnyRow, Memory> {
     }
     let (bucket, version) = (Hash32([7; 32]), Version { ts: 1, id: 1 });
     let key = Bytes::from_slice(alloc, key)?;
-    Ok(AnyRow::Object(ObjectRow::single(alloc, bucket, key, version, state)?))
+    AnyRow::object(
+        alloc,
+        ObjectRow::single(alloc, bucket, key, version, state)?,
+    )
 }
 
 fn is_a(end: &Option<Bytes>) -> bool {

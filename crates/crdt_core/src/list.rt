@@ -13,6 +13,9 @@ use std::cmp::Ordering;
 use std::marker::Model;
 use std::mem;
 
+// A list with fewer rows grows by one at a time.
+const SHORT: usize = 4;
+
 /// A list of values.
 #[derive(Debug, Drop)]
 pub struct List<T> {
@@ -143,8 +146,8 @@ impl<T: Drop> List<T> {
         ensures err { OnErr result (self.new ≡ self.old) }
         ensures want { OnlyWant result }
     {
-        // Most lists of entries keep one, so the first takes room for itself alone.
-        if self.rows.is_empty() {
+        // Most lists of entries stay short, so each of the first takes room for itself alone.
+        if self.rows.len() < SHORT {
             self.rows.reserve_exact(1)?;
         }
         match self.rows.insert(index, row) {

@@ -1,5 +1,5 @@
 //! A map whose values merge key by key.
-ghost use Rattle.std.specs.Prelude.{◌≡◌, ◌+◌, ◌++◌, ◌==◌, [], ◌∷◌, IsTrue, length, IfOk, IfErr, OnOk, OnErr, slice_get, option_copied, option_map};
+ghost use Rattle.std.specs.Prelude.{◌≡◌, ◌↔◌, ◌+◌, ◌++◌, ◌==◌, [], ◌∷◌, IsTrue, length, IfOk, IfErr, IsSome, IfSome, OnOk, OnErr, slice_get, option_copied, option_map};
 ghost use Rattle.crdt_core.specs.Outcomes.{OnlyWant};
 ghost use Rattle.crdt_core.specs.Entries.{is_ascending, merged};
 ghost use Rattle.crdt_core.specs.Places.{IsAt, IsGap};
@@ -102,7 +102,28 @@ impl<K: Value, V: Crdt> Map<K, V> {
 }
 
 impl<K: Value, V: Drop> Map<K, V> {
-    ghost use Rattle.crdt_core.specs.Map.{map_from};
+    ghost use Rattle.crdt_core.specs.Map.{map_entries, map_from};
+
+    /// The map with one entry.
+    pub fn single(alloc: Global, key: K, v: V) -> Result<Map<K, V>, Memory>
+        ensures entries { IfOk result (λ map. map_entries map ≡ (key, v) ∷ []) }
+        ensures want { OnlyWant result }
+    {
+        let mut entries = List::from_vec(Vec::with_capacity(alloc, 1)?);
+        entries.push((key, v))?;
+        Ok(Map { entries })
+    }
+
+    /// The map with these entries, or none where one of their keys isn't below the next. Takes no memory.
+    pub fn from_entries(entries: List<(K, V)>) -> Option<Map<K, V>>
+        ensures some { IsSome result ↔ IsTrue (is_ascending K.cmp entries) }
+        ensures entries { IfSome result (λ map. map_entries map ≡ entries) }
+    {
+        if are_ascending(entries.as_slice()) {
+            return Some(Map { entries });
+        }
+        None
+    }
 
     /// Drops the entries whose keys are smaller.
     pub fn keep_from(&mut self, key: &K)
@@ -114,6 +135,20 @@ impl<K: Value, V: Drop> Map<K, V> {
         };
         self.entries.drop_front(smaller);
     }
+}
+
+// Each key is below the next.
+fn are_ascending<K: Value, V>(entries: &[(K, V)]) -> bool
+    ensures { result ≡ is_ascending K.cmp entries.now }
+{
+    let mut rest = entries;
+    while let [first, second, ..] = rest {
+        if first.0.cmp(&second.0) != Ordering::Less {
+            return false;
+        }
+        rest = &rest[1..];
+    }
+    true
 }
 
 // Where the key is, or where it would go.

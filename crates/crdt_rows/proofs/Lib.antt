@@ -1,6 +1,7 @@
 mod Firsts
 mod Lasts
 mod ObjectFacts
+mod Older
 mod RowFacts
 mod Said
 pub mod ObjectJoin

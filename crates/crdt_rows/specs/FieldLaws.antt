@@ -9,9 +9,6 @@ use Rattle.crdt_core.specs.Orders.{Identifies}
 use Rattle.crdt_core.specs.IdentityLaws.{nat_identical, pair_identical, slice_identical, then_equal}
 use Rattle.crdt_rows.specs.Fields.{list_cmp, bytes_cmp, header_cmp}
 use Rattle.crdt_rows.specs.Version.{version_cmp}
-use Rattle.std.specs.declared.cmp.Ord as ord
-use Rattle.std.specs.declared.cmp.PartialEq as partial_eq
-use Rattle.std.specs.declared.cmp.PartialOrd as partial_ord
 use Rattle.blake2_hash.specs.HashLaws.{hash_total, hash_identical}
 use Rattle.crdt_rows.specs.VersionRow.{part_cmp, block_ref_cmp}
 

@@ -2,9 +2,6 @@
 -- The join of rows, of each table and of all, has the laws of a join.
 use Rattle.std.specs.Prelude.{refl, ◌≡◌}
 use Rattle.std.specs.Cmp.{nat_cmp_total, IsTotalOrder, on_total, then_total}
-use Rattle.std.specs.declared.cmp.Ord as ord
-use Rattle.std.specs.declared.cmp.PartialEq as partial_eq
-use Rattle.std.specs.declared.cmp.PartialOrd as partial_ord
 use Rattle.crdt_core.specs.IdentityLaws.{nat_identical, pair_identical}
 use Rattle.crdt_core.specs.Laws.{JoinLaws}
 use Rattle.crdt_core.specs.LexLaws.{through_laws, lex_laws}

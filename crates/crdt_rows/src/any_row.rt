@@ -3,18 +3,39 @@ use crate::object_row::ObjectRow;
 use crate::ref_row::RefRow;
 use crate::version_row::VersionRow;
 use crdt_core::{Crdt, Memory};
+use shared_value::Shared;
+use std::alloc::Global;
 
-/// A row of any of the three tables. Of rows of two tables the one of the later table stays.
+/// A row of any of the three tables. Of rows of two tables the one of the later table stays. Copies of a row of an object
+/// or a version share it.
 #[derive(Debug, Drop, PartialEq, Eq)]
 pub enum AnyRow {
-    Object(ObjectRow),
-    Version(VersionRow),
+    Object(Shared<ObjectRow>),
+    Version(Shared<VersionRow>),
     Ref(RefRow),
 }
 
 impl AnyRow {
-    ghost use Rattle.std.specs.Prelude.{◌≡◌};
+    ghost use Rattle.std.specs.Prelude.{◌≡◌, IfOk};
+    ghost use Rattle.crdt_core.specs.Outcomes.{OnlyWant};
     ghost use Rattle.crdt_rows.specs.AnyRow.{table_of};
+    ghost use Rattle.crdt_rows.specs.declared.any_row.AnyRow.TheVariants as any;
+
+    /// The row of an object.
+    pub fn object(alloc: Global, row: ObjectRow) -> Result<AnyRow, Memory>
+        ensures same { IfOk result (λ made. made ≡ any.Object row) }
+        ensures want { OnlyWant result }
+    {
+        Ok(AnyRow::Object(Shared::new(alloc, row)?))
+    }
+
+    /// The row of a version.
+    pub fn version(alloc: Global, row: VersionRow) -> Result<AnyRow, Memory>
+        ensures same { IfOk result (λ made. made ≡ any.Version row) }
+        ensures want { OnlyWant result }
+    {
+        Ok(AnyRow::Version(Shared::new(alloc, row)?))
+    }
 
     /// The number of the row's table: 1 has object rows, 2 version rows and 3 reference rows.
     pub fn table(&self) -> u8

@@ -1,9 +1,10 @@
 //! The versions of one object.
 ghost use Rattle.std.specs.Prelude.{◌≡◌, IsTrue, OnOk, OnErr};
-ghost use Rattle.std.specs.List.{list_any};
+ghost use Rattle.std.specs.List.{list_all, list_any};
+ghost use Rattle.std.specs.Ordering.{is_lt};
 ghost use Rattle.crdt_core.specs.Outcomes.{OnlyWant};
 ghost use Rattle.crdt_core.specs.Entries.{is_ascending};
-ghost use Rattle.crdt_core.specs.Map.{map_entries, map_join};
+ghost use Rattle.crdt_core.specs.Map.{map_entries, map_from, map_join};
 ghost use Rattle.crdt_core.specs.Max.{max_join};
 ghost use Rattle.crdt_rows.specs.Settled.{kept_map};
 ghost use Rattle.crdt_rows.specs.State.{is_complete, state_cmp};
@@ -50,8 +51,7 @@ impl ObjectRow {
         ensures versions { IfOk result (λ row. map_entries row.versions ≡ (version, record { 0 = state }) ∷ []) }
         ensures want { OnlyWant result }
     {
-        let mut versions = Map::new(alloc);
-        versions.join_at(version, &Max(state))?;
+        let versions = Map::single(alloc, version, Max(state))?;
         Ok(ObjectRow {
             bucket,
             key,
@@ -159,6 +159,35 @@ fn later(a: Option<Version>, b: Option<Version>) -> Option<Version>
     }
 }
 
+// Each version is older than this one. Entries ascend, so that the last one decides.
+fn are_older(entries: &[(Version, Max<State>)], version: &Version) -> bool
+    requires { IsTrue (is_ascending version_cmp entries.now) }
+    ensures { result ≡ list_all (λ e. is_lt (version_cmp e.0 version.now)) entries.now }
+{
+    match entries.last() {
+        Some((last, _)) => last < version,
+        None => true,
+    }
+}
+
+// Merges the other versions in, and drops those that are older than this one.
+fn merge_from(
+    ours: &mut Map<Version, Max<State>>,
+    theirs: &Map<Version, Max<State>>,
+    version: &Version,
+) -> Result<(), Memory>
+    ensures joined { OnOk result (ours.new ≡ map_from version.now (map_join (max_join state_cmp) ours.old theirs.now)) }
+    ensures unchanged { OnErr result (ours.new ≡ ours.old) }
+    ensures want { OnlyWant result }
+{
+    // Mostly the other row has older versions alone, which would be copied only to be dropped.
+    if !are_older(theirs.as_slice(), version) {
+        ours.merge(theirs)?;
+    }
+    ours.keep_from(version);
+    Ok(())
+}
+
 // Merges the other versions in, and drops those that are older than the newest.
 fn merge_versions(
     ours: &mut Map<Version, Max<State>>,
@@ -169,11 +198,10 @@ fn merge_versions(
     ensures unchanged { OnErr result (ours.new ≡ ours.old) }
     ensures want { OnlyWant result }
 {
-    ours.merge(theirs)?;
-    if let Some(version) = newest {
-        ours.keep_from(&version);
+    match newest {
+        Some(version) => merge_from(ours, theirs, &version),
+        None => ours.merge(theirs),
     }
-    Ok(())
 }
 
 impl Crdt for ObjectRow {

@@ -10,7 +10,7 @@ ghost use Rattle.row_codec.specs.Spelling.{counted};
 use crate::field::Field;
 use crate::lists::{are_short, items_len, put_items, take_items};
 use crdt_core::{Bytes, Crdt, Map, Memory, Value};
-use row_codec::{Fault, are_ascending, map_of};
+use row_codec::Fault;
 use std::alloc::Global;
 
 impl<K: Value + Field, V: Crdt + Field> Field for Map<K, V> {
@@ -39,9 +39,9 @@ impl<K: Value + Field, V: Crdt + Field> Field for Map<K, V> {
     #[tactic(auto, unfolding(row_codec::specs::Rows::map_at, row_codec::specs::Reading::tested_at))]
     fn take(alloc: Global, bytes: &[u8]) -> Result<(Map<K, V>, &[u8]), Fault> {
         let (entries, rest) = take_items::<(K, V)>(alloc, bytes)?;
-        if !are_ascending(entries.as_slice()) {
-            return Err(Fault::NotARow);
+        match Map::from_entries(entries) {
+            Some(map) => Ok((map, rest)),
+            None => Err(Fault::NotARow),
         }
-        Ok((map_of(alloc, entries.as_slice())?, rest))
     }
 }

@@ -383,9 +383,9 @@ impl<S: Schema> Node<S> {
         ensures causes { WantOr result (Overflows S.Row.join S.words self.old (λ id x. receives S.Row.join S.words layouts id now x from (told packet.now))) }
     {
         match packet {
-            Packet::Msg(message) => self.on_message(from, message, now, out),
+            Packet::Msg(message) => self.on_message(from, message.get(), now, out),
             Packet::View(view) => {
-                self.take_view(view, now)?;
+                self.take_view(view.get(), now)?;
                 Ok(None)
             }
         }

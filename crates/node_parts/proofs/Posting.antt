@@ -23,21 +23,15 @@ module _ {R : Type 0} where
   to_each_more : (nodes : List ℕ) (i d : ℕ) (m : Message R) → i < length nodes → to_each {L = Layout} (take (i + 1) nodes) m ≡ to_each (take i nodes) m ++ to_each (get_or nodes i d ∷ []) m
   to_each_more nodes i d m lt = ap (λ ns. to_each ns m) (take_more nodes i d lt) ∙ map-append (λ n. record { to = n; packet = says m }) (take i nodes) (get_or nodes i d ∷ [])
 
-  -- a copy of the message went to one node more
-  pub sent_to_next : (from : ℕ) (old mid new : List (Envelope R)) (nodes : List ℕ) (i d : ℕ) (m copied : Message R) → i < length nodes → copied ≡ m →
-      Posts from old mid (to_each (take i nodes) m) → Posts from mid new (to_each (get_or nodes i d ∷ []) copied) → Posts from old new (to_each (take (i + 1) nodes) m)
-  sent_to_next from old mid new nodes i d m copied lt same p q =
-      posts_more from old mid new (to_each (take i nodes) m) (to_each (get_or nodes i d ∷ []) copied) p q
+  -- the message went to one node more
+  pub sent_to_next : (from : ℕ) (old mid new : List (Envelope R)) (nodes : List ℕ) (i d : ℕ) (m shared : Message R) → i < length nodes → shared ≡ m →
+      Posts from old mid (to_each (take i nodes) m) → Posts from mid new (to_each (get_or nodes i d ∷ []) shared) → Posts from old new (to_each (take (i + 1) nodes) m)
+  sent_to_next from old mid new nodes i d m shared lt same p q =
+      posts_more from old mid new (to_each (take i nodes) m) (to_each (get_or nodes i d ∷ []) shared) p q
       ∙ ap (λ c. map posted old ++ map (λ m. (from, m)) (to_each (take i nodes) m ++ to_each (get_or nodes i d ∷ []) c)) same
       ∙ ap (λ posts. map posted old ++ map (λ m. (from, m)) posts) (sym (to_each_more nodes i d m lt))
 
-  -- the message itself went to the last node
-  pub sent_to_last : (from : ℕ) (old mid new : List (Envelope R)) (nodes others : List ℕ) (i last : ℕ) (m own : Message R) → nodes ≡ others ++ last ∷ [] → take i others ≡ others → own ≡ m →
-      Posts from old mid (to_each (take i others) m) → Posts from mid new (to_each (last ∷ []) own) → Posts from old new (to_each nodes m)
-  sent_to_last from old mid new nodes others i last m own are all same p q =
-      posts_more from old mid new (to_each (take i others) m) (to_each (last ∷ []) own) p q
-      ∙ ap (λ posts. map posted old ++ map (λ m. (from, m)) posts)
-      (ap (λ o. to_each (take i others) m ++ to_each (last ∷ []) o) same
-      ∙ ap (λ ns. to_each ns m ++ to_each (last ∷ []) m) all
-      ∙ sym (map-append (λ n. record { to = n; packet = says m }) others (last ∷ []))
-      ∙ ap (λ ns. to_each ns m) (sym are))
+  -- and so to all of them
+  pub sent_to_all : (from : ℕ) (old new : List (Envelope R)) (nodes so_far : List ℕ) (m : Message R) → so_far ≡ nodes →
+      Posts from old new (to_each so_far m) → Posts from old new (to_each nodes m)
+  sent_to_all from old new nodes so_far m all p = p ∙ ap (λ ns. map posted old ++ map (λ m. (from, m)) (to_each ns m)) all

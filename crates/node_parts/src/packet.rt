@@ -1,12 +1,13 @@
 //! What travels between nodes.
 use layout_history::View;
+use shared_value::Shared;
 use wire_messages::Message;
 
-/// A message, or a whole view.
+/// A message, which all whom it is sent to share, or a whole view.
 #[derive(Drop)]
 pub enum Packet<R> {
-    Msg(Message<R>),
-    View(View),
+    Msg(Shared<Message<R>>),
+    View(Shared<View>),
 }
 
 /// A packet on its way. Nodes are 1 to 16.

@@ -17,6 +17,7 @@ use crdt_rows::{AnyRow, Body, ObjectRow, RefRow, State, Version};
 use layout_roles::{Assignment, Kind, Layout, Role, Roles, Zone};
 use node_core::{BeginFault, Envelope, Node, Packet};
 use object_schema::S3Schema;
+use shared_value::Shared;
 use std::alloc::Global;
 use std::test::Fail;
 use table_schema::{RowFault, Schema};
@@ -84,7 +85,7 @@ fn marker(alloc: Global, ts: u64) -> Result<AnyRow, Memory> {
     }
     let key = Bytes::from_slice(alloc, b"a")?;
     let row = ObjectRow::single(alloc, BUCKET, key, Version { ts, id: ts }, state)?;
-    Ok(AnyRow::Object(row))
+    AnyRow::object(alloc, row)
 }
 
 // The reference of one version to the block.
@@ -162,8 +163,11 @@ fn carries_blocks(alloc: Global, packet: &Packet<AnyRow>) -> Result<bool, Memory
     ensures { IfOk result (λ is. IsTrue is → PacketCarriesBlocks (blake2b 32) words (told packet.now)) }
 {
     match packet {
-        Packet::Msg(Message::Store { rows, .. }) => come_with_blocks(alloc, rows.as_slice()),
-        _ => Ok(true),
+        Packet::Msg(message) => match message.get() {
+            Message::Store { rows, .. } => come_with_blocks(alloc, rows.as_slice()),
+            _ => Ok(true),
+        },
+        Packet::View(_) => Ok(true),
     }
 }
 
@@ -194,11 +198,16 @@ fn work(alloc: Global, node: &mut Node<S3Schema>, now: u64) -> Result<LocalEnd, 
 }
 
 // The node's view, on its way to node `to`.
-fn shown(node: &Node<S3Schema>, from: u8, to: u8) -> Result<Envelope<AnyRow>, Memory> {
+fn shown(
+    alloc: Global,
+    node: &Node<S3Schema>,
+    from: u8,
+    to: u8,
+) -> Result<Envelope<AnyRow>, Memory> {
     Ok(Envelope {
         from,
         to,
-        packet: Packet::View(node.view().copy()?),
+        packet: Packet::View(Shared::new(alloc, node.view().copy()?)?),
     })
 }
 
@@ -249,10 +258,10 @@ impl Cluster {
         let _ = self.deliver(out)?;
         let mut views = Vec::new(self.alloc);
         for to in 1..=4 {
-            views.push(shown(&self.first, 1, to)?)?;
-            views.push(shown(&self.second, 2, to)?)?;
-            views.push(shown(&self.third, 3, to)?)?;
-            views.push(shown(&self.fourth, 4, to)?)?;
+            views.push(shown(self.alloc, &self.first, 1, to)?)?;
+            views.push(shown(self.alloc, &self.second, 2, to)?)?;
+            views.push(shown(self.alloc, &self.third, 3, to)?)?;
+            views.push(shown(self.alloc, &self.fourth, 4, to)?)?;
         }
         let _ = self.deliver(views)?;
         Ok(())
@@ -300,7 +309,7 @@ fn a_marker_is_stored_read_and_listed(rt: HostRuntime) -> Result<(), Fail> {
     let Some(PhaseEnd::Row(Some(AnyRow::Object(row)))) = cluster.deliver(out)? else {
         return Err("no row".into());
     };
-    assert_eq!(rt; row.greatest_ts(), 5);
+    assert_eq!(rt; row.get().greatest_ts(), 5);
     let mut out = Vec::new(alloc);
     cluster.second.phase(2, scan(alloc), &mut out)?;
     let Some(PhaseEnd::Window { rows, end }) = cluster.deliver(out)? else {

@@ -116,7 +116,7 @@ fn deleted_versions(alloc: Global, versions: &[(Version, Bool)]) -> Result<Vec<A
     for entry in versions {
         let id = entry.0.id;
         let blocks = Deletable::Deleted;
-        rows.push(AnyRow::Version(VersionRow { id, blocks }))?;
+        rows.push(AnyRow::version(alloc, VersionRow { id, blocks })?)?;
     }
     Ok(rows)
 }

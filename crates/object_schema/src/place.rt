@@ -37,8 +37,8 @@ pub fn is_placed(row: &AnyRow)
     ensures { IsTrue (is_proper row.now) }
 {
     match row {
-        AnyRow::Object(row) => hash_in_range(&row.bucket),
-        AnyRow::Version(row) => id_in_range(&row.id),
+        AnyRow::Object(row) => hash_in_range(&row.get().bucket),
+        AnyRow::Version(row) => id_in_range(&row.get().id),
         AnyRow::Ref(row) => {
             hash_in_range(&row.hash);
             id_in_range(&row.id);
@@ -58,8 +58,8 @@ pub fn position(row: &AnyRow) -> Hash32
     ensures { result.0 ≡ position_of row.now }
 {
     match row {
-        AnyRow::Object(row) => row.bucket,
-        AnyRow::Version(row) => blake2b_256(&id_bytes(row.id)),
+        AnyRow::Object(row) => row.get().bucket,
+        AnyRow::Version(row) => blake2b_256(&id_bytes(row.get().id)),
         AnyRow::Ref(row) => row.hash,
     }
 }
@@ -79,8 +79,11 @@ pub fn key(alloc: Global, row: &AnyRow) -> Result<Bytes, Memory>
     ensures want { OnlyWant result }
 {
     match row {
-        AnyRow::Object(row) => joined(alloc, &row.bucket.0, row.key.as_slice()),
-        AnyRow::Version(row) => Bytes::from_slice(alloc, &id_bytes(row.id)),
+        AnyRow::Object(row) => {
+            let row = row.get();
+            joined(alloc, &row.bucket.0, row.key.as_slice())
+        }
+        AnyRow::Version(row) => Bytes::from_slice(alloc, &id_bytes(row.get().id)),
         AnyRow::Ref(row) => joined(alloc, &row.hash.0, &id_bytes(row.id)),
     }
 }

@@ -54,8 +54,8 @@ impl Schema for S3Schema {
 
     fn tombstone(row: &AnyRow) -> bool {
         match row {
-            AnyRow::Object(row) => only_marker(row.versions.as_slice()).is_some(),
-            AnyRow::Version(row) => matches!(row.blocks, Deletable::Deleted),
+            AnyRow::Object(row) => only_marker(row.get().versions.as_slice()).is_some(),
+            AnyRow::Version(row) => matches!(row.get().blocks, Deletable::Deleted),
             AnyRow::Ref(row) => row.deleted.0,
         }
     }
@@ -69,7 +69,7 @@ impl Schema for S3Schema {
 
     fn marker(row: &AnyRow) -> Option<(u64, u64)> {
         match row {
-            AnyRow::Object(row) => only_marker(row.versions.as_slice()),
+            AnyRow::Object(row) => only_marker(row.get().versions.as_slice()),
             AnyRow::Version(_) | AnyRow::Ref(_) => None,
         }
     }
@@ -77,11 +77,11 @@ impl Schema for S3Schema {
     fn triggers(alloc: Global, old: &AnyRow, new: &AnyRow) -> Result<Vec<AnyRow>, Memory> {
         match old {
             AnyRow::Object(old) => match new {
-                AnyRow::Object(new) => object_triggers(alloc, old, new),
+                AnyRow::Object(new) => object_triggers(alloc, old.get(), new.get()),
                 _ => Ok(Vec::new(alloc)),
             },
             AnyRow::Version(old) => match new {
-                AnyRow::Version(new) => version_triggers(alloc, old, new),
+                AnyRow::Version(new) => version_triggers(alloc, old.get(), new.get()),
                 _ => Ok(Vec::new(alloc)),
             },
             AnyRow::Ref(_) => Ok(Vec::new(alloc)),

@@ -12,26 +12,9 @@ ghost use Rattle.row_codec.specs.Spelling.{spelled};
 use crate::fault::Fault;
 use crate::field::Field;
 use crdt_core::{Bytes, Memory};
-use crdt_rows::{AnyRow, Body, State};
+use crdt_rows::AnyRow;
 use std::alloc::Global;
 use table_schema::RowFault;
-
-/// Room for all of a row but the objects that it keeps: a bucket, most keys, and a version or two with few headers.
-const FIRST_ROOM: usize = 256;
-
-// How many bytes of objects a row keeps itself, so that its bytes mostly move nowhere while they are written.
-fn inline_len(row: &AnyRow) -> usize {
-    let AnyRow::Object(row) = row else {
-        return 0;
-    };
-    let mut len: usize = 0;
-    for version in row.versions.as_slice() {
-        if let State::Complete(Body::Inline(_, bytes)) = &version.1.0 {
-            len = len.saturating_add(bytes.len());
-        }
-    }
-    len
-}
 
 /// The bytes of a row. `Full` where one of its lengths or counts is 2^32 or more.
 pub fn encode(alloc: Global, row: &AnyRow) -> Result<Bytes, Memory>
@@ -41,11 +24,8 @@ pub fn encode(alloc: Global, row: &AnyRow) -> Result<Bytes, Memory>
     ensures causes { WantOr result (has_bytes row.now ≡ false) }
     ensures full { has_bytes row.now ≡ false → result ≡ Err Full }
 {
-    if !row.is_short() {
-        return Err(Memory::Full);
-    }
-    let room = inline_len(row).saturating_add(FIRST_ROOM);
-    let mut out = Bytes::from_vec(Vec::with_capacity(alloc, room)?);
+    let len = length(row)?;
+    let mut out = Bytes::from_vec(Vec::with_capacity(alloc, len)?);
     row.put(&mut out)?;
     Ok(out)
 }

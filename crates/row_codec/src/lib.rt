@@ -16,7 +16,7 @@
 //!   is the one with the greater bytes.
 //!
 //! Inside, each part of a row is a `Field`, which writes itself at the end of bytes and is read from their front.
-//! `Fault`, `are_ascending` and `map_of` serve the fields of other rows too (k2v_schema).
+//! `Fault` serves the fields of other rows too (k2v_schema).
 #![tactic(auto)]
 
 mod codec;
@@ -31,5 +31,4 @@ mod rows;
 
 pub use codec::{decode, encode, length, rows_are_read_back};
 pub use fault::Fault;
-pub use maps::{are_ascending, map_of};
 pub use order::states_are_ordered_as_bytes;

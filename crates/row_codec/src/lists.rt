@@ -1,5 +1,5 @@
 //! Pairs, and lists of values.
-ghost use Rattle.std.specs.Prelude.{◌≡◌, ◌≤◌, ◌^◌, ◌&&◌, ◌++◌, length, IfSome, IfNone, IsTrue, OnOk};
+ghost use Rattle.std.specs.Prelude.{◌≡◌, ◌≤◌, ◌^◌, ◌&&◌, ◌++◌, [], length, IfOk, IfSome, IfNone, IsTrue, OnOk};
 ghost use Rattle.std.specs.List.{list_all, flat_map};
 ghost use Rattle.crdt_core.specs.Outcomes.{OnlyWant};
 ghost use Rattle.row_codec.specs.Gives.{Gives};
@@ -107,10 +107,21 @@ fn each_len<T: Field>(items: &[T]) -> Option<usize>
     Some(total)
 }
 
+// So many items get just the room that they need; a greater count isn't believed before they were read.
+const FEW: u32 = 4;
+
+fn with_room<T>(alloc: Global, count: u32) -> Result<List<T>, Memory>
+    ensures empty { IfOk result (λ items. items ≡ []) }
+    ensures want { OnlyWant result }
+{
+    let room = count.min(FEW) as usize;
+    Ok(List::from_vec(Vec::with_capacity(alloc, room)?))
+}
+
 fn take_each<T: Field>(alloc: Global, count: u32, bytes: &[u8]) -> Result<(List<T>, &[u8]), Fault>
     ensures { Gives (λ x. (x.0, x.1.now)) result (each_at T.read count bytes.now) }
 {
-    let mut items = List::new(alloc);
+    let mut items = with_room(alloc, count)?;
     let mut rest = bytes;
     for _ in 0..count {
         let (item, after) = T::take(alloc, rest)?;

@@ -1,8 +1,6 @@
 //! Flags, values that may be deleted, and maps.
-ghost use Rattle.std.specs.Prelude.{◌≡◌, ◌&&◌, ◌++◌, true, IsTrue, IfOk};
+ghost use Rattle.std.specs.Prelude.{◌&&◌, ◌++◌, true};
 ghost use Rattle.std.specs.List.{list_all};
-ghost use Rattle.crdt_core.specs.Outcomes.{OnlyWant};
-ghost use Rattle.crdt_core.specs.Entries.{is_ascending};
 ghost use Rattle.crdt_core.specs.Map.{map_entries};
 ghost use Rattle.row_codec.specs.Range.{are_short, unless_deleted};
 ghost use Rattle.row_codec.specs.Rows.{flag_at, deletable_at, map_at};
@@ -14,7 +12,6 @@ use crate::field::Field;
 use crate::lists::{are_short, items_len, put_items};
 use crdt_core::{Bool, Bytes, Crdt, Deletable, List, Map, Memory, Value};
 use std::alloc::Global;
-use std::cmp::Ordering;
 
 impl Field for Bool {
     ghost in_range = { λ b. true };
@@ -97,33 +94,6 @@ impl<V: Crdt + Field> Field for Deletable<V> {
     }
 }
 
-/// Each key is below the next.
-pub fn are_ascending<K: Value, V>(entries: &[(K, V)]) -> bool
-    ensures { result ≡ is_ascending K.cmp entries.now }
-{
-    let mut rest = entries;
-    while let [first, second, ..] = rest {
-        if first.0.cmp(&second.0) != Ordering::Less {
-            return false;
-        }
-        rest = &rest[1..];
-    }
-    true
-}
-
-/// The map of entries that ascend.
-pub fn map_of<K: Value, V: Crdt>(alloc: Global, entries: &[(K, V)]) -> Result<Map<K, V>, Memory>
-    requires { IsTrue (is_ascending K.cmp entries.now) }
-    ensures same { IfOk result (λ m. map_entries m ≡ entries.now) }
-    ensures want { OnlyWant result }
-{
-    let mut map = Map::new(alloc);
-    for entry in entries {
-        map.join_at(entry.0.copy()?, &entry.1)?;
-    }
-    Ok(map)
-}
-
 impl<K: Value + Field, V: Crdt + Field> Field for Map<K, V> {
     ghost in_range = { λ m. list_all (λ e. K.in_range e.0 && V.in_range e.1) (map_entries m) };
 
@@ -150,9 +120,9 @@ impl<K: Value + Field, V: Crdt + Field> Field for Map<K, V> {
     #[tactic(auto, unfolding(crate::specs::Rows::map_at, crate::specs::Reading::tested_at))]
     fn take(alloc: Global, bytes: &[u8]) -> Result<(Map<K, V>, &[u8]), Fault> {
         let (entries, rest) = List::<(K, V)>::take(alloc, bytes)?;
-        if !are_ascending(entries.as_slice()) {
-            return Err(Fault::NotARow);
+        match Map::from_entries(entries) {
+            Some(map) => Ok((map, rest)),
+            None => Err(Fault::NotARow),
         }
-        Ok((map_of(alloc, entries.as_slice())?, rest))
     }
 }

@@ -138,16 +138,16 @@ impl Field for AnyRow {
 
     fn is_short(&self) -> bool {
         match self {
-            AnyRow::Object(row) => row.is_short(),
-            AnyRow::Version(row) => row.is_short(),
+            AnyRow::Object(row) => row.get().is_short(),
+            AnyRow::Version(row) => row.get().is_short(),
             AnyRow::Ref(row) => row.is_short(),
         }
     }
 
     fn spelled_len(&self) -> Option<usize> {
         match self {
-            AnyRow::Object(row) => row.spelled_len()?.checked_add(1),
-            AnyRow::Version(row) => row.spelled_len()?.checked_add(1),
+            AnyRow::Object(row) => row.get().spelled_len()?.checked_add(1),
+            AnyRow::Version(row) => row.get().spelled_len()?.checked_add(1),
             AnyRow::Ref(row) => row.spelled_len()?.checked_add(1),
         }
     }
@@ -156,11 +156,11 @@ impl Field for AnyRow {
         match self {
             AnyRow::Object(row) => {
                 out.push(1)?;
-                row.put(out)
+                row.get().put(out)
             }
             AnyRow::Version(row) => {
                 out.push(2)?;
-                row.put(out)
+                row.get().put(out)
             }
             AnyRow::Ref(row) => {
                 out.push(3)?;
@@ -174,11 +174,11 @@ impl Field for AnyRow {
         match bytes {
             [1, rest @ ..] => {
                 let (row, rest) = ObjectRow::take(alloc, rest)?;
-                Ok((AnyRow::Object(row), rest))
+                Ok((AnyRow::object(alloc, row)?, rest))
             }
             [2, rest @ ..] => {
                 let (row, rest) = VersionRow::take(alloc, rest)?;
-                Ok((AnyRow::Version(row), rest))
+                Ok((AnyRow::version(alloc, row)?, rest))
             }
             [3, rest @ ..] => {
                 let (row, rest) = RefRow::take(alloc, rest)?;

@@ -41,7 +41,7 @@ fn object_row(alloc: Global, name: Name, version: Version, state: State) -> Resu
 {
     let Name { bucket, key } = name;
     let row = ObjectRow::single(alloc, hash_of(bucket.as_slice()), key, version, state)?;
-    Ok(AnyRow::Object(row))
+    AnyRow::object(alloc, row)
 }
 
 /// The upload of this version has begun.
@@ -125,7 +125,7 @@ fn version_row(alloc: Global, id: u64, part: Part, block: BlockRef) -> Result<An
     let mut blocks = Map::new(alloc);
     blocks.join_at(part, &Max(block))?;
     let blocks = Deletable::Present(blocks);
-    Ok(AnyRow::Version(VersionRow { id, blocks }))
+    AnyRow::version(alloc, VersionRow { id, blocks })
 }
 
 // The two rows of a block, with its bytes beside the reference.

@@ -5,7 +5,7 @@ ghost use Rattle.flow_model.specs.Says.{greatest_ts as greatest_in, said_of, sai
 ghost use Rattle.s3_flow.specs.Said.{said, named};
 
 use blake2_hash::Hash32;
-use crdt_core::{Bytes, Deletable, List, Max, Memory};
+use crdt_core::{Bytes, Crdt, Deletable, List, Max, Memory};
 use crdt_rows::{AnyRow, BlockRef, Body, Meta, ObjectRow, Part, Version};
 use std::alloc::Global;
 
@@ -38,7 +38,7 @@ pub fn greatest_ts(row: &Option<AnyRow>) -> u64
     ensures { result ≡ greatest_in row.now }
 {
     match row {
-        Some(AnyRow::Object(row)) => row.greatest_ts(),
+        Some(AnyRow::Object(row)) => row.get().greatest_ts(),
         _ => 0,
     }
 }
@@ -60,7 +60,7 @@ pub fn said_of(row: &Option<AnyRow>) -> Said
     ensures { said result ≡ said_of row.now }
 {
     match row {
-        Some(AnyRow::Object(row)) => said_by(row),
+        Some(AnyRow::Object(row)) => said_by(row.get()),
         _ => Said::Nothing,
     }
 }
@@ -75,20 +75,20 @@ fn is_shown(row: &ObjectRow) -> bool
     )
 }
 
-// Moves a row to the end of the list, where a list shows it.
+// Puts a row at the end of the list, where a list shows it.
 fn push_shown(rows: &mut List<ObjectRow>, row: AnyRow) -> Result<(), Memory>
     ensures ok { OnOk result (rows.new ≡ rows.old ++ shown_rows (row ∷ [])) }
     ensures want { OnlyWant result }
 {
     if let AnyRow::Object(row) = row {
-        if is_shown(&row) {
-            rows.push(row)?;
+        if is_shown(row.get()) {
+            rows.push(row.get().copy()?)?;
         }
     }
     Ok(())
 }
 
-/// Moves the rows of a window that a list shows to the end of the list.
+/// Puts the rows of a window that a list shows at the end of the list.
 pub fn take_shown(rows: &mut List<ObjectRow>, others: List<AnyRow>) -> Result<(), Memory>
     ensures ok { OnOk result (rows.new ≡ rows.old ++ shown_rows others) }
     ensures want { OnlyWant result }
@@ -134,7 +134,7 @@ pub fn named_by(alloc: Global, row: &Option<AnyRow>, size: u64) -> Result<Named,
     let Some(AnyRow::Version(row)) = row else {
         return Ok(Named::Unnamed);
     };
-    match &row.blocks {
+    match &row.get().blocks {
         Deletable::Deleted => Ok(Named::Deleted),
         Deletable::Present(blocks) => {
             if are_whole(blocks.as_slice(), size) {

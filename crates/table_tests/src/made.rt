@@ -84,20 +84,17 @@ fn blocks(alloc: Global, entries: &[(u64, u8)]) -> Result<Map<Part, Max<BlockRef
 
 pub fn row(alloc: Global, made: Made) -> Result<AnyRow, Memory> {
     match made {
-        Made::Object(key, ts, id, shape) => Ok(AnyRow::Object(object(
-            alloc,
-            key,
-            Version { ts, id },
-            shape,
-        )?)),
-        Made::Blocks(id, entries) => Ok(AnyRow::Version(VersionRow {
-            id,
-            blocks: Deletable::Present(blocks(alloc, entries)?),
-        })),
-        Made::Deleted(id) => Ok(AnyRow::Version(VersionRow {
-            id,
-            blocks: Deletable::Deleted,
-        })),
+        Made::Object(key, ts, id, shape) => {
+            AnyRow::object(alloc, object(alloc, key, Version { ts, id }, shape)?)
+        }
+        Made::Blocks(id, entries) => {
+            let blocks = Deletable::Present(blocks(alloc, entries)?);
+            AnyRow::version(alloc, VersionRow { id, blocks })
+        }
+        Made::Deleted(id) => {
+            let blocks = Deletable::Deleted;
+            AnyRow::version(alloc, VersionRow { id, blocks })
+        }
         Made::Reference(byte, id, deleted) => Ok(AnyRow::Ref(RefRow {
             hash: Hash32([byte; 32]),
             id,

@@ -21,11 +21,14 @@ fn versions(
     other: Made,
 ) -> Result<(usize, u64, Option<Version>), Memory> {
     match merged(alloc, first, &[other])? {
-        AnyRow::Object(row) => Ok((
-            row.versions.len(),
-            row.greatest_ts(),
-            row.newest().map(|(version, _)| version),
-        )),
+        AnyRow::Object(row) => {
+            let row = row.get();
+            Ok((
+                row.versions.len(),
+                row.greatest_ts(),
+                row.newest().map(|(version, _)| version),
+            ))
+        }
         _ => Ok((0, 0, None)),
     }
 }

@@ -16,7 +16,7 @@ pub fn kind<R>(packet: &Packet<R>) -> SentKind
 {
     match packet {
         Packet::View(_) => SentKind::View,
-        Packet::Msg(message) => match message {
+        Packet::Msg(message) => match message.get() {
             Message::Get { .. } => SentKind::Get,
             Message::Row { .. } => SentKind::Row,
             Message::Range { .. } => SentKind::Range,

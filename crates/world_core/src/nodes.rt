@@ -34,6 +34,7 @@ use layout_roles::Layout;
 use layout_trackers::Which;
 use node_core::{BeginFault, Envelope, Node, Packet};
 use node_parts::is_member as knows_member;
+use shared_value::Shared;
 use std::alloc::Global;
 use std::collections::BTreeMap;
 use table_schema::Schema;
@@ -113,7 +114,7 @@ impl<S: Schema> Nodes<S> {
             Some(found) => found.view().copy()?,
             None => View::new(self.alloc),
         };
-        Ok(Packet::View(view))
+        Ok(Packet::View(Shared::new(self.alloc, view)?))
     }
 
     /// What the node shows of itself; None where it knows no layout version.

@@ -60,9 +60,9 @@ fn packet_size<S: Schema>(packet: &Packet<S::Row>) -> Result<u64, Memory>
     ensures causes { WantOr result (IsWord (packet_bytes S.words packet.now) → ⊥) }
 {
     match packet {
-        Packet::Msg(message) => size::<S>(message),
+        Packet::Msg(message) => size::<S>(message.get()),
         Packet::View(view) => {
-            let versions = view.layouts().len() as u64;
+            let versions = view.get().layouts().len() as u64;
             match versions.checked_mul(1600) {
                 None => Err(Memory::Full),
                 Some(bytes) => match bytes.checked_add(64) {

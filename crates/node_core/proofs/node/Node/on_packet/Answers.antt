@@ -8,4 +8,4 @@ use Rattle.node_core.proofs.node.Node.on_packet.Goals as goal
 
 pub returns-in_ok-take_view-in-View-clause-receives : goal.returns-in_ok-take_view-in-View-clause-receives
 returns-in_ok-take_view-in-View-clause-receives g c id x is =
-    rw c.in-View.is (silent c.take_view.new.self id (sees g.S.Row.Crdt.join g.S.Schema.words layouts id c.args.now x (merged reading x.view (known c.in-View.view))) c.args.out.now.items (c.in_ok-take_view-in-View.ensures.sees id x is))
+    rw c.in-View.is (silent c.take_view.new.self id (sees g.S.Row.Crdt.join g.S.Schema.words layouts id c.args.now x (merged reading x.view (known c.in-View.view))) c.args.out.now.items (rw c.get-in-View.ensures at (c.in_ok-take_view-in-View.ensures.sees id x is)))

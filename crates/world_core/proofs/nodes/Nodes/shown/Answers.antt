@@ -13,7 +13,7 @@ returns-clause-shown g c xs are =
     let join = g.S.Row.Crdt.join in
     let s = g.S.Schema.words in
     let n = c.args.node in
-    ap shows (elim c.match-get.branch [
+    ap shows (ap known c.in_ok-new.ensures.same ∙ elim c.match-get.branch [
       | in-Some+in_ok-view-in-Some w ↦
           ap known (w.view-is ∙ w.in_ok-view-in-Some.ensures.same) ∙ w.view.ensures ∙ (stands_at join s c.args.self.now n w.in-Some.found.now xs w.in-Some.ensures.value are).view
       | in-None w ↦
