@@ -1,4 +1,5 @@
 //! What a request is in the middle of, and how it goes on.
+use block_bytes::Block;
 use crdt_core::{Bytes, List};
 use crdt_rows::{AnyRow, BlockRef, Meta, ObjectRow, Version};
 use object_bytes::ObjectBytes;
@@ -7,7 +8,8 @@ use wire_messages::Phase;
 /// An object's bucket and key.
 #[derive(Drop)]
 pub struct Name {
-    pub bucket: Bytes,
+    /// The bucket's name, with the digest by which rows know the bucket: it is taken once.
+    pub bucket: Block,
     pub key: Bytes,
 }
 
@@ -83,7 +85,7 @@ pub enum Stage {
     },
     /// A list asks for a window of rows. `rows` are those to be shown of the windows before it.
     Listing {
-        bucket: Bytes,
+        bucket: Block,
         prefix: Bytes,
         rows: List<ObjectRow>,
     },

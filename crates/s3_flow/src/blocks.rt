@@ -1,19 +1,9 @@
 //! The blocks that bytes are cut into.
 ghost use Rattle.std.specs.Prelude.{◌≡◌, ◌*◌, true, false, MatchOption, length};
-ghost use Rattle.blake2_hash.specs.Hash.{digest_of};
 ghost use Rattle.flow_model.specs.Blocks.{has_piece, is_long};
-
-use blake2_hash::{Hash32, blake2b_256};
 
 // Objects of so many bytes and more are kept in blocks.
 const INLINE_LIMIT: usize = 3072;
-
-/// The name of a bucket or a block, which is the digest of its bytes.
-pub fn hash_of(bytes: &[u8]) -> Hash32
-    ensures { result ≡ digest_of bytes.now }
-{
-    blake2b_256(bytes)
-}
 
 /// The bytes are kept in blocks.
 pub fn is_long(body: &[u8]) -> bool

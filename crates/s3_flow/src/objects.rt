@@ -1,15 +1,27 @@
 //! The requests of the object store as flows.
+ghost use Rattle.std.specs.Prelude.{◌≡◌, IfOk};
+ghost use Rattle.crdt_core.specs.Outcomes.{OnlyWant};
 
 use crate::begins::{draws, looks};
 use crate::goes_on::{after_block, after_kept, after_row, after_window};
 use crate::phases::asks_past;
 use crate::request::Request;
+use block_bytes::Block;
 use crdt_core::{Bytes, List, Memory};
 use crdt_rows::AnyRow;
 use flow_model::{Aim, Content, Flow, FlowStep, Flows, Name, Order, Stage, Wish};
 use object_bytes::ObjectBytes;
 use std::alloc::Global;
 use wire_messages::{Phase, PhaseEnd};
+
+// The name of an object. Hashes its bucket's.
+fn name_of(alloc: Global, bucket: Bytes, key: Bytes) -> Result<Name, Memory>
+    ensures is { IfOk result (λ name. name ≡ record { bucket = bucket; key = key }) }
+    ensures want { OnlyWant result }
+{
+    let bucket = Block::new(alloc, bucket)?;
+    Ok(Name { bucket, key })
+}
 
 /// The flows of the object store's requests. It keeps nothing.
 #[derive(Drop)]
@@ -33,12 +45,16 @@ impl Flows for ObjectFlows {
             } => {
                 let body = ObjectBytes::new(body);
                 let wish = Wish::Content(Content { body, headers });
-                draws(alloc, request, Name { bucket, key }, wish)
+                draws(alloc, request, name_of(alloc, bucket, key)?, wish)
             }
-            Order::Get { bucket, key } => looks(alloc, request, Name { bucket, key }, Aim::Get),
-            Order::Head { bucket, key } => looks(alloc, request, Name { bucket, key }, Aim::Head),
+            Order::Get { bucket, key } => {
+                looks(alloc, request, name_of(alloc, bucket, key)?, Aim::Get)
+            }
+            Order::Head { bucket, key } => {
+                looks(alloc, request, name_of(alloc, bucket, key)?, Aim::Head)
+            }
             Order::Delete { bucket, key } => {
-                draws(alloc, request, Name { bucket, key }, Wish::Marker)
+                draws(alloc, request, name_of(alloc, bucket, key)?, Wish::Marker)
             }
             Order::Copy {
                 from_bucket,
@@ -47,14 +63,12 @@ impl Flows for ObjectFlows {
                 key,
                 headers,
             } => {
-                let source = Name {
-                    bucket: from_bucket,
-                    key: from_key,
-                };
-                let name = Name { bucket, key };
+                let source = name_of(alloc, from_bucket, from_key)?;
+                let name = name_of(alloc, bucket, key)?;
                 looks(alloc, request, source, Aim::Copy { name, headers })
             }
             Order::List { bucket, prefix } => {
+                let bucket = Block::new(alloc, bucket)?;
                 let phase = asks_past(alloc, &bucket, &prefix, Bytes::new(alloc))?;
                 let rows = List::new(alloc);
                 let stage = Stage::Listing {

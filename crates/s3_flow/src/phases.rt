@@ -6,8 +6,8 @@ ghost use Rattle.wire_messages.specs.declared.phase.Phase.TheVariants as phase;
 ghost use Rattle.flow_model.specs.Flow.{asks_for, asks_past};
 ghost use Rattle.flow_model.specs.Next.{opens, stores};
 
-use crate::blocks::hash_of;
-use blake2_hash::Hash32;
+use blake2_hash::{Hash32, blake2b_256};
+use block_bytes::Block;
 use crdt_core::{Bytes, List, Memory};
 use crdt_rows::{AnyRow, Version};
 use flow_model::Name;
@@ -29,7 +29,7 @@ pub fn asks_for(alloc: Global, name: &Name) -> Result<Phase<AnyRow>, Memory>
     ensures is { IfOk result (λ phase. phase ≡ asks_for name.now) }
     ensures want { OnlyWant result }
 {
-    let position = hash_of(name.bucket.as_slice());
+    let position = *name.bucket.hash();
     let key = row_key(alloc, &position, &name.key)?;
     let table = 1;
     Ok(Phase::Read {
@@ -42,14 +42,14 @@ pub fn asks_for(alloc: Global, name: &Name) -> Result<Phase<AnyRow>, Memory>
 /// Asks for the rows of a bucket whose keys begin with the prefix and are past this key.
 pub fn asks_past(
     alloc: Global,
-    bucket: &Bytes,
+    bucket: &Block,
     prefix: &Bytes,
     after: Bytes,
 ) -> Result<Phase<AnyRow>, Memory>
     ensures is { IfOk result (λ phase. phase ≡ asks_past bucket.now prefix.now after) }
     ensures want { OnlyWant result }
 {
-    let position = hash_of(bucket.as_slice());
+    let position = *bucket.hash();
     let prefix = Bytes::from_slice(alloc, prefix.as_slice())?;
     Ok(Phase::Range {
         position,
@@ -71,7 +71,7 @@ pub fn opens(alloc: Global, version: Version) -> Result<Phase<AnyRow>, Memory>
     ensures want { OnlyWant result }
 {
     let id = id_bytes(version.id);
-    let position = hash_of(&id);
+    let position = blake2b_256(&id);
     let key = Bytes::from_slice(alloc, &id)?;
     let table = 2;
     Ok(Phase::Read {

@@ -8,6 +8,7 @@ ghost use Rattle.s3_flow.specs.Said.{said};
 use crate::phases::{asks_for, asks_past, opens};
 use crate::request::Request;
 use crate::says::{Named, Said, named_by, said_of, take_shown};
+use block_bytes::Block;
 use crdt_core::{Bytes, List, Memory, Value};
 use crdt_rows::{AnyRow, BlockRef, Meta, ObjectRow, Version};
 use flow_model::{Aim, Content, FlowEnd, FlowStep, Stage, Wish};
@@ -162,7 +163,7 @@ pub fn opened(
 pub fn lists(
     alloc: Global,
     request: Request,
-    bucket: Bytes,
+    bucket: Block,
     prefix: Bytes,
     mut rows: List<ObjectRow>,
     others: List<AnyRow>,

@@ -10,7 +10,7 @@ ghost use Rattle.flow_model.specs.declared.flow.Content.{Content as ContentOf};
 ghost use Rattle.flow_model.specs.Blocks.{piece_hash};
 ghost use Rattle.flow_model.specs.Rows as model;
 
-use crate::blocks::{hash_of, is_long};
+use crate::blocks::is_long;
 use blake2_hash::Hash32;
 use block_bytes::Block;
 use crdt_core::{Bool, Bytes, Deletable, List, Map, Max, Memory, Value};
@@ -40,7 +40,7 @@ fn object_row(alloc: Global, name: Name, version: Version, state: State) -> Resu
     ensures want { OnlyWant result }
 {
     let Name { bucket, key } = name;
-    let row = ObjectRow::single(alloc, hash_of(bucket.as_slice()), key, version, state)?;
+    let row = ObjectRow::single(alloc, *bucket.hash(), key, version, state)?;
     AnyRow::object(alloc, row)
 }
 

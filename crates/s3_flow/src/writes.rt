@@ -70,7 +70,7 @@ fn copy_of(name: &Name) -> Result<Name, Memory>
     ensures want { OnlyWant result }
 {
     Ok(Name {
-        bucket: name.bucket.copy()?,
+        bucket: name.bucket.share()?,
         key: name.key.copy()?,
     })
 }

@@ -13,7 +13,7 @@ fn object_bytes(alloc: Global, size: u32, fill: u8) -> Result<Bytes, Memory>
     ensures same { IfOk result (λ bytes. bytes ≡ bytes_of_object size fill) }
     ensures want { OnlyWant result }
 {
-    let mut bytes = Bytes::new(alloc);
+    let mut bytes = Bytes::from_vec(Vec::with_capacity(alloc, size as usize)?);
     for i in 0..size {
         let byte = (u64::from(fill) + u64::from(i)) % 251;
         bytes.push(byte as u8)?;
