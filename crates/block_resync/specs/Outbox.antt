@@ -50,12 +50,12 @@ item_forgot x = record x { confirmed = [] }
 
 -- ---- the calls
 
--- a row more waits, under the next number
-abbrev pub pushed_on : Outbox → List ℕ → Outbox
-pushed_on o row =
+-- a row more waits, with its partition, under the next number
+abbrev pub pushed_on : Outbox → List ℕ → ℕ → Outbox
+pushed_on o row partition =
     record {
       pushed = o.pushed + 1;
-      items = o.items ++ record { number = o.pushed + 1; row = row; confirmed = [] } ∷ [];
+      items = o.items ++ record { number = o.pushed + 1; row = row; partition = partition; confirmed = [] } ∷ [];
     }
 
 -- the node confirms the item with this number, where there is one

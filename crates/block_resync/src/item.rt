@@ -12,6 +12,8 @@ pub struct Item {
     pub number: u64,
     /// The row's bytes.
     pub row: Bytes,
+    /// The partition that the row lies in.
+    pub partition: u8,
     /// The nodes that have confirmed it, each once.
     pub confirmed: List<u8>,
 }

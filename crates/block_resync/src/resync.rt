@@ -42,10 +42,10 @@ impl Resync {
         }
     }
 
-    /// Puts a row at the end of the list, and answers its number.
-    pub fn push(&mut self, row: Bytes) -> Result<u64, Memory>
+    /// Puts a row of this partition at the end of the list, and answers its number.
+    pub fn push(&mut self, row: Bytes, partition: u8) -> Result<u64, Memory>
         ensures number { IfOk result (λ n. n ≡ self.old.pushed + 1) }
-        ensures ok { OnOk result (self.new ≡ pushed_on self.old row) }
+        ensures ok { OnOk result (self.new ≡ pushed_on self.old row partition) }
         ensures err { OnErr result (self.new ≡ self.old) }
         ensures refused { IfErr result (RefusesPush self.old.pushed) }
     {
@@ -57,6 +57,7 @@ impl Resync {
         self.items.push(Item {
             number,
             row,
+            partition,
             confirmed,
         })?;
         self.pushed = number;

@@ -12,7 +12,7 @@ const SETS: [[u8; 3]; 2] = [[1, 2, 3], [3, 4, 5]];
 // Whether an item is done after these nodes' confirmations, and how many are left.
 fn after(alloc: Global, nodes: &[u8]) -> Result<(bool, usize), Memory> {
     let mut outbox = Resync::new(alloc);
-    let number = outbox.push(Bytes::from_slice(alloc, b"a")?)?;
+    let number = outbox.push(Bytes::from_slice(alloc, b"a")?, 7)?;
     for node in nodes {
         outbox.confirm(number, *node)?;
     }

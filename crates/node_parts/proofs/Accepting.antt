@@ -8,7 +8,7 @@ use Rattle.blake2_hash.specs.declared.digest.Hash32.{Hash32}
 use Rattle.block_resync.specs.Outbox.{Outbox, pushed_on}
 use Rattle.block_resync.specs.declared.item.Item.{Item}
 use Rattle.layout_roles.specs.declared.layout.Layout.{Layout}
-use Rattle.table_schema.specs.Words.{Words}
+use Rattle.table_schema.specs.Words.{Words, partition_of}
 use Rattle.table_schema.specs.Laws.{Laws}
 use Rattle.table_model.specs.Rows.{AllProper, row_at, rows, merged_in, find_row, change_of}
 use Rattle.table_model.proofs.RowLaws.{row_found}
@@ -62,16 +62,16 @@ module _ {R : Type 0} (join : R → R → R) (s : Words R) where
       let one : suc n + length xs ≡ n + suc (length xs) = omega arith in
       ap (λ ms. item_of n x ∷ ms) (queue_more (suc n) xs r ∙ ap (λ k. queue_from join s (suc n) xs ++ item_of k r ∷ []) one)
 
-  pub queues_more : (old mid : Outbox) (rs : List R) (r : R) (bytes : List ℕ) → Queues old mid rs → s.spelling r ≡ Some bytes → Queues old (pushed_on mid bytes) (rs ++ r ∷ [])
-  queues_more old mid rs r bytes q spelled ms h =
+  pub queues_more : (old mid : Outbox) (rs : List R) (r : R) (bytes : List ℕ) (p : ℕ) → Queues old mid rs → s.spelling r ≡ Some bytes → p ≡ partition_of s r → Queues old (pushed_on mid bytes p) (rs ++ r ∷ [])
+  queues_more old mid rs r bytes p q spelled place ms h =
       let was = q ms h in
       let before = ms ++ queue_from join s old.pushed rs in
       let last = item_of (old.pushed + length rs) r in
       let here : before ++ last ∷ [] ≡ ms ++ queue_from join s old.pushed (rs ++ r ∷ []) = append_assoc ms (queue_from join s old.pushed rs) (last ∷ []) ∙ ap (λ l. ms ++ l) (sym (queue_more old.pushed rs r)) in
-      let item : Item = record { number = mid.pushed + 1; row = bytes; confirmed = [] } in
+      let item : Item = record { number = mid.pushed + 1; row = bytes; partition = p; confirmed = [] } in
       let number : mid.pushed + 1 ≡ suc (old.pushed + length rs) = omega (arith, was.pushed) in
       record {
-        items = subst (AllZip (IsItem s) (pushed_on mid bytes).items) here (zip_push (IsItem s) mid.items before item last was.items (record { number = number; row = spelled; confirmed = λ n. refl }));
+        items = subst (AllZip (IsItem s) (pushed_on mid bytes p).items) here (zip_push (IsItem s) mid.items before item last was.items (record { number = number; row = spelled; partition = place; confirmed = λ n. refl }));
         pushed = omega (arith, was.pushed, length-append rs (r ∷ []));
       }
 

@@ -1,13 +1,11 @@
 -- Contents in which a node confirms an item.
-use Rattle.std.proofs.Common.{◌≡◌, ◌<◌, ℕ, zero, suc, Bool, if◌then◌else◌, List, [], ◌∷◌, Option, Some, None, option_map, Result, Ok, Err, IfOk, IfSome, slice_get, get_or, length, sym, ap, ◌∙◌, subst, arith}
+use Rattle.std.proofs.Common.{◌≡◌, ◌<◌, ℕ, zero, suc, Bool, if◌then◌else◌, List, [], ◌∷◌, Some, None, option_map, IfSome, slice_get, get_or, length, sym, ap, ◌∙◌, subst, arith}
 use Rattle.std.specs.List.{AllZip}
 use Rattle.block_resync.specs.Outbox.{Outbox, IsNumbered, confirmed, dropped, is_done as code_done}
 use Rattle.block_resync.specs.declared.item.Item.{Item}
 use Rattle.layout_roles.specs.declared.layout.Layout.{Layout}
 use Rattle.view_model.specs.View.{View}
-use Rattle.crdt_core.specs.declared.memory.Memory.{Memory}
 use Rattle.table_schema.specs.Words.{Words, partition_of}
-use Rattle.table_schema.specs.Laws.{Laws}
 use Rattle.cluster_machine.specs.Node.{Node, Item as Waiting}
 use Rattle.cluster_machine.specs.Layouts.{stored_sets, layouts}
 use Rattle.cluster_machine.specs.Receives.{item_came}
@@ -43,8 +41,7 @@ number_at n [] i d lt h = absurd (omega arith)
 number_at n (x ∷ xs) zero d lt h = h
 number_at n (x ∷ xs) (suc i) d lt h = number_at n xs i d (omega arith) h
 
--- the partition that was read off the bytes is that of the item with the number
-pub read_at : {S R : Type 0} {join : R → R → R} {s : Words R} (laws : Laws join s) (r : Result (Option ℕ) Memory) (c : Contents S R) (n i : ℕ) (d : Item) → IsNumbered c.outbox.pushed c.outbox.items → i < length c.outbox.items → IfSome (slice_get c.outbox.items i) (λ x. x.number ≡ n) →
-    IfOk r (λ p. p ≡ option_map (partition_of s) (s.read (get_or c.outbox.items i d).row)) → IfOk r (λ p. (x : Node R Layout) → IsContents join s c x → p ≡ option_map (λ (m : Waiting R). partition_of s m.row) (item_at x.items n))
-read_at laws (Ok p) c n i d numbered lt at e = λ x h. e ∙ item_found laws n 0 c.outbox.items x.items i d numbered.rises h.items lt (number_at n c.outbox.items i d lt at)
-read_at laws (Err e) c n i d numbered lt at is = tt
+-- the partition at the place of the number is that of the item with the number
+pub partition_there : {R : Type 0} (s : Words R) (o : Outbox) (ms : List (Waiting R)) (n i : ℕ) (d : Item) → IsNumbered o.pushed o.items → AllZip (IsItem s) o.items ms → i < length o.items → IfSome (slice_get o.items i) (λ x. x.number ≡ n) →
+    Some (get_or o.items i d).partition ≡ option_map (λ (m : Waiting R). partition_of s m.row) (item_at ms n)
+partition_there s o ms n i d numbered zipped lt at = item_found s n 0 o.items ms i d numbered.rises zipped lt (number_at n o.items i d lt at)

@@ -1,13 +1,11 @@
 -- Rows that wait are sent, one item after the other.
-use Rattle.std.proofs.Common.{◌≡◌, ◌<◌, ◌+◌, ℕ, zero, suc, List, [], ◌∷◌, ◌++◌, Option, Some, None, option_map, length, get_or, take, flat_map, refl, sym, ap, ◌∙◌, subst, append_assoc, append-nil, add-one, arith}
+use Rattle.std.proofs.Common.{◌≡◌, ◌<◌, ◌+◌, ℕ, zero, suc, List, [], ◌∷◌, ◌++◌, Option, None, length, get_or, take, flat_map, refl, sym, ap, ◌∙◌, subst, append_assoc, append-nil, add-one, arith}
 use Rattle.std.specs.List.{AllZip}
-use Rattle.std.proofs.lemmas.Option.{same_Some}
 use Rattle.block_resync.specs.declared.item.Item.{Item}
 use Rattle.layout_roles.specs.declared.layout.Layout.{Layout}
 use Rattle.view_model.specs.Layouts.{reading}
 use Rattle.view_model.specs.View.{View, newest}
-use Rattle.table_schema.specs.Words.{Words, partition_of}
-use Rattle.table_schema.specs.Laws.{Laws}
+use Rattle.table_schema.specs.Words.{Words}
 use Rattle.wire_messages.specs.declared.message.Message.{Message}
 use Rattle.wire_messages.specs.declared.message.Message.TheVariants.{Store}
 use Rattle.wire_messages.specs.declared.message.Tag.TheVariants.{Item as ForItem}
@@ -19,7 +17,6 @@ use Rattle.node_parts.specs.declared.packet.Envelope.{Envelope}
 use Rattle.node_parts.specs.Contents.{IsItem}
 use Rattle.node_parts.specs.Posts.{Posts}
 use Rattle.node_parts.proofs.Posting.{posts_more}
-use Rattle.node_parts.proofs.Waiting.{read_item}
 
 -- the item at place i, and all that came before it
 record Next {R : Type 0} (s : Words R) (item : Item) (ms : List (Waiting R)) (i : ℕ) : Type 0 where
@@ -45,35 +42,28 @@ flat_more : {A B : Type 0} (f : A → List B) (xs : List A) (x : A) → flat_map
 flat_more f [] x = append-nil (f x)
 flat_more f (y ∷ ys) x = ap (λ l. f y ++ l) (flat_more f ys x) ∙ sym (append_assoc (f y) (flat_map f ys) (f x))
 
-module _ {R : Type 0} {join : R → R → R} {s : Words R} (laws : Laws join s) where
-  abbrev store_of : View Layout → ℕ → Item → Message R
-  store_of v p item = Store (ForItem item.number) (newest reading v) p ((item.row, None) ∷ [])
+module _ {R : Type 0} (join : R → R → R) (s : Words R) where
+  abbrev store_of : View Layout → Item → Message R
+  store_of v item = Store (ForItem item.number) (newest reading v) item.partition ((item.row, None) ∷ [])
 
   module _ (items : List Item) (ms : List (Waiting R)) (i : ℕ) (d : Item) (h : AllZip (IsItem s) items ms) (lt : i < length items) where
-    sent_next : (from : ℕ) (old mid new : List (Envelope R)) (v : View Layout) (p : ℕ) → Posts from old mid (flat_map (item_posts join s layouts v) (take i ms)) → Some p ≡ option_map (partition_of s) (s.read (get_or items i d).row) →
-        Posts from mid new (to_each (nodes_of (stored_sets layouts v p)) (store_of v p (get_or items i d))) → Posts from old new (flat_map (item_posts join s layouts v) (take (i + 1) ms))
-    sent_next from old mid new v p sent at one =
+    sent_next : (from : ℕ) (old mid new : List (Envelope R)) (v : View Layout) → Posts from old mid (flat_map (item_posts join s layouts v) (take i ms)) →
+        Posts from mid new (to_each (nodes_of (stored_sets layouts v (get_or items i d).partition)) (store_of v (get_or items i d))) → Posts from old new (flat_map (item_posts join s layouts v) (take (i + 1) ms))
+    sent_next from old mid new v sent one =
         let n = next_of s items ms i d h lt in
         let item = get_or items i d in
         let m = n.here in
-        let place : p ≡ partition_of s m.row = same_Some p (partition_of s m.row) (at ∙ read_item laws item m n.is) in
         let bytes : item.row ≡ spelled (s.spelling m.row) = sym (ap spelled n.is.row) in
-        let posts : to_each (nodes_of (stored_sets layouts v p)) (store_of v p item) ≡ item_posts join s layouts v m =
-        λ j. to_each (nodes_of (stored_sets layouts v (place j))) (Store (ForItem (n.is.number j)) (newest reading v) (place j) ((bytes j, None) ∷ [])) in
+        let posts : to_each (nodes_of (stored_sets layouts v item.partition)) (store_of v item) ≡ item_posts join s layouts v m =
+        λ j. to_each (nodes_of (stored_sets layouts v (n.is.partition j))) (Store (ForItem (n.is.number j)) (newest reading v) (n.is.partition j) ((bytes j, None) ∷ [])) in
         let all : flat_map (item_posts join s layouts v) (take (i + 1) ms) ≡ flat_map (item_posts join s layouts v) (take i ms) ++ item_posts join s layouts v m =
         ap (λ k. flat_map (item_posts join s layouts v) (take k ms)) (add-one i) ∙ (ap (flat_map (item_posts join s layouts v)) n.more ∙ flat_more (item_posts join s layouts v) (take i ms) m) in
         subst (Posts from old new) (sym all) (posts_more from old mid new (flat_map (item_posts join s layouts v) (take i ms)) (item_posts join s layouts v m) sent (subst (Posts from mid new) posts one))
 
     -- the same, of what the code wrote
     pub sent_with : (from : ℕ) (old mid new : List (Envelope R)) (v : View Layout) (p number at : ℕ) (nodes : List ℕ) (stored : List (List ℕ × Option (List ℕ))) → Posts from old mid (flat_map (item_posts join s layouts v) (take i ms)) →
-        Some p ≡ option_map (partition_of s) (s.read (get_or items i d).row) → nodes ≡ nodes_of (stored_sets layouts v p) → number ≡ (get_or items i d).number → at ≡ newest reading v → stored ≡ ((get_or items i d).row, None) ∷ [] →
+        p ≡ (get_or items i d).partition → nodes ≡ nodes_of (stored_sets layouts v p) → number ≡ (get_or items i d).number → at ≡ newest reading v → stored ≡ ((get_or items i d).row, None) ∷ [] →
         Posts from mid new (to_each nodes (Store (ForItem number) at p stored)) → Posts from old new (flat_map (item_posts join s layouts v) (take (i + 1) ms))
     sent_with from old mid new v p number at nodes stored sent place nodes_are number_is at_is stored_are one =
-        let posts : to_each {R = R} {L = Layout} nodes (Store (ForItem number) at p stored) ≡ to_each (nodes_of (stored_sets layouts v p)) (store_of v p (get_or items i d)) = λ j. to_each (nodes_are j) (Store (ForItem (number_is j)) (at_is j) p (stored_are j)) in
-        sent_next from old mid new v p sent place (subst (Posts from mid new) posts one)
-
-    -- each item's bytes are a row's
-    pub is_read : None ≡ option_map (partition_of s) (s.read (get_or items i d).row) → ⊥
-    is_read none =
-        let n = next_of s items ms i d h lt in
-        let no : None ≡ Some (partition_of s n.here.row) = none ∙ read_item laws (get_or items i d) n.here n.is in cc
+        let posts : to_each {R = R} {L = Layout} nodes (Store (ForItem number) at p stored) ≡ to_each (nodes_of (stored_sets layouts v (get_or items i d).partition)) (store_of v (get_or items i d)) = λ j. to_each ((nodes_are ∙ ap (λ q. nodes_of (stored_sets layouts v q)) place) j) (Store (ForItem (number_is j)) (at_is j) (place j) (stored_are j)) in
+        sent_next from old mid new v sent (subst (Posts from mid new) posts one)

@@ -11,7 +11,6 @@ use Rattle.std.proofs.Math.Bool.{or-false, or-true}
 use Rattle.layout_roles.specs.declared.layout.Layout.{Layout}
 use Rattle.view_model.specs.View.{View}
 use Rattle.table_schema.specs.Words.{Words, partition_of}
-use Rattle.table_schema.specs.Laws.{Laws}
 use Rattle.cluster_machine.specs.Node.{Item as Waiting}
 use Rattle.cluster_machine.specs.Layouts.{stored_sets, layouts}
 use Rattle.cluster_machine.specs.Receives.{item_came, is_done}
@@ -24,21 +23,17 @@ below_apart a n lt = ne_eqb a n (λ e. omega arith)
 
 -- ---- the item with a number
 
-module _ {R : Type 0} {join : R → R → R} {s : Words R} (laws : Laws join s) where
-  pub read_item : (i : Item) (m : Waiting R) → IsItem s i m → option_map (partition_of s) (s.read i.row) ≡ Some (partition_of s m.row)
-  read_item i m is = ap (option_map (partition_of s)) ((laws.reads_back m.row i.row).1 is.row)
-
+module _ {R : Type 0} (s : Words R) where
   pub item_found : (n low : ℕ) (items : List Item) (ms : List (Waiting R)) (i : ℕ) (d : Item) → Rises low (numbers items) → AllZip (IsItem s) items ms → i < length items → (get_or items i d).number ≡ n →
-      option_map (partition_of s) (s.read (get_or items i d).row) ≡ option_map (λ (m : Waiting R). partition_of s m.row) (item_at ms n)
+      Some (get_or items i d).partition ≡ option_map (λ (m : Waiting R). partition_of s m.row) (item_at ms n)
   item_found n low [] ms i d r h lt is = absurd (omega arith)
   item_found n low (x ∷ xs) [] i d r h lt is = absurd h
   item_found n low (x ∷ xs) (m ∷ ms) zero d r h lt is =
-      rw (eq-eqb m.number n (sym h.0.number ∙ is)) (read_item x m h.0)
+      rw (eq-eqb m.number n (sym h.0.number ∙ is)) (ap Some h.0.partition)
   item_found n low (x ∷ xs) (m ∷ ms) (suc i) d r h lt is =
       let later = number_above x.number xs i d r.1 (omega arith) in
       rw (below_apart m.number n (omega (arith, h.0.number, is, later))) (item_found n x.number xs ms i d r.1 h.1 (omega arith) is)
 
-module _ {R : Type 0} (s : Words R) where
   pub item_absent : (n : ℕ) (items : List Item) (ms : List (Waiting R)) → NoneHas n items → AllZip (IsItem s) items ms → item_at ms n ≡ None
   item_absent n [] [] none h = refl
   item_absent n [] (m ∷ ms) none h = absurd h
@@ -65,6 +60,10 @@ confirmed_same node x nodes h n =
 row_same : (node : ℕ) (x : Item) → (item_confirmed node x).row ≡ x.row
 row_same node x =
     elim (is_among node x.confirmed) as (λ b. (if b then x else record x { confirmed = x.confirmed ++ node ∷ [] }).row ≡ x.row) [ true ↦ refl | false ↦ refl ]
+
+partition_same : (node : ℕ) (x : Item) → (item_confirmed node x).partition ≡ x.partition
+partition_same node x =
+    elim (is_among node x.confirmed) as (λ b. (if b then x else record x { confirmed = x.confirmed ++ node ∷ [] }).partition ≡ x.partition) [ true ↦ refl | false ↦ refl ]
 
 done_same : (x : Item) (nodes : List ℕ) (sets : List (List ℕ)) → ((n : ℕ) → is_among n x.confirmed ≡ is_among n nodes) → two_of_each sets x ≡ list_all (λ set. two_of set nodes) sets
 done_same x nodes sets h = λ j. list_all (λ set. nat_le 2 (count_by (λ n. h n j) set)) sets
@@ -134,7 +133,7 @@ module _ (node n : ℕ) (sets : List (List ℕ)) where
               let y = item_confirmed node x in
               let among = confirmed_same node x m.confirmed h.0.confirmed in
               let done : two_of_each sets y ≡ is_done join s layouts v new = done_same y new.confirmed sets among ∙ ap (λ l. list_all (λ set. two_of set new.confirmed) l) (are ∙ ap (stored_sets layouts v) place) in
-              let is : IsItem s y new = record { number = same_number node x ∙ h.0.number; row = h.0.row ∙ ap Some (sym (row_same node x)); confirmed = among } in
+              let is : IsItem s y new = record { number = same_number node x ∙ h.0.number; row = h.0.row ∙ ap Some (sym (row_same node x)); partition = partition_same node x ∙ h.0.partition; confirmed = among } in
               let past = none_past n x.number xs (omega (arith, eqb-true x.number n e)) r.1 in
               let code : after (x ∷ xs) ≡ (if two_of_each sets y then xs else y ∷ xs) = after_here x xs e past in
               let model : item_came join s layouts v node n (m ∷ ms) ≡ cond (two_of_each sets y) ms (new ∷ ms) = ap (λ b. cond b (cond (is_done join s layouts v new) ms (new ∷ ms)) (m ∷ item_came join s layouts v node n ms)) here ∙ ap (λ b. cond b ms (new ∷ ms)) (sym done) in
@@ -175,4 +174,4 @@ pub forgot_items : {R : Type 0} (s : Words R) (items : List Item) (ms : List (Wa
 forgot_items s [] [] h = tt
 forgot_items s [] (m ∷ ms) h = absurd h
 forgot_items s (x ∷ xs) [] h = absurd h
-forgot_items s (x ∷ xs) (m ∷ ms) h = (record { number = h.0.number; row = h.0.row; confirmed = λ n. refl }, forgot_items s xs ms h.1)
+forgot_items s (x ∷ xs) (m ∷ ms) h = (record { number = h.0.number; row = h.0.row; partition = h.0.partition; confirmed = λ n. refl }, forgot_items s xs ms h.1)

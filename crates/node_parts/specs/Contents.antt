@@ -6,7 +6,7 @@ use Rattle.block_store.specs.Contents.{Contents as Kept, block_at as kept_at, li
 use Rattle.layout_roles.specs.declared.layout.Layout.{Layout}
 use Rattle.layout_history.specs.declared.view.View.{View}
 use Rattle.layout_history.specs.Views.{known}
-use Rattle.table_schema.specs.Words.{Words}
+use Rattle.table_schema.specs.Words.{Words, partition_of}
 use Rattle.table_model.specs.Rows.{AllProper, rows}
 use Rattle.quorum_model.specs.Quorum.{is_among}
 use Rattle.block_resync.specs.declared.item.Item.{Item}
@@ -21,10 +21,11 @@ use Rattle.node_parts.specs.declared.packet.Envelope.{Envelope}
 use Rattle.cluster_machine.specs.Layouts.{layouts}
 use Rattle.node_parts.specs.Posts.{Posts}
 
--- the item has the row's bytes, and the same nodes have confirmed it
+-- the item has the row's bytes and partition, and the same nodes have confirmed it
 pub record IsItem {R : Type 0} (s : Words R) (i : Item) (m : Waiting R) : Type 0 where
   pub number : i.number ≡ m.number
   pub row : s.spelling m.row ≡ Some i.row
+  pub partition : i.partition ≡ partition_of s m.row
   pub confirmed : (n : ℕ) → is_among n i.confirmed ≡ is_among n m.confirmed
 
 -- the item with this number

@@ -18,7 +18,7 @@ use crate::posts::send_each;
 use crate::references::{delete_all, end_references, refer};
 use crate::sets::{is_given, nodes_of, stored_sets};
 use block_bytes::Block;
-use block_resync::{Item, Resync};
+use block_resync::Resync;
 use block_store::Blocks;
 use crdt_core::{Bytes, List, Memory, Value};
 use layout_history::View;
@@ -62,7 +62,7 @@ impl<S: Schema> Contents<S> {
         refer(&mut self.blocks, taken.before, after, given, now)?;
         for called in taken.change.triggered.as_slice() {
             let bytes = S::row_bytes(self.alloc, called)?;
-            let _ = self.outbox.push(bytes)?;
+            let _ = self.outbox.push(bytes, partition::<S>(called))?;
         }
         Ok(())
     }
@@ -111,15 +111,14 @@ impl<S: Schema> Contents<S> {
     }
 
     // The partition of the row that waits under this number, where there is one.
-    fn waiting(&self, number: u64) -> Result<Option<u8>, Memory>
-        ensures is { IfOk result (λ p. (x : Node S.Row Layout) → IsContents S.Row.join S.words self.now x → p ≡ option_map (λ m. partition_of S.words m.row) (item_at x.items number)) }
+    fn waiting(&self, number: u64) -> Option<u8>
+        ensures is { (x : Node S.Row Layout) → IsContents S.Row.join S.words self.now x → result ≡ option_map (λ m. partition_of S.words m.row) (item_at x.items number) }
         ensures numbered { IsNumbered self.now.outbox.pushed self.now.outbox.items }
-        ensures want { OnlyWant result }
     {
         let items = self.outbox.items();
         match items.binary_search_by(|item| item.number.cmp(&number)) {
-            Ok(place) => partition_of::<S>(self.alloc, &items[place]),
-            Err(_) => Ok(None),
+            Ok(place) => Some(items[place].partition),
+            Err(_) => None,
         }
     }
 
@@ -128,7 +127,7 @@ impl<S: Schema> Contents<S> {
         ensures confirms { OnOk result (Confirms S.Row.join S.words self.old self.new view.now number node) }
         ensures want { OnlyWant result }
     {
-        let Some(p) = self.waiting(number)? else {
+        let Some(p) = self.waiting(number) else {
             return Ok(());
         };
         let sets = stored_sets(self.alloc, view, p)?;
@@ -157,10 +156,7 @@ impl<S: Schema> Contents<S> {
     {
         let items = self.outbox.items();
         for item in items {
-            let Some(p) = partition_of::<S>(self.alloc, item)? else {
-                continue;
-            };
-            let sets = stored_sets(self.alloc, view, p)?;
+            let sets = stored_sets(self.alloc, view, item.partition)?;
             let nodes = nodes_of(self.alloc, sets.as_slice())?;
             let mut rows = List::new(self.alloc);
             rows.push((item.row.copy()?, None))?;
@@ -170,23 +166,11 @@ impl<S: Schema> Contents<S> {
             let message = Message::Store {
                 tag,
                 newest: view.newest(),
-                p,
+                p: item.partition,
                 rows,
             };
             send_each(out, node, nodes.as_slice(), message)?;
         }
         Ok(items.len() as u64)
-    }
-}
-
-// The partition of a row that waits.
-fn partition_of<S: Schema>(alloc: Global, item: &Item) -> Result<Option<u8>, Memory>
-    ensures is { IfOk result (λ p. p ≡ option_map (partition_of S.words) (S.words.read item.now.row)) }
-    ensures want { OnlyWant result }
-{
-    match S::row_from(alloc, item.row.as_slice()) {
-        Ok(row) => Ok(Some(partition::<S>(&row))),
-        Err(RowFault::NotARow) => Ok(None),
-        Err(RowFault::Memory) => Err(Memory::Want),
     }
 }

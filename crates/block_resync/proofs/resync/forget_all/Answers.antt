@@ -12,6 +12,6 @@ loop-i-preserved c =
     record {
       len = grind (arith, common_steps);
       items =
-          ap (λ nodes. slice_set c.loop-i.items c.loop-i.i (record { number = v.number; row = v.row; confirmed = nodes })) c.truncate.ensures
+          ap (λ nodes. slice_set c.loop-i.items c.loop-i.i (record { number = v.number; row = v.row; partition = v.partition; confirmed = nodes })) c.truncate.ensures
           ∙ map_over_more item_forgot c.args.items.now c.loop-i.items c.loop-i.i v (omega arith) c.loop-i.invariant.items (read_at c.loop-i.items c.loop-i.i v c.at_mut-item.ensures.value);
     }

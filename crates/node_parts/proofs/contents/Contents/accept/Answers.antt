@@ -26,7 +26,7 @@ loop-called-preserved g c =
       table = c.loop-called.invariant.table;
       queue = rw c.in_ok-push.ensures.ok
           (subst (Queues join words old _) (sym (take_more items i x c.loop-called-test.true ∙ ap (λ y. take i items ++ y ∷ []) (sym c.called-item.is)))
-          (queues_more join words old c.loop-called.self.outbox (take i items) x c.in_ok-bytes.bytes c.loop-called.invariant.queue c.in_ok-bytes.ensures.are));
+          (queues_more join words old c.loop-called.self.outbox (take i items) x c.in_ok-bytes.bytes c.partition.result c.loop-called.invariant.queue c.in_ok-bytes.ensures.are c.partition.ensures.is));
       kept = c.loop-called.invariant.kept;
     }
 

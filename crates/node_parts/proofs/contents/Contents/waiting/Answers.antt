@@ -1,4 +1,4 @@
-use Rattle.std.proofs.Common.{rules, ◌≡◌, ◌<◌, List, IfOk, IfSome, IfNone, slice_get, length, get_or, option_map, sym, ap, ◌∙◌, subst}
+use Rattle.std.proofs.Common.{rules, ◌≡◌, ◌<◌, List, Some, IfSome, IfNone, slice_get, length, get_or, option_map, sym, ap, ◌∙◌, subst}
 use Rattle.std.specs.Ordering.{nat_cmp}
 use Rattle.std.specs.Result.{result_ok}
 use Rattle.std.proofs.lemmas.Fn.{always_returns_same}
@@ -8,13 +8,12 @@ use Rattle.block_resync.proofs.Numbering.{NoneHas}
 use Rattle.block_resync.proofs.Searching.{searched}
 use Rattle.table_schema.specs.Words.{partition_of}
 use Rattle.cluster_machine.specs.Node.{Item as Waiting}
-use Rattle.node_parts.proofs.Confirming.{read_at}
+use Rattle.node_parts.proofs.Confirming.{partition_there}
 use Rattle.node_parts.proofs.Waiting.{item_absent}
 use Rattle.node_parts.proofs.contents.Contents.waiting.Goals as goal
 
 pub returns-in-Ok-clause-is : goal.returns-in-Ok-clause-is
-returns-in-Ok-clause-is g c =
-    let words = g.S.Schema.words in
+returns-in-Ok-clause-is g c x h =
     let n = c.args.number in
     let place = c.in-Ok.place in
     let d = c.index-items-place.result in
@@ -23,10 +22,10 @@ returns-in-Ok-clause-is g c =
     let by_number = facts.position (λ x. nat_cmp x.number n) (always_returns_same _ _ _ (λ a r h called. (search rules, search rules))) in
     let found = (searched n c.items-items.result.now c.binary_search_by.result rises facts.bound by_number).found in
     let there : IfSome (slice_get c.items-items.result.now place) (λ (x : Item). x.number ≡ n) = subst (λ r. IfSome (result_ok r) (λ i. IfSome (slice_get c.items-items.result.now i) (λ (x : Item). x.number ≡ n))) c.in-Ok.is found in
-    read_at g.met.S.Schema.laws c.partition_of.result c.args.self.now n place d c.items-items.ensures.numbered
+    ap (λ (l : List Item). Some (get_or l place d).partition) c.items-items.ensures.items
+    ∙ partition_there g.S.Schema.words c.args.self.now.outbox x.items n place d c.items-items.ensures.numbered h.items
     (subst (λ (l : List Item). place < length l) c.items-items.ensures.items c.in-Ok.ensures.bound)
     (subst (λ (l : List Item). IfSome (slice_get l place) (λ (x : Item). x.number ≡ n)) c.items-items.ensures.items there)
-    (subst (λ (k : Item). IfOk c.partition_of.result (λ p. p ≡ option_map (partition_of words) (words.read k.row))) (c.index-items-place.is ∙ ap (λ l. get_or l place d) c.items-items.ensures.items) c.partition_of.ensures.is)
 
 pub returns-in-Err-clause-is : goal.returns-in-Err-clause-is
 returns-in-Err-clause-is g c x h =
