@@ -7,6 +7,8 @@ use Rattle.std.proofs.lemmas.Bool.{eq-eqb, eqb-true}
 use Rattle.std.proofs.lemmas.Cmp.{nat_cmp_total, tied_itself}
 use Rattle.std.specs.Option.{unwrap_or, is_some, option_copied}
 use Rattle.layout_roles.specs.declared.layout.Layout.{Layout}
+use Rattle.layout_trackers.specs.declared.which.Which.TheVariants.{Sync}
+use Rattle.layout_trackers.specs.Trackers.{counts}
 use Rattle.view_model.specs.Layouts.{reading}
 use Rattle.view_model.specs.View.{newest}
 use Rattle.table_schema.specs.Words.{Words}
@@ -21,7 +23,7 @@ use Rattle.node_core.specs.declared.node.BeginFault.{BeginFault}
 use Rattle.node_core.specs.declared.node.BeginFault.TheVariants.{NotMember, Memory as WantsMemory}
 use Rattle.node_core.specs.Stands.{StandsFor, view_of, Done, Does, Acts, Becomes, Overflows}
 use Rattle.world_core.specs.declared.nodes.Nodes.{Nodes}
-use Rattle.world_core.specs.Nodes.{newest_of, newest_in, StayThere, IsNodeAt, AreNodes, DidAt, DoesAt, ActsAt, BecomesAt, OverflowsAt, with_node}
+use Rattle.world_core.specs.Nodes.{newest_of, newest_in, StayThere, IsNodeAt, AreNodes, IsSyncAt, DidAt, DoesAt, ActsAt, BecomesAt, OverflowsAt, with_node}
 
 same_number : (n m : ℕ) → is_eq (nat_cmp n m) ≡ (m == n)
 same_number n m =
@@ -80,6 +82,16 @@ module _ {S R : Type 0} (join : R → R → R) (s : Words R) where
   written old map n c w xs y there writes stands are =
       let present : IsSome (get nat_cmp old.by_number n) = rw (sym there) refl in
       put old map n w xs y (writes.3 present).0 stands are
+
+  -- the sync of a node that is there
+  pub sync_there : (nodes : Nodes S R) (n : ℕ) (c : Node S R) (sync : ℕ) → IsThere nodes n c → sync ≡ counts 0 Sync (view_of c).trackers n → IsSyncAt join s nodes n sync
+  sync_there nodes n c sync there is xs are = is ∙ ap (λ v. counts 0 Sync v.trackers n) (stands_at nodes n c xs there are).view
+
+  -- and of one that was written
+  pub sync_written : (old : Nodes S R) (map : BTreeMap ℕ (Node S R)) (n : ℕ) (c w : Node S R) (sync : ℕ) → IsThere old n c → Writes old map n w → sync ≡ counts 0 Sync (view_of w).trackers n → IsSyncAt join s (with_map old map) n sync
+  sync_written old map n c w sync there writes is =
+      let present : IsSome (get nat_cmp old.by_number n) = rw (sym there) refl in
+      sync_there (with_map old map) n w sync (sym (writes.3 present).1) is
 
   pub became : (old : Nodes S R) (map : BTreeMap ℕ (Node S R)) (n : ℕ) (c w : Node S R) (f : ℕ → Model R Layout → Model R Layout) →
       IsThere old n c → Writes old map n w → Becomes join s c w f → BecomesAt join s old (with_map old map) n (f n)

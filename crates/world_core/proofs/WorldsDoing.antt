@@ -42,12 +42,12 @@ use Rattle.world_core.specs.declared.post.Post.{Post}
 use Rattle.world_core.specs.declared.report.Report.{Report}
 use Rattle.world_core.specs.declared.world.World.{World}
 use Rattle.world_core.specs.Parts.{IsPost, IsFound}
-use Rattle.world_core.specs.Nodes.{AreNodes, DidAt, DoesAt, ActsAt, OverflowsAt, with_node}
+use Rattle.world_core.specs.Nodes.{AreNodes, IsSyncAt, DidAt, DoesAt, ActsAt, OverflowsAt, with_node}
 use Rattle.world_core.specs.Stands.{StandsFor, Tells, DoesSo, SendsOut, CannotSend, acts_so, plainly, nothing_given, ended}
 use Rattle.world_core.proofs.NodesAt.{same_at}
 use Rattle.world_core.proofs.WorldsStand.{told_report, is_told, whole_after, IsWhole, whole_of}
 use Rattle.world_core.proofs.Stocked.{acts_stocked}
-use Rattle.world_core.proofs.WorldsSending.{Acted, acted_stands, acted_lines, acted_spelled, at_itself, node_full, post_full, after}
+use Rattle.world_core.proofs.WorldsSending.{Acted, acted_stands, acted_lines, acted_spelled, at_itself, node_full, post_full, after_it}
 
 all_at : {A : Type 0} (P : A → Type 0) (xs : List A) (i : ℕ) (x : A) → AllByRecursion P xs → slice_get xs i ≡ Some x → P x
 all_at P [] i x h e = cc
@@ -68,8 +68,8 @@ module _ {R : Type 0} where
 
 module _ {S R : Type 0} (join : R → R → R) (s : Words R) where
   -- a node did d in a step, which is told with these words
-  did_so : {old new : World S R} {w : Model R} {nodes : Nodes S R} {n before : ℕ} {out : List (Envelope R)} {d : Did R Layout} {all : List (Line Applied)} → Acted join s old new w nodes old.post n before out None d w.marks [] all →
-      (words : Told) (report : Report R) → IsWhole join s (after w n d w.marks) → report ≡ told_report words all → DoesSo join s new report w (record (did w n d) { words = words })
+  did_so : {old new : World S R} {w : Model R} {nodes : Nodes S R} {n before after : ℕ} {out : List (Envelope R)} {d : Did R Layout} {all : List (Line Applied)} → Acted join s old new w nodes old.post n before after out None d w.marks [] all →
+      (words : Told) (report : Report R) → IsWhole join s (after_it w n d w.marks) → report ≡ told_report words all → DoesSo join s new report w (record (did w n d) { words = words })
   did_so h words report whole is = record { stands = acted_stands join s h whole; tells = is_told report words _ _ is refl refl (acted_lines join s h) h.did.ends refl; spelled = acted_spelled join s h }
 
   -- ---- an action
@@ -89,12 +89,12 @@ module _ {S R : Type 0} (join : R → R → R) (s : Words R) where
       pub action_sent_full : CannotSend s (record old { nodes = nodes }) out → RoomWith join s w (acts_so join s n action w) → ⊥
       action_sent_full cannot = post_full join s (record old { nodes = nodes }) w (acts_so join s n action w) n out _ w.marks h.post done.0.posts cannot refl
 
-      pub action_does : (laws : Laws join s) (new : World S R) (before : ℕ) (first all : List (Line Applied)) (words : Told) (report : Report R) → before ≡ counts 0 Sync (w.nodes n).view.trackers n → first ≡ [] →
-          SendsOut join s (record old { nodes = nodes }) new n before out first all → words ≡ says how → report ≡ told_report words all → DoesSo join s new report w (acts_so join s n action w)
-      action_does laws new before first all words report synced no_lines sends are is =
+      pub action_does : (laws : Laws join s) (new : World S R) (before after : ℕ) (first all : List (Line Applied)) (words : Told) (report : Report R) → before ≡ counts 0 Sync (w.nodes n).view.trackers n → IsSyncAt join s nodes n after → first ≡ [] →
+          SendsOut join s (record old { nodes = nodes }) new n before after out first all → words ≡ says how → report ≡ told_report words all → DoesSo join s new report w (acts_so join s n action w)
+      action_does laws new before after first all words report synced raised no_lines sends are is =
           let a = acts join s layouts n (clock w n) (w.nodes n) action in
-          let it : Acted join s old new w nodes old.post n before out None a.did w.marks [] all =
-          record { stands = h; marked = h.post; did = done.0; synced = synced; sends = subst (λ ls. SendsOut join s (record old { nodes = nodes }) new n before out ls all) no_lines sends } in
+          let it : Acted join s old new w nodes old.post n before after out None a.did w.marks [] all =
+          record { stands = h; marked = h.post; did = done.0; synced = synced; raised = raised; sends = subst (λ ls. SendsOut join s (record old { nodes = nodes }) new n before after out ls all) no_lines sends } in
           let e = acts_so join s n action w in
           did_so it (says a.how) report (record {
             sound = fine_stays_sound w e h.sound (fine_did w e n a.did h.sound (λ m. refl) refl (fine_acted w h.sound join s n (clock w n) action));
@@ -119,11 +119,11 @@ module _ {S R : Type 0} (join : R → R → R) (s : Words R) where
     pub gossip_full : CannotSend s old out → RoomWith join s w (does join s w (plainly (Gossip from to))) → ⊥
     gossip_full cannot = post_full join s old w (does join s w (plainly (Gossip from to))) from out shows_it.posts w.marks h.post view_shown.posts cannot refl
 
-    pub gossip_does : (laws : Laws join s) (new : World S R) (before : ℕ) (first all : List (Line Applied)) (report : Report R) → before ≡ counts 0 Sync (w.nodes from).view.trackers from → first ≡ [] →
-        SendsOut join s old new from before out first all → report ≡ told_report Empty all → DoesSo join s new report w (does join s w (plainly (Gossip from to)))
-    gossip_does laws new before first all report synced no_lines sends is =
-        let it : Acted join s old new w old.nodes old.post from before out None shows_it w.marks [] all =
-        record { stands = h; marked = h.post; did = view_shown; synced = synced; sends = subst (λ ls. SendsOut join s old new from before out ls all) no_lines sends } in
+    pub gossip_does : (laws : Laws join s) (new : World S R) (synced : ℕ) (first all : List (Line Applied)) (report : Report R) → IsSyncAt join s old.nodes from synced → first ≡ [] →
+        SendsOut join s old new from synced synced out first all → report ≡ told_report Empty all → DoesSo join s new report w (does join s w (plainly (Gossip from to)))
+    gossip_does laws new synced first all report is_sync no_lines sends is =
+        let it : Acted join s old new w old.nodes old.post from synced synced out None shows_it w.marks [] all =
+        record { stands = h; marked = h.post; did = view_shown; synced = is_sync w.nodes h.nodes; raised = is_sync; sends = subst (λ ls. SendsOut join s old new from synced synced out ls all) no_lines sends } in
         did_so it Empty report (whole_after join s laws w (Gossip from to) nothing_given (whole_of h) tt tt refl) is
 
   -- ---- a phase
@@ -141,20 +141,20 @@ module _ {S R : Type 0} (join : R → R → R) (s : Words R) where
       begun_sent_full None did cannot = post_full join s (record old { nodes = nodes }) w (begun_now None) n out [] w.marks h.post did.posts cannot refl
       begun_sent_full (Some c) did cannot = post_full join s (record old { nodes = nodes }) w (begun_now (Some c)) n out _ w.marks h.post did.posts cannot refl
 
-      begun_does : (new : World S R) (before : ℕ) (all : List (Line Applied)) (report : Report R) (o : Option (Call R)) → DidAt join s nodes n w.nodes [] out None (begins_at s w.kept (w.nodes n) phase o) →
-          before ≡ counts 0 Sync (w.nodes n).view.trackers n → SendsOut join s (record old { nodes = nodes }) new n before out [] all → report ≡ told_report Empty all → (IsTrue (begun_now o).is_spelled → IsWhole join s (applied w (begun_now o))) →
+      begun_does : (new : World S R) (before after : ℕ) (all : List (Line Applied)) (report : Report R) (o : Option (Call R)) → DidAt join s nodes n w.nodes [] out None (begins_at s w.kept (w.nodes n) phase o) →
+          before ≡ counts 0 Sync (w.nodes n).view.trackers n → IsSyncAt join s nodes n after → SendsOut join s (record old { nodes = nodes }) new n before after out [] all → report ≡ told_report Empty all → (IsTrue (begun_now o).is_spelled → IsWhole join s (applied w (begun_now o))) →
           DoesSo join s new report w (begun_now o)
-      begun_does new before all report None done synced sends is whole =
+      begun_does new before after all report None done synced raised sends is whole =
           let x = w.nodes n in
-          let it : Acted join s old new w nodes old.post n before out None (quiet x) w.marks [] all = record { stands = h; marked = h.post; did = done; synced = synced; sends = sends } in
+          let it : Acted join s old new w nodes old.post n before after out None (quiet x) w.marks [] all = record { stands = h; marked = h.post; did = done; synced = synced; raised = raised; sends = sends } in
           let same : applied {A = Applied} {C = Cut} w (did w n (quiet x)) ≡ applied {A = Applied} {C = Cut} w (nothing w) = (λ i. record (applied {A = Applied} {C = Cut} w (nothing w)) { nodes = still n w.nodes i }) in
           record {
             stands = subst (StandsFor join s new) same (acted_stands join s it (subst (IsWhole join s) (sym same) (whole refl)));
             tells = is_told report Empty all (nothing w) is refl refl (acted_lines join s it ∙ no_sync n x) refl refl;
             spelled = refl;
           }
-      begun_does new before all report (Some c) done synced sends is whole =
-          let it : Acted join s old new w nodes old.post n before out None _ w.marks [] all = record { stands = h; marked = h.post; did = done; synced = synced; sends = sends } in
+      begun_does new before after all report (Some c) done synced raised sends is whole =
+          let it : Acted join s old new w nodes old.post n before after out None _ w.marks [] all = record { stands = h; marked = h.post; did = done; synced = synced; raised = raised; sends = sends } in
           did_so it Empty report (whole (acted_spelled join s it)) is
 
   -- a phase of an open request begins
@@ -175,11 +175,11 @@ module _ {S R : Type 0} (join : R → R → R) (s : Words R) where
       pub phase_sent_full : CannotSend s (record old { nodes = nodes }) out → RoomWith join s w (does join s w (plainly (Begin number phase))) → ⊥
       phase_sent_full cannot room = begun_sent_full old w n phase h nodes out call phase_done cannot (subst (RoomWith join s w) begun_is room)
 
-      pub phase_does : (laws : Laws join s) (brings : BringsBlocks (blake2b 32) s phase) (new : World S R) (before : ℕ) (first all : List (Line Applied)) (report : Report R) → before ≡ counts 0 Sync (w.nodes n).view.trackers n → first ≡ [] →
-          SendsOut join s (record old { nodes = nodes }) new n before out first all → report ≡ told_report Empty all → DoesSo join s new report w (does join s w (plainly (Begin number phase)))
-      phase_does laws brings new before first all report synced no_lines sends is =
+      pub phase_does : (laws : Laws join s) (brings : BringsBlocks (blake2b 32) s phase) (new : World S R) (before after : ℕ) (first all : List (Line Applied)) (report : Report R) → before ≡ counts 0 Sync (w.nodes n).view.trackers n → IsSyncAt join s nodes n after → first ≡ [] →
+          SendsOut join s (record old { nodes = nodes }) new n before after out first all → report ≡ told_report Empty all → DoesSo join s new report w (does join s w (plainly (Begin number phase)))
+      phase_does laws brings new before after first all report synced raised no_lines sends is =
           subst (DoesSo join s new report w) (sym begun_is)
-          (begun_does old w n phase h nodes out new before all report call phase_done synced (subst (λ ls. SendsOut join s (record old { nodes = nodes }) new n before out ls all) no_lines sends) is
+          (begun_does old w n phase h nodes out new before after all report call phase_done synced raised (subst (λ ls. SendsOut join s (record old { nodes = nodes }) new n before after out ls all) no_lines sends) is
           (λ spelled. subst (λ e. IsWhole join s (applied w e)) begun_is (whole_after join s laws w (Begin number phase) nothing_given (whole_of h) brings tt (subst (λ e. IsTrue e.is_spelled) (sym begun_is) spelled))))
 
   -- ---- a message that comes
@@ -224,18 +224,19 @@ module _ {S R : Type 0} (join : R → R → R) (s : Words R) where
         pub came_sent_full : CannotSend s (record old { nodes = nodes; post = post }) out → RoomWith join s w (does join s w (plainly (Deliver number))) → ⊥
         came_sent_full cannot room = post_full join s (record old { nodes = nodes; post = post }) w came envelope.to out _ _ delivered received_it.posts cannot refl (subst (RoomWith join s w) came_is room)
 
-        pub came_does : (laws : Laws join s) (new : World S R) (before : ℕ) (empty first all : List (Line Applied)) (ends : List (ℕ × PhaseEnd R)) (plain : Report R) → before ≡ counts 0 Sync (w.nodes envelope.to).view.trackers envelope.to →
-            empty ≡ [] → first ≡ empty ++ Got number ∷ [] → SendsOut join s (record old { nodes = nodes; post = post }) new envelope.to before out first all → map ended ends ≡ ends_of given →
+        pub came_does : (laws : Laws join s) (new : World S R) (before after : ℕ) (empty first all : List (Line Applied)) (ends : List (ℕ × PhaseEnd R)) (plain : Report R) → before ≡ counts 0 Sync (w.nodes envelope.to).view.trackers envelope.to → IsSyncAt join s nodes envelope.to after →
+            empty ≡ [] → first ≡ empty ++ Got number ∷ [] → SendsOut join s (record old { nodes = nodes; post = post }) new envelope.to before after out first all → map ended ends ≡ ends_of given →
             plain ≡ told_report Empty all → DoesSo join s new (record plain { ends = ends }) w (does join s w (plainly (Deliver number)))
-        came_does laws new before empty first all ends plain synced no_lines got sends ended_so is =
+        came_does laws new before after empty first all ends plain synced raised no_lines got sends ended_so is =
             let d = it_does (clock w envelope.to) (w.nodes envelope.to) in
-            let it : Acted join s old new w nodes post envelope.to before out given d (marked w.marks (Some (number, record { is_delivered = true; is_lost = false }))) (Got number ∷ []) all =
+            let it : Acted join s old new w nodes post envelope.to before after out given d (marked w.marks (Some (number, record { is_delivered = true; is_lost = false }))) (Got number ∷ []) all =
             record {
               stands = h;
               marked = delivered;
               did = received_it;
               synced = synced;
-              sends = subst (λ ls. SendsOut join s (record old { nodes = nodes; post = post }) new envelope.to before out ls all) (got ∙ ap (λ ls. ls ++ Got number ∷ []) no_lines) sends;
+              raised = raised;
+              sends = subst (λ ls. SendsOut join s (record old { nodes = nodes; post = post }) new envelope.to before after out ls all) (got ∙ ap (λ ls. ls ++ Got number ∷ []) no_lines) sends;
             } in
             subst (DoesSo join s new (record plain { ends = ends }) w) (sym came_is) (record {
               stands = acted_stands join s it (subst (λ e. IsWhole join s (applied w e)) came_is (whole_after join s laws w (Deliver number) nothing_given (whole_of h) tt tt (subst (λ e. IsTrue e.is_spelled) (sym came_is) (acted_spelled join s it))));

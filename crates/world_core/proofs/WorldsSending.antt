@@ -24,7 +24,7 @@ use Rattle.world_core.specs.declared.nodes.Nodes.{Nodes}
 use Rattle.world_core.specs.declared.post.Post.{Post}
 use Rattle.world_core.specs.declared.world.World.{World}
 use Rattle.world_core.specs.Parts.{IsPost, AreSent, not_yet, lines_from}
-use Rattle.world_core.specs.Nodes.{DidAt, OverflowsAt}
+use Rattle.world_core.specs.Nodes.{IsSyncAt, DidAt, OverflowsAt}
 use Rattle.world_core.specs.Stands.{StandsFor, SendsOut, CannotSend}
 use Rattle.world_core.proofs.WorldsStand.{stands_of, same_clocks, same_applied, same_requests, same_few, IsWhole}
 
@@ -34,10 +34,8 @@ both_there (Some x) None n e = cc
 both_there (Some x) (Some y) n e = (refl, (y, refl))
 
 -- lines of messages, and that of a sync
-pub sent_and_synced : (old mid new out : List (Line Applied)) (node before after counted : ℕ) → mid ≡ old ++ out → new ≡ mid ++ cond (leb after before) [] (Synced node after ∷ []) → after ≡ counted →
-    new ≡ old ++ (out ++ cond (leb counted before) [] (Synced node counted ∷ []))
-sent_and_synced old mid new out node before after counted sent synced at =
-    synced ∙ ((λ i. sent i ++ cond (leb (at i) before) [] (Synced node (at i) ∷ [])) ∙ append_assoc old out (cond (leb counted before) [] (Synced node counted ∷ [])))
+pub sent_and_synced : (old mid new out synced : List (Line Applied)) → mid ≡ old ++ out → new ≡ mid ++ synced → new ≡ old ++ (out ++ synced)
+sent_and_synced old mid new out synced sent told = told ∙ (ap (λ ls. ls ++ synced) sent ∙ append_assoc old out synced)
 
 module _ {R : Type 0} where
   -- what node n sent from nothing on
@@ -80,20 +78,21 @@ module _ {R : Type 0} where
         record { items = record { spelled = x.spelled; queued = x.queued }; rounds = x.rounds; phases = x.phases; spelled = subst IsTrue spelled room.0.1 }
 
   -- the world after d at node n, where these became of the earlier messages
-  abbrev pub after : Model R → ℕ → Did R Layout → List Mark → Model R
-  after w n d marks = record (applied {A = Applied} {C = Cut} w (did w n d)) { marks = marks ++ not_yet (sent_by w n d.posts) }
+  abbrev pub after_it : Model R → ℕ → Did R Layout → List Mark → Model R
+  after_it w n d marks = record (applied {A = Applied} {C = Cut} w (did w n d)) { marks = marks ++ not_yet (sent_by w n d.posts) }
 
 module _ {S R : Type 0} (join : R → R → R) (s : Words R) where
   -- node n did d, the code has these nodes and this post, and then sent the messages
-  pub record Acted (old new : World S R) (w : Model R) (nodes : Nodes S R) (post : Post R) (n before : ℕ) (out : List (Envelope R)) (given : Option (ℕ × PhaseEnd R)) (d : Did R Layout) (marks : List Mark) (first all : List (Line Applied)) : Type 0 where
+  pub record Acted (old new : World S R) (w : Model R) (nodes : Nodes S R) (post : Post R) (n before after : ℕ) (out : List (Envelope R)) (given : Option (ℕ × PhaseEnd R)) (d : Did R Layout) (marks : List Mark) (first all : List (Line Applied)) : Type 0 where
     pub stands : StandsFor join s old w
     pub marked : IsPost s post w.messages marks
     pub did : DidAt join s nodes n w.nodes [] out given d
     pub synced : before ≡ counts 0 Sync (w.nodes n).view.trackers n
-    pub sends : SendsOut join s (record old { nodes = nodes; post = post }) new n before out first all
+    pub raised : IsSyncAt join s nodes n after
+    pub sends : SendsOut join s (record old { nodes = nodes; post = post }) new n before after out first all
 
-  module _ {old new : World S R} {w : Model R} {nodes : Nodes S R} {post : Post R} {n before : ℕ} {out : List (Envelope R)} {given : Option (ℕ × PhaseEnd R)} {d : Did R Layout} {marks : List Mark} {first all : List (Line Applied)}
-      (h : Acted old new w nodes post n before out given d marks first all) where
+  module _ {old new : World S R} {w : Model R} {nodes : Nodes S R} {post : Post R} {n before after : ℕ} {out : List (Envelope R)} {given : Option (ℕ × PhaseEnd R)} {d : Did R Layout} {marks : List Mark} {first all : List (Line Applied)}
+      (h : Acted old new w nodes post n before after out given d marks first all) where
     they_are : AreSent out (sent_by w n d.posts)
     they_are = are_sent w n out d.posts h.did.posts
 
@@ -105,15 +104,16 @@ module _ {S R : Type 0} (join : R → R → R) (s : Words R) where
 
     pub acted_lines : all ≡ first ++ (sent_from (suc (length w.messages)) (sent_by w n d.posts) ++ sync_line n (w.nodes n).view d.node.view)
     acted_lines =
-        h.sends.lines _ w.messages marks h.did.nodes h.marked ∙
+        let raised : after ≡ counts 0 Sync d.node.view.trackers n = h.raised _ h.did.nodes ∙ ap (λ (x : Node R Layout). counts 0 Sync x.view.trackers n) (at_itself n d.node w.nodes) in
+        h.sends.lines w.messages marks h.marked ∙
         (λ i.
         let before = h.synced i in
-        let counted = counts 0 Sync (at_itself n d.node w.nodes i).view.trackers n in first ++ (lines_sent (suc (length w.messages)) out (sent_by w n d.posts) they_are i ++ cond (leb counted before) [] (Synced n counted ∷ [])))
+        let counted = raised i in first ++ (lines_sent (suc (length w.messages)) out (sent_by w n d.posts) they_are i ++ cond (leb counted before) [] (Synced n counted ∷ [])))
 
-    pub acted_stands : IsWhole join s (after w n d marks) → StandsFor join s new (after w n d marks)
+    pub acted_stands : IsWhole join s (after_it w n d marks) → StandsFor join s new (after_it w n d marks)
     acted_stands whole =
         let is = h.stands in
-        subst (λ c. StandsFor join s c (after w n d marks)) (sym h.sends.rest) (stands_of join s (record old { nodes = nodes; post = new.post }) (after w n d marks) (record {
+        subst (λ c. StandsFor join s c (after_it w n d marks)) (sym h.sends.rest) (stands_of join s (record old { nodes = nodes; post = new.post }) (after_it w n d marks) (record {
           nodes = h.did.nodes;
           post = post_after;
           clocks = same_clocks join s old w is;

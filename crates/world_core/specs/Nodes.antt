@@ -3,6 +3,8 @@ use Rattle.std.specs.Prelude.{◌≡◌, ℕ, Bool, true, false, cond, length, o
 use Rattle.std.specs.Ordering.{nat_cmp}
 use Rattle.std.specs.BTreeMap.{get}
 use Rattle.layout_roles.specs.declared.layout.Layout.{Layout}
+use Rattle.layout_trackers.specs.declared.which.Which.TheVariants.{Sync}
+use Rattle.layout_trackers.specs.Trackers.{counts}
 use Rattle.view_model.specs.Layouts.{reading}
 use Rattle.layout_history.specs.Views.{known}
 use Rattle.view_model.specs.View.{newest, appended}
@@ -35,6 +37,10 @@ IsNodeAt join s (Some c) n x = StandsFor join s c n x
 -- each node of the code is that of the world
 abbrev pub AreNodes : {S R : Type 0} → (R → R → R) → Words R → Nodes S R → (ℕ → Model R Layout) → Type 0
 AreNodes join s nodes xs = (n : ℕ) → IsNodeAt join s (get nat_cmp nodes.by_number n) n (xs n)
+
+-- whatever nodes these stand for, this is what node n has as its own sync entry
+abbrev pub IsSyncAt : {S R : Type 0} → (R → R → R) → Words R → Nodes S R → ℕ → ℕ → Type 0
+IsSyncAt {S} {R} join s nodes n sync = (xs : ℕ → Model R Layout) → AreNodes join s nodes xs → sync ≡ counts 0 Sync (xs n).view.trackers n
 
 -- the newest version that node n knows
 abbrev pub newest_of : {S R : Type 0} → Option (Node S R) → ℕ

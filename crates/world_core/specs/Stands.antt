@@ -3,8 +3,6 @@ use Rattle.std.specs.Prelude.{◌≡◌, ℕ, suc, leb, cond, IsTrue, List, [], 
 use Rattle.blake2_hash.specs.Blake2b.{blake2b}
 use Rattle.cluster_machine.specs.Ties as ties
 use Rattle.layout_roles.specs.declared.layout.Layout.{Layout}
-use Rattle.layout_trackers.specs.declared.which.Which.TheVariants.{Sync}
-use Rattle.layout_trackers.specs.Trackers.{counts}
 use Rattle.layout_roles.specs.Certificates.{IsRedundancy}
 use Rattle.table_schema.specs.Words.{Words}
 use Rattle.wire_messages.specs.declared.phase.PhaseEnd.{PhaseEnd}
@@ -16,7 +14,7 @@ use Rattle.cluster_machine.specs.declared.line.Line.TheVariants.{Synced}
 use Rattle.cluster_machine.specs.Layouts.{layouts}
 use Rattle.node_parts.specs.declared.packet.Envelope.{Envelope}
 use Rattle.cluster_machine.specs.declared.applied.Applied.{Applied}
-use Rattle.cluster_machine.specs.Node.{Node as Seen, Ended}
+use Rattle.cluster_machine.specs.Node.{Ended}
 use Rattle.cluster_machine.specs.Acts.{acts}
 use Rattle.cluster_machine.specs.World.{Sent, Mark, clock, sent_bytes}
 use Rattle.cluster_machine.specs.Step.{none_given, applied, did, told, local}
@@ -122,15 +120,14 @@ module _ {S R : Type 0} (join : R → R → R) (s : Words R) where
 -- ---- what a node sends
 
 -- the line of a node's sync, where it rose
-abbrev pub synced_lines : {R : Type 0} → ℕ → ℕ → Seen R Layout → List (Line Applied)
-synced_lines node before x = let after = counts 0 Sync x.view.trackers node in cond (leb after before) [] (Synced node after ∷ [])
+abbrev pub synced_lines : ℕ → ℕ → ℕ → List (Line Applied)
+synced_lines node before after = cond (leb after before) [] (Synced node after ∷ [])
 
 -- the messages were sent, and their lines told, and nothing else changed
-pub record SendsOut {S R : Type 0} (join : R → R → R) (s : Words R) (old new : World S R) (node before : ℕ) (out : List (Envelope R)) (old_lines new_lines : List (Line Applied)) : Type 0 where
+pub record SendsOut {S R : Type 0} (join : R → R → R) (s : Words R) (old new : World S R) (node before after : ℕ) (out : List (Envelope R)) (old_lines new_lines : List (Line Applied)) : Type 0 where
   pub rest : new ≡ record old { post = new.post }
   pub posts : (messages : List (Sent R Layout)) (marks : List Mark) (sent : List (Sent R Layout)) → IsPost s old.post messages marks → AreSent out sent → IsPost s new.post (messages ++ sent) (marks ++ not_yet sent)
-  pub lines : (xs : ℕ → Seen R Layout) (messages : List (Sent R Layout)) (marks : List Mark) → AreNodes join s old.nodes xs → IsPost s old.post messages marks →
-      new_lines ≡ old_lines ++ (lines_from (suc (length messages)) out ++ synced_lines node before (xs node))
+  pub lines : (messages : List (Sent R Layout)) (marks : List Mark) → IsPost s old.post messages marks → new_lines ≡ old_lines ++ (lines_from (suc (length messages)) out ++ synced_lines node before after)
 
 -- the sizes of all messages, with these, are no number of the code
 abbrev pub CannotSend : {S R : Type 0} → Words R → World S R → List (Envelope R) → Type 0

@@ -26,6 +26,7 @@ mod post;
 mod report;
 mod requests;
 mod staging;
+mod with_sync;
 mod world;
 
 pub use node_line::NodeLine;

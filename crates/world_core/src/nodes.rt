@@ -22,10 +22,11 @@ ghost use Rattle.cluster_machine.specs.Step.{requests_of};
 ghost use Rattle.node_parts.specs.Posts.{told};
 ghost use Rattle.cluster_machine.specs.Blocks.{PacketCarriesBlocks};
 ghost use Rattle.cluster_machine.specs.Keeping.{IsShort};
-ghost use Rattle.node_core.specs.Stands.{begins_at};
+ghost use Rattle.node_core.specs.Stands.{begins_at, view_of};
 ghost use Rattle.node_core.specs.declared.node.BeginFault.TheVariants.{NotMember};
 
 use crate::node_line::NodeLine;
+use crate::with_sync::WithSync;
 use blake2_hash::Hash32;
 use cluster_machine::{Action, LocalEnd};
 use crdt_core::Memory;
@@ -48,7 +49,7 @@ pub struct Nodes<S: Schema> {
 }
 
 impl<S: Schema> Nodes<S> {
-    ghost use Rattle.world_core.specs.Nodes.{newest_in, StayThere, IsLineOf, Opens, AreNodes, DoesAt, ActsAt, BecomesAt, OverflowsAt};
+    ghost use Rattle.world_core.specs.Nodes.{newest_in, StayThere, IsLineOf, Opens, AreNodes, IsSyncAt, DoesAt, ActsAt, BecomesAt, OverflowsAt};
 
     pub fn new(alloc: Global) -> Nodes<S>
         ensures { AreNodes S.Row.join S.words result (λ n. new_node) }
@@ -97,10 +98,10 @@ impl<S: Schema> Nodes<S> {
 
     /// The node's own sync entry, 0 where it has none.
     pub fn synced(&self, node: u8) -> u32
-        ensures { (xs : ℕ → Model S.Row Layout) → AreNodes S.Row.join S.words self.now xs → result ≡ counts 0 Sync (xs node).view.trackers node }
+        ensures { IsSyncAt S.Row.join S.words self.now node result }
     {
         match self.by_number.get(&node) {
-            Some(found) => found.view().trackers().counts(Which::Sync, node, 0),
+            Some(found) => own_sync(found, node),
             None => 0,
         }
     }
@@ -163,8 +164,10 @@ impl<S: Schema> Nodes<S> {
         request: u64,
         phase: Phase<S::Row>,
         out: &mut Vec<Envelope<S::Row>>,
-    ) -> Result<(), Memory>
+    ) -> Result<WithSync<()>, Memory>
         requires short { IsShort phase }
+        ensures before { IfOk result (λ given. IsSyncAt S.Row.join S.words self.old node given.before) }
+        ensures after { IfOk result (λ given. IsSyncAt S.Row.join S.words self.new node given.after) }
         ensures begins { OnOk result ((kept : List S.Row) → DoesAt S.Row.join S.words self.old self.new node out.old.items out.new.items None (λ x. begins_at S.words kept x phase (call_at x.calls request))) }
         ensures causes { WantOr result ((kept : List S.Row) → OverflowsAt S.Row.join S.words self.old node (λ x. begins_at S.words kept x phase (call_at x.calls request))) }
     {
@@ -172,8 +175,14 @@ impl<S: Schema> Nodes<S> {
         let Some(found) = self.by_number.get_mut(&node) else {
             unreachable!()
         };
+        let before = own_sync(found, node);
         found.phase(request, phase, out)?;
-        Ok(())
+        let after = own_sync(found, node);
+        Ok(WithSync {
+            answer: (),
+            before,
+            after,
+        })
     }
 
     /// The node forgets a request.
@@ -191,17 +200,25 @@ impl<S: Schema> Nodes<S> {
         envelope: &Envelope<S::Row>,
         now: u64,
         out: &mut Vec<Envelope<S::Row>>,
-    ) -> Result<Option<(u64, PhaseEnd<S::Row>)>, Memory>
+    ) -> Result<WithSync<Option<(u64, PhaseEnd<S::Row>)>>, Memory>
         requires stocked { PacketCarriesBlocks (blake2b 32) S.words (told envelope.now.packet) }
-        ensures receives { IfOk result (λ given. DoesAt S.Row.join S.words self.old self.new envelope.now.to out.old.items out.new.items given (λ x. receives S.Row.join S.words layouts envelope.now.to now x envelope.now.from (told envelope.now.packet))) }
+        ensures before { IfOk result (λ given. IsSyncAt S.Row.join S.words self.old envelope.now.to given.before) }
+        ensures after { IfOk result (λ given. IsSyncAt S.Row.join S.words self.new envelope.now.to given.after) }
+        ensures receives { IfOk result (λ given. DoesAt S.Row.join S.words self.old self.new envelope.now.to out.old.items out.new.items given.answer (λ x. receives S.Row.join S.words layouts envelope.now.to now x envelope.now.from (told envelope.now.packet))) }
         ensures causes { WantOr result (OverflowsAt S.Row.join S.words self.old envelope.now.to (λ x. receives S.Row.join S.words layouts envelope.now.to now x envelope.now.from (told envelope.now.packet))) }
     {
         self.ready(envelope.to)?;
         let Some(found) = self.by_number.get_mut(&envelope.to) else {
             unreachable!()
         };
+        let before = own_sync(found, envelope.to);
         let ended = found.on_packet(envelope.from, &envelope.packet, now, out)?;
-        Ok(ended)
+        let after = own_sync(found, envelope.to);
+        Ok(WithSync {
+            answer: ended,
+            before,
+            after,
+        })
     }
 
     /// The node does something by itself. It knows a layout version.
@@ -211,17 +228,25 @@ impl<S: Schema> Nodes<S> {
         action: Action,
         now: u64,
         out: &mut Vec<Envelope<S::Row>>,
-    ) -> Result<LocalEnd, Memory>
+    ) -> Result<WithSync<LocalEnd>, Memory>
         requires has_version { 1 ≤ newest_in self.old node }
-        ensures acts { IfOk result (λ how. ActsAt S.Row.join S.words self.old self.new node out.old.items out.new.items how (λ x. acts S.Row.join S.words layouts node now x action)) }
+        ensures before { IfOk result (λ given. IsSyncAt S.Row.join S.words self.old node given.before) }
+        ensures after { IfOk result (λ given. IsSyncAt S.Row.join S.words self.new node given.after) }
+        ensures acts { IfOk result (λ given. ActsAt S.Row.join S.words self.old self.new node out.old.items out.new.items given.answer (λ x. acts S.Row.join S.words layouts node now x action)) }
         ensures causes { WantOr result (OverflowsAt S.Row.join S.words self.old node (λ x. (acts S.Row.join S.words layouts node now x action).did)) }
     {
         self.ready(node)?;
         let Some(found) = self.by_number.get_mut(&node) else {
             unreachable!()
         };
+        let before = own_sync(found, node);
         let how = found.local(action, now, out)?;
-        Ok(how)
+        let after = own_sync(found, node);
+        Ok(WithSync {
+            answer: how,
+            before,
+            after,
+        })
     }
 
     /// The node stores one layout version more, the one after its newest.
@@ -252,4 +277,11 @@ impl<S: Schema> Nodes<S> {
         let lost = found.restart()?;
         Ok(lost)
     }
+}
+
+// The sync entry that the node knows of this number, 0 where it knows none.
+fn own_sync<S: Schema>(node: &Node<S>, number: u8) -> u32
+    ensures { result ≡ counts 0 Sync (view_of node.now).trackers number }
+{
+    node.view().trackers().counts(Which::Sync, number, 0)
 }

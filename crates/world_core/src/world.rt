@@ -321,19 +321,20 @@ impl<S: Schema> World<S> {
         Ok(self.silent())
     }
 
-    // A node sent messages; its own sync was this before.
+    // A node sent messages; its own sync was this before, and is that after.
     fn tell(
         &mut self,
         node: u8,
         before: u32,
+        after: u32,
         out: Vec<Envelope<S::Row>>,
         lines: &mut List<Line>,
     ) -> Result<(), Memory>
-        ensures tells { OnOk result (SendsOut S.Row.join S.words self.old self.new node before out.items lines.old lines.new) }
+        ensures tells { OnOk result (SendsOut S.Row.join S.words self.old self.new node before after out.items lines.old lines.new) }
         ensures causes { WantOr result (CannotSend S.words self.old out.items) }
     {
         send::<S>(&mut self.post, out, lines)?;
-        push_synced(lines, node, before, self.nodes.synced(node))?;
+        push_synced(lines, node, before, after)?;
         Ok(())
     }
 
@@ -347,16 +348,15 @@ impl<S: Schema> World<S> {
             Err(reason) => return Ok(self.refused(reason)),
         };
         let node = envelope.to;
-        let before = self.nodes.synced(node);
         let now = self.clocks.now(node);
         let mut out = Vec::new(self.alloc);
-        let ended = self.nodes.receive(envelope, now, &mut out)?;
+        let given = self.nodes.receive(envelope, now, &mut out)?;
         self.post.deliver(message);
         let mut lines = List::new(self.alloc);
         lines.push(Line::Got(message))?;
-        self.tell(node, before, out, &mut lines)?;
+        self.tell(node, given.before, given.after, out, &mut lines)?;
         let mut report = self.told(Words::Empty, lines);
-        report.ends = listed(self.alloc, ended)?;
+        report.ends = listed(self.alloc, given.answer)?;
         Ok(report)
     }
 
@@ -415,8 +415,8 @@ impl<S: Schema> World<S> {
         let mut out = Vec::new(self.alloc);
         out.push(Envelope { from, to, packet })?;
         let mut lines = List::new(self.alloc);
-        let before = self.nodes.synced(from);
-        self.tell(from, before, out, &mut lines)?;
+        let synced = self.nodes.synced(from);
+        self.tell(from, synced, synced, out, &mut lines)?;
         Ok(self.told(Words::Empty, lines))
     }
 
@@ -426,13 +426,12 @@ impl<S: Schema> World<S> {
         ensures plays { IfOk result (λ report. PlaysSo S.Row.join S.words self.old self.new report (acts_so S.Row.join S.words node action)) }
         ensures causes { WantOr result (ExceedsSo S.Row.join S.words self.old (acts_so S.Row.join S.words node action)) }
     {
-        let before = self.nodes.synced(node);
         let now = self.clocks.now(node);
         let mut out = Vec::new(self.alloc);
-        let how = self.nodes.act(node, action, now, &mut out)?;
+        let given = self.nodes.act(node, action, now, &mut out)?;
         let mut lines = List::new(self.alloc);
-        self.tell(node, before, out, &mut lines)?;
-        Ok(self.told(words_of(how), lines))
+        self.tell(node, given.before, given.after, out, &mut lines)?;
+        Ok(self.told(words_of(given.answer), lines))
     }
 
     // The same, unless the node knows no layout version.
@@ -485,11 +484,10 @@ impl<S: Schema> World<S> {
             return Ok(self.silent());
         }
         let node = found.coordinator;
-        let before = self.nodes.synced(node);
         let mut out = Vec::new(self.alloc);
-        self.nodes.phase(node, request, phase, &mut out)?;
+        let given = self.nodes.phase(node, request, phase, &mut out)?;
         let mut lines = List::new(self.alloc);
-        self.tell(node, before, out, &mut lines)?;
+        self.tell(node, given.before, given.after, out, &mut lines)?;
         Ok(self.told(Words::Empty, lines))
     }
 

@@ -2,7 +2,7 @@ use Rattle.std.proofs.Common.{inl, inr, subst, ◌≤◌}
 use Rattle.std.proofs.lemmas.Result.{err_from_is_err_and}
 use Rattle.cluster_machine.specs.Acts as model
 use Rattle.cluster_machine.specs.Layouts.{layouts}
-use Rattle.world_core.proofs.NodesAt.{acts, overflows, newest_there}
+use Rattle.world_core.proofs.NodesAt.{acts, overflows, newest_there, sync_there, sync_written}
 use Rattle.world_core.proofs.nodes.Nodes.act.Goals as goal
 
 pub local-requires : goal.local-requires
@@ -29,3 +29,12 @@ returns-clause-acts g c xs are =
     let w = c.local.new.self in
     acts join s c.ready.new.self (c.get_mut.follows.lender w) c.args.node c.in-Some.found.now w c.args.out.now.items c.local.new.out.items c.in_ok-how.how (λ id x. model.acts join s layouts id c.args.now x c.args.action)
     c.in-Some.ensures.value (c.get_mut.follows.holds w) c.in_ok-how.ensures.acts xs (c.in_ok-ready.ensures.same xs are)
+
+pub returns-clause-before : goal.returns-clause-before
+returns-clause-before g c xs are =
+    sync_there g.S.Row.Crdt.join g.S.Schema.words c.ready.new.self c.args.node c.in-Some.found.now c.own_sync-before.result c.in-Some.ensures.value c.own_sync-before.ensures xs (c.in_ok-ready.ensures.same xs are)
+
+pub returns-clause-after : goal.returns-clause-after
+returns-clause-after g c =
+    let w = c.local.new.self in
+    sync_written g.S.Row.Crdt.join g.S.Schema.words c.ready.new.self (c.get_mut.follows.lender w) c.args.node c.in-Some.found.now w c.own_sync-after.result c.in-Some.ensures.value (c.get_mut.follows.holds w) c.own_sync-after.ensures

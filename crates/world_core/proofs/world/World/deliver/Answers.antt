@@ -17,11 +17,11 @@ receive-requires g c =
     let h = c.requires.stands.1 in
     record { stocked = stocked_found join s c.args.self.now w c.args.message c.in-Ok.envelope.now h (c.in-Ok.ensures.found s w.messages w.marks h.post) }
 
-pub returns-in_err-ended-clause-causes : goal.returns-in_err-ended-clause-causes
-returns-in_err-ended-clause-causes g c =
+pub returns-in_err-given-clause-causes : goal.returns-in_err-given-clause-causes
+returns-in_err-given-clause-causes g c =
     let s = g.S.Schema.words in
     let p = err_from_is_err_and c.from_residual.result c.from_residual.ensures.1 in
-    rw (p.1, p.2) (elim c.in_err-ended.ensures.causes [
+    rw (p.1, p.2) (elim c.in_err-given.ensures.causes [
       | inl want ↦ inl want
       | inr full ↦ inr (
         full.0,
@@ -41,7 +41,7 @@ returns-in_err-tell-clause-causes g c =
         λ w h.
             let found = c.in-Ok.ensures.found s w.messages w.marks h.post in
             came_sent_full g.S.Row.Crdt.join s c.args.self.now w c.args.message c.in-Ok.envelope.now h found c.now-now.result (c.now-now.ensures w.time w.skew_of h.clocks)
-            c.receive.new.self c.deliver.new.self c.new-out.result.items c.receive.new.out.items c.in_ok-ended.ended c.new-out.ensures.items c.in_ok-ended.ensures.receives
+            c.receive.new.self c.deliver.new.self c.new-out.result.items c.receive.new.out.items c.in_ok-given.given.answer c.new-out.ensures.items c.in_ok-given.ensures.receives
             (c.deliver.ensures s w.messages w.marks found.mark h.post found.is_marked found.not_lost) full.1,
       )
     ])
@@ -51,6 +51,6 @@ returns-clause-plays g c w h =
     let s = g.S.Schema.words in
     let found = c.in-Ok.ensures.found s w.messages w.marks h.post in
     came_does g.S.Row.Crdt.join s c.args.self.now w c.args.message c.in-Ok.envelope.now h found c.now-now.result (c.now-now.ensures w.time w.skew_of h.clocks)
-    c.receive.new.self c.deliver.new.self c.new-out.result.items c.receive.new.out.items c.in_ok-ended.ended c.new-out.ensures.items c.in_ok-ended.ensures.receives
+    c.receive.new.self c.deliver.new.self c.new-out.result.items c.receive.new.out.items c.in_ok-given.given.answer c.new-out.ensures.items c.in_ok-given.ensures.receives
     (c.deliver.ensures s w.messages w.marks found.mark h.post found.is_marked found.not_lost)
-    g.met.S.Schema.laws c.tell.new.self c.synced-before.result c.new-lines.result c.push.new.self c.tell.new.lines c.in_ok-report.field-0 c.told-report.result (c.synced-before.ensures w.nodes h.nodes) c.new-lines.ensures c.in_ok-push.ensures.ok c.in_ok-tell.ensures.tells c.in_ok-report.ensures.ends c.told-report.ensures
+    g.met.S.Schema.laws c.tell.new.self c.in_ok-given.given.before c.in_ok-given.given.after c.new-lines.result c.push.new.self c.tell.new.lines c.in_ok-report.field-0 c.told-report.result (c.in_ok-given.ensures.before w.nodes h.nodes) c.in_ok-given.ensures.after c.new-lines.ensures c.in_ok-push.ensures.ok c.in_ok-tell.ensures.tells c.in_ok-report.ensures.ends c.told-report.ensures

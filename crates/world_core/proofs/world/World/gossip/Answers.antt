@@ -20,4 +20,4 @@ pub returns-clause-plays : goal.returns-clause-plays
 returns-clause-plays g c w h =
     gossip_does g.S.Row.Crdt.join g.S.Schema.words c.args.self.now w c.args.from c.args.to c.in_ok-packet.packet c.new-out.result.items c.push.new.self.items h (c.in_ok-packet.ensures.shown w.nodes h.nodes)
     c.new-out.ensures.items c.in_ok-push.ensures.items
-    g.met.S.Schema.laws c.tell.new.self c.synced-before.result c.new-lines.result c.tell.new.lines c.told.result (c.synced-before.ensures w.nodes h.nodes) c.new-lines.ensures c.in_ok-tell.ensures.tells c.told.ensures
+    g.met.S.Schema.laws c.tell.new.self c.synced-synced.result c.new-lines.result c.tell.new.lines c.told.result c.synced-synced.ensures c.new-lines.ensures c.in_ok-tell.ensures.tells c.told.ensures
