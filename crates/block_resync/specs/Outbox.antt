@@ -1,10 +1,9 @@
 -- The outbox: a list of numbered items, and what each call makes of it. And which blocks are due.
-use Rattle.std.specs.Prelude.{◌≡◌, ◌<◌, ◌≤◌, ℕ, ◌+◌, ◌-◌, ◌^◌, Bool, not, if◌then◌else◌, ◌==◌, ◌&&◌, List, [], ◌∷◌, ◌++◌, map, nat_le}
-use Rattle.std.specs.List.{AllByRecursion, filter, list_all, list_any}
+use Rattle.std.specs.Prelude.{ℕ, ◌+◌, ◌-◌, Bool, not, if◌then◌else◌, ◌==◌, ◌&&◌, List, [], ◌∷◌, ◌++◌, map, nat_le}
+use Rattle.std.specs.List.{filter, list_all, list_any}
 use Rattle.blake2_hash.specs.declared.digest.Hash32.{Hash32}
-use Rattle.crdt_core.specs.declared.memory.Memory.{Memory}
-use Rattle.crdt_core.specs.declared.memory.Memory.TheVariants.{Want, Full}
 use Rattle.quorum_model.specs.Quorum.{is_among, two_of}
+use Rattle.numbered_list.specs.Numbers.{AreNumbered}
 use Rattle.block_resync.specs.declared.item.Item.{Item}
 
 -- items that wait to be confirmed
@@ -20,19 +19,13 @@ empty = record { pushed = 0; items = [] }
 
 -- ---- numbers
 
--- the numbers of items
-abbrev pub numbers : List Item → List ℕ
-numbers items = map (λ x. x.number) items
-
--- each of these is above the one before it, and the first above `low`
-abbrev pub Rises : ℕ → List ℕ → Type 0
-Rises low [] = Unit {0}
-Rises low (n ∷ ns) = (low < n) × Rises n ns
+-- an item's number
+abbrev pub number_of : Item → ℕ
+number_of x = x.number
 
 -- the numbers ascend from 1, and none is above the last that was given
-pub record IsNumbered (pushed : ℕ) (items : List Item) : Type 0 where
-  pub rises : Rises 0 (numbers items)
-  pub given : AllByRecursion (λ n. n ≤ pushed) (numbers items)
+abbrev pub IsNumbered : ℕ → List Item → Type 0
+IsNumbered pushed items = AreNumbered number_of pushed items
 
 -- ---- confirmations
 
@@ -73,11 +66,6 @@ dropped o number = record o { items = filter (λ x. not (x.number == number)) o.
 -- each item waits anew for every confirmation
 abbrev pub forgot : Outbox → Outbox
 forgot o = record o { items = map item_forgot o.items }
-
--- why an item isn't pushed: for want of memory, or because its number would be 2 ^ 64
-abbrev pub RefusesPush : ℕ → Memory → Type 0
-RefusesPush pushed Want = pushed + 1 < 2 ^ 64
-RefusesPush pushed Full = pushed + 1 ≡ 2 ^ 64
 
 -- ---- blocks
 

@@ -4,6 +4,7 @@ ghost use Rattle.crdt_core.specs.Outcomes.{OnlyWant};
 
 use crate::nodes::{has_two, is_among};
 use crdt_core::{Bytes, List, Memory};
+use numbered_list::Numbered;
 
 /// A row that waits until two nodes of each of its sets have confirmed it.
 #[derive(Drop)]
@@ -39,5 +40,15 @@ impl Item {
     {
         let confirmed = self.confirmed.as_slice();
         sets.iter().all(|set| has_two(set, confirmed))
+    }
+}
+
+impl Numbered for Item {
+    ghost use Rattle.block_resync.specs.Outbox.{number_of};
+
+    ghost number = { number_of };
+
+    fn number(&self) -> u64 {
+        self.number
     }
 }

@@ -1,14 +1,15 @@
 //! The outbox.
-ghost use Rattle.std.specs.Prelude.{◌≡◌, ◌<◌, ◌+◌, ℕ, length, map, IsTrue, IfOk, IfErr, OnOk, OnErr, IfSome, IfNone, slice_get, if◌then◌else◌, false, ◌==◌};
-ghost use Rattle.std.specs.List.{AllByRecursion};
+ghost use Rattle.std.specs.Prelude.{◌≡◌, ◌+◌, map, IsTrue, IfOk, IfErr, OnOk, OnErr, if◌then◌else◌};
 ghost use Rattle.crdt_core.specs.Outcomes.{OnlyWant};
 ghost use Rattle.block_store.specs.Contents.{idle_notes};
-ghost use Rattle.block_resync.specs.Outbox.{numbers, Rises, IsNumbered, empty, item_forgot, pushed_on, confirmed, is_done, dropped, forgot, RefusesPush, due_of};
+ghost use Rattle.block_resync.specs.Outbox.{IsNumbered, empty, item_forgot, pushed_on, confirmed, is_done, dropped, forgot, due_of};
+ghost use Rattle.numbered_list.specs.Numbers.{RefusesNumber};
 
 use crate::item::Item;
 use blake2_hash::Hash32;
 use block_store::Blocks;
 use crdt_core::{Bytes, List, Memory};
+use numbered_list::place_of;
 use std::alloc::Global;
 use std::marker::Model;
 
@@ -47,7 +48,7 @@ impl Resync {
         ensures number { IfOk result (λ n. n ≡ self.old.pushed + 1) }
         ensures ok { OnOk result (self.new ≡ pushed_on self.old row partition) }
         ensures err { OnErr result (self.new ≡ self.old) }
-        ensures refused { IfErr result (RefusesPush self.old.pushed) }
+        ensures refused { IfErr result (RefusesNumber self.old.pushed) }
     {
         if self.pushed == u64::MAX {
             return Err(Memory::Full);
@@ -121,16 +122,6 @@ impl Resync {
             .filter(|entry| now.saturating_sub(entry.1) >= DELETE_DELAY);
         Ok(due.map(|entry| entry.0).collect(self.items.allocator())?)
     }
-}
-
-// Where the item with this number stands.
-fn place_of(items: &[Item], number: u64) -> Option<usize>
-    requires { Rises 0 (numbers items.now) }
-    ensures in_range { IfSome result (λ i. i < length items.now) }
-    ensures found { IfSome result (λ i. IfSome (slice_get items.now i) (λ x. x.number ≡ number)) }
-    ensures absent { IfNone result (AllByRecursion (λ x. (x.number == number) ≡ false) items.now) }
-{
-    items.binary_search_by(|item| item.number.cmp(&number)).ok()
 }
 
 fn forget_all(items: &mut List<Item>)

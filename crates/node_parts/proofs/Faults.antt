@@ -3,9 +3,9 @@ use Rattle.std.proofs.Common.{◌≡◌, ◌⊎◌, ◌+◌, ◌^◌, ℕ, Resul
 use Rattle.std.specs.Result.{IsErrAnd}
 use Rattle.crdt_core.specs.declared.memory.Memory.{Memory}
 use Rattle.crdt_core.specs.declared.memory.Memory.TheVariants.{Want, Full}
-use Rattle.block_resync.specs.Outbox.{RefusesPush}
+use Rattle.numbered_list.specs.Numbers.{RefusesNumber}
 
-by_refusal : {P : Type 0} (y e : Memory) (pushed : ℕ) → y ≡ e → RefusesPush pushed e → (pushed + 1 ≡ 2 ^ 64 → P) → (y ≡ Want) ⊎ ((y ≡ Full) × P)
+by_refusal : {P : Type 0} (y e : Memory) (pushed : ℕ) → y ≡ e → RefusesNumber pushed e → (pushed + 1 ≡ 2 ^ 64 → P) → (y ≡ Want) ⊎ ((y ≡ Full) × P)
 by_refusal y Want pushed h refused f = inl h
 by_refusal y Full pushed h refused f = inr (h, f refused)
 
@@ -14,6 +14,6 @@ module _ {T P : Type 0} where
   passed_on (Ok x) e h cause f = absurd h
   passed_on (Err y) e h cause f = elim cause [ inl want ↦ inl (h ∙ want) | inr full ↦ inr (h ∙ full.0, f full.1) ]
 
-  pub not_pushed : (r : Result T Memory) (e : Memory) (pushed : ℕ) → IsErrAnd r (λ y. y ≡ e) → RefusesPush pushed e → (pushed + 1 ≡ 2 ^ 64 → P) → IfErr r (λ y. (y ≡ Want) ⊎ ((y ≡ Full) × P))
+  pub not_pushed : (r : Result T Memory) (e : Memory) (pushed : ℕ) → IsErrAnd r (λ y. y ≡ e) → RefusesNumber pushed e → (pushed + 1 ≡ 2 ^ 64 → P) → IfErr r (λ y. (y ≡ Want) ⊎ ((y ≡ Full) × P))
   not_pushed (Ok x) e pushed h refused f = absurd h
   not_pushed (Err y) e pushed h refused f = by_refusal y e pushed h refused f

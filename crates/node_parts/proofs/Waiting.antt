@@ -1,12 +1,13 @@
 -- Items that wait, in the code and in the model: the one with a number, and what a confirmation makes of them.
-use Rattle.std.proofs.Common.{◌≡◌, ◌<◌, ℕ, zero, suc, Bool, true, false, not, cond, if◌then◌else◌, ◌==◌, ◌&&◌, ◌||◌, nat_le, List, [], ◌∷◌, ◌++◌, Some, None, option_map, map, length, get_or, count_by, refl, sym, ap, ◌∙◌, subst, arith, eq-eqb, ne_eqb, eqb-true}
+use Rattle.std.proofs.Common.{◌≡◌, ◌<◌, ℕ, zero, suc, Bool, true, false, not, cond, if◌then◌else◌, ◌==◌, ◌&&◌, ◌||◌, nat_le, List, [], ◌∷◌, ◌++◌, Some, None, option_map, map, length, get_or, count_by, refl, sym, ap, ◌∙◌, subst, arith, eq-eqb, eqb-true}
 use Rattle.std.specs.List.{AllZip, filter, list_any, list_all}
 use Rattle.std.proofs.lemmas.Option.{same_Some}
-use Rattle.block_resync.specs.Outbox.{Outbox, numbers, Rises, item_confirmed, item_forgot, confirmed, dropped, is_done as code_done, two_of_each}
+use Rattle.numbered_list.specs.Numbers.{Rises}
+use Rattle.numbered_list.proofs.Numbering.{NoneHas, none_past, none_changed, none_left_out, number_above, apart_above}
+use Rattle.block_resync.specs.Outbox.{Outbox, number_of, item_confirmed, item_forgot, confirmed, dropped, is_done as code_done, two_of_each}
 use Rattle.quorum_model.specs.Quorum.{is_among, two_of}
 use Rattle.block_resync.specs.declared.item.Item.{Item}
-use Rattle.block_resync.proofs.Numbering.{NoneHas, none_past, none_changed, none_found, same_number}
-use Rattle.block_resync.proofs.Searching.{number_above}
+use Rattle.block_resync.proofs.Numbering.{none_found, kept, same_number}
 use Rattle.std.proofs.Math.Bool.{or-false, or-true}
 use Rattle.layout_roles.specs.declared.layout.Layout.{Layout}
 use Rattle.view_model.specs.View.{View}
@@ -18,23 +19,20 @@ use Rattle.cluster_machine.specs.Acts.{unconfirmed}
 use Rattle.node_parts.specs.Contents.{IsItem, item_at}
 use Rattle.quorum_model.proofs.Counting.{is_among-push}
 
-below_apart : (a n : ℕ) → a < n → (a == n) ≡ false
-below_apart a n lt = ne_eqb a n (λ e. omega arith)
-
 -- ---- the item with a number
 
 module _ {R : Type 0} (s : Words R) where
-  pub item_found : (n low : ℕ) (items : List Item) (ms : List (Waiting R)) (i : ℕ) (d : Item) → Rises low (numbers items) → AllZip (IsItem s) items ms → i < length items → (get_or items i d).number ≡ n →
+  pub item_found : (n low : ℕ) (items : List Item) (ms : List (Waiting R)) (i : ℕ) (d : Item) → Rises low (map number_of items) → AllZip (IsItem s) items ms → i < length items → (get_or items i d).number ≡ n →
       Some (get_or items i d).partition ≡ option_map (λ (m : Waiting R). partition_of s m.row) (item_at ms n)
   item_found n low [] ms i d r h lt is = absurd (omega arith)
   item_found n low (x ∷ xs) [] i d r h lt is = absurd h
   item_found n low (x ∷ xs) (m ∷ ms) zero d r h lt is =
       rw (eq-eqb m.number n (sym h.0.number ∙ is)) (ap Some h.0.partition)
   item_found n low (x ∷ xs) (m ∷ ms) (suc i) d r h lt is =
-      let later = number_above x.number xs i d r.1 (omega arith) in
-      rw (below_apart m.number n (omega (arith, h.0.number, is, later))) (item_found n x.number xs ms i d r.1 h.1 (omega arith) is)
+      let later = number_above number_of x.number xs i d r.1 (omega arith) in
+      rw (apart_above m.number n (omega (arith, h.0.number, is, later))) (item_found n x.number xs ms i d r.1 h.1 (omega arith) is)
 
-  pub item_absent : (n : ℕ) (items : List Item) (ms : List (Waiting R)) → NoneHas n items → AllZip (IsItem s) items ms → item_at ms n ≡ None
+  pub item_absent : (n : ℕ) (items : List Item) (ms : List (Waiting R)) → NoneHas number_of n items → AllZip (IsItem s) items ms → item_at ms n ≡ None
   item_absent n [] [] none h = refl
   item_absent n [] (m ∷ ms) none h = absurd h
   item_absent n (x ∷ xs) [] none h = absurd h
@@ -57,14 +55,6 @@ confirmed_same node x nodes h n =
       | false ↦ λ e. is_among-push n node x.confirmed ∙ (ap (λ b. b || (node == n)) (h n) ∙ sym (is_among-push n node nodes))
     ] refl
 
-row_same : (node : ℕ) (x : Item) → (item_confirmed node x).row ≡ x.row
-row_same node x =
-    elim (is_among node x.confirmed) as (λ b. (if b then x else record x { confirmed = x.confirmed ++ node ∷ [] }).row ≡ x.row) [ true ↦ refl | false ↦ refl ]
-
-partition_same : (node : ℕ) (x : Item) → (item_confirmed node x).partition ≡ x.partition
-partition_same node x =
-    elim (is_among node x.confirmed) as (λ b. (if b then x else record x { confirmed = x.confirmed ++ node ∷ [] }).partition ≡ x.partition) [ true ↦ refl | false ↦ refl ]
-
 done_same : (x : Item) (nodes : List ℕ) (sets : List (List ℕ)) → ((n : ℕ) → is_among n x.confirmed ≡ is_among n nodes) → two_of_each sets x ≡ list_all (λ set. two_of set nodes) sets
 done_same x nodes sets h = λ j. list_all (λ set. nat_le 2 (count_by (λ n. h n j) set)) sets
 
@@ -84,10 +74,6 @@ module _ (node n : ℕ) (sets : List (List ℕ)) where
   abbrev pub after : List Item → List Item
   after items = if is_out (told items) then left (told items) else told items
 
-  none_left : (items : List Item) → NoneHas n items → left items ≡ items
-  none_left [] none = refl
-  none_left (x ∷ xs) none = ap (λ b. cond (not b) (x ∷ left xs) (left xs)) none.0 ∙ ap (λ l. x ∷ l) (none_left xs none.1)
-
   by_done : (b : Bool) (x : Item) (l k : List Item) → (if b then x ∷ l else x ∷ k) ≡ x ∷ (if b then l else k)
   by_done true x l k = refl
   by_done false x l k = refl
@@ -101,16 +87,16 @@ module _ (node n : ℕ) (sets : List (List ℕ)) where
       ∙ ((λ j. if out j then stays j else x ∷ told items)
       ∙ by_done (is_out (told items)) x (left (told items)) (told items))
 
-  after_one : (y : Item) (items : List Item) → (y.number == n) ≡ true → NoneHas n items → (if is_out (y ∷ items) then left (y ∷ items) else y ∷ items) ≡ (if two_of_each sets y then items else y ∷ items)
+  after_one : (y : Item) (items : List Item) → (y.number == n) ≡ true → NoneHas number_of n items → (if is_out (y ∷ items) then left (y ∷ items) else y ∷ items) ≡ (if two_of_each sets y then items else y ∷ items)
   after_one y items e none =
       let out : is_out (y ∷ items) ≡ two_of_each sets y = ap (λ b. (b && two_of_each sets y) || is_out items) e ∙ (ap (λ b. two_of_each sets y || b) (none_found (two_of_each sets) n items none) ∙ or-false (two_of_each sets y)) in
-      let gone : left (y ∷ items) ≡ items = ap (λ b. cond (not b) (y ∷ left items) (left items)) e ∙ none_left items none in
+      let gone : left (y ∷ items) ≡ items = ap (λ b. cond (not b) (y ∷ left items) (left items)) e ∙ none_left_out number_of n items none in
       ap (λ b. if b then left (y ∷ items) else y ∷ items) out ∙ ap (λ l. if two_of_each sets y then l else y ∷ items) gone
 
-  after_here : (x : Item) (items : List Item) → (x.number == n) ≡ true → NoneHas n items → after (x ∷ items) ≡ (if two_of_each sets (item_confirmed node x) then items else item_confirmed node x ∷ items)
+  after_here : (x : Item) (items : List Item) → (x.number == n) ≡ true → NoneHas number_of n items → after (x ∷ items) ≡ (if two_of_each sets (item_confirmed node x) then items else item_confirmed node x ∷ items)
   after_here x items e none =
       let y = item_confirmed node x in
-      let same : told (x ∷ items) ≡ y ∷ items = (λ j. (if e j then y else x) ∷ none_changed (item_confirmed node) n items none j) in
+      let same : told (x ∷ items) ≡ y ∷ items = (λ j. (if e j then y else x) ∷ none_changed number_of (item_confirmed node) n items none j) in
       ap (λ l. if is_out l then left l else l) same ∙ after_one y items (ap (λ k. k == n) (same_number node x) ∙ e) none
 
   module _ {R : Type 0} (join : R → R → R) (s : Words R) (v : View Layout) (p : ℕ) (are : sets ≡ stored_sets layouts v p) where
@@ -118,7 +104,7 @@ module _ (node n : ℕ) (sets : List (List ℕ)) where
     zip_here true x m xs ms is h = h
     zip_here false x m xs ms is h = (is, h)
 
-    pub confirms : (low : ℕ) (items : List Item) (ms : List (Waiting R)) → Rises low (numbers items) → AllZip (IsItem s) items ms → Some p ≡ option_map (λ (m : Waiting R). partition_of s m.row) (item_at ms n) →
+    pub confirms : (low : ℕ) (items : List Item) (ms : List (Waiting R)) → Rises low (map number_of items) → AllZip (IsItem s) items ms → Some p ≡ option_map (λ (m : Waiting R). partition_of s m.row) (item_at ms n) →
         AllZip (IsItem s) (after items) (item_came join s layouts v node n ms)
     confirms low [] [] r h at = tt
     confirms low [] (m ∷ ms) r h at = absurd h
@@ -133,8 +119,8 @@ module _ (node n : ℕ) (sets : List (List ℕ)) where
               let y = item_confirmed node x in
               let among = confirmed_same node x m.confirmed h.0.confirmed in
               let done : two_of_each sets y ≡ is_done join s layouts v new = done_same y new.confirmed sets among ∙ ap (λ l. list_all (λ set. two_of set new.confirmed) l) (are ∙ ap (stored_sets layouts v) place) in
-              let is : IsItem s y new = record { number = same_number node x ∙ h.0.number; row = h.0.row ∙ ap Some (sym (row_same node x)); partition = partition_same node x ∙ h.0.partition; confirmed = among } in
-              let past = none_past n x.number xs (omega (arith, eqb-true x.number n e)) r.1 in
+              let is : IsItem s y new = record { number = same_number node x ∙ h.0.number; row = h.0.row ∙ ap Some (sym (kept (λ (y : Item). y.row) (λ y nodes. refl) node x)); partition = kept (λ (y : Item). y.partition) (λ y nodes. refl) node x ∙ h.0.partition; confirmed = among } in
+              let past = none_past number_of n x.number xs (omega (arith, eqb-true x.number n e)) r.1 in
               let code : after (x ∷ xs) ≡ (if two_of_each sets y then xs else y ∷ xs) = after_here x xs e past in
               let model : item_came join s layouts v node n (m ∷ ms) ≡ cond (two_of_each sets y) ms (new ∷ ms) = ap (λ b. cond b (cond (is_done join s layouts v new) ms (new ∷ ms)) (m ∷ item_came join s layouts v node n ms)) here ∙ ap (λ b. cond b ms (new ∷ ms)) (sym done) in
               subst (AllZip (IsItem s) (after (x ∷ xs))) (sym model) (subst (λ l. AllZip (IsItem s) l (cond (two_of_each sets y) ms (new ∷ ms))) (sym code) (zip_here (two_of_each sets y) y new xs ms is h.1))

@@ -22,6 +22,7 @@ use block_resync::Resync;
 use block_store::Blocks;
 use crdt_core::{Bytes, List, Memory, Value};
 use layout_history::View;
+use numbered_list::place_of;
 use std::alloc::Global;
 use table_schema::{RowFault, Schema, partition};
 use table_store::Table;
@@ -116,9 +117,9 @@ impl<S: Schema> Contents<S> {
         ensures numbered { IsNumbered self.now.outbox.pushed self.now.outbox.items }
     {
         let items = self.outbox.items();
-        match items.binary_search_by(|item| item.number.cmp(&number)) {
-            Ok(place) => Some(items[place].partition),
-            Err(_) => None,
+        match place_of(items, number) {
+            Some(place) => Some(items[place].partition),
+            None => None,
         }
     }
 

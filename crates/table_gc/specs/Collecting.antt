@@ -1,9 +1,8 @@
 -- The open collections, and what each call makes of them.
-use Rattle.std.specs.Prelude.{◌≡◌, ◌<◌, ◌≤◌, ℕ, ◌+◌, ◌^◌, ◌==◌, ◌&&◌, Bool, false, not, if◌then◌else◌, List, [], ◌∷◌, ◌++◌, length, map, nat_eq, Option, Some, None, is_some}
-use Rattle.std.specs.List.{AllByRecursion, filter, find}
+use Rattle.std.specs.Prelude.{ℕ, ◌+◌, ◌==◌, ◌&&◌, Bool, false, not, if◌then◌else◌, List, [], ◌∷◌, ◌++◌, length, map, nat_eq, Option, Some, None, is_some}
+use Rattle.std.specs.List.{filter, find}
 use Rattle.std.specs.Cmp.Lexicographic.{pointwise}
-use Rattle.crdt_core.specs.declared.memory.Memory.{Memory}
-use Rattle.crdt_core.specs.declared.memory.Memory.TheVariants.{Want, Full}
+use Rattle.numbered_list.specs.Numbers.{AreNumbered}
 use Rattle.table_gc.specs.declared.collection.Collection.{Collection}
 use Rattle.table_gc.specs.declared.collection.GcEnd.{GcEnd}
 use Rattle.table_gc.specs.declared.collection.GcEnd.TheVariants.{Wait, Closed, Complete}
@@ -60,19 +59,13 @@ missing_of c =
 
 -- ---- numbers
 
--- the numbers of some collections
-abbrev pub numbers : List Collection → List ℕ
-numbers cs = map (λ c. c.number) cs
-
--- each of these is above the one before it, and the first above `low`
-abbrev pub Rises : ℕ → List ℕ → Type 0
-Rises low [] = Unit {0}
-Rises low (n ∷ ns) = (low < n) × Rises n ns
+-- a collection's number
+abbrev pub number_of : Collection → ℕ
+number_of c = c.number
 
 -- the numbers ascend from 1, and none is above the last that was given
-pub record IsNumbered (begun : ℕ) (cs : List Collection) : Type 0 where
-  pub rises : Rises 0 (numbers cs)
-  pub given_out : AllByRecursion (λ n. n ≤ begun) (numbers cs)
+abbrev pub IsNumbered : ℕ → List Collection → Type 0
+IsNumbered begun cs = AreNumbered number_of begun cs
 
 -- the open collection with this number
 abbrev pub numbered : ℕ → Open → Option Collection
@@ -148,8 +141,3 @@ missing_at (Some c) = missing_of c
 -- the nodes that haven't confirmed the open round of the collection with this number; none where it isn't open
 abbrev pub missing_in : ℕ → Open → List ℕ
 missing_in number o = missing_at (numbered number o)
-
--- why a collection doesn't begin: for want of memory, or because its number would be 2 ^ 64
-abbrev pub RefusesBegin : ℕ → Memory → Type 0
-RefusesBegin begun Want = begun + 1 < 2 ^ 64
-RefusesBegin begun Full = begun + 1 ≡ 2 ^ 64

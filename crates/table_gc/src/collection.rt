@@ -5,6 +5,7 @@ ghost use Rattle.quorum_model.specs.Quorum.{is_among};
 ghost use Rattle.table_gc.specs.Rounds.{given};
 
 use crdt_core::{Bytes, List, Memory};
+use numbered_list::Numbered;
 use std::alloc::Global;
 
 /// How many nodes confirm a round.
@@ -178,5 +179,15 @@ impl Collection {
         let nodes = [1, 2, 3, 4, 5, 6, 7, 8, 9, 10, 11, 12, 13, 14, 15, 16];
         let waited = nodes.iter().filter(|node| !self.has_confirmed(**node));
         Ok(waited.map(|node| *node).collect(alloc)?)
+    }
+}
+
+impl Numbered for Collection {
+    ghost use Rattle.table_gc.specs.Collecting.{number_of};
+
+    ghost number = { number_of };
+
+    fn number(&self) -> u64 {
+        self.number
     }
 }

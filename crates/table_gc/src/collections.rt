@@ -1,11 +1,12 @@
 //! The open collections.
-ghost use Rattle.std.specs.Prelude.{◌≡◌, ◌<◌, ◌+◌, [], length, IsTrue, IfOk, IfErr, OnOk, OnErr, IfSome, IfNone, slice_get, option_copied, false, ◌==◌};
-ghost use Rattle.std.specs.List.{AllByRecursion};
+ghost use Rattle.std.specs.Prelude.{◌≡◌, ◌+◌, [], IsTrue, IfOk, IfErr, OnOk, OnErr, option_copied};
 ghost use Rattle.crdt_core.specs.Outcomes.{OnlyWant};
-ghost use Rattle.table_gc.specs.Collecting.{numbers, Rises, IsNumbered, none_open, begun_with, keyed, numbered, missing_in, is_ready, in_second, changed, closed, answer_end, answered, RefusesBegin};
+ghost use Rattle.table_gc.specs.Collecting.{IsNumbered, none_open, begun_with, keyed, numbered, missing_in, is_ready, in_second, changed, closed, answer_end, answered};
+ghost use Rattle.numbered_list.specs.Numbers.{RefusesNumber};
 
 use crate::collection::{Collection, GcEnd};
 use crdt_core::{Bytes, List, Memory};
+use numbered_list::place_of;
 use std::alloc::Global;
 use std::marker::Model;
 
@@ -42,7 +43,7 @@ impl Collections {
         ensures number { IfOk result (λ n. n ≡ self.old.begun + 1) }
         ensures ok { OnOk result (self.new ≡ begun_with self.old key row own newest) }
         ensures err { OnErr result (self.new ≡ self.old) }
-        ensures refused { IfErr result (RefusesBegin self.old.begun) }
+        ensures refused { IfErr result (RefusesNumber self.old.begun) }
     {
         if self.begun == u64::MAX {
             return Err(Memory::Full);
@@ -168,16 +169,4 @@ impl Collections {
     {
         self.list.truncate(0);
     }
-}
-
-// Where the collection with this number stands.
-fn place_of(collections: &[Collection], number: u64) -> Option<usize>
-    requires { Rises 0 (numbers collections.now) }
-    ensures in_range { IfSome result (λ i. i < length collections.now) }
-    ensures found { IfSome result (λ i. IfSome (slice_get collections.now i) (λ c. c.number ≡ number)) }
-    ensures absent { IfNone result (AllByRecursion (λ c. (c.number == number) ≡ false) collections.now) }
-{
-    collections
-        .binary_search_by(|collection| collection.number.cmp(&number))
-        .ok()
 }

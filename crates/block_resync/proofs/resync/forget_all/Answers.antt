@@ -3,7 +3,7 @@ use Rattle.std.specs.Prelude.{slice_set}
 use Rattle.std.proofs.lemmas.Grind.{common_steps}
 use Rattle.std.proofs.lemmas.List.Edits.{map_over_more}
 use Rattle.block_resync.specs.Outbox.{item_forgot}
-use Rattle.block_resync.proofs.Numbering.{read_at}
+use Rattle.numbered_list.proofs.Numbering.{read_at}
 use Rattle.block_resync.proofs.resync.forget_all.Goals as goal
 
 pub loop-i-preserved : goal.loop-i-preserved

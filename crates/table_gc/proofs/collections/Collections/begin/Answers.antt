@@ -1,7 +1,8 @@
 use Rattle.std.proofs.Common.{refl}
-use Rattle.table_gc.proofs.Numbering.{numbered_more}
+use Rattle.numbered_list.proofs.Numbering.{numbered_more}
+use Rattle.table_gc.specs.Collecting.{number_of}
 use Rattle.table_gc.proofs.collections.Collections.begin.Goals as goal
 
 pub invariant_of-self-2 : goal.invariant_of-self-2
 invariant_of-self-2 c =
-    rw c.in_ok-push-2.ensures.ok (numbered_more c.self.inside.begun _ c.self.inside.list refl c.self.invariant)
+    rw c.in_ok-push-2.ensures.ok (numbered_more number_of c.self.inside.begun _ c.self.inside.list refl c.self.invariant)

@@ -1,15 +1,15 @@
 use Rattle.std.proofs.Common.{◌≡◌, List, ap, sym, ◌∙◌}
-use Rattle.table_gc.specs.Collecting.{Open}
+use Rattle.table_gc.specs.Collecting.{Open, number_of}
 use Rattle.table_gc.specs.declared.collection.Collection.{Collection}
-use Rattle.table_gc.proofs.Numbering.{one_left_out, none_left_out, numbered_left}
+use Rattle.numbered_list.proofs.Numbering.{one_left_out, none_left_out, numbered_left}
 use Rattle.table_gc.proofs.collections.Collections.close.Goals as goal
 
 pub invariant_of-self : goal.invariant_of-self
 invariant_of-self c =
     let v = c.remove.result in
     let is : v.number ≡ c.args.number = rw (c.as_slice.ensures, c.remove.ensures.value) at c.in-Some.ensures.found in
-    rw (c.remove.ensures.rest ∙ one_left_out c.args.number 0 c.self.inside.list c.in-Some.i v c.self.invariant.rises c.remove.ensures.value is)
-    (numbered_left c.args.number c.self.inside.begun c.self.inside.list c.self.invariant)
+    rw (c.remove.ensures.rest ∙ one_left_out number_of c.args.number 0 c.self.inside.list c.in-Some.i v c.self.invariant.rises c.remove.ensures.value is)
+    (numbered_left number_of c.args.number c.self.inside.begun c.self.inside.list c.self.invariant)
 
 pub returns-in-Some : goal.returns-in-Some
 returns-in-Some c =
@@ -17,10 +17,10 @@ returns-in-Some c =
     let v = c.remove.result in
     let is : v.number ≡ c.args.number = rw (c.as_slice.ensures, c.remove.ensures.value) at c.in-Some.ensures.found in
     rw (← c.self.view_is)
-    (ap whole (c.remove.ensures.rest ∙ one_left_out c.args.number 0 c.self.inside.list c.in-Some.i v c.self.invariant.rises c.remove.ensures.value is))
+    (ap whole (c.remove.ensures.rest ∙ one_left_out number_of c.args.number 0 c.self.inside.list c.in-Some.i v c.self.invariant.rises c.remove.ensures.value is))
 
 pub returns-in-None : goal.returns-in-None
 returns-in-None c =
     let whole : List Collection → Open = λ cs. record { begun = c.self.inside.begun; collections = cs } in
     rw (← c.self.view_is)
-    (ap whole (sym (none_left_out c.args.number c.self.inside.list (rw c.as_slice.ensures at c.in-None.ensures.absent))))
+    (ap whole (sym (none_left_out number_of c.args.number c.self.inside.list (rw c.as_slice.ensures at c.in-None.ensures.absent))))

@@ -1,15 +1,15 @@
 use Rattle.std.proofs.Common.{◌≡◌, List, refl, sym, ap}
-use Rattle.std.proofs.lemmas.Result.{on_ok_weaker}
-use Rattle.table_gc.specs.Collecting.{Open, in_second}
+use Rattle.std.proofs.lemmas.Result.{on_ok_weaker, on_err_weaker}
+use Rattle.table_gc.specs.Collecting.{Open, in_second, number_of}
 use Rattle.table_gc.specs.declared.collection.Collection.{Collection}
-use Rattle.table_gc.proofs.Numbering.{none_changed, one_changed, set_numbered, set_same, on_err_weaker, either_number}
+use Rattle.numbered_list.proofs.Numbering.{none_changed, one_changed, set_numbered, set_same, either_number}
 use Rattle.table_gc.proofs.collections.Collections.second.Goals as goal
 
 pub invariant_of-self : goal.invariant_of-self
 invariant_of-self c =
     let v = c.at_mut.result.now in
-    set_numbered c.self.inside.begun c.self.inside.list c.in-Some.i v c.second.new.self c.at_mut.ensures.value
-    (either_number c.second.result in_second v c.second.new.self refl c.second.ensures.ok c.second.ensures.err) c.self.invariant
+    set_numbered number_of c.self.inside.begun c.self.inside.list c.in-Some.i v c.second.new.self c.at_mut.ensures.value
+    (either_number number_of c.second.result in_second v c.second.new.self refl c.second.ensures.ok c.second.ensures.err) c.self.invariant
 
 pub returns-in-Some-clause-ok : goal.returns-in-Some-clause-ok
 returns-in-Some-clause-ok c =
@@ -18,7 +18,7 @@ returns-in-Some-clause-ok c =
     let is : v.number ≡ c.args.number = rw (c.as_slice.ensures, c.at_mut.ensures.value) at c.in-Some.ensures.found in
     rw (← c.self.view_is)
     (on_ok_weaker c.second.result
-    (λ e. ap whole (one_changed in_second c.args.number 0 c.self.inside.list c.in-Some.i v c.second.new.self c.self.invariant.rises c.at_mut.ensures.value is e))
+    (λ e. ap whole (one_changed number_of in_second c.args.number 0 c.self.inside.list c.in-Some.i v c.second.new.self c.self.invariant.rises c.at_mut.ensures.value is e))
     c.second.ensures.ok)
 
 pub returns-in-Some-clause-err : goal.returns-in-Some-clause-err
@@ -33,4 +33,4 @@ pub returns-in-None-clause-ok : goal.returns-in-None-clause-ok
 returns-in-None-clause-ok c =
     let whole : List Collection → Open = λ cs. record { begun = c.self.inside.begun; collections = cs } in
     rw (← c.self.view_is)
-    (ap whole (sym (none_changed in_second c.args.number c.self.inside.list (rw c.as_slice.ensures at c.in-None.ensures.absent))))
+    (ap whole (sym (none_changed number_of in_second c.args.number c.self.inside.list (rw c.as_slice.ensures at c.in-None.ensures.absent))))

@@ -1,10 +1,11 @@
 use Rattle.std.proofs.Common.{◌≡◌, List, Some, None, ap, sym, ◌∙◌}
 use Rattle.std.specs.Prelude.{slice_set}
 use Rattle.table_gc.specs.Rounds.{is_closed}
-use Rattle.table_gc.specs.Collecting.{Open, numbered, changed, closed, told}
+use Rattle.table_gc.specs.Collecting.{Open, numbered, changed, closed, told, number_of}
 use Rattle.table_gc.specs.declared.collection.Collection.{Collection}
 use Rattle.table_gc.proofs.Answering.{end_found, end_nowhere, answered_closed, answered_open}
-use Rattle.table_gc.proofs.Numbering.{none_found, one_found, none_changed, one_changed, one_left_out, numbered_left, set_numbered, set_same, told_number, on_err}
+use Rattle.numbered_list.proofs.Numbering.{none_changed, one_changed, one_left_out, numbered_left, set_numbered, set_same}
+use Rattle.table_gc.proofs.Numbering.{none_found, one_found, told_number, on_err}
 use Rattle.table_gc.proofs.collections.Collections.tombed.Goals as goal
 
 -- ---- an answer that closes the collection
@@ -13,8 +14,8 @@ pub invariant_of-self : goal.invariant_of-self
 invariant_of-self c =
     let r = c.remove.result in
     let is_r : r.number ≡ c.args.number = rw (c.as_slice.ensures, c.remove.ensures.value) at c.in-Some.ensures.found in
-    rw (c.remove.ensures.rest ∙ one_left_out c.args.number 0 c.self.inside.list c.in-Some.i r c.self.invariant.rises c.remove.ensures.value is_r)
-    (numbered_left c.args.number c.self.inside.begun c.self.inside.list c.self.invariant)
+    rw (c.remove.ensures.rest ∙ one_left_out number_of c.args.number 0 c.self.inside.list c.in-Some.i r c.self.invariant.rises c.remove.ensures.value is_r)
+    (numbered_left number_of c.args.number c.self.inside.begun c.self.inside.list c.self.invariant)
 
 pub returns-then-is_closed-clause-end : goal.returns-then-is_closed-clause-end
 returns-then-is_closed-clause-end c =
@@ -34,14 +35,14 @@ returns-then-is_closed-clause-ok c =
     let r = c.remove.result in
     let is_r : r.number ≡ c.args.number = rw (c.as_slice.ensures, c.remove.ensures.value) at c.in-Some.ensures.found in
     let here : whole c.remove.new.self ≡ closed c.args.number c.args.self.now = rw (← c.self.view_is)
-    (ap whole (c.remove.ensures.rest ∙ one_left_out c.args.number 0 c.self.inside.list c.in-Some.i r c.self.invariant.rises c.remove.ensures.value is_r)) in
+    (ap whole (c.remove.ensures.rest ∙ one_left_out number_of c.args.number 0 c.self.inside.list c.in-Some.i r c.self.invariant.rises c.remove.ensures.value is_r)) in
     here ∙ sym (answered_closed c.args.number c.args.round c.args.node c.args.newest c.args.now c.args.self.now (ap is_closed (sym leads) ∙ (sym c.is_closed.ensures ∙ c.if-is_closed.true)))
 
 -- ---- an answer that doesn't
 
 pub invariant_of-self-in_err-told-in-Some : goal.invariant_of-self-in_err-told-in-Some
 invariant_of-self-in_err-told-in-Some c =
-    set_numbered c.self.inside.begun c.self.inside.list c.in-Some.i c.at_mut.result.now c.told.new.self c.at_mut.ensures.value (ap (λ k. k.number) c.in_err-told-in-Some.ensures.err) c.self.invariant
+    set_numbered number_of c.self.inside.begun c.self.inside.list c.in-Some.i c.at_mut.result.now c.told.new.self c.at_mut.ensures.value (ap (λ k. k.number) c.in_err-told-in-Some.ensures.err) c.self.invariant
 
 pub returns-in_err-told-in-Some-clause-err : goal.returns-in_err-told-in-Some-clause-err
 returns-in_err-told-in-Some-clause-err c =
@@ -53,7 +54,7 @@ returns-in_err-told-in-Some-clause-err c =
 pub invariant_of-self-in-Some : goal.invariant_of-self-in-Some
 invariant_of-self-in-Some c =
     let w = c.at_mut.result.now in
-    set_numbered c.self.inside.begun c.self.inside.list c.in-Some.i w c.told.new.self c.at_mut.ensures.value
+    set_numbered number_of c.self.inside.begun c.self.inside.list c.in-Some.i w c.told.new.self c.at_mut.ensures.value
     (ap (λ k. k.number) c.in_ok-told-in-Some.ensures.ok ∙ told_number c.args.round c.args.node c.args.newest c.args.now w) c.self.invariant
 
 pub returns-in_ok-told-in-Some-clause-end : goal.returns-in_ok-told-in-Some-clause-end
@@ -75,7 +76,7 @@ returns-in_ok-told-in-Some-clause-ok c =
     let is_w : w.number ≡ c.args.number = rw (c.as_slice.ensures, c.at_mut.ensures.value) at c.in-Some.ensures.found in
     let f = told c.args.round c.args.node c.args.newest c.args.now in
     let here : whole (slice_set c.self.inside.list c.in-Some.i c.told.new.self) ≡ changed f c.args.number c.args.self.now = rw (← c.self.view_is)
-    (ap whole (one_changed f c.args.number 0 c.self.inside.list c.in-Some.i w c.told.new.self c.self.invariant.rises c.at_mut.ensures.value is_w c.in_ok-told-in-Some.ensures.ok)) in
+    (ap whole (one_changed number_of f c.args.number 0 c.self.inside.list c.in-Some.i w c.told.new.self c.self.invariant.rises c.at_mut.ensures.value is_w c.in_ok-told-in-Some.ensures.ok)) in
     here ∙ sym (answered_open c.args.number c.args.round c.args.node c.args.newest c.args.now c.args.self.now (ap is_closed (sym leads) ∙ (sym c.is_closed.ensures ∙ c.if-is_closed.false)))
 
 -- ---- an answer for no open collection
@@ -92,5 +93,5 @@ returns-in-None-clause-ok c =
     let absent = rw c.as_slice.ensures at c.in-None.ensures.absent in
     let none : numbered c.args.number c.args.self.now ≡ None = rw (← c.self.view_is) (none_found c.args.number c.self.inside.list absent) in
     let f = told c.args.round c.args.node c.args.newest c.args.now in
-    let here : c.args.self.now ≡ changed f c.args.number c.args.self.now = rw (← c.self.view_is) (ap whole (sym (none_changed f c.args.number c.self.inside.list absent))) in
+    let here : c.args.self.now ≡ changed f c.args.number c.args.self.now = rw (← c.self.view_is) (ap whole (sym (none_changed number_of f c.args.number c.self.inside.list absent))) in
     here ∙ sym (answered_open c.args.number c.args.round c.args.node c.args.newest c.args.now c.args.self.now (ap is_closed (end_nowhere c.args.number c.args.round c.args.node c.args.newest c.args.self.now none)))
