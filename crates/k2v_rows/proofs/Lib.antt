@@ -1,3 +1,4 @@
 pub mod Facts
 pub mod Lasts
 pub mod Tokens
+pub mod Taken

@@ -7,3 +7,7 @@ pub mod WritesLaws
 pub mod Token
 pub mod Row
 pub mod RowLaws
+pub mod Range
+pub mod Spelling
+pub mod Reading
+pub mod ReadingLaws

@@ -14,8 +14,15 @@
 //! what rows say, and `writes_are_facts` what a write does.
 //!
 //! Want of memory is the one thing that can stop a copy, a merge or a write. The row is then as it was.
+//!
+//! Values, writes and rows are `Field`s of row_codec, so that each has one string of bytes. `specs/Spelling.antt` says
+//! which: of a row 04, the bucket, both keys behind their lengths, and behind a count for each node, ascending, its
+//! number, its discard time, and behind a count its values, ascending by their times, each a time and 00 for a deletion
+//! or 01 and the bytes behind their length. Numbers have the highest byte first. `specs/Reading.antt` says which row is
+//! read from bytes.
 #![tactic(auto)]
 
+mod bytes;
 mod k2v_row;
 mod laws;
 mod value;

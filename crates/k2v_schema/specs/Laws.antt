@@ -1,52 +1,26 @@
 -- Laws that impls cite; what is defined here serves their proofs alone.
 -- What the schema keeps.
-use Rattle.std.proofs.Common.{◌≡◌, ℕ, suc, ◌<◌, true, ◌⊎◌, inl, inr, List, ◌++◌, length, take, drop, Some, None, refl, sym, ap, subst, ◌∙◌, add-one, arith, lit≤}
-use Rattle.std.specs.Prelude.{slice_index, ◌&&◌}
-use Rattle.std.specs.List.{flat_map}
-use Rattle.std.specs.Int.{w64, to_le_bytes}
-use Rattle.std.proofs.lemmas.List.{take_at, drop_at}
+use Rattle.std.proofs.Common.{◌≡◌, ℕ, true, ◌⊎◌, inl, inr, List, ◌++◌, Some, None, refl, sym, ap, ◌∙◌, lit≤}
+use Rattle.std.specs.Prelude.{◌&&◌}
 use Rattle.std.specs.declared.cmp.Ordering.{Ordering}
 use Rattle.std.specs.declared.cmp.Ordering.TheVariants.{Less, Equal, Greater}
-use Rattle.blake2_hash.specs.Blake2b.{blake2b, state_after, compress, last_block}
+use Rattle.blake2_hash.specs.Blake2b.{blake2b}
+use Rattle.blake2_hash.specs.DigestLaws.{digest_length, digest_first}
 use Rattle.crdt_core.specs.EntryLaws.{and_parts}
 use Rattle.k2v_rows.specs.declared.k2v_row.K2vRow.{K2vRow}
 use Rattle.k2v_rows.specs.Row.{item_key, item_cmp, row_join, ItemKey}
 use Rattle.row_codec.specs.Reads.{are_bytes}
 use Rattle.row_codec.specs.Range.{is_hash}
-use Rattle.row_codec.specs.NumberLaws.{block_length, field_reads, some_is}
+use Rattle.row_codec.specs.NumberLaws.{block_length, field_reads, fronts, some_is}
 use Rattle.row_codec.specs.Reading.{field_at}
 use Rattle.row_codec.specs.Spelling.{field}
 use Rattle.table_schema.specs.Laws.{Same, Laws}
-use Rattle.k2v_schema.specs.Reading.{spelling}
-use Rattle.k2v_schema.specs.ReadingLaws.{reads_back, read_takes}
-use Rattle.k2v_schema.specs.Range.{in_range}
+use Rattle.k2v_rows.specs.Reading.{spelling}
+use Rattle.k2v_rows.specs.ReadingLaws.{reads_back, read_takes}
+use Rattle.k2v_rows.specs.Range.{in_range}
 use Rattle.k2v_schema.specs.Schema.{is_proper, words}
 
--- ---- digests
-
--- the bytes of a state after some blocks
-blocks_length : (m : List ℕ) (k : ℕ) → length (take 32 (flat_map (to_le_bytes w64) (state_after 32 m (suc k)))) ≡ 32
-unfolding state_after compress
-blocks_length m k = refl
-
-blocks_first : (m : List ℕ) (k : ℕ) → slice_index (take 32 (flat_map (to_le_bytes w64) (state_after 32 m (suc k)))) 0 < 256
-unfolding state_after compress
-blocks_first m k = omega arith
-
--- a digest has 32 bytes
-digest_length : (m : List ℕ) → length (blake2b 32 m) ≡ 32
-unfolding blake2b
-digest_length m = subst (λ (i : ℕ). length (take 32 (flat_map (to_le_bytes w64) (state_after 32 m i))) ≡ 32) (sym (add-one (last_block (length m)))) (blocks_length m (last_block (length m)))
-
-digest_first : (m : List ℕ) → slice_index (blake2b 32 m) 0 < 256
-unfolding blake2b
-digest_first m = subst (λ (i : ℕ). slice_index (take 32 (flat_map (to_le_bytes w64) (state_after 32 m i))) 0 < 256) (sym (add-one (last_block (length m)))) (blocks_first m (last_block (length m)))
-
 -- ---- keys
-
--- what stands behind as many bytes is the same where the whole is
-fronts : (a b x y : List ℕ) (n : ℕ) → length a ≡ n → length b ≡ n → a ++ x ≡ b ++ y → (a ≡ b) × (x ≡ y)
-fronts a b x y n p q e = (sym (take_at a x n p) ∙ (ap (take n) e ∙ take_at b y n q), sym (drop_at a x n p) ∙ (ap (drop n) e ∙ drop_at b y n q))
 
 -- one row key has one partition key and one sort key
 same_fields : (a b : K2vRow) → are_bytes a.pk ≡ true → are_bytes b.pk ≡ true → field a.pk ++ a.sk ≡ field b.pk ++ b.sk → ◌≡◌ {A = List ℕ × List ℕ} (a.pk, a.sk) (b.pk, b.sk)

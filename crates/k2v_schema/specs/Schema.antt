@@ -6,7 +6,7 @@ use Rattle.row_codec.specs.Reads.{are_bytes}
 use Rattle.row_codec.specs.Range.{is_hash}
 use Rattle.row_codec.specs.Spelling.{field}
 use Rattle.table_schema.specs.Words.{Words}
-use Rattle.k2v_schema.specs.Reading.{read, spelling}
+use Rattle.k2v_rows.specs.Reading.{read, spelling}
 
 -- the bucket's bytes and those of the partition key are bytes
 abbrev pub is_proper : K2vRow → Bool

@@ -5,14 +5,13 @@ ghost use Rattle.crdt_core.specs.declared.memory.Memory.TheVariants.{Full, Want}
 ghost use Rattle.k2v_rows.specs.declared.k2v_row.K2vRow.{K2vRow};
 ghost use Rattle.table_schema.specs.declared.schema.RowFault.TheVariants as faults;
 ghost use Rattle.row_codec.specs.Gives.{Gives};
-ghost use Rattle.k2v_schema.specs.Range.{in_range, has_bytes};
-ghost use Rattle.k2v_schema.specs.Reading.{read, spelling};
-ghost use Rattle.k2v_schema.specs.Spelling.{spelled};
+ghost use Rattle.k2v_rows.specs.Range.{in_range, has_bytes};
+ghost use Rattle.k2v_rows.specs.Reading.{read, spelling};
+ghost use Rattle.k2v_rows.specs.Spelling.{spelled};
 
-use crate::field::Field;
 use crdt_core::{Bytes, Memory};
 use k2v_rows::K2vRow;
-use row_codec::Fault;
+use row_codec::{Fault, Field};
 use std::alloc::Global;
 use table_schema::RowFault;
 
@@ -24,10 +23,8 @@ pub fn encode(alloc: Global, row: &K2vRow) -> Result<Bytes, Memory>
     ensures causes { WantOr result (has_bytes row.now ≡ false) }
     ensures full { has_bytes row.now ≡ false → result ≡ Err Full }
 {
-    if !row.is_short() {
-        return Err(Memory::Full);
-    }
-    let mut out = Bytes::new(alloc);
+    let len = length(row)?;
+    let mut out = Bytes::from_vec(Vec::with_capacity(alloc, len)?);
     row.put(&mut out)?;
     Ok(out)
 }

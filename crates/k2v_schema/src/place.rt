@@ -4,10 +4,10 @@ ghost use Rattle.crdt_core.specs.Outcomes.{OnlyWant};
 ghost use Rattle.row_codec.specs.Reads.{are_bytes};
 ghost use Rattle.k2v_schema.specs.Schema.{is_proper, position_of, key_of};
 
-use crate::field::Field;
 use blake2_hash::{Blake2b, Hash32};
 use crdt_core::{Bytes, Memory};
 use k2v_rows::K2vRow;
+use row_codec::Field;
 use std::alloc::Global;
 
 // Bytes in hand are bytes.

@@ -38,7 +38,7 @@ use Rattle.machine_origins.proofs.FollowingSteps.{follows_receives}
 use Rattle.object_origins.proofs.Shown.{Facts}
 use Rattle.limit_rows.specs.Fitting.{Drawn, AreWithin, RowFits}
 use Rattle.limit_rows.proofs.Handed.{fits_rules}
-use Rattle.limit_rows.proofs.Weights.{eight_length}
+use Rattle.row_codec.proofs.ByteOrder.{eight_length}
 use Rattle.limit_laws.proofs.Nodes.{Machine, Short, NodeFits}
 use Rattle.limit_laws.proofs.Flows.{IsShortEnd, EndFits}
 

@@ -31,10 +31,9 @@ use Rattle.row_codec.specs.Range.{is_eight, is_hash}
 use Rattle.table_schema.specs.Laws.{Same}
 use Rattle.object_schema.specs.Triggers.{given_up, deleted_version, hashes_of, deleted_reference, triggered}
 use Rattle.object_schema.specs.Schema.{words}
-use Rattle.object_schema.specs.Laws.{schema_laws}
+use Rattle.object_schema.specs.Laws.{schema_laws, object_keys, version_ids, ref_keys}
 use Rattle.machine_origins.proofs.Good.{Rules}
 use Rattle.limit_rows.specs.Fitting.{Drawn, AreWithin, KeyFits, BlocksFit, RowFits}
-use Rattle.object_origins.proofs.Keys.{object_keys, version_ids, ref_keys}
 use Rattle.object_origins.proofs.Given.{entries_found, all_in_order, all_given}
 use Rattle.object_origins.proofs.Shown.{Facts, neither, undeleted}
 

@@ -46,20 +46,13 @@ use Rattle.row_codec.specs.NumberLaws.{block_length}
 use Rattle.table_schema.specs.Laws.{Same}
 use Rattle.object_schema.specs.Triggers.{with_value, with_values, in_order, has_blocks, is_aborted, is_lost, is_newly_aborted, versions_that, given_up, deleted_version, hashes_of, released, deleted_reference, triggered}
 use Rattle.object_schema.specs.Schema.{words}
-use Rattle.object_origins.proofs.Keys.{object_keys, version_ids}
+use Rattle.object_schema.specs.Laws.{object_keys, version_ids}
+use Rattle.row_codec.proofs.ByteOrder.{four_length, eight_length}
 use Rattle.object_origins.proofs.Given.{entries_found}
 use Rattle.object_origins.proofs.Shown.{Facts, neither, undeleted}
 use Rattle.limit_rows.proofs.Totals.{AreApart, has_left, has_right, has_parts, has_filter, all_has, all_from, apart_filter, apart_append, total, total_append, total_least, total_ones, fewer}
 use Rattle.limit_rows.proofs.Keyed.{apart_keys, apart_entries, there}
 use Rattle.limit_rows.specs.Fitting.{Drawn, AreWithin, MetaFits, StateFits, SaysFits, RowFits, weight}
-
-pub four_length : (n : ℕ) → length (four n) ≡ 4
-unfolding four
-four_length n = refl
-
-pub eight_length : (n : ℕ) → length (eight n) ≡ 8
-unfolding eight
-eight_length n = refl
 
 all_pass : {X : Type 0} (test : X → Bool) (xs : List X) → AllByRecursion (λ x. test x ≡ true) xs → list_all test xs ≡ true
 all_pass test [] a = refl

@@ -1,4 +1,3 @@
-pub mod Keys
 pub mod Given
 pub mod Shown
 mod Whole

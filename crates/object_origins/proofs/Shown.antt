@@ -40,7 +40,7 @@ use Rattle.object_schema.specs.Triggers.{given_up, deleted_version, hashes_of, r
 use Rattle.object_schema.specs.Schema.{words}
 use Rattle.object_origins.specs.Gone.{WasStored, IsOverwritten, IsGone, deletes_nothing}
 use Rattle.object_origins.specs.Shown.{BlockWasStored, Shows}
-use Rattle.object_origins.proofs.Keys.{object_keys, version_ids, ref_keys}
+use Rattle.object_schema.specs.Laws.{object_keys, version_ids, ref_keys}
 use Rattle.object_origins.proofs.Given.{IsLost, all_given}
 
 either_true : (a b : Bool) → (a || b) ≡ true → (a ≡ true) ⊎ (b ≡ true)

@@ -1,15 +1,15 @@
 -- Laws that impls cite; what is defined here serves their proofs alone.
 -- What the schema keeps.
-use Rattle.std.proofs.Common.{◌≡◌, ℕ, zero, suc, ◌<◌, ◌≤◌, Bool, true, false, ◌⊎◌, inl, inr, List, [], ◌∷◌, ◌++◌, length, take, drop, map, Option, Some, None, refl, sym, ap, subst, ◌∙◌, add-one, arith, lit<, lit≤}
+use Rattle.std.proofs.Common.{◌≡◌, ℕ, zero, suc, ◌<◌, ◌≤◌, Bool, true, false, ◌⊎◌, inl, inr, List, [], ◌∷◌, ◌++◌, length, map, Option, Some, None, refl, sym, ap, subst, ◌∙◌, arith, lit<, lit≤}
 use Rattle.std.specs.Prelude.{◌||◌, slice_index, slice_index_or}
 use Rattle.std.specs.Ordering.{nat_cmp}
-use Rattle.std.specs.List.{Contains, flat_map}
-use Rattle.std.specs.Int.{w64, to_le_bytes}
-use Rattle.std.proofs.lemmas.List.{take_at, drop_at, append-nil}
+use Rattle.std.specs.List.{Contains}
+use Rattle.std.proofs.lemmas.List.{append-nil}
 use Rattle.std.specs.declared.cmp.Ordering.{Ordering}
 use Rattle.std.specs.declared.cmp.Ordering.TheVariants.{Less, Equal, Greater}
 use Rattle.std.specs.Cmp.{tied_itself}
-use Rattle.blake2_hash.specs.Blake2b.{blake2b, state_after, compress, last_block}
+use Rattle.blake2_hash.specs.Blake2b.{blake2b}
+use Rattle.blake2_hash.specs.DigestLaws.{digest_length, digest_first}
 use Rattle.blake2_hash.specs.declared.digest.Hash32.{Hash32}
 use Rattle.crdt_core.specs.EntryLaws.{and_parts}
 use Rattle.crdt_core.specs.Lex.{lex_join}
@@ -30,7 +30,7 @@ use Rattle.crdt_rows.specs.VersionRow.{block_ref_cmp, version_row_join}
 use Rattle.crdt_rows.specs.RefRow.{ref_key, ref_key_cmp, ref_row_join}
 use Rattle.crdt_rows.specs.RowLaws.{key_total}
 use Rattle.row_codec.specs.Range.{is_hash, is_eight, in_range}
-use Rattle.row_codec.specs.NumberLaws.{block_length, block_bytes, bytes_each, eight_reads, some_is}
+use Rattle.row_codec.specs.NumberLaws.{block_length, block_bytes, bytes_each, eight_reads, fronts, some_is}
 use Rattle.row_codec.specs.Rows.{spelling}
 use Rattle.row_codec.specs.RowLaws.{reads_back, read_takes}
 use Rattle.row_codec.specs.Reading.{eight_at}
@@ -42,32 +42,14 @@ use Rattle.object_schema.specs.Schema.{is_proper, position_of, key_of, marker_of
 
 -- ---- digests
 
--- the bytes of a state after some blocks
-blocks_length : (m : List ℕ) (k : ℕ) → length (take 32 (flat_map (to_le_bytes w64) (state_after 32 m (suc k)))) ≡ 32
-unfolding state_after compress
-blocks_length m k = refl
-
-blocks_first : (m : List ℕ) (k : ℕ) → slice_index (take 32 (flat_map (to_le_bytes w64) (state_after 32 m (suc k)))) 0 < 256
-unfolding state_after compress
-blocks_first m k = omega arith
-
--- a digest has 32 bytes
-digest_length : (m : List ℕ) → length (blake2b 32 m) ≡ 32
-unfolding blake2b
-digest_length m = subst (λ (i : ℕ). length (take 32 (flat_map (to_le_bytes w64) (state_after 32 m i))) ≡ 32) (sym (add-one (last_block (length m)))) (blocks_length m (last_block (length m)))
-
-digest_first : (m : List ℕ) → slice_index (blake2b 32 m) 0 < 256
-unfolding blake2b
-digest_first m = subst (λ (i : ℕ). slice_index (take 32 (flat_map (to_le_bytes w64) (state_after 32 m i))) 0 < 256) (sym (add-one (last_block (length m)))) (blocks_first m (last_block (length m)))
-
 hash_first : (h : Hash32) → is_hash h ≡ true → slice_index h.0 0 < 256
 hash_first h fits = bytes_each h.0 (block_bytes 32 h.0 fits) 0
 
 -- ---- keys
 
--- what stands behind as many bytes is the same where the whole is
-pub fronts : (a b x y : List ℕ) (n : ℕ) → length a ≡ n → length b ≡ n → a ++ x ≡ b ++ y → (a ≡ b) × (x ≡ y)
-fronts a b x y n p q e = (sym (take_at a x n p) ∙ (ap (take n) e ∙ take_at b y n q), sym (drop_at a x n p) ∙ (ap (drop n) e ∙ drop_at b y n q))
+-- a key that begins with a digest tells it and what follows
+pub key_parts : (a b : Hash32) (x y : List ℕ) → length a.0 ≡ 32 → length b.0 ≡ 32 → a.0 ++ x ≡ b.0 ++ y → (a ≡ b) × (x ≡ y)
+key_parts a b x y p q e = let parts = fronts a.0 b.0 x y 32 p q e in ((λ i. record { 0 = parts.0 i }), parts.1)
 
 eight_alone : (n : ℕ) → is_eight n ≡ true → eight_at (eight n) ≡ Some (n, [])
 eight_alone n h = ap eight_at (sym (append-nil (eight n))) ∙ eight_reads.again n [] h refl
@@ -95,12 +77,29 @@ record Together (a b : AnyRow) : Type 0 where
 no_block : {A : Type 0} (hash : List ℕ) → None ≡ Some hash → A
 no_block hash e = absurd cc
 
+-- rows of one table and key have the same fields there
+pub object_keys : (a b : ObjectRow) → Same words (rows.Object a) (rows.Object b) → object_key a ≡ object_key b
+object_keys a b h =
+    let parts = key_parts a.bucket b.bucket a.key b.key (block_length 32 a.bucket.0 h.first_proper) (block_length 32 b.bucket.0 h.second_proper) h.key in
+    λ i. (parts.0 i, parts.1 i)
+
+pub version_ids : (a b : VersionRow) → Same words (rows.Version a) (rows.Version b) → a.id ≡ b.id
+version_ids a b h = eight_same a.id b.id h.first_proper h.second_proper h.key
+
+pub ref_keys : (a b : RefRow) → Same words (rows.Ref a) (rows.Ref b) → ref_key a ≡ ref_key b
+ref_keys a b h =
+    let first = and_parts (is_hash a.hash) (is_eight a.id) h.first_proper in
+    let second = and_parts (is_hash b.hash) (is_eight b.id) h.second_proper in
+    let parts = key_parts a.hash b.hash (eight a.id) (eight b.id) (block_length 32 a.hash.0 first.0) (block_length 32 b.hash.0 second.0) h.key in
+    let ids = eight_same a.id b.id first.1 second.1 parts.1 in
+    λ i. (parts.0 i, ids i)
+
 object_pick : (a b : ObjectRow) → (object_key (object_join a b) ≡ object_key a) ⊎ (object_key (object_join a b) ≡ object_key b)
 object_pick a b = lex_key object_key_cmp (settled_join (λ s. is_complete s.0) (λ s. is_sized s.0) (max_join state_cmp)) (object_key a, record { map = a.versions; settled = a.settled; fit = a.sized }) (object_key b, record { map = b.versions; settled = b.settled; fit = b.sized }) (object_key_cmp (object_key a) (object_key b)) refl
 
 objects : (a b : ObjectRow) → Same words (rows.Object a) (rows.Object b) → Together (rows.Object a) (rows.Object b)
 objects a b h = record {
-  position = (fronts a.bucket.0 b.bucket.0 a.key b.key 32 (block_length 32 a.bucket.0 h.first_proper) (block_length 32 b.bucket.0 h.second_proper) h.key).0;
+  position = ap (λ (k : Hash32 × List ℕ). k.0.0) (object_keys a b h);
   proper = elim (object_pick a b) [ inl e ↦ subst (λ (k : Hash32 × List ℕ). is_hash k.0 ≡ true) (sym e) h.first_proper | inr e ↦ subst (λ (k : Hash32 × List ℕ). is_hash k.0 ≡ true) (sym e) h.second_proper ];
   table = refl;
   key = elim (object_pick a b) [ inl e ↦ ap (λ (k : Hash32 × List ℕ). k.0.0 ++ k.1) e | inr e ↦ ap (λ (k : Hash32 × List ℕ). k.0.0 ++ k.1) e ∙ sym h.key ];
@@ -129,35 +128,22 @@ needed_both false true a b hash same e = no_block hash e
 needed_both false false a b hash same e = (e, ap Some (sym same) ∙ e)
 
 module _ (a b : RefRow) (h : Same words (rows.Ref a) (rows.Ref b)) where
-  ref_parts : (a.hash.0 ≡ b.hash.0) × (eight a.id ≡ eight b.id)
-  ref_parts =
-      let first = and_parts (is_hash a.hash) (is_eight a.id) h.first_proper in
-      let second = and_parts (is_hash b.hash) (is_eight b.id) h.second_proper in
-      fronts a.hash.0 b.hash.0 (eight a.id) (eight b.id) 32 (block_length 32 a.hash.0 first.0) (block_length 32 b.hash.0 second.0) h.key
-
-  same_key : ref_key a ≡ ref_key b
-  same_key =
-      let first = and_parts (is_hash a.hash) (is_eight a.id) h.first_proper in
-      let second = and_parts (is_hash b.hash) (is_eight b.id) h.second_proper in
-      let ids = eight_same a.id b.id first.1 second.1 ref_parts.1 in
-      λ i. (record { 0 = ref_parts.0 i }, ids i)
-
   tied : ref_key_cmp (ref_key a) (ref_key b) ≡ Equal
-  tied = ap (ref_key_cmp (ref_key a)) (sym same_key) ∙ tied_itself key_total (ref_key a)
+  tied = ap (ref_key_cmp (ref_key a)) (sym (ref_keys a b h)) ∙ tied_itself key_total (ref_key a)
 
   merged_ref : ref_row_join a b ≡ record a { deleted = or_join a.deleted b.deleted }
   merged_ref = rw tied refl
 
   references : Together (rows.Ref a) (rows.Ref b)
   references = record {
-    position = ref_parts.0;
+    position = ap (λ (k : Hash32 × ℕ). k.0.0) (ref_keys a b h);
     proper = subst (λ (r : RefRow). is_proper (rows.Ref r) ≡ true) (sym merged_ref) h.first_proper;
     table = refl;
     key = ap (λ (r : RefRow). key_of (rows.Ref r)) merged_ref;
-    block = λ hash e. needed_both a.deleted.0 b.deleted.0 a.hash.0 b.hash.0 hash ref_parts.0 (ap block_of (sym merged_ref) ∙ e);
+    block = λ hash e. needed_both a.deleted.0 b.deleted.0 a.hash.0 b.hash.0 hash (ap (λ (k : Hash32 × ℕ). k.0.0) (ref_keys a b h)) (ap block_of (sym merged_ref) ∙ e);
   }
 
-apart : {A : Type 0} (m n : ℕ) → m < n → m ≡ n → A
+pub apart : {A : Type 0} (m n : ℕ) → m < n → m ≡ n → A
 apart m n lt e = absurd (omega arith)
 
 together : (a b : AnyRow) → Same words a b → Together a b

@@ -7,6 +7,7 @@ pub mod Spelling
 pub mod Rows
 pub mod NumberLaws
 pub mod JoinedLaws
+pub mod WholeLaws
 pub mod PartLaws
 pub mod BuiltLaws
 pub mod RowLaws

@@ -8,9 +8,9 @@ use Rattle.crdt_core.specs.EntryLaws.{and_parts, and_both}
 use Rattle.std.proofs.lemmas.List.{take_at, drop_at, take-append-drop, length-append, length-take}
 use Rattle.std.proofs.lemmas.Nat.{be_bytes_4, be_bytes_8, from_be_bytes-to_be_bytes_4, from_be_bytes-to_be_bytes_8}
 use Rattle.row_codec.specs.Reads.{◌>>=◌, are_bytes, IsBytes, Begins, Reads}
-use Rattle.row_codec.specs.Range.{is_block, is_four, is_eight, is_below}
-use Rattle.row_codec.specs.Spelling.{four, eight, field}
-use Rattle.row_codec.specs.Reading.{bytes_at, four_at, eight_at, field_at}
+use Rattle.row_codec.specs.Range.{is_block, is_byte, is_four, is_eight, is_below}
+use Rattle.row_codec.specs.Spelling.{byte, four, eight, field}
+use Rattle.row_codec.specs.Reading.{byte_at as first_at, bytes_at, four_at, eight_at, field_at}
 
 pub bytes_front : (a b : List ℕ) → IsBytes (a ++ b) → IsBytes a
 bytes_front [] b h = refl
@@ -50,6 +50,10 @@ block_length n bytes h = eqb-true (length bytes) n (and_parts (eqb (length bytes
 pub block_bytes : (n : ℕ) (bytes : List ℕ) → is_block n bytes ≡ true → IsBytes bytes
 block_bytes n bytes h = (and_parts (eqb (length bytes) n) (are_bytes bytes) h).1
 
+-- what stands behind as many bytes is the same where the whole is
+pub fronts : (a b x y : List ℕ) (n : ℕ) → length a ≡ n → length b ≡ n → a ++ x ≡ b ++ y → (a ≡ b) × (x ≡ y)
+fronts a b x y n p q e = (sym (take_at a x n p) ∙ (ap (take n) e ∙ take_at b y n q), sym (drop_at a x n p) ∙ (ap (drop n) e ∙ drop_at b y n q))
+
 -- the value of a step that did not fail
 pub bind_some : {A B : Type 0} (r : Option A) (f : A → Option B) (y : B) → (r >>= f) ≡ Some y → (x : A) × (r ≡ Some x) × (f x ≡ Some y)
 bind_some (Some x) f y e = (x, refl, e)
@@ -81,6 +85,17 @@ bytes_reads n = record {
 }
 
 -- ---- numbers
+
+byte_takes : (bytes : List ℕ) (x : ℕ) (rest : List ℕ) → IsBytes bytes → first_at bytes ≡ Some (x, rest) → Begins is_byte (λ b. true) byte bytes x rest
+unfolding first_at
+byte_takes [] x rest fits e = absurd cc
+byte_takes (b ∷ bytes) x rest fits e =
+    subst (λ (q : ℕ × List ℕ). Begins is_byte (λ b. true) byte (b ∷ bytes) q.0 q.1) (some_is (b, bytes) (x, rest) e)
+    (record { parts = refl; fits = (and_parts (nat_lt b (2 ^ 8)) (are_bytes bytes) fits).0; short = refl })
+
+pub byte_reads : Reads is_byte (λ b. true) byte first_at
+unfolding first_at
+byte_reads = record { bytes = λ b fits. and_both (is_byte b) true fits refl; takes = byte_takes; again = λ b rest fits short. refl }
 
 -- the bytes of the numbers of one width
 record IsWide (w : Width) (len limit : ℕ) : Type 0 where

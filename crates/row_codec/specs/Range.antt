@@ -30,6 +30,10 @@ unless_deleted test Deleted = true
 abbrev pub is_block : ℕ → List ℕ → Bool
 is_block n bytes = (length bytes == n) && are_bytes bytes
 
+-- a number of one byte
+abbrev pub is_byte : ℕ → Bool
+is_byte n = nat_lt n (2 ^ 8)
+
 -- a number of 4 bytes
 abbrev pub is_four : ℕ → Bool
 is_four n = nat_lt n (2 ^ 32)

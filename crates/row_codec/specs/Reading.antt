@@ -16,6 +16,11 @@ use Rattle.row_codec.specs.Reads.{◌>>=◌}
 unfoldable pub bytes_at : ℕ → List ℕ → Option (List ℕ × List ℕ)
 bytes_at n bytes = if nat_lt (length bytes) n then None else Some (take n bytes, drop n bytes)
 
+-- the first byte, and the rest
+unfoldable pub byte_at : List ℕ → Option (ℕ × List ℕ)
+byte_at [] = None
+byte_at (b ∷ rest) = Some (b, rest)
+
 -- a number of 4 bytes
 unfoldable pub four_at : List ℕ → Option (ℕ × List ℕ)
 four_at bytes = do

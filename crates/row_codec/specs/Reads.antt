@@ -1,5 +1,5 @@
 -- A reader takes a value from the front of bytes, and leaves the rest.
-use Rattle.std.specs.Prelude.{◌≡◌, ℕ, ◌^◌, nat_lt, Bool, true, List, ◌++◌, Option, Some, None}
+use Rattle.std.specs.Prelude.{◌≡◌, ℕ, ◌^◌, nat_lt, Bool, true, ◌&&◌, ◌==◌, if◌then◌else◌, List, ◌++◌, length, Option, Some, None}
 use Rattle.std.specs.List.{list_all}
 
 infixl 10 ◌>>=◌
@@ -28,3 +28,13 @@ pub record Reads {X : Type 0} (in_range : X → Bool) (is_short : X → Bool) (s
   pub takes : (bytes : List ℕ) (x : X) (rest : List ℕ) → IsBytes bytes → read bytes ≡ Some (x, rest) → Begins in_range is_short spelled bytes x rest
   pub bytes : (x : X) → in_range x ≡ true → IsBytes (spelled x)
   pub again : (x : X) (rest : List ℕ) → in_range x ≡ true → is_short x ≡ true → read (spelled x ++ rest) ≡ Some (x, rest)
+
+-- ---- a value alone
+
+-- the bytes of a value that has any
+abbrev pub spelling_of : {X : Type 0} → (X → Bool) → (X → Bool) → (X → List ℕ) → X → Option (List ℕ)
+spelling_of in_range is_short spelled x = if in_range x && is_short x then Some (spelled x) else None
+
+-- the value that has these bytes
+abbrev pub read_whole : {X : Type 0} → (List ℕ → Option (X × List ℕ)) → List ℕ → Option X
+read_whole read bytes = if are_bytes bytes then (read bytes >>= λ found. if length found.1 == 0 then Some found.0 else None) else None

@@ -1,29 +1,27 @@
 -- Laws that impls cite; no definition stands here.
 -- Rows are read as they are spelled.
-use Rattle.std.proofs.Common.{◌≡◌, ℕ, zero, suc, Bool, true, false, cond, eqb, length, List, [], ◌∷◌, ◌++◌, Option, Some, None, refl, sym, ap, subst, ◌∙◌}
+use Rattle.std.proofs.Common.{◌≡◌, ℕ, zero, suc, Bool, true, false, List, [], ◌∷◌, ◌++◌, Option, Some, refl, ap, subst}
 use Rattle.std.specs.Prelude.{◌&&◌, ◌↔◌}
 use Rattle.std.specs.List.{list_all}
 use Rattle.std.specs.declared.cmp.Ord as ord
 use Rattle.std.specs.declared.cmp.PartialEq as partial_eq
 use Rattle.std.specs.declared.cmp.PartialOrd as partial_ord
-use Rattle.std.proofs.lemmas.List.{append-nil, nil_from_length}
-use Rattle.std.proofs.lemmas.Bool.{eqb-true}
 use Rattle.crdt_core.specs.declared.deletable.Deletable.{Deletable}
 use Rattle.crdt_core.specs.declared.deletable.Deletable.TheVariants.{Present, Deleted}
 use Rattle.crdt_core.specs.declared.flag.Bool.{Bool as Flag}
 use Rattle.crdt_core.specs.declared.map.Map.{Map}
-use Rattle.crdt_core.specs.EntryLaws.{and_parts}
 use Rattle.crdt_core.specs.Map.{map_entries}
 use Rattle.crdt_rows.specs.declared.version_row.VersionRow.{VersionRow}
 use Rattle.crdt_rows.specs.declared.ref_row.RefRow.{RefRow}
 use Rattle.crdt_rows.specs.declared.any_row.AnyRow.{AnyRow}
 use Rattle.crdt_rows.specs.declared.any_row.AnyRow.TheVariants as rows
-use Rattle.row_codec.specs.Reads.{◌>>=◌, are_bytes, IsBytes, Begins, Reads}
+use Rattle.row_codec.specs.Reads.{IsBytes, Begins, Reads}
 use Rattle.row_codec.specs.Range.{unless_deleted, is_hash, is_eight, object_in_range, version_row_in_range, ref_in_range, in_range, are_short, is_short_object, is_short_version_row, has_bytes}
 use Rattle.row_codec.specs.Spelling.{counted, deletable, flag, object_row, version_row, reference_row, spelled}
 use Rattle.row_codec.specs.Reading.{made_at}
 use Rattle.row_codec.specs.NumberLaws.{eight_reads, field_reads, bind_some, some_is, byte_rest}
 use Rattle.row_codec.specs.JoinedLaws.{both_reads, made_reads, tested_reads, counted_reads}
+use Rattle.row_codec.specs.WholeLaws.{whole_spelled, whole_takes, whole_back}
 use Rattle.row_codec.specs.PartLaws.{hash_reads, version_reads, part_reads, block_reads, max_reads, state_reads}
 use Rattle.row_codec.specs.Built.{BlockMap, map_from, object_parts, object_from}
 use Rattle.row_codec.specs.BuiltLaws.{map_there, map_back, object_there, object_back}
@@ -126,31 +124,11 @@ pub row_reads : Reads in_range has_bytes spelled row_at
 row_reads = record { bytes = row_bytes; takes = row_takes; again = row_again }
 
 pub read_spelled : (r : AnyRow) → in_range r ≡ true → has_bytes r ≡ true → read (spelled r) ≡ Some r
-read_spelled r fits short =
-    let again : row_at (spelled r) ≡ Some (r, []) = ap row_at (sym (append-nil (spelled r))) ∙ row_reads.again r [] fits short in
-    rw (row_reads.bytes r fits, again) refl
-
-cond_true : {A : Type 0} (b : Bool) (o : Option A) (y : A) → cond b o None ≡ Some y → (b ≡ true) × (o ≡ Some y)
-cond_true true o y e = (refl, e)
-cond_true false o y e = absurd cc
+read_spelled = whole_spelled row_reads
 
 pub read_takes : (bytes : List ℕ) (r : AnyRow) → read bytes ≡ Some r → (bytes ≡ spelled r) × (in_range r ≡ true) × (has_bytes r ≡ true)
-read_takes bytes r e =
-    let a = cond_true (are_bytes bytes) (row_at bytes >>= λ found. cond (eqb (length found.1) 0) (Some found.0) None) r e in
-    let b = bind_some (row_at bytes) (λ found. cond (eqb (length found.1) 0) (Some found.0) None) r a.1 in
-    let c = cond_true (eqb (length b.0.1) 0) (Some b.0.0) r b.2 in
-    let t = row_reads.takes bytes b.0.0 b.0.1 a.0 b.1 in
-    let nothing : b.0.1 ≡ [] = nil_from_length b.0.1 (eqb-true _ _ c.0) in
-    let whole : bytes ≡ spelled b.0.0 = t.parts ∙ ap (λ (y : List ℕ). spelled b.0.0 ++ y) nothing ∙ append-nil (spelled b.0.0) in
-    let same : b.0.0 ≡ r = some_is _ _ c.1 in
-    (whole ∙ ap spelled same, ap in_range (sym same) ∙ t.fits, ap has_bytes (sym same) ∙ t.short)
+read_takes = whole_takes row_reads
 
 -- bytes are read as a row exactly where they are its spelling
 pub reads_back : (r : AnyRow) (bytes : List ℕ) → (read bytes ≡ Some r) ↔ (spelling r ≡ Some bytes)
-reads_back r bytes = (
-  (λ e. let t = read_takes bytes r e in rw (t.1, t.2) (ap Some (sym t.0))),
-  (λ e.
-      let a = cond_true (in_range r && has_bytes r) (Some (spelled r)) bytes e in
-      let b = and_parts (in_range r) (has_bytes r) a.0 in
-      ap read (sym (some_is _ _ a.1)) ∙ read_spelled r b.0 b.1),
-)
+reads_back = whole_back row_reads

@@ -1,6 +1,5 @@
 -- Reading a row from the front of bytes, and a row alone.
-use Rattle.std.proofs.Common.{ℕ, zero, suc, true, false, length, List, [], ◌∷◌, Option, Some, None}
-use Rattle.std.specs.Prelude.{◌&&◌, ◌==◌, if◌then◌else◌}
+use Rattle.std.proofs.Common.{ℕ, zero, suc, true, false, List, [], ◌∷◌, Option, Some, None}
 use Rattle.std.specs.declared.cmp.Ord as ord
 use Rattle.std.specs.declared.cmp.PartialEq as partial_eq
 use Rattle.std.specs.declared.cmp.PartialOrd as partial_ord
@@ -13,7 +12,7 @@ use Rattle.crdt_rows.specs.declared.version_row.VersionRow.{VersionRow}
 use Rattle.crdt_rows.specs.declared.ref_row.RefRow.{RefRow}
 use Rattle.crdt_rows.specs.declared.any_row.AnyRow.{AnyRow}
 use Rattle.crdt_rows.specs.declared.any_row.AnyRow.TheVariants as rows
-use Rattle.row_codec.specs.Reads.{◌>>=◌, are_bytes}
+use Rattle.row_codec.specs.Reads.{spelling_of, read_whole}
 use Rattle.row_codec.specs.Range.{in_range, has_bytes}
 use Rattle.row_codec.specs.Spelling.{spelled}
 use Rattle.row_codec.specs.Reading.{eight_at, field_at, counted_at, both_at, made_at, tested_at, hash_at, version_at, part_at, block_at, max_at, state_at}
@@ -61,8 +60,8 @@ row_at (suc (suc (suc (suc n))) ∷ rest) = None
 
 -- the bytes of a row that has any
 abbrev pub spelling : AnyRow → Option (List ℕ)
-spelling r = if in_range r && has_bytes r then Some (spelled r) else None
+spelling r = spelling_of in_range has_bytes spelled r
 
 -- the row that has these bytes
 abbrev pub read : List ℕ → Option AnyRow
-read bytes = if are_bytes bytes then (row_at bytes >>= λ found. if length found.1 == 0 then Some found.0 else None) else None
+read bytes = read_whole row_at bytes

@@ -19,6 +19,10 @@ use Rattle.crdt_rows.specs.declared.ref_row.RefRow.{RefRow}
 use Rattle.crdt_rows.specs.declared.any_row.AnyRow.{AnyRow}
 use Rattle.crdt_rows.specs.declared.any_row.AnyRow.TheVariants as rows
 
+-- a number as one byte
+abbrev pub byte : ℕ → List ℕ
+byte n = n ∷ []
+
 -- a number as 4 bytes, the highest first
 unfoldable pub four : ℕ → List ℕ
 four n = to_be_bytes w32 n

@@ -15,8 +15,8 @@
 //! - `states_are_ordered_as_bytes` says that of two states of a version the greater, which stays where they merge,
 //!   is the one with the greater bytes.
 //!
-//! Inside, each part of a row is a `Field`, which writes itself at the end of bytes and is read from their front.
-//! `Fault` serves the fields of other rows too (k2v_schema).
+//! Each part of a row is a `Field`, which writes itself at the end of bytes and is read from their front, with a `Fault`
+//! where it can't be. The parts of other rows are fields too (k2v_rows).
 #![tactic(auto)]
 
 mod codec;
@@ -31,4 +31,5 @@ mod rows;
 
 pub use codec::{decode, encode, length, rows_are_read_back};
 pub use fault::Fault;
+pub use field::Field;
 pub use order::states_are_ordered_as_bytes;

@@ -1,7 +1,9 @@
 //! Flags, values that may be deleted, and maps.
-ghost use Rattle.std.specs.Prelude.{◌&&◌, ◌++◌, true};
+ghost use Rattle.std.specs.Prelude.{◌≡◌, ◌&&◌, ◌++◌, true, IfErr};
 ghost use Rattle.std.specs.List.{list_all};
 ghost use Rattle.crdt_core.specs.Map.{map_entries};
+ghost use Rattle.row_codec.specs.declared.fault.Fault.TheVariants as faults;
+ghost use Rattle.row_codec.specs.Gives.{Gives};
 ghost use Rattle.row_codec.specs.Range.{are_short, unless_deleted};
 ghost use Rattle.row_codec.specs.Rows.{flag_at, deletable_at, map_at};
 ghost use Rattle.row_codec.specs.RowLaws.{flag_reads, deletable_reads, map_reads};
@@ -36,8 +38,12 @@ impl Field for Bool {
         if self.0 { out.push(1) } else { out.push(0) }
     }
 
+    /// Takes no memory.
     #[tactic(auto, unfolding(crate::specs::Rows::flag_at))]
-    fn take(_alloc: Global, bytes: &[u8]) -> Result<(Bool, &[u8]), Fault> {
+    fn take(_alloc: Global, bytes: &[u8]) -> Result<(Bool, &[u8]), Fault>
+        ensures gives { Gives (λ x. (x.0, x.1.now)) result (flag_at bytes.now) }
+        ensures no_memory { IfErr result (λ e. e ≡ faults.NotARow) }
+    {
         match bytes {
             [0, rest @ ..] => Ok((Bool(false), rest)),
             [1, rest @ ..] => Ok((Bool(true), rest)),

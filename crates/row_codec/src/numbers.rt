@@ -1,13 +1,14 @@
 //! Numbers, strings of bytes and digests.
-ghost use Rattle.std.specs.Prelude.{◌≡◌, ◌++◌, true, length, IsTrue, OnOk};
+ghost use Rattle.std.specs.Prelude.{◌≡◌, ◌++◌, true, length, IsTrue, IfErr, OnOk};
 ghost use Rattle.crdt_core.specs.Outcomes.{OnlyWant};
+ghost use Rattle.row_codec.specs.declared.fault.Fault.TheVariants as faults;
 ghost use Rattle.row_codec.specs.Gives.{Gives};
-ghost use Rattle.row_codec.specs.NumberLaws.{bytes_reads, four_reads, eight_reads, field_reads};
+ghost use Rattle.row_codec.specs.NumberLaws.{byte_reads, bytes_reads, four_reads, eight_reads, field_reads};
 ghost use Rattle.row_codec.specs.PartLaws.{hash_reads};
-ghost use Rattle.row_codec.specs.Range.{is_block, is_four, is_eight, is_hash, is_below};
-ghost use Rattle.row_codec.specs.Reading.{bytes_at, four_at, eight_at, field_at, hash_at};
+ghost use Rattle.row_codec.specs.Range.{is_block, is_byte, is_four, is_eight, is_hash, is_below};
+ghost use Rattle.row_codec.specs.Reading.{byte_at, bytes_at, four_at, eight_at, field_at, hash_at};
 ghost use Rattle.row_codec.specs.Reads.{are_bytes};
-ghost use Rattle.row_codec.specs.Spelling.{four, eight, field};
+ghost use Rattle.row_codec.specs.Spelling.{byte, four, eight, field};
 
 use crate::fault::Fault;
 use crate::field::Field;
@@ -21,7 +22,8 @@ pub const LIMIT: usize = 1 << 32;
 // The first N bytes, and the rest.
 #[tactic(auto, unfolding(crate::specs::Reading::bytes_at))]
 fn front<const N: usize>(bytes: &[u8]) -> Result<(&[u8; N], &[u8]), Fault>
-    ensures { Gives (λ x. (x.0.now, x.1.now)) result (bytes_at N bytes.now) }
+    ensures gives { Gives (λ x. (x.0.now, x.1.now)) result (bytes_at N bytes.now) }
+    ensures no_memory { IfErr result (λ e. e ≡ faults.NotARow) }
 {
     match bytes.split_first_chunk::<N>() {
         Some((front, rest)) => Ok((front, rest)),
@@ -44,6 +46,42 @@ fn bytes_len(bytes: &[u8]) -> usize
     ensures in_range { IsTrue (are_bytes bytes.now) }
 {
     bytes.len()
+}
+
+impl Field for u8 {
+    ghost in_range = { is_byte };
+
+    ghost is_short = { λ n. true };
+
+    ghost spelled = { byte };
+
+    ghost read = { byte_at };
+
+    ghost reads = { byte_reads };
+
+    fn is_short(&self) -> bool {
+        true
+    }
+
+    fn spelled_len(&self) -> Option<usize> {
+        Some(self.to_be_bytes().len())
+    }
+
+    fn put(&self, out: &mut Bytes) -> Result<(), Memory> {
+        out.push(*self)
+    }
+
+    /// Takes no memory.
+    #[tactic(auto, unfolding(crate::specs::Reading::byte_at))]
+    fn take(_alloc: Global, bytes: &[u8]) -> Result<(u8, &[u8]), Fault>
+        ensures gives { Gives (λ x. (x.0, x.1.now)) result (byte_at bytes.now) }
+        ensures no_memory { IfErr result (λ e. e ≡ faults.NotARow) }
+    {
+        match bytes {
+            [first, rest @ ..] => Ok((*first, rest)),
+            [] => Err(Fault::NotARow),
+        }
+    }
 }
 
 impl Field for u32 {
@@ -71,8 +109,12 @@ impl Field for u32 {
         out.extend_from_slice(&self.to_be_bytes())
     }
 
+    /// Takes no memory.
     #[tactic(auto, unfolding(crate::specs::Reading::four_at))]
-    fn take(_alloc: Global, bytes: &[u8]) -> Result<(u32, &[u8]), Fault> {
+    fn take(_alloc: Global, bytes: &[u8]) -> Result<(u32, &[u8]), Fault>
+        ensures gives { Gives (λ x. (x.0, x.1.now)) result (four_at bytes.now) }
+        ensures no_memory { IfErr result (λ e. e ≡ faults.NotARow) }
+    {
         let (number, rest) = front::<4>(bytes)?;
         Ok((u32::from_be_bytes(*number), rest))
     }
@@ -103,8 +145,12 @@ impl Field for u64 {
         out.extend_from_slice(&self.to_be_bytes())
     }
 
+    /// Takes no memory.
     #[tactic(auto, unfolding(crate::specs::Reading::eight_at))]
-    fn take(_alloc: Global, bytes: &[u8]) -> Result<(u64, &[u8]), Fault> {
+    fn take(_alloc: Global, bytes: &[u8]) -> Result<(u64, &[u8]), Fault>
+        ensures gives { Gives (λ x. (x.0, x.1.now)) result (eight_at bytes.now) }
+        ensures no_memory { IfErr result (λ e. e ≡ faults.NotARow) }
+    {
         let (number, rest) = front::<8>(bytes)?;
         Ok((u64::from_be_bytes(*number), rest))
     }
@@ -133,7 +179,11 @@ impl<const N: usize> Field for [u8; N] {
         put_bytes(self, out)
     }
 
-    fn take(_alloc: Global, bytes: &[u8]) -> Result<([u8; N], &[u8]), Fault> {
+    /// Takes no memory.
+    fn take(_alloc: Global, bytes: &[u8]) -> Result<([u8; N], &[u8]), Fault>
+        ensures gives { Gives (λ x. (x.0, x.1.now)) result (bytes_at N bytes.now) }
+        ensures no_memory { IfErr result (λ e. e ≡ faults.NotARow) }
+    {
         let (block, rest) = front::<N>(bytes)?;
         Ok((*block, rest))
     }
@@ -162,8 +212,12 @@ impl Field for Hash32 {
         put_bytes(&self.0, out)
     }
 
+    /// Takes no memory.
     #[tactic(auto, unfolding(crate::specs::Reading::hash_at, crate::specs::Reading::made_at))]
-    fn take(_alloc: Global, bytes: &[u8]) -> Result<(Hash32, &[u8]), Fault> {
+    fn take(_alloc: Global, bytes: &[u8]) -> Result<(Hash32, &[u8]), Fault>
+        ensures gives { Gives (λ x. (x.0, x.1.now)) result (hash_at bytes.now) }
+        ensures no_memory { IfErr result (λ e. e ≡ faults.NotARow) }
+    {
         let (block, rest) = front::<32>(bytes)?;
         Ok((Hash32(*block), rest))
     }

@@ -45,6 +45,7 @@ use Rattle.store_anchors.proofs.Machine.{IsEndOf, reached_end}
 use Rattle.store_anchors.proofs.Acts.{IsHeld, held}
 use Rattle.store_anchors.proofs.Among.{digest_among, digest_there, steps_among}
 use Rattle.store_anchors.proofs.Cited.{Cited}
+use Rattle.store_anchors.proofs.Reading.{each_stored}
 use Rattle.store_anchors.proofs.Told.{above_of, complete_drawn, drawn_as, AreApart, drawn_there, are_drawn, none_aborted}
 
 -- a block of this hash is there, with bytes of this digest
@@ -94,11 +95,8 @@ module _ (cited : Cited) (references : References) (acts : List Act) (lawful : A
       subst (λ (x : Draw). (y : Content) → IsLong s.draws x y → HasAll p x.version.id x.block y.body) same one.0.all content long
 
   -- what was stored
-  all_stored : All (IsRowOf p) (stored_in ms)
-  all_stored = stored_have (IsRowOf p) ms now.laid.stored
-
-  each_stored : (r : AnyRow) → Contains (stored_in ms) r → IsRowOf p r
-  each_stored r c = All-contains (IsRowOf p) (stored_in ms) r all_stored c
+  every_stored : (r : AnyRow) → Contains (stored_in ms) r → IsRowOf p r
+  every_stored = each_stored cited ms s now.sound now.laid
 
   reached : IsReachedBy (IsStepOf ms) s.world
   reached = now.laid.reached
@@ -111,7 +109,7 @@ module _ (cited : Cited) (references : References) (acts : List Act) (lawful : A
 
   overwritten : {v : World} (ends : IsEndOf (IsStepOf ms) v) (d : Draw) → Newer (stored_in ends.moves) (digest_of d.name.bucket, d.name.key) d.version → IsOverwritten acts d.name d.version
   overwritten ends d newer =
-      let a = above_of p (stored_in ends.moves) (λ r c. each_stored r (come_from ends r c)) d newer in
+      let a = above_of p (stored_in ends.moves) (λ r c. every_stored r (come_from ends r c)) d newer in
       record { newer = a.0; block = a.1; wished = a.2; above = a.3; was_stored = come_from ends _ a.4 }
 
   module _ (differ : BlocksDiffer acts) where
@@ -124,12 +122,12 @@ module _ (cited : Cited) (references : References) (acts : List Act) (lawful : A
         let v : World = run any_join words reached.begin reached.moves in
         let ends : IsEndOf (IsStepOf ms) v = reached_end cited.every s.world reached (still_of ms step.Trio tt refl refl) in
         let stored : List AnyRow = stored_in ends.moves in
-        let each : (r : AnyRow) → Contains stored r → IsRowOf p r = λ r c. each_stored r (come_from ends r c) in
+        let each : (r : AnyRow) → Contains stored r → IsRowOf p r = λ r c. every_stored r (come_from ends r c) in
         let two : AreTwo (Anchors named v r) =
         subst (λ (w : World). AreTwo (Anchors named w r)) ends.leads
         (references named layouts ends.first ends.roles 256 ends.moves (drawn_as s.draws) (lit≤ tt) ends.is_layout ends.version ends.is_run (steps_among ms ends.moves ends.are)
         (All-weaker (λ (m : Moving). IsStepOf ms m.step) (λ (m : Moving). All (λ r. deletes_nothing r ≡ true) (stored_by m.step))
-        (λ m is. All-weaker (Contains (stored_in ms)) (λ r. deletes_nothing r ≡ true) (λ r c. row_deletes_nothing p r (each_stored r c)) (stored_by m.step) is.stores) ends.moves ends.are)
+        (λ m is. All-weaker (Contains (stored_in ms)) (λ r. deletes_nothing r ≡ true) (λ r c. row_deletes_nothing p r (every_stored r c)) (stored_by m.step) is.stores) ends.moves ends.are)
         (are_drawn p stored each apart) r refl (subst (λ (w : World). Contains w.kept (rows.Ref r)) (sym ends.leads) (subst (λ (w : World). Contains w.kept (rows.Ref r)) reached.alike.is has.refers))
         (digest_of d.name.bucket, d.name.key) d.version (drawn_there s.draws apart d drawn) (λ newer. fresh (overwritten ends d newer)) (none_aborted p stored each (digest_of d.name.bucket, d.name.key) d.version)) in
         let at_v : Anchors named v r two.one = two.one_is in

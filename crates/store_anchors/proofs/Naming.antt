@@ -32,7 +32,7 @@ use Rattle.row_codec.specs.Spelling.{eight}
 use Rattle.table_schema.specs.Laws.{Same}
 use Rattle.table_model.specs.Rows.{row_at, is_at}
 use Rattle.object_schema.specs.Schema.{words}
-use Rattle.object_schema.specs.Laws.{eight_same}
+use Rattle.object_schema.specs.Laws.{eight_same, version_ids, apart}
 use Rattle.object_schema.specs.Triggers.{triggered, deleted_version, deleted_reference, given_up, released}
 use Rattle.cluster_machine.specs.Kept.{IsOver, KeptReads}
 use Rattle.cluster_machine.specs.Node.{Question, read}
@@ -44,7 +44,6 @@ use Rattle.table_model.proofs.RowLaws.{place_total}
 use Rattle.row_codec.specs.Range.{is_eight}
 use Rattle.store_laws.proofs.Rows.{complete_row}
 use Rattle.flow_model.specs.declared.flow.Wish.TheVariants as wish
-use Rattle.object_origins.proofs.Keys.{version_ids}
 use Rattle.flow_model.specs.declared.flow.Content.{Content}
 use Rattle.flow_model.specs.Blocks.{has_piece}
 use Rattle.flow_model.specs.Rows.{version_row}
@@ -52,7 +51,7 @@ use Rattle.flow_model.specs.Says.{Named, whole, deleted, named_by, of_entries}
 use Rattle.flow_laws.specs.Pieces.{merged_row, named_pieces}
 use Rattle.flow_laws.proofs.Merged.{are_named}
 use Rattle.store_model.specs.Run.{Moving, State, Draw}
-use Rattle.store_laws.proofs.Objects.{Below as IsBelow, members_below, apart}
+use Rattle.store_laws.proofs.Objects.{Below as IsBelow, members_below}
 use Rattle.store_laws.proofs.Sound.{IsSound}
 use Rattle.store_laws.proofs.Reached.{reached_kept}
 use Rattle.store_anchors.proofs.Cited.{Cited}

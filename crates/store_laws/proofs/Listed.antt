@@ -33,7 +33,8 @@ use Rattle.store_model.specs.Answers.{Entry, with_entry, entries, versions_of}
 use Rattle.store_model.specs.Run.{State, Asked, Draw}
 use Rattle.store_model.specs.Fresh.{IsMarked}
 use Rattle.store_laws.proofs.Elements.{at_cut, none_in, cons_cases, there, found_in}
-use Rattle.store_laws.proofs.Objects.{key_parts, digest_length}
+use Rattle.object_schema.specs.Laws.{key_parts}
+use Rattle.blake2_hash.specs.DigestLaws.{digest_length}
 use Rattle.store_laws.proofs.Every.{EveryWorld}
 use Rattle.store_laws.proofs.Rows.{IsValue, IsFound, FoundIn, found, said_written}
 use Rattle.store_laws.proofs.Covering.{IsSaid, CoversIn, CoversRow, covers}

@@ -1,4 +1,4 @@
-use Rattle.k2v_schema.specs.ReadingLaws.{read_takes}
+use Rattle.k2v_rows.specs.ReadingLaws.{read_takes}
 use Rattle.k2v_schema.proofs.codec.decode.Goals as goal
 
 pub returns-in-Ok-clause-spelled : goal.returns-in-Ok-clause-spelled

@@ -1,7 +1,7 @@
 use Rattle.std.specs.Prelude.{◌∷◌}
 use Rattle.std.proofs.Common.{arith}
 use Rattle.blake2_hash.specs.Blake2b.{blake2b}
-use Rattle.blake2_hash.proofs.Digests.{length-blake2b}
+use Rattle.blake2_hash.specs.DigestLaws.{length-blake2b}
 use Rattle.merkle_sync.specs.Walking.{asks, taken}
 use Rattle.merkle_sync.proofs.Covering.{covers_differ, accounts_told, keeps_set}
 use Rattle.merkle_sync.proofs.walk.Walk.answer.Goals as goal

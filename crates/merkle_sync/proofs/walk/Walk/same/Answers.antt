@@ -1,6 +1,6 @@
 use Rattle.std.specs.Prelude.{[], ◌∷◌}
 use Rattle.blake2_hash.specs.Blake2b.{blake2b}
-use Rattle.blake2_hash.proofs.Digests.{length-blake2b}
+use Rattle.blake2_hash.specs.DigestLaws.{length-blake2b}
 use Rattle.std.proofs.Common.{arith}
 use Rattle.merkle_sync.specs.Walking.{taken}
 use Rattle.merkle_sync.proofs.Covering.{covers_same, accounts_told}

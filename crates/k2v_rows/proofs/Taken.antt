@@ -1,18 +1,15 @@
--- A row that was read, and what it says of all bytes.
-use Rattle.std.proofs.Common.{◌≡◌, ◌≢◌, ℕ, true, eqb, List, length, Some, None, refl, sym, ap, ◌∙◌}
+-- Writes and rows that were read part by part.
+use Rattle.std.proofs.Common.{◌≡◌, ℕ, List, Some, refl, sym, ap, ◌∙◌}
 use Rattle.blake2_hash.specs.declared.digest.Hash32.{Hash32}
 use Rattle.k2v_rows.specs.declared.writes.Writes.{Writes}
 use Rattle.k2v_rows.specs.declared.k2v_row.K2vRow.{K2vRow}
 use Rattle.k2v_rows.specs.Values.{ValueMap}
 use Rattle.k2v_rows.specs.Token.{WritesMap}
 use Rattle.k2v_rows.specs.Row.{item_key}
-use Rattle.row_codec.specs.Reads.{are_bytes}
-use Rattle.row_codec.specs.Reading.{eight_at, both_at, tested_at, hash_at, field_at, max_at}
+use Rattle.row_codec.specs.Reading.{byte_at, eight_at, both_at, tested_at, hash_at, field_at, max_at}
 use Rattle.row_codec.specs.Rows.{map_at}
-use Rattle.k2v_schema.specs.Range.{in_range, has_bytes}
-use Rattle.k2v_schema.specs.Spelling.{spelled}
-use Rattle.k2v_schema.specs.Reading.{byte_at, value_at, writes_from, writes_at, row_from, rest_at, row_at, read}
-use Rattle.k2v_schema.specs.ReadingLaws.{writes_parts, writes_there, row_parts, row_there, read_spelled}
+use Rattle.k2v_rows.specs.Reading.{value_at, writes_from, writes_at, row_from, rest_at}
+use Rattle.k2v_rows.specs.ReadingLaws.{writes_parts, writes_there, row_parts, row_there}
 
 pub writes_taken : (bytes : List ℕ) (discard : ℕ) (after : List ℕ) (values : ValueMap) (rest : List ℕ) (w : Writes)
     → eight_at bytes ≡ Some (discard, after) → map_at eight_at (max_at value_at) after ≡ Some (values, rest)
@@ -31,11 +28,3 @@ row_taken bytes bucket after_bucket pk after_pk sk after_sk entries rest row h k
     let parts : (bucket, (pk, (sk, entries))) ≡ row_parts row = λ i. ((sym e i).0, ((sym e i).1.0, ((sym e i).1.1, sym f i))) in
     let made : row_from (bucket, (pk, (sk, entries))) ≡ Some row = ap row_from parts ∙ row_there row in
     rw (h, k, l, v, made) refl
-
-pub read_is : (bytes : List ℕ) (row : K2vRow) (rest : List ℕ) → are_bytes bytes ≡ true → row_at bytes ≡ Some (row, rest) → eqb (length rest) 0 ≡ true → read bytes ≡ Some row
-read_is bytes row rest fits h e = rw (fits, h, e) refl
-
-pub none_reads : (row : K2vRow) (bytes : List ℕ) → read bytes ≡ None → in_range row ≡ true → has_bytes row ≡ true → bytes ≢ spelled row
-none_reads row bytes h fits short e =
-    let no : None ≡ Some row = sym h ∙ (ap read e ∙ read_spelled row fits short) in
-    cc

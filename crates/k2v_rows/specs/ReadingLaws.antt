@@ -1,16 +1,14 @@
 -- Laws that impls cite; what is defined here serves their proofs alone.
 -- Rows are read as they are spelled.
-use Rattle.std.proofs.Common.{◌≡◌, ℕ, zero, suc, Bool, true, false, cond, eqb, length, List, [], ◌∷◌, ◌++◌, Option, Some, None, refl, sym, ap, subst, ◌∙◌}
-use Rattle.std.specs.Prelude.{◌&&◌, ◌↔◌, nat_lt, ◌^◌}
-use Rattle.std.proofs.lemmas.List.{append-nil, nil_from_length}
-use Rattle.std.proofs.lemmas.Bool.{eqb-true}
-use Rattle.crdt_core.specs.EntryLaws.{and_parts, and_both}
+use Rattle.std.proofs.Common.{◌≡◌, ℕ, zero, suc, Bool, true, false, List, [], ◌∷◌, ◌++◌, Some, refl, sym, ap, subst, ◌∙◌}
+use Rattle.std.specs.Prelude.{◌↔◌}
 use Rattle.crdt_core.specs.Map.{map_entries}
-use Rattle.row_codec.specs.Reads.{◌>>=◌, are_bytes, IsBytes, Begins, Reads}
-use Rattle.row_codec.specs.Spelling.{field, counted}
+use Rattle.row_codec.specs.Reads.{IsBytes, Begins, Reads}
+use Rattle.row_codec.specs.Spelling.{byte, field, counted}
 use Rattle.row_codec.specs.Reading.{field_at, made_at}
-use Rattle.row_codec.specs.NumberLaws.{eight_reads, field_reads, bind_some, some_is, byte_rest}
+use Rattle.row_codec.specs.NumberLaws.{byte_reads, eight_reads, field_reads, bind_some, some_is, byte_rest}
 use Rattle.row_codec.specs.JoinedLaws.{both_reads, tested_reads}
+use Rattle.row_codec.specs.WholeLaws.{whole_spelled, whole_takes, whole_back}
 use Rattle.row_codec.specs.PartLaws.{hash_reads, max_reads}
 use Rattle.row_codec.specs.RowLaws.{map_reads}
 use Rattle.k2v_rows.specs.declared.value.K2vValue.{K2vValue}
@@ -21,20 +19,9 @@ use Rattle.k2v_rows.specs.Later.{are_later, is_short}
 use Rattle.k2v_rows.specs.Values.{ValueMap}
 use Rattle.k2v_rows.specs.WritesLaws.{same_writes}
 use Rattle.k2v_rows.specs.RowLaws.{same_row}
-use Rattle.k2v_schema.specs.Range.{is_byte, value_in_range, writes_in_range, in_range, is_short_value, are_short_writes, has_bytes}
-use Rattle.k2v_schema.specs.Spelling.{byte, value, writes, spelled}
-use Rattle.k2v_schema.specs.Reading.{byte_at, value_at, writes_by, writes_from, writes_at, RowParts, row_by, row_from, rest_at, row_at, spelling, read}
-
-byte_takes : (bytes : List ℕ) (x : ℕ) (rest : List ℕ) → IsBytes bytes → byte_at bytes ≡ Some (x, rest) → Begins is_byte (λ b. true) byte bytes x rest
-unfolding byte_at
-byte_takes [] x rest fits e = absurd cc
-byte_takes (b ∷ bytes) x rest fits e =
-    subst (λ (q : ℕ × List ℕ). Begins is_byte (λ b. true) byte (b ∷ bytes) q.0 q.1) (some_is (b, bytes) (x, rest) e)
-    (record { parts = refl; fits = (and_parts (nat_lt b (2 ^ 8)) (are_bytes bytes) fits).0; short = refl })
-
-pub byte_reads : Reads is_byte (λ b. true) byte byte_at
-unfolding byte_at
-byte_reads = record { bytes = λ b fits. and_both (is_byte b) true fits refl; takes = byte_takes; again = λ b rest fits short. refl }
+use Rattle.k2v_rows.specs.Range.{value_in_range, writes_in_range, in_range, is_short_value, are_short_writes, has_bytes}
+use Rattle.k2v_rows.specs.Spelling.{value, writes, spelled}
+use Rattle.k2v_rows.specs.Reading.{value_at, writes_by, writes_from, writes_at, RowParts, row_by, row_from, rest_at, row_at, spelling, read}
 
 value_takes : (bytes : List ℕ) (x : K2vValue) (rest : List ℕ) → IsBytes bytes → value_at bytes ≡ Some (x, rest) → Begins value_in_range is_short_value value bytes x rest
 unfolding value_at made_at
@@ -125,31 +112,11 @@ unfolding row_at
 row_reads = record { bytes = λ r fits. rest_reads.bytes r fits; takes = row_takes; again = λ r rest fits short. rest_reads.again r rest fits short }
 
 pub read_spelled : (r : K2vRow) → in_range r ≡ true → has_bytes r ≡ true → read (spelled r) ≡ Some r
-read_spelled r fits short =
-    let again : row_at (spelled r) ≡ Some (r, []) = ap row_at (sym (append-nil (spelled r))) ∙ row_reads.again r [] fits short in
-    rw (row_reads.bytes r fits, again) refl
-
-cond_true : {A : Type 0} (b : Bool) (o : Option A) (y : A) → cond b o None ≡ Some y → (b ≡ true) × (o ≡ Some y)
-cond_true true o y e = (refl, e)
-cond_true false o y e = absurd cc
+read_spelled = whole_spelled row_reads
 
 pub read_takes : (bytes : List ℕ) (r : K2vRow) → read bytes ≡ Some r → (bytes ≡ spelled r) × (in_range r ≡ true) × (has_bytes r ≡ true)
-read_takes bytes r e =
-    let a = cond_true (are_bytes bytes) (row_at bytes >>= λ found. cond (eqb (length found.1) 0) (Some found.0) None) r e in
-    let b = bind_some (row_at bytes) (λ found. cond (eqb (length found.1) 0) (Some found.0) None) r a.1 in
-    let c = cond_true (eqb (length b.0.1) 0) (Some b.0.0) r b.2 in
-    let t = row_reads.takes bytes b.0.0 b.0.1 a.0 b.1 in
-    let nothing : b.0.1 ≡ [] = nil_from_length b.0.1 (eqb-true _ _ c.0) in
-    let whole : bytes ≡ spelled b.0.0 = t.parts ∙ ap (λ (y : List ℕ). spelled b.0.0 ++ y) nothing ∙ append-nil (spelled b.0.0) in
-    let same : b.0.0 ≡ r = some_is _ _ c.1 in
-    (whole ∙ ap spelled same, ap in_range (sym same) ∙ t.fits, ap has_bytes (sym same) ∙ t.short)
+read_takes = whole_takes row_reads
 
 -- bytes are read as a row exactly where they are its spelling
 pub reads_back : (r : K2vRow) (bytes : List ℕ) → (read bytes ≡ Some r) ↔ (spelling r ≡ Some bytes)
-reads_back r bytes = (
-  (λ e. let t = read_takes bytes r e in rw (t.1, t.2) (ap Some (sym t.0))),
-  (λ e.
-      let a = cond_true (in_range r && has_bytes r) (Some (spelled r)) bytes e in
-      let b = and_parts (in_range r) (has_bytes r) a.0 in
-      ap read (sym (some_is _ _ a.1)) ∙ read_spelled r b.0 b.1),
-)
+reads_back = whole_back row_reads

@@ -1,17 +1,13 @@
 -- Rows whose numbers are in their types' ranges, and rows that are short enough to have bytes.
-use Rattle.std.specs.Prelude.{ℕ, ◌^◌, Bool, true, nat_lt, ◌&&◌}
+use Rattle.std.specs.Prelude.{Bool, true, ◌&&◌}
 use Rattle.std.specs.List.{list_all}
 use Rattle.crdt_core.specs.Map.{map_entries}
 use Rattle.row_codec.specs.Reads.{are_bytes}
-use Rattle.row_codec.specs.Range.{is_eight, is_hash, is_below, are_short}
+use Rattle.row_codec.specs.Range.{is_byte, is_eight, is_hash, is_below, are_short}
 use Rattle.k2v_rows.specs.declared.value.K2vValue.{K2vValue}
 use Rattle.k2v_rows.specs.declared.value.K2vValue.TheVariants.{Deleted, Value}
 use Rattle.k2v_rows.specs.declared.writes.Writes.{Writes}
 use Rattle.k2v_rows.specs.declared.k2v_row.K2vRow.{K2vRow}
-
--- a number of one byte
-abbrev pub is_byte : ℕ → Bool
-is_byte n = nat_lt n (2 ^ 8)
 
 -- a value's bytes are bytes
 abbrev pub value_in_range : K2vValue → Bool

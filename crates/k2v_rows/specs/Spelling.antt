@@ -1,15 +1,11 @@
 -- The bytes of each row of items.
 use Rattle.std.specs.Prelude.{ℕ, List, [], ◌∷◌, ◌++◌}
 use Rattle.crdt_core.specs.Map.{map_entries}
-use Rattle.row_codec.specs.Spelling.{eight, field, counted}
+use Rattle.row_codec.specs.Spelling.{byte, eight, field, counted}
 use Rattle.k2v_rows.specs.declared.value.K2vValue.{K2vValue}
 use Rattle.k2v_rows.specs.declared.value.K2vValue.TheVariants.{Deleted, Value}
 use Rattle.k2v_rows.specs.declared.writes.Writes.{Writes}
 use Rattle.k2v_rows.specs.declared.k2v_row.K2vRow.{K2vRow}
-
--- a number as one byte
-abbrev pub byte : ℕ → List ℕ
-byte n = n ∷ []
 
 -- 00, or 01 and the bytes behind their length
 abbrev pub value : K2vValue → List ℕ

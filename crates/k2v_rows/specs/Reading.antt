@@ -1,10 +1,9 @@
 -- Which row is read from bytes, and which bytes are a row's.
-use Rattle.std.proofs.Common.{◌≡◌, ℕ, zero, suc, Bool, true, false, length, List, [], ◌∷◌, Option, Some, None, refl}
-use Rattle.std.specs.Prelude.{◌&&◌, ◌==◌, if◌then◌else◌}
+use Rattle.std.proofs.Common.{◌≡◌, ℕ, zero, suc, Bool, true, false, List, [], ◌∷◌, Option, Some, None, refl}
 use Rattle.blake2_hash.specs.declared.digest.Hash32.{Hash32}
 use Rattle.crdt_core.specs.Map.{map_entries}
-use Rattle.row_codec.specs.Reads.{◌>>=◌, are_bytes}
-use Rattle.row_codec.specs.Reading.{eight_at, field_at, both_at, made_at, tested_at, hash_at, max_at}
+use Rattle.row_codec.specs.Reads.{spelling_of, read_whole}
+use Rattle.row_codec.specs.Reading.{byte_at, eight_at, field_at, both_at, made_at, tested_at, hash_at, max_at}
 use Rattle.row_codec.specs.Rows.{map_at}
 use Rattle.k2v_rows.specs.declared.value.K2vValue.{K2vValue}
 use Rattle.k2v_rows.specs.declared.value.K2vValue.TheVariants.{Deleted, Value}
@@ -13,15 +12,8 @@ use Rattle.k2v_rows.specs.declared.k2v_row.K2vRow.{K2vRow}
 use Rattle.k2v_rows.specs.Later.{are_later, is_short}
 use Rattle.k2v_rows.specs.Values.{ValueMap}
 use Rattle.k2v_rows.specs.Token.{WritesMap}
-use Rattle.k2v_schema.specs.Range.{in_range, has_bytes}
-use Rattle.k2v_schema.specs.Spelling.{spelled}
-
--- ---- bytes
-
--- the first byte, and the rest
-unfoldable pub byte_at : List ℕ → Option (ℕ × List ℕ)
-byte_at [] = None
-byte_at (b ∷ rest) = Some (b, rest)
+use Rattle.k2v_rows.specs.Range.{in_range, has_bytes}
+use Rattle.k2v_rows.specs.Spelling.{spelled}
 
 -- ---- what writes leave
 
@@ -78,8 +70,8 @@ row_at (suc (suc (suc (suc (suc n)))) ∷ rest) = None
 
 -- the bytes of a row that has any
 abbrev pub spelling : K2vRow → Option (List ℕ)
-spelling r = if in_range r && has_bytes r then Some (spelled r) else None
+spelling r = spelling_of in_range has_bytes spelled r
 
 -- the row that has these bytes
 abbrev pub read : List ℕ → Option K2vRow
-read bytes = if are_bytes bytes then (row_at bytes >>= λ found. if length found.1 == 0 then Some found.0 else None) else None
+read bytes = read_whole row_at bytes

@@ -1,16 +1,17 @@
-//! What writes leave, the writes of a node, and rows.
+//! The bytes of what writes leave, of a node's writes, and of rows.
 ghost use Rattle.std.specs.Prelude.{◌≡◌};
 ghost use Rattle.row_codec.specs.Gives.{Gives};
-ghost use Rattle.k2v_schema.specs.Range.{value_in_range, writes_in_range, in_range, is_short_value, are_short_writes, has_bytes};
-ghost use Rattle.k2v_schema.specs.Reading.{value_at, writes_at, row_at, rest_at};
-ghost use Rattle.k2v_schema.specs.ReadingLaws.{value_reads, writes_reads, row_reads};
-ghost use Rattle.k2v_schema.specs.Spelling.{value, writes, spelled};
+ghost use Rattle.k2v_rows.specs.Range.{value_in_range, writes_in_range, in_range, is_short_value, are_short_writes, has_bytes};
+ghost use Rattle.k2v_rows.specs.Reading.{value_at, writes_at, row_at, rest_at};
+ghost use Rattle.k2v_rows.specs.ReadingLaws.{value_reads, writes_reads, row_reads};
+ghost use Rattle.k2v_rows.specs.Spelling.{value, writes, spelled};
 
-use crate::field::Field;
+use crate::k2v_row::K2vRow;
+use crate::value::K2vValue;
+use crate::writes::Writes;
 use blake2_hash::Hash32;
 use crdt_core::{Bytes, Map, Memory};
-use k2v_rows::{K2vRow, K2vValue, Writes};
-use row_codec::Fault;
+use row_codec::{Fault, Field};
 use std::alloc::Global;
 
 impl Field for K2vValue {

@@ -1,5 +1,7 @@
+-- Laws that impls cite; no definition stands here.
 -- The shape of a digest.
-use Rattle.std.proofs.Common.{◌≡◌, ℕ, zero, suc, ◌+◌, ◌*◌, ◌<◌, ◌≤◌, Bool, List, [], ◌∷◌, length, refl, arith, length-append, length-take-le, ◌/◌, ◌^◌}
+use Rattle.std.proofs.Common.{◌≡◌, ℕ, zero, suc, ◌+◌, ◌*◌, ◌<◌, ◌≤◌, Bool, List, [], ◌∷◌, length, refl, arith, length-append, length-take-le, ◌/◌, ◌^◌, lit≤}
+use Rattle.std.specs.Prelude.{slice_index}
 use Rattle.std.proofs.lemmas.Nat.{mod_below}
 use Rattle.std.specs.Int.{w64, byte_at, bytes_low_first, to_le_bytes}
 use Rattle.std.specs.List.{All, flat_map}
@@ -47,3 +49,11 @@ pub blake2b_below : (n : ℕ) (m : List ℕ) → All (λ b. b < 256) (blake2b n 
 unfolding blake2b
 blake2b_below n m =
     All-take (λ b. b < 256) n (flat_map (to_le_bytes w64) (state_after n m (last_block (length m) + 1))) (state_bytes_below _)
+
+-- ---- digests of 32 bytes
+
+pub digest_length : (m : List ℕ) → length (blake2b 32 m) ≡ 32
+digest_length m = length-blake2b 32 m (lit≤ tt)
+
+pub digest_first : (m : List ℕ) → slice_index (blake2b 32 m) 0 < 256
+digest_first m = blake2b_below 32 m 0 0 (omega (arith, digest_length m))
