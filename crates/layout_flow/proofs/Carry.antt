@@ -7,7 +7,7 @@ use Rattle.std.proofs.lemmas.List.FromFn.{length-enumerate_from}
 use Rattle.std.proofs.lemmas.List.Elements.{All-head, All-tail, All-cons, All-append, All-map}
 use Rattle.layout_roles.specs.declared.role.Role.{Role}
 use Rattle.layout_roles.specs.Zones.{Name, storage_nodes, zone_names, nodes_in, zones}
-use Rattle.layout_roles.specs.Fits.{NodeSet, has_node, load, room}
+use Rattle.layout_roles.specs.Fits.{NodeSet, has_node, load, room, set_at}
 use Rattle.layout_roles.specs.Network.{Edge, edge, zone_edges, partition_edges, node_edge, network_of}
 use Rattle.layout_flow.specs.Flows.{same_vertex, Flow, carried, out_of, into, IsFlow, value}
 use Rattle.layout_roles.specs.declared.vertex.Vertex.{Vertex}
@@ -97,9 +97,6 @@ downs_few r ks low high three few =
 -- how many nodes of a set lie in each zone
 abbrev counts : List Role → NodeSet → List ℕ
 counts roles set = map (λ zone. count_by (in_set set) zone) (zones roles)
-
-abbrev set_at : List NodeSet → ℕ → NodeSet
-set_at sets p = get_or sets p []
 
 abbrev pub carry : ℕ → List Role → List NodeSet → Flow
 carry r roles sets Source (Up p) = sum (ups r (counts roles (set_at sets p)))
@@ -238,7 +235,7 @@ kept_zone n roles r size sets p i =
         subst (λ z. left z ≡ right z) (sym (zone_at roles k d inside)) (zone q k inside)) in
         omega arith
 
-range_sum : (n : ℕ) (f : NodeSet → ℕ) (sets : List NodeSet) → length sets ≡ n → sum_by (λ p. f (set_at sets p)) (range_with_len 0 n) ≡ sum_by f sets
+pub range_sum : (n : ℕ) (f : NodeSet → ℕ) (sets : List NodeSet) → length sets ≡ n → sum_by (λ p. f (set_at sets p)) (range_with_len 0 n) ≡ sum_by f sets
 range_sum n f sets whole =
     let ps = range_with_len 0 n in
     let a = sum_by_places f [] 0 n sets (omega arith) in

@@ -1,6 +1,7 @@
 pub mod Bounds
-mod Carry
+pub mod Carry
 mod Duality
+pub mod Few
 mod Fitted
 mod Greatest
 pub mod Lies

@@ -7,13 +7,13 @@ use Rattle.std.proofs.Math.Nat.{mul-le-mul_left}
 use Rattle.std.proofs.lemmas.List.FromFn.{length-range_with_len, length-enumerate_from}
 use Rattle.layout_roles.specs.declared.role.Role.{Role}
 use Rattle.layout_roles.specs.Zones.{nodes_ascend, storage_nodes, zones}
-use Rattle.layout_roles.specs.Fits.{NodeSet, has_node, load, room, partitions, Fits}
+use Rattle.layout_roles.specs.Fits.{NodeSet, has_node, load, room, partitions, Fits, set_at}
 use Rattle.layout_roles.specs.Network.{Edge, edge, network_of, network}
 use Rattle.layout_roles.specs.declared.vertex.Vertex.TheVariants.{Source, Up, Down, Zone, Node, Sink}
 use Rattle.layout_flow.proofs.Sums.{sum_by-plus, sum_by-below, sum_by-constant, sum_by-enumerate}
 use Rattle.layout_flow.proofs.Bounds.{part_sum, sum_of_edges}
 use Rattle.layout_flow.proofs.Printed.{all_parts, zone_at}
-use Rattle.layout_moves.specs.Moves.{set_at, moves_of, moves, Potentials, positive, gain, bound}
+use Rattle.layout_moves.specs.Moves.{moves_of, moves, Potentials, positive, gain, bound}
 use Rattle.layout_moves.specs.Prices.{IsBase, IsCheap, asked, dearest, level, AreCovered, potential}
 use Rattle.layout_moves.proofs.Near.{zone_gain, gains_little}
 use Rattle.layout_moves.proofs.Limit.{asked_is, rooms_cost}

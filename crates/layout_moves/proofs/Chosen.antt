@@ -2,18 +2,16 @@
 use Rattle.std.proofs.Common.{◌≡◌, ℕ, zero, suc, ◌+◌, ◌-◌, ◌*◌, ◌≤◌, min, Bool, true, false, cond, ◌==◌, nat_eq, IsTrue, List, [], ◌∷◌, length, get_or, sym, ap, ◌∙◌, subst, inl, inr, arith, eqb-true}
 use Rattle.std.specs.List.{sum_by, count_by, All, range_with_len, enumerate_from}
 use Rattle.std.proofs.lemmas.Bool.{cases_Bool}
-use Rattle.std.proofs.lemmas.List.{take_all}
 use Rattle.std.proofs.lemmas.List.Sums.{sum_by-cons}
 use Rattle.std.proofs.lemmas.List.Elements.{All-head, All-tail}
 use Rattle.layout_roles.specs.declared.role.Role.{Role}
 use Rattle.layout_roles.specs.Zones.{nodes_ascend, storage_nodes, zones}
-use Rattle.layout_roles.specs.Fits.{NodeSet, has_node, load, IsThree}
+use Rattle.layout_roles.specs.Fits.{NodeSet, has_node, load, IsThree, set_at}
 use Rattle.layout_flow.proofs.Sums.{no, sum_by-agree, sum_by-swap, sum_by-constant, sum_by-enumerate}
 use Rattle.layout_flow.proofs.Zones.{count_times, count_some, stored_once, sum_by_zones}
 use Rattle.layout_flow.proofs.Spread.{in_set, distinct_once, any_as_count, three_chosen}
-use Rattle.layout_flow.proofs.Lies.{sum_by_places}
+use Rattle.layout_flow.proofs.Carry.{range_sum}
 use Rattle.layout_flow.proofs.Lightest.{is_one, is_two, is_three, one_to_three}
-use Rattle.layout_moves.specs.Moves.{set_at}
 
 -- ---- the nodes of a set
 
@@ -94,14 +92,6 @@ zones_with_some roles r set low high ascend three few =
     omega arith
 
 -- ---- partitions
-
-pub range_sum : (n : ℕ) (f : NodeSet → ℕ) (sets : List NodeSet) → length sets ≡ n → sum_by (λ p. f (set_at sets p)) (range_with_len 0 n) ≡ sum_by f sets
-range_sum n f sets whole =
-    let ps = range_with_len 0 n in
-    let a = sum_by_places f [] 0 n sets (omega arith) in
-    let b = sum_by-agree (λ p. f (get_or sets (0 + p) [])) (λ p. f (set_at sets p)) ps (λ k d h. let p = get_or ps k d in let e : 0 + p ≡ p = omega arith in ap (λ m. f (get_or sets m [])) e) in
-    let c = ap (λ (xs : List NodeSet). sum_by f xs) (take_all (0 + n) sets (omega arith)) in
-    omega arith
 
 -- a sum over the nodes of all sets, node by node
 pub loads : (n : ℕ) (roles : List Role) (sets : List NodeSet) (f : ℕ → ℕ) → IsTrue (nodes_ascend roles) → length sets ≡ n → All (IsThree roles) sets →

@@ -5,9 +5,9 @@ use Rattle.std.proofs.lemmas.Int.{ints}
 use Rattle.std.specs.List.{list_all, All}
 use Rattle.layout_roles.specs.declared.role.Role.{Role}
 use Rattle.layout_roles.specs.Zones.{nodes_ascend, is_numbered, storage_nodes}
-use Rattle.layout_roles.specs.Fits.{NodeSet, load, room, Fits}
+use Rattle.layout_roles.specs.Fits.{NodeSet, load, room, Fits, set_at}
 use Rattle.layout_roles.specs.declared.vertex.Vertex.{Vertex}
-use Rattle.layout_moves.specs.Moves.{set_at, moves, bound, potentials}
+use Rattle.layout_moves.specs.Moves.{moves, bound, potentials}
 use Rattle.layout_moves.specs.Prices.{asked, dearest, potential}
 use Rattle.layout_moves.specs.Listing.{listing}
 use Rattle.layout_moves.specs.Auction.{IsPriced}

@@ -1,13 +1,12 @@
 -- What a head start keeps, and when the auction can go on from it.
-use Rattle.std.proofs.Common.{◌≡◌, ℕ, ◌-◌, ◌<◌, ◌≤◌, Bool, true, false, ◌&&◌, ◌||◌, ◌==◌, nat_eq, nat_le, IsTrue, List, [], length, get_or, slice_set, subst, ◌∙◌, inl, inr, arith, eqb-true, leb-true}
-use Rattle.std.specs.List.{list_all, All, IsDistinct}
+use Rattle.std.proofs.Common.{◌≡◌, ℕ, ◌-◌, ◌<◌, ◌≤◌, true, false, ◌&&◌, ◌||◌, ◌==◌, nat_eq, nat_le, IsTrue, List, [], length, get_or, slice_set, subst, ◌∙◌, inl, inr, arith, eqb-true, leb-true}
+use Rattle.std.specs.List.{list_all, IsDistinct}
 use Rattle.std.proofs.lemmas.Bool.{and_parts, or_cases}
 use Rattle.std.proofs.lemmas.List.{length-set}
 use Rattle.std.proofs.lemmas.List.Sums.{AllPass-from_list_all, list_all-from_AllPass}
 use Rattle.layout_roles.specs.declared.role.Role.{Role}
-use Rattle.layout_roles.specs.Zones.{zones, storage_nodes, is_storage, nodes_ascend, set_ascends}
-use Rattle.layout_roles.specs.Fits.{NodeSet, has_node, load, room}
-use Rattle.layout_moves.specs.Moves.{set_at}
+use Rattle.layout_roles.specs.Zones.{zones, nodes_ascend, set_ascends}
+use Rattle.layout_roles.specs.Fits.{NodeSet, has_node, load, room, set_at}
 use Rattle.layout_moves.specs.Prices.{IsBase, IsCheap, IsSwap, may_take, asked}
 use Rattle.layout_moves.specs.Auction.{IsPriced, AreBases, is_fair, highest}
 use Rattle.layout_moves.proofs.Adding.{all_storage}

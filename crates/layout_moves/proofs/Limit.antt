@@ -8,13 +8,13 @@ use Rattle.std.proofs.lemmas.List.Sums.{sum_by-cons}
 use Rattle.std.proofs.lemmas.List.Elements.{All-head, All-tail, All-map}
 use Rattle.layout_roles.specs.declared.role.Role.{Role}
 use Rattle.layout_roles.specs.Zones.{nodes_ascend, storage_nodes, zone_names, nodes_in, zones}
-use Rattle.layout_roles.specs.Fits.{NodeSet, has_node, load, room, IsThree, FitsAll}
+use Rattle.layout_roles.specs.Fits.{NodeSet, has_node, load, room, IsThree, FitsAll, set_at}
 use Rattle.layout_flow.proofs.Sums.{sum_by-plus, sum_by-agree, sum_by-below, sum_by-constant}
 use Rattle.layout_flow.proofs.Zones.{count_times}
 use Rattle.layout_flow.proofs.Spread.{few_in_zone}
 use Rattle.layout_flow.proofs.Lightest.{mul_below}
 use Rattle.layout_flow.proofs.Printed.{all_parts}
-use Rattle.layout_moves.specs.Moves.{set_at, new_nodes, moves_of}
+use Rattle.layout_moves.specs.Moves.{new_nodes, moves_of}
 use Rattle.layout_moves.specs.Prices.{IsBase, IsCheap, asked, AreCovered}
 use Rattle.layout_moves.proofs.Chosen.{loads, threes_length}
 use Rattle.layout_moves.proofs.Near.{cheap_near}

@@ -5,8 +5,7 @@ use Rattle.std.specs.List.{All, list_any}
 use Rattle.std.proofs.lemmas.Bool.{cases_Bool, cases_lt, eq-eqb, eqb-false, ne_eqb}
 use Rattle.std.proofs.lemmas.List.Folds.{list_any_more}
 use Rattle.layout_roles.specs.declared.role.Role.{Role}
-use Rattle.layout_roles.specs.Fits.{NodeSet, has_node}
-use Rattle.layout_moves.specs.Moves.{set_at}
+use Rattle.layout_roles.specs.Fits.{NodeSet, has_node, set_at}
 use Rattle.layout_moves.specs.Prices.{may_take, is_open, lies, asked, IsCheap}
 use Rattle.layout_moves.specs.Offers.{AtMost, IsCheapest, Needs, RisesAtMost, IsLeastBid}
 use Rattle.layout_moves.specs.declared.offers.Offer.{Offer}

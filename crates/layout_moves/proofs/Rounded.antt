@@ -8,14 +8,14 @@ use Rattle.std.proofs.lemmas.List.Sums.{sum_by-cons, AllPass-from_list_all}
 use Rattle.std.proofs.lemmas.List.Elements.{All-filter}
 use Rattle.layout_roles.specs.declared.role.Role.{Role}
 use Rattle.layout_roles.specs.Zones.{is_numbered, is_storage, storage_nodes, zones}
-use Rattle.layout_roles.specs.Fits.{NodeSet, has_node, is_storage_node}
+use Rattle.layout_roles.specs.Fits.{NodeSet, has_node, is_storage_node, set_at}
 use Rattle.layout_flow.proofs.Sums.{yes, no, sum_by-swap, sum_by-below, sum_by-constant}
 use Rattle.layout_flow.proofs.Zones.{count-cons}
 use Rattle.layout_flow.proofs.Printed.{all_parts}
-use Rattle.layout_moves.specs.Moves.{set_at}
 use Rattle.layout_moves.specs.Prices.{IsBase, IsCheap, asked, dearest}
 use Rattle.layout_moves.specs.Auction.{IsPriced}
-use Rattle.layout_moves.proofs.Steps.{found, numbered_below, taker_stored}
+use Rattle.layout_flow.proofs.Few.{numbered_below}
+use Rattle.layout_moves.proofs.Steps.{found, taker_stored}
 use Rattle.layout_moves.proofs.Certificate.{Settled}
 
 -- ---- a shift that no price hits

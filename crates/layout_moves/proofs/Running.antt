@@ -8,18 +8,18 @@ use Rattle.std.proofs.lemmas.List.{get_or-map, length-map}
 use Rattle.std.proofs.lemmas.List.Elements.{All-filter}
 use Rattle.layout_roles.specs.declared.role.Role.{Role}
 use Rattle.layout_roles.specs.Zones.{Name, name_of, nodes_ascend, is_numbered, is_storage, storage_nodes, zone_names, same_name, is_in_zone, nodes_in, zones, set_ascends}
-use Rattle.layout_roles.specs.Fits.{NodeSet, has_node, load, room, partitions, is_storage_node, Fits}
+use Rattle.layout_roles.specs.Fits.{NodeSet, has_node, load, room, partitions, is_storage_node, Fits, set_at}
 use Rattle.layout_flow.proofs.Sums.{no, sum_by-filter, sum_by-agree, sum_by-none}
 use Rattle.layout_flow.proofs.Zones.{count_none, zone_once}
 use Rattle.layout_roles.proofs.ZoneNames.{same_true}
 use Rattle.layout_flow.proofs.Spread.{in_set, spread_from_few}
-use Rattle.layout_moves.specs.Moves.{set_at}
 use Rattle.layout_moves.specs.Prices.{kept, IsBase, IsCheap, IsSwap, asked}
 use Rattle.layout_moves.specs.Auction.{highest, IsPriced, is_over, unrest}
 use Rattle.layout_moves.specs.Offers.{Needs, RisesAtMost, IsLeastBid}
 use Rattle.layout_moves.specs.declared.bids.Bid.{Bid}
 use Rattle.layout_moves.proofs.Swaps.{lacks}
-use Rattle.layout_moves.proofs.Steps.{found, Over, over_at, Allowed, raised, risen, moved, numbered_below, taker_stored, price_same, price_other}
+use Rattle.layout_flow.proofs.Few.{numbered_below}
+use Rattle.layout_moves.proofs.Steps.{found, Over, over_at, Allowed, raised, risen, moved, taker_stored, price_same, price_other}
 
 -- ---- one step
 

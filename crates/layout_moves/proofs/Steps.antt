@@ -1,46 +1,27 @@
 -- A price that rises and a copy that moves keep where the auction stands, and bring it nearer to its end.
-use Rattle.std.proofs.Common.{◌≡◌, ℕ, suc, ◌+◌, ◌-◌, ◌*◌, ◌<◌, ◌≤◌, Bool, true, false, cond, not, ◌&&◌, ◌==◌, nat_eq, nat_lt, IsTrue, List, [], ◌∷◌, length, get_or, refl, sym, ap, ◌∙◌, subst, inl, inr, arith, le_refl, eqb-true, ltb-true, leb-true}
+use Rattle.std.proofs.Common.{◌≡◌, ℕ, suc, ◌+◌, ◌-◌, ◌*◌, ◌<◌, ◌≤◌, Bool, true, false, cond, not, ◌&&◌, ◌==◌, nat_eq, nat_lt, IsTrue, List, [], ◌∷◌, length, get_or, refl, sym, ap, ◌∙◌, subst, inl, inr, arith, le_refl, eqb-true, ltb-true}
 use Rattle.std.specs.List.{sum_by, count_by, list_any, list_all, filter, All, range_with_len, IsDistinct}
 use Rattle.std.proofs.Math.ListN.{set}
 use Rattle.std.proofs.lemmas.Bool.{cases_Bool, cases_lt, and_parts, and_from, or_cases, eq-eqb, eqb-false}
 use Rattle.std.proofs.lemmas.List.{get_or-set_same, get_or-set_other, length-set}
 use Rattle.std.proofs.lemmas.List.FromFn.{length-range_with_len, get_or-range_with_len}
-use Rattle.std.proofs.lemmas.List.Sums.{sum_by-set, length-filter, count_by-le-length, get_or-le-sum_by, AllPass-from_list_all, list_all-from_AllPass}
-use Rattle.std.proofs.lemmas.List.Elements.{All-head, All-tail, All-filter}
+use Rattle.std.proofs.lemmas.List.Sums.{sum_by-set, count_by-le-length, get_or-le-sum_by, AllPass-from_list_all, list_all-from_AllPass}
+use Rattle.std.proofs.lemmas.List.Elements.{All-filter}
 use Rattle.layout_roles.specs.declared.role.Role.{Role}
-use Rattle.layout_roles.specs.Zones.{nodes_ascend, ascend_from, is_numbered, is_storage, storage_nodes, zones, set_ascends}
-use Rattle.layout_roles.specs.Fits.{NodeSet, has_node, load, room, partitions, is_storage_node, IsThree, Fits}
+use Rattle.layout_roles.specs.Zones.{nodes_ascend, is_numbered, is_storage, storage_nodes, zones, set_ascends}
+use Rattle.layout_roles.specs.Fits.{NodeSet, has_node, load, room, partitions, is_storage_node, IsThree, Fits, set_at}
 use Rattle.layout_flow.proofs.Sums.{yes, sum_by-plus, sum_by-agree, sum_by-below}
 use Rattle.layout_flow.proofs.Zones.{count_times, stored_once}
 use Rattle.layout_flow.proofs.Spread.{distinct_once, any_as_count}
 use Rattle.layout_flow.proofs.Lightest.{mul_below}
 use Rattle.layout_flow.proofs.Printed.{all_parts}
-use Rattle.layout_moves.specs.Moves.{set_at, moves_of}
+use Rattle.layout_flow.proofs.Few.{numbered_below, few_nodes}
+use Rattle.layout_moves.specs.Moves.{moves_of}
 use Rattle.layout_moves.specs.Prices.{IsBase, IsCheap, IsSwap, asked, may_take, is_open, lies, AreCovered}
 use Rattle.layout_moves.specs.Auction.{highest, IsPriced, is_over, left_to_rise, unrest}
 use Rattle.layout_moves.proofs.Near.{or_left, or_right, zone_stored}
 use Rattle.layout_moves.proofs.Swaps.{place_of, two_below, lacks, Swapped, swap_base, swap_cheap, rise_cheap}
 use Rattle.layout_moves.proofs.Limit.{all_asked, asked_is, gap_at, limit}
-
--- ---- few nodes
-
-ascend_few : (before : ℕ) (roles : List Role) → before ≤ 64 → IsTrue (ascend_from before roles) → All (λ role. role.node ≤ 64) roles → before + length roles ≤ 64
-ascend_few before [] low ascend numbered = omega arith
-ascend_few before (role ∷ roles) low ascend numbered =
-    let parts = and_parts (nat_lt before role.node) (ascend_from role.node roles) ascend in
-    let less : before < role.node = ltb-true before role.node parts.0 in
-    let more = ascend_few role.node roles (All-head (λ role. role.node ≤ 64) role roles numbered) parts.1 (All-tail (λ role. role.node ≤ 64) role roles numbered) in
-    omega arith
-
-pub numbered_below : (roles : List Role) → IsTrue (list_all is_numbered roles) → All (λ role. role.node ≤ 64) roles
-numbered_below roles numbered k d h = leb-true (get_or roles k d).node 64 (AllPass-from_list_all is_numbered roles numbered k d h)
-
-few_nodes : (roles : List Role) → IsTrue (nodes_ascend roles) → IsTrue (list_all is_numbered roles) → length (storage_nodes roles) ≤ 64
-few_nodes roles ascend numbered =
-    let few = ascend_few 0 roles (omega arith) ascend (numbered_below roles numbered) in
-    let a = length-filter is_storage roles in
-    let b = count_by-le-length is_storage roles in
-    omega arith
 
 -- ---- a node that keeps too many
 

@@ -11,7 +11,7 @@ use Rattle.std.proofs.lemmas.List.Sums.{sum_by-cons}
 use Rattle.std.proofs.lemmas.List.Elements.{All-map}
 use Rattle.layout_roles.specs.declared.role.Role.{Role}
 use Rattle.layout_roles.specs.Zones.{nodes_ascend, storage_nodes, zone_names, nodes_in, zones}
-use Rattle.layout_roles.specs.Fits.{NodeSet, has_node, load, room, partitions, IsThree, FitsAll, Fits}
+use Rattle.layout_roles.specs.Fits.{NodeSet, has_node, load, room, partitions, IsThree, FitsAll, Fits, set_at}
 use Rattle.layout_roles.specs.Network.{Edge, network_of, network}
 use Rattle.layout_roles.specs.declared.vertex.Vertex.{Vertex}
 use Rattle.layout_roles.specs.declared.vertex.Vertex.TheVariants.{Source, Up, Down, Zone, Node, Sink}
@@ -21,7 +21,7 @@ use Rattle.layout_flow.proofs.Spread.{in_set, few_in_zone}
 use Rattle.layout_flow.proofs.Lightest.{mul_below}
 use Rattle.layout_flow.proofs.Bounds.{part_sum, sum_of_edges}
 use Rattle.layout_flow.proofs.Printed.{all_parts}
-use Rattle.layout_moves.specs.Moves.{set_at, new_nodes, moves_of, moves, cost_between, Potentials, positive, gain, bound}
+use Rattle.layout_moves.specs.Moves.{new_nodes, moves_of, moves, cost_between, Potentials, positive, gain, bound}
 use Rattle.layout_moves.proofs.Chosen.{sum_in_set, zones_of_set, zones_with_some, loads, threes_length}
 
 -- ---- one zone, and all zones

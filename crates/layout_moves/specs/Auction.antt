@@ -3,8 +3,7 @@ use Rattle.std.specs.Prelude.{◌≡◌, ℕ, ◌+◌, ◌-◌, ◌*◌, ◌<◌
 use Rattle.std.specs.List.{sum_by, list_any, list_all, All, range_with_len}
 use Rattle.layout_roles.specs.declared.role.Role.{Role}
 use Rattle.layout_roles.specs.Zones.{is_storage, storage_nodes, zones, set_ascends}
-use Rattle.layout_roles.specs.Fits.{NodeSet, load, room}
-use Rattle.layout_moves.specs.Moves.{set_at}
+use Rattle.layout_roles.specs.Fits.{NodeSet, load, room, set_at}
 use Rattle.layout_moves.specs.Prices.{IsBase, IsCheap, asked, AreCovered}
 
 -- no price rises above this while an assignment fits

@@ -1,16 +1,12 @@
 -- What an assignment moves, and what potentials show of every assignment that fits.
-use Rattle.std.specs.Prelude.{ℕ, ℤ, pos, negsuc, ◌-ℤ◌, ◌*ℤ◌, ◌*◌, not, cond, get_or, List, [], ◌∷◌}
+use Rattle.std.specs.Prelude.{ℕ, ℤ, pos, negsuc, ◌-ℤ◌, ◌*ℤ◌, ◌*◌, not, cond, List, [], ◌∷◌}
 use Rattle.std.specs.List.{sum_by, count_by, range_with_len}
 use Rattle.layout_roles.specs.declared.role.Role.{Role}
-use Rattle.layout_roles.specs.Fits.{NodeSet, has_node, partitions}
+use Rattle.layout_roles.specs.Fits.{NodeSet, set_at, has_node, partitions}
 use Rattle.layout_roles.specs.Network.{Edge, network}
 use Rattle.layout_flow.specs.Flows.{same_vertex}
 use Rattle.layout_roles.specs.declared.vertex.Vertex.{Vertex}
 use Rattle.layout_roles.specs.declared.vertex.Vertex.TheVariants.{Source, Zone, Node, Sink}
-
--- the set that an assignment gives a partition
-abbrev pub set_at : List NodeSet → ℕ → NodeSet
-set_at sets p = get_or sets p []
 
 -- how many nodes of a set the old one hasn't
 abbrev pub new_nodes : NodeSet → NodeSet → ℕ

@@ -1,8 +1,7 @@
 -- The cheapest of what nodes ask.
 use Rattle.std.specs.Prelude.{◌≡◌, ℕ, ◌+◌, ◌<◌, ◌≤◌, Bool, IsTrue, Option, Some, None, IfSome, List}
 use Rattle.layout_roles.specs.declared.role.Role.{Role}
-use Rattle.layout_roles.specs.Fits.{NodeSet, has_node}
-use Rattle.layout_moves.specs.Moves.{set_at}
+use Rattle.layout_roles.specs.Fits.{NodeSet, has_node, set_at}
 use Rattle.layout_moves.specs.Prices.{may_take, asked}
 use Rattle.layout_moves.specs.declared.offers.Offer.{Offer}
 use Rattle.layout_moves.specs.declared.bids.Bid.{Bid}

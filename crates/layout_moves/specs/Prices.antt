@@ -3,9 +3,9 @@ use Rattle.std.specs.Prelude.{◌≡◌, ℕ, pos, ◌-ℤ◌, ◌+◌, ◌<◌,
 use Rattle.std.specs.List.{sum_by, count_by, list_any, filter, All}
 use Rattle.layout_roles.specs.declared.role.Role.{Role}
 use Rattle.layout_roles.specs.Zones.{storage_nodes, zones}
-use Rattle.layout_roles.specs.Fits.{NodeSet, has_node, load, room, IsThree}
+use Rattle.layout_roles.specs.Fits.{NodeSet, has_node, load, room, IsThree, set_at}
 use Rattle.layout_roles.specs.declared.vertex.Vertex.TheVariants.{Source, Up, Down, Zone, Node, Sink}
-use Rattle.layout_moves.specs.Moves.{set_at, Potentials}
+use Rattle.layout_moves.specs.Moves.{Potentials}
 
 -- how many nodes of a set lie in a zone
 abbrev pub kept : NodeSet → List Role → ℕ

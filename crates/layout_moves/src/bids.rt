@@ -1,7 +1,6 @@
 //! The cheapest way to take a copy from a node.
 ghost use Rattle.std.specs.Prelude.{◌≡◌, ℕ, ◌+◌, ◌<◌, ◌≤◌, IsTrue, IfSome, None, Some, ◌⊎◌, length, true};
-ghost use Rattle.layout_roles.specs.Fits.{has_node};
-ghost use Rattle.layout_moves.specs.Moves.{set_at};
+ghost use Rattle.layout_roles.specs.Fits.{has_node, set_at};
 ghost use Rattle.layout_moves.specs.Prices.{asked, IsCheap};
 ghost use Rattle.layout_moves.specs.Offers.{RisesAtMost, IsLeastBid};
 

@@ -3,7 +3,7 @@ ghost use Rattle.std.specs.Prelude.{◌≡◌, ℕ, ◌<◌, ◌≤◌, ◌-◌,
 ghost use Rattle.std.specs.List.{list_all, list_any};
 ghost use Rattle.crdt_core.specs.Outcomes.{OnlyWant};
 ghost use Rattle.layout_roles.specs.Zones.{zones};
-ghost use Rattle.layout_moves.specs.Moves.{set_at};
+ghost use Rattle.layout_roles.specs.Fits.{set_at};
 ghost use Rattle.layout_moves.specs.Prices.{is_open, lies, may_take, asked, IsCheap};
 ghost use Rattle.layout_moves.specs.Auction.{IsPriced, AreBases, is_fair};
 

@@ -3,7 +3,7 @@ ghost use Rattle.std.specs.Prelude.{◌≡◌, ℕ, pos, ◌-ℤ◌, ◌+◌, �
 ghost use Rattle.std.specs.List.{filter};
 ghost use Rattle.crdt_core.specs.Outcomes.{OnlyWant};
 ghost use Rattle.layout_roles.specs.Zones.{zones};
-ghost use Rattle.layout_moves.specs.Moves.{set_at};
+ghost use Rattle.layout_roles.specs.Fits.{set_at};
 ghost use Rattle.layout_moves.specs.Prices.{lies, asked, dearest, level, potential};
 ghost use Rattle.layout_moves.specs.Listing.{partition_listing, node_listing, listing};
 

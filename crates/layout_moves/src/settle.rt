@@ -2,8 +2,7 @@
 ghost use Rattle.std.specs.Prelude.{◌≡◌, ℕ, ◌+◌, ◌<◌, ◌≤◌, IsTrue, IfSome, None, length, slice_get};
 ghost use Rattle.std.specs.List.{All, list_all};
 ghost use Rattle.layout_roles.specs.Zones.{zones, set_ascends};
-ghost use Rattle.layout_roles.specs.Fits.{has_node};
-ghost use Rattle.layout_moves.specs.Moves.{set_at};
+ghost use Rattle.layout_roles.specs.Fits.{has_node, set_at};
 ghost use Rattle.layout_moves.specs.Prices.{may_take, asked, IsBase, IsCheap};
 
 use crate::offers::{asked_by, best_offer};

@@ -1,5 +1,5 @@
 -- Which assignments fit a partition size, and which size is the greatest.
-use Rattle.std.specs.Prelude.{◌≡◌, ℕ, ◌+◌, ◌/◌, ◌≤◌, nat_eq, ◌==◌, IsTrue, length, List, Bool}
+use Rattle.std.specs.Prelude.{◌≡◌, ℕ, ◌+◌, ◌/◌, ◌≤◌, nat_eq, ◌==◌, IsTrue, length, get_or, List, [], Bool}
 use Rattle.std.specs.List.{filter, list_any, count_by, All, IsDistinct}
 use Rattle.layout_roles.specs.declared.role.Role.{Role}
 use Rattle.layout_roles.specs.Zones.{storage_nodes, zone_names, capacity_of}
@@ -11,6 +11,10 @@ partitions = 256
 -- the three nodes that keep a partition
 abbrev pub NodeSet : Type 0
 NodeSet = List ℕ
+
+-- the set that an assignment gives a partition
+abbrev pub set_at : List NodeSet → ℕ → NodeSet
+set_at sets p = get_or sets p []
 
 -- a node is in a set
 abbrev pub has_node : ℕ → NodeSet → Bool

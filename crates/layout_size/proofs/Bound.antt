@@ -1,14 +1,15 @@
 -- Where 64 nodes or fewer keep 768 copies, one of them keeps 12.
-use Rattle.std.proofs.Common.{ℕ, ◌+◌, ◌-◌, ◌*◌, ◌/◌, ◌<◌, ◌≤◌, true, false, cond, nat_lt, IsTrue, List, [], ◌∷◌, map, length, get_or, refl, ap, arith, le_refl, ltb-true, leb-true, inl, inr}
+use Rattle.std.proofs.Common.{ℕ, ◌-◌, ◌*◌, ◌/◌, ◌<◌, ◌≤◌, true, false, cond, IsTrue, List, [], ◌∷◌, map, get_or, refl, ap, arith, le_refl, inl, inr}
 use Rattle.std.specs.List.{flat_map, list_all, All, range_with_len, enumerate_from}
 use Rattle.std.proofs.Math.Nat.{mul-le-mul_right, div-mul-le_self}
-use Rattle.std.proofs.lemmas.Bool.{and_parts, cases_lt}
-use Rattle.std.proofs.lemmas.List.Sums.{sum_by-append, sum_by-le, length-filter, count_by-le-length, AllPass-from_list_all}
+use Rattle.std.proofs.lemmas.Bool.{cases_lt}
+use Rattle.std.proofs.lemmas.List.Sums.{sum_by-append, sum_by-le}
 use Rattle.std.proofs.lemmas.List.{length-map}
-use Rattle.std.proofs.lemmas.List.Elements.{All-nil, All-cons, All-head, All-tail, All-append, All-map, All-filter}
+use Rattle.std.proofs.lemmas.List.Elements.{All-nil, All-cons, All-append, All-map, All-filter}
 use Rattle.layout_roles.specs.declared.role.Role.{Role}
-use Rattle.layout_roles.specs.Zones.{nodes_ascend, ascend_from, is_numbered, is_storage, capacity_of, storage_nodes, zones}
+use Rattle.layout_roles.specs.Zones.{nodes_ascend, is_numbered, is_storage, capacity_of, storage_nodes, zones}
 use Rattle.layout_roles.specs.Fits.{partitions, NoneFits}
+use Rattle.layout_flow.proofs.Few.{few_nodes}
 use Rattle.layout_roles.specs.Network.{Edge, edge, zone_edges, partition_edges, node_edge, network_of, network}
 use Rattle.layout_roles.specs.Cuts.{Side, leaves, weight, IsCut}
 use Rattle.layout_roles.specs.declared.vertex.Vertex.TheVariants.{Source, Up, Down, Zone, Node, Sink}
@@ -47,28 +48,6 @@ part_inside roles r p =
     let rest = flat_map (zone_edges r p) (enumerate_from 0 (zones roles)) in
     All-cons IsInside (edge Source (Up p) r) (edge Source (Down p) (3 - r) ∷ rest) (le_refl 0)
     (All-cons IsInside (edge Source (Down p) (3 - r)) rest (le_refl 0) (all_flat IsInside (zone_edges r p) (zone_inside r p) (enumerate_from 0 (zones roles))))
-
--- numbers that ascend leave room for few
-ascend_few : (before : ℕ) (roles : List Role) → before ≤ 64 → IsTrue (ascend_from before roles) → All (λ role. role.node ≤ 64) roles → before + length roles ≤ 64
-ascend_few before [] low ascend numbered = omega arith
-ascend_few before (role ∷ roles) low ascend numbered =
-    let parts = and_parts (nat_lt before role.node) (ascend_from role.node roles) ascend in
-    let less : before < role.node = ltb-true before role.node parts.0 in
-    let more = ascend_few role.node roles (All-head (λ role. role.node ≤ 64) role roles numbered) parts.1 (All-tail (λ role. role.node ≤ 64) role roles numbered) in
-    omega arith
-
-few_roles : (roles : List Role) → IsTrue (nodes_ascend roles) → IsTrue (list_all is_numbered roles) → length roles ≤ 64
-few_roles roles ascend numbered =
-    let each = AllPass-from_list_all is_numbered roles numbered in
-    let few = ascend_few 0 roles (omega arith) ascend (λ k d h. leb-true (get_or roles k d).node 64 (each k d h)) in
-    omega arith
-
-few_nodes : (roles : List Role) → IsTrue (nodes_ascend roles) → IsTrue (list_all is_numbered roles) → length (storage_nodes roles) ≤ 64
-few_nodes roles ascend numbered =
-    let a = length-filter is_storage roles in
-    let b = count_by-le-length is_storage roles in
-    let c = few_roles roles ascend numbered in
-    omega arith
 
 few_copies : (capacity greatest size : ℕ) → capacity ≤ greatest → greatest / 12 < size → capacity / size ≤ 11
 few_copies capacity greatest size below above =

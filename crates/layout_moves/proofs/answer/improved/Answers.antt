@@ -3,9 +3,9 @@ use Rattle.std.specs.Prelude.{ℤ, pos}
 use Rattle.std.specs.List.{list_all}
 use Rattle.layout_roles.specs.declared.role.Role.{Role}
 use Rattle.layout_roles.specs.Zones.{zones}
-use Rattle.layout_roles.specs.Fits.{NodeSet, partitions}
+use Rattle.layout_roles.specs.Fits.{NodeSet, partitions, set_at}
 use Rattle.layout_flow.proofs.Whole.{few_zones}
-use Rattle.layout_moves.specs.Moves.{set_at, moves, bound, potentials}
+use Rattle.layout_moves.specs.Moves.{moves, bound, potentials}
 use Rattle.layout_moves.specs.Prices.{asked, dearest, potential}
 use Rattle.layout_moves.specs.Listing.{listing}
 use Rattle.layout_moves.proofs.Limit.{base_of_fits}

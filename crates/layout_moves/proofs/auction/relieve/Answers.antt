@@ -1,9 +1,8 @@
 use Rattle.std.proofs.Common.{◌≡◌, ◌-◌, ◌<◌, IsTrue, false, nat_eq, [], length, sym, refl, subst, arith}
 use Rattle.std.proofs.lemmas.Option.{get_or_from_slice_get}
 use Rattle.std.specs.List.{IsDistinct}
-use Rattle.layout_roles.specs.Fits.{NodeSet, has_node}
+use Rattle.layout_roles.specs.Fits.{NodeSet, has_node, set_at}
 use Rattle.layout_roles.specs.Zones.{zones}
-use Rattle.layout_moves.specs.Moves.{set_at}
 use Rattle.layout_moves.specs.Prices.{IsSwap}
 use Rattle.layout_moves.proofs.Swaps.{lacks}
 use Rattle.layout_moves.proofs.Steps.{over_at}

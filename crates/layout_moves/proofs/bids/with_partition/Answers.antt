@@ -1,6 +1,5 @@
 use Rattle.std.proofs.Common.{◌≡◌, ◌+◌, ◌-◌, true, sym, refl, ◌∙◌, arith}
-use Rattle.layout_roles.specs.Fits.{has_node}
-use Rattle.layout_moves.specs.Moves.{set_at}
+use Rattle.layout_roles.specs.Fits.{has_node, set_at}
 use Rattle.layout_moves.specs.Prices.{asked, may_take}
 use Rattle.layout_moves.specs.declared.bids.Bid.{Bid}
 use Rattle.layout_moves.proofs.Offering.{made_at, least_at, cheap_has, bid_made}

@@ -1,7 +1,7 @@
 use Rattle.std.proofs.Common.{◌≡◌, ap, ◌∙◌, arith}
 use Rattle.std.specs.List.{sum_by, range_with_len}
-use Rattle.layout_roles.specs.Fits.{partitions}
-use Rattle.layout_moves.specs.Moves.{set_at, new_nodes, moves_of}
+use Rattle.layout_roles.specs.Fits.{partitions, set_at}
+use Rattle.layout_moves.specs.Moves.{new_nodes, moves_of}
 use Rattle.layout_moves.proofs.Adding.{sum_push}
 use Rattle.layout_moves.proofs.count.count_moves.Goals as goal
 

@@ -1,6 +1,7 @@
 use Rattle.std.proofs.Common.{◌≡◌, ◌*◌, ◌≤◌}
 use Rattle.std.specs.List.{sum_by, range_with_len}
-use Rattle.layout_moves.specs.Moves.{set_at, new_nodes}
+use Rattle.layout_roles.specs.Fits.{set_at}
+use Rattle.layout_moves.specs.Moves.{new_nodes}
 use Rattle.layout_moves.proofs.count.count_moves.Given as goal
 
 abbrev pub invariant-loop-p : goal.invariant-loop-p

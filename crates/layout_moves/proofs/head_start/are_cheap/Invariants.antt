@@ -1,5 +1,5 @@
 use Rattle.std.proofs.Common.{ℕ, ◌<◌}
-use Rattle.layout_moves.specs.Moves.{set_at}
+use Rattle.layout_roles.specs.Fits.{set_at}
 use Rattle.layout_moves.specs.Prices.{asked, IsCheap}
 use Rattle.layout_moves.proofs.head_start.are_cheap.Given as goal
 

@@ -1,7 +1,7 @@
 use Rattle.std.proofs.Common.{ℕ, ◌≡◌, ◌<◌, ◌-◌, true, List, length, sym, ◌∙◌, subst}
 use Rattle.std.specs.List.{list_all}
 use Rattle.layout_roles.specs.declared.role.Role.{Role}
-use Rattle.layout_moves.specs.Moves.{set_at}
+use Rattle.layout_roles.specs.Fits.{set_at}
 use Rattle.layout_moves.specs.Prices.{asked, IsCheap}
 use Rattle.layout_moves.specs.Auction.{is_fair}
 use Rattle.layout_moves.proofs.Heading.{priced_from}

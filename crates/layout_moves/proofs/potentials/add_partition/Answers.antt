@@ -9,7 +9,8 @@ use Rattle.layout_roles.specs.declared.role.Role.{Role}
 use Rattle.layout_roles.specs.Zones.{zones}
 use Rattle.layout_roles.specs.declared.vertex.Vertex.{Vertex}
 use Rattle.layout_roles.specs.declared.vertex.Vertex.TheVariants.{Up, Down, Zone}
-use Rattle.layout_moves.specs.Moves.{set_at, Potentials}
+use Rattle.layout_roles.specs.Fits.{set_at}
+use Rattle.layout_moves.specs.Moves.{Potentials}
 use Rattle.layout_moves.specs.Prices.{asked, level, potential}
 use Rattle.layout_moves.specs.Listing.{with_potential}
 use Rattle.layout_moves.proofs.Adding.{zone_entry, all_entries}

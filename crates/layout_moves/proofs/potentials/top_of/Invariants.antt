@@ -1,5 +1,5 @@
 use Rattle.std.proofs.Common.{ℕ, ◌<◌, ◌≤◌, ◌^◌}
-use Rattle.layout_moves.specs.Moves.{set_at}
+use Rattle.layout_roles.specs.Fits.{set_at}
 use Rattle.layout_moves.specs.Prices.{dearest, asked}
 use Rattle.layout_moves.proofs.potentials.top_of.Given as goal
 

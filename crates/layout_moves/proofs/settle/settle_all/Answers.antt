@@ -3,8 +3,7 @@ use Rattle.std.proofs.lemmas.List.{length-set}
 use Rattle.std.proofs.lemmas.List.Sums.{AllPass-from_list_all, list_all-from_AllPass}
 use Rattle.std.proofs.lemmas.Option.{get_or_from_slice_get}
 use Rattle.layout_roles.specs.Zones.{set_ascends}
-use Rattle.layout_roles.specs.Fits.{NodeSet}
-use Rattle.layout_moves.specs.Moves.{set_at}
+use Rattle.layout_roles.specs.Fits.{NodeSet, set_at}
 use Rattle.layout_moves.specs.Prices.{IsBase, IsCheap, asked}
 use Rattle.layout_moves.proofs.Steps.{all_set, all_at}
 use Rattle.layout_moves.proofs.settle.settle_all.Goals as goal

@@ -1,7 +1,7 @@
 use Rattle.std.proofs.Common.{ℕ, ◌≡◌, ◌<◌, IsTrue, length}
 use Rattle.std.specs.List.{All, list_all}
 use Rattle.layout_roles.specs.Zones.{set_ascends}
-use Rattle.layout_moves.specs.Moves.{set_at}
+use Rattle.layout_roles.specs.Fits.{set_at}
 use Rattle.layout_moves.specs.Prices.{IsBase, IsCheap, asked}
 use Rattle.layout_moves.proofs.settle.settle_all.Given as goal
 
