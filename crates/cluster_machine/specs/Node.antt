@@ -1,6 +1,6 @@
 -- A node: what it has, and what it is in the middle of.
-use Rattle.std.specs.Prelude.{ℕ, Bool, true, List, [], Option, None, refl}
-use Rattle.layout_trackers.specs.declared.trackers.Trackers.{Trackers}
+use Rattle.std.specs.Prelude.{ℕ, Bool, true, List, [], Option, None}
+use Rattle.layout_trackers.specs.Trackers.{no_trackers}
 use Rattle.view_model.specs.View.{View}
 use Rattle.quorum_model.specs.Quorum.{StoreSlot}
 use Rattle.quorum_model.specs.declared.range.RangeAnswer.{RangeAnswer}
@@ -111,10 +111,6 @@ pub record Did (R L : Type 0) : Type 0 where
   pub keeps : List R  -- rows that are kept now
   pub reads : List (Reading R)
   pub is_spelled : Bool  -- every row that it sends has a spelling
-
--- trackers without an entry
-abbrev pub no_trackers : Trackers
-no_trackers = record { ack = record { entries = []; ascending = refl }; sync = record { entries = []; ascending = refl }; sync_ack = record { entries = []; ascending = refl } }
 
 module _ {R L : Type 0} where
   -- the node, and nothing else

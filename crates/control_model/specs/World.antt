@@ -1,6 +1,6 @@
 -- The world of the control plane: what is, and what was.
-use Rattle.std.specs.Prelude.{ℕ, Bool, false, cond, ◌==◌, Option, None, List, [], ◌++◌, refl}
-use Rattle.layout_trackers.specs.declared.trackers.Trackers.{Trackers}
+use Rattle.std.specs.Prelude.{ℕ, Bool, false, cond, ◌==◌, Option, None, List, [], ◌++◌}
+use Rattle.layout_trackers.specs.Trackers.{no_trackers}
 use Rattle.view_model.specs.View.{View}
 
 -- a request in flight, and the version that was its coordinator's newest when it began
@@ -45,10 +45,6 @@ pub record Change (L : Type 0) : Type 0 where
   pub begins : List Round
   pub completes : List Round
   pub asked : ℕ
-
--- without an entry
-abbrev pub no_trackers : Trackers
-no_trackers = record { ack = record { entries = []; ascending = refl }; sync = record { entries = []; ascending = refl }; sync_ack = record { entries = []; ascending = refl } }
 
 module _ {L : Type 0} where
   -- the world with what changed

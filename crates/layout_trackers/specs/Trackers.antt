@@ -1,5 +1,5 @@
 -- Three maps from nodes to versions, and how they merge.
-use Rattle.std.specs.Prelude.{ℕ, Bool, leb, nat_eq, Option, Some, option_map}
+use Rattle.std.specs.Prelude.{ℕ, Bool, leb, nat_eq, Option, Some, option_map, [], refl}
 use Rattle.std.specs.Option.{unwrap_or}
 use Rattle.std.specs.List.{list_any}
 use Rattle.std.specs.Ordering.{nat_cmp}
@@ -13,6 +13,10 @@ use Rattle.layout_trackers.specs.declared.which.Which.TheVariants.{Ack, Sync, Sy
 -- a map from nodes to versions
 abbrev pub Tracker : Type 0
 Tracker = MapOf nat_cmp nat_eq (λ x y. Some (nat_cmp x y)) (Max ℕ)
+
+-- trackers without an entry
+abbrev pub no_trackers : Trackers
+no_trackers = record { ack = record { entries = []; ascending = refl }; sync = record { entries = []; ascending = refl }; sync_ack = record { entries = []; ascending = refl } }
 
 -- node by node, the greater version
 abbrev pub tracker_join : Tracker → Tracker → Tracker

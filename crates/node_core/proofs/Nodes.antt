@@ -13,7 +13,7 @@ use Rattle.crdt_core.specs.MapLaws.{map_get-decides}
 use Rattle.layout_trackers.specs.declared.trackers.Trackers.{Trackers}
 use Rattle.layout_trackers.specs.declared.which.Which.{Which}
 use Rattle.layout_trackers.specs.declared.which.Which.TheVariants.{Ack, Sync, SyncAck}
-use Rattle.layout_trackers.specs.Trackers.{Tracker, entry}
+use Rattle.layout_trackers.specs.Trackers.{Tracker, entry, no_trackers}
 use Rattle.view_model.specs.Layouts.{reading}
 use Rattle.view_model.specs.View.{View, newest, layout_at, is_gapless, merged, cleaned}
 use Rattle.view_model.proofs.ReadVersions.{merged_grew}
@@ -22,7 +22,7 @@ use Rattle.view_model.proofs.Gapless.{none_at_0, lt_leb}
 use Rattle.table_schema.specs.Words.{Words}
 use Rattle.quorum_model.specs.Quorum.{is_among}
 use Rattle.cluster_machine.specs.Layouts.{members_in, is_member, layouts}
-use Rattle.cluster_machine.specs.Node.{no_trackers, quiet, Item as Waiting, Node as Model, Call as Opened, Round as Moved}
+use Rattle.cluster_machine.specs.Node.{quiet, Item as Waiting, Node as Model, Call as Opened, Round as Moved}
 use Rattle.node_parts.specs.declared.contents.Contents.{Contents}
 use Rattle.node_parts.specs.Contents.{IsContents, IsItem, Became}
 use Rattle.block_resync.specs.declared.item.Item.{Item}

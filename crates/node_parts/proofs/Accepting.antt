@@ -31,7 +31,7 @@ left_all : {A : Type 0} (P : A → Type 0) (xs ys : List A) → AllByRecursion P
 left_all P [] ys h = tt
 left_all P (x ∷ xs) ys h = (h.0, left_all P xs ys h.1)
 
-right_all : {A : Type 0} (P : A → Type 0) (xs ys : List A) → AllByRecursion P (xs ++ ys) → AllByRecursion P ys
+pub right_all : {A : Type 0} (P : A → Type 0) (xs ys : List A) → AllByRecursion P (xs ++ ys) → AllByRecursion P ys
 right_all P [] ys h = h
 right_all P (x ∷ xs) ys h = right_all P xs ys h.1
 

@@ -37,6 +37,7 @@ use Rattle.world_core.specs.declared.nodes.Nodes.{Nodes}
 use Rattle.world_core.specs.declared.world.World.{World}
 use Rattle.world_core.specs.Nodes.{newest_of, newest_in, IsNodeAt, AreNodes, BecomesAt, StayThere, KnowNone, IsPrepared, given_to, with_node}
 use Rattle.world_core.specs.Stands.{StandsFor}
+use Rattle.node_parts.proofs.Accepting.{right_all}
 use Rattle.world_core.proofs.NodesAt.{stands_at}
 use Rattle.world_core.proofs.Stocked.{first_stocked}
 use Rattle.world_core.proofs.WorldsStand.{stands_of, same_post, same_clocks, same_requests, same_few}
@@ -47,10 +48,6 @@ nat_eq_flips m n =
       | true ↦ λ e. sym (eq-eqb n m (sym (eqb-true m n e)))
       | false ↦ λ e. sym (ne_eqb n m (λ is. let same = eq-eqb m n (sym is) in cc))
     ] refl
-
-all_behind : {A : Type 0} (P : A → Type 0) (xs ys : List A) → AllByRecursion P (xs ++ ys) → AllByRecursion P ys
-all_behind P [] ys h = h
-all_behind P (x ∷ xs) ys h = all_behind P xs ys h.1
 
 at_middle : (m : ℕ) (done : List ℕ) (n : ℕ) (rest : List ℕ) → AllByRecursion (λ k. nat_eq m k ≡ false) (done ++ n ∷ rest) → (m == n) ≡ false
 at_middle m [] n rest h = h.0
@@ -150,7 +147,7 @@ module _ {S R : Type 0} (join : R → R → R) (s : Words R) where
   shown_more first old new done one rest all l split are once before given becomes xs nodes =
       let whole : done ++ one ∷ rest ≡ all = sym (append_assoc done (one ∷ []) rest) ∙ split in
       let free : is_among one.node (names done) ≡ false = next_is_free (names done) one.node (names rest) (subst (IsDistinct nat_eq) (ap names (sym whole) ∙ map-append (λ (p : Prepared). p.node) done (one ∷ rest)) once) in
-      let is : IsPrepared first l one = (all_behind (IsPrepared first l) done (one ∷ rest) (subst (AllByRecursion (IsPrepared first l)) (sym whole) are)).0 in
+      let is : IsPrepared first l one = (right_all (IsPrepared first l) done (one ∷ rest) (subst (AllByRecursion (IsPrepared first l)) (sym whole) are)).0 in
       let here : IsPrepared old l one = record { node = is.node; there = is.there ∙ sym (before one.node free); none = is.none; view = is.view } in
       subst (λ ns. AreNodes join s new (given_to ns l xs)) (sym (map-append (λ (p : Prepared). p.node) done (one ∷ [])))
       (one_more join s old new l l (names done) one.node xs free refl (becomes here) (given xs nodes))

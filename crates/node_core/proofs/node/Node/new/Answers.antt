@@ -1,6 +1,6 @@
 use Rattle.std.proofs.Common.{refl, []}
 use Rattle.layout_history.proofs.Views.{same_view}
-use Rattle.cluster_machine.specs.Node.{no_trackers}
+use Rattle.layout_trackers.specs.Trackers.{no_trackers}
 use Rattle.node_core.proofs.Nodes.{no_entries}
 use Rattle.node_core.proofs.node.Node.new.Goals as goal
 

@@ -2,7 +2,8 @@ use Rattle.std.proofs.Common.{sym, ap, ◌∙◌, []}
 use Rattle.layout_roles.specs.declared.layout.Layout.{Layout}
 use Rattle.layout_history.specs.Views.{known}
 use Rattle.layout_history.proofs.Views.{same_view}
-use Rattle.cluster_machine.specs.Node.{Node as Model, shows, no_trackers}
+use Rattle.layout_trackers.specs.Trackers.{no_trackers}
+use Rattle.cluster_machine.specs.Node.{Node as Model, shows}
 use Rattle.node_core.proofs.Nodes.{no_entries}
 use Rattle.world_core.proofs.NodesAt.{stands_at, is_new}
 use Rattle.world_core.proofs.nodes.Nodes.shown.Goals as goal
