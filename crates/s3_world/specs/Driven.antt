@@ -4,26 +4,22 @@ use Rattle.std.specs.List.{AllByRecursion}
 use Rattle.crdt_rows.specs.declared.any_row.AnyRow.{AnyRow}
 use Rattle.crdt_rows.specs.AnyRow.{any_join}
 use Rattle.object_schema.specs.Schema.{words}
-use Rattle.cluster_machine.specs.Ties as ties
 use Rattle.cluster_machine.specs.declared.step.Step.{Step}
 use Rattle.cluster_machine.specs.declared.step.Step.TheVariants as step
 use Rattle.cluster_machine.specs.declared.step.Words.TheVariants.{Empty}
 use Rattle.cluster_machine.specs.World.{is_member_at}
 use Rattle.cluster_machine.specs.Layouts.{layouts}
-use Rattle.cluster_machine.specs.Choices.{Decision}
-use Rattle.cluster_machine.specs.Worlds.{IsLawfulStep, FitAll}
 use Rattle.history_model.specs.declared.record.Kind.{Kind}
 use Rattle.flow_model.specs.declared.flow.Flow.{Flow}
 use Rattle.flow_model.specs.declared.flow.FlowEnd.{FlowEnd}
 use Rattle.store_model.specs.declared.event.Told.{Told}
 use Rattle.store_model.specs.Answers.{record_of, line_of}
 use Rattle.store_model.specs.Run.{State, Asked as Waiting, Outcome}
-use Rattle.store_model.specs.Acts.{plain}
-use Rattle.store_model.specs.Turns.{FitsOutcome}
 use Rattle.world_core.specs.declared.report.Report.{Report}
 use Rattle.world_core.specs.Stands.{StandsFor, Steps}
 use Rattle.s3_world.specs.declared.asked.Asked.{Asked}
 use Rattle.s3_world.specs.declared.driver.Driver.{Driver}
+use Rattle.s3_world.specs.Doing as doing
 
 -- what the code keeps of a request
 abbrev pub kept : Waiting → Asked
@@ -42,18 +38,6 @@ IsSized (Some f) = 0 < f.block
 abbrev pub IsReady : ℕ → ℕ → State → Type 0
 IsReady n size s = (is_member_at layouts s.world n ≡ true) × (s.block ≡ size)
 
--- the code tells what the model tells
-pub record Tells (told : Told) (o : Outcome) : Type 0 where
-  pub refused : told.refused ≡ o.refused
-  pub words : told.words ≡ o.words
-  pub lines : told.lines ≡ o.lines
-
--- with something lawful given there is no room after the step
-pub record LacksRoom (s : State) (st : Step AnyRow) : Type 0 where
-  pub choice : Decision
-  pub lawful : IsLawfulStep s.world st choice
-  pub lacks : FitsOutcome s (plain s (record { step = st; choice = choice })) → ⊥
-
 module _ {F : Type 0} where
   -- the driver's world, requests, ends and history are those of this state
   pub record IsDriven (d : Driver F) (s : State) : Type 0 where
@@ -68,44 +52,36 @@ module _ {F : Type 0} where
   HasRun d = (s : State) × IsDriven d s
 
   -- the driver stands for the state after this outcome, and tells it; after each of its steps every number fits
-  pub record Does (new : Driver F) (told : Told) (s : State) (o : Outcome) : Type 0 where
-    pub stands : IsDriven new o.state
-    pub tells : Tells told o
-    pub fits : FitAll any_join words s.world o.moves
+  abbrev pub Does : Driver F → Told → State → Outcome → Type 0
+  Does = doing.Does IsDriven
 
   -- from old to new the driver did what this outcome says, whatever state old stood for, and tells it
   abbrev pub Plays : Driver F → Driver F → Told → (State → Outcome) → Type 0
-  Plays old new told f = ties.Steps IsDriven old (λ s. Does new told s (f s))
+  Plays = doing.Plays IsDriven
 
   -- the same of an outcome without steps of the world
   abbrev pub Becomes : Driver F → Driver F → (State → Outcome) → Type 0
-  Becomes old new f = ties.Steps IsDriven old (λ s. IsDriven new (f s).state)
+  Becomes = doing.Becomes IsDriven
 
   -- the same as Plays, of the states with a property
   abbrev pub PlaysIf : (State → Type 0) → Driver F → Driver F → Told → (State → Outcome) → Type 0
-  PlaysIf Has old new told f = (s : State) → IsDriven old s → Has s → Does new told s (f s)
+  PlaysIf = doing.PlaysIf IsDriven
 
   -- some number or row after this outcome would not fit
   abbrev pub Overflows : Driver F → (State → Outcome) → Type 0
-  Overflows old f = ties.Overflows IsDriven old (λ s. FitsOutcome s (f s))
+  Overflows = doing.Overflows IsDriven
 
   -- the same, of the states with a property
   abbrev pub OverflowsIf : (State → Type 0) → Driver F → (State → Outcome) → Type 0
-  OverflowsIf Has old f = (s : State) → IsDriven old s → Has s → FitsOutcome s (f s) → ⊥
+  OverflowsIf = doing.OverflowsIf IsDriven
 
-  -- the driver did this step of the world, which was given something lawful
-  pub record DoesStep (new : Driver F) (told : Told) (s : State) (st : Step AnyRow) : Type 0 where
-    pub choice : Decision
-    pub lawful : IsLawfulStep s.world st choice
-    pub does : Does new told s (plain s (record { step = st; choice = choice }))
-
-  -- whatever state it stood for, it did this step
+  -- whatever state it stood for, it did this step, which was given something lawful
   abbrev pub PlaysStep : Driver F → Driver F → Told → Step AnyRow → Type 0
-  PlaysStep old new told st = ties.Steps IsDriven old (λ s. DoesStep new told s st)
+  PlaysStep = doing.PlaysStep IsDriven
 
   -- whatever state it stood for, this step would not fit
   abbrev pub OverflowsStep : Driver F → Step AnyRow → Type 0
-  OverflowsStep old st = ties.Steps IsDriven old (λ s. LacksRoom s st)
+  OverflowsStep = doing.OverflowsStep IsDriven
 
   -- request q was closed in the world, its end and its record stand last, and its line is told
   pub record Finishes (old new : Driver F) (told : Told) (q : ℕ) (kind : Kind) (end : FlowEnd) : Type 0 where

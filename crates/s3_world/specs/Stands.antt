@@ -11,20 +11,21 @@ use Rattle.layout_roles.specs.declared.cut.Cut.{Cut}
 use Rattle.cluster_machine.specs.declared.step.Refusal.{Refusal}
 use Rattle.cluster_machine.specs.declared.step.Words.TheVariants.{One}
 use Rattle.cluster_machine.specs.Choices.{Decision}
-use Rattle.cluster_machine.specs.Worlds.{IsMeant, IsLawfulStep, FitAll}
+use Rattle.cluster_machine.specs.Worlds.{IsMeant, FitAll}
 use Rattle.flow_model.specs.declared.order.Order.{Order}
 use Rattle.store_model.specs.declared.event.Event.{Event}
 use Rattle.store_model.specs.declared.event.Event.TheVariants.{Block, Role, Redundancy, Put, Delete, Copy}
 use Rattle.store_model.specs.declared.event.Told.{Told}
 use Rattle.store_model.specs.Run.{State, Outcome}
-use Rattle.store_model.specs.Acts.{plain, asks, acted, IsLawfulAct}
+use Rattle.store_model.specs.Acts.{asks, acted, IsLawfulAct}
 use Rattle.store_model.specs.Events.{act_of, outcome}
 use Rattle.store_model.specs.Turns.{FitsOutcome}
 use Rattle.world_core.specs.Stands.{StandsFor}
 use Rattle.s3_world.specs.declared.asked.Asked.{Asked}
 use Rattle.s3_world.specs.declared.world.S3World.{S3World}
-use Rattle.s3_world.specs.Driven.{kept, IsSized, LacksRoom}
-pub use Rattle.s3_world.specs.Driven.{Tells}
+use Rattle.s3_world.specs.Driven.{kept, IsSized}
+use Rattle.s3_world.specs.Doing as doing
+pub use Rattle.s3_world.specs.Doing.{Tells}
 
 -- the code's store is this state of the model: its driver is, and its buckets and size of blocks are the state's
 pub record IsStore (c : S3World) (s : State) : Type 0 where
@@ -58,22 +59,40 @@ IsQuiet (step.Restart n) = ⊥
 IsQuiet _ = ⊤
 
 -- the store stands for the state after this outcome, and tells it; after each of its steps every number fits
-pub record Does (new : S3World) (told : Told) (s : State) (o : Outcome) : Type 0 where
-  pub stands : IsStore new o.state
-  pub tells : Tells told o
-  pub fits : FitAll any_join words s.world o.moves
+abbrev pub Does : S3World → Told → State → Outcome → Type 0
+Does = doing.Does IsStore
 
--- from old to new the code did what this outcome says, whatever state old stood for, and tells it
+-- from old to new the store did what this outcome says, whatever state old stood for, and tells it
 abbrev pub Plays : S3World → S3World → Told → (State → Outcome) → Type 0
-Plays old new told f = ties.Steps IsStore old (λ s. Does new told s (f s))
-
--- from old to new the code did what this outcome says, whatever state old stood for, and tells nothing
-abbrev pub Carries : S3World → S3World → (State → Outcome) → Type 0
-Carries old new f = ties.Steps IsStore old (λ s. IsStore new (f s).state × FitAll any_join words s.world (f s).moves)
+Plays = doing.Plays IsStore
 
 -- the same of an outcome without steps of the world
 abbrev pub Becomes : S3World → S3World → (State → Outcome) → Type 0
-Becomes old new f = ties.Steps IsStore old (λ s. IsStore new (f s).state)
+Becomes = doing.Becomes IsStore
+
+-- the same as Plays, of the states with a property
+abbrev pub PlaysIf : (State → Type 0) → S3World → S3World → Told → (State → Outcome) → Type 0
+PlaysIf = doing.PlaysIf IsStore
+
+-- some number or row after this outcome would not fit
+abbrev pub Overflows : S3World → (State → Outcome) → Type 0
+Overflows = doing.Overflows IsStore
+
+-- the same, of the states with a property
+abbrev pub OverflowsIf : (State → Type 0) → S3World → (State → Outcome) → Type 0
+OverflowsIf = doing.OverflowsIf IsStore
+
+-- whatever state it stood for, it did this step, which was given something lawful
+abbrev pub PlaysStep : S3World → S3World → Told → Step AnyRow → Type 0
+PlaysStep = doing.PlaysStep IsStore
+
+-- whatever state it stood for, this step would not fit
+abbrev pub OverflowsStep : S3World → Step AnyRow → Type 0
+OverflowsStep = doing.OverflowsStep IsStore
+
+-- from old to new the store did what this outcome says, whatever state old stood for, and tells nothing
+abbrev pub Carries : S3World → S3World → (State → Outcome) → Type 0
+Carries old new f = ties.Steps IsStore old (λ s. IsStore new (f s).state × FitAll any_join words s.world (f s).moves)
 
 -- an outcome opened a request with this number, or was refused so
 abbrev pub Answers : Result ℕ (Refusal Cut) → Outcome → Type 0
@@ -83,32 +102,6 @@ Answers (Err reason) o = o.refused ≡ Some reason
 -- a request was begun at a node, or refused, whatever state old stood for
 abbrev pub Starts : S3World → S3World → Result ℕ (Refusal Cut) → ℕ → Order → Type 0
 Starts old new answer node order = ties.Steps IsStore old (λ s. let o = acted s (asks node order) in IsStore new o.state × FitAll any_join words s.world o.moves × Answers answer o)
-
--- the same as Plays, of the states with a property
-abbrev pub PlaysIf : (State → Type 0) → S3World → S3World → Told → (State → Outcome) → Type 0
-PlaysIf Has old new told f = (s : State) → IsStore old s → Has s → Does new told s (f s)
-
--- some number or row after this outcome would not fit
-abbrev pub Overflows : S3World → (State → Outcome) → Type 0
-Overflows old f = ties.Overflows IsStore old (λ s. FitsOutcome s (f s))
-
--- the same, of the states with a property
-abbrev pub OverflowsIf : (State → Type 0) → S3World → (State → Outcome) → Type 0
-OverflowsIf Has old f = (s : State) → IsStore old s → Has s → FitsOutcome s (f s) → ⊥
-
--- the code did this step of the world, which was given something lawful
-pub record DoesStep (new : S3World) (told : Told) (s : State) (st : Step AnyRow) : Type 0 where
-  pub choice : Decision
-  pub lawful : IsLawfulStep s.world st choice
-  pub does : Does new told s (plain s (record { step = st; choice = choice }))
-
--- whatever state it stood for, it did this step
-abbrev pub PlaysStep : S3World → S3World → Told → Step AnyRow → Type 0
-PlaysStep old new told st = ties.Steps IsStore old (λ s. DoesStep new told s st)
-
--- whatever state it stood for, this step would not fit
-abbrev pub OverflowsStep : S3World → Step AnyRow → Type 0
-OverflowsStep old st = ties.Steps IsStore old (λ s. LacksRoom s st)
 
 -- the code did this event, which was given something lawful
 pub record DoesEvent (new : S3World) (told : Told) (s : State) (event : Event) : Type 0 where
