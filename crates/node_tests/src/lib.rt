@@ -1,5 +1,7 @@
-//! Tests of nodes over the rows of the object store. It has no code of its own.
+//! Tests of nodes and of the world, over the rows of the object store. It has no code of its own.
 #![tactic(auto)]
 
 #[cfg(test)]
 mod tests;
+#[cfg(test)]
+mod times;

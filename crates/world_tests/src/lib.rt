@@ -1,5 +1,0 @@
-//! Tests of the world, over the rows of the object store. It has no code of its own.
-#![tactic(auto)]
-
-#[cfg(test)]
-mod times;
