@@ -56,10 +56,11 @@ fn served<L: Link, C: Clock>(
     promises_are_kept();
     a_first_layout_holds_the_empty_map();
     connections_are_served_as_from_the_map();
-    let world = installed(alloc, plan)?;
     let members = nodes(alloc, plan.config.roles.list.as_slice())?;
     let buckets = in_order(&plan.config.buckets)?;
-    let mut cluster = Cluster::new(world, members.copy()?);
+    let copied = members.copy()?;
+    let world = installed(alloc, plan)?;
+    let mut cluster = Cluster::new(world, copied);
     let mut counts = Served { kept: 0, time: 0 };
     let count = serve(
         alloc,

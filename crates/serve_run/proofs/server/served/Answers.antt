@@ -15,7 +15,7 @@ pub returns-in_err-count-clause-how : goal.returns-in_err-count-clause-how
 returns-in_err-count-clause-how g c = λ g'.
     let p = c.args.plan.now in
     let members = members_are p c.as_slice.result.now c.in_ok-members.members c.as_slice.ensures c.in_ok-members.ensures.nodes in
-    let b = begins_as p c.in_ok-world.world c.new-cluster.result c.in_ok-copy.field-0 c.in_ok-world.ensures.opened (c.in_ok-copy.ensures.same ∙ members) c.new-cluster.ensures in
+    let b = begins_as p c.in_ok-world.world c.new-cluster.result c.in_ok-copied.copied c.in_ok-world.ensures.opened (c.in_ok-copied.ensures.same ∙ members) c.new-cluster.ensures in
     how_stopped c.promises_are_kept.ensures c.a_first_layout_holds_the_empty_map.ensures c.connections_are_served_as_from_the_map.ensures.served g' p c.requires.plan.sized (StandsFor c.new-cluster.result) b c.in_ok-buckets.buckets c.in_ok-buckets.ensures.in_order (StandsFor c.serve.new.store) c.serve.new.served
     (g.C.Clock.times c.args.clock.now) (g.C.Clock.times c.serve.new.clock) (g.L.Link.coming c.args.link.now) (g.L.Link.coming c.serve.new.link) (g.L.Link.past c.args.link.now) (g.L.Link.past c.serve.new.link)
     c.connections_are_served_as_from_the_map.ensures.ended c.args.asked.count c.from_residual-in_err-count.result c.in_err-count.field-0.0 c.from_residual-in_err-count.ensures.1 c.in_err-count.ensures.goes (c.in_err-count.ensures.served g')
@@ -24,7 +24,7 @@ pub returns-in_err-text-clause-how : goal.returns-in_err-text-clause-how
 returns-in_err-text-clause-how g c = λ g'.
     let p = c.args.plan.now in
     let members = members_are p c.as_slice.result.now c.in_ok-members.members c.as_slice.ensures c.in_ok-members.ensures.nodes in
-    let b = begins_as p c.in_ok-world.world c.new-cluster.result c.in_ok-copy.field-0 c.in_ok-world.ensures.opened (c.in_ok-copy.ensures.same ∙ members) c.new-cluster.ensures in
+    let b = begins_as p c.in_ok-world.world c.new-cluster.result c.in_ok-copied.copied c.in_ok-world.ensures.opened (c.in_ok-copied.ensures.same ∙ members) c.new-cluster.ensures in
     let times = g.C.Clock.times c.args.clock.now in
     let times' = g.C.Clock.times c.serve.new.clock in
     let coming = g.L.Link.coming c.args.link.now in
@@ -42,7 +42,7 @@ pub returns-clause-how : goal.returns-clause-how
 returns-clause-how g c = λ g'.
     let p = c.args.plan.now in
     let members = members_are p c.as_slice.result.now c.in_ok-members.members c.as_slice.ensures c.in_ok-members.ensures.nodes in
-    let b = begins_as p c.in_ok-world.world c.new-cluster.result c.in_ok-copy.field-0 c.in_ok-world.ensures.opened (c.in_ok-copy.ensures.same ∙ members) c.new-cluster.ensures in
+    let b = begins_as p c.in_ok-world.world c.new-cluster.result c.in_ok-copied.copied c.in_ok-world.ensures.opened (c.in_ok-copied.ensures.same ∙ members) c.new-cluster.ensures in
     let l =
     left c.promises_are_kept.ensures c.a_first_layout_holds_the_empty_map.ensures c.connections_are_served_as_from_the_map.ensures.served g' p c.requires.plan.sized (StandsFor c.new-cluster.result) b c.in_ok-buckets.buckets c.in_ok-buckets.ensures.in_order (StandsFor c.serve.new.store) c.serve.new.served
     (g.C.Clock.times c.args.clock.now) (g.C.Clock.times c.serve.new.clock) (g.L.Link.coming c.args.link.now) (g.L.Link.coming c.serve.new.link) (g.L.Link.past c.args.link.now) (g.L.Link.past c.serve.new.link)
@@ -59,19 +59,19 @@ returns-clause-how g c = λ g'.
 pub returns-in_err-world-clause-how : goal.returns-in_err-world-clause-how
 returns-in_err-world-clause-how g c = λ g'.
     let t = told (g.C.Clock.times c.args.clock.now) (g.C.Clock.times c.args.clock.now) (g.L.Link.coming c.args.link.now) (g.L.Link.coming c.args.link.now) (g.L.Link.past c.args.link.now) (g.L.Link.past c.args.link.now) in
-    first_stops g' c.args.plan.now t refl c.args.asked.count c.from_residual.result c.in_err-world.field-0.0 c.from_residual.ensures.1 c.in_err-world.ensures.want
+    first_stops g' c.args.plan.now t refl c.args.asked.count c.from_residual-in_err-world.result c.in_err-world.field-0.0 c.from_residual-in_err-world.ensures.1 c.in_err-world.ensures.want
 
 pub returns-in_err-members-clause-how : goal.returns-in_err-members-clause-how
 returns-in_err-members-clause-how g c = λ g'.
     let t = told (g.C.Clock.times c.args.clock.now) (g.C.Clock.times c.args.clock.now) (g.L.Link.coming c.args.link.now) (g.L.Link.coming c.args.link.now) (g.L.Link.past c.args.link.now) (g.L.Link.past c.args.link.now) in
-    first_stops g' c.args.plan.now t refl c.args.asked.count c.from_residual-in_err-members.result c.in_err-members.field-0.0 c.from_residual-in_err-members.ensures.1 c.in_err-members.ensures.want
+    first_stops g' c.args.plan.now t refl c.args.asked.count c.from_residual.result c.in_err-members.field-0.0 c.from_residual.ensures.1 c.in_err-members.ensures.want
 
 pub returns-in_err-buckets-clause-how : goal.returns-in_err-buckets-clause-how
 returns-in_err-buckets-clause-how g c = λ g'.
     let t = told (g.C.Clock.times c.args.clock.now) (g.C.Clock.times c.args.clock.now) (g.L.Link.coming c.args.link.now) (g.L.Link.coming c.args.link.now) (g.L.Link.past c.args.link.now) (g.L.Link.past c.args.link.now) in
     first_stops g' c.args.plan.now t refl c.args.asked.count c.from_residual-in_err-buckets.result c.in_err-buckets.field-0.0 c.from_residual-in_err-buckets.ensures.1 c.in_err-buckets.ensures.want
 
-pub returns-in_err-copy-clause-how : goal.returns-in_err-copy-clause-how
-returns-in_err-copy-clause-how g c = λ g'.
+pub returns-in_err-copied-clause-how : goal.returns-in_err-copied-clause-how
+returns-in_err-copied-clause-how g c = λ g'.
     let t = told (g.C.Clock.times c.args.clock.now) (g.C.Clock.times c.args.clock.now) (g.L.Link.coming c.args.link.now) (g.L.Link.coming c.args.link.now) (g.L.Link.past c.args.link.now) (g.L.Link.past c.args.link.now) in
-    first_stops g' c.args.plan.now t refl c.args.asked.count c.from_residual-in_err-copy.result c.in_err-copy.field-0.0 c.from_residual-in_err-copy.ensures.1 c.in_err-copy.ensures.want
+    first_stops g' c.args.plan.now t refl c.args.asked.count c.from_residual-in_err-copied.result c.in_err-copied.field-0.0 c.from_residual-in_err-copied.ensures.1 c.in_err-copied.ensures.want
