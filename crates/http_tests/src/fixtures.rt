@@ -1,7 +1,7 @@
 //! Connections that come in pieces, and heads as text.
 ghost use Rattle.std.specs.Prelude.{◌<◌, IfOk, IsSome};
 
-use http_wire::{Head, HeadEnd};
+use http_wire::{Head, HeadEnd, Kept, read_body, read_head};
 use lab_outside::{Failed, Link, PieceLink};
 use std::alloc::{AllocError, Global};
 use std::test::Fail;
@@ -64,4 +64,56 @@ pub fn text(alloc: Global, answer: &Result<Head, HeadEnd>) -> Result<Vec<u8>, Al
         Err(end) => text.extend_from_slice(word(*end))?,
     }
     Ok(text)
+}
+
+/// Whether the next head, as text, is this.
+pub fn next_head<L: Link>(
+    alloc: Global,
+    link: &mut L,
+    kept: &mut Kept,
+    said: &[u8],
+) -> Result<bool, AllocError>
+    requires { IsSome (L.present link.old) }
+    ensures present { IsSome (L.present link.new) }
+{
+    let head = text(alloc, &read_head(alloc, link, kept))?;
+    Ok(head.as_slice() == said)
+}
+
+/// Whether the body of so many bytes is these.
+pub fn next_body<L: Link>(alloc: Global, link: &mut L, kept: &mut Kept, bytes: &[u8]) -> bool
+    requires { IsSome (L.present link.old) }
+    ensures present { IsSome (L.present link.new) }
+{
+    let body = read_body(alloc, link, kept, bytes.len() as u64);
+    body.is_ok_and(|body| body.as_slice() == bytes)
+}
+
+/// Whether the next head, as text, is this: where a read fails, at the second try.
+pub fn head_at_last<L: Link>(
+    alloc: Global,
+    link: &mut L,
+    kept: &mut Kept,
+    said: &[u8],
+) -> Result<bool, AllocError>
+    requires { IsSome (L.present link.old) }
+    ensures present { IsSome (L.present link.new) }
+{
+    let mut head = text(alloc, &read_head(alloc, link, kept))?;
+    if head.as_slice() == b"failed".as_slice() {
+        head = text(alloc, &read_head(alloc, link, kept))?;
+    }
+    Ok(head.as_slice() == said)
+}
+
+/// Whether the body of so many bytes is these: where a read fails, at the second try.
+pub fn body_at_last<L: Link>(alloc: Global, link: &mut L, kept: &mut Kept, bytes: &[u8]) -> bool
+    requires { IsSome (L.present link.old) }
+    ensures present { IsSome (L.present link.new) }
+{
+    let mut body = read_body(alloc, link, kept, bytes.len() as u64);
+    if body.is_err() {
+        body = read_body(alloc, link, kept, bytes.len() as u64);
+    }
+    body.is_ok_and(|body| body.as_slice() == bytes)
 }

@@ -1,6 +1,8 @@
 //! Heads, in pieces of any size, at the limits, and after reads that fail.
-use crate::fixtures::{connection, text};
-use http_wire::{Kept, read_body, read_head};
+ghost use Rattle.std.specs.Prelude.{◌<◌};
+
+use crate::fixtures::{body_at_last, connection, head_at_last, next_body, next_head, text};
+use http_wire::{Kept, read_head};
 use std::alloc::{AllocError, Global};
 use std::test::Fail;
 
@@ -34,6 +36,19 @@ const CLIENTS: [(&[u8], &[u8]); 3] = [
     ),
 ];
 
+// Whether bytes in such pieces are a head that says this, the body `abc`, one more head, and the end.
+fn in_pieces(alloc: Global, bytes: &[u8], size: usize, said: &[u8]) -> Result<[bool; 4], Fail>
+    requires { 0 < size }
+{
+    let mut link = connection(alloc, bytes, size, &[])?;
+    let mut kept = Kept::new(alloc);
+    let head = next_head(alloc, &mut link, &mut kept, said)?;
+    let body = next_body(alloc, &mut link, &mut kept, b"abc");
+    let next = next_head(alloc, &mut link, &mut kept, b"GET /next 1")?;
+    let last = next_head(alloc, &mut link, &mut kept, b"closed")?;
+    Ok([head, body, next, last])
+}
+
 #[test]
 fn pieces_of_each_size(rt: HostRuntime) -> Result<(), Fail> {
     let alloc = rt.alloc();
@@ -41,25 +56,9 @@ fn pieces_of_each_size(rt: HostRuntime) -> Result<(), Fail> {
         let mut both = bytes.to_vec(alloc)?;
         both.extend_from_slice(b"abcGET /next HTTP/1.1\r\n\r\n")?;
         for size in 1..=both.len() {
-            let mut link = connection(alloc, &both, size, &[])?;
-            let mut kept = Kept::new(alloc);
-            let head = text(alloc, &read_head(alloc, &mut link, &mut kept))?;
-            assert_eq!(rt; head.as_slice(), said, "in pieces of {size}");
-            let body = read_body(alloc, &mut link, &mut kept, 3);
-            assert!(&rt;
-                body.is_ok_and(|body| body.as_slice() == b"abc".as_slice()),
-                "in pieces of {size}"
-            );
-            let next = text(alloc, &read_head(alloc, &mut link, &mut kept))?;
             assert_eq!(rt;
-                next.as_slice(),
-                b"GET /next 1".as_slice(),
-                "in pieces of {size}"
-            );
-            let last = text(alloc, &read_head(alloc, &mut link, &mut kept))?;
-            assert_eq!(rt;
-                last.as_slice(),
-                b"closed".as_slice(),
+                in_pieces(alloc, &both, size, said)?,
+                [true; 4],
                 "in pieces of {size}"
             );
         }
@@ -83,15 +82,19 @@ const LINES: [(&[u8], &[u8], &[u8]); 12] = [
     (b"GET / HTTP/1.1\r\n\r\n\r\n", b"GET / 1", b"\r\n"),
 ];
 
+// Whether the first head of these bytes says this, and whether this follows it.
+fn first_head(alloc: Global, bytes: &[u8], said: &[u8], rest: &[u8]) -> Result<[bool; 2], Fail> {
+    let mut link = connection(alloc, bytes, 100, &[])?;
+    let mut kept = Kept::new(alloc);
+    let says = next_head(alloc, &mut link, &mut kept, said)?;
+    Ok([says, kept.bytes.as_slice() == rest])
+}
+
 #[test]
 fn ends_of_lines(rt: HostRuntime) -> Result<(), Fail> {
     let alloc = rt.alloc();
     for (bytes, said, rest) in LINES {
-        let mut link = connection(alloc, bytes, 100, &[])?;
-        let mut kept = Kept::new(alloc);
-        let head = text(alloc, &read_head(alloc, &mut link, &mut kept))?;
-        assert_eq!(rt; head.as_slice(), said);
-        assert_eq!(rt; kept.bytes.as_slice(), rest);
+        assert_eq!(rt; first_head(alloc, bytes, said, rest)?, [true; 2]);
     }
     Ok(())
 }
@@ -105,6 +108,16 @@ fn long_head(alloc: Global, size: usize) -> Result<Vec<u8>, AllocError> {
     Ok(bytes)
 }
 
+// Whether a head in such pieces is read, and whether it is too long.
+fn is_read(alloc: Global, bytes: &[u8], piece: usize) -> Result<[bool; 2], Fail>
+    requires { 0 < piece }
+{
+    let mut link = connection(alloc, bytes, piece, &[])?;
+    let head = read_head(alloc, &mut link, &mut Kept::new(alloc));
+    let said = text(alloc, &head)?;
+    Ok([head.is_ok(), said.as_slice() == b"too long".as_slice()])
+}
+
 #[test]
 fn as_long_as_a_head_may_be(rt: HostRuntime) -> Result<(), Fail> {
     let alloc = rt.alloc();
@@ -112,13 +125,11 @@ fn as_long_as_a_head_may_be(rt: HostRuntime) -> Result<(), Fail> {
         for piece in [1, 4096, 5000, 20000] {
             let bytes = long_head(alloc, size)?;
             assert_eq!(rt; bytes.len(), size);
-            let mut link = connection(alloc, &bytes, piece, &[])?;
-            let mut kept = Kept::new(alloc);
-            let head = read_head(alloc, &mut link, &mut kept);
-            assert_eq!(rt; head.is_ok(), fits, "{size} bytes in pieces of {piece}");
-            if !fits {
-                assert_eq!(rt; text(alloc, &head)?.as_slice(), b"too long".as_slice());
-            }
+            assert_eq!(rt;
+                is_read(alloc, &bytes, piece)?,
+                [fits, !fits],
+                "{size} bytes in pieces of {piece}"
+            );
         }
     }
     Ok(())
@@ -134,24 +145,35 @@ fn many_headers(alloc: Global, count: usize) -> Result<Vec<u8>, AllocError> {
     Ok(bytes)
 }
 
+// Whether a head of so many headers isn't bad, and whether all of them are read.
+fn has_all(alloc: Global, count: usize) -> Result<[bool; 2], Fail> {
+    let mut link = connection(alloc, &many_headers(alloc, count)?, 100, &[])?;
+    let head = read_head(alloc, &mut link, &mut Kept::new(alloc));
+    let said = text(alloc, &head)?;
+    Ok([
+        said.as_slice() != b"bad".as_slice(),
+        head.is_ok_and(|head| head.headers.len() == count),
+    ])
+}
+
 #[test]
 fn as_many_headers_as_a_head_may_have(rt: HostRuntime) -> Result<(), Fail> {
     let alloc = rt.alloc();
     for (count, fits) in [(0, true), (64, true), (65, false)] {
-        let mut link = connection(alloc, &many_headers(alloc, count)?, 100, &[])?;
-        let head = read_head(alloc, &mut link, &mut Kept::new(alloc));
-        assert_eq!(rt;
-            text(alloc, &head)?.as_slice() != b"bad".as_slice(),
-            fits,
-            "{count} headers"
-        );
-        assert_eq!(rt;
-            head.is_ok_and(|head| head.headers.len() == count),
-            fits,
-            "{count} headers"
-        );
+        assert_eq!(rt; has_all(alloc, count)?, [fits, fits], "{count} headers");
     }
     Ok(())
+}
+
+// Whether the head and the body are these where read `k` of so many bytes fails.
+fn after_a_fault(alloc: Global, bytes: &[u8], size: usize, k: u64) -> Result<[bool; 2], Fail>
+    requires { 0 < size }
+{
+    let mut link = connection(alloc, bytes, size, &[k])?;
+    let mut kept = Kept::new(alloc);
+    let head = head_at_last(alloc, &mut link, &mut kept, b"GET /a 1")?;
+    let body = body_at_last(alloc, &mut link, &mut kept, b"abc");
+    Ok([head, body])
 }
 
 #[test]
@@ -160,23 +182,9 @@ fn nothing_is_lost_after_a_read_that_fails(rt: HostRuntime) -> Result<(), Fail> 
     let bytes = b"GET /a HTTP/1.1\r\n\r\nabc";
     for size in 1..=4 {
         for k in 1..=bytes.len() as u64 {
-            let mut link = connection(alloc, bytes, size, &[k])?;
-            let mut kept = Kept::new(alloc);
-            let mut head = text(alloc, &read_head(alloc, &mut link, &mut kept))?;
-            if head.as_slice() == b"failed".as_slice() {
-                head = text(alloc, &read_head(alloc, &mut link, &mut kept))?;
-            }
             assert_eq!(rt;
-                head.as_slice(),
-                b"GET /a 1".as_slice(),
-                "at read {k} of {size} bytes"
-            );
-            let mut body = read_body(alloc, &mut link, &mut kept, 3);
-            if body.is_err() {
-                body = read_body(alloc, &mut link, &mut kept, 3);
-            }
-            assert!(&rt;
-                body.is_ok_and(|body| body.as_slice() == b"abc".as_slice()),
+                after_a_fault(alloc, bytes, size, k)?,
+                [true; 2],
                 "at read {k} of {size} bytes"
             );
         }

@@ -3,9 +3,10 @@ use lab_outside::{
     Clock, Failed, Link, MemClock, MemSink, MemSource, ReadStop, Status, StdSink, StdSource,
     SureLink, SureSink, SureSource, TcpLink, WallClock, read_up_to, send_whole, write_whole,
 };
+use std::alloc::Global;
 use std::io;
 use std::io::{ErrorKind, Read, Write};
-use std::net::{Ipv4Addr, Shutdown, TcpListener, TcpStream};
+use std::net::{Ipv4Addr, Net, Shutdown, TcpListener, TcpStream};
 use std::test::Fail;
 
 #[test]
@@ -26,6 +27,15 @@ fn kth_read_fails(rt: HostRuntime) -> Result<(), Fail> {
     Ok(())
 }
 
+/// Which of three words can't be written.
+fn unwritten(sink: &mut MemSink) -> [bool; 3] {
+    [
+        write_whole(sink, b"one ").is_err(),
+        write_whole(sink, b"two ").is_err(),
+        write_whole(sink, b"three").is_err(),
+    ]
+}
+
 #[test]
 fn kth_write_fails(rt: HostRuntime) -> Result<(), Fail> {
     let written: [(u64, &[u8]); 4] = [
@@ -36,9 +46,7 @@ fn kth_write_fails(rt: HostRuntime) -> Result<(), Fail> {
     ];
     for (k, bytes) in written {
         let mut sink = MemSink::new(rt.alloc(), [k].to_vec(rt.alloc())?);
-        assert_eq!(rt; write_whole(&mut sink, b"one ").is_err(), k == 1);
-        assert_eq!(rt; write_whole(&mut sink, b"two ").is_err(), k == 2);
-        assert_eq!(rt; write_whole(&mut sink, b"three").is_err(), k == 3);
+        assert_eq!(rt; unwritten(&mut sink), [k == 1, k == 2, k == 3]);
         assert_eq!(rt; sink.bytes(), bytes, "at write {k}");
     }
     Ok(())
@@ -112,28 +120,64 @@ fn sure_link_shows_what_was_written(rt: HostRuntime) -> Result<(), Fail> {
     Ok(())
 }
 
-#[test]
-fn a_client_over_tcp(rt: HostRuntime) -> Result<(), Fail> {
-    // The system names a port that nobody has.
-    let free = TcpListener::bind(&rt, (Ipv4Addr::LOCALHOST, 0))?;
-    let port = free.local_addr()?.port();
-    drop(free);
-    let mut link = TcpLink::new(rt.alloc(), &rt)?;
-    assert!(&rt; link.next().is_err(), "not open yet");
-    assert!(&rt; link.open(port).is_ok());
-    assert!(&rt; link.open(port).is_ok(), "open already");
-    let mut client = TcpStream::connect(&rt, (Ipv4Addr::LOCALHOST, port))?;
+/// A port of 127.0.0.1 that nobody has.
+fn free_port<R: Net<Listener = TcpListener, Stream = TcpStream>>(net: &R) -> io::Result<u16> {
+    // The system names it.
+    let free = TcpListener::bind(net, (Ipv4Addr::LOCALHOST, 0))?;
+    let address = free.local_addr()?;
+    Ok(address.port())
+}
+
+/// Whether the link waits in vain before it is open, and opens once and again.
+fn opened<L: Link>(link: &mut L, port: u16) -> [bool; 3] {
+    [
+        link.next().is_err(),
+        link.open(port).is_ok(),
+        link.open(port).is_ok(),
+    ]
+}
+
+/// A client that has sent its whole request.
+fn asking<R: Net<Listener = TcpListener, Stream = TcpStream>>(
+    net: &R,
+    port: u16,
+) -> io::Result<TcpStream> {
+    let mut client = TcpStream::connect(net, (Ipv4Addr::LOCALHOST, port))?;
     client.write_all(b"a request")?;
     client.shutdown(Shutdown::Write)?;
-    assert!(&rt; link.next() == Ok(true));
+    Ok(client)
+}
+
+/// Answers the next connection: its first piece, and the counts of that one and of the next.
+fn answered<L: Link>(link: &mut L) -> Result<([u8; 20], [usize; 2]), Failed> {
+    if !link.next()? {
+        return Err(Failed);
+    }
     let mut piece = [0u8; 20];
-    assert!(&rt; link.read(&mut piece) == Ok(9));
-    assert_eq!(rt; &piece[..9], b"a request".as_slice());
-    assert!(&rt; link.read(&mut piece) == Ok(0));
-    send_whole(&mut link, b"an answer")?;
+    let count = link.read(&mut piece)?;
+    let rest = link.read(&mut [0u8; 20])?;
+    send_whole(link, b"an answer")?;
     link.end();
-    let mut answer = Vec::new(rt.alloc());
+    Ok((piece, [count, rest]))
+}
+
+/// All that the client is sent.
+fn told(alloc: Global, client: &mut TcpStream) -> io::Result<Vec<u8>> {
+    let mut answer = Vec::new(alloc);
     client.read_to_end(&mut answer)?;
+    Ok(answer)
+}
+
+#[test]
+fn a_client_over_tcp(rt: HostRuntime) -> Result<(), Fail> {
+    let port = free_port(&rt)?;
+    let mut link = TcpLink::new(rt.alloc(), &rt)?;
+    assert_eq!(rt; opened(&mut link, port), [true; 3]);
+    let mut client = asking(&rt, port)?;
+    let (piece, counts) = answered(&mut link)?;
+    assert_eq!(rt; counts, [9, 0]);
+    assert_eq!(rt; &piece[..9], b"a request".as_slice());
+    let answer = told(rt.alloc(), &mut client)?;
     assert_eq!(rt; answer.as_slice(), b"an answer".as_slice());
     Ok(())
 }

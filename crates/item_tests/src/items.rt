@@ -51,13 +51,19 @@ const POSITION: [u8; 32] = *b"\
     \xb2\x38\x9e\x18\x3e\xde\x48\x2d\xcf\xd9\x02\xec\x89\xa3\xa4\x9a\
     \x9c\x6b\x7b\xac\xda\x9c\x93\xd3\x75\x76\xd6\x3c\x32\x31\x6c\x60";
 
-// A row with one byte, written by this node at 1.
-fn write_at(alloc: Global, node: u8, byte: u8) -> Result<K2vRow, Fail> {
+// A row without writes.
+fn unwritten(alloc: Global) -> Result<K2vRow, Fail> {
     let pk = Bytes::from_slice(alloc, b"p")?;
     let sk = Bytes::from_slice(alloc, b"s")?;
-    let Some(mut row) = K2vRow::new(alloc, BUCKET, pk, sk) else {
-        return Err(Fail::new("a long key"));
-    };
+    match K2vRow::new(alloc, BUCKET, pk, sk) {
+        Some(row) => Ok(row),
+        None => Err(Fail::new("a long key")),
+    }
+}
+
+// A row with one byte, written by this node at 1.
+fn write_at(alloc: Global, node: u8, byte: u8) -> Result<K2vRow, Fail> {
+    let mut row = unwritten(alloc)?;
     let none = Map::new(alloc);
     if !row.can_put(node, 1, &none) {
         return Err(Fail::new("no write"));
@@ -67,43 +73,81 @@ fn write_at(alloc: Global, node: u8, byte: u8) -> Result<K2vRow, Fail> {
     Ok(row)
 }
 
+// How many nodes the row's token names.
+fn token_len(row: &K2vRow) -> Result<usize, Fail> {
+    Ok(row.token()?.len())
+}
+
 #[test]
 fn a_write_is_seen(rt: HostRuntime) -> Result<(), Fail> {
     let row = write_at(rt.alloc(), 1, b'a')?;
-    assert_eq!(rt; row.token()?.len(), 1);
+    assert_eq!(rt; token_len(&row)?, 1);
     Ok(())
+}
+
+// A copy of the first row, which is as the row is, with the second merged in.
+fn merged(first: &K2vRow, second: &K2vRow) -> Result<K2vRow, Fail> {
+    let mut row = first.copy()?;
+    if row != *first {
+        return Err(Fail::new("no copy"));
+    }
+    row.merge(second)?;
+    Ok(row)
+}
+
+// Whether the same comes of it whichever row takes the other in, and whether it is another row than the first; and how
+// many nodes its token names.
+fn merged_both_ways(first: &K2vRow, second: &K2vRow) -> Result<(bool, bool, usize), Fail> {
+    let row = merged(first, second)?;
+    let is_same = merged(second, first)? == row;
+    Ok((is_same, row != *first, token_len(&row)?))
+}
+
+// The same of the writes of two nodes.
+fn side_by_side(alloc: Global) -> Result<(bool, bool, usize), Fail> {
+    let first = write_at(alloc, 1, b'a')?;
+    let second = write_at(alloc, 2, b'b')?;
+    merged_both_ways(&first, &second)
 }
 
 // Two nodes wrote without having seen each other: both values stay, whichever row takes the other in.
 #[test]
 fn writes_of_two_nodes_stand_side_by_side(rt: HostRuntime) -> Result<(), Fail> {
-    let alloc = rt.alloc();
-    let first = write_at(alloc, 1, b'a')?;
-    let second = write_at(alloc, 2, b'b')?;
-    let mut merged = first.copy()?;
-    assert!(rt; merged == first);
-    merged.merge(&second)?;
-    let mut other = second.copy()?;
-    other.merge(&first)?;
-    assert!(rt; merged == other);
-    assert!(rt; merged != first);
-    assert_eq!(rt; merged.token()?.len(), 2);
+    assert_eq!(rt; side_by_side(rt.alloc())?, (true, true, 2));
     Ok(())
+}
+
+// Whether the row has these bytes, and whether it is read from them.
+fn is_spelled(alloc: Global, row: &K2vRow, bytes: &[u8]) -> Result<(bool, bool), Fail> {
+    let has_them = encode(alloc, row)?.as_slice() == bytes;
+    match decode(alloc, bytes) {
+        Ok(read) => Ok((has_them, read == *row)),
+        Err(_) => Err(Fail::new("not read")),
+    }
+}
+
+// Node 2 deletes at time 2 what it has read of the row.
+fn delete_read(row: &mut K2vRow) -> Result<(), Fail> {
+    let token = row.token()?;
+    if !row.can_put(2, 2, &token) {
+        return Err(Fail::new("no write"));
+    }
+    row.put(2, 2, K2vValue::Deleted, &token)?;
+    Ok(())
+}
+
+// A row of a write by node 1, which node 2 has read and deleted.
+fn deleted(alloc: Global) -> Result<K2vRow, Fail> {
+    let mut row = write_at(alloc, 1, b'a')?;
+    delete_read(&mut row)?;
+    Ok(row)
 }
 
 // Node 2 deletes what it has read of node 1.
 #[test]
 fn a_write_replaces_what_its_token_saw(rt: HostRuntime) -> Result<(), Fail> {
-    let alloc = rt.alloc();
-    let mut row = write_at(alloc, 1, b'a')?;
-    let token = row.token()?;
-    assert!(rt; row.can_put(2, 2, &token));
-    row.put(2, 2, K2vValue::Deleted, &token)?;
-    assert_eq!(rt; encode(alloc, &row)?.as_slice(), DELETED_BYTES);
-    let Ok(read) = decode(alloc, DELETED_BYTES) else {
-        return Err(Fail::new("not read"));
-    };
-    assert!(rt; read == row);
+    let row = deleted(rt.alloc())?;
+    assert_eq!(rt; is_spelled(rt.alloc(), &row, DELETED_BYTES)?, (true, true));
     Ok(())
 }
 
@@ -120,29 +164,32 @@ fn a_value_at_its_discard_time_is_no_row(rt: HostRuntime) -> Result<(), Fail> {
 
 #[test]
 fn a_write_has_its_bytes(rt: HostRuntime) -> Result<(), Fail> {
-    let alloc = rt.alloc();
-    let row = write_at(alloc, 1, b'a')?;
-    let bytes = encode(alloc, &row)?;
-    assert_eq!(rt; bytes.as_slice(), FIRST_BYTES);
-    let Ok(read) = decode(alloc, FIRST_BYTES) else {
-        return Err(Fail::new("not read"));
-    };
-    assert!(rt; read == row);
+    let row = write_at(rt.alloc(), 1, b'a')?;
+    assert_eq!(rt; is_spelled(rt.alloc(), &row, FIRST_BYTES)?, (true, true));
     Ok(())
+}
+
+// Whether the schema gives the row these bytes, and whether it reads the row from them.
+fn is_kept_as(alloc: Global, row: &K2vRow, bytes: &[u8]) -> Result<(bool, bool), Fail> {
+    let has_them = K2vSchema::row_bytes(alloc, row)?.as_slice() == bytes;
+    match K2vSchema::row_from(alloc, bytes) {
+        Ok(read) => Ok((has_them, read == *row)),
+        Err(_) => Err(Fail::new("not read")),
+    }
+}
+
+// The row's table; whether its position and its key are the ones above; and whether it calls for no other rows.
+fn place_of(alloc: Global, row: &K2vRow) -> Result<(u8, bool, bool, bool), Fail> {
+    let is_there = K2vSchema::position(row).0 == POSITION;
+    let is_named = K2vSchema::key(alloc, row)?.as_slice() == KEY;
+    let is_alone = K2vSchema::triggers(alloc, row, row)?.is_empty();
+    Ok((K2vSchema::table(row), is_there, is_named, is_alone))
 }
 
 #[test]
 fn a_row_has_its_place(rt: HostRuntime) -> Result<(), Fail> {
-    let alloc = rt.alloc();
-    let row = write_at(alloc, 1, b'a')?;
-    assert_eq!(rt; K2vSchema::table(&row), 1);
-    assert!(rt; K2vSchema::position(&row).0 == POSITION);
-    assert_eq!(rt; K2vSchema::key(alloc, &row)?.as_slice(), KEY);
-    assert_eq!(rt; K2vSchema::row_bytes(alloc, &row)?.as_slice(), FIRST_BYTES);
-    assert!(rt; K2vSchema::triggers(alloc, &row, &row)?.is_empty());
-    let Ok(read) = K2vSchema::row_from(alloc, FIRST_BYTES) else {
-        return Err(Fail::new("not read"));
-    };
-    assert!(rt; read == row);
+    let row = write_at(rt.alloc(), 1, b'a')?;
+    assert_eq!(rt; place_of(rt.alloc(), &row)?, (1, true, true, true));
+    assert_eq!(rt; is_kept_as(rt.alloc(), &row, FIRST_BYTES)?, (true, true));
     Ok(())
 }

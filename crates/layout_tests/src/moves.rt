@@ -41,6 +41,31 @@ enum Change {
     BadRows,
 }
 
+// Some assignment of the size to these roles; none where they are not in order, or none fits.
+fn sets_of(
+    alloc: Global,
+    rows: &[(u8, &[u8], u64)],
+    size: u64,
+) -> Result<Option<Assignment>, Memory>
+    requires { 0 < size }
+{
+    match roles_of(alloc, rows)? {
+        Some(roles) => assignment_of(alloc, &roles, size),
+        None => Ok(None),
+    }
+}
+
+// The fewest moves from the sets to an assignment of these roles.
+fn moves_to(roles: &Roles, size: u64, sets: &Assignment) -> Result<Change, Memory>
+    requires { 0 < size }
+{
+    match fewest(roles, ZONES, size, sets) {
+        Ok(moved) => Ok(Change::Moves(moved.moves)),
+        Err(MoveFault::NoAssignment(_)) => Ok(Change::NoAssignment),
+        Err(MoveFault::Memory) => Err(Memory::Want),
+    }
+}
+
 // The fewest moves from an assignment of the old roles to one of the new roles, both of the size.
 fn moves_between(
     alloc: Global,
@@ -50,19 +75,12 @@ fn moves_between(
 ) -> Result<Change, Memory>
     requires { 0 < size }
 {
-    let Some(before) = roles_of(alloc, old)? else {
+    let Some(sets) = sets_of(alloc, old, size)? else {
         return Ok(Change::BadRows)
     };
-    let Some(after) = roles_of(alloc, new)? else {
-        return Ok(Change::BadRows)
-    };
-    let Some(sets) = assignment_of(alloc, &before, size)? else {
-        return Ok(Change::BadRows)
-    };
-    match fewest(&after, ZONES, size, &sets) {
-        Ok(moved) => Ok(Change::Moves(moved.moves)),
-        Err(MoveFault::NoAssignment(_)) => Ok(Change::NoAssignment),
-        Err(MoveFault::Memory) => Err(Memory::Want),
+    match roles_of(alloc, new)? {
+        Some(roles) => moves_to(&roles, size, &sets),
+        None => Ok(Change::BadRows),
     }
 }
 

@@ -53,20 +53,24 @@ fn flows_and_cuts(rt: HostRuntime) -> Result<(), Fail> {
     Ok(())
 }
 
-// A copy of a layout of three nodes: its version, its number of roles, and the set of its last partition.
-fn copied(alloc: Global) -> Result<(u32, usize, [u8; 3]), Memory> {
+// A layout of three nodes.
+fn layout(alloc: Global) -> Result<Layout, Memory> {
     let roles = roles_of(alloc, &EQUAL)?;
     let FlowOrCut::Flow(sets) = Network::new(alloc, &roles, 2, 3)?.max_flow()? else {
         return Err(Memory::Full);
     };
-    let layout = Layout {
+    Ok(Layout {
         version: 7,
         roles,
         r: 2,
         size: 3,
         sets,
-    };
-    let copy = layout.copy()?;
+    })
+}
+
+// A copy of it: its version, its number of roles, and the set of the last partition of a copy of its sets.
+fn copied(alloc: Global) -> Result<(u32, usize, [u8; 3]), Memory> {
+    let copy = layout(alloc)?.copy()?;
     Ok((
         copy.version,
         copy.roles.list.len(),

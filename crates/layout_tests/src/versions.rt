@@ -27,11 +27,22 @@ const BOTH: [(Which, u8, u32); 4] = [
     (Which::SyncAck, 7, 3),
 ];
 
+// A copy of the first, with the other merged into it.
+fn merged(alloc: Global) -> Result<Trackers, Memory> {
+    let mut merged = copied(alloc)?;
+    let other = raised(alloc, &OTHER)?;
+    merged.merge(&other)?;
+    Ok(merged)
+}
+
+fn copied(alloc: Global) -> Result<Trackers, Memory> {
+    raised(alloc, &ONE)?.copy()
+}
+
 // Whether the two merge to the third.
 fn merge_to_both(alloc: Global) -> Result<bool, Memory> {
-    let mut merged = raised(alloc, &ONE)?.copy()?;
-    merged.merge(&raised(alloc, &OTHER)?)?;
-    Ok(merged == raised(alloc, &BOTH)?)
+    let both = raised(alloc, &BOTH)?;
+    Ok(merged(alloc)? == both)
 }
 
 #[test]

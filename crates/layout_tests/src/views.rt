@@ -128,24 +128,46 @@ fn members_of_old_versions_hold_a_clean_back(rt: HostRuntime) -> Result<(), Fail
     Ok(())
 }
 
-// The oldest and the newest version of two merged views, and what one entry of each is.
-fn merged(alloc: Global) -> Result<(u32, u32, Option<u32>, Option<u32>), Memory> {
-    let mut old = three(alloc)?;
-    old.raise(Which::Ack, 2, 2)?;
-    let mut new = reading(alloc, &READING[..7])?.copy()?;
-    let _ = new.clean();
+// A view that knows of one ack more.
+fn acked(alloc: Global) -> Result<View, Memory> {
+    let mut view = three(alloc)?;
+    view.raise(Which::Ack, 2, 2)?;
+    Ok(view)
+}
+
+// A copy of a view, which dropped its oldest version.
+fn cleaned(alloc: Global) -> Result<View, Memory> {
+    let mut view = copied(alloc)?;
+    let _ = view.clean();
+    Ok(view)
+}
+
+fn copied(alloc: Global) -> Result<View, Memory> {
+    reading(alloc, &READING[..7])?.copy()
+}
+
+// The first of them, with the other merged into it.
+fn merged(alloc: Global) -> Result<View, Memory> {
+    let mut old = acked(alloc)?;
+    let new = cleaned(alloc)?;
     old.merge(&new)?;
-    let ack = old.trackers().get(Which::Ack, 2);
+    Ok(old)
+}
+
+// The oldest and the newest version of two merged views, and what one entry of each is.
+fn merged_entries(alloc: Global) -> Result<(u32, u32, Option<u32>, Option<u32>), Memory> {
+    let view = merged(alloc)?;
+    let ack = view.trackers().get(Which::Ack, 2);
     Ok((
-        old.oldest(),
-        old.newest(),
+        view.oldest(),
+        view.newest(),
         ack,
-        old.trackers().get(Which::SyncAck, 9),
+        view.trackers().get(Which::SyncAck, 9),
     ))
 }
 
 #[test]
 fn merged_views_start_at_the_greater_oldest(rt: HostRuntime) -> Result<(), Fail> {
-    assert_eq!(rt; merged(rt.alloc())?, (2, 3, Some(2), Some(3)));
+    assert_eq!(rt; merged_entries(rt.alloc())?, (2, 3, Some(2), Some(3)));
     Ok(())
 }

@@ -4,11 +4,11 @@ ghost use Rattle.s3_world.specs.Stands.{HasStore, IsMeantEvent};
 ghost use Rattle.serve_model.specs.Serving.{HasState};
 ghost use Rattle.serve_cluster.specs.Standing.{StandsFor};
 
-use crate::recorder::Recorder;
+use crate::recorder::recorded;
 use crdt_core::{Bytes, List, Memory};
 use flow_model::{FlowEnd, Order};
 use http_wire::Kept;
-use lab_outside::{Link, MemClock, SureLink};
+use lab_outside::{Link, MemClock};
 use s3_world::{Event, S3World};
 use serve_cluster::Cluster;
 use serve_loop::{Storage, serve_request};
@@ -39,18 +39,48 @@ fn stepped(world: &mut S3World, event: &Event) -> Result<(), Memory>
     Ok(())
 }
 
-/// Three nodes with their first layout, and one bucket.
-fn three_nodes(alloc: Global) -> Result<Cluster, Memory>
-    ensures state { IfOk result (λ cluster. HasState (StandsFor cluster)) }
+/// The three nodes get their first layout.
+fn start(world: &mut S3World) -> Result<(), Memory>
+    requires stands { HasStore world.old }
+    ensures stands { OnOk result (HasStore world.new) }
+{
+    stepped(world, &Event::Trio)
+}
+
+/// The bucket is made.
+fn make_bucket(alloc: Global, world: &mut S3World) -> Result<(), Memory>
+    requires stands { HasStore world.old }
+    ensures stands { OnOk result (HasStore world.new) }
+{
+    let bucket = Event::Bucket(Bytes::from_slice(alloc, b"pics")?);
+    stepped(world, &bucket)
+}
+
+/// The world of three nodes with their first layout, and one bucket.
+fn world_of_three(alloc: Global) -> Result<S3World, Memory>
+    ensures stands { IfOk result HasStore }
 {
     let mut world = S3World::new(alloc)?;
-    stepped(&mut world, &Event::Trio)?;
-    let bucket = Event::Bucket(Bytes::from_slice(alloc, b"pics")?);
-    stepped(&mut world, &bucket)?;
+    start(&mut world)?;
+    make_bucket(alloc, &mut world)?;
+    Ok(world)
+}
+
+/// The numbers of the three nodes.
+fn three_members(alloc: Global) -> Result<List<u8>, Memory> {
     let mut members = List::new(alloc);
     members.push(1)?;
     members.push(2)?;
     members.push(3)?;
+    Ok(members)
+}
+
+/// Three nodes with their first layout, and one bucket.
+fn three_nodes(alloc: Global) -> Result<Cluster, Memory>
+    ensures state { IfOk result (λ cluster. HasState (StandsFor cluster)) }
+{
+    let members = three_members(alloc)?;
+    let world = world_of_three(alloc)?;
     Ok(Cluster::new(world, members))
 }
 
@@ -97,17 +127,20 @@ fn goes_on<L: Link>(alloc: Global, cluster: &mut Cluster, link: &mut L) -> Resul
     Ok(end == Ok(true))
 }
 
+/// Puts the object and lends the world for one request over the connection: whether the object was stored, whether the
+/// connection goes on, and how many requests the world that came back had.
+fn put_and_lend<L: Link>(alloc: Global, link: &mut L) -> Result<(bool, bool, u64), Memory> {
+    let mut cluster = three_nodes(alloc)?;
+    let stored = put(alloc, &mut cluster)?;
+    let goes_on = goes_on(alloc, &mut cluster, link)?;
+    Ok((stored, goes_on, cluster.world().requests()))
+}
+
 /// The owner of a world puts an object, lends the world for one request over a connection, and has it again.
 #[test]
 fn lent_world_get(rt: HostRuntime) -> Result<(), Fail> {
-    let alloc = rt.alloc();
-    let mut cluster = three_nodes(alloc)?;
-    assert!(rt; put(alloc, &mut cluster)?);
-    let mut coming = Vec::new(alloc);
-    coming.push(REQUEST.to_vec(alloc)?)?;
-    let mut link = Recorder::new(alloc, SureLink::new(alloc, coming, 1024)?);
-    assert!(rt; goes_on(alloc, &mut cluster, &mut link)?);
+    let mut link = recorded(rt.alloc(), REQUEST, 1024)?;
+    assert_eq!(rt; put_and_lend(rt.alloc(), &mut link)?, (true, true, 2));
     assert_eq!(rt; link.written(), ANSWER);
-    assert_eq!(rt; cluster.world().requests(), 2);
     Ok(())
 }

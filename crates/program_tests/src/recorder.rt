@@ -1,7 +1,8 @@
 //! A link that keeps what is written to it.
-ghost use Rattle.std.specs.Prelude.{◌≡◌};
+ghost use Rattle.std.specs.Prelude.{◌≡◌, None, IfOk};
 
-use lab_outside::{Failed, Link};
+use crdt_core::Memory;
+use lab_outside::{Failed, Link, SureLink};
 use std::alloc::Global;
 
 /// A link, and all that was written to its connections. What there is no memory for is left out.
@@ -57,4 +58,13 @@ impl<L: Link> Link for Recorder<L> {
     fn end(&mut self) {
         self.link.end();
     }
+}
+
+/// One connection in memory over which these bytes come, with a buffer of `size` bytes for what it is sent.
+pub fn recorded(alloc: Global, bytes: &[u8], size: usize) -> Result<Recorder<SureLink>, Memory>
+    ensures present { IfOk result (λ link. ⟦<Recorder<SureLink> as Link>⟧.present link ≡ None) }
+{
+    let mut coming = Vec::new(alloc);
+    coming.push(bytes.to_vec(alloc)?)?;
+    Ok(Recorder::new(alloc, SureLink::new(alloc, coming, size)?))
 }

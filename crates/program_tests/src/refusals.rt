@@ -1,6 +1,7 @@
 //! Refusals that apply together, of which the first in the table of docs/S3.md is answered, and some that apply alone.
 use crate::served::served;
 use lab_outside::Status;
+use std::alloc::Global;
 use std::test::Fail;
 
 /// What a refusal's answer begins with, and its body up to the path.
@@ -36,9 +37,11 @@ const NO_KEY: Refusal = (
     b"<Error><Code>NoSuchKey</Code><Message>NoSuchKey</Message><Resource>",
 );
 
-/// A request: its method, its path up to the key, how many `x` the key is, and what stands after it. Nothing was put
-/// before, and the digest is that of `abc`.
-const REQUESTS: [(&[u8], &[u8], usize, &[u8], Refusal); 13] = [
+/// A request: its method, its path up to the key, how many `x` the key is, and what stands after it; and its refusal.
+type Row = (&'static [u8], &'static [u8], usize, &'static [u8], Refusal);
+
+/// Nothing was put before, and the digest is that of `abc`.
+const REQUESTS: &[Row] = &[
     // too large, and into no bucket
     (
         b"PUT ",
@@ -120,25 +123,61 @@ const REQUESTS: [(&[u8], &[u8], usize, &[u8], Refusal); 13] = [
     (b"GET ", b"/pics/", 1024, b" HTTP/1.1\r\n\r\n", NO_KEY),
 ];
 
+/// The path up to the key, and the key.
+fn path_of(alloc: Global, front: &[u8], count: usize) -> Result<Vec<u8>, Fail> {
+    let mut path = front.to_vec(alloc)?;
+    path.resize(front.len().saturating_add(count), b'x')?;
+    Ok(path)
+}
+
+/// Three texts, one after the other.
+fn joined(alloc: Global, texts: [&[u8]; 3]) -> Result<Vec<u8>, Fail> {
+    let mut whole = Vec::new(alloc);
+    for text in texts {
+        whole.extend_from_slice(text)?;
+    }
+    Ok(whole)
+}
+
+/// What the answer that has this body up to the path ends with.
+fn end_of(alloc: Global, body: &[u8], path: &[u8]) -> Result<Vec<u8>, Fail> {
+    let mut end = body.to_vec(alloc)?;
+    end.extend_from_slice(path)?;
+    end.extend_from_slice(b"</Resource></Error>")?;
+    Ok(end)
+}
+
+/// How a server of this one request ended, and whether its answer begins and ends so.
+fn answered(
+    alloc: Global,
+    request: &[u8],
+    start: &[u8],
+    end: &[u8],
+) -> Result<(Status, bool, bool), Fail> {
+    let session = served(alloc, request)?;
+    let starts = session.written.starts_with(start);
+    let ends = session.written.ends_with(end);
+    Ok((session.status, starts, ends))
+}
+
+/// The same for the request of a row, and what its refusal begins and ends with.
+fn row_refused(
+    alloc: Global,
+    (method, front, count, back, (start, body)): Row,
+) -> Result<(Status, bool, bool), Fail> {
+    let path = path_of(alloc, front, count)?;
+    let request = joined(alloc, [method, &path, back])?;
+    let end = end_of(alloc, body, &path)?;
+    answered(alloc, &request, start, &end)
+}
+
 #[test]
 fn the_first_refusal(rt: HostRuntime) -> Result<(), Fail> {
-    for (method, front, count, back, (status, body)) in REQUESTS {
-        let mut path = front.to_vec(rt.alloc())?;
-        path.resize(front.len().saturating_add(count), b'x')?;
-        let mut bytes = method.to_vec(rt.alloc())?;
-        bytes.extend_from_slice(&path)?;
-        bytes.extend_from_slice(back)?;
-        let mut end = body.to_vec(rt.alloc())?;
-        end.extend_from_slice(&path)?;
-        end.extend_from_slice(b"</Resource></Error>")?;
-        let session = served(rt.alloc(), &bytes)?;
-        assert_eq!(rt; session.status, Status::Done);
-        assert!(rt;
-            session.written.starts_with(status),
-            "{front:?} {count} {back:?}"
-        );
-        assert!(rt;
-            session.written.ends_with(&end),
+    for row in REQUESTS {
+        let (_, front, count, back, _) = *row;
+        assert_eq!(rt;
+            row_refused(rt.alloc(), *row)?,
+            (Status::Done, true, true),
             "{front:?} {count} {back:?}"
         );
     }

@@ -1,7 +1,9 @@
 //! What no clause says: that an answer comes with ample memory, what is told at its end, and that whole answers are those
 //! that were worked out from docs/S3.md by hand.
-use crate::recorder::Recorder;
-use lab_outside::{MemClock, MemSink, MemSource, Status, SureLink};
+ghost use Rattle.std.specs.Prelude.{◌≡◌, None};
+
+use crate::recorder::recorded;
+use lab_outside::{Link, MemClock, MemSink, MemSource, Status};
 use serve_run::run;
 use std::alloc::Global;
 use std::test::Fail;
@@ -316,6 +318,13 @@ const LONG_ANSWER: &[u8] = b"\
     <?xml version=\"1.0\" encoding=\"UTF-8\"?>\n\
     <Error><Code>InvalidRequest</Code><Message>InvalidRequest</Message><Resource></Resource></Error>";
 
+/// How a server ended, and what was written to the output.
+#[derive(Drop)]
+pub struct Ended {
+    pub status: Status,
+    pub output: Vec<u8>,
+}
+
 /// What a server of one connection that has these bytes did.
 #[derive(Drop)]
 pub struct Session {
@@ -335,19 +344,28 @@ pub fn words_of(alloc: Global, port: u16) -> Result<Vec<String>, Fail> {
     Ok(words)
 }
 
-/// A server of one connection that has these bytes, over three nodes.
-pub fn served(alloc: Global, bytes: &[u8]) -> Result<Session, Fail> {
-    let words = words_of(alloc, 3900)?;
-    let mut coming = Vec::new(alloc);
-    coming.push(bytes.to_vec(alloc)?)?;
-    let mut link = Recorder::new(alloc, SureLink::new(alloc, coming, 65_536)?);
+/// A server of one connection of this port and link, over three nodes.
+pub fn served_over<L: Link>(alloc: Global, port: u16, link: &mut L) -> Result<Ended, Fail>
+    requires { L.present link.old ≡ None }
+{
+    let words = words_of(alloc, port)?;
     let mut clock = MemClock::new([1_700_000_000_000].to_vec(alloc)?);
     let mut source = MemSource::new(THREE_NODES.to_vec(alloc)?, Vec::new(alloc));
     let mut sink = MemSink::new(alloc, Vec::new(alloc));
-    let status = run(alloc, &words, &mut source, &mut sink, &mut link, &mut clock);
-    Ok(Session {
+    let status = run(alloc, &words, &mut source, &mut sink, link, &mut clock);
+    Ok(Ended {
         status,
         output: sink.bytes().to_vec(alloc)?,
+    })
+}
+
+/// A server of one connection that has these bytes.
+pub fn served(alloc: Global, bytes: &[u8]) -> Result<Session, Fail> {
+    let mut link = recorded(alloc, bytes, 65_536)?;
+    let end = served_over(alloc, 3900, &mut link)?;
+    Ok(Session {
+        status: end.status,
+        output: end.output,
         written: link.written().to_vec(alloc)?,
     })
 }

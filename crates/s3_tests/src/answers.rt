@@ -34,14 +34,20 @@ fn found(alloc: Global, body: &[u8]) -> Result<Reply, Memory> {
     })
 }
 
+/// The answer with this reply where no ask is looked at.
+fn told(alloc: Global, reply: Reply, close: bool) -> Result<Bytes, Memory> {
+    answer(alloc, None, &reply, NOW, close)
+}
+
+/// The answer to a refused request: with `head` to a HEAD, and then the connection closes where `close` says so.
 fn refused(
     alloc: Global,
-    status: u16,
-    code: Code,
+    (status, code): (u16, Code),
     path: &[u8],
     head: bool,
-) -> Result<Reply, Memory> {
-    Ok(Reply::Refused {
+    close: bool,
+) -> Result<Bytes, Memory> {
+    let reply = Reply::Refused {
         fault: S3Fault {
             status,
             code,
@@ -49,7 +55,8 @@ fn refused(
         },
         path: Bytes::from_slice(alloc, path)?,
         head,
-    })
+    };
+    told(alloc, reply, close)
 }
 
 #[test]
@@ -87,25 +94,33 @@ fn heads(rt: HostRuntime) -> Result<(), Fail> {
 #[test]
 fn writes(rt: HostRuntime) -> Result<(), Fail> {
     let alloc = rt.alloc();
-    let reply = Reply::Stored(WRITTEN, ETAG);
-    assert!(rt; answer(alloc, None, &reply, NOW, false)?.as_slice() == expected::PUT_OK);
-    let reply = Reply::Copied(WRITTEN, ETAG);
-    assert!(rt; answer(alloc, None, &reply, NOW, false)?.as_slice() == expected::COPIED);
-    assert!(rt; answer(alloc, None, &Reply::Deleted, NOW, true)?.as_slice() == expected::DELETED);
+    let stored = told(alloc, Reply::Stored(WRITTEN, ETAG), false)?;
+    assert!(rt; stored.as_slice() == expected::PUT_OK);
+    let copied = told(alloc, Reply::Copied(WRITTEN, ETAG), false)?;
+    assert!(rt; copied.as_slice() == expected::COPIED);
+    assert!(rt; told(alloc, Reply::Deleted, true)?.as_slice() == expected::DELETED);
     Ok(())
 }
+
+const NO_KEY: (u16, Code) = (404, Code::NoSuchKey);
 
 #[test]
 fn refusals(rt: HostRuntime) -> Result<(), Fail> {
     let alloc = rt.alloc();
-    let reply = refused(alloc, 404, Code::NoSuchKey, b"/pics/a&<b\n\x1f", false)?;
-    assert!(rt; answer(alloc, None, &reply, NOW, false)?.as_slice() == expected::NOT_FOUND);
-    let reply = refused(alloc, 404, Code::NoSuchKey, b"/pics/a", true)?;
-    assert!(rt; answer(alloc, None, &reply, NOW, true)?.as_slice() == expected::REFUSED_HEAD);
-    let reply = refused(alloc, 400, Code::InvalidRequest, b"", false)?;
-    assert!(rt; answer(alloc, None, &reply, NOW, true)?.as_slice() == expected::BAD_HEAD);
-    let reply = refused(alloc, 416, Code::InvalidRange, b"/pics/a.txt", false)?;
-    assert!(rt; answer(alloc, None, &reply, NOW, false)?.as_slice() == expected::BAD_RANGE);
+    let answer = refused(alloc, NO_KEY, b"/pics/a&<b\n\x1f", false, false)?;
+    assert!(rt; answer.as_slice() == expected::NOT_FOUND);
+    let answer = refused(alloc, NO_KEY, b"/pics/a", true, true)?;
+    assert!(rt; answer.as_slice() == expected::REFUSED_HEAD);
+    let answer = refused(alloc, (400, Code::InvalidRequest), b"", false, true)?;
+    assert!(rt; answer.as_slice() == expected::BAD_HEAD);
+    let answer = refused(
+        alloc,
+        (416, Code::InvalidRange),
+        b"/pics/a.txt",
+        false,
+        false,
+    )?;
+    assert!(rt; answer.as_slice() == expected::BAD_RANGE);
     Ok(())
 }
 

@@ -4,7 +4,7 @@ ghost use Rattle.std.specs.Prelude.{IfOk, IsSome};
 use crdt_core::{Bytes, List};
 use http_wire::{Head, Kept, read_head};
 use lab_outside::{Failed, Link, PieceLink};
-use s3_model::{After, Ask, AskFault, Range};
+use s3_model::{After, Ask, AskFault, ListAsk, Range};
 use s3_request::understand;
 use std::alloc::{AllocError, Global};
 use std::test::Fail;
@@ -29,10 +29,15 @@ pub fn head(alloc: Global, bytes: &[u8]) -> Result<Head, Fail> {
     Ok(head)
 }
 
+/// What a head asks, as text.
+fn understood(alloc: Global, head: &Head) -> Result<Vec<u8>, AllocError> {
+    text(alloc, &understand(head))
+}
+
 /// What the head in these bytes asks, as text.
 pub fn asked(alloc: Global, bytes: &[u8]) -> Result<Vec<u8>, Fail> {
     let head = head(alloc, bytes)?;
-    let text = text(alloc, &understand(&head))?;
+    let text = understood(alloc, &head)?;
     Ok(text)
 }
 
@@ -75,99 +80,122 @@ fn or_none(value: &Option<Bytes>) -> &[u8] {
     }
 }
 
-/// An ask as its words, or `refused STATUS CODE`, with `close` where the connection closes.
-fn text(alloc: Global, answer: &Result<Ask, AskFault>) -> Result<Vec<u8>, AllocError> {
-    let mut text = Vec::new(alloc);
-    match answer {
-        Ok(Ask::ListBuckets) => add(&mut text, &[b"ListBuckets"])?,
-        Ok(Ask::HeadBucket(bucket)) => add(&mut text, &[b"HeadBucket", bucket.as_slice()])?,
-        Ok(Ask::BadList(bucket)) => add(&mut text, &[b"BadList", bucket.as_slice()])?,
-        Ok(
-            Ask::List {
-                bucket,
-                ask,
-                delimiter,
-                url,
-                token,
-                start_after,
-            },
-        ) => {
-            let max = format!(in alloc; "{}", ask.max)?;
+/// Where a list begins: after a key, or past a prefix.
+fn add_after(text: &mut Vec<u8>, after: &After) -> Result<(), AllocError> {
+    match after {
+        After::Key(key) => add(text, &[b"after", key.as_slice()]),
+        After::Prefix(prefix) => add(text, &[b"past", prefix.as_slice()]),
+    }
+}
+
+/// A list's bucket, prefix, delimiter and greatest count.
+fn add_list<'a>(
+    alloc: Global,
+    text: &mut Vec<u8>,
+    bucket: &'a Bytes,
+    ask: &'a ListAsk,
+    delimiter: &'a Option<Bytes>,
+) -> Result<(), AllocError> {
+    let max = format!(in alloc; "{}", ask.max)?;
+    add(
+        text,
+        &[
+            b"List",
+            bucket.as_slice(),
+            b"prefix",
+            ask.prefix.as_slice(),
+            b"by",
+            or_none(delimiter),
+            max.as_bytes(),
+        ],
+    )?;
+    Ok(())
+}
+
+/// A word, an object, and the range that is asked of it.
+fn add_part<'a>(
+    alloc: Global,
+    text: &mut Vec<u8>,
+    word: &'a [u8],
+    (bucket, key): (&'a Bytes, &'a Bytes),
+    range: &Option<Range>,
+) -> Result<(), AllocError> {
+    let range = range_text(alloc, range)?;
+    add(text, &[word, bucket.as_slice(), key.as_slice(), &range])?;
+    Ok(())
+}
+
+/// An object that is put, its length and its digest.
+fn add_put<'a>(
+    alloc: Global,
+    text: &mut Vec<u8>,
+    (bucket, key): (&'a Bytes, &'a Bytes),
+    length: u64,
+    md5: &'a Option<Bytes>,
+) -> Result<(), AllocError> {
+    let length = format!(in alloc; "{length}")?;
+    add(
+        text,
+        &[
+            b"Put",
+            bucket.as_slice(),
+            key.as_slice(),
+            length.as_bytes(),
+            or_none(md5),
+            b"",
+        ],
+    )?;
+    Ok(())
+}
+
+/// An ask as its words.
+fn add_ask(alloc: Global, text: &mut Vec<u8>, ask: &Ask) -> Result<(), AllocError> {
+    match ask {
+        Ask::ListBuckets => add(text, &[b"ListBuckets"]),
+        Ask::HeadBucket(bucket) => add(text, &[b"HeadBucket", bucket.as_slice()]),
+        Ask::BadList(bucket) => add(text, &[b"BadList", bucket.as_slice()]),
+        Ask::List {
+            bucket,
+            ask,
+            delimiter,
+            url,
+            token,
+            start_after,
+        } => {
+            add_list(alloc, text, bucket, ask, delimiter)?;
+            add_after(text, &ask.after)?;
             add(
-                &mut text,
-                &[
-                    b"List",
-                    bucket.as_slice(),
-                    b"prefix",
-                    ask.prefix.as_slice(),
-                    b"by",
-                    or_none(delimiter),
-                    max.as_bytes(),
-                ],
-            )?;
-            match &ask.after {
-                After::Key(key) => add(&mut text, &[b"after", key.as_slice()])?,
-                After::Prefix(prefix) => add(&mut text, &[b"past", prefix.as_slice()])?,
-            }
-            add(
-                &mut text,
+                text,
                 &[
                     if *url { b"url" } else { b"plain" },
                     or_none(token),
                     or_none(start_after),
                 ],
-            )?;
+            )
         }
-        Ok(Ask::Get { bucket, key, range }) => {
-            let range = range_text(alloc, range)?;
+        Ask::Get { bucket, key, range } => add_part(alloc, text, b"Get", (bucket, key), range),
+        Ask::Head { bucket, key, range } => add_part(alloc, text, b"Head", (bucket, key), range),
+        Ask::Delete { bucket, key } => {
+            add(text, &[b"Delete", bucket.as_slice(), key.as_slice()])
+        }
+        Ask::Put {
+            bucket,
+            key,
+            length,
+            md5,
+            headers,
+        } => {
+            add_put(alloc, text, (bucket, key), *length, md5)?;
+            add_headers(text, headers)
+        }
+        Ask::Copy {
+            from,
+            bucket,
+            key,
+            headers,
+        } => {
             add(
-                &mut text,
-                &[b"Get", bucket.as_slice(), key.as_slice(), &range],
-            )?;
-        }
-        Ok(Ask::Head { bucket, key, range }) => {
-            let range = range_text(alloc, range)?;
-            add(
-                &mut text,
-                &[b"Head", bucket.as_slice(), key.as_slice(), &range],
-            )?;
-        }
-        Ok(Ask::Delete { bucket, key }) => {
-            add(&mut text, &[b"Delete", bucket.as_slice(), key.as_slice()])?;
-        }
-        Ok(
-            Ask::Put {
-                bucket,
-                key,
-                length,
-                md5,
-                headers,
-            },
-        ) => {
-            let length = format!(in alloc; "{length}")?;
-            add(
-                &mut text,
-                &[
-                    b"Put",
-                    bucket.as_slice(),
-                    key.as_slice(),
-                    length.as_bytes(),
-                    or_none(md5),
-                    b"",
-                ],
-            )?;
-            add_headers(&mut text, headers)?;
-        }
-        Ok(
-            Ask::Copy {
-                from,
-                bucket,
-                key,
-                headers,
-            },
-        ) => {
-            add(
-                &mut text,
+                text,
                 &[
                     b"Copy",
                     from.as_slice(),
@@ -176,18 +204,35 @@ fn text(alloc: Global, answer: &Result<Ask, AskFault>) -> Result<Vec<u8>, AllocE
                     b"",
                 ],
             )?;
-            if let Some(headers) = headers {
-                add_headers(&mut text, headers)?;
+            match headers {
+                Some(headers) => add_headers(text, headers),
+                None => Ok(()),
             }
         }
-        Err(AskFault::Refused(fault)) => {
+    }
+}
+
+/// What keeps a head from being an ask, as its words.
+fn add_fault(alloc: Global, text: &mut Vec<u8>, fault: &AskFault) -> Result<(), AllocError> {
+    match fault {
+        AskFault::Refused(fault) => {
             let words = format!(in alloc; "refused {} {:?}", fault.status, fault.code)?;
-            add(&mut text, &[words.as_bytes()])?;
+            add(text, &[words.as_bytes()])?;
             if fault.close {
-                add(&mut text, &[b"close"])?;
+                add(text, &[b"close"])?;
             }
+            Ok(())
         }
-        Err(AskFault::Memory) => add(&mut text, &[b"memory"])?,
+        AskFault::Memory => add(text, &[b"memory"]),
+    }
+}
+
+/// An ask as its words, or `refused STATUS CODE`, with `close` where the connection closes.
+fn text(alloc: Global, answer: &Result<Ask, AskFault>) -> Result<Vec<u8>, AllocError> {
+    let mut text = Vec::new(alloc);
+    match answer {
+        Ok(ask) => add_ask(alloc, &mut text, ask)?,
+        Err(fault) => add_fault(alloc, &mut text, fault)?,
     }
     Ok(text)
 }

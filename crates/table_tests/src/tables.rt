@@ -38,6 +38,16 @@ fn table(alloc: Global, rows: &[Made]) -> Result<Table<S3Schema>, Memory> {
     Ok(table)
 }
 
+// What was needed before the table takes a reference in, and whether the reference that stands there then is live.
+fn taken(
+    alloc: Global,
+    table: &mut Table<S3Schema>,
+    deleted: bool,
+) -> Result<(Option<Hash32>, bool), Memory> {
+    let taken = table.take_in(row(alloc, Made::Reference(0x11, 6, deleted))?)?;
+    Ok((taken.before, taken.change.is_live))
+}
+
 // References to one block and of one version stand at one place.
 #[test]
 fn rows_that_are_taken_in_tell_what_was_needed(rt: HostRuntime) -> Result<(), Fail> {
@@ -49,8 +59,7 @@ fn rows_that_are_taken_in_tell_what_was_needed(rt: HostRuntime) -> Result<(), Fa
         (true, Some(block), false),
         (false, None, false),
     ] {
-        let taken = table.take_in(row(rt.alloc(), Made::Reference(0x11, 6, deleted))?)?;
-        assert_eq!(rt; (taken.before, taken.change.is_live), (before, is_live));
+        assert_eq!(rt; taken(rt.alloc(), &mut table, deleted)?, (before, is_live));
     }
     assert_eq!(rt; table.len(), 1);
     Ok(())
@@ -112,23 +121,42 @@ fn spelled(alloc: Global, rows: &[AnyRow]) -> Result<Vec<u8>, Memory> {
     Ok(bytes)
 }
 
+// The bytes that the rows of partition 0x8e have in their order, one after the other.
+fn gathered(alloc: Global) -> Result<Vec<u8>, Memory> {
+    let mut rows = Vec::new(alloc);
+    for made in GATHERED {
+        rows.push(row(alloc, made)?)?;
+    }
+    spelled(alloc, rows.as_slice())
+}
+
+// Whether the table gives these rows in that order.
+fn are_gathered(alloc: Global, table: &Table<S3Schema>) -> Result<bool, Memory> {
+    let given = spelled(alloc, table.rows_of(0x8e)?.as_slice())?;
+    Ok(given == gathered(alloc)?)
+}
+
+// How many blocks were live in the partition when it is dropped, and how many rows it and the whole table have then.
+fn emptied(table: &mut Table<S3Schema>) -> Result<(usize, usize, usize), Memory> {
+    let blocks = table.drop_partition(0x8e)?.len();
+    Ok((blocks, table.rows_of(0x8e)?.len(), table.len()))
+}
+
+// The rows of the partition once more.
+fn merge_gathered(alloc: Global, table: &mut Table<S3Schema>) -> Result<(), Memory> {
+    for made in GATHERED {
+        table.merge_in(&row(alloc, made)?)?;
+    }
+    Ok(())
+}
+
 #[test]
 fn rows_of_a_partition_are_in_order(rt: HostRuntime) -> Result<(), Fail> {
-    let mut wanted = Vec::new(rt.alloc());
-    for made in GATHERED {
-        wanted.push(row(rt.alloc(), made)?)?;
-    }
-    let wanted = spelled(rt.alloc(), wanted.as_slice())?;
     let mut table = table(rt.alloc(), &SCATTERED)?;
-    let given = spelled(rt.alloc(), table.rows_of(0x8e)?.as_slice())?;
-    assert_eq!(rt; given.as_slice(), wanted.as_slice());
-    assert_eq!(rt; table.drop_partition(0x8e)?.len(), 1);
-    assert_eq!(rt; (table.rows_of(0x8e)?.len(), table.len()), (0, 2));
-    for made in GATHERED {
-        table.merge_in(&row(rt.alloc(), made)?)?;
-    }
-    let given = spelled(rt.alloc(), table.rows_of(0x8e)?.as_slice())?;
-    assert_eq!(rt; given.as_slice(), wanted.as_slice());
+    assert!(rt; are_gathered(rt.alloc(), &table)?);
+    assert_eq!(rt; emptied(&mut table)?, (1, 0, 2));
+    merge_gathered(rt.alloc(), &mut table)?;
+    assert!(rt; are_gathered(rt.alloc(), &table)?);
     Ok(())
 }
 
@@ -151,6 +179,10 @@ const TOPS: [&str; 4] = [
     "778347b0c5f063e5857163bf0559b1c690cdf9bace1175991d698a7050b66462",
 ];
 
+fn top_of(alloc: Global, rows: &[Made]) -> Result<Hash32, Memory> {
+    table(alloc, rows)?.top()
+}
+
 #[test]
 fn top_from_outside(rt: HostRuntime) -> Result<(), Fail> {
     let rows: [(&[Made], &str); 5] = [
@@ -161,7 +193,7 @@ fn top_from_outside(rt: HostRuntime) -> Result<(), Fail> {
         (&BACKWARDS, TOPS[3]),
     ];
     for (made, top) in rows {
-        let found = table(rt.alloc(), made)?.top()?;
+        let found = top_of(rt.alloc(), made)?;
         assert_eq!(rt; hex::encode(rt.alloc(), &found.0)?.as_str(), top);
     }
     Ok(())

@@ -112,6 +112,15 @@ fn many_pairs_in_any_order(rt: HostRuntime) -> Result<(), Fail> {
     Ok(())
 }
 
+// A trie of five keys: each begins with another byte from 1 to 5, and goes on with 7.
+fn fan(alloc: Global) -> Result<Trie, Fail> {
+    let mut trie: Trie = Trie::new(alloc);
+    for first in 1..6 {
+        changed(&mut trie, written(key(first, 7, 0), first))?;
+    }
+    Ok(trie)
+}
+
 // How many next bytes there are after a prefix, and their sum.
 fn next_bytes(trie: &Trie, prefix: &[u8]) -> Result<(usize, u64), Fail>
     requires { queued trie.now ≡ 0 }
@@ -124,17 +133,24 @@ fn next_bytes(trie: &Trie, prefix: &[u8]) -> Result<(usize, u64), Fail>
     Ok((children.len(), sum))
 }
 
+// The same at the empty prefix, at one with one byte below and at one with none.
+fn next_bytes_at_three(trie: &Trie) -> Result<[(usize, u64); 3], Fail>
+    requires { queued trie.now ≡ 0 }
+{
+    let top = next_bytes(trie, &[])?;
+    let below = next_bytes(trie, &[3])?;
+    let absent = next_bytes(trie, &[6])?;
+    Ok([top, below, absent])
+}
+
 #[test]
 fn what_stands_below_a_prefix(rt: HostRuntime) -> Result<(), Fail> {
-    let mut trie: Trie = Trie::new(rt.alloc());
-    for first in 1..6 {
-        changed(&mut trie, written(key(first, 7, 0), first))?;
-    }
+    let trie = fan(rt.alloc())?;
     assert!(rt; trie.settled());
-    assert_eq!(rt; next_bytes(&trie, &[])?, (5, 15));
-    assert_eq!(rt; next_bytes(&trie, &[3])?, (1, 7));
-    assert_eq!(rt; next_bytes(&trie, &[6])?, (0, 0));
-    assert!(rt; trie.only(&[4]).is_some());
-    assert!(rt; trie.only(&[]).is_none());
+    assert_eq!(rt; next_bytes_at_three(&trie)?, [(5, 15), (1, 7), (0, 0)]);
+    assert_eq!(rt;
+        (trie.only(&[4]).is_some(), trie.only(&[]).is_none()),
+        (true, true)
+    );
     Ok(())
 }
