@@ -1,6 +1,6 @@
 //! Messages as arrows.
 use crate::pieces::{Piece, add, add_all};
-use crate::scene::{Message, add_classes, x_of, y_of};
+use crate::scene::{Arrival, Message, add_classes, x_of, y_of};
 use crdt_core::{Bytes, Memory};
 
 /// How many rows a message may go down as a whole line; of one that goes further the ends alone are drawn.
@@ -36,6 +36,24 @@ fn begin_path(page: &mut Bytes, message: &Message<'_>, class: &'static str) -> R
     )?;
     add_classes(page, message.request, message.from, message.to)?;
     add(page, Piece::Text("\" d=\"M"))
+}
+
+/// Ends a path, with what is shown where it is pointed at.
+fn end_path(page: &mut Bytes, message: &Message<'_>) -> Result<(), Memory> {
+    add_all(
+        page,
+        &[
+            Piece::Text("\"><title>message "),
+            Piece::Number(message.number),
+            Piece::Text(", "),
+            Piece::Word(message.kind),
+            Piece::Text(" from node "),
+            Piece::Number(message.from),
+            Piece::Text(" to "),
+            Piece::Number(message.to),
+            Piece::Text("</title></path>"),
+        ],
+    )
 }
 
 /// Writes the number and kind of a message.
@@ -89,7 +107,6 @@ fn draw_line(page: &mut Bytes, message: &Message<'_>, end: u64) -> Result<(), Me
                 Piece::Number(near),
                 Piece::Text(","),
                 Piece::Number(end),
-                Piece::Text("\"/>"),
             ],
         );
     }
@@ -103,7 +120,6 @@ fn draw_line(page: &mut Bytes, message: &Message<'_>, end: u64) -> Result<(), Me
             Piece::Number(beside(message.to, message.from)),
             Piece::Text(","),
             Piece::Number(end),
-            Piece::Text("\"/>"),
         ],
     )
 }
@@ -136,50 +152,109 @@ fn draw_ends(page: &mut Bytes, message: &Message<'_>, end: u64) -> Result<(), Me
             Piece::Number(beside(to, here)),
             Piece::Text(","),
             Piece::Number(end),
-            Piece::Text("\"/>"),
         ],
     )
 }
 
-/// Draws a message that came at a row: dashed where it had come before.
-pub(crate) fn draw_arrow(page: &mut Bytes, message: &Message<'_>, row: u64) -> Result<(), Memory> {
+/// How high an arrow is at x, which lies between its ends.
+fn height_at(arrow: &Arrival<'_>, x: u64) -> u64 {
+    let (from, to) = (arrow.message.from, arrow.message.to);
+    let (begin, end) = (beside(from, to), beside(to, from));
+    let (top, bottom) = (y_of(arrow.message.row), y_of(arrow.row));
+    let width = begin.max(end).saturating_sub(begin.min(end));
+    if width == 0 {
+        return top;
+    }
+    let passed = x.max(begin).saturating_sub(x.min(begin));
+    let fall = bottom.saturating_sub(top).saturating_mul(passed);
+    top.saturating_add(fall / width).saturating_sub(4)
+}
+
+/// Whether an arrow goes through the place where the name of another one stands, on the far side of the lane that this comes to.
+fn crosses(arrow: &Arrival<'_>, named: &Arrival<'_>) -> bool {
+    if arrow.row.saturating_sub(arrow.message.row) > LONG {
+        return false;
+    }
+    let (from, to) = (arrow.message.from, arrow.message.to);
+    let lane = named.message.to;
+    let is_right = named.message.from < lane;
+    if from == to {
+        return is_right && to == lane && arrow.message.row <= named.row && named.row <= arrow.row;
+    }
+    let left = if is_right {
+        lane
+    } else {
+        lane.saturating_sub(1)
+    };
+    if from.min(to) > left || from.max(to) <= left {
+        return false;
+    }
+    let (near, far) = if is_right {
+        (x_of(lane).saturating_add(16), x_of(lane).saturating_add(76))
+    } else {
+        (x_of(lane).saturating_sub(16), x_of(lane).saturating_sub(76))
+    };
+    let (one, other) = (height_at(arrow, near), height_at(arrow, far));
+    let place = y_of(named.row);
+    one.min(other) <= place.saturating_add(2) && place.saturating_sub(9) <= one.max(other)
+}
+
+/// Whether the name at the end of an arrow would lie under another arrow. Each row has one that comes, so of those that come after
+/// it only the next ones can have been sent before.
+fn is_covered(arrivals: &[Arrival<'_>], place: usize, named: &Arrival<'_>) -> bool {
+    let first = place.saturating_sub(2);
+    for (i, arrow) in arrivals.iter().enumerate().skip(first).take(84) {
+        if i != place && crosses(arrow, named) {
+            return true;
+        }
+    }
+    false
+}
+
+/// Draws a message that came: dashed where it had come before. Its name is hidden where it would lie under another arrow.
+pub(crate) fn draw_arrow(
+    page: &mut Bytes,
+    arrivals: &[Arrival<'_>],
+    place: usize,
+    arrow: &Arrival<'_>,
+) -> Result<(), Memory> {
+    let message = &arrow.message;
     begin_path(page, message, if message.has_come { " again" } else { "" })?;
-    let end = y_of(row).saturating_sub(4);
-    if row.saturating_sub(message.row) > LONG {
+    let end = y_of(arrow.row).saturating_sub(4);
+    if arrow.row.saturating_sub(message.row) > LONG {
         draw_ends(page, message, end)?;
     } else {
         draw_line(page, message, end)?;
     }
+    end_path(page, message)?;
+    let is_hidden = is_covered(arrivals, place, arrow);
+    let y = y_of(arrow.row);
     if message.from < message.to {
-        draw_name(
-            page,
-            message,
-            "",
-            x_of(message.to).saturating_add(16),
-            y_of(row),
-        )
+        let x = x_of(message.to).saturating_add(16);
+        draw_name(page, message, if is_hidden { " h" } else { "" }, x, y)
     } else {
-        draw_name(
-            page,
-            message,
-            " e",
-            x_of(message.to).saturating_sub(16),
-            y_of(row),
-        )
+        let x = x_of(message.to).saturating_sub(16);
+        draw_name(page, message, if is_hidden { " h e" } else { " e" }, x, y)
     }
 }
 
-/// Draws a message that never came: dotted, with a cross.
+/// Draws a message that never came: dotted, with a cross; down to where it was lost, where that is known.
 pub(crate) fn draw_waiting(page: &mut Bytes, message: &Message<'_>) -> Result<(), Memory> {
-    let end = y_of(message.row);
+    let row = if message.lost > 0 {
+        message.lost
+    } else {
+        message.row
+    };
+    let end = y_of(row).saturating_sub(4);
     begin_path(page, message, " gone")?;
     draw_line(page, message, end)?;
+    end_path(page, message)?;
     if message.from < message.to {
         draw_name(
             page,
             message,
             " x e",
-            x_of(message.to).saturating_sub(16),
+            x_of(message.to).saturating_sub(20),
             end,
         )
     } else {
@@ -187,7 +262,7 @@ pub(crate) fn draw_waiting(page: &mut Bytes, message: &Message<'_>) -> Result<()
             page,
             message,
             " x",
-            x_of(message.to).saturating_add(16),
+            x_of(message.to).saturating_add(20),
             end,
         )
     }

@@ -1,7 +1,7 @@
 //! A transcript as a page of HTML with one drawing in SVG, and what the page of a layout needs of it.
 //!
-//! `transcript_page` reads a transcript line by line into a scene (`line` reads a line, `scene` follows what the lines
-//! tell, `arrows` draws messages), and `page` puts the drawing together with its style and the script of its filter,
+//! `transcript_page` reads a transcript line by line into a scene (`line` reads a line, `plan` a line of the schedule that may
+//! stand before it, `scene` follows what the lines tell, `arrows` draws messages, `marks` what else stands at the lanes), and `page` puts the drawing together with its style and the script of its filter,
 //! which are fixed texts (`style`, `script`). `pieces` adds text, numbers and words of the input to a page; words of the
 //! input are escaped there. `words` reads numbers.
 #![tactic(auto)]
@@ -9,8 +9,10 @@
 mod arrows;
 mod fault;
 mod line;
+mod marks;
 mod page;
 mod pieces;
+mod plan;
 mod scene;
 mod script;
 mod style;

@@ -4,8 +4,9 @@ use crate::words::{is_one_of, node_of, number_of};
 /// What a line of a transcript tells.
 #[derive(Clone, Copy)]
 pub(crate) enum Line<'a> {
-    /// An event's name, and the number of its answer: 0 where it was refused or has none.
+    /// An event's line in its schedule, its name, and the number of its answer: 0 where it was refused or has none.
     Event {
+        line: u64,
         name: &'a str,
         number: u64,
     },
@@ -30,8 +31,13 @@ pub(crate) enum Line<'a> {
         answer: &'a str,
         is_answered: bool,
     },
-    /// A line that tells of no node.
+    /// A line of a layout, or a key that a list shows.
     Other,
+    /// Whether all finished reads are fresh, and how many pairs of a read and a write were looked at.
+    Check {
+        is_fresh: bool,
+        pairs: u64,
+    },
     /// What a node has at the end, or the last line.
     Last,
 }
@@ -77,6 +83,11 @@ const CAUSES: [&str; 3] = ["expired", "restarted", "superseded"];
 /// Whether an event of this name begins a request.
 pub(crate) fn is_request(name: &str) -> bool {
     is_one_of(name, &REQUESTS)
+}
+
+/// Whether an event has this name.
+pub(crate) fn is_event(name: &str) -> bool {
+    is_one_of(name, &EVENTS)
 }
 
 fn are_numbers(words: &[&str]) -> bool {
@@ -138,24 +149,31 @@ fn ended<'a>(request: &str, cause: &'a str) -> Option<Line<'a>> {
 }
 
 fn event<'a>(line: &str, name: &'a str, number: u64) -> Option<Line<'a>> {
-    if number_of(line).is_none() || !is_one_of(name, &EVENTS) {
+    let line = number_of(line)?;
+    if !is_event(name) {
         return None;
     }
-    Some(Line::Event { name, number })
+    Some(Line::Event { line, name, number })
 }
 
 fn last(words: &[&str]) -> Option<Line<'static>> {
     match *words {
         ["node", node, "rows", rows, "blocks", blocks, "top", _]
             if are_numbers(&[node, rows, blocks]) => { Some(Line::Last) }
-        ["fresh", pairs] if are_numbers(&[pairs]) => Some(Line::Last),
-        ["stale", pairs] if are_numbers(&[pairs]) => Some(Line::Last),
+        ["fresh", pairs] => Some(Line::Check {
+            is_fresh: true,
+            pairs: number_of(pairs)?,
+        }),
+        ["stale", pairs] => Some(Line::Check {
+            is_fresh: false,
+            pairs: number_of(pairs)?,
+        }),
         ["end", events, requests, messages] if are_numbers(&[events, requests, messages]) => {
             Some(Line::Last)
         }
         ["key", _, _, size] if are_numbers(&[size]) => Some(Line::Other),
-        ["limit", "number"] => Some(Line::Other),
-        ["limit", "sent", bytes] if are_numbers(&[bytes]) => Some(Line::Other),
+        ["limit", "number"] => Some(Line::Last),
+        ["limit", "sent", bytes] if are_numbers(&[bytes]) => Some(Line::Last),
         _ if is_layout_line(words) => Some(Line::Other),
         _ => None,
     }

@@ -2,7 +2,9 @@
 use crate::arrows::{draw_arrow, draw_waiting};
 use crate::fault::Fault;
 use crate::line::{Line, is_request};
+use crate::marks::{draw_band, draw_note, draw_request};
 use crate::pieces::{Piece, add, add_all};
+use crate::plan::Plan;
 use crdt_core::{Bytes, Memory};
 use std::alloc::Global;
 
@@ -18,36 +20,59 @@ pub(crate) struct Message<'a> {
     /// The request that it was sent for, 0 for none.
     pub(crate) request: u64,
     pub(crate) has_come: bool,
+    /// Where it was lost, 0 where that isn't known.
+    pub(crate) lost: u64,
+}
+
+/// A message that came at a row.
+#[derive(Clone, Copy)]
+pub(crate) struct Arrival<'a> {
+    pub(crate) message: Message<'a>,
+    pub(crate) row: u64,
 }
 
 /// A request that began.
 #[derive(Clone, Copy)]
-struct Request<'a> {
-    kind: &'a str,
-    /// The node that coordinates it, 0 where it sent nothing.
-    node: u64,
-    begin: u64,
+pub(crate) struct Request<'a> {
+    pub(crate) kind: &'a str,
+    /// The node that coordinates it, 0 where that isn't known.
+    pub(crate) node: u64,
+    pub(crate) begin: u64,
     /// Where it ended, 0 where it didn't.
-    end: u64,
-    word: &'a str,
-    answer: &'a str,
-    is_answered: bool,
+    pub(crate) end: u64,
+    /// The line that tells its end.
+    pub(crate) text: &'a str,
+    pub(crate) word: &'a str,
+    pub(crate) answer: &'a str,
+    pub(crate) is_answered: bool,
 }
 
-/// A line that stands beside the lanes.
+/// A line that stands beside the lanes, or at its node's one.
 #[derive(Clone, Copy)]
-struct Note<'a> {
-    text: &'a str,
-    row: u64,
-    request: u64,
-    node: u64,
+pub(crate) struct Note<'a> {
+    pub(crate) text: &'a str,
+    /// The event's name; none for what isn't one.
+    pub(crate) name: &'a str,
+    /// The number in its answer, 0 for none.
+    pub(crate) number: u64,
+    pub(crate) row: u64,
+    pub(crate) request: u64,
+    pub(crate) node: u64,
+}
+
+/// What a check of the reads found.
+#[derive(Clone, Copy)]
+struct Check {
+    is_fresh: bool,
+    /// How many pairs of a read and a write before it were looked at.
+    pairs: u64,
 }
 
 /// The version since a row, 0 where there is none: of a node's own sync, or of the layout.
 #[derive(Clone, Copy)]
-struct Since {
-    version: u64,
-    row: u64,
+pub(crate) struct Since {
+    pub(crate) version: u64,
+    pub(crate) row: u64,
 }
 
 /// What the lines of a transcript told so far.
@@ -62,23 +87,33 @@ pub(crate) struct Scene<'a> {
     /// The greatest node.
     nodes: u64,
     messages: Vec<Message<'a>>,
+    arrivals: Vec<Arrival<'a>>,
     requests: Vec<Request<'a>>,
     notes: Vec<Note<'a>>,
+    /// What the schedule's lines say of their events, where it stands before.
+    plans: Vec<Plan>,
+    /// Whether a line of the transcript was taken.
+    has_begun: bool,
+    /// The last line that told of something else than a layout or a list.
+    before: &'a str,
+    check: Option<Check>,
     /// At 0 that of the layout, at N that of node N.
     versions: [Since; 17],
     pub(crate) bands: Bytes,
-    pub(crate) arrows: Bytes,
+    /// The lines of layouts and lists.
+    pub(crate) apart: Bytes,
+    /// The lines after the last event.
     pub(crate) last: Bytes,
 }
 
 /// Where row `row` is.
 pub(crate) fn y_of(row: u64) -> u64 {
-    row.saturating_mul(14).saturating_add(16)
+    row.saturating_mul(14).saturating_add(30)
 }
 
 /// Where the lane of a node is.
 pub(crate) fn x_of(node: u64) -> u64 {
-    node.saturating_mul(130).saturating_add(400)
+    node.saturating_mul(130).saturating_add(170)
 }
 
 impl<'a> Scene<'a> {
@@ -89,11 +124,16 @@ impl<'a> Scene<'a> {
             is_acting: false,
             nodes: 1,
             messages: Vec::new(alloc),
+            arrivals: Vec::new(alloc),
             requests: Vec::new(alloc),
             notes: Vec::new(alloc),
+            plans: Vec::new(alloc),
+            has_begun: false,
+            before: "",
+            check: None,
             versions: [Since { version: 0, row: 0 }; 17],
             bands: Bytes::new(alloc),
-            arrows: Bytes::new(alloc),
+            apart: Bytes::new(alloc),
             last: Bytes::new(alloc),
         }
     }
@@ -112,11 +152,20 @@ impl<'a> Scene<'a> {
         self.row = self.row.saturating_add(1);
     }
 
-    fn note(&mut self, text: &'a str, request: u64, node: u64) -> Result<(), Fault> {
+    fn note(
+        &mut self,
+        text: &'a str,
+        name: &'a str,
+        number: u64,
+        request: u64,
+        node: u64,
+    ) -> Result<(), Fault> {
         self.go_down();
         let row = self.row;
         self.notes.push(Note {
             text,
+            name,
+            number,
             row,
             request,
             node,
@@ -150,7 +199,7 @@ impl<'a> Scene<'a> {
         Ok(())
     }
 
-    fn begin_request(&mut self, kind: &'a str, number: u64) -> Result<(), Fault> {
+    fn begin_request(&mut self, kind: &'a str, number: u64, node: u64) -> Result<(), Fault> {
         if self.requests.len() as u64 != number.saturating_sub(1) {
             return Err(Fault::Bad);
         }
@@ -158,9 +207,10 @@ impl<'a> Scene<'a> {
         let begin = self.row;
         self.requests.push(Request {
             kind,
-            node: 0,
+            node,
             begin,
             end: 0,
+            text: "",
             word: "",
             answer: "",
             is_answered: false,
@@ -168,13 +218,55 @@ impl<'a> Scene<'a> {
         Ok(())
     }
 
-    fn event(&mut self, text: &'a str, name: &'a str, number: u64) -> Result<(), Fault> {
+    /// What the schedule says of its line with this number.
+    fn plan_of(&self, line: u64) -> Plan {
+        let place = line.saturating_sub(1) as usize;
+        match self.plans.get(place) {
+            Some(plan) => *plan,
+            None => Plan {
+                node: 0,
+                message: 0,
+                request: 0,
+            },
+        }
+    }
+
+    /// Whether the lines so far were a schedule's.
+    pub(crate) fn is_before_transcript(&self) -> bool {
+        !self.has_begun
+    }
+
+    /// Adds what a line of the schedule says of its event.
+    pub(crate) fn expect(&mut self, plan: Plan) -> Result<(), Fault> {
+        self.plans.push(plan)?;
+        Ok(())
+    }
+
+    /// The node that the plan names, or that of the message or request that it names.
+    fn node_of(&mut self, plan: &Plan) -> u64 {
+        if plan.node > 0 {
+            return plan.node;
+        }
+        if let Ok(message) = self.message(plan.message) {
+            return message.to;
+        }
+        if let Ok(request) = self.request(plan.request) {
+            return request.node;
+        }
+        0
+    }
+
+    fn event(&mut self, text: &'a str, line: u64, name: &'a str, number: u64) -> Result<(), Fault> {
         let begins = number > 0 && is_request(name);
-        self.note(text, if begins { number } else { 0 }, 0)?;
+        let plan = self.plan_of(line);
+        let node = self.node_of(&plan);
+        self.nodes = self.nodes.max(node);
+        let shown = number.max(plan.message).max(plan.request);
+        self.note(text, name, shown, if begins { number } else { 0 }, node)?;
         self.request = 0;
         self.is_acting = true;
         if begins {
-            self.begin_request(name, number)?;
+            self.begin_request(name, number, node)?;
         }
         if name == "apply" && number > 0 {
             self.begin_version(0, number)?;
@@ -182,18 +274,40 @@ impl<'a> Scene<'a> {
         if name == "trio" && text.ends_with(" ok") {
             self.begin_version(0, 1)?;
         }
+        if name == "lose" && text.ends_with(" ok") {
+            self.lose(plan.message);
+        }
         Ok(())
+    }
+
+    /// A message was lost at this row.
+    fn lose(&mut self, number: u64) {
+        let row = self.row;
+        if let Ok(message) = self.message(number) {
+            message.lost = row;
+        }
     }
 
     fn got(&mut self, number: u64) -> Result<(), Fault> {
         self.go_down();
+        let row = self.row;
         let message = self.message(number)?;
         let known = *message;
         message.has_come = true;
         self.request = known.request;
         self.is_acting = false;
-        draw_arrow(&mut self.arrows, &known, self.row)?;
+        self.arrivals.push(Arrival {
+            message: known,
+            row,
+        })?;
         Ok(())
+    }
+
+    /// The node of the last line, where that was an event whose node wasn't known.
+    fn know_last(&mut self, node: u64) {
+        if let Some(note) = self.notes.last_mut() {
+            note.node = node;
+        }
     }
 
     /// The event's node is known once it sends.
@@ -202,9 +316,7 @@ impl<'a> Scene<'a> {
         if !self.is_acting {
             return;
         }
-        if let Some(note) = self.notes.last_mut() {
-            note.node = node;
-        }
+        self.know_last(node);
         if let Ok(request) = self.request(self.request) {
             request.node = node;
         }
@@ -225,13 +337,14 @@ impl<'a> Scene<'a> {
             row,
             request,
             has_come: false,
+            lost: 0,
         })?;
         Ok(())
     }
 
     fn synced(&mut self, text: &'a str, node: u64, version: u64) -> Result<(), Fault> {
         self.nodes = self.nodes.max(node);
-        self.note(text, 0, node)?;
+        self.note(text, "synced", version, 0, node)?;
         self.begin_version(node, version)
     }
 
@@ -243,17 +356,40 @@ impl<'a> Scene<'a> {
         answer: &'a str,
         is_answered: bool,
     ) -> Result<(), Fault> {
-        self.note(text, number, 0)?;
+        let node = self.request(number)?.node;
+        if self.is_acting && self.is_last_unknown() {
+            self.know_last(node);
+        }
+        self.note(text, "", 0, number, node)?;
         let row = self.row;
         let request = self.request(number)?;
         request.end = row;
+        request.text = text;
         request.word = word;
         request.answer = answer;
         request.is_answered = is_answered;
-        let node = request.node;
-        if let Some(note) = self.notes.last_mut() {
-            note.node = node;
+        Ok(())
+    }
+
+    /// Whether the last line was one of an event whose node isn't known.
+    fn is_last_unknown(&self) -> bool {
+        match self.notes.last() {
+            Some(note) => note.node == 0 && !note.name.is_empty(),
+            None => false,
         }
+    }
+
+    /// Adds a line of a layout or a list, under the line that it belongs to.
+    fn put_apart(&mut self, text: &'a str) -> Result<(), Fault> {
+        if !self.before.is_empty() {
+            let before = self.before;
+            add_all(&mut self.apart, &[Piece::Word(before), Piece::Text("\n")])?;
+            self.before = "";
+        }
+        add_all(
+            &mut self.apart,
+            &[Piece::Text("  "), Piece::Word(text), Piece::Text("\n")],
+        )?;
         Ok(())
     }
 
@@ -264,8 +400,13 @@ impl<'a> Scene<'a> {
 
     /// Adds what a line with this text tells.
     pub(crate) fn take(&mut self, text: &'a str, line: Line<'a>) -> Result<(), Fault> {
+        self.has_begun = true;
+        if let Line::Other = line {
+            return self.put_apart(text);
+        }
+        self.before = text;
         match line {
-            Line::Event { name, number } => self.event(text, name, number),
+            Line::Event { line, name, number } => self.event(text, line, name, number),
             Line::Got(number) => self.got(number),
             Line::Sent {
                 message,
@@ -280,8 +421,60 @@ impl<'a> Scene<'a> {
                 answer,
                 is_answered,
             } => self.ended(text, request, word, answer, is_answered),
-            Line::Other => self.note(text, 0, 0),
-            Line::Last => self.end_line(text),
+            Line::Check { is_fresh, pairs } => {
+                self.check = Some(Check { is_fresh, pairs });
+                self.end_line(text)
+            }
+            Line::Other | Line::Last => self.end_line(text),
+        }
+    }
+
+    /// How many requests finished with an answer, and how many ended without one.
+    fn ends(&self) -> (u64, u64) {
+        let mut answered = 0u64;
+        let mut broken = 0u64;
+        for request in self.requests.iter() {
+            if request.is_answered {
+                answered = answered.saturating_add(1);
+            } else if request.end > 0 {
+                broken = broken.saturating_add(1);
+            }
+        }
+        (answered, broken)
+    }
+
+    /// Says in a sentence what is drawn, and in another what the check found.
+    pub(crate) fn describe(&self, page: &mut Bytes) -> Result<(), Memory> {
+        let requests = self.requests.len() as u64;
+        let (answered, broken) = self.ends();
+        add_all(
+            page,
+            &[
+                Piece::Text("<p>"),
+                Piece::Amount(requests),
+                Piece::Text(" requests and "),
+                Piece::Amount(self.messages.len() as u64),
+                Piece::Text(" messages at "),
+                Piece::Amount(self.nodes),
+                Piece::Text(" nodes: "),
+                Piece::Amount(answered),
+                Piece::Text(" requests were answered, "),
+                Piece::Amount(broken),
+                Piece::Text(" ended without an answer, "),
+                Piece::Amount(requests.saturating_sub(answered).saturating_sub(broken)),
+                Piece::Text(
+                    " are open. Time goes down; each node has a lane, arrows are messages from where they were sent to where they came, and bars are requests with their answers.</p>\n",
+                ),
+            ],
+        )?;
+        match self.check {
+            Some(check) => describe_check(page, check),
+            None => add(
+                page,
+                Piece::Text(
+                    "<p>Whether its reads are fresh was not looked at here; <code>replay --check</code> does.</p>\n",
+                ),
+            ),
         }
     }
 
@@ -296,11 +489,15 @@ impl<'a> Scene<'a> {
         Ok(())
     }
 
-    /// Draws the messages that never came.
-    pub(crate) fn draw_waiting(&mut self) -> Result<(), Memory> {
+    /// Draws the messages: those that came, then those that never did.
+    pub(crate) fn draw_messages(&self, page: &mut Bytes) -> Result<(), Memory> {
+        let arrivals = self.arrivals.as_slice();
+        for (place, arrow) in arrivals.iter().enumerate() {
+            draw_arrow(page, arrivals, place, arrow)?;
+        }
         for message in self.messages.iter() {
             if !message.has_come {
-                draw_waiting(&mut self.arrows, message)?;
+                draw_waiting(page, message)?;
             }
         }
         Ok(())
@@ -316,24 +513,37 @@ impl<'a> Scene<'a> {
         Ok(())
     }
 
-    /// Writes the lines that stand beside the lanes.
+    /// Writes the lines that stand beside the lanes, and the events at their nodes' lanes.
     pub(crate) fn draw_notes(&self, page: &mut Bytes) -> Result<(), Memory> {
         for note in self.notes.iter() {
-            add(page, Piece::Text("<text class=\"t"))?;
-            add_classes(page, note.request, note.node, note.node)?;
-            add_all(
-                page,
-                &[
-                    Piece::Text("\" x=\"8\" y=\""),
-                    Piece::Number(y_of(note.row)),
-                    Piece::Text("\">"),
-                    Piece::Word(note.text),
-                    Piece::Text("</text>\n"),
-                ],
-            )?;
+            draw_note(page, note)?;
         }
         Ok(())
     }
+}
+
+/// Says what a check found.
+fn describe_check(page: &mut Bytes, check: Check) -> Result<(), Memory> {
+    add_all(
+        page,
+        &[
+            Piece::Text(if check.is_fresh {
+                "<p><b>fresh "
+            } else {
+                "<p><b>stale "
+            }),
+            Piece::Number(check.pairs),
+            Piece::Text(if check.is_fresh {
+                "</b>: all answered reads are fresh by the records of this run; "
+            } else {
+                "</b>: some answered read isn't fresh by the records of this run; "
+            }),
+            Piece::Amount(check.pairs),
+            Piece::Text(
+                " pairs of a read and a write that was acknowledged before it were looked at.</p>\n",
+            ),
+        ],
+    )
 }
 
 /// The classes by which the filter finds what belongs to a request and to nodes.
@@ -348,146 +558,4 @@ pub(crate) fn add_classes(page: &mut Bytes, request: u64, a: u64, b: u64) -> Res
         add_all(page, &[Piece::Text(" n"), Piece::Number(b)])?;
     }
     Ok(())
-}
-
-/// Draws the band of a version from where it began to a row, where there is one.
-fn draw_band(page: &mut Bytes, node: u64, since: Since, end: u64) -> Result<(), Memory> {
-    if since.version == 0 {
-        return Ok(());
-    }
-    let (left, right) = if node == 0 {
-        (440, 2570)
-    } else {
-        (x_of(node).saturating_sub(34), x_of(node).saturating_add(34))
-    };
-    let (top, bottom) = (y_of(since.row), y_of(end));
-    let name = if node == 0 {
-        "layout version "
-    } else {
-        "synced "
-    };
-    add_all(
-        page,
-        &[
-            Piece::Text(if node == 0 {
-                "<path class=\"k v"
-            } else {
-                "<path class=\"k s"
-            }),
-            Piece::Number(since.version % 3),
-            Piece::Text("\" d=\"M"),
-            Piece::Number(left),
-            Piece::Text(","),
-            Piece::Number(top),
-            Piece::Text("L"),
-            Piece::Number(right),
-            Piece::Text(","),
-            Piece::Number(top),
-            Piece::Text(" "),
-            Piece::Number(right),
-            Piece::Text(","),
-            Piece::Number(bottom),
-            Piece::Text(" "),
-            Piece::Number(left),
-            Piece::Text(","),
-            Piece::Number(bottom),
-            Piece::Text("Z\"/><text class=\"k w\" x=\""),
-            Piece::Number(left.saturating_add(2)),
-            Piece::Text("\" y=\""),
-            Piece::Number(top),
-            Piece::Text("\">"),
-            Piece::Text(name),
-            Piece::Number(since.version),
-            Piece::Text("</text>\n"),
-        ],
-    )
-}
-
-/// Draws a request as a bar, from where it began to where it ended or to the last row.
-fn draw_request(
-    page: &mut Bytes,
-    request: &Request<'_>,
-    number: u64,
-    rows: u64,
-) -> Result<(), Memory> {
-    let middle = x_of(request.node);
-    let x = middle.saturating_sub(8).saturating_add(number % 4 * 5);
-    let is_open = request.end == 0;
-    add(page, Piece::Text("<path class=\"b"))?;
-    add(
-        page,
-        Piece::Text(if is_open {
-            " open"
-        } else if request.is_answered {
-            ""
-        } else {
-            " broken"
-        }),
-    )?;
-    add_classes(page, number, request.node, request.node)?;
-    add_all(
-        page,
-        &[
-            Piece::Text("\" d=\"M"),
-            Piece::Number(x),
-            Piece::Text(","),
-            Piece::Number(y_of(request.begin).saturating_sub(8)),
-            Piece::Text("L"),
-            Piece::Number(x),
-            Piece::Text(","),
-            Piece::Number(y_of(if is_open { rows } else { request.end })),
-            Piece::Text("\"/>"),
-        ],
-    )?;
-    draw_words(
-        page,
-        number,
-        request.node,
-        request.begin,
-        &[
-            Piece::Number(number),
-            Piece::Text(" "),
-            Piece::Word(request.kind),
-        ],
-    )?;
-    if is_open {
-        return Ok(());
-    }
-    draw_words(
-        page,
-        number,
-        request.node,
-        request.end,
-        &[
-            Piece::Number(number),
-            Piece::Text(" "),
-            Piece::Word(request.word),
-            Piece::Text(" "),
-            Piece::Word(request.answer),
-        ],
-    )
-}
-
-/// Writes words about a request beside the lane of its node.
-fn draw_words(
-    page: &mut Bytes,
-    number: u64,
-    node: u64,
-    row: u64,
-    words: &[Piece<'_>],
-) -> Result<(), Memory> {
-    add(page, Piece::Text("<text class=\"q e"))?;
-    add_classes(page, number, node, node)?;
-    add_all(
-        page,
-        &[
-            Piece::Text("\" x=\""),
-            Piece::Number(x_of(node).saturating_sub(14)),
-            Piece::Text("\" y=\""),
-            Piece::Number(y_of(row)),
-            Piece::Text("\">"),
-        ],
-    )?;
-    add_all(page, words)?;
-    add(page, Piece::Text("</text>\n"))
 }

@@ -2,7 +2,7 @@
 
 /// Shows what belongs to a request and a node alone, and closes the rows that are empty then: those that stand in the form, or
 /// at first those after `#` in the page's address, as `#request=5&node=2`. Each y stands after a comma or in an attribute of
-/// its own.
+/// its own. The names of the lanes stay in sight.
 pub(crate) const SCRIPT: &str =
     "const svg=document.getElementById('s'),tall=svg.getAttribute('height');
 const all=[...svg.querySelectorAll('[class]')].map(e=>({e,c:e.classList,d:e.getAttribute('d'),y:e.getAttribute('y'),k:e.classList.contains('k')}));
@@ -29,9 +29,11 @@ function show(){
     else a.e.setAttribute('y',to(+a.y));
   }
   svg.setAttribute('height',part?(rows.length+4)*14:tall);
-  document.getElementById('said').textContent=part?rows.length+' of '+Math.floor((tall-46)/14)+' rows':'';
+  document.getElementById('said').textContent=part?rows.length+' of '+Math.floor((tall-60)/14)+' rows':'';
 }
 request.addEventListener('input',show);node.addEventListener('change',show);
+const names=document.getElementById('names');
+addEventListener('scroll',()=>names.setAttribute('transform','translate(0,'+Math.max(0,30-svg.getBoundingClientRect().top)+')'));
 const asked=new URLSearchParams(location.hash.slice(1));
 if(location.hash){request.value=asked.get('request');node.value=asked.get('node')||'';show()}
 ";

@@ -4,6 +4,7 @@ ghost use Rattle.std.specs.Prelude.{◌≡◌, ◌⊎◌, ◌++◌, ◌∷◌, [
 use crate::fault::{Fault, Stop};
 use crate::line::line_of;
 use crate::page::page_of;
+use crate::plan::{is_planned, plan_of};
 use crate::scene::Scene;
 use crdt_core::Bytes;
 use std::alloc::Global;
@@ -13,6 +14,9 @@ use std::str::from_utf8;
 fn take_line<'a>(alloc: Global, scene: &mut Scene<'a>, bytes: &'a [u8]) -> Result<(), Fault> {
     let text = from_utf8(bytes).ok().ok_or(Fault::Bad)?;
     let words: Vec<&'a str> = text.split(' ').collect(alloc)?;
+    if scene.is_before_transcript() && is_planned(words.as_slice()) {
+        return scene.expect(plan_of(words.as_slice()));
+    }
     let line = line_of(words.as_slice()).ok_or(Fault::Bad)?;
     scene.take(text, line)
 }
@@ -38,7 +42,7 @@ pub fn without_last_feed(bytes: &[u8]) -> &[u8]
     }
 }
 
-/// The page of a transcript, or the first line that is none of a transcript or doesn't go on from those before it.
+/// The page of a transcript, which its schedule may precede, or the first line that is none of a transcript or doesn't go on from those before it.
 pub fn transcript_page(alloc: Global, bytes: &[u8]) -> Result<Bytes, Stop> {
     let mut scene = Scene::new(alloc);
     let mut number = 0u64;
