@@ -199,12 +199,16 @@ fn crosses(arrow: &Arrival<'_>, named: &Arrival<'_>) -> bool {
     one.min(other) <= place.saturating_add(2) && place.saturating_sub(9) <= one.max(other)
 }
 
-/// Whether the name at the end of an arrow would lie under another arrow. Each row has one that comes, so of those that come after
-/// it only the next ones can have been sent before.
+/// Whether the name at the end of an arrow would lie under another arrow. Each row has one that comes, so of those that come
+/// later only the next ones can have been sent before this one came.
 fn is_covered(arrivals: &[Arrival<'_>], place: usize, named: &Arrival<'_>) -> bool {
     let first = place.saturating_sub(2);
-    for (i, arrow) in arrivals.iter().enumerate().skip(first).take(84) {
-        if i != place && crosses(arrow, named) {
+    let last = place.saturating_add(82).min(arrivals.len());
+    let Some(near) = arrivals.get(first..last) else {
+        return false;
+    };
+    for arrow in near {
+        if arrow.row != named.row && crosses(arrow, named) {
             return true;
         }
     }

@@ -69,7 +69,7 @@ pub(crate) const LEGEND: &str = "<details><summary>What lines and colours mean</
 <path class=\"b open\" d=\"M712,48L760,48\"/><text x=\"768\" y=\"52\">open to the end</text>
 <path class=\"a\" d=\"M736,61L741,66 736,71 731,66Z\"/><text x=\"768\" y=\"70\">an event at a node</text>
 <path class=\"s1\" d=\"M712,79L728,79 728,89 712,89Z\"/><path class=\"s2\" d=\"M728,79L744,79 744,89 728,89Z\"/><path class=\"s0\" d=\"M744,79L760,79 760,89 744,89Z\"/><text x=\"768\" y=\"88\">to what version a node is synced</text>
-<path class=\"v1\" d=\"M712,95L728,95 728,109 712,109Z\"/><path class=\"v2\" d=\"M728,95L744,95 744,109 728,109Z\"/><path class=\"v0\" d=\"M744,95L760,95 760,109 744,109Z\"/><text x=\"768\" y=\"106\">the layout's version</text>
+<path class=\"v1\" d=\"M700,95L720,95 720,115 700,115Z\" style=\"stroke:#777\"/><path class=\"v2\" d=\"M720,95L740,95 740,115 720,115Z\" style=\"stroke:#777\"/><path class=\"v0\" d=\"M740,95L760,95 760,115 740,115Z\" style=\"stroke:#777\"/><text x=\"768\" y=\"106\">the version of the layout</text>
 </svg>
 </details>
 <details><summary>The nodes at the end, with the hashes over their roots</summary><pre>
@@ -86,5 +86,5 @@ pub(crate) const CONTROLS: &str =
 
 /// The patterns of versions, and the ends of arrows.
 pub(crate) const MARKERS: &str =
-    "<defs><pattern id=\"slant\" width=\"14\" height=\"14\" patternUnits=\"userSpaceOnUse\"><path d=\"M0,14L14,0\" style=\"stroke:#e4ebf0;stroke-width:2\"/></pattern><pattern id=\"grid\" width=\"14\" height=\"14\" patternUnits=\"userSpaceOnUse\"><path d=\"M7,0L7,14\" style=\"stroke:#efe6d2;stroke-width:3\"/></pattern><marker id=\"head\" viewBox=\"0 0 8 8\" refX=\"7\" refY=\"4\" markerWidth=\"7\" markerHeight=\"7\" markerUnits=\"userSpaceOnUse\" orient=\"auto\"><path d=\"M0,0L8,4L0,8Z\" style=\"fill:context-stroke\"/></marker><marker id=\"cross\" viewBox=\"0 0 8 8\" refX=\"4\" refY=\"4\" markerWidth=\"9\" markerHeight=\"9\" markerUnits=\"userSpaceOnUse\"><path d=\"M1,1L7,7M7,1L1,7\" style=\"stroke:#a33c00;stroke-width:2\"/></marker></defs>
+    "<defs><pattern id=\"slant\" width=\"14\" height=\"14\" patternUnits=\"userSpaceOnUse\"><path d=\"M0,14L14,0\" style=\"stroke:#dfe7ee;stroke-width:2\"/></pattern><pattern id=\"grid\" width=\"14\" height=\"14\" patternUnits=\"userSpaceOnUse\"><path d=\"M7,0L7,14\" style=\"stroke:#ece0c8;stroke-width:3\"/></pattern><marker id=\"head\" viewBox=\"0 0 8 8\" refX=\"7\" refY=\"4\" markerWidth=\"7\" markerHeight=\"7\" markerUnits=\"userSpaceOnUse\" orient=\"auto\"><path d=\"M0,0L8,4L0,8Z\" style=\"fill:context-stroke\"/></marker><marker id=\"cross\" viewBox=\"0 0 8 8\" refX=\"4\" refY=\"4\" markerWidth=\"9\" markerHeight=\"9\" markerUnits=\"userSpaceOnUse\"><path d=\"M1,1L7,7M7,1L1,7\" style=\"stroke:#a33c00;stroke-width:2\"/></marker></defs>
 ";
