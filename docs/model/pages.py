@@ -7,8 +7,9 @@ usage: docs/model/pages.py            writes all that is listed below
 
 In a page of docs/model, between a line `<!-- definitions CRATE:MODULE:NAME .. -->` and the next line `<!-- end -->`, stand
 the definitions of specs/ to which the named ones unfold, each after those on which it stands, and with them the types of
-the code that they name. CRATE:FUNCTION names all that the clauses of a public function cite. What stands further up, or on
-an earlier page, isn't shown again: PAGES is the order in which pages are read.
+the code that they name. CRATE:FUNCTION names all that the clauses of a public function cite, :NAME the one definition of
+that name, whatever its crate. What stands further up, or on an earlier page, isn't shown again: PAGES is the order in which
+pages are read.
 In README.md and docs/PROMISES.md each link to a page whose text is `N definitions, M lines` has the numbers of all to
 which the first named definitions of the page unfold, and `proves N crates first` has the crates below garage_lab.
 In docs/MAP.md the table of crates, between the lines `<!-- crates -->` and `<!-- end -->`, is that of crates.txt, whose
@@ -87,14 +88,14 @@ class Sources:
         comment, now, frames = [], None, []
         for number, line in enumerate(lines, 1):
             stripped, indent = line.strip(), len(line) - len(line.lstrip())
-            found = re.match(r'use Rattle\.(\w+)\.specs\.([\w.]+?)(?:\.\{(.*)\}| as (\w+))$', line)
+            found = re.match(r'(?:pub )?use Rattle\.(\w+)\.specs\.([\w.]+?)(?:\.\{(.*)\}| as (\w+))$', line)
             if found:
                 self.add_import(names, *found.groups())
             if stripped and not (now and indent > now.indent):
                 while frames and frames[-1][0] >= indent:
                     frames.pop()
             begins = HEAD.match(line) if indent == (frames[-1][0] + 2 if frames else 0) else None
-            if begins and begins[3] == 'mod':
+            if begins and begins[3] in ('mod', 'use'):
                 begins = None
             if stripped.startswith('--') and not (now and indent > now.indent):
                 comment, now = comment + [stripped], None
@@ -185,6 +186,8 @@ class Sources:
         else:
             key = (crate, module, parts[0])
         found = self.definitions.get(key) or self.constructors.get(key)
+        if not found and key[:2] != (crate, module) and key[2] in self.imports.get(key[:2], {}):
+            return self.meant(key[0], key[1], key[2])
         return [found] if found else []
 
     def below(self, definition):
@@ -262,6 +265,9 @@ def cited(sources, crate, function):
 def named(sources, name):
     """The definitions that a name in a page's mark stands for."""
     key = tuple(name.split(':'))
+    if not key[0]:
+        found = [d for d in sources.definitions.values() if d.name == key[1]]
+        return found if len(found) == 1 else []
     if len(key) == 2:
         return cited(sources, *key)
     return [sources.definitions[key]] if key in sources.definitions else []

@@ -253,6 +253,10 @@ pub(crate) fn draw_waiting(page: &mut Bytes, message: &Message<'_>) -> Result<()
     begin_path(page, message, " gone")?;
     draw_line(page, message, end)?;
     end_path(page, message)?;
+    if message.lost > 0 {
+        // The event's mark names it.
+        return Ok(());
+    }
     if message.from < message.to {
         draw_name(
             page,

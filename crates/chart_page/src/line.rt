@@ -4,10 +4,11 @@ use crate::words::{is_one_of, node_of, number_of};
 /// What a line of a transcript tells.
 #[derive(Clone, Copy)]
 pub(crate) enum Line<'a> {
-    /// An event's line in its schedule, its name, and the number of its answer: 0 where it was refused or has none.
+    /// An event's line in its schedule, its name, whether it was done or refused, and the number of its answer, 0 for none.
     Event {
         line: u64,
         name: &'a str,
+        is_done: bool,
         number: u64,
     },
     /// A message came.
@@ -148,12 +149,17 @@ fn ended<'a>(request: &str, cause: &'a str) -> Option<Line<'a>> {
     })
 }
 
-fn event<'a>(line: &str, name: &'a str, number: u64) -> Option<Line<'a>> {
+fn event<'a>(line: &str, name: &'a str, is_done: bool, number: u64) -> Option<Line<'a>> {
     let line = number_of(line)?;
     if !is_event(name) {
         return None;
     }
-    Some(Line::Event { line, name, number })
+    Some(Line::Event {
+        line,
+        name,
+        is_done,
+        number,
+    })
 }
 
 fn last(words: &[&str]) -> Option<Line<'static>> {
@@ -190,13 +196,15 @@ pub(crate) fn line_of<'a>(words: &[&'a str]) -> Option<Line<'a>> {
         }),
         ["done", request, word, answer, ..] => done(request, word, answer),
         ["ended", request, cause] => ended(request, cause),
-        [line, name, "refused", _, ..] => event(line, name, 0),
-        [line, name, "ok"] => event(line, name, 0),
+        [line, name, "refused", _, ..] => event(line, name, false, 0),
+        [line, name, "ok"] => event(line, name, true, 0),
         [line, name, "ok", "idle", read, least] if are_numbers(&[read, least]) => {
-            event(line, name, 0)
+            event(line, name, true, 0)
         }
-        [line, name, "ok", number] => event(line, name, number_of(number)?),
-        [line, name, "ok", rows, blocks] if are_numbers(&[rows, blocks]) => event(line, name, 0),
+        [line, name, "ok", number] => event(line, name, true, number_of(number)?),
+        [line, name, "ok", rows, blocks] if are_numbers(&[rows, blocks]) => {
+            event(line, name, true, 0)
+        }
         _ => last(words),
     }
 }

@@ -232,5 +232,8 @@ fn draw_mark(page: &mut Bytes, note: &Note<'_>) -> Result<(), Memory> {
     if note.number > 0 {
         add_all(page, &[Piece::Text(" "), Piece::Number(note.number)])?;
     }
+    if note.is_refused {
+        add(page, Piece::Text(" refused"))?;
+    }
     add(page, Piece::Text("</text>\n"))
 }

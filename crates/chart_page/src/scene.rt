@@ -53,8 +53,9 @@ pub(crate) struct Note<'a> {
     pub(crate) text: &'a str,
     /// The event's name; none for what isn't one.
     pub(crate) name: &'a str,
-    /// The number in its answer, 0 for none.
+    /// The number in its answer or of what it names, 0 for none.
     pub(crate) number: u64,
+    pub(crate) is_refused: bool,
     pub(crate) row: u64,
     pub(crate) request: u64,
     pub(crate) node: u64,
@@ -166,6 +167,7 @@ impl<'a> Scene<'a> {
             text,
             name,
             number,
+            is_refused: false,
             row,
             request,
             node,
@@ -256,7 +258,14 @@ impl<'a> Scene<'a> {
         0
     }
 
-    fn event(&mut self, text: &'a str, line: u64, name: &'a str, number: u64) -> Result<(), Fault> {
+    fn event(
+        &mut self,
+        text: &'a str,
+        line: u64,
+        name: &'a str,
+        is_done: bool,
+        number: u64,
+    ) -> Result<(), Fault> {
         let begins = number > 0 && is_request(name);
         let plan = self.plan_of(line);
         let node = self.node_of(&plan);
@@ -271,13 +280,23 @@ impl<'a> Scene<'a> {
         if name == "apply" && number > 0 {
             self.begin_version(0, number)?;
         }
-        if name == "trio" && text.ends_with(" ok") {
+        if name == "trio" && is_done {
             self.begin_version(0, 1)?;
         }
-        if name == "lose" && text.ends_with(" ok") {
+        if name == "lose" && is_done {
             self.lose(plan.message);
         }
+        if !is_done {
+            self.refuse_last();
+        }
         Ok(())
+    }
+
+    /// The event of the last line was refused.
+    fn refuse_last(&mut self) {
+        if let Some(note) = self.notes.last_mut() {
+            note.is_refused = true;
+        }
     }
 
     /// A message was lost at this row.
@@ -406,7 +425,12 @@ impl<'a> Scene<'a> {
         }
         self.before = text;
         match line {
-            Line::Event { line, name, number } => self.event(text, line, name, number),
+            Line::Event {
+                line,
+                name,
+                is_done,
+                number,
+            } => self.event(text, line, name, is_done, number),
             Line::Got(number) => self.got(number),
             Line::Sent {
                 message,
@@ -450,20 +474,20 @@ impl<'a> Scene<'a> {
         add_all(
             page,
             &[
-                Piece::Text("<p>"),
+                Piece::Text("<p>Requests: "),
                 Piece::Amount(requests),
-                Piece::Text(" requests and "),
-                Piece::Amount(self.messages.len() as u64),
-                Piece::Text(" messages at "),
-                Piece::Amount(self.nodes),
-                Piece::Text(" nodes: "),
+                Piece::Text(" ("),
                 Piece::Amount(answered),
-                Piece::Text(" requests were answered, "),
+                Piece::Text(" answered, "),
                 Piece::Amount(broken),
                 Piece::Text(" ended without an answer, "),
                 Piece::Amount(requests.saturating_sub(answered).saturating_sub(broken)),
+                Piece::Text(" open). Messages: "),
+                Piece::Amount(self.messages.len() as u64),
+                Piece::Text(". Nodes: "),
+                Piece::Amount(self.nodes),
                 Piece::Text(
-                    " are open. Time goes down; each node has a lane, arrows are messages from where they were sent to where they came, and bars are requests with their answers.</p>\n",
+                    ". Time goes down; each node has a lane, arrows are messages from where they were sent to where they came, and bars are requests with their answers.</p>\n",
                 ),
             ],
         )?;
@@ -534,14 +558,13 @@ fn describe_check(page: &mut Bytes, check: Check) -> Result<(), Memory> {
             }),
             Piece::Number(check.pairs),
             Piece::Text(if check.is_fresh {
-                "</b>: all answered reads are fresh by the records of this run; "
+                "</b>: all answered reads are fresh by the records of this run. "
             } else {
-                "</b>: some answered read isn't fresh by the records of this run; "
+                "</b>: some answered read isn't fresh by the records of this run. "
             }),
+            Piece::Text("Pairs of a read and a write acknowledged before it that were looked at: "),
             Piece::Amount(check.pairs),
-            Piece::Text(
-                " pairs of a read and a write that was acknowledged before it were looked at.</p>\n",
-            ),
+            Piece::Text(".</p>\n"),
         ],
     )
 }
