@@ -27,7 +27,7 @@ PAGES = ['fresh', 'layout', 'transcript', 'blocks', 'map', 'laws', 'unused']
 COUNTED = ['README.md', 'docs/PROMISES.md']
 WORD = re.compile(r"(?<![\w.'\-])[A-Za-z_][\w'\-]*(?:\.[A-Za-z_][\w'\-]*)*")
 HEAD = re.compile(r'^(\s*)((?:(?:abbrev|unfoldable|pub|record|data) )+)([^\s:({]+)')
-TYPE = re.compile(r'^(?:pub(?:\(crate\))? )?(?:struct|enum|type) (\w+)')
+TYPE = re.compile(r'^(?:pub(?:\(crate\))? )?(?:struct|enum|type|trait) (\w+)')
 
 
 def read(path):
@@ -162,6 +162,8 @@ class Sources:
             if '{' in line and not line.rstrip().endswith('}'):
                 last = next(k for k in range(number - 1, len(lines)) if lines[k].startswith('}'))
             at.text = [line for k, line in enumerate(lines[first:last + 1], first) if k >= number - 1 or line.startswith('///')]
+            if ' trait ' in ' ' + line:
+                at.text = ghosts_of(at.text)
             self.types.setdefault((crate, found[1]), at)
 
     def type_at(self, crate, module):
@@ -235,6 +237,22 @@ class Sources:
             else:
                 out.append(definition)
         return out
+
+
+def ghosts_of(lines):
+    """Of a trait its ghost members alone."""
+    out, before, is_open = [], [], False
+    for line in lines:
+        if not line.startswith(' '):
+            out += [line] * bool(line)
+        elif is_open or line.startswith('    ghost '):
+            out += before + [line]
+            before, is_open = [], not line.rstrip().endswith(';')
+        elif line.startswith('    ///'):
+            before.append(line)
+        else:
+            before = []
+    return out
 
 
 def is_attribute(lines, place):
