@@ -61,6 +61,7 @@ class Sources:
         for crate in sorted(os.listdir(os.path.join(TOP, 'crates'))):
             self.add_specs(crate)
             self.add_types(crate)
+        self.operators = [key for key in self.definitions if '◌' in key[2]]
         self.is_whole = True
         self.add_constructors()
 
@@ -197,12 +198,14 @@ class Sources:
         if definition.is_type:
             return self.below_type(definition)
         out, crate, module = [], definition.crate, definition.module
+        operators = [name for name in self.imports[crate, module] if '◌' in name]
+        operators += [name for other, where, name in self.operators if (other, where) == (crate, module)]
         for line in definition.frames + definition.text:
             line = re.sub(r'--.*', '', line)
             line = re.sub(r'"[^"]*"', '', line)
             line = re.sub(r"([{;]\s*)[a-z_]\w* =(?!=)", r'\1', line)
             line = re.sub(r'^(\s+pub )[\w\s]+ :', r'\1', line) if line is not definition.text[0] else line
-            for word in WORD.findall(line):
+            for word in WORD.findall(line) + [name for name in operators if f" {name.strip('◌')} " in line]:
                 out += [other for other in self.meant(crate, module, word) if other.key != definition.key]
         return unique(out)
 
