@@ -1,10 +1,13 @@
 //! What holds over every list of acts on items. No body does anything: each is called for its contract.
 #![tactic(auto)]
 
+mod samples;
+
 ghost use Rattle.k2v_model.specs.Acts.{AfterEveryRun};
 ghost use Rattle.k2v_model.specs.Owed.{AreWhole, ReadsCover, ReadsShowWrites, ReadsLeaveReplaced, WritesHavePlace};
 
 use k2v_schema::K2vSchema;
+pub use samples::{busy_and_unknown_token, concurrent_values};
 use world_reads::{
     every_world_has_kept_reads, every_world_is_sound, every_world_reads_stored_rows,
 };
