@@ -38,7 +38,7 @@ module _ (a b : K2vRow) (h : Same words a b) where
       (block_length 32 b.bucket.0 (and_parts (is_hash b.bucket) (are_bytes b.pk) h.second_proper).0)
       h.key
 
-  same_item : item_key a ≡ item_key b
+  pub same_item : item_key a ≡ item_key b
   same_item =
       let fields = same_fields a b (and_parts (is_hash a.bucket) (are_bytes a.pk) h.first_proper).1 (and_parts (is_hash b.bucket) (are_bytes b.pk) h.second_proper).1 same_parts.1 in
       λ i. (record { 0 = same_parts.0 i }, fields i)

@@ -1,0 +1,34 @@
+//! What holds over every list of acts on items. No body does anything: each is called for its contract.
+#![tactic(auto)]
+
+mod samples;
+
+ghost use Rattle.k2v_model.specs.Acts.{AfterEveryRun};
+ghost use Rattle.k2v_model.specs.Owed.{AreWhole, ReadsCover, ReadsShowWrites, ReadsLeaveReplaced, WritesHavePlace};
+
+use k2v_schema::K2vSchema;
+pub use samples::{busy_and_unknown_token, concurrent_values};
+use world_reads::{
+    every_world_has_kept_reads, every_world_is_sound, every_world_reads_stored_rows,
+};
+
+/// Whatever comes, and whichever layouts are given:
+///
+/// - A row that a read phase gave and that shows a write of a node shows each write of its item at that node that was
+///   acknowledged and has a smaller number, or its discard time covers it (`whole`).
+/// - A finished read shows each write of its item that was acknowledged before it began, or a write that began before the
+///   read finished replaced it (`cover`).
+/// - Each write that it shows is one of its item that began before it finished, and wrote what is shown (`written`).
+/// - It shows none that was replaced by a write that was acknowledged before it began (`replaced`).
+/// - A write that still asks for its item's row may be made on whatever it will read (`place`).
+pub fn items_keep_what_they_owe()
+    ensures whole { AfterEveryRun AreWhole }
+    ensures cover { AfterEveryRun ReadsCover }
+    ensures written { AfterEveryRun ReadsShowWrites }
+    ensures replaced { AfterEveryRun ReadsLeaveReplaced }
+    ensures place { AfterEveryRun WritesHavePlace }
+{
+    every_world_has_kept_reads::<K2vSchema>();
+    every_world_reads_stored_rows::<K2vSchema>();
+    every_world_is_sound::<K2vSchema>();
+}

@@ -1,0 +1,5 @@
+pub mod Grammar
+pub mod Reading
+pub mod Events
+pub mod Transcript
+pub mod Sample

@@ -1,0 +1,37 @@
+//! The events of a schedule over items.
+use k2v_model::Item;
+use store_model::Event;
+
+/// A line of a schedule over items. Nodes are 1 to 16.
+#[derive(Drop)]
+pub enum ItemEvent {
+    /// A line that schedules of objects have too.
+    Common(Event),
+    /// Begins to write `size` bytes at a node, byte i, from 0, being `fill` + i modulo 251, in the place of what the read
+    /// with the number `token` showed, or of nothing with 0.
+    Put {
+        node: u8,
+        item: Item,
+        size: u32,
+        fill: u8,
+        token: u64,
+    },
+    /// Begins to write at a node that there is no value, in the place of the same.
+    Delete {
+        node: u8,
+        item: Item,
+        token: u64,
+    },
+    /// Begins to read an item at a node.
+    Get {
+        node: u8,
+        item: Item,
+    },
+}
+
+/// An event and the line of the schedule that spells it, counted from 1.
+#[derive(Drop)]
+pub struct NumberedItemEvent {
+    pub line: u64,
+    pub event: ItemEvent,
+}

@@ -1,6 +1,0 @@
-use Rattle.schedule_text.proofs.Lines.{reads_line}
-use Rattle.schedule_text.proofs.event_line.event_line.Goals as goal
-
-pub returns : goal.returns
-returns c =
-    reads_line c.args.line.now c.deref.result.now c.spelled.result (rw c.deref.ensures.value c.in_ok-words.ensures) c.spelled.ensures
