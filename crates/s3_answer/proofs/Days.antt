@@ -9,7 +9,8 @@ use Rattle.httpdate.specs.Date.{unix_secs, date_text}
 use Rattle.httpdate.proofs.CalendarLemmas.{days_of_months_more, days_of_months_all, days_from_civil_year}
 use Rattle.httpdate.proofs.ValidLemmas.{is_valid_complete}
 use Rattle.httpdate.proofs.Theorems.{date_text_is}
-use Rattle.s3_model.specs.Dates.{Day, next_day, day_after, parts_of}
+use Rattle.date_model.specs.Days.{Day, next_day, day_after}
+use Rattle.s3_model.specs.Dates.{parts_of}
 
 -- the calendar has the day, and it is this many days after the first
 record IsDay (n : ℕ) (x : Day) : Type 0 where

@@ -1,4 +1,3 @@
 pub mod Days
-pub mod Walks
 pub mod Appends
 pub mod Phrases

@@ -5,7 +5,7 @@ ghost use Rattle.s3_model.specs.Bodies as bodies;
 ghost use Rattle.s3_model.specs.Dates.{list_time as time_of};
 ghost use Rattle.s3_model.specs.Xml as xml;
 
-use crate::dates::list_time;
+use crate::times::list_time;
 use crate::xml::{append_element, append_text, close_tag, open_tag};
 use crdt_core::{Bytes, Memory};
 use crdt_rows::Version;

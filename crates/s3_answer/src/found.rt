@@ -4,10 +4,10 @@ ghost use Rattle.crdt_core.specs.Outcomes.{OnlyWant};
 ghost use Rattle.s3_model.specs.Answer as answers;
 ghost use Rattle.s3_model.specs.Ranges.{span_of};
 
-use crate::dates::http_date;
 use crate::lines::{
     append_etag, append_header, append_length, append_number, append_stored, finish, start,
 };
+use crate::times::http_date;
 use crdt_core::{Bytes, Memory};
 use crdt_rows::{Meta, Version};
 use s3_model::Range;

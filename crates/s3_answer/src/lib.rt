@@ -4,17 +4,16 @@
 //! the connection closes after the answer. It gives exactly the bytes of s3_model's `answer_text`: the status line,
 //! the header lines in their order, and the body, which is the object's bytes or XML. It fails only for want of memory.
 //!
-//! Dates of headers are written by `httpdate`. The times of lists are written here, from the same calendar.
+//! Dates of headers are written by `httpdate`. The civil fields of the times of lists are those of `jiff`.
 #![tactic(auto)]
 
 mod bodies;
-mod civil;
-mod dates;
 mod digits;
 mod found;
 mod lines;
 mod list;
 mod reply;
+mod times;
 mod url;
 mod xml;
 

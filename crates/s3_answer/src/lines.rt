@@ -4,7 +4,7 @@ ghost use Rattle.crdt_core.specs.Outcomes.{OnlyWant};
 ghost use Rattle.s3_model.specs.Dates.{http_date as date_of};
 ghost use Rattle.s3_model.specs.Lines as lines;
 
-use crate::dates::http_date;
+use crate::times::http_date;
 use crdt_core::{Bytes, Memory};
 use http::StatusCode;
 use itoa::Buffer;

@@ -1,25 +1,9 @@
 -- The two ways in which a time is written: a date of HTTP (RFC 9110, section 5.6.7) and a time of a list (ISO 8601).
-use Rattle.std.specs.Prelude.{ℕ, zero, suc, ◌+◌, ◌/◌, ◌%◌, min, nat_lt, if◌then◌else◌, List, [], ◌∷◌, ◌++◌, codes}
+use Rattle.std.specs.Prelude.{ℕ, ◌+◌, ◌/◌, ◌%◌, min, List, [], ◌∷◌, ◌++◌, codes}
 use Rattle.httpdate.specs.declared.parts.Parts.{Parts}
-use Rattle.httpdate.specs.Calendar.{days_in_month, weekday}
+use Rattle.httpdate.specs.Calendar.{weekday}
 use Rattle.httpdate.specs.Text.{two_digits, four_digits, imf_fixdate}
-
--- a day of the calendar
-pub record Day : Type 0 where
-  pub year : ℕ
-  pub mon : ℕ
-  pub day : ℕ
-
--- the day after another: the next of its month, or the first of the next month, or the first of the next year
-abbrev pub next_day : Day → Day
-next_day x =
-    if nat_lt x.day (days_in_month x.year x.mon) then record { year = x.year; mon = x.mon; day = x.day + 1 }
-    else (if nat_lt x.mon 12 then record { year = x.year; mon = x.mon + 1; day = 1 } else record { year = x.year + 1; mon = 1; day = 1 })
-
--- the day that comes so many days after 1 January 1970
-unfoldable pub day_after : ℕ → Day
-day_after zero = record { year = 1970; mon = 1; day = 1 }
-day_after (suc n) = next_day (day_after n)
+use Rattle.date_model.specs.Days.{Day, day_after}
 
 -- the calendar and the clock so many seconds after the first of 1970
 abbrev pub parts_of : ℕ → Parts

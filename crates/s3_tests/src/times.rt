@@ -8,7 +8,7 @@ use std::alloc::{AllocError, Global};
 use std::test::Fail;
 
 /// A time in milliseconds, its date in headers, and its time in lists.
-const TIMES: [(u64, &[u8], &[u8]); 8] = [
+const TIMES: [(u64, &[u8], &[u8]); 10] = [
     (
         0,
         b"Thu, 01 Jan 1970 00:00:00 GMT",
@@ -39,11 +39,23 @@ const TIMES: [(u64, &[u8], &[u8]); 8] = [
         b"Mon, 01 Mar 2100 00:00:00 GMT",
         b"2100-03-01T00:00:00.000Z",
     ),
+    // the last millisecond of a year
+    (
+        1_735_689_599_999,
+        b"Tue, 31 Dec 2024 23:59:59 GMT",
+        b"2024-12-31T23:59:59.999Z",
+    ),
     // the greatest clock value
     (
         253_402_000_000_000,
         b"Tue, 28 Dec 9999 12:26:40 GMT",
         b"9999-12-28T12:26:40.000Z",
+    ),
+    // the greatest time that is written
+    (
+        253_402_200_000_000,
+        b"Thu, 30 Dec 9999 20:00:00 GMT",
+        b"9999-12-30T20:00:00.000Z",
     ),
     // past the greatest time that is written
     (

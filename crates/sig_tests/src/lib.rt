@@ -1,4 +1,4 @@
-//! Tests of signatures: keyed digests, signatures of texts, checked requests, and keys of configurations. It has no
+//! Tests of signatures: keyed digests, signatures of texts, checked requests, dates of requests, and keys of configurations. It has no
 //! code of its own.
 #![tactic(auto)]
 
@@ -6,6 +6,8 @@
 mod checks;
 #[cfg(test)]
 mod configs;
+#[cfg(test)]
+mod dates;
 #[cfg(test)]
 mod fixtures;
 #[cfg(test)]

@@ -3,7 +3,7 @@ use Rattle.std.proofs.Common.{◌≡◌, ℕ, true, false, List, Some, Ok, Err, 
 use Rattle.sig_request.specs.Texts.{parts}
 use Rattle.sig_v4.specs.declared.refusal.Refusal.TheVariants.{Malformed}
 use Rattle.sig_v4.specs.declared.claim.Authorization.{Authorization}
-use Rattle.sig_v4.specs.Dates.{seconds_of}
+use Rattle.date_model.specs.Texts.{seconds_of}
 use Rattle.sig_v4.specs.Claims.{authorization_in, first_value, credential_id, day_of, payload_in, is_signed_list, claim_in}
 
 -- all that a claim needs was found, but for the list of names

@@ -1,9 +1,10 @@
 -- The check of a signed request: which key signed it, or the first refusal that applies.
-use Rattle.std.specs.Prelude.{ℕ, Bool, true, false, not, List, [], slice_get, Option, Result, Ok, Err, ◌≡◌, ⊤}
+use Rattle.std.specs.Prelude.{ℕ, ◌+◌, ◌-◌, ◌*◌, nat_lt, Bool, true, false, not, List, [], slice_get, Option, Result, Ok, Err, ◌≡◌, ⊤}
 use Rattle.std.specs.Option.{ok_or, option_map_or}
 use Rattle.std.specs.List.{position_from}
 use Rattle.layout_roles.specs.Zones.{same_name}
 use Rattle.layout_text.specs.declared.keys.Key.{Key}
+use Rattle.date_model.specs.Texts.{epoch_days}
 use Rattle.layout_text.specs.Settings.{◌>>=◌}
 use Rattle.http_model.specs.declared.head.Head.{Head}
 use Rattle.sig_v4.specs.declared.refusal.Refusal.{Refusal}
@@ -11,7 +12,6 @@ use Rattle.sig_v4.specs.declared.refusal.Refusal.TheVariants.{Unsigned, Malforme
 use Rattle.sig_v4.specs.declared.claim.Claim.{Claim}
 use Rattle.sig_v4.specs.Signing.{text_to_sign, signature}
 use Rattle.sig_request.specs.Fields.{fields_of}
-use Rattle.sig_v4.specs.Dates.{is_skewed}
 use Rattle.sig_request.specs.Canonical.{canonical_request}
 use Rattle.sig_v4.specs.Claims.{claim_in, day_of}
 
@@ -19,6 +19,14 @@ use Rattle.sig_v4.specs.Claims.{claim_in, day_of}
 abbrev pub unless : {A : Type 0} → Bool → Refusal → A → Result A Refusal
 unless true refusal x = Err refusal
 unless false refusal x = Ok x
+
+-- the clock, in milliseconds since 1970, from the first day of jiff's calendar on
+abbrev pub clock : ℕ → ℕ
+clock now = now + epoch_days * 86400000
+
+-- the clock, in milliseconds since 1970, and a date, in seconds from that first day on, differ by more than 900 seconds
+abbrev pub is_skewed : ℕ → ℕ → Bool
+is_skewed now seconds = nat_lt 900000 ((clock now - seconds * 1000) + (seconds * 1000 - clock now))
 
 -- the place of the key of this id
 abbrev pub place_of : List Key → List ℕ → Option ℕ

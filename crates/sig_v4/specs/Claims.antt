@@ -10,7 +10,7 @@ use Rattle.sig_v4.specs.declared.claim.Authorization.{Authorization}
 use Rattle.sig_v4.specs.declared.claim.Claim.{Claim}
 use Rattle.sig_request.specs.Texts.{parts, behind, unspaced, is_digest}
 use Rattle.sig_request.specs.Fields.{values_of, may_be_signed}
-use Rattle.sig_v4.specs.Dates.{seconds_of}
+use Rattle.date_model.specs.Texts.{seconds_of}
 
 -- a value that a well-formed request has
 abbrev pub needed : {A : Type 0} → Option A → Result A Refusal

@@ -6,7 +6,7 @@ ghost use Rattle.sig_v4.specs.Checks as spec;
 ghost use Rattle.sig_v4.specs.Checks.{Answers};
 
 use crate::claim::{Claim, claim_in, day_of};
-use crate::dates::is_skewed;
+use crate::clock::is_skewed;
 use crate::refusal::Refusal;
 use crate::signing::{signature, text_to_sign};
 use crdt_core::{Bytes, Memory};

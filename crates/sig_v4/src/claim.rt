@@ -7,7 +7,7 @@ ghost use Rattle.layout_roles.specs.Zones.{same_name};
 ghost use Rattle.sig_v4.specs.Claims as spec;
 ghost use Rattle.sig_v4.specs.Checks.{Answers};
 
-use crate::dates::seconds_of;
+use crate::clock::seconds_of;
 use crate::refusal::Refusal;
 use crdt_core::{Bytes, Memory};
 use sig_request::{behind, is_digest, may_be_signed, parts, unspaced, values_of};
@@ -28,7 +28,7 @@ pub struct Claim {
     pub id: Bytes,
     /// When, as `YYYYMMDDTHHMMSSZ`.
     pub time: Bytes,
-    /// The same in seconds since the beginning of the year 0.
+    /// The same in seconds, from the first day of jiff's calendar on.
     pub seconds: u64,
     /// The names of the signed headers, with `;` between.
     pub names: Bytes,

@@ -2,14 +2,14 @@
 //!
 //! `hmac_sha256` is HMAC (RFC 2104) over SHA-256. `text_to_sign` puts a request's time, scope and digest under
 //! one another, and `signature` signs a text under a secret, for a day and a region. `check` reads the head of a
-//! request: what it claims (`claim`), when (`dates`), and whether its signature is that of its canonical form; it
-//! answers the place of the key, or the first refusal that applies. No text that these calls give has a secret in
-//! it.
+//! request: what it claims (`claim`), when (`clock`, where `jiff` reads the date), and whether its signature is that
+//! of its canonical form; it answers the place of the key, or the first refusal that applies. No text that these calls
+//! give has a secret in it.
 #![tactic(auto)]
 
 mod checked;
 mod claim;
-mod dates;
+mod clock;
 mod mac;
 mod refusal;
 mod signing;

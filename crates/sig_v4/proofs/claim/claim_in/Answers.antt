@@ -1,5 +1,5 @@
 use Rattle.std.proofs.Common.{sym, ap, ◌∙◌}
-use Rattle.sig_v4.specs.Dates.{seconds_of}
+use Rattle.date_model.specs.Texts.{seconds_of}
 use Rattle.sig_v4.proofs.Claiming.{claim_fine, claim_bad}
 use Rattle.sig_v4.proofs.claim.claim_in.Goals as goal
 
