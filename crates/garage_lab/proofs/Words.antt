@@ -1,0 +1,169 @@
+-- Which command words ask for.
+use Rattle.std.proofs.Common.{get_or, String, Global, ◌≡◌, ℕ, ◌≤◌, ◌<◌, ◌+◌, ◌*◌, ◌^◌, ◌⊎◌, inl, inr, Option, Some, None, List, [], ◌∷◌, map, codes, decimal, length, refl, sym, ap, ◌∙◌, subst, arith}
+use Rattle.std.specs.String.{string_bytes}
+use Rattle.std.proofs.lemmas.Fmt.{decimal_injective}
+use Rattle.lab_main.proofs.ThreeWords.{are_three}
+use Rattle.schedule_text.specs.Reads.{Finds}
+use Rattle.workload_run.specs.declared.command.Workload as workload_run
+use Rattle.serve_run.specs.declared.server.Server as serve_run
+use Rattle.garage_lab.specs.declared.command.Command.{Command}
+use Rattle.garage_lab.specs.declared.command.Command.TheVariants.{Layout, Moves, Replay, Check, Workload, Serve}
+use Rattle.garage_lab.specs.Command.{Spells, AsksForWorkload, AsksForServer, AsksFor, AreRead}
+
+-- a word spells one number
+pub no_other : (word : List ℕ) (high n : ℕ) → (word ≡ decimal n) × (n < 2 ^ 64) → high < 2 ^ 64 → (n < 1) ⊎ (high < n) → (x : ℕ) → Spells word high x → ⊥
+no_other word high n h fits out x p =
+    let same : n ≡ x = decimal_injective n x h.1 (omega arith) (sym h.0 ∙ p.0) in omega arith
+
+-- words ask for one workload, and for one server
+one_workload : (words : List (List ℕ)) (v w : workload_run.Workload) → AsksForWorkload words v → AsksForWorkload words w → v ≡ w
+one_workload words v w h k =
+    let both = sym h.spelled ∙ k.spelled in
+    let count_is : decimal v.count ≡ decimal w.count = cc in
+    let seed_is : decimal v.seed ≡ decimal w.seed = cc in
+    let counts : v.count ≡ w.count = decimal_injective v.count w.count (omega (arith, h.few)) (omega (arith, k.few)) count_is in
+    let seeds : v.seed ≡ w.seed = decimal_injective v.seed w.seed h.fits k.fits seed_is in
+    λ i. record { count = counts i; seed = seeds i }
+
+one_server : (words : List (List ℕ)) (s t : serve_run.Server) → AsksForServer words s → AsksForServer words t → s ≡ t
+one_server words s t h k =
+    let both = sym h.spelled ∙ k.spelled in
+    let port_is : decimal s.port ≡ decimal t.port = cc in
+    let count_is : decimal s.count ≡ decimal t.count = cc in
+    let ports : s.port ≡ t.port = decimal_injective s.port t.port (omega (arith, h.port_high)) (omega (arith, k.port_high)) port_is in
+    let counts : s.count ≡ t.count = decimal_injective s.count t.count (omega (arith, h.count_high)) (omega (arith, k.count_high)) count_is in
+    λ i. record { port = ports i; count = counts i }
+
+-- what tells the words of two commands apart: how many they are, and the first character
+first_character : List (List ℕ) → ℕ
+first_character [] = 0
+first_character ([] ∷ more) = 0
+first_character ((x ∷ word) ∷ more) = x
+
+mark : List (List ℕ) → ℕ
+mark words = 1000 * length words + first_character words
+
+unlike : (c d : Command) (m n : ℕ) → m ≡ n → (m < n) ⊎ (n < m) → c ≡ d
+unlike c d m n same (inl less) = absurd (omega arith)
+unlike c d m n same (inr less) = absurd (omega arith)
+
+-- words ask for one command
+pub one_command : (words : List (List ℕ)) (c d : Command) → AsksFor words c → AsksFor words d → c ≡ d
+unfolding mark first_character
+one_command words Layout Layout h k = refl
+one_command words Layout Moves h k = unlike Layout Moves 1108 2108 (ap mark (sym h ∙ k)) (inl (omega arith))
+one_command words Layout Replay h k = unlike Layout Replay 1108 1114 (ap mark (sym h ∙ k)) (inl (omega arith))
+one_command words Layout Check h k = unlike Layout Check 1108 2114 (ap mark (sym h ∙ k)) (inl (omega arith))
+one_command words Layout (Workload w) h k = unlike Layout (Workload w) 1108 3119 (ap mark (sym h ∙ k.spelled)) (inl (omega arith))
+one_command words Layout (Serve t) h k = unlike Layout (Serve t) 1108 3115 (ap mark (sym h ∙ k.spelled)) (inl (omega arith))
+one_command words Moves Layout h k = unlike Moves Layout 2108 1108 (ap mark (sym h ∙ k)) (inr (omega arith))
+one_command words Moves Moves h k = refl
+one_command words Moves Replay h k = unlike Moves Replay 2108 1114 (ap mark (sym h ∙ k)) (inr (omega arith))
+one_command words Moves Check h k = unlike Moves Check 2108 2114 (ap mark (sym h ∙ k)) (inl (omega arith))
+one_command words Moves (Workload w) h k = unlike Moves (Workload w) 2108 3119 (ap mark (sym h ∙ k.spelled)) (inl (omega arith))
+one_command words Moves (Serve t) h k = unlike Moves (Serve t) 2108 3115 (ap mark (sym h ∙ k.spelled)) (inl (omega arith))
+one_command words Replay Layout h k = unlike Replay Layout 1114 1108 (ap mark (sym h ∙ k)) (inr (omega arith))
+one_command words Replay Moves h k = unlike Replay Moves 1114 2108 (ap mark (sym h ∙ k)) (inl (omega arith))
+one_command words Replay Replay h k = refl
+one_command words Replay Check h k = unlike Replay Check 1114 2114 (ap mark (sym h ∙ k)) (inl (omega arith))
+one_command words Replay (Workload w) h k = unlike Replay (Workload w) 1114 3119 (ap mark (sym h ∙ k.spelled)) (inl (omega arith))
+one_command words Replay (Serve t) h k = unlike Replay (Serve t) 1114 3115 (ap mark (sym h ∙ k.spelled)) (inl (omega arith))
+one_command words Check Layout h k = unlike Check Layout 2114 1108 (ap mark (sym h ∙ k)) (inr (omega arith))
+one_command words Check Moves h k = unlike Check Moves 2114 2108 (ap mark (sym h ∙ k)) (inr (omega arith))
+one_command words Check Replay h k = unlike Check Replay 2114 1114 (ap mark (sym h ∙ k)) (inr (omega arith))
+one_command words Check Check h k = refl
+one_command words Check (Workload w) h k = unlike Check (Workload w) 2114 3119 (ap mark (sym h ∙ k.spelled)) (inl (omega arith))
+one_command words Check (Serve t) h k = unlike Check (Serve t) 2114 3115 (ap mark (sym h ∙ k.spelled)) (inl (omega arith))
+one_command words (Workload v) Layout h k = unlike (Workload v) Layout 3119 1108 (ap mark (sym h.spelled ∙ k)) (inr (omega arith))
+one_command words (Workload v) Moves h k = unlike (Workload v) Moves 3119 2108 (ap mark (sym h.spelled ∙ k)) (inr (omega arith))
+one_command words (Workload v) Replay h k = unlike (Workload v) Replay 3119 1114 (ap mark (sym h.spelled ∙ k)) (inr (omega arith))
+one_command words (Workload v) Check h k = unlike (Workload v) Check 3119 2114 (ap mark (sym h.spelled ∙ k)) (inr (omega arith))
+one_command words (Workload v) (Workload w) h k = ap Workload (one_workload words v w h k)
+one_command words (Workload v) (Serve t) h k = unlike (Workload v) (Serve t) 3119 3115 (ap mark (sym h.spelled ∙ k.spelled)) (inr (omega arith))
+one_command words (Serve s) Layout h k = unlike (Serve s) Layout 3115 1108 (ap mark (sym h.spelled ∙ k)) (inr (omega arith))
+one_command words (Serve s) Moves h k = unlike (Serve s) Moves 3115 2108 (ap mark (sym h.spelled ∙ k)) (inr (omega arith))
+one_command words (Serve s) Replay h k = unlike (Serve s) Replay 3115 1114 (ap mark (sym h.spelled ∙ k)) (inr (omega arith))
+one_command words (Serve s) Check h k = unlike (Serve s) Check 3115 2114 (ap mark (sym h.spelled ∙ k)) (inr (omega arith))
+one_command words (Serve s) (Workload w) h k = unlike (Serve s) (Workload w) 3115 3119 (ap mark (sym h.spelled ∙ k.spelled)) (inl (omega arith))
+one_command words (Serve s) (Serve t) h k = ap Serve (one_server words s t h k)
+
+-- no command has one word but these
+pub none_of_one : (name : List ℕ) → (name ≡ codes "layout" → ⊥) → (name ≡ codes "replay" → ⊥) → (c : Command) → AsksFor (name ∷ []) c → ⊥
+none_of_one name layout replay Layout h = layout (cc)
+none_of_one name layout replay Replay h = replay (cc)
+none_of_one name layout replay Moves h = cc
+none_of_one name layout replay Check h = cc
+none_of_one name layout replay (Workload w) h = let is = h.spelled in cc
+none_of_one name layout replay (Serve s) h = let is = h.spelled in cc
+
+-- nor two words
+pub none_of_two : (name option : List ℕ) → (name ≡ codes "layout" → option ≡ codes "--moves" → ⊥) → (name ≡ codes "replay" → option ≡ codes "--check" → ⊥) → (c : Command) → AsksFor (name ∷ option ∷ []) c → ⊥
+none_of_two name option moves check Moves h = moves (cc) (cc)
+none_of_two name option moves check Check h = check (cc) (cc)
+none_of_two name option moves check Layout h = cc
+none_of_two name option moves check Replay h = cc
+none_of_two name option moves check (Workload w) h = let is = h.spelled in cc
+none_of_two name option moves check (Serve s) h = let is = h.spelled in cc
+
+-- nor three words that ask for no workload and for no server
+pub none_of_three : (name first second : List ℕ) → ((w : workload_run.Workload) → AsksForWorkload (name ∷ first ∷ second ∷ []) w → ⊥) → ((s : serve_run.Server) → AsksForServer (name ∷ first ∷ second ∷ []) s → ⊥) → (c : Command) → AsksFor (name ∷ first ∷ second ∷ []) c → ⊥
+none_of_three name first second no_workload no_server (Workload w) h = no_workload w h
+none_of_three name first second no_workload no_server (Serve s) h = no_server s h
+none_of_three name first second no_workload no_server Layout h = cc
+none_of_three name first second no_workload no_server Moves h = cc
+none_of_three name first second no_workload no_server Replay h = cc
+none_of_three name first second no_workload no_server Check h = cc
+
+-- nor any other number of words
+pub none_of_none : (c : Command) → AsksFor [] c → ⊥
+none_of_none Layout h = cc
+none_of_none Moves h = cc
+none_of_none Replay h = cc
+none_of_none Check h = cc
+none_of_none (Workload w) h = let is = h.spelled in cc
+none_of_none (Serve s) h = let is = h.spelled in cc
+
+pub none_of_many : (a b x y : List ℕ) (more : List (List ℕ)) (c : Command) → AsksFor (a ∷ b ∷ x ∷ y ∷ more) c → ⊥
+none_of_many a b x y more Layout h = cc
+none_of_many a b x y more Moves h = cc
+none_of_many a b x y more Replay h = cc
+none_of_many a b x y more Check h = cc
+none_of_many a b x y more (Workload w) h = let is = h.spelled in cc
+none_of_many a b x y more (Serve s) h = let is = h.spelled in cc
+
+-- words whose bytes ask for this command, or for nothing, are read
+read_as : (words : List (String Global)) (r : Option Command) → Finds (AsksFor (map string_bytes words)) r → AreRead words r
+read_as words None none = none
+read_as words (Some command) h = h
+
+-- one word that was looked up by its place is all
+are_one : (words : List (String Global)) (a : String Global) → length words ≡ 1 → a ≡ get_or words 0 a → words ≡ a ∷ []
+are_one [] a one is0 = absurd (omega (arith, one))
+are_one (x ∷ []) a one is0 = λ i. sym is0 i ∷ []
+are_one (x ∷ y ∷ more) a one is0 = absurd (omega (arith, one))
+
+-- and so are two
+are_two : (words : List (String Global)) (a b : String Global) → length words ≡ 2 → a ≡ get_or words 0 a → b ≡ get_or words 1 b → words ≡ a ∷ b ∷ []
+are_two [] a b two is0 is1 = absurd (omega (arith, two))
+are_two (x ∷ []) a b two is0 is1 = absurd (omega (arith, two))
+are_two (x ∷ y ∷ []) a b two is0 is1 = λ i. sym is0 i ∷ sym is1 i ∷ []
+are_two (x ∷ y ∷ z ∷ more) a b two is0 is1 = absurd (omega (arith, two))
+
+-- what one, two or three words ask for, which were looked up by their places
+pub one_word : (words : List (String Global)) (a : String Global) (r : Option Command) → length words ≡ 1 → a ≡ get_or words 0 a → Finds (AsksFor (string_bytes a ∷ [])) r → AreRead words r
+one_word words a r one is0 h = subst (λ (ws : List (String Global)). AreRead ws r) (sym (are_one words a one is0)) (read_as (a ∷ []) r h)
+
+pub two_words : (words : List (String Global)) (a b : String Global) (r : Option Command) → length words ≡ 2 → a ≡ get_or words 0 a → b ≡ get_or words 1 b → Finds (AsksFor (string_bytes a ∷ string_bytes b ∷ [])) r → AreRead words r
+two_words words a b r two is0 is1 h = subst (λ (ws : List (String Global)). AreRead ws r) (sym (are_two words a b two is0 is1)) (read_as (a ∷ b ∷ []) r h)
+
+pub three_words : (words : List (String Global)) (a b x : String Global) (r : Option Command) → length words ≡ 3 → a ≡ get_or words 0 a → b ≡ get_or words 1 b → x ≡ get_or words 2 x →
+    Finds (AsksFor (string_bytes a ∷ string_bytes b ∷ string_bytes x ∷ [])) r → AreRead words r
+three_words words a b x r three is0 is1 is2 h = subst (λ (ws : List (String Global)). AreRead ws r) (sym (are_three words a b x three is0 is1 is2)) (read_as (a ∷ b ∷ x ∷ []) r h)
+
+-- no other number of words asks for anything
+pub other_words : (words : List (String Global)) → (length words ≡ 1 → ⊥) → (length words ≡ 2 → ⊥) → (length words ≡ 3 → ⊥) → AreRead words None
+other_words [] one two three = none_of_none
+other_words (x ∷ []) one two three = absurd (one (omega arith))
+other_words (x ∷ y ∷ []) one two three = absurd (two (omega arith))
+other_words (x ∷ y ∷ z ∷ []) one two three = absurd (three (omega arith))
+other_words (x ∷ y ∷ z ∷ w ∷ more) one two three = none_of_many (string_bytes x) (string_bytes y) (string_bytes z) (string_bytes w) (map string_bytes more)
