@@ -4,6 +4,8 @@
 #[cfg(test)]
 mod bodies;
 #[cfg(test)]
+mod edge;
+#[cfg(test)]
 mod fixtures;
 #[cfg(test)]
 mod heads;

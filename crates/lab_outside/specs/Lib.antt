@@ -10,6 +10,7 @@ pub mod SureConnection
 pub mod SureLink
 pub mod Standard
 pub mod TcpConnection
+pub mod TcpQueue
 pub mod TcpLink
 pub mod PieceLink
 pub mod Stages

@@ -8,7 +8,7 @@ abbrev pub connection_limit : ℕ
 connection_limit = 1000
 
 -- how often its calls failed
-abbrev pub faults_of : TcpConnection → ℕ
+abbrev pub faults_of : {S : Type 0} → TcpConnection S → ℕ
 faults_of c = c.faults
 
 -- a connection of which no bytes are told, that failed so often

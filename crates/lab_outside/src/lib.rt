@@ -13,6 +13,7 @@
 mod calls;
 mod exit;
 mod memory;
+mod patience;
 mod piece_link;
 mod ports;
 mod send;
@@ -22,6 +23,7 @@ mod sure_connection;
 mod sure_link;
 mod tcp_connection;
 mod tcp_link;
+mod tcp_queue;
 mod wall_clock;
 mod whole;
 

@@ -5,68 +5,45 @@ ghost use Rattle.lab_outside.specs.TcpConnection.{connection_limit, faults_of};
 
 use crate::ports::{Failed, Link};
 use crate::tcp_connection::TcpConnection;
+use crate::tcp_queue::TcpQueue;
 use std::alloc::{AllocError, Global};
-use std::net::{Ipv4Addr, Net, TcpListener, TcpStream};
+use std::net::{Ipv4Addr, Net, TcpListener};
+use std::rt;
 
 /// So many connections a link takes.
 const CONNECTIONS: usize = 1000;
 
-/// A port of 127.0.0.1 that is listened on.
+/// Connections to a port of 127.0.0.1, one after the other, 1,000 at most, since the faults of each are kept. Why a port
+/// can't be opened, or a listener gives no connection, is said on standard error.
 #[derive(Drop)]
-struct Listening {
-    port: u16,
-    listener: TcpListener,
-}
-
-/// Connections to a port of 127.0.0.1, one after the other, 1,000 at most, since the faults of each are kept.
-#[derive(Drop)]
-pub struct TcpLink<R> {
-    net: R,
-    listening: Option<Listening>,
-    present: Option<TcpConnection>,
+pub struct TcpLink<R, L, S> {
+    runtime: R,
+    queue: TcpQueue<L, S>,
+    present: Option<TcpConnection<S>>,
     past: Vec<u64>,
     faults: u64,
     ghost limited: { vec_len past + (if is_some present then 1 else 0) ≤ connection_limit },
     ghost reserved: { vec_capacity past ≡ connection_limit },
 }
 
-impl<R: Net<Listener = TcpListener, Stream = TcpStream> + Drop> TcpLink<R> {
+impl<R: Net + rt::Clock + Eprint + Drop> TcpLink<R, R::Listener, R::Stream> {
     ghost use Rattle.lab_outside.specs.TcpLink.{port_of};
 
     /// A link that isn't open yet, with the room that it will need.
-    pub fn new(alloc: Global, net: R) -> Result<Self, AllocError>
+    pub fn new(alloc: Global, runtime: R) -> Result<Self, AllocError>
         ensures closed { IfOk result (λ link. port_of link ≡ None) }
-        ensures present { IfOk result (λ link. ⟦<TcpLink<R> as Link>⟧.present link ≡ None) }
-        ensures past { IfOk result (λ link. ⟦<TcpLink<R> as Link>⟧.past link ≡ []) }
-        ensures faults { IfOk result (λ link. ⟦<TcpLink<R> as Link>⟧.faults link ≡ 0) }
+        ensures present { IfOk result (λ link. ⟦<TcpLink<R, R::Listener, R::Stream> as Link>⟧.present link ≡ None) }
+        ensures past { IfOk result (λ link. ⟦<TcpLink<R, R::Listener, R::Stream> as Link>⟧.past link ≡ []) }
+        ensures faults { IfOk result (λ link. ⟦<TcpLink<R, R::Listener, R::Stream> as Link>⟧.faults link ≡ 0) }
     {
         let past = Vec::with_capacity(alloc, CONNECTIONS)?;
         Ok(TcpLink {
-            net,
-            listening: None,
+            runtime,
+            queue: TcpQueue::new(),
             present: None,
             past,
             faults: 0,
         })
-    }
-
-    /// Whether it is open on this port.
-    fn is_open_on(&self, port: u16) -> bool
-        ensures { IsTrue result ↔ (port_of self.now ≡ Some port) }
-    {
-        match &self.listening {
-            Some(listening) => listening.port == port,
-            None => false,
-        }
-    }
-
-    /// Waits for the next connection, where the link is open.
-    fn accept(&self) -> Option<TcpConnection>
-        ensures faultless { IfSome result (λ c. faults_of c ≡ 0) }
-        ensures listens { IsSome result → IsSome (port_of self.now) }
-    {
-        let listening = self.listening.as_ref()?;
-        TcpConnection::accept(&listening.listener).ok()
     }
 
     /// Ends the connection that is present, if one is.
@@ -77,12 +54,25 @@ impl<R: Net<Listener = TcpListener, Stream = TcpStream> + Drop> TcpLink<R> {
         ensures port { port_of self.new ≡ port_of self.old }
     {
         if let Some(connection) = self.present.take() {
-            self.past.push_reserved(connection.end());
+            let faults = connection.end(&self.runtime, &mut self.queue);
+            self.past.push_reserved(faults);
         }
+    }
+
+    /// Counts a fault.
+    fn fail(&mut self) -> Failed
+        ensures counted { self.old.faults ≤ self.new.faults }
+        ensures fault { Rose self.old.faults self.new.faults }
+        ensures queue { self.new.queue ≡ self.old.queue }
+        ensures present { self.new.present ≡ self.old.present }
+        ensures past { self.new.past ≡ self.old.past }
+    {
+        self.faults = self.faults.saturating_add(1);
+        Failed
     }
 }
 
-impl<R: Net<Listener = TcpListener, Stream = TcpStream> + Drop> Link for TcpLink<R> {
+impl<R: Net + rt::Clock + Eprint + Drop> Link for TcpLink<R, R::Listener, R::Stream> {
     ghost use Rattle.lab_outside.specs.Connection.{IsFresh};
     ghost use Rattle.lab_outside.specs.TcpLink.{port_of, present_of, past_of, link_faults};
 
@@ -104,17 +94,19 @@ impl<R: Net<Listener = TcpListener, Stream = TcpStream> + Drop> Link for TcpLink
         ensures fault { OnErr result (Rose (link_faults self.old) (link_faults self.new)) }
         ensures steady { OnOk result (link_faults self.new ≡ link_faults self.old) }
     {
-        if self.is_open_on(port) {
+        if self.queue.is_open_on(port) {
             return Ok(());
         }
-        match TcpListener::bind(&self.net, (Ipv4Addr::LOCALHOST, port)) {
+        match TcpListener::bind(&self.runtime, (Ipv4Addr::LOCALHOST, port)) {
             Ok(listener) => {
-                self.listening = Some(Listening { port, listener });
+                self.queue.listen(port, listener);
                 Ok(())
             }
-            Err(_) => {
-                self.faults = self.faults.saturating_add(1);
-                Err(Failed)
+            Err(cause) => {
+                let _ = eprintln!(self.runtime;
+                    "garage_lab: can't listen on 127.0.0.1:{port}: {cause}"
+                );
+                Err(self.fail())
             }
         }
     }
@@ -130,29 +122,36 @@ impl<R: Net<Listener = TcpListener, Stream = TcpStream> + Drop> Link for TcpLink
         // None comes once so many are past, and only then; and one comes only where the link is open.
         ensures last { (result ≡ Ok false) ↔ (length (past_of self.new) ≡ connection_limit) }
         ensures listens { result ≡ Ok true → IsSome (port_of self.new) }
+        ensures port { port_of self.new ≡ port_of self.old }
     {
         self.settle();
         if self.past.len() == CONNECTIONS {
             return Ok(false);
         }
-        self.present = self.accept();
-        if self.present.is_none() {
-            self.faults = self.faults.saturating_add(1);
-            return Err(Failed);
+        match self.queue.next() {
+            Ok(connection) => {
+                self.present = Some(connection);
+                Ok(true)
+            }
+            Err(cause) => {
+                let _ = eprintln!(self.runtime;
+                    "garage_lab: no connection comes any more: {cause}"
+                );
+                Err(self.fail())
+            }
         }
-        Ok(true)
     }
 
     fn read(&mut self, into: &mut [u8]) -> Result<usize, Failed> {
         match &mut self.present {
-            Some(connection) => connection.read(into),
+            Some(connection) => connection.read(into, &mut self.queue),
             None => unreachable!(),
         }
     }
 
     fn write(&mut self, from: &[u8]) -> Result<usize, Failed> {
         match &mut self.present {
-            Some(connection) => connection.write(from),
+            Some(connection) => connection.write(from, &mut self.queue),
             None => unreachable!(),
         }
     }

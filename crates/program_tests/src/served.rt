@@ -296,6 +296,18 @@ const SHORT_ANSWER: &[u8] = b"\
     <?xml version=\"1.0\" encoding=\"UTF-8\"?>\n\
     <Error><Code>IncompleteBody</Code><Message>IncompleteBody</Message><Resource>/pics/a.txt</Resource></Error>";
 
+/// A body of no bytes isn't waited for, so its client isn't told to go on.
+const EMPTY_BODY: &[u8] = b"\
+    PUT /pics/a.txt HTTP/1.1\r\n\
+    Content-Length: 0\r\n\
+    Expect: 100-continue\r\n\r\n";
+
+const EMPTY_ANSWER: &[u8] = b"\
+    HTTP/1.1 200 OK\r\n\
+    Date: Tue, 14 Nov 2023 22:13:20 GMT\r\n\
+    Content-Length: 0\r\n\
+    ETag: \"d41d8cd98f00b204e9800998ecf8427e\"\r\n\r\n";
+
 /// Multipart uploads aren't served.
 const UPLOADS: &[u8] = b"GET /pics?uploads HTTP/1.1\r\n\r\n";
 
@@ -377,10 +389,11 @@ fn serve_one_object(rt: HostRuntime) -> Result<(), Fail> {
 /// What comes over one connection, and what is written to it.
 #[test]
 fn whole_answers(rt: HostRuntime) -> Result<(), Fail> {
-    let rows: [(&[u8], &[u8]); 4] = [
+    let rows: [(&[u8], &[u8]); 5] = [
         (LISTS, LISTS_ANSWERS),
         (COPIES, COPIES_ANSWERS),
         (SHORT_BODY, SHORT_ANSWER),
+        (EMPTY_BODY, EMPTY_ANSWER),
         (UPLOADS, UPLOADS_ANSWER),
     ];
     for (bytes, wanted) in rows {

@@ -46,7 +46,7 @@ module _ {S : Type 0} (store : Store S) (buckets : List (List ℕ)) where
   waiting_begins : (r : Request) (p : Serving S) (rest : List ℕ) → Begins (waiting_turn store buckets r p rest)
   waiting_begins r p rest =
       let t = body_turn store buckets r p rest in
-      one_mapped (λ (stop : Stop S). stop.asks ≡ []) (λ (stop : Stop S). stop.asks ≡ []) (behind (interim r.waits) []) (λ stop e. e) t.stops (begins_so p t (body_begins r p rest))
+      one_mapped (λ (stop : Stop S). stop.asks ≡ []) (λ (stop : Stop S). stop.asks ≡ []) (behind (interim r) []) (λ stop e. e) t.stops (begins_so p t (body_begins r p rest))
 
   pub request_begins : (r : Request) (p : Serving S) (rest : List ℕ) → Begins (request_turn store buckets r p rest)
   request_begins r p rest = counting_begins (counted_before buckets r.ask r.length) p (λ q. waiting_turn store buckets r q rest) (λ q. waiting_begins r q rest)

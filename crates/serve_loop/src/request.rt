@@ -179,19 +179,18 @@ fn serve_body<S: Storage, L: Link>(
     }
 }
 
-// The interim line, where it is waited for: before a body of no bytes too, since clients of Amazon's libraries misread
-// the next answer of a connection where an answer came without it.
-fn interim(waits: bool) -> &'static [u8]
-    ensures { result.now ≡ interim_of waits }
+// The interim line, where it is waited for and a body of a byte at least was announced.
+fn interim(request: &Request) -> &'static [u8]
+    ensures { result.now ≡ interim_of request.now }
 {
-    if waits {
+    if request.waits && request.length > 0 {
         b"HTTP/1.1 100 Continue\r\n\r\n"
     } else {
         b""
     }
 }
 
-// Writes the interim line where it is waited for, and serves the request.
+// Writes the interim line where it is to be, and serves the request.
 fn serve_waiting<S: Storage, L: Link>(
     alloc: Global,
     store: &mut S,
@@ -210,7 +209,7 @@ fn serve_waiting<S: Storage, L: Link>(
     ensures goes { Goes S.model S.fits S.lacks (S.stands store.old) (S.stands store.new) result }
     ensures stays { Stays (L.coming link.old) (L.coming link.new) (L.past link.old) (L.past link.new) (L.faults link.old) (L.faults link.new) }
 {
-    match send_whole(link, interim(request.waits)) {
+    match send_whole(link, interim(request)) {
         Ok(()) => serve_body(alloc, store, link, kept, served, buckets, request),
         Err(_) => Ok(false),
     }

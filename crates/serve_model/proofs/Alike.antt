@@ -167,7 +167,7 @@ module _ {S T : Type 0} (one : Store S) (other : Store T) (Alike : S → T → T
         (judged_alike r (take r.length rest) (refusal_in buckets r.ask (take r.length rest)) p q (drop r.length rest) l) (answer_alike r (answer.Refusal IncompleteBody) p q rest l))
 
     waiting_alike : (r : Request) (p : Serving S) (q : Serving T) (rest : List ℕ) → Serves p q → TurnsSo (waiting_turn one buckets r p rest) (waiting_turn other buckets r q rest)
-    waiting_alike r p q rest l = after_alike (interim r.waits) (body_turn one buckets r p rest) (body_turn other buckets r q rest) (body_alike r p q rest l)
+    waiting_alike r p q rest l = after_alike (interim r) (body_turn one buckets r p rest) (body_turn other buckets r q rest) (body_alike r p q rest l)
 
     request_alike : (r : Request) (p : Serving S) (q : Serving T) (rest : List ℕ) → Serves p q → TurnsSo (request_turn one buckets r p rest) (request_turn other buckets r q rest)
     request_alike r p q rest l = counting_alike (counted_before buckets r.ask r.length) p q l (λ v. waiting_turn one buckets r v rest) (λ v. waiting_turn other buckets r v rest) (λ m. waiting_alike r (counted (counted_before buckets r.ask r.length) p) (counted (counted_before buckets r.ask r.length) q) rest m)

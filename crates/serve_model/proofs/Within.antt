@@ -92,7 +92,7 @@ module _ {S : Type 0} where
           ])
 
       waiting_within : (r : Request) (p : Serving S) (rest : List ℕ) → AllWithin (waiting_turn store buckets r p rest)
-      waiting_within r p rest = let t = body_turn store buckets r p rest in behind_within (interim r.waits) t.text [] t.asks t.stops (body_within r p rest)
+      waiting_within r p rest = let t = body_turn store buckets r p rest in behind_within (interim r) t.text [] t.asks t.stops (body_within r p rest)
 
       request_within : (r : Request) (p : Serving S) (rest : List ℕ) → AllWithin (request_turn store buckets r p rest)
       request_within r p rest = counting_within (counted_before buckets r.ask r.length) p (λ q. waiting_turn store buckets r q rest) (λ q. waiting_within r q rest)

@@ -104,9 +104,9 @@ request_of last now head ask =
       time = now;
     }
 
--- the interim line, where it is waited for, a body of no bytes too
-abbrev pub interim : Bool → List ℕ
-interim waits = if waits then codes "HTTP/1.1 100 Continue\r\n\r\n" else []
+-- the interim line, where it is waited for and a body of a byte at least was announced
+abbrev pub interim : Request → List ℕ
+interim r = if r.waits && nat_lt 0 r.length then codes "HTTP/1.1 100 Continue\r\n\r\n" else []
 
 -- the connection closes after this refusal
 abbrev pub closes_with : Request → Code → Bool
@@ -211,9 +211,9 @@ module _ {S : Type 0} where
     unfoldable pub body_turn : Request → Serving S → List ℕ → Turn S
     body_turn r p rest = passing p (if nat_le r.length (length rest) then whole_turn r (take r.length rest) p (drop r.length rest) else answer_turn r (answer.Refusal IncompleteBody) p rest)
 
-    -- the interim line is written where it is waited for, before the body is read
+    -- the interim line is written where it is to be, before the body is read
     abbrev pub waiting_turn : Request → Serving S → List ℕ → Turn S
-    waiting_turn r p rest = after (interim r.waits) (body_turn r p rest)
+    waiting_turn r p rest = after (interim r) (body_turn r p rest)
 
     -- a request was understood
     abbrev pub request_turn : Request → Serving S → List ℕ → Turn S

@@ -19,7 +19,7 @@ returns-in-Ok-clause-serves g c = λ p times st.
     let m = g.L.Link.present c.send_whole.new.link in
     let n = g.L.Link.present c.serve_body.new.link in
     let P : List ℕ → Type 0 = λ t. OnPresent (WritesWhole {E = Failed} (Ok tt) t) o m in
-    after_serves holds known times c.serve_body.new.served Failed (interim_of r.waits) (λ left. body_turn model c.args.buckets.now r p (kept ++ left)) c.serve_body.result c.serve_body.new.kept.bytes.items o m n
+    after_serves holds known times c.serve_body.new.served Failed (interim_of r) (λ left. body_turn model c.args.buckets.now r p (kept ++ left)) c.serve_body.result c.serve_body.new.kept.bytes.items o m n
     (subst P c.interim.ensures c.in-Ok.ensures.writes) (c.serve_body.ensures.serves p times st)
 
 pub returns-in-Err-clause-serves : goal.returns-in-Err-clause-serves
@@ -33,6 +33,6 @@ returns-in-Err-clause-serves g c = λ p times st.
     let o = g.L.Link.present c.args.link.now in
     let m = g.L.Link.present c.send_whole.new.link in
     let P : List ℕ → Type 0 = λ t. OnPresent (WritesWhole (Err c.in-Err.field-0) t) o m in
-    part_serves holds known times c.args.served.now {E = Failed} c.in-Err.field-0 (interim_of r.waits) (λ left. body_turn model buckets r p (kept ++ left)) p kept o m
+    part_serves holds known times c.args.served.now {E = Failed} c.in-Err.field-0 (interim_of r) (λ left. body_turn model buckets r p (kept ++ left)) p kept o m
     (stands_here model g.S.Storage.fits g.S.Storage.lacks (g.S.Storage.stands c.args.store.now) times c.args.served.now p st) (λ left. body_begins model buckets r p (kept ++ left))
     (subst P c.interim.ensures c.in-Err.ensures.writes)

@@ -1,0 +1,11 @@
+use Rattle.std.proofs.Common.{◌≡◌, length}
+use Rattle.lab_outside.specs.TcpQueue.{queue_port}
+use Rattle.lab_outside.proofs.tcp_connection.TcpConnection.read.Given as goal
+
+abbrev pub invariant-tries : goal.invariant-tries
+invariant-tries g l =
+    record {
+      room : length l.into ≡ length l.fn.into;
+      faults : l.self.faults ≡ l.fn.self.faults;
+      port : queue_port l.queue ≡ queue_port l.fn.queue;
+    }
