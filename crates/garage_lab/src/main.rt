@@ -9,11 +9,13 @@
 
 mod announced;
 mod command;
+mod ending;
 mod run;
 #[cfg(test)]
 mod tests;
 
 use crate::announced::Announced;
+use crate::ending::tell_end;
 use crate::run::run;
 use lab_main::{exit_code, words};
 use lab_outside::{Status, StdSink, StdSource, TcpLink, WallClock};
@@ -40,5 +42,6 @@ fn main(rt: HostRuntime) -> ExitCode {
         &mut link,
         &mut clock,
     );
+    tell_end(&rt, &words, status);
     exit_code(status)
 }
