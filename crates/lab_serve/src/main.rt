@@ -1,10 +1,12 @@
 //! S3 on a port of 127.0.0.1, over a cluster in the program itself: the standard input and output, the sockets and the
-//! clock for `run` of serve_run. Once the port is open, a line on standard error says so.
+//! clock for `run` of serve_run. Lines on standard error say where it listens, and why it ended.
 #![tactic(auto)]
 
 mod announced;
+mod ending;
 
 use crate::announced::Announced;
+use crate::ending::tell_end;
 use lab_main::{exit_code, words};
 use lab_outside::{Status, StdSink, StdSource, TcpLink, WallClock};
 use serve_run::run;
@@ -31,5 +33,6 @@ fn main(rt: HostRuntime) -> ExitCode {
         &mut link,
         &mut clock,
     );
+    tell_end(&rt, &words, status);
     exit_code(status)
 }
