@@ -1,15 +1,15 @@
 //! Reads a schedule: the events that its lines spell, at most 100,000, or the first line outside the grammar.
 //!
-//! `parse` goes line by line. A line is cut at its spaces (`event_line`); its first word says which
-//! event it is (`line_kind`), and the others are numbers (`numbers`), names (`names`), a request's node, bucket and key
-//! (`places`) and roles (`roles`) in their ranges. Empty lines and those that begin with `#` are no events, but count as
-//! lines. `decimal_number` reads a number as the grammar writes it. `every_text_reads` is the law that each text is a
+//! `parse` goes line by line. A line is cut at its spaces (`line`); its first word says which event it is (`line_kind`), and
+//! the others are numbers (`numbers`), names (`names`), a request's node, bucket and key (`places`) and roles (`roles`) in
+//! their ranges. Empty lines and those that begin with `#` are no events, but count as lines. `event_line` reads one line
+//! alone. `decimal_number` reads a number as the grammar writes it. `every_text_reads` is the law that each text is a
 //! schedule, has a first bad line, or has too many events.
 #![tactic(auto)]
 
-mod event_line;
 mod fault;
 mod laws;
+mod line;
 mod line_kind;
 mod names;
 mod numbers;
@@ -19,6 +19,7 @@ mod schedule;
 
 pub use fault::ScheduleFault;
 pub use laws::every_text_reads;
+pub use line::event_line;
 pub use numbers::decimal_number;
 pub use schedule::{EVENTS_LIMIT, parse};
 pub use store_model::{Event, Numbered};

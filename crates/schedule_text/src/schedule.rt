@@ -4,8 +4,8 @@ ghost use Rattle.text_model.specs.Grammar.{lines_of, is_blank};
 ghost use Rattle.text_model.specs.Reading.{events_limit, IsSchedule, IsFirstBadLine, HasTooManyEvents};
 ghost use Rattle.schedule_text.specs.Schedule.{AddsEvent, IsBad, IsOver};
 
-use crate::event_line::event_line;
 use crate::fault::{LineFault, ScheduleFault};
+use crate::line::event_in;
 use crdt_core::List;
 use std::alloc::Global;
 use store_model::Numbered;
@@ -55,7 +55,7 @@ fn read_line(
     if is_blank(line) {
         return Ok(());
     }
-    match event_line(alloc, line) {
+    match event_in(alloc, line) {
         Ok(event) => {
             if events.len() >= EVENTS_LIMIT {
                 return Err(ScheduleFault::TooManyEvents);

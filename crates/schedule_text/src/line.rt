@@ -2,7 +2,8 @@
 ghost use Rattle.std.specs.Prelude.{◌≡◌, ◌∷◌, codes, take, IfOk};
 ghost use Rattle.text_model.specs.Grammar.{Spells};
 ghost use Rattle.text_model.specs.Words.{words_in, IsSpelledBy};
-ghost use Rattle.schedule_text.specs.Reads.{Reads};
+ghost use Rattle.crdt_core.specs.Outcomes.{OnlyWant};
+ghost use Rattle.schedule_text.specs.Reads.{Finds, Reads};
 ghost use Rattle.schedule_text.specs.Kinds.{texts};
 
 use crate::fault::LineFault;
@@ -11,6 +12,7 @@ use crate::names::bucket_name;
 use crate::numbers::{filling, issued_alone, node, node_alone, number_alone};
 use crate::places::{object, place, prefixed, split_three};
 use crate::roles::{role_of, wanted};
+use crdt_core::Memory;
 use std::alloc::{AllocError, Global};
 use store_model::Event;
 
@@ -271,9 +273,22 @@ fn words(alloc: Global, line: &[u8]) -> Result<Vec<&[u8]>, AllocError>
 }
 
 /// The event that a line spells.
-pub(crate) fn event_line(alloc: Global, line: &[u8]) -> Result<Event, LineFault>
+pub(crate) fn event_in(alloc: Global, line: &[u8]) -> Result<Event, LineFault>
     ensures { Reads (Spells line.now) result }
 {
     let words = words(alloc, line)?;
     spelled(alloc, &words)
+}
+
+/// The event that a line of a schedule spells, or none where it spells none: also where the line is empty or begins with
+/// `#`. Numbers have no leading zero, and words stand one space apart.
+pub fn event_line(alloc: Global, line: &[u8]) -> Result<Option<Event>, Memory>
+    ensures spelled { IfOk result (λ found. Finds (Spells line.now) found) }
+    ensures want { OnlyWant result }
+{
+    match event_in(alloc, line) {
+        Ok(event) => Ok(Some(event)),
+        Err(LineFault::Outside) => Ok(None),
+        Err(LineFault::Memory) => Err(Memory::Want),
+    }
 }

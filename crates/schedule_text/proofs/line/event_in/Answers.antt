@@ -1,5 +1,5 @@
 use Rattle.schedule_text.proofs.Lines.{reads_line}
-use Rattle.schedule_text.proofs.event_line.event_line.Goals as goal
+use Rattle.schedule_text.proofs.line.event_in.Goals as goal
 
 pub returns : goal.returns
 returns c =

@@ -1,6 +1,6 @@
 use Rattle.std.proofs.lemmas.Result.{err_from_is_err_and}
 use Rattle.schedule_text.proofs.Inverse.{no_kind}
-use Rattle.schedule_text.proofs.event_line.spelled.Goals as goal
+use Rattle.schedule_text.proofs.line.spelled.Goals as goal
 
 pub returns-in_err-ok_or : goal.returns-in_err-ok_or
 returns-in_err-ok_or c =

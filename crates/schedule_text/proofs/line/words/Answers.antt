@@ -3,7 +3,7 @@ use Rattle.std.specs.Slice.Iter as slice
 use Rattle.std.proofs.lemmas.Iterator.{YieldsList-from_take}
 use Rattle.std.proofs.lemmas.Iterator.Consumers.{map_from_collect}
 use Rattle.std.proofs.lemmas.Iterator.Splits.{YieldsList-from_slice_split}
-use Rattle.schedule_text.proofs.event_line.words.Goals as goal
+use Rattle.schedule_text.proofs.line.words.Goals as goal
 
 pub returns : goal.returns
 returns c =

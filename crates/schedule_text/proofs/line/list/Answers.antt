@@ -1,7 +1,7 @@
 use Rattle.std.proofs.lemmas.List.{take_rest}
 use Rattle.std.proofs.lemmas.Result.{err_from_is_err_and}
 use Rattle.schedule_text.proofs.Inverse.{list_unread}
-use Rattle.schedule_text.proofs.event_line.list.Goals as goal
+use Rattle.schedule_text.proofs.line.list.Goals as goal
 
 pub returns-in_err-bucket : goal.returns-in_err-bucket
 returns-in_err-bucket c =

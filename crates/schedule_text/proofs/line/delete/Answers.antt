@@ -1,9 +1,9 @@
 use Rattle.std.proofs.lemmas.Result.{err_from_is_err_and}
 use Rattle.schedule_text.specs.Kinds.{texts}
-use Rattle.schedule_text.proofs.Inverse.{get_unread}
-use Rattle.schedule_text.proofs.event_line.get.Goals as goal
+use Rattle.schedule_text.proofs.Inverse.{delete_unread}
+use Rattle.schedule_text.proofs.line.delete.Goals as goal
 
 pub returns-in_err-node : goal.returns-in_err-node
 returns-in_err-node c =
     let p = err_from_is_err_and c.from_residual.result c.from_residual.ensures.1 in
-    rw (p.1, p.2) (get_unread (texts c.args.words.now) c.in_err-node.field-0.0 c.in_err-node.ensures)
+    rw (p.1, p.2) (delete_unread (texts c.args.words.now) c.in_err-node.field-0.0 c.in_err-node.ensures)

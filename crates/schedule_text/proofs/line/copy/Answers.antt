@@ -1,7 +1,7 @@
 use Rattle.std.proofs.lemmas.Result.{err_from_is_err_and}
 use Rattle.schedule_text.specs.Kinds.{texts}
 use Rattle.schedule_text.proofs.Inverse.{source_unread, destination_unread, copy_read}
-use Rattle.schedule_text.proofs.event_line.copy.Goals as goal
+use Rattle.schedule_text.proofs.line.copy.Goals as goal
 
 pub returns-in_err-node : goal.returns-in_err-node
 returns-in_err-node c =
