@@ -34,13 +34,13 @@ use Rattle.k2v_model.specs.declared.line.ItemLine.TheVariants.{WriteDone, ReadDo
 use Rattle.k2v_model.specs.Orders.{key_of, empty_row}
 use Rattle.k2v_model.specs.Run.{Moving, ItemRequest, Stage, reading, storing, stored, shown, over, is_open, State, Outcome, token_at, plainly, effect, doing, phases, set_stage, silent, stores, finishes, writes, values_told, is_deletion, reads_on, follows, follow, goes_on}
 use Rattle.k2v_model.specs.Owed.{IsWrite, HasRead}
-use Rattle.k2v_laws.proofs.Begun.{IsBegun, begun_step}
-use Rattle.k2v_laws.proofs.Calm.{IsCalm, IsCalmStep, calm_step}
+use Rattle.machine_origins.proofs.Begun.{IsBegun, begun_step}
+use Rattle.machine_origins.proofs.Calm.{IsCalm, IsCalmStep, calm_step}
 use Rattle.k2v_laws.proofs.Every.{EveryWorld, reached_kept, reached_good, reached_different}
 use Rattle.k2v_laws.proofs.Good.{one_entry, write_value, write_token, never_write, storing_row, never_reading, IsLive, Knows, IsGood, none_at_zero, knows_right, IsToken, own, put_good}
 use Rattle.k2v_laws.proofs.Grown.{IsAfter, Grows, live_before, good_later, read_later}
 use Rattle.k2v_laws.proofs.Later.{read_token, token_same, stored_before, row_later}
-use Rattle.k2v_laws.proofs.Places.{numbered_within}
+use Rattle.machine_origins.proofs.Places.{numbered_within}
 use Rattle.k2v_laws.proofs.Placing.{empty_proper, row_is_of, key_is_of, stores_is_step, stores_is_meant, kept_under}
 use Rattle.k2v_laws.proofs.Sound.{IsGoodRow, StoresGood, BeganAt, Asks, Fits, IsPresent, IsTokenOf, IsRowOf, IsStage, IsEntry, Passed, IsSound}
 use Rattle.k2v_laws.proofs.Steps.{step_sound, HasEnded, Rests, calm_presents, fits_closed, set_at, set_grows, set_sound}

@@ -22,7 +22,7 @@ use Rattle.k2v_model.specs.Orders.{empty_row}
 use Rattle.k2v_model.specs.Run.{World, Moving, ItemRequest, Stage, reading, storing, stored, shown, over, is_open, token_at, State, start, Outcome, set_stage, silent, plainly, effect, doing, stores, reads_on, follows, follow, goes_on, delivers, then_drains, drains}
 use Rattle.k2v_model.specs.Acts.{Act, moves, asks, delivery, drain, adds, ends_one, ends_all, plain, acted, after_acts, IsOuter, IsLawfulAct, AreLawfulActs, ActsFit}
 use Rattle.k2v_laws.proofs.Acting.{is_calm, calm_sound, goes_on_sound}
-use Rattle.k2v_laws.proofs.Calm.{IsCalmStep}
+use Rattle.machine_origins.proofs.Calm.{IsCalmStep}
 use Rattle.k2v_laws.proofs.Every.{EveryWorld}
 use Rattle.k2v_laws.proofs.Grown.{IsAfter}
 use Rattle.k2v_laws.proofs.Opening.{begins_sound}

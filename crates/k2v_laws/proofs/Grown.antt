@@ -9,7 +9,7 @@ use Rattle.k2v_model.specs.declared.order.Order.{Order}
 use Rattle.k2v_model.specs.Orders.{key_of}
 use Rattle.k2v_model.specs.Run.{ItemRequest, Stage, reading, storing, stored, shown, over, set_stage}
 use Rattle.k2v_model.specs.Owed.{IsWrite, HasRead, IsReplaced}
-use Rattle.k2v_laws.proofs.Places.{numbered_there, length_push, numbered_append, numbered_set_here, numbered_set}
+use Rattle.machine_origins.proofs.Places.{numbered_there, length_push, numbered_append, numbered_set_here, numbered_set}
 use Rattle.k2v_laws.proofs.Good.{one_entry, IsLive, HasWritten, IsGood, none_at_zero}
 
 -- what becomes of a write that stores this row

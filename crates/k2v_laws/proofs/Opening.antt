@@ -35,7 +35,7 @@ use Rattle.k2v_laws.proofs.Every.{EveryWorld, reached_step, reached_later}
 use Rattle.k2v_laws.proofs.Good.{one_entry, write_token, never_write}
 use Rattle.k2v_laws.proofs.Grown.{Grows, grows_push}
 use Rattle.k2v_laws.proofs.Later.{entry_later, fits_later}
-use Rattle.k2v_laws.proofs.Places.{length_push, numbered_append, numbered_push_cases, numbered_last, numbered_within}
+use Rattle.machine_origins.proofs.Places.{length_push, numbered_append, numbered_push_cases, numbered_last, numbered_within}
 use Rattle.k2v_laws.proofs.Placing.{asks_is_step}
 use Rattle.k2v_laws.proofs.Sound.{BeganAt, Fits, IsPresent, ArePresent, IsTokenOf, IsGiven, IsStage, HasBefore, IsEntry, Passed, ArePassed, IsSound}
 

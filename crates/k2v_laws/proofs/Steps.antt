@@ -21,8 +21,8 @@ use Rattle.k2v_model.specs.declared.order.Order.{Order}
 use Rattle.k2v_model.specs.Orders.{key_of}
 use Rattle.k2v_model.specs.Run.{Moving, ItemRequest, Stage, reading, storing, stored, shown, over, is_open, State, doing, effect, set_stage}
 use Rattle.k2v_model.specs.Owed.{IsWrite}
-use Rattle.k2v_laws.proofs.Places.{numbered_within, numbered_set_here, numbered_set_cases}
-use Rattle.k2v_laws.proofs.Calm.{IsCalm}
+use Rattle.machine_origins.proofs.Places.{numbered_within, numbered_set_here, numbered_set_cases}
+use Rattle.machine_origins.proofs.Calm.{IsCalm}
 use Rattle.k2v_laws.proofs.Good.{one_entry}
 use Rattle.k2v_laws.proofs.Grown.{IsAfter, Grows, grows_same, grows_set, entry_before}
 use Rattle.k2v_laws.proofs.Sound.{StoresGood, BeganAt, Asks, Fits, IsPresent, ArePresent, IsStage, IsEntry, Passed, ArePassed, IsSound}

@@ -16,7 +16,7 @@ use Rattle.store_model.specs.Run.{Moving, State, Outcome, Asked, Draw, start, ne
 use Rattle.store_model.specs.Acts.{Act, asks, acted, after_acts, AreLawfulActs, ActsFit}
 use Rattle.store_model.proofs.Acts.{acts_after, lawful_in_parts, fit_in_parts}
 use Rattle.store_laws.specs.Promised.{moves_in}
-use Rattle.store_laws.proofs.Places.{numbered_last, numbered_within}
+use Rattle.machine_origins.proofs.Places.{numbered_last, numbered_within}
 use Rattle.store_laws.proofs.Records.{is_in}
 use Rattle.store_laws.proofs.Sound.{IsSound, began}
 use Rattle.store_anchors.specs.Copied.{Copying, order_of, CopiesSources}

@@ -39,7 +39,7 @@ use Rattle.store_laws.proofs.Flows.{waiting}
 use Rattle.store_laws.proofs.Going.{flow_of}
 use Rattle.store_laws.proofs.Grown.{Rests, asked_set}
 use Rattle.store_laws.proofs.Hashes.{HasHash}
-use Rattle.store_laws.proofs.Places.{numbered_set_here}
+use Rattle.machine_origins.proofs.Places.{numbered_set_here}
 use Rattle.store_laws.proofs.Placing.{asks_is_step, asks_is_meant, opens_is_step, opens_is_meant, scan_is_step, scan_is_meant, fetch_is_step, fetch_is_meant, stores_is_step, stores_is_meant, one_is_step, uploading_is_placed, block_is_step, block_is_meant}
 use Rattle.store_laws.proofs.Rows.{complete_row}
 use Rattle.history_model.specs.declared.record.Cause.TheVariants.{Superseded}

@@ -43,7 +43,7 @@ use Rattle.store_laws.proofs.Elements.{none_in, there}
 use Rattle.store_laws.proofs.Reached.{reached_step, reached_weaker, reached_forgetting, reached_installing}
 use Rattle.store_laws.proofs.Sound.{IsReachedBy}
 use Rattle.store_laws.proofs.Grown.{Rests, asked_set}
-use Rattle.store_laws.proofs.Places.{numbered_set_cases}
+use Rattle.machine_origins.proofs.Places.{numbered_set_cases}
 use Rattle.store_anchors.specs.Stored.{blocks_by, blocks_of}
 use Rattle.store_anchors.proofs.Kept.{AsksNames, Fetches, IsReplaced, names_later, fetches_later, replaced_later, replaced_asked, IsPart, Past, Grows, HasPiece, IsRowOf, piece_later, row_later}
 

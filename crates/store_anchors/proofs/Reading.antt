@@ -31,7 +31,7 @@ use Rattle.flow_model.specs.Rows.{meta_of}
 use Rattle.flow_model.specs.Says.{in_blocks, said_of, of_state, of_version}
 use Rattle.flow_laws.proofs.Cut.{has_first}
 use Rattle.store_model.specs.Run.{Moving, State, Draw}
-use Rattle.store_laws.proofs.Places.{numbered_within}
+use Rattle.machine_origins.proofs.Places.{numbered_within}
 use Rattle.store_laws.proofs.Rows.{complete_state, complete_row, blocks_content}
 use Rattle.store_laws.proofs.Records.{is_in}
 use Rattle.store_laws.proofs.Sound.{IsSound}

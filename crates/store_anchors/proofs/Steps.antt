@@ -28,12 +28,12 @@ use Rattle.machine_origins.specs.Origins.{stored_by}
 use Rattle.row_codec.specs.NumberLaws.{some_is}
 use Rattle.flow_model.specs.declared.flow.Flow.{Flow}
 use Rattle.store_model.specs.Run.{World, Moving, State, Asked, plainly, effect, doing, phases}
-use Rattle.store_laws.proofs.Calm.{IsCalm, IsCalmStep, calm_step}
+use Rattle.machine_origins.proofs.Calm.{IsCalm, IsCalmStep, calm_step}
 use Rattle.store_laws.proofs.Elements.{none_in, only as only_one}
 use Rattle.store_laws.proofs.Grown.{asked_told}
 use Rattle.store_laws.proofs.Ends.{asked_of}
 use Rattle.store_laws.proofs.Opening.{beginning, opening}
-use Rattle.store_laws.proofs.Places.{numbered_push_cases, numbered_within}
+use Rattle.machine_origins.proofs.Places.{numbered_push_cases, numbered_within}
 use Rattle.store_laws.proofs.Sound.{IsSound}
 use Rattle.store_anchors.proofs.Kept.{Past, Grows, IsRowOf, replaced_asked}
 use Rattle.block_laws.specs.Fetched.{Fetched, EndedSo, GaveItsBlock}

@@ -20,7 +20,7 @@ use Rattle.cluster_machine.specs.Step.{applied, shut}
 use Rattle.cluster_machine.specs.Fits.{Fits}
 use Rattle.cluster_machine.specs.Worlds.{Done as Effect, FitAll}
 use Rattle.cluster_machine.proofs.Closing.{length_shut}
-use Rattle.store_laws.proofs.Places.{numbered_within}
+use Rattle.machine_origins.proofs.Places.{numbered_within}
 use Rattle.history_model.specs.declared.record.Kind.{Kind}
 use Rattle.history_model.specs.declared.record.Kind.TheVariants as kind
 use Rattle.history_model.specs.declared.record.Answer.{Answer}

@@ -35,7 +35,7 @@ use Rattle.store_model.specs.Acts.{Act, moves, installs, asks, delivery, drain, 
 use Rattle.store_model.specs.Fresh.{IsFresh}
 use Rattle.store_model.proofs.Leads.{delivers_lead}
 use Rattle.store_laws.proofs.Elements.{bucket_in, none_in}
-use Rattle.store_laws.proofs.Calm.{IsCalmStep}
+use Rattle.machine_origins.proofs.Calm.{IsCalmStep}
 use Rattle.store_laws.proofs.Every.{EveryWorld}
 use Rattle.store_laws.proofs.Good.{IsGood}
 use Rattle.store_laws.proofs.Placing.{asks_is_step, asks_is_meant, scan_is_step, scan_is_meant}

@@ -1,7 +1,5 @@
 -- The phases of requests: what a request is in whose phase has begun.
-use Rattle.std.specs.Option.{unwrap_or}
-use Rattle.std.proofs.lemmas.Bool.{eqb-true}
-use Rattle.std.specs.Prelude.{◌≡◌, ◌==◌, true, false, cond, ℕ, List, [], ◌∷◌, ◌++◌, map, Option, Some, None, refl}
+use Rattle.std.specs.Prelude.{◌≡◌, ℕ, List, ◌∷◌, ◌++◌, map, Option, Some, None, refl}
 use Rattle.std.proofs.Common.{ap, sym, subst, ◌∙◌, inl, inr}
 use Rattle.std.proofs.lemmas.List.Elements.{All-nil, Contains-append_left}
 use Rattle.crdt_rows.specs.declared.version.Version.{Version}
@@ -20,6 +18,7 @@ use Rattle.cluster_machine.specs.World.{Request, numbered}
 use Rattle.cluster_machine.specs.Step.{begun, beginning}
 use Rattle.cluster_machine.specs.Keeping.{AreDifferent}
 use Rattle.machine_origins.specs.Following.{Began, Begins}
+use Rattle.machine_origins.proofs.Begun.{found_request}
 use Rattle.machine_origins.proofs.FollowingCalls.{found_there}
 use Rattle.machine_origins.proofs.FollowingSteps.{begins_follow}
 use Rattle.cluster_machine.specs.Layouts.{layouts}
@@ -33,14 +32,6 @@ use Rattle.store_laws.proofs.Sound.{began, WasAcknowledged, IsProper, AreProper,
 use Rattle.store_laws.proofs.Ends.{asked_of}
 use Rattle.store_laws.proofs.Grown.{IsStill}
 use Rattle.store_laws.proofs.Stepping.{IsFine, fine_still, fine_one, fine_cond}
-
-pub found_request : (calls : List (Call AnyRow)) (q : ℕ) (c : Call AnyRow) → call_at calls q ≡ Some c → c.request ≡ q
-found_request [] q c e = cc
-found_request (d ∷ calls) q c e =
-    elim (d.request == q) as (λ b. (d.request == q) ≡ b → cond b (Some d) (call_at calls q) ≡ Some c → c.request ≡ q) [
-      | true ↦ (λ t f. ap (λ (o : Option (Call AnyRow)). (unwrap_or o d).request) (sym f) ∙ eqb-true d.request q t)
-      | false ↦ (λ t f. found_request calls q c f)
-    ] refl e
 
 -- what was acknowledged in a part of the history
 acknowledged_part : (before rest : List Record) (name : Name) (version : Version) → WasAcknowledged before name version → WasAcknowledged (before ++ rest) name version

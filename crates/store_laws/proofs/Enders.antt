@@ -33,7 +33,7 @@ use Rattle.history_model.specs.declared.record.Record.{Record}
 use Rattle.store_model.specs.Run.{Moving, State, Asked, Draw, plainly, effect, doing, finishes}
 use Rattle.store_laws.proofs.Elements.{at_cut, none_in}
 use Rattle.store_laws.proofs.Records.{is_in}
-use Rattle.store_laws.proofs.Calm.{IsCalm, IsCalmStep, calm_step}
+use Rattle.machine_origins.proofs.Calm.{IsCalm, IsCalmStep, calm_step}
 use Rattle.store_laws.proofs.Every.{EveryWorld}
 use Rattle.store_laws.proofs.Good.{IsGood}
 use Rattle.store_laws.proofs.Sound.{began, IsAsked, IsWishOf, Completes, StoresFor, WaitsAt, IsFreshEnd, IsSound}

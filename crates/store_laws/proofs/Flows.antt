@@ -11,7 +11,7 @@ use Rattle.flow_model.specs.declared.flow.Flow.{Flow}
 use Rattle.store_model.specs.Run.{State, Asked, Draw, Saw, set_flow}
 use Rattle.store_model.specs.Fresh.{Gave}
 use Rattle.store_laws.proofs.Elements.{cons_cases}
-use Rattle.store_laws.proofs.Places.{numbered_set_cases}
+use Rattle.machine_origins.proofs.Places.{numbered_set_cases}
 use Rattle.store_laws.proofs.Sound.{began, HasDrawn, IsStage, IsSound}
 use Rattle.store_laws.proofs.Freshness.{fresh_later}
 use Rattle.store_laws.proofs.Rows.{IsOf}

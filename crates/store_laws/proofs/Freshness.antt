@@ -15,7 +15,7 @@ use Rattle.history_model.specs.Fresh.{Below, IsAcknowledged}
 use Rattle.flow_model.specs.declared.flow.Name.{Name}
 use Rattle.store_model.specs.Run.{Draw, Saw, State}
 use Rattle.store_model.specs.Fresh.{IsMarked, Covers, IsDrawn, HasDeleted, NoClash, IsRead, IsFreshRead, IsFresh}
-use Rattle.store_laws.proofs.Places.{get_append}
+use Rattle.machine_origins.proofs.Places.{get_append}
 use Rattle.store_laws.proofs.Records.{in_front, finish_is, finish_cases, acknowledged_is, split, old_at, began_before, acknowledged_before}
 use Rattle.store_laws.proofs.Rows.{marker_drawn}
 use Rattle.store_laws.proofs.Sound.{began, IsWishOf, WasAcknowledged, DrewHere, IsFreshEnd, IsSound}

@@ -34,7 +34,7 @@ use Rattle.flow_model.specs.Flow.{asks_for, asks_past}
 use Rattle.flow_model.specs.Next.{drawn, stores, opens}
 use Rattle.store_model.specs.Run.{State, Asked, Draw, Outcome, phases, effect, set_flow, goes}
 use Rattle.store_laws.proofs.Elements.{only, none_in}
-use Rattle.store_laws.proofs.Places.{numbered_set_here}
+use Rattle.machine_origins.proofs.Places.{numbered_set_here}
 use Rattle.store_laws.proofs.Records.{stands}
 use Rattle.store_laws.proofs.Every.{EveryWorld}
 use Rattle.store_laws.proofs.Hashes.{HasHash}

@@ -2,7 +2,6 @@ pub mod Acting
 pub mod Acts
 pub mod Alike
 pub mod Beginning
-pub mod Calm
 pub mod Covering
 pub mod Elements
 pub mod Emptied
@@ -22,7 +21,6 @@ pub mod Moments
 pub mod Once
 pub mod Opening
 pub mod Orders
-pub mod Places
 pub mod Placing
 pub mod Reached
 pub mod Recorded

@@ -32,7 +32,7 @@ use Rattle.store_model.specs.Acts.{Act, moves, installs, asks, delivery, drain, 
 use Rattle.store_model.specs.Written.{AreDrawnOnce}
 use Rattle.store_laws.proofs.Elements.{none_in, only}
 use Rattle.store_laws.proofs.Records.{is_in}
-use Rattle.store_laws.proofs.Places.{numbered_append, numbered_set_here, numbered_set_cases}
+use Rattle.machine_origins.proofs.Places.{numbered_append, numbered_set_here, numbered_set_cases}
 use Rattle.store_laws.proofs.Every.{EveryWorld}
 use Rattle.store_laws.proofs.Sound.{IsSound}
 use Rattle.store_laws.proofs.Starting.{start_sound}

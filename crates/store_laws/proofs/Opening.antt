@@ -26,7 +26,7 @@ use Rattle.history_model.specs.Record.{is_write}
 use Rattle.flow_model.specs.declared.flow.Flow.{Flow}
 use Rattle.flow_model.specs.declared.flow.Name.{Name}
 use Rattle.store_model.specs.Run.{World, State, Asked, plainly}
-use Rattle.store_laws.proofs.Places.{numbered_append, numbered_push_cases, numbered_last, numbered_within}
+use Rattle.machine_origins.proofs.Places.{numbered_append, numbered_push_cases, numbered_last, numbered_within}
 use Rattle.store_laws.proofs.Good.{IsGood}
 use Rattle.store_laws.proofs.Sound.{StoresGood, began, IsTold, WasAcknowledged, HasAcknowledged, Drew, HasAnswered, AreProper, IsPresent, ArePresent, IsStage, IsSound}
 use Rattle.store_laws.proofs.Freshness.{fresh_later, fresh_told}

@@ -24,7 +24,7 @@ use Rattle.machine_origins.specs.Origins.{stored_by}
 use Rattle.cluster_machine.specs.Worlds.{Done as Effect, IsLawfulRun, installs, installed}
 use Rattle.cluster_machine.proofs.Closing.{length_shut}
 use Rattle.store_model.specs.Run.{State, Moving, Asked, doing, effect}
-use Rattle.store_laws.proofs.Calm.{IsCalm}
+use Rattle.machine_origins.proofs.Calm.{IsCalm}
 use Rattle.store_laws.proofs.Good.{IsGood}
 use Rattle.store_laws.proofs.Sound.{StoresGood, IsReached, IsProper, AreProper, WaitsAt, IsPresent, ArePresent, IsSound}
 use Rattle.store_laws.proofs.Freshness.{fresh_later}
