@@ -21,7 +21,7 @@ use Rattle.text_model.specs.Played.{ArePlayed}
 use Rattle.replay_run.specs.Replay.{sent_line, IsReplay, whole, sent}
 use Rattle.replay_run.proofs.Leading.{played_fits}
 use Rattle.replay_run.proofs.Checked.{line_is_fresh}
-use Rattle.store_anchors.specs.Promises.{KeepsPromises, EveryRunKeepsPromises}
+use Rattle.store_anchors.specs.Promises.{WalksAreClear, KeepsPromises, EveryRunKeepsPromises}
 use Rattle.garage_lab.specs.Replay.{IsTranscribed, checked_transcript, IsChecked}
 use Rattle.layout_command.specs.Answer.{IsAnswer as IsLayoutAnswer}
 use Rattle.layout_command.specs.Moves.{IsMovesAnswer}
@@ -268,9 +268,9 @@ done_transcribes asked input old new asks kept h =
     }
 
 -- and where all reads are fresh, with a check that says so
-check_is_fresh : (turns : List Turn) (text : List ℕ) → KeepsPromises (acts_of turns) → IsText Checked turns text → NoClash (run start turns).buckets → text ≡ checked_transcript turns
-check_is_fresh turns text kept h apart =
-    h.text_is ∙ ap (λ t. turns_text start turns ++ t) (h.ends.text_is ∙ ap (λ line. closing (length turns) (run start turns) line) (line_is_fresh (run start turns).history h.ends.line (kept.recorded apart) h.ends.is_line))
+check_is_fresh : (turns : List Turn) (text : List ℕ) → KeepsPromises (acts_of turns) → IsText Checked turns text → WalksAreClear (acts_of turns) → NoClash (run start turns).buckets → text ≡ checked_transcript turns
+check_is_fresh turns text kept h clear apart =
+    h.text_is ∙ ap (λ t. turns_text start turns ++ t) (h.ends.text_is ∙ ap (λ line. closing (length turns) (run start turns) line) (line_is_fresh (run start turns).history h.ends.line (kept.recorded clear apart) h.ends.is_line))
 
 pub done_checks : (asked : Option Command) (input : List ℕ) (old new : Option (List ℕ)) → asked ≡ Some (Replay Checked) → EveryRunKeepsPromises → Answers asked input Done old new → IsChecked input old new
 done_checks asked input old new asks kept h =

@@ -193,16 +193,17 @@ pub fn run<I: Source, O: Sink, L: Link, C: Clock>(
 ) -> Status
     // After Done of a replay what was written is the whole transcript of the events that all the input's bytes
     // spell, with the layouts that it prints: each is computed from what was staged, an assignment of the greatest
-    // partition size, with its printed cut. At each moment of that very run, within drains too: answered reads are fresh,
-    // also by the records alone; the sizes and MD5s that lines of reads tell are those of the bytes that were written as the
-    // versions beside them; a read ends superseded only where its version was overwritten, and no open request waits for
-    // what never comes; replicas that accepted the same rows are equal; and the blocks of acknowledged, undeleted versions
-    // lie with live references. Where bytes are kept in blocks, and for these, no two blocks may have one digest.
+    // partition size, with its printed cut. At each moment of that very run, within drains too: the sizes and MD5s that
+    // lines of reads tell are those of the bytes that were written as the versions beside them, and replicas that accepted
+    // the same rows are equal. And where of the strings that the run hashes for walks no two have one digest, and none has
+    // 32 zero bytes: answered reads are fresh, also by the records alone; a read ends superseded only where its version was
+    // overwritten, and no open request waits for what never comes; and the blocks of acknowledged, undeleted versions lie
+    // with live references. Where bytes are kept in blocks, and for these, no two blocks may have one digest.
     ensures done { asked_by words.now ≡ Some (Command.Replay Account.Transcript) → result ≡ Status.Done → IfSome (I.left input.old) (λ bytes. IsTranscribed bytes (O.written output.old) (O.written output.new)) }
 
     // After Done of a replay with a check it is that transcript with the line of the check before its last line. The line says
-    // that all reads are fresh, and how many pairs of a read and a write before it there were to look at, where no two of
-    // the buckets' names have one digest.
+    // that all reads are fresh, and how many pairs of a read and a write before it there were to look at, where no digests
+    // of walks clash and no two of the buckets' names have one digest.
     ensures checked { asked_by words.now ≡ Some (Command.Replay Account.Checked) → result ≡ Status.Done → IfSome (I.left input.old) (λ bytes. IsChecked bytes (O.written output.old) (O.written output.new)) }
 
     // After Done of a layout what was written is the text of an assignment of the greatest partition size for
