@@ -1,16 +1,18 @@
 //! The program as one call.
-ghost use Rattle.std.specs.Prelude.{IsPermutation, IsSorted, ◌≡◌, ◌⊎◌, ℕ, [], map, None, Err, IfOk, OnOk, IfErr, string_bytes};
+ghost use Rattle.std.specs.Prelude.{◌≡◌, ◌⊎◌, ℕ, false, [], map, None, Err, IfOk, OnOk, IfErr, string_bytes};
 ghost use Rattle.std.specs.Io.KnownBytes.{IsAtEnd};
-ghost use Rattle.crdt_core.specs.Outcomes.{OnlyWant};
 ghost use Rattle.lab_outside.specs.Rose.{Rose};
 ghost use Rattle.lab_outside.specs.Bytes.{Wrote};
+ghost use Rattle.s3_model.specs.Words.{is_empty};
+ghost use Rattle.serve_model.specs.declared.buckets.Buckets.{Buckets};
+ghost use Rattle.serve_model.specs.Clusters.{cluster};
 ghost use Rattle.serve_model.specs.Talk.{Grammar};
+ghost use Rattle.signed_laws.specs.Allowed.{OnlySignedIsCarriedOut, OnlyAllowedIsAnswered};
 ghost use Rattle.serve_run.specs.Words.{AsksFor, AskNothing};
 ghost use Rattle.serve_run.specs.Stop.{status_of, said_of, IsOfServing, IsOfReading, IsTooLong, IsTold};
 ghost use Rattle.lab_main.specs.Ends.{Ends};
 ghost use Rattle.serve_run.specs.Plan.{IsPlan, SaysPlan};
 ghost use Rattle.serve_run.specs.Told.{told};
-ghost use Rattle.serve_run.specs.Served.{AreInOrder};
 ghost use Rattle.serve_run.specs.Answer.{HowServed, IsEnd, EndsSo, IsStated, IsSilent, Answers, AnswersPrefix, IsAnswer, IsServedWhole, WantsMemory, Completes};
 
 use crate::plan::{Plan, read_plan};
@@ -18,7 +20,7 @@ use crate::start::{installed, nodes};
 use crate::stop::Stop;
 use crate::tail::tail_text;
 use crate::words::{Asked, asked_by};
-use crdt_core::{Bytes, List, Memory, Value};
+use crdt_core::{Bytes, Value};
 use lab_main::{ends, usage};
 use lab_outside::{Clock, Link, Sink, Source, Status};
 use layout_roles::smaller_sizes;
@@ -26,18 +28,9 @@ use plain_laws::{a_first_layout_holds_the_empty_map, connections_are_served_as_f
 use serve_cluster::Cluster;
 use serve_loop::serve;
 use serve_model::Served;
+use signed_laws::{only_signed_requests_are_carried_out, what_is_admitted_is_allowed};
 use std::alloc::Global;
 use store_anchors::promises_are_kept;
-
-/// The buckets in order of their names.
-fn in_order(buckets: &List<Bytes>) -> Result<List<Bytes>, Memory>
-    ensures in_order { IfOk result (AreInOrder buckets.now) }
-    ensures want { OnlyWant result }
-{
-    let mut names = buckets.copy()?.into_vec();
-    names.as_mut_slice().sort_unstable();
-    Ok(List::from_vec(names))
-}
 
 /// Serves the connections that are asked for, and gives what is written then.
 fn served<L: Link, C: Clock>(
@@ -57,7 +50,6 @@ fn served<L: Link, C: Clock>(
     a_first_layout_holds_the_empty_map();
     connections_are_served_as_from_the_map();
     let members = nodes(alloc, plan.config.roles.list.as_slice())?;
-    let buckets = in_order(&plan.config.buckets)?;
     let copied = members.copy()?;
     let world = installed(alloc, plan)?;
     let mut cluster = Cluster::new(world, copied);
@@ -70,7 +62,7 @@ fn served<L: Link, C: Clock>(
         link,
         clock,
         &mut counts,
-        &buckets,
+        &plan.buckets,
     )?;
     let text = tail_text(
         alloc,
@@ -208,6 +200,10 @@ pub fn run<I: Source, O: Sink, L: Link, C: Clock>(
     // Where the input is refused, can't be read or is too long, link and clock are as before.
     ensures untouched { (result ≡ Status.Refused) ⊎ (result ≡ Status.ReadFault) ⊎ IsTooLong (I.left input.old) → (link.new ≡ link.old) × (clock.new ≡ clock.old) }
 
+    // Where keys are configured, nothing is carried out and nothing is answered, but by a refusal, that no key signed which may
+    // ask it, whatever buckets and keys a server has.
+    ensures signed { (buckets : Buckets) (g : Grammar) → is_empty buckets.access.keys ≡ false → OnlySignedIsCarriedOut cluster buckets g × OnlyAllowedIsAnswered cluster buckets g }
+
     // A fault comes only where the count of its object rose in this call, and where that of the input or of the output rose it
     // comes, not want of memory or another status.
     ensures read_fault { result ≡ Status.ReadFault → Rose (I.faults input.old) (I.faults input.new) }
@@ -217,6 +213,8 @@ pub fn run<I: Source, O: Sink, L: Link, C: Clock>(
     ensures link_fault { result ≡ Status.LinkFault → Rose (L.faults link.old) (L.faults link.new) }
 {
     smaller_sizes();
+    only_signed_requests_are_carried_out();
+    what_is_admitted_is_allowed();
     match asked_by(words) {
         Some(asked) => answered(alloc, asked, input, output, link, clock),
         None => usage(output),
