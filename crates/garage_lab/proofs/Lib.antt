@@ -1,6 +1,2 @@
-pub mod Texts
-pub mod Stops
-pub mod Answering
-pub mod Ends
-pub mod Lays
-pub mod Stating
+pub mod Words
+pub mod Running

@@ -1,5 +1,2 @@
 pub mod Command
-pub mod Replay
-pub mod Layout
-pub mod Answer
-pub mod Stop
+pub mod Run

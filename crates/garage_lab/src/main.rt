@@ -1,45 +1,24 @@
-//! garage_lab: an object store on an in-process cluster, replayed from a schedule of events, and the layouts
-//! of its partitions over nodes and zones.
+//! garage_lab: an object store on an in-process cluster: the layouts of its partitions over nodes and zones, its replay from a
+//! schedule of events or from a generated workload, and a server of S3 over it.
 //!
-//! `run` is the program: it takes the words after the program's name, the outside as a source, a sink, a
-//! link and a clock, and answers the status with which the program ends. Its contract says which text is
-//! written for which input, and why each other answer comes. `command` tells the commands apart, and `input`
-//! reads the input. For a replay `schedule` reads the events, and replay_run writes an account of them; `layout`
-//! reads a configuration and computes what is answered. `stop` is why any of them gave up, and `laws` says that
-//! for each input an answer is stated.
+//! `run` is the program: it takes the words after the program's name, the outside as a source, a sink, a link and a clock, and
+//! answers the status with which the program ends. `command` tells the commands apart; each is a
+//! call of a library of its own: layout_command, replay_command, workload_run, serve_run. `main` makes the outside: standard
+//! input and output, the sockets of 127.0.0.1 and the clock.
 #![tactic(auto)]
 
+mod announced;
 mod command;
-#[cfg(test)]
-mod grammar;
-mod input;
-mod laws;
-mod layout;
-#[cfg(test)]
-mod limits;
-#[cfg(test)]
-mod line_texts;
-#[cfg(test)]
-mod request_texts;
 mod run;
-mod schedule;
-mod stop;
 #[cfg(test)]
 mod tests;
 
+use crate::announced::Announced;
 use crate::run::run;
 use lab_main::{exit_code, words};
-use lab_outside::{MemClock, Status, StdSink, StdSource, SureLink};
-use std::alloc::{AllocError, Global};
+use lab_outside::{Status, StdSink, StdSource, TcpLink, WallClock};
 use std::io;
 use std::process::ExitCode;
-
-/// A link without connections, and a clock that stands at 0.
-fn unused(alloc: Global) -> Result<(SureLink, MemClock), AllocError> {
-    let link = SureLink::new(alloc, Vec::new(alloc), 0)?;
-    let times = [0].to_vec(alloc)?;
-    Ok((link, MemClock::new(times)))
-}
 
 fn main(rt: HostRuntime) -> ExitCode {
     let alloc = rt.alloc();
@@ -48,9 +27,11 @@ fn main(rt: HostRuntime) -> ExitCode {
     let Ok(words) = words(&rt) else {
         return exit_code(Status::Memory);
     };
-    let Ok((mut link, mut clock)) = unused(alloc) else {
+    let Ok(link) = TcpLink::new(alloc, &rt) else {
         return exit_code(Status::Memory);
     };
+    let mut link = Announced::new(link, &rt);
+    let mut clock = WallClock::new(&rt);
     let status = run(
         alloc,
         &words,

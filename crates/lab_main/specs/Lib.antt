@@ -1,2 +1,4 @@
 pub mod Ends
 pub mod Limits
+pub mod Input
+pub mod Edges

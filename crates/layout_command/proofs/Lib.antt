@@ -2,3 +2,4 @@ pub mod Stated
 pub mod Computed
 pub mod Configured
 pub mod StatedMoves
+pub mod Printed

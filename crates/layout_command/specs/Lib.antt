@@ -1,3 +1,4 @@
 pub mod Answer
 pub mod Moves
 pub mod Reasons
+pub mod Command

@@ -2,6 +2,7 @@
 ghost use Rattle.std.specs.Prelude.{ℕ, List, ◌≡◌};
 ghost use Rattle.lab_outside.specs.declared.exit.Status.{Status};
 ghost use Rattle.layout_command.specs.Answer.{IsAnswer};
+ghost use Rattle.lab_main.specs.Input.{OrTooLong};
 ghost use Rattle.layout_command.specs.Moves.{IsMovesAnswer};
 
 use layout_roles::smaller_sizes;
@@ -24,4 +25,11 @@ pub fn one_moves_status()
     ensures { (input : List ℕ) (first second : Status) (text other : List ℕ) → IsMovesAnswer input first text → IsMovesAnswer input second other → first ≡ second }
 {
     smaller_sizes();
+}
+
+/// The same for every input of `layout`, too long a one among them. Of a layout with the fewest moves nothing is said.
+pub fn some_layout_is_stated()
+    ensures { (input : List ℕ) → (status : Status) × ((text : List ℕ) × OrTooLong IsAnswer input status text) }
+{
+    every_configuration_is_answered();
 }

@@ -9,15 +9,21 @@
 //! greatest assignments one is printed that moves the fewest copies from them, with their number and with potentials
 //! of the flow network, which show that no assignment of that size moves fewer. Its status is one as well
 //! (`one_moves_status`).
+//!
+//! `run_layout` is the command with its input and output, with or without `--moves` (`Goal`).
 #![tactic(auto)]
 
+mod command;
 mod laws;
 mod moves;
 mod potentials;
 mod refusals;
 mod reply;
 
-pub use laws::{every_configuration_is_answered, one_moves_status, one_status};
+pub use command::{Goal, run_layout};
+pub use laws::{
+    every_configuration_is_answered, one_moves_status, one_status, some_layout_is_stated,
+};
 pub use moves::moves_answer;
 pub use refusals::{bad_field, bad_toml, reason};
 pub use reply::{Reply, answer};

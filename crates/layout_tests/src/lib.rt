@@ -15,6 +15,8 @@ mod moves_commands;
 #[cfg(test)]
 mod networks;
 #[cfg(test)]
+mod printing;
+#[cfg(test)]
 mod sizes;
 #[cfg(test)]
 mod versions;

@@ -1,5 +1,4 @@
-//! Tests of the programs beside garage_lab, over their calls: a server of S3 over a cluster, and workloads. It has no code
-//! of its own.
+//! Tests of `serve` and `workload`, over their calls: a server of S3 over a cluster, and workloads. It has no code of its own.
 #![tactic(auto)]
 
 #[cfg(test)]

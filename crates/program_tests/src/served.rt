@@ -4,7 +4,7 @@ ghost use Rattle.std.specs.Prelude.{◌≡◌, None};
 
 use crate::recorder::recorded;
 use lab_outside::{Link, MemClock, MemSink, MemSource, Status};
-use serve_run::run;
+use serve_run::{Server, run_server};
 use std::alloc::Global;
 use std::test::Fail;
 
@@ -333,26 +333,15 @@ pub struct Session {
     pub written: Vec<u8>,
 }
 
-/// The words that ask for a server of one connection.
-pub fn words_of(alloc: Global, port: u16) -> Result<Vec<String>, Fail> {
-    let mut number = String::new(alloc);
-    write!(number, "{port}")?;
-    let mut words = Vec::new(alloc);
-    for word in ["serve", number.as_str(), "1"] {
-        words.push(String::from_str(alloc, word)?)?;
-    }
-    Ok(words)
-}
-
 /// A server of one connection of this port and link, over three nodes.
 pub fn served_over<L: Link>(alloc: Global, port: u16, link: &mut L) -> Result<Ended, Fail>
     requires { L.present link.old ≡ None }
 {
-    let words = words_of(alloc, port)?;
+    let server = Server { port, count: 1 };
     let mut clock = MemClock::new([1_700_000_000_000].to_vec(alloc)?);
     let mut source = MemSource::new(THREE_NODES.to_vec(alloc)?, Vec::new(alloc));
     let mut sink = MemSink::new(alloc, Vec::new(alloc));
-    let status = run(alloc, &words, &mut source, &mut sink, link, &mut clock);
+    let status = run_server(alloc, server, &mut source, &mut sink, link, &mut clock);
     Ok(Ended {
         status,
         output: sink.bytes().to_vec(alloc)?,

@@ -16,16 +16,16 @@ use Rattle.replay_run.specs.Replay.{sent_line, CutOff, IsReplay}
 use Rattle.replay_run.specs.Turning.{turn}
 use Rattle.replay_run.proofs.Lawful.{IsFine, start_fine, after_fine, event_lawful}
 
-abbrev AreMeant : List Numbered → Type 0
+abbrev pub AreMeant : List Numbered → Type 0
 AreMeant events = All (λ (e : Numbered). IsMeantEvent e.event) events
 
 -- lawful turns with these events
-record Given (s : State) (events : List Numbered) : Type 0 where
-  turns : List Turn
-  events_are : events_of turns ≡ events
-  lawful : AreLawful s turns
+pub record Given (s : State) (events : List Numbered) : Type 0 where
+  pub turns : List Turn
+  pub events_are : events_of turns ≡ events
+  pub lawful : AreLawful s turns
 
-given : (events : List Numbered) (s : State) → IsFine s → AreMeant events → Given s events
+pub given : (events : List Numbered) (s : State) → IsFine s → AreMeant events → Given s events
 given [] s fine meant = record { turns = []; events_are = refl; lawful = tt }
 given (e ∷ es) s fine meant =
     let here : IsMeantEvent e.event = All-head (λ (x : Numbered). IsMeantEvent x.event) e es meant in

@@ -11,4 +11,5 @@ pub mod Ending
 pub mod Meant
 pub mod Checked
 pub mod Closing
+pub mod Further
 mod Limits

@@ -76,3 +76,9 @@ pub data ReplayLacksRoom (events : List Numbered) : Type 0 where
 pub data IsReplay (account : Account) (events : List Numbered) (status : Status) (text : List ℕ) : Type 0 where
   whole : (turns : List Turn) → events_of turns ≡ events → ArePlayed turns → status ≡ Done → IsText account turns text → IsReplay account events status text
   sent : (before : List Turn) → StopsAfter SendsTooMuch events before → status ≡ Limit → text ≡ front account before ++ sent_line → IsReplay account events status text
+
+-- a replay of the events has a stated end, whose text begins with what is written of these turns
+pub record GoesFurther (account : Account) (events : List Numbered) (turns : List Turn) : Type 0 where
+  pub status : Status
+  pub rest : List ℕ
+  pub stated : IsReplay account events status (front account turns ++ rest)

@@ -8,7 +8,7 @@ ghost use Rattle.store_model.specs.Turns.{AreLawful};
 ghost use Rattle.replay_run.specs.declared.account.Account.{Account};
 ghost use Rattle.replay_run.specs.Account.{front};
 ghost use Rattle.text_model.specs.Played.{ArePlayed, AreScheduled};
-ghost use Rattle.replay_run.specs.Replay.{sent_line, CutOff, ReplayLacksRoom, IsReplay};
+ghost use Rattle.replay_run.specs.Replay.{sent_line, AreFirst, CutOff, ReplayLacksRoom, IsReplay, GoesFurther};
 
 use limit_laws::{played_nodes_are_shown, played_turns_have_room};
 
@@ -36,6 +36,14 @@ pub fn lawful_turns_end_once()
 /// A replay of such events has a stated end: each event can be given something lawful, and lawful turns are played or cut off.
 pub fn every_replay_ends()
     ensures { (account : Account) (events : List Numbered) → AreScheduled events → (status : Status) × ((text : List ℕ) × IsReplay account events status text) }
+{
+    lawful_turns_end_once();
+}
+
+/// What is written of the first of such events, with layouts that are lawful, is the first part of a text that is stated for a
+/// replay of all of them: the events after them can be given something lawful, too.
+pub fn first_turns_go_further()
+    ensures { (account : Account) (events : List Numbered) (turns : List Turn) → AreScheduled events → AreFirst events turns → GoesFurther account events turns }
 {
     lawful_turns_end_once();
 }

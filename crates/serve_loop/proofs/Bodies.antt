@@ -41,7 +41,7 @@ module _ {S : Type 0} (store : Store S) (buckets : List (List ℕ)) (r : Request
       ∙ ap (answer_turn r (Refusal IncompleteBody) p) (sym h.1))
 
 pub takes_quiet : (kept seen : List ℕ) (c d : Connection) → Takes kept seen c d → IsQuiet c d
-takes_quiet kept seen c d t = record { unwritten = t.unwritten; counted = omega (arith, t.steady) }
+takes_quiet kept seen c d t = record { unwritten = t.unwritten; steady = t.steady }
 
 pub fails_failed : (kept seen : List ℕ) (c d : Connection) → Fails kept seen c d → IsFailed c d
 fails_failed kept seen c d h = record { unwritten = h.0.unwritten; rose = h.1 }

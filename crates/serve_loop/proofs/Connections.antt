@@ -1,5 +1,5 @@
 -- Connections, served one after the other.
-use Rattle.std.proofs.Common.{◌≡◌, ℕ, ◌+◌, List, [], ◌∷◌, ◌++◌, length-append, Option, Some, None, IsSome, IfSome, option_to_list, Result, Ok, Err, refl, sym, ◌∙◌, ap, subst, append_assoc, append-nil}
+use Rattle.std.proofs.Common.{◌≡◌, ℕ, ◌+◌, List, [], ◌∷◌, ◌++◌, length, arith, length-append, Option, Some, None, IsSome, IfSome, option_to_list, Result, Ok, Err, refl, sym, ◌∙◌, ap, subst, append_assoc, append-nil}
 use Rattle.lab_outside.specs.Connection.{Connection, IsFresh, OnPresent, TakesNext}
 use Rattle.lab_outside.specs.Rose.{Rose}
 use Rattle.lab_outside.specs.Bytes.{Wrote, WrotePrefix}
@@ -49,7 +49,7 @@ module _ {S : Type 0} (store : Store S) (buckets : List (List ℕ)) (g : Grammar
     up_to stop h = (prefix_is c.written d.written stop.text fresh.unwritten h.0, h.1)
 
     served_once : Talks (talk store buckets g request_limit p bytes) holds known times served (Ok tt) c d → ServedOnce p bytes holds times served d
-    served_once (whole ok over w asked st n) = record { serving = (talk store buckets g request_limit p bytes).serving; is_served = exact over (written_is c.written d.written (talk store buckets g request_limit p bytes).text fresh.unwritten w) asked refl; stands = st }
+    served_once (whole ok over w asked st n) = record { serving = (talk store buckets g request_limit p bytes).serving; is_served = exact over (written_is c.written d.written (talk store buckets g request_limit p bytes).text fresh.unwritten w) asked (n ∙ fresh.faultless) refl; stands = st }
     served_once (cut_off ok n stops) =
         let t = talk store buckets g request_limit p bytes in
         let P : ℕ → Type 0 = λ k. Rose k d.faults in
@@ -69,11 +69,11 @@ module _ {S : Type 0} (store : Store S) (buckets : List (List ℕ)) (g : Grammar
     ends_so before f e (cut_off ok n at) = absurd (ok_is_no_error (Err e) e ok refl)
     ends_so before f e (limited err over w asked n) =
         let P : ServeFault → Type 0 = EndsSo store buckets g known.fits before (talk store buckets g request_limit p bytes) d in
-        subst P (sym (same_fault (Err e) e Kept refl err)) (too_many over (written_is c.written d.written (talk store buckets g request_limit p bytes).text fresh.unwritten w) asked)
+        subst P (sym (same_fault (Err e) e Kept refl err)) (too_many over (written_is c.written d.written (talk store buckets g request_limit p bytes).text fresh.unwritten w) asked (n ∙ fresh.faultless))
     ends_so before f e (given_up m err why at n) =
         let asks = (talk store buckets g request_limit p bytes).asks in
         let Q : ServeFault → Type 0 = GivesUp before asks in
-        begun e (subst Q (sym (same_fault (Err e) e m refl err)) (gives_up_for m known.overflows before asks asks f why)) (one_weaker (ComesTo known.fits c d) (IsUpTo store buckets g known.fits d) up_to (talk store buckets g request_limit p bytes).stops at)
+        begun e (subst Q (sym (same_fault (Err e) e m refl err)) (gives_up_for m known.overflows before asks asks f why)) (one_weaker (ComesTo known.fits c d) (IsUpTo store buckets g known.fits d) up_to (talk store buckets g request_limit p bytes).stops at) (n ∙ fresh.faultless)
 
   -- ---- one connection more
 
@@ -127,7 +127,7 @@ module _ {S : Type 0} (store : Store S) (fits lacks : S → ℕ → Order → Ty
           stands = stands_more store fits lacks holds' times' served' p.store a.serving.store s.serving a.stands.store.1 s.stands;
         }
 
-    last_begun : (e : ServeFault) → ((q : Serving S) → Stands holds times served q → OnLeft (λ left. Talks (talk store buckets g request_limit q left) (Reached store fits lacks holds' q.store) (known_from store fits lacks q.store) times' served' (Err e) c d) c.left) → ServesAllButLast store buckets g (fits_asking fits) (OverflowsAmong store fits lacks p.store) p e coming past past2
+    last_begun : (e : ServeFault) → ((q : Serving S) → Stands holds times served q → OnLeft (λ left. Talks (talk store buckets g request_limit q left) (Reached store fits lacks holds' q.store) (known_from store fits lacks q.store) times' served' (Err e) c d) c.left) → ServesAllButLast store buckets g (fits_asking fits) (OverflowsAmong store fits lacks p.store) p e coming new past past2
     last_begun e talks =
         let k = next_comes in
         record {
@@ -135,6 +135,7 @@ module _ {S : Type 0} (store : Store S) (fits lacks : S → ℕ → Order → Ty
           bytes = k.bytes;
           to_come = k.rest;
           comes = a.comes ∙ ap (λ r. a.came ++ r) k.first;
+          comes_new = k.new_is;
           gone = a.gone;
           last = d;
           goes = goes ∙ ap (λ x. x ++ d ∷ []) a.goes;
@@ -156,7 +157,7 @@ module _ {S : Type 0} (store : Store S) (fits lacks : S → ℕ → Order → Ty
 
   pub all_but_last : (e : ServeFault) (o old new : Option (List (List ℕ))) (m n : Option Connection) → IfSome o (λ coming. ServesAll store buckets g (fits_asking fits) p number (Reached store fits lacks holds p.store) times served coming old past past1) → TakesNext old new m → IsSome m → IsSome n → IfSome m IsFresh → past2 ≡ past1 ++ option_to_list n
       → ((q : Serving S) → Stands holds times served q → OnPresent (λ c d. OnLeft (λ left. Talks (talk store buckets g request_limit q left) (Reached store fits lacks holds' q.store) (known_from store fits lacks q.store) times' served' (Err e) c d) c.left) m n)
-      → IfSome o (λ coming. ServesAllButLast store buckets g (fits_asking fits) (OverflowsAmong store fits lacks p.store) p e coming past past2)
+      → IfSome o (λ coming. ServesAllButLast store buckets g (fits_asking fits) (OverflowsAmong store fits lacks p.store) p e coming new past past2)
   all_but_last e None old new m n a takes here there fresh goes talks = tt
   all_but_last e (Some coming) old new None n a takes here there fresh goes talks = cc
   all_but_last e (Some coming) old new (Some c) None a takes here there fresh goes talks = cc
@@ -226,3 +227,15 @@ none_comes (Some (bytes ∷ rest)) new here takes = absurd takes.1
 
 pub none_is_left : (first now new : Option (List (List ℕ))) → StillTells first now → TakesNext now new None → IfSome first (λ coming. new ≡ Some [])
 none_is_left first now new h takes = some_then (λ coming. IsSome now) (λ coming. new ≡ Some []) first (λ coming here. none_comes now new here takes) h
+
+-- ---- how many are past
+
+-- one more is past
+pub gone_more : (past past1 past2 : List Connection) (o : Option Connection) (number : ℕ) → length past1 ≡ length past + number → IsSome o → past2 ≡ past1 ++ option_to_list o → length past2 ≡ length past + (number + 1)
+gone_more past past1 past2 None number h some e = cc
+gone_more past past1 past2 (Some c) number h some e = let more = ap length e ∙ length-append past1 (c ∷ []) in omega (arith, h, more)
+
+-- none more is past
+pub gone_same : (past past1 past2 : List Connection) (o : Option Connection) (number : ℕ) → length past1 ≡ length past + number → o ≡ None → past2 ≡ past1 ++ option_to_list o → length past2 ≡ length past + number
+gone_same past past1 past2 None number h none e = let more = ap length e ∙ length-append past1 [] in omega (arith, h, more)
+gone_same past past1 past2 (Some c) number h none e = cc

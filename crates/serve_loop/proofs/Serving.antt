@@ -51,7 +51,7 @@ nothing_after : (c d : Connection) → d.written ≡ c.written → (text : List 
 nothing_after c d e text = let Q : Option (List ℕ) → Type 0 = λ o. WrotePrefix c.written o text in subst Q (sym e) (nothing_written c.written text)
 
 pub whole_says : {E : Type 0} (text : List ℕ) (close : Bool) (c d : Connection) → WritesWhole {E = E} (Ok tt) text c d → Says text close (Ok (not close)) c d
-whole_says text close c d w = was_said refl w.ok w.unread w.counted
+whole_says text close c d w = was_said refl w.ok w.unread w.steady
 
 pub part_says : {E : Type 0} (e : E) (text : List ℕ) (close : Bool) (c d : Connection) → WritesWhole (Err e) text c d → Says text close (Ok false) c d
 part_says e text close c d w = cut_short refl w.err w.fault
@@ -60,7 +60,7 @@ pub nothing_says : (text : List ℕ) (close : Bool) (c : Connection) → Says te
 nothing_says text close c = unsaid refl refl
 
 pub silence_says : (c : Connection) → Says [] true (Ok false) c c
-silence_says c = was_said refl (wrote_none c.written) refl (omega arith)
+silence_says c = was_said refl (wrote_none c.written) refl refl
 
 -- ---- how the connection goes on
 
@@ -139,21 +139,21 @@ module _ {S : Type 0} (holds : S → Type 0) (known : Known S) (times : Option (
   asked_one a t r kept c d fit f (given_up e err why at n) =
       given_up e err (gives_up_for e known.overflows known.overflows t.asks (a ∷ t.asks) f why) (one_mapped (ComesTo known.fits c d) (ComesTo known.fits c d) (behind [] (a ∷ [])) (λ stop h. (h.0, (fit, h.1))) t.stops at) n
 
-  after_one : (text : List ℕ) (t : Turn S) (r : Result Bool ServeFault) (kept : List ℕ) (c d f : Connection) → Wrote c.written d.written text → c.faults ≤ d.faults → Serves t holds known times served r kept d f → Serves (after text t) holds known times served r kept c f
-  after_one text t r kept c d f first le (done on ok w all st go n) = done on ok (wrote_more c.written d.written f.written text t.text first w) all st go (omega (arith, le, n))
-  after_one text t r kept c d f first le (cut_off ok n at) =
-      cut_off ok (rose_after c.faults d.faults f.faults le n)
+  after_one : (text : List ℕ) (t : Turn S) (r : Result Bool ServeFault) (kept : List ℕ) (c d f : Connection) → Wrote c.written d.written text → d.faults ≡ c.faults → Serves t holds known times served r kept d f → Serves (after text t) holds known times served r kept c f
+  after_one text t r kept c d f first same (done on ok w all st go n) = done on ok (wrote_more c.written d.written f.written text t.text first w) all st go (n ∙ same)
+  after_one text t r kept c d f first same (cut_off ok n at) =
+      cut_off ok (rose_after c.faults d.faults f.faults (omega (arith, same)) n)
       (one_mapped (CutOffAt known.fits holds times served d f) (CutOffAt known.fits holds times served c f) (behind text []) (λ stop h. (comes_after known.fits holds times served text c d f first stop h.0, h.1)) t.stops at)
-  after_one text t r kept c d f first le (limited err is w all n) = limited err is (wrote_more c.written d.written f.written text t.text first w) all (omega (arith, le, n))
-  after_one text t r kept c d f first le (given_up e err why at n) =
-      given_up e err why (one_mapped (ComesTo known.fits d f) (ComesTo known.fits c f) (behind text []) (comes_after known.fits holds times served text c d f first) t.stops at) (omega (arith, le, n))
+  after_one text t r kept c d f first same (limited err is w all n) = limited err is (wrote_more c.written d.written f.written text t.text first w) all (n ∙ same)
+  after_one text t r kept c d f first same (given_up e err why at n) =
+      given_up e err why (one_mapped (ComesTo known.fits d f) (ComesTo known.fits c f) (behind text []) (comes_after known.fits holds times served text c d f first) t.stops at) (n ∙ same)
 
   says_one : (text : List ℕ) (close : Bool) (p : Serving S) (kept left : List ℕ) (r : Result Bool ServeFault) (c d : Connection) → c.left ≡ Some left → Stands holds times served p → Says text close r c d → Serves (said text close p (kept ++ left)) holds known times served r kept c d
   says_one text close p kept left r c d told st (was_said ok w l n) = done (not close) ok w tt st (continues close kept left d.left (l ∙ told)) n
   says_one text close p kept left r c d told st (cut_short ok w n) = cut_off ok n (inl ((w, tt), st))
   says_one text close p kept left r c d told st (unsaid err same) =
       let P : Connection → Type 0 = λ x. WrotePrefix c.written x.written text in
-      given_up Memory err tt (inl (subst P (sym same) (nothing_written c.written text), tt)) (let Q : Connection → Type 0 = λ x. c.faults ≤ x.faults in subst Q (sym same) (omega arith))
+      given_up Memory err tt (inl (subst P (sym same) (nothing_written c.written text), tt)) (ap (λ (x : Connection). x.faults) same)
 
   module _ (r : Result Bool ServeFault) (kept : List ℕ) (o n : Option Connection) where
     -- an answer was written
@@ -174,7 +174,7 @@ module _ {S : Type 0} (holds : S → Type 0) (known : Known S) (times : Option (
   pub gives_up : (t : List ℕ → Turn S) (e : ServeFault) (kept : List ℕ) (o : Option Connection) → ((left : List ℕ) → Begins (t left)) → ((left : List ℕ) → GivesUp known.overflows (t left).asks e) → ServesOn t holds known times served (Err e) kept o o
   gives_up t e kept o begins why =
       on_present_same (λ c d. OnLeft (λ left. Serves (t left) holds known times served (Err e) kept c d) c.left) o
-      (λ c. on_left (λ left. Serves (t left) holds known times served (Err e) kept c c) c.left (λ left told. given_up e refl (why left) (unwritten_comes known.fits holds times served c c refl (t left) (begins left)) (omega arith)))
+      (λ c. on_left (λ left. Serves (t left) holds known times served (Err e) kept c c) c.left (λ left told. given_up e refl (why left) (unwritten_comes known.fits holds times served c c refl (t left) (begins left)) refl))
 
   -- too many bytes were put or copied
   pub is_limited : (t : List ℕ → Turn S) (kept : List ℕ) (o : Option Connection) → ((left : List ℕ) → (t left).next ≡ exceeds) → ((left : List ℕ) → (t left).text ≡ []) → ((left : List ℕ) → (t left).asks ≡ []) → ServesOn t holds known times served (Err Kept) kept o o
@@ -184,14 +184,14 @@ module _ {S : Type 0} (holds : S → Type 0) (known : Known S) (times : Option (
       (λ left told.
       let Q : List ℕ → Type 0 = Wrote c.written c.written in
       let P : List (Asking S) → Type 0 = AllByRecursion known.fits in
-      limited refl (next left) (subst Q (sym (text left)) (wrote_none c.written)) (subst P (sym (asks left)) tt) (omega arith)))
+      limited refl (next left) (subst Q (sym (text left)) (wrote_none c.written)) (subst P (sym (asks left)) tt) refl))
 
   -- something was written before
   pub after_serves : (E : Type 0) (text : List ℕ) (t : List ℕ → Turn S) (r : Result Bool ServeFault) (kept : List ℕ) (o m n : Option Connection) → OnPresent (WritesWhole {E = E} (Ok tt) text) o m → ServesOn t holds known times served r kept m n → ServesOn (λ left. after text (t left)) holds known times served r kept o n
   after_serves E text t r kept o m n w h =
       on_present_then (WritesWhole {E = E} (Ok tt) text) (λ c d. OnLeft (λ left. Serves (t left) holds known times served r kept c d) c.left) (λ c d. OnLeft (λ left. Serves (after text (t left)) holds known times served r kept c d) c.left) o m n
       (λ c d f a s. on_left (λ left. Serves (after text (t left)) holds known times served r kept c f) c.left
-      (λ left e. after_one text (t left) r kept c d f a.ok a.counted (at_left (λ l. Serves (t l) holds known times served r kept d f) d.left left (a.unread ∙ e) s))) w h
+      (λ left e. after_one text (t left) r kept c d f a.ok a.steady (at_left (λ l. Serves (t l) holds known times served r kept d f) d.left left (a.unread ∙ e) s))) w h
 
   -- it wasn't written whole
   pub part_serves : {E : Type 0} (e : E) (text : List ℕ) (t : List ℕ → Turn S) (p : Serving S) (kept : List ℕ) (o n : Option Connection) → Stands holds times served p → ((left : List ℕ) → BeginsWith p (t left)) → OnPresent (WritesWhole (Err e) text) o n → ServesOn (λ left. after text (t left)) holds known times served (Ok false) kept o n
@@ -204,7 +204,7 @@ module _ {S : Type 0} (holds : S → Type 0) (known : Known S) (times : Option (
 
 pub record IsQuiet (c d : Connection) : Type 0 where
   pub unwritten : d.written ≡ c.written
-  pub counted : c.faults ≤ d.faults
+  pub steady : d.faults ≡ c.faults
 
 pub record IsFailed (c d : Connection) : Type 0 where
   pub unwritten : d.written ≡ c.written
@@ -222,11 +222,11 @@ module _ {S : Type 0} (holds : S → Type 0) (known : Known S) (times : Option (
       wrote_more c.written d.written f.written [] text (subst Q (sym q.unwritten) (wrote_none c.written)) w
 
   quiet_one : (t : Turn S) (c d f : Connection) → IsQuiet c d → Serves t holds known times served r new d f → Serves t holds known times served r new c f
-  quiet_one t c d f q (done on ok w all st go n) = done on ok (quiet_wrote c d f t.text q w) all st go (omega (arith, q.counted, n))
+  quiet_one t c d f q (done on ok w all st go n) = done on ok (quiet_wrote c d f t.text q w) all st go (n ∙ q.steady)
   quiet_one t c d f q (cut_off ok n at) =
-      cut_off ok (rose_after c.faults d.faults f.faults q.counted n) (one_weaker (CutOffAt known.fits holds times served d f) (CutOffAt known.fits holds times served c f) (λ stop h. (quiet_comes c d f q stop h.0, h.1)) t.stops at)
-  quiet_one t c d f q (limited err is w all n) = limited err is (quiet_wrote c d f t.text q w) all (omega (arith, q.counted, n))
-  quiet_one t c d f q (given_up e err why at n) = given_up e err why (one_weaker (ComesTo known.fits d f) (ComesTo known.fits c f) (quiet_comes c d f q) t.stops at) (omega (arith, q.counted, n))
+      cut_off ok (rose_after c.faults d.faults f.faults (omega (arith, q.steady)) n) (one_weaker (CutOffAt known.fits holds times served d f) (CutOffAt known.fits holds times served c f) (λ stop h. (quiet_comes c d f q stop h.0, h.1)) t.stops at)
+  quiet_one t c d f q (limited err is w all n) = limited err is (quiet_wrote c d f t.text q w) all (n ∙ q.steady)
+  quiet_one t c d f q (given_up e err why at n) = given_up e err why (one_weaker (ComesTo known.fits d f) (ComesTo known.fits c f) (quiet_comes c d f q) t.stops at) (n ∙ q.steady)
 
   -- bytes were read, and what is stated of all of them is what is stated so of the rest, which was served
   pub read_then : (P : List ℕ → List ℕ → Type 0) (t u : List ℕ → Turn S) → OnPresent (λ c d. IsQuiet c d × OnAll P kept kept' c d) o m → ((all rest : List ℕ) → P all rest → t all ≡ u rest)
@@ -251,7 +251,7 @@ module _ {S : Type 0} (holds : S → Type 0) (known : Known S) (times : Option (
   pub read_wants : ((left : List ℕ) → Begins (t left)) → OnPresent IsQuiet o n → ServesOn t holds known times served (Err Memory) kept o n
   read_wants begins reads =
       on_present IsQuiet (λ c d. OnLeft (λ left. Serves (t left) holds known times served (Err Memory) kept c d) c.left) o n
-      (λ c d q. on_left (λ left. Serves (t left) holds known times served (Err Memory) kept c d) c.left (λ left told. given_up Memory refl tt (unwritten_comes known.fits holds times served c d q.unwritten (t left) (begins left)) q.counted)) reads
+      (λ c d q. on_left (λ left. Serves (t left) holds known times served (Err Memory) kept c d) c.left (λ left told. given_up Memory refl tt (unwritten_comes known.fits holds times served c d q.unwritten (t left) (begins left)) q.steady)) reads
 
 -- ---- bytes that are counted
 

@@ -191,7 +191,7 @@ pub record InTalk {S : Type 0} (store : Store S) (FitsIt : Asking S → Type 0) 
   pub wrote : Wrote c.written d.written text
   pub fit : AllByRecursion FitsIt asks
   pub stands : Stands holds times served serving
-  pub counted : c.faults ≤ d.faults
+  pub steady : d.faults ≡ c.faults
   pub is : all ≡ prefixed text stops asks (talk store buckets g more serving (kept ++ left))
 
 none_behind : {S : Type 0} (xs : List (Stop S)) → map (behind [] []) xs ≡ xs
@@ -214,7 +214,7 @@ module _ {S : Type 0} (store : Store S) (FitsIt : Asking S → Type 0) (buckets 
         wrote = wrote_none c.written;
         fit = tt;
         stands = st;
-        counted = omega arith;
+        steady = refl;
         is = ap (λ n. talk store buckets g n p bytes) (sym all) ∙ ap (λ k. talk store buckets g more p (k ++ bytes)) (sym none) ∙ sym (prefixed_none (talk store buckets g more p (kept ++ bytes)));
       }
 
@@ -240,7 +240,7 @@ module _ {S : Type 0} (store : Store S) (fits lacks : S → ℕ → Order → Ty
         wrote = wrote_more c.written d.written f.written i.text t.text i.wrote w;
         fit = all_append (fits_asking fits) i.asks t.asks i.fit asked;
         stands = stands_more store fits lacks holds' times' served' start i.serving.store t.serving i.stands.store.1 st;
-        counted = omega (arith, i.counted, n);
+        steady = n ∙ i.steady;
         is = i.is ∙ ap (prefixed i.text i.stops i.asks) next ∙ prefixed_twice i.text i.asks i.stops t.text t.stops t.asks u;
       }
   talk_goes_on (cut_off err n at) = absurd (true_is_false (same_ok (Ok true) true false refl err))
@@ -282,9 +282,9 @@ module _ {S : Type 0} (store : Store S) (fits lacks : S → ℕ → Order → Ty
       let off : talk store buckets g (suc more) i.serving (kept ++ i.left) ≡ record { text = t.text; stops = t.stops; asks = t.asks; serving = t.serving; is_over = false } = talk_with store buckets g more i.serving (kept ++ i.left) closes (ends_here t.next kept' f.left on (same_ok (Ok false) false on refl ok) go) in
       let is : all ≡ record { text = i.text ++ t.text; stops = i.stops ++ map (behind i.text i.asks) t.stops; asks = i.asks ++ t.asks; serving = t.serving; is_over = false } = i.is ∙ ap (prefixed i.text i.stops i.asks) off in
       let P : Talk S → Type 0 = λ x. Talks x (Reached store fits lacks holds' start) (known_from store fits lacks start) times' served' (Ok tt) c f in
-      subst P (sym is) (whole refl refl (wrote_more c.written d.written f.written i.text t.text i.wrote w) (all_append (fits_asking fits) i.asks t.asks i.fit asked) (stands_more store fits lacks holds' times' served' start i.serving.store t.serving i.stands.store.1 st) (omega (arith, i.counted, n)))
+      subst P (sym is) (whole refl refl (wrote_more c.written d.written f.written i.text t.text i.wrote w) (all_append (fits_asking fits) i.asks t.asks i.fit asked) (stands_more store fits lacks holds' times' served' start i.serving.store t.serving i.stands.store.1 st) (n ∙ i.steady))
   talk_ends (cut_off ok n at) =
-      talk_cut refl (rose_after c.faults d.faults f.faults i.counted n)
+      talk_cut refl (rose_after c.faults d.faults f.faults (omega (arith, i.steady)) n)
       (stops_of_all (CutOffAt (fits_asking fits) (Reached store fits lacks holds' i.serving.store) times' served' d f) (CutOffAt (fits_asking fits) (Reached store fits lacks holds' start) times' served' c f) cut_off_there at)
   talk_ends (limited err next w asked n) = absurd (ok_is_no_error (Ok false) false Kept refl err)
   talk_ends (given_up m err why at n) = absurd (ok_is_no_error (Ok false) false m refl err)
@@ -298,11 +298,11 @@ module _ {S : Type 0} (store : Store S) (fits lacks : S → ℕ → Order → Ty
       let over : talk store buckets g (suc more) i.serving (kept ++ i.left) ≡ record { text = t.text; stops = t.stops; asks = t.asks; serving = t.serving; is_over = true } = talk_with store buckets g more i.serving (kept ++ i.left) exceeds next in
       let is : all ≡ record { text = i.text ++ t.text; stops = i.stops ++ map (behind i.text i.asks) t.stops; asks = i.asks ++ t.asks; serving = t.serving; is_over = true } = i.is ∙ ap (prefixed i.text i.stops i.asks) over in
       let P : Talk S → Type 0 = λ x. Talks x (Reached store fits lacks holds' start) (known_from store fits lacks start) times' served' (Err e) c f in
-      subst P (sym is) (talk_limited (ap Err (same_err (Err e) e Kept refl err)) refl (wrote_more c.written d.written f.written i.text t.text i.wrote w) (all_append (fits_asking fits) i.asks t.asks i.fit asked) (omega (arith, i.counted, n)))
+      subst P (sym is) (talk_limited (ap Err (same_err (Err e) e Kept refl err)) refl (wrote_more c.written d.written f.written i.text t.text i.wrote w) (all_append (fits_asking fits) i.asks t.asks i.fit asked) (n ∙ i.steady))
   talk_stops e (given_up m err why at n) =
       let same : e ≡ m = same_err (Err e) e m refl err in
       let Q : ServeFault → Type 0 = GivesUp (OverflowsAmong store fits lacks start) all.asks in
-      talk_given_up e refl (subst Q (sym same) (why_of_all m why)) (stops_of_all (ComesTo (fits_asking fits) d f) (ComesTo (fits_asking fits) c f) comes_so_far at) (omega (arith, i.counted, n))
+      talk_given_up e refl (subst Q (sym same) (why_of_all m why)) (stops_of_all (ComesTo (fits_asking fits) d f) (ComesTo (fits_asking fits) c f) comes_so_far at) (n ∙ i.steady)
 
 -- as many requests were answered as one connection may have
 module _ {S : Type 0} (store : Store S) (buckets : List (List ℕ)) (g : Grammar) where
@@ -312,7 +312,7 @@ module _ {S : Type 0} (store : Store S) (buckets : List (List ℕ)) (g : Grammar
       let is : all ≡ record { text = i.text ++ []; stops = i.stops ++ []; asks = i.asks ++ []; serving = i.serving; is_over = false } = i.is ∙ ap (prefixed i.text i.stops i.asks) rest in
       let P : Talk S → Type 0 = λ x. Talks x holds known times served (Ok tt) c d in
       let Q : List ℕ → Type 0 = Wrote c.written d.written in
-      subst P (sym is) (whole refl refl (subst Q (sym (append-nil i.text)) i.wrote) (all_append known.fits i.asks [] i.fit tt) i.stands i.counted)
+      subst P (sym is) (whole refl refl (subst Q (sym (append-nil i.text)) i.wrote) (all_append known.fits i.asks [] i.fit tt) i.stands i.steady)
 
 -- ---- over the connection that is present
 

@@ -15,7 +15,7 @@ module _ {S : Type 0} (store : Store S) where
   abbrev pub Ends : List (List ℕ) → Grammar → Serving S → (S → Type 0) → Known S → Option (List ℕ) → Served → Result ℕ ServeStop → List (List ℕ) → Option (List (List ℕ)) → List Connection → List Connection → Type 0
   Ends buckets g p holds known times served (Ok n) coming coming_new past past_new = ServesAll store buckets g known.fits p n holds times served coming coming_new past past_new
   Ends buckets g p holds known times served (Err Link) coming coming_new past past_new = (n : ℕ) × ServesAll store buckets g known.fits p n holds times served coming coming_new past past_new
-  Ends buckets g p holds known times served (Err (Fault e)) coming coming_new past past_new = ServesAllButLast store buckets g known.fits known.overflows p e coming past past_new
+  Ends buckets g p holds known times served (Err (Fault e)) coming coming_new past past_new = ServesAllButLast store buckets g known.fits known.overflows p e coming coming_new past past_new
 
   -- whatever state the code's store stood for, orders lead to one for which it stands, or to an order without room
   abbrev pub Leaves : (S → ℕ → Order → Type 0) → (S → ℕ → Order → Type 0) → (S → Type 0) → (S → Type 0) → Result ℕ ServeStop → Type 0

@@ -311,13 +311,13 @@ module _ {S T : Type 0} (one : Store S) (other : Store T) (Alike : S → T → T
       served_alike rest ds [] [] p s q l meant served = record { serving = q; are_served = refl; alike = subst (λ (x : Serving S). Serves x q) (sym served) l; meant = meant }
       served_alike rest ds [] (d ∷ gone) p s q l meant served = absurd served
       served_alike rest ds (bytes ∷ came) [] p s q l meant served = absurd served
-      served_alike rest ds (bytes ∷ came) (d ∷ gone) p s q l meant (mid, exact over wrote fit is, later) =
+      served_alike rest ds (bytes ∷ came) (d ∷ gone) p s q l meant (mid, exact over wrote fit quiet is, later) =
           let k = (talk_alike request_limit p q bytes l).whole fit meant.0 in
           let z = (talk other buckets g request_limit q bytes).serving in
           let more = served_alike rest ds came gone (talk one buckets g request_limit p bytes).serving s z k.serving meant.1 (subst (λ (x : Serving S). AreServed one buckets g May x came gone s) is later) in
           record {
             serving = more.serving;
-            are_served = (z, exact (sym k.is_over ∙ over) (subst (λ (text : List ℕ). IfSome d.written (λ w. w ≡ text)) k.text wrote) (any (talk other buckets g request_limit q bytes).asks) refl, more.are_served);
+            are_served = (z, exact (sym k.is_over ∙ over) (subst (λ (text : List ℕ). IfSome d.written (λ w. w ≡ text)) k.text wrote) (any (talk other buckets g request_limit q bytes).asks) quiet refl, more.are_served);
             alike = more.alike;
             meant = more.meant;
           }
@@ -343,12 +343,12 @@ module _ {S T : Type 0} (one : Store S) (other : Store T) (Alike : S → T → T
       -- and with one more serving ended so
       pub ended_alike : (overflows : List (Asking S) → Type 0) (p : Serving S) (q : Serving T) (bytes : List ℕ) (d : Connection) (e : ServeFault) → Serves p q → Meant (talk other buckets g request_limit q bytes).asks → EndsSo one buckets g May overflows (talk one buckets g request_limit p bytes) d e →
           EndsSo other buckets g (λ a. ⊤) (λ asks. ⊤) (talk other buckets g request_limit q bytes) d e
-      ended_alike overflows p q bytes d e l meant (too_many over wrote fit) =
+      ended_alike overflows p q bytes d e l meant (too_many over wrote fit quiet) =
           let k = (talk_alike request_limit p q bytes l).whole fit meant in
-          too_many (sym k.is_over ∙ over) (subst (λ (text : List ℕ). IfSome d.written (λ w. w ≡ text)) k.text wrote) (any (talk other buckets g request_limit q bytes).asks)
-      ended_alike overflows p q bytes d e l meant (begun f why stops) =
+          too_many (sym k.is_over ∙ over) (subst (λ (text : List ℕ). IfSome d.written (λ w. w ≡ text)) k.text wrote) (any (talk other buckets g request_limit q bytes).asks) quiet
+      ended_alike overflows p q bytes d e l meant (begun f why stops quiet) =
           let t = talk one buckets g request_limit p bytes in
           let u = talk other buckets g request_limit q bytes in
           let at = one_at (IsUpTo one buckets g May d) t.stops stops in
           let k = at_all (λ (x : Stop S). Fit x.asks → OneOf (Stops x) u.stops) t.stops at.0 at.1.0 ((talk_alike request_limit p q bytes l).stops meant) at.1.1.1 in
-          begun f (any_cause overflows t.asks u.asks f why) (one_weaker (Stops at.0) (IsUpTo other buckets g (λ a. ⊤) d) (λ r a. up_to_alike d at.0 r a at.1.1) u.stops k)
+          begun f (any_cause overflows t.asks u.asks f why) (one_weaker (Stops at.0) (IsUpTo other buckets g (λ a. ⊤) d) (λ r a. up_to_alike d at.0 r a at.1.1) u.stops k) quiet

@@ -1,5 +1,5 @@
 -- How code serves connections, one after the other.
-use Rattle.std.specs.Prelude.{◌≡◌, ◌⊎◌, ℕ, ◌≤◌, true, false, List, [], ◌∷◌, ◌++◌, length, Option, Some, IfSome, Result, Ok, Err}
+use Rattle.std.specs.Prelude.{◌≡◌, ◌⊎◌, ℕ, true, false, List, [], ◌∷◌, ◌++◌, length, Option, Some, IfSome, Result, Ok, Err}
 use Rattle.std.specs.List.{AllByRecursion}
 use Rattle.crdt_core.specs.Members.{OneOf}
 use Rattle.lab_outside.specs.Connection.{Connection}
@@ -12,12 +12,12 @@ use Rattle.serve_model.specs.Stores.{Store, Asking, Known}
 use Rattle.serve_model.specs.Talk.{Grammar, Serving, Stop, Talk, talk, request_limit}
 use Rattle.serve_model.specs.Serving.{Stands, ComesTo, CutOffAt, GivesUp}
 
--- what is stated of a connection was written, each order that the store was asked fits, and store, clock and counts stand for what is served then; or it was cut off at one of its stops, as the count of faults rose; or serving ends with it, as too many bytes were put or copied, and each order fits too; or it came to one of its stops, as memory was wanting or one of the orders that the store is asked has no room
+-- what is stated of a connection was written, each order that the store was asked fits, and store, clock and counts stand for what is served then; or it was cut off at one of its stops, as the count of faults rose; or serving ends with it, as too many bytes were put or copied, and each order fits too; or it came to one of its stops, as memory was wanting or one of the orders that the store is asked has no room; but where it was cut off the count of faults is as before
 pub data Talks {S : Type 0} (t : Talk S) (holds : S → Type 0) (known : Known S) (times : Option (List ℕ)) (served : Served) (result : Result Unit ServeFault) (c d : Connection) : Type 0 where
-  whole : result ≡ Ok tt → t.is_over ≡ false → Wrote c.written d.written t.text → AllByRecursion known.fits t.asks → Stands holds times served t.serving → c.faults ≤ d.faults → Talks t holds known times served result c d
+  whole : result ≡ Ok tt → t.is_over ≡ false → Wrote c.written d.written t.text → AllByRecursion known.fits t.asks → Stands holds times served t.serving → d.faults ≡ c.faults → Talks t holds known times served result c d
   cut_off : result ≡ Ok tt → Rose c.faults d.faults → OneOf (CutOffAt known.fits holds times served c d) t.stops → Talks t holds known times served result c d
-  limited : result ≡ Err Kept → t.is_over ≡ true → Wrote c.written d.written t.text → AllByRecursion known.fits t.asks → c.faults ≤ d.faults → Talks t holds known times served result c d
-  given_up : (e : ServeFault) → result ≡ Err e → GivesUp known.overflows t.asks e → OneOf (ComesTo known.fits c d) t.stops → c.faults ≤ d.faults → Talks t holds known times served result c d
+  limited : result ≡ Err Kept → t.is_over ≡ true → Wrote c.written d.written t.text → AllByRecursion known.fits t.asks → d.faults ≡ c.faults → Talks t holds known times served result c d
+  given_up : (e : ServeFault) → result ≡ Err e → GivesUp known.overflows t.asks e → OneOf (ComesTo known.fits c d) t.stops → d.faults ≡ c.faults → Talks t holds known times served result c d
 
 -- these are the first of those, or all of them
 abbrev pub IsPrefixOf : {A : Type 0} → List A → List A → Type 0
@@ -44,14 +44,14 @@ module _ {S : Type 0} (store : Store S) (buckets : List (List ℕ)) (g : Grammar
     abbrev pub IsUpTo : Connection → Stop S → Type 0
     IsUpTo d stop = IfSome d.written (λ written. IsPrefixOf written stop.text) × AllByRecursion fits stop.asks
 
-    -- what is stated of a connection was written and ends serving, and each order that the store was asked fits; or it came to one of its stops, as memory was wanting or one of the orders that the store is asked has no room
+    -- what is stated of a connection was written and ends serving, and each order that the store was asked fits; or it came to one of its stops, as memory was wanting or one of the orders that the store is asked has no room; and none of its calls failed
     pub data EndsSo (overflows : List (Asking S) → Type 0) (t : Talk S) (d : Connection) : ServeFault → Type 0 where
-      too_many : t.is_over ≡ true → IfSome d.written (λ written. written ≡ t.text) → AllByRecursion fits t.asks → EndsSo overflows t d Kept
-      begun : (e : ServeFault) → GivesUp overflows t.asks e → OneOf (IsUpTo d) t.stops → EndsSo overflows t d e
+      too_many : t.is_over ≡ true → IfSome d.written (λ written. written ≡ t.text) → AllByRecursion fits t.asks → d.faults ≡ 0 → EndsSo overflows t d Kept
+      begun : (e : ServeFault) → GivesUp overflows t.asks e → OneOf (IsUpTo d) t.stops → d.faults ≡ 0 → EndsSo overflows t d e
 
-    -- what is stated of a connection's bytes was written to it, and each order that the store was asked fits; or it was cut off at one of its stops, as its count of faults rose; and what is served after it
+    -- what is stated of a connection's bytes was written to it, none of its calls failed, and each order that the store was asked fits; or it was cut off at one of its stops, as its count of faults rose; and what is served after it
     pub data IsServed (p : Serving S) (bytes : List ℕ) (d : Connection) (q : Serving S) : Type 0 where
-      exact : (stated p bytes).is_over ≡ false → IfSome d.written (λ written. written ≡ (stated p bytes).text) → AllByRecursion fits (stated p bytes).asks → q ≡ (stated p bytes).serving → IsServed p bytes d q
+      exact : (stated p bytes).is_over ≡ false → IfSome d.written (λ written. written ≡ (stated p bytes).text) → AllByRecursion fits (stated p bytes).asks → d.faults ≡ 0 → q ≡ (stated p bytes).serving → IsServed p bytes d q
       part : Rose 0 d.faults → OneOf (λ stop. IsUpTo d stop × (q ≡ stop.serving)) (stated p bytes).stops → IsServed p bytes d q
 
     -- connections with these bytes were served one after the other
@@ -74,12 +74,13 @@ module _ {S : Type 0} (store : Store S) (buckets : List (List ℕ)) (g : Grammar
       pub are_served : AreServed p came gone serving
       pub stands : Stands holds times served serving
 
-    -- all were but the last, with which serving ended
-    pub record ServesAllButLast (overflows : List (Asking S) → Type 0) (p : Serving S) (fault : ServeFault) (coming : List (List ℕ)) (past past_new : List Connection) : Type 0 where
+    -- all were but the last, with which serving ended; those that are still to come are what was, less these
+    pub record ServesAllButLast (overflows : List (Asking S) → Type 0) (p : Serving S) (fault : ServeFault) (coming : List (List ℕ)) (coming_new : Option (List (List ℕ))) (past past_new : List Connection) : Type 0 where
       pub came : List (List ℕ)
       pub bytes : List ℕ
       pub to_come : List (List ℕ)
       pub comes : coming ≡ came ++ bytes ∷ to_come
+      pub comes_new : coming_new ≡ Some to_come
       pub gone : List Connection
       pub last : Connection
       pub goes : past_new ≡ past ++ gone ++ last ∷ []

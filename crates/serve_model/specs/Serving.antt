@@ -1,5 +1,5 @@
 -- How code serves one request: what it writes, and what its store, its clock and its counts stand for then.
-use Rattle.std.specs.Prelude.{◌≡◌, ℕ, ◌≤◌, ⊤, Bool, false, true, not, List, ◌++◌, Option, Some, None, Result, Ok, Err}
+use Rattle.std.specs.Prelude.{◌≡◌, ℕ, ⊤, Bool, false, true, not, List, ◌++◌, Option, Some, None, Result, Ok, Err}
 use Rattle.std.specs.List.{AllByRecursion}
 use Rattle.crdt_core.specs.Members.{OneOf}
 use Rattle.lab_outside.specs.Connection.{Connection, OnPresent}
@@ -39,9 +39,9 @@ module _ {S : Type 0} (store : Store S) (fits lacks : S → ℕ → Order → Ty
 
 -- ---- an answer
 
--- an answer was written, and the connection goes on unless it closes; or it wasn't written whole, as the count of faults rose; or nothing was written, as memory was wanting
+-- an answer was written with no fault, and the connection goes on unless it closes; or it wasn't written whole, as the count of faults rose; or nothing was written, as memory was wanting
 pub data Says (text : List ℕ) (close : Bool) (result : Result Bool ServeFault) (c d : Connection) : Type 0 where
-  said : result ≡ Ok (not close) → Wrote c.written d.written text → d.left ≡ c.left → c.faults ≤ d.faults → Says text close result c d
+  said : result ≡ Ok (not close) → Wrote c.written d.written text → d.left ≡ c.left → d.faults ≡ c.faults → Says text close result c d
   cut_short : result ≡ Ok false → WrotePrefix c.written d.written text → Rose c.faults d.faults → Says text close result c d
   unsaid : result ≡ Err Memory → d ≡ c → Says text close result c d
 
@@ -75,12 +75,12 @@ GivesUp overflows asks Kept = ⊥
 GivesUp overflows asks Number = overflows asks
 GivesUp overflows asks Memory = ⊤
 
--- what is stated of one request was written, each order that the store was asked fits, and store, clock and counts stand for what is served then; or it was cut off at one of its stops, as the count of faults rose; or it's stated that serving ends, as too many bytes were put or copied, and each order fits too; or it came to one of its stops, as memory was wanting or the order that the store was asked has no room
+-- what is stated of one request was written with no fault, each order that the store was asked fits, and store, clock and counts stand for what is served then; or it was cut off at one of its stops, as the count of faults rose; or it's stated that serving ends, as too many bytes were put or copied, and each order fits too; or it came to one of its stops, as memory was wanting or the order that the store was asked has no room; but where it was cut off the count of faults is as before
 pub data Serves {S : Type 0} (t : Turn S) (holds : S → Type 0) (known : Known S) (times : Option (List ℕ)) (served : Served) (result : Result Bool ServeFault) (kept : List ℕ) (c d : Connection) : Type 0 where
-  done : (on : Bool) → result ≡ Ok on → Wrote c.written d.written t.text → AllByRecursion known.fits t.asks → Stands holds times served t.serving → Continues t.next on kept d.left → c.faults ≤ d.faults → Serves t holds known times served result kept c d
+  done : (on : Bool) → result ≡ Ok on → Wrote c.written d.written t.text → AllByRecursion known.fits t.asks → Stands holds times served t.serving → Continues t.next on kept d.left → d.faults ≡ c.faults → Serves t holds known times served result kept c d
   cut_off : result ≡ Ok false → Rose c.faults d.faults → OneOf (CutOffAt known.fits holds times served c d) t.stops → Serves t holds known times served result kept c d
-  limited : result ≡ Err Kept → t.next ≡ exceeds → Wrote c.written d.written t.text → AllByRecursion known.fits t.asks → c.faults ≤ d.faults → Serves t holds known times served result kept c d
-  given_up : (e : ServeFault) → result ≡ Err e → GivesUp known.overflows t.asks e → OneOf (ComesTo known.fits c d) t.stops → c.faults ≤ d.faults → Serves t holds known times served result kept c d
+  limited : result ≡ Err Kept → t.next ≡ exceeds → Wrote c.written d.written t.text → AllByRecursion known.fits t.asks → d.faults ≡ c.faults → Serves t holds known times served result kept c d
+  given_up : (e : ServeFault) → result ≡ Err e → GivesUp known.overflows t.asks e → OneOf (ComesTo known.fits c d) t.stops → d.faults ≡ c.faults → Serves t holds known times served result kept c d
 
 -- so it is of the bytes that are told to be left
 abbrev pub OnLeft : (List ℕ → Type 0) → Option (List ℕ) → Type 0

@@ -9,11 +9,11 @@ use Rattle.layout_command.specs.Answer.{IsLaidOut, layout}
 use Rattle.layout_command.proofs.Stated.{SmallerSizes, laid_status, same_settings}
 use Rattle.serve_model.specs.Talk.{Grammar}
 use Rattle.serve_run.specs.declared.plan.Plan.{Plan}
-use Rattle.serve_run.specs.Words.{AsksFor}
 use Rattle.lab_main.specs.Limits.{input_limit}
+use Rattle.lab_main.specs.Edges.{Answers}
 use Rattle.serve_run.specs.Plan.{greatest_node, IsSaid, IsRefused, not_text, not_toml, bad_field, no_layout, OfInput, SaysPlan}
 use Rattle.serve_run.specs.Told.{Told}
-use Rattle.serve_run.specs.Answer.{IsEnd, long_input, refused, served, link_failed, too_much, no_room, IsStated, IsSilent, IsAnswer, usage, asked, Answers, Completes, served_whole, over_limit, without_room, without_memory}
+use Rattle.serve_run.specs.Answer.{IsEnd, long_input, refused, served, link_failed, too_much, no_room, IsStated, IsSilent, Completes, served_whole, over_limit, without_room, without_memory}
 use Rattle.serve_run.proofs.Ending.{done_served}
 
 module _ (smaller : SmallerSizes) where
@@ -33,7 +33,7 @@ module _ (smaller : SmallerSizes) where
   not_refused p bytes line s (bad_field name u e w) = let says = s.says in cc
   not_refused p bytes line s (no_layout settings u says unfit) = not_laid_out p bytes line s settings says unfit
 
-  module _ (g : Grammar) (words : List (List ℕ)) (input old new : Option (List ℕ)) (t : Told) (p : Plan) (says : SaysPlan input p) where
+  module _ (g : Grammar) (count : ℕ) (input old new : Option (List ℕ)) (t : Told) (p : Plan) (says : SaysPlan input p) where
     -- what is known of the input is known of the bytes that say the plan
     of_bytes : (P : List ℕ → Type 0) → IfSome input P → P says.bytes
     of_bytes P h = subst (λ i. IfSome i P) says.told h
@@ -45,26 +45,22 @@ module _ (smaller : SmallerSizes) where
     refusal line h = not_refused p says.bytes line says.is_said (of_bytes (λ bytes. (length bytes ≤ input_limit) × IsRefused bytes line) h).1
 
     module _ (is : Status) (no_link : is ≡ status.LinkFault → ⊥) where
-      by_end : (port count : ℕ) → AsksFor words port count → (text : List ℕ) → Wrote old new text → IsEnd g count input t is text → Completes g words input old new t is
-      by_end port count asks text wrote (long_input more e w) = absurd (too_long more)
-      by_end port count asks text wrote (refused h e) = absurd (refusal text h)
-      by_end port count asks text wrote (served q read h e) = served_whole (done_served g words input old new t text wrote port count asks q read h) e
-      by_end port count asks text wrote (link_failed q read number h e w) = absurd (no_link e)
-      by_end port count asks text wrote (too_much q read h e w) = over_limit q read h e (subst (Wrote old new) w wrote)
-      by_end port count asks text wrote (no_room q read h e w) = without_room q read h e (subst (Wrote old new) w wrote)
-
-      by_answer : (port count : ℕ) → AsksFor words port count → (text : List ℕ) → Wrote old new text → IsAnswer g words input t is text → Completes g words input old new t is
-      by_answer port count asks text wrote (usage none e w) = absurd (none port count asks)
-      by_answer port count asks text wrote (asked _ other its h) = by_end _ other its text wrote h
+      by_end : (text : List ℕ) → Wrote old new text → IsEnd g count input t is text → Completes g count input old new t is
+      by_end text wrote (long_input more e w) = absurd (too_long more)
+      by_end text wrote (refused h e) = absurd (refusal text h)
+      by_end text wrote (served q read h e) = served_whole (done_served g count input old new t text wrote q read h) e
+      by_end text wrote (link_failed q read number h e w) = absurd (no_link e)
+      by_end text wrote (too_much q read h e w) = over_limit q read h e (subst (Wrote old new) w wrote)
+      by_end text wrote (no_room q read h e w) = without_room q read h e (subst (Wrote old new) w wrote)
 
     -- each status that is left
-    pub completed : (port count : ℕ) → AsksFor words port count → (is : Status) → (IsStated is → Answers (IsAnswer g words input t) is old new) → (IsSilent is → Wrote old new []) →
-        (is ≡ status.Usage → ⊥) → (is ≡ status.ReadFault → ⊥) → (is ≡ status.WriteFault → ⊥) → (is ≡ status.LinkFault → ⊥) → Completes g words input old new t is
-    completed port count asks status.Done answers silent no_usage no_read no_write no_link = let a = answers tt in by_answer status.Done no_link port count asks a.text a.wrote a.stated
-    completed port count asks status.Refused answers silent no_usage no_read no_write no_link = let a = answers tt in by_answer status.Refused no_link port count asks a.text a.wrote a.stated
-    completed port count asks status.Limit answers silent no_usage no_read no_write no_link = let a = answers tt in by_answer status.Limit no_link port count asks a.text a.wrote a.stated
-    completed port count asks status.Usage answers silent no_usage no_read no_write no_link = absurd (no_usage refl)
-    completed port count asks status.ReadFault answers silent no_usage no_read no_write no_link = absurd (no_read refl)
-    completed port count asks status.WriteFault answers silent no_usage no_read no_write no_link = absurd (no_write refl)
-    completed port count asks status.LinkFault answers silent no_usage no_read no_write no_link = absurd (no_link refl)
-    completed port count asks status.Memory answers silent no_usage no_read no_write no_link = without_memory refl (silent tt)
+    pub completed : (is : Status) → (IsStated is → Answers (IsEnd g count input t) is old new) → (IsSilent is → Wrote old new []) →
+        (is ≡ status.Usage → ⊥) → (is ≡ status.ReadFault → ⊥) → (is ≡ status.WriteFault → ⊥) → (is ≡ status.LinkFault → ⊥) → Completes g count input old new t is
+    completed status.Done answers silent no_usage no_read no_write no_link = let a = answers tt in by_end status.Done no_link a.text a.wrote a.stated
+    completed status.Refused answers silent no_usage no_read no_write no_link = let a = answers tt in by_end status.Refused no_link a.text a.wrote a.stated
+    completed status.Limit answers silent no_usage no_read no_write no_link = let a = answers tt in by_end status.Limit no_link a.text a.wrote a.stated
+    completed status.Usage answers silent no_usage no_read no_write no_link = absurd (no_usage refl)
+    completed status.ReadFault answers silent no_usage no_read no_write no_link = absurd (no_read refl)
+    completed status.WriteFault answers silent no_usage no_read no_write no_link = absurd (no_write refl)
+    completed status.LinkFault answers silent no_usage no_read no_write no_link = absurd (no_link refl)
+    completed status.Memory answers silent no_usage no_read no_write no_link = without_memory refl (silent tt)

@@ -1,5 +1,5 @@
 -- From what a server did to the status and the text of its end.
-use Rattle.std.proofs.Common.{◌≡◌, ◌⊎◌, ℕ, List, [], Option, Result, Ok, Err, refl, sym, ◌∙◌, subst, inl, inr}
+use Rattle.std.proofs.Common.{◌≡◌, ◌⊎◌, ℕ, List, [], Option, Result, Ok, Err, refl, sym, ap, ◌∙◌, subst, inl, inr}
 use Rattle.std.specs.Result.{IsErrAnd}
 use Rattle.lab_outside.specs.declared.exit.Status.{Status}
 use Rattle.lab_outside.specs.declared.exit.Status.TheVariants as status
@@ -8,12 +8,14 @@ use Rattle.serve_model.specs.Talk.{Grammar}
 use Rattle.serve_run.specs.declared.plan.Plan.{Plan}
 use Rattle.serve_run.specs.declared.stop.Stop.{Stop}
 use Rattle.serve_run.specs.declared.stop.Stop.TheVariants.{Read, Link, Memory, LongInput, Refused, Kept, Number}
-use Rattle.serve_run.specs.Words.{AsksFor}
 use Rattle.serve_run.specs.Plan.{WasRead}
 use Rattle.serve_run.specs.Told.{Told}
 use Rattle.lab_main.specs.Ends.{Ends, said, cut_off}
-use Rattle.serve_run.specs.Stop.{status_of, said_of, IsOfInput, IsTold}
-use Rattle.serve_run.specs.Answer.{HasEnded, HasStopped, IsEnd, long_input, refused, served, link_failed, too_much, no_room, EndsSo, IsStated, IsSilent, Answers, AnswersPrefix, IsAnswer, usage, asked, IsServedWhole, WantsMemory, of_server}
+use Rattle.lab_main.specs.Edges.{IsAfterReading, Answers}
+use Rattle.serve_loop.specs.declared.service.ServeStop.{ServeStop}
+use Rattle.serve_loop.specs.declared.service.ServeStop.TheVariants as ended
+use Rattle.serve_run.specs.Stop.{stop_of_serving, status_of, said_of, IsOfInput, IsTold}
+use Rattle.serve_run.specs.Answer.{HasEnded, HasStopped, IsEnd, long_input, refused, served, link_failed, too_much, no_room, EndsSo, IsStated, IsSilent, AnswersPrefix, IsServedWhole, WantsMemory, of_server}
 
 module _ (g : Grammar) (count : ℕ) (input : Option (List ℕ)) (t : Told) where
   -- the input was no plan
@@ -102,7 +104,51 @@ pub no_read_status : {A : Type 0} (x : A) (is : Status) (Same : Type 0) → (◌
 no_read_status x is Same (inl e) = absurd (cc)
 no_read_status x is Same (inr same) = inr same
 
+-- ---- a link that failed
+
+-- it didn't fail before, where that succeeded
+pub link_before : {A B : Type 0} (x : A) (r : Result B Stop) (Same : Type 0) → (◌≡◌ {A = Result A ServeStop} (Ok x) (Err ended.Link)) ⊎ Same → (r ≡ Err Link) ⊎ Same
+link_before x r Same (inl e) = absurd (cc)
+link_before x r Same (inr same) = inr same
+
+-- the same fault is handed on
+link_is : (stop : ServeStop) → stop ≡ ended.Link → stop_of_serving stop ≡ Link
+link_is stop e = ap stop_of_serving e
+
+pub link_on : {A B : Type 0} (stop : ServeStop) (r : Result B Stop) (Same : Type 0) → IsErrAnd r (λ e. e ≡ stop_of_serving stop) → (◌≡◌ {A = Result A ServeStop} (Err stop) (Err ended.Link)) ⊎ Same → (r ≡ Err Link) ⊎ Same
+link_on stop (Ok y) Same is h = absurd is
+link_on stop (Err e) Same is (inl h) = let failed : stop ≡ ended.Link = cc in inl (ap Err (is ∙ link_is stop failed))
+link_on stop (Err e) Same is (inr same) = inr same
+
+pub link_handed : {A B : Type 0} (stop : Stop) (r : Result B Stop) (Same : Type 0) → IsErrAnd r (λ e. e ≡ stop) → (◌≡◌ {A = Result A Stop} (Err stop) (Err Link)) ⊎ Same → (r ≡ Err Link) ⊎ Same
+link_handed stop (Ok y) Same is h = absurd is
+link_handed stop (Err e) Same is (inl h) = inl (cc)
+link_handed stop (Err e) Same is (inr same) = inr same
+
+-- it has its status, and no other end has it
+pub link_status : {A : Type 0} (stop : Stop) (is : Status) (Same : Type 0) → (stop ≡ Link → is ≡ status.LinkFault) → (◌≡◌ {A = Result A Stop} (Err stop) (Err Link)) ⊎ Same → (is ≡ status.LinkFault) ⊎ Same
+link_status stop is Same says (inl e) = inl (says (cc))
+link_status stop is Same says (inr same) = inr same
+
+pub no_link_status : {A : Type 0} (x : A) (is : Status) (Same : Type 0) → (◌≡◌ {A = Result A Stop} (Ok x) (Err Link)) ⊎ Same → (is ≡ status.LinkFault) ⊎ Same
+no_link_status x is Same (inl e) = absurd (cc)
+no_link_status x is Same (inr same) = inr same
+
 -- ---- the statuses of the reasons
+
+-- a status that comes only when the input was read
+read_first : (stop : Stop) → IsAfterReading (status_of stop) → IsTold stop
+read_first Read h = absurd h
+read_first Memory h = absurd h
+read_first LongInput h = tt
+read_first (Refused line) h = tt
+read_first Link h = tt
+read_first Kept h = tt
+read_first Number h = tt
+
+pub after_reading : (stop : Stop) (result : Status) (old new : Option (List ℕ)) (faults risen : ℕ) → Ends (status_of stop) (said_of stop) result old new faults risen → (result ≡ status.WriteFault → IsTold stop) → IsAfterReading result → IsTold stop
+after_reading stop result old new faults risen (said e wrote) told h = read_first stop (subst IsAfterReading e h)
+after_reading stop result old new faults risen (cut_off e rose wrote) told h = told e
 
 stated_told : (stop : Stop) → IsStated (status_of stop) → IsTold stop
 stated_told Read h = absurd h
@@ -172,15 +218,6 @@ module _ (result : Status) (old new : Option (List ℕ)) (faults risen : ℕ) wh
     pub stopped_silent : IsSilent result → Wrote old new []
     stopped_silent k = wrote_none Stated (status_of stop) (said_of stop) ends (silent_said stop) k
 
--- ---- what the words ask for
-
-module _ (g : Grammar) (words : List (List ℕ)) (input : Option (List ℕ)) (t : Told) (port count : ℕ) (asks : AsksFor words port count) where
-  pub asked_answers : (is : Status) (old new : Option (List ℕ)) → Answers (IsEnd g count input t) is old new → Answers (IsAnswer g words input t) is old new
-  asked_answers is old new h = record { text = h.text; stated = asked port count asks h.stated; wrote = h.wrote }
-
-  pub asked_prefix : (old new : Option (List ℕ)) → AnswersPrefix (IsEnd g count input t) old new → AnswersPrefix (IsAnswer g words input t) old new
-  asked_prefix old new h = record { is = h.is; text = h.text; stated = asked port count asks h.stated; wrote = h.wrote }
-
 -- what Done says
 no_limit : (is : Status) → is ≡ status.Done → is ≡ status.Limit → ⊥
 no_limit is d e = cc
@@ -191,33 +228,24 @@ no_refusal is d e = cc
 no_link_fault : (is : Status) → is ≡ status.Done → is ≡ status.LinkFault → ⊥
 no_link_fault is d e = cc
 
-no_usage : (is : Status) → is ≡ status.Done → is ≡ status.Usage → ⊥
-no_usage is d e = cc
-
-module _ (g : Grammar) (words : List (List ℕ)) (input old new : Option (List ℕ)) (t : Told) (text : List ℕ) (wrote : Wrote old new text) where
-  pub done_served : (port count : ℕ) → AsksFor words port count → (p : Plan) → WasRead input p → HasEnded g p count t text → IsServedWhole g words input old new t
-  done_served port count asks p read h =
+module _ (g : Grammar) (count : ℕ) (input old new : Option (List ℕ)) (t : Told) (text : List ℕ) (wrote : Wrote old new text) where
+  pub done_served : (p : Plan) → WasRead input p → HasEnded g p count t text → IsServedWhole g count input old new t
+  done_served p read h =
       record {
-        port = port;
-        count = count;
-        asks = asks;
         plan = p;
         was_read = read;
         number = h.number;
         within = h.within;
         short = h.short;
+        gone = h.gone;
         has = h.has;
         wrote = subst (Wrote old new) h.text_is wrote;
       }
 
-  done_end : (is : Status) → is ≡ status.Done → (port count : ℕ) → AsksFor words port count → IsEnd g count input t is text → IsServedWhole g words input old new t
-  done_end is d port count asks (long_input more e w) = absurd (no_limit is d e)
-  done_end is d port count asks (refused says e) = absurd (no_refusal is d e)
-  done_end is d port count asks (link_failed p read number has e w) = absurd (no_link_fault is d e)
-  done_end is d port count asks (too_much p read has e w) = absurd (no_limit is d e)
-  done_end is d port count asks (no_room p read lacks e w) = absurd (no_limit is d e)
-  done_end is d port count asks (served p read h e) = done_served port count asks p read h
-
-  pub done_whole : (is : Status) → is ≡ status.Done → IsAnswer g words input t is text → IsServedWhole g words input old new t
-  done_whole is d (usage none e w) = absurd (no_usage is d e)
-  done_whole is d (asked port count asks h) = done_end is d port count asks h
+  pub done_whole : (is : Status) → is ≡ status.Done → IsEnd g count input t is text → IsServedWhole g count input old new t
+  done_whole is d (long_input more e w) = absurd (no_limit is d e)
+  done_whole is d (refused says e) = absurd (no_refusal is d e)
+  done_whole is d (link_failed p read number has e w) = absurd (no_link_fault is d e)
+  done_whole is d (too_much p read has e w) = absurd (no_limit is d e)
+  done_whole is d (no_room p read lacks e w) = absurd (no_limit is d e)
+  done_whole is d (served p read h e) = done_served p read h

@@ -71,8 +71,8 @@ module _ {S : Type 0} (store : Store S) (buckets : List (List ℕ)) (g : Grammar
   any_order cause.Memory why = tt
 
   ends_anyhow : (fault : ServeFault) → EndsSo store buckets g FitsIt overflows t d fault → EndsSo store buckets g FitsIt (λ asks. ⊤) t d fault
-  ends_anyhow fault (too_many over wrote fit) = too_many over wrote fit
-  ends_anyhow fault (has_begun e why stops) = has_begun e (any_order e why) stops
+  ends_anyhow fault (too_many over wrote fit quiet) = too_many over wrote fit quiet
+  ends_anyhow fault (has_begun e why stops quiet) = has_begun e (any_order e why) stops quiet
 
 begun_holds : FirstHolds → (p : Plan) (first : Layout) → IsOf p first → IsFirst first → Holds (begun p first) (empty_map p)
 begun_holds law p first of is =
@@ -176,9 +176,9 @@ module _ (first_holds : FirstHolds) (served_from : ServedFrom) (g : Grammar) (p 
       from_map_here clash front gone f.at served_here apart
 
   -- serving ended with the last of them
-  pub end_from_map : EndedFrom → NoClash p.config.buckets → (overflows : List (Asking Cluster) → Type 0) (fault : ServeFault) (past past_after : List Connection) (coming : List (List ℕ)) →
-      ServesAllButLast cluster buckets g (fits_asking fits) overflows (serving p first times) fault coming past past_after → AreFromMapButLast g p buckets fault past past_after times coming
-  end_from_map ended_from clash overflows fault past past_after coming a = λ gone goes_so apart.
+  pub end_from_map : EndedFrom → NoClash p.config.buckets → (overflows : List (Asking Cluster) → Type 0) (fault : ServeFault) (coming_after : Option (List (List ℕ))) (past past_after : List Connection) (coming : List (List ℕ)) →
+      ServesAllButLast cluster buckets g (fits_asking fits) overflows (serving p first times) fault coming coming_after past past_after → AreFromMapButLast g p buckets fault coming_after past past_after times coming
+  end_from_map ended_from clash overflows fault coming_after past past_after coming a = λ gone goes_so apart.
       let front = a.came ++ a.bytes ∷ [] in
       let back = a.gone ++ a.last ∷ [] in
       let same : gone ≡ back = append_cancel_left past gone back (sym goes_so ∙ a.goes ∙ append_assoc past a.gone (a.last ∷ [])) in
@@ -191,6 +191,7 @@ module _ (first_holds : FirstHolds) (served_from : ServedFrom) (g : Grammar) (p 
         bytes = a.bytes;
         to_come = a.to_come;
         comes = a.comes;
+        comes_new = a.comes_new;
         gone = a.gone;
         last = a.last;
         goes = a.goes;

@@ -1,4 +1,3 @@
-pub mod Reading
 pub mod Input
 pub mod Sized
 pub mod Opening
@@ -7,3 +6,4 @@ pub mod Serving
 pub mod FromMap
 pub mod Ending
 pub mod Completing
+pub mod Telling

@@ -190,7 +190,7 @@ module _ (keeps : EveryRunKeepsPromises) (first_holds : FirstHolds) (served_from
 
   -- serving ended with a connection
   abbrev ButLast : ServeFault → List ℕ → List (List ℕ) → Type 0
-  ButLast fault ts cs = ServesAllButLast cluster buckets g (fits_asking fits) (OverflowsAmong cluster fits lacks (begun p b.first)) (serving p b.first ts) fault cs past past'
+  ButLast fault ts cs = ServesAllButLast cluster buckets g (fits_asking fits) (OverflowsAmong cluster fits lacks (begun p b.first)) (serving p b.first ts) fault cs coming' past past'
 
   broken_off : EndedFrom → (fault : ServeFault) → Where (ButLast fault) times coming → HasBrokenOff g p fault (told times times' coming coming' past past')
   broken_off ended_from fault all =
@@ -203,10 +203,10 @@ module _ (keeps : EveryRunKeepsPromises) (first_holds : FirstHolds) (served_from
         served = some_told (ButLast fault) times coming all;
         from_map = λ clash. some_told (AreFromMap g p buckets 1 past past') times coming (λ ts e. where_some (ButLast fault ts) (AreFromMap g p buckets 1 past past' ts) coming (λ cs a. from_here clash ts cs 1 a.came (a.bytes ∷ a.to_come) a.gone (a.last ∷ []) a.serving a.are_served a.comes (a.goes ∙ append_assoc past a.gone (a.last ∷ [])) (omega arith)) (all ts e));
         ends_from_map = λ clash.
-            some_told (AreFromMapButLast g p buckets fault past past') times coming
+            some_told (AreFromMapButLast g p buckets fault coming' past past') times coming
             (λ ts e.
-            where_some (ButLast fault ts) (AreFromMapButLast g p buckets fault past past' ts) coming
-            (λ cs a. end_from_map first_holds served_from g p sized b.first b.is_of (installs_first p b.first b.lawful) buckets ts ended_from clash (OverflowsAmong cluster fits lacks (begun p b.first)) fault past past' cs a) (all ts e));
+            where_some (ButLast fault ts) (AreFromMapButLast g p buckets fault coming' past past' ts) coming
+            (λ cs a. end_from_map first_holds served_from g p sized b.first b.is_of (installs_first p b.first b.lawful) buckets ts ended_from clash (OverflowsAmong cluster fits lacks (begun p b.first)) fault coming' past past' cs a) (all ts e));
       }
 
   -- what `serve` says of each state for which the code's cluster stood

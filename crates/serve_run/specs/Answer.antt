@@ -1,5 +1,5 @@
 -- What the program answers: the status and the text that are stated for its words and for what the outside tells.
-use Rattle.std.specs.Prelude.{◌≡◌, ℕ, ◌<◌, ◌≤◌, ⊤, IsTrue, List, [], length, Option, Some, IfSome, Result, Ok, Err}
+use Rattle.std.specs.Prelude.{◌≡◌, ℕ, ◌+◌, ◌<◌, ◌≤◌, ⊤, IsTrue, List, [], length, Option, Some, IfSome, Result, Ok, Err}
 use Rattle.std.specs.List.{list_any}
 use Rattle.lab_outside.specs.declared.exit.Status.{Status}
 use Rattle.lab_outside.specs.declared.exit.Status.TheVariants as status
@@ -9,12 +9,11 @@ use Rattle.store_model.specs.Run.{State}
 use Rattle.serve_model.specs.Stores.{Overflows}
 use Rattle.serve_model.specs.Clusters.{cluster, fits, lacks}
 use Rattle.serve_model.specs.Talk.{Grammar}
-use Rattle.lab_main.specs.Ends.{usage_line}
+use Rattle.lab_main.specs.Edges.{Answers}
 use Rattle.world_text.specs.Shown.{is_unshown}
 use Rattle.serve_run.specs.declared.plan.Plan.{Plan}
 use Rattle.serve_run.specs.declared.stop.Stop.{Stop}
 use Rattle.serve_run.specs.declared.stop.Stop.TheVariants.{Link, Memory, Kept, Number}
-use Rattle.serve_run.specs.Words.{AsksFor}
 use Rattle.lab_main.specs.Limits.{input_limit, input_line, number_line}
 use Rattle.serve_run.specs.Plan.{IsRefused, OfInput, WasRead}
 use Rattle.serve_run.specs.Told.{Told}
@@ -34,11 +33,12 @@ pub data LacksRoom (g : Grammar) (p : Plan) (t : Told) : Type 0 where
 
 -- ---- why serving ends
 
--- so many connections were served, no more than were asked for, and fewer only where no more come; and this is the text of the state that they left
+-- so many connections were gone through, no more than were asked for, and fewer only where no more come, and were served; and this is the text of the state that they left
 pub record HasEnded (g : Grammar) (p : Plan) (count : ℕ) (t : Told) (text : List ℕ) : Type 0 where
   pub number : ℕ
   pub within : number ≤ count
   pub short : number < count → IfSome t.coming (λ coming. t.coming_after ≡ Some [])
+  pub gone : length t.past_after ≡ length t.past + number
   pub has : HasServed g p number t
   pub text_is : text ≡ tail_of p number (state_after p has.first has.orders)
 
@@ -77,7 +77,7 @@ abbrev pub EndsSo : Grammar → ℕ → Option (List ℕ) → Told → Result (L
 EndsSo g count input t (Ok text) = IsEnd g count input t status.Done text
 EndsSo g count input t (Err stop) = IsTold stop → IsEnd g count input t (status_of stop) (said_of stop)
 
--- the statuses that come with a whole text
+-- the statuses that come with a whole text, that of a failed link among them: it has none
 abbrev pub IsStated : Status → Type 0
 IsStated status.Done = ⊤
 IsStated status.Refused = ⊤
@@ -94,17 +94,6 @@ IsSilent status.ReadFault = ⊤
 IsSilent status.Memory = ⊤
 IsSilent is = ⊥
 
--- what is stated for the words after the program's name: the usage where they ask for no server, and otherwise how that server ends
-pub data IsAnswer (g : Grammar) (words : List (List ℕ)) (input : Option (List ℕ)) (t : Told) (is : Status) (text : List ℕ) : Type 0 where
-  usage : ((port count : ℕ) → AsksFor words port count → ⊥) → is ≡ status.Usage → text ≡ usage_line → IsAnswer g words input t is text
-  asked : (port count : ℕ) → AsksFor words port count → IsEnd g count input t is text → IsAnswer g words input t is text
-
--- this status is stated, and the text with it was written
-pub record Answers (Stated : Status → List ℕ → Type 0) (is : Status) (old new : Option (List ℕ)) : Type 0 where
-  pub text : List ℕ
-  pub stated : Stated is text
-  pub wrote : Wrote old new text
-
 -- a first part of a text that is stated was written
 pub record AnswersPrefix (Stated : Status → List ℕ → Type 0) (old new : Option (List ℕ)) : Type 0 where
   pub is : Status
@@ -112,16 +101,14 @@ pub record AnswersPrefix (Stated : Status → List ℕ → Type 0) (old new : Op
   pub stated : Stated is text
   pub wrote : WrotePrefix old new text
 
--- what Done says: the words ask for a server; the plan is the one that the input says; so many connections were served, no more than are asked for, and fewer only where no more come; each was written what is stated of its bytes; all that was done keeps what is promised; and what was written to the output is the text of the state that was left
-pub record IsServedWhole (g : Grammar) (words : List (List ℕ)) (input old new : Option (List ℕ)) (t : Told) : Type 0 where
-  pub port : ℕ
-  pub count : ℕ
-  pub asks : AsksFor words port count
+-- what Done says: the plan is the one that the input says; so many connections were served, no more than are asked for, and fewer only where no more come; each was written what is stated of its bytes; all that was done keeps what is promised; and what was written to the output is the text of the state that was left
+pub record IsServedWhole (g : Grammar) (count : ℕ) (input old new : Option (List ℕ)) (t : Told) : Type 0 where
   pub plan : Plan
   pub was_read : WasRead input plan
   pub number : ℕ
   pub within : number ≤ count
   pub short : number < count → IfSome t.coming (λ coming. t.coming_after ≡ Some [])
+  pub gone : length t.past_after ≡ length t.past + number
   pub has : HasServed g plan number t
   pub wrote : Wrote old new (tail_of plan number (state_after plan has.first has.orders))
 
@@ -131,8 +118,8 @@ pub data WantsMemory (g : Grammar) (input : Option (List ℕ)) (t : Told) : Type
   of_server : (p : Plan) → WasRead input p → IsWanting g p t → WantsMemory g input t
 
 -- what comes where the input says a plan and no fault rose: all was served, too many bytes were put or copied, or there was no room, each with the whole text that is stated, or memory was wanting, and nothing was written
-pub data Completes (g : Grammar) (words : List (List ℕ)) (input old new : Option (List ℕ)) (t : Told) (is : Status) : Type 0 where
-  served_whole : IsServedWhole g words input old new t → is ≡ status.Done → Completes g words input old new t is
-  over_limit : (p : Plan) → WasRead input p → HasBrokenOff g p fault.Kept t → is ≡ status.Limit → Wrote old new kept_line → Completes g words input old new t is
-  without_room : (p : Plan) → WasRead input p → LacksRoom g p t → is ≡ status.Limit → Wrote old new number_line → Completes g words input old new t is
-  without_memory : is ≡ status.Memory → Wrote old new [] → Completes g words input old new t is
+pub data Completes (g : Grammar) (count : ℕ) (input old new : Option (List ℕ)) (t : Told) (is : Status) : Type 0 where
+  served_whole : IsServedWhole g count input old new t → is ≡ status.Done → Completes g count input old new t is
+  over_limit : (p : Plan) → WasRead input p → HasBrokenOff g p fault.Kept t → is ≡ status.Limit → Wrote old new kept_line → Completes g count input old new t is
+  without_room : (p : Plan) → WasRead input p → LacksRoom g p t → is ≡ status.Limit → Wrote old new number_line → Completes g count input old new t is
+  without_memory : is ≡ status.Memory → Wrote old new [] → Completes g count input old new t is

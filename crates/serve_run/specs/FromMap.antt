@@ -1,5 +1,5 @@
 -- What a server that is one map would write.
-use Rattle.std.specs.Prelude.{◌≡◌, ◌≤◌, ℕ, ⊤, List, [], ◌++◌, length}
+use Rattle.std.specs.Prelude.{◌≡◌, ◌≤◌, ℕ, ⊤, List, [], ◌++◌, length, Option}
 use Rattle.lab_outside.specs.Connection.{Connection}
 use Rattle.store_model.specs.Fresh.{NoClash}
 use Rattle.serve_model.specs.Talk.{Grammar, Serving}
@@ -36,10 +36,10 @@ abbrev pub IsFromMap : Grammar → Plan → List (List ℕ) → ℕ → Told →
 IsFromMap g p buckets left_out t = NoClash p.config.buckets → WhereTold t (AreFromMap g p buckets left_out t.past t.past_after)
 
 -- these connections came, and with the last one serving ended for this fault: they are served as by that server, and with the last one it ends so, if its blocks are apart
-abbrev pub AreFromMapButLast : Grammar → Plan → List (List ℕ) → ServeFault → List Connection → List Connection → List ℕ → List (List ℕ) → Type 0
-AreFromMapButLast g p buckets fault past past_after times coming =
-    (gone : List Connection) → past_after ≡ past ++ gone → PutsApart g p buckets times coming gone → ServesAllButLast plain buckets g (λ a. ⊤) (λ asks. ⊤) (map_serving p times) fault coming past past_after
+abbrev pub AreFromMapButLast : Grammar → Plan → List (List ℕ) → ServeFault → Option (List (List ℕ)) → List Connection → List Connection → List ℕ → List (List ℕ) → Type 0
+AreFromMapButLast g p buckets fault coming_after past past_after times coming =
+    (gone : List Connection) → past_after ≡ past ++ gone → PutsApart g p buckets times coming gone → ServesAllButLast plain buckets g (λ a. ⊤) (λ asks. ⊤) (map_serving p times) fault coming coming_after past past_after
 
 -- so it is where clock and link tell, and no two names of buckets have one digest
 abbrev pub EndsFromMap : Grammar → Plan → List (List ℕ) → ServeFault → Told → Type 0
-EndsFromMap g p buckets fault t = NoClash p.config.buckets → WhereTold t (AreFromMapButLast g p buckets fault t.past t.past_after)
+EndsFromMap g p buckets fault t = NoClash p.config.buckets → WhereTold t (AreFromMapButLast g p buckets fault t.coming_after t.past t.past_after)

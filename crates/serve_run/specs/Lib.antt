@@ -1,4 +1,3 @@
-pub mod Words
 pub mod Plan
 pub mod Stop
 pub mod Start
@@ -6,3 +5,4 @@ pub mod Told
 pub mod Served
 pub mod Answer
 pub mod FromMap
+pub mod Command

@@ -91,6 +91,6 @@ pub record HasBrokenOff (g : Grammar) (p : Plan) (fault : ServeFault) (t : Told)
   pub kept : (orders : List (ℕ × Order)) → OrdersFit cluster fits (begun p first) orders → AreKept (all_acts p first orders)
   pub buckets : List (List ℕ)
   pub in_order : AreInOrder p.config.buckets buckets
-  pub served : WhereTold t (λ times coming. ServesAllButLast cluster buckets g (fits_asking fits) (OverflowsAmong cluster fits lacks (begun p first)) (serving p first times) fault coming t.past t.past_after)
+  pub served : WhereTold t (λ times coming. ServesAllButLast cluster buckets g (fits_asking fits) (OverflowsAmong cluster fits lacks (begun p first)) (serving p first times) fault coming t.coming_after t.past t.past_after)
   pub from_map : IsFromMap g p buckets 1 t
   pub ends_from_map : EndsFromMap g p buckets fault t

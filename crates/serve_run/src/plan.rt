@@ -1,11 +1,12 @@
 //! The cluster that the input says, with its layout.
-ghost use Rattle.std.specs.Prelude.{◌≡◌, ◌≤◌, ◌⊎◌, Ok, Err, IfOk, OnOk, IfErr};
+ghost use Rattle.std.specs.Prelude.{◌≡◌, ◌≤◌, ◌⊎◌, ◌+◌, drop, Some, Ok, Err, IfOk, OnOk, IfErr, IfSome};
 ghost use Rattle.std.specs.Io.KnownBytes.{IsAtEnd};
 ghost use Rattle.lab_outside.specs.Rose.{Rose};
 ghost use Rattle.layout_roles.specs.Certificates.{IsRedundancy};
 ghost use Rattle.layout_text.specs.Settings.{settings_of, said};
 ghost use Rattle.layout_command.specs.Answer.{AreEnough, IsLayout};
-ghost use Rattle.serve_run.specs.Stop.{IsOfText, IsOfSettings, IsOfInput};
+ghost use Rattle.serve_run.specs.Stop.{IsOfText, IsOfSettings, IsOfInput, IsTold};
+ghost use Rattle.lab_main.specs.Limits.{input_limit};
 ghost use Rattle.serve_run.specs.Plan.{greatest_node, IsPlan, IsSaid, WasRead};
 
 use crate::stop::Stop;
@@ -89,6 +90,7 @@ pub fn read_plan<I: Source>(alloc: Global, input: &mut I) -> Result<Plan, Stop>
     // line of a refusal is the first one that they deserve.
     ensures read { IfOk result (WasRead (I.left input.old)) }
     ensures end { OnOk result (IsAtEnd (I.left input.new)) }
+    ensures whole { IfErr result IsTold → IfSome (I.left input.old) (λ bytes. I.left input.new ≡ Some (drop (input_limit + 1) bytes)) }
     ensures causes { IfErr result (IsOfInput (I.left input.old)) }
     ensures fault { result ≡ Err Stop.Read → Rose (I.faults input.old) (I.faults input.new) }
     ensures told { (result ≡ Err Stop.Read) ⊎ (I.faults input.new ≡ I.faults input.old) }

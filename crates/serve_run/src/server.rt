@@ -1,25 +1,26 @@
 //! The program as one call.
-ghost use Rattle.std.specs.Prelude.{IsPermutation, IsSorted, ◌≡◌, ◌⊎◌, ℕ, [], map, None, Err, IfOk, OnOk, IfErr, string_bytes};
+ghost use Rattle.std.specs.Prelude.{IsPermutation, IsSorted, ◌≡◌, ◌⊎◌, ◌+◌, ℕ, [], drop, Some, None, Err, IfOk, OnOk, IfErr, IfSome};
 ghost use Rattle.std.specs.Io.KnownBytes.{IsAtEnd};
 ghost use Rattle.crdt_core.specs.Outcomes.{OnlyWant};
 ghost use Rattle.lab_outside.specs.Rose.{Rose};
 ghost use Rattle.lab_outside.specs.Bytes.{Wrote};
 ghost use Rattle.serve_model.specs.Talk.{Grammar};
-ghost use Rattle.serve_run.specs.Words.{AsksFor, AskNothing};
 ghost use Rattle.serve_run.specs.Stop.{status_of, said_of, IsOfServing, IsOfReading, IsTooLong, IsTold};
 ghost use Rattle.lab_main.specs.Ends.{Ends};
-ghost use Rattle.serve_run.specs.Plan.{IsPlan, SaysPlan};
+ghost use Rattle.lab_main.specs.Limits.{input_limit};
+ghost use Rattle.lab_main.specs.Edges.{IsAfterReading, Answers};
+ghost use Rattle.serve_run.specs.Command.{Serves};
+ghost use Rattle.serve_run.specs.Plan.{IsPlan};
 ghost use Rattle.serve_run.specs.Told.{told};
 ghost use Rattle.serve_run.specs.Served.{AreInOrder};
-ghost use Rattle.serve_run.specs.Answer.{HowServed, IsEnd, EndsSo, IsStated, IsSilent, Answers, AnswersPrefix, IsAnswer, IsServedWhole, WantsMemory, Completes};
+ghost use Rattle.serve_run.specs.Answer.{HowServed, IsEnd, EndsSo, IsStated, IsSilent, AnswersPrefix, WantsMemory};
 
 use crate::plan::{Plan, read_plan};
 use crate::start::{installed, nodes};
 use crate::stop::Stop;
 use crate::tail::tail_text;
-use crate::words::{Asked, asked_by};
 use crdt_core::{Bytes, List, Memory, Value};
-use lab_main::{ends, usage};
+use lab_main::ends;
 use lab_outside::{Clock, Link, Sink, Source, Status};
 use layout_roles::smaller_sizes;
 use plain_laws::{a_first_layout_holds_the_empty_map, connections_are_served_as_from_the_map};
@@ -28,6 +29,13 @@ use serve_loop::serve;
 use serve_model::Served;
 use std::alloc::Global;
 use store_anchors::promises_are_kept;
+
+/// A port of this machine, and how many connections are served there.
+#[derive(Clone, Copy, Debug, PartialEq, Eq)]
+pub struct Server {
+    pub port: u16,
+    pub count: u32,
+}
 
 /// The buckets in order of their names.
 fn in_order(buckets: &List<Bytes>) -> Result<List<Bytes>, Memory>
@@ -43,15 +51,18 @@ fn in_order(buckets: &List<Bytes>) -> Result<List<Bytes>, Memory>
 fn served<L: Link, C: Clock>(
     alloc: Global,
     plan: &Plan,
-    asked: Asked,
+    server: Server,
     link: &mut L,
     clock: &mut C,
 ) -> Result<Bytes, Stop>
     requires plan { IsPlan plan.now }
     requires absent { L.present link.old ≡ None }
-    ensures how { (g : Grammar) → HowServed g plan.now asked.count (told (C.times clock.old) (C.times clock.new) (L.coming link.old) (L.coming link.new) (L.past link.old) (L.past link.new)) result }
+    ensures how { (g : Grammar) → HowServed g plan.now server.count (told (C.times clock.old) (C.times clock.new) (L.coming link.old) (L.coming link.new) (L.past link.old) (L.past link.new)) result }
     ensures causes { IfErr result IsOfServing }
+    ensures absent { L.present link.new ≡ None }
+    ensures opened { OnOk result (L.open_at link.new ≡ Some server.port) }
     ensures fault { result ≡ Err Stop.Link → Rose (L.faults link.old) (L.faults link.new) }
+    ensures told { (result ≡ Err Stop.Link) ⊎ (L.faults link.new ≡ L.faults link.old) }
 {
     promises_are_kept();
     a_first_layout_holds_the_empty_map();
@@ -65,8 +76,8 @@ fn served<L: Link, C: Clock>(
     let count = serve(
         alloc,
         &mut cluster,
-        asked.port,
-        asked.count,
+        server.port,
+        server.count,
         link,
         clock,
         &mut counts,
@@ -85,23 +96,27 @@ fn served<L: Link, C: Clock>(
 /// Reads the cluster that the input says, serves the connections that are asked for, and gives what is written then.
 fn read_and_served<I: Source, L: Link, C: Clock>(
     alloc: Global,
-    asked: Asked,
+    server: Server,
     input: &mut I,
     link: &mut L,
     clock: &mut C,
 ) -> Result<Bytes, Stop>
     requires absent { L.present link.old ≡ None }
-    ensures ends { (g : Grammar) → EndsSo g asked.count (I.left input.old) (told (C.times clock.old) (C.times clock.new) (L.coming link.old) (L.coming link.new) (L.past link.old) (L.past link.new)) result }
+    ensures ends { (g : Grammar) → EndsSo g server.count (I.left input.old) (told (C.times clock.old) (C.times clock.new) (L.coming link.old) (L.coming link.new) (L.past link.old) (L.past link.new)) result }
     ensures end { OnOk result (IsAtEnd (I.left input.new)) }
+    ensures read { IfErr result IsTold → IfSome (I.left input.old) (λ bytes. I.left input.new ≡ Some (drop (input_limit + 1) bytes)) }
     ensures wants { (g : Grammar) → result ≡ Err Stop.Memory → WantsMemory g (I.left input.old) (told (C.times clock.old) (C.times clock.new) (L.coming link.old) (L.coming link.new) (L.past link.old) (L.past link.new)) }
     ensures untouched { IfErr result (λ stop. IsOfReading stop → (link.new ≡ link.old) × (clock.new ≡ clock.old)) }
     ensures unopened { IsTooLong (I.left input.old) → (link.new ≡ link.old) × (clock.new ≡ clock.old) }
     ensures read_fault { result ≡ Err Stop.Read → Rose (I.faults input.old) (I.faults input.new) }
     ensures read_told { (result ≡ Err Stop.Read) ⊎ (I.faults input.new ≡ I.faults input.old) }
+    ensures absent { L.present link.new ≡ None }
+    ensures opened { OnOk result (L.open_at link.new ≡ Some server.port) }
     ensures link_fault { result ≡ Err Stop.Link → Rose (L.faults link.old) (L.faults link.new) }
+    ensures link_told { (result ≡ Err Stop.Link) ⊎ (L.faults link.new ≡ L.faults link.old) }
 {
     let plan = read_plan(alloc, input)?;
-    let text = served(alloc, &plan, asked, link, clock)?;
+    let text = served(alloc, &plan, server, link, clock)?;
     Ok(text)
 }
 
@@ -109,6 +124,8 @@ fn read_and_served<I: Source, L: Link, C: Clock>(
 fn stopped<O: Sink>(output: &mut O, stop: &Stop) -> Status
     ensures told { result ≡ Status.WriteFault → IsTold stop.now }
     ensures read { stop.now ≡ Stop.Read → result ≡ Status.ReadFault }
+    ensures link { stop.now ≡ Stop.Link → result ≡ Status.LinkFault }
+    ensures unwritten { result ≡ Status.ReadFault → output.new ≡ output.old }
     ensures write_told { (result ≡ Status.WriteFault) ⊎ (O.faults output.new ≡ O.faults output.old) }
     ensures ends { Ends (status_of stop.now) (said_of stop.now) result (O.written output.old) (O.written output.new) (O.faults output.old) (O.faults output.new) }
 {
@@ -124,101 +141,70 @@ fn stopped<O: Sink>(output: &mut O, stop: &Stop) -> Status
 }
 
 /// Reads, serves and writes, and answers the status.
-fn answered<I: Source, O: Sink, L: Link, C: Clock>(
+fn serve_and_tell<I: Source, O: Sink, L: Link, C: Clock>(
     alloc: Global,
-    asked: Asked,
+    server: Server,
     input: &mut I,
     output: &mut O,
     link: &mut L,
     clock: &mut C,
 ) -> Status
     requires absent { L.present link.old ≡ None }
-    ensures answers { (g : Grammar) → IsStated result → Answers (IsEnd g asked.count (I.left input.old) (told (C.times clock.old) (C.times clock.new) (L.coming link.old) (L.coming link.new) (L.past link.old) (L.past link.new))) result (O.written output.old) (O.written output.new) }
-    ensures prefix { (g : Grammar) → result ≡ Status.WriteFault → AnswersPrefix (IsEnd g asked.count (I.left input.old) (told (C.times clock.old) (C.times clock.new) (L.coming link.old) (L.coming link.new) (L.past link.old) (L.past link.new))) (O.written output.old) (O.written output.new) }
+    ensures answers { (g : Grammar) → IsStated result → Answers (IsEnd g server.count (I.left input.old) (told (C.times clock.old) (C.times clock.new) (L.coming link.old) (L.coming link.new) (L.past link.old) (L.past link.new))) result (O.written output.old) (O.written output.new) }
+    ensures prefix { (g : Grammar) → result ≡ Status.WriteFault → AnswersPrefix (IsEnd g server.count (I.left input.old) (told (C.times clock.old) (C.times clock.new) (L.coming link.old) (L.coming link.new) (L.past link.old) (L.past link.new))) (O.written output.old) (O.written output.new) }
     ensures silent { IsSilent result → Wrote (O.written output.old) (O.written output.new) [] }
     ensures wants { (g : Grammar) → result ≡ Status.Memory → WantsMemory g (I.left input.old) (told (C.times clock.old) (C.times clock.new) (L.coming link.old) (L.coming link.new) (L.past link.old) (L.past link.new)) }
     ensures end { result ≡ Status.Done → IsAtEnd (I.left input.new) }
+    ensures read { IsAfterReading result → IfSome (I.left input.old) (λ bytes. I.left input.new ≡ Some (drop (input_limit + 1) bytes)) }
     ensures untouched { (result ≡ Status.Refused) ⊎ (result ≡ Status.ReadFault) → (link.new ≡ link.old) × (clock.new ≡ clock.old) }
     ensures unopened { IsTooLong (I.left input.old) → (link.new ≡ link.old) × (clock.new ≡ clock.old) }
     ensures no_usage { result ≡ Status.Usage → ⊥ }
+    ensures unwritten { result ≡ Status.ReadFault → output.new ≡ output.old }
     ensures read_fault { result ≡ Status.ReadFault → Rose (I.faults input.old) (I.faults input.new) }
     ensures write_fault { result ≡ Status.WriteFault → Rose (O.faults output.old) (O.faults output.new) }
     ensures read_told { (result ≡ Status.ReadFault) ⊎ (I.faults input.new ≡ I.faults input.old) }
     ensures write_told { (result ≡ Status.WriteFault) ⊎ (O.faults output.new ≡ O.faults output.old) }
+    ensures absent { L.present link.new ≡ None }
+    ensures opened { result ≡ Status.Done → L.open_at link.new ≡ Some server.port }
     ensures link_fault { result ≡ Status.LinkFault → Rose (L.faults link.old) (L.faults link.new) }
+    ensures link_told { (result ≡ Status.LinkFault) ⊎ (L.faults link.new ≡ L.faults link.old) }
 {
-    match read_and_served(alloc, asked, input, link, clock) {
+    match read_and_served(alloc, server, input, link, clock) {
         Ok(text) => ends(output, text.as_slice(), Status::Done),
         Err(stop) => stopped(output, &stop),
     }
 }
 
-/// Serves what the words after the program's name ask for.
-pub fn run<I: Source, O: Sink, L: Link, C: Clock>(
+/// Serves S3 over the cluster that the input says, to so many connections of a port.
+///
+/// After Done so many connections were served, no more than are asked for, and fewer only where no more come, by a server of
+/// the plan that the input says. Its acts are lawful and fit, from nothing on: buckets, size of blocks and the first layout,
+/// and then the acts of each request. At each moment of them, within drains too, answered reads are fresh, also by the records
+/// alone; what lines of reads tell of a version's bytes is as was written; and replicas that accepted the same rows are equal.
+/// What was written is the text of the state after these acts; and where clock and link tell, what was written to each
+/// connection is what is stated of its bytes, from what the connections before it left, or a first part of that where its count
+/// of faults rose, and they led to this very state. And each text is the one that a server writes which is one map from names
+/// to objects, with no cluster, or a first part of that where its count of faults rose; and the next connections are served
+/// from the map as the requests that were carried out have left it; where neither two names of buckets nor two of the blocks
+/// that they put have one digest.
+///
+/// After LinkFault, and where too many bytes were put or copied or a number had no room, serving up to there is stated as after
+/// Done, and of the last connection, with which serving ended, that its text is that of the map too, or a first part. After
+/// Memory no connection was served, or they were served as after Done, or all but the last one, with which serving ended: what
+/// was written to it is a first part of what is stated of its bytes, and of the map's text.
+pub fn run_server<I: Source, O: Sink, L: Link, C: Clock>(
     alloc: Global,
-    words: &[String],
+    server: Server,
     input: &mut I,
     output: &mut O,
     link: &mut L,
     clock: &mut C,
 ) -> Status
     requires absent { L.present link.old ≡ None }
-
-    // After Done so many connections were served, no more than the words ask for, and fewer only where no more come, by a
-    // server of the plan that the input says. Its acts are lawful and fit, from nothing on: buckets, size of blocks and the
-    // first layout, and then the acts of each request. At each moment of them, within drains too, answered reads are
-    // fresh, also by the records alone; what lines of reads tell of a version's bytes is as was written; and replicas that
-    // accepted the same rows are equal. What was written is the text of the state after these acts; and where clock and
-    // link tell, what was written to each connection is what is stated of its bytes, from what the connections before it
-    // left, or a first part of that where its count of faults rose, and they led to this very state. And each text is the one
-    // that a server writes which is one map from names to objects, with no cluster, or a first part of that where its count
-    // of faults rose; and the next connections are served from the map as the requests that were carried out have left it;
-    // where neither two names of buckets nor two of the blocks that they put have one digest.
-    ensures done { (g : Grammar) → result ≡ Status.Done → IsServedWhole g (map string_bytes words.now) (I.left input.old) (O.written output.old) (O.written output.new) (told (C.times clock.old) (C.times clock.new) (L.coming link.old) (L.coming link.new) (L.past link.old) (L.past link.new)) }
-
-    // Done, Refused, Usage, LinkFault and Limit come with the whole text that is stated for the words and for what the
-    // outside tells, and WriteFault with a first part of one: the line of a refusal is the first one that the input
-    // deserves, and `limit input` comes only where the input is too long, the others only where it isn't. After LinkFault,
-    // and where too many bytes were put or copied or a number had no room, serving up to there is stated as after Done, and
-    // of the last connection, with which serving ended, that its text is that of the map too, or a first part. ReadFault and
-    // Memory come with nothing.
-    ensures answers { (g : Grammar) → IsStated result → Answers (IsAnswer g (map string_bytes words.now) (I.left input.old) (told (C.times clock.old) (C.times clock.new) (L.coming link.old) (L.coming link.new) (L.past link.old) (L.past link.new))) result (O.written output.old) (O.written output.new) }
-    ensures prefix { (g : Grammar) → result ≡ Status.WriteFault → AnswersPrefix (IsAnswer g (map string_bytes words.now) (I.left input.old) (told (C.times clock.old) (C.times clock.new) (L.coming link.old) (L.coming link.new) (L.past link.old) (L.past link.new))) (O.written output.old) (O.written output.new) }
-    ensures silent { IsSilent result → Wrote (O.written output.old) (O.written output.new) [] }
-
-    // After Memory no connection was served, or they were served as after Done, or all but the last one, with which serving
-    // ended: what was written to it is a first part of what is stated of its bytes, and of the map's text.
-    ensures wants { (g : Grammar) → result ≡ Status.Memory → WantsMemory g (I.left input.old) (told (C.times clock.old) (C.times clock.new) (L.coming link.old) (L.coming link.new) (L.past link.old) (L.past link.new)) }
-
-    // Where the words ask for a server, the input says a plan and no count of faults rose, the input isn't refused: all was
-    // served, or a limit on what is served was passed, each with the whole text that is stated, or memory was wanting.
-    ensures complete { (g : Grammar) (port count : ℕ) (p : Plan) → AsksFor (map string_bytes words.now) port count → SaysPlan (I.left input.old) p →
-        (Rose (I.faults input.old) (I.faults input.new) → ⊥) → (Rose (O.faults output.old) (O.faults output.new) → ⊥) → (Rose (L.faults link.old) (L.faults link.new) → ⊥) →
-        Completes g (map string_bytes words.now) (I.left input.old) (O.written output.old) (O.written output.new) (told (C.times clock.old) (C.times clock.new) (L.coming link.old) (L.coming link.new) (L.past link.old) (L.past link.new)) result }
-
-    // After Done the source was read to its end.
-    ensures end { result ≡ Status.Done → IsAtEnd (I.left input.new) }
-
-    // Words that ask for no server bring Usage, with nothing read or opened; no other words do.
-    ensures usage { result ≡ Status.Usage → AskNothing words.now }
-    ensures usage_alone { AskNothing words.now → (result ≡ Status.Usage) ⊎ (result ≡ Status.WriteFault) }
-    ensures unread { AskNothing words.now → input.new ≡ input.old }
-    ensures unopened { AskNothing words.now → link.new ≡ link.old }
-
-    // Where the input is refused, can't be read or is too long, link and clock are as before.
-    ensures untouched { (result ≡ Status.Refused) ⊎ (result ≡ Status.ReadFault) ⊎ IsTooLong (I.left input.old) → (link.new ≡ link.old) × (clock.new ≡ clock.old) }
-
-    // A fault comes only where the count of its object rose in this call, and where that of the input or of the output rose it
-    // comes, not want of memory or another status.
-    ensures read_fault { result ≡ Status.ReadFault → Rose (I.faults input.old) (I.faults input.new) }
-    ensures write_fault { result ≡ Status.WriteFault → Rose (O.faults output.old) (O.faults output.new) }
-    ensures read_told { (result ≡ Status.ReadFault) ⊎ (I.faults input.new ≡ I.faults input.old) }
-    ensures write_told { (result ≡ Status.WriteFault) ⊎ (O.faults output.new ≡ O.faults output.old) }
-    ensures link_fault { result ≡ Status.LinkFault → Rose (L.faults link.old) (L.faults link.new) }
+    ensures serves { (g : Grammar) → Serves I.Source O.Sink L.Link C.Clock g server.port server.count result input.old input.new output.old output.new
+        link.old link.new clock.old clock.new }
+    ensures no_usage { result ≡ Status.Usage → ⊥ }
 {
     smaller_sizes();
-    match asked_by(words) {
-        Some(asked) => answered(alloc, asked, input, output, link, clock),
-        None => usage(output),
-    }
+    serve_and_tell(alloc, server, input, output, link, clock)
 }

@@ -1,76 +1,84 @@
 -- What is written of a workload.
-use Rattle.std.proofs.Common.{◌≡◌, ◌≤◌, ℕ, Option, Result, Ok, Err, IfErr, List, [], ◌++◌, length, append-nil, refl, sym, ap, ◌∙◌, subst}
+use Rattle.std.proofs.Common.{◌≡◌, ◌≤◌, ◌⊎◌, ℕ, Option, Result, Ok, Err, IfErr, List, [], ◌++◌, length, append-nil, inl, inr, refl, sym, ap, ◌∙◌, subst}
+use Rattle.std.specs.Result.{IsErrAnd}
+use Rattle.crdt_core.specs.declared.memory.Memory.{Memory as Why}
+use Rattle.crdt_core.specs.declared.memory.Memory.TheVariants.{Want}
+use Rattle.lab_outside.specs.declared.ports.Sink as sink
 use Rattle.lab_outside.specs.declared.exit.Status.{Status}
-use Rattle.lab_outside.specs.declared.exit.Status.TheVariants.{Done, WriteFault, Memory as MemoryStatus, Limit}
+use Rattle.lab_outside.specs.declared.exit.Status.TheVariants.{Done, Refused, Usage, ReadFault, WriteFault, LinkFault, Memory as MemoryStatus, Limit}
 use Rattle.lab_outside.specs.Rose.{Rose}
-use Rattle.lab_outside.proofs.Bytes.{wrote_more, wrote_prefix_after, wrote_prefix_whole}
-use Rattle.lab_main.specs.Ends.{Ends, said, cut_off}
+use Rattle.lab_outside.specs.Bytes.{Wrote}
+use Rattle.lab_outside.proofs.Rose.{rose_after}
+use Rattle.lab_main.specs.Ends.{Ends}
+use Rattle.lab_main.specs.Edges.{IsStated, Answers, Begins, nothing, begun, Writes}
 use Rattle.lab_main.proofs.Writing.{wrote_nothing}
+use Rattle.lab_main.proofs.Edges.{answers_begin, last_answers, last_begins, ends_fault, whole_writes}
 use Rattle.store_model.specs.Run.{start}
 use Rattle.store_model.specs.Moments.{IsMoment, between, AtEachMoment}
-use Rattle.store_anchors.specs.Promises.{KeepsPromises, EveryRunKeepsPromises}
 use Rattle.store_model.specs.declared.event.Numbered.{Numbered}
 use Rattle.store_model.specs.Events.{Turn, acts_of, events_of, run}
 use Rattle.store_model.specs.Fresh.{NoClash}
+use Rattle.store_anchors.specs.Promises.{KeepsPromises, EveryRunKeepsPromises}
+use Rattle.text_model.specs.Played.{ArePlayed, AreScheduled}
 use Rattle.replay_run.specs.declared.account.Account.{Account}
 use Rattle.replay_run.specs.declared.account.Account.TheVariants.{Summary}
 use Rattle.replay_run.specs.declared.stop.ReplayStop.{ReplayStop}
 use Rattle.replay_run.specs.declared.stop.ReplayStop.TheVariants.{Write, Memory, Number, Sent}
 use Rattle.replay_run.specs.Account.{IsText, summary_lines, closing}
-use Rattle.text_model.specs.Played.{ArePlayed}
 use Rattle.replay_run.specs.Replay.{sent_line, ReplayLacksRoom, IsReplay, whole, sent}
 use Rattle.replay_run.specs.Stop.{IsPart, of_turns as part_of_turns, of_all, IsWhole, LacksLine, Halts, stop_of_memory}
 use Rattle.replay_run.proofs.Leading.{played_fits}
 use Rattle.replay_run.proofs.Causes.{wanting}
 use Rattle.replay_run.proofs.Running.{part_none}
 use Rattle.replay_run.proofs.Checked.{line_is_fresh}
-use Rattle.crdt_core.specs.declared.memory.Memory.{Memory as Why}
-use Rattle.crdt_core.specs.declared.memory.Memory.TheVariants.{Want}
-use Rattle.std.specs.Result.{IsErrAnd}
-use Rattle.workload_run.specs.Words.{AsksFor}
-use Rattle.workload_run.proofs.Reading.{of_asked}
-use Rattle.text_model.specs.Played.{AreScheduled}
 use Rattle.workload.specs.Schedule.{schedule}
 use Rattle.workload.proofs.Allowed.{schedule_is_within}
-use Rattle.workload_run.specs.Answer.{IsAnswer, IsStated, Answers, Begins, nothing, begun, fresh_summary, IsSummarized}
+use Rattle.workload_run.specs.Answer.{IsAnswer, IsOfWorkload, fresh_summary, IsSummarized, Summarizes}
 
-module _ (count seed : ℕ) (old : Option (List ℕ)) where
+module _ {O : Type 0} (o : sink.Ghosts O) (count seed : ℕ) (old mid new : O) where
   -- the whole summary was written
-  pub whole_answers : (new : Option (List ℕ)) → IsWhole (Summary count seed) (schedule count seed) old new → Answers count seed Done old new
-  whole_answers new h = record { text = h.text; stated = whole h.turns h.events_are h.played refl h.is_text; wrote = h.wrote }
+  pub summary_writes : IsWhole (Summary count seed) (schedule count seed) (o.written old) (o.written new) → o.faults new ≡ o.faults old → Writes o (IsAnswer count seed) Done old new
+  summary_writes h same =
+      whole_writes o (IsAnswer count seed) Done old new (record { text = h.text; stated = whole h.turns h.events_are h.played refl h.is_text; wrote = h.wrote }) (λ e. let no : Done ≡ WriteFault = e in cc) same
 
-  pub answers_begin : (status : Status) (new : Option (List ℕ)) → Answers count seed status old new → Begins count seed old new
-  answers_begin status new h = begun status h.text h.stated (wrote_prefix_whole old new h.text h.wrote)
+  part_begins : IsPart (Summary count seed) (schedule count seed) (o.written old) (o.written mid) → Begins (IsAnswer count seed) (o.written old) (o.written mid)
+  part_begins (part_of_turns turns first wrote) = nothing (wrote_nothing (o.written old) (o.written mid) wrote)
+  part_begins (of_all turns are played text is wrote) = begun Done text (whole turns are played refl is) wrote
 
-  part_begins : (new : Option (List ℕ)) → IsPart (Summary count seed) (schedule count seed) old new → Begins count seed old new
-  part_begins new (part_of_turns turns first wrote) = nothing (wrote_nothing old new wrote)
-  part_begins new (of_all turns are played text is wrote) = begun Done text (whole turns are played refl is) wrote
-
-  -- the line of a limit follows
-  module _ (line : List ℕ) (result : Status) (mid new : Option (List ℕ)) (faults risen : ℕ) (h : LacksLine (Summary count seed) (schedule count seed) line old mid) where
-    line_answers : Ends Limit line result mid new faults risen → IsStated result → Answers count seed result old new
-    line_answers (said is wrote) stated = record { text = h.before ++ line; stated = subst (λ (s : Status). IsAnswer count seed s (h.before ++ line)) (sym is) h.stated; wrote = wrote_more old mid new h.before line h.wrote wrote }
-    line_answers (cut_off is rose wrote) stated = absurd (subst IsStated is stated)
-
-    line_begins : Ends Limit line result mid new faults risen → Begins count seed old new
-    line_begins (said is wrote) = begun Limit (h.before ++ line) h.stated (wrote_prefix_whole old new (h.before ++ line) (wrote_more old mid new h.before line h.wrote wrote))
-    line_begins (cut_off is rose wrote) = begun Limit (h.before ++ line) h.stated (wrote_prefix_after old mid new h.before line h.wrote wrote)
+  -- nothing more is said
+  silent : (result is : Status) → result ≡ is → (IsStated is → ⊥) → new ≡ mid → IsPart (Summary count seed) (schedule count seed) (o.written old) (o.written mid) → (result ≡ WriteFault → Rose (o.faults old) (o.faults mid)) →
+      (result ≡ WriteFault) ⊎ (o.faults new ≡ o.faults old) → Writes o (IsAnswer count seed) result old new
+  silent result is e never same part rose told = record {
+    whole = λ s. absurd (never (subst IsStated e s));
+    begins = subst (λ (x : O). Begins (IsAnswer count seed) (o.written old) (o.written x)) (sym same) (part_begins part);
+    fault = λ f. subst (λ (x : O). Rose (o.faults old) (o.faults x)) (sym same) (rose f);
+    told = told;
+  }
 
   -- how a replay that gave up was told
-  module _ (result : Status) (mid new : Option (List ℕ)) (faults risen : ℕ) where
-    pub halted_answers : (stop : ReplayStop) → Halts (Summary count seed) (schedule count seed) stop old mid → (stop ≡ Number → ⊥) → (stop ≡ Sent → Ends Limit sent_line result mid new faults risen) →
-        (stop ≡ Write → result ≡ WriteFault) → (stop ≡ Memory → result ≡ MemoryStatus) → IsStated result → Answers count seed result old new
-    halted_answers Write h n s w m stated = absurd (subst IsStated (w refl) stated)
-    halted_answers Memory h n s w m stated = absurd (subst IsStated (m refl) stated)
-    halted_answers Number h n s w m stated = absurd (n refl)
-    halted_answers Sent h n s w m stated = line_answers sent_line result mid new faults risen h (s refl) stated
+  module _ (result : Status) (low : o.faults old ≤ o.faults mid) (told : (result ≡ WriteFault) ⊎ (o.faults new ≡ o.faults old)) where
+    pub halted_writes : (stop : ReplayStop) → Halts (Summary count seed) (schedule count seed) stop (o.written old) (o.written mid) → (stop ≡ Number → ⊥) → (stop ≡ Write → Rose (o.faults old) (o.faults mid)) →
+        (stop ≡ Sent → Ends Limit sent_line result (o.written mid) (o.written new) (o.faults mid) (o.faults new)) → (stop ≡ Write → (result ≡ WriteFault) × (new ≡ mid)) → (stop ≡ Memory → (result ≡ MemoryStatus) × (new ≡ mid)) →
+        Writes o (IsAnswer count seed) result old new
+    halted_writes Write h never rose ends write memory = let w = write refl in silent result WriteFault w.0 (λ s. s) w.1 h (λ f. rose refl) told
+    halted_writes Memory h never rose ends write memory =
+        let m = memory refl in silent result MemoryStatus m.0 (λ s. s) m.1 h.0 (λ f. let no : MemoryStatus ≡ WriteFault = sym m.0 ∙ f in cc) told
+    halted_writes Number h never rose ends write memory = absurd (never refl)
+    halted_writes Sent h never rose ends write memory =
+        let k = ends refl in
+        record {
+          whole = last_answers (IsAnswer count seed) Limit h.before sent_line result (o.written old) (o.written mid) (o.written new) (o.faults mid) (o.faults new) h.stated h.wrote k;
+          begins = last_begins (IsAnswer count seed) Limit h.before sent_line result (o.written old) (o.written mid) (o.written new) (o.faults mid) (o.faults new) h.stated h.wrote k;
+          fault = λ f. rose_after (o.faults old) (o.faults mid) (o.faults new) low (ends_fault Limit sent_line result (o.written mid) (o.written new) (o.faults mid) (o.faults new) (λ e. let no : Limit ≡ WriteFault = e in cc) k f);
+          told = told;
+        }
 
-    pub halted_begins : (stop : ReplayStop) → Halts (Summary count seed) (schedule count seed) stop old mid → (stop ≡ Number → ⊥) → (stop ≡ Sent → Ends Limit sent_line result mid new faults risen) →
-        (stop ≡ Write → new ≡ mid) → (stop ≡ Memory → new ≡ mid) → Begins count seed old new
-    halted_begins Write h n s w m = subst (Begins count seed old) (sym (w refl)) (part_begins mid h)
-    halted_begins Memory h n s w m = subst (Begins count seed old) (sym (m refl)) (part_begins mid h)
-    halted_begins Number h n s w m = absurd (n refl)
-    halted_begins Sent h n s w m = line_begins sent_line result mid new faults risen h (s refl)
+-- where a failed write is told before and after, it is told
+pub told_both : {A : Type 0} (stop : ReplayStop) (result : Status) (before faults risen : ℕ) (Same : Type 0) → ((◌≡◌ {A = Result A ReplayStop} (Err stop) (Err Write)) ⊎ (faults ≡ before)) → (stop ≡ Write → (result ≡ WriteFault) × Same) → (result ≡ WriteFault) ⊎ (risen ≡ faults) →
+    (result ≡ WriteFault) ⊎ (risen ≡ before)
+told_both stop result before faults risen Same (inl e) write later = let is : stop ≡ Write = cc in inl (write is).0
+told_both stop result before faults risen Same (inr same) write (inl e) = inl e
+told_both stop result before faults risen Same (inr same) write (inr also) = inr (also ∙ same)
 
 -- the text is all that is written of the events
 record IsOfTurns (account : Account) (events : List Numbered) (text : List ℕ) : Type 0 where
@@ -96,7 +104,7 @@ module _ (always : EveryRunKeepsPromises) (count seed : ℕ) (old new : Option (
       h.text_is ∙ h.ends.text_is
       ∙ ap (λ line. summary_lines count seed (run start turns) ++ closing (length turns) (run start turns) line) (line_is_fresh (run start turns).history h.ends.line ((kept turns played (acts_of turns) (at_last turns)).recorded apart) h.ends.is_line)
 
-  pub done_summarizes : Answers count seed Done old new → IsSummarized count seed old new
+  done_summarizes : Answers (IsAnswer count seed) Done old new → IsSummarized count seed old new
   done_summarizes h =
       let done = of_turns (Summary count seed) (schedule count seed) h.text h.stated in
       record {
@@ -110,11 +118,6 @@ module _ (always : EveryRunKeepsPromises) (count seed : ℕ) (old new : Option (
         promises = kept done.turns done.played;
       }
 
--- the number of faults rose
-pub halted_fault : (stop : ReplayStop) (result : Status) (mid new : Option (List ℕ)) (before faults risen : ℕ) (line : List ℕ) → Ends Limit line result mid new faults risen → result ≡ WriteFault → Rose faults risen
-halted_fault stop result mid new before faults risen line (said is wrote) e = let no : WriteFault ≡ Limit = sym e ∙ is in cc
-halted_fault stop result mid new before faults risen line (cut_off is rose wrote) e = rose
-
 -- nothing was written yet where the schedule could not be made
 pub none_halts : {T : Type 0} (account : Account) (events : List Numbered) (old : Option (List ℕ)) (r : Result T ReplayStop) (why : Why) → IsErrAnd r (λ x. x ≡ stop_of_memory why) → why ≡ Want → IfErr r (λ stop. Halts account events stop old old)
 none_halts account events old r why is want = wanting r why (λ stop. Halts account events stop old old) is (part_none account old events) want
@@ -127,11 +130,22 @@ never_number room count seed few account old new (Err stop) events is h e =
     let same : stop ≡ Number = cc in
     room events (subst AreScheduled (sym is) (schedule_is_within count seed few)) (subst (λ (s : ReplayStop). Halts account events s old new) same h).1
 
--- a status that was answered for what was asked is answered for what the words say
-pub for_words : (P : ℕ → ℕ → Type 0) (words : List (List ℕ)) (m t : ℕ) → AsksFor words m t → P m t → (n s : ℕ) → AsksFor words n s → P n s
-for_words P words m t h p n s k = of_asked P words m t n s h k p
+-- all that is said of the command
+module _ {O : Type 0} (o : sink.Ghosts O) (always : EveryRunKeepsPromises) (count seed : ℕ) (old new : O) where
+  answered_by : (result : Status) → Writes o (IsAnswer count seed) result old new → IsOfWorkload result → (Rose (o.faults old) (o.faults new) → ⊥) → Answers (IsAnswer count seed) result (o.written old) (o.written new) ⊎ (result ≡ MemoryStatus)
+  answered_by Done h of_workload none = inl (h.whole tt)
+  answered_by Limit h of_workload none = inl (h.whole tt)
+  answered_by MemoryStatus h of_workload none = inr refl
+  answered_by WriteFault h of_workload none = absurd (none (h.fault refl))
+  answered_by Refused h of_workload none = absurd of_workload
+  answered_by Usage h of_workload none = absurd of_workload
+  answered_by ReadFault h of_workload none = absurd of_workload
+  answered_by LinkFault h of_workload none = absurd of_workload
 
-pub done_for : EveryRunKeepsPromises → (count seed : ℕ) (result : Status) (old new : Option (List ℕ)) → (IsStated result → Answers count seed result old new) → result ≡ Done → IsSummarized count seed old new
-done_for always count seed result old new answers e =
-    let P : Status → Type 0 = λ s. IsStated s → Answers count seed s old new in
-    done_summarizes always count seed old new (subst P e answers tt)
+  pub summarizes : (result : Status) → Writes o (IsAnswer count seed) result old new → IsOfWorkload result → Summarizes o count seed result old new
+  summarizes result h of_workload = record {
+    writes = h;
+    done = λ e. let P : Status → Type 0 = λ s. IsStated s → Answers (IsAnswer count seed) s (o.written old) (o.written new) in done_summarizes always count seed (o.written old) (o.written new) (subst P e h.whole tt);
+    statuses = of_workload;
+    answered = answered_by result h of_workload;
+  }

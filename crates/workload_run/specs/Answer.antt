@@ -1,8 +1,11 @@
--- What is answered to the words that ask for a workload.
-use Rattle.std.specs.Prelude.{◌≡◌, ℕ, ⊤, List, [], ◌++◌, length, Option}
+-- What `workload` answers, and all that is said of it.
+use Rattle.std.specs.Prelude.{◌≡◌, ◌⊎◌, ℕ, ⊤, List, ◌++◌, length, Option}
+use Rattle.lab_outside.specs.declared.ports.Sink as sink
 use Rattle.lab_outside.specs.declared.exit.Status.{Status}
 use Rattle.lab_outside.specs.declared.exit.Status.TheVariants.{Done, WriteFault, Memory, Limit}
-use Rattle.lab_outside.specs.Bytes.{Wrote, WrotePrefix}
+use Rattle.lab_outside.specs.Bytes.{Wrote}
+use Rattle.lab_outside.specs.Rose.{Rose}
+use Rattle.lab_main.specs.Edges.{Answers, Writes}
 use Rattle.store_model.specs.Run.{start}
 use Rattle.store_model.specs.Events.{Turn, acts_of, events_of, run}
 use Rattle.store_model.specs.Moments.{AtEachMoment}
@@ -18,12 +21,6 @@ use Rattle.workload.specs.Schedule.{schedule}
 abbrev pub IsAnswer : ℕ → ℕ → Status → List ℕ → Type 0
 IsAnswer count seed status text = IsReplay (Summary count seed) (schedule count seed) status text
 
--- the statuses that come with a whole text
-abbrev pub IsStated : Status → Type 0
-IsStated Done = ⊤
-IsStated Limit = ⊤
-IsStated _ = ⊥
-
 -- the statuses of a workload
 abbrev pub IsOfWorkload : Status → Type 0
 IsOfWorkload Done = ⊤
@@ -31,17 +28,6 @@ IsOfWorkload Limit = ⊤
 IsOfWorkload WriteFault = ⊤
 IsOfWorkload Memory = ⊤
 IsOfWorkload _ = ⊥
-
--- this status is stated for the workload, and the text with it was written
-pub record Answers (count seed : ℕ) (status : Status) (old new : Option (List ℕ)) : Type 0 where
-  pub text : List ℕ
-  pub stated : IsAnswer count seed status text
-  pub wrote : Wrote old new text
-
--- nothing was written, or a first part of a text that is stated for the workload, and no more
-pub data Begins (count seed : ℕ) (old new : Option (List ℕ)) : Type 0 where
-  nothing : Wrote old new [] → Begins count seed old new
-  begun : (status : Status) (text : List ℕ) → IsAnswer count seed status text → WrotePrefix old new text → Begins count seed old new
 
 -- the summary of turns, with the line that says that all finished reads are fresh, and how many pairs there were to look at
 abbrev pub fresh_summary : ℕ → ℕ → List Turn → List ℕ
@@ -59,3 +45,10 @@ pub record IsSummarized (count seed : ℕ) (old new : Option (List ℕ)) : Type 
   pub is_fresh : NoClash (run start turns).buckets → text ≡ fresh_summary count seed turns
   pub wrote : Wrote old new text
   pub promises : AtEachMoment KeepsPromises (acts_of turns)
+
+-- what `workload` does, which reads nothing: the output is as is said of every command; after Done what was written is the summary; no other status comes but Limit, WriteFault and Memory; and where the count of faults didn't rise, the status and the whole text that are stated came, or memory was wanting
+pub record Summarizes {O : Type 0} (o : sink.Ghosts O) (count seed : ℕ) (result : Status) (output output' : O) : Type 0 where
+  pub writes : Writes o (IsAnswer count seed) result output output'
+  pub done : result ≡ Done → IsSummarized count seed (o.written output) (o.written output')
+  pub statuses : IsOfWorkload result
+  pub answered : (Rose (o.faults output) (o.faults output') → ⊥) → Answers (IsAnswer count seed) result (o.written output) (o.written output') ⊎ (result ≡ Memory)

@@ -1,39 +1,20 @@
-use Rattle.lab_outside.specs.Rose.{Rose}
-use Rattle.garage_lab.specs.Command.{asked_by}
-use Rattle.garage_lab.proofs.Ends.{some_transcribes, some_checks, some_answered, some_completes}
-use Rattle.garage_lab.proofs.Lays.{some_prints, some_moves}
+use Rattle.std.proofs.Common.{map, refl}
+use Rattle.std.specs.String.{string_bytes}
+use Rattle.garage_lab.proofs.Running.{does_asked, tells_usage, asked_in_range}
 use Rattle.garage_lab.proofs.run.run.Goals as goal
 
-pub returns-clause-done : goal.returns-clause-done
-returns-clause-done g c =
-    some_transcribes (g.I.Source.left c.args.input.now) (asked_by c.args.words.now) c.answer.result (g.O.Sink.written c.args.output.now) (g.O.Sink.written c.answer.new.output)
-    c.promises_are_kept.ensures
-    c.answer.ensures.answers
+pub run_command-requires-clause-in_range : goal.run_command-requires-clause-in_range
+run_command-requires-clause-in_range g c = asked_in_range (map string_bytes c.args.words.now) c.in-Some.command c.in-Some.ensures
 
-pub returns-clause-checked : goal.returns-clause-checked
-returns-clause-checked g c =
-    some_checks (g.I.Source.left c.args.input.now) (asked_by c.args.words.now) c.answer.result (g.O.Sink.written c.args.output.now) (g.O.Sink.written c.answer.new.output)
-    c.promises_are_kept.ensures
-    c.answer.ensures.answers
+pub returns-in-Some-clause-does : goal.returns-in-Some-clause-does
+returns-in-Some-clause-does g c =
+    does_asked g.I.Source g.O.Sink g.L.Link g.C.Clock c.run_command.result c.args.input.now c.run_command.new.input c.args.output.now c.run_command.new.output c.args.link.now c.run_command.new.link c.args.clock.now c.run_command.new.clock
+    (map string_bytes c.args.words.now) c.in-Some.command c.in-Some.ensures c.run_command.ensures.does
 
-pub returns-clause-laid_out : goal.returns-clause-laid_out
-returns-clause-laid_out g c =
-    some_prints (g.I.Source.left c.args.input.now) (asked_by c.args.words.now) c.answer.result (g.O.Sink.written c.args.output.now) (g.O.Sink.written c.answer.new.output) c.answer.ensures.answers
+pub returns-in-None-clause-usage : goal.returns-in-None-clause-usage
+returns-in-None-clause-usage g c = λ none.
+    tells_usage g.I.Source g.O.Sink g.L.Link g.C.Clock c.usage.result c.args.input.now c.args.input.now c.args.output.now c.usage.new.output c.args.link.now c.args.link.now c.args.clock.now c.args.clock.now
+    c.usage.ensures.says c.usage.ensures.steady refl refl refl
 
-pub returns-clause-moved : goal.returns-clause-moved
-returns-clause-moved g c =
-    some_moves (g.I.Source.left c.args.input.now) (asked_by c.args.words.now) c.answer.result (g.O.Sink.written c.args.output.now) (g.O.Sink.written c.answer.new.output) c.answer.ensures.answers
-
-pub returns-clause-answered : goal.returns-clause-answered
-returns-clause-answered g c =
-    some_answered (asked_by c.args.words.now) c.answer.result (g.O.Sink.written c.args.output.now) (g.O.Sink.written c.answer.new.output)
-    (Rose (g.I.Source.faults c.args.input.now) (g.I.Source.faults c.answer.new.input)) (Rose (g.O.Sink.faults c.args.output.now) (g.O.Sink.faults c.answer.new.output))
-    c.answer.ensures.read_fault c.answer.ensures.write_fault c.answer.ensures.link_fault
-    (g.I.Source.left c.args.input.now) c.answer.ensures.answers
-
-pub returns-clause-complete : goal.returns-clause-complete
-returns-clause-complete g c =
-    some_completes (asked_by c.args.words.now) c.answer.result (g.O.Sink.written c.args.output.now) (g.O.Sink.written c.answer.new.output)
-    (Rose (g.I.Source.faults c.args.input.now) (g.I.Source.faults c.answer.new.input)) (Rose (g.O.Sink.faults c.args.output.now) (g.O.Sink.faults c.answer.new.output))
-    c.answer.ensures.read_fault c.answer.ensures.write_fault c.answer.ensures.link_fault
-    c.one_status.ensures c.one_moves_status.ensures (g.I.Source.left c.args.input.now) c.answer.ensures.answers
+pub returns-in-None-clause-does : goal.returns-in-None-clause-does
+returns-in-None-clause-does g c = λ command asks. absurd (c.in-None.ensures command asks)

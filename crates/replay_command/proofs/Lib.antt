@@ -1,0 +1,4 @@
+pub mod Stops
+pub mod Stating
+pub mod Answering
+pub mod Ends

@@ -1,9 +1,0 @@
-use Rattle.std.proofs.Common.{arith}
-use Rattle.serve_run.proofs.Reading.{three_words}
-use Rattle.serve_run.proofs.words.asked_by.Goals as goal
-
-pub returns-in-len3 : goal.returns-in-len3
-returns-in-len3 c =
-    three_words c.args.words.now c.name-item.result c.port-item.result c.count-item.result c.asked_in.result
-    (omega (arith, c.in-len3.len_at_least, c.in-len3.len_below)) c.name-item.is c.port-item.is c.count-item.is
-    (rw (c.as_str.ensures.value, c.as_str-in-len3.ensures.value, c.as_str-in-len3-2.ensures.value) at c.asked_in.ensures)
