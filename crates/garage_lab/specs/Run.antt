@@ -29,7 +29,7 @@ Does i o l c Moves result input input' output output' link link' clock clock' = 
 Does i o l c Replay result input input' output output' link link' clock clock' = Replays i o Transcript result input input' output output' × (link' ≡ link) × (clock' ≡ clock)
 Does i o l c Check result input input' output output' link link' clock clock' = Replays i o Checked result input input' output output' × (link' ≡ link) × (clock' ≡ clock)
 Does i o l c (Workload w) result input input' output output' link link' clock clock' = Summarizes o w.count w.seed result output output' × (input' ≡ input) × (link' ≡ link) × (clock' ≡ clock)
-Does i o l c (Serve s) result input input' output output' link link' clock clock' = (g : Grammar) → Serves i o l c g s.port s.count result input input' output output' link link' clock clock'
+Does i o l c (Serve s) result input input' output output' link link' clock clock' = (g : Grammar) → Serves i o l c g s.count result input input' output output' link link' clock clock'
 
 -- what words bring that ask for nothing: the usage line, unless a write fails; nothing is read, and link and clock are as before
 pub record TellsUsage {I O L C : Type 0} (o : sink.Ghosts O) (result : Status) (input input' : I) (output output' : O) (link link' : L) (clock clock' : C) : Type 0 where

@@ -1,7 +1,6 @@
 pub mod Rose
 pub mod Bytes
 pub mod Connection
-pub mod Links
 pub mod Times
 pub mod Exit
 pub mod Calls

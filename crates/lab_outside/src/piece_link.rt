@@ -21,7 +21,6 @@ pub struct PieceLink {
     bytes: MemSource,
     size: usize,
     stage: Stage,
-    port: Option<u16>,
     ghost some: { 0 < size },
     ghost fresh: { IsTrue (is_fresh_at stage (source_faults bytes)) },
 }
@@ -41,7 +40,6 @@ impl PieceLink {
             bytes: MemSource::new(bytes, fails),
             size,
             stage: Stage::Coming,
-            port: None,
         }
     }
 }
@@ -58,10 +56,7 @@ impl Link for PieceLink {
 
     ghost faults = { λ _. 0 };
 
-    ghost open_at = { λ it. it.port };
-
-    fn open(&mut self, port: u16) -> Result<(), Failed> {
-        self.port = Some(port);
+    fn open(&mut self, _port: u16) -> Result<(), Failed> {
         Ok(())
     }
 

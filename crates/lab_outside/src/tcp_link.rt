@@ -94,12 +94,10 @@ impl<R: Net<Listener = TcpListener, Stream = TcpStream> + Drop> Link for TcpLink
 
     ghost faults = { link_faults };
 
-    ghost open_at = { port_of };
-
     /// Listens on 127.0.0.1, and no longer on another port.
     fn open(&mut self, port: u16) -> Result<(), Failed>
         ensures opens { OnOk result (port_of self.new ≡ Some port) }
-        ensures still_open { OnErr result (port_of self.new ≡ port_of self.old) }
+        ensures kept { OnErr result (port_of self.new ≡ port_of self.old) }
         ensures still_present { present_of self.new ≡ present_of self.old }
         ensures still_past { past_of self.new ≡ past_of self.old }
         ensures counted { link_faults self.old ≤ link_faults self.new }
@@ -125,7 +123,6 @@ impl<R: Net<Listener = TcpListener, Stream = TcpStream> + Drop> Link for TcpLink
         ensures comes { IsSome (present_of self.new) ↔ (result ≡ Ok true) }
         ensures fresh { IfSome (present_of self.new) IsFresh }
         ensures goes { past_of self.new ≡ past_of self.old ++ option_to_list (present_of self.old) }
-        ensures still_open { port_of self.new ≡ port_of self.old }
         ensures counted { link_faults self.old ≤ link_faults self.new }
         ensures fault { OnErr result (Rose (link_faults self.old) (link_faults self.new)) }
         ensures steady { OnOk result (link_faults self.new ≡ link_faults self.old) }

@@ -37,7 +37,6 @@ pub struct FaultyLink {
     present: Option<u64>,
     /// The same once it is past.
     past: Option<u64>,
-    port: Option<u16>,
     ghost first: { IsTrue (not (comes && (is_some present || is_some past))) },
     ghost single: { IsTrue (not (is_some present && is_some past)) },
 }
@@ -56,7 +55,6 @@ impl FaultyLink {
             comes: true,
             present: None,
             past: None,
-            port: None,
         }
     }
 
@@ -76,7 +74,6 @@ impl FaultyLink {
         ensures past { option_to_list (option_map untold self.new.past)
             ≡ option_to_list (option_map untold self.old.past) ++ option_to_list (option_map untold self.old.present) }
         ensures faults { self.new.faults ≡ self.old.faults }
-        ensures port { self.new.port ≡ self.old.port }
     {
         if let Some(faults) = self.present {
             self.present = None;
@@ -97,10 +94,7 @@ impl Link for FaultyLink {
 
     ghost faults = { λ link. link.faults };
 
-    ghost open_at = { λ link. link.port };
-
-    fn open(&mut self, port: u16) -> Result<(), Failed> {
-        self.port = Some(port);
+    fn open(&mut self, _port: u16) -> Result<(), Failed> {
         Ok(())
     }
 

@@ -1,8 +1,7 @@
 //! One request, served.
 ghost use Rattle.std.specs.Prelude.{◌≡◌, ℕ, List, ◌++◌, ◌||◌, max, min, true, codes, Option, Some, Ok, IsSome, IfOk, IfErr};
 ghost use Rattle.crdt_core.specs.Outcomes.{OnlyWant};
-ghost use Rattle.lab_outside.specs.Connection.{OnPresent};
-ghost use Rattle.lab_outside.specs.Links.{Stays};
+ghost use Rattle.lab_outside.specs.Connection.{OnPresent, Stays};
 ghost use Rattle.store_model.specs.Acts.{HasKey};
 ghost use Rattle.s3_model.specs.Asks.{is_method, asked_of};
 ghost use Rattle.serve_model.specs.declared.served.ServeFault.TheVariants.{Memory as Wanting};
@@ -45,7 +44,7 @@ fn carry<S: Storage, L: Link>(
     ensures serves { (p : Serving S.State) (times : Option (List ℕ)) (kept : List ℕ) → Stands (S.stands store.old) times served.old p →
         ServesOn (λ left. order_turn S.model request.now order p (kept ++ left)) (Reached S.model S.fits S.lacks (S.stands store.new) p.store) (known_from S.model S.fits S.lacks p.store) times served.new result kept (L.present link.old) (L.present link.new) }
     ensures goes { Goes S.model S.fits S.lacks (S.stands store.old) (S.stands store.new) result }
-    ensures stays { Stays L.Link link.old link.new }
+    ensures stays { Stays (L.coming link.old) (L.coming link.new) (L.past link.old) (L.past link.new) (L.faults link.old) (L.faults link.new) }
 {
     let end = match store.carry(request.time, order) {
         Ok(Some(end)) => end,
@@ -70,7 +69,7 @@ fn answer_end<L: Link>(
     ensures present { IsSome (L.present link.new) }
     ensures says { SaysOn (text_of request.now (answer_to request.now.ask end)) (closes_of request.now (answer_to request.now.ask end)) result (L.present link.old) (L.present link.new) }
     ensures cause { IfErr result (λ e. e ≡ Wanting) }
-    ensures stays { Stays L.Link link.old link.new }
+    ensures stays { Stays (L.coming link.old) (L.coming link.new) (L.past link.old) (L.past link.new) (L.faults link.old) (L.faults link.new) }
 {
     match answer_for(alloc, &request.ask, end) {
         Ok(answer) => answer_request(alloc, link, request, answer),
@@ -95,7 +94,7 @@ fn serve_whole<S: Storage, L: Link>(
     ensures serves { (p : Serving S.State) (times : Option (List ℕ)) (kept : List ℕ) → Stands (S.stands store.old) times served.old p →
         ServesOn (λ left. whole_turn S.model buckets.now request.now body p (kept ++ left)) (Reached S.model S.fits S.lacks (S.stands store.new) p.store) (known_from S.model S.fits S.lacks p.store) times served.new result kept (L.present link.old) (L.present link.new) }
     ensures goes { Goes S.model S.fits S.lacks (S.stands store.old) (S.stands store.new) result }
-    ensures stays { Stays L.Link link.old link.new }
+    ensures stays { Stays (L.coming link.old) (L.coming link.new) (L.past link.old) (L.past link.new) (L.faults link.old) (L.faults link.new) }
 {
     match refusal(buckets, &request.ask, body.as_slice()) {
         Ok(Some(code)) => answer_request(alloc, link, request, Answer::Refusal(code)),
@@ -121,7 +120,7 @@ fn serve_judged<S: Storage, L: Link>(
     ensures serves { (p : Serving S.State) (times : Option (List ℕ)) (kept : List ℕ) → Stands (S.stands store.old) times served.old p →
         ServesOn (λ left. plan_turn S.model buckets.now request.now (order_of request.now.ask body) p (kept ++ left)) (Reached S.model S.fits S.lacks (S.stands store.new) p.store) (known_from S.model S.fits S.lacks p.store) times served.new result kept (L.present link.old) (L.present link.new) }
     ensures goes { Goes S.model S.fits S.lacks (S.stands store.old) (S.stands store.new) result }
-    ensures stays { Stays L.Link link.old link.new }
+    ensures stays { Stays (L.coming link.old) (L.coming link.new) (L.past link.old) (L.past link.new) (L.faults link.old) (L.faults link.new) }
 {
     match order(&request.ask, body) {
         Ok(Some(order)) => carry(alloc, store, link, served, request, order),
@@ -141,7 +140,7 @@ fn answer_without<L: Link>(
     ensures present { IsSome (L.present link.new) }
     ensures says { SaysOn (text_of request.now (Answer.Reply (reply_without buckets.now request.now.ask))) (closes_of request.now (Answer.Reply (reply_without buckets.now request.now.ask))) result (L.present link.old) (L.present link.new) }
     ensures cause { IfErr result (λ e. e ≡ Wanting) }
-    ensures stays { Stays L.Link link.old link.new }
+    ensures stays { Stays (L.coming link.old) (L.coming link.new) (L.past link.old) (L.past link.new) (L.faults link.old) (L.faults link.new) }
 {
     match reply(buckets, &request.ask) {
         Ok(reply) => answer_request(alloc, link, request, Answer::Reply(reply)),
@@ -166,7 +165,7 @@ fn serve_body<S: Storage, L: Link>(
     ensures serves { (p : Serving S.State) (times : Option (List ℕ)) → Stands (S.stands store.old) times served.old p →
         ServesOn (λ left. body_turn S.model buckets.now request.now p (kept.old.bytes.items ++ left)) (Reached S.model S.fits S.lacks (S.stands store.new) p.store) (known_from S.model S.fits S.lacks p.store) times served.new result kept.new.bytes.items (L.present link.old) (L.present link.new) }
     ensures goes { Goes S.model S.fits S.lacks (S.stands store.old) (S.stands store.new) result }
-    ensures stays { Stays L.Link link.old link.new }
+    ensures stays { Stays (L.coming link.old) (L.coming link.new) (L.past link.old) (L.past link.new) (L.faults link.old) (L.faults link.new) }
 {
     match read_body(alloc, link, kept, request.length) {
         Ok(body) => serve_whole(alloc, store, link, served, buckets, request, body),
@@ -209,7 +208,7 @@ fn serve_waiting<S: Storage, L: Link>(
     ensures serves { (p : Serving S.State) (times : Option (List ℕ)) → Stands (S.stands store.old) times served.old p →
         ServesOn (λ left. waiting_turn S.model buckets.now request.now p (kept.old.bytes.items ++ left)) (Reached S.model S.fits S.lacks (S.stands store.new) p.store) (known_from S.model S.fits S.lacks p.store) times served.new result kept.new.bytes.items (L.present link.old) (L.present link.new) }
     ensures goes { Goes S.model S.fits S.lacks (S.stands store.old) (S.stands store.new) result }
-    ensures stays { Stays L.Link link.old link.new }
+    ensures stays { Stays (L.coming link.old) (L.coming link.new) (L.past link.old) (L.past link.new) (L.faults link.old) (L.faults link.new) }
 {
     match send_whole(link, interim(request.waits)) {
         Ok(()) => serve_body(alloc, store, link, kept, served, buckets, request),
@@ -234,7 +233,7 @@ fn serve_understood<S: Storage, L: Link>(
     ensures serves { (p : Serving S.State) (times : Option (List ℕ)) → Stands (S.stands store.old) times served.old p →
         ServesOn (λ left. request_turn S.model buckets.now request.now p (kept.old.bytes.items ++ left)) (Reached S.model S.fits S.lacks (S.stands store.new) p.store) (known_from S.model S.fits S.lacks p.store) times served.new result kept.new.bytes.items (L.present link.old) (L.present link.new) }
     ensures goes { Goes S.model S.fits S.lacks (S.stands store.old) (S.stands store.new) result }
-    ensures stays { Stays L.Link link.old link.new }
+    ensures stays { Stays (L.coming link.old) (L.coming link.new) (L.past link.old) (L.past link.new) (L.faults link.old) (L.faults link.new) }
 {
     let size = counts_before(buckets, &request.ask, request.length);
     match count(served, size) {
@@ -296,7 +295,7 @@ fn refuse_read<L: Link>(
     ensures present { IsSome (L.present link.new) }
     ensures says { SaysOn (head_refusal fault (path_of_refusal head.now) (is_method head.now (codes "HEAD")) now) true result (L.present link.old) (L.present link.new) }
     ensures cause { IfErr result (λ e. e ≡ Wanting) }
-    ensures stays { Stays L.Link link.old link.new }
+    ensures stays { Stays (L.coming link.old) (L.coming link.new) (L.past link.old) (L.past link.new) (L.faults link.old) (L.faults link.new) }
 {
     match path_shown(alloc, head) {
         Ok(path) => { refuse_head(alloc, link, fault, path, is_head(head), now) }
@@ -324,7 +323,7 @@ fn serve_ask<S: Storage, L: Link>(
     ensures serves { (p : Serving S.State) (times : Option (List ℕ)) → Stands (S.stands store.old) times served.old p →
         ServesOn (λ left. request_turn S.model buckets.now (request_of last now head.now ask) p (kept.old.bytes.items ++ left)) (Reached S.model S.fits S.lacks (S.stands store.new) p.store) (known_from S.model S.fits S.lacks p.store) times served.new result kept.new.bytes.items (L.present link.old) (L.present link.new) }
     ensures goes { Goes S.model S.fits S.lacks (S.stands store.old) (S.stands store.new) result }
-    ensures stays { Stays L.Link link.old link.new }
+    ensures stays { Stays (L.coming link.old) (L.coming link.new) (L.past link.old) (L.past link.new) (L.faults link.old) (L.faults link.new) }
 {
     match request_for(alloc, head, ask, last, now) {
         Ok(request) => serve_understood(alloc, store, link, kept, served, buckets, &request),
@@ -350,7 +349,7 @@ fn serve_head<S: Storage, L: Link>(
     ensures serves { (p : Serving S.State) (times : Option (List ℕ)) → Stands (S.stands store.old) times served.old p →
         ServesOn (λ left. head_turn S.model buckets.now last now (Some head.now) p (kept.old.bytes.items ++ left)) (Reached S.model S.fits S.lacks (S.stands store.new) p.store) (known_from S.model S.fits S.lacks p.store) times served.new result kept.new.bytes.items (L.present link.old) (L.present link.new) }
     ensures goes { Goes S.model S.fits S.lacks (S.stands store.old) (S.stands store.new) result }
-    ensures stays { Stays L.Link link.old link.new }
+    ensures stays { Stays (L.coming link.old) (L.coming link.new) (L.past link.old) (L.past link.new) (L.faults link.old) (L.faults link.new) }
 {
     match understand(head) {
         Ok(ask) => serve_ask(
@@ -390,7 +389,7 @@ fn serve_found<S: Storage, L: Link, C: Clock>(
     ensures serves { (p : Serving S.State) → Stands (S.stands store.old) (C.times clock.old) served.old p →
         ServesOn (λ left. head_turn S.model buckets.now last (clocked p).time (Some head.now) (clocked p) (kept.old.bytes.items ++ left)) (Reached S.model S.fits S.lacks (S.stands store.new) p.store) (known_from S.model S.fits S.lacks p.store) (C.times clock.new) served.new result kept.new.bytes.items (L.present link.old) (L.present link.new) }
     ensures goes { Goes S.model S.fits S.lacks (S.stands store.old) (S.stands store.new) result }
-    ensures stays { Stays L.Link link.old link.new }
+    ensures stays { Stays (L.coming link.old) (L.coming link.new) (L.past link.old) (L.past link.new) (L.faults link.old) (L.faults link.new) }
 {
     let now = ask_time(clock, served);
     serve_head(alloc, store, last, link, kept, served, buckets, head, now)
@@ -409,7 +408,7 @@ fn refuse_bad<L: Link, C: Clock>(
     ensures kept { served.new.kept ≡ served.old.kept }
     ensures asked { (times : List ℕ) → C.times clock.old ≡ Some times → (served.new.time ≡ time_from served.old.time (first_of times)) × (C.times clock.new ≡ Some (later_of times)) }
     ensures cause { IfErr result (λ e. e ≡ Wanting) }
-    ensures stays { Stays L.Link link.old link.new }
+    ensures stays { Stays (L.coming link.old) (L.coming link.new) (L.past link.old) (L.past link.new) (L.faults link.old) (L.faults link.new) }
 {
     let now = ask_time(clock, served);
     refuse_head(
@@ -451,7 +450,7 @@ pub fn serve_request<S: Storage, L: Link, C: Clock>(
     // Whatever link and clock tell: lawful orders lead to a state that the store stands for, and `Number` comes only
     // where they lead to an order without room.
     ensures goes { Goes S.model S.fits S.lacks (S.stands store.old) (S.stands store.new) result }
-    ensures stays { Stays L.Link link.old link.new }
+    ensures stays { Stays (L.coming link.old) (L.coming link.new) (L.past link.old) (L.past link.new) (L.faults link.old) (L.faults link.new) }
 {
     match read_head(alloc, link, kept) {
         Ok(head) => serve_found(

@@ -51,9 +51,7 @@ pub fn serve<S: Storage, L: Link, C: Clock>(
     ensures short { IfOk result (λ n. n < count → IfSome (L.coming link.old) (λ coming. L.coming link.new ≡ Some [])) }
     ensures gone { IfOk result (λ n. length (L.past link.new) ≡ length (L.past link.old) + n) }
 
-    // The port is open after it, unless waiting for it or for a connection failed; then the link's count of faults rose, and
-    // where it rose that is told.
-    ensures opened { (result ≡ Err ServeStop.Link) ⊎ (L.open_at link.new ≡ Some port) }
+    // Where waiting for the port or for a connection failed the link's count of faults rose, and where it rose that is told.
     ensures fault { result ≡ Err ServeStop.Link → Rose (L.faults link.old) (L.faults link.new) }
     ensures told { (result ≡ Err ServeStop.Link) ⊎ (L.faults link.new ≡ L.faults link.old) }
 {

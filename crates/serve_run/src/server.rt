@@ -60,7 +60,6 @@ fn served<L: Link, C: Clock>(
     ensures how { (g : Grammar) → HowServed g plan.now server.count (told (C.times clock.old) (C.times clock.new) (L.coming link.old) (L.coming link.new) (L.past link.old) (L.past link.new)) result }
     ensures causes { IfErr result IsOfServing }
     ensures absent { L.present link.new ≡ None }
-    ensures opened { OnOk result (L.open_at link.new ≡ Some server.port) }
     ensures fault { result ≡ Err Stop.Link → Rose (L.faults link.old) (L.faults link.new) }
     ensures told { (result ≡ Err Stop.Link) ⊎ (L.faults link.new ≡ L.faults link.old) }
 {
@@ -111,7 +110,6 @@ fn read_and_served<I: Source, L: Link, C: Clock>(
     ensures read_fault { result ≡ Err Stop.Read → Rose (I.faults input.old) (I.faults input.new) }
     ensures read_told { (result ≡ Err Stop.Read) ⊎ (I.faults input.new ≡ I.faults input.old) }
     ensures absent { L.present link.new ≡ None }
-    ensures opened { OnOk result (L.open_at link.new ≡ Some server.port) }
     ensures link_fault { result ≡ Err Stop.Link → Rose (L.faults link.old) (L.faults link.new) }
     ensures link_told { (result ≡ Err Stop.Link) ⊎ (L.faults link.new ≡ L.faults link.old) }
 {
@@ -165,7 +163,6 @@ fn serve_and_tell<I: Source, O: Sink, L: Link, C: Clock>(
     ensures read_told { (result ≡ Status.ReadFault) ⊎ (I.faults input.new ≡ I.faults input.old) }
     ensures write_told { (result ≡ Status.WriteFault) ⊎ (O.faults output.new ≡ O.faults output.old) }
     ensures absent { L.present link.new ≡ None }
-    ensures opened { result ≡ Status.Done → L.open_at link.new ≡ Some server.port }
     ensures link_fault { result ≡ Status.LinkFault → Rose (L.faults link.old) (L.faults link.new) }
     ensures link_told { (result ≡ Status.LinkFault) ⊎ (L.faults link.new ≡ L.faults link.old) }
 {
@@ -201,7 +198,7 @@ pub fn run_server<I: Source, O: Sink, L: Link, C: Clock>(
     clock: &mut C,
 ) -> Status
     requires absent { L.present link.old ≡ None }
-    ensures serves { (g : Grammar) → Serves I.Source O.Sink L.Link C.Clock g server.port server.count result input.old input.new output.old output.new
+    ensures serves { (g : Grammar) → Serves I.Source O.Sink L.Link C.Clock g server.count result input.old input.new output.old output.new
         link.old link.new clock.old clock.new }
     ensures no_usage { result ≡ Status.Usage → ⊥ }
 {

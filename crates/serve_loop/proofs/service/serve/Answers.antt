@@ -35,7 +35,6 @@ connections-init g c =
       goes = λ s st. (s, here_reached model g.S.Storage.fits g.S.Storage.lacks stands s st);
       state = c.requires.state;
       steady = c.open.ensures.steady;
-      opened = c.open.ensures.opens;
       gone = ap length c.open.ensures.still_past ∙ omega arith;
       within = omega arith;
       told = tells_first (g.L.Link.coming c.args.link.now) (g.L.Link.coming c.open.new.self) c.open.ensures.still_coming;
@@ -93,7 +92,6 @@ connections-preserved g c =
       goes = λ s st. let t = c.connections.invariant.goes s st in let u = c.in-Ok-end.ensures.goes t.0 t.1.0 in (u.0, reached_more model fits lacks stands' s t.0 u.0 t.1.1 u.1);
       state = let t = c.in-Ok-end.ensures.goes c.connections.invariant.state.0 c.connections.invariant.state.1 in (t.0, t.1.0);
       steady = c.end.ensures.uncounted ∙ c.serve_connection-end.ensures.stays.faults ∙ c.in-Ok.ensures.steady ∙ c.connections.invariant.steady;
-      opened = c.end.ensures.still_open ∙ c.serve_connection-end.ensures.stays.open_at ∙ c.in-Ok.ensures.still_open ∙ c.connections.invariant.opened;
       gone = gone_more (g.L.Link.past c.args.link.now) past1 (g.L.Link.past c.end.new.self) n c.connections.number c.connections.invariant.gone c.serve_connection-end.ensures.present goes;
       within = omega arith;
       told = tells_next (g.L.Link.coming c.args.link.now) (g.L.Link.coming l) (g.L.Link.coming c.end.new.self) m c.connections.invariant.told takes;
