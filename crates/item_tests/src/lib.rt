@@ -1,7 +1,9 @@
-//! Tests of collections of delete markers and of rows of items. It has no code of its own.
+//! Tests of collections of delete markers, of rows of items, and of lines that are read alone. It has no code of its own.
 #![tactic(auto)]
 
 #[cfg(test)]
 mod collections;
 #[cfg(test)]
 mod items;
+#[cfg(test)]
+mod lines;
