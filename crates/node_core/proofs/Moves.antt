@@ -101,24 +101,25 @@ module _ {R : Type 0} (join : R → R → R) (s : Words R) where
     spelled = ap (are_spelled join s layouts x) (sym are) ∙ st.spelled;
   }
 
-module _ {S R : Type 0} {join : R → R → R} {s : Words R} where
+module _ {R : Type 0} (join : R → R → R) (s : Words R) {S : Type 0} where
   -- who sends under a number, and what it sends
   pub record SendsAs (sender : Sender) (contents : Contents S R) (number id : ℕ) (x : Model R Layout) : Type 0 where
     pub sends : Sends join s sender contents x
     pub node_is : sender.node ≡ id
     pub number_is : sender.round ≡ number
 
-  pub sends_by : (sender : Sender) (node : Node S R) (number id : ℕ) (x : Model R Layout) → sender ≡ sender_of node number → node.id ≡ id → known node.view ≡ x.view → IsContents join s node.contents x → SendsAs sender node.contents number id x
+module _ {S R : Type 0} {join : R → R → R} {s : Words R} where
+  pub sends_by : (sender : Sender) (node : Node S R) (number id : ℕ) (x : Model R Layout) → sender ≡ sender_of node number → node.id ≡ id → known node.view ≡ x.view → IsContents join s node.contents x → SendsAs join s sender node.contents number id x
   sends_by sender node number id x same id_is view contents = record {
     sends = subst (λ t. Sends join s t node.contents x) (sym same) (record { is = contents; newest_is = ap (newest reading) (sym view) });
     node_is = ap (λ (t : Sender). t.node) same ∙ id_is;
     number_is = ap (λ (t : Sender). t.round) same;
   }
 
-  pub sends_as : (sender : Sender) (node : Node S R) (number id : ℕ) (x : Model R Layout) → sender ≡ sender_of node number → StandsFor join s node id x → SendsAs sender node.contents number id x
+  pub sends_as : (sender : Sender) (node : Node S R) (number id : ℕ) (x : Model R Layout) → sender ≡ sender_of node number → StandsFor join s node id x → SendsAs join s sender node.contents number id x
   sends_as sender node number id x same is = sends_by sender node number id x same is.id_is is.view is.contents
 
-  pub sends_apart : (sender : Sender) (node : Node S R) (number id : ℕ) (x : Model R Layout) → sender ≡ sender_of node number → StandsApart join s node id x → SendsAs sender node.contents number id x
+  pub sends_apart : (sender : Sender) (node : Node S R) (number id : ℕ) (x : Model R Layout) → sender ≡ sender_of node number → StandsApart join s node id x → SendsAs join s sender node.contents number id x
   sends_apart sender node number id x same is = sends_by sender node number id x same is.id_is is.view is.contents
 
   -- walks over these partitions began with the other nodes
@@ -140,7 +141,7 @@ module _ {S R : Type 0} {join : R → R → R} {s : Words R} where
       sym (others_spelled join s x node.id parts) ∙ ap (λ ps. are_spelled join s layouts x (map part_of ps)) (sym places_are) ∙ fails x is.contents
 
   -- an open round walks anew, over these places
-  pub walks_anew : (sender : Sender) (node : Node S R) (number id : ℕ) (x : Model R Layout) (r : Moved) (places : List (ℕ × List ℕ)) (old new : List (Envelope R)) (begun : List NodeWalk) → SendsAs sender node.contents number id x → places ≡ filled join s x r (open_parts_of r) →
+  pub walks_anew : (sender : Sender) (node : Node S R) (number id : ℕ) (x : Model R Layout) (r : Moved) (places : List (ℕ × List ℕ)) (old new : List (Envelope R)) (begun : List NodeWalk) → SendsAs join s sender node.contents number id x → places ≡ filled join s x r (open_parts_of r) →
       StartsAll join s sender node.contents places old new begun → (Posts id old new (starts_of join s layouts x number (new_walks join s layouts x r))) × (map walk_of begun ≡ new_walks join s layouts x r) × (are_spelled join s layouts x (filled_parts join s layouts x r) ≡ true)
   walks_anew sender node number id x r places old new begun who are starts =
       let went = starts x who.sends in

@@ -211,7 +211,7 @@ as_many_blocks {c = c} x is = sym (all_counted c.blocks.blocks) ∙ (is.blocks.n
 
 -- different numbers
 pub differs : (a b : ℕ) → (a ≡ b → ⊥) → (a == b) ≡ false
-differs a b no = elim (a == b) as (λ t. (a == b) ≡ t → t ≡ false) [ true ↦ (λ e. absurd (no (eqb-true a b e))) | false ↦ (λ e. refl) ] refl
+differs a b unlike = elim (a == b) as (λ t. (a == b) ≡ t → t ≡ false) [ true ↦ (λ e. absurd (unlike (eqb-true a b e))) | false ↦ (λ e. refl) ] refl
 
 -- an open round that was taken out and put back
 pub put_back : {S R : Type 0} {join : R → R → R} {s : Words R} (c : Node S R) (id : ℕ) (x : Model R Layout) (m : Moving) → c.rounds.round ≡ Some m → StandsFor join s c id x → StandsFor join s (record c { rounds = record c.rounds { round = Some m } }) id x

@@ -6,7 +6,7 @@ use Rattle.table_schema.specs.Words.{Words}
 use Rattle.walk_model.specs.Walking.{is_open}
 use Rattle.cluster_machine.specs.Layouts.{layouts}
 use Rattle.cluster_machine.specs.Node.{Node as Model, Walk, Round as Moved, Mending, Did, quiet}
-use Rattle.cluster_machine.specs.Rounds.{walk_at, walk_after, walks_after, found_same, sends_after, goes_on, at_walk, round_walks, mending_walks, mending_came, with_mending, with_lasting, late_came}
+use Rattle.cluster_machine.specs.Rounds.{walk_at, walk_after, walks_after, found_same, sends_after, goes_on, at_walk, round_walks, mending_walks, mending_came, with_mending, with_lasting, late_came, answer_came}
 use Rattle.node_parts.specs.declared.packet.Envelope.{Envelope}
 use Rattle.node_parts.specs.declared.rounds.Mending.{Mending as Mended}
 use Rattle.node_parts.specs.declared.rounds.Moving.{Moving}
@@ -145,6 +145,26 @@ module _ {R : Type 0} (join : R → R → R) (s : Words R) where
   mending_lacks x a number passes lacks =
       ap (λ d. d.is_spelled) (late_passed join s 0 x a number (with_lasting join s layouts x) x.lasting (mending_came join s layouts x (with_mending join s layouts x) (quiet x) a.from number a.p a.table a.prefix.now (children_of a) x.mending) passes)
       ∙ late_lacks x a number (with_mending join s layouts x) (quiet x) x.mending (λ m e. λ i. record x { mending = e i }) lacks
+
+-- ---- to which walks an answer comes
+
+module _ {R : Type 0} (join : R → R → R) (s : Words R) (id : ℕ) (x : Model R Layout) (a : Answer) (r : Moved) (number : ℕ) (there : x.round ≡ Some r) where
+  abbrev came : Option Moved → Did R Layout
+  came o = answer_came join s layouts id x a.from number a.p a.table a.prefix.now (children_of a) o
+
+  abbrev at_round : Did R Layout
+  at_round = at_walk join s layouts x a.table a.prefix.now (round_walks join s layouts id x a.table a.prefix.now (children_of a) r) (walk_at a.p a.from r.walks)
+
+  abbrev late : Did R Layout
+  late = late_came join s layouts x a.from number a.p a.table a.prefix.now (children_of a)
+
+  -- to those of the open round
+  pub comes_there : (r.number == number) ≡ true → came x.round ≡ at_round
+  comes_there e = ap came there ∙ ap (λ b. cond b at_round late) e
+
+  -- to others
+  pub comes_late : (r.number == number) ≡ false → came x.round ≡ late
+  comes_late e = ap came there ∙ ap (λ b. cond b at_round late) e
 
 -- ---- what the node became
 

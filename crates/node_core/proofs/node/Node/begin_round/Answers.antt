@@ -9,6 +9,7 @@ use Rattle.cluster_machine.specs.Rounds.{are_spelled, parts_of, other_nodes, wal
 use Rattle.cluster_machine.specs.Layouts.{layouts}
 use Rattle.node_parts.specs.Sends.{part_of}
 use Rattle.node_parts.specs.Rounds.{IsMoving, begun_round}
+use Rattle.node_parts.specs.Walks.{walk_of}
 use Rattle.node_core.specs.Stands.{StandsFor}
 use Rattle.node_core.specs.Walking.{Started}
 use Rattle.node_core.proofs.Moves.{started_with}
@@ -57,7 +58,7 @@ returns-clause-begins g c id x may at is =
     let walks = walks_of join s x (other_nodes join s layouts id) parts in
     let st = started_with join s c.in_ok-number.number (suc x.rounds) id c.as_slice.result.now parts c.args.out.now.items c.start.new.out.items c.in_ok-begun.begun.items x number (ap (map part_of) c.as_slice.ensures.value ∙ moves.0) (c.in_ok-begun.ensures.starts id x is) in
     let round = begun_round (suc x.rounds) (suc (read_version reading x.view)) parts id walks in
-    let same = λ i. begun_round (number i) (target i) (moves.0 i) (is.id_is i) (st.begun_are i) in
+    let same : begun_round c.in_ok-number.number (c.args.at + 1) (map part_of c.in_ok-parts.parts.items) self.id (map walk_of c.in_ok-begun.begun.items) ≡ round = λ i. begun_round (number i) (target i) (moves.0 i) (is.id_is i) (st.begun_are i) in
     let moving = subst (λ n. IsMoving n c.in_ok-moving.moving round) is.id_is (subst (IsMoving self.id c.in_ok-moving.moving) same (c.in_ok-moving.ensures.begins moves.1)) in
     let y = record x { rounds = suc x.rounds; lasting = None } in
     let now = subst (λ n. StandsFor join s n id x) (sym c.in_ok-begun.ensures.unchanged) is in
