@@ -43,9 +43,9 @@ pub(crate) enum Line<'a> {
     Last,
 }
 
-const KINDS: [&str; 12] = [
+const KINDS: [&str; 15] = [
     "get", "row", "range", "rows", "store", "stored", "behind", "nothere", "blockget", "block",
-    "noblock", "view",
+    "noblock", "walk", "same", "differ", "view",
 ];
 
 const EVENTS: [&str; 26] = [

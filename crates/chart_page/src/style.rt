@@ -33,7 +33,7 @@ path.b{stroke:#333;stroke-width:4}
 path.open{stroke-dasharray:3 2;stroke:#777}
 path.broken{stroke:#d55e00}
 path.m{stroke:#0072b2;stroke-width:1.3;marker-end:url(#head)}
-path.k-row,path.k-rows,path.k-block{stroke:#0072b2;stroke-dasharray:9 2}
+path.k-row,path.k-rows,path.k-block,path.k-same,path.k-differ{stroke:#0072b2;stroke-dasharray:9 2}
 path.k-store{stroke:#d55e00;stroke-width:1.8}
 path.k-stored{stroke:#d55e00;stroke-dasharray:9 2}
 path.k-behind,path.k-nothere,path.k-noblock{stroke:#cc79a7}
@@ -54,7 +54,7 @@ path.s2{fill:#f0e442;fill-opacity:.8}
 /// From the drawing's end to the lines of the nodes.
 pub(crate) const LEGEND: &str = "<details><summary>What lines and colours mean</summary>
 <svg width=\"1010\" height=\"122\">
-<path class=\"m k-get\" d=\"M8,12L70,12\"/><text x=\"78\" y=\"16\">a read is asked for</text>
+<path class=\"m k-get\" d=\"M8,12L70,12\"/><text x=\"78\" y=\"16\">a question: of a read, or of a walk</text>
 <path class=\"m k-row\" d=\"M8,30L70,30\"/><text x=\"78\" y=\"34\">its answer</text>
 <path class=\"m k-store\" d=\"M8,48L70,48\"/><text x=\"78\" y=\"52\">rows to be stored</text>
 <path class=\"m k-stored\" d=\"M8,66L70,66\"/><text x=\"78\" y=\"70\">stored</text>

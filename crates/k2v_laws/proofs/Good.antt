@@ -8,6 +8,7 @@ use Rattle.crdt_core.specs.EntryLaws.{and_parts}
 use Rattle.crdt_core.specs.Lex.{by_order, larger}
 use Rattle.crdt_core.specs.Order.{option_join}
 use Rattle.table_schema.specs.Laws.{Same}
+use Rattle.cluster_machine.specs.Hashes.{NoClash}
 use Rattle.cluster_machine.specs.World.{numbered}
 use Rattle.k2v_rows.specs.declared.value.K2vValue.{K2vValue}
 use Rattle.k2v_rows.specs.declared.k2v_row.K2vRow.{K2vRow}
@@ -74,14 +75,14 @@ Knows row node q = Shows (Some row) node q ⊎ (q ≤ discard_at row node)
 
 -- ---- rows
 
--- what a row of the item says of writes, the first b requests: each value was written so; its discard times are those of writes; with a write of a node it knows of each earlier one that goes on or was acknowledged; and what it discards was replaced
-pub record IsGood (requests : List ItemRequest) (key : ItemKey) (b : ℕ) (row : K2vRow) : Type 0 where
+-- what a row of the item says of writes, the first b requests: each value was written so; its discard times are those of writes; and where no two of these strings have one digest, with a write of a node it knows of each earlier one that goes on or was acknowledged, and what it discards was replaced
+pub record IsGood (H : List ℕ → Type 0) (requests : List ItemRequest) (key : ItemKey) (b : ℕ) (row : K2vRow) : Type 0 where
   pub proper : IsTrue (words.is_proper row)
   pub key_is : item_key row ≡ key
   pub values : (m t : ℕ) (v : K2vValue) → value_of row m t ≡ Some v → (h : HasWritten requests key m t) × (h.write.value ≡ v) × (t ≤ b)
   pub discards : (m : ℕ) → (discard_at row m ≡ 0) ⊎ (HasWritten requests key m (discard_at row m) × (discard_at row m ≤ b))
-  pub whole : (m t q : ℕ) (v : K2vValue) → value_of row m t ≡ Some v → q < t → (w : IsWrite requests q key m) → IsLive w → Knows row m q
-  pub covered : (m q : ℕ) → q ≤ discard_at row m → (w : IsWrite requests q key m) → IsLive w → IsReplaced requests key m q b
+  pub whole : NoClash H → (m t q : ℕ) (v : K2vValue) → value_of row m t ≡ Some v → q < t → (w : IsWrite requests q key m) → IsLive w → Knows row m q
+  pub covered : NoClash H → (m q : ℕ) → q ≤ discard_at row m → (w : IsWrite requests q key m) → IsLive w → IsReplaced requests key m q b
 
 -- no request has number 0
 pub none_at_zero : (requests : List ItemRequest) (key : ItemKey) (m : ℕ) → IsWrite requests 0 key m → {A : Type 0} → A
@@ -136,7 +137,7 @@ module _ (a b : K2vRow) (e : item_key a ≡ item_key b) where
   knows_right m q (inl h) = joined_knows m q (joined_right (value_of a m q) (value_of b m q) h.0 h.1)
   knows_right m q (inr le) = discards_more m q (omega (arith, le))
 
-module _ (requests : List ItemRequest) (key : ItemKey) (bound : ℕ) (a b : K2vRow) (e : item_key a ≡ item_key b) (x : IsGood requests key bound a) (y : IsGood requests key bound b) where
+module _ {H : List ℕ → Type 0} (requests : List ItemRequest) (key : ItemKey) (bound : ℕ) (a b : K2vRow) (e : item_key a ≡ item_key b) (x : IsGood H requests key bound a) (y : IsGood H requests key bound b) where
   -- a value of the join is a value of one of both
   value_from : (m t : ℕ) (v : K2vValue) → value_of (row_join a b) m t ≡ Some v → (value_of a m t ≡ Some v) ⊎ (value_of b m t ≡ Some v)
   value_from m t v h =
@@ -154,7 +155,7 @@ module _ (requests : List ItemRequest) (key : ItemKey) (bound : ℕ) (a b : K2vR
   abbrev IsTime : ℕ → ℕ → Type 0
   IsTime m d = (d ≡ 0) ⊎ (HasWritten requests key m d × (d ≤ bound))
 
-  pub joined_good : Same words a b → IsGood requests key bound (row_join a b)
+  pub joined_good : Same words a b → IsGood H requests key bound (row_join a b)
   joined_good same = record {
     proper = schema_laws.joined_is_proper a b same;
     key_is = joined_key a b e ∙ x.key_is;
@@ -166,27 +167,27 @@ module _ (requests : List ItemRequest) (key : ItemKey) (bound : ℕ) (a b : K2vR
       | inl is ↦ subst (IsTime m) (sym is) (x.discards m)
       | inr is ↦ subst (IsTime m) (sym is) (y.discards m)
     ];
-    whole = λ m t q v h lt w live. elim (value_from m t v h) [
-      | inl one ↦ knows_left a b e m q (x.whole m t q v one lt w live)
-      | inr other ↦ knows_right a b e m q (y.whole m t q v other lt w live)
+    whole = λ clear m t q v h lt w live. elim (value_from m t v h) [
+      | inl one ↦ knows_left a b e m q (x.whole clear m t q v one lt w live)
+      | inr other ↦ knows_right a b e m q (y.whole clear m t q v other lt w live)
     ];
-    covered = λ m q le w live. elim (discard_from m) [
-      | inl is ↦ x.covered m q (subst (λ k. q ≤ k) is le) w live
-      | inr is ↦ y.covered m q (subst (λ k. q ≤ k) is le) w live
+    covered = λ clear m q le w live. elim (discard_from m) [
+      | inl is ↦ x.covered clear m q (subst (λ k. q ≤ k) is le) w live
+      | inr is ↦ y.covered clear m q (subst (λ k. q ≤ k) is le) w live
     ];
   }
 
 -- ---- writes
 
 -- what a token has seen: nothing, or a row that a finished read of the item gave
-pub data IsToken (requests : List ItemRequest) (key : ItemKey) (token b : ℕ) : TimeMap → Type 0 where
-  nothing : (times : TimeMap) → ((m : ℕ) → time_at times m ≡ 0) → IsToken requests key token b times
-  of_row : (row : K2vRow) (then : ℕ) → HasRead requests token key (Some row) then → IsGood requests key b row → IsToken requests key token b (token_in row)
+pub data IsToken (H : List ℕ → Type 0) (requests : List ItemRequest) (key : ItemKey) (token b : ℕ) : TimeMap → Type 0 where
+  nothing : (times : TimeMap) → ((m : ℕ) → time_at times m ≡ 0) → IsToken H requests key token b times
+  of_row : (row : K2vRow) (then : ℕ) → HasRead requests token key (Some row) then → IsGood H requests key b row → IsToken H requests key token b (token_in row)
 
-module _ (requests : List ItemRequest) (key : ItemKey) (b : ℕ) (base : K2vRow) (n q : ℕ) (value : K2vValue) (times : TimeMap)
-    (good : IsGood requests key b base) (mine : IsWrite requests q key n) (value_is : mine.value ≡ value) (is_storing : HasStored mine) (low : q ≤ b)
-    (seen : IsToken requests key mine.token b times) (can : can_put base n q times ≡ true)
-    (earlier : (p : ℕ) → p < q → (w : IsWrite requests p key n) → IsLive w → Knows base n p) where
+module _ {H : List ℕ → Type 0} (requests : List ItemRequest) (key : ItemKey) (b : ℕ) (base : K2vRow) (n q : ℕ) (value : K2vValue) (times : TimeMap)
+    (good : IsGood H requests key b base) (mine : IsWrite requests q key n) (value_is : mine.value ≡ value) (is_storing : HasStored mine) (low : q ≤ b)
+    (seen : IsToken H requests key mine.token b times) (can : can_put base n q times ≡ true)
+    (earlier : NoClash H → (p : ℕ) → p < q → (w : IsWrite requests p key n) → IsLive w → Knows base n p) where
   abbrev new : K2vRow
   new = after_put base n q value times
 
@@ -238,11 +239,11 @@ module _ (requests : List ItemRequest) (key : ItemKey) (b : ℕ) (base : K2vRow)
   abbrev IsTimeHere : ℕ → ℕ → Type 0
   IsTimeHere m d = (d ≡ 0) ⊎ (HasWritten requests key m d × (d ≤ b))
 
-  time_of : (row : K2vRow) → IsGood requests key b row → (m t : ℕ) → IsTimeOf row m t → IsTimeHere m t
+  time_of : (row : K2vRow) → IsGood H requests key b row → (m t : ℕ) → IsTimeOf row m t → IsTimeHere m t
   time_of row g m t (inl is) = subst (IsTimeHere m) (sym is) (g.discards m)
   time_of row g m t (inr h) = let w = g.values m t h.0 h.1 in inr (w.0, w.2)
 
-  time_here : (times : TimeMap) → IsToken requests key mine.token b times → (m : ℕ) → IsTimeHere m (time_at times m)
+  time_here : (times : TimeMap) → IsToken H requests key mine.token b times → (m : ℕ) → IsTimeHere m (time_at times m)
   time_here times (IsToken.nothing other none) m = inl (none m)
   time_here times (IsToken.of_row row then read g) m = time_of row g m (time_at (token_in row) m) (token_time row m)
 
@@ -250,23 +251,23 @@ module _ (requests : List ItemRequest) (key : ItemKey) (b : ℕ) (base : K2vRow)
   replaces : (row : K2vRow) (then : ℕ) → HasRead requests mine.token key (Some row) then → (m p : ℕ) → Shows (Some row) m p → IsReplaced requests key m p b
   replaces row then read m p h = record { by = q; at = n; write = mine; in_time = low; given = Some row; then = then; was_read = read; shows = h }
 
-  covered_in : (row : K2vRow) (then : ℕ) → HasRead requests mine.token key (Some row) then → IsGood requests key b row → (m p t : ℕ) → p ≤ t → IsTimeOf row m t → (w : IsWrite requests p key m) → IsLive w → IsReplaced requests key m p b
-  covered_in row then read g m p t le (inl is) w live = g.covered m p (subst (λ k. p ≤ k) is le) w live
-  covered_in row then read g m p t le (inr h) w live =
+  covered_in : NoClash H → (row : K2vRow) (then : ℕ) → HasRead requests mine.token key (Some row) then → IsGood H requests key b row → (m p t : ℕ) → p ≤ t → IsTimeOf row m t → (w : IsWrite requests p key m) → IsLive w → IsReplaced requests key m p b
+  covered_in clear row then read g m p t le (inl is) w live = g.covered clear m p (subst (λ k. p ≤ k) is le) w live
+  covered_in clear row then read g m p t le (inr h) w live =
       elim (nat_le t p) as (λ c. nat_le t p ≡ c → IsReplaced requests key m p b) [
         | true ↦ λ e. let back = leb-true t p e in let same : p ≡ t = omega (arith, le, back) in replaces row then read m p (h.0, ap (value_of row m) same ∙ h.1)
-        | false ↦ λ e. let lt = leb-false t p e in elim (g.whole m t p h.0 h.1 (omega (arith, lt)) w live) [
+        | false ↦ λ e. let lt = leb-false t p e in elim (g.whole clear m t p h.0 h.1 (omega (arith, lt)) w live) [
           | inl known ↦ replaces row then read m p known
-          | inr past ↦ g.covered m p past w live
+          | inr past ↦ g.covered clear m p past w live
         ]
       ] refl
 
-  covered_here : (times : TimeMap) → IsToken requests key mine.token b times → (m p : ℕ) → p ≤ time_at times m → (w : IsWrite requests p key m) → IsLive w → IsReplaced requests key m p b
-  covered_here times (IsToken.nothing other none) m p le w live =
+  covered_here : NoClash H → (times : TimeMap) → IsToken H requests key mine.token b times → (m p : ℕ) → p ≤ time_at times m → (w : IsWrite requests p key m) → IsLive w → IsReplaced requests key m p b
+  covered_here clear times (IsToken.nothing other none) m p le w live =
       let zero_is = none m in
       let is : p ≡ 0 = omega (arith, le, zero_is) in
       none_at_zero requests key m (subst (λ (k : ℕ). IsWrite requests k key m) is w)
-  covered_here times (IsToken.of_row row then read g) m p le w live = covered_in row then read g m p (time_at (token_in row) m) le (token_time row m) w live
+  covered_here clear times (IsToken.of_row row then read g) m p le w live = covered_in clear row then read g m p (time_at (token_in row) m) le (token_time row m) w live
 
   -- this write
   mine_at : (m t : ℕ) → m ≡ n → t ≡ q → HasWritten requests key m t
@@ -275,7 +276,7 @@ module _ (requests : List ItemRequest) (key : ItemKey) (b : ℕ) (base : K2vRow)
     has_stored = is_storing;
   }
 
-  pub put_good : IsGood requests key b new
+  pub put_good : IsGood H requests key b new
   unfolding mine_at
   put_good = record {
     proper = good.proper;
@@ -288,15 +289,15 @@ module _ (requests : List ItemRequest) (key : ItemKey) (b : ℕ) (base : K2vRow)
       | inl is ↦ subst (IsTimeHere m) (sym (discard_is m ∙ is)) (good.discards m)
       | inr is ↦ subst (IsTimeHere m) (sym (discard_is m ∙ is)) (time_here times seen m)
     ];
-    whole = λ m t p v h lt w live. knows_still m p (elim (value_cases m t v h) [
+    whole = λ clear m t p v h lt w live. knows_still m p (elim (value_cases m t v h) [
       | inl is ↦
           let here : IsWrite requests p key n = subst (IsWrite requests p key) is.0 w in
           let same : here.one ≡ w.one = one_entry requests p here.one w.one here.is_there w.is_there in
-          subst (λ k. Knows base k p) (sym is.0) (earlier p (let e = is.1 in omega (arith, lt, e)) here (λ e. live (ap (λ (a : ItemRequest). a.stage) (sym same) ∙ e)))
-      | inr old ↦ good.whole m t p v old lt w live
+          subst (λ k. Knows base k p) (sym is.0) (earlier clear p (let e = is.1 in omega (arith, lt, e)) here (λ e. live (ap (λ (a : ItemRequest). a.stage) (sym same) ∙ e)))
+      | inr old ↦ good.whole clear m t p v old lt w live
     ]);
-    covered = λ m p le w live. elim (max_is (discard_at base m) (time_at times m)) [
-      | inl is ↦ good.covered m p (subst (λ k. p ≤ k) (discard_is m ∙ is) le) w live
-      | inr is ↦ covered_here times seen m p (subst (λ k. p ≤ k) (discard_is m ∙ is) le) w live
+    covered = λ clear m p le w live. elim (max_is (discard_at base m) (time_at times m)) [
+      | inl is ↦ good.covered clear m p (subst (λ k. p ≤ k) (discard_is m ∙ is) le) w live
+      | inr is ↦ covered_here clear times seen m p (subst (λ k. p ≤ k) (discard_is m ∙ is) le) w live
     ];
   }

@@ -132,7 +132,7 @@ module _ (old new : List ItemRequest) (grows : Grows old new) where
       )
 
   -- a good row stays good
-  pub good_later : (key : ItemKey) (b c : ℕ) (row : K2vRow) → b ≤ length old → b ≤ c → IsGood old key b row → IsGood new key c row
+  pub good_later : {H : List ℕ → Type 0} (key : ItemKey) (b c : ℕ) (row : K2vRow) → b ≤ length old → b ≤ c → IsGood H old key b row → IsGood H new key c row
   unfolding written_later
   good_later key b c row low le g = record {
     proper = g.proper;
@@ -142,16 +142,16 @@ module _ (old new : List ItemRequest) (grows : Grows old new) where
       | inl is ↦ inl is
       | inr h ↦ inr (written_later key m _ h.0, (let under = h.1 in omega (arith, le, under)))
     ];
-    whole = λ m t q v h lt w live.
+    whole = λ clear m t q v h lt w live.
         let under = (g.values m t v h).2 in
         let was = live_before key m q (omega (arith, low, under, lt)) w live in
-        g.whole m t q v h lt was.0 was.1;
-    covered = λ m q under w live. elim (g.discards m) [
+        g.whole clear m t q v h lt was.0 was.1;
+    covered = λ clear m q under w live. elim (g.discards m) [
       | inl is ↦ none_at_zero new key m (subst (λ (k : ℕ). IsWrite new k key m) (omega (arith, is, under)) w)
       | inr h ↦
           let d = h.1 in
           let was = live_before key m q (omega (arith, low, under, d)) w live in
-          replaced_later key m q b c le (g.covered m q under was.0 was.1)
+          replaced_later key m q b c le (g.covered clear m q under was.0 was.1)
     ];
   }
 

@@ -44,30 +44,30 @@ module _ (old new : List ItemRequest) (grows : Grows old new) where
       let both : stored was.1 ≡ stored row = sym (still_stored was.1 was.0.stage l.one.stage was.3 l.stage) ∙ (ap (λ (o : ItemRequest). o.stage) same ∙ stage) in
       (was.0, was.2, was.3 ∙ both, sym (ap (λ (o : ItemRequest). o.order) same) ∙ l.order_is)
 
-  pub row_later : (q : ℕ) (a : ItemRequest) (row : K2vRow) → ((v : K2vValue) (token : ℕ) → a.order.ask ≡ Write v token → IsTokenOf old (key_of a.order.item) q token) → IsRowOf old q a row → IsRowOf new q a row
+  pub row_later : {H : List ℕ → Type 0} (q : ℕ) (a : ItemRequest) (row : K2vRow) → ((v : K2vValue) (token : ℕ) → a.order.ask ≡ Write v token → IsTokenOf old (key_of a.order.item) q token) → IsRowOf H old q a row → IsRowOf H new q a row
   row_later q a row tokens h = record {
     good = good_later old new grows (key_of a.order.item) (length old) (length new) row (omega arith) grows.longer h.good;
     shows = h.shows;
     replaces = λ v token asks m. subst (λ (t : TimeMap). time_at t m ≤ discard_at row m) (token_same (key_of a.order.item) q token (tokens v token asks)) (h.replaces v token asks m);
   }
 
-  pub given_later : (a : ItemRequest) (given : Option K2vRow) (begun : ℕ) → HasBefore old a → IsGiven old a given begun → IsGiven new a given begun
+  pub given_later : {H : List ℕ → Type 0} (a : ItemRequest) (given : Option K2vRow) (begun : ℕ) → HasBefore old a → IsGiven H old a given begun → IsGiven H new a given begun
   given_later a given begun before h = record {
     reads = h.reads;
     low = (let l = h.low in let more = grows.longer in omega (arith, l, more));
     good = λ row e. good_later old new grows (key_of a.order.item) begun begun row h.low (omega arith) (h.good row e);
-    covers = λ p c row is at stage key.
+    covers = λ clear p c row is at stage key.
         let was = stored_before a before p c row is at stage in
-        h.covers p was.0 row is was.1 was.2 (ap (λ (o : Order). key_of o.item) (sym was.3) ∙ key);
+        h.covers clear p was.0 row is was.1 was.2 (ap (λ (o : Order). key_of o.item) (sym was.3) ∙ key);
   }
 
-  pub entry_later : (kept more : List K2vRow) → ((r : K2vRow) → Contains kept r → Contains more r) → (q : ℕ) (a : ItemRequest) → IsEntry old kept q a → IsEntry new more q a
-  entry_later kept more there q a h = record {
+  pub entry_later : {H : List ℕ → Type 0} (kept more : List K2vRow) → ((r : K2vRow) → Contains kept r → Contains more r) → (q : ℕ) (a : ItemRequest) → IsEntry H old kept q a → IsEntry H new more q a
+  entry_later {H = H} kept more there q a h = record {
     before = before_later a h.before;
     token = λ v token asks. token_later (key_of a.order.item) q token (h.token v token asks);
     stage = by_stage a.stage h.stage;
   } where
-    by_stage : (stage : Stage) → IsStage old kept q a stage → IsStage new more q a stage
+    by_stage : (stage : Stage) → IsStage H old kept q a stage → IsStage H new more q a stage
     by_stage reading k = tt
     by_stage (storing row) k = row_later q a row h.token k
     by_stage (stored row) k = (row_later q a row h.token k.0, there row k.1)
@@ -87,7 +87,7 @@ module _ (old new : List ItemRequest) (grows : Grows old new) where
   never_open stage other closed is opened_now = let no : false ≡ true = sym closed ∙ (ap is_open is ∙ opened_now) in cc
 
   -- a phase fits, where its request is closed or what it was
-  pub fits_later : (kept : List K2vRow) → AreEntries old kept → (q : ℕ) → ((c : ItemRequest) → numbered new q ≡ Some c → (is_open c.stage ≡ false) ⊎ (numbered old q ≡ Some c)) → (p : Present K2vRow) → Fits old q p → Fits new q p
+  pub fits_later : {H : List ℕ → Type 0} (kept : List K2vRow) → AreEntries H old kept → (q : ℕ) → ((c : ItemRequest) → numbered new q ≡ Some c → (is_open c.stage ≡ false) ⊎ (numbered old q ≡ Some c)) → (p : Present K2vRow) → Fits old q p → Fits new q p
   fits_later kept entries q same resting h = tt
   fits_later kept entries q same (asking question answers) h = λ c at is. elim (same c at) [
     | inl closed ↦ never_open c.stage reading closed is refl

@@ -17,7 +17,7 @@ use Rattle.cluster_machine.specs.Node.{Present, resting, asking, scanning, stori
 use Rattle.cluster_machine.specs.Phases.{opened as node_opened}
 use Rattle.cluster_machine.specs.World.{Request, is_member_at, numbered}
 use Rattle.cluster_machine.specs.Step.{only, changed}
-use Rattle.cluster_machine.specs.Worlds.{newest_at, FitAll, IsLawfulRun, next}
+use Rattle.cluster_machine.specs.Worlds.{newest_at, IsLawfulRun, next}
 use Rattle.machine_origins.specs.Following.{Began}
 use Rattle.k2v_rows.specs.declared.value.K2vValue.{K2vValue}
 use Rattle.k2v_rows.specs.declared.k2v_row.K2vRow.{K2vRow}
@@ -34,6 +34,7 @@ use Rattle.k2v_laws.proofs.Acting.{phase_sound}
 use Rattle.k2v_laws.proofs.Every.{EveryWorld, reached_step, reached_later}
 use Rattle.k2v_laws.proofs.Good.{one_entry, write_token, never_write}
 use Rattle.k2v_laws.proofs.Grown.{Grows, grows_push}
+use Rattle.k2v_laws.proofs.Hashing.{HashesIn, FitIn}
 use Rattle.k2v_laws.proofs.Later.{entry_later, fits_later}
 use Rattle.machine_origins.proofs.Places.{length_push, numbered_append, numbered_push_cases, numbered_last, numbered_within}
 use Rattle.k2v_laws.proofs.Placing.{asks_is_step}
@@ -109,7 +110,7 @@ found test (Some a) e = (a, refl, e)
 abbrev pub MayBegin : State → ℕ → Order → Type 0
 MayBegin s n order = (v : K2vValue) (token : ℕ) → order.ask ≡ Write v token → (is_token s.requests (key_of order.item) token ≡ true) × (busy_from 1 s.requests n (key_of order.item) ≡ None)
 
-module _ (every : EveryWorld) (s : State) (n : ℕ) (order : Order) (may : MayBegin s n order) (member : is_member_at layouts s.world n ≡ true) (sound : IsSound s) where
+module _ {H : List ℕ → Type 0} (every : EveryWorld) (s : State) (n : ℕ) (order : Order) (may : MayBegin s n order) (member : is_member_at layouts s.world n ≡ true) (sound : IsSound H s) where
   abbrev q : ℕ
   q = suc (length s.world.requests)
 
@@ -141,7 +142,7 @@ module _ (every : EveryWorld) (s : State) (n : ℕ) (order : Order) (may : MayBe
       let f = found (λ b. is_shown b.stage && is_same_key (key_of b.order.item) (key_of order.item)) (numbered s.requests token) e in
       let both = and_parts (is_shown f.0.stage) (is_same_key (key_of f.0.order.item) (key_of order.item)) f.2 in
       let st = was_shown f.0.stage both.0 in
-      let own : IsGiven s.requests f.0 st.0 st.1 = subst (IsStage s.requests s.world.kept token f.0) st.2 (sound.entries token f.0 f.1).stage in
+      let own : IsGiven H s.requests f.0 st.0 st.1 = subst (IsStage H s.requests s.world.kept token f.0) st.2 (sound.entries token f.0 f.1).stage in
       let low = own.low in
       let lengths = sound.lengths in
       inr (st.0, st.1, record { one = f.0; is_there = numbered_append s.requests (a ∷ []) token f.0 f.1; key_is = same_key (key_of f.0.order.item) (key_of order.item) both.1; stage_is = st.2 }, omega (arith, low, lengths))
@@ -153,7 +154,7 @@ module _ (every : EveryWorld) (s : State) (n : ℕ) (order : Order) (may : MayBe
         | false ↦ λ t g. token_found token g
       ] refl e
 
-  new_entry : (kept : List K2vRow) → IsEntry requests kept q a
+  new_entry : (kept : List K2vRow) → IsEntry H requests kept q a
   new_entry kept = record { before = new_before; token = λ v token asks. token_is token (may v token asks).0; stage = tt }
 
   blocked : (key : ItemKey) (p : ℕ) (v : IsWrite s.requests p key n) → (value : K2vValue) (token : ℕ) → order.ask ≡ Write value token → key_of order.item ≡ key → is_open v.one.stage ≡ true → ⊥
@@ -202,8 +203,8 @@ module _ (every : EveryWorld) (s : State) (n : ℕ) (order : Order) (may : MayBe
         fits = fits_later s.requests requests grows s.world.kept sound.entries c.request (λ b at. elim (cases c.request b at) [ inl old ↦ inr old | inr e ↦ (let is = e.0 in absurd (omega (arith, is, within))) ]) c.present was.fits;
       }
 
-  pub with_request_sound : IsLawfulRun row_join words s.world (plainly (Open n) ∷ []) → IsSound (with_request s n order)
-  with_request_sound lawful =
+  pub with_request_sound : IsLawfulRun row_join words s.world (plainly (Open n) ∷ []) → HashesIn H s.world (plainly (Open n)) → IsSound H (with_request s n order)
+  with_request_sound lawful hashes =
       let new : Request = record { coordinator = n; is_open = true } in
       let y : Node K2vRow Layout = node_opened q (newest_at s.world n) (s.world.nodes n) in
       let w : World = next row_join words s.world (plainly (Open n)) in
@@ -216,7 +217,7 @@ module _ (every : EveryWorld) (s : State) (n : ℕ) (order : Order) (may : MayBe
       ]) in
       let lengths : length requests ≡ length w.requests = length_push s.requests a ∙ (ap suc sound.lengths ∙ sym (ap (λ (rs : List Request). length rs) requests_are ∙ length_push s.world.requests new)) in
       record {
-        reached = reached_later s.requests requests w grows (reached_step s.requests s.world (plainly (Open n)) sound.reached lawful (All-nil _));
+        reached = reached_later s.requests requests w grows (reached_step s.requests s.world (plainly (Open n)) sound.reached lawful hashes (All-nil _));
         lengths = lengths;
         presents = subst (λ (f : ℕ → Node K2vRow Layout). (m : ℕ) → ArePresent requests m (f m).calls) (sym nodes_are)
             (λ m. elim (m == n) as (λ b. (m == n) ≡ b → ArePresent requests m (unwrap_or (cond b (Some y) None) (s.world.nodes m)).calls) [
@@ -224,13 +225,13 @@ module _ (every : EveryWorld) (s : State) (n : ℕ) (order : Order) (may : MayBe
               | false ↦ (λ f. old_present m)
             ] refl);
         entries = λ p b at. elim (cases p b at) [
-          | inl old ↦ subst (λ (k : List K2vRow). IsEntry requests k p b) (sym kept_is) (entry_later s.requests requests grows s.world.kept s.world.kept (λ r c. c) p b (sound.entries p b old))
-          | inr e ↦ subst (λ (o : ItemRequest). IsEntry requests w.kept p o) e.1 (subst (λ (k : ℕ). IsEntry requests w.kept k a) (sym (e.0 ∙ q_is)) (new_entry w.kept))
+          | inl old ↦ subst (λ (k : List K2vRow). IsEntry H requests k p b) (sym kept_is) (entry_later s.requests requests grows s.world.kept s.world.kept (λ r c. c) p b (sound.entries p b old))
+          | inr e ↦ subst (λ (o : ItemRequest). IsEntry H requests w.kept p o) e.1 (subst (λ (k : ℕ). IsEntry H requests w.kept k a) (sym (e.0 ∙ q_is)) (new_entry w.kept))
         ];
         passed = new_passed;
       }
 
-  fits_asked : IsSound (with_request s n order) → (m : ℕ) (p : Present K2vRow) → BeganAt requests m q → Began (with_request s n order).world.kept (asks_for order.item) p → Fits requests q p
+  fits_asked : IsSound H (with_request s n order) → (m : ℕ) (p : Present K2vRow) → BeganAt requests m q → Began (with_request s n order).world.kept (asks_for order.item) p → Fits requests q p
   fits_asked sound m resting began b = tt
   fits_asked sound m (asking question answers) began b = λ c at is.
       let same : a ≡ c = one_entry requests q a c there at in
@@ -238,24 +239,24 @@ module _ (every : EveryWorld) (s : State) (n : ℕ) (order : Order) (may : MayBe
         table = b.1;
         key = b.3 ∙ ap (λ (o : ItemRequest). row_key (empty_row o.order.item)) same;
         has = λ p d row before at_p stage_is.
-            let own : IsStage requests (with_request s n order).world.kept p d (stored row) = subst (IsStage requests (with_request s n order).world.kept p d) stage_is (sound.entries p d at_p).stage in
+            let own : IsStage H requests (with_request s n order).world.kept p d (stored row) = subst (IsStage H requests (with_request s n order).world.kept p d) stage_is (sound.entries p d at_p).stage in
             subst (λ (k : List K2vRow). Contains k row) (sym b.4) own.1;
       }
   fits_asked sound m (scanning scan answers) began b = tt
   fits_asked sound m (keeping rows slots) began b = absurd b
   fits_asked sound m (fetching hash) began b = tt
 
-  pub begins_reading_sound : FitAll row_join words s.world (begins_reading s n order).moves → IsSound (begins_reading s n order).state
+  pub begins_reading_sound : FitIn H s.world (begins_reading s n order).moves → IsSound H (begins_reading s n order).state
   begins_reading_sound fits =
       let here : State = with_request s n order in
-      let is_here : IsSound here = with_request_sound (tt, tt, tt, fits.0.1, tt) in
-      phase_sound every here q (asks_for order.item) (fits_asked is_here) (tt, asks_is_step q order.item, tt, fits.1.0.1, tt) (All-nil _) is_here
+      let is_here : IsSound H here = with_request_sound (tt, tt, tt, fits.0.1, tt) fits.0.2 in
+      phase_sound every here q (asks_for order.item) (fits_asked is_here) (tt, asks_is_step q order.item, tt, fits.1.0.1, tt) fits.1.0.2 (All-nil _) is_here
 
 -- ---- what is refused changes nothing
 
-module _ (every : EveryWorld) (s : State) (n : ℕ) (order : Order) (sound : IsSound s) where
+module _ {H : List ℕ → Type 0} (every : EveryWorld) (s : State) (n : ℕ) (order : Order) (sound : IsSound H s) where
   abbrev Keeps : Outcome → Type 0
-  Keeps o = FitAll row_join words s.world o.moves → IsSound o.state
+  Keeps o = FitIn H s.world o.moves → IsSound H o.state
 
   keeps_if : (b : Bool) (o p : Outcome) → (b ≡ true → Keeps o) → (b ≡ false → Keeps p) → Keeps (if b then o else p)
   keeps_if true o p h k = h refl

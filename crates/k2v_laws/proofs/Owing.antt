@@ -1,8 +1,9 @@
 -- What reads owe, in a sound state.
-use Rattle.std.specs.Prelude.{◌≡◌, ◌≤◌, ℕ, max, true, false, Option, Some, None, refl}
+use Rattle.std.specs.Prelude.{◌≡◌, ◌≤◌, ℕ, max, true, false, Option, Some, None, List, refl}
 use Rattle.std.proofs.Common.{ap, sym, subst, ◌∙◌, inl, inr, arith}
 use Rattle.crdt_core.specs.Map.{map_get}
 use Rattle.crdt_core.specs.Order.{AtMost}
+use Rattle.cluster_machine.specs.Hashes.{NoClash}
 use Rattle.cluster_machine.specs.Node.{read}
 use Rattle.cluster_machine.specs.World.{numbered}
 use Rattle.machine_origins.specs.Origins.{Gave}
@@ -24,36 +25,36 @@ use Rattle.k2v_laws.proofs.Tokens.{shown_before}
 stored_live : (stage : Stage) → is_stored stage ≡ true → stage ≡ over → ⊥
 stored_live stage is e = let no : true ≡ false = sym is ∙ ap is_stored e in cc
 
-pub are_whole : (every : EveryWorld) (s : State) → IsSound s → AreWhole s
-are_whole every s sound question row there =
-    let g : Gave words (IsGoodRow s.requests) (read question (Some row)) = reached_good every s.requests s.world sound.reached (read question (Some row)) there in
-    λ node later q shows lt w was. g.0.whole node later q shows.0 shows.1 lt w (stored_live w.one.stage was)
+pub are_whole : {H : List ℕ → Type 0} (every : EveryWorld) (s : State) → IsSound H s → NoClash H → AreWhole s
+are_whole {H = H} every s sound clear question row there =
+    let g : Gave words (IsGoodRow H s.requests) (read question (Some row)) = reached_good every s.requests s.world sound.reached (read question (Some row)) there in
+    λ node later q shows lt w was. g.0.whole clear node later q shows.0 shows.1 lt w (stored_live w.one.stage was)
 
-module _ (s : State) (sound : IsSound s) where
+module _ {H : List ℕ → Type 0} (s : State) (sound : IsSound H s) where
   -- what a finished read gave
-  given_of : (r : ℕ) (key : ItemKey) (given : Option K2vRow) (begun : ℕ) (one : HasRead s.requests r key given begun) → IsGiven s.requests one.one given begun
-  given_of r key given begun one = subst (IsStage s.requests s.world.kept r one.one) one.stage_is (sound.entries r one.one one.is_there).stage
+  given_of : (r : ℕ) (key : ItemKey) (given : Option K2vRow) (begun : ℕ) (one : HasRead s.requests r key given begun) → IsGiven H s.requests one.one given begun
+  given_of r key given begun one = subst (IsStage H s.requests s.world.kept r one.one) one.stage_is (sound.entries r one.one one.is_there).stage
 
-  given_good : (r : ℕ) (key : ItemKey) (given : Option K2vRow) (begun : ℕ) (one : HasRead s.requests r key given begun) (row : K2vRow) → given ≡ Some row → IsGood s.requests key begun row
-  given_good r key given begun one row e = subst (λ k. IsGood s.requests k begun row) one.key_is ((given_of r key given begun one).good row e)
+  given_good : (r : ℕ) (key : ItemKey) (given : Option K2vRow) (begun : ℕ) (one : HasRead s.requests r key given begun) (row : K2vRow) → given ≡ Some row → IsGood H s.requests key begun row
+  given_good r key given begun one row e = subst (λ k. IsGood H s.requests k begun row) one.key_is ((given_of r key given begun one).good row e)
 
   -- a write that was acknowledged before a read began: its row is at most what the read gave
   pub record IsUnder (r : ℕ) (key : ItemKey) (given : Option K2vRow) (begun : ℕ) (q node : ℕ) (w : IsWrite s.requests q key node) : Type 0 where
     pub row : K2vRow
     pub stage_is : w.one.stage ≡ stored row
-    pub own : IsRowOf s.requests q w.one row
+    pub own : IsRowOf H s.requests q w.one row
     pub given_row : K2vRow
     pub given_is : given ≡ Some given_row
     pub under : AtMost row_join row given_row
     pub keys : item_key given_row ≡ item_key row
 
-  is_under : (r : ℕ) (key : ItemKey) (given : Option K2vRow) (begun : ℕ) (one : HasRead s.requests r key given begun) (q node : ℕ) (w : IsWrite s.requests q key node) → one.one.before q ≡ true → IsUnder r key given begun q node w
-  is_under r key given begun one q node w before =
+  is_under : NoClash H → (r : ℕ) (key : ItemKey) (given : Option K2vRow) (begun : ℕ) (one : HasRead s.requests r key given begun) (q node : ℕ) (w : IsWrite s.requests q key node) → one.one.before q ≡ true → IsUnder r key given begun q node w
+  is_under clear r key given begun one q node w before =
       let was = (sound.entries r one.one one.is_there).before q before in
       let same : was.0 ≡ w.one = one_entry s.requests q was.0 w.one was.2 w.is_there in
       let stage_is : w.one.stage ≡ stored was.1 = sym (ap (λ (o : ItemRequest). o.stage) same) ∙ was.3 in
-      let own : IsStage s.requests s.world.kept q w.one (stored was.1) = subst (IsStage s.requests s.world.kept q w.one) stage_is (sound.entries q w.one w.is_there).stage in
-      let over = (given_of r key given begun one).covers q w.one was.1 before w.is_there stage_is (w.key_is ∙ sym one.key_is) in
+      let own : IsStage H s.requests s.world.kept q w.one (stored was.1) = subst (IsStage H s.requests s.world.kept q w.one) stage_is (sound.entries q w.one w.is_there).stage in
+      let over = (given_of r key given begun one).covers clear q w.one was.1 before w.is_there stage_is (w.key_is ∙ sym one.key_is) in
       record {
         row = was.1;
         stage_is = stage_is;
@@ -64,14 +65,14 @@ module _ (s : State) (sound : IsSound s) where
         keys = (given_good r key given begun one over.0 over.1).key_is ∙ sym (own.0.good.key_is ∙ w.key_is);
       }
 
-  pub reads_cover : ReadsCover s
-  reads_cover r key given begun one q node w before =
-      let u = is_under r key given begun one q node w before in
+  pub reads_cover : NoClash H → ReadsCover s
+  reads_cover clear r key given begun one q node w before =
+      let u = is_under clear r key given begun one q node w before in
       let shows : value_of u.row node q ≡ Some w.value = subst (λ n. value_of u.row n q ≡ Some w.value) w.node_is (u.own.shows w.value w.token w.writes) in
       let live : IsLive w = (λ e. (let no : stored u.row ≡ over = sym u.stage_is ∙ e in cc)) in
       elim (subst (λ x. Knows x node q) u.under (knows_right u.given_row u.row u.keys node q (inl (w.value, shows)))) [
         | inl known ↦ inl (subst (λ o. Shows o node q) (sym u.given_is) known)
-        | inr past ↦ inr ((given_good r key given begun one u.given_row u.given_is).covered node q past w live)
+        | inr past ↦ inr ((given_good r key given begun one u.given_row u.given_is).covered clear node q past w live)
       ]
 
   pub reads_show_writes : ReadsShowWrites s
@@ -79,11 +80,11 @@ module _ (s : State) (sound : IsSound s) where
   reads_show_writes r key (Some row) begun one node q value shows =
       let was = (given_good r key (Some row) begun one row refl).values node q value shows in (was.0.write, was.1, was.2)
 
-  pub reads_leave_replaced : ReadsLeaveReplaced s
-  reads_leave_replaced r key given begun one u at w before None then earlier node q shown_then shows = absurd shown_then
-  reads_leave_replaced r key None begun one u at w before (Some seen) then earlier node q shown_then shows = absurd shows
-  reads_leave_replaced r key (Some row) begun one u at w before (Some seen) then earlier node q shown_then shows =
-      let i = is_under r key (Some row) begun one u at w before in
+  pub reads_leave_replaced : NoClash H → ReadsLeaveReplaced s
+  reads_leave_replaced clear r key given begun one u at w before None then earlier node q shown_then shows = absurd shown_then
+  reads_leave_replaced clear r key None begun one u at w before (Some seen) then earlier node q shown_then shows = absurd shows
+  reads_leave_replaced clear r key (Some row) begun one u at w before (Some seen) then earlier node q shown_then shows =
+      let i = is_under clear r key (Some row) begun one u at w before in
       let row_is : i.given_row ≡ row = (let some_is : Some row ≡ Some i.given_row = i.given_is in cc) in
       let token_is : token_at (numbered s.requests w.token) ≡ token_in seen = read_token s.requests key w.token (Some seen) then earlier in
       let low : q ≤ time_at (token_in seen) node = shown_before seen node q shown_then.0 shown_then.1 in

@@ -27,6 +27,7 @@ use Rattle.k2v_laws.proofs.Good.{one_entry}
 use Rattle.k2v_laws.proofs.Grown.{IsAfter, Grows, grows_same, grows_set, entry_before}
 use Rattle.k2v_laws.proofs.Sound.{StoresGood, BeganAt, Asks, Fits, IsPresent, ArePresent, IsStage, IsEntry, Passed, ArePassed, IsSound}
 use Rattle.k2v_laws.proofs.Every.{reached_step, reached_later}
+use Rattle.k2v_laws.proofs.Hashing.{HashesIn}
 use Rattle.k2v_laws.proofs.Later.{before_later, token_later, entry_later, fits_later}
 
 -- ---- a step of the world
@@ -36,13 +37,13 @@ pub record IsFine (s : State) (e : Effect K2vRow) : Type 0 where
   pub opens : e.opens ≡ []
   pub presents : (n : ℕ) → ArePresent s.requests n (changed e.nodes s.world.nodes n).calls
 
-pub step_sound : (s : State) (m : Moving) → IsSound s → IsLawfulRun row_join words s.world (m ∷ []) → StoresGood s.requests m → IsFine s (effect s m) → IsSound (doing s m)
-step_sound s m sound lawful good fine =
+pub step_sound : {H : List ℕ → Type 0} (s : State) (m : Moving) → IsSound H s → IsLawfulRun row_join words s.world (m ∷ []) → HashesIn H s.world m → StoresGood H s.requests m → IsFine s (effect s m) → IsSound H (doing s m)
+step_sound s m sound lawful hashes good fine =
     let e : Effect K2vRow = effect s m in
     let shut_now : List Request = shut s.world.requests e.closes in
     let requests : shut_now ++ e.opens ≡ shut_now = ap (λ (o : List Request). shut_now ++ o) fine.opens ∙ append-nil shut_now in
     record {
-      reached = reached_step s.requests s.world m sound.reached lawful good;
+      reached = reached_step s.requests s.world m sound.reached lawful hashes good;
       lengths = sound.lengths ∙ sym (ap (λ (rs : List Request). length rs) requests ∙ length_shut s.world.requests e.closes);
       presents = fine.presents;
       entries = λ q a at. entry_later s.requests s.requests (grows_same s.requests) s.world.kept (e.keeps ++ s.world.kept) (λ r c. Contains-append_right e.keeps s.world.kept r c) q a (sound.entries q a at);
@@ -110,7 +111,7 @@ module _ (requests : List ItemRequest) (n : ℕ) (kept : List K2vRow) (before : 
 abbrev pub Rests : State → ℕ → Type 0
 Rests s q = (n : ℕ) (c : Call K2vRow) → Has (s.world.nodes n).calls c → c.request ≡ q → c.present ≡ resting
 
-module _ (s : State) (m : Moving) (sound : IsSound s) (calm : IsCalm s.world (effect s m)) where
+module _ {H : List ℕ → Type 0} (s : State) (m : Moving) (sound : IsSound H s) (calm : IsCalm s.world (effect s m)) where
   abbrev e : Effect K2vRow
   e = effect s m
 
@@ -206,8 +207,8 @@ module _ (s : State) (q : ℕ) (a : ItemRequest) (at : numbered s.requests q ≡
       ]
 
   -- an open request is in a later stage
-  pub set_sound : IsSound s → IsStage requests s.world.kept q new stage → ((n : ℕ) (c : Call K2vRow) → Has (s.world.nodes n).calls c → c.request ≡ q → Fits requests q c.present) → IsSound (record s { requests = requests })
-  set_sound sound is_stage fits = record {
+  pub set_sound : {H : List ℕ → Type 0} → IsSound H s → IsStage H requests s.world.kept q new stage → ((n : ℕ) (c : Call K2vRow) → Has (s.world.nodes n).calls c → c.request ≡ q → Fits requests q c.present) → IsSound H (record s { requests = requests })
+  set_sound {H = H} sound is_stage fits = record {
     reached = reached_later s.requests requests s.world set_grows sound.reached;
     lengths = length-set s.requests (q - 1) new ∙ sound.lengths;
     presents = λ n c h.
@@ -223,8 +224,8 @@ module _ (s : State) (q : ℕ) (a : ItemRequest) (at : numbered s.requests q ≡
     entries = λ p b there. elim (set_cases p b there) [
       | inl e ↦
           let own = sound.entries q a at in
-          let made : IsEntry requests s.world.kept q new = record { before = before_later s.requests requests set_grows new own.before; token = λ v token asks. token_later s.requests requests set_grows (key_of a.order.item) q token (own.token v token asks); stage = is_stage } in
-          subst (λ (o : ItemRequest). IsEntry requests s.world.kept p o) e.1 (subst (λ (k : ℕ). IsEntry requests s.world.kept k new) (sym e.0) made)
+          let made : IsEntry H requests s.world.kept q new = record { before = before_later s.requests requests set_grows new own.before; token = λ v token asks. token_later s.requests requests set_grows (key_of a.order.item) q token (own.token v token asks); stage = is_stage } in
+          subst (λ (o : ItemRequest). IsEntry H requests s.world.kept p o) e.1 (subst (λ (k : ℕ). IsEntry H requests s.world.kept k new) (sym e.0) made)
       | inr old ↦ entry_later s.requests requests set_grows s.world.kept s.world.kept (λ r c. c) p b (sound.entries p b old)
     ];
     passed = set_passed sound.passed;

@@ -36,7 +36,7 @@ some_number : (requests : List ItemRequest) (q : ℕ) (a : ItemRequest) → numb
 some_number requests zero a e = cc
 some_number requests (suc n) a e = omega arith
 
-module _ (s : State) (sound : IsSound s) (q : ℕ) (key : ItemKey) (n : ℕ) (w : IsWrite s.requests q key n) (is_reading : w.one.stage ≡ reading) where
+module _ {H : List ℕ → Type 0} (s : State) (sound : IsSound H s) (q : ℕ) (key : ItemKey) (n : ℕ) (w : IsWrite s.requests q key n) (is_reading : w.one.stage ≡ reading) where
   -- no later write of the item at this node has begun, and this one has not stored
   before_it : (d : ℕ) → HasWritten s.requests key n d → d < q
   before_it d h =
@@ -57,13 +57,13 @@ module _ (s : State) (sound : IsSound s) (q : ℕ) (key : ItemKey) (n : ℕ) (w 
                   subst (Passed h.write.one q) is_reading (sound.passed key n q d w h.write (omega (arith, lt)))
             ] refl
 
-  discard_before : (row : K2vRow) → IsGood s.requests key (length s.requests) row → discard_at row n < q
+  discard_before : (row : K2vRow) → IsGood H s.requests key (length s.requests) row → discard_at row n < q
   discard_before row g = elim (g.discards n) [
     | inl none ↦ (let some = some_number s.requests q w.one w.is_there in omega (arith, none, some))
     | inr h ↦ before_it (discard_at row n) h.0
   ]
 
-  row_times : (row : K2vRow) (begun : ℕ) → IsGood s.requests key begun row → begun < q → (k : ℕ) (x : Writes) → map_get row.entries k ≡ Some x → greatest_time x < q
+  row_times : (row : K2vRow) (begun : ℕ) → IsGood H s.requests key begun row → begun < q → (k : ℕ) (x : Writes) → map_get row.entries k ≡ Some x → greatest_time x < q
   row_times row begun g low k x at = subst (λ (o : Option Writes). greatest_in o < q) at (elim (greatest_of (map_get row.entries k)) [
     | inl is ↦ elim (g.discards k) [
       | inl none ↦ (let some = some_number s.requests q w.one w.is_there in omega (arith, is, none, some))
@@ -80,20 +80,20 @@ module _ (s : State) (sound : IsSound s) (q : ℕ) (key : ItemKey) (n : ℕ) (w 
     of_given : (given : Option K2vRow) (begun : ℕ) → HasRead s.requests w.token key given begun → begun < q → AreBefore (stage_token (shown given begun))
     of_given None begun r low = refl
     of_given (Some row) begun r low =
-        let own : IsGiven s.requests r.one (Some row) begun = subst (IsStage s.requests s.world.kept w.token r.one) r.stage_is (sound.entries w.token r.one r.is_there).stage in
-        let g : IsGood s.requests key begun row = subst (λ k. IsGood s.requests k begun row) r.key_is (own.good row refl) in
+        let own : IsGiven H s.requests r.one (Some row) begun = subst (IsStage H s.requests s.world.kept w.token r.one) r.stage_is (sound.entries w.token r.one r.is_there).stage in
+        let g : IsGood H s.requests key begun row = subst (λ k. IsGood H s.requests k begun row) r.key_is (own.good row refl) in
         subst (λ ts. list_all (λ seen. nat_lt seen.1.0 q) ts ≡ true) (sym (token_is row)) (times_before q (map_entries row.entries) row.entries.ascending (row_times row begun g low))
 
     of_token : IsTokenOf s.requests key q w.token → AreBefore (token_at (numbered s.requests w.token))
     of_token (inl none) = ap (λ k. list_all (λ seen. nat_lt seen.1.0 q) (map_entries (token_at (numbered s.requests k)))) none
     of_token (inr h) = subst AreBefore (sym (read_token s.requests key w.token h.0 h.1 h.2)) (of_given h.0 h.1 h.2 h.3)
 
-pub writes_have_place : (every : EveryWorld) (s : State) → IsSound s → WritesHavePlace s
-writes_have_place every s sound q key n w is_reading =
+pub writes_have_place : {H : List ℕ → Type 0} (every : EveryWorld) (s : State) → IsSound H s → WritesHavePlace s
+writes_have_place {H = H} every s sound q key n w is_reading =
     let token : AreBefore s sound q key n w is_reading (token_at (numbered s.requests w.token)) = token_before s sound q key n w is_reading in (
       and_both _ _ (lt-ltb 0 q (some_number s.requests q w.one w.is_there)) token,
       λ question row there row_is.
-          let g : Gave words (IsGoodRow s.requests) (read question (Some row)) = reached_good every s.requests s.world sound.reached (read question (Some row)) there in
-          let good : IsGood s.requests key (length s.requests) row = subst (λ k. IsGood s.requests k (length s.requests) row) (row_is ∙ w.key_is) g.0 in
+          let g : Gave words (IsGoodRow H s.requests) (read question (Some row)) = reached_good every s.requests s.world sound.reached (read question (Some row)) there in
+          let good : IsGood H s.requests key (length s.requests) row = subst (λ k. IsGood H s.requests k (length s.requests) row) (row_is ∙ w.key_is) g.0 in
           and_both _ _ (lt-ltb (discard_at row n) q (discard_before s sound q key n w is_reading row good)) token,
     )

@@ -1,2 +1,3 @@
+pub mod Hashed
 pub mod Rows
 pub mod Requests

@@ -101,12 +101,14 @@ fn list_in_two_windows(rt: HostRuntime) -> Result<(), Fail> {
     Ok(())
 }
 
-/// The bucket's one partition has 1,001 rows, which a round moves to the nodes of the next layout.
+/// The bucket's one partition has 1,001 rows, which a round moves to the nodes of the next layout. Its walks go down by each
+/// of 256 first bytes, so they need a longer drain than those of one row.
 #[test]
 fn round_of_many_rows(rt: HostRuntime) -> Result<(), Fail> {
     let first = b"trio\nbucket pics\nput 1 pics a 1 97\ndrain 100\n";
     let round = ROUND_MOVES_ONE_PARTITION.strip_prefix(first).unwrap_or(b"");
-    let input = puts(rt.alloc(), 1001, 1, round)?;
+    let mut input = puts(rt.alloc(), 1001, 1, round)?;
+    input.extend_from_slice(b"drain 100000\n")?;
     let (status, text) = played(rt.alloc(), Account::Transcript, &input, &[], &[])?;
     assert_eq!(rt; status, Status::Done);
     let told = without_messages(rt.alloc(), &text)?;
