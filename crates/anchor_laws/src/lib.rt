@@ -32,6 +32,7 @@ ghost use Rattle.cluster_machine.specs.declared.step.Words.TheVariants.{Two};
 ghost use Rattle.cluster_machine.specs.Layouts.{Layouts};
 ghost use Rattle.cluster_machine.specs.World.{empty};
 ghost use Rattle.cluster_machine.specs.Run.{Move, IsLayout, IsRun, run};
+ghost use Rattle.cluster_machine.specs.Hashes.{RunHashes, NoClash};
 ghost use Rattle.machine_origins.specs.Origins.{stored_by, stored_in};
 ghost use Rattle.machine_laws.specs.Toy.{toys, one_two_three, same_roles};
 ghost use Rattle.machine_reads.specs.Holders.{AreTwo};
@@ -48,11 +49,11 @@ use object_origins::{gone_versions_were_overwritten, rows_show_what_was_stored};
 
 /// At the end of every run of the cluster's machine whose store phases have beside each row the block that it needs, two
 /// nodes have, at the table and key of each row that a store phase kept, a row that is at least it, and the block that
-/// that row needs.
+/// that row needs. This and the two laws below hold where no two strings that the run hashes for walks have one digest.
 pub fn kept_rows_have_their_blocks<R, L, A, C>()
     ensures { (digest : List ℕ → List ℕ) (join : R → R → R) (s : Words R) (k : Layouts L) (trio : L) (trio_roles : List Role → List Role) (partitions : ℕ) (moves : List (Move R L A C)) →
         JoinLaws join → Laws join s → 1 ≤ partitions → IsLayout k partitions trio → k.reading.version trio ≡ 1 →
-        IsRun join s k trio trio_roles partitions empty moves → All (λ m. StepBringsBlocks digest s m.step) moves →
+        IsRun join s k trio trio_roles partitions empty moves → NoClash (RunHashes s join k trio trio_roles empty moves) → All (λ m. StepBringsBlocks digest s m.step) moves →
         (row : R) → Contains (run join s k trio trio_roles empty moves).kept row →
         AreTwo (HoldsWithBlock digest join s (run join s k trio trio_roles empty moves) row) }
 {
@@ -66,7 +67,7 @@ pub fn kept_rows_have_their_blocks<R, L, A, C>()
 pub fn kept_references_are_anchored<L, A, C>()
     ensures { (digest : List ℕ → List ℕ) (k : Layouts L) (trio : L) (trio_roles : List Role → List Role) (partitions : ℕ) (moves : List (Move Row L A C)) →
         1 ≤ partitions → IsLayout k partitions trio → k.reading.version trio ≡ 1 →
-        IsRun any_join words k trio trio_roles partitions empty moves → All (λ m. StepBringsBlocks digest words m.step) moves →
+        IsRun any_join words k trio trio_roles partitions empty moves → NoClash (RunHashes words any_join k trio trio_roles empty moves) → All (λ m. StepBringsBlocks digest words m.step) moves →
         All (λ m. All (λ r. deletes_nothing r ≡ true) (stored_by m.step)) moves →
         (r : RefRow) → r.deleted.0 ≡ false → Contains (run any_join words k trio trio_roles empty moves).kept (Ref r) →
         IsGone (stored_in moves) r.id ⊎ AreTwo (Anchors digest (run any_join words k trio trio_roles empty moves) r) }
@@ -84,7 +85,7 @@ pub fn kept_references_are_anchored<L, A, C>()
 pub fn undeleted_references_are_anchored<L, A, C>()
     ensures { (digest : List ℕ → List ℕ) (k : Layouts L) (trio : L) (trio_roles : List Role → List Role) (partitions : ℕ) (moves : List (Move Row L A C)) (draw : ℕ → Option ((Hash32 × List ℕ) × Version)) →
         1 ≤ partitions → IsLayout k partitions trio → k.reading.version trio ≡ 1 →
-        IsRun any_join words k trio trio_roles partitions empty moves → All (λ m. StepBringsBlocks digest words m.step) moves →
+        IsRun any_join words k trio trio_roles partitions empty moves → NoClash (RunHashes words any_join k trio trio_roles empty moves) → All (λ m. StepBringsBlocks digest words m.step) moves →
         All (λ m. All (λ r. deletes_nothing r ≡ true) (stored_by m.step)) moves → AreDrawn (stored_in moves) draw →
         (r : RefRow) → r.deleted.0 ≡ false → Contains (run any_join words k trio trio_roles empty moves).kept (Ref r) →
         (key : Hash32 × List ℕ) (v : Version) → draw r.id ≡ Option.Some (key, v) →

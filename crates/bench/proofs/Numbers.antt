@@ -4,7 +4,7 @@ use Rattle.std.proofs.Common.{ap, sym, ◌∙◌, arith}
 use Rattle.std.specs.Int.{to_be_bytes, w64}
 use Rattle.blake2_hash.specs.Blake2b.{blake2b}
 use Rattle.table_model.specs.Root.{Pair}
-use Rattle.merkle_trie.specs.Sets.{put}
+use Rattle.walk_model.specs.Sets.{put}
 use Rattle.bench.specs.Numbered.{numbered}
 
 pub numbered_none : (row : ℕ) (pairs : List Pair) → numbered row 0 pairs ≡ pairs

@@ -5,7 +5,7 @@ ghost use Rattle.std.specs.Int.{to_be_bytes, w64};
 ghost use Rattle.blake2_hash.specs.Blake2b.{blake2b};
 ghost use Rattle.table_model.specs.Root.{Pair, root};
 ghost use Rattle.merkle_trie.specs.Keeping.{Keeps};
-ghost use Rattle.merkle_trie.specs.Sets.{put};
+ghost use Rattle.walk_model.specs.Sets.{put};
 ghost use Rattle.bench.specs.Numbered.{numbered};
 
 use blake2_hash::{Hash32, blake2b_256};

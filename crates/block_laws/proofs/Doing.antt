@@ -1,8 +1,10 @@
 -- What a node does when a message comes, by itself, and when a phase of one of its requests begins.
 use Rattle.std.specs.Prelude.{◌≡◌, ℕ, suc, Bool, true, false, not, cond, ◌==◌, nat_lt, Option, Some, None, List, [], ◌∷◌, ◌++◌, map}
-use Rattle.std.specs.List.{AllByRecursion, filter}
+use Rattle.std.specs.List.{AllByRecursion}
 use Rattle.std.proofs.lemmas.List.Elements.{recursion_from_All}
 use Rattle.view_model.specs.View.{View, newest, oldest, layout_at, read_version, merged, cleaned}
+use Rattle.blake2_hash.specs.declared.digest.Hash32.{Hash32}
+use Rattle.walk_model.specs.Walking.{is_open}
 use Rattle.table_schema.specs.Words.{Words}
 use Rattle.table_schema.specs.Laws.{Laws}
 use Rattle.table_model.specs.Rows.{row_at, rows}
@@ -11,7 +13,7 @@ use Rattle.quorum_model.specs.Answers.{first_two_at}
 use Rattle.quorum_model.specs.Window.{Window}
 use Rattle.quorum_model.specs.declared.range.RangeAnswer.{RangeAnswer}
 use Rattle.wire_messages.specs.declared.message.Message.{Message}
-use Rattle.wire_messages.specs.declared.message.Message.TheVariants.{Get, Row, Range, Rows, Store, Stored, Behind, NotHere, BlockGet, Block, NoBlock}
+use Rattle.wire_messages.specs.declared.message.Message.TheVariants.{Get, Row, Range, Rows, Store, Stored, Behind, NotHere, BlockGet, Block, NoBlock, Walk as AsksValue, Same as HasSame, Differ}
 use Rattle.wire_messages.specs.declared.message.Tag.{Tag}
 use Rattle.wire_messages.specs.declared.message.Tag.TheVariants.{Call as ForCall, Round as ForRound, Item as ForItem}
 use Rattle.wire_messages.specs.declared.phase.Phase.{Phase}
@@ -20,15 +22,15 @@ use Rattle.cluster_machine.specs.declared.step.Action.{Action}
 use Rattle.cluster_machine.specs.declared.step.Action.TheVariants.{Ack as RaiseAck, Sync as GoOn, SyncAck as RaiseSyncAck, Clean, Work, Repair}
 use Rattle.cluster_machine.specs.declared.step.LocalEnd.{LocalEnd}
 use Rattle.cluster_machine.specs.Layouts.{Layouts, is_given, is_stored}
-use Rattle.cluster_machine.specs.Node.{Question, Scan, Present, resting, asking, scanning, storing, fetching, Call, Item, Part, Round, Node, Packet, says, shows, Did, quiet}
+use Rattle.cluster_machine.specs.Node.{Question, Scan, Present, resting, asking, scanning, storing, fetching, Call, Item, Part, Walk, Round, Mending, Node, Packet, says, shows, Did, quiet}
 use Rattle.cluster_machine.specs.Phases.{call_at, asked, looked, stored, value_after, row_came, window_at, rows_came, stored_came, block_came, at_call, begins}
-use Rattle.cluster_machine.specs.Rows.{block_at, accepts_all}
-use Rattle.cluster_machine.specs.Receives.{answers, where_stored, gives_row, gives_block, takes, round_came, is_done, kept_item, item_came, confirms, hears, receives}
-use Rattle.cluster_machine.specs.Rounds.{is_complete, open_nodes, open_parts, parts_of, synced, goes_on, may_sync, begin_round}
+use Rattle.cluster_machine.specs.Rows.{same_bytes, block_at, accepts_all}
+use Rattle.cluster_machine.specs.Receives.{answers, where_stored, gives_row, gives_block, takes, compared, compares, walks_on, round_came, is_done, kept_item, item_came, confirms, hears, receives}
+use Rattle.cluster_machine.specs.Rounds.{is_complete, value_here, children_here, walk_at, walks_of, walks_after, found_same, walk_after, asked_after, other_nodes, parts_of, synced, goes_on, may_sync, begin_round, round_walks, mending_walks, at_walk, mending_came, with_mending, with_lasting, late_came, answer_came, new_walks, walked_anew}
 use Rattle.cluster_machine.specs.Acts.{Acted, syncs, acts}
 use Rattle.cluster_machine.specs.Blocks.{IsBeside, CarriesBlocks, PacketCarriesBlocks, BringsBlocks, IsStocked}
 use Rattle.block_laws.proofs.Accepting.{accepts_all_node, sees_node, without_due_node}
-use Rattle.block_laws.proofs.Sending.{ArePosts, each_post, stores_posts, items_posts, parts_posts}
+use Rattle.block_laws.proofs.Sending.{ArePosts, each_post, stores_posts, items_posts, starts_posts, after_posts}
 
 module _ (digest : List ℕ → List ℕ) {R : Type 0} {join : R → R → R} {s : Words R} (laws : Laws join s) {L : Type 0} (k : Layouts L) where
   abbrev Sound : Node R L → Type 0
@@ -112,14 +114,68 @@ module _ (digest : List ℕ → List ℕ) {R : Type 0} {join : R → R → R} {s
         (either (not (is_given k x.view id p)) _ _ (answers_done x from (NotHere tag) i tt)
         (answers_done (accepts_all join s now x bs) from (Stored tag) (accepts_all_node digest laws now bs x m i) tt))
 
-    goes_node : (id : ℕ) (rounds : ℕ) (round : Round) → Sound (goes_on join s k id (record x { rounds = rounds }) round)
-    goes_node id rounds round = elim (is_complete round) as (λ b. Sound (cond b (synced join s k id (record x { rounds = rounds }) round) (record x { rounds = rounds; round = Some round }))) [ true ↦ i | false ↦ i ]
+    goes_node : (id : ℕ) (rounds : ℕ) (lasting : Option Mending) (round : Round) → Sound (goes_on join s k id (record x { rounds = rounds; lasting = lasting }) round)
+    goes_node id rounds lasting round = elim (is_complete round) as (λ b. Sound (cond b (synced join s k id (record x { rounds = rounds; lasting = lasting }) round) (record x { rounds = rounds; lasting = lasting; round = Some round }))) [ true ↦ i | false ↦ i ]
 
     round_done : (id from number p : ℕ) (o : Option Round) → IsDone (round_came join s k id x from number p o)
     round_done id from number p None = still x i
     round_done id from number p (Some round) =
         let new : Round = record round { confirmed = round.confirmed ++ record { partition = p; node = from } ∷ [] } in
-        either (round.number == number) (quiet (goes_on join s k id x new)) (quiet x) (record { node = goes_node id x.rounds new; posts = tt }) (still x i)
+        either (round.number == number) (quiet (goes_on join s k id x new)) (quiet x) (record { node = goes_node id x.rounds x.lasting new; posts = tt }) (still x i)
+
+    -- a test, where what is done sends only rows with a spelling
+    by_spelled : (b : Bool) (d e : Did R L) → (d.is_spelled ≡ true → IsDone d) → (e.is_spelled ≡ true → IsDone e) → (cond b d e).is_spelled ≡ true → IsDone (cond b d e)
+    by_spelled true d e f h = f
+    by_spelled false d e f h = h
+
+    compared_has : (tag : Tag) (p table : ℕ) (prefix : List ℕ) (hash : Hash32) → CarriesBlocks digest s (compared join s k x tag p table prefix hash)
+    compared_has tag p table prefix hash =
+        elim (same_bytes hash.0 (value_here join s x table p prefix).0) as (λ b. CarriesBlocks digest s (cond b (HasSame tag table prefix) (Differ tag table prefix (children_here join s x table p prefix)))) [ true ↦ tt | false ↦ tt ]
+
+    compares_done : (id from : ℕ) (tag : Tag) (named p table : ℕ) (prefix : List ℕ) (hash : Hash32) → IsDone (compares join s k id x from tag named p table prefix hash)
+    compares_done id from tag named p table prefix hash =
+        either (nat_lt (newest k.reading x.view) named) _ _ (answers_done x from (Behind tag (newest k.reading x.view)) i tt)
+        (either (not (is_given k x.view id p)) _ _ (answers_done x from (NotHere tag) i tt)
+        (record { node = i; posts = (compared_has tag p table prefix hash, tt) }))
+
+    at_walk_done : (table : ℕ) (prefix : List ℕ) (f : Walk → Did R L) (o : Option Walk) → ((w : Walk) → (f w).is_spelled ≡ true → IsDone (f w)) → (at_walk join s k x table prefix f o).is_spelled ≡ true → IsDone (at_walk join s k x table prefix f o)
+    at_walk_done table prefix f None h e = still x i
+    at_walk_done table prefix f (Some w) h e = by_spelled (is_open table prefix w.state.prefixes) (f w) (quiet x) (h w) (λ e. still x i) e
+
+    mending_done : (now : Mending → Node R L) (other : Did R L) → ((m : Mending) → Sound (now m)) → (other.is_spelled ≡ true → IsDone other) → (from number p table : ℕ) (prefix : List ℕ) (answer : Option (List (ℕ × Hash32))) (o : Option Mending) →
+        (mending_came join s k x now other from number p table prefix answer o).is_spelled ≡ true → IsDone (mending_came join s k x now other from number p table prefix answer o)
+    mending_done now other h d from number p table prefix answer None e = d e
+    mending_done now other h d from number p table prefix answer (Some mending) e =
+        by_spelled (mending.number == number) (at_walk join s k x table prefix (mending_walks join s k x now table prefix answer mending) (walk_at p from mending.walks)) other
+        (at_walk_done table prefix (mending_walks join s k x now table prefix answer mending) (walk_at p from mending.walks)
+        (λ w e. record { node = h _; posts = after_posts digest laws k x i mending.number (walk_after join s x w table prefix answer) table (asked_after join s x w.state.partition table prefix answer) e }))
+        d e
+
+    late_done : (from number p table : ℕ) (prefix : List ℕ) (answer : Option (List (ℕ × Hash32))) → (late_came join s k x from number p table prefix answer).is_spelled ≡ true → IsDone (late_came join s k x from number p table prefix answer)
+    late_done from number p table prefix answer e =
+        mending_done (with_lasting join s k x) _ (λ m. i) (mending_done (with_mending join s k x) (quiet x) (λ m. i) (λ e. still x i) from number p table prefix answer x.mending) from number p table prefix answer x.lasting e
+
+    walked_done : (id table : ℕ) (prefix : List ℕ) (answer : Option (List (ℕ × Hash32))) (round : Round) (w : Walk) → (round_walks join s k id x table prefix answer round w).is_spelled ≡ true → IsDone (round_walks join s k id x table prefix answer round w)
+    walked_done id table prefix answer round w e =
+        let later = walk_after join s x w table prefix answer in
+        let now : Round = record round { walks = walks_after later round.walks } in
+        let there : Round = record now { confirmed = now.confirmed ++ record { partition = w.state.partition; node = w.node } ∷ [] } in
+        record {
+          node = elim (found_same later) as (λ b. Sound (cond b (goes_on join s k id x there) (record x { round = Some now }))) [ true ↦ goes_node id x.rounds x.lasting there | false ↦ i ];
+          posts = after_posts digest laws k x i round.number later table (asked_after join s x w.state.partition table prefix answer) e;
+        }
+
+    answered_done : (id from number p table : ℕ) (prefix : List ℕ) (answer : Option (List (ℕ × Hash32))) (o : Option Round) → (answer_came join s k id x from number p table prefix answer o).is_spelled ≡ true → IsDone (answer_came join s k id x from number p table prefix answer o)
+    answered_done id from number p table prefix answer None e = late_done from number p table prefix answer e
+    answered_done id from number p table prefix answer (Some round) e =
+        by_spelled (round.number == number) (at_walk join s k x table prefix (round_walks join s k id x table prefix answer round) (walk_at p from round.walks)) (late_came join s k x from number p table prefix answer)
+        (at_walk_done table prefix (round_walks join s k id x table prefix answer round) (walk_at p from round.walks) (walked_done id table prefix answer round))
+        (late_done from number p table prefix answer) e
+
+    walks_done : (id from : ℕ) (tag : Tag) (table : ℕ) (prefix : List ℕ) (answer : Option (List (ℕ × Hash32))) → (walks_on join s k id x from tag table prefix answer).is_spelled ≡ true → IsDone (walks_on join s k id x from tag table prefix answer)
+    walks_done id from (ForCall request phase slot) table prefix answer e = still x i
+    walks_done id from (ForRound number p) table prefix answer e = answered_done id from number p table prefix answer x.round e
+    walks_done id from (ForItem number) table prefix answer e = still x i
 
     items_came : (v : View L) (from number : ℕ) (items : List (Item R)) → AllByRecursion (λ (item : Item R). s.live_block item.row ≡ None) items → AllByRecursion (λ (item : Item R). s.live_block item.row ≡ None) (item_came join s k v from number items)
     items_came v from number [] a = tt
@@ -135,22 +191,25 @@ module _ (digest : List ℕ → List ℕ) {R : Type 0} {join : R → R → R} {s
     confirms_done id from (ForRound number p) = round_done id from number p x.round
     confirms_done id from (ForItem number) = record { node = record { proper = i.proper; items_need_none = items_came x.view from number x.items i.items_need_none; digests = i.digests; has = i.has }; posts = tt }
 
-    hears_done : (id now from : ℕ) (m : Message R) → CarriesBlocks digest s m → IsDone (hears join s k id now x from m)
-    hears_done id now from (Get request phase at table key) m = here from request phase at (gives_row join s k x from request phase (row_at join s x.accepted table key)) (record { node = i; posts = (tt, tt) })
-    hears_done id now from (Row request phase row) m = in_call phase (λ c. row_came join x c from row c.present) (call_at x.calls request) (λ c. row_done c from row c.present)
-    hears_done id now from (Range request phase at position prefix after) m = here from request phase at _ (record { node = i; posts = (tt, tt) })
-    hears_done id now from (Rows request phase rs more) m = in_call phase (λ c. rows_came join s x c from rs more c.present) (call_at x.calls request) (λ c. rows_done c from rs more c.present)
-    hears_done id now from (Store tag named p bs) m = takes_done id now from tag named p bs m
-    hears_done id now from (Stored tag) m = confirms_done id from tag
-    hears_done id now from (Behind tag v) m = still x i
-    hears_done id now from (NotHere tag) m = still x i
-    hears_done id now from (BlockGet request phase at hash) m = here from request phase at _ (gives_done from request phase (block_at x.blocks hash.0))
-    hears_done id now from (Block request phase bytes) m = in_call phase (λ c. block_came x c bytes c.present) (call_at x.calls request) (λ c. block_done c bytes c.present)
-    hears_done id now from (NoBlock request phase) m = still x i
+    hears_done : (id now from : ℕ) (m : Message R) → CarriesBlocks digest s m → (hears join s k id now x from m).is_spelled ≡ true → IsDone (hears join s k id now x from m)
+    hears_done id now from (Get request phase at table key) m e = here from request phase at (gives_row join s k x from request phase (row_at join s x.accepted table key)) (record { node = i; posts = (tt, tt) })
+    hears_done id now from (Row request phase row) m e = in_call phase (λ c. row_came join x c from row c.present) (call_at x.calls request) (λ c. row_done c from row c.present)
+    hears_done id now from (Range request phase at position prefix after) m e = here from request phase at _ (record { node = i; posts = (tt, tt) })
+    hears_done id now from (Rows request phase rs more) m e = in_call phase (λ c. rows_came join s x c from rs more c.present) (call_at x.calls request) (λ c. rows_done c from rs more c.present)
+    hears_done id now from (Store tag named p bs) m e = takes_done id now from tag named p bs m
+    hears_done id now from (Stored tag) m e = confirms_done id from tag
+    hears_done id now from (Behind tag v) m e = still x i
+    hears_done id now from (NotHere tag) m e = still x i
+    hears_done id now from (BlockGet request phase at hash) m e = here from request phase at _ (gives_done from request phase (block_at x.blocks hash.0))
+    hears_done id now from (Block request phase bytes) m e = in_call phase (λ c. block_came x c bytes c.present) (call_at x.calls request) (λ c. block_done c bytes c.present)
+    hears_done id now from (NoBlock request phase) m e = still x i
+    hears_done id now from (AsksValue tag named p table prefix hash) m e = compares_done id from tag named p table prefix hash
+    hears_done id now from (HasSame tag table prefix) m e = walks_done id from tag table prefix None e
+    hears_done id now from (Differ tag table prefix pairs) m e = walks_done id from tag table prefix (Some pairs) e
 
-    pub receives_done : (id now from : ℕ) (p : Packet R L) → PacketCarriesBlocks digest s p → IsDone (receives join s k id now x from p)
-    receives_done id now from (says m) h = hears_done id now from m h
-    receives_done id now from (shows v) h = record { node = sees_node digest laws k id now x (merged k.reading x.view v) i; posts = tt }
+    pub receives_done : (id now from : ℕ) (p : Packet R L) → PacketCarriesBlocks digest s p → (receives join s k id now x from p).is_spelled ≡ true → IsDone (receives join s k id now x from p)
+    receives_done id now from (says m) h e = hears_done id now from m h e
+    receives_done id now from (shows v) h e = record { node = sees_node digest laws k id now x (merged k.reading x.view v) i; posts = tt }
 
     -- ---- a node acts
 
@@ -158,11 +217,11 @@ module _ (digest : List ℕ → List ℕ) {R : Type 0} {join : R → R → R} {s
     begin_done id e =
         let at = read_version k.reading x.view in
         let parts = parts_of join s k id x (layout_at k.reading x.view at) (layout_at k.reading x.view (suc at)) in
-        let round : Round = record { number = suc x.rounds; target = suc at; parts = parts; confirmed = map (λ (part : Part). record { partition = part.partition; node = id }) parts } in
-        record { node = goes_node id (suc x.rounds) round; posts = parts_posts digest laws k x i (suc x.rounds) (open_nodes round) parts e }
+        let round : Round = record { number = suc x.rounds; target = suc at; parts = parts; confirmed = map (λ (part : Part). record { partition = part.partition; node = id }) parts; walks = walks_of join s x (other_nodes join s k id) parts } in
+        record { node = goes_node id (suc x.rounds) None round; posts = starts_posts digest laws k x (suc x.rounds) round.walks }
 
     syncs_done : (id : ℕ) (o : Option Round) → (syncs join s k id x o).did.is_spelled ≡ true → IsDone (syncs join s k id x o).did
-    syncs_done id (Some round) e = record { node = i; posts = parts_posts digest laws k x i round.number (open_nodes round) (open_parts round) e }
+    syncs_done id (Some round) e = record { node = goes_node id x.rounds x.lasting (walked_anew join s k x round); posts = starts_posts digest laws k x round.number (new_walks join s k x round) }
     syncs_done id None e = by_test (may_sync join s k id x.view) _ _ e
       where
         by_test : (b : Bool) (how other : LocalEnd) → (cond {A = Acted R L} b (record { did = begin_round join s k id x; how = how }) (record { did = quiet x; how = other })).did.is_spelled ≡ true → IsDone (cond {A = Acted R L} b (record { did = begin_round join s k id x; how = how }) (record { did = quiet x; how = other })).did
@@ -177,7 +236,7 @@ module _ (digest : List ℕ → List ℕ) {R : Type 0} {join : R → R → R} {s
     acts_done id now Work e = record { node = without_due_node digest laws now x i; posts = items_posts digest laws k x.view x.items i.items_need_none e }
     acts_done id now Repair e =
         let l = layout_at k.reading x.view (newest k.reading x.view) in
-        record { node = i; posts = parts_posts digest laws k x i (suc x.rounds) (λ (part : Part). filter (λ m. not (m == id)) part.set) (parts_of join s k id x l l) e }
+        record { node = i; posts = starts_posts digest laws k x (suc x.rounds) (walks_of join s x (other_nodes join s k id) (parts_of join s k id x l l)) }
 
     -- ---- a phase begins
 

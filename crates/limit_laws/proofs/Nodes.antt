@@ -1,7 +1,8 @@
 -- What a node's counts are after each of its steps, and that all that it sends has a spelling and counts few bytes.
 use Rattle.std.specs.Prelude.{◌≡◌, ◌≤◌, ◌+◌, ◌*◌, ℕ, suc, Bool, true, false, ◌==◌, leb, nat_lt, not, cond, List, [], ◌∷◌, ◌++◌, Option, Some, None, length, map, sum_by, take, refl, ⊤}
 use Rattle.std.specs.List.{AllByRecursion, filter, flat_map, list_all}
-use Rattle.std.proofs.Common.{ap, sym, subst, ◌∙◌, length-append, arith}
+use Rattle.std.proofs.Common.{ap, sym, subst, ◌∙◌, inl, inr, length-append, arith}
+use Rattle.std.proofs.lemmas.Bool.{cases_lt}
 use Rattle.std.proofs.lemmas.List.Recursion.{is_sum_by}
 use Rattle.crdt_core.specs.EntryLaws.{and_both}
 use Rattle.crdt_core.specs.Order.{option_join}
@@ -22,8 +23,9 @@ use Rattle.quorum_model.specs.Answers.{first_two_at}
 use Rattle.quorum_model.specs.Quorum.{is_among, StoreSlot, is_kept, with_confirmation}
 use Rattle.quorum_model.specs.Window.{Window}
 use Rattle.wire_messages.specs.Size.{plus, block_length, stored_length, size}
+use Rattle.walk_model.specs.Walking.{is_open}
 use Rattle.wire_messages.specs.declared.message.Message.{Message}
-use Rattle.wire_messages.specs.declared.message.Message.TheVariants.{Get, Row, Range, Rows, Store, Stored, Behind, NotHere, BlockGet, Block, NoBlock}
+use Rattle.wire_messages.specs.declared.message.Message.TheVariants.{Get, Row, Range, Rows, Store, Stored, Behind, NotHere, BlockGet, Block, NoBlock, Walk as AsksValue, Same as HasSame, Differ}
 use Rattle.wire_messages.specs.declared.message.Tag.{Tag}
 use Rattle.wire_messages.specs.declared.message.Tag.TheVariants.{Call as ForCall, Round as ForRound, Item as ForItem}
 use Rattle.wire_messages.specs.declared.phase.Phase.{Phase}
@@ -35,12 +37,13 @@ use Rattle.cluster_machine.specs.declared.step.Action.{Action}
 use Rattle.cluster_machine.specs.declared.step.Action.TheVariants.{Ack as RaiseAck, Sync as GoOn, SyncAck as RaiseSyncAck, Clean as CleanUp, Work as WorkOff, Repair as Mend}
 use Rattle.cluster_machine.specs.declared.step.LocalEnd.{LocalEnd}
 use Rattle.cluster_machine.specs.Layouts.{layouts, stored_sets, set_at, is_given, is_stored}
-use Rattle.cluster_machine.specs.Node.{Question, Scan, Present, resting, asking, scanning, storing, fetching, Call, Item, Part, Round, Node, Packet, says, shows, Did, quiet}
+use Rattle.cluster_machine.specs.Node.{Question, Scan, Present, resting, asking, scanning, storing, fetching, Call, Item, Part, Round, Node, Packet, says, shows, Did, quiet, Walk, Mending}
 use Rattle.cluster_machine.specs.Node as machine
 use Rattle.cluster_machine.specs.Rows.{same_bytes, block_at, has_block, still, block_of, called_for, blocks_after, queue_from, accepts, accepts_read, accepts_all, drops, sees}
 use Rattle.cluster_machine.specs.Phases.{nodes_of, to_each, call_at, with_call, calls_now, asked, looked, stored, bytes_of, is_spelled, stores, slots_of, begins, value_after, row_came, window_at, rows_came, stored_came, block_came, at_call}
-use Rattle.cluster_machine.specs.Rounds.{confirmed_for, are_spelled, is_complete, open_nodes, open_parts, rows_at, found, with_its_block, pushes_rows, pushes, parts_of, synced, goes_on, may_sync, begin_round}
-use Rattle.cluster_machine.specs.Receives.{most_rows, answers, where_stored, gives_row, gives_rows, gives_block, takes, round_came, is_done, kept_item, item_came, confirms, hears, receives}
+use Rattle.cluster_machine.specs.Rounds.{confirmed_for, are_spelled, is_complete, open_nodes, open_parts, rows_at, found, with_its_block, pushes_rows, parts_of, synced, goes_on, may_sync, begin_round, value_here, children_here, is_noted, has_ended, found_same, walk_at, walks_of, walks_after, walk_after, asked_after, asks_at, first_asks, starts, sends_after, other_nodes, round_walks, mending_walks, at_walk, mending_came, with_mending, with_lasting, late_came, answer_came, filled_parts, walked_anew}
+use Rattle.cluster_machine.specs.Receives.{most_rows, answers, where_stored, gives_row, gives_rows, gives_block, takes, round_came, is_done, kept_item, item_came, confirms, hears, receives, compared, compares, walks_on}
+use Rattle.cluster_machine.proofs.Asked.{few_asked, asked_longer, children_few}
 use Rattle.cluster_machine.specs.Acts.{Acted, item_posts, syncs, acts}
 use Rattle.cluster_machine.specs.World.{packet_size}
 use Rattle.machine_origins.proofs.Lists.{all_filter, all_take, all_found}
@@ -53,7 +56,7 @@ use Rattle.limit_rows.proofs.Totals.{total, total_filter, total_take}
 use Rattle.limit_rows.proofs.Handed.{called_fit, fits_rules}
 use Rattle.limit_rows.proofs.Weights.{version_weight, ref_weight, fits_spelled}
 use Rattle.limit_rows.proofs.Contents.{load, row_after as rows_after, accepted_counts, dropped_counts, found_counts}
-use Rattle.limit_laws.proofs.Posts.{IsShort, IsShortBlock, Mail, Costs, costs_nothing, costs_more, costs_one, costs_both, costs_few, ViewFits, layout_fits, set_few, nodes_few, ArePartsOf, parts_filter, parts_are, spelled_so, bytes_are, all_spelled, rows_count, row_counts, parts_spelled, parts_cost, items_cost, items_spelled}
+use Rattle.limit_laws.proofs.Posts.{filter_fewer, IsShort, IsShortBlock, Mail, Costs, costs_nothing, costs_more, costs_one, costs_both, costs_few, ViewFits, layout_fits, set_few, nodes_few, ArePartsOf, parts_filter, parts_are, spelled_so, bytes_are, all_spelled, rows_count, row_counts, parts_spelled, parts_cost, after_cost, part_spelled, items_cost, items_spelled}
 
 abbrev pub Machine : Type 0
 Machine = Node AnyRow Layout
@@ -145,10 +148,6 @@ blocks_short blocks (Some hash) None a h = a
 blocks_short blocks (Some hash) (Some bytes) a h =
     elim (has_block blocks hash) as (λ c. AllByRecursion (λ (b : machine.Block). IsShort b.bytes) (cond c blocks (record { hash = hash; bytes = bytes } ∷ blocks))) [ true ↦ a | false ↦ (h, a) ]
 
-pub filter_fewer : {X : Type 0} (test : X → Bool) (xs : List X) → length (filter test xs) ≤ length xs
-filter_fewer test [] = omega arith
-filter_fewer test (x ∷ xs) = let rest = filter_fewer test xs in elim (test x) as (λ b. length (cond b (x ∷ filter test xs) (filter test xs)) ≤ suc (length xs)) [ true ↦ omega arith | false ↦ omega arith ]
-
 phases_with : (t : ℕ) (c : Call AnyRow) (calls : List (Call AnyRow)) → c.phases ≤ t → AllByRecursion (λ (d : Call AnyRow). d.phases ≤ t) calls → AllByRecursion (λ (d : Call AnyRow). d.phases ≤ t) (with_call c calls)
 phases_with t c [] h a = tt
 phases_with t c (d ∷ calls) h a = (
@@ -177,11 +176,24 @@ module _ (x : Machine) (blocks : AllByRecursion (λ (b : machine.Block). IsShort
   rows_beside number p nodes [] = tt
   rows_beside number p nodes (r ∷ rs) = each_beside nodes (Store (ForRound number p) (newest layouts.reading x.view) p (map (with_its_block any_join words x) (r ∷ rs))) (map_beside (r ∷ rs))
 
-  parts_beside : (number : ℕ) (nodes : Part → List ℕ) (parts : List Part) → AllByRecursion (λ (p : Mail). PacketBeside p.packet) (flat_map (λ part. pushes any_join words layouts x number part.partition (nodes part)) parts)
-  parts_beside number nodes [] = tt
-  parts_beside number nodes (part ∷ parts) =
-      all_append (λ (p : Mail). PacketBeside p.packet) (pushes any_join words layouts x number part.partition (nodes part)) (flat_map (λ part. pushes any_join words layouts x number part.partition (nodes part)) parts)
-      (rows_beside number part.partition (nodes part) (rows_at any_join words x part.partition)) (parts_beside number nodes parts)
+  asks_beside : (number p to : ℕ) (prefixes : List (ℕ × List ℕ)) → AllByRecursion (λ (p : Mail). PacketBeside p.packet) (map (λ (o : ℕ × List ℕ). asks_at any_join words layouts x number p to o.0 o.1) prefixes)
+  asks_beside number p to [] = tt
+  asks_beside number p to (o ∷ prefixes) = (tt, asks_beside number p to prefixes)
+
+  starts_beside : (number : ℕ) (walks : List Walk) → AllByRecursion (λ (p : Mail). PacketBeside p.packet) (starts any_join words layouts x number walks)
+  starts_beside number [] = tt
+  starts_beside number (w ∷ walks) = all_append (λ (p : Mail). PacketBeside p.packet) (first_asks any_join words layouts x number w) (starts any_join words layouts x number walks) (asks_beside number w.state.partition w.node w.state.prefixes) (starts_beside number walks)
+
+  further_beside : (number p to table : ℕ) (prefixes : List (List ℕ)) → AllByRecursion (λ (p : Mail). PacketBeside p.packet) (map (asks_at any_join words layouts x number p to table) prefixes)
+  further_beside number p to table [] = tt
+  further_beside number p to table (prefix ∷ prefixes) = (tt, further_beside number p to table prefixes)
+
+  after_beside : (number : ℕ) (w : Walk) (table : ℕ) (asked : List (List ℕ)) → AllByRecursion (λ (p : Mail). PacketBeside p.packet) (sends_after any_join words layouts x number w table asked)
+  after_beside number w table asked =
+      elim (has_ended w) as (λ b. AllByRecursion (λ (p : Mail). PacketBeside p.packet) (cond b (pushes_rows any_join words layouts x number w.state.partition (w.node ∷ []) (filter (is_noted any_join words w.state.noted) (rows_at any_join words x w.state.partition))) (map (asks_at any_join words layouts x number w.state.partition w.node table) asked))) [
+        | true ↦ rows_beside number w.state.partition (w.node ∷ []) _
+        | false ↦ further_beside number w.state.partition w.node table asked
+      ]
 
 items_beside : (view : View Layout) (items : List (Item AnyRow)) → AllByRecursion (λ (p : Mail). PacketBeside p.packet) (flat_map (item_posts any_join words layouts view) items)
 items_beside view [] = tt
@@ -406,6 +418,86 @@ module _ (facts : Facts) (t : ℕ) (v : Drawn) (within : AreWithin t v) (g : Ask
         let new : Round = record round { confirmed = round.confirmed ++ record { partition = p; node = from } ∷ [] } in
         either (round.number == number) (quiet (goes_on any_join words layouts n x new)) (quiet x) (quiets (goes_on any_join words layouts n x new) (goes_fits m (suc t) x new h now_fits)) rests
 
+    -- walks
+    compared_fits : (from : ℕ) (tag : Tag) (p table : ℕ) (prefix : List ℕ) (hash : Hash32) → length prefix ≤ m → Fits (record (answers x from (compared any_join words layouts x tag p table prefix hash)) { is_spelled = list_all (is_spelled words) (rows_at any_join words x p) })
+    compared_fits from tag p table prefix hash low =
+        let e : Message AnyRow = compared any_join words layouts x tag p table prefix hash in
+        let children = children_here any_join words x table p prefix in
+        let few = children_few any_join words x p table prefix in
+        let same = answers_fit x from (HasSame tag table prefix) (64 + length prefix) now_fits refl (omega (arith, low, top)) tt in
+        let differ = answers_fit x from (Differ tag table prefix children) (64 + (length prefix + 33 * length children)) now_fits refl (omega (arith, low, top, few)) tt in
+        let answer = elim (same_bytes hash.0 (value_here any_join words x table p prefix).0) as (λ b. Fits (answers x from (cond b (HasSame tag table prefix) (Differ tag table prefix children)))) [ true ↦ same | false ↦ differ ] in
+        record { node = answer.node; spelled = part_spelled facts t v within x i.accepted f.blocks p; cost = answer.cost; beside = answer.beside }
+
+    compares_fits : (from : ℕ) (tag : Tag) (named p table : ℕ) (prefix : List ℕ) (hash : Hash32) → length prefix ≤ m → Fits (compares any_join words layouts n x from tag named p table prefix hash)
+    compares_fits from tag named p table prefix hash low =
+        either (nat_lt (newest layouts.reading x.view) named) _ _ (answers_fit x from (Behind tag (newest layouts.reading x.view)) (64 + 0) now_fits refl (omega arith) tt)
+        (either (not (is_given layouts x.view n p)) _ _ (answers_fit x from (NotHere tag) (64 + 0) now_fits refl (omega arith) tt)
+        (compared_fits from tag p table prefix hash low))
+
+    asked_short : (p table : ℕ) (prefix : List ℕ) (answer : Option (List (ℕ × Hash32))) → AllByRecursion (λ (q : List ℕ). length q ≤ 32) (asked_after any_join words x p table prefix answer)
+    asked_short p table prefix answer =
+        elim (cases_lt (length prefix) 32) [
+          | inl short ↦ all_weaker (λ (q : List ℕ). length q ≡ suc (length prefix)) (λ (q : List ℕ). length q ≤ 32) (λ q e. omega (arith, e, short)) _ (asked_longer any_join words x p table prefix answer)
+          | inr long ↦ subst (AllByRecursion (λ (q : List ℕ). length q ≤ 32)) (sym ((few_asked any_join words x p table prefix answer).0 long)) tt
+        ]
+
+    walked : (y : Machine) (number : ℕ) (w : Walk) (table : ℕ) (prefix : List ℕ) (answer : Option (List (ℕ × Hash32))) → NodeFits (suc t) m y →
+        Fits (record (quiet y) { posts = sends_after any_join words layouts x number (walk_after any_join words x w table prefix answer) table (asked_after any_join words x w.state.partition table prefix answer); is_spelled = list_all (is_spelled words) (rows_at any_join words x w.state.partition) })
+    walked y number w table prefix answer h =
+        let later = walk_after any_join words x w table prefix answer in
+        let asked = asked_after any_join words x w.state.partition table prefix answer in
+        let was : load x.accepted + x.queued ≤ k = f.counted in
+        record {
+          node = h;
+          spelled = part_spelled facts t v within x i.accepted f.blocks w.state.partition;
+          cost = costs_more _ (120000 * load x.accepted + 32768) mail_limit (after_cost facts t v within x i.accepted f.blocks number later table asked (few_asked any_join words x w.state.partition table prefix answer).1 (asked_short w.state.partition table prefix answer)) (omega (arith, was, grows, top));
+          beside = after_beside x f.blocks number later table asked;
+        }
+
+    at_walk_fits : (table : ℕ) (prefix : List ℕ) (act : Walk → Did AnyRow Layout) (o : Option Walk) → ((w : Walk) → Fits (act w)) → Fits (at_walk any_join words layouts x table prefix act o)
+    at_walk_fits table prefix act None h = rests
+    at_walk_fits table prefix act (Some w) h = either (is_open table prefix w.state.prefixes) (act w) (quiet x) (h w) rests
+
+    mending_fits : (now : Mending → Machine) (other : Did AnyRow Layout) → ((mending : Mending) → NodeFits (suc t) m (now mending)) → Fits other → (from number p table : ℕ) (prefix : List ℕ) (answer : Option (List (ℕ × Hash32))) (o : Option Mending) → Fits (mending_came any_join words layouts x now other from number p table prefix answer o)
+    mending_fits now other h d from number p table prefix answer None = d
+    mending_fits now other h d from number p table prefix answer (Some mending) =
+        either (mending.number == number) _ other
+        (at_walk_fits table prefix (mending_walks any_join words layouts x now table prefix answer mending) (walk_at p from mending.walks)
+        (λ w. let later = record mending { walks = walks_after (walk_after any_join words x w table prefix answer) mending.walks } in walked (now later) mending.number w table prefix answer (h later))) d
+
+    late_fits : (from number p table : ℕ) (prefix : List ℕ) (answer : Option (List (ℕ × Hash32))) → Fits (late_came any_join words layouts x from number p table prefix answer)
+    late_fits from number p table prefix answer =
+        mending_fits (with_lasting any_join words layouts x) _
+        (λ mending. record { counted = now_fits.counted; listed = now_fits.listed; small = f.small; rounds = now_fits.rounds; phases = now_fits.phases; blocks = f.blocks; round = f.round })
+        (mending_fits (with_mending any_join words layouts x) (quiet x)
+        (λ mending. record { counted = now_fits.counted; listed = now_fits.listed; small = f.small; rounds = now_fits.rounds; phases = now_fits.phases; blocks = f.blocks; round = f.round })
+        rests from number p table prefix answer x.mending)
+        from number p table prefix answer x.lasting
+
+    round_walked : (table : ℕ) (prefix : List ℕ) (answer : Option (List (ℕ × Hash32))) (round : Round) (w : Walk) → ArePartsOf 0 round.parts → Fits (round_walks any_join words layouts n x table prefix answer round w)
+    round_walked table prefix answer round w h =
+        let later = walk_after any_join words x w table prefix answer in
+        let now : Round = record round { walks = walks_after later round.walks } in
+        let there : Round = record now { confirmed = now.confirmed ++ record { partition = w.state.partition; node = w.node } ∷ [] } in
+        walked (cond (found_same later) (goes_on any_join words layouts n x there) (record x { round = Some now })) round.number w table prefix answer
+        (elim (found_same later) as (λ b. NodeFits (suc t) m (cond b (goes_on any_join words layouts n x there) (record x { round = Some now }))) [
+          | true ↦ goes_fits m (suc t) x there h now_fits
+          | false ↦ record { counted = now_fits.counted; listed = now_fits.listed; small = f.small; rounds = now_fits.rounds; phases = now_fits.phases; blocks = f.blocks; round = h }
+        ])
+
+    answer_fits : (from number p table : ℕ) (prefix : List ℕ) (answer : Option (List (ℕ × Hash32))) (o : Option Round) → RoundFits o → Fits (answer_came any_join words layouts n x from number p table prefix answer o)
+    answer_fits from number p table prefix answer None h = late_fits from number p table prefix answer
+    answer_fits from number p table prefix answer (Some round) h =
+        either (round.number == number) _ _
+        (at_walk_fits table prefix (round_walks any_join words layouts n x table prefix answer round) (walk_at p from round.walks) (λ w. round_walked table prefix answer round w h))
+        (late_fits from number p table prefix answer)
+
+    walks_fit : (from : ℕ) (tag : Tag) (table : ℕ) (prefix : List ℕ) (answer : Option (List (ℕ × Hash32))) → Fits (walks_on any_join words layouts n x from tag table prefix answer)
+    walks_fit from (ForCall request phase slot) table prefix answer = rests
+    walks_fit from (ForRound number p) table prefix answer = answer_fits from number p table prefix answer x.round f.round
+    walks_fit from (ForItem number) table prefix answer = rests
+
     items_came : (view : View Layout) (from number : ℕ) (items : List (Item AnyRow)) → AllByRecursion (λ (item : Item AnyRow). weight item.row ≤ 64) items → AllByRecursion (λ (item : Item AnyRow). weight item.row ≤ 64) (item_came any_join words layouts view from number items) × (length (item_came any_join words layouts view from number items) ≤ length items)
     items_came view from number [] a = (tt, omega arith)
     items_came view from number (item ∷ items) a =
@@ -442,6 +534,9 @@ module _ (facts : Facts) (t : ℕ) (v : Drawn) (within : AreWithin t v) (g : Ask
     hears_fits now from (BlockGet request phase at hash) is beside room = here from request phase at _ (gives_block_fits from request phase (block_at x.blocks hash.0) (block_short x.blocks hash.0 f.blocks))
     hears_fits now from (Block request phase bytes) is beside room = in_call request phase (λ c. block_came x c bytes c.present) (call_at x.calls request) refl (λ c low. block_fits c low bytes c.present)
     hears_fits now from (NoBlock request phase) is beside room = rests
+    hears_fits now from (AsksValue tag named p table prefix hash) is beside room = let low = room (64 + (length prefix + 32)) refl in compares_fits from tag named p table prefix hash (omega (arith, low))
+    hears_fits now from (HasSame tag table prefix) is beside room = walks_fit from tag table prefix None
+    hears_fits now from (Differ tag table prefix pairs) is beside room = walks_fit from tag table prefix (Some pairs)
 
     -- a packet comes
     pub receives_fits : (now from : ℕ) (p : Packet AnyRow Layout) → IsPacket any_join words (RowFits v) Short g from n p → PacketBeside p → ((b : ℕ) → packet_size words p ≡ Some b → k + b ≤ m) → Fits (receives any_join words layouts n now x from p)
@@ -451,14 +546,14 @@ module _ (facts : Facts) (t : ℕ) (v : Drawn) (within : AreWithin t v) (g : Ask
     -- ---- a node acts
 
     parts_did : (y : Machine) (number : ℕ) (nodes : Part → List ℕ) (parts : List Part) → NodeFits (suc t) m y → ArePartsOf 0 parts → ((part : Part) → length part.set ≤ 3 → length (nodes part) ≤ 3) →
-        Fits (record (quiet y) { posts = flat_map (λ part. pushes any_join words layouts x number part.partition (nodes part)) parts; is_spelled = are_spelled any_join words layouts x parts })
+        Fits (record (quiet y) { posts = starts any_join words layouts x number (walks_of any_join words x nodes parts); is_spelled = are_spelled any_join words layouts x parts })
     parts_did y number nodes parts h are few =
         let was : load x.accepted + x.queued ≤ k = f.counted in
         record {
           node = h;
           spelled = parts_spelled facts t v within x i.accepted f.blocks parts;
           cost = costs_more _ (120000 * load x.accepted) mail_limit (parts_cost facts t v within x i.accepted f.blocks number nodes parts are few) (omega arith);
-          beside = parts_beside x f.blocks number nodes parts;
+          beside = starts_beside x f.blocks number (walks_of any_join words x nodes parts);
         }
 
     open_few : (round : Round) (part : Part) → length part.set ≤ 3 → length (open_nodes round part) ≤ 3
@@ -468,14 +563,16 @@ module _ (facts : Facts) (t : ℕ) (v : Drawn) (within : AreWithin t v) (g : Ask
     begin_fits =
         let at = read_version layouts.reading x.view in
         let parts = parts_of any_join words layouts n x (layout_at layouts.reading x.view at) (layout_at layouts.reading x.view (suc at)) in
-        let round : Round = record { number = suc x.rounds; target = suc at; parts = parts; confirmed = map (λ (part : Part). record { partition = part.partition; node = n }) parts } in
+        let round : Round = record { number = suc x.rounds; target = suc at; parts = parts; confirmed = map (λ (part : Part). record { partition = part.partition; node = n }) parts; walks = walks_of any_join words x (other_nodes any_join words layouts n) parts } in
         let are : ArePartsOf 0 parts = parts_are n x (layout_at layouts.reading x.view at) (layout_at layouts.reading x.view (suc at)) (layout_fits x.view at views) (layout_fits x.view (suc at) views) in
         let rounds = f.rounds in
-        let more : NodeFits (suc t) m (record x { rounds = suc x.rounds }) = record { counted = now_fits.counted; listed = f.listed; small = f.small; rounds = omega arith; phases = now_fits.phases; blocks = f.blocks; round = f.round } in
-        parts_did (goes_on any_join words layouts n (record x { rounds = suc x.rounds }) round) (suc x.rounds) (open_nodes round) parts (goes_fits m (suc t) (record x { rounds = suc x.rounds }) round are more) are (open_few round)
+        let more : NodeFits (suc t) m (record x { rounds = suc x.rounds; lasting = None }) = record { counted = now_fits.counted; listed = f.listed; small = f.small; rounds = omega arith; phases = now_fits.phases; blocks = f.blocks; round = f.round } in
+        parts_did (goes_on any_join words layouts n (record x { rounds = suc x.rounds; lasting = None }) round) (suc x.rounds) (other_nodes any_join words layouts n) parts (goes_fits m (suc t) (record x { rounds = suc x.rounds; lasting = None }) round are more) are (λ part low. let a = filter_fewer (λ m. not (m == n)) part.set in omega arith)
 
     syncs_fit : (o : Option Round) → RoundFits o → Fits (syncs any_join words layouts n x o).did
-    syncs_fit (Some round) h = parts_did x round.number (open_nodes round) (open_parts round) now_fits (parts_filter _ 0 round.parts h) (open_few round)
+    syncs_fit (Some round) h =
+        parts_did (goes_on any_join words layouts n x (walked_anew any_join words layouts x round)) round.number (open_nodes round) (filled_parts any_join words layouts x round)
+        (goes_fits m (suc t) x (walked_anew any_join words layouts x round) h now_fits) (parts_filter _ 0 (open_parts round) (parts_filter _ 0 round.parts h)) (open_few round)
     syncs_fit None h = by_test (may_sync any_join words layouts n x.view) _ _
       where
         by_test : (b : Bool) (how other : LocalEnd) → Fits (cond {A = Acted AnyRow Layout} b (record { did = begin_round any_join words layouts n x; how = how }) (record { did = quiet x; how = other })).did
@@ -504,7 +601,7 @@ module _ (facts : Facts) (t : ℕ) (v : Drawn) (within : AreWithin t v) (g : Ask
         let l = layout_at layouts.reading x.view (newest layouts.reading x.view) in
         let h = layout_fits x.view (newest layouts.reading x.view) views in
         let rounds = f.rounds in
-        parts_did (record x { rounds = suc x.rounds }) (suc x.rounds) (λ (part : Part). filter (λ m. not (m == n)) part.set) (parts_of any_join words layouts n x l l)
+        parts_did (record x { rounds = suc x.rounds; mending = Some (record { number = suc x.rounds; walks = walks_of any_join words x (other_nodes any_join words layouts n) (parts_of any_join words layouts n x l l) }) }) (suc x.rounds) (other_nodes any_join words layouts n) (parts_of any_join words layouts n x l l)
         (record { counted = now_fits.counted; listed = f.listed; small = f.small; rounds = omega arith; phases = now_fits.phases; blocks = f.blocks; round = f.round }) (parts_are n x l l h h) (λ part low. let a = filter_fewer (λ m. not (m == n)) part.set in omega arith)
 
     -- ---- phases

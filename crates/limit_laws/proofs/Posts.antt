@@ -1,8 +1,8 @@
 -- How many bytes a node sends at once, and that none of it lacks a spelling.
 use Rattle.std.specs.Prelude.{◌≡◌, ◌≤◌, ◌+◌, ◌*◌, ℕ, zero, suc, Bool, true, false, ◌==◌, nat_lt, cond, List, [], ◌∷◌, ◌++◌, Option, Some, None, option_map, is_some, length, map, sum_by, slice_get, refl, ⊤}
-use Rattle.std.specs.List.{AllByRecursion, filter, find, flat_map, list_all}
+use Rattle.std.specs.List.{AllByRecursion, filter, find, flat_map, list_all, list_any}
 use Rattle.std.specs.Option.{unwrap_or}
-use Rattle.std.proofs.Common.{ap, mul-suc, mul-le-mul_left, length-append, arith}
+use Rattle.std.proofs.Common.{ap, sym, subst, ◌∙◌, mul-suc, mul-le-mul_left, length-append, append_assoc, arith}
 use Rattle.std.proofs.lemmas.List.Recursion.{is_sum_by}
 use Rattle.crdt_core.specs.EntryLaws.{and_both}
 use Rattle.crdt_core.proofs.Each.{all_weaker}
@@ -13,25 +13,25 @@ use Rattle.layout_roles.specs.declared.layout.Layout.{Layout}
 use Rattle.view_model.specs.View.{View, newest, layout_at}
 use Rattle.row_codec.specs.Reads.{are_bytes}
 use Rattle.table_schema.specs.Words.{partition_of}
-use Rattle.table_model.specs.Rows.{rows, rows_in}
+use Rattle.table_model.specs.Rows.{rows}
 use Rattle.wire_messages.specs.Size.{plus, row_length, rows_length, block_length, stored_length, size}
 use Rattle.wire_messages.specs.declared.message.Message.{Message}
 use Rattle.wire_messages.specs.declared.message.Message.TheVariants.{Store}
 use Rattle.wire_messages.specs.declared.message.Tag.TheVariants.{Round as ForRound, Item as ForItem}
 use Rattle.object_schema.specs.Schema.{words}
 use Rattle.cluster_machine.specs.Layouts.{layouts, set_of, set_in, stored_sets}
-use Rattle.cluster_machine.specs.Node.{Item, Part, Node, says, Post}
+use Rattle.cluster_machine.specs.Node.{Item, Part, Walk, Node, says, Post}
 use Rattle.cluster_machine.specs.Node as machine
 use Rattle.cluster_machine.specs.Rows.{same_bytes, block_at}
 use Rattle.cluster_machine.specs.Phases.{with_node, in_order, nodes_of, to_each, bytes_of, is_spelled}
 use Rattle.cluster_machine.specs.Phases as phases
-use Rattle.cluster_machine.specs.Rounds.{numbered_from, rows_at, found, with_its_block, pushes_rows, pushes, are_spelled, sets_in, parts_of}
+use Rattle.cluster_machine.specs.Rounds.{numbered_from, tables_of, is_noted, has_ended, rows_at, found, with_its_block, walk_with, walks_of, asks_at, first_asks, starts, sends_after, pushes_rows, are_spelled, sets_in, parts_of}
 use Rattle.cluster_machine.specs.Acts.{item_posts}
 use Rattle.cluster_machine.specs.World.{World, packet_size, sent_bytes}
 use Rattle.cluster_machine.specs.Step.{sent_by}
 use Rattle.machine_origins.proofs.Good.{IsGood, rows_good}
 use Rattle.machine_origins.proofs.Lists.{all_filter}
-use Rattle.limit_rows.proofs.Totals.{total, total_times, total_weaker, total_map}
+use Rattle.limit_rows.proofs.Totals.{total, total_times, total_weaker, total_map, total_filter}
 use Rattle.limit_rows.specs.Fitting.{Drawn, AreWithin, RowFits, weight}
 use Rattle.limit_rows.proofs.Handed.{fits_rules}
 use Rattle.limit_rows.proofs.Weights.{fits_spelled, ref_weight, object_weight, version_weight}
@@ -101,6 +101,10 @@ costs_both (x ∷ xs) ys a b c d =
     by_head (Some m) (Some k) e f n g h rest =
         let sum : m + k ≡ n = cc in
         costs_more (x ∷ (xs ++ ys)) (m + (k + b)) (a + b) (costs_cons x (xs ++ ys) m (k + b) m e (omega arith) (rest k f)) (omega arith)
+
+pub filter_fewer : {X : Type 0} (test : X → Bool) (xs : List X) → length (filter test xs) ≤ length xs
+filter_fewer test [] = omega arith
+filter_fewer test (x ∷ xs) = let rest = filter_fewer test xs in elim (test x) as (λ b. length (cond b (x ∷ filter test xs) (filter test xs)) ≤ suc (length xs)) [ true ↦ omega (arith, rest) | false ↦ omega (arith, rest) ]
 
 -- a message to each of these nodes
 pub costs_each : (nodes : List ℕ) (m : Message AnyRow) (b c : ℕ) → size words m ≡ Some b → b ≤ c → Costs (to_each nodes m) (c * length nodes)
@@ -279,23 +283,82 @@ module _ (facts : Facts) (t : ℕ) (v : Drawn) (within : AreWithin t v) where
     parts_spelled [] = refl
     parts_spelled (part ∷ parts) = and_both (list_all (is_spelled words) (rows_at any_join words x part.partition)) (are_spelled any_join words layouts x parts) (all_spelled (rows_at any_join words x part.partition) (at_good part.partition)) (parts_spelled parts)
 
+    -- what a walk asks at its beginning
+    asks_cost : (number p to : ℕ) (tables : List ℕ) → Costs (map (λ (o : ℕ × List ℕ). asks_at any_join words layouts x number p to o.0 o.1) (map (λ (table : ℕ). (table, [])) tables)) (96 * length tables)
+    asks_cost number p to [] = costs_nothing (96 * 0)
+    asks_cost number p to (table ∷ tables) =
+        let here = costs_one (asks_at any_join words layouts x number p to table []) 96 refl in
+        let rest = asks_cost number p to tables in
+        costs_more _ (96 + 96 * length tables) (96 * suc (length tables)) (costs_both (asks_at any_join words layouts x number p to table [] ∷ []) _ 96 (96 * length tables) here rest) (omega arith)
+
+    tables_few : (rs : List AnyRow) → AllByRecursion Good rs → 96 * length (tables_of any_join words rs) ≤ 30 * total weight rs
+    tables_few [] a = omega arith
+    tables_few (r ∷ rs) a =
+        let three = filter_fewer (λ (table : ℕ). list_any (λ (r : AnyRow). words.table r == table) (r ∷ rs)) (1 ∷ 2 ∷ 3 ∷ []) in
+        let least = row_least r a.0.has in
+        let whole : total weight (r ∷ rs) ≡ weight r + total weight rs = refl in
+        omega (arith, three, least, whole)
+
+    walks_cost : (number p : ℕ) (nodes : List ℕ) → Costs (starts any_join words layouts x number (map (walk_with any_join words x p) nodes)) (30 * total weight (rows_at any_join words x p) * length nodes)
+    walks_cost number p [] = costs_nothing _
+    walks_cost number p (n ∷ nodes) =
+        let c = 30 * total weight (rows_at any_join words x p) in
+        let few : 96 * length (tables_of any_join words (rows_at any_join words x p)) ≤ c = tables_few (rows_at any_join words x p) (at_good p) in
+        let more : c * suc (length nodes) ≡ c * length nodes + c = mul-suc c (length nodes) in
+        let here = costs_more _ _ c (asks_cost number p n (tables_of any_join words (rows_at any_join words x p))) few in
+        costs_more _ (c + c * length nodes) (c * suc (length nodes))
+        (costs_both (first_asks any_join words layouts x number (walk_with any_join words x p n)) (starts any_join words layouts x number (map (walk_with any_join words x p) nodes)) c (c * length nodes) here (walks_cost number p nodes)) (omega (arith, more))
+
+    starts_more : (number : ℕ) (xs ys : List Walk) → starts any_join words layouts x number (xs ++ ys) ≡ starts any_join words layouts x number xs ++ starts any_join words layouts x number ys
+    starts_more number [] ys = refl
+    starts_more number (w ∷ xs) ys = ap (λ l. first_asks any_join words layouts x number w ++ l) (starts_more number xs ys) ∙ sym (append_assoc (first_asks any_join words layouts x number w) (starts any_join words layouts x number xs) (starts any_join words layouts x number ys))
+
     -- parts of ascending partitions, each with three nodes at most
     parts_cost_from : (number q : ℕ) (nodes : Part → List ℕ) (parts : List Part) → ArePartsOf q parts → ((part : Part) → length part.set ≤ 3 → length (nodes part) ≤ 3) →
-        Costs (flat_map (λ part. pushes any_join words layouts x number part.partition (nodes part)) parts) (120000 * total weight (from_part q (rows any_join words x.accepted)))
+        Costs (starts any_join words layouts x number (walks_of any_join words x nodes parts)) (120000 * total weight (from_part q (rows any_join words x.accepted)))
     parts_cost_from number q nodes [] a few = costs_nothing (120000 * total weight (from_part q (rows any_join words x.accepted)))
     parts_cost_from number q nodes (part ∷ parts) a few =
         let all = rows any_join words x.accepted in
-        let here = rows_cost number part.partition (nodes part) (rows_at any_join words x part.partition) (few part a.1) (at_good part.partition) in
+        let mine = rows_at any_join words x part.partition in
+        let c = 30 * total weight mine in
+        let three : c * length (nodes part) ≤ c * 3 = mul-le-mul_left c (few part a.1) in
+        let here = costs_more _ (c * length (nodes part)) (120000 * total weight mine) (walks_cost number part.partition (nodes part)) (omega (arith, three)) in
         let rest = parts_cost_from number (suc part.partition) nodes parts a.2 few in
         let low = part_counts q part.partition all a.0 in
-        costs_more _ (120000 * total weight (rows_in words part.partition all) + 120000 * total weight (from_part (suc part.partition) all)) (120000 * total weight (from_part q all))
-        (costs_both (pushes any_join words layouts x number part.partition (nodes part)) (flat_map (λ part. pushes any_join words layouts x number part.partition (nodes part)) parts) _ _ here rest) (omega arith)
+        subst (λ posts. Costs posts (120000 * total weight (from_part q all))) (sym (starts_more number (map (walk_with any_join words x part.partition) (nodes part)) (walks_of any_join words x nodes parts)))
+        (costs_more _ (120000 * total weight mine + 120000 * total weight (from_part (suc part.partition) all)) (120000 * total weight (from_part q all))
+        (costs_both (starts any_join words layouts x number (map (walk_with any_join words x part.partition) (nodes part))) (starts any_join words layouts x number (walks_of any_join words x nodes parts)) _ _ here rest) (omega (arith, low)))
 
     pub parts_cost : (number : ℕ) (nodes : Part → List ℕ) (parts : List Part) → ArePartsOf 0 parts → ((part : Part) → length part.set ≤ 3 → length (nodes part) ≤ 3) →
-        Costs (flat_map (λ part. pushes any_join words layouts x number part.partition (nodes part)) parts) (120000 * load x.accepted)
+        Costs (starts any_join words layouts x number (walks_of any_join words x nodes parts)) (120000 * load x.accepted)
     parts_cost number nodes parts a few =
         let low = all_parts_count (rows any_join words x.accepted) in
-        costs_more _ (120000 * total weight (from_part 0 (rows any_join words x.accepted))) (120000 * load x.accepted) (parts_cost_from number 0 nodes parts a few) (omega arith)
+        costs_more _ (120000 * total weight (from_part 0 (rows any_join words x.accepted))) (120000 * load x.accepted) (parts_cost_from number 0 nodes parts a few) (omega (arith, low))
+
+    -- what a walk asks on
+    further_cost : (number p to table : ℕ) (prefixes : List (List ℕ)) → AllByRecursion (λ (q : List ℕ). length q ≤ 32) prefixes → Costs (map (asks_at any_join words layouts x number p to table) prefixes) (128 * length prefixes)
+    further_cost number p to table [] a = costs_nothing (128 * 0)
+    further_cost number p to table (prefix ∷ prefixes) a =
+        let short = a.0 in
+        let here = costs_more _ (64 + (length prefix + 32)) 128 (costs_one (asks_at any_join words layouts x number p to table prefix) (64 + (length prefix + 32)) refl) (omega (arith, short)) in
+        costs_more _ (128 + 128 * length prefixes) (128 * suc (length prefixes)) (costs_both (asks_at any_join words layouts x number p to table prefix ∷ []) _ 128 (128 * length prefixes) here (further_cost number p to table prefixes a.1)) (omega arith)
+
+    -- what a walk sends after an answer
+    pub after_cost : (number : ℕ) (w : Walk) (table : ℕ) (asked : List (List ℕ)) → length asked ≤ 256 → AllByRecursion (λ (q : List ℕ). length q ≤ 32) asked → Costs (sends_after any_join words layouts x number w table asked) (120000 * load x.accepted + 32768)
+    after_cost number w table asked few short =
+        let p = w.state.partition in
+        let all = rows any_join words x.accepted in
+        let mine = rows_at any_join words x p in
+        let one = total_filter weight (is_noted any_join words w.state.noted) mine in
+        let two = total_filter weight (λ (r : AnyRow). partition_of words r == p) all in
+        elim (has_ended w) as (λ b. Costs (cond b (pushes_rows any_join words layouts x number p (w.node ∷ []) (filter (is_noted any_join words w.state.noted) mine)) (map (asks_at any_join words layouts x number p w.node table) asked)) (120000 * load x.accepted + 32768)) [
+          | true ↦ costs_more _ (120000 * total weight (filter (is_noted any_join words w.state.noted) mine)) (120000 * load x.accepted + 32768)
+              (rows_cost number p (w.node ∷ []) (filter (is_noted any_join words w.state.noted) mine) (omega arith) (all_filter Good (is_noted any_join words w.state.noted) mine (at_good p))) (omega (arith, one, two))
+          | false ↦ costs_more _ (128 * length asked) (120000 * load x.accepted + 32768) (further_cost number p w.node table asked short) (omega (arith, few))
+        ]
+
+    pub part_spelled : (p : ℕ) → list_all (is_spelled words) (rows_at any_join words x p) ≡ true
+    part_spelled p = all_spelled (rows_at any_join words x p) (at_good p)
 
   -- ---- the outbox
 

@@ -14,7 +14,7 @@ use Rattle.version_laws.proofs.Laws.{safe_at}
 use Rattle.layout_roles.specs.declared.role.Role.{Role}
 use Rattle.table_schema.specs.Words.{Words, partition_of}
 use Rattle.wire_messages.specs.declared.message.Message.{Message}
-use Rattle.wire_messages.specs.declared.message.Message.TheVariants.{Get, Row, Range, Rows, Store, Stored, Behind, NotHere, BlockGet, Block, NoBlock}
+use Rattle.wire_messages.specs.declared.message.Message.TheVariants.{Get, Row, Range, Rows, Store, Stored, Behind, NotHere, BlockGet, Block, NoBlock, Walk as AsksValue, Same as HasSame, Differ}
 use Rattle.wire_messages.specs.declared.message.Tag.TheVariants.{Call as ForCall, Round as ForRound, Item as ForItem}
 use Rattle.wire_messages.specs.declared.phase.Phase.{Phase}
 use Rattle.quorum_model.specs.Quorum.{is_among}
@@ -39,7 +39,7 @@ use Rattle.machine_laws.proofs.Controls.{turned}
 use Rattle.machine_laws.proofs.Same.{SaysOnly, Unseen, same_self, unseen_quiet, said_to_each, unseen_hears, unseen_begins}
 use Rattle.machine_laws.proofs.Turning.{stays, ack_turns, sync_ack_turns, clean_turns, view_turns}
 use Rattle.machine_laws.proofs.Requests.{close_turns, restart_turns, open_turns, gossip_turns}
-use Rattle.machine_laws.proofs.Rounding.{Goes, goes_unseen, confirmed_goes, unseen_again, unseen_repairs, may_both, begun_goes}
+use Rattle.machine_laws.proofs.Rounding.{Goes, goes_unseen, confirmed_goes, again_goes, walks_goes, unseen_repairs, may_both, begun_goes}
 use Rattle.machine_laws.proofs.Applying.{install_turns, apply_turns}
 use Rattle.crdt_core.proofs.Each.{all_append}
 
@@ -102,6 +102,13 @@ module _ {R L A C : Type 0} (join : R → R → R) (s : Words R) (k : Layouts L)
   hears_goes w c n from (BlockGet request phase at hash) t = goes_unseen k partitions w c n _ t (unseen_hears join s k n (clock w n) (w.nodes n) from (BlockGet request phase at hash) tt)
   hears_goes w c n from (Block request phase bytes) t = goes_unseen k partitions w c n _ t (unseen_hears join s k n (clock w n) (w.nodes n) from (Block request phase bytes) tt)
   hears_goes w c n from (NoBlock request phase) t = goes_unseen k partitions w c n _ t (unseen_hears join s k n (clock w n) (w.nodes n) from (NoBlock request phase) tt)
+  hears_goes w c n from (AsksValue tag named p table prefix hash) t = goes_unseen k partitions w c n _ t (unseen_hears join s k n (clock w n) (w.nodes n) from (AsksValue tag named p table prefix hash) tt)
+  hears_goes w c n from (HasSame (ForCall request phase slot) table prefix) t = goes_unseen k partitions w c n _ t (unseen_hears join s k n (clock w n) (w.nodes n) from (HasSame (ForCall request phase slot) table prefix) (λ h. h))
+  hears_goes w c n from (HasSame (ForRound number p) table prefix) t = walks_goes join s k partitions w c n from number p table prefix None t
+  hears_goes w c n from (HasSame (ForItem number) table prefix) t = goes_unseen k partitions w c n _ t (unseen_hears join s k n (clock w n) (w.nodes n) from (HasSame (ForItem number) table prefix) (λ h. h))
+  hears_goes w c n from (Differ (ForCall request phase slot) table prefix pairs) t = goes_unseen k partitions w c n _ t (unseen_hears join s k n (clock w n) (w.nodes n) from (Differ (ForCall request phase slot) table prefix pairs) (λ h. h))
+  hears_goes w c n from (Differ (ForRound number p) table prefix pairs) t = walks_goes join s k partitions w c n from number p table prefix (Some pairs) t
+  hears_goes w c n from (Differ (ForItem number) table prefix pairs) t = goes_unseen k partitions w c n _ t (unseen_hears join s k n (clock w n) (w.nodes n) from (Differ (ForItem number) table prefix pairs) (λ h. h))
 
   pub receives_goes : (w : World R L) (c : control.World L) (n from : ℕ) (p : Packet R L) → Controlled k partitions w c → IsShown c p → Goes {A = A} {C = C} k partitions w c (did w n (receives join s k n (clock w n) (w.nodes n) from p))
   receives_goes w c n from (says m) t h = hears_goes w c n from m t
@@ -130,7 +137,7 @@ module _ {R L A C : Type 0} (join : R → R → R) (s : Words R) (k : Layouts L)
 
   pub syncs_goes : (w : World R L) (c : control.World L) (n : ℕ) (o : Option Round) → IsReached k.reading partitions c → Controlled k partitions w c → (w.nodes n).round ≡ o →
       Goes {A = A} {C = C} k partitions w c (did w n (syncs join s k n (w.nodes n) o).did)
-  syncs_goes w c n (Some round) reached t e = goes_unseen k partitions w c n _ t (unseen_again join s k n (w.nodes n) round)
+  syncs_goes w c n (Some round) reached t e = again_goes join s k partitions w c n round t e
   syncs_goes w c n None reached t e =
       let x = w.nodes n in
       let safe = safe_at k.reading partitions c reached in

@@ -1,33 +1,35 @@
 -- What a node does when a message comes, and by itself.
 use Rattle.std.specs.Prelude.{◌≡◌, ℕ, suc, Bool, true, false, not, cond, ◌==◌, nat_lt, Option, Some, None, List, [], ◌∷◌, ◌++◌, map, refl}
-use Rattle.std.specs.List.{AllByRecursion, filter}
+use Rattle.std.specs.List.{AllByRecursion}
 use Rattle.std.proofs.Common.{sym, subst}
 use Rattle.std.proofs.lemmas.Bool.{eqb-true}
 use Rattle.std.proofs.lemmas.Slice.Eq.{bytes_eq-Decides}
 use Rattle.crdt_core.specs.Members.{Has}
 use Rattle.view_model.specs.View.{View, newest, layout_at, read_version, merged, cleaned}
+use Rattle.blake2_hash.specs.declared.digest.Hash32.{Hash32}
 use Rattle.table_schema.specs.Words.{Words}
 use Rattle.table_model.specs.Rows.{row_at}
 use Rattle.wire_messages.specs.declared.message.Message.{Message}
-use Rattle.wire_messages.specs.declared.message.Message.TheVariants.{Get, Row, Range, Rows, Store, Stored, Behind, NotHere, BlockGet, Block, NoBlock}
+use Rattle.wire_messages.specs.declared.message.Message.TheVariants.{Get, Row, Range, Rows, Store, Stored, Behind, NotHere, BlockGet, Block, NoBlock, Walk as AsksValue, Same as HasSame, Differ}
 use Rattle.wire_messages.specs.declared.message.Tag.{Tag}
 use Rattle.wire_messages.specs.declared.message.Tag.TheVariants.{Call as ForCall, Round as ForRound, Item as ForItem}
 use Rattle.cluster_machine.specs.declared.step.Action.{Action}
 use Rattle.cluster_machine.specs.declared.step.Action.TheVariants.{Ack as RaiseAck, Sync as GoOn, SyncAck as RaiseSyncAck, Clean, Work, Repair}
 use Rattle.cluster_machine.specs.declared.step.LocalEnd.{LocalEnd}
 use Rattle.cluster_machine.specs.Layouts.{Layouts, is_given, is_stored}
-use Rattle.cluster_machine.specs.Node.{Call, Item, Part, Round, Node, Packet, says, shows, Did, quiet}
+use Rattle.cluster_machine.specs.Node.{Call, Item, Part, Walk, Round, Mending, Node, Packet, says, shows, Did, quiet}
 use Rattle.cluster_machine.specs.Node as machine
+use Rattle.walk_model.specs.Walking.{is_open}
 use Rattle.cluster_machine.specs.Phases.{call_at, row_came, rows_came, stored_came, block_came, at_call}
 use Rattle.cluster_machine.specs.Rows.{same_bytes, block_at, accepts_all}
-use Rattle.cluster_machine.specs.Receives.{answers, where_stored, gives_block, takes, round_came, is_done, kept_item, item_came, confirms, hears, receives}
-use Rattle.cluster_machine.specs.Rounds.{is_complete, open_nodes, open_parts, parts_of, synced, goes_on, may_sync, begin_round}
+use Rattle.cluster_machine.specs.Receives.{answers, where_stored, gives_block, takes, compared, compares, walks_on, round_came, is_done, kept_item, item_came, confirms, hears, receives}
+use Rattle.cluster_machine.specs.Rounds.{is_complete, rows_at, walk_at, walks_of, walks_after, found_same, walk_after, asked_after, sends_after, other_nodes, parts_of, synced, goes_on, may_sync, begin_round, round_walks, mending_walks, at_walk, mending_came, with_mending, with_lasting, late_came, answer_came, new_walks, walked_anew}
 use Rattle.cluster_machine.specs.Acts.{Acted, syncs, acts}
 use Rattle.machine_origins.proofs.Lists.{all_found}
 use Rattle.machine_origins.proofs.Good.{IsFound, Rules, row_found}
 use Rattle.machine_origins.proofs.Sound.{for_row, for_block, Asks, AnswersTo, GivesTo, IsMessage, IsPacket, IsCall, IsNode, IsDone, AreBlocks}
 use Rattle.machine_origins.proofs.Accepting.{accepts_all_node, sees_node}
-use Rattle.machine_origins.proofs.Sending.{items_posts, parts_posts}
+use Rattle.machine_origins.proofs.Sending.{items_posts, starts_posts, after_posts}
 use Rattle.machine_origins.proofs.FollowingCalls.{found_there}
 use Rattle.machine_origins.proofs.Calls.{still, stored_done, block_done, row_done, rows_done}
 
@@ -103,6 +105,66 @@ module _ {R : Type 0} {join : R → R → R} {s : Words R} {P : R → Type 0} (r
         let new : Round = record round { confirmed = round.confirmed ++ record { partition = p; node = from } ∷ [] } in
         either (round.number == number) (quiet (goes_on join s k n x new)) (quiet x) (still join s P Q count n x.calls g (goes_on join s k n x new) (goes_done x new i)) rests
 
+    -- what is asked for a walk, and what is answered
+    compared_is : (from : ℕ) (tag : Tag) (p table : ℕ) (prefix : List ℕ) (hash : Hash32) → IsMessage join s P Q g n from (compared join s k x tag p table prefix hash)
+    compared_is from tag p table prefix hash =
+        elim (same_bytes hash.0 (Rattle.cluster_machine.specs.Rounds.value_here join s x table p prefix).0) as (λ b. IsMessage join s P Q g n from (cond b (HasSame tag table prefix) (Differ tag table prefix (Rattle.cluster_machine.specs.Rounds.children_here join s x table p prefix)))) [ true ↦ tt | false ↦ tt ]
+
+    compares_done : (from : ℕ) (tag : Tag) (named p table : ℕ) (prefix : List ℕ) (hash : Hash32) → Done (compares join s k n x from tag named p table prefix hash)
+    compares_done from tag named p table prefix hash =
+        either (nat_lt (newest k.reading x.view) named) _ _ (answers_done x from (Behind tag (newest k.reading x.view)) i tt)
+        (either (not (is_given k x.view n p)) _ _ (answers_done x from (NotHere tag) i tt)
+        (record { node = i; posts = λ e. (compared_is from tag p table prefix hash, tt); reads = tt; ends = tt }))
+
+    at_walk_done : (table : ℕ) (prefix : List ℕ) (f : Walk → Did R L) (o : Option Walk) → ((w : Walk) → Done (f w)) → Done (at_walk join s k x table prefix f o)
+    at_walk_done table prefix f None h = rests
+    at_walk_done table prefix f (Some w) h = either (is_open table prefix w.state.prefixes) (f w) (quiet x) (h w) rests
+
+    mending_done : (now : Mending → Node R L) (other : Did R L) → ((m : Mending) → Sound (now m)) → Done other → (from number p table : ℕ) (prefix : List ℕ) (answer : Option (List (ℕ × Hash32))) (o : Option Mending) → Done (mending_came join s k x now other from number p table prefix answer o)
+    mending_done now other h d from number p table prefix answer None = d
+    mending_done now other h d from number p table prefix answer (Some mending) =
+        either (mending.number == number) _ _
+        (at_walk_done table prefix (mending_walks join s k x now table prefix answer mending) (walk_at p from mending.walks)
+        (λ w. record {
+          node = h _;
+          posts = λ e. after_posts rules Q k g n x mending.number (walk_after join s x w table prefix answer) table (asked_after join s x w.state.partition table prefix answer) i.accepted e;
+          reads = tt;
+          ends = tt;
+        }))
+        d
+
+    late_done : (from number p table : ℕ) (prefix : List ℕ) (answer : Option (List (ℕ × Hash32))) → Done (late_came join s k x from number p table prefix answer)
+    late_done from number p table prefix answer =
+        mending_done (with_lasting join s k x) _ (λ m. record { accepted = i.accepted; items = i.items; calls = i.calls })
+        (mending_done (with_mending join s k x) _ (λ m. record { accepted = i.accepted; items = i.items; calls = i.calls }) rests from number p table prefix answer x.mending)
+        from number p table prefix answer x.lasting
+
+    walked_done : (table : ℕ) (prefix : List ℕ) (answer : Option (List (ℕ × Hash32))) (round : Round) (w : Walk) → Done (round_walks join s k n x table prefix answer round w)
+    walked_done table prefix answer round w =
+        let later = walk_after join s x w table prefix answer in
+        let now : Round = record round { walks = walks_after later round.walks } in
+        record {
+          node = elim (found_same later) as (λ b. Sound (cond b (goes_on join s k n x (record now { confirmed = now.confirmed ++ record { partition = w.state.partition; node = w.node } ∷ [] })) (record x { round = Some now }))) [
+            | true ↦ goes_done x (record now { confirmed = now.confirmed ++ record { partition = w.state.partition; node = w.node } ∷ [] }) i
+            | false ↦ record { accepted = i.accepted; items = i.items; calls = i.calls }
+          ];
+          posts = λ e. after_posts rules Q k g n x round.number later table (asked_after join s x w.state.partition table prefix answer) i.accepted e;
+          reads = tt;
+          ends = tt;
+        }
+
+    answered_done : (from number p table : ℕ) (prefix : List ℕ) (answer : Option (List (ℕ × Hash32))) (o : Option Round) → Done (answer_came join s k n x from number p table prefix answer o)
+    answered_done from number p table prefix answer None = late_done from number p table prefix answer
+    answered_done from number p table prefix answer (Some round) =
+        either (round.number == number) _ _
+        (at_walk_done table prefix (round_walks join s k n x table prefix answer round) (walk_at p from round.walks) (walked_done table prefix answer round))
+        (late_done from number p table prefix answer)
+
+    walks_done : (from : ℕ) (tag : Tag) (table : ℕ) (prefix : List ℕ) (answer : Option (List (ℕ × Hash32))) → Done (walks_on join s k n x from tag table prefix answer)
+    walks_done from (ForCall request phase slot) table prefix answer = rests
+    walks_done from (ForRound number p) table prefix answer = answered_done from number p table prefix answer x.round
+    walks_done from (ForItem number) table prefix answer = rests
+
     items_came : (v : View L) (from number : ℕ) (items : List (Item R)) → AllByRecursion (λ (item : Item R). P item.row) items → AllByRecursion (λ (item : Item R). P item.row) (item_came join s k v from number items)
     items_came v from number [] a = tt
     items_came v from number (item ∷ items) a =
@@ -139,6 +201,9 @@ module _ {R : Type 0} {join : R → R → R} {s : Words R} {P : R → Type 0} (r
         in_call request phase (λ c. block_came x c bytes c.present) (call_at x.calls request) refl
         (λ c there is r p. block_done join s P Q count n g x c i is there bytes c.present refl (at_phase (λ q f. GivesTo join s P Q (g n q f) bytes) c request phase r p m))
     hears_done now from (NoBlock request phase) bs m = rests
+    hears_done now from (AsksValue tag named p table prefix hash) bs m = compares_done from tag named p table prefix hash
+    hears_done now from (HasSame tag table prefix) bs m = walks_done from tag table prefix None
+    hears_done now from (Differ tag table prefix pairs) bs m = walks_done from tag table prefix (Some pairs)
 
     pub receives_done : (now from : ℕ) (p : Packet R L) → AreBlocks join s P Q x.blocks → IsPacket join s P Q g from n p → Done (receives join s k n now x from p)
     receives_done now from (says m) bs h = hears_done now from m bs h
@@ -150,16 +215,21 @@ module _ {R : Type 0} {join : R → R → R} {s : Words R} {P : R → Type 0} (r
     begin_done =
         let at = read_version k.reading x.view in
         let parts = parts_of join s k n x (layout_at k.reading x.view at) (layout_at k.reading x.view (suc at)) in
-        let round : Round = record { number = suc x.rounds; target = suc at; parts = parts; confirmed = map (λ (part : Part). record { partition = part.partition; node = n }) parts } in
+        let round : Round = record { number = suc x.rounds; target = suc at; parts = parts; confirmed = map (λ (part : Part). record { partition = part.partition; node = n }) parts; walks = walks_of join s x (other_nodes join s k n) parts } in
         record {
-          node = goes_done (record x { rounds = suc x.rounds }) round (record { accepted = i.accepted; items = i.items; calls = i.calls });
-          posts = λ e. parts_posts rules Q k g n x (suc x.rounds) (open_nodes round) parts i.accepted e;
+          node = goes_done (record x { rounds = suc x.rounds; lasting = None }) round (record { accepted = i.accepted; items = i.items; calls = i.calls });
+          posts = λ e. starts_posts rules Q k g n x (suc x.rounds) round.walks;
           reads = tt;
           ends = tt;
         }
 
     syncs_done : (o : Option Round) → Done (syncs join s k n x o).did
-    syncs_done (Some round) = record { node = i; posts = λ e. parts_posts rules Q k g n x round.number (open_nodes round) (open_parts round) i.accepted e; reads = tt; ends = tt }
+    syncs_done (Some round) = record {
+      node = goes_done x (walked_anew join s k x round) (record { accepted = i.accepted; items = i.items; calls = i.calls });
+      posts = λ e. starts_posts rules Q k g n x round.number (new_walks join s k x round);
+      reads = tt;
+      ends = tt;
+    }
     syncs_done None = by_test (may_sync join s k n x.view) _ _
       where
         by_test : (b : Bool) (how other : LocalEnd) → Done (cond {A = Acted R L} b (record { did = begin_round join s k n x; how = how }) (record { did = quiet x; how = other })).did
@@ -176,7 +246,7 @@ module _ {R : Type 0} {join : R → R → R} {s : Words R} {P : R → Type 0} (r
         let l = layout_at k.reading x.view (newest k.reading x.view) in
         record {
           node = record { accepted = i.accepted; items = i.items; calls = i.calls };
-          posts = λ e. parts_posts rules Q k g n x (suc x.rounds) (λ (part : Part). filter (λ m. not (m == n)) part.set) (parts_of join s k n x l l) i.accepted e;
+          posts = λ e. starts_posts rules Q k g n x (suc x.rounds) (walks_of join s x (other_nodes join s k n) (parts_of join s k n x l l));
           reads = tt;
           ends = tt;
         }

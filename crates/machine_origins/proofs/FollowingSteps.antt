@@ -3,12 +3,14 @@ use Rattle.std.specs.Prelude.{◌≡◌, ℕ, suc, Bool, true, false, not, cond,
 use Rattle.std.proofs.Common.{ap, sym, subst, ◌∙◌, inl, inr}
 use Rattle.crdt_core.specs.Members.{Has}
 use Rattle.view_model.specs.View.{View, oldest, newest, layout_at, read_version, merged, cleaned}
+use Rattle.blake2_hash.specs.declared.digest.Hash32.{Hash32}
+use Rattle.walk_model.specs.Walking.{is_open}
 use Rattle.table_schema.specs.Words.{Words}
 use Rattle.quorum_model.specs.declared.range.RangeAnswer.{RangeAnswer}
 use Rattle.quorum_model.specs.Quorum.{StoreSlot, with_confirmation}
 use Rattle.quorum_model.specs.Window.{Window}
 use Rattle.wire_messages.specs.declared.message.Message.{Message}
-use Rattle.wire_messages.specs.declared.message.Message.TheVariants.{Get, Row, Range, Rows, Store, Stored, Behind, NotHere, BlockGet, Block, NoBlock}
+use Rattle.wire_messages.specs.declared.message.Message.TheVariants.{Get, Row, Range, Rows, Store, Stored, Behind, NotHere, BlockGet, Block, NoBlock, Walk as AsksValue, Same as HasSame, Differ}
 use Rattle.wire_messages.specs.declared.message.Tag.{Tag}
 use Rattle.wire_messages.specs.declared.message.Tag.TheVariants.{Call as ForCall, Round as ForRound, Item as ForItem}
 use Rattle.wire_messages.specs.declared.phase.Phase.{Phase}
@@ -17,11 +19,11 @@ use Rattle.wire_messages.specs.declared.phase.PhaseEnd.TheVariants.{Row as GaveR
 use Rattle.cluster_machine.specs.declared.step.Action.{Action}
 use Rattle.cluster_machine.specs.declared.step.Action.TheVariants.{Ack as RaiseAck, Sync as GoOn, SyncAck as RaiseSyncAck, Clean, Work, Repair}
 use Rattle.cluster_machine.specs.Layouts.{Layouts, is_given, is_stored}
-use Rattle.cluster_machine.specs.Node.{Question, Scan, Present, resting, asking, scanning, storing, fetching, Call, Node, Round, Packet, says, shows, read, scanned, Did, quiet}
+use Rattle.cluster_machine.specs.Node.{Question, Scan, Present, resting, asking, scanning, storing, fetching, Call, Node, Round, Packet, says, shows, read, scanned, Did, quiet, Walk, Mending}
 use Rattle.cluster_machine.specs.Rows.{accepts_read, accepts_all, block_at, still, drops, sees}
 use Rattle.cluster_machine.specs.Phases.{call_at, with_call, asked, looked, stored, slots_of, begins, value_after, row_came, rows_came, stored_came, block_came, at_call}
-use Rattle.cluster_machine.specs.Rounds.{is_complete, synced, goes_on, may_sync, parts_of, begin_round}
-use Rattle.cluster_machine.specs.Receives.{answers, where_stored, gives_block, takes, round_came, confirms, hears, receives}
+use Rattle.cluster_machine.specs.Rounds.{is_complete, synced, goes_on, may_sync, walk_at, walks_of, walks_after, found_same, walk_after, other_nodes, parts_of, begin_round, round_walks, mending_walks, at_walk, mending_came, with_mending, with_lasting, late_came, answer_came, walked_anew, again}
+use Rattle.cluster_machine.specs.Receives.{answers, where_stored, gives_block, takes, compares, walks_on, round_came, confirms, hears, receives}
 use Rattle.cluster_machine.specs.Acts.{Acted, syncs, acts}
 use Rattle.cluster_machine.specs.Keeping.{AreDifferent}
 use Rattle.machine_origins.specs.Following.{GoesOn, EndsSo, Follows, Began, Begins}
@@ -105,10 +107,10 @@ module _ {R L : Type 0} (join : R → R → R) (s : Words R) (k : Layouts L) whe
   round_begun id x =
       let at = read_version k.reading x.view in
       let parts = parts_of join s k id x (layout_at k.reading x.view at) (layout_at k.reading x.view (suc at)) in
-      record { number = suc x.rounds; target = suc at; parts = parts; confirmed = map (λ part. record { partition = part.partition; node = id }) parts }
+      record { number = suc x.rounds; target = suc at; parts = parts; confirmed = map (λ part. record { partition = part.partition; node = id }) parts; walks = walks_of join s x (other_nodes join s k id) parts }
 
   pub calls_begun : (id : ℕ) (x : Node R L) → (begin_round join s k id x).node.calls ≡ x.calls
-  calls_begun id x = calls_round id (record x { rounds = suc x.rounds }) (round_begun id x)
+  calls_begun id x = calls_round id (record x { rounds = suc x.rounds; lasting = None }) (round_begun id x)
 
   module _ (x : Node R L) where
     pub follows_answer : (y : Node R L) (to : ℕ) (m : Message R) → y.calls ≡ x.calls → Follows x (answers y to m)
@@ -133,6 +135,44 @@ module _ {R L : Type 0} (join : R → R → R) (s : Words R) (k : Layouts L) whe
         let now : Round = record round { confirmed = round.confirmed ++ record { partition = p; node = from } ∷ [] } in
         follows_cond x (round.number == number) (quiet (goes_on join s k id x now)) (quiet x) (follows_same x (quiet (goes_on join s k id x now)) (calls_round id x now) refl refl refl) (follows_quiet x)
 
+    pub follows_compares : (id from : ℕ) (tag : Tag) (named p table : ℕ) (prefix : List ℕ) (hash : Hash32) → Follows x (compares join s k id x from tag named p table prefix hash)
+    follows_compares id from tag named p table prefix hash =
+        follows_cond x (nat_lt (newest k.reading x.view) named) _ _ (follows_answer x from _ refl)
+        (follows_cond x (not (is_given k x.view id p)) _ _ (follows_answer x from _ refl)
+        (follows_same x _ refl refl refl refl))
+
+    follows_at_walk : (table : ℕ) (prefix : List ℕ) (f : Walk → Did R L) (o : Option Walk) → ((w : Walk) → Follows x (f w)) → Follows x (at_walk join s k x table prefix f o)
+    follows_at_walk table prefix f None h = follows_quiet x
+    follows_at_walk table prefix f (Some w) h = follows_cond x (is_open table prefix w.state.prefixes) (f w) (quiet x) (h w) (follows_quiet x)
+
+    follows_mending : (now : Mending → Node R L) (other : Did R L) → ((m : Mending) → (now m).calls ≡ x.calls) → Follows x other → (from number p table : ℕ) (prefix : List ℕ) (answer : Option (List (ℕ × Hash32))) (o : Option Mending) → Follows x (mending_came join s k x now other from number p table prefix answer o)
+    follows_mending now other same h from number p table prefix answer None = h
+    follows_mending now other same h from number p table prefix answer (Some mending) =
+        follows_cond x (mending.number == number) _ _ (follows_at_walk table prefix (mending_walks join s k x now table prefix answer mending) (walk_at p from mending.walks) (λ w. follows_same x _ (same _) refl refl refl)) h
+
+    follows_late : (from number p table : ℕ) (prefix : List ℕ) (answer : Option (List (ℕ × Hash32))) → Follows x (late_came join s k x from number p table prefix answer)
+    follows_late from number p table prefix answer =
+        follows_mending (with_lasting join s k x) _ (λ m. refl) (follows_mending (with_mending join s k x) _ (λ m. refl) (follows_quiet x) from number p table prefix answer x.mending) from number p table prefix answer x.lasting
+
+    calls_walked : (id table : ℕ) (prefix : List ℕ) (answer : Option (List (ℕ × Hash32))) (round : Round) (w : Walk) → (round_walks join s k id x table prefix answer round w).node.calls ≡ x.calls
+    calls_walked id table prefix answer round w =
+        let later = walk_after join s x w table prefix answer in
+        let now : Round = record round { walks = walks_after later round.walks } in
+        let there : Round = record now { confirmed = now.confirmed ++ record { partition = w.state.partition; node = w.node } ∷ [] } in
+        elim (found_same later) as (λ b. (cond b (goes_on join s k id x there) (record x { round = Some now })).calls ≡ x.calls) [ true ↦ calls_round id x there | false ↦ refl ]
+
+    follows_answered : (id from number p table : ℕ) (prefix : List ℕ) (answer : Option (List (ℕ × Hash32))) (o : Option Round) → Follows x (answer_came join s k id x from number p table prefix answer o)
+    follows_answered id from number p table prefix answer None = follows_late from number p table prefix answer
+    follows_answered id from number p table prefix answer (Some round) =
+        follows_cond x (round.number == number) _ _
+        (follows_at_walk table prefix (round_walks join s k id x table prefix answer round) (walk_at p from round.walks) (λ w. follows_same x (round_walks join s k id x table prefix answer round w) (calls_walked id table prefix answer round w) refl refl refl))
+        (follows_late from number p table prefix answer)
+
+    pub follows_walks : (id from : ℕ) (tag : Tag) (table : ℕ) (prefix : List ℕ) (answer : Option (List (ℕ × Hash32))) → Follows x (walks_on join s k id x from tag table prefix answer)
+    follows_walks id from (ForCall request phase slot) table prefix answer = follows_quiet x
+    follows_walks id from (ForRound number p) table prefix answer = follows_answered id from number p table prefix answer x.round
+    follows_walks id from (ForItem number) table prefix answer = follows_quiet x
+
     -- an answer to a request's phase
     pub follows_in_phase : (request phase : ℕ) (f : Call R → Did R L) → ((c : Call R) → Has x.calls c → Follows x (f c)) → Follows x (at_call x phase f (call_at x.calls request))
     follows_in_phase request phase f h = follows_at_call x phase f (call_at x.calls request) (λ c e. h c (found_there x.calls request c e))
@@ -155,13 +195,16 @@ module _ {R L : Type 0} (join : R → R → R) (s : Words R) (k : Layouts L) whe
       follows_hears id now from (BlockGet request phase at hash) = follows_where from request phase at _ (follows_gives_block from request phase (block_at x.blocks hash.0))
       follows_hears id now from (Block request phase bytes) = follows_in_phase request phase _ (λ c there. follows_block x differ c there bytes c.present refl)
       follows_hears id now from (NoBlock request phase) = follows_quiet x
+      follows_hears id now from (AsksValue tag named p table prefix hash) = follows_compares id from tag named p table prefix hash
+      follows_hears id now from (HasSame tag table prefix) = follows_walks id from tag table prefix None
+      follows_hears id now from (Differ tag table prefix pairs) = follows_walks id from tag table prefix (Some pairs)
 
       pub follows_receives : (id now from : ℕ) (packet : Packet R L) → Follows x (receives join s k id now x from packet)
       follows_receives id now from (says m) = follows_hears id now from m
       follows_receives id now from (shows v) = follows_same x _ (calls_seen id now x (merged k.reading x.view v)) refl refl refl
 
     pub follows_syncs : (id : ℕ) (o : Option Round) → Follows x (syncs join s k id x o).did
-    follows_syncs id (Some round) = follows_same x _ refl refl refl refl
+    follows_syncs id (Some round) = follows_same x (again join s k id x round) (calls_round id x (walked_anew join s k x round)) refl refl refl
     follows_syncs id None = follows_acted x (may_sync join s k id x.view) _ _ (follows_same x (begin_round join s k id x) (calls_begun id x) refl refl refl) (follows_quiet x)
 
     pub follows_acts : (id now : ℕ) (action : Action) → Follows x (acts join s k id now x action).did

@@ -1,15 +1,17 @@
 -- What each handler of a node keeps.
 use Rattle.std.specs.Prelude.{◌≡◌, ◌≤◌, ℕ, suc, max, Bool, true, false, not, cond, ◌==◌, nat_lt, IsTrue, List, [], ◌∷◌, ◌++◌, Option, Some, None, refl}
-use Rattle.std.specs.List.{filter, flat_map}
+use Rattle.std.specs.List.{flat_map}
 use Rattle.std.proofs.Common.{ap, sym, subst, ◌∙◌, inl, arith}
-use Rattle.view_model.specs.View.{is_gapless, newest, read_version, merged, cleaned}
+use Rattle.view_model.specs.View.{is_gapless, newest, layout_at, read_version, merged, cleaned}
 use Rattle.view_model.proofs.Joins.{newest_merged}
+use Rattle.blake2_hash.specs.declared.digest.Hash32.{Hash32}
+use Rattle.walk_model.specs.Walking.{is_open}
 use Rattle.table_schema.specs.Words.{Words, partition_at, partition_of}
 use Rattle.quorum_model.specs.declared.range.RangeAnswer.{RangeAnswer}
 use Rattle.quorum_model.specs.Quorum.{StoreSlot, with_confirmation}
 use Rattle.quorum_model.specs.Window.{Window}
 use Rattle.wire_messages.specs.declared.message.Message.{Message}
-use Rattle.wire_messages.specs.declared.message.Message.TheVariants.{Get, Row, Range, Rows, Store, Stored, Behind, NotHere, BlockGet, Block, NoBlock}
+use Rattle.wire_messages.specs.declared.message.Message.TheVariants.{Get, Row, Range, Rows, Store, Stored, Behind, NotHere, BlockGet, Block, NoBlock, Walk as AsksValue, Same as HasSame, Differ}
 use Rattle.wire_messages.specs.declared.message.Tag.{Tag}
 use Rattle.wire_messages.specs.declared.message.Tag.TheVariants.{Call as ForCall, Round as ForRound, Item as ForItem}
 use Rattle.wire_messages.specs.declared.phase.Phase.{Phase}
@@ -17,15 +19,15 @@ use Rattle.wire_messages.specs.declared.phase.Phase.TheVariants.{Read, Range as 
 use Rattle.cluster_machine.specs.declared.step.Action.{Action}
 use Rattle.cluster_machine.specs.declared.step.Action.TheVariants.{Ack as RaiseAck, Sync as GoOn, SyncAck as RaiseSyncAck, Clean, Work, Repair}
 use Rattle.cluster_machine.specs.Layouts.{Layouts, set_at, stored_sets, is_given, is_stored}
-use Rattle.cluster_machine.specs.Node.{Question, Scan, Present, resting, asking, scanning, storing, fetching, Call, Item, Node, Packet, says, shows, Round, Did, quiet}
+use Rattle.cluster_machine.specs.Node.{Question, Scan, Present, resting, asking, scanning, storing, fetching, Call, Item, Node, Packet, says, shows, Walk, Round, Mending, Did, quiet}
 use Rattle.cluster_machine.specs.Rows.{accepts_all, block_at, sees}
 use Rattle.cluster_machine.specs.Phases.{nodes_of, calls_now, call_at, asked, looked, stored, bytes_of, begins, value_after, row_came, rows_came, stored_came, block_came, at_call}
-use Rattle.cluster_machine.specs.Rounds.{open_nodes, open_parts, goes_on, may_sync, begin_round}
-use Rattle.cluster_machine.specs.Receives.{answers, where_stored, gives_block, takes, round_came, confirms, hears, receives}
+use Rattle.cluster_machine.specs.Rounds.{walk_at, walks_of, walks_after, found_same, walk_after, asked_after, other_nodes, parts_of, goes_on, may_sync, begin_round, round_walks, mending_walks, at_walk, mending_came, with_mending, with_lasting, late_came, answer_came, new_walks, walked_anew}
+use Rattle.cluster_machine.specs.Receives.{answers, where_stored, gives_block, takes, compares, walks_on, round_came, confirms, hears, receives}
 use Rattle.cluster_machine.specs.Acts.{Acted, item_posts, syncs, acts}
 use Rattle.cluster_machine.specs.Keeping.{ArePosts, IsUpTo}
 use Rattle.machine_origins.proofs.FollowingSteps.{calls_all, calls_seen, round_begun}
-use Rattle.machine_origins.proofs.KeepingNodes.{AtMostOneChanges, Stays, Keeps, stays_self, stays_called, keeps_quiet, keeps_cond, newest_cleaned, view_seen, posts_to_each, stores_posts, pushes_posts, view_all, stays_round}
+use Rattle.machine_origins.proofs.KeepingNodes.{AtMostOneChanges, Stays, Keeps, stays_self, stays_called, keeps_quiet, keeps_cond, newest_cleaned, view_seen, posts_to_each, stores_posts, starts_posts, after_posts, view_all, stays_round}
 use Rattle.crdt_core.proofs.Each.{all_append}
 
 module _ {R L : Type 0} (k : Layouts L) (x : Node R L) where
@@ -108,6 +110,53 @@ module _ {R L : Type 0} (join : R → R → R) (s : Words R) (k : Layouts L) (x 
       let now : Round = record round { confirmed = round.confirmed ++ record { partition = p; node = from } ∷ [] } in
       keeps_cond k x (round.number == number) (quiet (goes_on join s k id x now)) (quiet x) (keeps_quiet k x (goes_on join s k id x now) (stays_round join s k id x x now (stays_self k x))) (keeps_self k x)
 
+  keeps_compares : (id from : ℕ) (tag : Tag) (named p table : ℕ) (prefix : List ℕ) (hash : Hash32) → Keeps k x (compares join s k id x from tag named p table prefix hash)
+  keeps_compares id from tag named p table prefix hash =
+      keeps_cond k x (nat_lt (newest k.reading x.view) named) _ _ (keeps_answer k x x from _ (stays_self k x))
+      (keeps_cond k x (not (is_given k x.view id p)) _ _ (keeps_answer k x x from _ (stays_self k x))
+      (record { stays = stays_self k x; posts = (tt, tt) }))
+
+  keeps_at_walk : (table : ℕ) (prefix : List ℕ) (f : Walk → Did R L) (o : Option Walk) → ((w : Walk) → Keeps k x (f w)) → Keeps k x (at_walk join s k x table prefix f o)
+  keeps_at_walk table prefix f None h = keeps_self k x
+  keeps_at_walk table prefix f (Some w) h = keeps_cond k x (is_open table prefix w.state.prefixes) (f w) (quiet x) (h w) (keeps_self k x)
+
+  keeps_mending : (now : Mending → Node R L) (other : Did R L) → ((m : Mending) → Stays k x (now m)) → Keeps k x other → (from number p table : ℕ) (prefix : List ℕ) (answer : Option (List (ℕ × Hash32))) (o : Option Mending) → Keeps k x (mending_came join s k x now other from number p table prefix answer o)
+  keeps_mending now other stays h from number p table prefix answer None = h
+  keeps_mending now other stays h from number p table prefix answer (Some mending) =
+      keeps_cond k x (mending.number == number) _ _
+      (keeps_at_walk table prefix (mending_walks join s k x now table prefix answer mending) (walk_at p from mending.walks)
+      (λ w. record { stays = stays _; posts = after_posts join s k x mending.number (walk_after join s x w table prefix answer) table (asked_after join s x w.state.partition table prefix answer) }))
+      h
+
+  keeps_late : (from number p table : ℕ) (prefix : List ℕ) (answer : Option (List (ℕ × Hash32))) → Keeps k x (late_came join s k x from number p table prefix answer)
+  keeps_late from number p table prefix answer =
+      keeps_mending (with_lasting join s k x) _ (λ m. record { newest_stays = refl; calls = inl refl })
+      (keeps_mending (with_mending join s k x) _ (λ m. record { newest_stays = refl; calls = inl refl }) (keeps_self k x) from number p table prefix answer x.mending)
+      from number p table prefix answer x.lasting
+
+  keeps_walked : (id table : ℕ) (prefix : List ℕ) (answer : Option (List (ℕ × Hash32))) (round : Round) (w : Walk) → Keeps k x (round_walks join s k id x table prefix answer round w)
+  keeps_walked id table prefix answer round w =
+      let later = walk_after join s x w table prefix answer in
+      let now : Round = record round { walks = walks_after later round.walks } in
+      let there : Round = record now { confirmed = now.confirmed ++ record { partition = w.state.partition; node = w.node } ∷ [] } in
+      record {
+        stays = elim (found_same later) as (λ b. Stays k x (cond b (goes_on join s k id x there) (record x { round = Some now }))) [
+          | true ↦ stays_round join s k id x x there (stays_self k x)
+          | false ↦ record { newest_stays = refl; calls = inl refl }
+        ];
+        posts = after_posts join s k x round.number later table (asked_after join s x w.state.partition table prefix answer);
+      }
+
+  keeps_answered : (id from number p table : ℕ) (prefix : List ℕ) (answer : Option (List (ℕ × Hash32))) (o : Option Round) → Keeps k x (answer_came join s k id x from number p table prefix answer o)
+  keeps_answered id from number p table prefix answer None = keeps_late from number p table prefix answer
+  keeps_answered id from number p table prefix answer (Some round) =
+      keeps_cond k x (round.number == number) _ _ (keeps_at_walk table prefix (round_walks join s k id x table prefix answer round) (walk_at p from round.walks) (keeps_walked id table prefix answer round)) (keeps_late from number p table prefix answer)
+
+  keeps_walks : (id from : ℕ) (tag : Tag) (table : ℕ) (prefix : List ℕ) (answer : Option (List (ℕ × Hash32))) → Keeps k x (walks_on join s k id x from tag table prefix answer)
+  keeps_walks id from (ForCall request phase slot) table prefix answer = keeps_self k x
+  keeps_walks id from (ForRound number p) table prefix answer = keeps_answered id from number p table prefix answer x.round
+  keeps_walks id from (ForItem number) table prefix answer = keeps_self k x
+
   keeps_confirms : (id from : ℕ) (tag : Tag) → Keeps k x (confirms join s k id x from tag)
   keeps_confirms id from (ForCall request phase slot) = keeps_at_call k x phase _ (call_at x.calls request) (λ c. keeps_confirmed k x c slot from c.present)
   keeps_confirms id from (ForRound number p) = keeps_round id from number p x.round
@@ -125,6 +174,9 @@ module _ {R L : Type 0} (join : R → R → R) (s : Words R) (k : Layouts L) (x 
   keeps_hears id now from (BlockGet request phase at hash) = keeps_where from request phase at _ (keeps_gives_block from request phase (block_at x.blocks hash.0))
   keeps_hears id now from (Block request phase bytes) = keeps_at_call k x phase _ (call_at x.calls request) (λ c. keeps_block k x c bytes c.present)
   keeps_hears id now from (NoBlock request phase) = keeps_self k x
+  keeps_hears id now from (AsksValue tag named p table prefix hash) = keeps_compares id from tag named p table prefix hash
+  keeps_hears id now from (HasSame tag table prefix) = keeps_walks id from tag table prefix None
+  keeps_hears id now from (Differ tag table prefix pairs) = keeps_walks id from tag table prefix (Some pairs)
 
   pub newest_received : (id now from : ℕ) (packet : Packet R L) (n : ℕ) → IsTrue (is_gapless k.reading x.view.layouts) → newest k.reading x.view ≤ n → IsUpTo k n packet → newest k.reading (receives join s k id now x from packet).node.view ≤ n
   newest_received id now from (says m) n gapless low h = subst (λ a. a ≤ n) (sym (keeps_hears id now from m).stays.newest_stays) low
@@ -148,12 +200,15 @@ module _ {R L : Type 0} (join : R → R → R) (s : Words R) (k : Layouts L) (x 
   keeps_begun : (id : ℕ) → Keeps k x (begin_round join s k id x)
   keeps_begun id =
       let round = round_begun join s k id x in record {
-        stays = stays_round join s k id x (record x { rounds = suc x.rounds }) round (record { newest_stays = refl; calls = inl refl });
-        posts = pushes_posts join s k x round.number (open_nodes round) round.parts;
+        stays = stays_round join s k id x (record x { rounds = suc x.rounds; lasting = None }) round (record { newest_stays = refl; calls = inl refl });
+        posts = starts_posts join s k x round.number round.walks;
       }
 
   keeps_syncs : (id : ℕ) (o : Option Round) → Keeps k x (syncs join s k id x o).did
-  keeps_syncs id (Some round) = record { stays = stays_self k x; posts = pushes_posts join s k x round.number (open_nodes round) (open_parts round) }
+  keeps_syncs id (Some round) = record {
+    stays = stays_round join s k id x x (walked_anew join s k x round) (record { newest_stays = refl; calls = inl refl });
+    posts = starts_posts join s k x round.number (new_walks join s k x round);
+  }
   keeps_syncs id None = keeps_acted (may_sync join s k id x.view) _ _ (keeps_begun id) (keeps_self k x)
 
   posts_items : (items : List (Item R)) → ArePosts (flat_map (item_posts join s k x.view) items)
@@ -179,7 +234,7 @@ module _ {R L : Type 0} (join : R → R → R) (s : Words R) (k : Layouts L) (x 
   }
   keeps_acts id now Repair = record {
     stays = record { newest_stays = refl; calls = inl refl };
-    posts = pushes_posts join s k x (suc x.rounds) (λ part. filter (λ n. not (n == id)) part.set) _;
+    posts = starts_posts join s k x (suc x.rounds) (walks_of join s x (other_nodes join s k id) (parts_of join s k id x (layout_at k.reading x.view (newest k.reading x.view)) (layout_at k.reading x.view (newest k.reading x.view))));
   }
 
 module _ {R L : Type 0} (s : Words R) (k : Layouts L) (kept : List R) (x : Node R L) (c : Call R) where

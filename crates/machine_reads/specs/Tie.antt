@@ -1,21 +1,28 @@
 -- What the machine's messages, calls, rounds and rows are in a world of the data plane.
-use Rattle.std.specs.Prelude.{◌≡◌, ◌≤◌, ◌<◌, ◌⊎◌, ℕ, nat_eq, suc, ◌+◌, Option, Some, None, List, [], ◌∷◌, ◌++◌, length, map, IsTrue, ⊤}
+use Rattle.std.specs.Prelude.{◌≡◌, ◌≤◌, ◌<◌, ◌⊎◌, ℕ, nat_eq, suc, ◌+◌, true, Option, Some, None, List, [], ◌∷◌, ◌++◌, length, map, IsTrue, ⊤}
 use Rattle.std.specs.List.{Contains, AllByRecursion, starts_with}
 use Rattle.control_model.specs.World as control
 use Rattle.control_model.specs.Steps.{Step}
 use Rattle.crdt_core.specs.Members.{Has}
+use Rattle.blake2_hash.specs.Blake2b.{blake2b}
+use Rattle.blake2_hash.specs.declared.digest.Hash32.{Hash32}
 use Rattle.table_schema.specs.Words.{Words, partition_of}
 use Rattle.table_model.specs.Rows.{row_at}
+use Rattle.walk_model.specs.Sets.{value_at, children_at}
+use Rattle.walk_model.specs.Walking.{plain}
+use Rattle.walk_model.specs.Account.{Noted, UnderOpen}
 use Rattle.quorum_model.specs.Quorum.{StoreSlot}
 use Rattle.quorum_model.specs.declared.range.RangeAnswer.{RangeAnswer}
 use Rattle.range_laws.specs.Scans.{answer as found_in}
 use Rattle.wire_messages.specs.declared.message.Message.{Message}
-use Rattle.wire_messages.specs.declared.message.Message.TheVariants.{Get, Row as GaveRow, Range, Rows as GaveRows, Store as PleaseStore, Stored as HasStored}
+use Rattle.wire_messages.specs.declared.message.Message.TheVariants.{Get, Row as GaveRow, Range, Rows as GaveRows, Store as PleaseStore, Stored as HasStored, Walk as AsksValue, Same as HasSame, Differ}
 use Rattle.wire_messages.specs.declared.message.Tag.{Tag}
 use Rattle.wire_messages.specs.declared.message.Tag.TheVariants.{Call as ForCall, Round as ForRound, Item as ForItem}
 use Rattle.plane_model.specs.Plane.{Plane}
 use Rattle.plane_model.specs.World as plane
-use Rattle.plane_model.specs.World.{row_at as log_at, kept_at}
+use Rattle.plane_model.specs.World.{row_at as log_at, row_in, kept_at}
+use Rattle.plane_model.specs.Rows.{IsAtLeast}
+use Rattle.plane_model.specs.Kept.{Holds}
 use Rattle.plane_model.specs.Action.{HasPushed}
 use Rattle.plane_meets.specs.Joint.{joint}
 use Rattle.cluster_machine.specs.Layouts.{Layouts}
@@ -26,6 +33,7 @@ use Rattle.cluster_machine.specs.Kept.{GaveKept}
 use Rattle.cluster_machine.specs.World.{Sent, World}
 use Rattle.machine_laws.specs.Follows.{Controlled}
 use Rattle.machine_reads.specs.Places.{Place, keys, place_of, at_place}
+use Rattle.machine_reads.specs.Hashed.{trie, AreHashed}
 
 -- a question of the data plane, over the machine's views
 abbrev pub Question : Type 0 → Type 0 → Type 0
@@ -41,7 +49,7 @@ pub data Asked (R L : Type 0) : Type 0 where
 abbrev pub IsUnder : {R : Type 0} → Scan R → List ℕ → Type 0
 IsUnder q key = IsTrue (starts_with nat_eq key (q.position ++ q.prefix))
 
--- what a node began under a number
+-- what a node began under a number: a round that isn't complete, or what owes nothing, a repair or a round that is complete
 pub data Begun (R : Type 0) : Type 0 where
   a_round : plane.Round Place R → Begun R
   a_repair : Begun R
@@ -58,7 +66,7 @@ pub record Issued (R L : Type 0) : Type 0 where
 abbrev pub none_issued : {R L : Type 0} → Issued R L
 none_issued = record { owner = λ _. 0; start = λ _. 0; asks = λ _ _. None; stores = λ _ _ _. None; rounds = λ _ _. None }
 
-module _ {R L : Type 0} (join : R → R → R) (s : Words R) (k : Layouts L) (partitions : ℕ) where
+module _ {R L : Type 0} (join : R → R → R) (s : Words R) (k : Layouts L) (partitions : ℕ) (H : List ℕ → Type 0) where
   -- the plane of the machine's views and rows
   abbrev pub both : Plane (control.World L) (Step L) Place R
   both = joint k.reading partitions keys join
@@ -80,6 +88,22 @@ module _ {R L : Type 0} (join : R → R → R) (s : Words R) (k : Layouts L) (pa
   -- a row under its place
   abbrev pub placed : R → plane.Row Place R
   placed r = record { key = place_of s r; row = r }
+
+  -- the row was at a place of the partition when the round began, or one above it was
+  abbrev pub HadThere : plane.Round Place R → ℕ → Place → R → Type 0
+  HadThere round partition q x = (q.0 ≡ partition) × IsAtLeast join (log_at both round.log round.node q) x
+
+  -- there was some row in the partition when the round began
+  pub record HadSome (round : plane.Round Place R) (partition : ℕ) : Type 0 where
+    pub at : Place
+    pub row : R
+    pub had : HadThere round partition at row
+
+  -- a key hash that begins with a prefix of a table
+  pub record IsBelow (table : ℕ) (prefix : List ℕ) (q : Place) : Type 0 where
+    pub of_table : q.1.0 ≡ table
+    pub short : length prefix < 32
+    pub starts : starts_with nat_eq (blake2b 32 q.1.1) prefix ≡ true
 
   module _ (p : State) (g : Issued R L) where
     -- a node answered a question
@@ -157,25 +181,92 @@ module _ {R L : Type 0} (join : R → R → R) (s : Words R) (k : Layouts L) (pa
       pub issued : g.stores request phase slot ≡ Some store
       pub confirmed : Contains p.stored (record { store = store; node = from })
 
-    -- the round pushed these rows of this partition
-    pub record IsPush (round : plane.Round Place R) (partition named : ℕ) (rows : List (List ℕ × Option (List ℕ))) : Type 0 where
+    -- the node holds for the version that the round leads to what the round's node had at a place when the round began
+    abbrev pub HoldsFor : plane.Round Place R → ℕ → Place → R → Type 0
+    HoldsFor round n q x = Holds both p.control p.log (suc round.from) q x n
+
+    -- what the plane's round shows of a partition: what its node had when it began, under a version that is at most this one
+    pub record HasBase (round : plane.Round Place R) (partition named : ℕ) : Type 0 where
       pub push : plane.Push Place R
       pub is_there : Contains p.pushes push
       pub of_it : push.round ≡ round
       pub partition_is : push.partition ≡ partition
-      pub newest : push.newest ≡ named
-      pub rows_are : push.rows ≡ map placed (rows_read rows)
+      pub newest : push.newest ≤ named
+      pub next : suc round.from ≤ push.newest
+      pub mine : Contains (both.control.set p.control round.from partition) round.node
+      pub known : suc round.from ≤ both.control.newest p.control round.node
+      pub rows_are : (q : Place) → q.0 ≡ partition → row_in both push.rows q ≡ log_at both round.log round.node q
 
-    -- a round pushed these rows, and a repair owes nothing
-    abbrev pub IsPushOf : Begun R → ℕ → ℕ → List (List ℕ × Option (List ℕ)) → Type 0
-    IsPushOf (a_round round) partition named rows = IsPush round partition named rows
-    IsPushOf a_repair partition named rows = ⊤
+    -- the next version gives a node the partition
+    abbrev pub GivesNext : plane.Round Place R → ℕ → ℕ → Type 0
+    GivesNext round partition n = Contains (both.control.set p.control (suc round.from) partition) n
+
+    -- these rows, with what the node holds, are at least what the round's node had when the round began
+    pub record IsPush (round : plane.Round Place R) (partition named : ℕ) (rows : List (List ℕ × Option (List ℕ))) (to : ℕ) : Type 0 where
+      pub base : HasBase round partition named
+      pub covers : (q : Place) (x : R) → HadThere round partition q x → IsAtLeast join (at_place s join (rows_read rows) q) x ⊎ HoldsFor round to q x
+
+    -- a round pushes what a walk left, and a repair owes nothing
+    abbrev pub IsPushOf : Begun R → ℕ → ℕ → List (List ℕ × Option (List ℕ)) → ℕ → Type 0
+    IsPushOf (a_round round) partition named rows to = IsPush round partition named rows to
+    IsPushOf a_repair partition named rows to = ⊤
 
     -- these rows were pushed under a number that this node's rounds have
-    pub record MeansPush (from number partition named : ℕ) (rows : List (List ℕ × Option (List ℕ))) : Type 0 where
+    pub record MeansPush (from number partition named : ℕ) (rows : List (List ℕ × Option (List ℕ))) (to : ℕ) : Type 0 where
       pub begun : Begun R
       pub issued : g.rounds from number ≡ Some begun
-      pub push : IsPushOf begun partition named rows
+      pub push : IsPushOf begun partition named rows to
+
+    -- the value is that of rows that the round's node had since the round began, at least what it had then
+    pub record IsAsk (round : plane.Round Place R) (partition named table : ℕ) (prefix hash : List ℕ) (to : ℕ) : Type 0 where
+      pub base : HasBase round partition named
+      pub given : GivesNext round partition to
+      pub contents : List R
+      pub hashed : AreHashed join s H contents partition
+      pub over : (q : Place) (x : R) → HadThere round partition q x → IsAtLeast join (at_place s join contents q) x
+      pub hash_is : hash ≡ value_at (blake2b 32) prefix (trie join s H contents table partition)
+
+    -- a walk of a round, and one of a repair, which owes nothing
+    abbrev pub IsAskOf : Begun R → ℕ → ℕ → ℕ → List ℕ → List ℕ → ℕ → Type 0
+    IsAskOf (a_round round) partition named table prefix hash to = IsAsk round partition named table prefix hash to
+    IsAskOf a_repair partition named table prefix hash to = ⊤
+
+    -- a value was asked for a walk under a number that this node's rounds have
+    pub record MeansAsk (from number partition named table : ℕ) (prefix hash : List ℕ) (to : ℕ) : Type 0 where
+      pub begun : Begun R
+      pub issued : g.rounds from number ≡ Some begun
+      pub ask : IsAskOf begun partition named table prefix hash to
+
+    -- `same`: below the prefix the node holds what the round's node had when the round began
+    pub record SaysSame (round : plane.Round Place R) (partition table : ℕ) (prefix : List ℕ) (from : ℕ) : Type 0 where
+      pub base : HasBase round partition (both.control.newest p.control from)
+      pub given : GivesNext round partition from
+      pub holds : (q : Place) (x : R) → HadThere round partition q x → IsBelow table prefix q → HoldsFor round from q x
+
+    -- `differ`: these are the children of rows that the node holds
+    pub record SaysDiffer (round : plane.Round Place R) (partition table : ℕ) (prefix : List ℕ) (pairs : List (ℕ × Hash32)) (from : ℕ) : Type 0 where
+      pub base : HasBase round partition (both.control.newest p.control from)
+      pub given : GivesNext round partition from
+      pub contents : List R
+      pub hashed : AreHashed join s H contents partition
+      pub children_are : map plain pairs ≡ children_at (blake2b 32) prefix (trie join s H contents table partition)
+      pub holds : (q : Place) (x : R) → q.0 ≡ partition → IsAtLeast join (at_place s join contents q) x → HoldsFor round from q x
+
+    -- an answer to a walk of a round
+    abbrev pub IsAnswer : plane.Round Place R → ℕ → ℕ → List ℕ → Option (List (ℕ × Hash32)) → ℕ → Type 0
+    IsAnswer round partition table prefix None from = SaysSame round partition table prefix from
+    IsAnswer round partition table prefix (Some pairs) from = SaysDiffer round partition table prefix pairs from
+
+    -- to a walk of a repair an answer owes nothing
+    abbrev pub IsAnswerOf : Begun R → ℕ → ℕ → List ℕ → Option (List (ℕ × Hash32)) → ℕ → Type 0
+    IsAnswerOf (a_round round) partition table prefix answer from = IsAnswer round partition table prefix answer from
+    IsAnswerOf a_repair partition table prefix answer from = ⊤
+
+    -- an answer to a walk under a number that this node's rounds have
+    pub record MeansAnswer (to number partition table : ℕ) (prefix : List ℕ) (answer : Option (List (ℕ × Hash32))) (from : ℕ) : Type 0 where
+      pub begun : Begun R
+      pub issued : g.rounds to number ≡ Some begun
+      pub says : IsAnswerOf begun partition table prefix answer from
 
     -- the node confirmed the round's partition, and to a repair it owes nothing
     abbrev pub IsPushedOf : Begun R → ℕ → ℕ → Type 0
@@ -191,7 +282,7 @@ module _ {R L : Type 0} (join : R → R → R) (s : Words R) (k : Layouts L) (pa
     -- what a message of rows means, by what it is for
     abbrev pub MeansTag : ℕ → ℕ → Tag → ℕ → ℕ → List (List ℕ × Option (List ℕ)) → Type 0
     MeansTag from to (ForCall request phase slot) named partition rows = MeansStore request phase slot named partition rows
-    MeansTag from to (ForRound number part) named partition rows = (part ≡ partition) × MeansPush from number partition named rows
+    MeansTag from to (ForRound number part) named partition rows = (part ≡ partition) × MeansPush from number partition named rows to
     MeansTag from to (ForItem number) named partition rows = ⊤
 
     -- what a confirmation means, by what it is for
@@ -199,6 +290,16 @@ module _ {R L : Type 0} (join : R → R → R) (s : Words R) (k : Layouts L) (pa
     MeansDone from to (ForCall request phase slot) = MeansStored request phase slot from
     MeansDone from to (ForRound number partition) = MeansPushed to number partition from
     MeansDone from to (ForItem number) = ⊤
+
+    -- what a question of a walk means: it is for a round or a repair
+    abbrev pub MeansValue : ℕ → ℕ → Tag → ℕ → ℕ → ℕ → List ℕ → List ℕ → Type 0
+    MeansValue from to (ForRound number part) named partition table prefix hash = (part ≡ partition) × MeansAsk from number partition named table prefix hash to
+    MeansValue from to _ named partition table prefix hash = ⊤
+
+    -- what an answer to it means
+    abbrev pub MeansReply : ℕ → ℕ → Tag → ℕ → List ℕ → Option (List (ℕ × Hash32)) → Type 0
+    MeansReply from to (ForRound number partition) table prefix answer = MeansAnswer to number partition table prefix answer from
+    MeansReply from to _ table prefix answer = ⊤
 
     -- what a message stands for
     abbrev pub MeansMessage : ℕ → ℕ → Message R → Type 0
@@ -208,6 +309,9 @@ module _ {R L : Type 0} (join : R → R → R) (s : Words R) (k : Layouts L) (pa
     MeansMessage from to (GaveRows request phase rows more) = MeansRows request phase from (record { rows = rows; more = more })
     MeansMessage from to (PleaseStore tag named partition rows) = MeansTag from to tag named partition rows
     MeansMessage from to (HasStored tag) = MeansDone from to tag
+    MeansMessage from to (AsksValue tag named partition table prefix hash) = MeansValue from to tag named partition table prefix hash.0
+    MeansMessage from to (HasSame tag table prefix) = MeansReply from to tag table prefix None
+    MeansMessage from to (Differ tag table prefix pairs) = MeansReply from to tag table prefix (Some pairs)
     MeansMessage from to _ = ⊤
 
     -- what a packet means, where a view means nothing here
@@ -286,6 +390,20 @@ module _ {R L : Type 0} (join : R → R → R) (s : Words R) (k : Layouts L) (pa
       pub partition_is : part.partition ≡ partition
       pub set_is : part.set ≡ both.control.set p.control target partition
 
+    -- an open walk of a round: what the round's node had at a key when the round began the other node holds, or it is noted, or it
+    -- lies under an open prefix
+    pub record IsWalk (round : plane.Round Place R) (w : machine.Walk) : Type 0 where
+      pub base : HasBase round w.state.partition (both.control.newest p.control round.node)
+      pub given : GivesNext round w.state.partition w.node
+      pub covers : (q : Place) (x : R) → HadThere round w.state.partition q x →
+          HoldsFor round w.node q x ⊎ (Noted w.state.noted q.1.0 (blake2b 32 q.1.1) ⊎ UnderOpen w.state.prefixes q.1.0 (blake2b 32 q.1.1))
+
+    -- what a round moves of a partition, to the set of the next version: its node had rows of it when the round began
+    pub record IsPart (round : plane.Round Place R) (part : machine.Part) : Type 0 where
+      pub base : HasBase round part.partition (both.control.newest p.control round.node)
+      pub set_is : part.set ≡ both.control.set p.control (suc round.from) part.partition
+      pub filled : HadSome round part.partition
+
     -- the plane has the node's round: what it pushes, and who confirmed
     pub record IsRound (n : ℕ) (x : machine.Round) : Type 0 where
       pub round : plane.Round Place R
@@ -296,11 +414,18 @@ module _ {R L : Type 0} (join : R → R → R) (s : Words R) (k : Layouts L) (pa
       pub known : x.target ≤ both.control.newest p.control n
       pub confirmed : AllByRecursion (λ (c : machine.Confirmed). HasPushed p round c.partition c.node) x.confirmed
       pub parts : (partition : ℕ) → Contains (both.control.set p.control round.from partition) n → ((q : Place) → q.0 ≡ partition → log_at both round.log n q ≡ None) ⊎ HasPart x.parts x.target partition
+      pub all_parts : AllByRecursion (IsPart round) x.parts
+      pub walks : AllByRecursion (IsWalk round) x.walks
 
     -- the plane has the round that is open, if one is
     abbrev pub IsRoundIn : ℕ → Option machine.Round → Type 0
     IsRoundIn n None = ⊤
     IsRoundIn n (Some x) = IsRound n x
+
+    -- the number of the last repair is that of a repair, and so is that of a round which is complete: it owes nothing any more
+    abbrev pub IsMending : ℕ → Option machine.Mending → Type 0
+    IsMending n None = ⊤
+    IsMending n (Some x) = g.rounds n x.number ≡ Some a_repair
 
     -- what a node is
     pub record IsNode (requests n : ℕ) (x : Node R L) : Type 0 where
@@ -308,6 +433,8 @@ module _ {R L : Type 0} (join : R → R → R) (s : Words R) (k : Layouts L) (pa
       pub proper : AllByRecursion (λ r. IsTrue (s.is_proper r)) x.accepted
       pub calls : AllByRecursion (IsCall requests n) x.calls
       pub round : IsRoundIn n x.round
+      pub mending : IsMending n x.mending
+      pub lasting : IsMending n x.lasting
       pub later_rounds : (number : ℕ) → x.rounds < number → g.rounds n number ≡ None
 
   -- a proper row of which the plane kept a store, at its place

@@ -22,7 +22,7 @@ appended_stands join s c new l id x rest next view is =
     rw rest (record {
       id_is = is.id_is;
       view = view ∙ ap (λ w. appended reading w l) is.view;
-      contents = same_contents x v x.calls x.round x.rounds is.contents;
+      contents = same_contents x v x.calls x.round x.rounds x.mending x.lasting is.contents;
       calls = is.calls;
       rounds = is.rounds;
       has_version = version_stays x.view v x.calls (grows l x.view (next ∙ ap (λ w. newest reading w + 1) is.view)) is.has_version;

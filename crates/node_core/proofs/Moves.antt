@@ -1,100 +1,156 @@
--- A round that begins: the node itself has confirmed each partition, so it sends to the other nodes.
-use Rattle.std.proofs.Common.{◌≡◌, ◌==◌, ◌&&◌, ◌||◌, ℕ, Bool, true, false, not, cond, List, [], ◌∷◌, ◌++◌, map, refl, ap, sym, subst, ◌∙◌, append-nil}
-use Rattle.std.specs.List.{filter, flat_map, list_all}
-use Rattle.std.proofs.lemmas.Bool.{eqb-true, eq-eqb}
-use Rattle.std.proofs.Math.Bool.{or-false}
+-- The partitions of a round or a repair, with the nodes that walks begin with.
+use Rattle.std.proofs.Common.{◌≡◌, ℕ, Bool, true, false, not, cond, ◌&&◌, List, [], ◌∷◌, ◌++◌, map, refl, ap, sym, subst, ◌∙◌}
+use Rattle.std.specs.List.{filter, flat_map}
 use Rattle.layout_roles.specs.declared.layout.Layout.{Layout}
 use Rattle.table_schema.specs.Words.{Words}
-use Rattle.quorum_model.specs.Quorum.{is_among}
-use Rattle.cluster_machine.specs.Node.{Node as Model, Part, Confirmed, Round as Moved}
-use Rattle.cluster_machine.specs.Rounds.{confirmed_for, open_nodes, open_parts, is_empty, pushes, rows_at, are_spelled}
 use Rattle.cluster_machine.specs.Layouts.{layouts}
+use Rattle.cluster_machine.specs.Node.{Node as Model, Part, Walk, Round as Moved}
+use Rattle.cluster_machine.specs.Rounds.{is_empty, has_rows, open_nodes, open_parts, other_nodes, walk_with, walks_of, starts as starts_of, are_spelled, filled_parts, new_walks}
+use Rattle.node_parts.specs.Rounds.{has_any, open_parts_of}
+use Rattle.node_parts.specs.Contents.{IsContents}
+use Rattle.node_parts.specs.Posts.{Posts}
+use Rattle.layout_history.specs.Views.{known}
+use Rattle.node_parts.specs.Sends.{part_of, walks_over, with_others, Sends, StartsAll, CannotStart as StartFails}
 use Rattle.node_parts.specs.Sets.{others_of}
-use Rattle.node_parts.specs.Rounds.{begun_round, has_any, open_parts_of}
-use Rattle.node_parts.specs.declared.pushes.Sender.{Sender}
+use Rattle.node_parts.specs.Walks.{walk_of, is_spelled_at}
+use Rattle.node_parts.specs.declared.contents.Contents.{Contents}
 use Rattle.node_parts.specs.declared.packet.Envelope.{Envelope}
-use Rattle.node_parts.specs.Posts.{Posts, posted}
-use Rattle.node_parts.specs.Pushes.{part_of, PushedAll, PushedAgain, moved}
-use Rattle.node_parts.proofs.Confirmations.{has, own_first, AreAmong, all_among}
+use Rattle.node_parts.specs.declared.sender.Sender.{Sender}
+use Rattle.node_parts.specs.declared.walks.NodeWalk.{NodeWalk}
+use Rattle.view_model.specs.Layouts.{reading}
+use Rattle.view_model.specs.View.{newest}
+use Rattle.node_core.specs.declared.node.Node.{Node}
+use Rattle.node_core.specs.Stands.{StandsFor, StandsApart, sender_of}
+use Rattle.node_core.specs.Walking.{Started, CannotStart}
 
-eq_back : (m n : ℕ) (b : Bool) → (m == n) ≡ b → (n == m) ≡ b
-eq_back m n true e = eq-eqb n m (sym (eqb-true m n e))
-eq_back m n false e = elim (n == m) as (λ c. (n == m) ≡ c → (n == m) ≡ false) [ true ↦ (λ h. let no : true ≡ false = sym (eq-eqb m n (sym (eqb-true n m h))) ∙ e in cc) | false ↦ (λ h. h) ] refl
+module _ {R : Type 0} (join : R → R → R) (s : Words R) (x : Model R Layout) where
+  -- ---- the other nodes of each set
 
--- of a partition of the round the node alone has confirmed
-own_alone : (id n p : ℕ) (parts : List Part) → has p parts ≡ true → is_among n (confirmed_for p (map (λ part. record { partition = part.partition; node = id }) parts)) ≡ (n == id)
-own_alone id n p parts h =
-    let own : List Confirmed = map (λ part. record { partition = part.partition; node = id }) parts in
-    ap (λ cs. is_among n (confirmed_for p cs)) (sym (append-nil own))
-    ∙ (own_first id n p parts []
-    ∙ (ap (λ b. (b && (id == n)) || false) h
-    ∙ (or-false (id == n) ∙ sym (eq_back id n (id == n) refl))))
+  pub others_walk : (id : ℕ) (parts : List (ℕ × List ℕ)) → walks_over join s x (with_others id parts) ≡ walks_of join s x (other_nodes join s layouts id) (map part_of parts)
+  others_walk id [] = refl
+  others_walk id (part ∷ parts) = ap (λ ws. map (walk_with join s x part.0) (others_of id part.1) ++ ws) (others_walk id parts)
 
-module _ {R : Type 0} (join : R → R → R) (s : Words R) (x : Model R Layout) (id number target : ℕ) (parts : List Part) where
-  abbrev round_of : Moved
-  round_of = begun_round number target parts id
+  pub others_spelled : (id : ℕ) (parts : List (ℕ × List ℕ)) → are_spelled join s layouts x (map part_of (with_others id parts)) ≡ are_spelled join s layouts x (map part_of parts)
+  others_spelled id [] = refl
+  others_spelled id (part ∷ parts) = ap (λ b. is_spelled_at join s x part.0 && b) (others_spelled id parts)
 
-  others : (part : Part) → has part.partition parts ≡ true → others_of id part.set ≡ open_nodes round_of part
-  others part h = λ i. filter (λ n. not (sym (own_alone id n part.partition parts h) i)) part.set
+  -- ---- the open partitions of a round, with the nodes that have not confirmed
 
-  same_among : (some : List Part) → AreAmong parts some →
-      flat_map (λ part. pushes join s layouts x number part.partition (others_of id part.set)) some ≡ flat_map (λ part. pushes join s layouts x number part.partition (open_nodes round_of part)) some
-  same_among [] a = refl
-  same_among (part ∷ some) a = λ i. pushes join s layouts x number part.partition (others part a.0 i) ++ same_among some a.1 i
+  module _ (r : Moved) where
+    abbrev pair : Part → ℕ × List ℕ
+    pair part = (part.partition, open_nodes r part)
 
-  -- it sends to those that have not confirmed
-  pub same_posts : flat_map (λ part. pushes join s layouts x number part.partition (others_of id part.set)) parts ≡ flat_map (λ part. pushes join s layouts x number part.partition (open_nodes round_of part)) parts
-  same_posts = same_among parts (all_among parts)
+    -- those of which the node has rows
+    abbrev pub filled : List (ℕ × List ℕ) → List (ℕ × List ℕ)
+    filled parts = filter (λ part. has_rows join s x part.0) parts
 
-module _ {R : Type 0} (join : R → R → R) (s : Words R) (x : Model R Layout) (r : Moved) where
-  -- the open partitions with their nodes, one way and the other
-  again_by : (part : Part) (rest : List (ℕ × List ℕ)) (left : List Part) (ns : List ℕ) → open_nodes r part ≡ ns →
-      flat_map (λ p. pushes join s layouts x r.number p.0 p.1) rest ≡ flat_map (λ part. pushes join s layouts x r.number part.partition (open_nodes r part)) left →
-      flat_map (λ p. pushes join s layouts x r.number p.0 p.1) (cond (not (is_empty (open_nodes r part))) ((part.partition, open_nodes r part) ∷ rest) rest) ≡
-      flat_map (λ part. pushes join s layouts x r.number part.partition (open_nodes r part)) (cond (not (is_empty (open_nodes r part))) (part ∷ left) left)
-  again_by part rest left [] e h = rw e h
-  again_by part rest left (n ∷ ns) e h = rw (ap is_empty e) (ap (λ ps. pushes join s layouts x r.number part.partition (open_nodes r part) ++ ps) h)
+    abbrev left : List Part → List (ℕ × List ℕ)
+    left parts = filled (filter has_any (map pair parts))
 
-  again_among : (parts : List Part) →
-      flat_map (λ p. pushes join s layouts x r.number p.0 p.1) (filter has_any (map (λ part. (part.partition, open_nodes r part)) parts)) ≡
-      flat_map (λ part. pushes join s layouts x r.number part.partition (open_nodes r part)) (filter (λ part. not (is_empty (open_nodes r part))) parts)
-  again_among [] = refl
-  again_among (part ∷ parts) = again_by part (filter has_any (map (λ part. (part.partition, open_nodes r part)) parts)) (filter (λ part. not (is_empty (open_nodes r part))) parts) (open_nodes r part) refl (again_among parts)
+    abbrev right : List Part → List Part
+    right parts = filter (λ part. has_rows join s x part.partition) (filter (λ part. not (is_empty (open_nodes r part))) parts)
 
-  pub again_posts : flat_map (λ p. pushes join s layouts x r.number p.0 p.1) (open_parts_of r) ≡ flat_map (λ part. pushes join s layouts x r.number part.partition (open_nodes r part)) (open_parts r)
-  again_posts = again_among r.parts
+    walk_by : (part : Part) (parts : List Part) (o : Bool) → walks_over join s x (left parts) ≡ walks_of join s x (open_nodes r) (right parts) →
+        walks_over join s x (filled (cond o (pair part ∷ filter has_any (map pair parts)) (filter has_any (map pair parts)))) ≡
+        walks_of join s x (open_nodes r) (filter (λ part. has_rows join s x part.partition) (cond o (part ∷ filter (λ part. not (is_empty (open_nodes r part))) parts) (filter (λ part. not (is_empty (open_nodes r part))) parts)))
+    walk_by part parts false rest = rest
+    walk_by part parts true rest =
+        elim (has_rows join s x part.partition) as (λ h. walks_over join s x (cond h (pair part ∷ left parts) (left parts)) ≡ walks_of join s x (open_nodes r) (cond h (part ∷ right parts) (right parts))) [
+          | true ↦ ap (λ ws. map (walk_with join s x part.partition) (open_nodes r part) ++ ws) rest
+          | false ↦ rest
+        ]
 
-  spelled_by : (part : Part) (rest : List (ℕ × List ℕ)) (left : List Part) (b : Bool) → not (is_empty (open_nodes r part)) ≡ b →
-      are_spelled join s layouts x (map part_of rest) ≡ are_spelled join s layouts x left →
-      are_spelled join s layouts x (map part_of (cond b ((part.partition, open_nodes r part) ∷ rest) rest)) ≡ are_spelled join s layouts x (cond b (part ∷ left) left)
-  spelled_by part rest left true e h = ap (λ b. list_all (λ row. Rattle.cluster_machine.specs.Phases.is_spelled s row) (rows_at join s x part.partition) && b) h
-  spelled_by part rest left false e h = h
+    walk_among : (parts : List Part) → walks_over join s x (left parts) ≡ walks_of join s x (open_nodes r) (right parts)
+    walk_among [] = refl
+    walk_among (part ∷ parts) = walk_by part parts (not (is_empty (open_nodes r part))) (walk_among parts)
 
-  spelled_among : (parts : List Part) →
-      are_spelled join s layouts x (map part_of (filter has_any (map (λ part. (part.partition, open_nodes r part)) parts))) ≡ are_spelled join s layouts x (filter (λ part. not (is_empty (open_nodes r part))) parts)
-  spelled_among [] = refl
-  spelled_among (part ∷ parts) = spelled_by part (filter has_any (map (λ part. (part.partition, open_nodes r part)) parts)) (filter (λ part. not (is_empty (open_nodes r part))) parts) (not (is_empty (open_nodes r part))) refl (spelled_among parts)
+    pub again_walk : walks_over join s x (filled (open_parts_of r)) ≡ new_walks join s layouts x r
+    again_walk = walk_among r.parts
 
-  pub again_spelled : are_spelled join s layouts x (map part_of (open_parts_of r)) ≡ are_spelled join s layouts x (open_parts r)
-  again_spelled = spelled_among r.parts
+    spelled_by : (part : Part) (parts : List Part) (o : Bool) → are_spelled join s layouts x (map part_of (left parts)) ≡ are_spelled join s layouts x (right parts) →
+        are_spelled join s layouts x (map part_of (filled (cond o (pair part ∷ filter has_any (map pair parts)) (filter has_any (map pair parts))))) ≡
+        are_spelled join s layouts x (filter (λ part. has_rows join s x part.partition) (cond o (part ∷ filter (λ part. not (is_empty (open_nodes r part))) parts) (filter (λ part. not (is_empty (open_nodes r part))) parts)))
+    spelled_by part parts false rest = rest
+    spelled_by part parts true rest =
+        elim (has_rows join s x part.partition) as (λ h. are_spelled join s layouts x (map part_of (cond h (pair part ∷ left parts) (left parts))) ≡ are_spelled join s layouts x (cond h (part ∷ right parts) (right parts))) [
+          | true ↦ ap (λ b. is_spelled_at join s x part.partition && b) rest
+          | false ↦ rest
+        ]
 
--- ---- what was sent to the other nodes of a layout's sets
+    spelled_among : (parts : List Part) → are_spelled join s layouts x (map part_of (left parts)) ≡ are_spelled join s layouts x (right parts)
+    spelled_among [] = refl
+    spelled_among (part ∷ parts) = spelled_by part parts (not (is_empty (open_nodes r part))) (spelled_among parts)
 
-module _ {R : Type 0} {join : R → R → R} {s : Words R} where
-  -- the sender's node and number are these
-  pub pushed_by : (sender : Sender) (id number : ℕ) (l m : Layout) (old new : List (Envelope R)) (parts : List (ℕ × List ℕ)) (x : Model R Layout) → sender.node ≡ id → sender.round ≡ number →
-      PushedAll join s sender l m old new parts x → PushedAll join s (record sender { node = id; round = number }) l m old new parts x
-  pushed_by sender id number l m old new parts x e f pushed = subst (λ (t : Sender). PushedAll join s t l m old new parts x) (λ i. record sender { node = e i; round = f i }) pushed
+    pub again_spelled : are_spelled join s layouts x (map part_of (filled (open_parts_of r))) ≡ are_spelled join s layouts x (filled_parts join s layouts x r)
+    again_spelled = spelled_among r.parts
 
-  -- a round of these partitions begins, and the node sends what the model's sends
-  pub round_sent : (sender : Sender) (target : ℕ) (l m : Layout) (old new : List (Envelope R)) (parts : List (ℕ × List ℕ)) (x : Model R Layout) → PushedAll join s sender l m old new parts x →
-      Posts sender.node old new (flat_map (λ part. pushes join s layouts x sender.round part.partition (open_nodes (begun_round sender.round target (moved join s sender l m x) sender.node) part)) (moved join s sender l m x))
-  round_sent sender target l m old new parts x pushed =
-      pushed.posts ∙ ap (λ ps. map posted old ++ map (λ p. (sender.node, p)) ps) (same_posts join s x sender.node sender.round target (moved join s sender l m x))
+-- ---- walks that begin with the other nodes
 
-  -- an open round sends again what the model's sends
-  pub again_sent : (sender : Sender) (id : ℕ) (r : Moved) (old new : List (Envelope R)) (parts : List (ℕ × List ℕ)) (x : Model R Layout) → sender.node ≡ id → sender.round ≡ r.number → parts ≡ open_parts_of r →
-      PushedAgain join s sender parts old new x → Posts id old new (flat_map (λ part. pushes join s layouts x r.number part.partition (open_nodes r part)) (open_parts r))
-  again_sent sender id r old new parts x node number are pushed =
-      subst (λ ps. Posts id old new ps) (again_posts join s x r)
-      (subst (λ (t : ℕ × ℕ × List (ℕ × List ℕ)). Posts t.0 old new (flat_map (λ part. pushes join s layouts x t.1 part.0 part.1) t.2)) (λ i. (node i, number i, are i)) pushed.posts)
+module _ {R : Type 0} (join : R → R → R) (s : Words R) where
+  -- the same, where number and partitions are these
+  pub record StartedWith (number id : ℕ) (parts : List Part) (old new : List (Envelope R)) (begun : List NodeWalk) (x : Model R Layout) : Type 0 where
+    pub posts : Posts id old new (starts_of join s layouts x number (walks_of join s x (other_nodes join s layouts id) parts))
+    pub begun_are : map walk_of begun ≡ walks_of join s x (other_nodes join s layouts id) parts
+    pub spelled : are_spelled join s layouts x parts ≡ true
+
+  pub started_with : (n number id : ℕ) (given : List (ℕ × List ℕ)) (parts : List Part) (old new : List (Envelope R)) (begun : List NodeWalk) (x : Model R Layout) → n ≡ number → map part_of given ≡ parts →
+      Started join s n id given old new begun x → StartedWith number id parts old new begun x
+  started_with n number id given parts old new begun x e are st = record {
+    posts = subst (λ (t : ℕ × List Part). Posts id old new (starts_of join s layouts x t.0 (walks_of join s x (other_nodes join s layouts id) t.1))) (λ i. (e i, are i)) st.posts;
+    begun_are = st.begun_are ∙ ap (walks_of join s x (other_nodes join s layouts id)) are;
+    spelled = ap (are_spelled join s layouts x) (sym are) ∙ st.spelled;
+  }
+
+module _ {R : Type 0} (join : R → R → R) (s : Words R) {S : Type 0} where
+  -- who sends under a number, and what it sends
+  pub record SendsAs (sender : Sender) (contents : Contents S R) (number id : ℕ) (x : Model R Layout) : Type 0 where
+    pub sends : Sends join s sender contents x
+    pub node_is : sender.node ≡ id
+    pub number_is : sender.round ≡ number
+
+module _ {S R : Type 0} {join : R → R → R} {s : Words R} where
+  pub sends_by : (sender : Sender) (node : Node S R) (number id : ℕ) (x : Model R Layout) → sender ≡ sender_of node number → node.id ≡ id → known node.view ≡ x.view → IsContents join s node.contents x → SendsAs join s sender node.contents number id x
+  sends_by sender node number id x same id_is view contents = record {
+    sends = subst (λ t. Sends join s t node.contents x) (sym same) (record { is = contents; newest_is = ap (newest reading) (sym view) });
+    node_is = ap (λ (t : Sender). t.node) same ∙ id_is;
+    number_is = ap (λ (t : Sender). t.round) same;
+  }
+
+  pub sends_as : (sender : Sender) (node : Node S R) (number id : ℕ) (x : Model R Layout) → sender ≡ sender_of node number → StandsFor join s node id x → SendsAs join s sender node.contents number id x
+  sends_as sender node number id x same is = sends_by sender node number id x same is.id_is is.view is.contents
+
+  pub sends_apart : (sender : Sender) (node : Node S R) (number id : ℕ) (x : Model R Layout) → sender ≡ sender_of node number → StandsApart join s node id x → SendsAs join s sender node.contents number id x
+  sends_apart sender node number id x same is = sends_by sender node number id x same is.id_is is.view is.contents
+
+  -- walks over these partitions began with the other nodes
+  pub started : (node : Node S R) (number id : ℕ) (parts places : List (ℕ × List ℕ)) (old new : List (Envelope R)) (begun : List NodeWalk) (x : Model R Layout) → StandsFor join s node id x → places ≡ with_others node.id parts →
+      StartsAll join s (sender_of node number) node.contents places old new begun → Started join s number id parts old new begun x
+  started node number id parts places old new begun x is places_are starts =
+      let went = starts x (sends_as (sender_of node number) node number id x refl is).sends in
+      let same : places ≡ with_others id parts = places_are ∙ ap (λ n. with_others n parts) is.id_is in
+      let walks : walks_over join s x places ≡ walks_of join s x (other_nodes join s layouts id) (map part_of parts) = ap (walks_over join s x) same ∙ others_walk join s x id parts in
+      record {
+        posts = subst (λ (t : ℕ × List Walk). Posts t.0 old new (starts_of join s layouts x number t.1)) (λ i. (is.id_is i, walks i)) went.0.posts;
+        begun_are = went.0.begun ∙ walks;
+        spelled = sym (others_spelled join s x id parts) ∙ ap (λ ps. are_spelled join s layouts x (map part_of ps)) (sym same) ∙ went.1;
+      }
+
+  -- some row of these partitions has no spelling
+  pub cannot_start : (node : Node S R) (parts places : List (ℕ × List ℕ)) → places ≡ with_others node.id parts → StartFails join s node.contents places → CannotStart join s node parts
+  cannot_start node parts places places_are fails id x is =
+      sym (others_spelled join s x node.id parts) ∙ ap (λ ps. are_spelled join s layouts x (map part_of ps)) (sym places_are) ∙ fails x is.contents
+
+  -- an open round walks anew, over these places
+  pub walks_anew : (sender : Sender) (node : Node S R) (number id : ℕ) (x : Model R Layout) (r : Moved) (places : List (ℕ × List ℕ)) (old new : List (Envelope R)) (begun : List NodeWalk) → SendsAs join s sender node.contents number id x → places ≡ filled join s x r (open_parts_of r) →
+      StartsAll join s sender node.contents places old new begun → (Posts id old new (starts_of join s layouts x number (new_walks join s layouts x r))) × (map walk_of begun ≡ new_walks join s layouts x r) × (are_spelled join s layouts x (filled_parts join s layouts x r) ≡ true)
+  walks_anew sender node number id x r places old new begun who are starts =
+      let went = starts x who.sends in
+      let walks : walks_over join s x places ≡ new_walks join s layouts x r = ap (walks_over join s x) are ∙ again_walk join s x r in (
+        subst (λ (t : ℕ × ℕ × List Walk). Posts t.0 old new (starts_of join s layouts x t.1 t.2)) (λ i. (who.node_is i, who.number_is i, walks i)) went.0.posts,
+        went.0.begun ∙ walks,
+        sym (again_spelled join s x r) ∙ ap (λ ps. are_spelled join s layouts x (map part_of ps)) (sym are) ∙ went.1,
+      )
+
+  -- some row of them has no spelling
+  pub lacks_anew : (node : Node S R) (x : Model R Layout) (r : Moved) (places : List (ℕ × List ℕ)) → IsContents join s node.contents x → places ≡ filled join s x r (open_parts_of r) → StartFails join s node.contents places → are_spelled join s layouts x (filled_parts join s layouts x r) ≡ false
+  lacks_anew node x r places is are fails = sym (again_spelled join s x r) ∙ ap (λ ps. are_spelled join s layouts x (map part_of ps)) (sym are) ∙ fails x is

@@ -1,8 +1,8 @@
 -- What stays when a part of a node changes.
-use Rattle.std.proofs.Common.{◌≡◌, ◌≤◌, ◌<◌, ℕ, zero, suc, Bool, true, false, leb, nat_lt, IsTrue, List, [], ◌∷◌, Option, Some, None, is_some, option_map, ◌&&◌, map, length, count_by, append-nil, refl, ap, sym, subst, ◌∙◌, arith, Result, Ok, Err, IfOk, OnOk}
+use Rattle.std.proofs.Common.{◌≡◌, ◌≤◌, ◌<◌, ◌==◌, ℕ, zero, suc, Bool, true, false, leb, nat_lt, IsTrue, List, [], ◌∷◌, Option, Some, None, is_some, option_map, ◌&&◌, map, length, count_by, append-nil, refl, ap, sym, subst, ◌∙◌, arith, Result, Ok, Err, IfOk, OnOk}
 use Rattle.std.specs.List.{AllZip, list_all}
 use Rattle.std.specs.Cmp.{nat_cmp_total}
-use Rattle.std.proofs.lemmas.Bool.{le-leb, leb-true}
+use Rattle.std.proofs.lemmas.Bool.{le-leb, leb-true, eqb-true}
 use Rattle.std.proofs.lemmas.List.Recursion.{is_count_by}
 use Rattle.std.proofs.Math.Nat.{le_trans}
 use Rattle.layout_roles.specs.declared.layout.Layout.{Layout}
@@ -22,7 +22,7 @@ use Rattle.view_model.proofs.Gapless.{none_at_0, lt_leb}
 use Rattle.table_schema.specs.Words.{Words}
 use Rattle.quorum_model.specs.Quorum.{is_among}
 use Rattle.cluster_machine.specs.Layouts.{members_in, is_member, layouts}
-use Rattle.cluster_machine.specs.Node.{quiet, Item as Waiting, Node as Model, Call as Opened, Round as Moved}
+use Rattle.cluster_machine.specs.Node.{quiet, Item as Waiting, Node as Model, Call as Opened, Round as Moved, Mending}
 use Rattle.node_parts.specs.declared.contents.Contents.{Contents}
 use Rattle.node_parts.specs.Contents.{IsContents, IsItem, Became}
 use Rattle.block_resync.specs.declared.item.Item.{Item}
@@ -32,22 +32,19 @@ use Rattle.node_core.specs.declared.node.Node.{Node}
 use Rattle.node_parts.specs.declared.rounds.Moving.{Moving}
 use Rattle.node_parts.specs.declared.rounds.Rounds.{Rounds}
 use Rattle.node_parts.specs.Rounds.{IsOpen, IsMoving, AreRounds}
-use Rattle.node_core.specs.Stands.{HasVersion, StandsFor, StandsButView, Done}
+use Rattle.node_parts.specs.Sends.{AreMended}
+use Rattle.node_core.specs.Stands.{HasVersion, StandsFor, StandsApart, StandsButView, Done}
 use Rattle.node_parts.specs.declared.packet.Envelope.{Envelope}
 use Rattle.node_parts.specs.Posts.{Posts, posted}
-
-pub ok_to : {A E P Q : Type 0} → (r : Result A E) → OnOk r P → (P → Q) → OnOk r Q
-ok_to (Ok a) p f = f p
-ok_to (Err e) p f = tt
 
 pub ok_all : {A E : Type 0} {P Q : A → Type 0} → (r : Result A E) → IfOk r P → ((a : A) → P a → Q a) → IfOk r Q
 ok_all (Ok a) p f = f a p
 ok_all (Err e) p f = tt
 
 -- contents have nothing to do with the view, the requests and the rounds
-pub same_contents : {S R : Type 0} {join : R → R → R} {s : Words R} {c : Contents S R} (x : Model R Layout) (v : View Layout) (calls : List (Opened R)) (round : Option Moved) (rounds : ℕ) →
-    IsContents join s c x → IsContents join s c (record x { view = v; calls = calls; round = round; rounds = rounds })
-same_contents x v calls round rounds is = record { proper = is.proper; table = is.table; items = is.items; queued = is.queued; blocks = is.blocks }
+pub same_contents : {S R : Type 0} {join : R → R → R} {s : Words R} {c : Contents S R} (x : Model R Layout) (v : View Layout) (calls : List (Opened R)) (round : Option Moved) (rounds : ℕ) (mending lasting : Option Mending) →
+    IsContents join s c x → IsContents join s c (record x { view = v; calls = calls; round = round; rounds = rounds; mending = mending; lasting = lasting })
+same_contents x v calls round rounds mending lasting is = record { proper = is.proper; table = is.table; items = is.items; queued = is.queued; blocks = is.blocks }
 
 -- a version is stored when the newest one has not fallen
 pub version_stays : {R : Type 0} (a b : View Layout) (calls : List (Opened R)) → newest reading a ≤ newest reading b → HasVersion a calls → HasVersion b calls
@@ -57,6 +54,43 @@ version_stays a b (c ∷ cs) le h = le-leb 1 (newest reading b) (le_trans (leb-t
 pub version_kept : {R : Type 0} (v : View Layout) (t : Trackers) (calls : List (Opened R)) → HasVersion v calls → HasVersion (record v { trackers = t }) calls
 version_kept v t [] h = tt
 version_kept v t (c ∷ cs) h = h
+
+-- other rounds, with the same view and contents
+pub with_rounds : {S R : Type 0} {join : R → R → R} {s : Words R} (c : Node S R) (id : ℕ) (x : Model R Layout) (rounds : Rounds) (round : Option Moved) (begun : ℕ) (mending lasting : Option Mending) → StandsFor join s c id x →
+    AreRounds id rounds round begun mending lasting → StandsFor join s (record c { rounds = rounds }) id (record x { round = round; rounds = begun; mending = mending; lasting = lasting })
+with_rounds c id x rounds round begun mending lasting is are = record {
+  id_is = is.id_is;
+  view = is.view;
+  contents = same_contents x x.view x.calls round begun mending lasting is.contents;
+  calls = is.calls;
+  rounds = are;
+  has_version = is.has_version;
+}
+
+-- the same, where the round is to come yet
+pub apart : {S R : Type 0} {join : R → R → R} {s : Words R} (c : Node S R) (id : ℕ) (x : Model R Layout) (round : Option Moving) → StandsFor join s c id x → StandsApart join s (record c { rounds = record c.rounds { round = round } }) id x
+apart c id x round is = record {
+  id_is = is.id_is;
+  view = is.view;
+  contents = is.contents;
+  calls = is.calls;
+  begun = is.rounds.begun;
+  mending_is = is.rounds.mending_is;
+  lasting_is = is.rounds.lasting_is;
+  has_version = is.has_version;
+}
+
+-- and when it has come
+pub together : {S R : Type 0} {join : R → R → R} {s : Words R} (c : Node S R) (id : ℕ) (x : Model R Layout) (m : Moving) (r : Moved) → StandsApart join s c id x → IsMoving id m r →
+    StandsFor join s (record c { rounds = record c.rounds { round = Some m } }) id (record x { round = Some r })
+together c id x m r is moving = record {
+  id_is = is.id_is;
+  view = is.view;
+  contents = same_contents x x.view x.calls (Some r) x.rounds x.mending x.lasting is.contents;
+  calls = is.calls;
+  rounds = record { is_open = moving; begun = is.begun; mending_is = is.mending_is; lasting_is = is.lasting_is };
+  has_version = is.has_version;
+}
 
 -- an open round is one of the model
 pub open_some : {id : ℕ} (m : Moving) (round : Option Moved) → IsOpen id (Some m) round → (r : Moved) × (round ≡ Some r) × IsMoving id m r
@@ -109,6 +143,8 @@ with_contents c id x y contents is became =
       rounds = record {
         is_open = subst (λ round. IsOpen id c.rounds.round round) (sym rest.round) is.rounds.is_open;
         begun = is.rounds.begun ∙ sym rest.rounds;
+        mending_is = subst (λ m. AreMended c.rounds.mending m) (sym rest.mending) is.rounds.mending_is;
+        lasting_is = subst (λ m. AreMended c.rounds.lasting m) (sym rest.lasting) is.rounds.lasting_is;
       };
       has_version = subst (λ v. HasVersion v y.calls) (sym rest.view) (subst (λ calls. HasVersion x.view calls) (sym rest.calls) is.has_version);
     }
@@ -119,11 +155,11 @@ knows_less a b n e le = lt_leb (suc a) b (omega arith)
 
 -- the view changed, and the round closed where it had to
 pub seen : {S R : Type 0} {join : R → R → R} {s : Words R} (c : Node S R) (id : ℕ) (x : Model R Layout) (v : View Layout) (rounds : Rounds) (round : Option Moved) →
-    StandsButView join s c id x v → AreRounds id rounds round x.rounds → StandsFor join s (record c { rounds = rounds }) id (record x { view = v; round = round })
+    StandsButView join s c id x v → AreRounds id rounds round x.rounds x.mending x.lasting → StandsFor join s (record c { rounds = rounds }) id (record x { view = v; round = round })
 seen c id x v rounds round is closed = record {
   id_is = is.id_is;
   view = is.view;
-  contents = same_contents x v x.calls round x.rounds is.contents;
+  contents = same_contents x v x.calls round x.rounds x.mending x.lasting is.contents;
   calls = is.calls;
   rounds = closed;
   has_version = is.has_version;
@@ -172,3 +208,13 @@ all_counted xs = sym (is_count_by length (λ x. true) refl (λ x xs. omega arith
 -- the code has as many blocks as the node
 pub as_many_blocks : {S R : Type 0} {join : R → R → R} {s : Words R} {c : Contents S R} (x : Model R Layout) → IsContents join s c x → length c.blocks.blocks ≡ length x.blocks
 as_many_blocks {c = c} x is = sym (all_counted c.blocks.blocks) ∙ (is.blocks.number (λ hash. true) ∙ all_counted x.blocks)
+
+-- different numbers
+pub differs : (a b : ℕ) → (a ≡ b → ⊥) → (a == b) ≡ false
+differs a b unlike = elim (a == b) as (λ t. (a == b) ≡ t → t ≡ false) [ true ↦ (λ e. absurd (unlike (eqb-true a b e))) | false ↦ (λ e. refl) ] refl
+
+-- an open round that was taken out and put back
+pub put_back : {S R : Type 0} {join : R → R → R} {s : Words R} (c : Node S R) (id : ℕ) (x : Model R Layout) (m : Moving) → c.rounds.round ≡ Some m → StandsFor join s c id x → StandsFor join s (record c { rounds = record c.rounds { round = Some m } }) id x
+put_back c id x m there is =
+    with_rounds c id x (record c.rounds { round = Some m }) x.round x.rounds x.mending x.lasting is
+    (record { is_open = subst (λ o. IsOpen id o x.round) there is.rounds.is_open; begun = is.rounds.begun; mending_is = is.rounds.mending_is; lasting_is = is.rounds.lasting_is })

@@ -4,7 +4,7 @@ use Rattle.std.specs.List.{AllByRecursion}
 use Rattle.layout_roles.specs.declared.layout.Layout.{Layout}
 use Rattle.layout_history.specs.Views.{known}
 use Rattle.view_model.specs.Layouts.{reading}
-use Rattle.view_model.specs.View.{View, newest, layout_at}
+use Rattle.view_model.specs.View.{View, newest}
 use Rattle.table_schema.specs.Words.{Words}
 use Rattle.wire_messages.specs.declared.phase.Phase.{Phase}
 use Rattle.wire_messages.specs.declared.phase.PhaseEnd.{PhaseEnd}
@@ -16,14 +16,13 @@ use Rattle.cluster_machine.specs.Acts.{Acted}
 use Rattle.cluster_machine.specs.World.{packet_size}
 use Rattle.node_core.specs.declared.node.Node.{Node}
 use Rattle.node_parts.specs.declared.packet.Envelope.{Envelope}
-use Rattle.node_parts.specs.declared.pushes.Sender.{Sender}
+use Rattle.node_parts.specs.declared.sender.Sender.{Sender}
 use Rattle.cluster_machine.specs.Layouts.{layouts}
 use Rattle.node_parts.specs.Posts.{Posts}
 use Rattle.node_parts.specs.Calls.{AreCalls}
 use Rattle.node_parts.specs.Contents.{IsContents, Holds}
 use Rattle.node_parts.specs.Rounds.{AreRounds}
-use Rattle.node_parts.specs.Pushes.{PushedAll, moved}
-use Rattle.cluster_machine.specs.Rounds.{are_spelled}
+use Rattle.node_parts.specs.Sends.{AreMended}
 
 -- where a request is open a version is stored
 abbrev pub HasVersion : {R : Type 0} → View Layout → List (Opened R) → Type 0
@@ -44,7 +43,7 @@ pub record StandsFor {S R : Type 0} (join : R → R → R) (s : Words R) (c : No
   pub view : known c.view ≡ x.view
   pub contents : IsContents join s c.contents x
   pub calls : AreCalls c.calls x.calls
-  pub rounds : AreRounds id c.rounds x.round x.rounds
+  pub rounds : AreRounds id c.rounds x.round x.rounds x.mending x.lasting
   pub has_version : HasVersion x.view x.calls
 
 -- the same, whatever round is open
@@ -54,6 +53,8 @@ pub record StandsApart {S R : Type 0} (join : R → R → R) (s : Words R) (c : 
   pub contents : IsContents join s c.contents x
   pub calls : AreCalls c.calls x.calls
   pub begun : c.rounds.begun ≡ x.rounds
+  pub mending_is : AreMended c.rounds.mending x.mending
+  pub lasting_is : AreMended c.rounds.lasting x.lasting
   pub has_version : HasVersion x.view x.calls
 
 -- the same of a node whose view has just become v
@@ -62,7 +63,7 @@ pub record StandsButView {S R : Type 0} (join : R → R → R) (s : Words R) (c 
   pub view : known c.view ≡ v
   pub contents : IsContents join s c.contents x
   pub calls : AreCalls c.calls x.calls
-  pub rounds : AreRounds id c.rounds x.round x.rounds
+  pub rounds : AreRounds id c.rounds x.round x.rounds x.mending x.lasting
   pub has_version : HasVersion v x.calls
 
 -- a request, and how its phase ended, where one did
@@ -87,18 +88,6 @@ pub record Fits {R : Type 0} (s : Words R) (d : Did R Layout) : Type 0 where
   pub rounds : d.node.rounds < 2 ^ 64
   pub phases : AllByRecursion (λ (c : Opened R). c.phases < 2 ^ 32) d.node.calls
   pub spelled : IsTrue d.is_spelled
-
--- the node sent its rows of the partitions that one of its stored layouts gives it to their nodes in another
-abbrev pub Hands : {S R : Type 0} → (R → R → R) → Words R → Node S R → ℕ → ℕ → ℕ → List (Envelope R) → List (Envelope R) → List (ℕ × List ℕ) → Type 0
-Hands {S} {R} join s node here there round old new parts =
-    (id : ℕ) (x : Model R Layout) (l m : Layout) → StandsFor join s node id x → layout_at reading x.view here ≡ Some l → layout_at reading x.view there ≡ Some m →
-    PushedAll join s (sender_of node round) l m old new parts x
-
--- some row that moves from one version to another has no bytes
-abbrev pub CannotHand : {S R : Type 0} → (R → R → R) → Words R → Node S R → ℕ → ℕ → ℕ → Type 0
-CannotHand {S} {R} join s node here there round =
-    (id : ℕ) (x : Model R Layout) (l m : Layout) → StandsFor join s node id x → layout_at reading x.view here ≡ Some l → layout_at reading x.view there ≡ Some m →
-    are_spelled join s layouts x (moved join s (sender_of node round) l m x) ≡ false
 
 module _ {S R : Type 0} (join : R → R → R) (s : Words R) where
   -- whatever node the code's node stood for, the call did what f does to it

@@ -9,7 +9,8 @@
 //!
 //! Inside are the parts of `node_parts`: rows, blocks and outbox, open requests, rounds. A message costs the logarithm
 //! of the rows, of the blocks and of the requests; where the oldest version rises, and where a round or a repair
-//! begins, all partitions are walked once; `Action::Work` walks the outbox and the blocks once.
+//! begins, all partitions are visited once; `Action::Work` visits the outbox and the blocks once. A round and a repair
+//! walk down the tries of the rows with other nodes (src/walking.rt), and push what differs.
 //!
 //! A row that needs a block comes with it (`PacketCarriesBlocks`), and goes with it to other nodes. The node keeps the
 //! block as long as a row needs it; `Action::Work` deletes blocks that none has needed for ten minutes.
@@ -19,6 +20,7 @@
 #![tactic(auto)]
 
 mod node;
+mod walking;
 
 pub use node::{BeginFault, Node};
 pub use node_parts::{Envelope, Packet};

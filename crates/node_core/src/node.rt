@@ -12,22 +12,19 @@ ghost use Rattle.table_model.specs.Rows.{row_at, find_row, rows, range};
 ghost use Rattle.wire_messages.specs.declared.message.Message.TheVariants as message;
 ghost use Rattle.wire_messages.specs.declared.message.Tag.TheVariants as tag;
 ghost use Rattle.cluster_machine.specs.Layouts.{is_member, layouts};
-ghost use Rattle.cluster_machine.specs.Node.{Node as Model, Round as Moved, new_node};
+ghost use Rattle.cluster_machine.specs.Node.{Node as Model, new_node};
 ghost use Rattle.cluster_machine.specs.Rows.{block_at, sees};
 ghost use Rattle.cluster_machine.specs.Phases.{opened, closed, call_at};
-ghost use Rattle.cluster_machine.specs.Rounds.{goes_on, may_sync, begin_round, repairs};
-ghost use Rattle.cluster_machine.specs.Receives.{most_rows, answers, round_came, where_stored, gives_row, gives_rows, gives_block, takes, confirms, hears, receives};
-ghost use Rattle.cluster_machine.specs.Acts.{raises, cleans, syncs, acts, appends, restarts};
+ghost use Rattle.cluster_machine.specs.Receives.{most_rows, answers, where_stored, gives_row, gives_rows, gives_block, takes, confirms, hears, receives};
+ghost use Rattle.cluster_machine.specs.Acts.{raises, cleans, acts, appends, restarts};
 ghost use Rattle.cluster_machine.specs.Step.{requests_of};
 ghost use Rattle.node_core.specs.declared.node.BeginFault.TheVariants.{NotMember, Memory as WantsMemory};
 ghost use Rattle.node_parts.specs.Posts.{told};
 ghost use Rattle.node_parts.specs.Calls.{ended_with};
 ghost use Rattle.cluster_machine.specs.Blocks.{IsRowWithBlock, CarriesBlocks, PacketCarriesBlocks};
 ghost use Rattle.cluster_machine.specs.Keeping.{IsShort};
-ghost use Rattle.node_parts.specs.Rounds.{IsMoving};
-ghost use Rattle.cluster_machine.specs.declared.step.LocalEnd.TheVariants.{At, Repaired};
 ghost use Rattle.node_parts.specs.declared.packet.Envelope.{Envelope};
-ghost use Rattle.node_core.specs.Stands.{view_of, sender_of, Hands, CannotHand, begins_at, ends_of, Done, Fits, StandsApart, StandsButView};
+ghost use Rattle.node_core.specs.Stands.{view_of, begins_at, ends_of, StandsButView};
 
 use blake2_hash::Hash32;
 use block_bytes::Block;
@@ -37,8 +34,7 @@ use layout_history::View;
 use layout_roles::Layout;
 use layout_trackers::Which;
 use node_parts::{
-    Beginning, Calls, Contents, Envelope, Moving, Packet, Rounds, Sender, is_given, is_member,
-    is_stored, keeps_copies, send,
+    Beginning, Calls, Contents, Envelope, Packet, Rounds, is_given, is_member, is_stored, send,
 };
 use std::alloc::Global;
 use table_schema::Schema;
@@ -60,12 +56,12 @@ pub enum BeginFault {
 /// A node of the cluster.
 #[derive(Drop)]
 pub struct Node<S: Schema> {
-    id: u8,
-    view: View,
-    contents: Contents<S>,
-    calls: Calls<S>,
-    rounds: Rounds,
-    alloc: Global,
+    pub(crate) id: u8,
+    pub(crate) view: View,
+    pub(crate) contents: Contents<S>,
+    pub(crate) calls: Calls<S>,
+    pub(crate) rounds: Rounds,
+    pub(crate) alloc: Global,
 }
 
 impl<S: Schema> Node<S> {
@@ -289,36 +285,6 @@ impl<S: Schema> Node<S> {
         send(out, self.id, from, Message::Stored(tag))
     }
 
-    // A round that is complete closes, and the node has synced to its version.
-    fn go_on(&mut self, moving: Moving) -> Result<(), Memory>
-        ensures goes_on { OnOk result ((id : ℕ) (x : Model S.Row Layout) (r : Moved) → IsMoving id moving r → StandsApart S.Row.join S.words self.old id x → StandsFor S.Row.join S.words self.new id (goes_on S.Row.join S.words layouts id x r)) }
-        ensures want { OnlyWant result }
-    {
-        if moving.is_complete() {
-            self.view.raise(Which::Sync, self.id, moving.target())?;
-            self.rounds.round = None;
-        } else {
-            self.rounds.round = Some(moving);
-        }
-        Ok(())
-    }
-
-    // A node confirms a partition of the round with this number, where it is the open one.
-    fn confirm_round(&mut self, from: u8, number: u64, p: u8) -> Result<(), Memory>
-        ensures confirms { OnOk result (Becomes S.Row.join S.words self.old self.new (λ id x. (round_came S.Row.join S.words layouts id x from number p x.round).node)) }
-        ensures want { OnlyWant result }
-    {
-        let Some(mut moving) = self.rounds.round.take() else {
-            return Ok(());
-        };
-        if moving.number != number {
-            self.rounds.round = Some(moving);
-            return Ok(());
-        }
-        moving.confirm(p, from);
-        self.go_on(moving)
-    }
-
     // A confirmation.
     fn take_stored(&mut self, from: u8, tag: Tag) -> Result<Option<(u64, PhaseEnd<S::Row>)>, Memory>
         ensures confirms { IfOk result (λ given. (out : List (Envelope S.Row)) → Does S.Row.join S.words self.old self.new out out given (λ id x. confirms S.Row.join S.words layouts id x from tag)) }
@@ -453,6 +419,30 @@ impl<S: Schema> Node<S> {
                 Ok(None)
             }
             Message::Stored(tag) => self.take_stored(from, *tag),
+            Message::Walk {
+                tag,
+                newest,
+                p,
+                table,
+                prefix,
+                hash,
+            } => {
+                self.take_walk(from, *tag, *newest, *p, *table, prefix, hash, out)?;
+                Ok(None)
+            }
+            Message::Same { tag, table, prefix } => {
+                self.take_answer(from, *tag, *table, prefix, None, out)?;
+                Ok(None)
+            }
+            Message::Differ {
+                tag,
+                table,
+                prefix,
+                pairs,
+            } => {
+                self.take_answer(from, *tag, *table, prefix, Some(pairs.as_slice()), out)?;
+                Ok(None)
+            }
             Message::Behind(_, _) | Message::NotHere(_) | Message::NoBlock { .. } => Ok(None),
             Message::BlockGet {
                 request,
@@ -474,40 +464,6 @@ impl<S: Schema> Node<S> {
         }
     }
 
-    // What the node sends in a round or a repair with this number.
-    fn sender(&self, round: u64) -> Sender
-        ensures { result ≡ sender_of self.now round }
-    {
-        Sender {
-            node: self.id,
-            newest: self.view.newest(),
-            round,
-            alloc: self.alloc,
-        }
-    }
-
-    // Sends the rows of each partition whose set in version `here` has the node to the other nodes of its set in
-    // version `there`, both of which are stored; these partitions, with their sets there.
-    fn hand(
-        &self,
-        here: u32,
-        there: u32,
-        round: u64,
-        out: &mut Vec<Envelope<S::Row>>,
-    ) -> Result<Vec<(u8, [u8; 3])>, Memory>
-        ensures hands { IfOk result (λ parts. Hands S.Row.join S.words self.now here there round out.old.items out.new.items parts.items) }
-        ensures causes { WantOr result (CannotHand S.Row.join S.words self.now here there round) }
-    {
-        match (self.view.layout(here), self.view.layout(there)) {
-            (Some(here), Some(there)) => {
-                let contents = &self.contents;
-                let sender = self.sender(round);
-                sender.push_all(&contents.table, &contents.blocks, here, there, out)
-            }
-            _ => Ok(Vec::new(self.alloc)),
-        }
-    }
-
     // Raises the node's own entry; the version that it has then.
     fn raise(&mut self, which: Which, version: u32) -> Result<LocalEnd, Memory>
         ensures raises { IfOk result (λ how. (out : List (Envelope S.Row)) → Acts S.Row.join S.words self.old self.new out out how (λ id x. raises S.Row.join S.words layouts id x which version)) }
@@ -516,59 +472,6 @@ impl<S: Schema> Node<S> {
         self.view.raise(which, self.id, version)?;
         let oldest = self.view.oldest();
         Ok(LocalEnd::At(self.view.trackers().counts(which, self.id, oldest)))
-    }
-
-    // A round from a version, the read version, to the next may begin.
-    fn may_sync(&self, at: u32) -> bool
-        ensures is { (id : ℕ) (x : Model S.Row Layout) → StandsFor S.Row.join S.words self.now id x → read_version reading x.view ≡ at → result ≡ may_sync S.Row.join S.words layouts id x.view }
-        ensures below { IsTrue result → at + 1 < 2 ^ 32 }
-    {
-        let oldest = self.view.oldest();
-        at < self.view.newest()
-            && keeps_copies(&self.view, at, self.id)
-            && at < self.view.ack_least()
-            && self.view.trackers().counts(Which::Sync, self.id, oldest) <= at
-    }
-
-    // Begins a round from a version, the read version, to the next.
-    fn begin_round(&mut self, at: u32, out: &mut Vec<Envelope<S::Row>>) -> Result<LocalEnd, Memory>
-        requires below { at + 1 < 2 ^ 32 }
-        ensures begins { IfOk result (λ how. (id : ℕ) (x : Model S.Row Layout) → may_sync S.Row.join S.words layouts id x.view ≡ true → read_version reading x.view ≡ at → StandsFor S.Row.join S.words self.old id x → Done S.Row.join S.words self.new id out.old.items out.new.items None (begin_round S.Row.join S.words layouts id x) × (how ≡ At (suc at))) }
-        ensures causes { WantOr result ((id : ℕ) (x : Model S.Row Layout) → may_sync S.Row.join S.words layouts id x.view ≡ true → read_version reading x.view ≡ at → StandsFor S.Row.join S.words self.old id x → Fits S.words (begin_round S.Row.join S.words layouts id x) → ⊥) }
-    {
-        let target = at + 1;
-        let number = self.rounds.next()?;
-        let parts = self.hand(at, target, number, out)?;
-        let moving = Moving::new(self.alloc, number, target, parts, self.id)?;
-        self.rounds.begun = number;
-        self.go_on(moving)?;
-        Ok(LocalEnd::At(target))
-    }
-
-    // Begins a round, or sends again what nobody confirmed in the open one.
-    fn sync(&mut self, out: &mut Vec<Envelope<S::Row>>) -> Result<LocalEnd, Memory>
-        ensures syncs { IfOk result (λ how. Acts S.Row.join S.words self.old self.new out.old.items out.new.items how (λ id x. syncs S.Row.join S.words layouts id x x.round)) }
-        ensures causes { WantOr result (Overflows S.Row.join S.words self.old (λ id x. (syncs S.Row.join S.words layouts id x x.round).did)) }
-    {
-        match &self.rounds.round {
-            Some(moving) => {
-                let parts = moving.open_parts()?;
-                let target = moving.target();
-                let sender = self.sender(moving.number);
-                let contents = &self.contents;
-                sender.push_again(&contents.table, &contents.blocks, parts.as_slice(), out)?;
-                Ok(LocalEnd::At(target))
-            }
-            None => {
-                let read = self.view.read_version();
-                if self.may_sync(read) {
-                    self.begin_round(read, out)
-                } else {
-                    let ack_least = self.view.ack_least();
-                    Ok(LocalEnd::Idle { read, ack_least })
-                }
-            }
-        }
     }
 
     // Drops the layout versions that nobody needs.
@@ -580,19 +483,6 @@ impl<S: Schema> Node<S> {
         let oldest = self.view.clean();
         self.look_around(before, now)?;
         Ok(LocalEnd::At(oldest))
-    }
-
-    // Sends the rows of each partition to the other nodes of its newest set.
-    fn repair(&mut self, out: &mut Vec<Envelope<S::Row>>) -> Result<LocalEnd, Memory>
-        requires has_version { 1 ≤ newest reading (view_of self.old) }
-        ensures repairs { IfOk result (λ how. (how ≡ Repaired) × Does S.Row.join S.words self.old self.new out.old.items out.new.items None (λ id x. repairs S.Row.join S.words layouts id x)) }
-        ensures causes { WantOr result (Overflows S.Row.join S.words self.old (λ id x. repairs S.Row.join S.words layouts id x)) }
-    {
-        let number = self.rounds.next()?;
-        let newest = self.view.newest();
-        let _ = self.hand(newest, newest, number, out)?;
-        self.rounds.begun = number;
-        Ok(LocalEnd::Repaired)
     }
 
     /// Does what a node does by itself.
@@ -666,7 +556,7 @@ impl<S: Schema> Node<S> {
         ensures want { OnlyWant result }
     {
         let lost = self.calls.lose_all()?;
-        self.rounds.round = None;
+        self.rounds.forget();
         self.contents.forget_confirmations();
         Ok(lost)
     }

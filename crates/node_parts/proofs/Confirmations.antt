@@ -10,7 +10,7 @@ use Rattle.quorum_model.specs.Quorum.{is_among, two_of}
 use Rattle.sync_round.specs.Round.{told_for, confirmed, missing, is_complete, open_parts}
 use Rattle.cluster_machine.specs.Node.{Confirmed, Part}
 use Rattle.cluster_machine.specs.Rounds.{confirmed_for, is_empty}
-use Rattle.node_parts.specs.Pushes.{part_of}
+use Rattle.node_parts.specs.Sends.{part_of}
 use Rattle.node_parts.specs.Rounds.{pair_of, confirmed_by, has_any}
 
 -- the node's own confirmations, then the others

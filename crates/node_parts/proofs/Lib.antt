@@ -9,8 +9,6 @@ pub mod Dropping
 pub mod Ended
 pub mod Faults
 pub mod FirstSends
-pub mod Handing
-pub mod HandingAll
 pub mod Keeping
 pub mod KeptBlocks
 pub mod OpenCalls
@@ -20,3 +18,10 @@ pub mod SendingItems
 pub mod SetAsked
 pub mod SetReading
 pub mod Waiting
+pub mod PlacedWalks
+pub mod KeptWalks
+pub mod WalkSends
+pub mod Answering
+pub mod Spelled
+pub mod MovedParts
+pub mod Emptying

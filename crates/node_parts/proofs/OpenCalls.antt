@@ -37,7 +37,7 @@ finds k = is_at (newest_first k)
 abbrev pub numbers_of : List (Reverse ℕ) → List ℕ
 numbers_of keys = map (λ k. k.0) keys
 
-same_number : (a b : ℕ) → is_eq (nat_cmp a b) ≡ (a == b)
+pub same_number : (a b : ℕ) → is_eq (nat_cmp a b) ≡ (a == b)
 same_number a b =
     both_ways (is_eq (nat_cmp a b)) (a == b)
     (λ e. eq-eqb a b (nat_identical a b ((Equal-is (nat_cmp a b)).0 e)))

@@ -51,12 +51,14 @@ pub record IsContents {S R : Type 0} (join : R → R → R) (s : Words R) (c : C
   pub queued : c.outbox.pushed ≡ x.queued
   pub blocks : AreBlocks join s c.blocks x.accepted x.blocks x.notes
 
--- x became y, and its view, its requests and its rounds stayed as they were
+-- x became y, and its view, its requests, its rounds and its walks stayed as they were
 pub record KeepsRest {R : Type 0} (x y : Node R Layout) : Type 0 where
   pub view : y.view ≡ x.view
   pub calls : y.calls ≡ x.calls
   pub round : y.round ≡ x.round
   pub rounds : y.rounds ≡ x.rounds
+  pub mending : y.mending ≡ x.mending
+  pub lasting : y.lasting ≡ x.lasting
 
 -- x became y, which has these contents
 pub record Became {S R : Type 0} (join : R → R → R) (s : Words R) (c : Contents S R) (x y : Node R Layout) : Type 0 where

@@ -3,6 +3,7 @@ pub mod Sets
 pub mod Calls
 pub mod Begins
 pub mod Contents
-pub mod Pushes
+pub mod Walks
+pub mod Sends
 pub mod Rounds
 pub mod References

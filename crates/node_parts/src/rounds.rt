@@ -3,28 +3,43 @@ ghost use Rattle.std.specs.Prelude.{◌≡◌, ◌<◌, ◌≤◌, ◌+◌, ◌^
 ghost use Rattle.std.specs.List.Sorted.{IsStrictlyIncreasing};
 ghost use Rattle.crdt_core.specs.Outcomes.{OnlyWant};
 ghost use Rattle.crdt_core.specs.declared.memory.Memory.TheVariants.{Full};
-ghost use Rattle.cluster_machine.specs.Node.{Round as Moved};
+ghost use Rattle.cluster_machine.specs.Node.{Walk, Round as Moved, Mending as Mended};
 ghost use Rattle.cluster_machine.specs.Rows.{still};
-ghost use Rattle.cluster_machine.specs.Rounds.{is_complete};
-ghost use Rattle.node_parts.specs.Pushes.{part_of};
-ghost use Rattle.node_parts.specs.Rounds.{IsMoving, AreRounds, open_parts_of, begun_round, confirmed_round};
+ghost use Rattle.cluster_machine.specs.Rounds.{is_complete, renewed};
+ghost use Rattle.node_parts.specs.Sends.{part_of, IsMended};
+ghost use Rattle.node_parts.specs.Walks.{walk_of};
+ghost use Rattle.node_parts.specs.Rounds.{IsMoving, AreRounds, open_parts_of, begun_round, confirmed_round, confirmed_all, Empties};
 
+use crate::contents::Contents;
+use crate::walks::{NodeWalk, Walks};
 use crdt_core::Memory;
 use std::alloc::Global;
 use sync_round::Round;
+use table_schema::Schema;
 
-/// A round with its number.
+/// A round with its number and its open walks.
 #[derive(Drop)]
 pub struct Moving {
     pub number: u64,
     pub round: Round,
+    pub walks: Walks,
 }
 
-/// The round that is open, if any, and how many rounds and repairs ever began.
+/// A repair, or a round that is complete, with its number and its open walks.
+#[derive(Drop)]
+pub struct Mending {
+    pub number: u64,
+    pub walks: Walks,
+}
+
+/// The round that is open, if any; how many rounds and repairs ever began; and the last repair, and the last round where
+/// that is complete, whose walks go on.
 #[derive(Drop)]
 pub struct Rounds {
     pub round: Option<Moving>,
     pub begun: u64,
+    pub mending: Option<Mending>,
+    pub lasting: Option<Mending>,
 }
 
 impl Moving {
@@ -35,12 +50,19 @@ impl Moving {
         target: u32,
         parts: Vec<(u8, [u8; 3])>,
         node: u8,
+        begun: Vec<NodeWalk>,
     ) -> Result<Moving, Memory>
-        ensures begins { IfOk result (λ m. IsStrictlyIncreasing (map (λ part. part.0) parts.items) → IsMoving node m (begun_round number target (map part_of parts.items) node)) }
+        ensures begins { IfOk result (λ m. IsStrictlyIncreasing (map (λ part. part.0) parts.items) → IsMoving node m (begun_round number target (map part_of parts.items) node (map walk_of begun.items))) }
         ensures want { OnlyWant result }
     {
         let round = Round::new(alloc, target, parts, node)?;
-        Ok(Moving { number, round })
+        let mut walks = Walks::new(alloc);
+        walks.begin(begun)?;
+        Ok(Moving {
+            number,
+            round,
+            walks,
+        })
     }
 
     /// A node confirms a partition.
@@ -65,6 +87,50 @@ impl Moving {
         self.round.open_parts()
     }
 
+    /// These walks begin, in the place of those over the same partition with the same node.
+    pub fn begin(&mut self, begun: Vec<NodeWalk>) -> Result<(), Memory>
+        ensures begins { OnOk result ((node : ℕ) (r : Moved) → IsMoving node self.old r → IsMoving node self.new (record r { walks = renewed (map walk_of begun.items) r.walks })) }
+        ensures want { OnlyWant result }
+    {
+        self.walks.begin(begun)?;
+        Ok(())
+    }
+
+    // These nodes confirm a partition.
+    fn confirm_all(&mut self, p: u8, nodes: &[u8])
+        ensures { (node : ℕ) (r : Moved) → IsMoving node self.old r → IsMoving node self.new (confirmed_all r p nodes.now) }
+    {
+        for node in nodes {
+            self.confirm(p, *node);
+        }
+    }
+
+    /// Leaves those of the open partitions of which there are rows. Each other one all its nodes confirm.
+    pub fn confirm_emptied<S: Schema>(
+        &mut self,
+        contents: &Contents<S>,
+        parts: &mut Vec<(u8, Vec<u8>)>,
+    )
+        ensures { Empties S.Row.join S.words contents.now self.old self.new (map (λ part. (part.0, part.1.items)) parts.old.items) (map (λ part. (part.0, part.1.items)) parts.new.items) }
+    {
+        for (p, nodes) in parts.as_slice() {
+            if !contents.has_rows(*p) {
+                self.confirm_all(*p, nodes.as_slice());
+            }
+        }
+        parts.retain(|part| contents.has_rows(part.0));
+    }
+
+    /// What stays of the round when it is complete.
+    pub fn into_lasting(self) -> Mending
+        ensures { (node : ℕ) (r : Moved) → IsMoving node self r → IsMended result (record { number = r.number; walks = r.walks }) }
+    {
+        Mending {
+            number: self.number,
+            walks: self.walks,
+        }
+    }
+
     /// The version that the round leads to.
     pub fn target(&self) -> u32
         ensures { (node : ℕ) (r : Moved) → IsMoving node self.now r → result ≡ r.target }
@@ -73,13 +139,27 @@ impl Moving {
     }
 }
 
+impl Mending {
+    /// A repair with these walks.
+    pub fn new(alloc: Global, number: u64, begun: Vec<NodeWalk>) -> Result<Mending, Memory>
+        ensures is { IfOk result (λ m. IsMended m (record { number = number; walks = map walk_of begun.items })) }
+        ensures want { OnlyWant result }
+    {
+        let mut walks = Walks::new(alloc);
+        walks.begin(begun)?;
+        Ok(Mending { number, walks })
+    }
+}
+
 impl Rounds {
     pub fn new() -> Rounds
-        ensures { (node : ℕ) → AreRounds node result None 0 }
+        ensures { (node : ℕ) → AreRounds node result None 0 None None }
     {
         Rounds {
             round: None,
             begun: 0,
+            mending: None,
+            lasting: None,
         }
     }
 
@@ -96,7 +176,8 @@ impl Rounds {
 
     /// A round to a version that is at most the oldest stored one closes.
     pub fn close_below(&mut self, oldest: u32)
-        ensures { (node : ℕ) (round : Option Moved) (rounds : ℕ) → AreRounds node self.old round rounds → AreRounds node self.new (still oldest round) rounds }
+        ensures { (node : ℕ) (round : Option Moved) (rounds : ℕ) (mending lasting : Option Mended) → AreRounds node self.old round rounds mending lasting →
+            AreRounds node self.new (still oldest round) rounds mending lasting }
     {
         let is_over = match &self.round {
             Some(moving) => moving.target() <= oldest,
@@ -105,5 +186,14 @@ impl Rounds {
         if is_over {
             self.round = None;
         }
+    }
+
+    /// Forgets the round and all walks.
+    pub fn forget(&mut self)
+        ensures { (node : ℕ) (round : Option Moved) (rounds : ℕ) (mending lasting : Option Mended) → AreRounds node self.old round rounds mending lasting → AreRounds node self.new None rounds None None }
+    {
+        self.round = None;
+        self.mending = None;
+        self.lasting = None;
     }
 }

@@ -24,7 +24,7 @@ use Rattle.replay_run.specs.Account.{closing, IsText}
 use Rattle.replay_run.specs.Replay.{IsReplay, whole, sent}
 use Rattle.replay_run.proofs.Leading.{played_fits}
 use Rattle.replay_run.proofs.Checked.{line_is_fresh}
-use Rattle.store_anchors.specs.Promises.{KeepsPromises, EveryRunKeepsPromises}
+use Rattle.store_anchors.specs.Promises.{WalksAreClear, KeepsPromises, EveryRunKeepsPromises}
 use Rattle.replay_command.specs.Answer.{IsAnswer, bad_line, many_events, replayed, IsOfReplay, Agree}
 use Rattle.replay_command.specs.Replay.{IsTranscribed, checked_transcript, IsChecked, IsAccounted, IsWhole, Replays}
 
@@ -82,9 +82,9 @@ plain_text : (turns : List Turn) (text : List ℕ) → IsText Transcript turns t
 plain_text turns text h = h.text_is ∙ ap (λ t. turns_text start turns ++ t) (h.ends.text_is ∙ ap (λ line. closing (length turns) (run start turns) line) h.ends.is_line)
 
 -- and where all reads are fresh, with a check that says so
-check_is_fresh : (turns : List Turn) (text : List ℕ) → KeepsPromises (acts_of turns) → IsText Checked turns text → NoClash (run start turns).buckets → text ≡ checked_transcript turns
-check_is_fresh turns text kept h apart =
-    h.text_is ∙ ap (λ t. turns_text start turns ++ t) (h.ends.text_is ∙ ap (λ line. closing (length turns) (run start turns) line) (line_is_fresh (run start turns).history h.ends.line (kept.recorded apart) h.ends.is_line))
+check_is_fresh : (turns : List Turn) (text : List ℕ) → KeepsPromises (acts_of turns) → IsText Checked turns text → WalksAreClear (acts_of turns) → NoClash (run start turns).buckets → text ≡ checked_transcript turns
+check_is_fresh turns text kept h clear apart =
+    h.text_is ∙ ap (λ t. turns_text start turns ++ t) (h.ends.text_is ∙ ap (λ line. closing (length turns) (run start turns) line) (line_is_fresh (run start turns).history h.ends.line (kept.recorded clear apart) h.ends.is_line))
 
 -- all of it
 module _ (kept : EveryRunKeepsPromises) (old new : Option (List ℕ)) (input text : List ℕ) where

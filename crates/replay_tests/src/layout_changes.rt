@@ -261,25 +261,37 @@ const ONE_ROUND_TEXT: &[u8] = b"\
     node 4 rows 1 blocks 0 top e08502143c1177c4ca538ffec27c9eaa1bb9e0d3d5cdecdacfaf035de8fa2ff5\n\
     node 5 rows 1 blocks 0 top e08502143c1177c4ca538ffec27c9eaa1bb9e0d3d5cdecdacfaf035de8fa2ff5\n\
     node 6 rows 1 blocks 0 top e08502143c1177c4ca538ffec27c9eaa1bb9e0d3d5cdecdacfaf035de8fa2ff5\n\
-    end 40 1 35\n";
+    end 40 1 41\n";
 
 /// How it ends, with the messages.
 const ONE_ROUND_END: &[u8] = b"\
     38 sync ok 2\n\
-    sent 30 store 1 4\n\
-    sent 31 store 1 5\n\
-    sent 32 store 1 6\n\
+    sent 30 walk 1 4\n\
+    sent 31 walk 1 5\n\
+    sent 32 walk 1 6\n\
     39 drain ok\n\
     got 30\n\
-    sent 33 stored 4 1\n\
+    sent 33 differ 4 1\n\
     got 31\n\
-    sent 34 stored 5 1\n\
+    sent 34 differ 5 1\n\
     got 32\n\
-    sent 35 stored 6 1\n\
+    sent 35 differ 6 1\n\
     got 33\n\
+    sent 36 store 1 4\n\
     got 34\n\
-    synced 1 2\n\
+    sent 37 store 1 5\n\
     got 35\n\
+    sent 38 store 1 6\n\
+    got 36\n\
+    sent 39 stored 4 1\n\
+    got 37\n\
+    sent 40 stored 5 1\n\
+    got 38\n\
+    sent 41 stored 6 1\n\
+    got 39\n\
+    got 40\n\
+    synced 1 2\n\
+    got 41\n\
     40 sync ok idle 1 2\n\
     node 1 rows 1 blocks 0 top e08502143c1177c4ca538ffec27c9eaa1bb9e0d3d5cdecdacfaf035de8fa2ff5\n\
     node 2 rows 1 blocks 0 top e08502143c1177c4ca538ffec27c9eaa1bb9e0d3d5cdecdacfaf035de8fa2ff5\n\
@@ -287,7 +299,7 @@ const ONE_ROUND_END: &[u8] = b"\
     node 4 rows 1 blocks 0 top e08502143c1177c4ca538ffec27c9eaa1bb9e0d3d5cdecdacfaf035de8fa2ff5\n\
     node 5 rows 1 blocks 0 top e08502143c1177c4ca538ffec27c9eaa1bb9e0d3d5cdecdacfaf035de8fa2ff5\n\
     node 6 rows 1 blocks 0 top e08502143c1177c4ca538ffec27c9eaa1bb9e0d3d5cdecdacfaf035de8fa2ff5\n\
-    end 40 1 35\n";
+    end 40 1 41\n";
 
 /// The example of a whole layout change under load.
 const LAYOUT_CHANGE_UNDER_LOAD: &[u8] = b"\

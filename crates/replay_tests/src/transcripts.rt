@@ -197,6 +197,65 @@ const REPAIR_TEXT: &[u8] = b"\
     node 3 rows 0 blocks 0 top 7e1c26a17bd3d7fa395f34897712e0533bd0d69b934e542d6a4a4fb3ce779cda\n\
     end 4 0 0\n";
 
+/// Node 3 never got a row: the repair pushes it there, and nothing to node 2, which has the same.
+const REPAIR_PUSHES_WHAT_DIFFERS: &[u8] = b"\
+    trio\n\
+    bucket pics\n\
+    put 1 pics a 1 97\n\
+    drain 6\n\
+    lose 9\n\
+    drain 10\n\
+    repair 1\n\
+    drain 10\n";
+
+const REPAIR_PUSHES_TEXT: &[u8] = b"\
+    1 trio ok\n\
+    2 bucket ok\n\
+    3 put ok 1\n\
+    sent 1 get 1 1\n\
+    sent 2 get 1 2\n\
+    sent 3 get 1 3\n\
+    4 drain ok\n\
+    got 1\n\
+    sent 4 row 1 1\n\
+    got 2\n\
+    sent 5 row 2 1\n\
+    got 3\n\
+    sent 6 row 3 1\n\
+    got 4\n\
+    got 5\n\
+    sent 7 store 1 1\n\
+    sent 8 store 1 2\n\
+    sent 9 store 1 3\n\
+    got 6\n\
+    5 lose ok\n\
+    6 drain ok\n\
+    got 7\n\
+    sent 10 stored 1 1\n\
+    got 8\n\
+    sent 11 stored 2 1\n\
+    got 10\n\
+    got 11\n\
+    done 1 put 1/1\n\
+    7 repair ok\n\
+    sent 12 walk 1 2\n\
+    sent 13 walk 1 3\n\
+    8 drain ok\n\
+    got 12\n\
+    sent 14 same 2 1\n\
+    got 13\n\
+    sent 15 differ 3 1\n\
+    got 14\n\
+    got 15\n\
+    sent 16 store 1 3\n\
+    got 16\n\
+    sent 17 stored 3 1\n\
+    got 17\n\
+    node 1 rows 1 blocks 0 top e08502143c1177c4ca538ffec27c9eaa1bb9e0d3d5cdecdacfaf035de8fa2ff5\n\
+    node 2 rows 1 blocks 0 top e08502143c1177c4ca538ffec27c9eaa1bb9e0d3d5cdecdacfaf035de8fa2ff5\n\
+    node 3 rows 1 blocks 0 top e08502143c1177c4ca538ffec27c9eaa1bb9e0d3d5cdecdacfaf035de8fa2ff5\n\
+    end 8 1 17\n";
+
 /// The last line lacks its line feed.
 const TRIO_WITHOUT_LINE_FEED: &[u8] = b"trio";
 
@@ -333,7 +392,7 @@ fn first_put_and_get(rt: HostRuntime) -> Result<(), Fail> {
 /// Schedules with their whole transcripts, each in two parts.
 #[test]
 fn transcripts(rt: HostRuntime) -> Result<(), Fail> {
-    let rows: [(&[u8], &[u8], &[u8]); 10] = [
+    let rows: [(&[u8], &[u8], &[u8]); 11] = [
         (FIRST_PUT_AND_GET, PUT, FIRST_GET),
         (REPEATED_GET_ANSWERS, PUT, REPEATED_GET),
         (b"", b"end 0 0 0\n", b""),
@@ -341,6 +400,7 @@ fn transcripts(rt: HostRuntime) -> Result<(), Fail> {
         (MEMBER_OF_ITS_NEWEST_VERSION, LEAVING_TEXT, b""),
         (EMPTY_WORLD, EMPTY_WORLD_TEXT, b""),
         (REPAIR_WITHOUT_ROWS, REPAIR_TEXT, b""),
+        (REPAIR_PUSHES_WHAT_DIFFERS, REPAIR_PUSHES_TEXT, b""),
         (TRIO_WITHOUT_LINE_FEED, TRIO_TEXT, b""),
         (LOST_STORE_AND_REPEATED_DELIVERIES, LOST_STORE_TEXT, b""),
         (REDUNDANCY_OVER_ONE_ZONE, REDUNDANCY_TEXT, b""),

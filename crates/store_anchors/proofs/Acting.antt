@@ -15,7 +15,6 @@ use Rattle.crdt_rows.specs.declared.body.Meta.{Meta}
 use Rattle.crdt_rows.specs.declared.version_row.BlockRef.{BlockRef}
 use Rattle.crdt_rows.specs.declared.object_row.ObjectRow.{ObjectRow}
 use Rattle.crdt_rows.specs.declared.any_row.AnyRow.{AnyRow}
-use Rattle.crdt_rows.specs.AnyRow.{any_join}
 use Rattle.object_schema.specs.Schema.{words}
 use Rattle.wire_messages.specs.declared.phase.Phase.TheVariants.{Store}
 use Rattle.wire_messages.specs.declared.phase.PhaseEnd.{PhaseEnd}
@@ -23,7 +22,6 @@ use Rattle.wire_messages.specs.declared.phase.PhaseEnd.TheVariants.{Row as Answe
 use Rattle.cluster_machine.specs.World.{numbered}
 use Rattle.cluster_machine.specs.Fits.{Fits}
 use Rattle.cluster_machine.specs.Step.{applied}
-use Rattle.cluster_machine.specs.Worlds.{FitAll}
 use Rattle.flow_model.specs.declared.flow.Name.{Name}
 use Rattle.flow_model.specs.declared.flow.Content.{Content}
 use Rattle.flow_model.specs.declared.flow.Wish.{Wish}
@@ -88,10 +86,11 @@ use Rattle.store_anchors.proofs.Kept.{Past, HasPiece, HasAll, IsLong}
 use Rattle.store_anchors.proofs.Laid.{HasUploaded, Stores, past, IsLaidIn}
 use Rattle.store_anchors.proofs.Steps.{HasPut, HasGot}
 use Rattle.store_anchors.proofs.Going.{asks_laid, opens_laid, scans_laid, fetches_laid, uploading_laid, completes_laid, block_laid, waits_laid, finishes_laid}
+use Rattle.store_laws.proofs.Hashing.{FitIn}
 
 -- what an outcome of this state comes to after these steps: the invariant holds, its lines tell of whole versions, and copies took what was written
-abbrev pub OutcomeLaid : List Moving → State → Outcome → Type 0
-OutcomeLaid ms s o = IsLaidIn (ms ++ o.moves) o.state × Tells (past (ms ++ o.moves) o.state.world o.state.draws) o.lines × FollowsCopies ms s o
+abbrev pub OutcomeLaid : (List ℕ → Type 0) → List Moving → State → Outcome → Type 0
+OutcomeLaid H ms s o = IsLaidIn H (ms ++ o.moves) o.state × Tells (past (ms ++ o.moves) o.state.world o.state.draws) o.lines × FollowsCopies ms s o
 
 -- this is what was written as the version: what is stored beside the bytes, and these, if they aren't in blocks or no two of the blocks have one digest
 pub record IsBodyOf (blocks : List (List ℕ)) (draws : List Draw) (v : Version) (meta : Meta) (body : List ℕ) : Type 0 where
@@ -131,233 +130,234 @@ parts_same x y xs ys e = (cc, cc)
 none_more : {A : Type 0} (x : A) (xs : List A) → [] ≡ x ∷ xs → ⊥
 none_more x xs e = cc
 
-module _ (cited : Cited) (moves : List Moving) (s : State) (q : ℕ) (a : Asked) (at : numbered s.asked q ≡ Some a) (rests : Rests s q) (block : ℕ) (laid : IsLaidIn moves s) where
-  -- what there is
-  abbrev pub here : Past
-  here = past moves s.world s.draws
+module _ {H : List ℕ → Type 0} where
+  module _ (cited : Cited H) (moves : List Moving) (s : State) (q : ℕ) (a : Asked) (at : numbered s.asked q ≡ Some a) (rests : Rests s q) (block : ℕ) (laid : IsLaidIn H moves s) where
+    -- what there is
+    abbrev pub here : Past
+    here = past moves s.world s.draws
 
-  -- what a flow's step keeps
-  abbrev pub StepLaid : List Draw → FlowStep → Type 0
-  StepLaid ds st = FitAll any_join words s.world (takes s q a ds st).moves → OutcomeLaid moves s (takes s q a ds st)
+    -- what a flow's step keeps
+    abbrev pub StepLaid : List Draw → FlowStep → Type 0
+    StepLaid ds st = FitIn H s.world (takes s q a ds st).moves → OutcomeLaid H moves s (takes s q a ds st)
 
-  -- the request is this copy
-  abbrev pub IsIt : Copying → Type 0
-  IsIt copy = (copy.request ≡ q) × IsFollowedIn moves s copy
+    -- the request is this copy
+    abbrev pub IsIt : Copying → Type 0
+    IsIt copy = (copy.request ≡ q) × IsFollowedIn moves s copy
 
-  -- what the request knows where it is a copy
-  know : (stage : Stage) → a.flow ≡ Some (flow_of q block stage) → (copy : Copying) → IsIt copy → Knows (blocks_of moves) s.draws copy stage
-  know stage flow_is copy it = it.1.knows a (flow_of q block stage) (ap (numbered s.asked) it.0 ∙ at) flow_is
+    -- what the request knows where it is a copy
+    know : (stage : Stage) → a.flow ≡ Some (flow_of q block stage) → (copy : Copying) → IsIt copy → Knows (blocks_of moves) s.draws copy stage
+    know stage flow_is copy it = it.1.knows a (flow_of q block stage) (ap (numbered s.asked) it.0 ∙ at) flow_is
 
-  -- a copy follows where the request goes
-  follows : (ds : List Draw) (flow : Option Flow) (rest : List Moving) → AllByRecursion (λ (d : Draw). d.request ≡ q) ds → ((copy : Copying) → IsIt copy → KnowsOn (blocks_of moves) s.draws s.asked s.history q a at ds flow copy) →
-      (copy : Copying) → IsFollowedIn moves s copy → IsFollowed (blocks_of (moves ++ rest)) (ds ++ s.draws) (set_flow s q a flow) s.history copy
-  follows ds flow rest own knows copy h =
-      followed_first moves rest (ds ++ s.draws) (set_flow s q a flow) s.history copy
-      (followed_set (blocks_of moves) s.draws s.asked s.history q a at ds flow own (λ copy request it. knows copy (request, it)) copy h)
+    -- a copy follows where the request goes
+    follows : (ds : List Draw) (flow : Option Flow) (rest : List Moving) → AllByRecursion (λ (d : Draw). d.request ≡ q) ds → ((copy : Copying) → IsIt copy → KnowsOn (blocks_of moves) s.draws s.asked s.history q a at ds flow copy) →
+        (copy : Copying) → IsFollowedIn moves s copy → IsFollowed (blocks_of (moves ++ rest)) (ds ++ s.draws) (set_flow s q a flow) s.history copy
+    follows ds flow rest own knows copy h =
+        followed_first moves rest (ds ++ s.draws) (set_flow s q a flow) s.history copy
+        (followed_set (blocks_of moves) s.draws s.asked s.history q a at ds flow own (λ copy request it. knows copy (request, it)) copy h)
 
-  -- the request draws and goes on
-  draws_on : (ds : List Draw) (stage : Stage) (phase : Phase AnyRow) → GoesLaid cited moves s q a at rests block laid ds stage phase → AllByRecursion (λ (d : Draw). d.request ≡ q) ds →
-      ((copy : Copying) → IsIt copy → Knows (blocks_of moves) (ds ++ s.draws) copy stage × AreTaken (blocks_of moves) copy (ds ++ s.draws)) → StepLaid ds (More (flow_of q block stage) phase)
-  draws_on ds stage phase h own knows fits = (
-    h fits,
-    step_whole (past (moves ++ phases q phase ∷ []) (doing s (phases q phase)).world (ds ++ s.draws)) s (phases q phase),
-    follows ds (Some (flow_of q block stage)) (phases q phase ∷ []) own (λ copy it. (
-      (λ f e. (let same : flow_of q block stage ≡ f = cc in subst (λ (g : Flow). Knows (blocks_of moves) (ds ++ s.draws) copy g.stage) same (knows copy it).0)),
-      (knows copy it).1,
-    )),
-  )
+    -- the request draws and goes on
+    draws_on : (ds : List Draw) (stage : Stage) (phase : Phase AnyRow) → GoesLaid cited moves s q a at rests block laid ds stage phase → AllByRecursion (λ (d : Draw). d.request ≡ q) ds →
+        ((copy : Copying) → IsIt copy → Knows (blocks_of moves) (ds ++ s.draws) copy stage × AreTaken (blocks_of moves) copy (ds ++ s.draws)) → StepLaid ds (More (flow_of q block stage) phase)
+    draws_on ds stage phase h own knows fits = (
+      h fits,
+      step_whole (past (moves ++ phases q phase ∷ []) (doing s (phases q phase)).world (ds ++ s.draws)) s (phases q phase),
+      follows ds (Some (flow_of q block stage)) (phases q phase ∷ []) own (λ copy it. (
+        (λ f e. (let same : flow_of q block stage ≡ f = cc in subst (λ (g : Flow). Knows (blocks_of moves) (ds ++ s.draws) copy g.stage) same (knows copy it).0)),
+        (knows copy it).1,
+      )),
+    )
 
-  goes : (stage : Stage) (phase : Phase AnyRow) → GoesLaid cited moves s q a at rests block laid [] stage phase → ((copy : Copying) → IsIt copy → Knows (blocks_of moves) s.draws copy stage) → StepLaid [] (More (flow_of q block stage) phase)
-  goes stage phase h knows = draws_on [] stage phase h tt (λ copy it. (knows copy it, it.1.taken))
+    goes : (stage : Stage) (phase : Phase AnyRow) → GoesLaid cited moves s q a at rests block laid [] stage phase → ((copy : Copying) → IsIt copy → Knows (blocks_of moves) s.draws copy stage) → StepLaid [] (More (flow_of q block stage) phase)
+    goes stage phase h knows = draws_on [] stage phase h tt (λ copy it. (knows copy it, it.1.taken))
 
-  ends : (end : FlowEnd) → ((p id : ℕ) → record_of q end ≡ Ended p (WasSuperseded id) → IsReplaced here s.asked p id) → (NoClash here.blocks → IsWhole s.draws (line_of q a.kind end)) → StepLaid [] (End end)
-  ends end passed is_whole fits =
-      let m : Moving = plainly (step.Close q) in (
-        finishes_laid cited moves s q a at rests block laid end passed fits,
-        tells_one (past (moves ++ m ∷ []) (doing s m).world s.draws) (line_of q a.kind end) (λ clash. is_whole (λ x y h k e. clash x y (blocks_old moves m x h) (blocks_old moves m y k) e)),
-        λ copy h. followed_told (blocks_of (moves ++ m ∷ [])) s.draws (set_flow s q a None) s.history (record_of q end ∷ []) copy (follows [] None (m ∷ []) tt (λ copy it. ((λ f e. cc), it.1.taken)) copy h),
-      )
+    ends : (end : FlowEnd) → ((p id : ℕ) → record_of q end ≡ Ended p (WasSuperseded id) → IsReplaced here s.asked p id) → (NoClash here.blocks → IsWhole s.draws (line_of q a.kind end)) → StepLaid [] (End end)
+    ends end passed is_whole fits =
+        let m : Moving = plainly (step.Close q) in (
+          finishes_laid cited moves s q a at rests block laid end passed fits,
+          tells_one (past (moves ++ m ∷ []) (doing s m).world s.draws) (line_of q a.kind end) (λ clash. is_whole (λ x y h k e. clash x y (blocks_old moves m x h) (blocks_old moves m y k) e)),
+          λ copy h. followed_told (blocks_of (moves ++ m ∷ [])) s.draws (set_flow s q a None) s.history (record_of q end ∷ []) copy (follows [] None (m ∷ []) tt (λ copy it. ((λ f e. cc), it.1.taken)) copy h),
+        )
 
-  waits : (stage : Stage) → a.flow ≡ Some (flow_of q block stage) → StepLaid [] (Wait (flow_of q block stage))
-  waits stage flow_is fits = (
-    waits_laid cited moves s q a at rests block laid stage flow_is,
-    tells_none (past (moves ++ []) s.world s.draws),
-    follows [] (Some (flow_of q block stage)) [] tt (λ copy it. ((λ f e. it.1.knows a f (ap (numbered s.asked) it.0 ∙ at) (flow_is ∙ e)), it.1.taken)),
-  )
+    waits : (stage : Stage) → a.flow ≡ Some (flow_of q block stage) → StepLaid [] (Wait (flow_of q block stage))
+    waits stage flow_is fits = (
+      waits_laid cited moves s q a at rests block laid stage flow_is,
+      tells_none (past (moves ++ []) s.world s.draws),
+      follows [] (Some (flow_of q block stage)) [] tt (λ copy it. ((λ f e. it.1.knows a f (ap (numbered s.asked) it.0 ∙ at) (flow_is ∙ e)), it.1.taken)),
+    )
 
-  -- the request found a version of its source where it is a copy
-  abbrev pub FoundSource : Version → Aim → Type 0
-  FoundSource v aim = (copy : Copying) → IsIt copy → HasSource s.draws copy v aim
+    -- the request found a version of its source where it is a copy
+    abbrev pub FoundSource : Version → Aim → Type 0
+    FoundSource v aim = (copy : Copying) → IsIt copy → HasSource s.draws copy v aim
 
-  -- what a copy writes was written to its source
-  takes_source : AreApart s.draws → (copy : Copying) (name : Name) (headers : Option (List (List ℕ × List ℕ))) (v : Version) (meta : Meta) (body : List ℕ) → IsBodyOf (blocks_of moves) s.draws v meta body → HasSource s.draws copy v (aim.Copy name headers) →
-      IsTaken (blocks_of moves) s.draws copy (wish.Content (record { body = body; headers = unwrap_or headers meta.headers }))
-  takes_source apart copy name headers v meta body h source =
-      let f : FoundIn s.draws copy.source v = source.0 in
-      let w : IsWritten s.draws v h.content = h.was_written in
-      let same : f.draw ≡ w.draw = apart f.draw w.draw f.drawn w.drawn (ap (λ (x : Version). x.id) (f.version ∙ sym w.version_is)) in
-      record {
-        draw = f.draw;
-        drawn = f.drawn;
-        fresh = λ i w ack. subst (λ (u : Version). ¬ Below u w) (sym f.version) (source.2 w (acknowledged_was copy.history i copy.source w ack));
-        bucket = f.bucket;
-        key = f.key;
-        was = h.content;
-        was_wished = ap (λ (d : Draw). d.wish) same ∙ w.wish_is;
-        content = record { body = body; headers = unwrap_or headers meta.headers };
-        wish_is = refl;
-        body_is = h.body_is;
-        headers_are = ap (λ (m : Meta). unwrap_or headers m.headers) h.meta_is ∙ ap (λ (o : Option (List (List ℕ × List ℕ))). unwrap_or o h.content.headers) source.1;
-      }
+    -- what a copy writes was written to its source
+    takes_source : AreApart s.draws → (copy : Copying) (name : Name) (headers : Option (List (List ℕ × List ℕ))) (v : Version) (meta : Meta) (body : List ℕ) → IsBodyOf (blocks_of moves) s.draws v meta body → HasSource s.draws copy v (aim.Copy name headers) →
+        IsTaken (blocks_of moves) s.draws copy (wish.Content (record { body = body; headers = unwrap_or headers meta.headers }))
+    takes_source apart copy name headers v meta body h source =
+        let f : FoundIn s.draws copy.source v = source.0 in
+        let w : IsWritten s.draws v h.content = h.was_written in
+        let same : f.draw ≡ w.draw = apart f.draw w.draw f.drawn w.drawn (ap (λ (x : Version). x.id) (f.version ∙ sym w.version_is)) in
+        record {
+          draw = f.draw;
+          drawn = f.drawn;
+          fresh = λ i w ack. subst (λ (u : Version). ¬ Below u w) (sym f.version) (source.2 w (acknowledged_was copy.history i copy.source w ack));
+          bucket = f.bucket;
+          key = f.key;
+          was = h.content;
+          was_wished = ap (λ (d : Draw). d.wish) same ∙ w.wish_is;
+          content = record { body = body; headers = unwrap_or headers meta.headers };
+          wish_is = refl;
+          body_is = h.body_is;
+          headers_are = ap (λ (m : Meta). unwrap_or headers m.headers) h.meta_is ∙ ap (λ (o : Option (List (List ℕ × List ℕ))). unwrap_or o h.content.headers) source.1;
+        }
 
-  found_laid : AreApart s.draws → (aim : Aim) (v : Version) (meta : Meta) (body : List ℕ) → IsAimOf a aim → FoundSource v aim → IsBodyOf (blocks_of moves) s.draws v meta body → StepLaid [] (found q block aim v meta body)
-  found_laid apart aim.Get v meta body is source h = ends (Found v meta body) (λ p id e. cc) (λ clash. get_whole s.draws a.kind v meta body is (says_all (blocks_of moves) s.draws v meta body h clash) q)
-  found_laid apart aim.Head v meta body is source h = ends (Found v meta []) (λ p id e. cc) (λ clash. head_whole s.draws a.kind v meta [] is q)
-  found_laid apart (aim.Copy name headers) v meta body is source h =
-      let stage : Stage = Drawing name (wish.Content (record { body = body; headers = unwrap_or headers meta.headers })) in
-      goes stage (asks_for name) (asks_laid cited moves s q a at rests block laid stage name tt (λ question. tt)) (λ copy it. takes_source apart copy name headers v meta body h (source copy it))
+    found_laid : AreApart s.draws → (aim : Aim) (v : Version) (meta : Meta) (body : List ℕ) → IsAimOf a aim → FoundSource v aim → IsBodyOf (blocks_of moves) s.draws v meta body → StepLaid [] (found q block aim v meta body)
+    found_laid apart aim.Get v meta body is source h = ends (Found v meta body) (λ p id e. cc) (λ clash. get_whole s.draws a.kind v meta body is (says_all (blocks_of moves) s.draws v meta body h clash) q)
+    found_laid apart aim.Head v meta body is source h = ends (Found v meta []) (λ p id e. cc) (λ clash. head_whole s.draws a.kind v meta [] is q)
+    found_laid apart (aim.Copy name headers) v meta body is source h =
+        let stage : Stage = Drawing name (wish.Content (record { body = body; headers = unwrap_or headers meta.headers })) in
+        goes stage (asks_for name) (asks_laid cited moves s q a at rests block laid stage name tt (λ question. tt)) (λ copy it. takes_source apart copy name headers v meta body h (source copy it))
 
-  -- bytes that are read whole are those that were written
-  read_whole : (v : Version) (meta : Meta) (body : List ℕ) (f : IsFound here v meta) (next : ℕ) → next ≡ suc f.last → (NoClash here.blocks → body ≡ pieces f.draw.block f.content.body 0 next) → IsBodyOf (blocks_of moves) s.draws v meta body
-  read_whole v meta body f next last is = record {
-    content = f.content;
-    was_written = record { draw = f.draw; drawn = f.long.drawn; version_is = f.version_is; wish_is = f.long.wish_is };
-    meta_is = f.meta_is;
-    body_is = λ differ. is (differ f.long.long) ∙ (ap (pieces f.draw.block f.content.body 0) last ∙ all_pieces f.draw.block f.content.body (suc f.last) f.no_more);
-  }
+    -- bytes that are read whole are those that were written
+    read_whole : (v : Version) (meta : Meta) (body : List ℕ) (f : IsFound here v meta) (next : ℕ) → next ≡ suc f.last → (NoClash here.blocks → body ≡ pieces f.draw.block f.content.body 0 next) → IsBodyOf (blocks_of moves) s.draws v meta body
+    read_whole v meta body f next last is = record {
+      content = f.content;
+      was_written = record { draw = f.draw; drawn = f.long.drawn; version_is = f.version_is; wish_is = f.long.wish_is };
+      meta_is = f.meta_is;
+      body_is = λ differ. is (differ f.long.long) ∙ (ap (pieces f.draw.block f.content.body 0) last ∙ all_pieces f.draw.block f.content.body (suc f.last) f.no_more);
+    }
 
-  gathers_laid : AreApart s.draws → (aim : Aim) (v : Version) (meta : Meta) (left : List BlockRef) (body : List ℕ) → IsAimOf a aim → FoundSource v aim → (f : IsFound here v meta) (next rest : ℕ) → left ≡ named_pieces f.draw.block f.content.body next rest →
-      next + rest ≡ suc f.last → (NoClash here.blocks → body ≡ pieces f.draw.block f.content.body 0 next) → StepLaid [] (gathers q block aim v meta left body)
-  gathers_laid apart aim v meta [] body is source f next zero left_is end h = found_laid apart aim v meta body is source (read_whole v meta body f next (omega arith) h)
-  gathers_laid apart aim v meta [] body is source f next (suc rest) left_is end h = absurd (none_more (named_piece f.draw.block f.content.body next) (named_pieces f.draw.block f.content.body (suc next) rest) left_is)
-  gathers_laid apart aim v meta (b ∷ left) body is source f next zero left_is end h = absurd (none_more b left (sym left_is))
-  gathers_laid apart aim v meta (b ∷ left) body is source f next (suc rest) left_is end h =
-      let parts = parts_same b (named_piece f.draw.block f.content.body next) left (named_pieces f.draw.block f.content.body (suc next) rest) left_is in
-      let block_is : b ≡ named_piece f.draw.block f.content.body next = parts.0 in
-      let more : left ≡ named_pieces f.draw.block f.content.body (suc next) rest = parts.1 in
-      goes (Gathering v meta aim left body) (Fetch b.hash)
-      (fetches_laid cited moves s q a at rests block laid v meta aim left body b (subst HasHash (sym block_is) (piece_has_hash f.draw.block f.content.body next))
-      (record { found = f; next = next; rest = rest; hash_is = ap (λ (x : BlockRef). x.hash.0) block_is; left_is = more; ends = omega arith; body_is = h })) source
+    gathers_laid : AreApart s.draws → (aim : Aim) (v : Version) (meta : Meta) (left : List BlockRef) (body : List ℕ) → IsAimOf a aim → FoundSource v aim → (f : IsFound here v meta) (next rest : ℕ) → left ≡ named_pieces f.draw.block f.content.body next rest →
+        next + rest ≡ suc f.last → (NoClash here.blocks → body ≡ pieces f.draw.block f.content.body 0 next) → StepLaid [] (gathers q block aim v meta left body)
+    gathers_laid apart aim v meta [] body is source f next zero left_is end h = found_laid apart aim v meta body is source (read_whole v meta body f next (omega arith) h)
+    gathers_laid apart aim v meta [] body is source f next (suc rest) left_is end h = absurd (none_more (named_piece f.draw.block f.content.body next) (named_pieces f.draw.block f.content.body (suc next) rest) left_is)
+    gathers_laid apart aim v meta (b ∷ left) body is source f next zero left_is end h = absurd (none_more b left (sym left_is))
+    gathers_laid apart aim v meta (b ∷ left) body is source f next (suc rest) left_is end h =
+        let parts = parts_same b (named_piece f.draw.block f.content.body next) left (named_pieces f.draw.block f.content.body (suc next) rest) left_is in
+        let block_is : b ≡ named_piece f.draw.block f.content.body next = parts.0 in
+        let more : left ≡ named_pieces f.draw.block f.content.body (suc next) rest = parts.1 in
+        goes (Gathering v meta aim left body) (Fetch b.hash)
+        (fetches_laid cited moves s q a at rests block laid v meta aim left body b (subst HasHash (sym block_is) (piece_has_hash f.draw.block f.content.body next))
+        (record { found = f; next = next; rest = rest; hash_is = ap (λ (x : BlockRef). x.hash.0) block_is; left_is = more; ends = omega arith; body_is = h })) source
 
-  -- a get read a version of the object that it names
-  abbrev pub IsOwn : Version → Type 0
-  IsOwn v = (passed : IsPassed here v.id) → a.kind ≡ kind.Get → (digest_of passed.draw.name.bucket ≡ digest_of a.name.bucket) × (passed.draw.name.key ≡ a.name.key)
+    -- a get read a version of the object that it names
+    abbrev pub IsOwn : Version → Type 0
+    IsOwn v = (passed : IsPassed here v.id) → a.kind ≡ kind.Get → (digest_of passed.draw.name.bucket ≡ digest_of a.name.bucket) × (passed.draw.name.key ≡ a.name.key)
 
-  -- a request whose version's row was deleted
-  superseded : (v : Version) → IsOwn v → IsPassed here v.id → StepLaid [] (End (Superseded v.id))
-  superseded v own passed =
-      let mine : IsReplaced here s.asked q v.id = record { passed = passed; kind = a.kind; name = a.name; was_asked = record { one = a; is_there = at; kind_is = refl; name_is = refl }; own = own passed } in
-      ends (Superseded v.id) (λ p id e. (
-      let request : q ≡ p = cc in
-      let same : v.id ≡ id = cc in
-      subst (λ (r : ℕ). IsReplaced here s.asked r id) request (subst (IsReplaced here s.asked q) same mine))) (λ clash. tt)
+    -- a request whose version's row was deleted
+    superseded : (v : Version) → IsOwn v → IsPassed here v.id → StepLaid [] (End (Superseded v.id))
+    superseded v own passed =
+        let mine : IsReplaced here s.asked q v.id = record { passed = passed; kind = a.kind; name = a.name; was_asked = record { one = a; is_there = at; kind_is = refl; name_is = refl }; own = own passed } in
+        ends (Superseded v.id) (λ p id e. (
+        let request : q ≡ p = cc in
+        let same : v.id ≡ id = cc in
+        subst (λ (r : ℕ). IsReplaced here s.asked r id) request (subst (IsReplaced here s.asked q) same mine))) (λ clash. tt)
 
-  opened_laid : AreApart s.draws → (aim : Aim) (v : Version) (meta : Meta) (value : Option AnyRow) → IsAimOf a aim → FoundSource v aim → IsOwn v → (f : IsFound here v meta) →
-      (named_by value meta.size ≡ whole (named_pieces f.draw.block f.content.body 0 (suc f.last))) ⊎ ((named_by value meta.size ≡ deleted) × IsPassed here v.id) → StepLaid [] (opened q block aim v meta (named_by value meta.size))
-  opened_laid apart aim v meta value is source own f (inl e) =
-      subst (λ (n : Named). StepLaid [] (opened q block aim v meta n)) (sym e) (gathers_laid apart aim v meta (named_pieces f.draw.block f.content.body 0 (suc f.last)) [] is source f 0 (suc f.last) refl (omega arith) (λ clash. refl))
-  opened_laid apart aim v meta value is source own f (inr e) = subst (λ (n : Named). StepLaid [] (opened q block aim v meta n)) (sym e.0) (superseded v own e.1)
+    opened_laid : AreApart s.draws → (aim : Aim) (v : Version) (meta : Meta) (value : Option AnyRow) → IsAimOf a aim → FoundSource v aim → IsOwn v → (f : IsFound here v meta) →
+        (named_by value meta.size ≡ whole (named_pieces f.draw.block f.content.body 0 (suc f.last))) ⊎ ((named_by value meta.size ≡ deleted) × IsPassed here v.id) → StepLaid [] (opened q block aim v meta (named_by value meta.size))
+    opened_laid apart aim v meta value is source own f (inl e) =
+        subst (λ (n : Named). StepLaid [] (opened q block aim v meta n)) (sym e) (gathers_laid apart aim v meta (named_pieces f.draw.block f.content.body 0 (suc f.last)) [] is source f 0 (suc f.last) refl (omega arith) (λ clash. refl))
+    opened_laid apart aim v meta value is source own f (inr e) = subst (λ (n : Named). StepLaid [] (opened q block aim v meta n)) (sym e.0) (superseded v own e.1)
 
-  reads_on_laid : (aim : Aim) (v : Version) (meta : Meta) → IsAimOf a aim → FoundSource v aim → IsFound here v meta → StepLaid [] (reads_on q block aim v meta)
-  reads_on_laid aim.Get v meta is source f = goes (Opening v meta aim.Get) (opens v) (opens_laid cited moves s q a at rests block laid v meta aim.Get f) source
-  reads_on_laid aim.Head v meta is source f = ends (Found v meta []) (λ p id e. cc) (λ clash. head_whole s.draws a.kind v meta [] is q)
-  reads_on_laid (aim.Copy name headers) v meta is source f = goes (Opening v meta (aim.Copy name headers)) (opens v) (opens_laid cited moves s q a at rests block laid v meta (aim.Copy name headers) f) source
+    reads_on_laid : (aim : Aim) (v : Version) (meta : Meta) → IsAimOf a aim → FoundSource v aim → IsFound here v meta → StepLaid [] (reads_on q block aim v meta)
+    reads_on_laid aim.Get v meta is source f = goes (Opening v meta aim.Get) (opens v) (opens_laid cited moves s q a at rests block laid v meta aim.Get f) source
+    reads_on_laid aim.Head v meta is source f = ends (Found v meta []) (λ p id e. cc) (λ clash. head_whole s.draws a.kind v meta [] is q)
+    reads_on_laid (aim.Copy name headers) v meta is source f = goes (Opening v meta (aim.Copy name headers)) (opens v) (opens_laid cited moves s q a at rests block laid v meta (aim.Copy name headers) f) source
 
-  -- what is said of an object is of the source, where the request is a copy
-  abbrev pub SaysSource : Said → Aim → Type 0
-  SaysSource (inline v meta body) aim = FoundSource v aim
-  SaysSource (in_blocks v meta first) aim = FoundSource v aim
-  SaysSource said aim = ⊤
+    -- what is said of an object is of the source, where the request is a copy
+    abbrev pub SaysSource : Said → Aim → Type 0
+    SaysSource (inline v meta body) aim = FoundSource v aim
+    SaysSource (in_blocks v meta first) aim = FoundSource v aim
+    SaysSource said aim = ⊤
 
-  looked_laid : AreApart s.draws → (aim : Aim) (said : Said) → IsAimOf a aim → SaysSource said aim → SaysWritten s.draws said → ((v : Version) (meta : Meta) (first : List ℕ) → said ≡ in_blocks v meta first → IsFound here v meta) → StepLaid [] (looked q block aim said)
-  looked_laid apart aim none is source written finds = ends Nothing (λ p id e. cc) (λ clash. nothing_whole s.draws a.kind q)
-  looked_laid apart aim (marked v) is source written finds = ends Nothing (λ p id e. cc) (λ clash. nothing_whole s.draws a.kind q)
-  looked_laid apart aim (inline v meta body) is source written finds =
-      found_laid apart aim v meta body is source (record { content = written.content; was_written = written.was_written; meta_is = written.meta_is; body_is = λ differ. written.body_is })
-  looked_laid apart aim (in_blocks v meta first) is source written finds = reads_on_laid aim v meta is source (finds v meta first refl)
+    looked_laid : AreApart s.draws → (aim : Aim) (said : Said) → IsAimOf a aim → SaysSource said aim → SaysWritten s.draws said → ((v : Version) (meta : Meta) (first : List ℕ) → said ≡ in_blocks v meta first → IsFound here v meta) → StepLaid [] (looked q block aim said)
+    looked_laid apart aim none is source written finds = ends Nothing (λ p id e. cc) (λ clash. nothing_whole s.draws a.kind q)
+    looked_laid apart aim (marked v) is source written finds = ends Nothing (λ p id e. cc) (λ clash. nothing_whole s.draws a.kind q)
+    looked_laid apart aim (inline v meta body) is source written finds =
+        found_laid apart aim v meta body is source (record { content = written.content; was_written = written.was_written; meta_is = written.meta_is; body_is = λ differ. written.body_is })
+    looked_laid apart aim (in_blocks v meta first) is source written finds = reads_on_laid aim v meta is source (finds v meta first refl)
 
-  lists_laid : (bucket prefix : List ℕ) (rows : List ObjectRow) (reach : Option (List ℕ)) → StepLaid [] (lists q block bucket prefix rows reach)
-  lists_laid bucket prefix rows None = ends (Listed rows) (λ p id e. cc) (λ clash. tt)
-  lists_laid bucket prefix rows (Some after) = goes (Listing bucket prefix rows) (asks_past bucket prefix after) (scans_laid cited moves s q a at rests block laid (Listing bucket prefix rows) bucket prefix after tt tt) (λ copy it. tt)
+    lists_laid : (bucket prefix : List ℕ) (rows : List ObjectRow) (reach : Option (List ℕ)) → StepLaid [] (lists q block bucket prefix rows reach)
+    lists_laid bucket prefix rows None = ends (Listed rows) (λ p id e. cc) (λ clash. tt)
+    lists_laid bucket prefix rows (Some after) = goes (Listing bucket prefix rows) (asks_past bucket prefix after) (scans_laid cited moves s q a at rests block laid (Listing bucket prefix rows) bucket prefix after tt tt) (λ copy it. tt)
 
-  -- ---- writes
+    -- ---- writes
 
-  abbrev pub draw_so : Name → Wish → Version → ℕ → Draw
-  draw_so name w v moment = record { request = q; name = name; version = v; wish = w; block = block; moment = moment }
+    abbrev pub draw_so : Name → Wish → Version → ℕ → Draw
+    draw_so name w v moment = record { request = q; name = name; version = v; wish = w; block = block; moment = moment }
 
-  short_has : (draws : List Draw) (name : Name) (v : Version) (c : Content) (moment : ℕ) → is_long c.body ≡ false → (x : Content) → IsLong draws (draw_so name (wish.Content c) v moment) x → HasAll here v.id block x.body
-  short_has draws name v c moment short x l =
-      let wish_is : wish.Content c ≡ wish.Content x = l.wish_is in
-      let same : c ≡ x = cc in
-      let no : true ≡ false = sym l.long ∙ (ap (λ (y : Content). is_long y.body) (sym same) ∙ short) in
-      cc
+    short_has : (draws : List Draw) (name : Name) (v : Version) (c : Content) (moment : ℕ) → is_long c.body ≡ false → (x : Content) → IsLong draws (draw_so name (wish.Content c) v moment) x → HasAll here v.id block x.body
+    short_has draws name v c moment short x l =
+        let wish_is : wish.Content c ≡ wish.Content x = l.wish_is in
+        let same : c ≡ x = cc in
+        let no : true ≡ false = sym l.long ∙ (ap (λ (y : Content). is_long y.body) (sym same) ∙ short) in
+        cc
 
-  -- what the request wishes was written to its source, where it is a copy
-  abbrev pub WishesSource : Wish → Type 0
-  WishesSource w = (copy : Copying) → IsIt copy → IsTaken (blocks_of moves) s.draws copy w
+    -- what the request wishes was written to its source, where it is a copy
+    abbrev pub WishesSource : Wish → Type 0
+    WishesSource w = (copy : Copying) → IsIt copy → IsTaken (blocks_of moves) s.draws copy w
 
-  taken_so : (name : Name) (w : Wish) (v : Version) (moment : ℕ) → WishesSource w → (copy : Copying) → IsIt copy → ⊤ × AreTaken (blocks_of moves) copy (draw_so name w v moment ∷ s.draws)
-  taken_so name w v moment source copy it = (tt, ((λ own. source copy it), it.1.taken))
+    taken_so : (name : Name) (w : Wish) (v : Version) (moment : ℕ) → WishesSource w → (copy : Copying) → IsIt copy → ⊤ × AreTaken (blocks_of moves) copy (draw_so name w v moment ∷ s.draws)
+    taken_so name w v moment source copy it = (tt, ((λ own. source copy it), it.1.taken))
 
-  writes_laid : (name : Name) (v : Version) (w : Wish) (moment : ℕ) → WishesSource w → StepLaid (draw_so name w v moment ∷ []) (writes q block name v w)
-  writes_laid name v wish.Marker moment source =
-      draws_on (draw_so name wish.Marker v moment ∷ []) (Completing v None) (stores (complete name v block wish.Marker))
-      (completes_laid cited moves s q a at rests block laid (draw_so name wish.Marker v moment ∷ []) (draw_so name wish.Marker v moment) None (0, omega arith, refl) refl (λ c l. (let no : wish.Marker ≡ wish.Content c = l.wish_is in cc)))
-      (refl, tt) (taken_so name wish.Marker v moment source)
-  writes_laid name v (wish.Content c) moment source =
-      elim (is_long c.body) as (λ b. is_long c.body ≡ b → StepLaid (draw_so name (wish.Content c) v moment ∷ []) (elim b as (λ b. FlowStep) [ true ↦ more q block (Uploading name v c 0) (stores (uploading name v)) | false ↦ completes q block name v (wish.Content c) ])) [
-        | true ↦ λ long. draws_on (draw_so name (wish.Content c) v moment ∷ []) (Uploading name v c 0) (stores (uploading name v)) (uploading_laid cited moves s q a at rests block laid name v c moment long)
-            (refl, tt) (taken_so name (wish.Content c) v moment source)
-        | false ↦ λ short. draws_on (draw_so name (wish.Content c) v moment ∷ []) (Completing v (Some (meta_of c))) (stores (complete name v block (wish.Content c)))
-            (completes_laid cited moves s q a at rests block laid (draw_so name (wish.Content c) v moment ∷ []) (draw_so name (wish.Content c) v moment) (Some (meta_of c)) (0, omega arith, refl) refl
-            (short_has (draw_so name (wish.Content c) v moment ∷ s.draws) name v c moment short))
-            (refl, tt) (taken_so name (wish.Content c) v moment source)
-      ] refl
+    writes_laid : (name : Name) (v : Version) (w : Wish) (moment : ℕ) → WishesSource w → StepLaid (draw_so name w v moment ∷ []) (writes q block name v w)
+    writes_laid name v wish.Marker moment source =
+        draws_on (draw_so name wish.Marker v moment ∷ []) (Completing v None) (stores (complete name v block wish.Marker))
+        (completes_laid cited moves s q a at rests block laid (draw_so name wish.Marker v moment ∷ []) (draw_so name wish.Marker v moment) None (0, omega arith, refl) refl (λ c l. (let no : wish.Marker ≡ wish.Content c = l.wish_is in cc)))
+        (refl, tt) (taken_so name wish.Marker v moment source)
+    writes_laid name v (wish.Content c) moment source =
+        elim (is_long c.body) as (λ b. is_long c.body ≡ b → StepLaid (draw_so name (wish.Content c) v moment ∷ []) (elim b as (λ b. FlowStep) [ true ↦ more q block (Uploading name v c 0) (stores (uploading name v)) | false ↦ completes q block name v (wish.Content c) ])) [
+          | true ↦ λ long. draws_on (draw_so name (wish.Content c) v moment ∷ []) (Uploading name v c 0) (stores (uploading name v)) (uploading_laid cited moves s q a at rests block laid name v c moment long)
+              (refl, tt) (taken_so name (wish.Content c) v moment source)
+          | false ↦ λ short. draws_on (draw_so name (wish.Content c) v moment ∷ []) (Completing v (Some (meta_of c))) (stores (complete name v block (wish.Content c)))
+              (completes_laid cited moves s q a at rests block laid (draw_so name (wish.Content c) v moment ∷ []) (draw_so name (wish.Content c) v moment) (Some (meta_of c)) (0, omega arith, refl) refl
+              (short_has (draw_so name (wish.Content c) v moment ∷ s.draws) name v c moment short))
+              (refl, tt) (taken_so name (wish.Content c) v moment source)
+        ] refl
 
-  -- of an upload whose phase ended, the rows of each block so far are kept
-  block_kept : (name : Name) (v : Version) (c : Content) (k : ℕ) (rows : List AnyRow) → Stores here block (Uploading name v c k) rows → ((r : AnyRow) → Contains rows r → Contains s.world.kept r) → HasUploaded here q block name v c k →
-      (i : ℕ) → i < k → HasPiece here v.id block c.body i
-  block_kept name v c zero rows is are h i lt = absurd (omega (arith, lt))
-  block_kept name v c (suc k) rows is are h i lt =
-      elim (nat_lt i k) as (λ b. nat_lt i k ≡ b → HasPiece here v.id block c.body i) [
-        | true ↦ λ e. h.before i (let low : i < k = ltb-true i k e in omega arith)
-        | false ↦ λ e.
-            let one : AnyRow = version_row v.id block c.body k in
-            let other : AnyRow = reference_row v.id block c.body k in
-            let last : i ≡ k = (let high : k ≤ i = ltb-false i k e in omega arith) in
-            subst (λ j. HasPiece here v.id block c.body j) (sym last) (record {
-              names = are one (subst (λ (rs : List AnyRow). Contains rs one) (sym is.0) (0, omega arith, refl));
-              refers = are other (subst (λ (rs : List AnyRow). Contains rs other) (sym is.0) (there one (other ∷ []) other (0, omega arith, refl)));
-              bytes = is.1;
-            })
-      ] refl
+    -- of an upload whose phase ended, the rows of each block so far are kept
+    block_kept : (name : Name) (v : Version) (c : Content) (k : ℕ) (rows : List AnyRow) → Stores here block (Uploading name v c k) rows → ((r : AnyRow) → Contains rows r → Contains s.world.kept r) → HasUploaded here q block name v c k →
+        (i : ℕ) → i < k → HasPiece here v.id block c.body i
+    block_kept name v c zero rows is are h i lt = absurd (omega (arith, lt))
+    block_kept name v c (suc k) rows is are h i lt =
+        elim (nat_lt i k) as (λ b. nat_lt i k ≡ b → HasPiece here v.id block c.body i) [
+          | true ↦ λ e. h.before i (let low : i < k = ltb-true i k e in omega arith)
+          | false ↦ λ e.
+              let one : AnyRow = version_row v.id block c.body k in
+              let other : AnyRow = reference_row v.id block c.body k in
+              let last : i ≡ k = (let high : k ≤ i = ltb-false i k e in omega arith) in
+              subst (λ j. HasPiece here v.id block c.body j) (sym last) (record {
+                names = are one (subst (λ (rs : List AnyRow). Contains rs one) (sym is.0) (0, omega arith, refl));
+                refers = are other (subst (λ (rs : List AnyRow). Contains rs other) (sym is.0) (there one (other ∷ []) other (0, omega arith, refl)));
+                bytes = is.1;
+              })
+        ] refl
 
-  -- a block below one that is not there
-  below : (body : List ℕ) (i k : ℕ) → has_piece block body i ≡ true → has_piece block body k ≡ false → i < k
-  below body i k has no_more =
-      elim (nat_lt i k) as (λ b. nat_lt i k ≡ b → i < k) [
-        | true ↦ λ e. ltb-true i k e
-        | false ↦ λ e.
-            let high : k ≤ i = ltb-false i k e in
-            let low : i * block < length body = ltb-true (i * block) (length body) has in
-            let end : length body ≤ k * block = ltb-false (k * block) (length body) no_more in
-            let grow : k * block ≤ i * block = mul-le k block i block high (le_refl block) in
-            absurd (omega (arith, low, end, grow))
-      ] refl
+    -- a block below one that is not there
+    below : (body : List ℕ) (i k : ℕ) → has_piece block body i ≡ true → has_piece block body k ≡ false → i < k
+    below body i k has no_more =
+        elim (nat_lt i k) as (λ b. nat_lt i k ≡ b → i < k) [
+          | true ↦ λ e. ltb-true i k e
+          | false ↦ λ e.
+              let high : k ≤ i = ltb-false i k e in
+              let low : i * block < length body = ltb-true (i * block) (length body) has in
+              let end : length body ≤ k * block = ltb-false (k * block) (length body) no_more in
+              let grow : k * block ≤ i * block = mul-le k block i block high (le_refl block) in
+              absurd (omega (arith, low, end, grow))
+        ] refl
 
-  uploads_laid : (name : Name) (v : Version) (c : Content) (k : ℕ) → (Fits words (applied s.world (effect s (phases q (Store (block_rows v.id block c.body k))))) → v.id < 2 ^ 64) → a.flow ≡ Some (flow_of q block (Uploading name v c k)) → HasPut s.asked here q → StepLaid [] (uploads q block name v c k)
-  uploads_laid name v c k small flow_is put =
-      let h : HasUploaded here q block name v c k = laid.stages q a (flow_of q block (Uploading name v c k)) at flow_is in
-      let kept : (i : ℕ) → i < k → HasPiece here v.id block c.body i = block_kept name v c k put.rows (put.stores a (flow_of q block (Uploading name v c k)) at flow_is) put.are_there h in
-      elim (has_piece block c.body k) as (λ b. has_piece block c.body k ≡ b → StepLaid [] (elim b as (λ b. FlowStep) [ true ↦ more q block (Uploading name v c (suc k)) (Store (block_rows v.id block c.body k)) | false ↦ completes q block name v (wish.Content c) ])) [
-        | true ↦ λ has fits. goes (Uploading name v c (suc k)) (Store (block_rows v.id block c.body k))
-            (block_laid cited moves s q a at rests block laid name v c k (small fits.0.0) has (record { moment = h.moment; drawn = h.drawn; long = h.long; before = λ i lt. kept i (omega (arith, lt)) })) (λ copy it. tt) fits
-        | false ↦ λ no_more. goes (Completing v (Some (meta_of c))) (stores (complete name v block (wish.Content c)))
-            (completes_laid cited moves s q a at rests block laid [] (draw_so name (wish.Content c) v h.moment) (Some (meta_of c)) h.drawn refl (λ x l. (
-            let wish_is : wish.Content c ≡ wish.Content x = l.wish_is in
-            let same : c ≡ x = cc in
-            subst (λ (y : Content). HasAll here v.id block y.body) same (record { each = λ i has. kept i (below c.body i k has no_more); count = k; ends = no_more })))) (λ copy it. tt)
-      ] refl
+    uploads_laid : (name : Name) (v : Version) (c : Content) (k : ℕ) → (Fits words (applied s.world (effect s (phases q (Store (block_rows v.id block c.body k))))) → v.id < 2 ^ 64) → a.flow ≡ Some (flow_of q block (Uploading name v c k)) → HasPut s.asked here q → StepLaid [] (uploads q block name v c k)
+    uploads_laid name v c k small flow_is put =
+        let h : HasUploaded here q block name v c k = laid.stages q a (flow_of q block (Uploading name v c k)) at flow_is in
+        let kept : (i : ℕ) → i < k → HasPiece here v.id block c.body i = block_kept name v c k put.rows (put.stores a (flow_of q block (Uploading name v c k)) at flow_is) put.are_there h in
+        elim (has_piece block c.body k) as (λ b. has_piece block c.body k ≡ b → StepLaid [] (elim b as (λ b. FlowStep) [ true ↦ more q block (Uploading name v c (suc k)) (Store (block_rows v.id block c.body k)) | false ↦ completes q block name v (wish.Content c) ])) [
+          | true ↦ λ has fits. goes (Uploading name v c (suc k)) (Store (block_rows v.id block c.body k))
+              (block_laid cited moves s q a at rests block laid name v c k (small fits.0.0) has (record { moment = h.moment; drawn = h.drawn; long = h.long; before = λ i lt. kept i (omega (arith, lt)) })) (λ copy it. tt) fits
+          | false ↦ λ no_more. goes (Completing v (Some (meta_of c))) (stores (complete name v block (wish.Content c)))
+              (completes_laid cited moves s q a at rests block laid [] (draw_so name (wish.Content c) v h.moment) (Some (meta_of c)) h.drawn refl (λ x l. (
+              let wish_is : wish.Content c ≡ wish.Content x = l.wish_is in
+              let same : c ≡ x = cc in
+              subst (λ (y : Content). HasAll here v.id block y.body) same (record { each = λ i has. kept i (below c.body i k has no_more); count = k; ends = no_more })))) (λ copy it. tt)
+        ] refl
 
 -- ---- a phase ended
 
@@ -366,72 +366,73 @@ abbrev pub HasReadIf : State → ℕ → PhaseEnd AnyRow → Type 0
 HasReadIf s q (Answered value) = HasRead s.asked s.history s.world.reads q value
 HasReadIf s q _ = ⊤
 
-pub read_of : (s : State) (q : ℕ) (end : PhaseEnd AnyRow) → IsEnd s.asked s.draws s.history s.saw s.world.kept s.world.reads q end → HasReadIf s q end
-read_of s q (Answered value) h = h
-read_of s q _ h = tt
+pub read_of : (H : List ℕ → Type 0) (s : State) (q : ℕ) (end : PhaseEnd AnyRow) → IsEnd H s.asked s.draws s.history s.saw s.world.kept s.world.reads q end → HasReadIf s q end
+read_of H s q (Answered value) h = h
+read_of H s q _ h = tt
 
-module _ (cited : Cited) (moves : List Moving) (s : State) (q : ℕ) (a : Asked) (at : numbered s.asked q ≡ Some a) (rests : Rests s q) (block : ℕ) (sound : IsSound s) (apart : AreApart s.draws) (laid : IsLaidIn moves s) where
-  -- what a request does that waits so when its phase ends so
-  abbrev pub StageLaid : ℕ → Stage → PhaseEnd AnyRow → Type 0
-  StageLaid now stage end =
-      a.flow ≡ Some (flow_of q block stage) → IsStage s.draws s.history q a stage → HasReadIf s q end → HasGot s.asked (past moves s.world s.draws) s.world.reads q end →
-      StepLaid cited moves s q a at rests block laid (draws_of s q block stage end now) (flow_goes_on q block stage end now)
+module _ {H : List ℕ → Type 0} where
+  module _ (cited : Cited H) (moves : List Moving) (s : State) (q : ℕ) (a : Asked) (at : numbered s.asked q ≡ Some a) (rests : Rests s q) (block : ℕ) (sound : IsSound H s) (apart : AreApart s.draws) (laid : IsLaidIn H moves s) where
+    -- what a request does that waits so when its phase ends so
+    abbrev pub StageLaid : ℕ → Stage → PhaseEnd AnyRow → Type 0
+    StageLaid now stage end =
+        a.flow ≡ Some (flow_of q block stage) → IsStage H s.draws s.history q a stage → HasReadIf s q end → HasGot s.asked (past moves s.world s.draws) s.world.reads q end →
+        StepLaid cited moves s q a at rests block laid (draws_of s q block stage end now) (flow_goes_on q block stage end now)
 
-  own_version : (v : Version) (aim : Aim) → IsAimOf a aim → HasSeen s.draws s.history q a aim v → IsOwn cited moves s q a at rests block laid v
-  own_version v aim.Get is seen passed k =
-      let f : FoundIn s.draws a.name v = seen.found in
-      let same : f.draw ≡ passed.draw = apart f.draw passed.draw f.drawn passed.drawn (ap (λ (x : Version). x.id) f.version ∙ sym passed.id_is) in
-      (ap (λ (d : Draw). digest_of d.name.bucket) (sym same) ∙ f.bucket, ap (λ (d : Draw). d.name.key) (sym same) ∙ f.key)
-  own_version v aim.Head is seen passed k = (let no : kind.Get ≡ kind.Head = sym k ∙ is in cc)
-  own_version v (aim.Copy name headers) is seen passed k = (let no : kind.Get ≡ kind.Copy = sym k ∙ is.0 in cc)
+    own_version : (v : Version) (aim : Aim) → IsAimOf a aim → HasSeen H s.draws s.history q a aim v → IsOwn cited moves s q a at rests block laid v
+    own_version v aim.Get is seen passed k =
+        let f : FoundIn s.draws a.name v = seen.found in
+        let same : f.draw ≡ passed.draw = apart f.draw passed.draw f.drawn passed.drawn (ap (λ (x : Version). x.id) f.version ∙ sym passed.id_is) in
+        (ap (λ (d : Draw). digest_of d.name.bucket) (sym same) ∙ f.bucket, ap (λ (d : Draw). d.name.key) (sym same) ∙ f.key)
+    own_version v aim.Head is seen passed k = (let no : kind.Get ≡ kind.Head = sym k ∙ is in cc)
+    own_version v (aim.Copy name headers) is seen passed k = (let no : kind.Get ≡ kind.Copy = sym k ∙ is.0 in cc)
 
-  -- what a read gave of an object is of the source, where the request is a copy
-  module _ (name : Name) (aim : Aim) (value : Option AnyRow) (flow_is : a.flow ≡ Some (flow_of q block (Looking name aim))) (end : HasRead s.asked s.history s.world.reads q value) where
-    has_source : (v : Version) (said : Said) → said_of value ≡ said → ((u : Version) → IsSaid u said → v ≡ u) → FoundIn s.draws name v → FoundSource cited moves s q a at rests block laid v aim
-    has_source v said e one f copy it =
-        let k = know cited moves s q a at rests block laid (Looking name aim) flow_is copy it in
-        let b : HasBegun s.history copy = it.1.began in
-        let cut : s.history ≡ copy.history ++ began q b.node b.kind b.name ∷ b.after = subst (λ (r : ℕ). s.history ≡ copy.history ++ began r b.node b.kind b.name ∷ b.after) it.0 b.cut in (
-          subst (λ (n : Name). FoundIn s.draws n v) k.0 f,
-          k.1,
-          λ w ack. not_below cited moves s sound laid q a at block name aim flow_is value end copy.history b.after b.node b.kind b.name cut said v e one w (subst (λ (n : Name). WasAcknowledged copy.history n w) (sym k.0) ack),
-        )
+    -- what a read gave of an object is of the source, where the request is a copy
+    module _ (name : Name) (aim : Aim) (value : Option AnyRow) (flow_is : a.flow ≡ Some (flow_of q block (Looking name aim))) (end : HasRead s.asked s.history s.world.reads q value) where
+      has_source : (v : Version) (said : Said) → said_of value ≡ said → ((u : Version) → IsSaid u said → v ≡ u) → FoundIn s.draws name v → FoundSource cited moves s q a at rests block laid v aim
+      has_source v said e one f copy it =
+          let k = know cited moves s q a at rests block laid (Looking name aim) flow_is copy it in
+          let b : HasBegun s.history copy = it.1.began in
+          let cut : s.history ≡ copy.history ++ began q b.node b.kind b.name ∷ b.after = subst (λ (r : ℕ). s.history ≡ copy.history ++ began r b.node b.kind b.name ∷ b.after) it.0 b.cut in (
+            subst (λ (n : Name). FoundIn s.draws n v) k.0 f,
+            k.1,
+            λ w ack. not_below cited moves s sound laid q a at block name aim flow_is value end copy.history b.after b.node b.kind b.name cut said v e one w (subst (λ (n : Name). WasAcknowledged copy.history n w) (sym k.0) ack),
+          )
 
-    read_source : (said : Said) → said_of value ≡ said → SaysSource cited moves s q a at rests block laid said aim
-    read_source (inline v meta body) e = has_source v (inline v meta body) e (λ u is. is) (said_found cited moves s sound laid q a at block name aim flow_is value end (inline v meta body) e (λ no. cc)).1
-    read_source (in_blocks v meta first) e = has_source v (in_blocks v meta first) e (λ u is. is) (said_found cited moves s sound laid q a at block name aim flow_is value end (in_blocks v meta first) e (λ no. cc)).1
-    read_source none e = tt
-    read_source (marked v) e = tt
+      read_source : (said : Said) → said_of value ≡ said → SaysSource cited moves s q a at rests block laid said aim
+      read_source (inline v meta body) e = has_source v (inline v meta body) e (λ u is. is) (said_found cited moves s sound laid q a at block name aim flow_is value end (inline v meta body) e (λ no. cc)).1
+      read_source (in_blocks v meta first) e = has_source v (in_blocks v meta first) e (λ u is. is) (said_found cited moves s sound laid q a at block name aim flow_is value end (in_blocks v meta first) e (λ no. cc)).1
+      read_source none e = tt
+      read_source (marked v) e = tt
 
-  pub stage_laid : (now : ℕ) (stage : Stage) (end : PhaseEnd AnyRow) → StageLaid now stage end
-  stage_laid now (Drawing name w) (Answered value) flow_is stage end got = writes_laid cited moves s q a at rests block laid name (drawn q value now) w (length s.history) (know cited moves s q a at rests block laid (Drawing name w) flow_is)
-  stage_laid now (Uploading name v c k) Kept flow_is stage end got =
-      let d : Draw = record { request = q; name = name; version = v; wish = wish.Content c; block = stage.1.block; moment = stage.1.moment } in
-      let id_is : v.id ≡ q = (sound.drawn d stage.1.drawn).id_is in
-      uploads_laid cited moves s q a at rests block laid name v c k (λ room. subst (λ (i : ℕ). i < 2 ^ 64) (sym id_is) (number_fits s q a (effect s (phases q (Store (block_rows v.id block c.body k)))) at sound room)) flow_is got
-  stage_laid now (Completing v meta) Kept flow_is stage end got = ends cited moves s q a at rests block laid (Stored v meta) (λ p id e. cc) (λ clash. stored_whole s.draws a.kind v meta stage q)
-  stage_laid now (Looking name aim) (Answered value) flow_is stage end got =
-      looked_laid cited moves s q a at rests block laid apart aim (said_of value) stage.0 (read_source name aim value flow_is end (said_of value) refl) (read_written cited.every s q sound value end) (λ v meta first e. finds cited moves s sound laid got.question value got.is_there v meta first e)
-  stage_laid now (Opening v meta aim) (Answered value) flow_is stage end got =
-      let asks : AsksNames (past moves s.world s.draws) v meta got.question = got.asks a (flow_of q block (Opening v meta aim)) at flow_is in
-      opened_laid cited moves s q a at rests block laid apart aim v meta value stage.0 (know cited moves s q a at rests block laid (Opening v meta aim) flow_is) (own_version v aim stage.0 stage.1) asks.found (named cited moves s sound apart laid v meta asks.found got.question asks.table asks.key asks.kept value got.is_there)
-  stage_laid now (Gathering v meta aim left body) (Block bytes) flow_is stage end got =
-      let p : Past = past moves s.world s.draws in
-      let gets : Fetches p v meta left body got.hash = got.gets a (flow_of q block (Gathering v meta aim left body)) at flow_is in
-      let f : IsFound p v meta = gets.found in
-      let one : List ℕ = piece f.draw.block f.content.body gets.next in
-      let told = got.told one gets.hash_is in
-      let stored : Contains p.blocks one = (f.all.each gets.next (piece_there f.draw.block f.content.body f.last gets.next f.has_last (let sum : suc gets.next + gets.rest ≡ suc f.last = gets.ends in omega arith))).bytes in
-      let bytes_are : NoClash p.blocks → bytes ≡ one = (λ clash. clash bytes one told.0 stored told.1) in
-      let zero_next : 0 + gets.next ≡ gets.next = omega arith in
-      let more : pieces f.draw.block f.content.body 0 (suc gets.next) ≡ pieces f.draw.block f.content.body 0 gets.next ++ one =
-      pieces_more f.draw.block f.content.body 0 gets.next ∙ ap (λ k. pieces f.draw.block f.content.body 0 gets.next ++ piece f.draw.block f.content.body k) zero_next in
-      gathers_laid cited moves s q a at rests block laid apart aim v meta left (body ++ bytes) stage.0 (know cited moves s q a at rests block laid (Gathering v meta aim left body) flow_is) f (suc gets.next) gets.rest gets.left_is gets.ends (λ clash. (λ i. gets.body_is clash i ++ bytes_are clash i) ∙ sym more)
-  stage_laid now (Listing bucket prefix rows) (Window others reach) flow_is stage end got = lists_laid cited moves s q a at rests block laid bucket prefix (rows ++ shown_rows others) reach
-  stage_laid now (Drawing name w) end flow_is stage e got = waits cited moves s q a at rests block laid (Drawing name w) flow_is
-  stage_laid now (Uploading name v c k) end flow_is stage e got = waits cited moves s q a at rests block laid (Uploading name v c k) flow_is
-  stage_laid now (Completing v meta) end flow_is stage e got = waits cited moves s q a at rests block laid (Completing v meta) flow_is
-  stage_laid now (Looking name aim) end flow_is stage e got = waits cited moves s q a at rests block laid (Looking name aim) flow_is
-  stage_laid now (Opening v meta aim) end flow_is stage e got = waits cited moves s q a at rests block laid (Opening v meta aim) flow_is
-  stage_laid now (Gathering v meta aim left body) end flow_is stage e got = waits cited moves s q a at rests block laid (Gathering v meta aim left body) flow_is
-  stage_laid now (Listing bucket prefix rows) end flow_is stage e got = waits cited moves s q a at rests block laid (Listing bucket prefix rows) flow_is
+    pub stage_laid : (now : ℕ) (stage : Stage) (end : PhaseEnd AnyRow) → StageLaid now stage end
+    stage_laid now (Drawing name w) (Answered value) flow_is stage end got = writes_laid cited moves s q a at rests block laid name (drawn q value now) w (length s.history) (know cited moves s q a at rests block laid (Drawing name w) flow_is)
+    stage_laid now (Uploading name v c k) Kept flow_is stage end got =
+        let d : Draw = record { request = q; name = name; version = v; wish = wish.Content c; block = stage.1.block; moment = stage.1.moment } in
+        let id_is : v.id ≡ q = (sound.drawn d stage.1.drawn).id_is in
+        uploads_laid cited moves s q a at rests block laid name v c k (λ room. subst (λ (i : ℕ). i < 2 ^ 64) (sym id_is) (number_fits s q a (effect s (phases q (Store (block_rows v.id block c.body k)))) at sound room)) flow_is got
+    stage_laid now (Completing v meta) Kept flow_is stage end got = ends cited moves s q a at rests block laid (Stored v meta) (λ p id e. cc) (λ clash. stored_whole s.draws a.kind v meta stage q)
+    stage_laid now (Looking name aim) (Answered value) flow_is stage end got =
+        looked_laid cited moves s q a at rests block laid apart aim (said_of value) stage.0 (read_source name aim value flow_is end (said_of value) refl) (read_written cited.every s q sound value end) (λ v meta first e. finds cited moves s sound laid got.question value got.is_there v meta first e)
+    stage_laid now (Opening v meta aim) (Answered value) flow_is stage end got =
+        let asks : AsksNames (past moves s.world s.draws) v meta got.question = got.asks a (flow_of q block (Opening v meta aim)) at flow_is in
+        opened_laid cited moves s q a at rests block laid apart aim v meta value stage.0 (know cited moves s q a at rests block laid (Opening v meta aim) flow_is) (own_version v aim stage.0 stage.1) asks.found (named cited moves s sound apart laid v meta asks.found got.question asks.table asks.key asks.kept value got.is_there)
+    stage_laid now (Gathering v meta aim left body) (Block bytes) flow_is stage end got =
+        let p : Past = past moves s.world s.draws in
+        let gets : Fetches p v meta left body got.hash = got.gets a (flow_of q block (Gathering v meta aim left body)) at flow_is in
+        let f : IsFound p v meta = gets.found in
+        let one : List ℕ = piece f.draw.block f.content.body gets.next in
+        let told = got.told one gets.hash_is in
+        let stored : Contains p.blocks one = (f.all.each gets.next (piece_there f.draw.block f.content.body f.last gets.next f.has_last (let sum : suc gets.next + gets.rest ≡ suc f.last = gets.ends in omega arith))).bytes in
+        let bytes_are : NoClash p.blocks → bytes ≡ one = (λ clash. clash bytes one told.0 stored told.1) in
+        let zero_next : 0 + gets.next ≡ gets.next = omega arith in
+        let more : pieces f.draw.block f.content.body 0 (suc gets.next) ≡ pieces f.draw.block f.content.body 0 gets.next ++ one =
+        pieces_more f.draw.block f.content.body 0 gets.next ∙ ap (λ k. pieces f.draw.block f.content.body 0 gets.next ++ piece f.draw.block f.content.body k) zero_next in
+        gathers_laid cited moves s q a at rests block laid apart aim v meta left (body ++ bytes) stage.0 (know cited moves s q a at rests block laid (Gathering v meta aim left body) flow_is) f (suc gets.next) gets.rest gets.left_is gets.ends (λ clash. (λ i. gets.body_is clash i ++ bytes_are clash i) ∙ sym more)
+    stage_laid now (Listing bucket prefix rows) (Window others reach) flow_is stage end got = lists_laid cited moves s q a at rests block laid bucket prefix (rows ++ shown_rows others) reach
+    stage_laid now (Drawing name w) end flow_is stage e got = waits cited moves s q a at rests block laid (Drawing name w) flow_is
+    stage_laid now (Uploading name v c k) end flow_is stage e got = waits cited moves s q a at rests block laid (Uploading name v c k) flow_is
+    stage_laid now (Completing v meta) end flow_is stage e got = waits cited moves s q a at rests block laid (Completing v meta) flow_is
+    stage_laid now (Looking name aim) end flow_is stage e got = waits cited moves s q a at rests block laid (Looking name aim) flow_is
+    stage_laid now (Opening v meta aim) end flow_is stage e got = waits cited moves s q a at rests block laid (Opening v meta aim) flow_is
+    stage_laid now (Gathering v meta aim left body) end flow_is stage e got = waits cited moves s q a at rests block laid (Gathering v meta aim left body) flow_is
+    stage_laid now (Listing bucket prefix rows) end flow_is stage e got = waits cited moves s q a at rests block laid (Listing bucket prefix rows) flow_is

@@ -14,7 +14,7 @@ use Rattle.cluster_machine.specs.Layouts.{layouts}
 use Rattle.cluster_machine.specs.Node.{Ended}
 use Rattle.cluster_machine.specs.Run.{IsStep}
 use Rattle.cluster_machine.specs.World.{empty, forget_delivered, clock, is_member_at, numbered, undelivered}
-use Rattle.cluster_machine.specs.Worlds.{IsMeant, FitAll, installed, run as world_run}
+use Rattle.cluster_machine.specs.Worlds.{IsMeant, installed, run as world_run}
 use Rattle.cluster_machine.specs.declared.step.Step.{Step}
 use Rattle.cluster_machine.specs.declared.step.Step.TheVariants as step
 use Rattle.cluster_machine.specs.declared.step.Refusal.TheVariants.{NotMember, NoSuchBucket}
@@ -32,10 +32,10 @@ use Rattle.flow_model.specs.Rows.{row_key}
 use Rattle.flow_model.specs.Flow.{asks_for, asks_past}
 use Rattle.store_model.specs.Orders.{buckets_of}
 use Rattle.store_model.specs.Run.{Moving, State, start, Asked, Outcome, silent, refusal, plainly, effect, doing, are_buckets, phases, new_request, opened, began_with, begins, follows, follow, goes_on, delivers, then_drains, drains, Draw}
-use Rattle.store_model.specs.Acts.{Act, moves, installs, asks, delivery, drain, forgets, takes as takes_end, adds, cuts, acted, after_acts, IsOuter, IsLawfulAct, AreLawfulActs, ActsFit}
+use Rattle.store_model.specs.Acts.{Act, moves, installs, asks, delivery, drain, forgets, takes as takes_end, adds, cuts, acted, after_acts, IsOuter, IsLawfulAct, AreLawfulActs}
 use Rattle.store_laws.specs.Promised.{moves_in}
 use Rattle.store_model.proofs.Leads.{delivers_lead}
-use Rattle.store_laws.proofs.Acts.{fit_parts, delivers_keeps, outer_calm, act_keeps}
+use Rattle.store_laws.proofs.Acts.{delivers_keeps, outer_calm, act_keeps}
 use Rattle.store_laws.proofs.Alike.{alike_same}
 use Rattle.store_laws.proofs.Elements.{none_in, no_entry}
 use Rattle.store_laws.proofs.Enders.{is_calm}
@@ -76,249 +76,251 @@ use Rattle.store_anchors.proofs.Laid.{Asks, blocks_first, laid_told, digest, Hol
 use Rattle.store_anchors.proofs.Steps.{HasGot, calm_got, calm_now, calm_laid, begin_laid, open_laid}
 use Rattle.store_anchors.proofs.Going.{BeginsSo, read_begins, range_begins}
 use Rattle.store_anchors.proofs.Acting.{OutcomeLaid, stage_laid, read_of}
+use Rattle.store_laws.proofs.Hashing.{FitIn, ActsIn, in_parts}
 
 -- what holds after acts
-pub record IsHeld (ms : List Moving) (s : State) : Type 0 where
-  pub sound : IsSound s
+pub record IsHeld (H : List ℕ → Type 0) (ms : List Moving) (s : State) : Type 0 where
+  pub sound : IsSound H s
   pub once : IsOnceIn s
-  pub laid : IsLaidIn ms s
+  pub laid : IsLaidIn H ms s
 
--- no two draws have one identifier
-pub draws_apart : (s : State) → IsSound s → IsOnceIn s → AreApart s.draws
-draws_apart s sound once d e c k same = once.one d e c k (sym (sound.drawn d c).id_is ∙ (same ∙ (sound.drawn e k).id_is))
+module _ {H : List ℕ → Type 0} where
+  -- no two draws have one identifier
+  pub draws_apart : (s : State) → IsSound H s → IsOnceIn s → AreApart s.draws
+  draws_apart s sound once d e c k same = once.one d e c k (sym (sound.drawn d c).id_is ∙ (same ∙ (sound.drawn e k).id_is))
 
-module _ (cited : Cited) where
-  -- nothing happened
-  nothing_laid : (ms : List Moving) (s : State) → IsLaidIn ms s → IsLaidIn (ms ++ []) s
-  nothing_laid ms s laid = subst (λ k. IsLaidIn k s) (sym (append-nil ms)) laid
+  module _ (cited : Cited H) where
+    -- nothing happened
+    nothing_laid : (ms : List Moving) (s : State) → IsLaidIn H ms s → IsLaidIn H (ms ++ []) s
+    nothing_laid ms s laid = subst (λ k. IsLaidIn H k s) (sym (append-nil ms)) laid
 
-  -- and nothing is told
-  silent_laid : (ms : List Moving) (s : State) → IsLaidIn ms s → OutcomeLaid ms s (silent s)
-  silent_laid ms s laid = (nothing_laid ms s laid, tells_none (past (ms ++ []) s.world s.draws), followed_first ms [] s.draws s.asked s.history)
+    -- and nothing is told
+    silent_laid : (ms : List Moving) (s : State) → IsLaidIn H ms s → OutcomeLaid H ms s (silent s)
+    silent_laid ms s laid = (nothing_laid ms s laid, tells_none (past (ms ++ []) s.world s.draws), followed_first ms [] s.draws s.asked s.history)
 
-  -- ---- deliveries
+    -- ---- deliveries
 
-  follows_laid : (ms : List Moving) (s : State) (q : ℕ) (a : Asked) → numbered s.asked q ≡ Some a → Rests s q → IsSound s → AreApart s.draws → IsLaidIn ms s → (end : PhaseEnd AnyRow) (flow : Option Flow) → a.flow ≡ flow →
-      IsEnd s.asked s.draws s.history s.saw s.world.kept s.world.reads q end → HasGot s.asked (past ms s.world s.draws) s.world.reads q end → FitAll any_join words s.world (follows s q a end flow).moves → OutcomeLaid ms s (follows s q a end flow)
-  follows_laid ms s q a at rests sound apart laid end None flow_is is_end got fits = silent_laid ms s laid
-  follows_laid ms s q a at rests sound apart laid end (Some flow) flow_is is_end got fits =
-      let stage = sound.stages q a flow at flow_is in
-      let same : flow ≡ flow_of q flow.block flow.stage = (λ i. record { id = stage.0 i; block = flow.block; stage = flow.stage }) in
-      let seeing : State = record s { saw = record { request = q; end = end } ∷ s.saw } in
-      subst (λ (f : Flow). FitAll any_join words s.world (follows s q a end (Some f)).moves → OutcomeLaid ms s (follows s q a end (Some f))) (sym same)
-      (stage_laid cited ms seeing q a at rests flow.block (saw_sound s (record { request = q; end = end }) (gave_drawn cited.every s q sound end is_end) sound) apart laid (clock s.world a.node) flow.stage end (flow_is ∙ ap Some same) stage.1 (read_of s q end is_end) got) fits
+    follows_laid : (ms : List Moving) (s : State) (q : ℕ) (a : Asked) → numbered s.asked q ≡ Some a → Rests s q → IsSound H s → AreApart s.draws → IsLaidIn H ms s → (end : PhaseEnd AnyRow) (flow : Option Flow) → a.flow ≡ flow →
+        IsEnd H s.asked s.draws s.history s.saw s.world.kept s.world.reads q end → HasGot s.asked (past ms s.world s.draws) s.world.reads q end → FitIn H s.world (follows s q a end flow).moves → OutcomeLaid H ms s (follows s q a end flow)
+    follows_laid ms s q a at rests sound apart laid end None flow_is is_end got fits = silent_laid ms s laid
+    follows_laid ms s q a at rests sound apart laid end (Some flow) flow_is is_end got fits =
+        let stage = sound.stages q a flow at flow_is in
+        let same : flow ≡ flow_of q flow.block flow.stage = (λ i. record { id = stage.0 i; block = flow.block; stage = flow.stage }) in
+        let seeing : State = record s { saw = record { request = q; end = end } ∷ s.saw } in
+        subst (λ (f : Flow). FitIn H s.world (follows s q a end (Some f)).moves → OutcomeLaid H ms s (follows s q a end (Some f))) (sym same)
+        (stage_laid cited ms seeing q a at rests flow.block (saw_sound s (record { request = q; end = end }) (gave_drawn cited.every s q sound end is_end) sound) apart laid (clock s.world a.node) flow.stage end (flow_is ∙ ap Some same) stage.1 (read_of H s q end is_end) got) fits
 
-  follow_laid : (ms : List Moving) (s : State) (q : ℕ) (asked : Option Asked) (end : PhaseEnd AnyRow) → numbered s.asked q ≡ asked → Rests s q → IsSound s → AreApart s.draws → IsLaidIn ms s → IsEnd s.asked s.draws s.history s.saw s.world.kept s.world.reads q end → HasGot s.asked (past ms s.world s.draws) s.world.reads q end →
-      FitAll any_join words s.world (follow s q asked end).moves → OutcomeLaid ms s (follow s q asked end)
-  follow_laid ms s q None end at rests sound apart laid is_end got fits = silent_laid ms s laid
-  follow_laid ms s q (Some a) end at rests sound apart laid is_end got fits = follows_laid ms s q a at rests sound apart laid end a.flow refl is_end got fits
+    follow_laid : (ms : List Moving) (s : State) (q : ℕ) (asked : Option Asked) (end : PhaseEnd AnyRow) → numbered s.asked q ≡ asked → Rests s q → IsSound H s → AreApart s.draws → IsLaidIn H ms s → IsEnd H s.asked s.draws s.history s.saw s.world.kept s.world.reads q end → HasGot s.asked (past ms s.world s.draws) s.world.reads q end →
+        FitIn H s.world (follow s q asked end).moves → OutcomeLaid H ms s (follow s q asked end)
+    follow_laid ms s q None end at rests sound apart laid is_end got fits = silent_laid ms s laid
+    follow_laid ms s q (Some a) end at rests sound apart laid is_end got fits = follows_laid ms s q a at rests sound apart laid end a.flow refl is_end got fits
 
-  goes_on_laid : (ms : List Moving) (s : State) (ends : List (Ended AnyRow)) → IsSound s → AreApart s.draws → IsLaidIn ms s →
-      AllByRecursion (λ (e : Ended AnyRow). IsEnd s.asked s.draws s.history s.saw s.world.kept s.world.reads e.request e.how × Rests s e.request) ends → AllByRecursion (λ (e : Ended AnyRow). HasGot s.asked (past ms s.world s.draws) s.world.reads e.request e.how) ends →
-      FitAll any_join words s.world (goes_on s ends).moves → OutcomeLaid ms s (goes_on s ends)
-  goes_on_laid ms s [] sound apart laid h got fits = silent_laid ms s laid
-  goes_on_laid ms s (e ∷ es) sound apart laid h got fits = follow_laid ms s e.request (numbered s.asked e.request) e.how refl h.0.1 sound apart laid h.0.0 got.0 fits
+    goes_on_laid : (ms : List Moving) (s : State) (ends : List (Ended AnyRow)) → IsSound H s → AreApart s.draws → IsLaidIn H ms s →
+        AllByRecursion (λ (e : Ended AnyRow). IsEnd H s.asked s.draws s.history s.saw s.world.kept s.world.reads e.request e.how × Rests s e.request) ends → AllByRecursion (λ (e : Ended AnyRow). HasGot s.asked (past ms s.world s.draws) s.world.reads e.request e.how) ends →
+        FitIn H s.world (goes_on s ends).moves → OutcomeLaid H ms s (goes_on s ends)
+    goes_on_laid ms s [] sound apart laid h got fits = silent_laid ms s laid
+    goes_on_laid ms s (e ∷ es) sound apart laid h got fits = follow_laid ms s e.request (numbered s.asked e.request) e.how refl h.0.1 sound apart laid h.0.0 got.0 fits
 
-  -- the steps of one outcome, and then those of another
-  joined : (ms first rest : List Moving) (s : State) → IsLaidIn ((ms ++ first) ++ rest) s → IsLaidIn (ms ++ (first ++ rest)) s
-  joined ms first rest s laid = subst (λ k. IsLaidIn k s) (append_assoc ms first rest) laid
+    -- the steps of one outcome, and then those of another
+    joined : (ms first rest : List Moving) (s : State) → IsLaidIn H ((ms ++ first) ++ rest) s → IsLaidIn H (ms ++ (first ++ rest)) s
+    joined ms first rest s laid = subst (λ k. IsLaidIn H k s) (append_assoc ms first rest) laid
 
-  -- what was told before is told of by more
-  first_told : (ms : List Moving) (first : Outcome) (rest : List Moving) (w : World) (draws : List Draw) → IsPart first.state.draws draws → Tells (past (ms ++ first.moves) first.state.world first.state.draws) first.lines → Tells (past (ms ++ (first.moves ++ rest)) w draws) first.lines
-  first_told ms first rest w draws grows told =
-      subst (λ k. Tells (past k w draws) first.lines) (append_assoc ms first.moves rest)
-      (tells_later (past (ms ++ first.moves) first.state.world first.state.draws) (past ((ms ++ first.moves) ++ rest) w draws) grows (blocks_first (ms ++ first.moves) rest) first.lines told)
+    -- what was told before is told of by more
+    first_told : (ms : List Moving) (first : Outcome) (rest : List Moving) (w : World) (draws : List Draw) → IsPart first.state.draws draws → Tells (past (ms ++ first.moves) first.state.world first.state.draws) first.lines → Tells (past (ms ++ (first.moves ++ rest)) w draws) first.lines
+    first_told ms first rest w draws grows told =
+        subst (λ k. Tells (past k w draws) first.lines) (append_assoc ms first.moves rest)
+        (tells_later (past (ms ++ first.moves) first.state.world first.state.draws) (past ((ms ++ first.moves) ++ rest) w draws) grows (blocks_first (ms ++ first.moves) rest) first.lines told)
 
-  told_joined : (ms first rest : List Moving) (o : Outcome) → Tells (past ((ms ++ first) ++ rest) o.state.world o.state.draws) o.lines → Tells (past (ms ++ (first ++ rest)) o.state.world o.state.draws) o.lines
-  told_joined ms first rest o told = subst (λ k. Tells (past k o.state.world o.state.draws) o.lines) (append_assoc ms first rest) told
+    told_joined : (ms first rest : List Moving) (o : Outcome) → Tells (past ((ms ++ first) ++ rest) o.state.world o.state.draws) o.lines → Tells (past (ms ++ (first ++ rest)) o.state.world o.state.draws) o.lines
+    told_joined ms first rest o told = subst (λ k. Tells (past k o.state.world o.state.draws) o.lines) (append_assoc ms first rest) told
 
-  pub delivers_laid : (ms : List Moving) (s : State) (m : ℕ) → FitAll any_join words s.world (delivers s m).moves → IsSound s → AreApart s.draws → IsLaidIn ms s → OutcomeLaid ms s (delivers s m)
-  delivers_laid ms s m fits sound apart laid =
-      let d : Moving = plainly (step.Deliver m) in
-      let calm = is_calm cited.every s d tt sound in
-      let o : Outcome = goes_on (doing s d) (effect s d).ends in
-      let rest : OutcomeLaid (ms ++ d ∷ []) (doing s d) o =
-      goes_on_laid (ms ++ d ∷ []) (doing s d) (effect s d).ends
-      (step_sound s d sound (tt, tt, tt, fits.0.1, tt) (All-nil (IsGood s.draws)) (calm_fine s (effect s d) sound calm)) apart
-      (calm_laid cited ms s d tt refl tt tt tt tt (fits.0, tt) laid)
-      (calm_ends s (effect s d) sound calm) (calm_got cited ms s d (tt, tt, tt, fits.0.1, tt) (calm_now cited ms s d tt laid) laid) fits.1 in (
-        joined ms (d ∷ []) o.moves o.state rest.0,
-        tells_both (past (ms ++ d ∷ o.moves) o.state.world o.state.draws) (effect s d).tells o.lines (step_whole (past (ms ++ d ∷ o.moves) o.state.world o.state.draws) s d) (told_joined ms (d ∷ []) o.moves o rest.1),
-        λ copy h. followed_joined ms (d ∷ []) o.moves o.state copy (rest.2 copy (followed_first ms (d ∷ []) s.draws s.asked s.history copy h)),
-      )
+    pub delivers_laid : (ms : List Moving) (s : State) (m : ℕ) → FitIn H s.world (delivers s m).moves → IsSound H s → AreApart s.draws → IsLaidIn H ms s → OutcomeLaid H ms s (delivers s m)
+    delivers_laid ms s m fits sound apart laid =
+        let d : Moving = plainly (step.Deliver m) in
+        let calm = is_calm cited.every s d tt sound in
+        let o : Outcome = goes_on (doing s d) (effect s d).ends in
+        let rest : OutcomeLaid H (ms ++ d ∷ []) (doing s d) o =
+        goes_on_laid (ms ++ d ∷ []) (doing s d) (effect s d).ends
+        (step_sound s d sound (tt, tt, tt, fits.0.1, tt) fits.0.2 (All-nil (IsGood s.draws)) (calm_fine s (effect s d) sound calm)) apart
+        (calm_laid cited ms s d tt refl tt tt tt tt (fits.0, tt) laid)
+        (calm_ends s (effect s d) sound calm) (calm_got cited ms s d (tt, tt, tt, fits.0.1, tt) (calm_now cited ms s d tt laid) laid) fits.1 in (
+          joined ms (d ∷ []) o.moves o.state rest.0,
+          tells_both (past (ms ++ d ∷ o.moves) o.state.world o.state.draws) (effect s d).tells o.lines (step_whole (past (ms ++ d ∷ o.moves) o.state.world o.state.draws) s d) (told_joined ms (d ∷ []) o.moves o rest.1),
+          λ copy h. followed_joined ms (d ∷ []) o.moves o.state copy (rest.2 copy (followed_first ms (d ∷ []) s.draws s.asked s.history copy h)),
+        )
 
-  drains_laid : (n : ℕ) (ms : List Moving) (s : State) → FitAll any_join words s.world (drains n s).moves → IsSound s → IsOnceIn s → IsLaidIn ms s → OutcomeLaid ms s (drains n s)
-  drains_laid zero ms s fits sound once laid = silent_laid ms s laid
-  drains_laid (suc n) ms s fits sound once laid =
-      elim (undelivered s.world) as (λ o. FitAll any_join words s.world (elim o as (λ o. Outcome) [ None ↦ silent s | Some m ↦ let o = delivers s m in then_drains o (drains n o.state) ]).moves →
-      OutcomeLaid ms s (elim o as (λ o. Outcome) [ None ↦ silent s | Some m ↦ let o = delivers s m in then_drains o (drains n o.state) ])) [
-        | None ↦ λ fits. silent_laid ms s laid
-        | Some m ↦ λ fits.
-            let first : Outcome = delivers s m in
-            let rest : Outcome = drains n first.state in
-            let parts = fit_parts any_join words s.world first.moves rest.moves fits in
-            let leads : world_run any_join words s.world first.moves ≡ first.state.world = delivers_lead s m in
-            let one : OutcomeLaid ms s first = delivers_laid ms s m parts.0 sound (draws_apart s sound once) laid in
-            let more : OutcomeLaid (ms ++ first.moves) first.state rest =
-            drains_laid n (ms ++ first.moves) first.state (subst (λ w. FitAll any_join words w rest.moves) leads parts.1) (delivers_keeps cited.every s m parts.0 sound) (delivers_once s m once) one.0 in
-            let now : Past = past (ms ++ (first.moves ++ rest.moves)) rest.state.world rest.state.draws in (
-              joined ms first.moves rest.moves rest.state more.0,
-              tells_both now first.lines rest.lines (first_told ms first rest.moves rest.state.world rest.state.draws (drains_grows n first.state) one.1) (told_joined ms first.moves rest.moves rest more.1),
-              λ copy h. followed_joined ms first.moves rest.moves rest.state copy (more.2 copy (one.2 copy h)),
-            )
-      ] fits
-
-  -- ---- requests
-
-  -- a request opens, and its first phase begins
-  opens_laid : (ms : List Moving) (s : State) (a : Asked) (stage : Stage) (phase : Phase AnyRow) → (let q = suc (length s.world.requests) in a.flow ≡ Some (flow_of q s.block stage) → Holds (past ms s.world s.draws) q s.block stage → is_member_at layouts s.world a.node ≡ true →
-      IsMeant (phases q phase).step → IsStep words 256 (phases q phase).step → StepBringsBlocks digest words (phases q phase).step → stored_by (phases q phase).step ≡ [] → BeginsSo (past_after (ms ++ plainly (step.Open a.node) ∷ []) (opening s a) (phases q phase)) (opening s a).world.kept s.block stage phase →
-      FitAll any_join words s.world (plainly (step.Open a.node) ∷ phases q phase ∷ []) → IsSound s → IsLaidIn ms s → IsLaidIn (ms ++ plainly (step.Open a.node) ∷ phases q phase ∷ []) (doing (opening s a) (phases q phase)))
-  opens_laid ms s a stage phase flow_is hold member meant is_step brings none_stored begins fits sound laid =
-      let q : ℕ = suc (length s.world.requests) in
-      let flow : Flow = flow_of q s.block stage in
-      let m : Moving = plainly (step.Open a.node) in
-      let now : State = opening s a in
-      let open_now : IsLaidIn (ms ++ m ∷ []) now = open_laid cited ms s a flow flow_is hold member (fits.0, tt) sound laid in
-      joined ms (m ∷ []) (phases q phase ∷ []) (doing now (phases q phase))
-      (begin_laid cited (ms ++ m ∷ []) now q a flow phase (new_there s a sound) flow_is meant is_step brings (subst (All (IsRowOf (past (ms ++ m ∷ []) now.world now.draws))) (sym none_stored) (All-nil _)) begins fits.1 open_now)
-
-  -- a request opens and asks for an object's row
-  opens_asking : (ms : List Moving) (s : State) (a : Asked) (stage : Stage) (name : Name) → (let q = suc (length s.world.requests) in a.flow ≡ Some (flow_of q s.block stage) → Holds (past ms s.world s.draws) q s.block stage → is_member_at layouts s.world a.node ≡ true →
-      ((question : Question AnyRow) → question.table ≡ 1 → question.key ≡ row_key name → question.kept ≡ (opening s a).world.kept → Asks (past_after (ms ++ plainly (step.Open a.node) ∷ []) (opening s a) (phases q (asks_for name))) stage question) →
-      FitAll any_join words s.world (plainly (step.Open a.node) ∷ phases q (asks_for name) ∷ []) → IsSound s → IsLaidIn ms s → IsLaidIn (ms ++ plainly (step.Open a.node) ∷ phases q (asks_for name) ∷ []) (doing (opening s a) (phases q (asks_for name))))
-  opens_asking ms s a stage name flow_is hold member waits fits sound laid =
-      let q : ℕ = suc (length s.world.requests) in
-      let now : State = opening s a in
-      opens_laid ms s a stage (asks_for name) flow_is hold member (asks_is_meant q name) (asks_is_step q name) tt refl
-      (read_begins (past_after (ms ++ plainly (step.Open a.node) ∷ []) now (phases q (asks_for name))) now.world.kept s.block stage 1 (digest_of name.bucket) (row_key name) waits) fits sound laid
-
-  opened_laid : (ms : List Moving) (s : State) (n : ℕ) (o : Order) → is_member_at layouts s.world n ≡ true → FitAll any_join words s.world (opened s n o).moves → IsSound s → IsLaidIn ms s → IsLaidIn (ms ++ (opened s n o).moves) (opened s n o).state
-  opened_laid ms s n (order.Put bucket key body headers) member fits sound laid =
-      let name : Name = record { bucket = bucket; key = key } in
-      opens_asking ms s (new_request n (order.Put bucket key body headers) _) (Drawing name (wish.Content (record { body = body; headers = headers }))) name refl tt member (λ question table key kept. tt) fits sound laid
-  opened_laid ms s n (order.Get bucket key) member fits sound laid =
-      let name : Name = record { bucket = bucket; key = key } in
-      opens_asking ms s (new_request n (order.Get bucket key) _) (Looking name aim.Get) name refl tt member (λ question table key kept. tt) fits sound laid
-  opened_laid ms s n (order.Head bucket key) member fits sound laid =
-      let name : Name = record { bucket = bucket; key = key } in
-      opens_asking ms s (new_request n (order.Head bucket key) _) (Looking name aim.Head) name refl tt member (λ question table key kept. tt) fits sound laid
-  opened_laid ms s n (order.Delete bucket key) member fits sound laid =
-      let name : Name = record { bucket = bucket; key = key } in
-      opens_asking ms s (new_request n (order.Delete bucket key) _) (Drawing name wish.Marker) name refl tt member (λ question table key kept. tt) fits sound laid
-  opened_laid ms s n (order.Copy from_bucket from_key bucket key headers) member fits sound laid =
-      let name : Name = record { bucket = from_bucket; key = from_key } in
-      let new : Name = record { bucket = bucket; key = key } in
-      opens_asking ms s (new_request n (order.Copy from_bucket from_key bucket key headers) _) (Looking name (aim.Copy new headers)) name refl tt member (λ question table key kept. tt) fits sound laid
-  opened_laid ms s n (order.List bucket prefix) member fits sound laid =
-      let q : ℕ = suc (length s.world.requests) in
-      let stage : Stage = Listing bucket prefix [] in
-      let a : Asked = new_request n (order.List bucket prefix) (flow_of q s.block stage) in
-      let now : State = opening s a in
-      opens_laid ms s a stage (asks_past bucket prefix []) refl tt member (scan_is_meant q bucket prefix []) (scan_is_step q bucket prefix []) tt refl
-      (range_begins (past_after (ms ++ plainly (step.Open n) ∷ []) now (phases q (asks_past bucket prefix []))) now.world.kept s.block stage (digest_of bucket) prefix [] tt) fits sound laid
-
-  begins_laid : (ms : List Moving) (s : State) (n : ℕ) (o : Order) → FitAll any_join words s.world (begins s n o).moves → IsSound s → IsLaidIn ms s → OutcomeLaid ms s (begins s n o)
-  begins_laid ms s n o fits sound laid =
-      elim (is_member_at layouts s.world n) as (λ b. is_member_at layouts s.world n ≡ b →
-      FitAll any_join words s.world (if b then (if are_buckets s.buckets (buckets_of o) then opened s n o else refusal s NoSuchBucket) else refusal s NotMember).moves →
-      OutcomeLaid ms s (if b then (if are_buckets s.buckets (buckets_of o) then opened s n o else refusal s NoSuchBucket) else refusal s NotMember)) [
-        | true ↦ λ member. elim (are_buckets s.buckets (buckets_of o)) as (λ b. FitAll any_join words s.world (if b then opened s n o else refusal s NoSuchBucket).moves → OutcomeLaid ms s (if b then opened s n o else refusal s NoSuchBucket)) [
-          | true ↦ λ fits.
-              let q : ℕ = suc (length s.world.requests) in
-              let first : Moving = phases q (started o q s.block).1 in (
-                opened_laid ms s n o member fits sound laid,
-                step_whole (past (ms ++ (opened s n o).moves) (opened s n o).state.world s.draws) (doing s (plainly (step.Open n))) first,
-                λ copy h.
-                    let a : Asked = new_request n o (started o q s.block).0 in
-                    followed_first ms (opened s n o).moves s.draws (s.asked ++ a ∷ []) (opened s n o).state.history copy
-                    (followed_told (blocks_of ms) s.draws (s.asked ++ a ∷ []) s.history (began_with q n o ∷ []) copy (followed_pushed (blocks_of ms) s.draws s.asked s.history a copy h)),
+    drains_laid : (n : ℕ) (ms : List Moving) (s : State) → FitIn H s.world (drains n s).moves → IsSound H s → IsOnceIn s → IsLaidIn H ms s → OutcomeLaid H ms s (drains n s)
+    drains_laid zero ms s fits sound once laid = silent_laid ms s laid
+    drains_laid (suc n) ms s fits sound once laid =
+        elim (undelivered s.world) as (λ o. FitIn H s.world (elim o as (λ o. Outcome) [ None ↦ silent s | Some m ↦ let o = delivers s m in then_drains o (drains n o.state) ]).moves →
+        OutcomeLaid H ms s (elim o as (λ o. Outcome) [ None ↦ silent s | Some m ↦ let o = delivers s m in then_drains o (drains n o.state) ])) [
+          | None ↦ λ fits. silent_laid ms s laid
+          | Some m ↦ λ fits.
+              let first : Outcome = delivers s m in
+              let rest : Outcome = drains n first.state in
+              let parts = in_parts H s.world first.moves rest.moves fits in
+              let leads : world_run any_join words s.world first.moves ≡ first.state.world = delivers_lead s m in
+              let one : OutcomeLaid H ms s first = delivers_laid ms s m parts.0 sound (draws_apart s sound once) laid in
+              let more : OutcomeLaid H (ms ++ first.moves) first.state rest =
+              drains_laid n (ms ++ first.moves) first.state (subst (λ w. FitIn H w rest.moves) leads parts.1) (delivers_keeps cited.every s m parts.0 sound) (delivers_once s m once) one.0 in
+              let now : Past = past (ms ++ (first.moves ++ rest.moves)) rest.state.world rest.state.draws in (
+                joined ms first.moves rest.moves rest.state more.0,
+                tells_both now first.lines rest.lines (first_told ms first rest.moves rest.state.world rest.state.draws (drains_grows n first.state) one.1) (told_joined ms first.moves rest.moves rest more.1),
+                λ copy h. followed_joined ms first.moves rest.moves rest.state copy (more.2 copy (one.2 copy h)),
               )
-          | false ↦ λ fits. silent_laid ms s laid
-        ]
-        | false ↦ λ _ fits. silent_laid ms s laid
-      ] refl fits
+        ] fits
 
-  -- ---- acts
+    -- ---- requests
 
-  outer_brings : (st : Step AnyRow) → IsOuter st → StepBringsBlocks digest words st
-  outer_brings (step.Phase q phase) h = absurd h
-  outer_brings _ h = tt
+    -- a request opens, and its first phase begins
+    opens_laid : (ms : List Moving) (s : State) (a : Asked) (stage : Stage) (phase : Phase AnyRow) → (let q = suc (length s.world.requests) in a.flow ≡ Some (flow_of q s.block stage) → Holds (past ms s.world s.draws) q s.block stage → is_member_at layouts s.world a.node ≡ true →
+        IsMeant (phases q phase).step → IsStep words 256 (phases q phase).step → StepBringsBlocks digest words (phases q phase).step → stored_by (phases q phase).step ≡ [] → BeginsSo (past_after (ms ++ plainly (step.Open a.node) ∷ []) (opening s a) (phases q phase)) (opening s a).world.kept s.block stage phase →
+        FitIn H s.world (plainly (step.Open a.node) ∷ phases q phase ∷ []) → IsSound H s → IsLaidIn H ms s → IsLaidIn H (ms ++ plainly (step.Open a.node) ∷ phases q phase ∷ []) (doing (opening s a) (phases q phase)))
+    opens_laid ms s a stage phase flow_is hold member meant is_step brings none_stored begins fits sound laid =
+        let q : ℕ = suc (length s.world.requests) in
+        let flow : Flow = flow_of q s.block stage in
+        let m : Moving = plainly (step.Open a.node) in
+        let now : State = opening s a in
+        let open_now : IsLaidIn H (ms ++ m ∷ []) now = open_laid cited ms s a flow flow_is hold member (fits.0, tt) sound laid in
+        joined ms (m ∷ []) (phases q phase ∷ []) (doing now (phases q phase))
+        (begin_laid cited (ms ++ m ∷ []) now q a flow phase (new_there s a sound) flow_is meant is_step brings (subst (All (IsRowOf (past (ms ++ m ∷ []) now.world now.draws))) (sym none_stored) (All-nil _)) begins fits.1 open_now)
 
-  -- what an act ends did not end superseded
-  none_superseded : (cause : Cause) → ((id : ℕ) → cause ≡ Superseded id → ⊥) → (qs : List ℕ) (q id : ℕ) → Contains (map (λ (q : ℕ). Gone q cause) qs) (Gone q (Superseded id)) → ⊥
-  none_superseded cause never [] q id c = none_in _ c
-  none_superseded cause never (x ∷ qs) q id c = elim (cons_cases (Gone x cause) (map (λ (q : ℕ). Gone q cause) qs) (Gone q (Superseded id)) c) [
-    | inl e ↦ never id (cc)
-    | inr more ↦ none_superseded cause never qs q id more
-  ]
+    -- a request opens and asks for an object's row
+    opens_asking : (ms : List Moving) (s : State) (a : Asked) (stage : Stage) (name : Name) → (let q = suc (length s.world.requests) in a.flow ≡ Some (flow_of q s.block stage) → Holds (past ms s.world s.draws) q s.block stage → is_member_at layouts s.world a.node ≡ true →
+        ((question : Question AnyRow) → question.table ≡ 1 → question.key ≡ row_key name → question.kept ≡ (opening s a).world.kept → Asks (past_after (ms ++ plainly (step.Open a.node) ∷ []) (opening s a) (phases q (asks_for name))) stage question) →
+        FitIn H s.world (plainly (step.Open a.node) ∷ phases q (asks_for name) ∷ []) → IsSound H s → IsLaidIn H ms s → IsLaidIn H (ms ++ plainly (step.Open a.node) ∷ phases q (asks_for name) ∷ []) (doing (opening s a) (phases q (asks_for name))))
+    opens_asking ms s a stage name flow_is hold member waits fits sound laid =
+        let q : ℕ = suc (length s.world.requests) in
+        let now : State = opening s a in
+        opens_laid ms s a stage (asks_for name) flow_is hold member (asks_is_meant q name) (asks_is_step q name) tt refl
+        (read_begins (past_after (ms ++ plainly (step.Open a.node) ∷ []) now (phases q (asks_for name))) now.world.kept s.block stage 1 (digest_of name.bucket) (row_key name) waits) fits sound laid
 
-  endings_superseded : (st : Step AnyRow) (e : Effect AnyRow) (q id : ℕ) → Contains (endings st e) (Gone q (Superseded id)) → ⊥
-  endings_superseded (step.Expire p) e q id c = none_superseded Expired (λ id e. cc) e.closes q id c
-  endings_superseded (step.Restart n) e q id c = none_superseded Restarted (λ id e. cc) e.lost q id c
-  endings_superseded _ e q id c = none_in _ c
+    opened_laid : (ms : List Moving) (s : State) (n : ℕ) (o : Order) → is_member_at layouts s.world n ≡ true → FitIn H s.world (opened s n o).moves → IsSound H s → IsLaidIn H ms s → IsLaidIn H (ms ++ (opened s n o).moves) (opened s n o).state
+    opened_laid ms s n (order.Put bucket key body headers) member fits sound laid =
+        let name : Name = record { bucket = bucket; key = key } in
+        opens_asking ms s (new_request n (order.Put bucket key body headers) _) (Drawing name (wish.Content (record { body = body; headers = headers }))) name refl tt member (λ question table key kept. tt) fits sound laid
+    opened_laid ms s n (order.Get bucket key) member fits sound laid =
+        let name : Name = record { bucket = bucket; key = key } in
+        opens_asking ms s (new_request n (order.Get bucket key) _) (Looking name aim.Get) name refl tt member (λ question table key kept. tt) fits sound laid
+    opened_laid ms s n (order.Head bucket key) member fits sound laid =
+        let name : Name = record { bucket = bucket; key = key } in
+        opens_asking ms s (new_request n (order.Head bucket key) _) (Looking name aim.Head) name refl tt member (λ question table key kept. tt) fits sound laid
+    opened_laid ms s n (order.Delete bucket key) member fits sound laid =
+        let name : Name = record { bucket = bucket; key = key } in
+        opens_asking ms s (new_request n (order.Delete bucket key) _) (Drawing name wish.Marker) name refl tt member (λ question table key kept. tt) fits sound laid
+    opened_laid ms s n (order.Copy from_bucket from_key bucket key headers) member fits sound laid =
+        let name : Name = record { bucket = from_bucket; key = from_key } in
+        let new : Name = record { bucket = bucket; key = key } in
+        opens_asking ms s (new_request n (order.Copy from_bucket from_key bucket key headers) _) (Looking name (aim.Copy new headers)) name refl tt member (λ question table key kept. tt) fits sound laid
+    opened_laid ms s n (order.List bucket prefix) member fits sound laid =
+        let q : ℕ = suc (length s.world.requests) in
+        let stage : Stage = Listing bucket prefix [] in
+        let a : Asked = new_request n (order.List bucket prefix) (flow_of q s.block stage) in
+        let now : State = opening s a in
+        opens_laid ms s a stage (asks_past bucket prefix []) refl tt member (scan_is_meant q bucket prefix []) (scan_is_step q bucket prefix []) tt refl
+        (range_begins (past_after (ms ++ plainly (step.Open n) ∷ []) now (phases q (asks_past bucket prefix []))) now.world.kept s.block stage (digest_of bucket) prefix [] tt) fits sound laid
 
-  pub act_laid : (ms : List Moving) (s : State) (a : Act) → IsLawfulAct s a → FitAll any_join words s.world (acted s a).moves → IsSound s → IsOnceIn s → IsLaidIn ms s → OutcomeLaid ms s (acted s a)
-  act_laid ms s (moves m) lawful fits sound once laid =
-      let calm = outer_calm cited.every m.step lawful.0 in
-      let now : IsLaidIn (ms ++ m ∷ []) (doing s m) = calm_laid cited ms s m calm.0 calm.2 (outer_brings m.step lawful.0) lawful.1 calm.1 lawful.2 fits laid in (
-        laid_told (ms ++ m ∷ []) (doing s m).world s.asked s.draws s.history (endings m.step (effect s m)) (λ q id c. absurd (endings_superseded m.step (effect s m) q id c)) now,
-        step_whole (past (ms ++ m ∷ []) (doing s m).world s.draws) s m,
-        λ copy h. followed_first ms (m ∷ []) s.draws s.asked (s.history ++ endings m.step (effect s m)) copy (followed_told (blocks_of ms) s.draws s.asked s.history (endings m.step (effect s m)) copy h),
-      )
-  act_laid ms s (asks n o) lawful fits sound once laid = begins_laid ms s n o fits sound laid
-  act_laid ms s (delivery m) lawful fits sound once laid = delivers_laid ms s m fits sound (draws_apart s sound once) laid
-  act_laid ms s (drain n) lawful fits sound once laid = drains_laid n ms s fits sound once laid
-  act_laid ms s (installs first) lawful fits sound once laid =
-      let now : State = record s { world = installed any_join words s.world first } in
-      (nothing_laid ms now (laid_installing ms s first lawful.0 lawful.1 laid), tells_none (past (ms ++ []) now.world s.draws), followed_first ms [] s.draws s.asked s.history)
-  act_laid ms s forgets lawful fits sound once laid =
-      let now : State = record s { world = forget_delivered s.world } in
-      (nothing_laid ms now (laid_forgetting ms s laid), tells_none (past (ms ++ []) now.world s.draws), followed_first ms [] s.draws s.asked s.history)
-  act_laid ms s (takes_end q) lawful fits sound once laid = (nothing_laid ms s laid, tells_none (past (ms ++ []) s.world s.draws), followed_first ms [] s.draws s.asked s.history)
-  act_laid ms s (adds name) lawful fits sound once laid = (nothing_laid ms s laid, tells_none (past (ms ++ []) s.world s.draws), followed_first ms [] s.draws s.asked s.history)
-  act_laid ms s (cuts block) lawful fits sound once laid = (nothing_laid ms s laid, tells_none (past (ms ++ []) s.world s.draws), followed_first ms [] s.draws s.asked s.history)
+    begins_laid : (ms : List Moving) (s : State) (n : ℕ) (o : Order) → FitIn H s.world (begins s n o).moves → IsSound H s → IsLaidIn H ms s → OutcomeLaid H ms s (begins s n o)
+    begins_laid ms s n o fits sound laid =
+        elim (is_member_at layouts s.world n) as (λ b. is_member_at layouts s.world n ≡ b →
+        FitIn H s.world (if b then (if are_buckets s.buckets (buckets_of o) then opened s n o else refusal s NoSuchBucket) else refusal s NotMember).moves →
+        OutcomeLaid H ms s (if b then (if are_buckets s.buckets (buckets_of o) then opened s n o else refusal s NoSuchBucket) else refusal s NotMember)) [
+          | true ↦ λ member. elim (are_buckets s.buckets (buckets_of o)) as (λ b. FitIn H s.world (if b then opened s n o else refusal s NoSuchBucket).moves → OutcomeLaid H ms s (if b then opened s n o else refusal s NoSuchBucket)) [
+            | true ↦ λ fits.
+                let q : ℕ = suc (length s.world.requests) in
+                let first : Moving = phases q (started o q s.block).1 in (
+                  opened_laid ms s n o member fits sound laid,
+                  step_whole (past (ms ++ (opened s n o).moves) (opened s n o).state.world s.draws) (doing s (plainly (step.Open n))) first,
+                  λ copy h.
+                      let a : Asked = new_request n o (started o q s.block).0 in
+                      followed_first ms (opened s n o).moves s.draws (s.asked ++ a ∷ []) (opened s n o).state.history copy
+                      (followed_told (blocks_of ms) s.draws (s.asked ++ a ∷ []) s.history (began_with q n o ∷ []) copy (followed_pushed (blocks_of ms) s.draws s.asked s.history a copy h)),
+                )
+            | false ↦ λ fits. silent_laid ms s laid
+          ]
+          | false ↦ λ _ fits. silent_laid ms s laid
+        ] refl fits
 
-  -- what holds after acts, and of their lines; and copies stay followed
-  abbrev ActsHeld : List Moving → State → List Act → Type 0
-  ActsHeld ms s as' =
-      let end : State = after_acts s as' in
-      IsHeld (ms ++ moves_in s as') end × Tells (past (ms ++ moves_in s as') end.world end.draws) (lines_told s as') ×
-      ((copy : Copying) → IsFollowedIn ms s copy → IsFollowedIn (ms ++ moves_in s as') end copy)
+    -- ---- acts
 
-  pub acts_held : (ms : List Moving) (s : State) (as' : List Act) → AreLawfulActs s as' → ActsFit s as' → IsHeld ms s → ActsHeld ms s as'
-  acts_held ms s [] lawful fit h =
-      (record { sound = h.sound; once = h.once; laid = nothing_laid ms s h.laid }, tells_none (past (ms ++ []) s.world s.draws), followed_first ms [] s.draws s.asked s.history)
-  acts_held ms s (a ∷ as') lawful fit h =
-      let o : Outcome = acted s a in
-      let end : State = after_acts o.state as' in
-      let one : OutcomeLaid ms s o = act_laid ms s a lawful.0 fit.0 h.sound h.once h.laid in
-      let more : ActsHeld (ms ++ o.moves) o.state as' = acts_held (ms ++ o.moves) o.state as' lawful.1 fit.1 (record { sound = act_keeps cited.every s a lawful.0 fit.0 h.sound; once = act_once s a h.sound h.once; laid = one.0 }) in
-      let rest : List Moving = moves_in o.state as' in (
-        subst (λ k. IsHeld k end) (append_assoc ms o.moves rest) more.0,
-        tells_both (past (ms ++ (o.moves ++ rest)) end.world end.draws) o.lines (lines_told o.state as') (first_told ms o rest end.world end.draws (acts_grow o.state as') one.1)
-            (subst (λ k. Tells (past k end.world end.draws) (lines_told o.state as')) (append_assoc ms o.moves rest) more.1),
-        λ copy h. followed_joined ms o.moves rest end copy (more.2 copy (one.2 copy h)),
-      )
+    outer_brings : (st : Step AnyRow) → IsOuter st → StepBringsBlocks digest words st
+    outer_brings (step.Phase q phase) h = absurd h
+    outer_brings _ h = tt
 
-  pub start_laid : IsLaidIn [] start
-  start_laid = record {
-    room = lit< tt;
-    reached = record { before = []; begin = empty; begun = inl (refl, refl); moves = []; lawful = tt; alike = alike_same empty; before_are = All-nil _; are = All-nil _ };
-    stored = All-nil _;
-    kept = λ r c. absurd (none_in r c);
-    stages = λ q a flow at is. absurd (no_entry q a at);
-    fits = λ n c h. absurd h;
-    superseded = λ q id c. absurd (none_in _ c);
-  }
+    -- what an act ends did not end superseded
+    none_superseded : (cause : Cause) → ((id : ℕ) → cause ≡ Superseded id → ⊥) → (qs : List ℕ) (q id : ℕ) → Contains (map (λ (q : ℕ). Gone q cause) qs) (Gone q (Superseded id)) → ⊥
+    none_superseded cause never [] q id c = none_in _ c
+    none_superseded cause never (x ∷ qs) q id c = elim (cons_cases (Gone x cause) (map (λ (q : ℕ). Gone q cause) qs) (Gone q (Superseded id)) c) [
+      | inl e ↦ never id (cc)
+      | inr more ↦ none_superseded cause never qs q id more
+    ]
 
-  -- nothing has happened
-  pub start_held : IsHeld [] start
-  start_held = record { sound = start_sound; once = start_once; laid = start_laid }
+    endings_superseded : (st : Step AnyRow) (e : Effect AnyRow) (q id : ℕ) → Contains (endings st e) (Gone q (Superseded id)) → ⊥
+    endings_superseded (step.Expire p) e q id c = none_superseded Expired (λ id e. cc) e.closes q id c
+    endings_superseded (step.Restart n) e q id c = none_superseded Restarted (λ id e. cc) e.lost q id c
+    endings_superseded _ e q id c = none_in _ c
 
-  pub held : (as' : List Act) → AreLawfulActs start as' → ActsFit start as' → IsHeld (moves_in start as') (after_acts start as')
-  held as' lawful fit = (acts_held [] start as' lawful fit start_held).0
+    pub act_laid : (ms : List Moving) (s : State) (a : Act) → IsLawfulAct s a → FitIn H s.world (acted s a).moves → IsSound H s → IsOnceIn s → IsLaidIn H ms s → OutcomeLaid H ms s (acted s a)
+    act_laid ms s (moves m) lawful fits sound once laid =
+        let calm = outer_calm cited.every m.step lawful.0 in
+        let now : IsLaidIn H (ms ++ m ∷ []) (doing s m) = calm_laid cited ms s m calm.0 calm.2 (outer_brings m.step lawful.0) lawful.1 calm.1 lawful.2 fits laid in (
+          laid_told (ms ++ m ∷ []) (doing s m).world s.asked s.draws s.history (endings m.step (effect s m)) (λ q id c. absurd (endings_superseded m.step (effect s m) q id c)) now,
+          step_whole (past (ms ++ m ∷ []) (doing s m).world s.draws) s m,
+          λ copy h. followed_first ms (m ∷ []) s.draws s.asked (s.history ++ endings m.step (effect s m)) copy (followed_told (blocks_of ms) s.draws s.asked s.history (endings m.step (effect s m)) copy h),
+        )
+    act_laid ms s (asks n o) lawful fits sound once laid = begins_laid ms s n o fits sound laid
+    act_laid ms s (delivery m) lawful fits sound once laid = delivers_laid ms s m fits sound (draws_apart s sound once) laid
+    act_laid ms s (drain n) lawful fits sound once laid = drains_laid n ms s fits sound once laid
+    act_laid ms s (installs first) lawful fits sound once laid =
+        let now : State = record s { world = installed any_join words s.world first } in
+        (nothing_laid ms now (laid_installing ms s first lawful.0 lawful.1 laid), tells_none (past (ms ++ []) now.world s.draws), followed_first ms [] s.draws s.asked s.history)
+    act_laid ms s forgets lawful fits sound once laid =
+        let now : State = record s { world = forget_delivered s.world } in
+        (nothing_laid ms now (laid_forgetting ms s laid), tells_none (past (ms ++ []) now.world s.draws), followed_first ms [] s.draws s.asked s.history)
+    act_laid ms s (takes_end q) lawful fits sound once laid = (nothing_laid ms s laid, tells_none (past (ms ++ []) s.world s.draws), followed_first ms [] s.draws s.asked s.history)
+    act_laid ms s (adds name) lawful fits sound once laid = (nothing_laid ms s laid, tells_none (past (ms ++ []) s.world s.draws), followed_first ms [] s.draws s.asked s.history)
+    act_laid ms s (cuts block) lawful fits sound once laid = (nothing_laid ms s laid, tells_none (past (ms ++ []) s.world s.draws), followed_first ms [] s.draws s.asked s.history)
 
-  -- the lines of acts tell of whole versions
-  pub told : (as' : List Act) → AreLawfulActs start as' → ActsFit start as' → Tells (past (moves_in start as') (after_acts start as').world (after_acts start as').draws) (lines_told start as')
-  told as' lawful fit = (acts_held [] start as' lawful fit start_held).1
+    -- what holds after acts, and of their lines; and copies stay followed
+    abbrev ActsHeld : List Moving → State → List Act → Type 0
+    ActsHeld ms s as' =
+        let end : State = after_acts s as' in
+        IsHeld H (ms ++ moves_in s as') end × Tells (past (ms ++ moves_in s as') end.world end.draws) (lines_told s as') ×
+        ((copy : Copying) → IsFollowedIn ms s copy → IsFollowedIn (ms ++ moves_in s as') end copy)
+
+    pub acts_held : (ms : List Moving) (s : State) (as' : List Act) → AreLawfulActs s as' → ActsIn H s as' → IsHeld H ms s → ActsHeld ms s as'
+    acts_held ms s [] lawful fit h =
+        (record { sound = h.sound; once = h.once; laid = nothing_laid ms s h.laid }, tells_none (past (ms ++ []) s.world s.draws), followed_first ms [] s.draws s.asked s.history)
+    acts_held ms s (a ∷ as') lawful fit h =
+        let o : Outcome = acted s a in
+        let end : State = after_acts o.state as' in
+        let one : OutcomeLaid H ms s o = act_laid ms s a lawful.0 fit.0 h.sound h.once h.laid in
+        let more : ActsHeld (ms ++ o.moves) o.state as' = acts_held (ms ++ o.moves) o.state as' lawful.1 fit.1 (record { sound = act_keeps cited.every s a lawful.0 fit.0 h.sound; once = act_once s a h.sound h.once; laid = one.0 }) in
+        let rest : List Moving = moves_in o.state as' in (
+          subst (λ k. IsHeld H k end) (append_assoc ms o.moves rest) more.0,
+          tells_both (past (ms ++ (o.moves ++ rest)) end.world end.draws) o.lines (lines_told o.state as') (first_told ms o rest end.world end.draws (acts_grow o.state as') one.1)
+              (subst (λ k. Tells (past k end.world end.draws) (lines_told o.state as')) (append_assoc ms o.moves rest) more.1),
+          λ copy h. followed_joined ms o.moves rest end copy (more.2 copy (one.2 copy h)),
+        )
+
+    pub start_laid : IsLaidIn H [] start
+    start_laid = record {
+      room = lit< tt;
+      reached = record { before = []; begin = empty; begun = inl (refl, refl); moves = []; lawful = tt; alike = alike_same empty; before_are = All-nil _; are = All-nil _; hashed_before = λ x h. absurd h; hashed = λ x h. absurd h };
+      stored = All-nil _;
+      kept = λ r c. absurd (none_in r c);
+      stages = λ q a flow at is. absurd (no_entry q a at);
+      fits = λ n c h. absurd h;
+      superseded = λ q id c. absurd (none_in _ c);
+    }
+
+    -- nothing has happened
+    pub start_held : IsHeld H [] start
+    start_held = record { sound = start_sound; once = start_once; laid = start_laid }
+
+    pub held : (as' : List Act) → AreLawfulActs start as' → ActsIn H start as' → IsHeld H (moves_in start as') (after_acts start as')
+    held as' lawful fit = (acts_held [] start as' lawful fit start_held).0
+
+    -- the lines of acts tell of whole versions
+    pub told : (as' : List Act) → AreLawfulActs start as' → ActsIn H start as' → Tells (past (moves_in start as') (after_acts start as').world (after_acts start as').draws) (lines_told start as')
+    told as' lawful fit = (acts_held [] start as' lawful fit start_held).1

@@ -19,7 +19,7 @@ use Rattle.cluster_machine.specs.Layouts.{layouts}
 use Rattle.cluster_machine.specs.Node.{Ended}
 use Rattle.cluster_machine.specs.Step.{changed}
 use Rattle.cluster_machine.specs.World.{clock, is_member_at, numbered, undelivered}
-use Rattle.cluster_machine.specs.Worlds.{FitAll, run as world_run}
+use Rattle.cluster_machine.specs.Worlds.{run as world_run}
 use Rattle.flow_model.specs.declared.order.Order.{Order}
 use Rattle.flow_model.specs.declared.flow.Name.{Name}
 use Rattle.flow_model.specs.declared.flow.Content.{Content}
@@ -40,10 +40,10 @@ use Rattle.flow_model.specs.Next.{drawn, stores, more, found, looked, reads_on, 
 use Rattle.flow_laws.specs.Pieces.{named_pieces}
 use Rattle.store_model.specs.Orders.{buckets_of}
 use Rattle.store_model.specs.Run.{Moving, State, start, Asked, Draw, Outcome, silent, refusal, plainly, effect, doing, are_buckets, opened as opens_request, begins, draws_of, takes, follows, follow, goes_on, delivers, then_drains, drains}
-use Rattle.store_model.specs.Acts.{Act, moves, installs, asks, delivery, drain, forgets, takes as takes_end, adds, cuts, acted, after_acts, IsLawfulAct, AreLawfulActs, ActsFit}
+use Rattle.store_model.specs.Acts.{Act, moves, installs, asks, delivery, drain, forgets, takes as takes_end, adds, cuts, acted, after_acts, IsLawfulAct, AreLawfulActs}
 use Rattle.store_laws.specs.Promised.{GoesOn}
 use Rattle.store_model.proofs.Leads.{delivers_lead}
-use Rattle.store_laws.proofs.Acts.{fit_parts, delivers_keeps, act_keeps}
+use Rattle.store_laws.proofs.Acts.{delivers_keeps, act_keeps}
 use Rattle.store_laws.proofs.Enders.{is_calm}
 use Rattle.store_laws.proofs.Ends.{ends_are}
 use Rattle.store_laws.proofs.Going.{flow_of}
@@ -63,6 +63,7 @@ use Rattle.store_anchors.proofs.Placed.{OnlyRest, AreBusy, ArePlaced, heard, kep
 use Rattle.store_anchors.proofs.Staying.{FirstEnded}
 use Rattle.store_anchors.proofs.Steps.{HasGot, calm_got, calm_now, calm_laid, laid_different}
 use Rattle.store_anchors.proofs.Told.{AreApart}
+use Rattle.store_laws.proofs.Hashing.{FitIn, ActsIn, in_parts}
 
 -- ---- what a request does next
 
@@ -112,25 +113,26 @@ module _ (id block : ℕ) where
         | false ↦ tt
       ]
 
-module _ (cited : Cited) (moves : List Moving) (s : State) (q : ℕ) (a : Asked) (at : numbered s.asked q ≡ Some a) (block : ℕ) (sound : IsSound s) (apart : AreApart s.draws) (laid : IsLaidIn moves s) where
-  -- no request waits on when its phase has ended
-  pub going : (now : ℕ) (stage : Stage) (end : PhaseEnd AnyRow) → a.flow ≡ Some (flow_of q block stage) → HasGot s.asked (past moves s.world s.draws) s.world.reads q end → IsGoing (flow_goes_on q block stage end now)
-  going now (Drawing name w) (Answered value) flow_is got = writes_going q block name (drawn q value now) w
-  going now (Looking name aim) (Answered value) flow_is got = looked_going q block aim (said_of value)
-  going now (Opening v meta aim) (Answered value) flow_is got =
-      let names : AsksNames (past moves s.world s.draws) v meta got.question = got.asks a (flow_of q block (Opening v meta aim)) at flow_is in
-      elim (named cited moves s sound apart laid v meta names.found got.question names.table names.key names.kept value got.is_there) [
-        | inl e ↦ subst (λ (n : Named). IsGoing (opened q block aim v meta n)) (sym e) (gathers_going q block aim v meta (named_pieces names.found.draw.block names.found.content.body 0 (suc names.found.last)) [])
-        | inr e ↦ subst (λ (n : Named). IsGoing (opened q block aim v meta n)) (sym e.0) tt
-      ]
-  going now (Uploading name v c i) Kept flow_is got = uploads_going q block name v c i
-  going now (Completing v meta) Kept flow_is got = tt
-  going now (Gathering v meta aim left body) (Block bytes) flow_is got = gathers_going q block aim v meta left (body ++ bytes)
-  going now (Listing bucket prefix rows) (Window others reach) flow_is got = lists_going q block bucket prefix (rows ++ shown_rows others) reach
-  going now stage (Answered value) flow_is got = absurd (got.asks a (flow_of q block stage) at flow_is)
-  going now stage (Window others reach) flow_is got = absurd (got.scans a (flow_of q block stage) at flow_is)
-  going now stage Kept flow_is got = absurd (got.stores a (flow_of q block stage) at flow_is)
-  going now stage (Block bytes) flow_is got = absurd (got.gets a (flow_of q block stage) at flow_is)
+module _ {H : List ℕ → Type 0} where
+  module _ (cited : Cited H) (moves : List Moving) (s : State) (q : ℕ) (a : Asked) (at : numbered s.asked q ≡ Some a) (block : ℕ) (sound : IsSound H s) (apart : AreApart s.draws) (laid : IsLaidIn H moves s) where
+    -- no request waits on when its phase has ended
+    pub going : (now : ℕ) (stage : Stage) (end : PhaseEnd AnyRow) → a.flow ≡ Some (flow_of q block stage) → HasGot s.asked (past moves s.world s.draws) s.world.reads q end → IsGoing (flow_goes_on q block stage end now)
+    going now (Drawing name w) (Answered value) flow_is got = writes_going q block name (drawn q value now) w
+    going now (Looking name aim) (Answered value) flow_is got = looked_going q block aim (said_of value)
+    going now (Opening v meta aim) (Answered value) flow_is got =
+        let names : AsksNames (past moves s.world s.draws) v meta got.question = got.asks a (flow_of q block (Opening v meta aim)) at flow_is in
+        elim (named cited moves s sound apart laid v meta names.found got.question names.table names.key names.kept value got.is_there) [
+          | inl e ↦ subst (λ (n : Named). IsGoing (opened q block aim v meta n)) (sym e) (gathers_going q block aim v meta (named_pieces names.found.draw.block names.found.content.body 0 (suc names.found.last)) [])
+          | inr e ↦ subst (λ (n : Named). IsGoing (opened q block aim v meta n)) (sym e.0) tt
+        ]
+    going now (Uploading name v c i) Kept flow_is got = uploads_going q block name v c i
+    going now (Completing v meta) Kept flow_is got = tt
+    going now (Gathering v meta aim left body) (Block bytes) flow_is got = gathers_going q block aim v meta left (body ++ bytes)
+    going now (Listing bucket prefix rows) (Window others reach) flow_is got = lists_going q block bucket prefix (rows ++ shown_rows others) reach
+    going now stage (Answered value) flow_is got = absurd (got.asks a (flow_of q block stage) at flow_is)
+    going now stage (Window others reach) flow_is got = absurd (got.scans a (flow_of q block stage) at flow_is)
+    going now stage Kept flow_is got = absurd (got.stores a (flow_of q block stage) at flow_is)
+    going now stage (Block bytes) flow_is got = absurd (got.gets a (flow_of q block stage) at flow_is)
 
 -- ---- states in which no request rests
 
@@ -143,96 +145,97 @@ takes_busy s q a ds (More flow phase) h placed rest = let k = begin_kept s.world
 takes_busy s q a ds (Wait flow) h placed rest = absurd h
 takes_busy s q a ds (End end) h placed rest = let k = close_kept s.world placed q rest in record { placed = k.places; rests = k.rests }
 
-module _ (cited : Cited) where
-  follows_busy : (ms : List Moving) (s : State) (q : ℕ) (a : Asked) (flow : Flow) → numbered s.asked q ≡ Some a → IsSound s → AreApart s.draws → IsLaidIn ms s → (end : PhaseEnd AnyRow) → a.flow ≡ Some flow → HasGot s.asked (past ms s.world s.draws) s.world.reads q end →
-      ArePlaced s.world.nodes s.world.requests → OnlyRest (λ p. p ≡ q) s.world.nodes → IsBusy (follows s q a end (Some flow)).state
-  follows_busy ms s q a flow at sound apart laid end flow_is got placed rest =
-      let stage = sound.stages q a flow at flow_is in
-      let same : flow ≡ flow_of q flow.block flow.stage = (λ i. record { id = stage.0 i; block = flow.block; stage = flow.stage }) in
-      let now : ℕ = clock s.world a.node in
-      let goes : IsGoing (next flow end now) = subst (λ (f : Flow). IsGoing (next f end now)) (sym same) (going cited ms s q a at flow.block sound apart laid now flow.stage end (flow_is ∙ ap Some same) got) in
-      takes_busy (record s { saw = record { request = q; end = end } ∷ s.saw }) q a (draws_of s q flow.block flow.stage end now) (next flow end now) goes placed rest
+module _ {H : List ℕ → Type 0} where
+  module _ (cited : Cited H) where
+    follows_busy : (ms : List Moving) (s : State) (q : ℕ) (a : Asked) (flow : Flow) → numbered s.asked q ≡ Some a → IsSound H s → AreApart s.draws → IsLaidIn H ms s → (end : PhaseEnd AnyRow) → a.flow ≡ Some flow → HasGot s.asked (past ms s.world s.draws) s.world.reads q end →
+        ArePlaced s.world.nodes s.world.requests → OnlyRest (λ p. p ≡ q) s.world.nodes → IsBusy (follows s q a end (Some flow)).state
+    follows_busy ms s q a flow at sound apart laid end flow_is got placed rest =
+        let stage = sound.stages q a flow at flow_is in
+        let same : flow ≡ flow_of q flow.block flow.stage = (λ i. record { id = stage.0 i; block = flow.block; stage = flow.stage }) in
+        let now : ℕ = clock s.world a.node in
+        let goes : IsGoing (next flow end now) = subst (λ (f : Flow). IsGoing (next f end now)) (sym same) (going cited ms s q a at flow.block sound apart laid now flow.stage end (flow_is ∙ ap Some same) got) in
+        takes_busy (record s { saw = record { request = q; end = end } ∷ s.saw }) q a (draws_of s q flow.block flow.stage end now) (next flow end now) goes placed rest
 
-  follow_busy : (ms : List Moving) (s : State) (n q : ℕ) (o : Option Asked) → numbered s.asked q ≡ o → WaitsAt s.asked n q → IsSound s → AreApart s.draws → IsLaidIn ms s → (end : PhaseEnd AnyRow) → HasGot s.asked (past ms s.world s.draws) s.world.reads q end →
-      ArePlaced s.world.nodes s.world.requests → OnlyRest (λ p. p ≡ q) s.world.nodes → IsBusy (follow s q o end).state
-  follow_busy ms s n q None at waits sound apart laid end got placed rest = (let no : None ≡ Some waits.one = sym at ∙ waits.is_there in cc)
-  follow_busy ms s n q (Some a) at waits sound apart laid end got placed rest =
-      let some_is : Some a ≡ Some waits.one = sym at ∙ waits.is_there in
-      let one_is : a ≡ waits.one = cc in
-      let flow_is : a.flow ≡ Some waits.flow = ap (λ (x : Asked). x.flow) one_is ∙ waits.flow_is in
-      subst (λ (f : Option Flow). IsBusy (follows s q a end f).state) (sym flow_is) (follows_busy ms s q a waits.flow at sound apart laid end flow_is got placed rest)
+    follow_busy : (ms : List Moving) (s : State) (n q : ℕ) (o : Option Asked) → numbered s.asked q ≡ o → WaitsAt s.asked n q → IsSound H s → AreApart s.draws → IsLaidIn H ms s → (end : PhaseEnd AnyRow) → HasGot s.asked (past ms s.world s.draws) s.world.reads q end →
+        ArePlaced s.world.nodes s.world.requests → OnlyRest (λ p. p ≡ q) s.world.nodes → IsBusy (follow s q o end).state
+    follow_busy ms s n q None at waits sound apart laid end got placed rest = (let no : None ≡ Some waits.one = sym at ∙ waits.is_there in cc)
+    follow_busy ms s n q (Some a) at waits sound apart laid end got placed rest =
+        let some_is : Some a ≡ Some waits.one = sym at ∙ waits.is_there in
+        let one_is : a ≡ waits.one = cc in
+        let flow_is : a.flow ≡ Some waits.flow = ap (λ (x : Asked). x.flow) one_is ∙ waits.flow_is in
+        subst (λ (f : Option Flow). IsBusy (follows s q a end f).state) (sym flow_is) (follows_busy ms s q a waits.flow at sound apart laid end flow_is got placed rest)
 
-  goes_on_busy : (ms : List Moving) (s : State) (n : ℕ) (ends : List (Ended AnyRow)) → IsSound s → AreApart s.draws → IsLaidIn ms s → AllByRecursion (λ (e : Ended AnyRow). WaitsAt s.asked n e.request) ends →
-      AllByRecursion (λ (e : Ended AnyRow). HasGot s.asked (past ms s.world s.draws) s.world.reads e.request e.how) ends → ArePlaced s.world.nodes s.world.requests → OnlyRest (FirstEnded ends) s.world.nodes → IsBusy (goes_on s ends).state
-  goes_on_busy ms s n [] sound apart laid waits got placed rest = record { placed = placed; rests = rest }
-  goes_on_busy ms s n (e ∷ es) sound apart laid waits got placed rest = follow_busy ms s n e.request (numbered s.asked e.request) refl waits.0 sound apart laid e.how got.0 placed rest
+    goes_on_busy : (ms : List Moving) (s : State) (n : ℕ) (ends : List (Ended AnyRow)) → IsSound H s → AreApart s.draws → IsLaidIn H ms s → AllByRecursion (λ (e : Ended AnyRow). WaitsAt s.asked n e.request) ends →
+        AllByRecursion (λ (e : Ended AnyRow). HasGot s.asked (past ms s.world s.draws) s.world.reads e.request e.how) ends → ArePlaced s.world.nodes s.world.requests → OnlyRest (FirstEnded ends) s.world.nodes → IsBusy (goes_on s ends).state
+    goes_on_busy ms s n [] sound apart laid waits got placed rest = record { placed = placed; rests = rest }
+    goes_on_busy ms s n (e ∷ es) sound apart laid waits got placed rest = follow_busy ms s n e.request (numbered s.asked e.request) refl waits.0 sound apart laid e.how got.0 placed rest
 
-  delivers_busy : (ms : List Moving) (s : State) (m : ℕ) → FitAll any_join words s.world (delivers s m).moves → IsSound s → AreApart s.draws → IsLaidIn ms s → IsBusy s → IsBusy (delivers s m).state
-  delivers_busy ms s m fits sound apart laid busy =
-      let d : Moving = plainly (step.Deliver m) in
-      let e = effect s d in
-      let calm = is_calm cited.every s d tt sound in
-      let waits = all_weaker _ (λ (x : Ended AnyRow). WaitsAt s.asked calm.node x.request) (λ x h. h.1) e.ends
-      (ends_are s.asked s.draws s.history s.saw calm.node s.world.kept s.world.reads e.keeps e.reads (s.world.nodes calm.node).calls (changed e.nodes s.world.nodes calm.node).calls e.ends (sound.presents calm.node) calm.ends).0 in
-      let h = heard s.world busy.placed busy.rests (laid_different cited ms s laid) m in
-      goes_on_busy (ms ++ d ∷ []) (doing s d) calm.node e.ends
-      (step_sound s d sound (tt, tt, tt, fits.0.1, tt) (All-nil (IsGood s.draws)) (calm_fine s e sound calm)) apart
-      (calm_laid cited ms s d tt refl tt tt tt tt (fits.0, tt) laid) waits (calm_got cited ms s d (tt, tt, tt, fits.0.1, tt) (calm_now cited ms s d tt laid) laid) h.places h.rests
+    delivers_busy : (ms : List Moving) (s : State) (m : ℕ) → FitIn H s.world (delivers s m).moves → IsSound H s → AreApart s.draws → IsLaidIn H ms s → IsBusy s → IsBusy (delivers s m).state
+    delivers_busy ms s m fits sound apart laid busy =
+        let d : Moving = plainly (step.Deliver m) in
+        let e = effect s d in
+        let calm = is_calm cited.every s d tt sound in
+        let waits = all_weaker _ (λ (x : Ended AnyRow). WaitsAt s.asked calm.node x.request) (λ x h. h.1) e.ends
+        (ends_are H s.asked s.draws s.history s.saw calm.node s.world.kept s.world.reads e.keeps e.reads (s.world.nodes calm.node).calls (changed e.nodes s.world.nodes calm.node).calls e.ends (sound.presents calm.node) calm.ends).0 in
+        let h = heard s.world busy.placed busy.rests (laid_different cited ms s laid) m in
+        goes_on_busy (ms ++ d ∷ []) (doing s d) calm.node e.ends
+        (step_sound s d sound (tt, tt, tt, fits.0.1, tt) fits.0.2 (All-nil (IsGood s.draws)) (calm_fine s e sound calm)) apart
+        (calm_laid cited ms s d tt refl tt tt tt tt (fits.0, tt) laid) waits (calm_got cited ms s d (tt, tt, tt, fits.0.1, tt) (calm_now cited ms s d tt laid) laid) h.places h.rests
 
-  drains_busy : (n : ℕ) (ms : List Moving) (s : State) → FitAll any_join words s.world (drains n s).moves → IsSound s → IsOnceIn s → IsLaidIn ms s → IsBusy s → IsBusy (drains n s).state
-  drains_busy zero ms s fits sound once laid busy = busy
-  drains_busy (suc n) ms s fits sound once laid busy =
-      elim (undelivered s.world) as (λ o. FitAll any_join words s.world (elim o as (λ o. Outcome) [ None ↦ silent s | Some m ↦ let o = delivers s m in then_drains o (drains n o.state) ]).moves →
-      IsBusy (elim o as (λ o. Outcome) [ None ↦ silent s | Some m ↦ let o = delivers s m in then_drains o (drains n o.state) ]).state) [
-        | None ↦ λ fits. busy
-        | Some m ↦ λ fits.
-            let first : Outcome = delivers s m in
-            let rest : Outcome = drains n first.state in
-            let parts = fit_parts any_join words s.world first.moves rest.moves fits in
-            let leads : world_run any_join words s.world first.moves ≡ first.state.world = delivers_lead s m in
-            let apart : AreApart s.draws = draws_apart s sound once in
-            let one : OutcomeLaid ms s first = delivers_laid cited ms s m parts.0 sound apart laid in
-            drains_busy n (ms ++ first.moves) first.state (subst (λ w. FitAll any_join words w rest.moves) leads parts.1) (delivers_keeps cited.every s m parts.0 sound) (delivers_once s m once) one.0
-            (delivers_busy ms s m parts.0 sound apart laid busy)
-      ] fits
+    drains_busy : (n : ℕ) (ms : List Moving) (s : State) → FitIn H s.world (drains n s).moves → IsSound H s → IsOnceIn s → IsLaidIn H ms s → IsBusy s → IsBusy (drains n s).state
+    drains_busy zero ms s fits sound once laid busy = busy
+    drains_busy (suc n) ms s fits sound once laid busy =
+        elim (undelivered s.world) as (λ o. FitIn H s.world (elim o as (λ o. Outcome) [ None ↦ silent s | Some m ↦ let o = delivers s m in then_drains o (drains n o.state) ]).moves →
+        IsBusy (elim o as (λ o. Outcome) [ None ↦ silent s | Some m ↦ let o = delivers s m in then_drains o (drains n o.state) ]).state) [
+          | None ↦ λ fits. busy
+          | Some m ↦ λ fits.
+              let first : Outcome = delivers s m in
+              let rest : Outcome = drains n first.state in
+              let parts = in_parts H s.world first.moves rest.moves fits in
+              let leads : world_run any_join words s.world first.moves ≡ first.state.world = delivers_lead s m in
+              let apart : AreApart s.draws = draws_apart s sound once in
+              let one : OutcomeLaid H ms s first = delivers_laid cited ms s m parts.0 sound apart laid in
+              drains_busy n (ms ++ first.moves) first.state (subst (λ w. FitIn H w rest.moves) leads parts.1) (delivers_keeps cited.every s m parts.0 sound) (delivers_once s m once) one.0
+              (delivers_busy ms s m parts.0 sound apart laid busy)
+        ] fits
 
-  opened_busy : (s : State) (n : ℕ) (o : Order) → is_member_at layouts s.world n ≡ true → IsBusy s → IsBusy (opens_request s n o).state
-  opened_busy s n o member busy =
-      let q : ℕ = suc (length s.world.requests) in
-      let k = open_kept s.world busy.placed busy.rests n member in
-      let here : State = doing s (plainly (step.Open n)) in
-      let b = begin_kept here.world k.places q k.rests (started o q s.block).1 in
-      record { placed = b.places; rests = b.rests }
+    opened_busy : (s : State) (n : ℕ) (o : Order) → is_member_at layouts s.world n ≡ true → IsBusy s → IsBusy (opens_request s n o).state
+    opened_busy s n o member busy =
+        let q : ℕ = suc (length s.world.requests) in
+        let k = open_kept s.world busy.placed busy.rests n member in
+        let here : State = doing s (plainly (step.Open n)) in
+        let b = begin_kept here.world k.places q k.rests (started o q s.block).1 in
+        record { placed = b.places; rests = b.rests }
 
-  begins_busy : (s : State) (n : ℕ) (o : Order) → IsBusy s → IsBusy (begins s n o).state
-  begins_busy s n o busy =
-      elim (is_member_at layouts s.world n) as (λ b. is_member_at layouts s.world n ≡ b → IsBusy (if b then (if are_buckets s.buckets (buckets_of o) then opens_request s n o else refusal s NoSuchBucket) else refusal s NotMember).state) [
-        | true ↦ λ member. elim (are_buckets s.buckets (buckets_of o)) as (λ b. IsBusy (if b then opens_request s n o else refusal s NoSuchBucket).state) [
-          | true ↦ opened_busy s n o member busy
-          | false ↦ record { placed = busy.placed; rests = busy.rests }
-        ]
-        | false ↦ λ member. record { placed = busy.placed; rests = busy.rests }
-      ] refl
+    begins_busy : (s : State) (n : ℕ) (o : Order) → IsBusy s → IsBusy (begins s n o).state
+    begins_busy s n o busy =
+        elim (is_member_at layouts s.world n) as (λ b. is_member_at layouts s.world n ≡ b → IsBusy (if b then (if are_buckets s.buckets (buckets_of o) then opens_request s n o else refusal s NoSuchBucket) else refusal s NotMember).state) [
+          | true ↦ λ member. elim (are_buckets s.buckets (buckets_of o)) as (λ b. IsBusy (if b then opens_request s n o else refusal s NoSuchBucket).state) [
+            | true ↦ opened_busy s n o member busy
+            | false ↦ record { placed = busy.placed; rests = busy.rests }
+          ]
+          | false ↦ λ member. record { placed = busy.placed; rests = busy.rests }
+        ] refl
 
-  act_busy : (ms : List Moving) (s : State) (a : Act) → IsLawfulAct s a → FitAll any_join words s.world (acted s a).moves → IsHeld ms s → IsBusy s → IsBusy (acted s a).state
-  act_busy ms s (moves m) lawful fits h busy = let k = kept_outer s.world busy.placed (λ q. ⊥) busy.rests (λ q x. x) m.step m.choice lawful.0 in record { placed = k.places; rests = k.rests }
-  act_busy ms s (asks n o) lawful fits h busy = begins_busy s n o busy
-  act_busy ms s (delivery m) lawful fits h busy = delivers_busy ms s m fits h.sound (draws_apart s h.sound h.once) h.laid busy
-  act_busy ms s (drain n) lawful fits h busy = drains_busy n ms s fits h.sound h.once h.laid busy
-  act_busy ms s (installs first) lawful fits h busy = let k = kept_installing s.world busy.placed (λ q. ⊥) busy.rests (λ q x. x) first (λ roles. roles) in record { placed = k.places; rests = k.rests }
-  act_busy ms s forgets lawful fits h busy = record { placed = busy.placed; rests = busy.rests }
-  act_busy ms s (takes_end q) lawful fits h busy = record { placed = busy.placed; rests = busy.rests }
-  act_busy ms s (adds name) lawful fits h busy = record { placed = busy.placed; rests = busy.rests }
-  act_busy ms s (cuts block) lawful fits h busy = record { placed = busy.placed; rests = busy.rests }
+    act_busy : (ms : List Moving) (s : State) (a : Act) → IsLawfulAct s a → FitIn H s.world (acted s a).moves → IsHeld H ms s → IsBusy s → IsBusy (acted s a).state
+    act_busy ms s (moves m) lawful fits h busy = let k = kept_outer s.world busy.placed (λ q. ⊥) busy.rests (λ q x. x) m.step m.choice lawful.0 in record { placed = k.places; rests = k.rests }
+    act_busy ms s (asks n o) lawful fits h busy = begins_busy s n o busy
+    act_busy ms s (delivery m) lawful fits h busy = delivers_busy ms s m fits h.sound (draws_apart s h.sound h.once) h.laid busy
+    act_busy ms s (drain n) lawful fits h busy = drains_busy n ms s fits h.sound h.once h.laid busy
+    act_busy ms s (installs first) lawful fits h busy = let k = kept_installing s.world busy.placed (λ q. ⊥) busy.rests (λ q x. x) first (λ roles. roles) in record { placed = k.places; rests = k.rests }
+    act_busy ms s forgets lawful fits h busy = record { placed = busy.placed; rests = busy.rests }
+    act_busy ms s (takes_end q) lawful fits h busy = record { placed = busy.placed; rests = busy.rests }
+    act_busy ms s (adds name) lawful fits h busy = record { placed = busy.placed; rests = busy.rests }
+    act_busy ms s (cuts block) lawful fits h busy = record { placed = busy.placed; rests = busy.rests }
 
-  acts_busy : (ms : List Moving) (s : State) (as' : List Act) → AreLawfulActs s as' → ActsFit s as' → IsHeld ms s → IsBusy s → IsBusy (after_acts s as')
-  acts_busy ms s [] lawful fit h busy = busy
-  acts_busy ms s (a ∷ as') lawful fit h busy =
-      let o : Outcome = acted s a in
-      let one : OutcomeLaid ms s o = act_laid cited ms s a lawful.0 fit.0 h.sound h.once h.laid in
-      acts_busy (ms ++ o.moves) o.state as' lawful.1 fit.1 (record { sound = act_keeps cited.every s a lawful.0 fit.0 h.sound; once = act_once s a h.sound h.once; laid = one.0 }) (act_busy ms s a lawful.0 fit.0 h busy)
+    acts_busy : (ms : List Moving) (s : State) (as' : List Act) → AreLawfulActs s as' → ActsIn H s as' → IsHeld H ms s → IsBusy s → IsBusy (after_acts s as')
+    acts_busy ms s [] lawful fit h busy = busy
+    acts_busy ms s (a ∷ as') lawful fit h busy =
+        let o : Outcome = acted s a in
+        let one : OutcomeLaid H ms s o = act_laid cited ms s a lawful.0 fit.0 h.sound h.once h.laid in
+        acts_busy (ms ++ o.moves) o.state as' lawful.1 fit.1 (record { sound = act_keeps cited.every s a lawful.0 fit.0 h.sound; once = act_once s a h.sound h.once; laid = one.0 }) (act_busy ms s a lawful.0 fit.0 h busy)
 
-  -- no request rests after acts
-  pub goes_on_always : (as' : List Act) → AreLawfulActs start as' → ActsFit start as' → GoesOn (after_acts start as')
-  goes_on_always as' lawful fit n c h is =
-      (acts_busy [] start as' lawful fit (record { sound = start_sound; once = start_once; laid = start_laid cited }) (record { placed = λ n c h. absurd h; rests = λ n c h is. absurd h })).rests n c h is
+    -- no request rests after acts
+    pub goes_on_always : (as' : List Act) → AreLawfulActs start as' → ActsIn H start as' → GoesOn (after_acts start as')
+    goes_on_always as' lawful fit n c h is =
+        (acts_busy [] start as' lawful fit (record { sound = start_sound; once = start_once; laid = start_laid cited }) (record { placed = λ n c h. absurd h; rests = λ n c h is. absurd h })).rests n c h is

@@ -13,8 +13,8 @@ use Rattle.flow_model.specs.declared.flow.Flow.{Flow}
 use Rattle.flow_model.specs.Flow.{started}
 use Rattle.store_model.specs.Orders.{buckets_of, kind_of, name_of}
 use Rattle.store_model.specs.Run.{Moving, State, Outcome, Asked, Draw, start, new_request, opened, begins, refusal, are_buckets}
-use Rattle.store_model.specs.Acts.{Act, asks, acted, after_acts, AreLawfulActs, ActsFit}
-use Rattle.store_model.proofs.Acts.{acts_after, lawful_in_parts, fit_in_parts}
+use Rattle.store_model.specs.Acts.{Act, asks, acted, after_acts, AreLawfulActs}
+use Rattle.store_model.proofs.Acts.{acts_after, lawful_in_parts}
 use Rattle.store_laws.specs.Promised.{moves_in}
 use Rattle.machine_origins.proofs.Places.{numbered_last, numbered_within}
 use Rattle.store_laws.proofs.Records.{is_in}
@@ -24,6 +24,7 @@ use Rattle.store_anchors.specs.Stored.{blocks_of}
 use Rattle.store_anchors.proofs.Acts.{IsHeld, acts_held, start_held}
 use Rattle.store_anchors.proofs.Cited.{Cited}
 use Rattle.store_anchors.proofs.Taking.{AreTaken, IsFollowedIn, Knows, none_taken, followed_joined, taken_of}
+use Rattle.store_laws.proofs.Hashing.{ActsIn, acts_in_parts}
 
 -- ---- acts before others
 
@@ -34,36 +35,37 @@ moves_after s (a ∷ before) after =
 
 -- ---- a copy begins
 
--- no request has the number of the next one, so it drew nothing
-next_is_new : (s : State) → IsSound s → (d : Draw) → Contains s.draws d → ¬ (d.request ≡ suc (length s.world.requests))
-next_is_new s sound d c e =
-    let h = sound.drawn d c in
-    let asked = sound.told.began_asked d.request h.node h.kind d.name (is_in s.history h.place _ h.began_at) in
-    let within : d.request ≤ length s.asked = numbered_within s.asked d.request asked.one asked.is_there in
-    let lengths : length s.asked ≡ length s.world.requests = sound.lengths in
-    absurd (omega arith)
+module _ {H : List ℕ → Type 0} where
+  -- no request has the number of the next one, so it drew nothing
+  next_is_new : (s : State) → IsSound H s → (d : Draw) → Contains s.draws d → ¬ (d.request ≡ suc (length s.world.requests))
+  next_is_new s sound d c e =
+      let h = sound.drawn d c in
+      let asked = sound.told.began_asked d.request h.node h.kind d.name (is_in s.history h.place _ h.began_at) in
+      let within : d.request ≤ length s.asked = numbered_within s.asked d.request asked.one asked.is_there in
+      let lengths : length s.asked ≡ length s.world.requests = sound.lengths in
+      absurd (omega arith)
 
-opened_follows : (ms : List Moving) (s : State) (n : ℕ) (copy : Copying) (name : Name) → IsSound s → s.history ≡ copy.history → suc (length s.world.requests) ≡ copy.request → IsFollowedIn ms (opened s n (order_of copy name)).state copy
-opened_follows ms s n copy name sound past is =
-    let o : Order = order_of copy name in
-    let q : ℕ = suc (length s.world.requests) in
-    let flow : Flow = (started o q s.block).0 in
-    let a : Asked = new_request n o flow in
-    let last : suc (length s.asked) ≡ copy.request = ap suc sound.lengths ∙ is in
-    let there : numbered (s.asked ++ a ∷ []) copy.request ≡ Some a = subst (λ (k : ℕ). numbered (s.asked ++ a ∷ []) k ≡ Some a) last (numbered_last s.asked a) in
-    record {
-      kind = kind_of o;
-      name = name_of o;
-      was_asked = record { one = a; is_there = there; kind_is = refl; name_is = refl };
-      began = record { node = n; kind = kind_of o; name = name_of o; after = []; cut = λ i. past i ++ began (is i) n (kind_of o) (name_of o) ∷ [] };
-      knows = λ b f at flow_is.
-          let some_is : Some a ≡ Some b = sym there ∙ at in
-          let one_is : a ≡ b = cc in
-          let flows : Some flow ≡ Some f = ap (λ (x : Asked). x.flow) one_is ∙ flow_is in
-          let same : flow ≡ f = cc in
-          subst (λ (g : Flow). Knows (blocks_of ms) s.draws copy g.stage) same (refl, refl);
-      taken = none_taken (blocks_of ms) copy s.draws (λ d c own. next_is_new s sound d c (own ∙ sym is));
-    }
+  opened_follows : (ms : List Moving) (s : State) (n : ℕ) (copy : Copying) (name : Name) → IsSound H s → s.history ≡ copy.history → suc (length s.world.requests) ≡ copy.request → IsFollowedIn ms (opened s n (order_of copy name)).state copy
+  opened_follows ms s n copy name sound past is =
+      let o : Order = order_of copy name in
+      let q : ℕ = suc (length s.world.requests) in
+      let flow : Flow = (started o q s.block).0 in
+      let a : Asked = new_request n o flow in
+      let last : suc (length s.asked) ≡ copy.request = ap suc sound.lengths ∙ is in
+      let there : numbered (s.asked ++ a ∷ []) copy.request ≡ Some a = subst (λ (k : ℕ). numbered (s.asked ++ a ∷ []) k ≡ Some a) last (numbered_last s.asked a) in
+      record {
+        kind = kind_of o;
+        name = name_of o;
+        was_asked = record { one = a; is_there = there; kind_is = refl; name_is = refl };
+        began = record { node = n; kind = kind_of o; name = name_of o; after = []; cut = λ i. past i ++ began (is i) n (kind_of o) (name_of o) ∷ [] };
+        knows = λ b f at flow_is.
+            let some_is : Some a ≡ Some b = sym there ∙ at in
+            let one_is : a ≡ b = cc in
+            let flows : Some flow ≡ Some f = ap (λ (x : Asked). x.flow) one_is ∙ flow_is in
+            let same : flow ≡ f = cc in
+            subst (λ (g : Flow). Knows (blocks_of ms) s.draws copy g.stage) same (refl, refl);
+        taken = none_taken (blocks_of ms) copy s.draws (λ d c own. next_is_new s sound d c (own ∙ sym is));
+      }
 
 number_is : (p q : ℕ) → One p ≡ One q → p ≡ q
 number_is p q e = cc
@@ -71,44 +73,46 @@ number_is p q e = cc
 no_number : (q : ℕ) → Empty ≡ One q → ⊥
 no_number q e = cc
 
-begins_follows : (ms : List Moving) (s : State) (n : ℕ) (copy : Copying) (name : Name) → IsSound s → s.history ≡ copy.history → (let o = begins s n (order_of copy name) in o.words ≡ One copy.request → IsFollowedIn (ms ++ o.moves) o.state copy)
-begins_follows ms s n copy name sound past =
-    let o : Order = order_of copy name in
-    let Follows : Outcome → Type 0 = λ (x : Outcome). x.words ≡ One copy.request → IsFollowedIn (ms ++ x.moves) x.state copy in
-    elim (is_member_at layouts s.world n) as (λ b. Follows (if b then (if are_buckets s.buckets (buckets_of o) then opened s n o else refusal s NoSuchBucket) else refusal s NotMember)) [
-      | true ↦ elim (are_buckets s.buckets (buckets_of o)) as (λ b. Follows (if b then opened s n o else refusal s NoSuchBucket)) [
-        | true ↦ λ is. opened_follows (ms ++ (opened s n o).moves) s n copy name sound past (number_is (suc (length s.world.requests)) copy.request is)
+module _ {H : List ℕ → Type 0} where
+  begins_follows : (ms : List Moving) (s : State) (n : ℕ) (copy : Copying) (name : Name) → IsSound H s → s.history ≡ copy.history → (let o = begins s n (order_of copy name) in o.words ≡ One copy.request → IsFollowedIn (ms ++ o.moves) o.state copy)
+  begins_follows ms s n copy name sound past =
+      let o : Order = order_of copy name in
+      let Follows : Outcome → Type 0 = λ (x : Outcome). x.words ≡ One copy.request → IsFollowedIn (ms ++ x.moves) x.state copy in
+      elim (is_member_at layouts s.world n) as (λ b. Follows (if b then (if are_buckets s.buckets (buckets_of o) then opened s n o else refusal s NoSuchBucket) else refusal s NotMember)) [
+        | true ↦ elim (are_buckets s.buckets (buckets_of o)) as (λ b. Follows (if b then opened s n o else refusal s NoSuchBucket)) [
+          | true ↦ λ is. opened_follows (ms ++ (opened s n o).moves) s n copy name sound past (number_is (suc (length s.world.requests)) copy.request is)
+          | false ↦ λ is. absurd (no_number copy.request is)
+        ]
         | false ↦ λ is. absurd (no_number copy.request is)
       ]
-      | false ↦ λ is. absurd (no_number copy.request is)
-    ]
 
 -- ---- the law
 
-module _ (cited : Cited) where
-  asked_copies : (copy : Copying) (before : List Act) (node : ℕ) (name : Name) (after : List Act) → (after_acts start before).history ≡ copy.history → (let acts = before ++ asks node (order_of copy name) ∷ after in AreLawfulActs start acts → ActsFit start acts →
-      (acted (after_acts start before) (asks node (order_of copy name))).words ≡ One copy.request → IsFollowedIn (moves_in start acts) (after_acts start acts) copy)
-  asked_copies copy before node name after past lawful fit begins =
-      let a : Act = asks node (order_of copy name) in
-      let s : State = after_acts start before in
-      let ms : List Moving = moves_in start before in
-      let o : Outcome = acted s a in
-      let laws = lawful_in_parts start before (a ∷ after) lawful in
-      let fits = fit_in_parts start before (a ∷ after) fit in
-      let first : IsHeld ms s = (acts_held cited [] start before laws.0 fits.0 (start_held cited)).0 in
-      let held_then : IsHeld (ms ++ (o.moves ++ [])) o.state = (acts_held cited ms s (a ∷ []) (laws.1.0, tt) (fits.1.0, tt) first).0 in
-      let now : IsHeld (ms ++ o.moves) o.state = subst (λ (k : List Moving). IsHeld (ms ++ k) o.state) (append-nil o.moves) held_then in
-      let begun : IsFollowedIn (ms ++ o.moves) o.state copy = begins_follows ms s node copy name first.sound past begins in
-      let last : State = after_acts o.state after in
-      let all : IsFollowedIn (ms ++ (o.moves ++ moves_in o.state after)) last copy =
-      followed_joined ms o.moves (moves_in o.state after) last copy ((acts_held cited (ms ++ o.moves) o.state after laws.1.1 fits.1.1 now).2 copy begun) in
-      let ends : IsFollowedIn (moves_in start (before ++ a ∷ after)) last copy = subst (λ (k : List Moving). IsFollowedIn k last copy) (sym (moves_after start before (a ∷ after))) all in
-      subst (λ (x : State). IsFollowedIn (moves_in start (before ++ a ∷ after)) x copy) (sym (acts_after start before (a ∷ after))) ends
+module _ {H : List ℕ → Type 0} where
+  module _ (cited : Cited H) where
+    asked_copies : (copy : Copying) (before : List Act) (node : ℕ) (name : Name) (after : List Act) → (after_acts start before).history ≡ copy.history → (let acts = before ++ asks node (order_of copy name) ∷ after in AreLawfulActs start acts → ActsIn H start acts →
+        (acted (after_acts start before) (asks node (order_of copy name))).words ≡ One copy.request → IsFollowedIn (moves_in start acts) (after_acts start acts) copy)
+    asked_copies copy before node name after past lawful fit begins =
+        let a : Act = asks node (order_of copy name) in
+        let s : State = after_acts start before in
+        let ms : List Moving = moves_in start before in
+        let o : Outcome = acted s a in
+        let laws = lawful_in_parts start before (a ∷ after) lawful in
+        let fits = acts_in_parts H start before (a ∷ after) fit in
+        let first : IsHeld H ms s = (acts_held cited [] start before laws.0 fits.0 (start_held cited)).0 in
+        let held_then : IsHeld H (ms ++ (o.moves ++ [])) o.state = (acts_held cited ms s (a ∷ []) (laws.1.0, tt) (fits.1.0, tt) first).0 in
+        let now : IsHeld H (ms ++ o.moves) o.state = subst (λ (k : List Moving). IsHeld H (ms ++ k) o.state) (append-nil o.moves) held_then in
+        let begun : IsFollowedIn (ms ++ o.moves) o.state copy = begins_follows ms s node copy name first.sound past begins in
+        let last : State = after_acts o.state after in
+        let all : IsFollowedIn (ms ++ (o.moves ++ moves_in o.state after)) last copy =
+        followed_joined ms o.moves (moves_in o.state after) last copy ((acts_held cited (ms ++ o.moves) o.state after laws.1.1 fits.1.1 now).2 copy begun) in
+        let ends : IsFollowedIn (moves_in start (before ++ a ∷ after)) last copy = subst (λ (k : List Moving). IsFollowedIn k last copy) (sym (moves_after start before (a ∷ after))) all in
+        subst (λ (x : State). IsFollowedIn (moves_in start (before ++ a ∷ after)) x copy) (sym (acts_after start before (a ∷ after))) ends
 
-  pub copies : (acts : List Act) → AreLawfulActs start acts → ActsFit start acts → CopiesSources acts
-  copies acts lawful fit copy asked newer d older cut own =
-      let moves : List Act = asked.before ++ asks asked.node (order_of copy asked.name) ∷ asked.after in
-      let followed : IsFollowedIn (moves_in start moves) (after_acts start moves) copy =
-      asked_copies copy asked.before asked.node asked.name asked.after asked.history_is (subst (AreLawfulActs start) asked.acts_are lawful) (subst (ActsFit start) asked.acts_are fit) asked.begins in
-      let here : IsFollowedIn (moves_in start acts) (after_acts start acts) copy = subst (λ (as' : List Act). IsFollowedIn (moves_in start as') (after_acts start as') copy) (sym asked.acts_are) followed in
-      taken_of (blocks_of (moves_in start acts)) copy newer d older (subst (AreTaken (blocks_of (moves_in start acts)) copy) cut here.taken) own
+    pub copies : (acts : List Act) → AreLawfulActs start acts → ActsIn H start acts → CopiesSources acts
+    copies acts lawful fit copy asked newer d older cut own =
+        let moves : List Act = asked.before ++ asks asked.node (order_of copy asked.name) ∷ asked.after in
+        let followed : IsFollowedIn (moves_in start moves) (after_acts start moves) copy =
+        asked_copies copy asked.before asked.node asked.name asked.after asked.history_is (subst (AreLawfulActs start) asked.acts_are lawful) (subst (ActsIn H start) asked.acts_are fit) asked.begins in
+        let here : IsFollowedIn (moves_in start acts) (after_acts start acts) copy = subst (λ (as' : List Act). IsFollowedIn (moves_in start as') (after_acts start as') copy) (sym asked.acts_are) followed in
+        taken_of (blocks_of (moves_in start acts)) copy newer d older (subst (AreTaken (blocks_of (moves_in start acts)) copy) cut here.taken) own

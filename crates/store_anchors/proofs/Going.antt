@@ -9,7 +9,6 @@ use Rattle.crdt_rows.specs.declared.version.Version.{Version}
 use Rattle.crdt_rows.specs.declared.body.Meta.{Meta}
 use Rattle.crdt_rows.specs.declared.version_row.BlockRef.{BlockRef}
 use Rattle.crdt_rows.specs.declared.any_row.AnyRow.{AnyRow}
-use Rattle.crdt_rows.specs.AnyRow.{any_join}
 use Rattle.object_schema.specs.Schema.{words}
 use Rattle.wire_messages.specs.declared.phase.Phase.{Phase}
 use Rattle.wire_messages.specs.declared.phase.Phase.TheVariants.{Read, Range, Store, Block as Fetch}
@@ -17,7 +16,7 @@ use Rattle.cluster_machine.specs.Blocks.{IsBeside, StepBringsBlocks}
 use Rattle.cluster_machine.specs.Node.{Present, asking, scanning, storing, fetching}
 use Rattle.cluster_machine.specs.Run.{IsStep}
 use Rattle.cluster_machine.specs.World.{numbered}
-use Rattle.cluster_machine.specs.Worlds.{IsMeant, FitAll}
+use Rattle.cluster_machine.specs.Worlds.{IsMeant}
 use Rattle.cluster_machine.specs.declared.step.Step.TheVariants as step
 use Rattle.machine_origins.specs.Following.{Began}
 use Rattle.machine_origins.specs.Origins.{stored_by}
@@ -53,6 +52,7 @@ use Rattle.store_anchors.proofs.Cited.{Cited}
 use Rattle.store_anchors.proofs.Kept.{IsFound, Fetches, IsReplaced, replaced_later, replaced_asked, all_of_later, found_later, fetches_later, Past, Grows, HasAll, IsLong, IsRowOf, row_later}
 use Rattle.store_anchors.proofs.Laid.{Asks, Gets, laid_told, digest, HasUploaded, Holds, Stores, Awaits, AreRows, past, past_after, after_grows, drawn_grows, blocks_new, IsLaid, IsLaidIn, laid_waiting, Scans}
 use Rattle.store_anchors.proofs.Steps.{begin_laid, calm_laid}
+use Rattle.store_laws.proofs.Hashing.{FitIn}
 
 -- ---- rows come with their blocks
 
@@ -106,117 +106,118 @@ two_rows p r t h k x c = elim (cons_cases r (t ∷ []) x c) [
 
 -- ---- a request goes on
 
-module _ (cited : Cited) (moves : List Moving) (s : State) (q : ℕ) (a : Asked) (at : numbered s.asked q ≡ Some a) (rests : Rests s q) (block : ℕ) (laid : IsLaidIn moves s) where
-  -- what there is with more draws, and after the phase has begun too
-  abbrev pub with_draws : List Draw → Past
-  with_draws ds = past moves s.world (ds ++ s.draws)
+module _ {H : List ℕ → Type 0} where
+  module _ (cited : Cited H) (moves : List Moving) (s : State) (q : ℕ) (a : Asked) (at : numbered s.asked q ≡ Some a) (rests : Rests s q) (block : ℕ) (laid : IsLaidIn H moves s) where
+    -- what there is with more draws, and after the phase has begun too
+    abbrev pub with_draws : List Draw → Past
+    with_draws ds = past moves s.world (ds ++ s.draws)
 
-  abbrev pub at_begin : List Draw → Stage → Phase AnyRow → Past
-  at_begin ds stage phase = past_after moves (waiting s q a (Some (flow_of q block stage)) ds) (phases q phase)
+    abbrev pub at_begin : List Draw → Stage → Phase AnyRow → Past
+    at_begin ds stage phase = past_after moves (waiting s q a (Some (flow_of q block stage)) ds) (phases q phase)
 
-  begin_grows : (ds : List Draw) (stage : Stage) (phase : Phase AnyRow) → Grows (with_draws ds) (at_begin ds stage phase)
-  begin_grows ds stage phase = after_grows moves (waiting s q a (Some (flow_of q block stage)) ds) (phases q phase)
+    begin_grows : (ds : List Draw) (stage : Stage) (phase : Phase AnyRow) → Grows (with_draws ds) (at_begin ds stage phase)
+    begin_grows ds stage phase = after_grows moves (waiting s q a (Some (flow_of q block stage)) ds) (phases q phase)
 
-  -- a request that goes on
-  abbrev pub GoesLaid : List Draw → Stage → Phase AnyRow → Type 0
-  GoesLaid ds stage phase =
-      FitAll any_join words s.world (goes s q a ds (flow_of q block stage) phase).moves → IsLaidIn (moves ++ (goes s q a ds (flow_of q block stage) phase).moves) (goes s q a ds (flow_of q block stage) phase).state
+    -- a request that goes on
+    abbrev pub GoesLaid : List Draw → Stage → Phase AnyRow → Type 0
+    GoesLaid ds stage phase =
+        FitIn H s.world (goes s q a ds (flow_of q block stage) phase).moves → IsLaidIn H (moves ++ (goes s q a ds (flow_of q block stage) phase).moves) (goes s q a ds (flow_of q block stage) phase).state
 
-  goes_laid : (ds : List Draw) (stage : Stage) (phase : Phase AnyRow) → IsMeant (phases q phase).step → IsStep words 256 (phases q phase).step → StepBringsBlocks digest words (phases q phase).step →
-      All (IsRowOf (with_draws ds)) (stored_by (phases q phase).step) → Holds (with_draws ds) q block stage → BeginsSo (at_begin ds stage phase) s.world.kept block stage phase → GoesLaid ds stage phase
-  goes_laid ds stage phase meant is_step brings are holds begins fits =
-      let flow : Flow = flow_of q block stage in
-      let new : State = waiting s q a (Some flow) ds in
-      let waits : IsLaidIn moves new = laid_waiting moves s q a (Some flow) ds at rests (λ f e. (let same : flow ≡ f = cc in subst (λ (g : Flow). Holds (with_draws ds) q g.block g.stage) same holds)) laid in
-      begin_laid cited moves new q (record a { flow = Some flow }) flow phase (numbered_set_here s.asked q (record a { flow = Some flow }) a at) refl meant is_step brings are begins fits waits
+    goes_laid : (ds : List Draw) (stage : Stage) (phase : Phase AnyRow) → IsMeant (phases q phase).step → IsStep words 256 (phases q phase).step → StepBringsBlocks digest words (phases q phase).step →
+        All (IsRowOf (with_draws ds)) (stored_by (phases q phase).step) → Holds (with_draws ds) q block stage → BeginsSo (at_begin ds stage phase) s.world.kept block stage phase → GoesLaid ds stage phase
+    goes_laid ds stage phase meant is_step brings are holds begins fits =
+        let flow : Flow = flow_of q block stage in
+        let new : State = waiting s q a (Some flow) ds in
+        let waits : IsLaidIn H moves new = laid_waiting moves s q a (Some flow) ds at rests (λ f e. (let same : flow ≡ f = cc in subst (λ (g : Flow). Holds (with_draws ds) q g.block g.stage) same holds)) laid in
+        begin_laid cited moves new q (record a { flow = Some flow }) flow phase (numbered_set_here s.asked q (record a { flow = Some flow }) a at) refl meant is_step brings are begins fits waits
 
-  abbrev pub here : Past
-  here = past moves s.world s.draws
+    abbrev pub here : Past
+    here = past moves s.world s.draws
 
-  -- a request asks for an object's row
-  pub asks_laid : (stage : Stage) (name : Name) → Holds here q block stage → ((question : Question AnyRow) → Asks (at_begin [] stage (asks_for name)) stage question) → GoesLaid [] stage (asks_for name)
-  asks_laid stage name holds asks = goes_laid [] stage (asks_for name) (asks_is_meant q name) (asks_is_step q name) tt (All-nil _) holds (read_begins (at_begin [] stage (asks_for name)) s.world.kept block stage 1 _ _ (λ question table key kept. asks question))
+    -- a request asks for an object's row
+    pub asks_laid : (stage : Stage) (name : Name) → Holds here q block stage → ((question : Question AnyRow) → Asks (at_begin [] stage (asks_for name)) stage question) → GoesLaid [] stage (asks_for name)
+    asks_laid stage name holds asks = goes_laid [] stage (asks_for name) (asks_is_meant q name) (asks_is_step q name) tt (All-nil _) holds (read_begins (at_begin [] stage (asks_for name)) s.world.kept block stage 1 _ _ (λ question table key kept. asks question))
 
-  -- or for the row of the version that it found
-  pub opens_laid : (v : Version) (meta : Meta) (aim : Aim) → IsFound here v meta → GoesLaid [] (Opening v meta aim) (opens v)
-  opens_laid v meta aim found =
-      let stage : Stage = Opening v meta aim in
-      let now : Past = at_begin [] stage (opens v) in
-      goes_laid [] stage (opens v) (opens_is_meant q v) (opens_is_step q v) tt (All-nil _) tt (read_begins now s.world.kept block stage 2 (digest_of (eight v.id)) (eight v.id) (λ question table key kept. record {
-        found = found_later here now (begin_grows [] stage (opens v)) v meta found;
-        table = table;
-        key = key;
-        kept = λ i has. subst (λ (rs : List AnyRow). Contains rs (version_row found.draw.version.id found.draw.block found.content.body i)) (sym kept) (found.all.each i has).names;
-      }))
+    -- or for the row of the version that it found
+    pub opens_laid : (v : Version) (meta : Meta) (aim : Aim) → IsFound here v meta → GoesLaid [] (Opening v meta aim) (opens v)
+    opens_laid v meta aim found =
+        let stage : Stage = Opening v meta aim in
+        let now : Past = at_begin [] stage (opens v) in
+        goes_laid [] stage (opens v) (opens_is_meant q v) (opens_is_step q v) tt (All-nil _) tt (read_begins now s.world.kept block stage 2 (digest_of (eight v.id)) (eight v.id) (λ question table key kept. record {
+          found = found_later here now (begin_grows [] stage (opens v)) v meta found;
+          table = table;
+          key = key;
+          kept = λ i has. subst (λ (rs : List AnyRow). Contains rs (version_row found.draw.version.id found.draw.block found.content.body i)) (sym kept) (found.all.each i has).names;
+        }))
 
-  -- or for a window
-  pub scans_laid : (stage : Stage) (bucket prefix after : List ℕ) → Holds here q block stage → Scans stage → GoesLaid [] stage (asks_past bucket prefix after)
-  scans_laid stage bucket prefix after holds scans =
-      goes_laid [] stage (asks_past bucket prefix after) (scan_is_meant q bucket prefix after) (scan_is_step q bucket prefix after) tt (All-nil _) holds
-      (range_begins (at_begin [] stage (asks_past bucket prefix after)) s.world.kept block stage (digest_of bucket) prefix after scans)
+    -- or for a window
+    pub scans_laid : (stage : Stage) (bucket prefix after : List ℕ) → Holds here q block stage → Scans stage → GoesLaid [] stage (asks_past bucket prefix after)
+    scans_laid stage bucket prefix after holds scans =
+        goes_laid [] stage (asks_past bucket prefix after) (scan_is_meant q bucket prefix after) (scan_is_step q bucket prefix after) tt (All-nil _) holds
+        (range_begins (at_begin [] stage (asks_past bucket prefix after)) s.world.kept block stage (digest_of bucket) prefix after scans)
 
-  -- or for a block
-  pub fetches_laid : (v : Version) (meta : Meta) (aim : Aim) (left : List BlockRef) (body : List ℕ) (b : BlockRef) → HasHash b → Fetches here v meta left body b.hash.0 → GoesLaid [] (Gathering v meta aim left body) (Fetch b.hash)
-  fetches_laid v meta aim left body b hash gets =
-      let stage : Stage = Gathering v meta aim left body in
-      goes_laid [] stage (Fetch b.hash) (fetch_is_meant q b.hash) (fetch_is_step q b.hash hash) tt (All-nil _) tt
-      (fetch_begins (at_begin [] stage (Fetch b.hash)) s.world.kept block stage b.hash (fetches_later here (at_begin [] stage (Fetch b.hash)) (begin_grows [] stage (Fetch b.hash)) v meta left body b.hash.0 gets))
+    -- or for a block
+    pub fetches_laid : (v : Version) (meta : Meta) (aim : Aim) (left : List BlockRef) (body : List ℕ) (b : BlockRef) → HasHash b → Fetches here v meta left body b.hash.0 → GoesLaid [] (Gathering v meta aim left body) (Fetch b.hash)
+    fetches_laid v meta aim left body b hash gets =
+        let stage : Stage = Gathering v meta aim left body in
+        goes_laid [] stage (Fetch b.hash) (fetch_is_meant q b.hash) (fetch_is_step q b.hash hash) tt (All-nil _) tt
+        (fetch_begins (at_begin [] stage (Fetch b.hash)) s.world.kept block stage b.hash (fetches_later here (at_begin [] stage (Fetch b.hash)) (begin_grows [] stage (Fetch b.hash)) v meta left body b.hash.0 gets))
 
-  -- a write stores that its upload has begun
-  pub uploading_laid : (name : Name) (v : Version) (c : Content) (moment : ℕ) → is_long c.body ≡ true →
-      (let d : Draw = record { request = q; name = name; version = v; wish = wish.Content c; block = block; moment = moment } in GoesLaid (d ∷ []) (Uploading name v c 0) (stores (uploading name v)))
-  uploading_laid name v c moment long =
-      let d : Draw = record { request = q; name = name; version = v; wish = wish.Content c; block = block; moment = moment } in
-      let ds : List Draw = d ∷ [] in
-      let stage : Stage = Uploading name v c 0 in
-      let r : AnyRow = uploading name v in
-      let first : Contains (ds ++ s.draws) d = (0, omega arith, refl) in
-      let is : IsRowOf (with_draws ds) r = IsRowOf.announces d first refl in
-      goes_laid ds stage (stores r) (stores_is_meant q r) (one_is_step q r (uploading_is_placed name v)) (stores_bring q r refl) (All-cons (IsRowOf (with_draws ds)) r [] is (All-nil _))
-      (record { moment = moment; drawn = first; long = long; before = λ i lt. absurd (omega (arith, lt)) })
-      (store_begins (at_begin ds stage (stores r)) s.world.kept block stage ((r, None) ∷ []) (one_row (at_begin ds stage (stores r)) r (row_later (with_draws ds) (at_begin ds stage (stores r)) (begin_grows ds stage (stores r)) r is)) tt)
+    -- a write stores that its upload has begun
+    pub uploading_laid : (name : Name) (v : Version) (c : Content) (moment : ℕ) → is_long c.body ≡ true →
+        (let d : Draw = record { request = q; name = name; version = v; wish = wish.Content c; block = block; moment = moment } in GoesLaid (d ∷ []) (Uploading name v c 0) (stores (uploading name v)))
+    uploading_laid name v c moment long =
+        let d : Draw = record { request = q; name = name; version = v; wish = wish.Content c; block = block; moment = moment } in
+        let ds : List Draw = d ∷ [] in
+        let stage : Stage = Uploading name v c 0 in
+        let r : AnyRow = uploading name v in
+        let first : Contains (ds ++ s.draws) d = (0, omega arith, refl) in
+        let is : IsRowOf (with_draws ds) r = IsRowOf.announces d first refl in
+        goes_laid ds stage (stores r) (stores_is_meant q r) (one_is_step q r (uploading_is_placed name v)) (stores_bring q r refl) (All-cons (IsRowOf (with_draws ds)) r [] is (All-nil _))
+        (record { moment = moment; drawn = first; long = long; before = λ i lt. absurd (omega (arith, lt)) })
+        (store_begins (at_begin ds stage (stores r)) s.world.kept block stage ((r, None) ∷ []) (one_row (at_begin ds stage (stores r)) r (row_later (with_draws ds) (at_begin ds stage (stores r)) (begin_grows ds stage (stores r)) r is)) tt)
 
-  -- a write stores that its version is complete
-  pub completes_laid : (ds : List Draw) (d : Draw) (meta : Option Meta) → Contains (ds ++ s.draws) d → d.block ≡ block → ((c : Content) → IsLong (ds ++ s.draws) d c → HasAll here d.version.id d.block c.body) →
-      GoesLaid ds (Completing d.version meta) (stores (complete d.name d.version block d.wish))
-  completes_laid ds d meta drawn block_is all =
-      let stage : Stage = Completing d.version meta in
-      let r : AnyRow = complete d.name d.version block d.wish in
-      let more : (c : Content) → IsLong (ds ++ s.draws) d c → HasAll (with_draws ds) d.version.id d.block c.body = (λ c l. all_of_later here (with_draws ds) (drawn_grows moves s ds) d.version.id d.block c.body (all c l)) in
-      let is : IsRowOf (with_draws ds) r = IsRowOf.completes d drawn (ap (λ b. complete d.name d.version b d.wish) (sym block_is)) more in
-      goes_laid ds stage (stores r) (stores_is_meant q r) (stores_is_step q d.name d.version block d.wish) (stores_bring q r (complete_needs_none d.name d.version block d.wish)) (All-cons (IsRowOf (with_draws ds)) r [] is (All-nil _))
-      tt (store_begins (at_begin ds stage (stores r)) s.world.kept block stage ((r, None) ∷ []) (one_row (at_begin ds stage (stores r)) r (row_later (with_draws ds) (at_begin ds stage (stores r)) (begin_grows ds stage (stores r)) r is)) tt)
+    -- a write stores that its version is complete
+    pub completes_laid : (ds : List Draw) (d : Draw) (meta : Option Meta) → Contains (ds ++ s.draws) d → d.block ≡ block → ((c : Content) → IsLong (ds ++ s.draws) d c → HasAll here d.version.id d.block c.body) →
+        GoesLaid ds (Completing d.version meta) (stores (complete d.name d.version block d.wish))
+    completes_laid ds d meta drawn block_is all =
+        let stage : Stage = Completing d.version meta in
+        let r : AnyRow = complete d.name d.version block d.wish in
+        let more : (c : Content) → IsLong (ds ++ s.draws) d c → HasAll (with_draws ds) d.version.id d.block c.body = (λ c l. all_of_later here (with_draws ds) (drawn_grows moves s ds) d.version.id d.block c.body (all c l)) in
+        let is : IsRowOf (with_draws ds) r = IsRowOf.completes d drawn (ap (λ b. complete d.name d.version b d.wish) (sym block_is)) more in
+        goes_laid ds stage (stores r) (stores_is_meant q r) (stores_is_step q d.name d.version block d.wish) (stores_bring q r (complete_needs_none d.name d.version block d.wish)) (All-cons (IsRowOf (with_draws ds)) r [] is (All-nil _))
+        tt (store_begins (at_begin ds stage (stores r)) s.world.kept block stage ((r, None) ∷ []) (one_row (at_begin ds stage (stores r)) r (row_later (with_draws ds) (at_begin ds stage (stores r)) (begin_grows ds stage (stores r)) r is)) tt)
 
-  -- an upload stores its next block
-  pub block_laid : (name : Name) (v : Version) (c : Content) (i : ℕ) → v.id < 2 ^ 64 → has_piece block c.body i ≡ true → HasUploaded here q block name v c (suc i) →
-      GoesLaid [] (Uploading name v c (suc i)) (Store (block_rows v.id block c.body i))
-  block_laid name v c i small has h =
-      let stage : Stage = Uploading name v c (suc i) in
-      let phase : Phase AnyRow = Store (block_rows v.id block c.body i) in
-      let d : Draw = record { request = q; name = name; version = v; wish = wish.Content c; block = block; moment = h.moment } in
-      let long : IsLong s.draws d c = record { drawn = h.drawn; wish_is = refl; long = h.long } in
-      let one : AnyRow = version_row v.id block c.body i in
-      let other : AnyRow = reference_row v.id block c.body i in
-      let one_is : IsRowOf here one = IsRowOf.names d c i long has refl in
-      let other_is : IsRowOf here other = IsRowOf.refers d c i long has refl in
-      let now : Past = at_begin [] stage phase in
-      let grows : Grows here now = begin_grows [] stage phase in
-      goes_laid [] stage phase (block_is_meant q v.id block c.body i) (block_is_step v.id small block c.body i q) (block_brings q v.id block c.body i)
-      (All-cons (IsRowOf here) one (other ∷ []) one_is (All-cons (IsRowOf here) other [] other_is (All-nil _)))
-      h (store_begins now s.world.kept block stage (block_rows v.id block c.body i) (two_rows now one other (row_later here now grows one one_is) (row_later here now grows other other_is))
-      (refl, blocks_new moves (phases q phase) (piece block c.body i) (0, omega arith, refl)))
+    -- an upload stores its next block
+    pub block_laid : (name : Name) (v : Version) (c : Content) (i : ℕ) → v.id < 2 ^ 64 → has_piece block c.body i ≡ true → HasUploaded here q block name v c (suc i) →
+        GoesLaid [] (Uploading name v c (suc i)) (Store (block_rows v.id block c.body i))
+    block_laid name v c i small has h =
+        let stage : Stage = Uploading name v c (suc i) in
+        let phase : Phase AnyRow = Store (block_rows v.id block c.body i) in
+        let d : Draw = record { request = q; name = name; version = v; wish = wish.Content c; block = block; moment = h.moment } in
+        let long : IsLong s.draws d c = record { drawn = h.drawn; wish_is = refl; long = h.long } in
+        let one : AnyRow = version_row v.id block c.body i in
+        let other : AnyRow = reference_row v.id block c.body i in
+        let one_is : IsRowOf here one = IsRowOf.names d c i long has refl in
+        let other_is : IsRowOf here other = IsRowOf.refers d c i long has refl in
+        let now : Past = at_begin [] stage phase in
+        let grows : Grows here now = begin_grows [] stage phase in
+        goes_laid [] stage phase (block_is_meant q v.id block c.body i) (block_is_step v.id small block c.body i q) (block_brings q v.id block c.body i)
+        (All-cons (IsRowOf here) one (other ∷ []) one_is (All-cons (IsRowOf here) other [] other_is (All-nil _)))
+        h (store_begins now s.world.kept block stage (block_rows v.id block c.body i) (two_rows now one other (row_later here now grows one one_is) (row_later here now grows other other_is))
+        (refl, blocks_new moves (phases q phase) (piece block c.body i) (0, omega arith, refl)))
 
-  -- a request waits on
-  pub waits_laid : (stage : Stage) → a.flow ≡ Some (flow_of q block stage) → IsLaidIn (moves ++ []) (record s { asked = set_flow s q a (Some (flow_of q block stage)) })
-  waits_laid stage flow_is =
-      subst (λ ms. IsLaid ms s.world (set_flow s q a (Some (flow_of q block stage))) s.draws s.history) (sym (append-nil moves)) (laid_waiting moves s q a (Some (flow_of q block stage)) [] at rests (λ f e. laid.stages q a f at (flow_is ∙ e)) laid)
+    -- a request waits on
+    pub waits_laid : (stage : Stage) → a.flow ≡ Some (flow_of q block stage) → IsLaidIn H (moves ++ []) (record s { asked = set_flow s q a (Some (flow_of q block stage)) })
+    waits_laid stage flow_is =
+        subst (λ ms. IsLaid H ms s.world (set_flow s q a (Some (flow_of q block stage))) s.draws s.history) (sym (append-nil moves)) (laid_waiting moves s q a (Some (flow_of q block stage)) [] at rests (λ f e. laid.stages q a f at (flow_is ∙ e)) laid)
 
-  -- a request ends
-  pub finishes_laid : (end : FlowEnd) → ((p id : ℕ) → record_of q end ≡ Ended p (Superseded id) → IsReplaced here s.asked p id) → FitAll any_join words s.world (finishes s q a end).moves → IsLaidIn (moves ++ (finishes s q a end).moves) (finishes s q a end).state
-  finishes_laid end passed fits =
-      let m : Moving = plainly (step.Close q) in
-      let new : State = waiting s q a None [] in
-      let closed : IsLaidIn (moves ++ m ∷ []) (doing new m) = calm_laid cited moves new m tt refl tt tt tt tt fits (laid_waiting moves s q a None [] at rests (λ f e. cc) laid) in
-      laid_told (moves ++ m ∷ []) (doing new m).world new.asked s.draws s.history (record_of q end ∷ [])
-      (λ p id c. replaced_later here (past_after moves new m) (after_grows moves new m) new.asked p id
-      (replaced_asked here s.asked new.asked (asked_set s.asked q a None at) p id (passed p id (only (record_of q end) (Ended p (Superseded id)) c)))) closed
+    -- a request ends
+    pub finishes_laid : (end : FlowEnd) → ((p id : ℕ) → record_of q end ≡ Ended p (Superseded id) → IsReplaced here s.asked p id) → FitIn H s.world (finishes s q a end).moves → IsLaidIn H (moves ++ (finishes s q a end).moves) (finishes s q a end).state
+    finishes_laid end passed fits =
+        let m : Moving = plainly (step.Close q) in
+        let new : State = waiting s q a None [] in
+        let closed : IsLaidIn H (moves ++ m ∷ []) (doing new m) = calm_laid cited moves new m tt refl tt tt tt tt fits (laid_waiting moves s q a None [] at rests (λ f e. cc) laid) in
+        laid_told (moves ++ m ∷ []) (doing new m).world new.asked s.draws s.history (record_of q end ∷ [])
+        (λ p id c. replaced_later here (past_after moves new m) (after_grows moves new m) new.asked p id
+        (replaced_asked here s.asked new.asked (asked_set s.asked q a None at) p id (passed p id (only (record_of q end) (Ended p (Superseded id)) c)))) closed

@@ -46,6 +46,7 @@ use Rattle.store_laws.proofs.Grown.{Rests, asked_set}
 use Rattle.machine_origins.proofs.Places.{numbered_set_cases}
 use Rattle.store_anchors.specs.Stored.{blocks_by, blocks_of}
 use Rattle.store_anchors.proofs.Kept.{AsksNames, Fetches, IsReplaced, names_later, fetches_later, replaced_later, replaced_asked, IsPart, Past, Grows, HasPiece, IsRowOf, piece_later, row_later}
+use Rattle.store_laws.proofs.Hashing.{HashesIn}
 
 -- blocks are named by their digests
 abbrev pub digest : List ℕ → List ℕ
@@ -116,17 +117,17 @@ abbrev pub past : List Moving → World → List Draw → Past
 past moves w draws = record { draws = draws; kept = w.kept; stored = stored_in moves; blocks = blocks_of moves }
 
 -- after these steps: the world is one that they lead to, but that a layout was installed and messages were forgotten; each row that they began to store is a write's, and came with its block; so is each that is kept; requests wait for their phases; and where one ended superseded, a version above was stored complete
-pub record IsLaid (moves : List Moving) (w : World) (asked : List Asked) (draws : List Draw) (history : List Record) : Type 0 where
+pub record IsLaid (H : List ℕ → Type 0) (moves : List Moving) (w : World) (asked : List Asked) (draws : List Draw) (history : List Record) : Type 0 where
   pub room : length w.requests < 2 ^ 64
-  pub reached : IsReachedBy (IsStepOf moves) w
+  pub reached : IsReachedBy H (IsStepOf moves) w
   pub stored : All (λ (m : Moving). All (IsRowOf (past moves w draws)) (stored_by m.step)) moves
   pub kept : (r : AnyRow) → Contains w.kept r → IsRowOf (past moves w draws) r
   pub stages : (q : ℕ) (a : Asked) (flow : Flow) → numbered asked q ≡ Some a → a.flow ≡ Some flow → Holds (past moves w draws) q flow.block flow.stage
   pub fits : (n : ℕ) (c : Call AnyRow) → Has (w.nodes n).calls c → IsFit asked (past moves w draws) c.request c.present
   pub superseded : (q id : ℕ) → Contains history (Ended q (Superseded id)) → IsReplaced (past moves w draws) asked q id
 
-abbrev pub IsLaidIn : List Moving → State → Type 0
-IsLaidIn moves s = IsLaid moves s.world s.asked s.draws s.history
+abbrev pub IsLaidIn : (List ℕ → Type 0) → List Moving → State → Type 0
+IsLaidIn H moves s = IsLaid H moves s.world s.asked s.draws s.history
 
 -- ---- there is more
 
@@ -268,24 +269,25 @@ pub record IsApt (moves : List Moving) (s : State) (m : Moving) : Type 0 where
   pub keeps : (r : AnyRow) → Contains (effect s m).keeps r → IsRowOf (past moves s.world s.draws) r
   pub fits : (n : ℕ) (c : Call AnyRow) → Has (changed (effect s m).nodes s.world.nodes n).calls c → IsFit s.asked (past_after moves s m) c.request c.present
 
-pub laid_step : (moves : List Moving) (s : State) (m : Moving) → Fits words (next any_join words s.world m) → IsLawfulRun any_join words s.world (m ∷ []) → StepBringsBlocks digest words m.step → All (IsRowOf (past moves s.world s.draws)) (stored_by m.step) →
-    IsApt moves s m → IsLaidIn moves s → IsLaid (moves ++ m ∷ []) (next any_join words s.world m) s.asked s.draws s.history
-laid_step moves s m room lawful brings stores apt laid =
-    let old : Past = past moves s.world s.draws in
-    let new : Past = past_after moves s m in
-    let more : Grows old new = after_grows moves s m in
-    record {
-      room = room.requests;
-      reached = reached_step (IsStepOf (moves ++ m ∷ [])) s.world m (reached_weaker s.world (step_more moves m) laid.reached) lawful (step_new moves m brings) (still_of (moves ++ m ∷ []) (Deliver 0) tt refl refl);
-      stored = All-push (λ (m : Moving). All (IsRowOf new) (stored_by m.step)) moves m (stored_later old new more moves laid.stored) (all_later old new more (stored_by m.step) stores);
-      kept = λ r c. elim (Contains-append_cases (effect s m).keeps s.world.kept r c) [
-        | inl one ↦ row_later old new more r (apt.keeps r one)
-        | inr was ↦ row_later old new more r (laid.kept r was)
-      ];
-      stages = λ q a flow at is. holds_later old new more q flow.block flow.stage (laid.stages q a flow at is);
-      fits = apt.fits;
-      superseded = λ q id c. replaced_later old new more s.asked q id (laid.superseded q id c);
-    }
+module _ {H : List ℕ → Type 0} where
+  pub laid_step : (moves : List Moving) (s : State) (m : Moving) → Fits words (next any_join words s.world m) → HashesIn H s.world m → IsLawfulRun any_join words s.world (m ∷ []) → StepBringsBlocks digest words m.step → All (IsRowOf (past moves s.world s.draws)) (stored_by m.step) →
+      IsApt moves s m → IsLaidIn H moves s → IsLaid H (moves ++ m ∷ []) (next any_join words s.world m) s.asked s.draws s.history
+  laid_step moves s m room hashes lawful brings stores apt laid =
+      let old : Past = past moves s.world s.draws in
+      let new : Past = past_after moves s m in
+      let more : Grows old new = after_grows moves s m in
+      record {
+        room = room.requests;
+        reached = reached_step (IsStepOf (moves ++ m ∷ [])) s.world m (reached_weaker s.world (step_more moves m) laid.reached) lawful hashes (step_new moves m brings) (still_of (moves ++ m ∷ []) (Deliver 0) tt refl refl);
+        stored = All-push (λ (m : Moving). All (IsRowOf new) (stored_by m.step)) moves m (stored_later old new more moves laid.stored) (all_later old new more (stored_by m.step) stores);
+        kept = λ r c. elim (Contains-append_cases (effect s m).keeps s.world.kept r c) [
+          | inl one ↦ row_later old new more r (apt.keeps r one)
+          | inr was ↦ row_later old new more r (laid.kept r was)
+        ];
+        stages = λ q a flow at is. holds_later old new more q flow.block flow.stage (laid.stages q a flow at is);
+        fits = apt.fits;
+        superseded = λ q id c. replaced_later old new more s.asked q id (laid.superseded q id c);
+      }
 
 -- ---- a request that rests waits for something else, and may draw
 
@@ -293,75 +295,78 @@ laid_step moves s m room lawful brings stores apt laid =
 pub drawn_grows : (moves : List Moving) (s : State) (newer : List Draw) → Grows (past moves s.world s.draws) (past moves s.world (newer ++ s.draws))
 drawn_grows moves s newer = record { draws = λ d c. Contains-append_right newer s.draws d c; kept = λ r c. c; stored = λ r c. c; blocks = λ b c. c }
 
-pub laid_waiting : (moves : List Moving) (s : State) (q : ℕ) (a : Asked) (flow : Option Flow) (newer : List Draw) → numbered s.asked q ≡ Some a → Rests s q →
-    ((f : Flow) → flow ≡ Some f → Holds (past moves s.world (newer ++ s.draws)) q f.block f.stage) → IsLaidIn moves s → IsLaid moves s.world (slice_set s.asked (q - 1) (record a { flow = flow })) (newer ++ s.draws) s.history
-laid_waiting moves s q a flow newer at rests hold laid =
-    let one : Asked = record a { flow = flow } in
-    let old : Past = past moves s.world s.draws in
-    let new : Past = past moves s.world (newer ++ s.draws) in
-    let more : Grows old new = drawn_grows moves s newer in
-    record {
-      room = laid.room;
-      reached = laid.reached;
-      stored = stored_later old new more moves laid.stored;
-      kept = λ r c. row_later old new more r (laid.kept r c);
-      stages = λ p o f there is. elim (numbered_set_cases s.asked q p a one o at there) [
-        | inl e ↦ subst (λ r. Holds new r f.block f.stage) (sym e.0) (hold f (ap (λ (x : Asked). x.flow) e.1 ∙ is))
-        | inr was ↦ holds_later old new more p f.block f.stage (laid.stages p o f was is)
-      ];
-      fits = λ n c h.
-          let was : IsFit s.asked new c.request c.present = fit_later old new more s.asked c.request c.present (laid.fits n c h) in
-          record {
-            rows = was.rows;
-            awaits = λ o f there is. elim (numbered_set_cases s.asked q c.request a one o at there) [
-              | inl e ↦ subst (Awaits new f.block f.stage) (sym (rests n c h e.0)) tt
-              | inr before ↦ was.awaits o f before is
-            ];
-          };
-      superseded = λ p id c. replaced_asked new s.asked (slice_set s.asked (q - 1) one) (asked_set s.asked q a flow at) p id (replaced_later old new more s.asked p id (laid.superseded p id c));
-    }
+module _ {H : List ℕ → Type 0} where
+  pub laid_waiting : (moves : List Moving) (s : State) (q : ℕ) (a : Asked) (flow : Option Flow) (newer : List Draw) → numbered s.asked q ≡ Some a → Rests s q →
+      ((f : Flow) → flow ≡ Some f → Holds (past moves s.world (newer ++ s.draws)) q f.block f.stage) → IsLaidIn H moves s → IsLaid H moves s.world (slice_set s.asked (q - 1) (record a { flow = flow })) (newer ++ s.draws) s.history
+  laid_waiting moves s q a flow newer at rests hold laid =
+      let one : Asked = record a { flow = flow } in
+      let old : Past = past moves s.world s.draws in
+      let new : Past = past moves s.world (newer ++ s.draws) in
+      let more : Grows old new = drawn_grows moves s newer in
+      record {
+        room = laid.room;
+        reached = laid.reached;
+        stored = stored_later old new more moves laid.stored;
+        kept = λ r c. row_later old new more r (laid.kept r c);
+        stages = λ p o f there is. elim (numbered_set_cases s.asked q p a one o at there) [
+          | inl e ↦ subst (λ r. Holds new r f.block f.stage) (sym e.0) (hold f (ap (λ (x : Asked). x.flow) e.1 ∙ is))
+          | inr was ↦ holds_later old new more p f.block f.stage (laid.stages p o f was is)
+        ];
+        fits = λ n c h.
+            let was : IsFit s.asked new c.request c.present = fit_later old new more s.asked c.request c.present (laid.fits n c h) in
+            record {
+              rows = was.rows;
+              awaits = λ o f there is. elim (numbered_set_cases s.asked q c.request a one o at there) [
+                | inl e ↦ subst (Awaits new f.block f.stage) (sym (rests n c h e.0)) tt
+                | inr before ↦ was.awaits o f before is
+              ];
+            };
+        superseded = λ p id c. replaced_asked new s.asked (slice_set s.asked (q - 1) one) (asked_set s.asked q a flow at) p id (replaced_later old new more s.asked p id (laid.superseded p id c));
+      }
 
 -- ---- the history grows
 
-pub laid_told : (moves : List Moving) (w : World) (asked : List Asked) (draws : List Draw) (history rest : List Record) → ((q id : ℕ) → Contains rest (Ended q (Superseded id)) → IsReplaced (past moves w draws) asked q id) →
-    IsLaid moves w asked draws history → IsLaid moves w asked draws (history ++ rest)
-laid_told moves w asked draws history rest ends laid = record {
-  room = laid.room;
-  reached = laid.reached;
-  stored = laid.stored;
-  kept = laid.kept;
-  stages = laid.stages;
-  fits = laid.fits;
-  superseded = λ q id c. elim (Contains-append_cases history rest (Ended q (Superseded id)) c) [
-    | inl old ↦ laid.superseded q id old
-    | inr new ↦ ends q id new
-  ];
-}
+module _ {H : List ℕ → Type 0} where
+  pub laid_told : (moves : List Moving) (w : World) (asked : List Asked) (draws : List Draw) (history rest : List Record) → ((q id : ℕ) → Contains rest (Ended q (Superseded id)) → IsReplaced (past moves w draws) asked q id) →
+      IsLaid H moves w asked draws history → IsLaid H moves w asked draws (history ++ rest)
+  laid_told moves w asked draws history rest ends laid = record {
+    room = laid.room;
+    reached = laid.reached;
+    stored = laid.stored;
+    kept = laid.kept;
+    stages = laid.stages;
+    fits = laid.fits;
+    superseded = λ q id c. elim (Contains-append_cases history rest (Ended q (Superseded id)) c) [
+      | inl old ↦ laid.superseded q id old
+      | inr new ↦ ends q id new
+    ];
+  }
 
 -- ---- the world changes, and no step is made
 
--- delivered messages are forgotten
-pub laid_forgetting : (moves : List Moving) (s : State) → IsLaidIn moves s → IsLaidIn moves (record s { world = forget_delivered s.world })
-laid_forgetting moves s laid = record {
-  room = laid.room;
-  reached = reached_forgetting s.world laid.reached;
-  stored = laid.stored;
-  kept = laid.kept;
-  stages = laid.stages;
-  fits = laid.fits;
-  superseded = laid.superseded;
-}
+module _ {H : List ℕ → Type 0} where
+  -- delivered messages are forgotten
+  pub laid_forgetting : (moves : List Moving) (s : State) → IsLaidIn H moves s → IsLaidIn H moves (record s { world = forget_delivered s.world })
+  laid_forgetting moves s laid = record {
+    room = laid.room;
+    reached = reached_forgetting s.world laid.reached;
+    stored = laid.stored;
+    kept = laid.kept;
+    stages = laid.stages;
+    fits = laid.fits;
+    superseded = laid.superseded;
+  }
 
--- a first layout is installed where none was applied: calls stay
-pub laid_installing : (moves : List Moving) (s : State) (first : Layout) → IsFirst first → s.world.applied ≡ 0 → IsLaidIn moves s → IsLaidIn moves (record s { world = installed any_join words s.world first })
-laid_installing moves s first is_first none laid =
-    let IsFitting : Node AnyRow Layout → Type 0 = λ x. (c : Call AnyRow) → Has x.calls c → IsFit s.asked (past moves s.world s.draws) c.request c.present in
-    record {
-      room = subst (λ (rs : List Request). length rs < 2 ^ 64) (sym (append-nil s.world.requests)) laid.room;
-      reached = reached_installing s.world first is_first none laid.reached;
-      stored = laid.stored;
-      kept = laid.kept;
-      stages = laid.stages;
-      fits = λ n. elim (is_among n (reading.members first)) as (λ b. IsFitting (unwrap_or (cond b (Some (appends layouts (s.world.nodes n) first)) None) (s.world.nodes n))) [ true ↦ laid.fits n | false ↦ laid.fits n ];
-      superseded = laid.superseded;
-    }
+  -- a first layout is installed where none was applied: calls stay
+  pub laid_installing : (moves : List Moving) (s : State) (first : Layout) → IsFirst first → s.world.applied ≡ 0 → IsLaidIn H moves s → IsLaidIn H moves (record s { world = installed any_join words s.world first })
+  laid_installing moves s first is_first none laid =
+      let IsFitting : Node AnyRow Layout → Type 0 = λ x. (c : Call AnyRow) → Has x.calls c → IsFit s.asked (past moves s.world s.draws) c.request c.present in
+      record {
+        room = subst (λ (rs : List Request). length rs < 2 ^ 64) (sym (append-nil s.world.requests)) laid.room;
+        reached = reached_installing s.world first is_first none laid.reached;
+        stored = laid.stored;
+        kept = laid.kept;
+        stages = laid.stages;
+        fits = λ n. elim (is_among n (reading.members first)) as (λ b. IsFitting (unwrap_or (cond b (Some (appends layouts (s.world.nodes n) first)) None) (s.world.nodes n))) [ true ↦ laid.fits n | false ↦ laid.fits n ];
+        superseded = laid.superseded;
+      }

@@ -97,150 +97,151 @@ module _ {o : ord.Ghosts Part} {p : partial_eq.Ghosts Part} {q : partial_ord.Gho
 deleted_names : (r : VersionRow) (size : ℕ) → is_deleted r ≡ true → named_by (Some (rows.Version r)) size ≡ deleted
 deleted_names r size e = by_blocks r.blocks size e
 
-module _ (cited : Cited) (moves : List Moving) (s : State) (sound : IsSound s) (apart_draws : AreApart s.draws) (laid : IsLaidIn moves s) (v : Version) (meta : Meta) (found : IsFound (past moves s.world s.draws) v meta) where
-  abbrev p : Past
-  p = past moves s.world s.draws
+module _ {H : List ℕ → Type 0} where
+  module _ (cited : Cited H) (moves : List Moving) (s : State) (sound : IsSound H s) (apart_draws : AreApart s.draws) (laid : IsLaidIn H moves s) (v : Version) (meta : Meta) (found : IsFound (past moves s.world s.draws) v meta) where
+    abbrev p : Past
+    p = past moves s.world s.draws
 
-  abbrev id : ℕ
-  id = found.draw.version.id
+    abbrev id : ℕ
+    id = found.draw.version.id
 
-  abbrev top : AnyRow
-  top = merged_row id found.draw.block found.content.body found.last
+    abbrev top : AnyRow
+    top = merged_row id found.draw.block found.content.body found.last
 
-  -- a version row of this version is deleted, or below what its blocks' rows merge to
-  abbrev pub IsIn : VersionRow → Type 0
-  IsIn r = (is_deleted r ≡ true) ⊎ AtMost any_join (rows.Version r) top
+    -- a version row of this version is deleted, or below what its blocks' rows merge to
+    abbrev pub IsIn : VersionRow → Type 0
+    IsIn r = (is_deleted r ≡ true) ⊎ AtMost any_join (rows.Version r) top
 
-  abbrev pub IsWithin : AnyRow → Type 0
-  IsWithin (rows.Version r) = eight r.id ≡ eight id → IsIn r
-  IsWithin r = ⊤
+    abbrev pub IsWithin : AnyRow → Type 0
+    IsWithin (rows.Version r) = eight r.id ≡ eight id → IsIn r
+    IsWithin r = ⊤
 
-  -- blocks up to the last one
-  up_to : (i : ℕ) → has_piece found.draw.block found.content.body i ≡ true → i ≤ found.last
-  up_to i has =
-      elim (nat_lt found.last i) as (λ b. nat_lt found.last i ≡ b → i ≤ found.last) [
-        | true ↦ λ t.
-            let high : suc found.last ≤ i = (let lt : found.last < i = ltb-true found.last i t in omega arith) in
-            let low : i * found.draw.block < length found.content.body = ltb-true (i * found.draw.block) (length found.content.body) has in
-            let end : length found.content.body ≤ suc found.last * found.draw.block = ltb-false (suc found.last * found.draw.block) (length found.content.body) found.no_more in
-            let grow : suc found.last * found.draw.block ≤ i * found.draw.block = mul-le (suc found.last) found.draw.block i found.draw.block high (le_refl found.draw.block) in
-            absurd (omega (arith, low, end, grow))
-        | false ↦ λ f. ltb-false found.last i f
-      ] refl
+    -- blocks up to the last one
+    up_to : (i : ℕ) → has_piece found.draw.block found.content.body i ≡ true → i ≤ found.last
+    up_to i has =
+        elim (nat_lt found.last i) as (λ b. nat_lt found.last i ≡ b → i ≤ found.last) [
+          | true ↦ λ t.
+              let high : suc found.last ≤ i = (let lt : found.last < i = ltb-true found.last i t in omega arith) in
+              let low : i * found.draw.block < length found.content.body = ltb-true (i * found.draw.block) (length found.content.body) has in
+              let end : length found.content.body ≤ suc found.last * found.draw.block = ltb-false (suc found.last * found.draw.block) (length found.content.body) found.no_more in
+              let grow : suc found.last * found.draw.block ≤ i * found.draw.block = mul-le (suc found.last) found.draw.block i found.draw.block high (le_refl found.draw.block) in
+              absurd (omega (arith, low, end, grow))
+          | false ↦ λ f. ltb-false found.last i f
+        ] refl
 
-  one_within : (d : Draw) (c : Content) (i : ℕ) → IsLong s.draws d c → has_piece d.block c.body i ≡ true → d.version.id ≡ id → AtMost any_join (version_row d.version.id d.block c.body i) top
-  one_within d c i l has same =
-      let draw_is : found.draw ≡ d = apart_draws found.draw d found.long.drawn l.drawn (sym same) in
-      let wishes : wish.Content found.content ≡ wish.Content c = sym found.long.wish_is ∙ (ap (λ (x : Draw). x.wish) draw_is ∙ l.wish_is) in
-      let content_is : found.content ≡ c = cc in
-      let here : has_piece found.draw.block found.content.body i ≡ true = (λ j. has_piece (draw_is j).block (content_is j).body i) ∙ has in
-      subst (λ (r : AnyRow). AtMost any_join r top) (λ j. version_row (draw_is j).version.id (draw_is j).block (content_is j).body i) (rows_below id found.draw.block found.content.body i found.last (up_to i here))
+    one_within : (d : Draw) (c : Content) (i : ℕ) → IsLong s.draws d c → has_piece d.block c.body i ≡ true → d.version.id ≡ id → AtMost any_join (version_row d.version.id d.block c.body i) top
+    one_within d c i l has same =
+        let draw_is : found.draw ≡ d = apart_draws found.draw d found.long.drawn l.drawn (sym same) in
+        let wishes : wish.Content found.content ≡ wish.Content c = sym found.long.wish_is ∙ (ap (λ (x : Draw). x.wish) draw_is ∙ l.wish_is) in
+        let content_is : found.content ≡ c = cc in
+        let here : has_piece found.draw.block found.content.body i ≡ true = (λ j. has_piece (draw_is j).block (content_is j).body i) ∙ has in
+        subst (λ (r : AnyRow). AtMost any_join r top) (λ j. version_row (draw_is j).version.id (draw_is j).block (content_is j).body i) (rows_below id found.draw.block found.content.body i found.last (up_to i here))
 
-  stored_within : (row : AnyRow) → IsRowOf p row → IsWithin row
-  stored_within row h = elim h [
-    | announces d c is ↦ subst IsWithin (sym is) tt
-    | completes d c is all ↦ (let full = complete_row d.name d.version d.block d.wish in subst IsWithin (sym (is ∙ full.1)) tt)
-    | names d c i l has is ↦ subst IsWithin (sym is) (λ key. inr (one_within d c i l has (eight_same d.version.id id (small cited moves s sound laid d l.drawn) (small cited moves s sound laid found.draw found.long.drawn) key)))
-    | refers d c i l has is ↦ subst IsWithin (sym is) tt
-  ]
+    stored_within : (row : AnyRow) → IsRowOf p row → IsWithin row
+    stored_within row h = elim h [
+      | announces d c is ↦ subst IsWithin (sym is) tt
+      | completes d c is all ↦ (let full = complete_row d.name d.version d.block d.wish in subst IsWithin (sym (is ∙ full.1)) tt)
+      | names d c i l has is ↦ subst IsWithin (sym is) (λ key. inr (one_within d c i l has (eight_same d.version.id id (small cited moves s sound laid d l.drawn) (small cited moves s sound laid found.draw found.long.drawn) key)))
+      | refers d c i l has is ↦ subst IsWithin (sym is) tt
+    ]
 
-  -- two that are so merge to one that is so
-  both_in : (a b : VersionRow) → a.id ≡ b.id → IsIn a → IsIn b → IsIn (version_row_join a b)
-  both_in a b ids (inl e) other = inl (cited.deleted a b ids ∙ ap (λ t. t || is_deleted b) e)
-  both_in a b ids (inr low) (inl e) = inl (cited.deleted a b ids ∙ (ap (λ t. is_deleted a || t) e ∙ or_true (is_deleted a)))
-  both_in a b ids (inr low) (inr other) = inr ((least_upper_bound any_laws (rows.Version a) (rows.Version b)).least top low other)
+    -- two that are so merge to one that is so
+    both_in : (a b : VersionRow) → a.id ≡ b.id → IsIn a → IsIn b → IsIn (version_row_join a b)
+    both_in a b ids (inl e) other = inl (cited.deleted a b ids ∙ ap (λ t. t || is_deleted b) e)
+    both_in a b ids (inr low) (inl e) = inl (cited.deleted a b ids ∙ (ap (λ t. is_deleted a || t) e ∙ or_true (is_deleted a)))
+    both_in a b ids (inr low) (inr other) = inr ((least_upper_bound any_laws (rows.Version a) (rows.Version b)).least top low other)
 
-  joined_within : (a b : AnyRow) → Same words a b → IsWithin a → IsWithin b → IsWithin (any_join a b)
-  joined_within (rows.Object a) (rows.Object b) same h k = tt
-  joined_within (rows.Object a) (rows.Version b) same h k = k
-  joined_within (rows.Object a) (rows.Ref b) same h k = tt
-  joined_within (rows.Version a) (rows.Object b) same h k = h
-  joined_within (rows.Version a) (rows.Version b) same h k = λ key.
-      let ids : a.id ≡ b.id = version_ids a b same in
-      let id_is : (version_row_join a b).id ≡ a.id = cited.id a b ids in
-      let first : eight a.id ≡ eight id = ap eight (sym id_is) ∙ key in
-      both_in a b ids (h first) (k (ap eight (sym ids) ∙ first))
-  joined_within (rows.Version a) (rows.Ref b) same h k = tt
-  joined_within (rows.Ref a) (rows.Object b) same h k = tt
-  joined_within (rows.Ref a) (rows.Version b) same h k = tt
-  joined_within (rows.Ref a) (rows.Ref b) same h k = tt
+    joined_within : (a b : AnyRow) → Same words a b → IsWithin a → IsWithin b → IsWithin (any_join a b)
+    joined_within (rows.Object a) (rows.Object b) same h k = tt
+    joined_within (rows.Object a) (rows.Version b) same h k = k
+    joined_within (rows.Object a) (rows.Ref b) same h k = tt
+    joined_within (rows.Version a) (rows.Object b) same h k = h
+    joined_within (rows.Version a) (rows.Version b) same h k = λ key.
+        let ids : a.id ≡ b.id = version_ids a b same in
+        let id_is : (version_row_join a b).id ≡ a.id = cited.id a b ids in
+        let first : eight a.id ≡ eight id = ap eight (sym id_is) ∙ key in
+        both_in a b ids (h first) (k (ap eight (sym ids) ∙ first))
+    joined_within (rows.Version a) (rows.Ref b) same h k = tt
+    joined_within (rows.Ref a) (rows.Object b) same h k = tt
+    joined_within (rows.Ref a) (rows.Version b) same h k = tt
+    joined_within (rows.Ref a) (rows.Ref b) same h k = tt
 
-  called_within : (old new row : AnyRow) → Contains (triggered old new) row → IsWithin row
-  called_within (rows.Object a) (rows.Object b) row c = All-contains IsWithin (map deleted_version (given_up a b)) row (All-map IsWithin deleted_version (given_up a b) (λ k d lt e. inl refl)) c
-  called_within (rows.Version a) (rows.Version b) row c = All-contains IsWithin (map (deleted_reference a.id) (released a b)) row (All-map IsWithin (deleted_reference a.id) (released a b) (λ k d lt. tt)) c
-  called_within (rows.Ref a) (rows.Ref b) row c = All-contains IsWithin [] row (All-nil IsWithin) c
-  called_within a b row c = All-contains IsWithin [] row (All-nil IsWithin) c
+    called_within : (old new row : AnyRow) → Contains (triggered old new) row → IsWithin row
+    called_within (rows.Object a) (rows.Object b) row c = All-contains IsWithin (map deleted_version (given_up a b)) row (All-map IsWithin deleted_version (given_up a b) (λ k d lt e. inl refl)) c
+    called_within (rows.Version a) (rows.Version b) row c = All-contains IsWithin (map (deleted_reference a.id) (released a b)) row (All-map IsWithin (deleted_reference a.id) (released a b) (λ k d lt. tt)) c
+    called_within (rows.Ref a) (rows.Ref b) row c = All-contains IsWithin [] row (All-nil IsWithin) c
+    called_within a b row c = All-contains IsWithin [] row (All-nil IsWithin) c
 
-  inherited : IsInherited any_join words IsWithin
-  inherited = record { joined = joined_within; called_for = λ old new row h k c. called_within old new row c }
+    inherited : IsInherited any_join words IsWithin
+    inherited = record { joined = joined_within; called_for = λ old new row h k c. called_within old new row c }
 
-  within : (row : AnyRow) → ComesFrom any_join words (stored_in moves) row → IsWithin row
-  within row from = has_by_origin IsWithin inherited (stored_in moves) (All-weaker (IsRowOf p) IsWithin stored_within (stored_in moves) (all_stored cited moves s sound laid)) row from
+    within : (row : AnyRow) → ComesFrom any_join words (stored_in moves) row → IsWithin row
+    within row from = has_by_origin IsWithin inherited (stored_in moves) (All-weaker (IsRowOf p) IsWithin stored_within (stored_in moves) (all_stored cited moves s sound laid)) row from
 
-  -- ---- what a read of the version's row gave
+    -- ---- what a read of the version's row gave
 
-  abbrev pub IsNamed : Option AnyRow → Type 0
-  IsNamed value = (named_by value meta.size ≡ whole (named_pieces found.draw.block found.content.body 0 (suc found.last))) ⊎ ((named_by value meta.size ≡ deleted) × IsPassed p v.id)
+    abbrev pub IsNamed : Option AnyRow → Type 0
+    IsNamed value = (named_by value meta.size ≡ whole (named_pieces found.draw.block found.content.body 0 (suc found.last))) ⊎ ((named_by value meta.size ≡ deleted) × IsPassed p v.id)
 
-  -- a deleted one is of a version that was overwritten
-  passed : (r : VersionRow) → ComesFrom any_join words (stored_in moves) (rows.Version r) → eight r.id ≡ eight id → is_deleted r ≡ true → IsPassed p v.id
-  passed r from key is =
-      let stored : List AnyRow = stored_in moves in
-      let each : (x : AnyRow) → Contains stored x → IsRowOf p x = each_stored cited moves s sound laid in
-      let shows : ShowsVersion stored r = shown cited moves s sound laid (rows.Version r) from in
-      let lost : IsGone stored r.id = shows.gone is in
-      let other = was_drawn p stored each lost.key lost.version lost.state lost.was_stored in
-      let r_small : is_eight r.id ≡ true = subst (λ k. is_eight k ≡ true) (ap (λ (x : Version). x.id) other.version ∙ lost.id_is) (small cited moves s sound laid other.draw other.drawn) in
-      let same : r.id ≡ id = eight_same r.id id r_small (small cited moves s sound laid found.draw found.long.drawn) key in
-      let d : Draw = found.draw in
-      let newer : Newer stored (digest_of d.name.bucket, d.name.key) d.version =
-      (elim (cited.overwritten stored (drawn_as s.draws) (are_drawn p stored each apart_draws) id (digest_of d.name.bucket, d.name.key) d.version (drawn_there s.draws apart_draws d found.long.drawn) (subst (IsGone stored) same lost)) [
-        | inl newer ↦ newer
-        | inr aborted ↦ absurd (none_aborted p stored each (digest_of d.name.bucket, d.name.key) d.version aborted)
-      ]) in
-      let a = above_of p stored each d newer in
-      record { draw = d; drawn = found.long.drawn; id_is = ap (λ (x : Version). x.id) found.version_is; above = record { newer = a.0; block = a.1; wished = a.2; above = a.3; was_stored = a.4 } }
+    -- a deleted one is of a version that was overwritten
+    passed : (r : VersionRow) → ComesFrom any_join words (stored_in moves) (rows.Version r) → eight r.id ≡ eight id → is_deleted r ≡ true → IsPassed p v.id
+    passed r from key is =
+        let stored : List AnyRow = stored_in moves in
+        let each : (x : AnyRow) → Contains stored x → IsRowOf p x = each_stored cited moves s sound laid in
+        let shows : ShowsVersion stored r = shown cited moves s sound laid (rows.Version r) from in
+        let lost : IsGone stored r.id = shows.gone is in
+        let other = was_drawn p stored each lost.key lost.version lost.state lost.was_stored in
+        let r_small : is_eight r.id ≡ true = subst (λ k. is_eight k ≡ true) (ap (λ (x : Version). x.id) other.version ∙ lost.id_is) (small cited moves s sound laid other.draw other.drawn) in
+        let same : r.id ≡ id = eight_same r.id id r_small (small cited moves s sound laid found.draw found.long.drawn) key in
+        let d : Draw = found.draw in
+        let newer : Newer stored (digest_of d.name.bucket, d.name.key) d.version =
+        (elim (cited.overwritten stored (drawn_as s.draws) (are_drawn p stored each apart_draws) id (digest_of d.name.bucket, d.name.key) d.version (drawn_there s.draws apart_draws d found.long.drawn) (subst (IsGone stored) same lost)) [
+          | inl newer ↦ newer
+          | inr aborted ↦ absurd (none_aborted p stored each (digest_of d.name.bucket, d.name.key) d.version aborted)
+        ]) in
+        let a = above_of p stored each d newer in
+        record { draw = d; drawn = found.long.drawn; id_is = ap (λ (x : Version). x.id) found.version_is; above = record { newer = a.0; block = a.1; wished = a.2; above = a.3; was_stored = a.4 } }
 
-  module _ (question : Question AnyRow) (table : question.table ≡ 2) (key : question.key ≡ eight v.id)
-      (kept : (i : ℕ) → has_piece found.draw.block found.content.body i ≡ true → Contains question.kept (version_row id found.draw.block found.content.body i)) where
-    version_named : (r : VersionRow) → ComesFrom any_join words (stored_in moves) (rows.Version r) → eight r.id ≡ eight id → AtMost any_join top (rows.Version r) → IsIn r → IsNamed (Some (rows.Version r))
-    version_named r from same above (inl is) = inr (deleted_names r meta.size is, passed r from same is)
-    version_named r from same above (inr below) =
-        let row_is : rows.Version r ≡ top = (order_laws any_laws).antisymmetric (rows.Version r) top below above in
-        let size_is : meta.size ≡ length found.content.body = ap (λ (m : Meta). m.size) found.meta_is in
-        inl ((λ i. named_by (Some (row_is i)) (size_is i)) ∙ are_named id found.draw.block found.content.body found.last found.has_last found.no_more)
+    module _ (question : Question AnyRow) (table : question.table ≡ 2) (key : question.key ≡ eight v.id)
+        (kept : (i : ℕ) → has_piece found.draw.block found.content.body i ≡ true → Contains question.kept (version_row id found.draw.block found.content.body i)) where
+      version_named : (r : VersionRow) → ComesFrom any_join words (stored_in moves) (rows.Version r) → eight r.id ≡ eight id → AtMost any_join top (rows.Version r) → IsIn r → IsNamed (Some (rows.Version r))
+      version_named r from same above (inl is) = inr (deleted_names r meta.size is, passed r from same is)
+      version_named r from same above (inr below) =
+          let row_is : rows.Version r ≡ top = (order_laws any_laws).antisymmetric (rows.Version r) top below above in
+          let size_is : meta.size ≡ length found.content.body = ap (λ (m : Meta). m.size) found.meta_is in
+          inl ((λ i. named_by (Some (row_is i)) (size_is i)) ∙ are_named id found.draw.block found.content.body found.last found.has_last found.no_more)
 
-    row_named : (row : AnyRow) → ComesFrom any_join words (stored_in moves) row → words.table row ≡ 2 → words.key row ≡ eight id → AtMost any_join top row → IsNamed (Some row)
-    row_named (rows.Object r) from t k above = apart 1 2 (lit< tt) t
-    row_named (rows.Version r) from t k above = version_named r from k above (within (rows.Version r) from k)
-    row_named (rows.Ref r) from t k above = apart 2 3 (lit< tt) (sym t)
+      row_named : (row : AnyRow) → ComesFrom any_join words (stored_in moves) row → words.table row ≡ 2 → words.key row ≡ eight id → AtMost any_join top row → IsNamed (Some row)
+      row_named (rows.Object r) from t k above = apart 1 2 (lit< tt) t
+      row_named (rows.Version r) from t k above = version_named r from k above (within (rows.Version r) from k)
+      row_named (rows.Ref r) from t k above = apart 2 3 (lit< tt) (sym t)
 
-    -- what was kept of each block's row is below what the read gave
-    at_place : (i : ℕ) → is_at words 2 (eight id) (version_row id found.draw.block found.content.body i) ≡ true
-    at_place i = ap is_eq (tied_itself place_total (2, eight id))
+      -- what was kept of each block's row is below what the read gave
+      at_place : (i : ℕ) → is_at words 2 (eight id) (version_row id found.draw.block found.content.body i) ≡ true
+      at_place i = ap is_eq (tied_itself place_total (2, eight id))
 
-    over : (value : Option AnyRow) → Contains s.world.reads (read question value) → IsOver any_join words value (row_at any_join words question.kept 2 (eight id))
-    over value c =
-        let keeps : KeptReads any_join words s.world = reached_kept cited.every s.world laid.reached in
-        let key_is : question.key ≡ eight id = key ∙ ap (λ (x : Version). eight x.id) (sym found.version_is) in
-        subst (λ (i : List ℕ). IsOver any_join words value (row_at any_join words question.kept 2 i)) key_is
-        (subst (λ (t : ℕ). IsOver any_join words value (row_at any_join words question.kept t question.key)) table (keeps (read question value) c))
+      over : (value : Option AnyRow) → Contains s.world.reads (read question value) → IsOver any_join words value (row_at any_join words question.kept 2 (eight id))
+      over value c =
+          let keeps : KeptReads any_join words s.world = reached_kept cited.every s.world laid.reached cited.clear in
+          let key_is : question.key ≡ eight id = key ∙ ap (λ (x : Version). eight x.id) (sym found.version_is) in
+          subst (λ (i : List ℕ). IsOver any_join words value (row_at any_join words question.kept 2 i)) key_is
+          (subst (λ (t : ℕ). IsOver any_join words value (row_at any_join words question.kept t question.key)) table (keeps (read question value) c))
 
-    rows_there : (i : ℕ) → i ≤ found.last → AtMost (option_join any_join) (Some (version_row id found.draw.block found.content.body i)) (row_at any_join words question.kept 2 (eight id))
-    rows_there i le =
-        let x : AnyRow = version_row id found.draw.block found.content.body i in
-        All-contains (IsBelow 2 (eight id) question.kept) question.kept x (members_below 2 (eight id) question.kept) (kept i (piece_there found.draw.block found.content.body found.last i found.has_last le)) (at_place i)
+      rows_there : (i : ℕ) → i ≤ found.last → AtMost (option_join any_join) (Some (version_row id found.draw.block found.content.body i)) (row_at any_join words question.kept 2 (eight id))
+      rows_there i le =
+          let x : AnyRow = version_row id found.draw.block found.content.body i in
+          All-contains (IsBelow 2 (eight id) question.kept) question.kept x (members_below 2 (eight id) question.kept) (kept i (piece_there found.draw.block found.content.body found.last i found.has_last le)) (at_place i)
 
-    by_value : (value at : Option AnyRow) → IsOver any_join words value at → ((i : ℕ) → i ≤ found.last → AtMost (option_join any_join) (Some (version_row id found.draw.block found.content.body i)) at) → Contains s.world.reads (read question value) → IsNamed value
-    by_value None None over low c = let no : Some (version_row id found.draw.block found.content.body 0) ≡ None = low 0 (omega arith) in cc
-    by_value (Some row) None over low c = let no : Some (version_row id found.draw.block found.content.body 0) ≡ None = low 0 (omega arith) in cc
-    by_value None (Some at) over low c = absurd over
-    by_value (Some row) (Some at) over low c =
-        let from = gave cited moves s sound laid question row c in
-        let above : AtMost any_join top row =
-        merged_below id found.draw.block found.content.body found.last row
-        (λ i le. (order_laws any_laws).transitive (version_row id found.draw.block found.content.body i) at row (at_most_some any_join (version_row id found.draw.block found.content.body i) at (low i le)) over) in
-        row_named row from.0 (from.1 ∙ table) (from.2 ∙ (key ∙ ap (λ (x : Version). eight x.id) (sym found.version_is))) above
+      by_value : (value at : Option AnyRow) → IsOver any_join words value at → ((i : ℕ) → i ≤ found.last → AtMost (option_join any_join) (Some (version_row id found.draw.block found.content.body i)) at) → Contains s.world.reads (read question value) → IsNamed value
+      by_value None None over low c = let no : Some (version_row id found.draw.block found.content.body 0) ≡ None = low 0 (omega arith) in cc
+      by_value (Some row) None over low c = let no : Some (version_row id found.draw.block found.content.body 0) ≡ None = low 0 (omega arith) in cc
+      by_value None (Some at) over low c = absurd over
+      by_value (Some row) (Some at) over low c =
+          let from = gave cited moves s sound laid question row c in
+          let above : AtMost any_join top row =
+          merged_below id found.draw.block found.content.body found.last row
+          (λ i le. (order_laws any_laws).transitive (version_row id found.draw.block found.content.body i) at row (at_most_some any_join (version_row id found.draw.block found.content.body i) at (low i le)) over) in
+          row_named row from.0 (from.1 ∙ table) (from.2 ∙ (key ∙ ap (λ (x : Version). eight x.id) (sym found.version_is))) above
 
-    pub named : (value : Option AnyRow) → Contains s.world.reads (read question value) → IsNamed value
-    named value c = by_value value (row_at any_join words question.kept 2 (eight id)) (over value c) rows_there c
+      pub named : (value : Option AnyRow) → Contains s.world.reads (read question value) → IsNamed value
+      named value c = by_value value (row_at any_join words question.kept 2 (eight id)) (over value c) rows_there c

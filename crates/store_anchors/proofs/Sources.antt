@@ -33,50 +33,51 @@ use Rattle.store_anchors.proofs.Cited.{Cited}
 use Rattle.store_anchors.proofs.Laid.{IsLaidIn}
 use Rattle.store_anchors.proofs.Reading.{gave}
 
-module _ (cited : Cited) (moves : List Moving) (s : State) (sound : IsSound s) (laid : IsLaidIn moves s) (q : ℕ) (a : Asked) (at : numbered s.asked q ≡ Some a) (block : ℕ) (name : Name) (aim : Aim) (flow_is : a.flow ≡ Some (flow_of q block (Looking name aim))) (value : Option AnyRow) (h : HasRead s.asked s.history s.world.reads q value) where
-  -- the row that it asked for is the object's
-  asks : AsksRow name h.question
-  asks =
-      let w = h.is_asking.waits in
-      let some_is : Some w.one ≡ Some a = sym w.is_there ∙ at in
-      let one_is : w.one ≡ a = cc in
-      let flows : Some w.flow ≡ Some (flow_of q block (Looking name aim)) = sym w.flow_is ∙ (ap (λ (x : Asked). x.flow) one_is ∙ flow_is) in
-      let same : w.flow ≡ flow_of q block (Looking name aim) = cc in
-      subst (λ (f : Flow). AsksFor f.stage h.question) same h.is_asking.asks
+module _ {H : List ℕ → Type 0} where
+  module _ (cited : Cited H) (moves : List Moving) (s : State) (sound : IsSound H s) (laid : IsLaidIn H moves s) (q : ℕ) (a : Asked) (at : numbered s.asked q ≡ Some a) (block : ℕ) (name : Name) (aim : Aim) (flow_is : a.flow ≡ Some (flow_of q block (Looking name aim))) (value : Option AnyRow) (h : HasRead s.asked s.history s.world.reads q value) where
+    -- the row that it asked for is the object's
+    asks : AsksRow name h.question
+    asks =
+        let w = h.is_asking.waits in
+        let some_is : Some w.one ≡ Some a = sym w.is_there ∙ at in
+        let one_is : w.one ≡ a = cc in
+        let flows : Some w.flow ≡ Some (flow_of q block (Looking name aim)) = sym w.flow_is ∙ (ap (λ (x : Asked). x.flow) one_is ∙ flow_is) in
+        let same : w.flow ≡ flow_of q block (Looking name aim) = cc in
+        subst (λ (f : Flow). AsksFor f.stage h.question) same h.is_asking.asks
 
-  value_known : (row : AnyRow) → value ≡ Some row → IsValue s.draws name row
-  value_known row e =
-      let good = given_good cited.every s q sound value h row e in
-      let from = gave cited moves s sound laid h.question row (subst (λ (v : Option AnyRow). Contains s.world.reads (read h.question v)) e h.is_there) in
-      let table : words.table row ≡ 1 = from.1 ∙ asks.0 in
-      record { is_of = good.0; table = table; key = from.2 ∙ asks.1; is_proper = good.1 table }
+    value_known : (row : AnyRow) → value ≡ Some row → IsValue s.draws name row
+    value_known row e =
+        let good = given_good cited.every s q sound value h row e in
+        let from = gave cited moves s sound laid h.question row (subst (λ (v : Option AnyRow). Contains s.world.reads (read h.question v)) e h.is_there) in
+        let table : words.table row ≡ 1 = from.1 ∙ asks.0 in
+        record { is_of = good.0; table = table; key = from.2 ∙ asks.1; is_proper = good.1 table }
 
-  -- each version that a row says was drawn for the object
-  object_found : (r : ObjectRow) → value ≡ Some (rows.Object r) → IsFound s.draws r name (said_by r)
-  object_found r e = let known = value_known (rows.Object r) e in found s.draws r name known.is_of known.key
+    -- each version that a row says was drawn for the object
+    object_found : (r : ObjectRow) → value ≡ Some (rows.Object r) → IsFound s.draws r name (said_by r)
+    object_found r e = let known = value_known (rows.Object r) e in found s.draws r name known.is_of known.key
 
-  pub said_found : (said : Said) → said_of value ≡ said → (said ≡ none → ⊥) → (r : ObjectRow) × IsFound s.draws r name said
-  said_found said e some = let row = says_row value said e some in (row.0, subst (IsFound s.draws row.0 name) row.2 (object_found row.0 row.1))
+    pub said_found : (said : Said) → said_of value ≡ said → (said ≡ none → ⊥) → (r : ObjectRow) × IsFound s.draws r name said
+    said_found said e some = let row = says_row value said e some in (row.0, subst (IsFound s.draws row.0 name) row.2 (object_found row.0 row.1))
 
-  by_kind : (w : Version) (row : AnyRow) → value ≡ Some row → CoversRow row w → (r : ObjectRow) × (value ≡ Some (rows.Object r)) × CoversIn r w
-  by_kind w (rows.Object r) e c = (r, e, c)
-  by_kind w (rows.Version r) e c = absurd c
-  by_kind w (rows.Ref r) e c = absurd c
+    by_kind : (w : Version) (row : AnyRow) → value ≡ Some row → CoversRow row w → (r : ObjectRow) × (value ≡ Some (rows.Object r)) × CoversIn r w
+    by_kind w (rows.Object r) e c = (r, e, c)
+    by_kind w (rows.Version r) e c = absurd c
+    by_kind w (rows.Ref r) e c = absurd c
 
-  -- it is an object's row, which covers what was acknowledged before
-  covered : (before after : List Record) (n : ℕ) (kind : Kind) (own : Name) (w : Version) → s.history ≡ before ++ began q n kind own ∷ after → WasAcknowledged before name w → (r : ObjectRow) × (value ≡ Some (rows.Object r)) × CoversIn r w
-  covered before after n kind own w cut ack =
-      let k : HasKept h.question.kept name w = h.is_asking.has before after n kind own cut name w ack in
-      let over : IsOver any_join words value (row_at any_join words h.question.kept h.question.table h.question.key) = reached_kept cited.every s.world sound.reached (read h.question value) h.is_there in
-      let over_row : IsOver any_join words value (row_at any_join words h.question.kept 1 (row_key name)) =
-      subst (λ (i : List ℕ). IsOver any_join words value (row_at any_join words h.question.kept 1 i)) asks.1 (subst (λ (t : ℕ). IsOver any_join words value (row_at any_join words h.question.kept t h.question.key)) asks.0 over) in
-      let c = covers name w k.block k.wish s.draws h.question.kept value h.is_asking.proper k.is_there over_row value_known in
-      by_kind w c.0 c.1 c.2
+    -- it is an object's row, which covers what was acknowledged before
+    covered : (before after : List Record) (n : ℕ) (kind : Kind) (own : Name) (w : Version) → s.history ≡ before ++ began q n kind own ∷ after → WasAcknowledged before name w → (r : ObjectRow) × (value ≡ Some (rows.Object r)) × CoversIn r w
+    covered before after n kind own w cut ack =
+        let k : HasKept h.question.kept name w = h.is_asking.has before after n kind own cut name w ack in
+        let over : IsOver any_join words value (row_at any_join words h.question.kept h.question.table h.question.key) = reached_kept cited.every s.world sound.reached cited.clear (read h.question value) h.is_there in
+        let over_row : IsOver any_join words value (row_at any_join words h.question.kept 1 (row_key name)) =
+        subst (λ (i : List ℕ). IsOver any_join words value (row_at any_join words h.question.kept 1 i)) asks.1 (subst (λ (t : ℕ). IsOver any_join words value (row_at any_join words h.question.kept t h.question.key)) asks.0 over) in
+        let c = covers name w k.block k.wish s.draws h.question.kept value h.is_asking.proper k.is_there over_row value_known in
+        by_kind w c.0 c.1 c.2
 
-  -- so the version that is said is not below that
-  pub not_below : (before after : List Record) (n : ℕ) (kind : Kind) (own : Name) → s.history ≡ before ++ began q n kind own ∷ after → (said : Said) (v : Version) → said_of value ≡ said → ((u : Version) → IsSaid u said → v ≡ u) →
-      (w : Version) → WasAcknowledged before name w → ¬ Below v w
-  not_below before after n kind own cut said v e one w ack =
-      let c = covered before after n kind own w cut ack in
-      let says : said_by c.0 ≡ said = sym (ap said_of c.1) ∙ e in
-      subst (λ (u : Version). ¬ Below u w) (sym (one c.2.version (subst (IsSaid c.2.version) says c.2.says))) c.2.not_below
+    -- so the version that is said is not below that
+    pub not_below : (before after : List Record) (n : ℕ) (kind : Kind) (own : Name) → s.history ≡ before ++ began q n kind own ∷ after → (said : Said) (v : Version) → said_of value ≡ said → ((u : Version) → IsSaid u said → v ≡ u) →
+        (w : Version) → WasAcknowledged before name w → ¬ Below v w
+    not_below before after n kind own cut said v e one w ack =
+        let c = covered before after n kind own w cut ack in
+        let says : said_by c.0 ≡ said = sym (ap said_of c.1) ∙ e in
+        subst (λ (u : Version). ¬ Below u w) (sym (one c.2.version (subst (IsSaid c.2.version) says c.2.says))) c.2.not_below

@@ -8,7 +8,8 @@ use Rattle.quorum_model.specs.declared.range.RangeAnswer.{RangeAnswer}
 use Rattle.quorum_model.specs.Quorum.{StoreSlot, with_confirmation}
 use Rattle.quorum_model.specs.Window.{Window}
 use Rattle.wire_messages.specs.declared.message.Message.{Message}
-use Rattle.wire_messages.specs.declared.message.Message.TheVariants.{Get, Row, Range, Rows, Store, Stored, Behind, NotHere, BlockGet, Block, NoBlock}
+use Rattle.wire_messages.specs.declared.message.Message.TheVariants.{Get, Row, Range, Rows, Store, Stored, Behind, NotHere, BlockGet, Block, NoBlock, Walk as AsksValue, Same as HasSame, Differ}
+use Rattle.blake2_hash.specs.declared.digest.Hash32.{Hash32}
 use Rattle.wire_messages.specs.declared.message.Tag.{Tag}
 use Rattle.wire_messages.specs.declared.message.Tag.TheVariants.{Call as ForCall, Round as ForRound, Item as ForItem}
 use Rattle.wire_messages.specs.declared.phase.PhaseEnd.{PhaseEnd}
@@ -16,11 +17,11 @@ use Rattle.wire_messages.specs.declared.phase.PhaseEnd.TheVariants.{Row as GaveR
 use Rattle.cluster_machine.specs.declared.step.Action.{Action}
 use Rattle.cluster_machine.specs.declared.step.Action.TheVariants.{Ack as RaiseAck, Sync as GoOn, SyncAck as RaiseSyncAck, Clean, Work, Repair}
 use Rattle.cluster_machine.specs.Layouts.{Layouts, is_given, is_stored}
-use Rattle.cluster_machine.specs.Node.{Question, Scan, Present, resting, asking, scanning, storing, fetching, Call, Node, Round, Packet, says, shows, read, scanned, Did, Ended, Reading, quiet}
+use Rattle.cluster_machine.specs.Node.{Question, Scan, Present, resting, asking, scanning, storing, fetching, Call, Node, Walk, Round, Mending, Packet, says, shows, read, scanned, Did, Ended, Reading, quiet}
 use Rattle.cluster_machine.specs.Rows.{accepts_all, block_at}
 use Rattle.cluster_machine.specs.Phases.{call_at, calls_now, ended, asked, looked, stored, value_after, row_came, rows_came, stored_came, block_came, at_call}
-use Rattle.cluster_machine.specs.Rounds.{goes_on, may_sync}
-use Rattle.cluster_machine.specs.Receives.{answers, where_stored, gives_block, takes, round_came, confirms, hears, receives}
+use Rattle.cluster_machine.specs.Rounds.{goes_on, may_sync, walk_at, walk_after, walks_after, found_same, round_walks, mending_walks, at_walk, mending_came, with_mending, with_lasting, late_came, answer_came, walked_anew}
+use Rattle.cluster_machine.specs.Receives.{answers, where_stored, gives_block, takes, round_came, compares, walks_on, confirms, hears, receives}
 use Rattle.cluster_machine.specs.Acts.{Acted, syncs, acts}
 use Rattle.machine_origins.proofs.FollowingCalls.{was}
 use Rattle.machine_origins.proofs.FollowingSteps.{calls_all, calls_seen, calls_round, calls_begun}
@@ -129,6 +130,41 @@ module _ {R L : Type 0} (x : Node R L) (busy : (c : Call R) → Has x.calls c �
         let now : Round = record round { confirmed = round.confirmed ++ record { partition = p; node = from } ∷ [] } in
         stays_cond (round.number == number) (quiet (goes_on join s k id x now)) (quiet x) (stays_same (quiet (goes_on join s k id x now)) (calls_round join s k id x now)) stays_quiet
 
+    stays_compares : (id from : ℕ) (tag : Tag) (named p table : ℕ) (prefix : List ℕ) (hash : Hash32) → Stays (compares join s k id x from tag named p table prefix hash)
+    stays_compares id from tag named p table prefix hash =
+        stays_cond (nat_lt (newest k.reading x.view) named) _ _ (stays_answer x from _ refl) (stays_cond (not (is_given k x.view id p)) _ _ (stays_answer x from _ refl) (stays_same _ refl))
+
+    stays_at_walk : (table : ℕ) (prefix : List ℕ) (f : Walk → Did R L) (o : Option Walk) → ((w : Walk) → Stays (f w)) → Stays (at_walk join s k x table prefix f o)
+    stays_at_walk table prefix f None h = stays_quiet
+    stays_at_walk table prefix f (Some w) h = stays_cond _ (f w) (quiet x) (h w) stays_quiet
+
+    module _ (id from number p table : ℕ) (prefix : List ℕ) (answer : Option (List (ℕ × Hash32))) where
+      stays_walked : (round : Round) (w : Walk) → Stays (round_walks join s k id x table prefix answer round w)
+      stays_walked round w =
+          let later : Walk = walk_after join s x w table prefix answer in
+          let now : Round = record round { walks = walks_after later round.walks } in
+          let there : Round = record now { confirmed = now.confirmed ++ record { partition = w.state.partition; node = w.node } ∷ [] } in
+          stays_same (round_walks join s k id x table prefix answer round w)
+          (elim (found_same later) as (λ b. (cond b (goes_on join s k id x there) (record x { round = Some now })).calls ≡ x.calls) [ true ↦ calls_round join s k id x there | false ↦ refl ])
+
+      stays_mending : (now : Mending → Node R L) (other : Did R L) → ((m : Mending) → (now m).calls ≡ x.calls) → Stays other → (o : Option Mending) → Stays (mending_came join s k x now other from number p table prefix answer o)
+      stays_mending now other same h None = h
+      stays_mending now other same h (Some mending) =
+          stays_cond (mending.number == number) _ other (stays_at_walk table prefix (mending_walks join s k x now table prefix answer mending) (walk_at p from mending.walks) (λ w. stays_same _ (same _))) h
+
+      stays_late : Stays (late_came join s k x from number p table prefix answer)
+      stays_late = stays_mending (with_lasting join s k x) _ (λ m. refl) (stays_mending (with_mending join s k x) (quiet x) (λ m. refl) stays_quiet x.mending) x.lasting
+
+      stays_answered : (o : Option Round) → Stays (answer_came join s k id x from number p table prefix answer o)
+      stays_answered None = stays_late
+      stays_answered (Some round) =
+          stays_cond (round.number == number) _ _ (stays_at_walk table prefix (round_walks join s k id x table prefix answer round) (walk_at p from round.walks) (stays_walked round)) stays_late
+
+    stays_walks : (id from : ℕ) (tag : Tag) (table : ℕ) (prefix : List ℕ) (answer : Option (List (ℕ × Hash32))) → Stays (walks_on join s k id x from tag table prefix answer)
+    stays_walks id from (ForCall request phase slot) table prefix answer = stays_quiet
+    stays_walks id from (ForRound number p) table prefix answer = stays_answered id from number p table prefix answer x.round
+    stays_walks id from (ForItem number) table prefix answer = stays_quiet
+
     stays_confirms : (id from : ℕ) (tag : Tag) → Stays (confirms join s k id x from tag)
     stays_confirms id from (ForCall request phase slot) = stays_at phase _ (call_at x.calls request) (λ c. stays_confirmed c join s k slot from c.present)
     stays_confirms id from (ForRound number p) = stays_round id from number p x.round
@@ -146,6 +182,9 @@ module _ {R L : Type 0} (x : Node R L) (busy : (c : Call R) → Has x.calls c �
     stays_hears id now from (BlockGet request phase at hash) = stays_where from request phase at _ (stays_gives_block from request phase (block_at x.blocks hash.0))
     stays_hears id now from (Block request phase bytes) = stays_at phase _ (call_at x.calls request) (λ c. stays_block c bytes c.present)
     stays_hears id now from (NoBlock request phase) = stays_quiet
+    stays_hears id now from (AsksValue tag named p table prefix hash) = stays_compares id from tag named p table prefix hash
+    stays_hears id now from (HasSame tag table prefix) = stays_walks id from tag table prefix None
+    stays_hears id now from (Differ tag table prefix pairs) = stays_walks id from tag table prefix (Some pairs)
 
     pub stays_receives : (id now from : ℕ) (packet : Packet R L) → Stays (receives join s k id now x from packet)
     stays_receives id now from (says m) = stays_hears id now from m
@@ -161,7 +200,7 @@ module _ {R L : Type 0} (join : R → R → R) (s : Words R) (k : Layouts L) (x 
   leaves_acted false d e h k = k
 
   leaves_syncs : (id : ℕ) (o : Option Round) → Leaves (syncs join s k id x o).did
-  leaves_syncs id (Some round) = refl
+  leaves_syncs id (Some round) = calls_round join s k id x (walked_anew join s k x round)
   leaves_syncs id None = leaves_acted (may_sync join s k id x.view) _ _ (calls_begun join s k id x) refl
 
   pub leaves_acts : (id now : ℕ) (action : Action) → Leaves (acts join s k id now x action).did

@@ -18,6 +18,7 @@ use Rattle.store_model.specs.Fresh.{IsMarked, Covers, IsDrawn, HasDeleted, NoCla
 use Rattle.machine_origins.proofs.Places.{get_append}
 use Rattle.store_laws.proofs.Records.{in_front, finish_is, finish_cases, acknowledged_is, split, old_at, began_before, acknowledged_before}
 use Rattle.store_laws.proofs.Rows.{marker_drawn}
+use Rattle.cluster_machine.specs.Hashes.{NoClash as NoTrieClash}
 use Rattle.store_laws.proofs.Sound.{began, IsWishOf, WasAcknowledged, DrewHere, IsFreshEnd, IsSound}
 
 -- ---- what was seen and drawn stays so
@@ -118,76 +119,77 @@ was_acknowledged h i bucket key w within a =
       has_finished = in_front h a.end i _ is.0 a.before within;
     }
 
--- a marker that a phase gave was drawn, by a delete of this very object
-marked_deleted : (s : State) (q : ℕ) (bucket key : List ℕ) (w : Version) → IsSound s → NoClash s.buckets → Contains s.buckets bucket → IsMarked s.saw q bucket key w → HasDeleted s (length s.history) bucket key w
-marked_deleted s q bucket key w sound clash is_bucket m =
-    let d = marker_drawn s.draws m.row m.version (sound.seen (record { request = q; end = m.end }) m.row m.was_seen m.gave) m.says in
-    let had = sound.drawn d.draw d.drawn in
-    let bucket_is : d.draw.name.bucket ≡ bucket = clash d.draw.name.bucket bucket had.bucket is_bucket (ap (λ (b : Hash32). b.0) (d.bucket ∙ m.bucket_is)) in
-    let key_is : d.draw.name.key ≡ key = d.key ∙ m.key_is in
-    record {
-      draw = d.draw;
-      drawn = d.drawn;
-      not_below = subst (λ (v : Version). ¬ Below v w) (sym d.version) m.not_below;
-      name_is = λ i. record { bucket = bucket_is i; key = key_is i };
-      kind = had.kind;
-      is_delete = subst (IsWishOf had.kind) d.wish_is had.fits;
-      place = had.place;
-      began = (had.node, had.began_at ∙ (λ i. Some (Began d.draw.request had.node had.kind (bucket_is i) (key_is i))));
-      in_time = had.in_time;
-      before = had.moment;
-    }
+module _ {H : List ℕ → Type 0} where
+  -- a marker that a phase gave was drawn, by a delete of this very object
+  marked_deleted : (s : State) (q : ℕ) (bucket key : List ℕ) (w : Version) → IsSound H s → NoClash s.buckets → Contains s.buckets bucket → IsMarked s.saw q bucket key w → HasDeleted s (length s.history) bucket key w
+  marked_deleted s q bucket key w sound clash is_bucket m =
+      let d = marker_drawn s.draws m.row m.version (sound.seen (record { request = q; end = m.end }) m.row m.was_seen m.gave) m.says in
+      let had = sound.drawn d.draw d.drawn in
+      let bucket_is : d.draw.name.bucket ≡ bucket = clash d.draw.name.bucket bucket had.bucket is_bucket (ap (λ (b : Hash32). b.0) (d.bucket ∙ m.bucket_is)) in
+      let key_is : d.draw.name.key ≡ key = d.key ∙ m.key_is in
+      record {
+        draw = d.draw;
+        drawn = d.drawn;
+        not_below = subst (λ (v : Version). ¬ Below v w) (sym d.version) m.not_below;
+        name_is = λ i. record { bucket = bucket_is i; key = key_is i };
+        kind = had.kind;
+        is_delete = subst (IsWishOf had.kind) d.wish_is had.fits;
+        place = had.place;
+        began = (had.node, had.began_at ∙ (λ i. Some (Began d.draw.request had.node had.kind (bucket_is i) (key_is i))));
+        in_time = had.in_time;
+        before = had.moment;
+      }
 
--- the bucket of a request that began was made
-bucket_made : (s : State) (q n : ℕ) (kind : Kind) (name : Name) → IsSound s → Contains s.history (began q n kind name) → Contains s.buckets name.bucket
-bucket_made s q n kind name sound c =
-    let asked = sound.told.began_asked q n kind name c in
-    subst (λ (m : Name). Contains s.buckets m.bucket) asked.name_is (sound.told.bucket_there q asked.one asked.is_there)
+  -- the bucket of a request that began was made
+  bucket_made : (s : State) (q n : ℕ) (kind : Kind) (name : Name) → IsSound H s → Contains s.history (began q n kind name) → Contains s.buckets name.bucket
+  bucket_made s q n kind name sound c =
+      let asked = sound.told.began_asked q n kind name c in
+      subst (λ (m : Name). Contains s.buckets m.bucket) asked.name_is (sound.told.bucket_there q asked.one asked.is_there)
 
--- fresh, if what the new record finishes is
-pub fresh_told : (s : State) (x : Record) → IsSound s → ((q : ℕ) (a : Answer) → x ≡ Finished q a → IsFreshEnd s q a) → IsFresh (record s { history = s.history ++ x ∷ [] })
-fresh_told s x sound ends i j q kind bucket own a r =
-    let h : List Record = s.history in
-    let t : State = record s { history = h ++ x ∷ [] } in
-    let is = finish_is (h ++ x ∷ []) i q j a r.finished in
-    let low : i < length h = began_before h x i j q a r.finished in
-    let began_at : slice_get h i ≡ Some (Began q r.began.0 kind bucket own) = old_at h x i _ low r.began.1 in
-    elim (finish_cases h x i q j a low r.finished) [
-      | inl old ↦
-          let was : IsFreshRead s i j q kind bucket own a = sound.fresh i j q kind bucket own a (record { reads = r.reads; began = (r.began.0, began_at); finished = old }) in
-          record {
-            covers = λ key w named ack. was.covers key w named (acknowledged_old h x i bucket key w (omega arith) ack);
-            written = λ clash key v named shows. drawn_later s t (x ∷ []) refl (λ d c. c) j bucket key v (was.written clash key v named shows);
-            deleted = λ clash key w named ack no. deleted_later s t (x ∷ []) refl (λ d c. c) j bucket key w (was.deleted clash key w named (acknowledged_old h x i bucket key w (omega arith) ack) no);
-          }
-      | inr new ↦
-          let end : IsFreshEnd s q a = ends q a new.1 in
-          let name : Name = record { bucket = bucket; key = own } in
-          let here : Contains h (began q r.began.0 kind name) = (i, low, get_or_from_slice_get h i _ _ began_at) in
-          let covers_now : (key : List ℕ) (w : Version) → IsTrue (names kind own key) → IsAcknowledged t.history i bucket key w → Covers s.saw q bucket own a key w = (λ key w named ack.
-          end.covers (take i h) (drop (suc i) h) r.began.0 kind name key w r.reads (split h i _ began_at) named
-          (was_acknowledged h i bucket key w (omega arith) (acknowledged_old h x i bucket key w (omega arith) ack))) in
-          record {
-            covers = covers_now;
-            deleted = λ clash key w named ack no.
-                deleted_later s t (x ∷ []) refl (λ d c. c) j bucket key w
-                (subst (λ (k : ℕ). HasDeleted s k bucket key w) (sym new.0) (marked_deleted s q bucket key w sound clash (bucket_made s q r.began.0 kind name sound here) ((covers_now key w named ack).none no)));
-            written = λ clash key v named shows.
-                let d : DrewHere s (record { bucket = bucket; key = key }) v = end.written clash r.began.0 kind name key v r.reads here named shows in
-                let moment = d.moment in
-                let j_is = new.0 in
-                record {
-                  draw = d.draw;
-                  drawn = d.drawn;
-                  version_is = d.version_is;
-                  request_is = d.request_is;
-                  name_is = d.name_is;
-                  kind = d.kind;
-                  is_source = d.is_source;
-                  place = d.place;
-                  began = (d.node, get_append h (x ∷ []) d.place _ d.began_at);
-                  in_time = d.in_time;
-                  before = omega arith;
-                };
-          }
-    ]
+  -- fresh, if what the new record finishes is
+  pub fresh_told : (s : State) (x : Record) → IsSound H s → NoTrieClash H → ((q : ℕ) (a : Answer) → x ≡ Finished q a → IsFreshEnd H s q a) → IsFresh (record s { history = s.history ++ x ∷ [] })
+  fresh_told s x sound clear ends i j q kind bucket own a r =
+      let h : List Record = s.history in
+      let t : State = record s { history = h ++ x ∷ [] } in
+      let is = finish_is (h ++ x ∷ []) i q j a r.finished in
+      let low : i < length h = began_before h x i j q a r.finished in
+      let began_at : slice_get h i ≡ Some (Began q r.began.0 kind bucket own) = old_at h x i _ low r.began.1 in
+      elim (finish_cases h x i q j a low r.finished) [
+        | inl old ↦
+            let was : IsFreshRead s i j q kind bucket own a = sound.fresh clear i j q kind bucket own a (record { reads = r.reads; began = (r.began.0, began_at); finished = old }) in
+            record {
+              covers = λ key w named ack. was.covers key w named (acknowledged_old h x i bucket key w (omega arith) ack);
+              written = λ clash key v named shows. drawn_later s t (x ∷ []) refl (λ d c. c) j bucket key v (was.written clash key v named shows);
+              deleted = λ clash key w named ack no. deleted_later s t (x ∷ []) refl (λ d c. c) j bucket key w (was.deleted clash key w named (acknowledged_old h x i bucket key w (omega arith) ack) no);
+            }
+        | inr new ↦
+            let end : IsFreshEnd H s q a = ends q a new.1 in
+            let name : Name = record { bucket = bucket; key = own } in
+            let here : Contains h (began q r.began.0 kind name) = (i, low, get_or_from_slice_get h i _ _ began_at) in
+            let covers_now : (key : List ℕ) (w : Version) → IsTrue (names kind own key) → IsAcknowledged t.history i bucket key w → Covers s.saw q bucket own a key w = (λ key w named ack.
+            end.covers clear (take i h) (drop (suc i) h) r.began.0 kind name key w r.reads (split h i _ began_at) named
+            (was_acknowledged h i bucket key w (omega arith) (acknowledged_old h x i bucket key w (omega arith) ack))) in
+            record {
+              covers = covers_now;
+              deleted = λ clash key w named ack no.
+                  deleted_later s t (x ∷ []) refl (λ d c. c) j bucket key w
+                  (subst (λ (k : ℕ). HasDeleted s k bucket key w) (sym new.0) (marked_deleted s q bucket key w sound clash (bucket_made s q r.began.0 kind name sound here) ((covers_now key w named ack).none no)));
+              written = λ clash key v named shows.
+                  let d : DrewHere s (record { bucket = bucket; key = key }) v = end.written clash r.began.0 kind name key v r.reads here named shows in
+                  let moment = d.moment in
+                  let j_is = new.0 in
+                  record {
+                    draw = d.draw;
+                    drawn = d.drawn;
+                    version_is = d.version_is;
+                    request_is = d.request_is;
+                    name_is = d.name_is;
+                    kind = d.kind;
+                    is_source = d.is_source;
+                    place = d.place;
+                    began = (d.node, get_append h (x ∷ []) d.place _ d.began_at);
+                    in_time = d.in_time;
+                    before = omega arith;
+                  };
+            }
+      ]

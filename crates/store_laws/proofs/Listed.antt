@@ -41,6 +41,7 @@ use Rattle.store_laws.proofs.Covering.{IsSaid, CoversIn, CoversRow, covers}
 use Rattle.store_laws.proofs.Good.{IsGood}
 use Rattle.store_laws.proofs.Orders.{past_front, begins_front, within_front, at_parts, found_itself}
 use Rattle.store_laws.proofs.Reached.{reached_kept, reached_good, reached_window}
+use Rattle.cluster_machine.specs.Hashes.{NoClash as NoTrieClash}
 use Rattle.store_laws.proofs.Sound.{began, WasAcknowledged, HasKept, HasBefore, AreProper, HasFound, listed, HasRow, IsShown, HasShown, IsFreshEnd, IsSound}
 use Rattle.store_laws.proofs.Values.{is_own, drew_here}
 use Rattle.machine_origins.specs.Windows.{IsWindow}
@@ -117,129 +118,130 @@ passes (x ∷ xs) r t c = elim (cons_cases x xs r c) [
 
 -- ---- a window
 
-module _ (every : EveryWorld) (s : State) (q : ℕ) (sound : IsSound s) (bucket prefix : List ℕ) (shown_so_far : List ObjectRow) (others : List AnyRow) (end : Option (List ℕ)) (scan : Scan AnyRow)
-    (read : Contains s.world.reads (scanned scan others end)) (position : scan.position ≡ (digest_of bucket).0) (prefix_is : scan.prefix ≡ prefix) (has : HasBefore s.history q scan.kept) (proper : AreProper scan.kept) where
-  abbrev pub own : Name
-  own = record { bucket = bucket; key = prefix }
+module _ {H : List ℕ → Type 0} where
+  module _ (every : EveryWorld H) (s : State) (q : ℕ) (sound : IsSound H s) (bucket prefix : List ℕ) (shown_so_far : List ObjectRow) (others : List AnyRow) (end : Option (List ℕ)) (scan : Scan AnyRow)
+      (read : Contains s.world.reads (scanned scan others end)) (position : scan.position ≡ (digest_of bucket).0) (prefix_is : scan.prefix ≡ prefix) (has : HasBefore s.history q scan.kept) (proper : AreProper scan.kept) where
+    abbrev pub own : Name
+    own = record { bucket = bucket; key = prefix }
 
-  window : IsWindow words scan others end
-  window = reached_window every s.world sound.reached (scanned scan others end) read
+    window : IsWindow words scan others end
+    window = reached_window every s.world sound.reached (scanned scan others end) read
 
-  good : (row : AnyRow) → Contains others row → IsGood s.draws row
-  good row c = All-contains (IsGood s.draws) others row (reached_good every s.draws s.world sound.reached (scanned scan others end) read) c
+    good : (row : AnyRow) → Contains others row → IsGood s.draws row
+    good row c = All-contains (IsGood s.draws) others row (reached_good every s.draws s.world sound.reached (scanned scan others end) read) c
 
-  abbrev IsNamedKey : List ℕ → Type 0
-  IsNamedKey key = IsNamed scan.position scan.prefix scan.after end key
+    abbrev IsNamedKey : List ℕ → Type 0
+    IsNamedKey key = IsNamed scan.position scan.prefix scan.after end key
 
-  -- a row that is found at an object's key
-  known : (key : List ℕ) (row : AnyRow) → find_row words 1 (row_key (listed own key)) others ≡ Some row → IsValue s.draws (listed own key) row
-  known key row e =
-      let f = found_in (is_at words 1 (row_key (listed own key))) others row e in
-      let parts = at_parts words 1 (row_key (listed own key)) row f.0 in
-      let g = good row f.1 in
-      record { is_of = g.0; table = parts.0; key = parts.1; is_proper = g.1 parts.0 }
+    -- a row that is found at an object's key
+    known : (key : List ℕ) (row : AnyRow) → find_row words 1 (row_key (listed own key)) others ≡ Some row → IsValue s.draws (listed own key) row
+    known key row e =
+        let f = found_in (is_at words 1 (row_key (listed own key))) others row e in
+        let parts = at_parts words 1 (row_key (listed own key)) row f.0 in
+        let g = good row f.1 in
+        record { is_of = g.0; table = parts.0; key = parts.1; is_proper = g.1 parts.0 }
 
-  object_of : (w : Version) (row : AnyRow) → CoversRow row w → (r : ObjectRow) × (row ≡ rows.Object r) × CoversIn r w
-  object_of w (rows.Object r) c = (r, refl, c)
-  object_of w (rows.Version r) c = absurd c
-  object_of w (rows.Ref r) c = absurd c
+    object_of : (w : Version) (row : AnyRow) → CoversRow row w → (r : ObjectRow) × (row ≡ rows.Object r) × CoversIn r w
+    object_of w (rows.Object r) c = (r, refl, c)
+    object_of w (rows.Version r) c = absurd c
+    object_of w (rows.Ref r) c = absurd c
 
-  -- what the window has at the key of an object that was kept before
-  at_key : (key : List ℕ) (w : Version) → IsNamedKey (row_key (listed own key)) → HasKept scan.kept (listed own key) w → (r : ObjectRow) × (find_row words 1 (row_key (listed own key)) others ≡ Some (rows.Object r)) × CoversIn r w
-  at_key key w named k =
-      let name : Name = listed own key in
-      let over : IsOver any_join words (find_row words 1 (row_key name) others) (row_at any_join words scan.kept 1 (row_key name)) = reached_kept every s.world sound.reached (scanned scan others end) read (row_key name) named in
-      let c = covers name w k.block k.wish s.draws scan.kept (find_row words 1 (row_key name) others) proper k.is_there over (known key) in
-      let o = object_of w c.0 c.2 in
-      (o.0, c.1 ∙ ap Some o.1, o.2)
+    -- what the window has at the key of an object that was kept before
+    at_key : NoTrieClash H → (key : List ℕ) (w : Version) → IsNamedKey (row_key (listed own key)) → HasKept scan.kept (listed own key) w → (r : ObjectRow) × (find_row words 1 (row_key (listed own key)) others ≡ Some (rows.Object r)) × CoversIn r w
+    at_key clear key w named k =
+        let name : Name = listed own key in
+        let over : IsOver any_join words (find_row words 1 (row_key name) others) (row_at any_join words scan.kept 1 (row_key name)) = reached_kept every s.world sound.reached clear (scanned scan others end) read (row_key name) named in
+        let c = covers name w k.block k.wish s.draws scan.kept (find_row words 1 (row_key name) others) proper k.is_there over (known key) in
+        let o = object_of w c.0 c.2 in
+        (o.0, c.1 ∙ ap Some o.1, o.2)
 
-  -- a key with the prefix, past the start key, up to the window's end
-  named_key : (key : List ℕ) → IsTrue (starts_with nat_eq key prefix) → is_lt (slice_cmp nat_cmp scan.after key) ≡ true → IsTrue (is_within end key) → IsNamedKey (row_key (listed own key))
-  named_key key begins past within =
-      let p : List ℕ = (digest_of bucket).0 in
-      subst (λ (x : List ℕ). IsNamed x scan.prefix scan.after end (p ++ key)) (sym position)
-      (subst (λ (x : List ℕ). IsNamed p x scan.after end (p ++ key)) (sym prefix_is) (record {
-        begins = begins_front p key prefix ∙ begins;
-        past = ap is_lt (past_front p scan.after key) ∙ past;
-        within = within_front p key end ∙ within;
-      }))
+    -- a key with the prefix, past the start key, up to the window's end
+    named_key : (key : List ℕ) → IsTrue (starts_with nat_eq key prefix) → is_lt (slice_cmp nat_cmp scan.after key) ≡ true → IsTrue (is_within end key) → IsNamedKey (row_key (listed own key))
+    named_key key begins past within =
+        let p : List ℕ = (digest_of bucket).0 in
+        subst (λ (x : List ℕ). IsNamed x scan.prefix scan.after end (p ++ key)) (sym position)
+        (subst (λ (x : List ℕ). IsNamed p x scan.after end (p ++ key)) (sym prefix_is) (record {
+          begins = begins_front p key prefix ∙ begins;
+          past = ap is_lt (past_front p scan.after key) ∙ past;
+          within = within_front p key end ∙ within;
+        }))
 
-  -- the window's rows are of the bucket
-  own_key : (r : ObjectRow) → Contains others (rows.Object r) → words.key (rows.Object r) ≡ row_key (listed own r.key)
-  own_key r c =
-      let named : IsNamedKey (words.key (rows.Object r)) = All-contains (λ row. IsNamedKey (words.key row)) others (rows.Object r) window.named c in
-      let whole : scan.position ++ drop (length scan.position) (words.key (rows.Object r)) ≡ r.bucket.0 ++ r.key = begins_with scan.position scan.prefix (words.key (rows.Object r)) named.begins in
-      let here : (digest_of bucket).0 ++ drop (length scan.position) (words.key (rows.Object r)) ≡ r.bucket.0 ++ r.key = ap (λ p. p ++ drop (length scan.position) (words.key (rows.Object r))) (sym position) ∙ whole in
-      let parts = key_parts (digest_of bucket) r.bucket (drop (length scan.position) (words.key (rows.Object r))) r.key (digest_length bucket) (block_length 32 r.bucket.0 ((good (rows.Object r) c).1 refl)) here in
-      ap (λ (b : Hash32). b.0 ++ r.key) (sym parts.0)
+    -- the window's rows are of the bucket
+    own_key : (r : ObjectRow) → Contains others (rows.Object r) → words.key (rows.Object r) ≡ row_key (listed own r.key)
+    own_key r c =
+        let named : IsNamedKey (words.key (rows.Object r)) = All-contains (λ row. IsNamedKey (words.key row)) others (rows.Object r) window.named c in
+        let whole : scan.position ++ drop (length scan.position) (words.key (rows.Object r)) ≡ r.bucket.0 ++ r.key = begins_with scan.position scan.prefix (words.key (rows.Object r)) named.begins in
+        let here : (digest_of bucket).0 ++ drop (length scan.position) (words.key (rows.Object r)) ≡ r.bucket.0 ++ r.key = ap (λ p. p ++ drop (length scan.position) (words.key (rows.Object r))) (sym position) ∙ whole in
+        let parts = key_parts (digest_of bucket) r.bucket (drop (length scan.position) (words.key (rows.Object r))) r.key (digest_length bucket) (block_length 32 r.bucket.0 ((good (rows.Object r) c).1 refl)) here in
+        ap (λ (b : Hash32). b.0 ++ r.key) (sym parts.0)
 
-  -- a row that the window shows
-  pub new_shown : (r : ObjectRow) → Contains (shown_rows others) r → IsShown s.draws s.history q own r
-  new_shown r c =
-      let p = passing (object_rows others) r c in
-      let there = objects_in others r p.0 in
-      let name : Name = listed own r.key in
-      let key_is = own_key r there in
-      let named : IsNamedKey (row_key name) = subst IsNamedKey key_is (All-contains (λ row. IsNamedKey (words.key row)) others (rows.Object r) window.named there) in
-      let itself : find_row words 1 (row_key name) others ≡ Some (rows.Object r) = subst (λ k. find_row words 1 k others ≡ Some (rows.Object r)) key_is (found_itself words others (rows.Object r) window.table window.ascending there) in
-      let is_found : IsFound s.draws r name (said_by r) = found s.draws r name (good (rows.Object r) there).0 key_is in (
-        p.1,
-        λ v is. record {
-          found = said_found s.draws r name (said_by r) v p.1 is is_found;
-          not_below = λ before after n kind w cut ack.
-              let k = at_key r.key w named (has before after n kind own cut name w ack) in
-              let rows_same : Some (rows.Object k.0) ≡ Some (rows.Object r) = sym k.1 ∙ itself in
-              let same : k.0 ≡ r = cc in
-              let c : CoversIn r w = subst (λ (x : ObjectRow). CoversIn x w) same k.2 in
-              subst (λ (u : Version). ¬ Below u w) (sym (said_one (said_by r) c.version v c.says is)) c.not_below;
-        },
-        said_written s.draws r (good (rows.Object r) there).0,
-      )
+    -- a row that the window shows
+    pub new_shown : (r : ObjectRow) → Contains (shown_rows others) r → IsShown H s.draws s.history q own r
+    new_shown r c =
+        let p = passing (object_rows others) r c in
+        let there = objects_in others r p.0 in
+        let name : Name = listed own r.key in
+        let key_is = own_key r there in
+        let named : IsNamedKey (row_key name) = subst IsNamedKey key_is (All-contains (λ row. IsNamedKey (words.key row)) others (rows.Object r) window.named there) in
+        let itself : find_row words 1 (row_key name) others ≡ Some (rows.Object r) = subst (λ k. find_row words 1 k others ≡ Some (rows.Object r)) key_is (found_itself words others (rows.Object r) window.table window.ascending there) in
+        let is_found : IsFound s.draws r name (said_by r) = found s.draws r name (good (rows.Object r) there).0 key_is in (
+          p.1,
+          λ v is. record {
+            found = said_found s.draws r name (said_by r) v p.1 is is_found;
+            not_below = λ clear before after n kind w cut ack.
+                let k = at_key clear r.key w named (has before after n kind own cut name w ack) in
+                let rows_same : Some (rows.Object k.0) ≡ Some (rows.Object r) = sym k.1 ∙ itself in
+                let same : k.0 ≡ r = cc in
+                let c : CoversIn r w = subst (λ (x : ObjectRow). CoversIn x w) same k.2 in
+                subst (λ (u : Version). ¬ Below u w) (sym (said_one (said_by r) c.version v c.says is)) c.not_below;
+          },
+          said_written s.draws r (good (rows.Object r) there).0,
+        )
 
-  module _ (so_far : HasShown s.draws s.history s.saw q own shown_so_far (Some scan.after)) (seen : Contains s.saw (record { request = q; end = Window others end })) where
-    abbrev shown_now : List ObjectRow
-    shown_now = shown_so_far ++ shown_rows others
+    module _ (so_far : HasShown H s.draws s.history s.saw q own shown_so_far (Some scan.after)) (seen : Contains s.saw (record { request = q; end = Window others end })) where
+      abbrev shown_now : List ObjectRow
+      shown_now = shown_so_far ++ shown_rows others
 
-    -- an object at a key that the window names
-    new_covers : (key : List ℕ) (w : Version) → IsNamedKey (row_key (listed own key)) → HasKept scan.kept (listed own key) w → HasRow shown_now key ⊎ IsMarked s.saw q bucket key w
-    new_covers key w named k =
-        let at = at_key key w named k in
-        let r : ObjectRow = at.0 in
-        let c : CoversIn r w = at.2 in
-        let value = known key (rows.Object r) at.1 in
-        let there = (found_in (is_at words 1 (row_key (listed own key))) others (rows.Object r) at.1).1 in
-        let parts = key_parts r.bucket (digest_of bucket) r.key key (block_length 32 r.bucket.0 value.is_proper) (digest_length bucket) value.key in
-        elim (is_shown r) as (λ b. is_shown r ≡ b → HasRow shown_now key ⊎ IsMarked s.saw q bucket key w) [
-          | true ↦ (λ t. inl (record { row = r; is_there = Contains-append_right shown_so_far (shown_rows others) r (passes (object_rows others) r t (in_objects others r there)); key_is = parts.1 }))
-          | false ↦ (λ f. inr (record {
-            end = Window others end;
-            was_seen = seen;
-            row = r;
-            gave = there;
-            bucket_is = parts.0;
-            key_is = parts.1;
-            version = c.version;
-            says = said_marked (said_by r) c.version f c.says;
-            not_below = c.not_below;
-          }))
-        ] refl
+      -- an object at a key that the window names
+      new_covers : NoTrieClash H → (key : List ℕ) (w : Version) → IsNamedKey (row_key (listed own key)) → HasKept scan.kept (listed own key) w → HasRow shown_now key ⊎ IsMarked s.saw q bucket key w
+      new_covers clear key w named k =
+          let at = at_key clear key w named k in
+          let r : ObjectRow = at.0 in
+          let c : CoversIn r w = at.2 in
+          let value = known key (rows.Object r) at.1 in
+          let there = (found_in (is_at words 1 (row_key (listed own key))) others (rows.Object r) at.1).1 in
+          let parts = key_parts r.bucket (digest_of bucket) r.key key (block_length 32 r.bucket.0 value.is_proper) (digest_length bucket) value.key in
+          elim (is_shown r) as (λ b. is_shown r ≡ b → HasRow shown_now key ⊎ IsMarked s.saw q bucket key w) [
+            | true ↦ (λ t. inl (record { row = r; is_there = Contains-append_right shown_so_far (shown_rows others) r (passes (object_rows others) r t (in_objects others r there)); key_is = parts.1 }))
+            | false ↦ (λ f. inr (record {
+              end = Window others end;
+              was_seen = seen;
+              row = r;
+              gave = there;
+              bucket_is = parts.0;
+              key_is = parts.1;
+              version = c.version;
+              says = said_marked (said_by r) c.version f c.says;
+              not_below = c.not_below;
+            }))
+          ] refl
 
-    -- what the list has shown with this window
-    pub window_shown : HasShown s.draws s.history s.saw q own shown_now end
-    window_shown = record {
-      shown = λ r c. elim (Contains-append_cases shown_so_far (shown_rows others) r c) [
-        | inl old ↦ so_far.shown r old
-        | inr new ↦ new_shown r new
-      ];
-      covers = λ before after n kind key w cut begins within ack.
-          elim (is_lt (slice_cmp nat_cmp scan.after key)) as (λ b. is_lt (slice_cmp nat_cmp scan.after key) ≡ b → HasRow shown_now key ⊎ IsMarked s.saw q bucket key w) [
-            | true ↦ (λ past. new_covers key w (named_key key begins past within) (has before after n kind own cut (listed own key) w ack))
-            | false ↦ (λ low. elim (so_far.covers before after n kind key w cut begins (ap not low) ack) [
-              | inl h ↦ inl (record { row = h.row; is_there = Contains-append_left shown_so_far (shown_rows others) h.row h.is_there; key_is = h.key_is })
-              | inr m ↦ inr m
-            ])
-          ] refl;
-    }
+      -- what the list has shown with this window
+      pub window_shown : HasShown H s.draws s.history s.saw q own shown_now end
+      window_shown = record {
+        shown = λ r c. elim (Contains-append_cases shown_so_far (shown_rows others) r c) [
+          | inl old ↦ so_far.shown r old
+          | inr new ↦ new_shown r new
+        ];
+        covers = λ clear before after n kind key w cut begins within ack.
+            elim (is_lt (slice_cmp nat_cmp scan.after key)) as (λ b. is_lt (slice_cmp nat_cmp scan.after key) ≡ b → HasRow shown_now key ⊎ IsMarked s.saw q bucket key w) [
+              | true ↦ (λ past. new_covers clear key w (named_key key begins past within) (has before after n kind own cut (listed own key) w ack))
+              | false ↦ (λ low. elim (so_far.covers clear before after n kind key w cut begins (ap not low) ack) [
+                | inl h ↦ inl (record { row = h.row; is_there = Contains-append_left shown_so_far (shown_rows others) h.row h.is_there; key_is = h.key_is })
+                | inr m ↦ inr m
+              ])
+            ] refl;
+      }
 
 -- ---- the entries of a list
 
@@ -294,34 +296,35 @@ entry_of (x ∷ rs) r t c = elim (cons_cases x rs r c) [
 
 -- ---- a list that is done
 
-module _ (s : State) (q : ℕ) (a : Asked) (at : numbered s.asked q ≡ Some a) (sound : IsSound s) (lists : a.kind ≡ kind.List) (shown : List ObjectRow) (h : HasShown s.draws s.history s.saw q a.name shown None) where
-  -- a key that the list names begins with its prefix
-  begins : (k : Kind) (m : Name) (key : List ℕ) → (a.kind ≡ k) × (a.name ≡ m) → IsTrue (names k m.key key) → IsTrue (starts_with nat_eq key a.name.key)
-  begins k m key is named =
-      subst (λ (k : Kind). IsTrue (names k a.name.key key)) lists (subst (λ (k : Kind). IsTrue (names k a.name.key key)) (sym is.0) (subst (λ (x : Name). IsTrue (names k x.key key)) (sym is.1) named))
+module _ {H : List ℕ → Type 0} where
+  module _ (s : State) (q : ℕ) (a : Asked) (at : numbered s.asked q ≡ Some a) (sound : IsSound H s) (lists : a.kind ≡ kind.List) (shown : List ObjectRow) (h : HasShown H s.draws s.history s.saw q a.name shown None) where
+    -- a key that the list names begins with its prefix
+    begins : (k : Kind) (m : Name) (key : List ℕ) → (a.kind ≡ k) × (a.name ≡ m) → IsTrue (names k m.key key) → IsTrue (starts_with nat_eq key a.name.key)
+    begins k m key is named =
+        subst (λ (k : Kind). IsTrue (names k a.name.key key)) lists (subst (λ (k : Kind). IsTrue (names k a.name.key key)) (sym is.0) (subst (λ (x : Name). IsTrue (names k x.key key)) (sym is.1) named))
 
-  -- what the list shows of a key was found
-  entry_found : (key : List ℕ) (v : Version) → Contains (versions_of (entries shown)) (key, v) → HasFound s.draws s.history q a.name (listed a.name key) v
-  entry_found key v c =
-      let r = row_of shown key v c in
-      subst (λ (k : List ℕ). HasFound s.draws s.history q a.name (listed a.name k) v) r.key_is ((h.shown r.row r.is_there).1 v r.says)
+    -- what the list shows of a key was found
+    entry_found : (key : List ℕ) (v : Version) → Contains (versions_of (entries shown)) (key, v) → HasFound H s.draws s.history q a.name (listed a.name key) v
+    entry_found key v c =
+        let r = row_of shown key v c in
+        subst (λ (k : List ℕ). HasFound H s.draws s.history q a.name (listed a.name k) v) r.key_is ((h.shown r.row r.is_there).1 v r.says)
 
-  pub listed_end : IsFreshEnd s q (answer.Listed (versions_of (entries shown)))
-  listed_end = record {
-    covers = λ before after n k m key w reading cut named ack.
-        let is = is_own s q a at sound n k m (at_cut s.history before after (began q n k m) cut) in
-        let here : s.history ≡ before ++ began q n k a.name ∷ after = subst (λ (x : Name). s.history ≡ before ++ began q n k x ∷ after) (sym is.1) cut in
-        let acked : WasAcknowledged before (listed a.name key) w = subst (λ (x : Name). WasAcknowledged before (listed x key) w) (sym is.1) ack in
-        record {
-          versions = λ v c. (entry_found key v c).not_below before after n k w here acked;
-          none = λ no. elim (h.covers before after n k key w here (begins k m key is named) refl acked) [
-            | inl has ↦
-                let e = entry_of shown has.row (h.shown has.row has.is_there).0 has.is_there in
-                absurd (no e.0 (subst (λ (k : List ℕ). Contains (versions_of (entries shown)) (k, e.0)) has.key_is e.1))
-            | inr m' ↦ subst (λ (x : Name). IsMarked s.saw q x.bucket key w) is.1 m'
-          ];
-        };
-    written = λ clash n k m key v reading begun named shows.
-        let is = is_own s q a at sound n k m begun in
-        drew_here s q a at sound v v refl (listed a.name key) (listed m key) (ap (λ (x : Name). listed x key) (sym is.1)) refl clash (entry_found key v shows).found;
-  }
+    pub listed_end : IsFreshEnd H s q (answer.Listed (versions_of (entries shown)))
+    listed_end = record {
+      covers = λ clear before after n k m key w reading cut named ack.
+          let is = is_own s q a at sound n k m (at_cut s.history before after (began q n k m) cut) in
+          let here : s.history ≡ before ++ began q n k a.name ∷ after = subst (λ (x : Name). s.history ≡ before ++ began q n k x ∷ after) (sym is.1) cut in
+          let acked : WasAcknowledged before (listed a.name key) w = subst (λ (x : Name). WasAcknowledged before (listed x key) w) (sym is.1) ack in
+          record {
+            versions = λ v c. (entry_found key v c).not_below clear before after n k w here acked;
+            none = λ no. elim (h.covers clear before after n k key w here (begins k m key is named) refl acked) [
+              | inl has ↦
+                  let e = entry_of shown has.row (h.shown has.row has.is_there).0 has.is_there in
+                  absurd (no e.0 (subst (λ (k : List ℕ). Contains (versions_of (entries shown)) (k, e.0)) has.key_is e.1))
+              | inr m' ↦ subst (λ (x : Name). IsMarked s.saw q x.bucket key w) is.1 m'
+            ];
+          };
+      written = λ clash n k m key v reading begun named shows.
+          let is = is_own s q a at sound n k m begun in
+          drew_here s q a at sound v v refl (listed a.name key) (listed m key) (ap (λ (x : Name). listed x key) (sym is.1)) refl clash (entry_found key v shows).found;
+    }

@@ -1,5 +1,5 @@
--- The acts that lead to a moment of a run are lawful, and fit.
-use Rattle.std.proofs.Common.{◌≤◌, ℕ, zero, suc, Some, None, List, [], ◌∷◌, ◌++◌, sym, subst, arith}
+-- The acts that lead to a moment of a run are lawful, and fit, and hash no more.
+use Rattle.std.proofs.Common.{◌≤◌, ℕ, zero, suc, Some, None, List, [], ◌∷◌, ◌++◌, inl, inr, sym, subst, arith}
 use Rattle.crdt_rows.specs.AnyRow.{any_join}
 use Rattle.object_schema.specs.Schema.{words}
 use Rattle.cluster_machine.specs.World.{undelivered}
@@ -11,6 +11,8 @@ use Rattle.store_model.specs.Moments.{IsMoment, between, within}
 use Rattle.store_model.proofs.Leads.{delivers_lead}
 use Rattle.store_model.proofs.Acts.{lawful_in_parts, fit_in_parts}
 use Rattle.store_laws.proofs.Acts.{fit_parts}
+use Rattle.store_laws.specs.Hashed.{StepsHash, ActsHash}
+use Rattle.store_laws.proofs.Hashing.{hashed_part, hashed_rest, hashed_parts, steps_part, steps_rest, steps_parts}
 
 lawful_last : (s : State) (before after : List Act) (a : Act) → AreLawfulActs s (before ++ after) → AreLawfulActs (after_acts s before) (a ∷ []) → AreLawfulActs s (before ++ a ∷ [])
 lawful_last s [] after a h last = last
@@ -48,3 +50,32 @@ moment_runs s acts moment lawful fit (within before after n k is low) =
       lawful_last s before (drain n ∷ after) (drain k) (subst (AreLawfulActs s) is lawful) (tt, tt),
       fit_last s before (drain n) after (drain k) (subst (ActsFit s) is fit) (λ fits. (fewer_fit k n then low fits, tt)),
     )
+
+-- some of a drain's deliveries hash no more than all
+fewer_hashed : (k n : ℕ) (s : State) → k ≤ n → (x : List ℕ) → StepsHash s.world (drains k s).moves x → StepsHash s.world (drains n s).moves x
+fewer_hashed zero n s low x h = absurd h
+fewer_hashed (suc k) zero s low x h = absurd (omega (arith, low))
+fewer_hashed (suc k) (suc n) s low x h =
+    elim (undelivered s.world) as (λ o.
+    StepsHash s.world (elim o as (λ o. Outcome) [ None ↦ silent s | Some m ↦ let o = delivers s m in then_drains o (drains k o.state) ]).moves x →
+    StepsHash s.world (elim o as (λ o. Outcome) [ None ↦ silent s | Some m ↦ let o = delivers s m in then_drains o (drains n o.state) ]).moves x) [
+      | None ↦ λ h. h
+      | Some m ↦ λ h.
+          let first : Outcome = delivers s m in
+          let leads = delivers_lead s m in
+          elim (steps_parts s.world first.moves (drains k first.state).moves x h) [
+            | inl early ↦ steps_part s.world first.moves (drains n first.state).moves x early
+            | inr late ↦ steps_rest s.world first.moves (drains n first.state).moves x
+                (subst (λ (w : World). StepsHash w (drains n first.state).moves x) (sym leads)
+                (fewer_hashed k n first.state (omega (arith, low)) x (subst (λ (w : World). StepsHash w (drains k first.state).moves x) leads late)))
+          ]
+    ] h
+
+pub moment_hashes : (s : State) (acts moment : List Act) → IsMoment acts moment → (x : List ℕ) → ActsHash s moment x → ActsHash s acts x
+moment_hashes s acts moment (between before after is) x h = subst (λ as'. ActsHash s as' x) (sym is) (hashed_part s before after x h)
+moment_hashes s acts moment (within before after n k is low) x h =
+    let then : State = after_acts s before in
+    subst (λ as'. ActsHash s as' x) (sym is) (elim (hashed_parts s before (drain k ∷ []) x h) [
+      | inl early ↦ hashed_part s before (drain n ∷ after) x early
+      | inr late ↦ hashed_rest s before (drain n ∷ after) x (inl (fewer_hashed k n then low x (elim late [ inl some ↦ some | inr none ↦ absurd none ])))
+    ])

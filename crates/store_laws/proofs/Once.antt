@@ -37,6 +37,8 @@ use Rattle.store_laws.proofs.Every.{EveryWorld}
 use Rattle.store_laws.proofs.Sound.{IsSound}
 use Rattle.store_laws.proofs.Starting.{start_sound}
 use Rattle.store_laws.proofs.Acts.{act_keeps}
+use Rattle.store_laws.specs.Hashed.{ActsHash}
+use Rattle.store_laws.proofs.Hashing.{fit_in}
 
 -- a request that waits so has drawn
 abbrev pub IsPast : Stage → Type 0
@@ -193,48 +195,51 @@ drains_once (suc n) s once =
       | Some m ↦ drains_once n (delivers s m).state (delivers_once s m once)
     ]
 
--- a request more has drawn nothing
-opened_once : (s : State) (n : ℕ) (o : Order) → IsSound s → IsOnceIn s → IsOnceIn (opens_request s n o).state
-opened_once s n o sound once = record {
-  one = once.one;
-  past = λ d a f c there is.
-      let h = sound.drawn d c in
-      let asked = sound.told.began_asked d.request h.node h.kind d.name (is_in s.history h.place _ h.began_at) in
-      let some_is : Some asked.one ≡ Some a = sym (numbered_append s.asked _ d.request asked.one asked.is_there) ∙ there in
-      once.past d a f c (asked.is_there ∙ some_is) is;
-}
+module _ {H : List ℕ → Type 0} where
+  -- a request more has drawn nothing
+  opened_once : (s : State) (n : ℕ) (o : Order) → IsSound H s → IsOnceIn s → IsOnceIn (opens_request s n o).state
+  opened_once s n o sound once = record {
+    one = once.one;
+    past = λ d a f c there is.
+        let h = sound.drawn d c in
+        let asked = sound.told.began_asked d.request h.node h.kind d.name (is_in s.history h.place _ h.began_at) in
+        let some_is : Some asked.one ≡ Some a = sym (numbered_append s.asked _ d.request asked.one asked.is_there) ∙ there in
+        once.past d a f c (asked.is_there ∙ some_is) is;
+  }
 
-begins_once : (s : State) (n : ℕ) (o : Order) → IsSound s → IsOnceIn s → IsOnceIn (begins s n o).state
-begins_once s n o sound once =
-    elim (is_member_at layouts s.world n) as (λ b. IsOnceIn (if b then (if are_buckets s.buckets (buckets_of o) then opens_request s n o else refusal s NoSuchBucket) else refusal s NotMember).state) [
-      | true ↦ elim (are_buckets s.buckets (buckets_of o)) as (λ b. IsOnceIn (if b then opens_request s n o else refusal s NoSuchBucket).state) [
-        | true ↦ opened_once s n o sound once
+  begins_once : (s : State) (n : ℕ) (o : Order) → IsSound H s → IsOnceIn s → IsOnceIn (begins s n o).state
+  begins_once s n o sound once =
+      elim (is_member_at layouts s.world n) as (λ b. IsOnceIn (if b then (if are_buckets s.buckets (buckets_of o) then opens_request s n o else refusal s NoSuchBucket) else refusal s NotMember).state) [
+        | true ↦ elim (are_buckets s.buckets (buckets_of o)) as (λ b. IsOnceIn (if b then opens_request s n o else refusal s NoSuchBucket).state) [
+          | true ↦ opened_once s n o sound once
+          | false ↦ once
+        ]
         | false ↦ once
       ]
-      | false ↦ once
-    ]
 
-pub act_once : (s : State) (a : Act) → IsSound s → IsOnceIn s → IsOnceIn (acted s a).state
-act_once s (moves m) sound once = once
-act_once s (asks n o) sound once = begins_once s n o sound once
-act_once s (delivery m) sound once = delivers_once s m once
-act_once s (drain n) sound once = drains_once n s once
-act_once s (installs first) sound once = once
-act_once s forgets sound once = once
-act_once s (takes_end q) sound once = once
-act_once s (adds name) sound once = once
-act_once s (cuts block) sound once = once
+  pub act_once : (s : State) (a : Act) → IsSound H s → IsOnceIn s → IsOnceIn (acted s a).state
+  act_once s (moves m) sound once = once
+  act_once s (asks n o) sound once = begins_once s n o sound once
+  act_once s (delivery m) sound once = delivers_once s m once
+  act_once s (drain n) sound once = drains_once n s once
+  act_once s (installs first) sound once = once
+  act_once s forgets sound once = once
+  act_once s (takes_end q) sound once = once
+  act_once s (adds name) sound once = once
+  act_once s (cuts block) sound once = once
 
 pub start_once : IsOnceIn start
 start_once = record { one = λ d e c k same. absurd (none_in d c); past = λ d a f c there is. absurd (none_in d c) }
 
-module _ (every : EveryWorld) where
-  pub acts_once : (s : State) (as' : List Act) → AreLawfulActs s as' → ActsFit s as' → IsSound s → IsOnceIn s → IsSound (after_acts s as') × IsOnceIn (after_acts s as')
-  acts_once s [] lawful fit sound once = (sound, once)
-  acts_once s (a ∷ as') lawful fit sound once = acts_once (acted s a).state as' lawful.1 fit.1 (act_keeps every s a lawful.0 fit.0 sound) (act_once s a sound once)
+module _ {H : List ℕ → Type 0} where
+  module _ (every : EveryWorld H) where
+    pub acts_once : (s : State) (as' : List Act) → AreLawfulActs s as' → ActsFit s as' → ((x : List ℕ) → ActsHash s as' x → H x) → IsSound H s → IsOnceIn s → IsSound H (after_acts s as') × IsOnceIn (after_acts s as')
+    acts_once s [] lawful fit all sound once = (sound, once)
+    acts_once s (a ∷ as') lawful fit all sound once =
+        acts_once (acted s a).state as' lawful.1 fit.1 (λ x h. all x (inr h)) (act_keeps every s a lawful.0 (fit_in H s.world (acted s a).moves fit.0 (λ x h. all x (inl h))) sound) (act_once s a sound once)
 
-  -- no two draws have one version
-  pub draws_differ : (as' : List Act) → AreLawfulActs start as' → ActsFit start as' → AreDrawnOnce (after_acts start as').draws
-  draws_differ as' lawful fit d e c k same =
-      let both = acts_once start as' lawful fit start_sound start_once in
-      both.1.one d e c k (sym (both.0.drawn d c).id_is ∙ (ap (λ (v : Version). v.id) same ∙ (both.0.drawn e k).id_is))
+    -- no two draws have one version
+    pub draws_differ : (as' : List Act) → AreLawfulActs start as' → ActsFit start as' → ((x : List ℕ) → ActsHash start as' x → H x) → AreDrawnOnce (after_acts start as').draws
+    draws_differ as' lawful fit all d e c k same =
+        let both = acts_once start as' lawful fit all start_sound start_once in
+        both.1.one d e c k (sym (both.0.drawn d c).id_is ∙ (ap (λ (v : Version). v.id) same ∙ (both.0.drawn e k).id_is))

@@ -26,6 +26,10 @@ use Rattle.store_laws.proofs.Every.{FromWorld, EveryWorld, run_more, lawful_more
 use Rattle.store_laws.proofs.Alike.{IsAlike, StepsAlike, keep_forgot, effects_alike, step_alike}
 use Rattle.store_laws.proofs.Good.{IsGood, more_good, good_inherited}
 use Rattle.store_laws.proofs.Sound.{IsReached, IsReachedBy}
+use Rattle.cluster_machine.specs.Hashes.{NoClash}
+use Rattle.std.specs.Prelude.{◌⊎◌}
+use Rattle.store_laws.specs.Hashed.{StepsHash}
+use Rattle.store_laws.proofs.Hashing.{OneHashes, HashesIn, hashed_more}
 use Rattle.machine_origins.specs.Windows.{GaveWindow}
 
 -- each of these steps is so
@@ -33,132 +37,139 @@ abbrev AreSo : (Step AnyRow → Type 0) → List Moving → Type 0
 AreSo IsSo moves = All (λ (m : Moving). IsSo m.step) moves
 
 goes_on : (IsSo : Step AnyRow → Type 0) (begin : World) (moves : List Moving) (w : World) (m : Moving) → StepsAlike w (run any_join words begin moves) m → IsLawfulRun any_join words begin moves → IsSo m.step → IsSo (Deliver 0) → AreSo IsSo moves →
-    (then : List Moving) × IsLawfulRun any_join words begin then × IsAlike (next any_join words w m) (run any_join words begin then) × AreSo IsSo then
+    (then : List Moving) × IsLawfulRun any_join words begin then × IsAlike (next any_join words w m) (run any_join words begin then) × AreSo IsSo then ×
+    ((x : List ℕ) → StepsHash begin then x → StepsHash begin moves x ⊎ OneHashes w m x)
 goes_on IsSo begin moves w m s lawful is none are = (
   moves ++ s.move ∷ [],
   lawful_more begin moves s.move lawful s.lawful,
   subst (IsAlike (next any_join words w m)) (sym (run_more begin moves s.move)) s.alike,
   All-push (λ (m : Moving). IsSo m.step) moves s.move are (elim s.step_is [ inl same ↦ subst IsSo (sym same) is | inr refused ↦ subst IsSo (sym refused) none ]),
+  λ x h. elim (hashed_more begin moves s.move x h) [ inl old ↦ inl old | inr new ↦ inr (s.hashes x new) ],
 )
 
--- a step more, beside one of the world in which nothing was forgotten
-pub reached_alike : {IsSo : Step AnyRow → Type 0} (w : World) (m : Moving) (r : IsReachedBy IsSo w) → IsLawfulRun any_join words w (m ∷ []) → StepsAlike w (run any_join words r.begin r.moves) m
-reached_alike w m r lawful =
-    let v : World = run any_join words r.begin r.moves in
-    subst (λ (u : World). StepsAlike u v m) (sym r.alike.is) (step_alike v w.marks r.alike.marks m.step m.choice (subst (λ (u : World). IsLawfulRun any_join words u (m ∷ [])) r.alike.is lawful))
+module _ {H : List ℕ → Type 0} where
+  -- a step more, beside one of the world in which nothing was forgotten
+  pub reached_alike : {IsSo : Step AnyRow → Type 0} (w : World) (m : Moving) (r : IsReachedBy H IsSo w) → IsLawfulRun any_join words w (m ∷ []) → StepsAlike w (run any_join words r.begin r.moves) m
+  reached_alike w m r lawful =
+      let v : World = run any_join words r.begin r.moves in
+      subst (λ (u : World). StepsAlike u v m) (sym r.alike.is) (step_alike v w.marks r.alike.marks m.step m.choice (subst (λ (u : World). IsLawfulRun any_join words u (m ∷ [])) r.alike.is lawful))
 
--- it leads on where it is so, and a step that is refused is too
-pub reached_step : (IsSo : Step AnyRow → Type 0) (w : World) (m : Moving) → IsReachedBy IsSo w → IsLawfulRun any_join words w (m ∷ []) → IsSo m.step → IsSo (Deliver 0) → IsReachedBy IsSo (next any_join words w m)
-reached_step IsSo w m r lawful is none =
-    let on = goes_on IsSo r.begin r.moves w m (reached_alike w m r lawful) r.lawful is none r.are in
-    record { before = r.before; begin = r.begin; begun = r.begun; moves = on.0; lawful = on.1; alike = on.2; before_are = r.before_are; are = on.3 }
+  -- it leads on where it is so, and a step that is refused is too
+  pub reached_step : (IsSo : Step AnyRow → Type 0) (w : World) (m : Moving) → IsReachedBy H IsSo w → IsLawfulRun any_join words w (m ∷ []) → HashesIn H w m → IsSo m.step → IsSo (Deliver 0) → IsReachedBy H IsSo (next any_join words w m)
+  reached_step IsSo w m r lawful hashes is none =
+      let on = goes_on IsSo r.begin r.moves w m (reached_alike w m r lawful) r.lawful is none r.are in
+      record { before = r.before; begin = r.begin; begun = r.begun; moves = on.0; lawful = on.1; alike = on.2; before_are = r.before_are; are = on.3; hashed_before = r.hashed_before; hashed = λ x h. elim (on.4 x h) [ inl old ↦ r.hashed x old | inr new ↦ hashes x new ] }
 
--- steps that are so are so in a weaker sense
-pub reached_weaker : {IsSo IsOther : Step AnyRow → Type 0} (w : World) → ((st : Step AnyRow) → IsSo st → IsOther st) → IsReachedBy IsSo w → IsReachedBy IsOther w
-reached_weaker {IsSo = IsSo} {IsOther = IsOther} w weaker r =
-    let each : (moves : List Moving) → AreSo IsSo moves → AreSo IsOther moves = All-weaker (λ (m : Moving). IsSo m.step) (λ (m : Moving). IsOther m.step) (λ m is. weaker m.step is) in
-    record { before = r.before; begin = r.begin; begun = r.begun; moves = r.moves; lawful = r.lawful; alike = r.alike; before_are = each r.before r.before_are; are = each r.moves r.are }
+  -- steps that are so are so in a weaker sense
+  pub reached_weaker : {IsSo IsOther : Step AnyRow → Type 0} (w : World) → ((st : Step AnyRow) → IsSo st → IsOther st) → IsReachedBy H IsSo w → IsReachedBy H IsOther w
+  reached_weaker {IsSo = IsSo} {IsOther = IsOther} w weaker r =
+      let each : (moves : List Moving) → AreSo IsSo moves → AreSo IsOther moves = All-weaker (λ (m : Moving). IsSo m.step) (λ (m : Moving). IsOther m.step) (λ m is. weaker m.step is) in
+      record { before = r.before; begin = r.begin; begun = r.begun; moves = r.moves; lawful = r.lawful; alike = r.alike; before_are = each r.before r.before_are; are = each r.moves r.are; hashed_before = r.hashed_before; hashed = r.hashed }
 
-pub reached_draws : (draws newer : List Draw) (w : World) → IsReached draws w → IsReached (newer ++ draws) w
-reached_draws draws newer w r = reached_weaker w (λ st h. All-weaker (IsGood draws) (IsGood (newer ++ draws)) (more_good draws newer) (stored_by st) h) r
+  pub reached_draws : (draws newer : List Draw) (w : World) → IsReached H draws w → IsReached H (newer ++ draws) w
+  reached_draws draws newer w r = reached_weaker w (λ st h. All-weaker (IsGood draws) (IsGood (newer ++ draws)) (more_good draws newer) (stored_by st) h) r
 
--- delivered messages are forgotten
-pub reached_forgetting : {IsSo : Step AnyRow → Type 0} (w : World) → IsReachedBy IsSo w → IsReachedBy IsSo (forget_delivered w)
-reached_forgetting w r =
-    let v : World = run any_join words r.begin r.moves in
-    record {
-      before = r.before;
-      begin = r.begin;
-      begun = r.begun;
-      moves = r.moves;
-      lawful = r.lawful;
-      alike = record { is = ap (λ (u : World). record u { marks = map forgot w.marks }) r.alike.is; marks = keep_forgot w.marks v.marks r.alike.marks };
-      before_are = r.before_are;
-      are = r.are;
-    }
+  -- delivered messages are forgotten
+  pub reached_forgetting : {IsSo : Step AnyRow → Type 0} (w : World) → IsReachedBy H IsSo w → IsReachedBy H IsSo (forget_delivered w)
+  reached_forgetting w r =
+      let v : World = run any_join words r.begin r.moves in
+      record {
+        before = r.before;
+        begin = r.begin;
+        begun = r.begun;
+        moves = r.moves;
+        lawful = r.lawful;
+        alike = record { is = ap (λ (u : World). record u { marks = map forgot w.marks }) r.alike.is; marks = keep_forgot w.marks v.marks r.alike.marks };
+        before_are = r.before_are;
+        are = r.are;
+        hashed_before = r.hashed_before;
+        hashed = r.hashed;
+      }
 
--- a first layout is installed where none was applied
-pub reached_installing : {IsSo : Step AnyRow → Type 0} (w : World) (first : Layout) → IsFirst first → w.applied ≡ 0 → IsReachedBy IsSo w → IsReachedBy IsSo (installed any_join words w first)
-reached_installing {IsSo = IsSo} w first is_first none r =
-    let v : World = run any_join words r.begin r.moves in
-    let unused : v.applied ≡ 0 = sym (ap (λ (u : World). u.applied) r.alike.is) ∙ none in
-    elim r.begun [
-      | inl at_empty ↦
-          let here : v ≡ run any_join words empty r.moves = ap (λ (u : World). run any_join words u r.moves) at_empty.1 in
-          let like : IsAlike (installed any_join words w first) (installed any_join words v first) = subst (λ (u : World). IsAlike (installed any_join words u first) (installed any_join words v first)) (sym r.alike.is) (effects_alike v w.marks r.alike.marks (installs any_join words v first)) in
-          record {
-            before = r.moves;
-            begin = installed any_join words v first;
-            begun = inr (record {
-              first = first;
-              lawful = record { steps = subst (λ (u : World). IsLawfulRun any_join words u r.moves) at_empty.1 r.lawful; unused = ap (λ (u : World). u.applied) (sym here) ∙ unused; first_layout = is_first };
-              is = ap (λ (u : World). installed any_join words u first) here;
-            });
-            moves = [];
-            lawful = tt;
-            alike = like;
-            before_are = r.are;
-            are = All-nil (λ (m : Moving). IsSo m.step);
-          }
-      | inr was ↦
-          let more : r.begin.applied ≤ v.applied = applied_more any_join words was.first r.begin r.moves in
-          let one : r.begin.applied ≡ (run any_join words empty r.before).applied + 1 = ap (λ (u : World). u.applied) was.is in
-          let never : ⊥ = omega (arith, more, one, unused) in absurd never
+  -- a first layout is installed where none was applied
+  pub reached_installing : {IsSo : Step AnyRow → Type 0} (w : World) (first : Layout) → IsFirst first → w.applied ≡ 0 → IsReachedBy H IsSo w → IsReachedBy H IsSo (installed any_join words w first)
+  reached_installing {IsSo = IsSo} w first is_first none r =
+      let v : World = run any_join words r.begin r.moves in
+      let unused : v.applied ≡ 0 = sym (ap (λ (u : World). u.applied) r.alike.is) ∙ none in
+      elim r.begun [
+        | inl at_empty ↦
+            let here : v ≡ run any_join words empty r.moves = ap (λ (u : World). run any_join words u r.moves) at_empty.1 in
+            let like : IsAlike (installed any_join words w first) (installed any_join words v first) = subst (λ (u : World). IsAlike (installed any_join words u first) (installed any_join words v first)) (sym r.alike.is) (effects_alike v w.marks r.alike.marks (installs any_join words v first)) in
+            record {
+              before = r.moves;
+              begin = installed any_join words v first;
+              begun = inr (record {
+                first = first;
+                lawful = record { steps = subst (λ (u : World). IsLawfulRun any_join words u r.moves) at_empty.1 r.lawful; unused = ap (λ (u : World). u.applied) (sym here) ∙ unused; first_layout = is_first };
+                is = ap (λ (u : World). installed any_join words u first) here;
+              });
+              moves = [];
+              lawful = tt;
+              alike = like;
+              before_are = r.are;
+              are = All-nil (λ (m : Moving). IsSo m.step);
+              hashed_before = λ x h. r.hashed x (subst (λ (u : World). StepsHash u r.moves x) (sym at_empty.1) h);
+              hashed = λ x h. absurd h;
+            }
+        | inr was ↦
+            let more : r.begin.applied ≤ v.applied = applied_more any_join words was.first r.begin r.moves in
+            let one : r.begin.applied ≡ (run any_join words empty r.before).applied + 1 = ap (λ (u : World). u.applied) was.is in
+            let never : ⊥ = omega (arith, more, one, unused) in absurd never
+      ]
+
+  module _ (every : EveryWorld H) {IsSo : Step AnyRow → Type 0} (w : World) (r : IsReachedBy H IsSo w) where
+    abbrev v : World
+    v = run any_join words r.begin r.moves
+
+    from : FromWorld H r.begin r.before
+    from = elim r.begun [
+      | inl at_empty ↦ subst (λ (u : World). FromWorld H u r.before) (sym at_empty.1) (subst (FromWorld H empty) (sym at_empty.0) every.from_empty)
+      | inr was ↦ subst (λ (u : World). FromWorld H u r.before) (sym was.is) (every.from_installed r.before was.first was.lawful)
     ]
 
-module _ (every : EveryWorld) {IsSo : Step AnyRow → Type 0} (w : World) (r : IsReachedBy IsSo w) where
-  abbrev v : World
-  v = run any_join words r.begin r.moves
+    there : (reading : Reading AnyRow) → Contains w.reads reading → Contains v.reads reading
+    there reading c = subst (λ (u : World). Contains u.reads reading) r.alike.is c
 
-  from : FromWorld r.begin r.before
-  from = elim r.begun [
-    | inl at_empty ↦ subst (λ (u : World). FromWorld u r.before) (sym at_empty.1) (subst (FromWorld empty) (sym at_empty.0) every.from_empty)
-    | inr was ↦ subst (λ (u : World). FromWorld u r.before) (sym was.is) (every.from_installed r.before was.first was.lawful)
-  ]
+    -- all steps that led to it are so
+    pub reached_are : AreSo IsSo (r.before ++ r.moves)
+    reached_are = All-append (λ (m : Moving). IsSo m.step) r.before r.moves r.before_are r.are
 
-  there : (reading : Reading AnyRow) → Contains w.reads reading → Contains v.reads reading
-  there reading c = subst (λ (u : World). Contains u.reads reading) r.alike.is c
+    pub reached_kept : NoClash H → KeptReads any_join words w
+    reached_kept clear = subst (KeptReads any_join words) (sym r.alike.is) (from.kept_reads clear r.moves r.lawful r.hashed_before r.hashed)
 
-  -- all steps that led to it are so
-  pub reached_are : AreSo IsSo (r.before ++ r.moves)
-  reached_are = All-append (λ (m : Moving). IsSo m.step) r.before r.moves r.before_are r.are
+    -- what a read gave comes from what they stored
+    pub reached_stored : (reading : Reading AnyRow) → Contains w.reads reading → Gave words (ComesFrom any_join words (stored_in (r.before ++ r.moves))) reading
+    reached_stored reading c = from.stored_rows r.moves r.lawful reading (there reading c)
 
-  pub reached_kept : KeptReads any_join words w
-  reached_kept = subst (KeptReads any_join words) (sym r.alike.is) (from.kept_reads r.moves r.lawful)
+    -- so each layout in use has the greatest partition size
+    pub reached_greatest : UsesGreatest w
+    reached_greatest =
+        let sound = from.is_sound r.moves r.lawful in
+        subst UsesGreatest (sym r.alike.is) (record { known = sound.greatest; shown = all_weaker (λ (m : Sent AnyRow Layout). IsUsual v.applied m.packet) (λ (m : Sent AnyRow Layout). ShowsGreatest m.packet) (λ m usual. usual.1) v.messages sound.messages })
 
-  -- what a read gave comes from what they stored
-  pub reached_stored : (reading : Reading AnyRow) → Contains w.reads reading → Gave words (ComesFrom any_join words (stored_in (r.before ++ r.moves))) reading
-  reached_stored reading c = from.stored_rows r.moves r.lawful reading (there reading c)
+    pub reached_different : (n : ℕ) → AreDifferent (w.nodes n).calls
+    reached_different n = subst (λ (u : World). AreDifferent (u.nodes n).calls) (sym r.alike.is) ((from.is_sound r.moves r.lawful).different n)
 
-  -- so each layout in use has the greatest partition size
-  pub reached_greatest : UsesGreatest w
-  reached_greatest =
-      let sound = from.is_sound r.moves r.lawful in
-      subst UsesGreatest (sym r.alike.is) (record { known = sound.greatest; shown = all_weaker (λ (m : Sent AnyRow Layout). IsUsual v.applied m.packet) (λ (m : Sent AnyRow Layout). ShowsGreatest m.packet) (λ m usual. usual.1) v.messages sound.messages })
+    -- what a range phase gave is a window
+    pub reached_window : (reading : Reading AnyRow) → Contains w.reads reading → GaveWindow words reading
+    reached_window reading c = from.windows r.moves r.lawful reading (there reading c)
 
-  pub reached_different : (n : ℕ) → AreDifferent (w.nodes n).calls
-  reached_different n = subst (λ (u : World). AreDifferent (u.nodes n).calls) (sym r.alike.is) ((from.is_sound r.moves r.lawful).different n)
+  pub reached_good : (every : EveryWorld H) (draws : List Draw) (w : World) → IsReached H draws w → (reading : Reading AnyRow) → Contains w.reads reading → Gave words (IsGood draws) reading
+  reached_good every draws w r reading c =
+      gave_by_origin (IsGood draws) (good_inherited draws) (stored_in (r.before ++ r.moves)) (stored_have (IsGood draws) (r.before ++ r.moves) (reached_are every w r)) reading (reached_stored every w r reading c)
 
-  -- what a range phase gave is a window
-  pub reached_window : (reading : Reading AnyRow) → Contains w.reads reading → GaveWindow words reading
-  reached_window reading c = from.windows r.moves r.lawful reading (there reading c)
-
-pub reached_good : (every : EveryWorld) (draws : List Draw) (w : World) → IsReached draws w → (reading : Reading AnyRow) → Contains w.reads reading → Gave words (IsGood draws) reading
-reached_good every draws w r reading c =
-    gave_by_origin (IsGood draws) (good_inherited draws) (stored_in (r.before ++ r.moves)) (stored_have (IsGood draws) (r.before ++ r.moves) (reached_are every w r)) reading (reached_stored every w r reading c)
-
--- rows that nodes accepted are proper
-pub reached_proper :
-    ((moves : List Moving) → IsLawfulRun any_join words empty moves → (n : ℕ) → AllProper words ((run any_join words empty moves).nodes n).accepted) →
-    ((before : List Moving) (first : Layout) (after : List Moving) → IsLawfulStart any_join words before first → IsLawfulRun any_join words (start any_join words before first) after →
-    (n : ℕ) → AllProper words ((run any_join words (start any_join words before first) after).nodes n).accepted) →
-    (draws : List Draw) (w : World) → IsReached draws w → (n : ℕ) → AllProper words (w.nodes n).accepted
-reached_proper from_empty from_installed draws w r n =
-    subst (λ (u : World). AllProper words (u.nodes n).accepted) (sym r.alike.is) (elim r.begun [
-      | inl at_empty ↦
-          subst (λ (u : World). AllProper words ((run any_join words u r.moves).nodes n).accepted) (sym at_empty.1)
-          (from_empty r.moves (subst (λ (u : World). IsLawfulRun any_join words u r.moves) at_empty.1 r.lawful) n)
-      | inr was ↦
-          subst (λ (u : World). AllProper words ((run any_join words u r.moves).nodes n).accepted) (sym was.is)
-          (from_installed r.before was.first r.moves was.lawful (subst (λ (u : World). IsLawfulRun any_join words u r.moves) was.is r.lawful) n)
-    ])
+  -- rows that nodes accepted are proper
+  pub reached_proper :
+      ((moves : List Moving) → IsLawfulRun any_join words empty moves → (n : ℕ) → AllProper words ((run any_join words empty moves).nodes n).accepted) →
+      ((before : List Moving) (first : Layout) (after : List Moving) → IsLawfulStart any_join words before first → IsLawfulRun any_join words (start any_join words before first) after →
+      (n : ℕ) → AllProper words ((run any_join words (start any_join words before first) after).nodes n).accepted) →
+      (draws : List Draw) (w : World) → IsReached H draws w → (n : ℕ) → AllProper words (w.nodes n).accepted
+  reached_proper from_empty from_installed draws w r n =
+      subst (λ (u : World). AllProper words (u.nodes n).accepted) (sym r.alike.is) (elim r.begun [
+        | inl at_empty ↦
+            subst (λ (u : World). AllProper words ((run any_join words u r.moves).nodes n).accepted) (sym at_empty.1)
+            (from_empty r.moves (subst (λ (u : World). IsLawfulRun any_join words u r.moves) at_empty.1 r.lawful) n)
+        | inr was ↦
+            subst (λ (u : World). AllProper words ((run any_join words u r.moves).nodes n).accepted) (sym was.is)
+            (from_installed r.before was.first r.moves was.lawful (subst (λ (u : World). IsLawfulRun any_join words u r.moves) was.is r.lawful) n)
+      ])

@@ -19,7 +19,7 @@ use Rattle.cluster_machine.specs.declared.step.Step.TheVariants as step
 use Rattle.cluster_machine.specs.Layouts.{layouts}
 use Rattle.cluster_machine.specs.Node.{Ended}
 use Rattle.cluster_machine.specs.World.{clock, is_member_at, numbered, undelivered}
-use Rattle.cluster_machine.specs.Worlds.{FitAll, run as world_run}
+use Rattle.cluster_machine.specs.Worlds.{run as world_run}
 use Rattle.history_model.specs.declared.record.Kind.{Kind}
 use Rattle.history_model.specs.declared.record.Kind.TheVariants as kind
 use Rattle.history_model.specs.Record.{is_write}
@@ -60,9 +60,11 @@ use Rattle.store_laws.proofs.Stepping.{step_sound, calm_fine, calm_ends}
 use Rattle.store_laws.proofs.Enders.{is_calm}
 use Rattle.store_laws.proofs.Starting.{start_sound}
 use Rattle.store_model.proofs.Leads.{goes_on_leads}
-use Rattle.store_laws.proofs.Acts.{fit_parts, delivers_keeps, act_keeps}
+use Rattle.store_laws.proofs.Acts.{delivers_keeps, act_keeps}
 use Rattle.store_laws.proofs.Once.{draws_differ}
 use Rattle.store_laws.proofs.Telling.{Tells, Grows, tells_later, tells_none, tells_one, tells_both, step_tells}
+use Rattle.store_laws.specs.Hashed.{ActsHash}
+use Rattle.store_laws.proofs.Hashing.{FitIn, fit_in, in_parts}
 
 -- ---- how requests end
 
@@ -187,33 +189,34 @@ module _ (draws : List Draw) where
 
 -- ---- a phase ended
 
-module _ (every : EveryWorld) (s : State) (q : ℕ) (a : Asked) (at : numbered s.asked q ≡ Some a) (sound : IsSound s) where
-  -- each row that a list has with this window was written
-  window_says : (flow : Flow) (bucket prefix : List ℕ) (rows : List ObjectRow) (others : List AnyRow) (reach : Option (List ℕ)) → a.flow ≡ Some flow → flow.stage ≡ Listing bucket prefix rows →
-      HasScanned s.asked s.draws s.history s.saw s.world.reads q others reach → (r : ObjectRow) → Contains (rows ++ shown_rows others) r → SaysWritten s.draws (said_by r)
-  window_says flow bucket prefix rows others reach flow_is stage_is end r c =
-      let w = end.is_scanning.waits in
-      let some_is : Some w.one ≡ Some a = sym w.is_there ∙ at in
-      let one_is : w.one ≡ a = cc in
-      let flows : Some w.flow ≡ Some flow = sym w.flow_is ∙ (ap (λ (b : Asked). b.flow) one_is ∙ flow_is) in
-      let same : w.flow ≡ flow = cc in
-      let scans : ScansFor s.draws s.history s.saw q (Listing bucket prefix rows) end.scan = subst (λ (g : Stage). ScansFor s.draws s.history s.saw q g end.scan) (ap (λ (f : Flow). f.stage) same ∙ stage_is) end.is_scanning.scans in
-      elim (Contains-append_cases rows (shown_rows others) r c) [
-        | inl old ↦ (scans.2.shown r old).2
-        | inr new ↦ (new_shown every s q sound bucket prefix rows others reach end.scan end.is_there scans.0 scans.1 end.is_scanning.has end.is_scanning.proper r new).2
-      ]
+module _ {H : List ℕ → Type 0} where
+  module _ (every : EveryWorld H) (s : State) (q : ℕ) (a : Asked) (at : numbered s.asked q ≡ Some a) (sound : IsSound H s) where
+    -- each row that a list has with this window was written
+    window_says : (flow : Flow) (bucket prefix : List ℕ) (rows : List ObjectRow) (others : List AnyRow) (reach : Option (List ℕ)) → a.flow ≡ Some flow → flow.stage ≡ Listing bucket prefix rows →
+        HasScanned H s.asked s.draws s.history s.saw s.world.reads q others reach → (r : ObjectRow) → Contains (rows ++ shown_rows others) r → SaysWritten s.draws (said_by r)
+    window_says flow bucket prefix rows others reach flow_is stage_is end r c =
+        let w = end.is_scanning.waits in
+        let some_is : Some w.one ≡ Some a = sym w.is_there ∙ at in
+        let one_is : w.one ≡ a = cc in
+        let flows : Some w.flow ≡ Some flow = sym w.flow_is ∙ (ap (λ (b : Asked). b.flow) one_is ∙ flow_is) in
+        let same : w.flow ≡ flow = cc in
+        let scans : ScansFor H s.draws s.history s.saw q (Listing bucket prefix rows) end.scan = subst (λ (g : Stage). ScansFor H s.draws s.history s.saw q g end.scan) (ap (λ (f : Flow). f.stage) same ∙ stage_is) end.is_scanning.scans in
+        elim (Contains-append_cases rows (shown_rows others) r c) [
+          | inl old ↦ (scans.2.shown r old).2
+          | inr new ↦ (new_shown every s q sound bucket prefix rows others reach end.scan end.is_there scans.0 scans.1 end.is_scanning.has end.is_scanning.proper r new).2
+        ]
 
-  stage_says : (id block : ℕ) (stage : Stage) (end : PhaseEnd AnyRow) (now : ℕ) → a.flow ≡ Some (flow_of id block stage) → IsStage s.draws s.history q a stage → IsEnd s.asked s.draws s.history s.saw s.world.kept s.world.reads q end →
-      StepSays s.draws a.kind (flow_goes_on id block stage end now)
-  stage_says id block (Drawing name w) (Answered value) now flow_is stage end = writes_says s.draws id block a name (drawn id value now) w
-  stage_says id block (Uploading name v c stored) Kept now flow_is stage end = uploads_says s.draws id block a name v c stored
-  stage_says id block (Completing v meta) Kept now flow_is stage end = stored_says s.draws a.kind v meta stage
-  stage_says id block (Looking name aim) (Answered value) now flow_is stage end = looked_says s.draws id block a aim (said_of value) stage.0 (read_written every s q sound value end)
-  stage_says id block (Opening v meta aim) (Answered value) now flow_is stage end = opened_says s.draws id block a aim v meta (named_by value meta.size) stage.0 stage.2
-  stage_says id block (Gathering v meta aim left body) (Block bytes) now flow_is stage end = gathers_says s.draws id block a aim v meta left (body ++ bytes) stage.0 stage.2
-  stage_says id block (Listing bucket prefix rows) (Window others reach) now flow_is stage end = lists_says s.draws id block a bucket prefix (rows ++ shown_rows others) reach
-      (window_says (flow_of id block (Listing bucket prefix rows)) bucket prefix rows others reach flow_is refl end)
-  stage_says id block _ _ now flow_is stage end = tt
+    stage_says : (id block : ℕ) (stage : Stage) (end : PhaseEnd AnyRow) (now : ℕ) → a.flow ≡ Some (flow_of id block stage) → IsStage H s.draws s.history q a stage → IsEnd H s.asked s.draws s.history s.saw s.world.kept s.world.reads q end →
+        StepSays s.draws a.kind (flow_goes_on id block stage end now)
+    stage_says id block (Drawing name w) (Answered value) now flow_is stage end = writes_says s.draws id block a name (drawn id value now) w
+    stage_says id block (Uploading name v c stored) Kept now flow_is stage end = uploads_says s.draws id block a name v c stored
+    stage_says id block (Completing v meta) Kept now flow_is stage end = stored_says s.draws a.kind v meta stage
+    stage_says id block (Looking name aim) (Answered value) now flow_is stage end = looked_says s.draws id block a aim (said_of value) stage.0 (read_written every s q sound value end)
+    stage_says id block (Opening v meta aim) (Answered value) now flow_is stage end = opened_says s.draws id block a aim v meta (named_by value meta.size) stage.0 stage.2
+    stage_says id block (Gathering v meta aim left body) (Block bytes) now flow_is stage end = gathers_says s.draws id block a aim v meta left (body ++ bytes) stage.0 stage.2
+    stage_says id block (Listing bucket prefix rows) (Window others reach) now flow_is stage end = lists_says s.draws id block a bucket prefix (rows ++ shown_rows others) reach
+        (window_says (flow_of id block (Listing bucket prefix rows)) bucket prefix rows others reach flow_is refl end)
+    stage_says id block _ _ now flow_is stage end = tt
 
 -- ---- outcomes
 
@@ -281,77 +284,79 @@ pub acts_grow : (s : State) (as' : List Act) → Grows s.draws (after_acts s as'
 acts_grow s [] = λ d c. c
 acts_grow s (a ∷ as') = λ d c. acts_grow (acted s a).state as' d (act_grows s a d c)
 
-module _ (every : EveryWorld) where
-  follows_tell : (s : State) (q : ℕ) (a : Asked) → numbered s.asked q ≡ Some a → IsSound s → (end : PhaseEnd AnyRow) (flow : Option Flow) → a.flow ≡ flow → IsEnd s.asked s.draws s.history s.saw s.world.kept s.world.reads q end →
-      HasTold (follows s q a end flow)
-  follows_tell s q a at sound end None flow_is h = tells_none s.draws
-  follows_tell s q a at sound end (Some flow) flow_is h =
-      let now : ℕ = clock s.world a.node in
-      let stage = sound.stages q a flow at flow_is in
-      takes_tells (record s { saw = record { request = q; end = end } ∷ s.saw }) q a (draws_of s q flow.block flow.stage end now) (next flow end now) (stage_says every s q a at sound flow.id flow.block flow.stage end now flow_is stage.1 h)
+module _ {H : List ℕ → Type 0} where
+  module _ (every : EveryWorld H) where
+    follows_tell : (s : State) (q : ℕ) (a : Asked) → numbered s.asked q ≡ Some a → IsSound H s → (end : PhaseEnd AnyRow) (flow : Option Flow) → a.flow ≡ flow → IsEnd H s.asked s.draws s.history s.saw s.world.kept s.world.reads q end →
+        HasTold (follows s q a end flow)
+    follows_tell s q a at sound end None flow_is h = tells_none s.draws
+    follows_tell s q a at sound end (Some flow) flow_is h =
+        let now : ℕ = clock s.world a.node in
+        let stage = sound.stages q a flow at flow_is in
+        takes_tells (record s { saw = record { request = q; end = end } ∷ s.saw }) q a (draws_of s q flow.block flow.stage end now) (next flow end now) (stage_says every s q a at sound flow.id flow.block flow.stage end now flow_is stage.1 h)
 
-  follow_tells : (s : State) (q : ℕ) (asked : Option Asked) (end : PhaseEnd AnyRow) → numbered s.asked q ≡ asked → IsSound s → IsEnd s.asked s.draws s.history s.saw s.world.kept s.world.reads q end → HasTold (follow s q asked end)
-  follow_tells s q None end at sound h = tells_none s.draws
-  follow_tells s q (Some a) end at sound h = follows_tell s q a at sound end a.flow refl h
+    follow_tells : (s : State) (q : ℕ) (asked : Option Asked) (end : PhaseEnd AnyRow) → numbered s.asked q ≡ asked → IsSound H s → IsEnd H s.asked s.draws s.history s.saw s.world.kept s.world.reads q end → HasTold (follow s q asked end)
+    follow_tells s q None end at sound h = tells_none s.draws
+    follow_tells s q (Some a) end at sound h = follows_tell s q a at sound end a.flow refl h
 
-  goes_on_tells : (s : State) (ends : List (Ended AnyRow)) → IsSound s →
-      AllByRecursion (λ (e : Ended AnyRow). IsEnd s.asked s.draws s.history s.saw s.world.kept s.world.reads e.request e.how × Rests s e.request) ends → HasTold (goes_on s ends)
-  goes_on_tells s [] sound h = tells_none s.draws
-  goes_on_tells s (e ∷ es) sound h = follow_tells s e.request (numbered s.asked e.request) e.how refl sound h.0.0
+    goes_on_tells : (s : State) (ends : List (Ended AnyRow)) → IsSound H s →
+        AllByRecursion (λ (e : Ended AnyRow). IsEnd H s.asked s.draws s.history s.saw s.world.kept s.world.reads e.request e.how × Rests s e.request) ends → HasTold (goes_on s ends)
+    goes_on_tells s [] sound h = tells_none s.draws
+    goes_on_tells s (e ∷ es) sound h = follow_tells s e.request (numbered s.asked e.request) e.how refl sound h.0.0
 
-  delivers_tells : (s : State) (m : ℕ) → FitAll any_join words s.world (delivers s m).moves → IsSound s → HasTold (delivers s m)
-  delivers_tells s m fits sound =
-      let d : Moving = plainly (step.Deliver m) in
-      let calm = is_calm every s d tt sound in
-      let o : Outcome = goes_on (doing s d) (effect s d).ends in
-      tells_both o.state.draws (effect s d).tells o.lines (step_tells o.state.draws s.world d.step d.choice)
-      (goes_on_tells (doing s d) (effect s d).ends (step_sound s d sound (tt, tt, tt, fits.0.1, tt) (All-nil (IsGood s.draws)) (calm_fine s (effect s d) sound calm)) (calm_ends s (effect s d) sound calm))
+    delivers_tells : (s : State) (m : ℕ) → FitIn H s.world (delivers s m).moves → IsSound H s → HasTold (delivers s m)
+    delivers_tells s m fits sound =
+        let d : Moving = plainly (step.Deliver m) in
+        let calm = is_calm every s d tt sound in
+        let o : Outcome = goes_on (doing s d) (effect s d).ends in
+        tells_both o.state.draws (effect s d).tells o.lines (step_tells o.state.draws s.world d.step d.choice)
+        (goes_on_tells (doing s d) (effect s d).ends (step_sound s d sound (tt, tt, tt, fits.0.1, tt) fits.0.2 (All-nil (IsGood s.draws)) (calm_fine s (effect s d) sound calm)) (calm_ends s (effect s d) sound calm))
 
-  drains_tell : (n : ℕ) (s : State) → FitAll any_join words s.world (drains n s).moves → IsSound s → HasTold (drains n s)
-  drains_tell zero s fits sound = tells_none s.draws
-  drains_tell (suc n) s fits sound =
-      elim (undelivered s.world) as (λ o. FitAll any_join words s.world (elim o as (λ o. Outcome) [ None ↦ silent s | Some m ↦ let o = delivers s m in then_drains o (drains n o.state) ]).moves →
-      HasTold (elim o as (λ o. Outcome) [ None ↦ silent s | Some m ↦ let o = delivers s m in then_drains o (drains n o.state) ])) [
-        | None ↦ λ fits. tells_none s.draws
-        | Some m ↦ λ fits.
-            let first : Outcome = delivers s m in
-            let rest : Outcome = drains n first.state in
-            let parts = fit_parts any_join words s.world first.moves rest.moves fits in
-            let leads : world_run any_join words s.world first.moves ≡ first.state.world = goes_on_leads (doing s (plainly (step.Deliver m))) (effect s (plainly (step.Deliver m))).ends in
-            tells_both rest.state.draws first.lines rest.lines (tells_later first.state.draws rest.state.draws (drains_grows n first.state) first.lines (delivers_tells s m parts.0 sound))
-            (drains_tell n first.state (subst (λ w. FitAll any_join words w rest.moves) leads parts.1) (delivers_keeps every s m parts.0 sound))
-      ] fits
+    drains_tell : (n : ℕ) (s : State) → FitIn H s.world (drains n s).moves → IsSound H s → HasTold (drains n s)
+    drains_tell zero s fits sound = tells_none s.draws
+    drains_tell (suc n) s fits sound =
+        elim (undelivered s.world) as (λ o. FitIn H s.world (elim o as (λ o. Outcome) [ None ↦ silent s | Some m ↦ let o = delivers s m in then_drains o (drains n o.state) ]).moves →
+        HasTold (elim o as (λ o. Outcome) [ None ↦ silent s | Some m ↦ let o = delivers s m in then_drains o (drains n o.state) ])) [
+          | None ↦ λ fits. tells_none s.draws
+          | Some m ↦ λ fits.
+              let first : Outcome = delivers s m in
+              let rest : Outcome = drains n first.state in
+              let parts = in_parts H s.world first.moves rest.moves fits in
+              let leads : world_run any_join words s.world first.moves ≡ first.state.world = goes_on_leads (doing s (plainly (step.Deliver m))) (effect s (plainly (step.Deliver m))).ends in
+              tells_both rest.state.draws first.lines rest.lines (tells_later first.state.draws rest.state.draws (drains_grows n first.state) first.lines (delivers_tells s m parts.0 sound))
+              (drains_tell n first.state (subst (λ w. FitIn H w rest.moves) leads parts.1) (delivers_keeps every s m parts.0 sound))
+        ] fits
 
-  begins_tells : (s : State) (n : ℕ) (o : Order) → HasTold (begins s n o)
-  begins_tells s n o =
-      elim (is_member_at layouts s.world n) as (λ b. HasTold (if b then (if are_buckets s.buckets (buckets_of o) then opens_request s n o else refusal s NoSuchBucket) else refusal s NotMember)) [
-        | true ↦ elim (are_buckets s.buckets (buckets_of o)) as (λ b. HasTold (if b then opens_request s n o else refusal s NoSuchBucket)) [
-          | true ↦
-              let first : Moving = phases (suc (length s.world.requests)) (started o (suc (length s.world.requests)) s.block).1 in
-              step_tells s.draws (doing s (plainly (step.Open n))).world first.step first.choice
+    begins_tells : (s : State) (n : ℕ) (o : Order) → HasTold (begins s n o)
+    begins_tells s n o =
+        elim (is_member_at layouts s.world n) as (λ b. HasTold (if b then (if are_buckets s.buckets (buckets_of o) then opens_request s n o else refusal s NoSuchBucket) else refusal s NotMember)) [
+          | true ↦ elim (are_buckets s.buckets (buckets_of o)) as (λ b. HasTold (if b then opens_request s n o else refusal s NoSuchBucket)) [
+            | true ↦
+                let first : Moving = phases (suc (length s.world.requests)) (started o (suc (length s.world.requests)) s.block).1 in
+                step_tells s.draws (doing s (plainly (step.Open n))).world first.step first.choice
+            | false ↦ tells_none s.draws
+          ]
           | false ↦ tells_none s.draws
         ]
-        | false ↦ tells_none s.draws
-      ]
 
-  act_tells : (s : State) (a : Act) → FitAll any_join words s.world (acted s a).moves → IsSound s → HasTold (acted s a)
-  act_tells s (moves m) fits sound = step_tells s.draws s.world m.step m.choice
-  act_tells s (asks n o) fits sound = begins_tells s n o
-  act_tells s (delivery m) fits sound = delivers_tells s m fits sound
-  act_tells s (drain n) fits sound = drains_tell n s fits sound
-  act_tells s (installs first) fits sound = tells_none s.draws
-  act_tells s forgets fits sound = tells_none s.draws
-  act_tells s (takes_end q) fits sound = tells_none s.draws
-  act_tells s (adds name) fits sound = tells_none s.draws
-  act_tells s (cuts block) fits sound = tells_none s.draws
+    act_tells : (s : State) (a : Act) → FitIn H s.world (acted s a).moves → IsSound H s → HasTold (acted s a)
+    act_tells s (moves m) fits sound = step_tells s.draws s.world m.step m.choice
+    act_tells s (asks n o) fits sound = begins_tells s n o
+    act_tells s (delivery m) fits sound = delivers_tells s m fits sound
+    act_tells s (drain n) fits sound = drains_tell n s fits sound
+    act_tells s (installs first) fits sound = tells_none s.draws
+    act_tells s forgets fits sound = tells_none s.draws
+    act_tells s (takes_end q) fits sound = tells_none s.draws
+    act_tells s (adds name) fits sound = tells_none s.draws
+    act_tells s (cuts block) fits sound = tells_none s.draws
 
-  acts_tell : (s : State) (as' : List Act) → AreLawfulActs s as' → ActsFit s as' → IsSound s → Tells (after_acts s as').draws (lines_told s as')
-  acts_tell s [] lawful fit sound = tells_none s.draws
-  acts_tell s (a ∷ as') lawful fit sound =
-      let o : Outcome = acted s a in
-      let end : List Draw = (after_acts o.state as').draws in
-      tells_both end o.lines (lines_told o.state as') (tells_later o.state.draws end (acts_grow o.state as') o.lines (act_tells s a fit.0 sound))
-      (acts_tell o.state as' lawful.1 fit.1 (act_keeps every s a lawful.0 fit.0 sound))
+    acts_tell : (s : State) (as' : List Act) → AreLawfulActs s as' → ActsFit s as' → ((x : List ℕ) → ActsHash s as' x → H x) → IsSound H s → Tells (after_acts s as').draws (lines_told s as')
+    acts_tell s [] lawful fit all sound = tells_none s.draws
+    acts_tell s (a ∷ as') lawful fit all sound =
+        let o : Outcome = acted s a in
+        let fits : FitIn H s.world o.moves = fit_in H s.world o.moves fit.0 (λ x h. all x (inl h)) in
+        let end : List Draw = (after_acts o.state as').draws in
+        tells_both end o.lines (lines_told o.state as') (tells_later o.state.draws end (acts_grow o.state as') o.lines (act_tells s a fits sound))
+        (acts_tell o.state as' lawful.1 fit.1 (λ x h. all x (inr h)) (act_keeps every s a lawful.0 fits sound))
 
-  pub acts_written : (as' : List Act) → AreLawfulActs start as' → ActsFit start as' → GivesWhatWasWritten as'
-  acts_written as' lawful fit = record { once = draws_differ every as' lawful fit; lines = acts_tell start as' lawful fit start_sound }
+    pub acts_written : (as' : List Act) → AreLawfulActs start as' → ActsFit start as' → ((x : List ℕ) → ActsHash start as' x → H x) → GivesWhatWasWritten as'
+    acts_written as' lawful fit all = record { once = draws_differ every as' lawful fit all; lines = acts_tell start as' lawful fit all start_sound }

@@ -11,6 +11,7 @@ use Rattle.object_schema.specs.Schema.{words}
 use Rattle.cluster_machine.specs.Node.{Question, Scan, Present, resting, asking, scanning, storing, fetching, Call}
 use Rattle.cluster_machine.specs.World.{empty, numbered}
 use Rattle.cluster_machine.specs.declared.step.Step.{Step}
+use Rattle.cluster_machine.specs.Hashes.{NoClash as NoTrieClash}
 use Rattle.machine_origins.specs.Origins.{stored_by}
 use Rattle.cluster_machine.specs.Worlds.{IsLawfulRun, IsLawfulStart, run, start as first_world}
 use Rattle.history_model.specs.declared.record.Kind.{Kind}
@@ -41,6 +42,7 @@ use Rattle.flow_model.specs.Says.{is_shown, said_by}
 use Rattle.blake2_hash.specs.Hash.{digest_of}
 use Rattle.crdt_rows.specs.declared.object_row.ObjectRow.{ObjectRow}
 use Rattle.store_laws.proofs.Good.{IsGood}
+use Rattle.store_laws.specs.Hashed.{StepsHash}
 
 -- the rows that this step begins to store are good
 abbrev pub StoresGood : List Draw → Step AnyRow → Type 0
@@ -52,8 +54,8 @@ pub record IsInstalled (begin : World) (before : List Moving) : Type 0 where
   pub lawful : IsLawfulStart any_join words before first
   pub is : begin ≡ first_world any_join words before first
 
--- the world is one that lawful steps lead to, from the empty one or from one in which a layout was installed, but that messages were forgotten; and each of the steps is so
-pub record IsReachedBy (IsSo : Step AnyRow → Type 0) (w : World) : Type 0 where
+-- the world is one that lawful steps lead to, from the empty one or from one in which a layout was installed, but that messages were forgotten; each of the steps is so, and what was hashed for walks is among these strings
+pub record IsReachedBy (H : List ℕ → Type 0) (IsSo : Step AnyRow → Type 0) (w : World) : Type 0 where
   pub before : List Moving
   pub begin : World
   pub begun : ((before ≡ []) × (begin ≡ empty)) ⊎ IsInstalled begin before
@@ -61,11 +63,13 @@ pub record IsReachedBy (IsSo : Step AnyRow → Type 0) (w : World) : Type 0 wher
   pub lawful : IsLawfulRun any_join words begin moves
   pub alike : IsAlike w (run any_join words begin moves)
   pub before_are : All (λ (m : Moving). IsSo m.step) before
+  pub hashed_before : (x : List ℕ) → StepsHash empty before x → H x
+  pub hashed : (x : List ℕ) → StepsHash begin moves x → H x
   pub are : All (λ (m : Moving). IsSo m.step) moves
 
 -- each row that the steps began to store is good
-abbrev pub IsReached : List Draw → World → Type 0
-IsReached draws w = IsReachedBy (StoresGood draws) w
+abbrev pub IsReached : (List ℕ → Type 0) → List Draw → World → Type 0
+IsReached H draws w = IsReachedBy H (StoresGood draws) w
 
 -- the record that a request began
 abbrev pub began : ℕ → ℕ → Kind → Name → Record
@@ -205,10 +209,11 @@ pub record HasWished (draws : List Draw) (q : ℕ) (name : Name) (version : Vers
   pub moment : ℕ
   pub drawn : Contains draws (record { request = q; name = name; version = version; wish = w; block = block; moment = moment })
 
--- this version of an object, which request q for `own` read, was drawn, and is not below what was acknowledged before the request began
-pub record HasFound (draws : List Draw) (history : List Record) (q : ℕ) (own name : Name) (version : Version) : Type 0 where
-  pub found : FoundIn draws name version
-  pub not_below : (before after : List Record) (n : ℕ) (kind : Kind) (w : Version) → history ≡ before ++ began q n kind own ∷ after → WasAcknowledged before name w → ¬ Below version w
+module _ (H : List ℕ → Type 0) where
+  -- this version of an object, which request q for `own` read, was drawn, and is not below what was acknowledged before the request began
+  pub record HasFound (draws : List Draw) (history : List Record) (q : ℕ) (own name : Name) (version : Version) : Type 0 where
+    pub found : FoundIn draws name version
+    pub not_below : NoTrieClash H → (before after : List Record) (n : ℕ) (kind : Kind) (w : Version) → history ≡ before ++ began q n kind own ∷ after → WasAcknowledged before name w → ¬ Below version w
 
 -- the object of this key in the bucket that a list is for
 abbrev pub listed : Name → List ℕ → Name
@@ -220,38 +225,39 @@ pub record HasRow (rows : List ObjectRow) (key : List ℕ) : Type 0 where
   pub is_there : Contains rows row
   pub key_is : row.key ≡ key
 
--- a row shows an object, whose version was found, and whose bytes were written
-abbrev pub IsShown : List Draw → List Record → ℕ → Name → ObjectRow → Type 0
-IsShown draws history q own r = (is_shown r ≡ true) × ((v : Version) → IsSaid v (said_by r) → HasFound draws history q own (listed own r.key) v) × SaysWritten draws (said_by r)
+module _ (H : List ℕ → Type 0) where
+  -- a row shows an object, whose version was found, and whose bytes were written
+  abbrev pub IsShown : List Draw → List Record → ℕ → Name → ObjectRow → Type 0
+  IsShown draws history q own r = (is_shown r ≡ true) × ((v : Version) → IsSaid v (said_by r) → HasFound H draws history q own (listed own r.key) v) × SaysWritten draws (said_by r)
 
--- the rows that a list has of keys up to here, or of all: each shows an object, and of each object that was acknowledged before the list began it has the row, or a marker explains that it has none
-pub record HasShown (draws : List Draw) (history : List Record) (saw : List Saw) (q : ℕ) (own : Name) (rows : List ObjectRow) (reach : Option (List ℕ)) : Type 0 where
-  pub shown : (r : ObjectRow) → Contains rows r → IsShown draws history q own r
-  pub covers : (before after : List Record) (n : ℕ) (kind : Kind) (key : List ℕ) (w : Version) → history ≡ before ++ began q n kind own ∷ after → IsTrue (starts_with nat_eq key own.key) →
-      IsTrue (is_within reach key) → WasAcknowledged before (listed own key) w → HasRow rows key ⊎ IsMarked saw q own.bucket key w
+  -- the rows that a list has of keys up to here, or of all: each shows an object, and of each object that was acknowledged before the list began it has the row, or a marker explains that it has none
+  pub record HasShown (draws : List Draw) (history : List Record) (saw : List Saw) (q : ℕ) (own : Name) (rows : List ObjectRow) (reach : Option (List ℕ)) : Type 0 where
+    pub shown : (r : ObjectRow) → Contains rows r → IsShown draws history q own r
+    pub covers : NoTrieClash H → (before after : List Record) (n : ℕ) (kind : Kind) (key : List ℕ) (w : Version) → history ≡ before ++ began q n kind own ∷ after → IsTrue (starts_with nat_eq key own.key) →
+        IsTrue (is_within reach key) → WasAcknowledged before (listed own key) w → HasRow rows key ⊎ IsMarked saw q own.bucket key w
 
--- a list that waits so scans past the keys of which it has all
-abbrev pub ScansFor : List Draw → List Record → List Saw → ℕ → Stage → Scan AnyRow → Type 0
-ScansFor draws history saw q (Listing bucket prefix rows) scan =
-    (scan.position ≡ (digest_of bucket).0) × (scan.prefix ≡ prefix) × HasShown draws history saw q (record { bucket = bucket; key = prefix }) rows (Some scan.after)
-ScansFor draws history saw q stage scan = ⊤
+  -- a list that waits so scans past the keys of which it has all
+  abbrev pub ScansFor : List Draw → List Record → List Saw → ℕ → Stage → Scan AnyRow → Type 0
+  ScansFor draws history saw q (Listing bucket prefix rows) scan =
+      (scan.position ≡ (digest_of bucket).0) × (scan.prefix ≡ prefix) × HasShown draws history saw q (record { bucket = bucket; key = prefix }) rows (Some scan.after)
+  ScansFor draws history saw q stage scan = ⊤
 
--- request q scans, and all that was acknowledged before it began was kept before its range phase began
-pub record IsScanning (asked : List Asked) (draws : List Draw) (history : List Record) (saw : List Saw) (n q : ℕ) (scan : Scan AnyRow) : Type 0 where
-  pub waits : WaitsAt asked n q
-  pub scans : ScansFor draws history saw q waits.flow.stage scan
-  pub proper : AreProper scan.kept
-  pub has : HasBefore history q scan.kept
+  -- request q scans, and all that was acknowledged before it began was kept before its range phase began
+  pub record IsScanning (asked : List Asked) (draws : List Draw) (history : List Record) (saw : List Saw) (n q : ℕ) (scan : Scan AnyRow) : Type 0 where
+    pub waits : WaitsAt asked n q
+    pub scans : ScansFor draws history saw q waits.flow.stage scan
+    pub proper : AreProper scan.kept
+    pub has : HasBefore history q scan.kept
 
-abbrev pub IsPresent : List Asked → List Draw → List Record → List Saw → ℕ → ℕ → Present AnyRow → Type 0
-IsPresent asked draws history saw n q resting = AskedAt asked n q
-IsPresent asked draws history saw n q (asking question answers) = IsAsking asked history n q question
-IsPresent asked draws history saw n q (scanning scan answers) = IsScanning asked draws history saw n q scan
-IsPresent asked draws history saw n q (storing rows slots) = IsStoring asked draws n q rows
-IsPresent asked draws history saw n q (fetching hash) = WaitsAt asked n q
+  abbrev pub IsPresent : List Asked → List Draw → List Record → List Saw → ℕ → ℕ → Present AnyRow → Type 0
+  IsPresent asked draws history saw n q resting = AskedAt asked n q
+  IsPresent asked draws history saw n q (asking question answers) = IsAsking asked history n q question
+  IsPresent asked draws history saw n q (scanning scan answers) = IsScanning asked draws history saw n q scan
+  IsPresent asked draws history saw n q (storing rows slots) = IsStoring asked draws n q rows
+  IsPresent asked draws history saw n q (fetching hash) = WaitsAt asked n q
 
-abbrev pub ArePresent : List Asked → List Draw → List Record → List Saw → ℕ → List (Call AnyRow) → Type 0
-ArePresent asked draws history saw n calls = (c : Call AnyRow) → Has calls c → IsPresent asked draws history saw n c.request c.present
+  abbrev pub ArePresent : List Asked → List Draw → List Record → List Saw → ℕ → List (Call AnyRow) → Type 0
+  ArePresent asked draws history saw n calls = (c : Call AnyRow) → Has calls c → IsPresent asked draws history saw n c.request c.present
 
 -- the version was drawn by now, by a put or copy of this object that had begun
 pub record DrewHere (s : State) (name : Name) (version : Version) : Type 0 where
@@ -268,12 +274,13 @@ pub record DrewHere (s : State) (name : Name) (version : Version) : Type 0 where
   pub in_time : place < draw.moment
   pub moment : draw.moment ≤ length s.history
 
--- what request q owes if it finishes now with this answer
-pub record IsFreshEnd (s : State) (q : ℕ) (answer : Answer) : Type 0 where
-  pub covers : (before after : List Record) (n : ℕ) (kind : Kind) (name : Name) (key : List ℕ) (w : Version) → IsTrue (is_read kind) → s.history ≡ before ++ began q n kind name ∷ after →
-      IsTrue (names kind name.key key) → WasAcknowledged before (record { bucket = name.bucket; key = key }) w → Covers s.saw q name.bucket name.key answer key w
-  pub written : NoClash s.buckets → (n : ℕ) (kind : Kind) (name : Name) (key : List ℕ) (v : Version) → IsTrue (is_read kind) → Contains s.history (began q n kind name) →
-      IsTrue (names kind name.key key) → Shows name.key answer key v → DrewHere s (record { bucket = name.bucket; key = key }) v
+module _ (H : List ℕ → Type 0) where
+  -- what request q owes if it finishes now with this answer
+  pub record IsFreshEnd (s : State) (q : ℕ) (answer : Answer) : Type 0 where
+    pub covers : NoTrieClash H → (before after : List Record) (n : ℕ) (kind : Kind) (name : Name) (key : List ℕ) (w : Version) → IsTrue (is_read kind) → s.history ≡ before ++ began q n kind name ∷ after →
+        IsTrue (names kind name.key key) → WasAcknowledged before (record { bucket = name.bucket; key = key }) w → Covers s.saw q name.bucket name.key answer key w
+    pub written : NoClash s.buckets → (n : ℕ) (kind : Kind) (name : Name) (key : List ℕ) (v : Version) → IsTrue (is_read kind) → Contains s.history (began q n kind name) →
+        IsTrue (names kind name.key key) → Shows name.key answer key v → DrewHere s (record { bucket = name.bucket; key = key }) v
 
 -- a request of this kind for this object reads so
 abbrev pub IsAimOf : Asked → Aim → Type 0
@@ -287,35 +294,37 @@ LooksAt a aim.Get name = name ≡ a.name
 LooksAt a aim.Head name = name ≡ a.name
 LooksAt a (aim.Copy new headers) name = ⊤
 
--- a get has found this version of its object; a copy owes nothing for what it reads
-abbrev pub HasSeen : List Draw → List Record → ℕ → Asked → Aim → Version → Type 0
-HasSeen draws history q a aim.Get version = HasFound draws history q a.name a.name version
-HasSeen draws history q a aim.Head version = HasFound draws history q a.name a.name version
-HasSeen draws history q a (aim.Copy name headers) version = ⊤
+module _ (H : List ℕ → Type 0) where
+  -- a get has found this version of its object; a copy owes nothing for what it reads
+  abbrev pub HasSeen : List Draw → List Record → ℕ → Asked → Aim → Version → Type 0
+  HasSeen draws history q a aim.Get version = HasFound H draws history q a.name a.name version
+  HasSeen draws history q a aim.Head version = HasFound H draws history q a.name a.name version
+  HasSeen draws history q a (aim.Copy name headers) version = ⊤
 
--- request q waits as its kind does
-abbrev pub IsStage : List Draw → List Record → ℕ → Asked → Stage → Type 0
-IsStage draws history q a (Drawing name wish) = (name ≡ a.name) × IsWishOf a.kind wish
-IsStage draws history q a (Uploading name version content stored) = IsTrue (is_write a.kind) × HasWished draws q name version (wish.Content content)
-IsStage draws history q a (Completing version meta) = IsTrue (is_write a.kind)
-IsStage draws history q a (Looking name aim) = IsAimOf a aim × LooksAt a aim name
-IsStage draws history q a (Opening version meta aim) = IsAimOf a aim × HasSeen draws history q a aim version × IsInBlocks draws version meta
-IsStage draws history q a (Gathering version meta aim left body) = IsAimOf a aim × HasSeen draws history q a aim version × IsInBlocks draws version meta × AllByRecursion HasHash left
-IsStage draws history q a (Listing bucket prefix rows) = (a.kind ≡ kind.List) × (a.name ≡ record { bucket = bucket; key = prefix })
+  -- request q waits as its kind does
+  abbrev pub IsStage : List Draw → List Record → ℕ → Asked → Stage → Type 0
+  IsStage draws history q a (Drawing name wish) = (name ≡ a.name) × IsWishOf a.kind wish
+  IsStage draws history q a (Uploading name version content stored) = IsTrue (is_write a.kind) × HasWished draws q name version (wish.Content content)
+  IsStage draws history q a (Completing version meta) = IsTrue (is_write a.kind)
+  IsStage draws history q a (Looking name aim) = IsAimOf a aim × LooksAt a aim name
+  IsStage draws history q a (Opening version meta aim) = IsAimOf a aim × HasSeen draws history q a aim version × IsInBlocks draws version meta
+  IsStage draws history q a (Gathering version meta aim left body) = IsAimOf a aim × HasSeen draws history q a aim version × IsInBlocks draws version meta × AllByRecursion HasHash left
+  IsStage draws history q a (Listing bucket prefix rows) = (a.kind ≡ kind.List) × (a.name ≡ record { bucket = bucket; key = prefix })
 
--- each request waits as its kind does
-abbrev pub AreStages : List Draw → List Record → List Asked → Type 0
-AreStages draws history asked = (q : ℕ) (a : Asked) (flow : Flow) → numbered asked q ≡ Some a → a.flow ≡ Some flow → (flow.id ≡ q) × IsStage draws history q a flow.stage
+  -- each request waits as its kind does
+  abbrev pub AreStages : List Draw → List Record → List Asked → Type 0
+  AreStages draws history asked = (q : ℕ) (a : Asked) (flow : Flow) → numbered asked q ≡ Some a → a.flow ≡ Some flow → (flow.id ≡ q) × IsStage draws history q a flow.stage
 
-pub record IsSound (s : State) : Type 0 where
-  pub reached : IsReached s.draws s.world
-  pub lengths : length s.asked ≡ length s.world.requests
-  pub told : IsTold s.buckets s.asked s.history
-  pub presents : (n : ℕ) → ArePresent s.asked s.draws s.history s.saw n (s.world.nodes n).calls
-  pub stages : AreStages s.draws s.history s.asked
-  pub drawn : (d : Draw) → Contains s.draws d → HasDrawn s.buckets s.history d
-  pub acknowledged : HasAcknowledged s.world.kept s.history
-  pub answered : HasAnswered s.draws s.history
-  pub seen : SawDrawn s.draws s.saw
-  pub proper : AreProper s.world.kept
-  pub fresh : IsFresh s
+  -- of what a run of acts leads to, where the freshness of reads alone rests on digests
+  pub record IsSound (s : State) : Type 0 where
+    pub reached : IsReached H s.draws s.world
+    pub lengths : length s.asked ≡ length s.world.requests
+    pub told : IsTold s.buckets s.asked s.history
+    pub presents : (n : ℕ) → ArePresent H s.asked s.draws s.history s.saw n (s.world.nodes n).calls
+    pub stages : AreStages s.draws s.history s.asked
+    pub drawn : (d : Draw) → Contains s.draws d → HasDrawn s.buckets s.history d
+    pub acknowledged : HasAcknowledged s.world.kept s.history
+    pub answered : HasAnswered s.draws s.history
+    pub seen : SawDrawn s.draws s.saw
+    pub proper : AreProper s.world.kept
+    pub fresh : NoTrieClash H → IsFresh s

@@ -31,110 +31,113 @@ use Rattle.store_laws.proofs.Freshness.{fresh_later}
 use Rattle.store_laws.proofs.Grown.{kept_later}
 use Rattle.store_laws.proofs.Reached.{reached_step, reached_installing}
 use Rattle.store_laws.proofs.Ends.{IsEnd, present_continues, ends_are}
+use Rattle.store_laws.proofs.Hashing.{HashesIn}
 
 -- what is added fits the requests, and none opens
-pub record IsFine (s : State) (e : Effect AnyRow) : Type 0 where
+pub record IsFine (H : List ℕ → Type 0) (s : State) (e : Effect AnyRow) : Type 0 where
   pub opens : e.opens ≡ []
-  pub presents : (n : ℕ) → ArePresent s.asked s.draws s.history s.saw n (changed e.nodes s.world.nodes n).calls
+  pub presents : (n : ℕ) → ArePresent H s.asked s.draws s.history s.saw n (changed e.nodes s.world.nodes n).calls
   pub keeps : AreProper e.keeps
 
--- effects on the world, whatever they are of
-pub effects_sound : (s : State) (e : Effect AnyRow) → IsSound s → IsReached s.draws (applied s.world e) → IsFine s e → IsSound (record s { world = applied s.world e })
-effects_sound s e sound reached fine =
-    let shut_now : List Request = shut s.world.requests e.closes in
-    let requests : shut_now ++ e.opens ≡ shut_now = ap (λ (o : List Request). shut_now ++ o) fine.opens ∙ append-nil shut_now in
-    record {
-      reached = reached;
-      lengths = sound.lengths ∙ sym (ap (λ (rs : List Request). length rs) requests ∙ length_shut s.world.requests e.closes);
-      told = sound.told;
-      presents = fine.presents;
-      stages = sound.stages;
-      drawn = sound.drawn;
-      acknowledged = kept_later s.world.kept e.keeps s.history sound.acknowledged;
-      answered = sound.answered;
-      seen = sound.seen;
-      proper = All-append IsProper e.keeps s.world.kept fine.keeps sound.proper;
-      fresh = fresh_later s (record s { world = applied s.world e }) refl (λ n c. c) (λ d c. c) (λ x c. c) sound.fresh;
-    }
+module _ {H : List ℕ → Type 0} where
+  -- effects on the world, whatever they are of
+  pub effects_sound : (s : State) (e : Effect AnyRow) → IsSound H s → IsReached H s.draws (applied s.world e) → IsFine H s e → IsSound H (record s { world = applied s.world e })
+  effects_sound s e sound reached fine =
+      let shut_now : List Request = shut s.world.requests e.closes in
+      let requests : shut_now ++ e.opens ≡ shut_now = ap (λ (o : List Request). shut_now ++ o) fine.opens ∙ append-nil shut_now in
+      record {
+        reached = reached;
+        lengths = sound.lengths ∙ sym (ap (λ (rs : List Request). length rs) requests ∙ length_shut s.world.requests e.closes);
+        told = sound.told;
+        presents = fine.presents;
+        stages = sound.stages;
+        drawn = sound.drawn;
+        acknowledged = kept_later s.world.kept e.keeps s.history sound.acknowledged;
+        answered = sound.answered;
+        seen = sound.seen;
+        proper = All-append IsProper e.keeps s.world.kept fine.keeps sound.proper;
+        fresh = λ clear. fresh_later s (record s { world = applied s.world e }) refl (λ n c. c) (λ d c. c) (λ x c. c) (sound.fresh clear);
+      }
 
-pub step_sound : (s : State) (m : Moving) → IsSound s → IsLawfulRun any_join words s.world (m ∷ []) → All (IsGood s.draws) (stored_by m.step) → IsFine s (effect s m) → IsSound (doing s m)
-step_sound s m sound lawful stores fine = effects_sound s (effect s m) sound (reached_step (StoresGood s.draws) s.world m sound.reached lawful stores (All-nil (IsGood s.draws))) fine
+  pub step_sound : (s : State) (m : Moving) → IsSound H s → IsLawfulRun any_join words s.world (m ∷ []) → HashesIn H s.world m → All (IsGood s.draws) (stored_by m.step) → IsFine H s (effect s m) → IsSound H (doing s m)
+  step_sound s m sound lawful hashes stores fine = effects_sound s (effect s m) sound (reached_step (StoresGood s.draws) s.world m sound.reached lawful hashes stores (All-nil (IsGood s.draws))) fine
 
--- a first layout is installed where none was applied: calls stay
-pub installing_sound : (s : State) (first : Layout) → IsFirst first → s.world.applied ≡ 0 → IsSound s → IsSound (record s { world = installed any_join words s.world first })
-installing_sound s first is_first none sound =
-    effects_sound s (installs any_join words s.world first) sound (reached_installing s.world first is_first none sound.reached) (record {
-      opens = refl;
-      presents = λ n. elim (is_among n (reading.members first)) as (λ b. ArePresent s.asked s.draws s.history s.saw n (unwrap_or (cond b (Some (appends layouts (s.world.nodes n) first)) None) (s.world.nodes n)).calls) [ true ↦ sound.presents n | false ↦ sound.presents n ];
-      keeps = All-nil IsProper;
-    })
+  -- a first layout is installed where none was applied: calls stay
+  pub installing_sound : (s : State) (first : Layout) → IsFirst first → s.world.applied ≡ 0 → IsSound H s → IsSound H (record s { world = installed any_join words s.world first })
+  installing_sound s first is_first none sound =
+      effects_sound s (installs any_join words s.world first) sound (reached_installing s.world first is_first none sound.reached) (record {
+        opens = refl;
+        presents = λ n. elim (is_among n (reading.members first)) as (λ b. ArePresent H s.asked s.draws s.history s.saw n (unwrap_or (cond b (Some (appends layouts (s.world.nodes n) first)) None) (s.world.nodes n)).calls) [ true ↦ sound.presents n | false ↦ sound.presents n ];
+        keeps = All-nil IsProper;
+      })
 
-pub fine_still : (s : State) (e : Effect AnyRow) → IsSound s → ((n : ℕ) → e.nodes n ≡ None) → e.opens ≡ [] → AreProper e.keeps → IsFine s e
-fine_still s e sound still opens keeps = record {
-  opens = opens;
-  presents = λ n. subst (λ o. ArePresent s.asked s.draws s.history s.saw n (unwrap_or o (s.world.nodes n)).calls) (sym (still n)) (sound.presents n);
-  keeps = keeps;
-}
+  pub fine_still : (s : State) (e : Effect AnyRow) → IsSound H s → ((n : ℕ) → e.nodes n ≡ None) → e.opens ≡ [] → AreProper e.keeps → IsFine H s e
+  fine_still s e sound still opens keeps = record {
+    opens = opens;
+    presents = λ n. subst (λ o. ArePresent H s.asked s.draws s.history s.saw n (unwrap_or o (s.world.nodes n)).calls) (sym (still n)) (sound.presents n);
+    keeps = keeps;
+  }
 
-pub fine_one : (s : State) (e : Effect AnyRow) (n : ℕ) (y : Node AnyRow Layout) → IsSound s → ((m : ℕ) → e.nodes m ≡ only n y m) → e.opens ≡ [] → AreProper e.keeps → ArePresent s.asked s.draws s.history s.saw n y.calls → IsFine s e
-fine_one s e n y sound one opens keeps are = record {
-  opens = opens;
-  presents = λ m. subst (λ o. ArePresent s.asked s.draws s.history s.saw m (unwrap_or o (s.world.nodes m)).calls) (sym (one m))
-      (elim (m == n) as (λ b. (m == n) ≡ b → ArePresent s.asked s.draws s.history s.saw m (unwrap_or (cond b (Some y) None) (s.world.nodes m)).calls) [
-        | true ↦ (λ t. subst (λ k. ArePresent s.asked s.draws s.history s.saw k y.calls) (sym (eqb-true m n t)) are)
-        | false ↦ (λ f. sound.presents m)
-      ] refl);
-  keeps = keeps;
-}
+  pub fine_one : (s : State) (e : Effect AnyRow) (n : ℕ) (y : Node AnyRow Layout) → IsSound H s → ((m : ℕ) → e.nodes m ≡ only n y m) → e.opens ≡ [] → AreProper e.keeps → ArePresent H s.asked s.draws s.history s.saw n y.calls → IsFine H s e
+  fine_one s e n y sound one opens keeps are = record {
+    opens = opens;
+    presents = λ m. subst (λ o. ArePresent H s.asked s.draws s.history s.saw m (unwrap_or o (s.world.nodes m)).calls) (sym (one m))
+        (elim (m == n) as (λ b. (m == n) ≡ b → ArePresent H s.asked s.draws s.history s.saw m (unwrap_or (cond b (Some y) None) (s.world.nodes m)).calls) [
+          | true ↦ (λ t. subst (λ k. ArePresent H s.asked s.draws s.history s.saw k y.calls) (sym (eqb-true m n t)) are)
+          | false ↦ (λ f. sound.presents m)
+        ] refl);
+    keeps = keeps;
+  }
 
-pub fine_cond : (s : State) (b : Bool) (d e : Effect AnyRow) → IsFine s d → IsFine s e → IsFine s (cond b d e)
+pub fine_cond : {H : List ℕ → Type 0} (s : State) (b : Bool) (d e : Effect AnyRow) → IsFine H s d → IsFine H s e → IsFine H s (cond b d e)
 fine_cond s true d e h k = h
 fine_cond s false d e h k = k
 
-module _ (s : State) (e : Effect AnyRow) (sound : IsSound s) (calm : IsCalm s.world e) where
-  calm_both : AllByRecursion (λ (x : Ended AnyRow). IsEnd s.asked s.draws s.history s.saw (e.keeps ++ s.world.kept) (e.reads ++ s.world.reads) x.request x.how ×
-      WaitsAt s.asked calm.node x.request × ((c : Call AnyRow) → Has (changed e.nodes s.world.nodes calm.node).calls c → c.request ≡ x.request → c.present ≡ resting)) e.ends × AreProper e.keeps
-  calm_both = ends_are s.asked s.draws s.history s.saw calm.node s.world.kept s.world.reads e.keeps e.reads (s.world.nodes calm.node).calls (changed e.nodes s.world.nodes calm.node).calls e.ends (sound.presents calm.node) calm.ends
+module _ {H : List ℕ → Type 0} where
+  module _ (s : State) (e : Effect AnyRow) (sound : IsSound H s) (calm : IsCalm s.world e) where
+    calm_both : AllByRecursion (λ (x : Ended AnyRow). IsEnd H s.asked s.draws s.history s.saw (e.keeps ++ s.world.kept) (e.reads ++ s.world.reads) x.request x.how ×
+        WaitsAt s.asked calm.node x.request × ((c : Call AnyRow) → Has (changed e.nodes s.world.nodes calm.node).calls c → c.request ≡ x.request → c.present ≡ resting)) e.ends × AreProper e.keeps
+    calm_both = ends_are H s.asked s.draws s.history s.saw calm.node s.world.kept s.world.reads e.keeps e.reads (s.world.nodes calm.node).calls (changed e.nodes s.world.nodes calm.node).calls e.ends (sound.presents calm.node) calm.ends
 
-  -- a calm step, and the phase that ended in it
-  pub calm_fine : IsFine s e
-  calm_fine = record {
-    opens = calm.opens;
-    presents = λ n c h. present_continues s.asked s.draws s.history s.saw n (s.world.nodes n).calls (sound.presents n) c (calm.calls n c h);
-    keeps = calm_both.1;
-  }
+    -- a calm step, and the phase that ended in it
+    pub calm_fine : IsFine H s e
+    calm_fine = record {
+      opens = calm.opens;
+      presents = λ n c h. present_continues H s.asked s.draws s.history s.saw n (s.world.nodes n).calls (sound.presents n) c (calm.calls n c h);
+      keeps = calm_both.1;
+    }
 
-  rests_or_waits : (n q : ℕ) (p : Present AnyRow) → IsPresent s.asked s.draws s.history s.saw n q p → (p ≡ resting) ⊎ WaitsAt s.asked n q
-  rests_or_waits n q resting h = inl refl
-  rests_or_waits n q (asking question answers) h = inr h.waits
-  rests_or_waits n q (scanning scan answers) h = inr h.waits
-  rests_or_waits n q (storing rows slots) h = inr h.waits
-  rests_or_waits n q (fetching hash) h = inr h
+    rests_or_waits : (n q : ℕ) (p : Present AnyRow) → IsPresent H s.asked s.draws s.history s.saw n q p → (p ≡ resting) ⊎ WaitsAt s.asked n q
+    rests_or_waits n q resting h = inl refl
+    rests_or_waits n q (asking question answers) h = inr h.waits
+    rests_or_waits n q (scanning scan answers) h = inr h.waits
+    rests_or_waits n q (storing rows slots) h = inr h.waits
+    rests_or_waits n q (fetching hash) h = inr h
 
-  one_node : (n m q : ℕ) → WaitsAt s.asked n q → WaitsAt s.asked m q → n ≡ m
-  one_node n m q w v =
-      let some_is : Some w.one ≡ Some v.one = sym w.is_there ∙ v.is_there in
-      let one_is : w.one ≡ v.one = cc in
-      sym w.node_is ∙ (ap (λ (a : Asked). a.node) one_is ∙ v.node_is)
+    one_node : (n m q : ℕ) → WaitsAt s.asked n q → WaitsAt s.asked m q → n ≡ m
+    one_node n m q w v =
+        let some_is : Some w.one ≡ Some v.one = sym w.is_there ∙ v.is_there in
+        let one_is : w.one ≡ v.one = cc in
+        sym w.node_is ∙ (ap (λ (a : Asked). a.node) one_is ∙ v.node_is)
 
-  abbrev pub IsDoneAt : ℕ → Type 0
-  IsDoneAt q = WaitsAt s.asked calm.node q × ((c : Call AnyRow) → Has (changed e.nodes s.world.nodes calm.node).calls c → c.request ≡ q → c.present ≡ resting)
+    abbrev pub IsDoneAt : ℕ → Type 0
+    IsDoneAt q = WaitsAt s.asked calm.node q × ((c : Call AnyRow) → Has (changed e.nodes s.world.nodes calm.node).calls c → c.request ≡ q → c.present ≡ resting)
 
-  -- the request whose phase ended rests wherever it is open
-  rests_now : (q : ℕ) → IsDoneAt q → (n : ℕ) (c : Call AnyRow) → Has (changed e.nodes s.world.nodes n).calls c → c.request ≡ q → c.present ≡ resting
-  rests_now q done n c has is =
-      elim (n == calm.node) as (λ b. (n == calm.node) ≡ b → c.present ≡ resting) [
-        | true ↦ (λ t. done.1 c (subst (λ m. Has (changed e.nodes s.world.nodes m).calls c) (eqb-true n calm.node t) has) is)
-        | false ↦ (λ f. elim (rests_or_waits n c.request c.present (calm_fine.presents n c has)) [
-          | inl rests ↦ rests
-          | inr waits ↦ absurd (eqb-false n calm.node f (one_node n calm.node q (subst (WaitsAt s.asked n) is waits) done.0))
-        ])
-      ] refl
+    -- the request whose phase ended rests wherever it is open
+    rests_now : (q : ℕ) → IsDoneAt q → (n : ℕ) (c : Call AnyRow) → Has (changed e.nodes s.world.nodes n).calls c → c.request ≡ q → c.present ≡ resting
+    rests_now q done n c has is =
+        elim (n == calm.node) as (λ b. (n == calm.node) ≡ b → c.present ≡ resting) [
+          | true ↦ (λ t. done.1 c (subst (λ m. Has (changed e.nodes s.world.nodes m).calls c) (eqb-true n calm.node t) has) is)
+          | false ↦ (λ f. elim (rests_or_waits n c.request c.present (calm_fine.presents n c has)) [
+            | inl rests ↦ rests
+            | inr waits ↦ absurd (eqb-false n calm.node f (one_node n calm.node q (subst (WaitsAt s.asked n) is waits) done.0))
+          ])
+        ] refl
 
-  abbrev pub IsEnded : Ended AnyRow → Type 0
-  IsEnded x = IsEnd s.asked s.draws s.history s.saw (e.keeps ++ s.world.kept) (e.reads ++ s.world.reads) x.request x.how ×
-      ((n : ℕ) (c : Call AnyRow) → Has (changed e.nodes s.world.nodes n).calls c → c.request ≡ x.request → c.present ≡ resting)
+    abbrev pub IsEnded : Ended AnyRow → Type 0
+    IsEnded x = IsEnd H s.asked s.draws s.history s.saw (e.keeps ++ s.world.kept) (e.reads ++ s.world.reads) x.request x.how ×
+        ((n : ℕ) (c : Call AnyRow) → Has (changed e.nodes s.world.nodes n).calls c → c.request ≡ x.request → c.present ≡ resting)
 
-  -- the phases that ended in a calm step, and their requests rest
-  pub calm_ends : AllByRecursion IsEnded e.ends
-  calm_ends = all_weaker _ IsEnded (λ x h. (h.0, rests_now x.request (h.1, h.2))) e.ends calm_both.0
+    -- the phases that ended in a calm step, and their requests rest
+    pub calm_ends : AllByRecursion IsEnded e.ends
+    calm_ends = all_weaker _ IsEnded (λ x h. (h.0, rests_now x.request (h.1, h.2))) e.ends calm_both.0

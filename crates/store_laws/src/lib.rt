@@ -1,4 +1,7 @@
 //! What holds over every list of acts of the object store. No body does anything: each is called for its contract.
+//!
+//! That reads are fresh, and gave what was kept, has a premise: no two strings that the acts hash for walks have one digest,
+//! and none has 32 zero bytes (`NoClash` of `ActsHash`). Acts without rounds and repairs hash none. The rest has no such premise.
 #![tactic(auto)]
 
 ghost use Rattle.std.specs.Prelude.{◌≡◌, None, List};
@@ -10,7 +13,9 @@ ghost use Rattle.cluster_machine.specs.Worlds.{FitAll};
 ghost use Rattle.store_model.specs.Run.{start};
 ghost use Rattle.store_model.specs.Acts.{Act, drain, all_messages, AreLawfulActs, ActsFit, acted, after_acts};
 ghost use Rattle.history_model.specs.Fresh.{Fresh};
-ghost use Rattle.store_model.specs.Fresh.{NoClash, IsFresh};
+ghost use Rattle.store_model.specs.Fresh.{NoClash as NoBucketsClash, IsFresh};
+ghost use Rattle.cluster_machine.specs.Hashes.{NoClash};
+ghost use Rattle.store_laws.specs.Hashed.{ActsHash};
 ghost use Rattle.store_model.specs.Moments.{IsMoment};
 ghost use Rattle.store_model.specs.Equal.{AreEqual};
 ghost use Rattle.store_model.specs.Written.{GivesWhatWasWritten};
@@ -29,7 +34,7 @@ use world_reads::{
 /// where a delete marker that is not below was what it read. And what it shows was drawn before it finished, by a put or
 /// copy of that key, and such a delete marker by a delete of it.
 pub fn fresh_reads()
-    ensures { (acts : List Act) → AreLawfulActs start acts → ActsFit start acts → IsFresh (after_acts start acts) }
+    ensures { (acts : List Act) → AreLawfulActs start acts → ActsFit start acts → NoClash (ActsHash start acts) → IsFresh (after_acts start acts) }
 {
     every_world_is_sound::<S3Schema>();
     every_world_has_kept_reads::<S3Schema>();
@@ -41,7 +46,7 @@ pub fn fresh_reads()
 /// Whatever comes, and whichever layouts are given, the reads of a run are fresh by its records alone, where no two of its
 /// buckets' names have one digest.
 pub fn records_are_fresh()
-    ensures { (acts : List Act) → AreLawfulActs start acts → ActsFit start acts → NoClash (after_acts start acts).buckets → Fresh (after_acts start acts).history }
+    ensures { (acts : List Act) → AreLawfulActs start acts → ActsFit start acts → NoClash (ActsHash start acts) → NoBucketsClash (after_acts start acts).buckets → Fresh (after_acts start acts).history }
 {
     every_world_is_sound::<S3Schema>();
     every_world_has_kept_reads::<S3Schema>();
@@ -76,9 +81,11 @@ pub fn draining_leaves_nothing()
     every_installed_world_reads_what_was_kept::<S3Schema>();
 }
 
-/// The acts that lead to a moment of a run are lawful, and fit; so each law over lists of acts holds at each moment.
+/// The acts that lead to a moment of a run are lawful, and fit, and what they hash is hashed in the run; so each law over lists
+/// of acts holds at each moment.
 pub fn moments_are_runs()
-    ensures { (acts moment : List Act) → AreLawfulActs start acts → ActsFit start acts → IsMoment acts moment → AreLawfulActs start moment × ActsFit start moment }
+    ensures runs { (acts moment : List Act) → AreLawfulActs start acts → ActsFit start acts → IsMoment acts moment → AreLawfulActs start moment × ActsFit start moment }
+    ensures clear { (acts moment : List Act) → IsMoment acts moment → NoClash (ActsHash start acts) → NoClash (ActsHash start moment) }
 {}
 
 /// Whatever comes, two nodes that accepted rows of a partition with the same members, in whatever order and however often,
@@ -99,7 +106,7 @@ pub fn replicas_are_equal()
 /// and each layout that a node knows, or that a view on its way shows, has the greatest partition size for its roles: those of
 /// applies, the one of `trio`, and an installed one.
 pub fn phases_read_what_was_kept()
-    ensures kept { (acts : List Act) → AreLawfulActs start acts → ActsFit start acts → KeptReads any_join words (after_acts start acts).world }
+    ensures kept { (acts : List Act) → AreLawfulActs start acts → ActsFit start acts → NoClash (ActsHash start acts) → KeptReads any_join words (after_acts start acts).world }
     ensures greatest { (acts : List Act) → AreLawfulActs start acts → ActsFit start acts → UsesGreatest (after_acts start acts).world }
 {
     every_world_is_sound::<S3Schema>();

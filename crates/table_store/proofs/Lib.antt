@@ -1,6 +1,13 @@
+pub mod Alike
+pub mod Entries
+pub mod Fitting
 pub mod Partitions
+pub mod Putting
 pub mod Keys
+pub mod NotedRows
+pub mod Settled
 pub mod Shelves
 pub mod Tables
+pub mod Wholes
 pub mod Windows
 pub mod PartitionRoots

@@ -1,5 +1,5 @@
 -- The value of pairs, branch by branch, and the roots of a shelf.
-use Rattle.std.specs.Prelude.{◌≡◌, ℕ, zero, suc, ◌+◌, ◌-◌, ◌<◌, ◌==◌, Bool, true, false, cond, List, [], ◌∷◌, ◌++◌, unwrap_or, All, Vec, length, map, filter, flat_map, slice_index, refl}
+use Rattle.std.specs.Prelude.{◌≡◌, ℕ, zero, suc, ◌+◌, ◌<◌, ◌==◌, Bool, true, false, cond, List, [], ◌∷◌, ◌++◌, unwrap_or, Vec, length, map, filter, flat_map, slice_index, refl}
 use Rattle.std.proofs.Common.{ap, sym, ◌∙◌, arith, append_assoc, append-nil}
 use Rattle.std.specs.List.{concat, range_with_len}
 use Rattle.std.proofs.lemmas.Bool.{eq-eqb}
@@ -14,7 +14,8 @@ use Rattle.table_model.specs.Top.{pair_of, pairs_of, root_of, table_roots, roots
 use Rattle.table_store.specs.declared.shelf.Placed.{Placed}
 use Rattle.table_store.specs.declared.roots.Hashed.{Hashed}
 use Rattle.table_store.specs.Shelf.{shelf_rows, in_partition, IsPlaced, AllPlaced, IsSound}
-use Rattle.table_store.specs.Pairs.{shown_pair, shown, tagged, entry_pair, shelf_roots}
+use Rattle.table_store.specs.Index.{shown_pair}
+use Rattle.table_store.specs.Pairs.{shown, tagged, entry_pair, shelf_roots}
 use Rattle.table_store.proofs.Tables.{rows_three}
 use Rattle.crdt_core.proofs.Ranges.{range_more}
 
@@ -143,29 +144,44 @@ module _ {R Z : Type 0} (s : Words R) where
         ∙ (filter-append (λ r. s.table r == m) (shelf_rows (filter (in_partition p) first)) (shelf_rows (filter (in_partition p) second) ++ shelf_rows (filter (in_partition p) third))
         ∙ ap (λ l. filter (λ r. s.table r == m) (shelf_rows (filter (in_partition p) first)) ++ l) (filter-append (λ r. s.table r == m) (shelf_rows (filter (in_partition p) second)) (shelf_rows (filter (in_partition p) third))))
 
-    pairs_first : (p : ℕ) → pairs_of s 1 p (shelf_rows first ++ (shelf_rows second ++ shelf_rows third)) ≡ map (entry_pair s) (filter (in_partition p) first)
-    pairs_first p =
+    -- the pairs of a table and partition are those of its shelf's rows
+    pub of_first : (p : ℕ) → pairs_of s 1 p (shelf_rows first ++ (shelf_rows second ++ shelf_rows third)) ≡ map (pair_of s) (shelf_rows (filter (in_partition p) first))
+    of_first p =
         let a = of_partition 1 p first sound.in_first in
         let b = of_partition 2 p second sound.in_second in
         let c = of_partition 3 p third sound.in_third in
         ap (map (pair_of s)) (table_three 1 p ∙ ((λ i. table_here 1 (filter (in_partition p) first) a i ++ (table_elsewhere 2 1 (filter (in_partition p) second) refl b i ++ table_elsewhere 3 1 (filter (in_partition p) third) refl c i)) ∙ append-nil (shelf_rows (filter (in_partition p) first))))
-        ∙ pairs_here 1 (filter (in_partition p) first) a
 
-    pairs_second : (p : ℕ) → pairs_of s 2 p (shelf_rows first ++ (shelf_rows second ++ shelf_rows third)) ≡ map (entry_pair s) (filter (in_partition p) second)
-    pairs_second p =
+    pub of_second : (p : ℕ) → pairs_of s 2 p (shelf_rows first ++ (shelf_rows second ++ shelf_rows third)) ≡ map (pair_of s) (shelf_rows (filter (in_partition p) second))
+    of_second p =
         let a = of_partition 1 p first sound.in_first in
         let b = of_partition 2 p second sound.in_second in
         let c = of_partition 3 p third sound.in_third in
         ap (map (pair_of s)) (table_three 2 p ∙ ((λ i. table_elsewhere 1 2 (filter (in_partition p) first) refl a i ++ (table_here 2 (filter (in_partition p) second) b i ++ table_elsewhere 3 2 (filter (in_partition p) third) refl c i)) ∙ append-nil (shelf_rows (filter (in_partition p) second))))
-        ∙ pairs_here 2 (filter (in_partition p) second) b
 
-    pairs_third : (p : ℕ) → pairs_of s 3 p (shelf_rows first ++ (shelf_rows second ++ shelf_rows third)) ≡ map (entry_pair s) (filter (in_partition p) third)
-    pairs_third p =
+    pub of_third : (p : ℕ) → pairs_of s 3 p (shelf_rows first ++ (shelf_rows second ++ shelf_rows third)) ≡ map (pair_of s) (shelf_rows (filter (in_partition p) third))
+    of_third p =
         let a = of_partition 1 p first sound.in_first in
         let b = of_partition 2 p second sound.in_second in
         let c = of_partition 3 p third sound.in_third in
         ap (map (pair_of s)) (table_three 3 p ∙ (λ i. table_elsewhere 1 3 (filter (in_partition p) first) refl a i ++ (table_elsewhere 2 3 (filter (in_partition p) second) refl b i ++ table_here 3 (filter (in_partition p) third) c i)))
-        ∙ pairs_here 3 (filter (in_partition p) third) c
+
+    -- another table has none
+    pub of_none : (table p : ℕ) → (1 == table) ≡ false → (2 == table) ≡ false → (3 == table) ≡ false → pairs_of s table p (shelf_rows first ++ (shelf_rows second ++ shelf_rows third)) ≡ []
+    of_none table p x y z =
+        let a = of_partition 1 p first sound.in_first in
+        let b = of_partition 2 p second sound.in_second in
+        let c = of_partition 3 p third sound.in_third in
+        ap (map (pair_of s)) (table_three table p ∙ (λ i. table_elsewhere 1 table (filter (in_partition p) first) x a i ++ (table_elsewhere 2 table (filter (in_partition p) second) y b i ++ table_elsewhere 3 table (filter (in_partition p) third) z c i)))
+
+    pairs_first : (p : ℕ) → pairs_of s 1 p (shelf_rows first ++ (shelf_rows second ++ shelf_rows third)) ≡ map (entry_pair s) (filter (in_partition p) first)
+    pairs_first p = of_first p ∙ pairs_here 1 (filter (in_partition p) first) (of_partition 1 p first sound.in_first)
+
+    pairs_second : (p : ℕ) → pairs_of s 2 p (shelf_rows first ++ (shelf_rows second ++ shelf_rows third)) ≡ map (entry_pair s) (filter (in_partition p) second)
+    pairs_second p = of_second p ∙ pairs_here 2 (filter (in_partition p) second) (of_partition 2 p second sound.in_second)
+
+    pairs_third : (p : ℕ) → pairs_of s 3 p (shelf_rows first ++ (shelf_rows second ++ shelf_rows third)) ≡ map (entry_pair s) (filter (in_partition p) third)
+    pairs_third p = of_third p ∙ pairs_here 3 (filter (in_partition p) third) (of_partition 3 p third sound.in_third)
 
     table_parts : (table : ℕ) (es : List (Vec ℕ Z × Placed R)) → ((p : ℕ) → pairs_of s table p (shelf_rows first ++ (shelf_rows second ++ shelf_rows third)) ≡ map (entry_pair s) (filter (in_partition p) es)) → concat (table_roots s table (shelf_rows first ++ (shelf_rows second ++ shelf_rows third))) ≡ shelf_roots s es
     table_parts table es same =

@@ -7,7 +7,6 @@ use Rattle.std.specs.List.Sorted.{IsStrictlySortedBy}
 use Rattle.std.proofs.lemmas.Map.Keys.{sorted_head, sorted_tail}
 use Rattle.std.specs.Map.{keys_of, remove_entry}
 use Rattle.std.specs.BTreeMap.{BTreeMap, insert_entry, is_at}
-use Rattle.std.specs.BTreeSet.{BTreeSet}
 use Rattle.std.specs.declared.cmp.Ordering.{Ordering}
 use Rattle.std.specs.declared.cmp.Ordering.TheVariants.{Less, Equal, Greater}
 use Rattle.std.specs.Ordering.{nat_cmp, is_eq, match_ordering}
@@ -18,8 +17,9 @@ use Rattle.std.proofs.lemmas.Option.{same_Some}
 use Rattle.crdt_core.specs.IdentityLaws.{slice_identical, nat_identical}
 use Rattle.crdt_core.specs.LexLaws.{turned}
 use Rattle.table_store.proofs.Keys.{ne_cmp}
+use Rattle.table_store.specs.declared.index.Part.{Part}
 use Rattle.table_store.specs.declared.shelf.Placed.{Placed}
-use Rattle.table_store.specs.Index.{has_key, keys_under}
+use Rattle.table_store.specs.Index.{Key, has_key, keys_under}
 use Rattle.table_store.specs.Shelf.{shelf_rows, given, in_partition, placed_at, row_in, has_key_of, is_indexed, vec_cmp}
 
 -- ---- keys in order
@@ -43,7 +43,7 @@ module _ {Z : Type 0} where
 -- ---- what stands at a key
 
 module _ {R Z : Type 0} where
-  none_at : (key : List ℕ) (es : List (Vec ℕ Z × Placed R)) → Above key (keys_of es) → placed_at key es ≡ None
+  pub none_at : (key : List ℕ) (es : List (Vec ℕ Z × Placed R)) → Above key (keys_of es) → placed_at key es ≡ None
   none_at key [] all = refl
   none_at key (e ∷ es) all = rw all.0 (none_at key es all.1)
 
@@ -116,18 +116,19 @@ module _ {R Z : Type 0} where
 
 -- ---- an index that has each row's key
 
-module _ {R Z : Type 0} where
-  there_by : (index : BTreeMap ℕ (BTreeSet (Vec ℕ Z))) (p : ℕ) (keys : List (Vec ℕ Z)) (e : Vec ℕ Z × Placed R) → keys_under index p ≡ keys → is_indexed index e ≡ true → in_partition p e ≡ true → has_key e.0.items keys ≡ true
+module _ {R : Type 0} where
+  there_by : (index : BTreeMap ℕ Part) (p : ℕ) (keys : List (Key)) (e : Key × Placed R) → keys_under index p ≡ keys → is_indexed index e ≡ true → in_partition p e ≡ true → has_key e.0.items keys ≡ true
   there_by index p keys e is indexed h =
       let one : e.1.partition ≡ p = eqb-true e.1.partition p h in
       ap (has_key e.0.items) (sym is ∙ ap (keys_under index) (sym one)) ∙ indexed
 
-  pub are_there : (index : BTreeMap ℕ (BTreeSet (Vec ℕ Z))) (p : ℕ) (keys : List (Vec ℕ Z)) (es : List (Vec ℕ Z × Placed R)) → keys_under index p ≡ keys → list_all (is_indexed index) es ≡ true → AreThere p keys es
+  pub are_there : (index : BTreeMap ℕ Part) (p : ℕ) (keys : List (Key)) (es : List (Key × Placed R)) → keys_under index p ≡ keys → list_all (is_indexed index) es ≡ true → AreThere p keys es
   are_there index p keys [] is all = tt
   are_there index p keys (e ∷ es) is all =
       let both = and_parts (is_indexed index e) (list_all (is_indexed index) es) all in
       (there_by index p keys e is both.0, are_there index p keys es is both.1)
 
+module _ {R Z : Type 0} where
   none_in_by : (p : ℕ) (e : Vec ℕ Z × Placed R) → (in_partition p e ≡ true → false ≡ true) → (b : Bool) → in_partition p e ≡ b → b ≡ false
   none_in_by p e there true h = sym (there h)
   none_in_by p e there false h = refl
@@ -145,14 +146,14 @@ module _ {R Z : Type 0} where
 
   -- ---- after a merge
 
-  pub indexed_more : (old new : BTreeMap ℕ (BTreeSet (Vec ℕ Z))) (es : List (Vec ℕ Z × Placed R)) → ((q : ℕ) (key : Vec ℕ Z) → has_key key.items (keys_under old q) ≡ true → has_key key.items (keys_under new q) ≡ true) →
+  pub indexed_more : (old new : BTreeMap ℕ Part) (es : List (Vec ℕ Z × Placed R)) → ((q : ℕ) (key : List ℕ) → has_key key (keys_under old q) ≡ true → has_key key (keys_under new q) ≡ true) →
       list_all (is_indexed old) es ≡ true → list_all (is_indexed new) es ≡ true
   indexed_more old new [] more all = refl
   indexed_more old new (e ∷ es) more all =
       let both = and_parts (is_indexed old e) (list_all (is_indexed old) es) all in
-      ap (λ b. b && list_all (is_indexed new) es) (more e.1.partition e.0 both.0) ∙ indexed_more old new es more both.1
+      ap (λ b. b && list_all (is_indexed new) es) (more e.1.partition e.0.items both.0) ∙ indexed_more old new es more both.1
 
-  module _ (index : BTreeMap ℕ (BTreeSet (Vec ℕ Z))) where
+  module _ (index : BTreeMap ℕ Part) where
     put_by : (k : Vec ℕ Z) (v : Placed R) (e : Vec ℕ Z × Placed R) (es : List (Vec ℕ Z × Placed R)) → has_key k.items (keys_under index v.partition) ≡ true → is_indexed index e ≡ true → list_all (is_indexed index) es ≡ true →
         list_all (is_indexed index) (insert_entry vec_cmp es k v) ≡ true → (o : Ordering) → vec_cmp k e.0 ≡ o → list_all (is_indexed index) (insert_entry vec_cmp (e ∷ es) k v) ≡ true
     put_by k v e es has here all rest Less o =
@@ -324,7 +325,7 @@ module _ {R Z : Type 0} (p : ℕ) where
       λ i. cond (not (one_gone keys e there.0 (in_partition p e) refl i)) (e ∷ kept_others keys es there.1 i) (kept_others keys es there.1 i)
 
   -- an index without the partition has the keys of the others
-  module _ (old new : BTreeMap ℕ (BTreeSet (Vec ℕ Z))) (others : (q : ℕ) → is_eq (nat_cmp p q) ≡ false → keys_under new q ≡ keys_under old q) where
+  module _ (old new : BTreeMap ℕ Part) (others : (q : ℕ) → is_eq (nat_cmp p q) ≡ false → keys_under new q ≡ keys_under old q) where
     without_by : (e : Vec ℕ Z × Placed R) (rest : List (Vec ℕ Z × Placed R)) → is_indexed old e ≡ true → list_all (is_indexed new) rest ≡ true → (b : Bool) → in_partition p e ≡ b → list_all (is_indexed new) (cond (not b) (e ∷ rest) rest) ≡ true
     without_by e rest here all true h = all
     without_by e rest here all false h =

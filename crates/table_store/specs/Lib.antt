@@ -1,3 +1,5 @@
 pub mod Index
 pub mod Shelf
 pub mod Pairs
+pub mod Settled
+pub mod Whole

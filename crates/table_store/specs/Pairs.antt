@@ -6,11 +6,8 @@ use Rattle.table_schema.specs.Words.{Words}
 use Rattle.table_model.specs.Root.{Pair, every_byte, root}
 use Rattle.table_store.specs.declared.shelf.Placed.{Placed}
 use Rattle.table_store.specs.declared.roots.Hashed.{Hashed}
+use Rattle.table_store.specs.Index.{shown_pair}
 use Rattle.table_store.specs.Shelf.{in_partition}
-
--- the bytes of the two hashes
-abbrev pub shown_pair : Hash32 × Hash32 → Pair
-shown_pair pair = (pair.0.0, pair.1.0)
 
 -- the pairs of hashes as bytes
 abbrev pub shown : List (Hash32 × Hash32) → List Pair

@@ -3,12 +3,12 @@ use Rattle.std.specs.Prelude.{◌≡◌, ℕ, ◌==◌, ◌<◌, ◌^◌, Bool, 
 use Rattle.std.specs.List.{starts_with}
 use Rattle.std.specs.Map.{lookup}
 use Rattle.std.specs.BTreeMap.{BTreeMap, is_at}
-use Rattle.std.specs.BTreeSet.{BTreeSet}
 use Rattle.std.specs.Ordering.{nat_cmp, is_eq, is_lt}
 use Rattle.std.specs.declared.cmp.Ordering.{Ordering}
 use Rattle.std.specs.Cmp.Lexicographic.{slice_cmp}
 use Rattle.table_schema.specs.Words.{Words, partition_of}
 use Rattle.table_store.specs.declared.shelf.Placed.{Placed}
+use Rattle.table_store.specs.declared.index.Part.{Part}
 use Rattle.table_store.specs.Index.{has_key, keys_under}
 
 -- the row, where it is in partition p
@@ -43,7 +43,7 @@ module _ {R Z : Type 0} where
   has_key_of key e = is_eq (slice_cmp nat_cmp e.0.items key.items)
 
   -- the index has the row's key under its partition
-  abbrev pub is_indexed : BTreeMap ℕ (BTreeSet (Vec ℕ Z)) → Vec ℕ Z × Placed R → Bool
+  abbrev pub is_indexed : BTreeMap ℕ Part → Vec ℕ Z × Placed R → Bool
   is_indexed index e = has_key e.0.items (keys_under index e.1.partition)
 
   -- the row stands under its key in its table's shelf, with its partition

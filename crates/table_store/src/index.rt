@@ -1,29 +1,113 @@
-//! The keys of each partition's rows.
-ghost use Rattle.std.specs.Prelude.{◌≡◌, ℕ, IsTrue, OnOk};
-ghost use Rattle.std.specs.Global.{Vec};
+//! What one table has of each partition beside its rows: their keys, their trie, and which of them changed since.
+ghost use Rattle.std.specs.Prelude.{◌≡◌, ℕ, List, true, IsTrue, OnOk, None, Some};
+ghost use Rattle.std.specs.Map.{keys_of};
+ghost use Rattle.std.specs.BTreeMap.{get};
+ghost use Rattle.std.specs.Ordering.{nat_cmp};
 ghost use Rattle.crdt_core.specs.Outcomes.{OnlyWant};
-ghost use Rattle.table_store.specs.Index.{has_key, keys_under};
+ghost use Rattle.blake2_hash.specs.Blake2b.{blake2b};
+ghost use Rattle.blake2_hash.specs.declared.digest.Hash32.{Hash32};
+ghost use Rattle.table_store.specs.declared.index.Part.{Part};
+ghost use Rattle.table_store.specs.Index.{has_key, keys_under, waits, waits_in, Extends, Grows};
 
+use crate::root::Pair;
+use blake2_hash::{Hash32, blake2b_256};
 use crdt_core::Memory;
+use merkle_trie::Trie;
 use std::alloc::Global;
 use std::collections::{BTreeMap, BTreeSet};
 
-/// Keys by partition, in order. A partition without keys may be missing.
-pub type Index = BTreeMap<u8, BTreeSet<Vec<u8>>>;
+/// The keys of rows in order, each with the pair that the trie has for it, if it has one yet.
+pub type Pairs = BTreeMap<Vec<u8>, Option<Pair>>;
 
-/// Adds a key to a partition's. Whether or not there is room, the others stay.
-pub fn add_key(alloc: Global, index: &mut Index, p: u8, key: &[u8]) -> Result<(), Memory>
-    ensures has { OnOk result (IsTrue (has_key key.now (keys_under index.new p))) }
-    ensures others { (q : ℕ) (other : Vec ℕ) → IsTrue (has_key other.items (keys_under index.old q)) → IsTrue (has_key other.items (keys_under index.new q)) }
+/// The keys of a partition's rows, their trie, and the keys of the rows that changed since the trie took them in.
+#[derive(Drop)]
+pub struct Part {
+    pub pairs: Pairs,
+    pub waiting: BTreeSet<Vec<u8>>,
+    pub trie: Trie,
+}
+
+/// What there is of each partition. One without rows may be missing.
+pub type Index = BTreeMap<u8, Part>;
+
+impl Part {
+    // No key, and the trie of no pair.
+    fn new(alloc: Global) -> Part
+        ensures { Grows None result }
+    {
+        Part {
+            pairs: BTreeMap::new(alloc),
+            waiting: BTreeSet::new(alloc),
+            trie: Trie::new(alloc),
+        }
+    }
+
+    // Notes that the row at a key changed. Whether or not there is room, nothing else changes.
+    fn note(&mut self, alloc: Global, key: &[u8]) -> Result<(), Memory>
+        ensures grows { Grows (Some self.old) self.new }
+        ensures has { OnOk result (IsTrue (has_key key.now (keys_of self.new.pairs.entries))) }
+        ensures waits { OnOk result (IsTrue (waits key.now self.new)) }
+        ensures want { OnlyWant result }
+    {
+        add_key(alloc, &mut self.pairs, key)?;
+        add_waiting(alloc, &mut self.waiting, key)?;
+        Ok(())
+    }
+}
+
+// Adds a key, of whose row nothing is known, where it isn't there.
+fn add_key(alloc: Global, pairs: &mut Pairs, key: &[u8]) -> Result<(), Memory>
+    ensures extends { Extends pairs.old.entries pairs.new.entries }
+    ensures has { OnOk result (IsTrue (has_key key.now (keys_of pairs.new.entries))) }
     ensures want { OnlyWant result }
 {
-    let key = Vec::from_slice(alloc, key)?;
-    if let Some(keys) = index.get_mut(&p) {
-        let _ = keys.insert(key)?;
+    if pairs.contains_key(key) {
         return Ok(());
     }
-    let mut keys = BTreeSet::new(alloc);
-    let _ = keys.insert(key)?;
-    let _ = index.insert(p, keys)?;
+    let key = Vec::from_slice(alloc, key)?;
+    let _ = pairs.insert(key, None)?;
     Ok(())
+}
+
+// Adds a key to those that wait, where it isn't there.
+fn add_waiting(alloc: Global, waiting: &mut BTreeSet<Vec<u8>>, key: &[u8]) -> Result<(), Memory>
+    ensures others { (other : List ℕ) → has_key other waiting.old.keys ≡ true → has_key other waiting.new.keys ≡ true }
+    ensures has { OnOk result (IsTrue (has_key key.now waiting.new.keys)) }
+    ensures want { OnlyWant result }
+{
+    if waiting.contains(key) {
+        return Ok(());
+    }
+    let key = Vec::from_slice(alloc, key)?;
+    let _ = waiting.insert(key)?;
+    Ok(())
+}
+
+/// Notes that the row of a partition at a key changed. Whether or not there is room, nothing else changes.
+pub fn note(alloc: Global, index: &mut Index, p: u8, key: &[u8]) -> Result<(), Memory>
+    ensures grows { (q : ℕ) (part : Part) → get nat_cmp index.new q ≡ Some part → Grows (get nat_cmp index.old q) part }
+    ensures others { (q : ℕ) (other : List ℕ) → IsTrue (has_key other (keys_under index.old q)) → IsTrue (has_key other (keys_under index.new q)) }
+    ensures has { OnOk result (IsTrue (has_key key.now (keys_under index.new p))) }
+    ensures waits { OnOk result (IsTrue (waits_in key.now (get nat_cmp index.new p))) }
+    ensures want { OnlyWant result }
+{
+    if let Some(part) = index.get_mut(&p) {
+        part.note(alloc, key)?;
+        return Ok(());
+    }
+    let mut part = Part::new(alloc);
+    part.note(alloc, key)?;
+    let _ = index.insert(p, part)?;
+    Ok(())
+}
+
+/// The hash of a row's key, which the pair has that is known of the row.
+pub fn key_hash(key: &[u8], pair: Option<Pair>) -> Hash32
+    requires known { (known : Hash32 × Hash32) → pair ≡ Some known → known.0.0 ≡ blake2b 32 key.now }
+    ensures { result.0 ≡ blake2b 32 key.now }
+{
+    match pair {
+        Some(pair) => pair.0,
+        None => blake2b_256(key),
+    }
 }

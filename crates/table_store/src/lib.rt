@@ -7,15 +7,20 @@
 //! drops holds at each place the join of the rows accepted there, and depends on the set of the rows accepted alone.
 //!
 //! Inside, each of the three tables is an ordered map by row key, so that a look-up is logarithmic and a range
-//! proportional to what it gives. Beside it stands an index (src/index.rt): the keys of each partition's rows, in order.
-//! So `rows_of` and `drop_partition` take a look-up for each row that they give or drop, and next to nothing where a
-//! partition has none. `take_in` takes one look-up where a row is there, whose partition it keeps; where the row is new
-//! it writes into the index.
+//! proportional to what it gives. Beside it stands an index (src/index.rt): of each partition the keys of its rows in
+//! order, and their trie. So `rows_of` and `drop_partition` take a look-up for each row that they give or drop, and
+//! next to nothing where a partition has none. `take_in` takes one look-up where a row is there, whose partition it
+//! keeps, and notes in the index that the row changed.
+//!
+//! The tries are brought up to the rows when they are asked (src/settling.rt): by `settle`, and of one partition by
+//! `value`, `children` and `answer`. A row that changes many times between two such calls is hashed once.
 #![tactic(auto)]
 
 mod index;
+mod noted;
 mod root;
 mod roots;
+mod settling;
 mod shelf;
 mod table;
 mod window;

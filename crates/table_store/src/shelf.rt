@@ -6,14 +6,17 @@ ghost use Rattle.std.specs.BTreeMap.{IsOrdered};
 ghost use Rattle.crdt_core.specs.Outcomes.{OnlyWant};
 ghost use Rattle.table_model.specs.Rows.{merged_in, live_blocks, change_of};
 ghost use Rattle.std.specs.Global.{Vec};
+ghost use Rattle.std.specs.Map.{keys_of};
+ghost use Rattle.table_schema.specs.Words.{Words};
 ghost use Rattle.table_store.specs.Index.{has_key};
 ghost use Rattle.table_store.specs.Shelf.{shelf_rows, AllPlaced, shelf_find, in_partition, row_in, has_key_of, is_indexed, vec_cmp};
+ghost use Rattle.table_store.specs.Settled.{AllFit};
 
-use crate::index::{Index, add_key};
+use crate::index::{Index, Pairs, note};
 use blake2_hash::Hash32;
 use crdt_core::{Crdt, List, Memory};
 use std::alloc::Global;
-use std::collections::{BTreeMap, BTreeSet};
+use std::collections::BTreeMap;
 use table_model::Change;
 use table_schema::{Schema, partition};
 
@@ -24,11 +27,15 @@ pub struct Placed<R> {
     pub row: R,
 }
 
-/// The rows of one table number by their keys, and these keys by partition.
+/// Rows by their keys.
+pub type Rows<R> = BTreeMap<Vec<u8>, Placed<R>>;
+
+/// The rows of one table number by their keys, and what there is of each partition: these keys, their trie, and which of
+/// them changed since.
 #[derive(Drop)]
 pub struct Shelf<R> {
-    pub rows: BTreeMap<Vec<u8>, Placed<R>>,
-    index: Index,
+    pub rows: Rows<R>,
+    pub index: Index,
     // The index has each row's key under its partition. A key under which no row of the partition stands does no harm.
     ghost indexed: { IsTrue (list_all (is_indexed index) rows.entries) },
 }
@@ -36,7 +43,8 @@ pub struct Shelf<R> {
 impl<R> Shelf<R> {
     /// A shelf without rows.
     pub fn new(alloc: Global) -> Shelf<R>
-        ensures { result.rows.entries ≡ [] }
+        ensures rows { result.rows.entries ≡ [] }
+        ensures fits { (s : Words R) → AllFit s result.index result.rows.entries }
     {
         Shelf {
             rows: BTreeMap::new(alloc),
@@ -97,11 +105,13 @@ pub fn take_into<S: Schema>(
     ensures placed { OnOk result ((table : ℕ) → S.words.table row ≡ table → AllPlaced S.words table shelf.old.rows.entries → AllPlaced S.words table shelf.new.rows.entries) }
     ensures before { IfOk result (λ taken. option_map (λ h. h.0) taken.before ≡ option_and_then S.words.live_block (shelf_find (S.words.key row) shelf.old.rows.entries)) }
     ensures change { IfOk result (λ taken. taken.change ≡ change_of S.Row.join S.words (shelf_find (S.words.key row) shelf.old.rows.entries) row) }
+    ensures fits { AllFit S.words shelf.old.index shelf.old.rows.entries → AllFit S.words shelf.new.index shelf.new.rows.entries }
     ensures unchanged { OnErr result (shelf.new.rows.entries ≡ shelf.old.rows.entries) }
     ensures want { OnlyWant result }
 {
     let key = S::key(alloc, &row)?.into_vec();
     if let Some(there) = shelf.rows.get_mut(key.as_slice()) {
+        note(alloc, &mut shelf.index, there.partition, key.as_slice())?;
         let taken = merge_at::<S>(alloc, there, row)?;
         return Ok(taken);
     }
@@ -114,7 +124,7 @@ pub fn take_into<S: Schema>(
         was_live: false,
         is_live: S::live_block(&placed.row).is_some(),
     };
-    add_key(alloc, &mut shelf.index, placed.partition, key.as_slice())?;
+    note(alloc, &mut shelf.index, placed.partition, key.as_slice())?;
     shelf.rows.insert(key, placed)?;
     Ok(Taken {
         before: None,
@@ -122,8 +132,8 @@ pub fn take_into<S: Schema>(
     })
 }
 
-// The row at a key, where it is in this partition.
-fn row_in<'a, R>(rows: &'a BTreeMap<Vec<u8>, Placed<R>>, p: u8, key: &Vec<u8>) -> Option<&'a R>
+/// The row at a key, where it is in this partition.
+pub fn row_in<'a, R>(rows: &'a Rows<R>, p: u8, key: &Vec<u8>) -> Option<&'a R>
     ensures { option_copied result ≡ row_in p key.now.items rows.now.entries }
 {
     let placed = rows.get(key)?;
@@ -134,15 +144,15 @@ fn row_in<'a, R>(rows: &'a BTreeMap<Vec<u8>, Placed<R>>, p: u8, key: &Vec<u8>) -
     }
 }
 
-// Whether there is a row of this partition at a key.
-fn has_row<R>(rows: &BTreeMap<Vec<u8>, Placed<R>>, p: u8, key: &Vec<u8>) -> bool
+/// Whether there is a row of this partition at a key.
+pub fn has_row<R>(rows: &Rows<R>, p: u8, key: &Vec<u8>) -> bool
     ensures { result ≡ is_some (row_in p key.now.items rows.now.entries) }
 {
     row_in(rows, p, key).is_some()
 }
 
-// A map's keys ascend.
-fn are_in_order<R>(rows: &BTreeMap<Vec<u8>, Placed<R>>)
+/// A map's keys ascend.
+pub fn are_in_order<R>(rows: &Rows<R>)
     ensures { IsOrdered vec_cmp rows.now }
 {
     let _ = rows.len();
@@ -156,8 +166,8 @@ pub fn push_partition<R: Crdt>(shelf: &Shelf<R>, p: u8, rows: &mut Vec<R>) -> Re
     are_in_order(&shelf.rows);
     match shelf.index.get(&p) {
         None => Ok(()),
-        Some(keys) => {
-            for key in keys {
+        Some(part) => {
+            for (key, _) in &part.pairs {
                 if let Some(row) = row_in(&shelf.rows, p, key) {
                     rows.push(row.copy()?)?;
                 }
@@ -179,8 +189,8 @@ pub fn push_blocks<S: Schema>(
     are_in_order(&shelf.rows);
     match shelf.index.get(&p) {
         None => Ok(()),
-        Some(keys) => {
-            for key in keys {
+        Some(part) => {
+            for (key, _) in &part.pairs {
                 if let Some(row) = row_in(&shelf.rows, p, key) {
                     push_block::<S>(row, hashes)?;
                 }
@@ -200,30 +210,32 @@ fn push_block<S: Schema>(row: &S::Row, hashes: &mut Vec<Hash32>) -> Result<(), M
     Ok(())
 }
 
-/// Drops a partition's rows.
+/// Drops a partition's rows, and its trie.
 pub fn drop_rows<R: Drop>(shelf: &mut Shelf<R>, p: u8)
-    ensures { shelf.new.rows.entries ≡ filter (λ e. not (in_partition p e)) shelf.old.rows.entries }
+    ensures rows { shelf.new.rows.entries ≡ filter (λ e. not (in_partition p e)) shelf.old.rows.entries }
+    ensures fits { (s : Words R) → AllFit s shelf.old.index shelf.old.rows.entries → AllFit s shelf.new.index shelf.new.rows.entries }
 {
+    are_in_order(&shelf.rows);
     match shelf.index.get(&p) {
         None => {}
-        Some(keys) => {
-            drop_keys(&mut shelf.rows, p, keys);
+        Some(part) => {
+            drop_keys(&mut shelf.rows, p, &part.pairs);
             let _ = shelf.index.remove(&p);
         }
     }
 }
 
 // Drops the rows at these keys that are in this partition.
-fn drop_keys<R: Drop>(rows: &mut BTreeMap<Vec<u8>, Placed<R>>, p: u8, keys: &BTreeSet<Vec<u8>>)
-    ensures { rows.new.entries ≡ filter (λ e. not (in_partition p e && has_key e.0.items keys.now.keys)) rows.old.entries }
+fn drop_keys<R: Drop>(rows: &mut Rows<R>, p: u8, pairs: &Pairs)
+    ensures { rows.new.entries ≡ filter (λ e. not (in_partition p e && has_key e.0.items (keys_of pairs.now.entries))) rows.old.entries }
 {
-    for key in keys {
+    for (key, _) in pairs {
         drop_row(rows, p, key);
     }
 }
 
 // Drops the row at a key, where it is in this partition.
-fn drop_row<R: Drop>(rows: &mut BTreeMap<Vec<u8>, Placed<R>>, p: u8, key: &Vec<u8>)
+fn drop_row<R: Drop>(rows: &mut Rows<R>, p: u8, key: &Vec<u8>)
     ensures { rows.new.entries ≡ filter (λ e. not (in_partition p e && has_key_of key.now e)) rows.old.entries }
 {
     are_in_order(rows);

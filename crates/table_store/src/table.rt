@@ -1,15 +1,25 @@
 //! The rows of a node.
-ghost use Rattle.std.specs.Prelude.{◌≡◌, ◌⊎◌, false, [], length, map, IsTrue, IfOk, OnOk, OnErr, IsOk, option_copied, option_map};
+ghost use Rattle.std.specs.Prelude.{◌≡◌, ◌⊎◌, true, false, [], length, map, filter, All, IsTrue, IfOk, OnOk, OnErr, IsOk, option_copied, option_map};
 ghost use Rattle.crdt_core.specs.Outcomes.{OnlyWant, WantOr};
 ghost use Rattle.table_model.specs.Top.{any_unspelled, top};
 ghost use Rattle.table_model.specs.Rows.{merged_in, change_of, find_row, range, rows_in, without, live_blocks};
 ghost use Rattle.std.specs.Option.{option_and_then};
+ghost use Rattle.blake2_hash.specs.Blake2b.{blake2b};
+ghost use Rattle.table_model.specs.Top.{pairs_of};
+ghost use Rattle.walk_model.specs.Sets.{value_at, children_at};
+ghost use Rattle.walk_model.specs.Noting.{has_table, is_noted};
+ghost use Rattle.walk_model.specs.Walking.{is_open, taken, asks, notes, plain};
+ghost use Rattle.merkle_sync.specs.Telling.{Tells, TellsNothing};
 
+use crate::noted::{has_rows, push_noted};
 use crate::roots::take_roots;
+use crate::settling::{settle_all, trie_of};
 use crate::shelf::{Shelf, Taken, drop_rows, find, push_blocks, push_partition, take_into};
 use crate::window::rows_past;
 use blake2_hash::{Blake2b, Hash32};
 use crdt_core::{Crdt, Memory};
+use merkle_sync::{Walk, WalkEnd};
+use merkle_trie::Trie;
 use std::alloc::Global;
 use std::marker::Model;
 use table_model::Change;
@@ -21,18 +31,21 @@ pub struct Table<S: Schema> {
     first: Shelf<S::Row>,
     second: Shelf<S::Row>,
     third: Shelf<S::Row>,
+    // The trie of no row.
+    nothing: Trie,
     alloc: Global,
 }
 
 impl<S: Schema> Model for Table<S> {
     ghost use Rattle.std.specs.Prelude.{List, ◌++◌};
-    ghost use Rattle.table_store.specs.Shelf.{shelf_rows, IsSound};
+    ghost use Rattle.table_store.specs.Shelf.{shelf_rows};
+    ghost use Rattle.table_store.specs.Whole.{IsWhole};
 
     ghost Value = { List S.Row };
 
     ghost view = { λ t. shelf_rows t.first.rows.entries ++ (shelf_rows t.second.rows.entries ++ shelf_rows t.third.rows.entries) };
 
-    ghost invariant = { λ t. IsSound S.words t.first.rows.entries t.second.rows.entries t.third.rows.entries };
+    ghost invariant = { λ t. IsWhole S.words t.first t.second t.third t.nothing };
 }
 
 impl<S: Schema> Table<S> {
@@ -45,6 +58,7 @@ impl<S: Schema> Table<S> {
             first: Shelf::new(alloc),
             second: Shelf::new(alloc),
             third: Shelf::new(alloc),
+            nothing: Trie::new(alloc),
             alloc,
         })
     }
@@ -138,7 +152,31 @@ impl<S: Schema> Table<S> {
         Ok(rows)
     }
 
-    /// Drops the rows of a partition, and gives the hashes of the blocks that they needed, one for each such row.
+    /// There is a row of a table and partition.
+    pub fn has_rows(&self, table: u8, p: u8) -> bool
+        ensures { result ≡ has_table S.words table (rows_in S.words p self.now) }
+    {
+        match table {
+            1 => has_rows(&self.first, p),
+            2 => has_rows(&self.second, p),
+            3 => has_rows(&self.third, p),
+            _ => false,
+        }
+    }
+
+    /// The rows of a partition whose tables and key hashes are among these, in order of table, then of key.
+    pub fn noted_rows(&self, p: u8, noted: &[(u8, Hash32)]) -> Result<Vec<S::Row>, Memory>
+        ensures are { IfOk result (λ rows. rows.items ≡ filter (is_noted S.words noted.now) (rows_in S.words p self.now)) }
+        ensures want { OnlyWant result }
+    {
+        let mut rows = Vec::new(self.alloc);
+        push_noted::<S>(&self.first, 1, p, noted, &mut rows)?;
+        push_noted::<S>(&self.second, 2, p, noted, &mut rows)?;
+        push_noted::<S>(&self.third, 3, p, noted, &mut rows)?;
+        Ok(rows)
+    }
+
+    /// Drops the rows of a partition, and its tries, and gives the hashes of the blocks that they needed, one for each such row.
     pub fn drop_partition(&mut self, p: u8) -> Result<Vec<Hash32>, Memory>
         ensures rows { OnOk result (self.new ≡ without S.words p self.old) }
         ensures blocks { IfOk result (λ hashes. map (λ hash. hash.0) hashes.items ≡ live_blocks S.words (rows_in S.words p self.old)) }
@@ -153,6 +191,126 @@ impl<S: Schema> Table<S> {
         drop_rows(&mut self.second, p);
         drop_rows(&mut self.third, p);
         Ok(hashes)
+    }
+
+    /// Lets the tries take in all rows that changed since, each at its last state. `Full` where one of them can't be
+    /// written; it goes on waiting, and so do those that weren't come to.
+    pub fn settle(&mut self) -> Result<(), Memory>
+        ensures rows { self.new ≡ self.old }
+        ensures written { OnOk result (any_unspelled S.words self.old ≡ false) }
+        ensures causes { WantOr result (IsTrue (any_unspelled S.words self.old)) }
+    {
+        for p in 0..256u16 {
+            self.settle_partition(p as u8)?;
+        }
+        Ok(())
+    }
+
+    // The same of one partition.
+    fn settle_partition(&mut self, p: u8) -> Result<(), Memory>
+        ensures rows { self.new ≡ self.old }
+        ensures proper { All (λ r. IsTrue (S.words.is_proper r)) self.old }
+        ensures written { OnOk result (any_unspelled S.words (rows_in S.words p self.old) ≡ false) }
+        ensures causes { WantOr result (IsTrue (any_unspelled S.words (rows_in S.words p self.old))) }
+    {
+        settle_all::<S>(
+            self.alloc,
+            p,
+            &mut self.first,
+            &mut self.second,
+            &mut self.third,
+        )?;
+        Ok(())
+    }
+
+    /// The value at a prefix of key hashes in the trie of a table and partition, which first takes in the rows that
+    /// changed since. `Full` where some row of the partition can't be written.
+    pub fn value(&mut self, table: u8, p: u8, prefix: &[u8]) -> Result<Hash32, Memory>
+        ensures is { IfOk result (λ value. value.0 ≡ value_at (blake2b 32) prefix.now (pairs_of S.words table p self.old)) }
+        ensures rows { self.new ≡ self.old }
+        ensures written { OnOk result (any_unspelled S.words (rows_in S.words p self.old) ≡ false) }
+        ensures causes { WantOr result (IsTrue (any_unspelled S.words (rows_in S.words p self.old))) }
+    {
+        settle_all::<S>(
+            self.alloc,
+            p,
+            &mut self.first,
+            &mut self.second,
+            &mut self.third,
+        )?;
+        let trie = trie_of::<S>(
+            table,
+            p,
+            &self.first,
+            &self.second,
+            &self.third,
+            &self.nothing,
+        );
+        Ok(trie.node(prefix))
+    }
+
+    /// Each byte that some key hash has next after the prefix there, ascending, with the value at it.
+    pub fn children(&mut self, table: u8, p: u8, prefix: &[u8]) -> Result<Vec<(u8, Hash32)>, Memory>
+        ensures are { IfOk result (λ children. map plain children.items ≡ children_at (blake2b 32) prefix.now (pairs_of S.words table p self.old)) }
+        ensures rows { self.new ≡ self.old }
+        ensures written { OnOk result (any_unspelled S.words (rows_in S.words p self.old) ≡ false) }
+        ensures causes { WantOr result (IsTrue (any_unspelled S.words (rows_in S.words p self.old))) }
+    {
+        settle_all::<S>(
+            self.alloc,
+            p,
+            &mut self.first,
+            &mut self.second,
+            &mut self.third,
+        )?;
+        let trie = trie_of::<S>(
+            table,
+            p,
+            &self.first,
+            &self.second,
+            &self.third,
+            &self.nothing,
+        );
+        let children = trie.children(prefix)?;
+        Ok(children)
+    }
+
+    /// Gives a walk over a partition the answer that the other node has these children at the prefix.
+    pub fn answer(
+        &mut self,
+        walk: &mut Walk,
+        table: u8,
+        prefix: &[u8],
+        theirs: &[(u8, Hash32)],
+    ) -> Result<WalkEnd, Memory>
+        ensures tells { is_open table prefix.now walk.old.prefixes ≡ true → IfOk result (λ end.
+            Tells (taken table prefix.now (asks (blake2b 32) table prefix.now theirs.now (pairs_of S.words table walk.old.partition self.old))
+            (notes (blake2b 32) table prefix.now theirs.now (pairs_of S.words table walk.old.partition self.old)) walk.old)
+            (asks (blake2b 32) table prefix.now theirs.now (pairs_of S.words table walk.old.partition self.old)) end walk.new) }
+        ensures idle { is_open table prefix.now walk.old.prefixes ≡ false → IfOk result (λ end. TellsNothing end × (walk.new ≡ walk.old)) }
+        ensures err { OnErr result (walk.new ≡ walk.old) }
+        ensures rows { self.new ≡ self.old }
+        ensures written { OnOk result (any_unspelled S.words (rows_in S.words walk.old.partition self.old) ≡ false) }
+        ensures causes { WantOr result (IsTrue (any_unspelled S.words (rows_in S.words walk.old.partition self.old))) }
+    {
+        let p = walk.partition();
+        settle_all::<S>(
+            self.alloc,
+            p,
+            &mut self.first,
+            &mut self.second,
+            &mut self.third,
+        )?;
+        let trie = trie_of::<S>(
+            table,
+            p,
+            &self.first,
+            &self.second,
+            &self.third,
+            &self.nothing,
+        );
+        let end = walk.answer(table, prefix, theirs, trie)?;
+        Ok(end)
     }
 
     /// The BLAKE2b-256 of the roots of all partitions, those of table 1 first. `Full` where some row can't be written.

@@ -16,3 +16,5 @@ mod row_bytes;
 mod rows;
 #[cfg(test)]
 mod tables;
+#[cfg(test)]
+mod tries;

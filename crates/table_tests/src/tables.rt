@@ -30,7 +30,7 @@ const ROWS: [Made; 4] = [
     Made::Reference(0x11, 6, false),
 ];
 
-fn table(alloc: Global, rows: &[Made]) -> Result<Table<S3Schema>, Memory> {
+pub fn table(alloc: Global, rows: &[Made]) -> Result<Table<S3Schema>, Memory> {
     let mut table = Table::new(alloc)?;
     for made in rows {
         table.take_in(row(alloc, *made)?)?;

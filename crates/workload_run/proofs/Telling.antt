@@ -15,10 +15,10 @@ use Rattle.lab_main.proofs.Writing.{wrote_nothing}
 use Rattle.lab_main.proofs.Edges.{answers_begin, last_answers, last_begins, ends_fault, whole_writes}
 use Rattle.store_model.specs.Run.{start}
 use Rattle.store_model.specs.Moments.{IsMoment, between, AtEachMoment}
+use Rattle.store_anchors.specs.Promises.{WalksAreClear, KeepsPromises, EveryRunKeepsPromises}
 use Rattle.store_model.specs.declared.event.Numbered.{Numbered}
 use Rattle.store_model.specs.Events.{Turn, acts_of, events_of, run}
 use Rattle.store_model.specs.Fresh.{NoClash}
-use Rattle.store_anchors.specs.Promises.{KeepsPromises, EveryRunKeepsPromises}
 use Rattle.text_model.specs.Played.{ArePlayed, AreScheduled}
 use Rattle.replay_run.specs.declared.account.Account.{Account}
 use Rattle.replay_run.specs.declared.account.Account.TheVariants.{Summary}
@@ -99,10 +99,10 @@ module _ (always : EveryRunKeepsPromises) (count seed : ℕ) (old new : Option (
   at_last : (turns : List Turn) → IsMoment (acts_of turns) (acts_of turns)
   at_last turns = between (acts_of turns) [] (sym (append-nil (acts_of turns)))
 
-  summary_is_fresh : (turns : List Turn) (text : List ℕ) → ArePlayed turns → IsText (Summary count seed) turns text → NoClash (run start turns).buckets → text ≡ fresh_summary count seed turns
-  summary_is_fresh turns text played h apart =
+  summary_is_fresh : (turns : List Turn) (text : List ℕ) → ArePlayed turns → IsText (Summary count seed) turns text → WalksAreClear (acts_of turns) → NoClash (run start turns).buckets → text ≡ fresh_summary count seed turns
+  summary_is_fresh turns text played h clear apart =
       h.text_is ∙ h.ends.text_is
-      ∙ ap (λ line. summary_lines count seed (run start turns) ++ closing (length turns) (run start turns) line) (line_is_fresh (run start turns).history h.ends.line ((kept turns played (acts_of turns) (at_last turns)).recorded apart) h.ends.is_line)
+      ∙ ap (λ line. summary_lines count seed (run start turns) ++ closing (length turns) (run start turns) line) (line_is_fresh (run start turns).history h.ends.line ((kept turns played (acts_of turns) (at_last turns)).recorded clear apart) h.ends.is_line)
 
   done_summarizes : Answers (IsAnswer count seed) Done old new → IsSummarized count seed old new
   done_summarizes h =

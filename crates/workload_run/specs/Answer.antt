@@ -10,7 +10,7 @@ use Rattle.store_model.specs.Run.{start}
 use Rattle.store_model.specs.Events.{Turn, acts_of, events_of, run}
 use Rattle.store_model.specs.Moments.{AtEachMoment}
 use Rattle.store_model.specs.Fresh.{NoClash}
-use Rattle.store_anchors.specs.Promises.{KeepsPromises}
+use Rattle.store_anchors.specs.Promises.{WalksAreClear, KeepsPromises}
 use Rattle.replay_run.specs.declared.account.Account.TheVariants.{Summary}
 use Rattle.replay_run.specs.Account.{IsText, summary_lines, closing, fresh_line}
 use Rattle.text_model.specs.Played.{ArePlayed}
@@ -35,14 +35,14 @@ fresh_summary count seed turns =
     let s = run start turns in
     summary_lines count seed s ++ closing (length turns) s (fresh_line s.history)
 
--- what was written is the summary of the workload's events with some lawful layouts; after each step everything fits, and no more was sent than may be; where the buckets' names have different digests, its check says that all reads are fresh; and at each moment of that run, within drains too, what is promised of the store holds
+-- what was written is the summary of the workload's events with some lawful layouts; after each step everything fits, and no more was sent than may be; where no digests of walks clash and the buckets' names have different digests, its check says that all reads are fresh; and at each moment of that run, within drains too, what is promised of the store holds
 pub record IsSummarized (count seed : ℕ) (old new : Option (List ℕ)) : Type 0 where
   pub turns : List Turn
   pub schedule_is : events_of turns ≡ schedule count seed
   pub played : ArePlayed turns
   pub text : List ℕ
   pub is_text : IsText (Summary count seed) turns text
-  pub is_fresh : NoClash (run start turns).buckets → text ≡ fresh_summary count seed turns
+  pub is_fresh : WalksAreClear (acts_of turns) → NoClash (run start turns).buckets → text ≡ fresh_summary count seed turns
   pub wrote : Wrote old new text
   pub promises : AtEachMoment KeepsPromises (acts_of turns)
 

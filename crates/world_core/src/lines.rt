@@ -28,6 +28,9 @@ pub fn kind<R>(packet: &Packet<R>) -> SentKind
             Message::BlockGet { .. } => SentKind::BlockGet,
             Message::Block { .. } => SentKind::Block,
             Message::NoBlock { .. } => SentKind::NoBlock,
+            Message::Walk { .. } => SentKind::Walk,
+            Message::Same { .. } => SentKind::Same,
+            Message::Differ { .. } => SentKind::Differ,
         },
     }
 }

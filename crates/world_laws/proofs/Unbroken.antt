@@ -7,12 +7,14 @@ use Rattle.machine_origins.proofs.Lists.{all_filter}
 use Rattle.view_model.specs.View.{View, is_gapless, newest, read_version, ack_least, merged, cleaned}
 use Rattle.view_model.proofs.Joins.{gapless_merged}
 use Rattle.view_model.proofs.Cleans.{gapless_cleaned}
+use Rattle.blake2_hash.specs.declared.digest.Hash32.{Hash32}
+use Rattle.walk_model.specs.Walking.{is_open}
 use Rattle.table_schema.specs.Words.{Words}
 use Rattle.quorum_model.specs.declared.range.RangeAnswer.{RangeAnswer}
 use Rattle.quorum_model.specs.Quorum.{StoreSlot, with_confirmation}
 use Rattle.quorum_model.specs.Window.{Window}
 use Rattle.wire_messages.specs.declared.message.Message.{Message}
-use Rattle.wire_messages.specs.declared.message.Message.TheVariants.{Get, Row, Range, Rows, Store, Stored, BlockGet, Block}
+use Rattle.wire_messages.specs.declared.message.Message.TheVariants.{Get, Row, Range, Rows, Store, Stored, BlockGet, Block, Walk as AsksValue, Same as HasSame, Differ}
 use Rattle.wire_messages.specs.declared.message.Tag.{Tag}
 use Rattle.wire_messages.specs.declared.message.Tag.TheVariants.{Call as ForCall, Round as ForRound, Item as ForItem}
 use Rattle.wire_messages.specs.declared.phase.Phase.{Phase}
@@ -21,11 +23,11 @@ use Rattle.cluster_machine.specs.declared.step.Action.{Action}
 use Rattle.cluster_machine.specs.declared.step.Action.TheVariants.{Sync as GoOn, Clean}
 use Rattle.cluster_machine.specs.declared.step.LocalEnd.TheVariants.{At, Idle}
 use Rattle.cluster_machine.specs.Layouts.{Layouts, is_given, is_stored}
-use Rattle.cluster_machine.specs.Node.{Question, Scan, Present, asking, scanning, storing, fetching, Call, Node, Packet, says, shows, Round, Did, quiet}
+use Rattle.cluster_machine.specs.Node.{Question, Scan, Present, asking, scanning, storing, fetching, Call, Node, Packet, says, shows, Walk, Round, Mending, Did, quiet}
 use Rattle.cluster_machine.specs.Rows.{block_at}
 use Rattle.cluster_machine.specs.Phases.{call_at, asked, looked, stored, begins, value_after, row_came, rows_came, stored_came, block_came, at_call}
-use Rattle.cluster_machine.specs.Rounds.{is_complete, synced, goes_on, may_sync, begin_round}
-use Rattle.cluster_machine.specs.Receives.{where_stored, gives_block, takes, round_came, confirms, hears, receives}
+use Rattle.cluster_machine.specs.Rounds.{is_complete, walk_at, walks_after, found_same, walk_after, synced, goes_on, may_sync, begin_round, round_walks, mending_walks, at_walk, mending_came, with_mending, with_lasting, late_came, answer_came, walked_anew}
+use Rattle.cluster_machine.specs.Receives.{where_stored, gives_block, takes, compares, walks_on, round_came, confirms, hears, receives}
 use Rattle.cluster_machine.specs.Acts.{Acted, syncs, acts}
 use Rattle.cluster_machine.specs.Keeping.{IsUpTo}
 use Rattle.machine_origins.proofs.FollowingSteps.{round_begun}
@@ -100,6 +102,40 @@ module _ {R L : Type 0} (join : R → R → R) (s : Words R) (k : Layouts L) (x 
       let now : Round = record round { confirmed = round.confirmed ++ record { partition = p; node = from } ∷ [] } in
       stay_cond x (round.number == number) (quiet (goes_on join s k id x now)) (quiet x) (stay_round id x now refl) refl
 
+  stay_compares : (id from : ℕ) (tag : Tag) (named p table : ℕ) (prefix : List ℕ) (hash : Hash32) → LayoutsStay x (compares join s k id x from tag named p table prefix hash).node
+  stay_compares id from tag named p table prefix hash = stay_cond x (nat_lt (newest k.reading x.view) named) _ _ refl (stay_cond x (not (is_given k x.view id p)) _ _ refl refl)
+
+  stay_at_walk : (table : ℕ) (prefix : List ℕ) (f : Walk → Did R L) (o : Option Walk) → ((w : Walk) → LayoutsStay x (f w).node) → LayoutsStay x (at_walk join s k x table prefix f o).node
+  stay_at_walk table prefix f None h = refl
+  stay_at_walk table prefix f (Some w) h = stay_cond x (is_open table prefix w.state.prefixes) (f w) (quiet x) (h w) refl
+
+  stay_mending : (now : Mending → Node R L) (other : Did R L) → ((m : Mending) → LayoutsStay x (now m)) → LayoutsStay x other.node → (from number p table : ℕ) (prefix : List ℕ) (answer : Option (List (ℕ × Hash32))) (o : Option Mending) → LayoutsStay x (mending_came join s k x now other from number p table prefix answer o).node
+  stay_mending now other same h from number p table prefix answer None = h
+  stay_mending now other same h from number p table prefix answer (Some mending) =
+      stay_cond x (mending.number == number) (at_walk join s k x table prefix (mending_walks join s k x now table prefix answer mending) (walk_at p from mending.walks)) other
+      (stay_at_walk table prefix (mending_walks join s k x now table prefix answer mending) (walk_at p from mending.walks) (λ w. same _)) h
+
+  stay_late : (from number p table : ℕ) (prefix : List ℕ) (answer : Option (List (ℕ × Hash32))) → LayoutsStay x (late_came join s k x from number p table prefix answer).node
+  stay_late from number p table prefix answer =
+      stay_mending (with_lasting join s k x) (mending_came join s k x (with_mending join s k x) (quiet x) from number p table prefix answer x.mending) (λ m. refl) (stay_mending (with_mending join s k x) (quiet x) (λ m. refl) refl from number p table prefix answer x.mending) from number p table prefix answer x.lasting
+
+  stay_walked : (id table : ℕ) (prefix : List ℕ) (answer : Option (List (ℕ × Hash32))) (round : Round) (w : Walk) → LayoutsStay x (round_walks join s k id x table prefix answer round w).node
+  stay_walked id table prefix answer round w =
+      let later = walk_after join s x w table prefix answer in
+      let now : Round = record round { walks = walks_after later round.walks } in
+      let there : Round = record now { confirmed = now.confirmed ++ record { partition = w.state.partition; node = w.node } ∷ [] } in
+      elim (found_same later) as (λ b. LayoutsStay x (cond b (goes_on join s k id x there) (record x { round = Some now }))) [ true ↦ stay_round id x there refl | false ↦ refl ]
+
+  stay_answer : (id from number p table : ℕ) (prefix : List ℕ) (answer : Option (List (ℕ × Hash32))) (o : Option Round) → LayoutsStay x (answer_came join s k id x from number p table prefix answer o).node
+  stay_answer id from number p table prefix answer None = stay_late from number p table prefix answer
+  stay_answer id from number p table prefix answer (Some round) =
+      stay_cond x (round.number == number) (at_walk join s k x table prefix (round_walks join s k id x table prefix answer round) (walk_at p from round.walks)) (late_came join s k x from number p table prefix answer)
+      (stay_at_walk table prefix (round_walks join s k id x table prefix answer round) (walk_at p from round.walks) (stay_walked id table prefix answer round)) (stay_late from number p table prefix answer)
+
+  stay_walks : (id from : ℕ) (tag : Tag) (table : ℕ) (prefix : List ℕ) (answer : Option (List (ℕ × Hash32))) → LayoutsStay x (walks_on join s k id x from tag table prefix answer).node
+  stay_walks id from (ForRound number p) table prefix answer = stay_answer id from number p table prefix answer x.round
+  stay_walks id from _ table prefix answer = refl
+
   stay_confirms : (id from : ℕ) (tag : Tag) → LayoutsStay x (confirms join s k id x from tag).node
   stay_confirms id from (ForCall request phase slot) = stay_at_call x phase _ (call_at x.calls request) (λ c. stay_confirmed x c k slot from c.present)
   stay_confirms id from (ForRound number p) = stay_round_came id from number p x.round
@@ -114,6 +150,9 @@ module _ {R L : Type 0} (join : R → R → R) (s : Words R) (k : Layouts L) (x 
   stay_hears id now from (Stored tag) = stay_confirms id from tag
   stay_hears id now from (BlockGet request phase at hash) = stay_where from request phase at _ (stay_gives_block from request phase (block_at x.blocks hash.0))
   stay_hears id now from (Block request phase bytes) = stay_at_call x phase _ (call_at x.calls request) (λ c. stay_block x c bytes c.present)
+  stay_hears id now from (AsksValue tag named p table prefix hash) = stay_compares id from tag named p table prefix hash
+  stay_hears id now from (HasSame tag table prefix) = stay_walks id from tag table prefix None
+  stay_hears id now from (Differ tag table prefix pairs) = stay_walks id from tag table prefix (Some pairs)
   stay_hears id now from _ = refl
 
   -- a message opens no gap
@@ -133,11 +172,11 @@ module _ {R L : Type 0} (join : R → R → R) (s : Words R) (k : Layouts L) (x 
   stay_acted false d e h k = k
 
   stay_syncs : (id : ℕ) (o : Option Round) → LayoutsStay x (syncs join s k id x o).did.node
-  stay_syncs id (Some round) = refl
+  stay_syncs id (Some round) = stay_round id x (walked_anew join s k x round) refl
   stay_syncs id None =
       let at = read_version k.reading x.view in
       stay_acted (may_sync join s k id x.view) (record { did = begin_round join s k id x; how = At (suc at) }) (record { did = quiet x; how = Idle at (ack_least k.reading x.view) })
-      (stay_round id (record x { rounds = suc x.rounds }) (round_begun join s k id x) refl) refl
+      (stay_round id (record x { rounds = suc x.rounds; lasting = None }) (round_begun join s k id x) refl) refl
 
   -- an action opens no gap
   pub gapless_acted : (id now : ℕ) (action : Action) → IsTrue (is_gapless k.reading x.view.layouts) → IsTrue (is_gapless k.reading (acts join s k id now x action).did.node.view.layouts)

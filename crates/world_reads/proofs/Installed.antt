@@ -1,5 +1,5 @@
 -- A run into which a first layout is installed is a run of the machine whose first layout it is.
-use Rattle.std.specs.Prelude.{◌≡◌, ◌⊎◌, ◌≤◌, Bool, true, false, leb, cond, IsTrue, List, [], ◌∷◌, ◌++◌, refl}
+use Rattle.std.specs.Prelude.{◌≡◌, ◌⊎◌, ◌≤◌, ℕ, Bool, true, false, leb, cond, IsTrue, List, [], ◌∷◌, ◌++◌, refl}
 use Rattle.std.proofs.Common.{ap, sym, subst, ◌∙◌, inl, inr, arith}
 use Rattle.std.proofs.lemmas.Bool.{le-leb, lt-leb}
 use Rattle.std.proofs.lemmas.Grind.{flat_map-append}
@@ -17,6 +17,8 @@ use Rattle.cluster_machine.specs.Layouts.{layouts}
 use Rattle.cluster_machine.specs.World.{empty}
 use Rattle.cluster_machine.specs.Trio.{trio, stage_trio}
 use Rattle.cluster_machine.specs.Choices.{Decision}
+use Rattle.cluster_machine.specs.Hashes.{Hears, Asks, RunHashes, NoClash}
+use Rattle.world_reads.specs.Hashed.{StartHashes}
 use Rattle.cluster_machine.specs.Worlds.{Model, Doing, Done, IsSound, IsLawfulRun, IsLawfulStart, does, next, run, start}
 use Rattle.machine_origins.specs.Origins.{stored_by, stored_in}
 use Rattle.world_laws.proofs.Steps.{installed_sound}
@@ -41,6 +43,10 @@ same_refused false r x y e = cc
 not_applied : {R : Type 0} (w : Model R) (b : Bool) (d e : Done R) → e.applies ≡ 1 → (applied w (cond b d e)).applied ≡ 0 → b ≡ true
 not_applied w true d e one none = refl
 not_applied w false d e one none = let never : ⊥ = omega arith in absurd never
+
+-- strings among others that do not clash do not clash
+pub clear_within : (G H : List ℕ → Type 0) → ((x : List ℕ) → G x → H x) → NoClash H → NoClash G
+clear_within G H f clear = record { apart = λ x y a b. clear.apart x y (f x a) (f y b); some = λ x a. clear.some x (f x a) }
 
 module _ {R : Type 0} (join : R → R → R) (s : Words R) (first : Layout) where
   -- nothing is staged
@@ -94,6 +100,39 @@ module _ {R : Type 0} (join : R → R → R) (s : Words R) (first : Layout) wher
         is_run = λ r. (r.0, r.1, subst (λ (e : Done R). IsTrue e.is_spelled) same r.2, subst (λ e. IsRunFirst (applied w e) ms) same (rest.is_run r.3));
       }
 
+  abbrev HashesFirst : Model R → List (Doing R) → List ℕ → Type 0
+  HashesFirst w ms x = RunHashes s join layouts first same_roles w ms x
+
+  abbrev HashesTrio : Model R → List (Doing R) → List ℕ → Type 0
+  HashesTrio w ms x = RunHashes s join layouts trio stage_trio w ms x
+
+  -- and the same is hashed in it
+  hashes_alike : (w : Model R) (ms : List (Doing R)) (x : List ℕ) → (1 ≤ w.applied) ⊎ ((run join s w ms).applied ≡ 0) → HashesFirst w ms x → HashesTrio w ms x
+  hashes_alike w [] x h i = absurd i
+  hashes_alike w (m ∷ ms) x h i =
+      let then = next join s w m in
+      let high = applied_more w (m ∷ []) in
+      let low = applied_more then ms in
+      let at : (1 ≤ w.applied) ⊎ (then.applied ≡ 0) = elim h [ inl is ↦ inl is | inr none ↦ inr (omega (arith, low, none)) ] in
+      let later : (1 ≤ then.applied) ⊎ ((run join s then ms).applied ≡ 0) = elim h [ inl is ↦ inl (omega (arith, is, high)) | inr none ↦ inr none ] in
+      let same = step_same w m.step m.choice at in
+      elim i [
+        | inl here ↦ inl (here.0, (here.1.0, (subst (λ (e : Done R). Hears w m.step here.0 here.1.0 ⊎ Asks e.sends here.0 here.1.0) (sym same) here.1.1.0, here.1.1.1)))
+        | inr more ↦ inr (hashes_alike then ms x later (subst (λ (e : Done R). HashesFirst (applied w e) ms x) (sym same) more))
+      ]
+
+  hashes_append : (w : Model R) (xs ys : List (Doing R)) (x : List ℕ) → HashesFirst w (xs ++ ys) x → HashesFirst w xs x ⊎ HashesFirst (run_first w xs) ys x
+  hashes_append w [] ys x h = inr h
+  hashes_append w (m ∷ xs) ys x h = elim h [
+    | inl here ↦ inl (inl here)
+    | inr more ↦ elim (hashes_append (applied w (does_first w m)) xs ys x more) [ inl one ↦ inl (inr one) | inr other ↦ inr other ]
+  ]
+
+  -- an installation hashes nothing
+  none_installed : (w : Model R) (b : Bool) (n p : ℕ) → Asks (cond b (refusal {A = Applied} {C = Cut} w (VersionTaken 1)) (trio_applies join s layouts first same_roles w)).sends n p → ⊥
+  none_installed w true n p h = h
+  none_installed w false n p h = h
+
   run_append : (w : Model R) (xs ys : List (Doing R)) → run_first w (xs ++ ys) ≡ run_first (run_first w xs) ys
   run_append w [] ys = refl
   run_append w (x ∷ xs) ys = run_append (applied w (does_first w x)) xs ys
@@ -134,6 +173,15 @@ module _ {R : Type 0} (join : R → R → R) (s : Words R) (first : Layout) wher
 
     pub whole_same : run_first empty whole ≡ run join s (start join s before first) after
     whole_same = run_append empty before (first_step ∷ after) ∙ (ap (λ w. run_first w after) installed_next ∙ gone_on.same)
+
+    pub whole_hashes : (x : List ℕ) → HashesFirst empty whole x → StartHashes s join before first after x
+    whole_hashes x h = elim (hashes_append empty before (first_step ∷ after) x h) [
+      | inl early ↦ inl (hashes_alike empty before x (inr is.unused) early)
+      | inr rest ↦ elim rest [
+        | inl there ↦ absurd (elim there.1.1.0 [ inl never ↦ never | inr asks ↦ none_installed (run_first empty before) (leb 1 (run_first empty before).applied) there.0 there.1.0 asks ])
+        | inr late ↦ inr (hashes_alike (start join s before first) after x (inl (omega arith)) (subst (λ w. HashesFirst w after x) installed_next late))
+      ]
+    ]
 
     spelled_first : (w : Model R) (b : Bool) → IsTrue (cond b (refusal {A = Applied} {C = Cut} w (VersionTaken 1)) (trio_applies join s layouts first same_roles w)).is_spelled
     spelled_first w true = refl

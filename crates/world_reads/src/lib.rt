@@ -9,6 +9,10 @@ ghost use Rattle.table_model.specs.Rows.{AllProper};
 ghost use Rattle.cluster_machine.specs.Node.{Reading};
 ghost use Rattle.cluster_machine.specs.World.{empty};
 ghost use Rattle.cluster_machine.specs.Kept.{KeptReads};
+ghost use Rattle.cluster_machine.specs.Layouts.{layouts};
+ghost use Rattle.cluster_machine.specs.Trio.{trio, stage_trio};
+ghost use Rattle.cluster_machine.specs.Hashes.{NoClash, RunHashes};
+ghost use Rattle.world_reads.specs.Hashed.{StartHashes};
 ghost use Rattle.machine_origins.specs.Origins.{ComesFrom, Gave, stored_in};
 ghost use Rattle.machine_origins.specs.Windows.{GaveWindow};
 ghost use Rattle.cluster_machine.specs.Worlds.{Doing, IsLawfulRun, IsLawfulStart, run, start, IsSound};
@@ -21,9 +25,10 @@ use table_schema::Schema;
 use world_laws::empty_world_is_sound;
 
 /// Whatever comes, each read and range phase that ended gave at least the join of all rows that were kept before it
-/// began: over every list of steps of a `World<S>`, in which each apply was given what is computed from the staged roles.
+/// began: over every list of steps of a `World<S>`, in which each apply was given what is computed from the staged roles,
+/// where no two strings that are hashed for walks have one digest.
 pub fn every_world_has_kept_reads<S: Schema>()
-    ensures { (moves : List (Doing S.Row)) → IsLawfulRun S.Row.join S.words empty moves → KeptReads S.Row.join S.words (run S.Row.join S.words empty moves) }
+    ensures { (moves : List (Doing S.Row)) → IsLawfulRun S.Row.join S.words empty moves → NoClash (RunHashes S.words S.Row.join layouts trio stage_trio empty moves) → KeptReads S.Row.join S.words (run S.Row.join S.words empty moves) }
 {
     empty_world_is_sound::<S::Row>();
     every_run_has_kept_reads::<S::Row, Layout, Applied, Cut>();
@@ -68,10 +73,11 @@ pub fn every_world_is_sound<S: Schema>()
 }
 
 /// The same of every world into which a first layout was installed, after steps that applied none: reads give what was
-/// kept, and only what was stored, range phases give windows, and each layout in use has the greatest partition size.
+/// kept, where no digests clash, and only what was stored, range phases give windows, and each layout in use has the
+/// greatest partition size.
 pub fn every_installed_world_reads_what_was_kept<S: Schema>()
     ensures kept { (before : List (Doing S.Row)) (first : Layout) (after : List (Doing S.Row)) → IsLawfulStart S.Row.join S.words before first → IsLawfulRun S.Row.join S.words (start S.Row.join S.words before first) after →
-        KeptReads S.Row.join S.words (run S.Row.join S.words (start S.Row.join S.words before first) after) }
+        NoClash (StartHashes S.words S.Row.join before first after) → KeptReads S.Row.join S.words (run S.Row.join S.words (start S.Row.join S.words before first) after) }
     ensures stored { (before : List (Doing S.Row)) (first : Layout) (after : List (Doing S.Row)) → IsLawfulStart S.Row.join S.words before first → IsLawfulRun S.Row.join S.words (start S.Row.join S.words before first) after →
         (r : Reading S.Row) → Contains (run S.Row.join S.words (start S.Row.join S.words before first) after).reads r → Gave S.words (ComesFrom S.Row.join S.words (stored_in (before ++ after))) r }
     ensures windows { (before : List (Doing S.Row)) (first : Layout) (after : List (Doing S.Row)) → IsLawfulStart S.Row.join S.words before first → IsLawfulRun S.Row.join S.words (start S.Row.join S.words before first) after →

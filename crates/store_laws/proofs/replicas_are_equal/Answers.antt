@@ -5,17 +5,18 @@ use Rattle.store_laws.proofs.Every.{every_world}
 use Rattle.store_laws.proofs.Starting.{start_sound}
 use Rattle.store_laws.proofs.Reached.{reached_proper}
 use Rattle.store_laws.proofs.Acts.{acts_keep}
+use Rattle.store_laws.specs.Hashed.{ActsHash}
 use Rattle.store_laws.proofs.replicas_are_equal.Goals as goal
 
 pub returns : goal.returns
 returns c acts lawful fit =
     let then = c.every_installed_world_reads_what_was_kept.ensures in
-    let every = every_world c.every_world_has_kept_reads.ensures c.every_world_reads_stored_rows.ensures c.every_world_is_sound.ensures c.every_world_gives_windows.ensures then.kept then.stored then.sound then.windows in
+    let every = every_world (ActsHash start acts) c.every_world_has_kept_reads.ensures c.every_world_reads_stored_rows.ensures c.every_world_is_sound.ensures c.every_world_gives_windows.ensures then.kept then.stored then.sound then.windows in
     let s = after_acts start acts in
     let w = s.world in
     let same = c.same_members_give_same_rows.ensures in
     let are_proper = c.every_world_has_proper_rows.ensures in
-    let proper = reached_proper are_proper.from_empty are_proper.from_installed s.draws w (acts_keep every start acts lawful fit start_sound).reached in
+    let proper = reached_proper are_proper.from_empty are_proper.from_installed s.draws w (acts_keep every start acts lawful fit (λ x h. h) start_sound).reached in
     record {
       partitions = λ n m p members. record {
         same_rows = same.partition_rows (accepted_at w n) (accepted_at w m) p (proper n) (proper m) members;

@@ -1,13 +1,19 @@
-use Rattle.std.specs.Prelude.{is_some}
-use Rattle.std.proofs.Common.{sym, ap, ◌∙◌}
-use Rattle.table_store.specs.Index.{has_key}
-use Rattle.table_store.proofs.Keys.{keys_or_none, put_more, added_more}
+use Rattle.std.proofs.Common.{ap, sym, ◌∙◌}
+use Rattle.std.specs.Map.{lookup}
+use Rattle.table_store.proofs.Entries.{at, has_is}
+use Rattle.table_store.proofs.Keys.{extends_new, has_new, not_found}
 use Rattle.table_store.proofs.index.add_key.Goals as goal
 
-pub returns-in-Some-clause-others : goal.returns-in-Some-clause-others
-returns-in-Some-clause-others c q other had =
-    let keys = c.in-Some.keys.now in
-    put_more c.args.index.now (c.get_mut.follows.lender c.insert.new.self) c.args.p c.insert.new.self
-    ((c.get_mut.follows.holds c.insert.new.self).3 (ap is_some (sym c.in-Some.ensures.value))).0
-    (λ key there. added_more keys c.insert.new.self c.in_ok-key.key c.in_ok-insert.ensures.updates.0 key (ap (λ found. has_key key.items (keys_or_none found)) c.in-Some.ensures.value ∙ there))
-    q other had
+pub returns-then-contains_key-clause-has : goal.returns-then-contains_key-clause-has
+returns-then-contains_key-clause-has c = has_is c.args.key.now c.args.pairs.now.entries ∙ (sym c.contains_key.ensures ∙ c.if-contains_key.true)
+
+pub returns-clause-extends : goal.returns-clause-extends
+returns-clause-extends c =
+    let entries = c.args.pairs.now.entries in
+    let key = c.in_ok-key.key in
+    extends_new entries c.insert.new.self.entries key
+    (ap (λ k. lookup (at k) entries) c.in_ok-key.ensures.items ∙ not_found (lookup (at c.args.key.now) entries) (sym c.contains_key.ensures ∙ c.if-contains_key.false))
+    c.in_ok-insert.ensures.entries
+
+pub returns-clause-has : goal.returns-clause-has
+returns-clause-has c = has_new c.args.pairs.now.entries c.insert.new.self.entries c.in_ok-key.key c.args.key.now c.in_ok-key.ensures.items c.in_ok-insert.ensures.entries

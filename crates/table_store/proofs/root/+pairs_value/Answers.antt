@@ -1,4 +1,4 @@
-use Rattle.std.specs.Prelude.{◌≡◌, ℕ, ◌-◌, ◌++◌, List}
+use Rattle.std.specs.Prelude.{◌≡◌, ◌-◌, ◌++◌}
 use Rattle.std.proofs.Common.{ap, sym, ◌∙◌, arith}
 use Rattle.blake2_hash.specs.Blake2b.{blake2b}
 use Rattle.table_model.specs.Root.{branch, none_leaf_or_node, value_of, with_byte}

@@ -1,4 +1,4 @@
-use Rattle.std.proofs.Common.{◌≡◌, ◌==◌, ◌++◌, ℕ, List, map, filter, flat_map}
+use Rattle.std.proofs.Common.{◌==◌, ◌++◌, ℕ, List, map, filter, flat_map}
 use Rattle.std.specs.List.{range_with_len}
 use Rattle.blake2_hash.specs.Blake2b.{blake2b}
 use Rattle.blake2_hash.specs.Hashing.{Holds}

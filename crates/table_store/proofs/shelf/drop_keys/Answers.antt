@@ -1,16 +1,17 @@
 use Rattle.std.specs.Prelude.{filter}
 use Rattle.std.proofs.Common.{ap, sym, ◌∙◌}
+use Rattle.std.specs.Map.{keys_of}
 use Rattle.table_store.proofs.Partitions.{kept_of, kept_more, kept_all}
 use Rattle.table_store.proofs.shelf.drop_keys.Goals as goal
 
 pub loop-key-preserved : goal.loop-key-preserved
 loop-key-preserved g c =
     let p = c.args.p in
-    let rest = c.next.new.self in
+    let rest = keys_of c.next.new.self in
     let entries = c.loop-key.rows.entries in
     ap (filter (kept_of p rest)) c.drop_row.ensures
     ∙ (kept_more p c.in-Some.key.now rest entries
-    ∙ (ap (λ keys. filter (kept_of p keys) entries) (sym c.in-Some.ensures.steps)
+    ∙ (ap (λ es. filter (kept_of p (keys_of es)) entries) (sym c.in-Some.ensures.steps)
     ∙ c.loop-key.invariant))
 
 pub returns : goal.returns
@@ -18,6 +19,6 @@ returns g c =
     let p = c.args.p in
     let entries = c.loop-key.rows.entries in
     sym (kept_all p entries)
-    ∙ (ap (λ keys. filter (kept_of p keys) entries) (sym c.in-None.ensures.steps.0)
+    ∙ (ap (λ es. filter (kept_of p (keys_of es)) entries) (sym c.in-None.ensures.steps.0)
     ∙ (c.loop-key.invariant
-    ∙ ap (λ keys. filter (kept_of p keys) c.args.rows.now.entries) c.into_iter-key-iterator.ensures.into_iter_gives.0))
+    ∙ ap (λ es. filter (kept_of p (keys_of es)) c.args.rows.now.entries) c.into_iter-key-iterator.ensures.into_iter_gives.0))

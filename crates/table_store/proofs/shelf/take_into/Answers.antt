@@ -2,12 +2,16 @@ use Rattle.std.proofs.Common.{◌≡◌, Option, Some, None, Result, Ok, Err, On
 use Rattle.std.specs.List.{list_all}
 use Rattle.std.specs.Option.{option_and_then}
 use Rattle.std.specs.Map.{set_value}
-use Rattle.std.specs.BTreeMap.{insert_entry}
+use Rattle.std.specs.BTreeMap.{get, insert_entry}
+use Rattle.std.specs.Ordering.{nat_cmp}
+use Rattle.std.proofs.lemmas.Option.{same_Some}
 use Rattle.std.proofs.lemmas.Map.Steps.{set_value_same}
 use Rattle.table_model.specs.Rows.{change_of}
 use Rattle.table_store.specs.declared.shelf.Placed.{Placed}
 use Rattle.table_store.specs.Shelf.{shelf_rows, placed_at, is_indexed, vec_cmp}
-use Rattle.table_store.specs.Index.{has_key, keys_under}
+use Rattle.table_store.specs.Index.{has_key, keys_under, waits_in}
+use Rattle.table_store.proofs.Entries.{lookup_put}
+use Rattle.table_store.proofs.Fitting.{fits_on, fits_put}
 use Rattle.table_store.proofs.Partitions.{indexed_more, indexed_put_or_not, indexed_again}
 use Rattle.table_store.proofs.Shelves.{merged_with, at_same, row_there, none_there, written_is_put, merged_here, placed_put, found_is, entry_new, entry_merged}
 use Rattle.table_store.proofs.shelf.take_into.Goals as goal
@@ -24,13 +28,65 @@ some_is f (Some x) = refl
 
 pub invariant_of-shelf : goal.invariant_of-shelf
 invariant_of-shelf g c =
+    let index = c.args.shelf.now.index in
+    let later = c.note.new.index in
+    let entries = c.args.shelf.now.rows.entries in
+    let there = c.in-Some.there.now in
+    let same : (c.get_mut.follows.lender there).entries ≡ entries = (c.get_mut.follows.holds there).0 ∙ set_value_same _ entries there (sym c.in-Some.ensures.value) in
+    record { indexed = ap (list_all (is_indexed later)) same ∙ indexed_more index later entries c.note.ensures.others c.args.shelf.now.indexed }
+
+pub returns-in_err-note-clause-unchanged : goal.returns-in_err-note-clause-unchanged
+returns-in_err-note-clause-unchanged g c =
+    let entries = c.args.shelf.now.rows.entries in
+    let there = c.in-Some.there.now in
+    at_err c.from_residual-in_err-note.result _ ((c.get_mut.follows.holds there).0 ∙ set_value_same _ entries there (sym c.in-Some.ensures.value))
+
+pub returns-in_err-note-clause-fits : goal.returns-in_err-note-clause-fits
+returns-in_err-note-clause-fits g c fit =
+    let entries = c.args.shelf.now.rows.entries in
+    let there = c.in-Some.there.now in
+    fits_on g.S.Schema.words c.args.shelf.now.index c.note.new.index entries (c.get_mut.follows.lender there).entries c.args.shelf.now.indexed c.note.ensures.grows
+    ((c.get_mut.follows.holds there).0 ∙ set_value_same _ entries there (sym c.in-Some.ensures.value)) fit
+
+pub invariant_of-shelf-in-Some : goal.invariant_of-shelf-in-Some
+invariant_of-shelf-in-Some g c =
+    let index = c.args.shelf.now.index in
+    let later = c.note.new.index in
     let entries = c.args.shelf.now.rows.entries in
     let key = c.into_vec-key.result in
     let there = c.in-Some.there.now in
     let new = c.merge_at.new.there in
     let found : placed_at key.items entries ≡ Some there = at_same (Some there) c.as_slice.result.now key.items entries c.in-Some.ensures.value c.as_slice.ensures.value in
     let put = written_is_put key new there entries (c.get_mut.follows.lender new).entries c.as_slice.result.now c.as_slice.ensures.value c.get_mut.ensures.ordered found (c.get_mut.follows.holds new).0 in
-    record { indexed = indexed_again c.args.shelf.now.index key new there entries (c.get_mut.follows.lender new).entries put c.merge_at.ensures.partition found c.args.shelf.now.indexed }
+    record {
+      indexed =
+          indexed_again later key new there entries (c.get_mut.follows.lender new).entries put c.merge_at.ensures.partition found
+          (indexed_more index later entries c.note.ensures.others c.args.shelf.now.indexed);
+    }
+
+pub returns-in_err-taken-clause-fits : goal.returns-in_err-taken-clause-fits
+returns-in_err-taken-clause-fits g c fit =
+    let entries = c.args.shelf.now.rows.entries in
+    let there = c.in-Some.there.now in
+    let new = c.merge_at.new.there in
+    fits_on g.S.Schema.words c.args.shelf.now.index c.note.new.index entries (c.get_mut.follows.lender new).entries c.args.shelf.now.indexed c.note.ensures.grows
+    ((c.get_mut.follows.holds new).0 ∙ (ap (set_value _ entries) c.in_err-taken.ensures.unchanged ∙ set_value_same _ entries there (sym c.in-Some.ensures.value))) fit
+
+pub returns-in-Some-clause-fits : goal.returns-in-Some-clause-fits
+returns-in-Some-clause-fits g c fit =
+    let later = c.note.new.index in
+    let entries = c.args.shelf.now.rows.entries in
+    let key = c.into_vec-key.result in
+    let there = c.in-Some.there.now in
+    let new = c.merge_at.new.there in
+    let found : placed_at key.items entries ≡ Some there = at_same (Some there) c.as_slice.result.now key.items entries c.in-Some.ensures.value c.as_slice.ensures.value in
+    let put = written_is_put key new there entries (c.get_mut.follows.lender new).entries c.as_slice.result.now c.as_slice.ensures.value c.get_mut.ensures.ordered found (c.get_mut.follows.holds new).0 in
+    fits_put g.S.Schema.words c.args.shelf.now.index later entries (c.get_mut.follows.lender new).entries c.args.shelf.now.indexed c.note.ensures.grows key.items new
+    (λ other. ap (placed_at other) put ∙ lookup_put other key new entries)
+    (λ w at. ap (λ v. v.partition) (same_Some w there (sym at ∙ found)) ∙ sym c.merge_at.ensures.partition)
+    ((λ i. has_key (sym c.as_slice-in-Some.ensures.value i) (keys_under later (c.merge_at.ensures.partition i))) ∙ c.in_ok-note.ensures.has)
+    ((λ i. waits_in (sym c.as_slice-in-Some.ensures.value i) (get nat_cmp later (c.merge_at.ensures.partition i))) ∙ c.in_ok-note.ensures.waits)
+    fit
 
 pub returns-in_err-taken-clause-unchanged : goal.returns-in_err-taken-clause-unchanged
 returns-in_err-taken-clause-unchanged g c =
@@ -99,11 +155,11 @@ returns-in-Some-clause-change g c =
 
 -- ---- none does
 
-pub invariant_of-shelf-in-Break-branch-3 : goal.invariant_of-shelf-in-Break-branch-3
-invariant_of-shelf-in-Break-branch-3 g c =
+pub invariant_of-shelf-in-Break-branch-4 : goal.invariant_of-shelf-in-Break-branch-4
+invariant_of-shelf-in-Break-branch-4 g c =
     let entries = c.args.shelf.now.rows.entries in
     let same : c.get_mut.follows.lender-at-none.entries ≡ entries = ap (λ m. m.entries) c.get_mut.follows.holds-at-none in
-    record { indexed = ap (list_all (is_indexed c.add_key.new.index)) same ∙ indexed_more c.args.shelf.now.index c.add_key.new.index entries c.add_key.ensures.others c.args.shelf.now.indexed }
+    record { indexed = ap (list_all (is_indexed c.note-2.new.index)) same ∙ indexed_more c.args.shelf.now.index c.note-2.new.index entries c.note-2.ensures.others c.args.shelf.now.indexed }
 
 pub invariant_of-shelf-2 : goal.invariant_of-shelf-2
 invariant_of-shelf-2 g c =
@@ -112,12 +168,39 @@ invariant_of-shelf-2 g c =
     let key = c.into_vec-key.result in
     let placed : Placed g.row.S-Row.Denot = record { partition = c.partition.result; row = row } in
     let same : c.get_mut.follows.lender-at-none.entries ≡ entries = ap (λ m. m.entries) c.get_mut.follows.holds-at-none in
-    let index = c.add_key.new.index in
-    let all = ap (list_all (is_indexed index)) same ∙ indexed_more c.args.shelf.now.index index entries c.add_key.ensures.others c.args.shelf.now.indexed in
+    let index = c.note-2.new.index in
+    let all = ap (list_all (is_indexed index)) same ∙ indexed_more c.args.shelf.now.index index entries c.note-2.ensures.others c.args.shelf.now.indexed in
     record {
       indexed = indexed_put_or_not index c.insert.result key placed c.get_mut.follows.lender-at-none.entries c.insert.new.self.entries c.insert.ensures.entries c.insert.ensures.err
-          (ap (λ k. has_key k (keys_under index placed.partition)) (sym c.as_slice-2.ensures.value) ∙ c.in_ok-add_key.ensures.has) all;
+          (ap (λ k. has_key k (keys_under index placed.partition)) (sym c.as_slice-2.ensures.value) ∙ c.in_ok-note-2.ensures.has) all;
     }
+
+pub returns-in_err-note-2-clause-fits : goal.returns-in_err-note-2-clause-fits
+returns-in_err-note-2-clause-fits g c fit =
+    let entries = c.args.shelf.now.rows.entries in
+    fits_on g.S.Schema.words c.args.shelf.now.index c.note-2.new.index entries c.get_mut.follows.lender-at-none.entries c.args.shelf.now.indexed c.note-2.ensures.grows (ap (λ m. m.entries) c.get_mut.follows.holds-at-none) fit
+
+pub returns-in_err-insert-clause-fits : goal.returns-in_err-insert-clause-fits
+returns-in_err-insert-clause-fits g c fit =
+    let entries = c.args.shelf.now.rows.entries in
+    fits_on g.S.Schema.words c.args.shelf.now.index c.note-2.new.index entries c.insert.new.self.entries c.args.shelf.now.indexed c.note-2.ensures.grows
+    (c.in_err-insert.ensures.err ∙ ap (λ m. m.entries) c.get_mut.follows.holds-at-none) fit
+
+pub returns-clause-fits : goal.returns-clause-fits
+returns-clause-fits g c fit =
+    let row = c.args.row in
+    let entries = c.args.shelf.now.rows.entries in
+    let key = c.into_vec-key.result in
+    let placed : Placed g.row.S-Row.Denot = record { partition = c.partition.result; row = row } in
+    let same : c.get_mut.follows.lender-at-none.entries ≡ entries = ap (λ m. m.entries) c.get_mut.follows.holds-at-none in
+    let index = c.note-2.new.index in
+    let none : placed_at key.items entries ≡ None = at_same None c.as_slice.result.now key.items entries c.in_default.ensures.value c.as_slice.ensures.value in
+    fits_put g.S.Schema.words c.args.shelf.now.index index entries c.insert.new.self.entries c.args.shelf.now.indexed c.note-2.ensures.grows key.items placed
+    (λ other. ap (placed_at other) (c.in_ok-insert.ensures.entries ∙ ap (λ es. insert_entry vec_cmp es key placed) same) ∙ lookup_put other key placed entries)
+    (λ w at. let wrong : None ≡ Some w = sym none ∙ at in cc)
+    (ap (λ k. has_key k (keys_under index placed.partition)) (sym c.as_slice-2.ensures.value) ∙ c.in_ok-note-2.ensures.has)
+    (ap (λ k. waits_in k (get nat_cmp index placed.partition)) (sym c.as_slice-2.ensures.value) ∙ c.in_ok-note-2.ensures.waits)
+    fit
 
 pub returns-clause-rows : goal.returns-clause-rows
 returns-clause-rows g c table t all =

@@ -1,5 +1,5 @@
 use Rattle.std.specs.Prelude.{refl}
-use Rattle.node_core.proofs.Nodes.{ok_to}
+use Rattle.node_parts.proofs.Faults.{ok_to}
 use Rattle.node_core.proofs.Appended.{appended_stands}
 use Rattle.node_core.proofs.node.Node.append.Goals as goal
 

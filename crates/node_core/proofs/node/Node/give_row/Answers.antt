@@ -6,7 +6,7 @@ use Rattle.cluster_machine.specs.Layouts.{is_stored, layouts}
 use Rattle.cluster_machine.specs.Phases.{to_each}
 use Rattle.cluster_machine.specs.Receives.{is_sendable}
 use Rattle.node_parts.specs.Posts.{Posts}
-use Rattle.node_core.proofs.Nodes.{ok_to}
+use Rattle.node_parts.proofs.Faults.{ok_to}
 use Rattle.node_core.proofs.Replies.{replies, sized_row}
 use Rattle.node_core.proofs.node.Node.give_row.Goals as goal
 

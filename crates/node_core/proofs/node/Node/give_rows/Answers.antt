@@ -6,7 +6,7 @@ use Rattle.cluster_machine.specs.Layouts.{is_stored, layouts}
 use Rattle.cluster_machine.specs.Phases.{is_spelled, to_each}
 use Rattle.cluster_machine.specs.Receives.{most_rows}
 use Rattle.node_parts.specs.Posts.{Posts}
-use Rattle.node_core.proofs.Nodes.{ok_to}
+use Rattle.node_parts.proofs.Faults.{ok_to}
 use Rattle.node_core.proofs.Replies.{replies, sized_rows}
 use Rattle.node_core.proofs.node.Node.give_rows.Goals as goal
 

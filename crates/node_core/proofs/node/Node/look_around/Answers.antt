@@ -15,7 +15,7 @@ returns-in_ok-drop_lost-clause-sees g c id x v before is =
     let self = c.args.self.now in
     let oldest_is : c.oldest-oldest.result ≡ oldest reading v = c.oldest-oldest.ensures ∙ ap (oldest reading) is.view in
     let round = still (oldest reading v) x.round in
-    let closed = subst (λ o. AreRounds id c.close_below.new.self (still o x.round) x.rounds) oldest_is (c.close_below.ensures id x.round x.rounds is.rounds) in
+    let closed = subst (λ o. AreRounds id c.close_below.new.self (still o x.round) x.rounds x.mending x.lasting) oldest_is (c.close_below.ensures id x.round x.rounds x.mending x.lasting is.rounds) in
     let y = record x { view = v; round = round } in
     let stands = seen self id x v c.close_below.new.self round is closed in
     let dropped = subst (λ n. Became join s c.drop_lost.new.self y (drops join s layouts n c.args.now y)) is.id_is (c.in_ok-drop_lost.ensures.drops y is.view stands.contents) in
@@ -26,6 +26,6 @@ pub returns-else-before-oldest-clause-sees : goal.returns-else-before-oldest-cla
 returns-else-before-oldest-clause-sees g c id x v before is =
     let oldest_is : c.oldest-oldest.result ≡ oldest reading v = c.oldest-oldest.ensures ∙ ap (oldest reading) is.view in
     let round = still (oldest reading v) x.round in
-    let closed = subst (λ o. AreRounds id c.close_below.new.self (still o x.round) x.rounds) oldest_is (c.close_below.ensures id x.round x.rounds is.rounds) in
+    let closed = subst (λ o. AreRounds id c.close_below.new.self (still o x.round) x.rounds x.mending x.lasting) oldest_is (c.close_below.ensures id x.round x.rounds x.mending x.lasting is.rounds) in
     rw (stayed (oldest reading x.view) (oldest reading v) c.args.before c.oldest-oldest.result oldest_is before c.if-before-oldest.false)
     (seen c.args.self.now id x v c.close_below.new.self round is closed)

@@ -17,7 +17,7 @@ returns-in-Ok-clause-opens g c id x below is =
     record {
       id_is = is.id_is;
       view = is.view;
-      contents = same_contents x x.view calls x.round x.rounds is.contents;
+      contents = same_contents x x.view calls x.round x.rounds x.mending x.lasting is.contents;
       calls = rw start at (c.in-Ok.ensures.begun x.calls is.calls below);
       rounds = is.rounds;
       has_version = member_has_version x.view c.args.self.now.id (subst (λ v. is_gapless reading v.layouts ≡ true) is.view gapless) member;

@@ -36,7 +36,7 @@ returns-clause-begins g c kept id x is =
     let stands : StandsFor join s (record self { calls = c.enter.new.self }) id y = record {
       id_is = is.id_is;
       view = is.view;
-      contents = same_contents x x.view (with_call entered x.calls) x.round x.rounds is.contents;
+      contents = same_contents x x.view (with_call entered x.calls) x.round x.rounds x.mending x.lasting is.contents;
       calls = c.enter.ensures x.calls o.0 began.doing is.calls o.1 began.is;
       rounds = is.rounds;
       has_version = version_called x.view entered x.calls is.has_version;

@@ -4,8 +4,8 @@ use Rattle.view_model.specs.View.{newest}
 use Rattle.wire_messages.specs.declared.message.Message.TheVariants.{Stored, NotHere}
 use Rattle.cluster_machine.specs.Layouts.{is_given, layouts}
 use Rattle.cluster_machine.specs.Rows.{accepts_all}
-use Rattle.node_parts.proofs.Faults.{passed_on}
-use Rattle.node_core.proofs.Nodes.{ok_to, with_contents, knows_less}
+use Rattle.node_parts.proofs.Faults.{ok_to, passed_on}
+use Rattle.node_core.proofs.Nodes.{with_contents, knows_less}
 use Rattle.node_core.proofs.Replies.{replies}
 use Rattle.node_core.proofs.node.Node.take_store.Goals as goal
 

@@ -2,7 +2,8 @@ use Rattle.std.proofs.Common.{◌≡◌, true, ap, sym, subst, ◌∙◌}
 use Rattle.view_model.specs.Layouts.{reading}
 use Rattle.layout_history.specs.Views.{known}
 use Rattle.view_model.specs.View.{oldest, is_gapless, merged}
-use Rattle.node_core.proofs.Nodes.{ok_to, version_stays, newer_merged}
+use Rattle.node_parts.proofs.Faults.{ok_to}
+use Rattle.node_core.proofs.Nodes.{version_stays, newer_merged}
 use Rattle.node_core.proofs.node.Node.take_view.Goals as goal
 
 pub returns-clause-sees : goal.returns-clause-sees

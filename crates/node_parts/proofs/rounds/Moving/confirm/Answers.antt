@@ -12,4 +12,5 @@ returns c node r is =
       number = is.number;
       round = c.confirm.ensures.told r.target (map pair_of r.parts) node is.told is.round;
       confirmed = ap (λ cs. cs ++ record { partition = p; node = from } ∷ []) is.confirmed ∙ told_more node r.parts is.told p from;
+      walks = is.walks;
     }

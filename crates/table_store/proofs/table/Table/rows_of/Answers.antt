@@ -16,5 +16,5 @@ returns-clause-are g c =
     c.in_ok-push_partition-3.ensures.rows
     ∙ (ap (λ l. l ++ d) (c.in_ok-push_partition-2.ensures.rows ∙ ap (λ l. l ++ b) (c.in_ok-push_partition.ensures.rows ∙ ap (λ l. l ++ a) c.new-rows.ensures.items))
     ∙ (append_assoc a b d
-    ∙ (sym (rows_three words inside.first.rows.entries inside.second.rows.entries inside.third.rows.entries c.self.invariant.in_first c.self.invariant.in_second c.self.invariant.in_third p)
+    ∙ (sym (rows_three words inside.first.rows.entries inside.second.rows.entries inside.third.rows.entries c.self.invariant.sound.in_first c.self.invariant.sound.in_second c.self.invariant.sound.in_third p)
     ∙ ap (rows_in words p) c.self.view_is)))

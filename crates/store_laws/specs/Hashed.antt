@@ -1,0 +1,18 @@
+-- What a run of acts hashes for the walks of its nodes.
+use Rattle.std.specs.Prelude.{◌⊎◌, ℕ, List, [], ◌∷◌}
+use Rattle.crdt_rows.specs.AnyRow.{any_join}
+use Rattle.object_schema.specs.Schema.{words}
+use Rattle.cluster_machine.specs.Hashes.{RunHashes}
+use Rattle.cluster_machine.specs.Layouts.{layouts}
+use Rattle.cluster_machine.specs.Trio.{trio, stage_trio}
+use Rattle.store_model.specs.Run.{World, Moving, State}
+use Rattle.store_model.specs.Acts.{Act, acted}
+
+-- the strings that these steps hash
+abbrev pub StepsHash : World → List Moving → List ℕ → Type 0
+StepsHash w moves x = RunHashes words any_join layouts trio stage_trio w moves x
+
+-- and those that these acts do
+abbrev pub ActsHash : State → List Act → List ℕ → Type 0
+ActsHash s [] x = ⊥
+ActsHash s (a ∷ as') x = StepsHash s.world (acted s a).moves x ⊎ ActsHash (acted s a).state as' x
