@@ -41,7 +41,8 @@ use Rattle.cluster_machine.specs.Node.{Question, Scan, Present, resting, asking,
 use Rattle.cluster_machine.specs.Node as machine
 use Rattle.cluster_machine.specs.Rows.{same_bytes, block_at, has_block, still, block_of, called_for, blocks_after, queue_from, accepts, accepts_read, accepts_all, drops, sees}
 use Rattle.cluster_machine.specs.Phases.{nodes_of, to_each, call_at, with_call, calls_now, asked, looked, stored, bytes_of, is_spelled, stores, slots_of, begins, value_after, row_came, window_at, rows_came, stored_came, block_came, at_call}
-use Rattle.cluster_machine.specs.Rounds.{confirmed_for, are_spelled, is_complete, open_nodes, open_parts, rows_at, found, with_its_block, pushes_rows, parts_of, synced, goes_on, may_sync, begin_round, value_here, children_here, is_noted, has_ended, found_same, walk_at, walks_of, walks_after, walk_after, asked_after, asks_at, first_asks, starts, sends_after, other_nodes, round_walks, mending_walks, at_walk, mending_came, with_mending, with_lasting, late_came, answer_came, filled_parts, walked_anew}
+use Rattle.cluster_machine.specs.Rounds.{confirmed_for, are_spelled, is_complete, open_nodes, open_parts, rows_at, found, with_its_block, pushes_rows, parts_of, synced, goes_on, may_sync, begin_round, value_here, children_here, has_ended, found_same, walk_at, walks_of, walks_after, walk_after, asked_after, asks_at, first_asks, starts, sends_after, other_nodes, round_walks, mending_walks, at_walk, mending_came, with_mending, with_lasting, late_came, answer_came, filled_parts, walked_anew}
+use Rattle.walk_model.specs.Noting.{is_noted}
 use Rattle.cluster_machine.specs.Receives.{most_rows, answers, where_stored, gives_row, gives_rows, gives_block, takes, round_came, is_done, kept_item, item_came, confirms, hears, receives, compared, compares, walks_on}
 use Rattle.cluster_machine.proofs.Asked.{few_asked, asked_longer, children_few}
 use Rattle.cluster_machine.specs.Acts.{Acted, item_posts, syncs, acts}
@@ -190,7 +191,7 @@ module _ (x : Machine) (blocks : AllByRecursion (λ (b : machine.Block). IsShort
 
   after_beside : (number : ℕ) (w : Walk) (table : ℕ) (asked : List (List ℕ)) → AllByRecursion (λ (p : Mail). PacketBeside p.packet) (sends_after any_join words layouts x number w table asked)
   after_beside number w table asked =
-      elim (has_ended w) as (λ b. AllByRecursion (λ (p : Mail). PacketBeside p.packet) (cond b (pushes_rows any_join words layouts x number w.state.partition (w.node ∷ []) (filter (is_noted any_join words w.state.noted) (rows_at any_join words x w.state.partition))) (map (asks_at any_join words layouts x number w.state.partition w.node table) asked))) [
+      elim (has_ended w) as (λ b. AllByRecursion (λ (p : Mail). PacketBeside p.packet) (cond b (pushes_rows any_join words layouts x number w.state.partition (w.node ∷ []) (filter (is_noted words w.state.noted) (rows_at any_join words x w.state.partition))) (map (asks_at any_join words layouts x number w.state.partition w.node table) asked))) [
         | true ↦ rows_beside number w.state.partition (w.node ∷ []) _
         | false ↦ further_beside number w.state.partition w.node table asked
       ]

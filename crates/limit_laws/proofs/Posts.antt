@@ -25,7 +25,8 @@ use Rattle.cluster_machine.specs.Node as machine
 use Rattle.cluster_machine.specs.Rows.{same_bytes, block_at}
 use Rattle.cluster_machine.specs.Phases.{with_node, in_order, nodes_of, to_each, bytes_of, is_spelled}
 use Rattle.cluster_machine.specs.Phases as phases
-use Rattle.cluster_machine.specs.Rounds.{numbered_from, tables_of, is_noted, has_ended, rows_at, found, with_its_block, walk_with, walks_of, asks_at, first_asks, starts, sends_after, pushes_rows, are_spelled, sets_in, parts_of}
+use Rattle.cluster_machine.specs.Rounds.{numbered_from, has_ended, rows_at, found, with_its_block, walk_with, walks_of, asks_at, first_asks, starts, sends_after, pushes_rows, are_spelled, sets_in, parts_of}
+use Rattle.walk_model.specs.Noting.{tables_of, is_noted}
 use Rattle.cluster_machine.specs.Acts.{item_posts}
 use Rattle.cluster_machine.specs.World.{World, packet_size, sent_bytes}
 use Rattle.cluster_machine.specs.Step.{sent_by}
@@ -291,7 +292,7 @@ module _ (facts : Facts) (t : ℕ) (v : Drawn) (within : AreWithin t v) where
         let rest = asks_cost number p to tables in
         costs_more _ (96 + 96 * length tables) (96 * suc (length tables)) (costs_both (asks_at any_join words layouts x number p to table [] ∷ []) _ 96 (96 * length tables) here rest) (omega arith)
 
-    tables_few : (rs : List AnyRow) → AllByRecursion Good rs → 96 * length (tables_of any_join words rs) ≤ 30 * total weight rs
+    tables_few : (rs : List AnyRow) → AllByRecursion Good rs → 96 * length (tables_of words rs) ≤ 30 * total weight rs
     tables_few [] a = omega arith
     tables_few (r ∷ rs) a =
         let three = filter_fewer (λ (table : ℕ). list_any (λ (r : AnyRow). words.table r == table) (r ∷ rs)) (1 ∷ 2 ∷ 3 ∷ []) in
@@ -303,9 +304,9 @@ module _ (facts : Facts) (t : ℕ) (v : Drawn) (within : AreWithin t v) where
     walks_cost number p [] = costs_nothing _
     walks_cost number p (n ∷ nodes) =
         let c = 30 * total weight (rows_at any_join words x p) in
-        let few : 96 * length (tables_of any_join words (rows_at any_join words x p)) ≤ c = tables_few (rows_at any_join words x p) (at_good p) in
+        let few : 96 * length (tables_of words (rows_at any_join words x p)) ≤ c = tables_few (rows_at any_join words x p) (at_good p) in
         let more : c * suc (length nodes) ≡ c * length nodes + c = mul-suc c (length nodes) in
-        let here = costs_more _ _ c (asks_cost number p n (tables_of any_join words (rows_at any_join words x p))) few in
+        let here = costs_more _ _ c (asks_cost number p n (tables_of words (rows_at any_join words x p))) few in
         costs_more _ (c + c * length nodes) (c * suc (length nodes))
         (costs_both (first_asks any_join words layouts x number (walk_with any_join words x p n)) (starts any_join words layouts x number (map (walk_with any_join words x p) nodes)) c (c * length nodes) here (walks_cost number p nodes)) (omega (arith, more))
 
@@ -349,11 +350,11 @@ module _ (facts : Facts) (t : ℕ) (v : Drawn) (within : AreWithin t v) where
         let p = w.state.partition in
         let all = rows any_join words x.accepted in
         let mine = rows_at any_join words x p in
-        let one = total_filter weight (is_noted any_join words w.state.noted) mine in
+        let one = total_filter weight (is_noted words w.state.noted) mine in
         let two = total_filter weight (λ (r : AnyRow). partition_of words r == p) all in
-        elim (has_ended w) as (λ b. Costs (cond b (pushes_rows any_join words layouts x number p (w.node ∷ []) (filter (is_noted any_join words w.state.noted) mine)) (map (asks_at any_join words layouts x number p w.node table) asked)) (120000 * load x.accepted + 32768)) [
-          | true ↦ costs_more _ (120000 * total weight (filter (is_noted any_join words w.state.noted) mine)) (120000 * load x.accepted + 32768)
-              (rows_cost number p (w.node ∷ []) (filter (is_noted any_join words w.state.noted) mine) (omega arith) (all_filter Good (is_noted any_join words w.state.noted) mine (at_good p))) (omega (arith, one, two))
+        elim (has_ended w) as (λ b. Costs (cond b (pushes_rows any_join words layouts x number p (w.node ∷ []) (filter (is_noted words w.state.noted) mine)) (map (asks_at any_join words layouts x number p w.node table) asked)) (120000 * load x.accepted + 32768)) [
+          | true ↦ costs_more _ (120000 * total weight (filter (is_noted words w.state.noted) mine)) (120000 * load x.accepted + 32768)
+              (rows_cost number p (w.node ∷ []) (filter (is_noted words w.state.noted) mine) (omega arith) (all_filter Good (is_noted words w.state.noted) mine (at_good p))) (omega (arith, one, two))
           | false ↦ costs_more _ (128 * length asked) (120000 * load x.accepted + 32768) (further_cost number p w.node table asked short) (omega (arith, few))
         ]
 

@@ -20,7 +20,8 @@ use Rattle.cluster_machine.specs.Layouts.{Layouts}
 use Rattle.cluster_machine.specs.Node as machine
 use Rattle.cluster_machine.specs.Node.{Part, Node, Post, Walk}
 use Rattle.cluster_machine.specs.Phases.{is_spelled}
-use Rattle.cluster_machine.specs.Rounds.{is_empty, confirmations, open_nodes, open_parts, rows_at, has_rows, tables_of, are_spelled, walk_with, walks_of, starts, is_complete, emptied_parts, filled_parts, new_walks, walked_anew, again}
+use Rattle.cluster_machine.specs.Rounds.{is_empty, confirmations, open_nodes, open_parts, rows_at, has_rows, are_spelled, walk_with, walks_of, starts, is_complete, emptied_parts, filled_parts, new_walks, walked_anew, again}
+use Rattle.walk_model.specs.Noting.{tables_of}
 use Rattle.cluster_machine.specs.Hashes.{AsksOver, NoClash}
 use Rattle.cluster_machine.specs.World.{World}
 use Rattle.cluster_machine.specs.Step.{did}
@@ -64,7 +65,7 @@ all_inside set = recursion_from_All (λ n. Contains set n) set (All-contains_its
 
 module _ {R L : Type 0} (join : R → R → R) (s : Words R) (k : Layouts L) (partitions : ℕ) (H : List ℕ → Type 0) (some : 1 ≤ partitions) (joins_well : JoinLaws join) (laws : Laws join s) where
   -- the table of what is at a place of a partition is among those over which a walk begins
-  tables_have : (y : Node R L) (part : ℕ) (q : Place) (r : R) → AllByRecursion (λ r. IsTrue (s.is_proper r)) y.accepted → q.0 ≡ part → IsAtLeast join (at_place s join y.accepted q) r → Has (tables_of join s (rows_at join s y part)) q.1.0
+  tables_have : (y : Node R L) (part : ℕ) (q : Place) (r : R) → AllByRecursion (λ r. IsTrue (s.is_proper r)) y.accepted → q.0 ≡ part → IsAtLeast join (at_place s join y.accepted q) r → Has (tables_of s (rows_at join s y part)) q.1.0
   tables_have y part q r proper e has =
       let there = at_least_some join (at_place s join y.accepted q) r has in
       let z = there.0 in
@@ -82,7 +83,7 @@ module _ {R L : Type 0} (join : R → R → R) (s : Words R) (k : Layouts L) (pa
   new_walk new h rd y part to proper base given over = record {
     base = base;
     given = given;
-    covers = λ q r had. inr (inr (under_start (tables_of join s (rows_at join s y part)) (walk_with join s y part to).state.prefixes q.1.0 (blake2b 32 q.1.1) refl (tables_have y part q r proper had.0 (over q r had))));
+    covers = λ q r had. inr (inr (under_start (tables_of s (rows_at join s y part)) (walk_with join s y part to).state.prefixes q.1.0 (blake2b 32 q.1.1) refl (tables_have y part q r proper had.0 (over q r had))));
   }
 
   -- what holds of each walk that begins

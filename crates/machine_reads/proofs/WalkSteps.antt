@@ -30,7 +30,8 @@ use Rattle.cluster_machine.specs.Node as machine
 use Rattle.cluster_machine.specs.Node.{Node, Walk, Mending, quiet}
 use Rattle.cluster_machine.specs.Phases.{is_spelled}
 use Rattle.cluster_machine.specs.Rows.{same_bytes}
-use Rattle.cluster_machine.specs.Rounds.{is_empty, is_walk, without_walk, with_walk, rows_at, asks_at, pushes_rows, is_noted, has_ended, found_same, walk_after, walks_after, asked_after, sends_after, is_complete, goes_on, round_walks, mending_walks}
+use Rattle.cluster_machine.specs.Rounds.{is_empty, is_walk, without_walk, with_walk, rows_at, asks_at, pushes_rows, has_ended, found_same, walk_after, walks_after, asked_after, sends_after, is_complete, goes_on, round_walks, mending_walks}
+use Rattle.walk_model.specs.Noting.{is_noted}
 use Rattle.cluster_machine.specs.Receives.{answers, compared}
 use Rattle.cluster_machine.specs.Hashes.{NoClash}
 use Rattle.cluster_machine.specs.World.{World}
@@ -87,7 +88,7 @@ or_right true b e = refl
 or_right false b e = e
 
 module _ {R : Type 0} (join : R → R → R) (s : Words R) where
-  noted_passes : (keys : List (ℕ × Hash32)) (r : R) → Noted keys (s.table r) (blake2b 32 (s.key r)) → is_noted join s keys r ≡ true
+  noted_passes : (keys : List (ℕ × Hash32)) (r : R) → Noted keys (s.table r) (blake2b 32 (s.key r)) → is_noted s keys r ≡ true
   noted_passes [] r h = absurd h
   noted_passes (key ∷ keys) r (inl e) =
       or_left ((key.0 == s.table r) && same_bytes key.1.0 (blake2b 32 (s.key r))) _
@@ -224,7 +225,7 @@ module _ {R L : Type 0} (join : R → R → R) (s : Words R) (k : Layouts L) (pa
         }
 
         -- at its end what the walk noted is pushed, and the rest is held
-        can_push : has_ended later ≡ true → CanPush join s k partitions H some joins_well laws w n p g x.number (a_round m.round) m.issued (w.nodes n) m.round part v.node (filter (is_noted join s later.state.noted) (rows_at join s (w.nodes n) part))
+        can_push : has_ended later ≡ true → CanPush join s k partitions H some joins_well laws w n p g x.number (a_round m.round) m.issued (w.nodes n) m.round part v.node (filter (is_noted s later.state.noted) (rows_at join s (w.nodes n) part))
         can_push ended = record {
           base = base_now;
           covers = λ q r had. elim (goes.covers q r had) [
@@ -234,7 +235,7 @@ module _ {R L : Type 0} (join : R → R → R) (s : Words R) (k : Layouts L) (pa
                   let over = own_over join s k partitions H some joins_well laws w p g sound t A C clear n x open_now m part is.base.mine q r had in
                   let there = at_least_some join (at_place s join (w.nodes n).accepted q) r over in
                   let z = there.0 in
-                  let found = picked joins_well laws (w.nodes n).accepted part (is_noted join s later.state.noted) q z (t.nodes n).proper had.0 there.1
+                  let found = picked joins_well laws (w.nodes n).accepted part (is_noted s later.state.noted) q z (t.nodes n).proper had.0 there.1
                   (λ here. noted_passes join s later.state.noted z (subst (λ (a : Place). Noted later.state.noted a.1.0 (blake2b 32 a.1.1)) (sym here) noted)) in
                   inl (subst (λ o. IsAtLeast join o r) (there.1 ∙ sym found) over)
               | inr under ↦ absurd (subst (λ l. UnderOpen l q.1.0 (blake2b 32 q.1.1)) (empty_is later.state.prefixes ended) under)
@@ -243,9 +244,9 @@ module _ {R L : Type 0} (join : R → R → R) (s : Words R) (k : Layouts L) (pa
         }
 
         sends : AllByRecursion (Means join s k partitions H p g) (sent_by w n (sends_after join s k (w.nodes n) x.number later table asked))
-        sends = elim (has_ended later) as (λ b. has_ended later ≡ b → AllByRecursion (Means join s k partitions H p g) (sent_by w n (cond b (pushes_rows join s k (w.nodes n) x.number part (v.node ∷ []) (filter (is_noted join s later.state.noted) (rows_at join s (w.nodes n) part))) (map (asks_at join s k (w.nodes n) x.number part v.node table) asked)))) [
-          | true ↦ (λ ended. sent_pushed join s k partitions H some joins_well laws w n p g x.number (a_round m.round) m.issued (w.nodes n) part v.node (filter (is_noted join s later.state.noted) (rows_at join s (w.nodes n) part))
-              (passing (is_spelled s) (is_noted join s later.state.noted) (rows_at join s (w.nodes n) part) spelled) (can_push ended))
+        sends = elim (has_ended later) as (λ b. has_ended later ≡ b → AllByRecursion (Means join s k partitions H p g) (sent_by w n (cond b (pushes_rows join s k (w.nodes n) x.number part (v.node ∷ []) (filter (is_noted s later.state.noted) (rows_at join s (w.nodes n) part))) (map (asks_at join s k (w.nodes n) x.number part v.node table) asked)))) [
+          | true ↦ (λ ended. sent_pushed join s k partitions H some joins_well laws w n p g x.number (a_round m.round) m.issued (w.nodes n) part v.node (filter (is_noted s later.state.noted) (rows_at join s (w.nodes n) part))
+              (passing (is_spelled s) (is_noted s later.state.noted) (rows_at join s (w.nodes n) part) spelled) (can_push ended))
           | false ↦ (λ ended. sent_further join s k partitions H some joins_well laws w n p g x.number (a_round m.round) m.issued (w.nodes n) part v.node table asked can_ask hashed)
         ] refl
 
@@ -310,9 +311,9 @@ module _ {R L : Type 0} (join : R → R → R) (s : Words R) (k : Layouts L) (pa
 
           no_posts : sends_after join s k (w.nodes n) x.number later table asked ≡ []
           no_posts =
-              ap (λ b. cond b (pushes_rows join s k (w.nodes n) x.number part (v.node ∷ []) (filter (is_noted join s later.state.noted) (rows_at join s (w.nodes n) part))) (map (asks_at join s k (w.nodes n) x.number part v.node table) asked)) ended
-              ∙ (ap (λ l. pushes_rows join s k (w.nodes n) x.number part (v.node ∷ []) (filter (is_noted join s l) (rows_at join s (w.nodes n) part))) (empty_is later.state.noted none)
-              ∙ ap (pushes_rows join s k (w.nodes n) x.number part (v.node ∷ [])) (none_passes (is_noted join s []) (rows_at join s (w.nodes n) part) (λ r. refl)))
+              ap (λ b. cond b (pushes_rows join s k (w.nodes n) x.number part (v.node ∷ []) (filter (is_noted s later.state.noted) (rows_at join s (w.nodes n) part))) (map (asks_at join s k (w.nodes n) x.number part v.node table) asked)) ended
+              ∙ (ap (λ l. pushes_rows join s k (w.nodes n) x.number part (v.node ∷ []) (filter (is_noted s l) (rows_at join s (w.nodes n) part))) (empty_is later.state.noted none)
+              ∙ ap (pushes_rows join s k (w.nodes n) x.number part (v.node ∷ [])) (none_passes (is_noted s []) (rows_at join s (w.nodes n) part) (λ r. refl)))
 
           ends_same : LeadBy n (said (quiet (goes_on join s k n (w.nodes n) there)))
           ends_same =
@@ -354,9 +355,9 @@ module _ {R L : Type 0} (join : R → R → R) (s : Words R) (k : Layouts L) (pa
           quietly join s k partitions H some joins_well w p g g n d [] sound t
           (record { same = to.same; posts = said_after join s k y x.number later table asked }) tt refl refl refl (issues_self g)
           (λ i d. same_at join s k partitions H g (length w.requests) i) refl to.node
-          (elim (has_ended later) as (λ b. AllByRecursion (Means join s k partitions H p g) (sent_by w n (cond b (pushes_rows join s k y x.number part (v.node ∷ []) (filter (is_noted join s later.state.noted) (rows_at join s y part))) (map (asks_at join s k y x.number part v.node table) asked)))) [
-            | true ↦ sent_pushed join s k partitions H some joins_well laws w n p g x.number a_repair issued y part v.node (filter (is_noted join s later.state.noted) (rows_at join s y part))
-                (passing (is_spelled s) (is_noted join s later.state.noted) (rows_at join s y part) spelled) tt
+          (elim (has_ended later) as (λ b. AllByRecursion (Means join s k partitions H p g) (sent_by w n (cond b (pushes_rows join s k y x.number part (v.node ∷ []) (filter (is_noted s later.state.noted) (rows_at join s y part))) (map (asks_at join s k y x.number part v.node table) asked)))) [
+            | true ↦ sent_pushed join s k partitions H some joins_well laws w n p g x.number a_repair issued y part v.node (filter (is_noted s later.state.noted) (rows_at join s y part))
+                (passing (is_spelled s) (is_noted s later.state.noted) (rows_at join s y part) spelled) tt
             | false ↦ sent_further join s k partitions H some joins_well laws w n p g x.number a_repair issued y part v.node table asked tt tt
           ])
           t.not_asked t.not_stored tt

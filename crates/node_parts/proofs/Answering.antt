@@ -10,7 +10,8 @@ use Rattle.merkle_sync.specs.declared.walk_end.WalkEnd.TheVariants.{Same, Ask, P
 use Rattle.merkle_sync.specs.Telling.{Tells}
 use Rattle.cluster_machine.specs.Layouts.{layouts}
 use Rattle.cluster_machine.specs.Node.{Node, Walk, Mending, Post}
-use Rattle.cluster_machine.specs.Rounds.{is_empty, rows_at, is_noted, walk_at, walk_after, asks_at, pushes_rows, sends_after, has_ended, found_same}
+use Rattle.cluster_machine.specs.Rounds.{is_empty, rows_at, walk_at, walk_after, asks_at, pushes_rows, sends_after, has_ended, found_same}
+use Rattle.walk_model.specs.Noting.{is_noted}
 use Rattle.node_parts.specs.declared.contents.Contents.{Contents}
 use Rattle.node_parts.specs.declared.packet.Envelope.{Envelope}
 use Rattle.node_parts.specs.declared.rounds.Mending.{Mending as Mended}
@@ -42,7 +43,7 @@ some_open [] h = absurd (omega (arith, h))
 some_open (p ∷ ps) h = refl
 
 module _ {R : Type 0} (join : R → R → R) (s : Words R) where
-  none_noted : (rs : List R) → filter (is_noted join s []) rs ≡ []
+  none_noted : (rs : List R) → filter (is_noted s []) rs ≡ []
   none_noted [] = refl
   none_noted (r ∷ rs) = none_noted rs
 
@@ -61,15 +62,15 @@ module _ {R : Type 0} (join : R → R → R) (s : Words R) where
     after_ask w p n asked e asks =
         subst (Posts sender.node old_out new_out)
         ((λ i. map (asks_at join s layouts x sender.round (sym p i) (sym n i) a.table) asked)
-        ∙ ap (λ b. cond b (pushes_rows join s layouts x sender.round w.state.partition (w.node ∷ []) (filter (is_noted join s (later_of w).state.noted) (rows_at join s x w.state.partition))) (map (asks_at join s layouts x sender.round w.state.partition w.node a.table) asked)) (sym e))
+        ∙ ap (λ b. cond b (pushes_rows join s layouts x sender.round w.state.partition (w.node ∷ []) (filter (is_noted s (later_of w).state.noted) (rows_at join s x w.state.partition))) (map (asks_at join s layouts x sender.round w.state.partition w.node a.table) asked)) (sym e))
         (asks x sends)
 
     after_push : (w : Walk) → w.state.partition ≡ a.p → w.node ≡ a.from → (asked : List (List ℕ)) (keys : List (ℕ × Hash32)) → is_empty (later_of w).state.prefixes ≡ true → keys ≡ (later_of w).state.noted → Pushes join s sender c old_out new_out a.from a.p keys →
         Posts sender.node old_out new_out (sends_after join s layouts x sender.round (later_of w) a.table asked)
     after_push w p n asked keys e same pushes =
         subst (Posts sender.node old_out new_out)
-        ((λ i. pushes_rows join s layouts x sender.round (sym p i) (sym n i ∷ []) (filter (is_noted join s (same i)) (rows_at join s x (sym p i))))
-        ∙ ap (λ b. cond b (pushes_rows join s layouts x sender.round w.state.partition (w.node ∷ []) (filter (is_noted join s (later_of w).state.noted) (rows_at join s x w.state.partition))) (map (asks_at join s layouts x sender.round w.state.partition w.node a.table) asked)) (sym e))
+        ((λ i. pushes_rows join s layouts x sender.round (sym p i) (sym n i ∷ []) (filter (is_noted s (same i)) (rows_at join s x (sym p i))))
+        ∙ ap (λ b. cond b (pushes_rows join s layouts x sender.round w.state.partition (w.node ∷ []) (filter (is_noted s (later_of w).state.noted) (rows_at join s x w.state.partition))) (map (asks_at join s layouts x sender.round w.state.partition w.node a.table) asked)) (sym e))
         (pushes x sends)
 
     after_same : (w : Walk) (asked : List (List ℕ)) → is_empty (later_of w).state.prefixes ≡ true → (later_of w).state.noted ≡ [] → new_out ≡ old_out →
@@ -77,8 +78,8 @@ module _ {R : Type 0} (join : R → R → R) (s : Words R) where
     after_same w asked e none same =
         subst (Posts sender.node old_out new_out)
         (ap (pushes_rows join s layouts x sender.round w.state.partition (w.node ∷ [])) (sym (none_noted (rows_at join s x w.state.partition)))
-        ∙ (λ i. pushes_rows join s layouts x sender.round w.state.partition (w.node ∷ []) (filter (is_noted join s (sym none i)) (rows_at join s x w.state.partition)))
-        ∙ ap (λ b. cond b (pushes_rows join s layouts x sender.round w.state.partition (w.node ∷ []) (filter (is_noted join s (later_of w).state.noted) (rows_at join s x w.state.partition))) (map (asks_at join s layouts x sender.round w.state.partition w.node a.table) asked)) (sym e))
+        ∙ (λ i. pushes_rows join s layouts x sender.round w.state.partition (w.node ∷ []) (filter (is_noted s (sym none i)) (rows_at join s x w.state.partition)))
+        ∙ ap (λ b. cond b (pushes_rows join s layouts x sender.round w.state.partition (w.node ∷ []) (filter (is_noted s (later_of w).state.noted) (rows_at join s x w.state.partition))) (map (asks_at join s layouts x sender.round w.state.partition w.node a.table) asked)) (sym e))
         (subst (λ out. Posts sender.node old_out out []) (sym same) (posts_none sender.node old_out))
 
     -- what a walk told leads to

@@ -21,7 +21,8 @@ use Rattle.cluster_machine.specs.Layouts.{layouts}
 use Rattle.cluster_machine.specs.Node.{Node, Part, Walk, Mending, Post}
 use Rattle.cluster_machine.specs.Phases.{is_spelled, bytes_of, to_each}
 use Rattle.cluster_machine.specs.Rows.{block_at}
-use Rattle.cluster_machine.specs.Rounds.{is_empty, rows_at, tables_of, is_noted, found, with_its_block, value_here, walk_at, walk_with, walk_after, asks_at, first_asks, starts, pushes_rows, sends_after, are_spelled, has_ended, found_same}
+use Rattle.cluster_machine.specs.Rounds.{is_empty, rows_at, found, with_its_block, value_here, walk_at, walk_with, walk_after, asks_at, first_asks, starts, pushes_rows, sends_after, are_spelled, has_ended, found_same}
+use Rattle.walk_model.specs.Noting.{tables_of, is_noted}
 use Rattle.node_parts.specs.declared.contents.Contents.{Contents}
 use Rattle.node_parts.specs.declared.packet.Envelope.{Envelope}
 use Rattle.node_parts.specs.declared.rounds.Mending.{Mending as Mended}
@@ -76,7 +77,7 @@ module _ {R : Type 0} (join : R → R → R) (s : Words R) where
 
   -- with one node more
   pub starts_next : {S : Type 0} (sender : Sender) (c : Contents S R) (p : ℕ) (nodes : List ℕ) (old mid new : List (Envelope R)) (a b : List NodeWalk) (w : NodeWalk) (tables : List ℕ) (i d n : ℕ) → i < length nodes → n ≡ get_or nodes i d →
-      ((x : Node R Layout) → IsContents join s c x → tables ≡ tables_of join s (rows_at join s x p)) → walk_of w ≡ record { node = n; state = begun p tables } →
+      ((x : Node R Layout) → IsContents join s c x → tables ≡ tables_of s (rows_at join s x p)) → walk_of w ≡ record { node = n; state = begun p tables } →
       Starts join s sender c p (take i nodes) old mid a b → Sent join s sender c mid new (λ x. first_asks join s layouts x sender.round (walk_of w)) → Starts join s sender c p (take (i + 1) nodes) old new a (b ++ w ∷ [])
   starts_next sender c p nodes old mid new a b w tables i d n lt at are is first next x sends =
       let same : walk_of w ≡ walk_with join s x p (get_or nodes i d) = is ∙ (λ j. record { node = at j; state = begun p (are x sends.is j) }) in
@@ -115,13 +116,13 @@ module _ {R : Type 0} (join : R → R → R) (s : Words R) where
 
   -- the rows that were noted
   abbrev noted_in : {S : Type 0} → Contents S R → ℕ → List (ℕ × Hash32) → List R
-  noted_in c p noted = filter (is_noted join s noted) (rows_in s p c.table)
+  noted_in c p noted = filter (is_noted s noted) (rows_in s p c.table)
 
   pub pushed_some : {S : Type 0} (sender : Sender) (c : Contents S R) (old new : List (Envelope R)) (to p : ℕ) (noted : List (ℕ × Hash32)) (rs : List R) (stored : List (List ℕ × Option (List ℕ))) → rs ≡ noted_in c p noted → is_empty rs ≡ false →
       stored ≡ rows_with_blocks s c.blocks rs → Posts sender.node old new (to_each (to ∷ []) (Store (ForRound sender.round p) sender.newest p stored)) → Pushes join s sender c old new to p noted
   pushed_some sender c old new to p noted rs stored same some are posts x sends =
       subst (Posts sender.node old new)
-      (ap (λ l. to_each (to ∷ []) (Store (ForRound sender.round p) sender.newest p l)) are ∙ sym (some_sent sender c x to p rs sends some) ∙ ap (pushes_rows join s layouts x sender.round p (to ∷ [])) (same ∙ ap (λ t. filter (is_noted join s noted) (rows_in s p t)) sends.is.table))
+      (ap (λ l. to_each (to ∷ []) (Store (ForRound sender.round p) sender.newest p l)) are ∙ sym (some_sent sender c x to p rs sends some) ∙ ap (pushes_rows join s layouts x sender.round p (to ∷ [])) (same ∙ ap (λ t. filter (is_noted s noted) (rows_in s p t)) sends.is.table))
       posts
 
   some_lack : (test : R → Bool) (rs : List R) → list_all (is_spelled s) (filter test rs) ≡ false → list_all (is_spelled s) rs ≡ false
@@ -134,4 +135,4 @@ module _ {R : Type 0} (join : R → R → R) (s : Words R) where
 
   -- some of these rows has no spelling, so the partition lacks one
   pub lacks_noted : {S : Type 0} (c : Contents S R) (p : ℕ) (noted : List (ℕ × Hash32)) → list_all (is_spelled s) (noted_in c p noted) ≡ false → LacksSpelling join s c p
-  lacks_noted c p noted e x is = ap (λ t. list_all (is_spelled s) (rows_in s p t)) (sym is.table) ∙ some_lack (is_noted join s noted) (rows_in s p c.table) e
+  lacks_noted c p noted e x is = ap (λ t. list_all (is_spelled s) (rows_in s p t)) (sym is.table) ∙ some_lack (is_noted s noted) (rows_in s p c.table) e

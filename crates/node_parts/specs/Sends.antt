@@ -11,7 +11,8 @@ use Rattle.table_schema.specs.Words.{Words}
 use Rattle.merkle_sync.specs.declared.walk_end.WalkEnd.{WalkEnd}
 use Rattle.cluster_machine.specs.Node.{Node, Part, Walk, Mending, Post}
 use Rattle.cluster_machine.specs.Phases.{bytes_of}
-use Rattle.cluster_machine.specs.Rounds.{rows_at, is_noted, walk_with, first_asks, starts, asks_at, pushes_rows, are_spelled, parts_of}
+use Rattle.cluster_machine.specs.Rounds.{rows_at, walk_with, first_asks, starts, asks_at, pushes_rows, are_spelled, parts_of}
+use Rattle.walk_model.specs.Noting.{is_noted}
 use Rattle.node_parts.specs.declared.contents.Contents.{Contents}
 use Rattle.node_parts.specs.declared.packet.Envelope.{Envelope}
 use Rattle.node_parts.specs.declared.sender.Sender.{Sender}
@@ -116,7 +117,7 @@ module _ {R : Type 0} (join : R → R → R) (s : Words R) where
 
     -- the rows that were noted were pushed
     abbrev pub Pushes : Sender → Contents S R → List (Envelope R) → List (Envelope R) → ℕ → ℕ → List (ℕ × Hash32) → Type 0
-    Pushes sender contents old new to p noted = Sent sender contents old new (λ x. pushes_rows join s layouts x sender.round p (to ∷ []) (filter (is_noted join s noted) (rows_at join s x p)))
+    Pushes sender contents old new to p noted = Sent sender contents old new (λ x. pushes_rows join s layouts x sender.round p (to ∷ []) (filter (is_noted s noted) (rows_at join s x p)))
 
     -- whatever node it is, these are the partitions that move
     abbrev pub AreMoved : Sender → Contents S R → Layout → Layout → List (ℕ × List ℕ) → Type 0
