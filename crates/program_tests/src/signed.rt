@@ -1,18 +1,24 @@
 //! A server with keys: which requests it carries out, and which refusal of two it answers.
 use crate::recorder::recorded;
-use crate::served::{THREE_NODES, words_of};
+use crate::served::THREE_NODES;
 use crate::signed_copies::{BODIES, BUCKETS, COPIES};
 use crate::signed_gets::{METHODS, SIGNED_GET};
-use crate::signed_more_pairs::{BODY_PAIRS, SECOND_PAIRS};
-use crate::signed_pairs::FIRST_PAIRS;
+use crate::signed_more_pairs::{BODY_PAIRS, DENIED_PAIRS, FORGED_PAIRS, LENGTH_PAIRS, SKEWED_PAIRS};
+use crate::signed_pairs::{MALFORMED_PAIRS, TARGET_PAIRS, UNKNOWN_KEY_PAIRS, UNSERVED_PAIRS, UNSIGNED_PAIRS};
 use crate::signed_refusals::Pair;
 use lab_outside::{MemClock, MemSink, MemSource, Status};
-use serve_run::run;
+use serve_run::{Server, run_server};
 use std::alloc::Global;
 use std::test::Fail;
 
 /// What comes over one connection, and what is written to it.
 pub type Row = (&'static [u8], &'static [u8]);
+
+/// A server of one connection.
+const ONE_CONNECTION: Server = Server {
+    port: 3900,
+    count: 1,
+};
 
 /// Two buckets, of which each key has other lists.
 const KEYS: &[u8] = b"\
@@ -61,11 +67,17 @@ fn nodes() -> &'static [u8] {
 /// How a server with the keys ends on one connection that has these bytes, and what is written to it.
 fn session(alloc: Global, bytes: &[u8]) -> Result<(Status, Vec<u8>), Fail> {
     let mut link = recorded(alloc, bytes, 65_536)?;
-    let words = words_of(alloc, 3900)?;
     let mut clock = MemClock::new([1_700_000_000_000].to_vec(alloc)?);
     let mut source = MemSource::new(configuration(alloc)?, Vec::new(alloc));
     let mut sink = MemSink::new(alloc, Vec::new(alloc));
-    let status = run(alloc, &words, &mut source, &mut sink, &mut link, &mut clock);
+    let status = run_server(
+        alloc,
+        ONE_CONNECTION,
+        &mut source,
+        &mut sink,
+        &mut link,
+        &mut clock,
+    );
     Ok((status, link.written().to_vec(alloc)?))
 }
 
@@ -130,17 +142,73 @@ fn is_refused(alloc: Global, (bytes, (start, body), path): Pair) -> Result<bool,
     Ok(status == Status::Done && written.starts_with(start) && written.ends_with(&end))
 }
 
-#[test]
-fn the_first_of_two_causes(rt: HostRuntime) -> Result<(), Fail> {
-    for pairs in [
-        FIRST_PAIRS.as_slice(),
-        SECOND_PAIRS.as_slice(),
-        BODY_PAIRS.as_slice(),
-    ] {
-        for pair in pairs {
-            assert!(rt; is_refused(rt.alloc(), *pair)?, "{:?}", pair.0);
+/// The request of the first of these pairs that is answered otherwise.
+fn differing(alloc: Global, pairs: &[Pair]) -> Result<Option<&'static [u8]>, Fail> {
+    for pair in pairs {
+        if !is_refused(alloc, *pair)? {
+            return Ok(Some(pair.0));
         }
     }
+    Ok(None)
+}
+
+#[test]
+fn bad_target_first(rt: HostRuntime) -> Result<(), Fail> {
+    assert_eq!(rt; differing(rt.alloc(), &TARGET_PAIRS)?, None);
+    Ok(())
+}
+
+#[test]
+fn unserved_first(rt: HostRuntime) -> Result<(), Fail> {
+    assert_eq!(rt; differing(rt.alloc(), &UNSERVED_PAIRS)?, None);
+    Ok(())
+}
+
+#[test]
+fn unsigned_first(rt: HostRuntime) -> Result<(), Fail> {
+    assert_eq!(rt; differing(rt.alloc(), &UNSIGNED_PAIRS)?, None);
+    Ok(())
+}
+
+#[test]
+fn malformed_first(rt: HostRuntime) -> Result<(), Fail> {
+    assert_eq!(rt; differing(rt.alloc(), &MALFORMED_PAIRS)?, None);
+    Ok(())
+}
+
+#[test]
+fn unknown_key_first(rt: HostRuntime) -> Result<(), Fail> {
+    assert_eq!(rt; differing(rt.alloc(), &UNKNOWN_KEY_PAIRS)?, None);
+    Ok(())
+}
+
+#[test]
+fn skewed_first(rt: HostRuntime) -> Result<(), Fail> {
+    assert_eq!(rt; differing(rt.alloc(), &SKEWED_PAIRS)?, None);
+    Ok(())
+}
+
+#[test]
+fn forged_first(rt: HostRuntime) -> Result<(), Fail> {
+    assert_eq!(rt; differing(rt.alloc(), &FORGED_PAIRS)?, None);
+    Ok(())
+}
+
+#[test]
+fn denied_first(rt: HostRuntime) -> Result<(), Fail> {
+    assert_eq!(rt; differing(rt.alloc(), &DENIED_PAIRS)?, None);
+    Ok(())
+}
+
+#[test]
+fn length_first(rt: HostRuntime) -> Result<(), Fail> {
+    assert_eq!(rt; differing(rt.alloc(), &LENGTH_PAIRS)?, None);
+    Ok(())
+}
+
+#[test]
+fn body_first(rt: HostRuntime) -> Result<(), Fail> {
+    assert_eq!(rt; differing(rt.alloc(), &BODY_PAIRS)?, None);
     Ok(())
 }
 
@@ -150,11 +218,17 @@ fn refusal(alloc: Global, more: &[u8]) -> Result<(Status, Vec<u8>), Fail> {
     text.extend_from_slice(more)?;
     text.extend_from_slice(nodes())?;
     let mut link = recorded(alloc, b"", 16)?;
-    let words = words_of(alloc, 3900)?;
     let mut clock = MemClock::new(Vec::new(alloc));
     let mut source = MemSource::new(text, Vec::new(alloc));
     let mut sink = MemSink::new(alloc, Vec::new(alloc));
-    let status = run(alloc, &words, &mut source, &mut sink, &mut link, &mut clock);
+    let status = run_server(
+        alloc,
+        ONE_CONNECTION,
+        &mut source,
+        &mut sink,
+        &mut link,
+        &mut clock,
+    );
     Ok((status, sink.bytes().to_vec(alloc)?))
 }
 

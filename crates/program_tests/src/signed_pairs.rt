@@ -1,11 +1,11 @@
-//! Requests with two causes at once, signed by Python's hmac and hashlib.
+//! Requests with two causes at once, signed by Python's hmac and hashlib: the first in the table of docs/S3.md is
+//! answered.
 use crate::signed_refusals::{
-    ACCESS_DENIED, AUTHORIZATION_HEADER_MALFORMED, INVALID_ACCESS_KEY_ID, INVALID_REQUEST,
-    NOT_IMPLEMENTED, Pair, REQUEST_TIME_TOO_SKEWED, SIGNATURE_DOES_NOT_MATCH,
+    ACCESS_DENIED, AUTHORIZATION_HEADER_MALFORMED, INVALID_ACCESS_KEY_ID, INVALID_REQUEST, LONG_PATH, NOT_IMPLEMENTED, Pair,
 };
 
-/// Two causes at once: the first in the table of docs/S3.md is answered.
-pub const FIRST_PAIRS: [Pair; 37] = [
+/// The target is none, and something else is wrong.
+pub const TARGET_PAIRS: [Pair; 6] = [
     (
         b"\
             PUT /pics/%ff HTTP/1.1\r\nHost: localhost:3900\r\nx-amz-content-sha256: ba7816bf8f01cfea414140de5dae2223\
@@ -13,6 +13,58 @@ pub const FIRST_PAIRS: [Pair; 37] = [
         INVALID_REQUEST,
         b"",
     ),
+    (
+        b"\
+            PUT /pics/%ff HTTP/1.1\r\nHost: localhost:3900\r\nx-amz-content-sha256: ba7816bf8f01cfea414140de5dae2223\
+            b00361a396177a9cb410ff61f20015ad\r\nx-amz-date: 20231114T221320Z\r\nContent-Length: 3\r\nAuthorization: \
+            AWS4-HMAC-SHA256 Credential=GKFULL/20231114/garage/s3/aws4_request, SignedHeaders=host;x-amz-content-sha\
+            256;x-amz-date, Signature=8902d0d54b5bd5af1a716c5d4a47ea59884916de92675877266a8980d403a59e\r\nAuthorizat\
+            ion: AWS4-HMAC-SHA256 Credential=GKFULL/20231114/garage/s3/aws4_request, SignedHeaders=host;x-amz-conten\
+            t-sha256;x-amz-date, Signature=8902d0d54b5bd5af1a716c5d4a47ea59884916de92675877266a8980d403a59e\r\n\r\na\
+            bc",
+        INVALID_REQUEST,
+        b"",
+    ),
+    (
+        b"\
+            PUT /pics/%ff HTTP/1.1\r\nHost: localhost:3900\r\nx-amz-content-sha256: ba7816bf8f01cfea414140de5dae2223\
+            b00361a396177a9cb410ff61f20015ad\r\nx-amz-date: 20231114T221320Z\r\nContent-Length: 3\r\nAuthorization: \
+            AWS4-HMAC-SHA256 Credential=GKOTHER/20231114/garage/s3/aws4_request, SignedHeaders=host;x-amz-content-sh\
+            a256;x-amz-date, Signature=64adc08538912638665795fc395fca56f28a65e13bf2e0c3bac92498f069ebf1\r\n\r\nabc",
+        INVALID_REQUEST,
+        b"",
+    ),
+    (
+        b"\
+            PUT /pics/%ff HTTP/1.1\r\nHost: localhost:3900\r\nx-amz-content-sha256: ba7816bf8f01cfea414140de5dae2223\
+            b00361a396177a9cb410ff61f20015ad\r\nx-amz-date: 20231114T215819Z\r\nContent-Length: 3\r\nAuthorization: \
+            AWS4-HMAC-SHA256 Credential=GKFULL/20231114/garage/s3/aws4_request, SignedHeaders=host;x-amz-content-sha\
+            256;x-amz-date, Signature=7f689dbecbf33e9979872f04ab8e25eabf04cd48dc1a335648b9cffd0f0857df\r\n\r\nabc",
+        INVALID_REQUEST,
+        b"",
+    ),
+    (
+        b"\
+            PUT /pics/%ff HTTP/1.1\r\nHost: localhost:3900\r\nx-amz-content-sha256: ba7816bf8f01cfea414140de5dae2223\
+            b00361a396177a9cb410ff61f20015ad\r\nx-amz-date: 20231114T221320Z\r\nContent-Length: 3\r\nAuthorization: \
+            AWS4-HMAC-SHA256 Credential=GKFULL/20231114/garage/s3/aws4_request, SignedHeaders=host;x-amz-content-sha\
+            256;x-amz-date, Signature=0902d0d54b5bd5af1a716c5d4a47ea59884916de92675877266a8980d403a59e\r\n\r\nabc",
+        INVALID_REQUEST,
+        b"",
+    ),
+    (
+        b"\
+            PUT /pics/%ff HTTP/1.1\r\nHost: localhost:3900\r\nx-amz-content-sha256: ba7816bf8f01cfea414140de5dae2223\
+            b00361a396177a9cb410ff61f20015ad\r\nx-amz-date: 20231114T221320Z\r\nContent-Length: 3\r\nAuthorization: \
+            AWS4-HMAC-SHA256 Credential=GKREAD/20231114/garage/s3/aws4_request, SignedHeaders=host;x-amz-content-sha\
+            256;x-amz-date, Signature=cf53f9ae74d6520506b01d9a3e4a3d6c28bd21096bde65fdcac18a9aac666933\r\n\r\nabc",
+        INVALID_REQUEST,
+        b"",
+    ),
+];
+
+/// What is asked or a header isn't served, and something else is wrong.
+pub const UNSERVED_PAIRS: [Pair; 12] = [
     (
         b"\
             POST /pics/a.txt HTTP/1.1\r\nHost: localhost:3900\r\nx-amz-content-sha256: ba7816bf8f01cfea414140de5dae2\
@@ -27,18 +79,6 @@ pub const FIRST_PAIRS: [Pair; 37] = [
             \n\r\nabc",
         NOT_IMPLEMENTED,
         b"/pics/a.txt",
-    ),
-    (
-        b"\
-            PUT /pics/%ff HTTP/1.1\r\nHost: localhost:3900\r\nx-amz-content-sha256: ba7816bf8f01cfea414140de5dae2223\
-            b00361a396177a9cb410ff61f20015ad\r\nx-amz-date: 20231114T221320Z\r\nContent-Length: 3\r\nAuthorization: \
-            AWS4-HMAC-SHA256 Credential=GKFULL/20231114/garage/s3/aws4_request, SignedHeaders=host;x-amz-content-sha\
-            256;x-amz-date, Signature=8902d0d54b5bd5af1a716c5d4a47ea59884916de92675877266a8980d403a59e\r\nAuthorizat\
-            ion: AWS4-HMAC-SHA256 Credential=GKFULL/20231114/garage/s3/aws4_request, SignedHeaders=host;x-amz-conten\
-            t-sha256;x-amz-date, Signature=8902d0d54b5bd5af1a716c5d4a47ea59884916de92675877266a8980d403a59e\r\n\r\na\
-            bc",
-        INVALID_REQUEST,
-        b"",
     ),
     (
         b"\
@@ -66,15 +106,6 @@ pub const FIRST_PAIRS: [Pair; 37] = [
     ),
     (
         b"\
-            PUT /pics/%ff HTTP/1.1\r\nHost: localhost:3900\r\nx-amz-content-sha256: ba7816bf8f01cfea414140de5dae2223\
-            b00361a396177a9cb410ff61f20015ad\r\nx-amz-date: 20231114T221320Z\r\nContent-Length: 3\r\nAuthorization: \
-            AWS4-HMAC-SHA256 Credential=GKOTHER/20231114/garage/s3/aws4_request, SignedHeaders=host;x-amz-content-sh\
-            a256;x-amz-date, Signature=64adc08538912638665795fc395fca56f28a65e13bf2e0c3bac92498f069ebf1\r\n\r\nabc",
-        INVALID_REQUEST,
-        b"",
-    ),
-    (
-        b"\
             POST /pics/a.txt HTTP/1.1\r\nHost: localhost:3900\r\nx-amz-content-sha256: ba7816bf8f01cfea414140de5dae2\
             223b00361a396177a9cb410ff61f20015ad\r\nx-amz-date: 20231114T221320Z\r\nContent-Length: 3\r\nAuthorizatio\
             n: AWS4-HMAC-SHA256 Credential=GKOTHER/20231114/garage/s3/aws4_request, SignedHeaders=host;x-amz-content\
@@ -92,15 +123,6 @@ pub const FIRST_PAIRS: [Pair; 37] = [
             facc\r\n\r\nabc",
         NOT_IMPLEMENTED,
         b"/pics/a.txt",
-    ),
-    (
-        b"\
-            PUT /pics/%ff HTTP/1.1\r\nHost: localhost:3900\r\nx-amz-content-sha256: ba7816bf8f01cfea414140de5dae2223\
-            b00361a396177a9cb410ff61f20015ad\r\nx-amz-date: 20231114T215819Z\r\nContent-Length: 3\r\nAuthorization: \
-            AWS4-HMAC-SHA256 Credential=GKFULL/20231114/garage/s3/aws4_request, SignedHeaders=host;x-amz-content-sha\
-            256;x-amz-date, Signature=7f689dbecbf33e9979872f04ab8e25eabf04cd48dc1a335648b9cffd0f0857df\r\n\r\nabc",
-        INVALID_REQUEST,
-        b"",
     ),
     (
         b"\
@@ -123,15 +145,6 @@ pub const FIRST_PAIRS: [Pair; 37] = [
     ),
     (
         b"\
-            PUT /pics/%ff HTTP/1.1\r\nHost: localhost:3900\r\nx-amz-content-sha256: ba7816bf8f01cfea414140de5dae2223\
-            b00361a396177a9cb410ff61f20015ad\r\nx-amz-date: 20231114T221320Z\r\nContent-Length: 3\r\nAuthorization: \
-            AWS4-HMAC-SHA256 Credential=GKFULL/20231114/garage/s3/aws4_request, SignedHeaders=host;x-amz-content-sha\
-            256;x-amz-date, Signature=0902d0d54b5bd5af1a716c5d4a47ea59884916de92675877266a8980d403a59e\r\n\r\nabc",
-        INVALID_REQUEST,
-        b"",
-    ),
-    (
-        b"\
             POST /pics/a.txt HTTP/1.1\r\nHost: localhost:3900\r\nx-amz-content-sha256: ba7816bf8f01cfea414140de5dae2\
             223b00361a396177a9cb410ff61f20015ad\r\nx-amz-date: 20231114T221320Z\r\nContent-Length: 3\r\nAuthorizatio\
             n: AWS4-HMAC-SHA256 Credential=GKFULL/20231114/garage/s3/aws4_request, SignedHeaders=host;x-amz-content-\
@@ -148,15 +161,6 @@ pub const FIRST_PAIRS: [Pair; 37] = [
             f8e\r\n\r\nabc",
         NOT_IMPLEMENTED,
         b"/pics/a.txt",
-    ),
-    (
-        b"\
-            PUT /pics/%ff HTTP/1.1\r\nHost: localhost:3900\r\nx-amz-content-sha256: ba7816bf8f01cfea414140de5dae2223\
-            b00361a396177a9cb410ff61f20015ad\r\nx-amz-date: 20231114T221320Z\r\nContent-Length: 3\r\nAuthorization: \
-            AWS4-HMAC-SHA256 Credential=GKREAD/20231114/garage/s3/aws4_request, SignedHeaders=host;x-amz-content-sha\
-            256;x-amz-date, Signature=cf53f9ae74d6520506b01d9a3e4a3d6c28bd21096bde65fdcac18a9aac666933\r\n\r\nabc",
-        INVALID_REQUEST,
-        b"",
     ),
     (
         b"\
@@ -177,6 +181,10 @@ pub const FIRST_PAIRS: [Pair; 37] = [
         NOT_IMPLEMENTED,
         b"/pics/a.txt",
     ),
+];
+
+/// Nobody signed, and something else is wrong.
+pub const UNSIGNED_PAIRS: [Pair; 12] = [
     (
         b"\
             PUT /pics/a.txt HTTP/1.1\r\nHost: localhost:3900\r\nx-amz-content-sha256: ba7816bf8f01cfea414140de5dae22\
@@ -212,6 +220,70 @@ pub const FIRST_PAIRS: [Pair; 37] = [
         ACCESS_DENIED,
         b"/pics/a.txt",
     ),
+    (
+        b"\
+            PUT /pics/a.txt HTTP/1.1\r\nHost: localhost:3900\r\nx-amz-content-sha256: e3b0c44298fc1c149afbf4c8996fb9\
+            2427ae41e4649b934ca495991b7852b855\r\nx-amz-date: 20231114T221320Z\r\n\r\n",
+        ACCESS_DENIED,
+        b"/pics/a.txt",
+    ),
+    (
+        b"\
+            PUT /pics/a.txt HTTP/1.1\r\nHost: localhost:3900\r\nx-amz-content-sha256: e3b0c44298fc1c149afbf4c8996fb9\
+            2427ae41e4649b934ca495991b7852b855\r\nx-amz-date: 20231114T221320Z\r\nContent-Length: x\r\n\r\n",
+        ACCESS_DENIED,
+        b"/pics/a.txt",
+    ),
+    (
+        b"\
+            PUT /pics/a.txt HTTP/1.1\r\nHost: localhost:3900\r\nx-amz-content-sha256: e3b0c44298fc1c149afbf4c8996fb9\
+            2427ae41e4649b934ca495991b7852b855\r\nx-amz-date: 20231114T221320Z\r\nContent-Length: 16777217\r\n\r\n",
+        ACCESS_DENIED,
+        b"/pics/a.txt",
+    ),
+    (
+        b"\
+            PUT /pics/a.txt HTTP/1.1\r\nHost: localhost:3900\r\nx-amz-content-sha256: e3b0c44298fc1c149afbf4c8996fb9\
+            2427ae41e4649b934ca495991b7852b855\r\nx-amz-date: 20231114T221320Z\r\nContent-Length: 4\r\n\r\n",
+        ACCESS_DENIED,
+        b"/pics/a.txt",
+    ),
+    (
+        b"\
+            PUT /pics/a.txt HTTP/1.1\r\nHost: localhost:3900\r\nx-amz-content-sha256: 000000000000000000000000000000\
+            0000000000000000000000000000000000\r\nx-amz-date: 20231114T221320Z\r\nContent-Length: 3\r\n\r\nabd",
+        ACCESS_DENIED,
+        b"/pics/a.txt",
+    ),
+    (
+        b"\
+            PUT /pics/kkkkkkkkkkkkkkkkkkkkkkkkkkkkkkkkkkkkkkkkkkkkkkkkkkkkkkkkkkkkkkkkkkkkkkkkkkkkkkkkkkkkkkkkkkkkkk\
+            kkkkkkkkkkkkkkkkkkkkkkkkkkkkkkkkkkkkkkkkkkkkkkkkkkkkkkkkkkkkkkkkkkkkkkkkkkkkkkkkkkkkkkkkkkkkkkkkkkkkkkkk\
+            kkkkkkkkkkkkkkkkkkkkkkkkkkkkkkkkkkkkkkkkkkkkkkkkkkkkkkkkkkkkkkkkkkkkkkkkkkkkkkkkkkkkkkkkkkkkkkkkkkkkkkkk\
+            kkkkkkkkkkkkkkkkkkkkkkkkkkkkkkkkkkkkkkkkkkkkkkkkkkkkkkkkkkkkkkkkkkkkkkkkkkkkkkkkkkkkkkkkkkkkkkkkkkkkkkkk\
+            kkkkkkkkkkkkkkkkkkkkkkkkkkkkkkkkkkkkkkkkkkkkkkkkkkkkkkkkkkkkkkkkkkkkkkkkkkkkkkkkkkkkkkkkkkkkkkkkkkkkkkkk\
+            kkkkkkkkkkkkkkkkkkkkkkkkkkkkkkkkkkkkkkkkkkkkkkkkkkkkkkkkkkkkkkkkkkkkkkkkkkkkkkkkkkkkkkkkkkkkkkkkkkkkkkkk\
+            kkkkkkkkkkkkkkkkkkkkkkkkkkkkkkkkkkkkkkkkkkkkkkkkkkkkkkkkkkkkkkkkkkkkkkkkkkkkkkkkkkkkkkkkkkkkkkkkkkkkkkkk\
+            kkkkkkkkkkkkkkkkkkkkkkkkkkkkkkkkkkkkkkkkkkkkkkkkkkkkkkkkkkkkkkkkkkkkkkkkkkkkkkkkkkkkkkkkkkkkkkkkkkkkkkkk\
+            kkkkkkkkkkkkkkkkkkkkkkkkkkkkkkkkkkkkkkkkkkkkkkkkkkkkkkkkkkkkkkkkkkkkkkkkkkkkkkkkkkkkkkkkkkkkkkkkkkkkkkkk\
+            kkkkkkkkkkkkkkkkkkkkkkkkkkkkkkkkkkkkkkkkkkkkkkkkkkkkkkkkkkkkkkkkkkkkkkkkkkkkkkkkkkkkkkkkkkkkkkkkkkk HTTP\
+            /1.1\r\nHost: localhost:3900\r\nx-amz-content-sha256: ba7816bf8f01cfea414140de5dae2223b00361a396177a9cb4\
+            10ff61f20015ad\r\nx-amz-date: 20231114T221320Z\r\nContent-Length: 3\r\n\r\nabc",
+        ACCESS_DENIED,
+        LONG_PATH,
+    ),
+    (
+        b"\
+            PUT /pics/a.txt HTTP/1.1\r\nHost: localhost:3900\r\nx-amz-content-sha256: ba7816bf8f01cfea414140de5dae22\
+            23b00361a396177a9cb410ff61f20015ad\r\nx-amz-date: 20231114T221320Z\r\nContent-MD5: ndTkYSaMgDT1yFZOFVxnp\
+            g==\r\nContent-Length: 3\r\n\r\nabc",
+        ACCESS_DENIED,
+        b"/pics/a.txt",
+    ),
+];
+
+/// The Authorization header is malformed, and something else is wrong.
+pub const MALFORMED_PAIRS: [Pair; 11] = [
     (
         b"\
             PUT /pics/a.txt HTTP/1.1\r\nHost: localhost:3900\r\nx-amz-content-sha256: ba7816bf8f01cfea414140de5dae22\
@@ -250,6 +322,83 @@ pub const FIRST_PAIRS: [Pair; 37] = [
     ),
     (
         b"\
+            PUT /pics/a.txt HTTP/1.1\r\nHost: localhost:3900\r\nx-amz-content-sha256: e3b0c44298fc1c149afbf4c8996fb9\
+            2427ae41e4649b934ca495991b7852b855\r\nAuthorization: AWS4-HMAC-SHA256 Credential=GKFULL/20231114/garage/\
+            s3/aws4_request, SignedHeaders=host;x-amz-content-sha256, Signature=2fd736838a7948246029e445ff2bc237c726\
+            839f74ae3f78d4029bd161cee4cd\r\n\r\n",
+        AUTHORIZATION_HEADER_MALFORMED,
+        b"/pics/a.txt",
+    ),
+    (
+        b"\
+            PUT /pics/a.txt HTTP/1.1\r\nHost: localhost:3900\r\nx-amz-content-sha256: e3b0c44298fc1c149afbf4c8996fb9\
+            2427ae41e4649b934ca495991b7852b855\r\nContent-Length: x\r\nAuthorization: AWS4-HMAC-SHA256 Credential=GK\
+            FULL/20231114/garage/s3/aws4_request, SignedHeaders=host;x-amz-content-sha256, Signature=2fd736838a79482\
+            46029e445ff2bc237c726839f74ae3f78d4029bd161cee4cd\r\n\r\n",
+        AUTHORIZATION_HEADER_MALFORMED,
+        b"/pics/a.txt",
+    ),
+    (
+        b"\
+            PUT /pics/a.txt HTTP/1.1\r\nHost: localhost:3900\r\nx-amz-content-sha256: e3b0c44298fc1c149afbf4c8996fb9\
+            2427ae41e4649b934ca495991b7852b855\r\nContent-Length: 16777217\r\nAuthorization: AWS4-HMAC-SHA256 Creden\
+            tial=GKFULL/20231114/garage/s3/aws4_request, SignedHeaders=host;x-amz-content-sha256, Signature=2fd73683\
+            8a7948246029e445ff2bc237c726839f74ae3f78d4029bd161cee4cd\r\n\r\n",
+        AUTHORIZATION_HEADER_MALFORMED,
+        b"/pics/a.txt",
+    ),
+    (
+        b"\
+            PUT /pics/a.txt HTTP/1.1\r\nHost: localhost:3900\r\nx-amz-content-sha256: e3b0c44298fc1c149afbf4c8996fb9\
+            2427ae41e4649b934ca495991b7852b855\r\nContent-Length: 4\r\nAuthorization: AWS4-HMAC-SHA256 Credential=GK\
+            FULL/20231114/garage/s3/aws4_request, SignedHeaders=host;x-amz-content-sha256, Signature=2fd736838a79482\
+            46029e445ff2bc237c726839f74ae3f78d4029bd161cee4cd\r\n\r\n",
+        AUTHORIZATION_HEADER_MALFORMED,
+        b"/pics/a.txt",
+    ),
+    (
+        b"\
+            PUT /pics/a.txt HTTP/1.1\r\nHost: localhost:3900\r\nx-amz-content-sha256: 000000000000000000000000000000\
+            0000000000000000000000000000000000\r\nContent-Length: 3\r\nAuthorization: AWS4-HMAC-SHA256 Credential=GK\
+            FULL/20231114/garage/s3/aws4_request, SignedHeaders=host;x-amz-content-sha256, Signature=d0fc8e5dc3be008\
+            2345ae49c3316014b1e958ac454b35eb0959f6c2b55934e65\r\n\r\nabd",
+        AUTHORIZATION_HEADER_MALFORMED,
+        b"/pics/a.txt",
+    ),
+    (
+        b"\
+            PUT /pics/kkkkkkkkkkkkkkkkkkkkkkkkkkkkkkkkkkkkkkkkkkkkkkkkkkkkkkkkkkkkkkkkkkkkkkkkkkkkkkkkkkkkkkkkkkkkkk\
+            kkkkkkkkkkkkkkkkkkkkkkkkkkkkkkkkkkkkkkkkkkkkkkkkkkkkkkkkkkkkkkkkkkkkkkkkkkkkkkkkkkkkkkkkkkkkkkkkkkkkkkkk\
+            kkkkkkkkkkkkkkkkkkkkkkkkkkkkkkkkkkkkkkkkkkkkkkkkkkkkkkkkkkkkkkkkkkkkkkkkkkkkkkkkkkkkkkkkkkkkkkkkkkkkkkkk\
+            kkkkkkkkkkkkkkkkkkkkkkkkkkkkkkkkkkkkkkkkkkkkkkkkkkkkkkkkkkkkkkkkkkkkkkkkkkkkkkkkkkkkkkkkkkkkkkkkkkkkkkkk\
+            kkkkkkkkkkkkkkkkkkkkkkkkkkkkkkkkkkkkkkkkkkkkkkkkkkkkkkkkkkkkkkkkkkkkkkkkkkkkkkkkkkkkkkkkkkkkkkkkkkkkkkkk\
+            kkkkkkkkkkkkkkkkkkkkkkkkkkkkkkkkkkkkkkkkkkkkkkkkkkkkkkkkkkkkkkkkkkkkkkkkkkkkkkkkkkkkkkkkkkkkkkkkkkkkkkkk\
+            kkkkkkkkkkkkkkkkkkkkkkkkkkkkkkkkkkkkkkkkkkkkkkkkkkkkkkkkkkkkkkkkkkkkkkkkkkkkkkkkkkkkkkkkkkkkkkkkkkkkkkkk\
+            kkkkkkkkkkkkkkkkkkkkkkkkkkkkkkkkkkkkkkkkkkkkkkkkkkkkkkkkkkkkkkkkkkkkkkkkkkkkkkkkkkkkkkkkkkkkkkkkkkkkkkkk\
+            kkkkkkkkkkkkkkkkkkkkkkkkkkkkkkkkkkkkkkkkkkkkkkkkkkkkkkkkkkkkkkkkkkkkkkkkkkkkkkkkkkkkkkkkkkkkkkkkkkkkkkkk\
+            kkkkkkkkkkkkkkkkkkkkkkkkkkkkkkkkkkkkkkkkkkkkkkkkkkkkkkkkkkkkkkkkkkkkkkkkkkkkkkkkkkkkkkkkkkkkkkkkkkk HTTP\
+            /1.1\r\nHost: localhost:3900\r\nx-amz-content-sha256: ba7816bf8f01cfea414140de5dae2223b00361a396177a9cb4\
+            10ff61f20015ad\r\nContent-Length: 3\r\nAuthorization: AWS4-HMAC-SHA256 Credential=GKFULL/20231114/garage\
+            /s3/aws4_request, SignedHeaders=host;x-amz-content-sha256, Signature=9e2788813241abe2e97a5e074a7df5da0d7\
+            207be452654b181e8b1abe6fbec81\r\n\r\nabc",
+        AUTHORIZATION_HEADER_MALFORMED,
+        LONG_PATH,
+    ),
+    (
+        b"\
+            PUT /pics/a.txt HTTP/1.1\r\nHost: localhost:3900\r\nx-amz-content-sha256: ba7816bf8f01cfea414140de5dae22\
+            23b00361a396177a9cb410ff61f20015ad\r\nContent-MD5: ndTkYSaMgDT1yFZOFVxnpg==\r\nContent-Length: 3\r\nAuth\
+            orization: AWS4-HMAC-SHA256 Credential=GKFULL/20231114/garage/s3/aws4_request, SignedHeaders=host;x-amz-\
+            content-sha256, Signature=4c6d52ee71a6a05c91e1c210c92d0609d877c1564b0047e18c84ec2491203f10\r\n\r\nabc",
+        AUTHORIZATION_HEADER_MALFORMED,
+        b"/pics/a.txt",
+    ),
+];
+
+/// No key has the id, and something else is wrong.
+pub const UNKNOWN_KEY_PAIRS: [Pair; 10] = [
+    (
+        b"\
             PUT /pics/a.txt HTTP/1.1\r\nHost: localhost:3900\r\nx-amz-content-sha256: ba7816bf8f01cfea414140de5dae22\
             23b00361a396177a9cb410ff61f20015ad\r\nx-amz-date: 20231114T215819Z\r\nContent-Length: 3\r\nAuthorization\
             : AWS4-HMAC-SHA256 Credential=GKOTHER/20231114/garage/s3/aws4_request, SignedHeaders=host;x-amz-content-\
@@ -277,57 +426,77 @@ pub const FIRST_PAIRS: [Pair; 37] = [
     ),
     (
         b"\
+            PUT /pics/a.txt HTTP/1.1\r\nHost: localhost:3900\r\nx-amz-content-sha256: e3b0c44298fc1c149afbf4c8996fb9\
+            2427ae41e4649b934ca495991b7852b855\r\nx-amz-date: 20231114T221320Z\r\nAuthorization: AWS4-HMAC-SHA256 Cr\
+            edential=GKOTHER/20231114/garage/s3/aws4_request, SignedHeaders=host;x-amz-content-sha256;x-amz-date, Si\
+            gnature=1f357bb5c00f113869d56c2617ab9e738fe0fa9ffbc7a0f6f4627a94096f3d36\r\n\r\n",
+        INVALID_ACCESS_KEY_ID,
+        b"/pics/a.txt",
+    ),
+    (
+        b"\
+            PUT /pics/a.txt HTTP/1.1\r\nHost: localhost:3900\r\nx-amz-content-sha256: e3b0c44298fc1c149afbf4c8996fb9\
+            2427ae41e4649b934ca495991b7852b855\r\nx-amz-date: 20231114T221320Z\r\nContent-Length: x\r\nAuthorization\
+            : AWS4-HMAC-SHA256 Credential=GKOTHER/20231114/garage/s3/aws4_request, SignedHeaders=host;x-amz-content-\
+            sha256;x-amz-date, Signature=1f357bb5c00f113869d56c2617ab9e738fe0fa9ffbc7a0f6f4627a94096f3d36\r\n\r\n",
+        INVALID_ACCESS_KEY_ID,
+        b"/pics/a.txt",
+    ),
+    (
+        b"\
+            PUT /pics/a.txt HTTP/1.1\r\nHost: localhost:3900\r\nx-amz-content-sha256: e3b0c44298fc1c149afbf4c8996fb9\
+            2427ae41e4649b934ca495991b7852b855\r\nx-amz-date: 20231114T221320Z\r\nContent-Length: 16777217\r\nAuthor\
+            ization: AWS4-HMAC-SHA256 Credential=GKOTHER/20231114/garage/s3/aws4_request, SignedHeaders=host;x-amz-c\
+            ontent-sha256;x-amz-date, Signature=1f357bb5c00f113869d56c2617ab9e738fe0fa9ffbc7a0f6f4627a94096f3d36\r\n\
+            \r\n",
+        INVALID_ACCESS_KEY_ID,
+        b"/pics/a.txt",
+    ),
+    (
+        b"\
+            PUT /pics/a.txt HTTP/1.1\r\nHost: localhost:3900\r\nx-amz-content-sha256: e3b0c44298fc1c149afbf4c8996fb9\
+            2427ae41e4649b934ca495991b7852b855\r\nx-amz-date: 20231114T221320Z\r\nContent-Length: 4\r\nAuthorization\
+            : AWS4-HMAC-SHA256 Credential=GKOTHER/20231114/garage/s3/aws4_request, SignedHeaders=host;x-amz-content-\
+            sha256;x-amz-date, Signature=1f357bb5c00f113869d56c2617ab9e738fe0fa9ffbc7a0f6f4627a94096f3d36\r\n\r\n",
+        INVALID_ACCESS_KEY_ID,
+        b"/pics/a.txt",
+    ),
+    (
+        b"\
+            PUT /pics/a.txt HTTP/1.1\r\nHost: localhost:3900\r\nx-amz-content-sha256: 000000000000000000000000000000\
+            0000000000000000000000000000000000\r\nx-amz-date: 20231114T221320Z\r\nContent-Length: 3\r\nAuthorization\
+            : AWS4-HMAC-SHA256 Credential=GKOTHER/20231114/garage/s3/aws4_request, SignedHeaders=host;x-amz-content-\
+            sha256;x-amz-date, Signature=f03bb03d55978e635e76b6c308e854a54ecd2d069782922863e14decf165d5a4\r\n\r\nabd",
+        INVALID_ACCESS_KEY_ID,
+        b"/pics/a.txt",
+    ),
+    (
+        b"\
+            PUT /pics/kkkkkkkkkkkkkkkkkkkkkkkkkkkkkkkkkkkkkkkkkkkkkkkkkkkkkkkkkkkkkkkkkkkkkkkkkkkkkkkkkkkkkkkkkkkkkk\
+            kkkkkkkkkkkkkkkkkkkkkkkkkkkkkkkkkkkkkkkkkkkkkkkkkkkkkkkkkkkkkkkkkkkkkkkkkkkkkkkkkkkkkkkkkkkkkkkkkkkkkkkk\
+            kkkkkkkkkkkkkkkkkkkkkkkkkkkkkkkkkkkkkkkkkkkkkkkkkkkkkkkkkkkkkkkkkkkkkkkkkkkkkkkkkkkkkkkkkkkkkkkkkkkkkkkk\
+            kkkkkkkkkkkkkkkkkkkkkkkkkkkkkkkkkkkkkkkkkkkkkkkkkkkkkkkkkkkkkkkkkkkkkkkkkkkkkkkkkkkkkkkkkkkkkkkkkkkkkkkk\
+            kkkkkkkkkkkkkkkkkkkkkkkkkkkkkkkkkkkkkkkkkkkkkkkkkkkkkkkkkkkkkkkkkkkkkkkkkkkkkkkkkkkkkkkkkkkkkkkkkkkkkkkk\
+            kkkkkkkkkkkkkkkkkkkkkkkkkkkkkkkkkkkkkkkkkkkkkkkkkkkkkkkkkkkkkkkkkkkkkkkkkkkkkkkkkkkkkkkkkkkkkkkkkkkkkkkk\
+            kkkkkkkkkkkkkkkkkkkkkkkkkkkkkkkkkkkkkkkkkkkkkkkkkkkkkkkkkkkkkkkkkkkkkkkkkkkkkkkkkkkkkkkkkkkkkkkkkkkkkkkk\
+            kkkkkkkkkkkkkkkkkkkkkkkkkkkkkkkkkkkkkkkkkkkkkkkkkkkkkkkkkkkkkkkkkkkkkkkkkkkkkkkkkkkkkkkkkkkkkkkkkkkkkkkk\
+            kkkkkkkkkkkkkkkkkkkkkkkkkkkkkkkkkkkkkkkkkkkkkkkkkkkkkkkkkkkkkkkkkkkkkkkkkkkkkkkkkkkkkkkkkkkkkkkkkkkkkkkk\
+            kkkkkkkkkkkkkkkkkkkkkkkkkkkkkkkkkkkkkkkkkkkkkkkkkkkkkkkkkkkkkkkkkkkkkkkkkkkkkkkkkkkkkkkkkkkkkkkkkkk HTTP\
+            /1.1\r\nHost: localhost:3900\r\nx-amz-content-sha256: ba7816bf8f01cfea414140de5dae2223b00361a396177a9cb4\
+            10ff61f20015ad\r\nx-amz-date: 20231114T221320Z\r\nContent-Length: 3\r\nAuthorization: AWS4-HMAC-SHA256 C\
+            redential=GKOTHER/20231114/garage/s3/aws4_request, SignedHeaders=host;x-amz-content-sha256;x-amz-date, S\
+            ignature=b6b887094d9e0442db5de714bf4266b583c382a3e600d79fa8048e518f0d0571\r\n\r\nabc",
+        INVALID_ACCESS_KEY_ID,
+        LONG_PATH,
+    ),
+    (
+        b"\
             PUT /pics/a.txt HTTP/1.1\r\nHost: localhost:3900\r\nx-amz-content-sha256: ba7816bf8f01cfea414140de5dae22\
-            23b00361a396177a9cb410ff61f20015ad\r\nx-amz-date: 20231114T215819Z\r\nContent-Length: 3\r\nAuthorization\
-            : AWS4-HMAC-SHA256 Credential=GKFULL/20231114/garage/s3/aws4_request, SignedHeaders=host;x-amz-content-s\
-            ha256;x-amz-date, Signature=01d77083cdde570aac2cc28dd7ebbad33fdf58c50d0f2a24ac17d0c48f9b8511\r\n\r\nabc",
-        REQUEST_TIME_TOO_SKEWED,
-        b"/pics/a.txt",
-    ),
-    (
-        b"\
-            PUT /pics/a.txt HTTP/1.1\r\nHost: localhost:3900\r\nx-amz-content-sha256: ba7816bf8f01cfea414140de5dae22\
-            23b00361a396177a9cb410ff61f20015ad\r\nx-amz-date: 20231114T215819Z\r\nContent-Length: 3\r\nAuthorization\
-            : AWS4-HMAC-SHA256 Credential=GKREAD/20231114/garage/s3/aws4_request, SignedHeaders=host;x-amz-content-s\
-            ha256;x-amz-date, Signature=2ce1d012bfdada7a748253b7e7803c41cd67fe9850cf1601fccee3b8d2e6ccf2\r\n\r\nabc",
-        REQUEST_TIME_TOO_SKEWED,
-        b"/pics/a.txt",
-    ),
-    (
-        b"\
-            PUT /pics/a.txt HTTP/1.1\r\nHost: localhost:3900\r\nx-amz-content-sha256: ba7816bf8f01cfea414140de5dae22\
-            23b00361a396177a9cb410ff61f20015ad\r\nx-amz-date: 20231114T221320Z\r\nContent-Length: 3\r\nAuthorization\
-            : AWS4-HMAC-SHA256 Credential=GKREAD/20231114/garage/s3/aws4_request, SignedHeaders=host;x-amz-content-s\
-            ha256;x-amz-date, Signature=00bd324955203b9698c9195e0237b13beb70c9cea0b32766b64697c2b558b712\r\n\r\nabc",
-        SIGNATURE_DOES_NOT_MATCH,
-        b"/pics/a.txt",
-    ),
-    (
-        b"\
-            PUT /pics/a.txt HTTP/1.1\r\nHost: localhost:3900\r\nx-amz-content-sha256: e3b0c44298fc1c149afbf4c8996fb9\
-            2427ae41e4649b934ca495991b7852b855\r\nx-amz-date: 20231114T221320Z\r\n\r\n",
-        ACCESS_DENIED,
-        b"/pics/a.txt",
-    ),
-    (
-        b"\
-            PUT /pics/a.txt HTTP/1.1\r\nHost: localhost:3900\r\nx-amz-content-sha256: e3b0c44298fc1c149afbf4c8996fb9\
-            2427ae41e4649b934ca495991b7852b855\r\nx-amz-date: 20231114T221320Z\r\nContent-Length: x\r\n\r\n",
-        ACCESS_DENIED,
-        b"/pics/a.txt",
-    ),
-    (
-        b"\
-            PUT /pics/a.txt HTTP/1.1\r\nHost: localhost:3900\r\nx-amz-content-sha256: e3b0c44298fc1c149afbf4c8996fb9\
-            2427ae41e4649b934ca495991b7852b855\r\nx-amz-date: 20231114T221320Z\r\nContent-Length: 16777217\r\n\r\n",
-        ACCESS_DENIED,
-        b"/pics/a.txt",
-    ),
-    (
-        b"\
-            PUT /pics/a.txt HTTP/1.1\r\nHost: localhost:3900\r\nx-amz-content-sha256: e3b0c44298fc1c149afbf4c8996fb9\
-            2427ae41e4649b934ca495991b7852b855\r\nx-amz-date: 20231114T221320Z\r\nContent-Length: 4\r\n\r\n",
-        ACCESS_DENIED,
+            23b00361a396177a9cb410ff61f20015ad\r\nx-amz-date: 20231114T221320Z\r\nContent-MD5: ndTkYSaMgDT1yFZOFVxnp\
+            g==\r\nContent-Length: 3\r\nAuthorization: AWS4-HMAC-SHA256 Credential=GKOTHER/20231114/garage/s3/aws4_r\
+            equest, SignedHeaders=host;x-amz-content-sha256;x-amz-date, Signature=d4126bea1e6b308a35b05ce7607f24df46\
+            ba16522514921b673b4f083ffb916f\r\n\r\nabc",
+        INVALID_ACCESS_KEY_ID,
         b"/pics/a.txt",
     ),
 ];
