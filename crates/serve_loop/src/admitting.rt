@@ -126,13 +126,14 @@ fn admit_asked(
     requires { asked_of head.now ≡ Ok ask }
     ensures { Admits access.now now head.now result }
 {
-    let Signer { who, digest } = match signer(alloc, access, head, now) {
-        Ok(signer) => signer,
-        Err(fault) => return Err(fault),
-    };
-    match if_allowed(access, head, Admitted { ask, who, digest }) {
-        Ok(admitted) => Ok(admitted),
-        Err(fault) => Err(AskFault::Refused(fault)),
+    match signer(alloc, access, head, now) {
+        Ok(Signer { who, digest }) => {
+            match if_allowed(access, head, Admitted { ask, who, digest }) {
+                Ok(admitted) => Ok(admitted),
+                Err(fault) => Err(AskFault::Refused(fault)),
+            }
+        }
+        Err(fault) => Err(fault),
     }
 }
 
