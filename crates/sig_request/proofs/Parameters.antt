@@ -7,13 +7,14 @@ use Rattle.std.specs.Ordering.{is_lt, is_eq, nat_cmp, ordering_then, then_cmp, o
 use Rattle.std.specs.declared.cmp.Ordering.{Ordering}
 use Rattle.std.specs.declared.cmp.Ordering.TheVariants.{Less, Equal, Greater}
 use Rattle.std.specs.Cmp.{IsTotalOrder, then_total}
-use Rattle.std.specs.Cmp.Lexicographic.{slice_cmp, pointwise, on_texts, texts_ties, bytes_decides}
+use Rattle.std.specs.Cmp.Lexicographic.{slice_cmp, pointwise, on_texts, texts_ties, same_text}
 use Rattle.std.proofs.lemmas.List.Sorted.{sum_by-IsPermutation}
 use Rattle.layout_roles.specs.Zones.{same_name}
 use Rattle.sig_request.specs.declared.query.Parameter.{Parameter}
 use Rattle.sig_request.specs.Texts.{is_less}
 use Rattle.sig_request.specs.Query.{parameter_of, comes_before, put_parameter, parameters_after}
 use Rattle.sig_request.proofs.Sorting as sorting
+use Rattle.sig_request.proofs.Sorting.{sum, sum_is}
 
 -- by name, and then by value
 abbrev pub order : Parameter → Parameter → Ordering
@@ -23,7 +24,7 @@ total : IsTotalOrder order
 total = then_total (on_texts (λ (p : Parameter). p.name)) (on_texts (λ (p : Parameter). p.value))
 
 text_of : (a b : List ℕ) → slice_cmp nat_cmp a b ≡ Equal → a ≡ b
-text_of a b e = (bytes_decides a b).0 (texts_ties a b ∙ ap is_eq e)
+text_of a b e = same_text a b (sym (texts_ties a b ∙ ap is_eq e))
 
 equal_parts : (r s : Ordering) → ordering_then r s ≡ Equal → (r ≡ Equal) × (s ≡ Equal)
 equal_parts Less s e = cc
@@ -64,16 +65,16 @@ after_ascends before (word ∷ words) h =
 moved : (a b c : ℕ) → a + b + c ≡ b + (a + c)
 moved a b c = omega arith
 
-after_sums : (f : Parameter → ℕ) (before : List Parameter) (words : List (List ℕ)) → sum_by f (parameters_after before words) ≡ sum_by f before + sum_by f (map parameter_of words)
-after_sums f before [] = let none : sum_by f before + 0 ≡ sum_by f before = omega arith in sym none
+after_sums : (f : Parameter → ℕ) (before : List Parameter) (words : List (List ℕ)) → sum f (parameters_after before words) ≡ sum f before + sum f (map parameter_of words)
+after_sums f before [] = let none : sum f before + 0 ≡ sum f before = omega arith in sym none
 after_sums f before (word ∷ words) =
     let p = parameter_of word in
     after_sums f (put_parameter before p) words
-    ∙ ap (λ n. n + sum_by f (map parameter_of words)) (ap (sum_by f) (put_is before p) ∙ sorting.put_sums order total one f before p)
-    ∙ moved (f p) (sum_by f before) (sum_by f (map parameter_of words))
+    ∙ ap (λ n. n + sum f (map parameter_of words)) (ap (sum f) (put_is before p) ∙ sorting.put_sums order total one f before p)
+    ∙ moved (f p) (sum f before) (sum f (map parameter_of words))
 
 -- the parameters of words, once they are sorted, are those that are put in their places one by one
 pub sorted_is : (words : List (List ℕ)) (sorted : List Parameter) → IsPermutation (map parameter_of words) sorted → IsSorted order sorted → sorted ≡ parameters_after [] words
 sorted_is words sorted same in_order =
     sorting.one_list order total one sorted (parameters_after [] words) (sorting.ascends order total one sorted (λ k d low within. in_order k d low within)) (after_ascends [] words tt)
-    (λ f. sum_by-IsPermutation f (map parameter_of words) sorted same ∙ sym (after_sums f [] words))
+    (λ f. sym (sum_is f sorted) ∙ sum_by-IsPermutation f (map parameter_of words) sorted same ∙ sum_is f (map parameter_of words) ∙ sym (after_sums f [] words))

@@ -2,12 +2,22 @@
 use Rattle.std.proofs.Common.{◌≡◌, ℕ, zero, suc, ◌+◌, ◌<◌, ◌≤◌, Bool, true, false, cond, List, [], ◌∷◌, length, get_or, refl, sym, ap, ◌∙◌, subst, arith}
 use Rattle.std.specs.Prelude.{⊤}
 use Rattle.std.specs.List.{AllByRecursion, sum_by}
+use Rattle.std.proofs.lemmas.List.Sums.{sum_by-cons}
 use Rattle.std.specs.List.Sorted.{IsSorted, IsPermutation}
 use Rattle.std.specs.Ordering.{is_lt, is_gt, is_eq, ordering_reverse}
 use Rattle.std.specs.declared.cmp.Ordering.{Ordering}
 use Rattle.std.specs.declared.cmp.Ordering.TheVariants.{Less, Equal, Greater}
-use Rattle.std.specs.Cmp.{IsTotalOrder, upto, tied_itself}
-use Rattle.std.proofs.lemmas.List.Sorted.{sum_by-IsPermutation}
+use Rattle.std.specs.Cmp.{IsTotalOrder}
+use Rattle.std.proofs.lemmas.Cmp.{upto, tied_itself}
+
+-- a sum, the first item's part first
+abbrev pub sum : {X : Type 0} → (X → ℕ) → List X → ℕ
+sum f [] = 0
+sum f (x ∷ xs) = f x + sum f xs
+
+pub sum_is : {X : Type 0} (f : X → ℕ) (xs : List X) → sum_by f xs ≡ sum f xs
+sum_is f [] = refl
+sum_is f (x ∷ xs) = sum_by-cons f x xs ∙ ap (λ n. f x + n) (sum_is f xs)
 
 module _ {X : Type 0} (R : X → X → Ordering) (o : IsTotalOrder R) (one : (x y : X) → R x y ≡ Equal → x ≡ y) where
   -- not after another
@@ -78,12 +88,12 @@ module _ {X : Type 0} (R : X → X → Ordering) (o : IsTotalOrder R) (one : (x 
   swapped : (a b c : ℕ) → a + (b + c) ≡ b + (a + c)
   swapped a b c = omega arith
 
-  pub put_sums : (f : X → ℕ) (ys : List X) (x : X) → sum_by f (put ys x) ≡ f x + sum_by f ys
+  pub put_sums : (f : X → ℕ) (ys : List X) (x : X) → sum f (put ys x) ≡ f x + sum f ys
   put_sums f [] x = refl
   put_sums f (y ∷ ys) x =
-      elim (is_lt (R x y)) as (λ b. sum_by f (cond b (x ∷ y ∷ ys) (y ∷ put ys x)) ≡ f x + sum_by f (y ∷ ys)) [
+      elim (is_lt (R x y)) as (λ b. sum f (cond b (x ∷ y ∷ ys) (y ∷ put ys x)) ≡ f x + sum f (y ∷ ys)) [
         | true ↦ refl
-        | false ↦ ap (λ n. f y + n) (put_sums f ys x) ∙ swapped (f y) (f x) (sum_by f ys)
+        | false ↦ ap (λ n. f y + n) (put_sums f ys x) ∙ swapped (f y) (f x) (sum f ys)
       ]
 
   -- ---- one list
@@ -97,12 +107,12 @@ module _ {X : Type 0} (R : X → X → Ordering) (o : IsTotalOrder R) (one : (x 
   equal_of Greater e = cc
 
   -- what is counted is there
-  there : (Q : X → Type 0) (x : X) (zs : List X) → AllByRecursion Q zs → 1 ≤ sum_by (is x) zs → Q x
-  there Q x [] h n = absurd (omega arith)
+  there : (Q : X → Type 0) (x : X) (zs : List X) → AllByRecursion Q zs → 1 ≤ sum (is x) zs → Q x
+  there Q x [] h n = absurd (let k : 1 ≤ 0 = n in omega arith)
   there Q x (z ∷ zs) h n =
-      elim (is_eq (R x z)) as (λ b. is_eq (R x z) ≡ b → 1 ≤ cond b 1 0 + sum_by (is x) zs → Q x) [
+      elim (is_eq (R x z)) as (λ b. is_eq (R x z) ≡ b → 1 ≤ cond b 1 0 + sum (is x) zs → Q x) [
         | true ↦ λ e m. subst Q (sym (one x z (equal_of (R x z) e))) h.0
-        | false ↦ λ e m. there Q x zs h.1 m
+        | false ↦ λ e m. there Q x zs h.1 (let k : 1 ≤ 0 + sum (is x) zs = m in omega arith)
       ] refl n
 
   counts_itself : (x : X) → is x x ≡ 1
@@ -111,19 +121,22 @@ module _ {X : Type 0} (R : X → X → Ordering) (o : IsTotalOrder R) (one : (x 
   upto_itself : (x : X) → Upto x x
   upto_itself x = ap is_gt (tied_itself o x)
 
+  some_counts : (a m n : ℕ) → a ≡ 1 → a + m ≡ n → 1 ≤ n
+  some_counts a m n e h = omega arith
+
   -- the first of a list in order comes before each of another with the same elements
-  first_is_least : (x y : X) (xs ys : List X) → AllByRecursion (Upto y) ys → sum_by (is x) (x ∷ xs) ≡ sum_by (is x) (y ∷ ys) → Upto y x
+  first_is_least : (x y : X) (xs ys : List X) → AllByRecursion (Upto y) ys → sum (is x) (x ∷ xs) ≡ sum (is x) (y ∷ ys) → Upto y x
   first_is_least x y xs ys h e =
-      there (Upto y) x (y ∷ ys) (upto_itself y, h) (let own = counts_itself x in omega arith)
+      there (Upto y) x (y ∷ ys) (upto_itself y, h) (some_counts (is x x) (sum (is x) xs) (sum (is x) (y ∷ ys)) (counts_itself x) e)
 
   rest_counts : (a b m n : ℕ) → a ≡ b → a + m ≡ b + n → m ≡ n
   rest_counts a b m n e h = omega arith
 
-  pub one_list : (xs ys : List X) → Ascends xs → Ascends ys → ((f : X → ℕ) → sum_by f xs ≡ sum_by f ys) → xs ≡ ys
+  pub one_list : (xs ys : List X) → Ascends xs → Ascends ys → ((f : X → ℕ) → sum f xs ≡ sum f ys) → xs ≡ ys
   one_list [] [] a b h = refl
-  one_list [] (y ∷ ys) a b h = absurd (let n : 0 ≡ 1 + sum_by (λ z. 1) ys = h (λ z. 1) in omega arith)
-  one_list (x ∷ xs) [] a b h = absurd (let n : 1 + sum_by (λ z. 1) xs ≡ 0 = h (λ z. 1) in omega arith)
+  one_list [] (y ∷ ys) a b h = absurd (let n : 0 ≡ 1 + sum (λ z. 1) ys = h (λ z. 1) in omega arith)
+  one_list (x ∷ xs) [] a b h = absurd (let n : 1 + sum (λ z. 1) xs ≡ 0 = h (λ z. 1) in omega arith)
   one_list (x ∷ xs) (y ∷ ys) a b h =
       let first : x ≡ y = same x y (first_is_least y x ys xs a.0 (sym (h (is y)))) (first_is_least x y xs ys b.0 (h (is x))) in
-      let rest : xs ≡ ys = one_list xs ys a.1 b.1 (λ f. rest_counts (f x) (f y) (sum_by f xs) (sum_by f ys) (ap f first) (h f)) in
+      let rest : xs ≡ ys = one_list xs ys a.1 b.1 (λ f. rest_counts (f x) (f y) (sum f xs) (sum f ys) (ap f first) (h f)) in
       (λ i. first i ∷ rest i)
