@@ -84,11 +84,6 @@ length_refusal head ask =
     else if is_too_large head then Some (fault_of EntityTooLarge)
     else None
 
--- an ask whose length is refused, or isn't
-abbrev pub unless_refused : Ask → Option S3Fault → Result Ask S3Fault
-unless_refused ask None = Ok ask
-unless_refused ask (Some fault) = Err fault
-
 -- an operation that is served, if the headers ask nothing that isn't
 abbrev pub if_served : Head → Option Ask → Result Ask S3Fault
 if_served head None = Err (fault_of NotImplemented)

@@ -22,8 +22,9 @@ use Rattle.serve_model.specs.Admitting.{admitted}
 use Rattle.serve_model.specs.Stores.{Store, Asking}
 use Rattle.serve_model.specs.Judging.{refusal_of, counted_before, order_of, reply_without, answer_to, counted_after}
 use Rattle.serve_model.specs.Talk.{Grammar, Serving, kept_limit, Turn, request_of, path_shown, clocked, counted, counting, exceeded, interim, text_of, head_refusal, answer_turn, end_turn, order_turn, plan_turn, judged_turn, whole_turn, body_turn, waiting_turn, request_turn, asked_turn, head_turn, cut_turn, turn}
-use Rattle.signed_laws.specs.Allowed.{IsAllowed, IsRequest, IsAsked, IsSaid, nothing, head_refused, unanswered, refused, replied}
+use Rattle.signed_laws.specs.Allowed.{IsAllowed, IsAdmitted, IsRequest, IsAsked, IsSaid, nothing, head_refused, unanswered, refused, replied}
 use Rattle.signed_laws.proofs.Admitted.{allowed}
+use Rattle.signed_laws.proofs.Refusals.{admitted_of_code}
 
 module _ {S : Type 0} (buckets : Buckets) (g : Grammar) (last : Bool) (now : ℕ) (bytes : List ℕ) where
   -- each order is one that a request asks
@@ -72,11 +73,14 @@ module _ {S : Type 0} (buckets : Buckets) (g : Grammar) (last : Bool) (now : ℕ
     abbrev r : Request
     r = request_of last now head asked
 
+    is_admitted : IsAdmitted buckets g last now bytes r rest
+    is_admitted = record { front = front; head = head; cut_is = cut_is; read = read; asked = asked; allowed = allows; is_of = refl }
+
     judged_good : r.length ≤ length rest → (c : Option Code) → refusal_of buckets r (take r.length rest) ≡ c → (p : Serving S) → Good r (judged_turn store buckets r (take r.length rest) c p (drop r.length rest))
     judged_good whole (Some code) is p = refusal_good r code p (drop r.length rest)
     judged_good whole None is p =
         let body = take r.length rest in
-        plan_good r body (record { front = front; rest = rest; head = head; cut_is = cut_is; read = read; asked = asked; allowed = allows; is_of = refl; whole = whole; body_is = refl; unrefused = is }) store (order_of r.ask body) refl p (drop r.length rest)
+        plan_good r body (record { rest = rest; admitted = is_admitted; whole = whole; body_is = refl; unrefused = is }) store (order_of r.ask body) refl p (drop r.length rest)
 
     body_good : (p : Serving S) → Good r (body_turn store buckets r p rest)
     unfolding body_turn
@@ -88,10 +92,10 @@ module _ {S : Type 0} (buckets : Buckets) (g : Grammar) (last : Bool) (now : ℕ
         by_length false e = refusal_good r IncompleteBody p rest
 
     -- behind the interim line
-    said_of : (text : List ℕ) → Behind r text → IsSaid buckets g last now bytes (interim r.waits ++ text)
-    said_of text (none e) = unanswered r (ap (λ x. interim r.waits ++ x) e ∙ append-nil (interim r.waits))
-    said_of text (refusal code e) = refused r code (ap (λ x. interim r.waits ++ x) e)
-    said_of text (reply body it is e) = replied r body it is (ap (λ x. interim r.waits ++ x) e)
+    said_of : (text : List ℕ) → Behind r text → IsSaid buckets g last now bytes (interim r ++ text)
+    said_of text (none e) = unanswered r rest is_admitted (ap (λ x. interim r ++ x) e ∙ append-nil (interim r))
+    said_of text (refusal code e) = refused r rest code is_admitted (ap (λ x. interim r ++ x) e)
+    said_of text (reply body it is e) = replied r body it is (ap (λ x. interim r ++ x) e)
 
     abbrev Fine : Turn S → Type 0
     Fine t = AllAsked t × IsSaid buckets g last now bytes t.text
@@ -118,15 +122,15 @@ module _ {S : Type 0} (store : Store S) (buckets : Buckets) (some : is_empty buc
   asked_is : (front rest : List ℕ) (head : Head) → cut bytes ≡ ends front rest → g.head_of front ≡ Some head → (r : Result Admitted S3Fault) → admitted buckets.access now head ≡ r →
       Is (asked_turn store buckets last now head r (clocked p) rest)
   asked_is front rest head cut_is read (Ok asked) e = request_fine buckets g last now bytes store front rest head cut_is read asked (allowed buckets.access now head asked some e) (clocked p)
-  asked_is front rest head cut_is read (Err fault) e = (tt, head_refused fault (path_shown head) (is_method head (codes "HEAD")) refl)
+  asked_is front rest head cut_is read (Err fault) e = (tt, head_refused fault (path_shown head) (is_method head (codes "HEAD")) (admitted_of_code head buckets.access now fault e) refl)
 
   head_is : (front rest : List ℕ) → cut bytes ≡ ends front rest → (h : Option Head) → g.head_of front ≡ h → Is (head_turn store buckets last now h (clocked p) rest)
   head_is front rest cut_is (Some head) read = asked_is front rest head cut_is read (admitted buckets.access now head) refl
-  head_is front rest cut_is None read = (tt, head_refused (fault_of InvalidRequest) [] false refl)
+  head_is front rest cut_is None read = (tt, head_refused (fault_of InvalidRequest) [] false refl refl)
 
   cut_is_so : (c : Cut) → cut bytes ≡ c → Is (cut_turn store buckets g last p c)
   cut_is_so (ends front rest) e = head_is front rest e (g.head_of front) refl
-  cut_is_so too_long e = (tt, head_refused (fault_of InvalidRequest) [] false refl)
+  cut_is_so too_long e = (tt, head_refused (fault_of InvalidRequest) [] false refl refl)
   cut_is_so unfinished e = (tt, nothing refl)
 
   pub turn_is : Is (turn store buckets g last p bytes)

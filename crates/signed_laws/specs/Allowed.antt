@@ -8,6 +8,7 @@ use Rattle.http_model.specs.Cut.{ends, cut}
 use Rattle.s3_model.specs.declared.fault.Code.{Code}
 use Rattle.s3_model.specs.declared.fault.S3Fault.{S3Fault}
 use Rattle.s3_model.specs.declared.reply.Reply.{Reply}
+use Rattle.s3_model.specs.Faults.{status_of}
 use Rattle.s3_model.specs.Asks.{length_refusal, asked_of}
 use Rattle.sig_v4.specs.declared.signed.Signed.{Signed}
 use Rattle.sig_v4.specs.Checks.{checked}
@@ -30,16 +31,20 @@ pub record IsAllowed (access : Access) (now : ℕ) (head : Head) (a : Admitted) 
   pub may_ask : may access a.who a.ask ≡ true
   pub long : length_refusal head a.ask ≡ None
 
--- these bytes begin with the head and the body of a request that is allowed, and whose body nothing refuses
-pub record IsRequest (buckets : Buckets) (g : Grammar) (last : Bool) (now : ℕ) (bytes : List ℕ) (r : Request) (body : List ℕ) : Type 0 where
+-- these bytes begin with a head that is allowed, which asks this request, and these are left behind it
+pub record IsAdmitted (buckets : Buckets) (g : Grammar) (last : Bool) (now : ℕ) (bytes : List ℕ) (r : Request) (rest : List ℕ) : Type 0 where
   pub front : List ℕ
-  pub rest : List ℕ
   pub head : Head
   pub cut_is : cut bytes ≡ ends front rest
   pub read : g.head_of front ≡ Some head
   pub asked : Admitted
   pub allowed : IsAllowed buckets.access now head asked
   pub is_of : r ≡ request_of last now head asked
+
+-- these bytes begin with such a head and the whole body that it announces, which nothing refuses
+pub record IsRequest (buckets : Buckets) (g : Grammar) (last : Bool) (now : ℕ) (bytes : List ℕ) (r : Request) (body : List ℕ) : Type 0 where
+  pub rest : List ℕ
+  pub admitted : IsAdmitted buckets g last now bytes r rest
   pub whole : r.length ≤ length rest
   pub body_is : body ≡ take r.length rest
   pub unrefused : refusal_of buckets r body ≡ None
@@ -51,13 +56,17 @@ pub record IsAsked (buckets : Buckets) (g : Grammar) (last : Bool) (now : ℕ) (
   pub is_request : IsRequest buckets g last now bytes request body
   pub asks : order_of request.ask body ≡ Some order
 
--- what is written for the first request in these bytes: nothing, a refusal of its head, the interim line and a refusal or no more, or the reply to such a request
+-- a refusal has the status of its code
+abbrev pub IsOfCode : S3Fault → Type 0
+IsOfCode fault = fault.status ≡ status_of fault.code
+
+-- what is written for the first request in these bytes: nothing, a refusal of its head, the interim line and a refusal or no more behind a head that is allowed, or the reply to such a request
 pub data IsSaid (buckets : Buckets) (g : Grammar) (last : Bool) (now : ℕ) (bytes text : List ℕ) : Type 0 where
   nothing : text ≡ [] → IsSaid buckets g last now bytes text
-  head_refused : (fault : S3Fault) (path : List ℕ) (is_head : Bool) → text ≡ head_refusal fault path is_head now → IsSaid buckets g last now bytes text
-  unanswered : (r : Request) → text ≡ interim r.waits → IsSaid buckets g last now bytes text
-  refused : (r : Request) (code : Code) → text ≡ interim r.waits ++ text_of r (answer.Refusal code) → IsSaid buckets g last now bytes text
-  replied : (r : Request) (body : List ℕ) (reply : Reply) → IsRequest buckets g last now bytes r body → text ≡ interim r.waits ++ text_of r (answer.Reply reply) → IsSaid buckets g last now bytes text
+  head_refused : (fault : S3Fault) (path : List ℕ) (is_head : Bool) → IsOfCode fault → text ≡ head_refusal fault path is_head now → IsSaid buckets g last now bytes text
+  unanswered : (r : Request) (rest : List ℕ) → IsAdmitted buckets g last now bytes r rest → text ≡ interim r → IsSaid buckets g last now bytes text
+  refused : (r : Request) (rest : List ℕ) (code : Code) → IsAdmitted buckets g last now bytes r rest → text ≡ interim r ++ text_of r (answer.Refusal code) → IsSaid buckets g last now bytes text
+  replied : (r : Request) (body : List ℕ) (reply : Reply) → IsRequest buckets g last now bytes r body → text ≡ interim r ++ text_of r (answer.Reply reply) → IsSaid buckets g last now bytes text
 
 module _ {S : Type 0} (store : Store S) (buckets : Buckets) (g : Grammar) where
   -- whatever is served, with whatever bytes to come: the store is asked only what such a request asks
