@@ -26,91 +26,92 @@ use Rattle.signed_laws.specs.Allowed.{IsAllowed, IsAdmitted, IsRequest, IsAsked,
 use Rattle.signed_laws.proofs.Admitted.{allowed}
 use Rattle.signed_laws.proofs.Refusals.{admitted_of_code}
 
-module _ {S : Type 0} (buckets : Buckets) (g : Grammar) (last : Bool) (now : ℕ) (bytes : List ℕ) where
-  -- each order is one that a request asks
-  abbrev AllAsked : Turn S → Type 0
-  AllAsked t = AllByRecursion (λ (a : Asking S). IsAsked buckets g last now bytes a.order) t.asks
-
+module _ (buckets : Buckets) (g : Grammar) (last : Bool) (now : ℕ) (bytes : List ℕ) where
   -- what is written behind the interim line
   data Behind (r : Request) (text : List ℕ) : Type 0 where
     none : text ≡ [] → Behind r text
     refusal : (code : Code) → text ≡ text_of r (answer.Refusal code) → Behind r text
     reply : (body : List ℕ) (it : Reply) → IsRequest buckets g last now bytes r body → text ≡ text_of r (answer.Reply it) → Behind r text
 
-  abbrev Good : Request → Turn S → Type 0
-  Good r t = AllAsked t × Behind r t.text
+  module _ {S : Type 0} where
+    -- each order is one that a request asks
+    abbrev AllAsked : Turn S → Type 0
+    AllAsked t = AllByRecursion (λ (a : Asking S). IsAsked buckets g last now bytes a.order) t.asks
 
-  -- it is so whether too much was put or copied or not
-  counting_good : (r : Request) (size : ℕ) (p : Serving S) (go : Serving S → Turn S) → ((q : Serving S) → Good r (go q)) → Good r (counting size p go)
-  unfolding counting
-  counting_good r size p go h =
-      elim (nat_lt kept_limit (p.kept + size)) as (λ b. Good r (if b then exceeded (counted size p) else go (counted size p))) [
-        | true ↦ (tt, none refl)
-        | false ↦ h (counted size p)
-      ]
+    abbrev Good : Request → Turn S → Type 0
+    Good r t = AllAsked t × Behind r t.text
 
-  refusal_good : (r : Request) (code : Code) (p : Serving S) (rest : List ℕ) → Good r (answer_turn r (answer.Refusal code) p rest)
-  refusal_good r code p rest = (tt, refusal code refl)
-
-  module _ (r : Request) (body : List ℕ) (is : IsRequest buckets g last now bytes r body) where
-    answer_good : (a : Answer) (p : Serving S) (rest : List ℕ) → Good r (answer_turn r a p rest)
-    answer_good (answer.Reply it) p rest = (tt, reply body it is refl)
-    answer_good (answer.Refusal code) p rest = refusal_good r code p rest
-    answer_good answer.Nothing p rest = (tt, none refl)
-
-    end_good : (e : Option FlowEnd) (p : Serving S) (rest : List ℕ) → Good r (end_turn r e p rest)
-    end_good None p rest = answer_good answer.Nothing p rest
-    end_good (Some e) p rest = counting_good r (counted_after r.ask e) p (λ q. answer_turn r (answer_to r.ask e) q rest) (λ q. answer_good (answer_to r.ask e) q rest)
-
-    plan_good : (store : Store S) (o : Option Order) → order_of r.ask body ≡ o → (p : Serving S) (rest : List ℕ) → Good r (plan_turn store buckets r o p rest)
-    plan_good store (Some order) asks p rest =
-        let c = store.carries p.store r.time order in
-        let h = end_good c.end (record p { store = c.state }) rest in
-        ((record { request = r; body = body; is_request = is; asks = asks }, h.0), h.1)
-    plan_good store None asks p rest = answer_good (answer.Reply (reply_without buckets r.who r.ask)) p rest
-
-  module _ (store : Store S) (front rest : List ℕ) (head : Head) (cut_is : cut bytes ≡ ends front rest) (read : g.head_of front ≡ Some head) (asked : Admitted) (allows : IsAllowed buckets.access now head asked) where
-    abbrev r : Request
-    r = request_of last now head asked
-
-    is_admitted : IsAdmitted buckets g last now bytes r rest
-    is_admitted = record { front = front; head = head; cut_is = cut_is; read = read; asked = asked; allowed = allows; is_of = refl }
-
-    judged_good : r.length ≤ length rest → (c : Option Code) → refusal_of buckets r (take r.length rest) ≡ c → (p : Serving S) → Good r (judged_turn store buckets r (take r.length rest) c p (drop r.length rest))
-    judged_good whole (Some code) is p = refusal_good r code p (drop r.length rest)
-    judged_good whole None is p =
-        let body = take r.length rest in
-        plan_good r body (record { rest = rest; admitted = is_admitted; whole = whole; body_is = refl; unrefused = is }) store (order_of r.ask body) refl p (drop r.length rest)
-
-    body_good : (p : Serving S) → Good r (body_turn store buckets r p rest)
-    unfolding body_turn
-    body_good p = by_length (nat_le r.length (length rest)) refl
-      where
-        by_length : (b : Bool) → nat_le r.length (length rest) ≡ b →
-            Good r (if b then whole_turn store buckets r (take r.length rest) p (drop r.length rest) else answer_turn r (answer.Refusal IncompleteBody) p rest)
-        by_length true e = judged_good (leb-true r.length (length rest) e) (refusal_of buckets r (take r.length rest)) refl p
-        by_length false e = refusal_good r IncompleteBody p rest
-
-    -- behind the interim line
-    said_of : (text : List ℕ) → Behind r text → IsSaid buckets g last now bytes (interim r ++ text)
-    said_of text (none e) = unanswered r rest is_admitted (ap (λ x. interim r ++ x) e ∙ append-nil (interim r))
-    said_of text (refusal code e) = refused r rest code is_admitted (ap (λ x. interim r ++ x) e)
-    said_of text (reply body it is e) = replied r body it is (ap (λ x. interim r ++ x) e)
-
-    abbrev Fine : Turn S → Type 0
-    Fine t = AllAsked t × IsSaid buckets g last now bytes t.text
-
-    waiting_fine : (p : Serving S) → Fine (waiting_turn store buckets r p rest)
-    waiting_fine p = let h = body_good p in (h.0, said_of (body_turn store buckets r p rest).text h.1)
-
-    request_fine : (p : Serving S) → Fine (request_turn store buckets r p rest)
+    -- it is so whether too much was put or copied or not
+    counting_good : (r : Request) (size : ℕ) (p : Serving S) (go : Serving S → Turn S) → ((q : Serving S) → Good r (go q)) → Good r (counting size p go)
     unfolding counting
-    request_fine p =
-        let size = counted_before buckets.names r.ask r.length in
-        elim (nat_lt kept_limit (p.kept + size)) as (λ b. Fine (if b then exceeded (counted size p) else waiting_turn store buckets r (counted size p) rest)) [
-          | true ↦ (tt, nothing refl)
-          | false ↦ waiting_fine (counted size p)
+    counting_good r size p go h =
+        elim (nat_lt kept_limit (p.kept + size)) as (λ b. Good r (if b then exceeded (counted size p) else go (counted size p))) [
+          | true ↦ (tt, none refl)
+          | false ↦ h (counted size p)
         ]
+
+    refusal_good : (r : Request) (code : Code) (p : Serving S) (rest : List ℕ) → Good r (answer_turn r (answer.Refusal code) p rest)
+    refusal_good r code p rest = (tt, refusal code refl)
+
+    module _ (r : Request) (body : List ℕ) (is : IsRequest buckets g last now bytes r body) where
+      answer_good : (a : Answer) (p : Serving S) (rest : List ℕ) → Good r (answer_turn r a p rest)
+      answer_good (answer.Reply it) p rest = (tt, reply body it is refl)
+      answer_good (answer.Refusal code) p rest = refusal_good r code p rest
+      answer_good answer.Nothing p rest = (tt, none refl)
+
+      end_good : (e : Option FlowEnd) (p : Serving S) (rest : List ℕ) → Good r (end_turn r e p rest)
+      end_good None p rest = answer_good answer.Nothing p rest
+      end_good (Some e) p rest = counting_good r (counted_after r.ask e) p (λ q. answer_turn r (answer_to r.ask e) q rest) (λ q. answer_good (answer_to r.ask e) q rest)
+
+      plan_good : (store : Store S) (o : Option Order) → order_of r.ask body ≡ o → (p : Serving S) (rest : List ℕ) → Good r (plan_turn store buckets r o p rest)
+      plan_good store (Some order) asks p rest =
+          let c = store.carries p.store r.time order in
+          let h = end_good c.end (record p { store = c.state }) rest in
+          ((record { request = r; body = body; is_request = is; asks = asks }, h.0), h.1)
+      plan_good store None asks p rest = answer_good (answer.Reply (reply_without buckets r.who r.ask)) p rest
+
+    module _ (store : Store S) (front rest : List ℕ) (head : Head) (cut_is : cut bytes ≡ ends front rest) (read : g.head_of front ≡ Some head) (asked : Admitted) (allows : IsAllowed buckets.access now head asked) where
+      abbrev r : Request
+      r = request_of last now head asked
+
+      is_admitted : IsAdmitted buckets g last now bytes r rest
+      is_admitted = record { front = front; head = head; cut_is = cut_is; read = read; asked = asked; allowed = allows; is_of = refl }
+
+      judged_good : r.length ≤ length rest → (c : Option Code) → refusal_of buckets r (take r.length rest) ≡ c → (p : Serving S) → Good r (judged_turn store buckets r (take r.length rest) c p (drop r.length rest))
+      judged_good whole (Some code) is p = refusal_good r code p (drop r.length rest)
+      judged_good whole None is p =
+          let body = take r.length rest in
+          plan_good r body (record { rest = rest; admitted = is_admitted; whole = whole; body_is = refl; unrefused = is }) store (order_of r.ask body) refl p (drop r.length rest)
+
+      body_good : (p : Serving S) → Good r (body_turn store buckets r p rest)
+      unfolding body_turn
+      body_good p = by_length (nat_le r.length (length rest)) refl
+        where
+          by_length : (b : Bool) → nat_le r.length (length rest) ≡ b →
+              Good r (if b then whole_turn store buckets r (take r.length rest) p (drop r.length rest) else answer_turn r (answer.Refusal IncompleteBody) p rest)
+          by_length true e = judged_good (leb-true r.length (length rest) e) (refusal_of buckets r (take r.length rest)) refl p
+          by_length false e = refusal_good r IncompleteBody p rest
+
+      -- behind the interim line
+      said_of : (text : List ℕ) → Behind r text → IsSaid buckets g last now bytes (interim r ++ text)
+      said_of text (none e) = unanswered r rest is_admitted (ap (λ x. interim r ++ x) e ∙ append-nil (interim r))
+      said_of text (refusal code e) = refused r rest code is_admitted (ap (λ x. interim r ++ x) e)
+      said_of text (reply body it is e) = replied r body it is (ap (λ x. interim r ++ x) e)
+
+      abbrev Fine : Turn S → Type 0
+      Fine t = AllAsked t × IsSaid buckets g last now bytes t.text
+
+      waiting_fine : (p : Serving S) → Fine (waiting_turn store buckets r p rest)
+      waiting_fine p = let h = body_good p in (h.0, said_of (body_turn store buckets r p rest).text h.1)
+
+      request_fine : (p : Serving S) → Fine (request_turn store buckets r p rest)
+      unfolding counting
+      request_fine p =
+          let size = counted_before buckets.names r.ask r.length in
+          elim (nat_lt kept_limit (p.kept + size)) as (λ b. Fine (if b then exceeded (counted size p) else waiting_turn store buckets r (counted size p) rest)) [
+            | true ↦ (tt, nothing refl)
+            | false ↦ waiting_fine (counted size p)
+          ]
 
 module _ {S : Type 0} (store : Store S) (buckets : Buckets) (some : is_empty buckets.access.keys ≡ false) (g : Grammar) (last : Bool) (bytes : List ℕ) (p : Serving S) where
   abbrev now : ℕ
