@@ -1,4 +1,5 @@
 pub mod Checks
 pub mod Finish
 pub mod Index
+pub mod Stale
 pub mod Table

@@ -1,0 +1,4 @@
+pub mod Sides
+pub mod Tests
+pub mod Marks
+pub mod Weights

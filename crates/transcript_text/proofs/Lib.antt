@@ -1,0 +1,4 @@
+pub mod Inverse
+pub mod Stamps
+pub mod Lists
+pub mod Lines
