@@ -67,9 +67,10 @@ module _ (roles : List Role) where
   spread_decides r set = Decides-and (is_three roles set) (nat_le r (length (zones_of roles set))) (three_decides set) (le_decides r (length (zones_of roles set)))
 
   room_decides : (size : ℕ) (sets : List NodeSet) → Decides (list_all (has_room size sets) roles) (All (λ role. load sets role.node ≤ room size role) (storage_nodes roles))
-  room_decides size sets =
-      (λ t. (all_decides (λ role. nat_le (load sets role.node) (room size role)) (λ role. load sets role.node ≤ room size role) (λ role. le_decides (load sets role.node) (room size role)) (storage_nodes roles)).0 (sym (kept size sets roles) ∙ t),
-       λ all. kept size sets roles ∙ (all_decides (λ role. nat_le (load sets role.node) (room size role)) (λ role. load sets role.node ≤ room size role) (λ role. le_decides (load sets role.node) (room size role)) (storage_nodes roles)).1 all)
+  room_decides size sets = (
+    λ t. (all_decides (λ role. nat_le (load sets role.node) (room size role)) (λ role. load sets role.node ≤ room size role) (λ role. le_decides (load sets role.node) (room size role)) (storage_nodes roles)).0 (sym (kept size sets roles) ∙ t),
+    λ all. kept size sets roles ∙ (all_decides (λ role. nat_le (load sets role.node) (room size role)) (λ role. load sets role.node ≤ room size role) (λ role. le_decides (load sets role.node) (room size role)) (storage_nodes roles)).1 all,
+  )
 
   pub fits_decides : (r size : ℕ) (sets : List NodeSet) → Decides (passes roles r size sets) (Fits roles r size sets)
   unfolding partitions

@@ -65,8 +65,7 @@ pub(crate) fn node_state(words: &[&[u8]]) -> Result<(u64, u64, u64, [u8; 32]), L
 {
     match *words {
         [node, rows_name, rows, blocks_name, blocks, top_name, top]
-            if is(rows_name, b"rows") && is(blocks_name, b"blocks") && is(top_name, b"top") =>
-        {
+            if is(rows_name, b"rows") && is(blocks_name, b"blocks") && is(top_name, b"top") => {
             Ok((whole(node)?, whole(rows)?, whole(blocks)?, hash(top)?))
         }
         _ => Err(LineFault::Outside),

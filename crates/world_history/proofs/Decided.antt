@@ -253,7 +253,7 @@ module _ (h : List Record) where
       let reads : is_read s.kind ≡ true = s.reads in
       let finished : finish h i q ≡ Some (j, s.answer) = s.finished in
       let owes : (covers_all h i j s.kind s.bucket s.own s.answer && shows_written h j s.kind s.bucket s.own s.answer) ≡ false =
-          fails _ (parts-Decides i s.kind s.bucket s.own (j, s.answer)) (λ parts. s.stale (whole parts)) in
+      fails _ (parts-Decides i s.kind s.bucket s.own (j, s.answer)) (λ parts. s.stale (whole parts)) in
       ap (stale_of h i) s.began.1 ∙ rw (reads, finished, owes) refl
 
   -- a stale read began at one of the places
