@@ -4,7 +4,7 @@ use Rattle.std.specs.List.{AllByRecursion}
 use Rattle.history_model.specs.declared.record.Record.{Record}
 use Rattle.history_model.specs.Fresh.{Fresh}
 use Rattle.history_model.specs.Pairs.{pair_count}
-use Rattle.world_history.specs.Stale.{IsFirstStale}
+use Rattle.stale_model.specs.Stale.{IsFirstStale}
 use Rattle.cluster_machine.specs.Choices.{Decision, IsNone}
 use Rattle.cluster_machine.specs.Step.{given, none_given}
 use Rattle.cluster_machine.specs.Worlds.{newest_at, comes_to_layout}

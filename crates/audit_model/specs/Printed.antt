@@ -13,7 +13,7 @@ use Rattle.layout_roles.specs.Fits.{NodeSet, Fits}
 use Rattle.layout_roles.specs.Network.{network}
 use Rattle.layout_roles.specs.Cuts.{IsCut, weight}
 use Rattle.layout_roles.specs.Certificates.{zones_wanted}
-use Rattle.layout_judge.specs.Sides.{set_of}
+use Rattle.side_model.specs.Sides.{set_of}
 use Rattle.cluster_machine.specs.World.{staged}
 use Rattle.cluster_machine.specs.Trio.{stage_trio}
 use Rattle.cluster_machine.specs.declared.applied.Applied.{Applied}

@@ -1,4 +1,3 @@
-pub mod Sides
 pub mod Tests
 pub mod Marks
 pub mod Weights

@@ -4,7 +4,7 @@ use Rattle.layout_roles.specs.declared.vertex.Vertex.{Vertex}
 use Rattle.layout_roles.specs.declared.vertex.Vertex.TheVariants.{Source, Up, Down, Zone, Node, Sink}
 use Rattle.layout_roles.specs.Cuts.{Side}
 use Rattle.layout_judge.specs.declared.marks.Table.{Table}
-use Rattle.layout_judge.specs.Sides.{set_of}
+use Rattle.side_model.specs.Sides.{set_of}
 
 -- partitions, zones and nodes are numbers of one byte
 abbrev pub IsSmall : Vertex → Type 0

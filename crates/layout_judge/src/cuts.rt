@@ -6,7 +6,7 @@ ghost use Rattle.layout_roles.specs.Zones.{storage_nodes};
 ghost use Rattle.layout_roles.specs.declared.vertex.Vertex.TheVariants.{Source, Sink};
 ghost use Rattle.layout_roles.specs.Network.{edge, zone_edges, node_edge, network};
 ghost use Rattle.layout_roles.specs.Cuts.{IsCut, leaves, weight};
-ghost use Rattle.layout_judge.specs.Sides.{set_of};
+ghost use Rattle.side_model.specs.Sides.{set_of};
 ghost use Rattle.layout_judge.specs.Weights.{at_most, front_edges};
 
 use crate::marks::Marked;

@@ -2,7 +2,7 @@
 ghost use Rattle.std.specs.Prelude.{◌≡◌, ◌<◌, ◌==◌, ◌||◌, ℕ, false, get_or};
 ghost use Rattle.layout_roles.specs.declared.vertex.Vertex.{Vertex};
 ghost use Rattle.layout_flow.specs.Flows.{same_vertex};
-ghost use Rattle.layout_judge.specs.Sides.{set_of};
+ghost use Rattle.side_model.specs.Sides.{set_of};
 ghost use Rattle.layout_judge.specs.Marks.{IsSmall, is_marked, Marks};
 
 use layout_roles::Vertex;

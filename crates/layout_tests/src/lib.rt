@@ -7,6 +7,8 @@ mod commands;
 #[cfg(test)]
 mod configs;
 #[cfg(test)]
+mod judged;
+#[cfg(test)]
 mod made;
 #[cfg(test)]
 mod moves;

@@ -1,5 +1,5 @@
 -- A version's word is cut at its slash.
-use Rattle.std.proofs.Common.{◌≡◌, ℕ, suc, ◌+◌, ◌<◌, ◌^◌, true, ◌==◌, Option, Some, None, List, [], ◌∷◌, ◌++◌, length, take, drop, get_or, position, refl, sym, ap, ◌∙◌, arith, drop-cons}
+use Rattle.std.proofs.Common.{◌≡◌, ℕ, suc, ◌+◌, ◌<◌, ◌^◌, true, ◌==◌, Option, Some, None, List, [], ◌∷◌, ◌++◌, length, take, drop, get_or, position, Err, refl, sym, ap, ◌∙◌, arith, drop-cons}
 use Rattle.std.specs.Prelude.{decimal, nat_lt}
 use Rattle.std.specs.List.{position_or_len}
 use Rattle.std.proofs.lemmas.List.{take-append-drop, get_or_append_left, length-append}
@@ -7,7 +7,10 @@ use Rattle.std.proofs.lemmas.List.Quantifiers.{position-Some}
 use Rattle.std.proofs.lemmas.List.Sums.{position_or_len_is}
 use Rattle.std.proofs.Math.Seq.{take-append_seam, drop-append-add, get_or-append_seam}
 use Rattle.std.proofs.lemmas.Bool.{eqb-true, lt-ltb}
-use Rattle.audit_model.specs.Lines.{version_word}
+use Rattle.schedule_text.specs.declared.fault.LineFault.{LineFault}
+use Rattle.schedule_text.specs.Reads.{Reads}
+use Rattle.schedule_text.proofs.Inverse.{unread}
+use Rattle.audit_model.specs.Lines.{version_word, IsNumber}
 use Rattle.audit_model.proofs.Read.{numeral_no_slash}
 use Rattle.transcript_text.specs.Words.{IsVersion}
 
@@ -46,3 +49,17 @@ version_whole word i a b found first second =
     let at = position-Some (λ b. b == 47) word i 0 found in
     let byte : get_or word i 0 ≡ 47 = eqb-true (get_or word i 0) 47 at.1 in
     sym (take-append-drop i word) ∙ (λ k. first k ++ (drop-cons word i 0 at.0 ∙ (λ j. byte j ∷ second j)) k)
+
+-- ---- what can't be read
+
+abbrev IsWhole : List ℕ → ℕ → Type 0
+IsWhole word n = (word ≡ decimal n) × IsNumber n
+
+pub ts_unread : (word first : List ℕ) (i : ℕ) → Some i ≡ position (λ b. b == 47) word → first ≡ take i word → (f : LineFault) → Reads (IsWhole first) (Err f) → Reads (IsVersion word) (Err f)
+ts_unread word first i found is f none = unread (IsVersion word) (IsWhole first) f (λ v h. (v.0, (is ∙ (version_cut word i v (sym found) h).0, h.1))) none
+
+pub id_unread : (word second : List ℕ) (i : ℕ) → Some i ≡ position (λ b. b == 47) word → second ≡ drop (suc i) word → (f : LineFault) → Reads (IsWhole second) (Err f) → Reads (IsVersion word) (Err f)
+id_unread word second i found is f none = unread (IsVersion word) (IsWhole second) f (λ v h. (v.1, (is ∙ (version_cut word i v (sym found) h).1, h.2))) none
+
+pub version_read : (word first second : List ℕ) (i a b : ℕ) → Some i ≡ position (λ b. b == 47) word → first ≡ take i word → second ≡ drop (suc i) word → IsWhole first a → IsWhole second b → IsVersion word (a, b)
+version_read word first second i a b found f s h k = (version_whole word i a b (sym found) (sym f ∙ h.0) (sym s ∙ k.0), h.1, k.1)

@@ -100,10 +100,14 @@ fn slash(word: &[u8]) -> Option<usize>
 pub(crate) fn version(word: &[u8]) -> Result<(u64, u64), LineFault>
     ensures { Reads (IsVersion word.now) result }
 {
-    let place = slash(word).ok_or(LineFault::Outside)?;
-    let ts = whole(&word[..place])?;
-    let id = whole(&word[place + 1..])?;
-    Ok((ts, id))
+    match slash(word) {
+        Some(place) => {
+            let ts = whole(&word[..place])?;
+            let id = whole(&word[place + 1..])?;
+            Ok((ts, id))
+        }
+        None => Err(LineFault::Outside),
+    }
 }
 
 // The version that a write finished with.

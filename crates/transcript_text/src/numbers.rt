@@ -6,7 +6,7 @@ ghost use Rattle.audit_model.specs.Lines.{IsNumber};
 ghost use Rattle.transcript_text.specs.Words.{IsAlone, IsPair, IsTriple, IsDigest};
 
 use hex::{FromHex, encode_to_slice};
-use schedule_text::{LineFault, decimal_number, number};
+use schedule_text::{LineFault, decimal_number, is, number};
 
 /// A number.
 pub(crate) fn whole(word: &[u8]) -> Result<u64, LineFault>
@@ -62,9 +62,13 @@ fn sixteen_bytes(word: &[u8]) -> Option<[u8; 16]>
 {
     let bytes = <[u8; 16] as FromHex>::from_hex(word).ok()?;
     // Capital letters are read too, but aren't how bytes are spelled.
-    let mut text = [0; 32];
-    encode_to_slice(&bytes, &mut text).ok()?;
-    if text == *word { Some(bytes) } else { None }
+    let mut text_of_sixteen = [0; 32];
+    encode_to_slice(&bytes, &mut text_of_sixteen).ok()?;
+    if is(&text_of_sixteen, word) {
+        Some(bytes)
+    } else {
+        None
+    }
 }
 
 fn thirty_two_bytes(word: &[u8]) -> Option<[u8; 32]>
@@ -73,7 +77,7 @@ fn thirty_two_bytes(word: &[u8]) -> Option<[u8; 32]>
     let bytes = <[u8; 32] as FromHex>::from_hex(word).ok()?;
     let mut text = [0; 64];
     encode_to_slice(&bytes, &mut text).ok()?;
-    if text == *word { Some(bytes) } else { None }
+    if is(&text, word) { Some(bytes) } else { None }
 }
 
 /// An MD5 in lower-case hexadecimal.

@@ -1,5 +1,5 @@
 //! Words that name vertices of a cut.
-ghost use Rattle.std.specs.Prelude.{◌≡◌, ◌++◌, false};
+ghost use Rattle.std.specs.Prelude.{◌≡◌, ◌++◌};
 ghost use Rattle.schedule_text.specs.Reads.{Reads};
 ghost use Rattle.schedule_text.specs.Kinds.{texts};
 ghost use Rattle.audit_model.specs.Lines.{word_where};

@@ -4,7 +4,7 @@ use Rattle.std.proofs.lemmas.Bool.{ltb-true, ltb-false}
 use Rattle.history_model.specs.declared.record.Record.{Record}
 use Rattle.history_model.specs.Fresh.{Fresh}
 use Rattle.world_history.specs.Checks.{stale_at, earlier_of, IsFirstBelow}
-use Rattle.world_history.specs.Stale.{IsStaleRead, IsFirstStale}
+use Rattle.stale_model.specs.Stale.{IsStaleRead, IsFirstStale}
 use Rattle.world_history.proofs.Decided.{stale_there, stale_found, stale_within, none_stale, no_stale}
 
 abbrev Place : Type 0

@@ -1,5 +1,4 @@
 pub mod Checks
 pub mod Finish
 pub mod Index
-pub mod Stale
 pub mod Table

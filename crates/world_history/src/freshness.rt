@@ -2,7 +2,7 @@
 ghost use Rattle.std.specs.Prelude.{◌≡◌, ◌<◌, ◌↔◌, length, IsTrue, IsNone, IfSome, IfOk};
 ghost use Rattle.crdt_core.specs.Outcomes.{OnlyWant};
 ghost use Rattle.world_history.specs.Checks.{stale_at, earlier_of, IsFirstBelow};
-ghost use Rattle.world_history.specs.Stale.{IsFirstStale};
+ghost use Rattle.stale_model.specs.Stale.{IsFirstStale};
 ghost use Rattle.history_model.specs.Fresh.{Fresh};
 
 use crate::finish::finish;

@@ -1,6 +1,6 @@
 use Rattle.std.proofs.Common.{◌≡◌}
 use Rattle.std.specs.List.{sum_by, range_with_len}
-use Rattle.layout_judge.specs.Sides.{set_of}
+use Rattle.side_model.specs.Sides.{set_of}
 use Rattle.layout_judge.specs.Weights.{at_most}
 use Rattle.layout_judge.proofs.Weighed.{fronts}
 use Rattle.layout_judge.proofs.cuts.front_weight.Given as goal

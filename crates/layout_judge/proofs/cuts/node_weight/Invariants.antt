@@ -1,6 +1,6 @@
 use Rattle.std.proofs.Common.{◌≡◌, take}
 use Rattle.std.specs.List.{sum_by}
-use Rattle.layout_judge.specs.Sides.{set_of}
+use Rattle.side_model.specs.Sides.{set_of}
 use Rattle.layout_judge.specs.Weights.{at_most}
 use Rattle.layout_judge.proofs.Weighed.{of_storage}
 use Rattle.layout_judge.proofs.cuts.node_weight.Given as goal

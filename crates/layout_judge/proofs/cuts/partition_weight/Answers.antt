@@ -3,7 +3,7 @@ use Rattle.std.specs.List.{sum_by, enumerate_from}
 use Rattle.std.proofs.lemmas.List.{take_all}
 use Rattle.std.proofs.lemmas.List.FromFn.{length-enumerate_from}
 use Rattle.layout_roles.specs.declared.role.Role.{Role}
-use Rattle.layout_judge.specs.Sides.{set_of}
+use Rattle.side_model.specs.Sides.{set_of}
 use Rattle.layout_judge.specs.Weights.{at_most}
 use Rattle.layout_judge.proofs.Weighed.{front, zone_weighs, front_is}
 use Rattle.layout_judge.proofs.cuts.partition_weight.Goals as goal

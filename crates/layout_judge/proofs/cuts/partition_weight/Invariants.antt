@@ -1,6 +1,6 @@
 use Rattle.std.proofs.Common.{◌≡◌, ◌+◌, take}
 use Rattle.std.specs.List.{sum_by, enumerate_from}
-use Rattle.layout_judge.specs.Sides.{set_of}
+use Rattle.side_model.specs.Sides.{set_of}
 use Rattle.layout_judge.specs.Weights.{at_most}
 use Rattle.layout_judge.proofs.Weighed.{front, zone_weighs}
 use Rattle.layout_judge.proofs.cuts.partition_weight.Given as goal

@@ -2,7 +2,7 @@ use Rattle.std.proofs.Common.{◌≡◌, ◌+◌, List, take, sym, ap, ◌∙◌
 use Rattle.std.specs.List.{sum_by}
 use Rattle.std.proofs.lemmas.List.{take_all}
 use Rattle.layout_roles.specs.declared.role.Role.{Role}
-use Rattle.layout_judge.specs.Sides.{set_of}
+use Rattle.side_model.specs.Sides.{set_of}
 use Rattle.layout_judge.specs.Weights.{at_most}
 use Rattle.layout_judge.proofs.Weighed.{zone_front, to_node, zone_is}
 use Rattle.layout_judge.proofs.cuts.zone_weight.Goals as goal
