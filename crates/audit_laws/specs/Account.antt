@@ -39,6 +39,7 @@ abbrev pub blunt_cause : Cause → Cause
 blunt_cause (cause.Superseded id) = cause.Superseded 0
 blunt_cause c = c
 
+-- a record without that identifier
 abbrev pub blunt : Record → Record
 blunt (HasEnded q c) = HasEnded q (blunt_cause c)
 blunt r = r
@@ -48,6 +49,7 @@ abbrev pub began_record : ℕ → Order → Words → List Record
 began_record n order (One q) = let name = name_of order in Began q n (kind_of order) name.bucket name.key ∷ []
 began_record n order words = []
 
+-- the same, of an act that begins one
 abbrev pub began_of : Act → Outcome → List Record
 began_of (asks n order) o = began_record n order o.words
 began_of act o = []

@@ -74,6 +74,7 @@ pub record DifferFirst (a b : List (List ℕ)) (k : ℕ) : Type 0 where
 
 -- ---- what is found
 
+-- what an audit can find
 pub data Finding : Type 0 where
   unreadable : ℕ → Finding
   stale : ℕ → Finding

@@ -38,6 +38,7 @@ pub record Asking : Type 0 where
   pub bucket : List ℕ
   pub key : List ℕ
 
+-- none of an event that is no request
 abbrev pub asking_of : Event → Option Asking
 asking_of (Put n bucket key size fill) = Some (record { node = n; kind = kind.Put; bucket = bucket; key = key })
 asking_of (Get n bucket key) = Some (record { node = n; kind = kind.Get; bucket = bucket; key = key })
@@ -93,6 +94,7 @@ pub record Heard : Type 0 where
   pub history : List Record
   pub listing : Option Listing
 
+-- before the first line
 abbrev pub nothing_heard : Heard
 nothing_heard = record { asked = []; history = []; listing = None }
 
@@ -122,9 +124,11 @@ tells h None told = None
 tells h (Some event) (Accepted words) = accepts h event (asking_of event) words
 tells h (Some event) (Refused reason) = Some h
 
+-- a version by its timestamp and its identifier
 abbrev pub version_of : ℕ × ℕ → Version
 version_of v = record { ts = v.0; id = v.1 }
 
+-- the answer that a record has, without size and MD5
 abbrev pub answer_of : Answered → Answer
 answer_of (answered.Version version size md5) = answer.Version (version_of version)
 answer_of answered.None = answer.None
@@ -160,10 +164,12 @@ heard events h (said.Ended q word) = of_request h (λ k. true) (kind_at h.asked 
 heard events h (said.Key key version size) = None
 heard events h other = Some h
 
+-- a line is a key where a list waits for one, else anything but a key
 abbrev pub hears_in : List Numbered → Heard → Option Listing → Said → Option Heard
 hears_in events h None s = heard events h s
 hears_in events h (Some l) s = listed h l s
 
+-- what is heard after one line more, none where it can't be heard
 abbrev pub hears : List Numbered → Heard → Said → Option Heard
 hears events h s = hears_in events h h.listing s
 

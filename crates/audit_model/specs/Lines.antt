@@ -41,6 +41,7 @@ answer_words (One n) = decimal n ∷ []
 answer_words (Idle read least) = codes "idle" ∷ decimal read ∷ decimal least ∷ []
 answer_words (Two a b) = decimal a ∷ decimal b ∷ []
 
+-- accepted or refused, and with what
 abbrev pub told_words : Told → List (List ℕ)
 told_words (Accepted words) = codes "ok" ∷ answer_words words
 told_words (Refused reason) = codes "refused" ∷ refusal_words reason
@@ -54,6 +55,7 @@ abbrev pub word_if : {A : Type 0} → (A → List ℕ) → Option A → List (Li
 word_if word None = []
 word_if word (Some a) = word a ∷ []
 
+-- a version with what else is told of it, or none
 abbrev pub answered_words : Answered → List (List ℕ)
 answered_words (answered.Version version size md5) = version_word version ∷ word_if decimal size ++ word_if encode_lower md5
 answered_words answered.None = codes "none" ∷ []
@@ -93,6 +95,7 @@ words_of (End events requests messages) = codes "end" ∷ decimal events ∷ dec
 abbrev pub IsNumber : ℕ → Type 0
 IsNumber n = n < 2 ^ 64
 
+-- each of them is
 abbrev pub AreNumbers : List ℕ → Type 0
 AreNumbers ns = AllByRecursion IsNumber ns
 
@@ -115,6 +118,7 @@ answer_numbers (One n) = (n, 2 ^ 64) ∷ []
 answer_numbers (Idle read least) = (read, 2 ^ 32) ∷ (least, 2 ^ 32) ∷ []
 answer_numbers (Two a b) = (a, 2 ^ 64) ∷ (b, 2 ^ 64) ∷ []
 
+-- the numbers of what an event answered
 abbrev pub told_numbers : Told → List (ℕ × ℕ)
 told_numbers (Accepted words) = answer_numbers words
 told_numbers (Refused reason) = refusal_numbers reason

@@ -29,10 +29,12 @@ use Rattle.audit_model.specs.Heard.{event_at}
 
 -- ---- what is staged
 
+-- the roles and the redundancy of the layout that is computed next
 pub record Staged : Type 0 where
   pub roles : List Role
   pub wanted : Redundancy
 
+-- before the first event
 abbrev pub nothing_staged : Staged
 nothing_staged = record { roles = []; wanted = Maximum }
 
@@ -43,6 +45,7 @@ stages s (event.Role n role) = record s { roles = staged n role s.roles }
 stages s (event.Redundancy wanted) = record s { wanted = wanted }
 stages s other = s
 
+-- the same where the transcript says that it was accepted
 abbrev pub stages_if : Staged → Option Event → Told → Staged
 stages_if s (Some e) (Accepted words) = stages s e
 stages_if s e told = s
@@ -66,6 +69,7 @@ where_is false v = []
 abbrev pub zone_at : List Name → Name → Option ℕ
 zone_at names name = position (same_name name) names
 
+-- the vertex of a partition and the zone of this name, if there is such a zone
 abbrev pub zone_vertex : List Name → ℕ → Name → List Vertex
 zone_vertex names p name = elim (zone_at names name) as (λ o. List Vertex) [ None ↦ [] | Some i ↦ Zone p i ∷ [] ]
 

@@ -32,6 +32,7 @@ abbrev pub two_numbers : List (List ℕ) → ℕ × ℕ
 two_numbers (a ∷ b ∷ []) = (number_in a, number_in b)
 two_numbers other = (0, 0)
 
+-- the version that a word spells
 abbrev pub version_in : List ℕ → ℕ × ℕ
 version_in word = two_numbers (slice_split (λ b. b == 47) word)
 
@@ -40,9 +41,11 @@ abbrev pub bytes_or_none : Result (List ℕ) FromHexError → List ℕ
 bytes_or_none (Ok bytes) = bytes
 bytes_or_none (Err e) = []
 
+-- the bytes that a word spells
 abbrev pub digest_in : List ℕ → List ℕ
 digest_in word = bytes_or_none (decode_of word)
 
+-- the one kind of message that a word can be
 abbrev pub kind_in : List ℕ → SentKind
 kind_in w =
     if bytes_eq w (codes "get") then kind.Get
@@ -61,6 +64,7 @@ kind_in w =
     else if bytes_eq w (codes "differ") then kind.Differ
     else kind.View
 
+-- the one kind of request that a word can be
 abbrev pub done_in : List ℕ → DoneWord
 done_in w =
     if bytes_eq w (codes "put") then done.Put
@@ -69,11 +73,13 @@ done_in w =
     else if bytes_eq w (codes "delete") then done.Delete
     else done.Copy
 
+-- the one cause that a word can be
 abbrev pub end_in : List ℕ → EndWord
 end_in w = if bytes_eq w (codes "expired") then ending.Expired else if bytes_eq w (codes "restarted") then ending.Restarted else ending.Superseded
 
 -- ---- events
 
+-- the one answer that words can be
 abbrev pub answer_in : List (List ℕ) → Words
 answer_in (a ∷ []) = One (number_in a)
 answer_in (a ∷ b ∷ []) = Two (number_in a) (number_in b)
@@ -98,15 +104,18 @@ numbered_refusal w n =
     else if bytes_eq w (codes "TooFewNodes") then TooFewNodes n
     else NoAssignment n
 
+-- the one refusal that words can be
 abbrev pub refusal_in : List (List ℕ) → Refusal ℕ
 refusal_in (w ∷ n ∷ []) = numbered_refusal w (number_in n)
 refusal_in (w ∷ a ∷ b ∷ []) = TooFewZones (number_in a) (number_in b)
 refusal_in (w ∷ ws) = plain_refusal w
 refusal_in [] = AlreadyEnded
 
+-- what an event answered, by the word behind its name and the rest
 abbrev pub told_in : List ℕ → List (List ℕ) → Told
 told_in w ws = if bytes_eq w (codes "ok") then Accepted (answer_in ws) else Refused (refusal_in ws)
 
+-- the line of an event, behind its number
 abbrev pub event_in : ℕ → List (List ℕ) → Option Said
 event_in line (name ∷ w ∷ ws) = Some (Event line name (told_in w ws))
 event_in line other = None
@@ -118,21 +127,26 @@ abbrev pub begins : List ℕ → List (List ℕ) → Bool
 begins w [] = false
 begins w (v ∷ vs) = bytes_eq v w
 
+-- the words without the first one, where it is left out
 abbrev pub behind : Bool → List (List ℕ) → List (List ℕ)
 behind true (w ∷ ws) = ws
 behind b ws = ws
 
+-- the names of zones, without what stands before each
 abbrev pub zones_in : List (List ℕ) → List (List ℕ)
 zones_in ws = map (λ w. drop 2 w) ws
 
+-- a side's line behind `up`
 abbrev pub side_rest : ℕ → ℕ → Bool → List (List ℕ) → Option Said
 side_rest first last up ws =
     let down = begins (codes "down") ws in Some (Side first last up down (zones_in (behind down ws)))
 
+-- a side's line behind its first word
 abbrev pub side_said : List (List ℕ) → Option Said
 side_said (first ∷ last ∷ ws) = let up = begins (codes "up") ws in side_rest (number_in first) (number_in last) up (behind up ws)
 side_said other = None
 
+-- a line of a word and a number
 abbrev pub one_said : List ℕ → ℕ → Said
 one_said w n =
     if bytes_eq w (codes "size") then Size n
@@ -140,6 +154,7 @@ one_said w n =
     else if bytes_eq w (codes "got") then Got n
     else Fresh n
 
+-- a line of a word, a number and one word more
 abbrev pub two_said : List ℕ → ℕ → List ℕ → Said
 two_said w n b =
     if bytes_eq w (codes "cut") then Cut n (number_in b)
@@ -150,22 +165,26 @@ two_said w n b =
 abbrev pub answered_in : List ℕ → Answered
 answered_in c = if is_number c then answered.Version (version_in c) None None else answered.None
 
+-- a line of a word and three more
 abbrev pub three_said : List ℕ → List ℕ → List ℕ → List ℕ → Said
 three_said w a b c =
     if bytes_eq w (codes "done") then (if bytes_eq b (codes "list") then Listed (number_in a) (number_in c) else Done (number_in a) (done_in b) (answered_in c))
     else if bytes_eq w (codes "key") then Key a (version_in b) (number_in c)
     else End (number_in a) (number_in b) (number_in c)
 
+-- a line of a word and four more
 abbrev pub four_said : List ℕ → List ℕ → List ℕ → List ℕ → List ℕ → Said
 four_said w a b c d =
     if bytes_eq w (codes "done") then Done (number_in a) (done_in b) (answered.Version (version_in c) (Some (number_in d)) None)
     else Sent (number_in a) (kind_in b) (number_in c) (number_in d)
 
+-- a line of a word and five more
 abbrev pub five_said : List ℕ → List ℕ → List ℕ → List ℕ → List ℕ → List ℕ → Said
 five_said w a b c d e =
     if bytes_eq w (codes "done") then Done (number_in a) (done_in b) (answered.Version (version_in c) (Some (number_in d)) (Some (digest_in e)))
     else Sets (number_in a) (number_in b) (number_in c, number_in d, number_in e)
 
+-- a line of a word and others, by how many they are
 abbrev pub by_count : List ℕ → List (List ℕ) → Option Said
 by_count w (a ∷ []) = Some (one_said w (number_in a))
 by_count w (a ∷ b ∷ []) = Some (two_said w (number_in a) b)
@@ -175,6 +194,7 @@ by_count w (a ∷ b ∷ c ∷ d ∷ e ∷ []) = Some (five_said w a b c d e)
 by_count w (a ∷ b ∷ c ∷ d ∷ e ∷ f ∷ g ∷ []) = Some (Node (number_in a) (number_in c) (number_in e) (digest_in g))
 by_count w other = None
 
+-- a line that begins with a name
 abbrev pub named_in : List ℕ → List (List ℕ) → Option Said
 named_in w ws =
     if bytes_eq w (codes "cn") then Some (Nodes (map number_in ws))
@@ -188,12 +208,15 @@ said_in (w ∷ ws) = if is_number w then event_in (number_in w) ws else named_in
 
 -- ---- the same as tests
 
+-- the number is below 2^64
 abbrev pub is_small : ℕ → Bool
 is_small n = nat_lt n (2 ^ 64)
 
+-- each of them is
 abbrev pub are_small : List ℕ → Bool
 are_small ns = list_all is_small ns
 
+-- each number is below the one beside it
 abbrev pub are_below : List (ℕ × ℕ) → Bool
 are_below ns = list_all (λ n. nat_lt n.0 n.1) ns
 
@@ -201,6 +224,7 @@ are_below ns = list_all (λ n. nat_lt n.0 n.1) ns
 abbrev pub is_digest : ℕ → List ℕ → Bool
 is_digest n bytes = nat_eq (length bytes) n && are_bytes bytes
 
+-- a request of this kind answers so
 abbrev pub is_answer_of : DoneWord → Answered → Bool
 is_answer_of done.Put (answered.Version version None None) = true
 is_answer_of done.Delete (answered.Version version None None) = true
@@ -212,6 +236,7 @@ is_answer_of done.Get answered.None = true
 is_answer_of done.Head answered.None = true
 is_answer_of word answer = false
 
+-- the words of a line are in their ranges
 abbrev pub is_in_range : Said → Bool
 is_in_range (Event line name told) = (is_small line && are_below (told_numbers told)) && list_all is_letter name
 is_in_range (Size size) = is_small size

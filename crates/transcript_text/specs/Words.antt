@@ -84,6 +84,7 @@ IsAnswered word words answer = (words ≡ answered_words answer) × AreNumbers (
 abbrev pub IsZone : List ℕ → List ℕ → Type 0
 IsZone word name = (word ≡ zone_word name) × IsTrue (is_zone_name name)
 
+-- zones on a cut's side, one by one
 abbrev pub AreZones : List (List ℕ) → List (List ℕ) → Type 0
 AreZones words names = (words ≡ map zone_word names) × IsTrue (list_all is_zone_name names)
 
