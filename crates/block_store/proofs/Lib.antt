@@ -1,4 +1,6 @@
 pub mod ByHash
 pub mod InOrder
 pub mod Showing
+pub mod Since
 pub mod Steps
+pub mod Within

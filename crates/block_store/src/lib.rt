@@ -15,6 +15,7 @@
 mod blocks;
 mod fault;
 mod laws;
+mod moments;
 mod shelf;
 
 pub use blocks::Blocks;
