@@ -109,7 +109,7 @@ impl Blocks {
         }
     }
 
-    /// Tells that a live reference has ended, at a clock of `now` milliseconds. Takes no memory.
+    /// Tells that a live reference has ended, at a clock of `now` milliseconds. Needs no memory.
     pub fn dead(&mut self, hash: &Hash32, now: u64)
         requires { 1 ≤ live_count self.old hash.now }
         ensures { self.new ≡ told_dead self.old hash.now now }
