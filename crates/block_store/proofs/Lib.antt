@@ -1,5 +1,6 @@
 pub mod ByHash
 pub mod InOrder
+pub mod SameEntries
 pub mod Showing
 pub mod Since
 pub mod Steps

@@ -2,16 +2,15 @@
 use Rattle.std.proofs.Common.{◌≡◌, ℕ, zero, suc, ◌+◌, ◌-◌, ◌≤◌, Bool, true, false, cond, List, Option, Some, None, refl, sym, ap, ◌∙◌, arith}
 use Rattle.std.specs.Prelude.{◌==◌, ◌&&◌, if◌then◌else◌}
 use Rattle.std.specs.Map.{lookup}
-use Rattle.std.specs.Ordering.{nat_cmp, is_eq}
-use Rattle.std.specs.Cmp.{unsigned_ties, tied_then, tied_itself}
+use Rattle.std.specs.Ordering.{nat_cmp}
+use Rattle.std.specs.Cmp.{unsigned_ties, tied_then}
 use Rattle.std.specs.BTreeMap.{is_at, insert_entry}
 use Rattle.std.specs.Option.{is_some}
 use Rattle.std.specs.BTreeSet.{contains, Updates}
 use Rattle.std.proofs.lemmas.Map.{none_passes_from_lookup}
 use Rattle.blake2_hash.specs.declared.digest.Hash32.{Hash32}
 use Rattle.blake2_hash.specs.Hash.{hash_cmp, is_hash}
-use Rattle.blake2_hash.specs.HashLaws.{hash_total}
-use Rattle.block_store.specs.Contents.{Contents, IsInOrder, block_at, live_count, note_at, put, told_live, told_dead, deleted, idle_notes}
+use Rattle.block_store.specs.Contents.{Contents, IsInOrder, block_at, live_count, note_at, put, told_live, told_dead, deleted}
 use Rattle.block_store.specs.Shelf.{Entries, contents_of}
 use Rattle.block_store.specs.declared.shelf.Kept.{Kept}
 use Rattle.block_store.specs.Moments.{Moments, moment_cmp, idle_since, is_since, AreMoments, Changes}

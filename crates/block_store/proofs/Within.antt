@@ -1,28 +1,27 @@
 -- What a walk over the first moments finds.
-use Rattle.std.proofs.Common.{◌≡◌, ◌≤◌, ◌<◌, ℕ, Bool, true, false, cond, not, List, [], ◌∷◌, Option, Some, None, refl, sym, ap, ◌∙◌, arith, eq-eqb, eqb-true, inl}
-use Rattle.std.specs.Prelude.{◌==◌, ◌&&◌, ◌||◌, nat_le, IsTrue}
+use Rattle.std.proofs.Common.{◌≡◌, ◌≤◌, ◌<◌, ℕ, Bool, true, false, cond, List, [], ◌∷◌, Option, Some, None, refl, sym, ap, ◌∙◌, arith, eq-eqb, eqb-true}
+use Rattle.std.specs.Prelude.{◌==◌, ◌&&◌, ◌||◌, IsTrue}
 use Rattle.std.specs.List.{All, AllByRecursion, filter, list_any}
 use Rattle.std.specs.List.Sorted.{IsStrictlySortedBy}
-use Rattle.std.specs.Map.{keys_of, lookup}
-use Rattle.std.specs.Ordering.{nat_cmp, ordering_then, is_eq, MatchOrdering}
+use Rattle.std.specs.Map.{keys_of}
+use Rattle.std.specs.Ordering.{nat_cmp, ordering_then, MatchOrdering}
 use Rattle.std.specs.Cmp.{ranks, eq_by_cmp_equiv, tied_itself, nat_cmp_total}
 use Rattle.std.specs.declared.cmp.Ordering.{Ordering}
 use Rattle.std.specs.declared.cmp.Ordering.TheVariants.{Less, Equal, Greater}
 use Rattle.std.specs.BTreeMap.{BTreeMap, get, IsOrdered, is_at}
 use Rattle.std.specs.BTreeSet.{contains}
-use Rattle.std.specs.Layout.BTreeMap.{btree_map}
 use Rattle.std.proofs.lemmas.Map.Entries.{option_filter, lookup-filter-values}
 use Rattle.std.proofs.lemmas.Map.Keys.{sorted_head, sorted_tail, IsDistinct-from_sorted}
-use Rattle.std.proofs.lemmas.Map.Lookups.{btree_map_from_get}
 use Rattle.std.proofs.lemmas.List.Elements.{recursion_from_All}
 use Rattle.std.proofs.lemmas.Option.{same_Some}
 use Rattle.crdt_core.proofs.Each.{all_weaker}
 use Rattle.blake2_hash.specs.declared.digest.Hash32.{Hash32}
 use Rattle.blake2_hash.specs.Hash.{hash_cmp, is_hash}
-use Rattle.blake2_hash.specs.HashLaws.{hash_total, hash_identical}
+use Rattle.blake2_hash.specs.HashLaws.{hash_total}
 use Rattle.block_store.specs.Contents.{Contents, IsInOrder, idle_notes, live_count}
 use Rattle.block_store.specs.Moments.{Moments, moment_cmp, idle_since, is_since, is_within, idle_within, AreMoments}
 use Rattle.block_store.proofs.ByHash.{turned}
+use Rattle.block_store.proofs.SameEntries.{same_entries}
 use Rattle.block_store.proofs.Showing.{same_hash}
 use Rattle.block_store.proofs.Since.{at_moment}
 
@@ -171,9 +170,8 @@ idle_in_order c o = sorted_kept (λ n. live_count c n.0 == 0) c.notes o.notes
 listed : (limit : Option ℕ) (c : Contents) (found : BTreeMap Hash32 ℕ) → IsInOrder c → IsOrdered hash_cmp found → AreWithin limit c found → found.entries ≡ idle_within limit c
 listed limit c found order ordered are =
     let sorted = idle_in_order c order in
-    btree_map_from_get hash_total found (btree_map (idle_within limit c) (inl tt)) ordered (sorted_kept (λ n. is_within limit n.1) (idle_notes c) sorted)
+    same_entries found.entries (idle_within limit c) ordered (sorted_kept (λ n. is_within limit n.1) (idle_notes c) sorted)
     (λ q. are q ∙ sym (lookup-filter-values (eq_by_cmp_equiv hash_total) (is_within limit) q (idle_notes c) (IsDistinct-from_sorted hash_cmp (keys_of (idle_notes c)) sorted)))
-    hash_identical
 
 -- at the first moment past the limit
 pub listed_so_far : (limit : Option ℕ) (c : Contents) (e : ℕ × Hash32) (rest : List (ℕ × Hash32)) (found : BTreeMap Hash32 ℕ) → is_within limit e.0 ≡ false → IsInOrder c → Finds limit c (e ∷ rest) found → found.entries ≡ idle_within limit c

@@ -1,7 +1,7 @@
 //! Since when blocks are idle, in order.
 ghost use Rattle.std.specs.Prelude.{◌≡◌, Some, IfOk, true, false};
 ghost use Rattle.crdt_core.specs.Outcomes.{OnlyWant};
-ghost use Rattle.block_store.specs.Contents.{Contents, IsInOrder, idle_notes};
+ghost use Rattle.block_store.specs.Contents.{Contents, IsInOrder};
 ghost use Rattle.block_store.specs.Moments.{AreMoments, Changes, FindsWithin, idle_within, is_within};
 ghost use Rattle.block_store.specs.Shelf.{contents};
 

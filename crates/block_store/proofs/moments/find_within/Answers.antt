@@ -1,4 +1,4 @@
-use Rattle.std.proofs.Common.{◌≡◌, ◌∷◌, List, Some, ℕ, true, false, cond, not, refl, sym, ap, subst, ◌∙◌}
+use Rattle.std.proofs.Common.{sym, ap, subst, ◌∙◌}
 use Rattle.std.specs.Map.{lookup}
 use Rattle.blake2_hash.specs.Hash.{is_hash}
 use Rattle.block_store.proofs.Within.{Finds, start, next, listed_so_far, listed_whole}

@@ -11,7 +11,7 @@ overflow_add-kept c =
 
 pub returns-clause-since : goal.returns-clause-since
 returns-clause-since c =
-    c.since.ensures
+    c.since-since.ensures
     ∙ sym (since_found c.args.hash.now c.in-Some.kept.now c.args.shelf.now.entries c.requires.ordered (sym c.in-Some.ensures.value))
 
 pub returns-clause-told : goal.returns-clause-told

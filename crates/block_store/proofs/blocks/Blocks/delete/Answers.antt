@@ -5,10 +5,10 @@ use Rattle.block_store.proofs.Since.{go_out, stay, not_idle, deleted_sets}
 use Rattle.block_store.proofs.InOrder.{in_order}
 use Rattle.block_store.proofs.blocks.Blocks.delete.Goals as goal
 
-pub remove_unused-requires-unused : goal.remove_unused-requires-unused
-remove_unused-requires-unused c =
+pub remove_unused-requires : goal.remove_unused-requires
+remove_unused-requires c =
     let unused : live_count c.args.self.now c.args.hash.now ≡ 0 = omega (arith, c.count-count.ensures, c.if-count-gt0.false) in
-    ap (λ k. live_count k c.args.hash.now) c.self.view_is ∙ unused
+    record { unused = ap (λ k. live_count k c.args.hash.now) c.self.view_is ∙ unused; ordered = c.self.invariant.ordered }
 
 pub invariant_of-self : goal.invariant_of-self
 invariant_of-self c =
