@@ -79,11 +79,12 @@ fn replayed<O: Sink>(alloc: Global, account: Account, text: &[u8], output: &mut 
 
 /// Replays the schedule that the input spells, and writes an account of it.
 ///
-/// At each moment of the run whose account was written whole, within drains too: answered reads are fresh, also by the
-/// records alone; the sizes and MD5s that lines of reads tell are those of the bytes that were written as the versions beside
-/// them; a read ends superseded only where its version was overwritten, and no open request waits for what never comes;
-/// replicas that accepted the same rows are equal; and the blocks of acknowledged, undeleted versions lie with live
-/// references. Where bytes are kept in blocks, and for these, no two blocks may have one digest.
+/// At each moment of the run whose account was written whole, within drains too: the sizes and MD5s that lines of reads tell
+/// are those of the bytes that were written as the versions beside them, and replicas that accepted the same rows are equal.
+/// And where of the strings that the run hashes for walks no two have one digest, and none has 32 zero bytes: answered reads
+/// are fresh, also by the records alone; a read ends superseded only where its version was overwritten, and no open request
+/// waits for what never comes; and the blocks of acknowledged, undeleted versions lie with live references. Where bytes are
+/// kept in blocks, and for these, no two blocks may have one digest, and walks may not clash.
 pub fn run_replay<I: Source, O: Sink>(
     alloc: Global,
     account: Account,

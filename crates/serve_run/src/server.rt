@@ -169,8 +169,9 @@ fn serve_and_tell<I: Source, O: Sink, L: Link, C: Clock>(
 ///
 /// After Done so many connections were served, no more than are asked for, and fewer only where no more come, by a server of
 /// the plan that the input says. Its acts are lawful and fit, from nothing on: buckets, size of blocks and the first layout,
-/// and then the acts of each request. At each moment of them, within drains too, answered reads are fresh, also by the records
-/// alone; what lines of reads tell of a version's bytes is as was written; and replicas that accepted the same rows are equal.
+/// and then the acts of each request. At each moment of them, within drains too, what lines of reads tell of a version's bytes
+/// is as was written, and replicas that accepted the same rows are equal; and answered reads are fresh, also by the records
+/// alone, where no digests of walks clash (a server begins no round and no repair).
 /// What was written is the text of the state after these acts; and where clock and link tell, what was written to each
 /// connection is what is stated of its bytes, from what the connections before it left, or a first part of that where its count
 /// of faults rose, and they led to this very state. And each text is the one that a server writes which is one map from names
