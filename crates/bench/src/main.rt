@@ -1,23 +1,26 @@
 //! Jobs that are timed. `bench JOB ARGUMENTS..` does the job that its first word names, and prints what
-//! comes out and never a time; the scripts `bench/compare`, `bench/replay`, `bench/http`, `bench/trie` and
-//! `bench/moves` take the times.
+//! comes out and never a time; the scripts `bench/compare`, `bench/replay`, `bench/http`, `bench/trie`,
+//! `bench/due` and `bench/moves` take the times.
 //!
 //! - `hash BYTES`: the BLAKE2b digest of 32 bytes, in hexadecimal, of a message of that many bytes,
 //!   of which byte i is i modulo 251.
 //! - `trie PAIRS CHANGES`: the root of a trie of that many pairs, in hexadecimal, after that many changes that were
 //!   settled one after the other.
+//! - `due BLOCKS CALLS`: how many of so many blocks that are idle since just now are due, asked CALLS times.
 //! - `replay`: a schedule of 100,000 events, for `garage_lab replay`.
 //! - `moves`: what `layout --moves` answers to the configuration on standard input.
 //! - `http SIZE COUNT`: reads COUNT heads of 16,384 bytes, each of a connection that gives SIZE bytes at a
 //!   time, and prints how many bytes their targets have.
 #![tactic(auto)]
 
+mod dues;
 mod hashing;
 mod heads;
 mod moves;
 mod schedule;
 mod tries;
 
+use dues::due_count;
 use hashing::pattern_digest;
 use heads::targets_read;
 use lab_outside::{StdSink, StdSource, write_whole};
@@ -38,6 +41,7 @@ fn main(rt: HostRuntime) -> io::Result<ExitCode> {
         [job, pairs, changes] if job.as_str() == "trie" => {
             trie(&rt, pairs.as_str(), changes.as_str())
         }
+        [job, blocks, calls] if job.as_str() == "due" => due(&rt, blocks.as_str(), calls.as_str()),
         _ => usage(&rt),
     }
 }
@@ -65,6 +69,26 @@ fn trie(
         Ok(root) => {
             let text = hex::encode(rt.alloc(), &root.0)?;
             println!(rt; "{text}")?;
+            Ok(ExitCode::SUCCESS)
+        }
+        Err(_) => {
+            eprintln!(rt; "out of memory")?;
+            Ok(ExitCode::FAILURE)
+        }
+    }
+}
+
+fn due(
+    rt: &(impl Print + Eprint + Alloc<A = Global>),
+    blocks: &str,
+    calls: &str,
+) -> io::Result<ExitCode> {
+    let (Ok(block_count), Ok(call_count)) = (blocks.parse::<u64>(), calls.parse::<u64>()) else {
+        return usage(rt);
+    };
+    match due_count(rt.alloc(), block_count, call_count) {
+        Ok(count) => {
+            println!(rt; "{count}")?;
             Ok(ExitCode::SUCCESS)
         }
         Err(_) => {
@@ -116,7 +140,7 @@ fn http(
 
 fn usage(rt: &impl Eprint) -> io::Result<ExitCode> {
     eprintln!(rt;
-        "usage: bench hash BYTES | replay | moves | http SIZE COUNT | trie PAIRS CHANGES"
+        "usage: bench hash BYTES | replay | moves | http SIZE COUNT | trie PAIRS CHANGES | due BLOCKS CALLS"
     )?;
     Ok(ExitCode::from(2))
 }

@@ -116,11 +116,11 @@ impl Resync {
         ensures hashes { IfOk result (λ v. v.items ≡ due_of now (idle_notes blocks.now)) }
         ensures want { OnlyWant result }
     {
-        let idle = blocks.idle()?;
-        let due = idle
-            .iter()
-            .filter(|entry| now.saturating_sub(entry.1) >= DELETE_DELAY);
-        Ok(due.map(|entry| entry.0).collect(self.items.allocator())?)
+        let Some(moment) = now.checked_sub(DELETE_DELAY) else {
+            return Ok(Vec::new(self.items.allocator()));
+        };
+        let due = blocks.idle_until(moment)?;
+        hashes_of(self.items.allocator(), due.as_slice())
     }
 }
 
@@ -131,4 +131,11 @@ fn forget_all(items: &mut List<Item>)
         let item = items.at_mut(i);
         item.confirmed.truncate(0);
     }
+}
+
+fn hashes_of(alloc: Global, notes: &[(Hash32, u64)]) -> Result<Vec<Hash32>, Memory>
+    ensures hashes { IfOk result (λ v. v.items ≡ map (λ n. n.0) notes.now) }
+    ensures want { OnlyWant result }
+{
+    Ok(notes.iter().map(|note| note.0).collect(alloc)?)
 }

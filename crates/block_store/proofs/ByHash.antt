@@ -18,7 +18,7 @@ use Rattle.blake2_hash.specs.HashLaws.{hash_total, hash_identical}
 use Rattle.block_store.specs.Contents.{Contents, block_at, live_count, note_at, placed, without, put, told_dead, idle_notes}
 use Rattle.block_store.proofs.Showing.{one_at, same_hash}
 
-turned : (h q : Hash32) → is_hash q h ≡ is_hash h q
+pub turned : (h q : Hash32) → is_hash q h ≡ is_hash h q
 turned h q = (eq_by_cmp_equiv hash_total).symm q h
 
 skip : {X : Type 0} (b : Bool) (a x y : X) → cond b a x ≡ cond b a (cond b y x)

@@ -36,7 +36,7 @@ pub same_hash : (h k : Hash32) → is_hash h k ≡ true → h ≡ k
 same_hash h k e = hash_identical h k ((Equal-is (hash_cmp h k)).0 e)
 
 -- the other way round
-less_back : (h k : Hash32) → hash_cmp h k ≡ Greater → hash_cmp k h ≡ Less
+pub less_back : (h k : Hash32) → hash_cmp h k ≡ Greater → hash_cmp k h ≡ Less
 less_back h k e = rw (hash_total.antisymm k h, e) refl
 
 greater_back : (h k : Hash32) → hash_cmp h k ≡ Less → hash_cmp k h ≡ Greater

@@ -1,5 +1,5 @@
 -- What a block store holds, and what each of its calls makes of that.
-use Rattle.std.specs.Prelude.{◌≡◌, ◌≢◌, ℕ, if◌then◌else◌, ◌==◌, List, [], ◌∷◌, Option, None, count_by, is_some}
+use Rattle.std.specs.Prelude.{◌≡◌, ◌≢◌, ℕ, if◌then◌else◌, ◌==◌, List, [], ◌∷◌, Option, None, count_by, is_some, nat_le}
 use Rattle.std.specs.List.{filter}
 use Rattle.std.specs.List.Sorted.{IsStrictlySortedBy}
 use Rattle.std.specs.Map.{keys_of, lookup, remove_entry}
@@ -76,6 +76,10 @@ deleted c h = record c { blocks = remove_entry (is_hash h) c.blocks; notes = rem
 -- the notes of the blocks that have no live reference
 abbrev pub idle_notes : Contents → List (Hash32 × ℕ)
 idle_notes c = filter (λ n. live_count c n.0 == 0) c.notes
+
+-- those that are at most this moment
+abbrev pub idle_until : ℕ → Contents → List (Hash32 × ℕ)
+idle_until moment c = filter (λ n. nat_le n.1 moment) (idle_notes c)
 
 -- why a put was refused: exactly where the name isn't the bytes' digest for that, with both; else for want of memory
 abbrev pub RefusesPut : Hash32 → List ℕ → BlockFault → Type 0

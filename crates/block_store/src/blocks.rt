@@ -5,35 +5,38 @@ ghost use Rattle.std.specs.List.Sorted.{IsStrictlySortedBy};
 ghost use Rattle.crdt_core.specs.Outcomes.{OnlyWant};
 ghost use Rattle.block_store.specs.declared.fault.BlockFault.TheVariants.{InUse};
 ghost use Rattle.blake2_hash.specs.Hash.{digest_of, hash_cmp};
-ghost use Rattle.block_store.specs.Contents.{empty, block_at, live_count, put, told_live, told_dead, deleted, idle_notes, IsInOrder, RefusesPut};
+ghost use Rattle.block_store.specs.Contents.{empty, block_at, live_count, put, told_live, told_dead, deleted, idle_notes, idle_until, IsInOrder, RefusesPut};
+ghost use Rattle.block_store.specs.Moments.{idle_within};
 
 use crate::fault::BlockFault;
-use crate::shelf::{Kept, Shelf, add_reference, drop_reference};
+use crate::moments::{Moments, enter, leave, take_within, walk_within};
+use crate::shelf::{Kept, Shelf, add_reference, drop_reference, remove_unused};
 use blake2_hash::Hash32;
 use block_bytes::Block;
 use crdt_core::Memory;
 use std::alloc::Global;
-use std::collections::BTreeMap;
+use std::collections::{BTreeMap, BTreeSet};
 use std::marker::Model;
 
-/// The blocks of a node, in order of their hashes.
+/// The blocks of a node, in order of their hashes, and since when the idle ones are, in order of these moments.
 #[derive(Drop)]
 pub struct Blocks {
     shelf: Shelf,
+    // None once memory has lacked for one. Then idle blocks are found by a walk of all.
+    moments: Option<Moments>,
     alloc: Global,
 }
 
 impl Model for Blocks {
-    ghost use Rattle.std.specs.BTreeMap.{IsOrdered};
-    ghost use Rattle.blake2_hash.specs.Hash.{hash_cmp};
     ghost use Rattle.block_store.specs.Contents.{Contents};
+    ghost use Rattle.block_store.specs.Moments.{AreKept};
     ghost use Rattle.block_store.specs.Shelf.{contents};
 
     ghost Value = { Contents };
 
     ghost view = { λ b. contents b.shelf };
 
-    ghost invariant = { λ b. IsOrdered hash_cmp b.shelf };
+    ghost invariant = { λ b. AreKept b.shelf b.moments };
 }
 
 impl Blocks {
@@ -42,6 +45,7 @@ impl Blocks {
     {
         Blocks {
             shelf: BTreeMap::new(alloc),
+            moments: Some(BTreeSet::new(alloc)),
             alloc,
         }
     }
@@ -100,15 +104,19 @@ impl Blocks {
         requires below { live_count self.old hash.now < 2 ^ 63 }
         ensures { self.new ≡ told_live self.old hash.now }
     {
-        add_reference(&mut self.shelf, hash);
+        if let Some(moment) = add_reference(&mut self.shelf, hash) {
+            leave(&mut self.moments, hash, moment);
+        }
     }
 
-    /// Tells that a live reference has ended, at a clock of `now` milliseconds. Takes no memory.
+    /// Tells that a live reference has ended, at a clock of `now` milliseconds. Needs no memory.
     pub fn dead(&mut self, hash: &Hash32, now: u64)
         requires { 1 ≤ live_count self.old hash.now }
         ensures { self.new ≡ told_dead self.old hash.now now }
     {
-        drop_reference(&mut self.shelf, hash, now);
+        if drop_reference(&mut self.shelf, hash, now) {
+            enter(&mut self.moments, hash, now);
+        }
     }
 
     /// Drops a block that isn't in use, and its note. There may be none.
@@ -123,7 +131,9 @@ impl Blocks {
         if count > 0 {
             return Err(BlockFault::InUse(count));
         }
-        let _ = self.shelf.remove(hash);
+        if let Some(moment) = remove_unused(&mut self.shelf, hash) {
+            leave(&mut self.moments, hash, moment);
+        }
         Ok(())
     }
 
@@ -142,14 +152,27 @@ impl Blocks {
         ensures in_order { IfOk result (λ v. IsStrictlySortedBy hash_cmp (keys_of v.items)) }
         ensures want { OnlyWant result }
     {
-        let mut idle = Vec::new(self.alloc);
-        for (hash, kept) in &self.shelf {
-            if kept.count == 0 {
-                if let Some(note) = kept.note {
-                    idle.push((*hash, note))?;
-                }
-            }
+        self.idle_within(None)
+    }
+
+    /// The idle blocks whose last live reference ended at this moment or before, in order of hashes, each with
+    /// the moment when it did. Looks at these and at one more.
+    pub fn idle_until(&self, moment: u64) -> Result<Vec<(Hash32, u64)>, Memory>
+        ensures notes { IfOk result (λ v. v.items ≡ idle_until moment self.now) }
+        ensures want { OnlyWant result }
+    {
+        self.idle_within(Some(moment))
+    }
+
+    // The idle blocks since a moment within the limit, in order of hashes.
+    fn idle_within(&self, limit: Option<u64>) -> Result<Vec<(Hash32, u64)>, Memory>
+        ensures notes { IfOk result (λ v. v.items ≡ idle_within limit self.now) }
+        ensures in_order { IsInOrder self.now }
+        ensures want { OnlyWant result }
+    {
+        match &self.moments {
+            Some(moments) => take_within(self.alloc, moments, limit),
+            None => walk_within(self.alloc, &self.shelf, limit),
         }
-        Ok(idle)
     }
 }

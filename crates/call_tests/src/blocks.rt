@@ -95,6 +95,23 @@ fn block_counts(rt: HostRuntime) -> Result<(), Fail> {
     Ok(())
 }
 
+// How many blocks are idle since a moment or longer, where `abc` is since 7.
+fn idle_count(alloc: Global, moment: u64) -> Result<usize, Memory> {
+    let mut blocks = Blocks::new(alloc);
+    for call in &CALLS[..6] {
+        let _ = called(alloc, &mut blocks, *call)?;
+    }
+    Ok(blocks.idle_until(moment)?.len())
+}
+
+#[test]
+fn idle_blocks_up_to_a_moment(rt: HostRuntime) -> Result<(), Fail> {
+    for (moment, count) in [(0, 0), (6, 0), (7, 1), (u64::MAX, 1)] {
+        assert_eq!(rt; idle_count(rt.alloc(), moment)?, count, "at {moment}");
+    }
+    Ok(())
+}
+
 // What a put of `abc` under another name answers, and how many blocks there are then.
 fn misnamed(alloc: Global, named: &Hash32) -> Result<(Option<BlockFault>, usize), Memory> {
     let mut blocks = Blocks::new(alloc);

@@ -3,4 +3,4 @@ use Rattle.block_store.proofs.blocks.Blocks.len.Goals as goal
 
 pub returns-clause-in_order : goal.returns-clause-in_order
 returns-clause-in_order c =
-    rw (← c.self.view_is) (in_order c.self.inside.shelf.entries c.self.invariant)
+    rw (← c.self.view_is) (in_order c.self.inside.shelf.entries c.self.invariant.ordered)
