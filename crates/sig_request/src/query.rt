@@ -79,7 +79,7 @@ fn in_order(alloc: Global, words: &[Bytes]) -> Result<List<Parameter>, Memory>
     ensures want { OnlyWant result }
 {
     let mut parameters = spelled(alloc, words)?.into_vec();
-    parameters.as_mut_slice().sort_unstable();
+    parameters.sort_unstable();
     Ok(List::from_vec(parameters))
 }
 
