@@ -4,6 +4,7 @@ use Rattle.std.specs.List.{AllByRecursion}
 use Rattle.std.proofs.Common.{subst, inl, inr}
 use Rattle.crdt_core.specs.Members.{OneOf}
 use Rattle.lab_outside.specs.Connection.{Connection}
+use Rattle.serve_model.specs.declared.buckets.Buckets.{Buckets}
 use Rattle.serve_model.specs.Stores.{Asking, fits_asking}
 use Rattle.serve_model.specs.declared.served.ServeFault.{ServeFault}
 use Rattle.serve_model.specs.Talk.{Grammar, Serving, Stop, Talk}
@@ -19,7 +20,7 @@ module _ (IsHash : List ℕ → Type 0) where
   all_may [] fit f = tt
   all_may (a ∷ asks) fit f = ((fit.0, λ x h. f x (inl h)), all_may asks fit.1 (λ x h. f x (inr h)))
 
-  module _ (buckets : List (List ℕ)) (g : Grammar) where
+  module _ (buckets : Buckets) (g : Grammar) where
     -- a stop that was come to, with what is served there
     up_to : (d : Connection) (Q : Stop Changing → Type 0) (stops : List (Stop Changing)) → ((x : List ℕ) → OneOf (λ (stop : Stop Changing). OneOf (HashesAfter x) stop.asks) stops → IsHash x) → OneOf (λ (stop : Stop Changing). IsUpTo changing buckets g (fits_asking changing_fits) d stop × Q stop) stops →
         OneOf (λ (stop : Stop Changing). IsUpTo changing buckets g MaySuch d stop × Q stop) stops

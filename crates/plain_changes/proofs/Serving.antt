@@ -7,6 +7,7 @@ use Rattle.lab_outside.specs.Connection.{Connection}
 use Rattle.cluster_machine.specs.Hashes.{NoClash as NoWalkClash}
 use Rattle.flow_model.specs.declared.order.Order.{Order}
 use Rattle.store_model.specs.Fresh.{NoClash}
+use Rattle.serve_model.specs.declared.buckets.Buckets.{Buckets}
 use Rattle.serve_model.specs.Stores.{Asking, fits_asking}
 use Rattle.serve_model.specs.declared.served.ServeFault.{ServeFault}
 use Rattle.serve_model.specs.Talk.{Grammar, Serving, Stop, turn, talk, request_limit}
@@ -70,7 +71,7 @@ module _ (IsSuch IsHash : List ℕ → Type 0) (apart : AreApart IsSuch) (clear 
           },
         )
 
-  module _ (buckets : List (List ℕ)) (g : Grammar) where
+  module _ (buckets : Buckets) (g : Grammar) where
     -- orders whose blocks are such put such blocks
     all_such : (asks : List (Asking Plain)) → ((bytes : List ℕ) → OneOf (PutsBlock bytes) asks → IsSuch bytes) → AllByRecursion PutsSuch asks
     all_such [] f = tt
@@ -106,7 +107,7 @@ module _ (IsSuch IsHash : List ℕ → Type 0) (apart : AreApart IsSuch) (clear 
     }
 
 -- connections are served alike, with others behind them
-module _ (buckets : List (List ℕ)) (g : Grammar) (p s : Serving Changing) (P : Plain) (came rest : List (List ℕ)) (gone ds : List Connection) (h : StandsWith p.store P) (apart : AreApart (IsServedBlock buckets g p P (came ++ rest) (gone ++ ds)))
+module _ (buckets : Buckets) (g : Grammar) (p s : Serving Changing) (P : Plain) (came rest : List (List ℕ)) (gone ds : List Connection) (h : StandsWith p.store P) (apart : AreApart (IsServedBlock buckets g p P (came ++ rest) (gone ++ ds)))
     (clear : NoWalkClash (IsServedHash buckets g p (came ++ rest) (gone ++ ds))) (served : AreServed changing buckets g (fits_asking changing_fits) p came gone s) where
   abbrev IsSuch : List ℕ → Type 0
   IsSuch = IsServedBlock buckets g p P (came ++ rest) (gone ++ ds)
@@ -122,7 +123,7 @@ module _ (buckets : List (List ℕ)) (g : Grammar) (p s : Serving Changing) (P :
       served_alike changing plain (HoldsSuch IsSuch IsHash apart clear) (MaySuch IsHash) (PutsSuch IsSuch IsHash apart clear) (agrees IsSuch IsHash apart clear) buckets g rest ds came gone p s (over_map P p)
       (begins IsSuch IsHash apart clear p P h (λ bytes k. inl k) (λ bytes m. inr (inl m))) (all_meant IsSuch IsHash apart clear buckets g (came ++ rest) (gone ++ ds) (over_map P p) (λ bytes k. inr (inr k))) such.served
 
-pub served_from : (buckets : List (List ℕ)) (g : Grammar) (p s : Serving Changing) (P : Plain) (came : List (List ℕ)) (gone : List Connection) → StandsWith p.store P → AreApart (IsServedBlock buckets g p P came gone) → NoWalkClash (IsServedHash buckets g p came gone) →
+pub served_from : (buckets : Buckets) (g : Grammar) (p s : Serving Changing) (P : Plain) (came : List (List ℕ)) (gone : List Connection) → StandsWith p.store P → AreApart (IsServedBlock buckets g p P came gone) → NoWalkClash (IsServedHash buckets g p came gone) →
     AreServed changing buckets g (fits_asking changing_fits) p came gone s → AreServedFrom P buckets g p came gone s
 served_from buckets g p s P came gone h apart clear served =
     let all : AreApart (IsServedBlock buckets g p P (came ++ []) (gone ++ [])) = subst (λ xs. AreApart (IsServedBlock buckets g p P xs (gone ++ []))) (sym (append-nil came)) (subst (λ ds. AreApart (IsServedBlock buckets g p P came ds)) (sym (append-nil gone)) apart) in
@@ -130,7 +131,7 @@ served_from buckets g p s P came gone h apart clear served =
     let k = behind buckets g p s P came [] gone [] h all none served in
     record { serving = k.serving; are_served = k.are_served; stands = k.alike.store.map }
 
-pub ended_from : (buckets : List (List ℕ)) (g : Grammar) (p s : Serving Changing) (P : Plain) (came : List (List ℕ)) (gone : List Connection) (bytes : List ℕ) (last : Connection) (fault : ServeFault) → StandsWith p.store P →
+pub ended_from : (buckets : Buckets) (g : Grammar) (p s : Serving Changing) (P : Plain) (came : List (List ℕ)) (gone : List Connection) (bytes : List ℕ) (last : Connection) (fault : ServeFault) → StandsWith p.store P →
     AreApart (IsServedBlock buckets g p P (came ++ bytes ∷ []) (gone ++ last ∷ [])) → NoWalkClash (IsServedHash buckets g p (came ++ bytes ∷ []) (gone ++ last ∷ [])) → AreServed changing buckets g (fits_asking changing_fits) p came gone s → EndsSo changing buckets g (fits_asking changing_fits) (λ asks. ⊤) (stated changing buckets g s bytes) last fault →
     EndsFrom P buckets g p came gone bytes last fault
 ended_from buckets g p s P came gone bytes last fault h apart clear served ends =
@@ -146,7 +147,7 @@ ended_from buckets g p s P came gone bytes last fault h apart clear served ends 
     }
 
 -- one request
-module _ (buckets : List (List ℕ)) (g : Grammar) (last : Bool) (p : Serving Changing) (P : Plain) (request : List ℕ) (h : StandsWith p.store P) (apart : AreApart (IsTurnBlock buckets g last p P request)) (clear : NoWalkClash (IsTurnHash buckets g last p request)) where
+module _ (buckets : Buckets) (g : Grammar) (last : Bool) (p : Serving Changing) (P : Plain) (request : List ℕ) (h : StandsWith p.store P) (apart : AreApart (IsTurnBlock buckets g last p P request)) (clear : NoWalkClash (IsTurnHash buckets g last p request)) where
   abbrev IsOne : List ℕ → Type 0
   IsOne = IsTurnBlock buckets g last p P request
 

@@ -11,6 +11,7 @@ use Rattle.cluster_machine.specs.Layouts.{layouts}
 use Rattle.flow_model.specs.declared.order.Order.{Order}
 use Rattle.store_model.specs.Fresh.{NoClash}
 use Rattle.store_model.specs.Acts.{Act, AreLawfulActs, ActsFit}
+use Rattle.serve_model.specs.declared.buckets.Buckets.{Buckets}
 use Rattle.serve_model.specs.declared.served.ServeFault.{ServeFault}
 use Rattle.store_laws.specs.Hashed.{ActsHash}
 use Rattle.serve_model.specs.Stores.{Store, Asking, fits_asking}
@@ -91,7 +92,7 @@ abbrev pub over_map : Plain → Serving Changing → Serving Plain
 over_map P p = record { store = P; times = p.times; time = p.time; kept = p.kept }
 
 -- a node keeps this block, or an object of the map or what these connections put, which have these bytes, is cut into it
-abbrev pub IsServedBlock : List (List ℕ) → Grammar → Serving Changing → Plain → List (List ℕ) → List Connection → List ℕ → Type 0
+abbrev pub IsServedBlock : Buckets → Grammar → Serving Changing → Plain → List (List ℕ) → List Connection → List ℕ → Type 0
 IsServedBlock buckets g p P came gone bytes = IsKept p.store.cluster.run.world bytes ⊎ (IsOfMap P bytes ⊎ SomeAsked plain buckets g (PutsBlock bytes) (over_map P p) came gone)
 
 -- a change hashes this string for walks after an order that is asked, or would be asked before a stop
@@ -99,7 +100,7 @@ abbrev pub SomeAfter : List ℕ → List (Asking Changing) → List (Stop Changi
 SomeAfter x asks stops = OneOf (HashesAfter x) asks ⊎ OneOf (λ (stop : Stop Changing). OneOf (HashesAfter x) stop.asks) stops
 
 -- the same of these connections, one after the other, wherever they may be cut off
-abbrev pub IsServedHash : List (List ℕ) → Grammar → Serving Changing → List (List ℕ) → List Connection → List ℕ → Type 0
+abbrev pub IsServedHash : Buckets → Grammar → Serving Changing → List (List ℕ) → List Connection → List ℕ → Type 0
 IsServedHash buckets g p [] gone x = ⊥
 IsServedHash buckets g p (bytes ∷ more) [] x = ⊥
 IsServedHash buckets g p (bytes ∷ more) (d ∷ ds) x =
@@ -107,35 +108,35 @@ IsServedHash buckets g p (bytes ∷ more) (d ∷ ds) x =
     SomeAfter x t.asks t.stops ⊎ (IsServedHash buckets g t.serving more ds x ⊎ OneOf (λ (stop : Stop Changing). IsServedHash buckets g stop.serving more ds x) t.stops)
 
 -- connections are served as from the map, and the cluster stands with what the map has become
-pub record AreServedFrom (P : Plain) (buckets : List (List ℕ)) (g : Grammar) (p : Serving Changing) (came : List (List ℕ)) (gone : List Connection) (s : Serving Changing) : Type 0 where
+pub record AreServedFrom (P : Plain) (buckets : Buckets) (g : Grammar) (p : Serving Changing) (came : List (List ℕ)) (gone : List Connection) (s : Serving Changing) : Type 0 where
   pub serving : Serving Plain
   pub are_served : AreServed plain buckets g (λ a. ⊤) (over_map P p) came gone serving
   pub stands : StandsWith s.store serving.store
 
 -- and with one connection more serving ends as it would over the map: its text is the one of the map, or a first part
-pub record EndsFrom (P : Plain) (buckets : List (List ℕ)) (g : Grammar) (p : Serving Changing) (came : List (List ℕ)) (gone : List Connection) (bytes : List ℕ) (last : Connection) (fault : ServeFault) : Type 0 where
+pub record EndsFrom (P : Plain) (buckets : Buckets) (g : Grammar) (p : Serving Changing) (came : List (List ℕ)) (gone : List Connection) (bytes : List ℕ) (last : Connection) (fault : ServeFault) : Type 0 where
   pub serving : Serving Plain
   pub are_served : AreServed plain buckets g (λ a. ⊤) (over_map P p) came gone serving
   pub ends : EndsSo plain buckets g (λ a. ⊤) (λ asks. ⊤) (stated plain buckets g serving bytes) last fault
 
 -- a node keeps this block, or an object of the map or what one request puts is cut into it
-abbrev pub IsTurnBlock : List (List ℕ) → Grammar → Bool → Serving Changing → Plain → List ℕ → List ℕ → Type 0
+abbrev pub IsTurnBlock : Buckets → Grammar → Bool → Serving Changing → Plain → List ℕ → List ℕ → Type 0
 IsTurnBlock buckets g last p P request bytes = IsKept p.store.cluster.run.world bytes ⊎ (IsOfMap P bytes ⊎ OneOf (PutsBlock bytes) (turn plain buckets g last (over_map P p) request).asks)
 
 -- a change hashes this string for walks after an order of one request, wherever it may be cut off
-abbrev pub IsTurnHash : List (List ℕ) → Grammar → Bool → Serving Changing → List ℕ → List ℕ → Type 0
+abbrev pub IsTurnHash : Buckets → Grammar → Bool → Serving Changing → List ℕ → List ℕ → Type 0
 IsTurnHash buckets g last p request x = let t = turn changing buckets g last p request in SomeAfter x t.asks t.stops
 
 -- the first request in these bytes is served as from the map: what is written and how the connection goes on is the same, and the cluster then stands with what the map has become
-pub record IsTurnFrom (P : Plain) (buckets : List (List ℕ)) (g : Grammar) (last : Bool) (p : Serving Changing) (request : List ℕ) : Type 0 where
+pub record IsTurnFrom (P : Plain) (buckets : Buckets) (g : Grammar) (last : Bool) (p : Serving Changing) (request : List ℕ) : Type 0 where
   pub text : (turn changing buckets g last p request).text ≡ (turn plain buckets g last (over_map P p) request).text
   pub next : (turn changing buckets g last p request).next ≡ (turn plain buckets g last (over_map P p) request).next
   pub stands : StandsWith (turn changing buckets g last p request).serving.store (turn plain buckets g last (over_map P p) request).serving.store
 
 -- at a stop of the map the same is written as at this one, and the cluster then stands with what the map has become
-abbrev pub IsAtMapStop : Plain → List (List ℕ) → Grammar → Bool → Serving Changing → List ℕ → Stop Changing → Type 0
+abbrev pub IsAtMapStop : Plain → Buckets → Grammar → Bool → Serving Changing → List ℕ → Stop Changing → Type 0
 IsAtMapStop P buckets g last p request s = OneOf (λ (r : Stop Plain). (s.text ≡ r.text) × StandsWith s.serving.store r.serving.store) (turn plain buckets g last (over_map P p) request).stops
 
 -- so it is wherever the first request in these bytes may be cut off and each order that was asked before fits
-abbrev pub AreStopsFrom : Plain → List (List ℕ) → Grammar → Bool → Serving Changing → List ℕ → Type 0
+abbrev pub AreStopsFrom : Plain → Buckets → Grammar → Bool → Serving Changing → List ℕ → Type 0
 AreStopsFrom P buckets g last p request = AllByRecursion (λ (s : Stop Changing). AllByRecursion (fits_asking changing_fits) s.asks → IsAtMapStop P buckets g last p request s) (turn changing buckets g last p request).stops

@@ -20,6 +20,7 @@ ghost use Rattle.store_model.specs.Run.{World, start};
 ghost use Rattle.store_model.specs.Acts.{Act, installs, acted, after_acts, AreLawfulActs, ActsFit};
 ghost use Rattle.flow_model.specs.declared.order.Order.{Order};
 ghost use Rattle.lab_outside.specs.Connection.{Connection};
+ghost use Rattle.serve_model.specs.declared.buckets.Buckets.{Buckets};
 ghost use Rattle.serve_model.specs.declared.served.ServeFault.{ServeFault};
 ghost use Rattle.serve_model.specs.Stores.{fits_asking, after_orders, OrdersFit};
 ghost use Rattle.serve_model.specs.Talk.{Grammar, Serving, turn};
@@ -91,9 +92,9 @@ pub fn lawful_changes_may_be_made()
 /// Connections to a cluster with layout changes to come are served as from the map: each change is made when so many requests
 /// have reached the cluster, between two of them. The digests of what changes hash for walks after these orders don't clash.
 pub fn connections_are_served_through_changes()
-    ensures served { (buckets : List (List ℕ)) (g : Grammar) (p s : Serving Changing) (P : Plain) (came : List (List ℕ)) (gone : List Connection) → StandsWith p.store P → AreApart (IsServedBlock buckets g p P came gone) → NoWalkClash (IsServedHash buckets g p came gone) →
+    ensures served { (buckets : Buckets) (g : Grammar) (p s : Serving Changing) (P : Plain) (came : List (List ℕ)) (gone : List Connection) → StandsWith p.store P → AreApart (IsServedBlock buckets g p P came gone) → NoWalkClash (IsServedHash buckets g p came gone) →
         AreServed changing buckets g (fits_asking changing_fits) p came gone s → AreServedFrom P buckets g p came gone s }
-    ensures ended { (buckets : List (List ℕ)) (g : Grammar) (p s : Serving Changing) (P : Plain) (came : List (List ℕ)) (gone : List Connection) (bytes : List ℕ) (last : Connection) (fault : ServeFault) →
+    ensures ended { (buckets : Buckets) (g : Grammar) (p s : Serving Changing) (P : Plain) (came : List (List ℕ)) (gone : List Connection) (bytes : List ℕ) (last : Connection) (fault : ServeFault) →
         StandsWith p.store P → AreApart (IsServedBlock buckets g p P (came ++ bytes ∷ []) (gone ++ last ∷ [])) → NoWalkClash (IsServedHash buckets g p (came ++ bytes ∷ []) (gone ++ last ∷ [])) →
         AreServed changing buckets g (fits_asking changing_fits) p came gone s →
         EndsSo changing buckets g (fits_asking changing_fits) (λ asks. ⊤) (stated changing buckets g s bytes) last fault → EndsFrom P buckets g p came gone bytes last fault }
@@ -101,9 +102,9 @@ pub fn connections_are_served_through_changes()
 
 /// The first request in some bytes is served so too, and wherever it may be cut off.
 pub fn a_request_is_served_through_changes()
-    ensures whole { (buckets : List (List ℕ)) (g : Grammar) (last : Bool) (p : Serving Changing) (P : Plain) (request : List ℕ) → StandsWith p.store P → AreApart (IsTurnBlock buckets g last p P request) → NoWalkClash (IsTurnHash buckets g last p request) →
+    ensures whole { (buckets : Buckets) (g : Grammar) (last : Bool) (p : Serving Changing) (P : Plain) (request : List ℕ) → StandsWith p.store P → AreApart (IsTurnBlock buckets g last p P request) → NoWalkClash (IsTurnHash buckets g last p request) →
         AllByRecursion (fits_asking changing_fits) (turn changing buckets g last p request).asks → IsTurnFrom P buckets g last p request }
-    ensures stops { (buckets : List (List ℕ)) (g : Grammar) (last : Bool) (p : Serving Changing) (P : Plain) (request : List ℕ) → StandsWith p.store P → AreApart (IsTurnBlock buckets g last p P request) → NoWalkClash (IsTurnHash buckets g last p request) →
+    ensures stops { (buckets : Buckets) (g : Grammar) (last : Bool) (p : Serving Changing) (P : Plain) (request : List ℕ) → StandsWith p.store P → AreApart (IsTurnBlock buckets g last p P request) → NoWalkClash (IsTurnHash buckets g last p request) →
         AreStopsFrom P buckets g last p request }
 {}
 

@@ -9,10 +9,11 @@ use crdt_core::{Bytes, List, Memory};
 use flow_model::{FlowEnd, Order};
 use http_wire::Kept;
 use lab_outside::{Link, MemClock};
+use layout_text::Access;
 use s3_world::{Event, S3World};
 use serve_cluster::Cluster;
 use serve_loop::{Storage, serve_request};
-use serve_model::Served;
+use serve_model::{Buckets, Served};
 use std::alloc::Global;
 use std::test::Fail;
 
@@ -102,6 +103,17 @@ fn put(alloc: Global, cluster: &mut Cluster) -> Result<bool, Memory>
     Ok(matches!(end, Some(FlowEnd::Stored { .. })))
 }
 
+/// The one bucket, for which nobody need sign.
+fn one_bucket(alloc: Global) -> Result<Buckets, Memory> {
+    let mut names = List::new(alloc);
+    names.push(Bytes::from_slice(alloc, b"pics")?)?;
+    let access = Access {
+        region: Bytes::from_slice(alloc, b"garage")?,
+        keys: List::new(alloc),
+    };
+    Ok(Buckets { names, access })
+}
+
 /// Serves the first request of the next connection, and says whether that goes on.
 fn goes_on<L: Link>(alloc: Global, cluster: &mut Cluster, link: &mut L) -> Result<bool, Memory>
     requires state { HasState (StandsFor cluster.old) }
@@ -109,8 +121,7 @@ fn goes_on<L: Link>(alloc: Global, cluster: &mut Cluster, link: &mut L) -> Resul
     if link.next() != Ok(true) {
         return Ok(false);
     }
-    let mut buckets = List::new(alloc);
-    buckets.push(Bytes::from_slice(alloc, b"pics")?)?;
+    let buckets = one_bucket(alloc)?;
     let mut clock = MemClock::new([1_700_000_001_000].to_vec(alloc)?);
     let mut kept = Kept::new(alloc);
     let mut served = Served { kept: 0, time: 0 };

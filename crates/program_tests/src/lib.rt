@@ -14,4 +14,16 @@ mod refusals;
 #[cfg(test)]
 mod served;
 #[cfg(test)]
+mod signed;
+#[cfg(test)]
+mod signed_copies;
+#[cfg(test)]
+mod signed_gets;
+#[cfg(test)]
+mod signed_more_pairs;
+#[cfg(test)]
+mod signed_pairs;
+#[cfg(test)]
+mod signed_refusals;
+#[cfg(test)]
 mod workloads;

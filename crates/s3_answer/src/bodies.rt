@@ -31,6 +31,12 @@ fn code_name(code: Code) -> &'static [u8]
         Code::InvalidArgument => b"InvalidArgument",
         Code::NoSuchKey => b"NoSuchKey",
         Code::InvalidRange => b"InvalidRange",
+        Code::AccessDenied => b"AccessDenied",
+        Code::AuthorizationHeaderMalformed => b"AuthorizationHeaderMalformed",
+        Code::InvalidAccessKeyId => b"InvalidAccessKeyId",
+        Code::RequestTimeTooSkewed => b"RequestTimeTooSkewed",
+        Code::SignatureDoesNotMatch => b"SignatureDoesNotMatch",
+        Code::XAmzContentSHA256Mismatch => b"XAmzContentSHA256Mismatch",
     }
 }
 

@@ -14,7 +14,7 @@ use Rattle.s3_model.specs.Words.{is_empty, header}
 use Rattle.s3_model.specs.Faults.{fault_of}
 use Rattle.s3_model.specs.Ranges.{range_of}
 use Rattle.s3_model.specs.Targets.{path_of, query_of, place_of, is_bad_target, parameters_of}
-use Rattle.s3_model.specs.Headers.{has_refused_header, is_bad_length, length_of, body_limit, stored_headers, copy_headers}
+use Rattle.s3_model.specs.Headers.{has_refused_header, is_bad_length, length_of, put_length, body_limit, stored_headers, copy_headers}
 use Rattle.s3_model.specs.Lists.{is_list, list_of}
 
 -- the method is this word, with case
@@ -28,7 +28,7 @@ asked_range head = option_and_then range_of (header head.headers (codes "range")
 -- PUT of a key: a copy where a source is named, else an upload
 abbrev pub write_of : Head → List ℕ → List ℕ → Option (List ℕ) → Ask
 write_of head bucket key (Some source) = Copy source bucket key (copy_headers head.headers)
-write_of head bucket key None = Put bucket key (length_of head.headers) (header head.headers (codes "content-md5")) (stored_headers head.headers)
+write_of head bucket key None = Put bucket key (put_length head.headers) (header head.headers (codes "content-md5")) (stored_headers head.headers)
 
 -- what a method asks of a key
 abbrev pub object_ask : Head → List ℕ → List ℕ → Option Ask
@@ -84,19 +84,13 @@ length_refusal head ask =
     else if is_too_large head then Some (fault_of EntityTooLarge)
     else None
 
--- an ask whose length is refused, or isn't
-abbrev pub unless_refused : Ask → Option S3Fault → Result Ask S3Fault
-unless_refused ask None = Ok ask
-unless_refused ask (Some fault) = Err fault
-
--- an operation that is served, if the headers ask nothing that isn't, and then if the length is in order
+-- an operation that is served, if the headers ask nothing that isn't
 abbrev pub if_served : Head → Option Ask → Result Ask S3Fault
 if_served head None = Err (fault_of NotImplemented)
 if_served head (Some ask) =
-    if has_refused_header head.headers then Err (fault_of NotImplemented)
-    else unless_refused ask (length_refusal head ask)
+    if has_refused_header head.headers then Err (fault_of NotImplemented) else Ok ask
 
--- what a head asks, or the first refusal that applies, in this order: the target isn't a path or its key isn't text, no operation is asked that is served, a header isn't served, the length
+-- what a head asks, or the first refusal that applies, in this order: the target isn't a path or its key isn't text, no operation is asked that is served, a header isn't served
 abbrev pub asked_of : Head → Result Ask S3Fault
 asked_of head =
     if is_bad_target head.target then Err (fault_of InvalidRequest)

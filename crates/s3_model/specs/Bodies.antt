@@ -4,7 +4,7 @@ use Rattle.hex.specs.Hex.{encode_lower}
 use Rattle.crdt_rows.specs.declared.version.Version.{Version}
 use Rattle.crdt_rows.specs.declared.body.Meta.{Meta}
 use Rattle.s3_model.specs.declared.fault.Code.{Code}
-use Rattle.s3_model.specs.declared.fault.Code.TheVariants.{InvalidRequest, NotImplemented, MissingContentLength, EntityTooLarge, IncompleteBody, NoSuchBucket, KeyTooLongError, BadDigest, InvalidArgument, NoSuchKey, InvalidRange}
+use Rattle.s3_model.specs.declared.fault.Code.TheVariants.{InvalidRequest, NotImplemented, MissingContentLength, EntityTooLarge, IncompleteBody, NoSuchBucket, KeyTooLongError, BadDigest, InvalidArgument, NoSuchKey, InvalidRange, AccessDenied, AuthorizationHeaderMalformed, InvalidAccessKeyId, RequestTimeTooSkewed, SignatureDoesNotMatch, XAmzContentSHA256Mismatch}
 use Rattle.s3_model.specs.declared.page.Entry.{Entry}
 use Rattle.s3_model.specs.declared.page.Entry.TheVariants.{Object, Common}
 use Rattle.s3_model.specs.declared.page.ListAsk.{ListAsk}
@@ -37,6 +37,12 @@ code_name BadDigest = codes "BadDigest"
 code_name InvalidArgument = codes "InvalidArgument"
 code_name NoSuchKey = codes "NoSuchKey"
 code_name InvalidRange = codes "InvalidRange"
+code_name AccessDenied = codes "AccessDenied"
+code_name AuthorizationHeaderMalformed = codes "AuthorizationHeaderMalformed"
+code_name InvalidAccessKeyId = codes "InvalidAccessKeyId"
+code_name RequestTimeTooSkewed = codes "RequestTimeTooSkewed"
+code_name SignatureDoesNotMatch = codes "SignatureDoesNotMatch"
+code_name XAmzContentSHA256Mismatch = codes "XAmzContentSHA256Mismatch"
 
 -- what is said of a refusal: its code, which is the message too, and the path of the request
 abbrev pub error_parts : Code → List ℕ → List ℕ

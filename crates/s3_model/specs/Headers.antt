@@ -46,6 +46,10 @@ is_bad_length headers = not (list_all (λ text. is_number digit_limit text) (len
 abbrev pub length_of : List (List ℕ × List ℕ) → ℕ
 length_of headers = unwrap_or (option_and_then (λ text. number_in digit_limit text) (header headers (codes "content-length"))) 0
 
+-- the length that an upload announces; 0 where none is announced that is in order
+abbrev pub put_length : List (List ℕ × List ℕ) → ℕ
+put_length headers = if is_bad_length headers then 0 else length_of headers
+
 -- how many bytes a body may have
 abbrev pub body_limit : ℕ
 body_limit = 16777216

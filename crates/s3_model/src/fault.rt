@@ -16,6 +16,13 @@ pub enum Code {
     InvalidArgument,
     NoSuchKey,
     InvalidRange,
+    /// No key signed the request, or its key may not do what is asked.
+    AccessDenied,
+    AuthorizationHeaderMalformed,
+    InvalidAccessKeyId,
+    RequestTimeTooSkewed,
+    SignatureDoesNotMatch,
+    XAmzContentSHA256Mismatch,
 }
 
 /// A refusal: the status and the code of its answer, and whether the connection closes after it.

@@ -5,7 +5,7 @@ ghost use Rattle.s3_model.specs.Asks.{is_method as is_method_of, asked_range, wr
 ghost use Rattle.s3_model.specs.Headers.{body_limit};
 ghost use Rattle.s3_model.specs.Words.{header as header_of};
 
-use crate::header::{announced, has_refused_header, is_bad_length};
+use crate::header::{announced, has_refused_header, is_bad_length, put_length};
 use crate::listing::{is_list, list};
 use crate::range::range;
 use crate::refusal::fault;
@@ -53,7 +53,7 @@ fn upload(head: &Head, bucket: Bytes, key: Bytes) -> Result<Ask, Memory>
     Ok(Ask::Put {
         bucket,
         key,
-        length: announced(head),
+        length: put_length(head),
         md5,
         headers,
     })
@@ -163,25 +163,20 @@ pub fn length_refusal(head: &Head, ask: &Ask) -> Option<S3Fault>
     }
 }
 
-// The operation, if the headers ask nothing that isn't served and the length is in order.
+// The operation, if the headers ask nothing that isn't served.
 fn if_served(head: &Head, asked: Option<Ask>) -> Result<Ask, S3Fault>
     ensures { result ≡ if_served head.now asked }
 {
     match asked {
-        Some(ask) if !has_refused_header(head.headers.as_slice()) => {
-            match length_refusal(head, &ask) {
-                Some(fault) => Err(fault),
-                None => Ok(ask),
-            }
-        }
+        Some(ask) if !has_refused_header(head.headers.as_slice()) => Ok(ask),
         _ => Err(fault(Code::NotImplemented)),
     }
 }
 
 /// What a head asks, or the first refusal that applies to it, in this order: `InvalidRequest` where the target isn't
 /// a path or its key isn't UTF-8; `NotImplemented` where method, path and parameters ask no operation that is served;
-/// `NotImplemented` where a header isn't served; and those of `length_refusal`. A list with a parameter that isn't in
-/// order is an ask of its own, `BadList`.
+/// `NotImplemented` where a header isn't served. A list with a parameter that isn't in order is an ask of its own,
+/// `BadList`; whether the announced length is in order, `length_refusal` says.
 pub fn understand(head: &Head) -> Result<Ask, AskFault>
     ensures { Understands head.now result }
 {

@@ -1,7 +1,7 @@
 //! The headers of a request: those that aren't served, and the length that they announce.
 ghost use Rattle.std.specs.Prelude.{◌≡◌, ◌&&◌, ◌||◌, not, codes, bytes_eq};
 ghost use Rattle.std.specs.List.{list_all};
-ghost use Rattle.s3_model.specs.Headers.{has_refused_name, has_refused_value, has_refused_header, is_bad_length, length_of};
+ghost use Rattle.s3_model.specs.Headers.{has_refused_name, has_refused_value, has_refused_header, is_bad_length, length_of, put_length};
 ghost use Rattle.s3_model.specs.Numbers.{is_number as is_number_of, digit_limit};
 ghost use Rattle.s3_model.specs.Words.{is_word as is_word_of};
 
@@ -69,12 +69,23 @@ pub(crate) fn is_bad_length(headers: &[(Bytes, Bytes)]) -> bool
 }
 
 /// The length in bytes of the body that follows a head. Without a Content-Length it is 0, and so it is where the
-/// first one isn't 1 to 18 digits, which `understand` refuses.
+/// first one isn't 1 to 18 digits, which `length_refusal` refuses.
 pub fn announced(head: &Head) -> u64
     ensures { result ≡ length_of head.now.headers }
 {
     match header(head.headers.as_slice(), b"content-length") {
         Some(text) => number(text, DIGIT_LIMIT).unwrap_or(0),
         None => 0,
+    }
+}
+
+/// The length of an upload, 0 where none is announced that is in order.
+pub(crate) fn put_length(head: &Head) -> u64
+    ensures { result ≡ put_length head.now.headers }
+{
+    if is_bad_length(head.headers.as_slice()) {
+        0
+    } else {
+        announced(head)
     }
 }

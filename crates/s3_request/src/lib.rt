@@ -23,6 +23,6 @@ pub use crate::asking::{length_refusal, understand};
 pub use crate::connection::{closes, expects};
 pub use crate::header::announced;
 pub use crate::range::span;
-pub use crate::refusal::fault;
+pub use crate::refusal::{fault, head_fault};
 pub use crate::source::{copy_source, is_digest};
 pub use crate::target::{has_path, path};

@@ -1,6 +1,6 @@
 //! Refusals.
 ghost use Rattle.std.specs.Prelude.{◌≡◌};
-ghost use Rattle.s3_model.specs.Faults.{status_of, closes_after, fault_of};
+ghost use Rattle.s3_model.specs.Faults.{status_of, closes_after, fault_of, head_fault_of};
 
 use http::StatusCode;
 use s3_model::{Code, S3Fault};
@@ -15,7 +15,13 @@ fn status(code: Code) -> u16
         | Code::IncompleteBody
         | Code::KeyTooLongError
         | Code::BadDigest
-        | Code::InvalidArgument => StatusCode::BAD_REQUEST,
+        | Code::InvalidArgument
+        | Code::AuthorizationHeaderMalformed
+        | Code::XAmzContentSHA256Mismatch => StatusCode::BAD_REQUEST,
+        Code::AccessDenied
+        | Code::InvalidAccessKeyId
+        | Code::RequestTimeTooSkewed
+        | Code::SignatureDoesNotMatch => StatusCode::FORBIDDEN,
         Code::NoSuchBucket | Code::NoSuchKey => StatusCode::NOT_FOUND,
         Code::MissingContentLength => StatusCode::LENGTH_REQUIRED,
         Code::InvalidRange => StatusCode::RANGE_NOT_SATISFIABLE,
@@ -32,13 +38,19 @@ fn closes(code: Code) -> bool
         | Code::NotImplemented
         | Code::MissingContentLength
         | Code::EntityTooLarge
-        | Code::IncompleteBody => true,
+        | Code::IncompleteBody
+        | Code::AuthorizationHeaderMalformed
+        | Code::InvalidAccessKeyId
+        | Code::RequestTimeTooSkewed
+        | Code::SignatureDoesNotMatch => true,
         Code::NoSuchBucket
         | Code::KeyTooLongError
         | Code::BadDigest
         | Code::InvalidArgument
         | Code::NoSuchKey
-        | Code::InvalidRange => false,
+        | Code::InvalidRange
+        | Code::AccessDenied
+        | Code::XAmzContentSHA256Mismatch => false,
     }
 }
 
@@ -50,5 +62,16 @@ pub fn fault(code: Code) -> S3Fault
         status: status(code),
         code,
         close: closes(code),
+    }
+}
+
+/// The same where a head is refused with it, which closes the connection.
+pub fn head_fault(code: Code) -> S3Fault
+    ensures { result ≡ head_fault_of code }
+{
+    S3Fault {
+        status: status(code),
+        code,
+        close: true,
     }
 }

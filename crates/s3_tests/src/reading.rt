@@ -5,7 +5,7 @@ use crdt_core::{Bytes, List};
 use http_wire::{Head, Kept, read_head};
 use lab_outside::{Failed, Link, PieceLink};
 use s3_model::{After, Ask, AskFault, ListAsk, Range};
-use s3_request::understand;
+use s3_request::{length_refusal, understand};
 use std::alloc::{AllocError, Global};
 use std::test::Fail;
 
@@ -29,9 +29,18 @@ pub fn head(alloc: Global, bytes: &[u8]) -> Result<Head, Fail> {
     Ok(head)
 }
 
+/// What a head asks that is understood and whose length is in order.
+fn admitted(head: &Head) -> Result<Ask, AskFault> {
+    let ask = understand(head)?;
+    match length_refusal(head, &ask) {
+        Some(fault) => Err(AskFault::Refused(fault)),
+        None => Ok(ask),
+    }
+}
+
 /// What a head asks, as text.
 fn understood(alloc: Global, head: &Head) -> Result<Vec<u8>, AllocError> {
-    text(alloc, &understand(head))
+    text(alloc, &admitted(head))
 }
 
 /// What the head in these bytes asks, as text.

@@ -243,9 +243,41 @@ fn may_come(head: &Head, ask: Ask) -> bool {
     length_refusal(head, &ask).is_none()
 }
 
-/// Whether a head is no ask that is served.
-fn is_refused(head: &Head) -> bool {
-    understand(head).is_err()
+/// The length of the upload that a head asks, where its length is refused.
+fn refused_length(head: &Head) -> Option<u64> {
+    match understand(head) {
+        Ok(ask) => {
+            let length = match &ask {
+                Ask::Put { length, .. } => Some(*length),
+                _ => None,
+            };
+            if may_come(head, ask) { None } else { length }
+        }
+        Err(_) => None,
+    }
+}
+
+// Uploads whose length is refused, and the length that is taken from them.
+const BAD_LENGTHS: [(&[u8], u64); 4] = [
+    (b"PUT /b/k HTTP/1.1\r\n\r\n", 0),
+    (b"PUT /b/k HTTP/1.1\r\nContent-Length: x\r\n\r\n", 0),
+    (
+        b"PUT /b/k HTTP/1.1\r\nContent-Length: 3\r\nContent-Length: 4\r\n\r\n",
+        0,
+    ),
+    (
+        b"PUT /b/k HTTP/1.1\r\nContent-Length: 16777217\r\n\r\n",
+        16_777_217,
+    ),
+];
+
+#[test]
+fn uploads_whose_length_is_refused(rt: HostRuntime) -> Result<(), Fail> {
+    for (bytes, length) in BAD_LENGTHS {
+        let head = head(rt.alloc(), bytes)?;
+        assert!(&rt; refused_length(&head) == Some(length));
+    }
+    Ok(())
 }
 
 #[test]
@@ -253,7 +285,6 @@ fn a_length_that_is_refused(rt: HostRuntime) -> Result<(), Fail> {
     let alloc = rt.alloc();
     let head = head(alloc, b"PUT /b/k HTTP/1.1\r\n\r\n")?;
     assert!(&rt; may_come(&head, Ask::ListBuckets));
-    assert!(&rt; is_refused(&head));
     assert!(&rt; fault(Code::InvalidRange).status == 416);
     assert!(&rt; !fault(Code::NoSuchKey).close);
     Ok(())

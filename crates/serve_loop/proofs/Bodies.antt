@@ -6,6 +6,7 @@ use Rattle.std.proofs.lemmas.List.{take-append-le}
 use Rattle.lab_outside.specs.Connection.{Connection}
 use Rattle.http_wire.specs.Reading.{Takes, Fails, IsBody}
 use Rattle.s3_model.specs.declared.fault.Code.TheVariants.{IncompleteBody}
+use Rattle.serve_model.specs.declared.buckets.Buckets.{Buckets}
 use Rattle.serve_model.specs.declared.answer.Answer.TheVariants.{Refusal}
 use Rattle.serve_model.specs.declared.request.Request.{Request}
 use Rattle.serve_model.specs.Stores.{Store}
@@ -23,7 +24,7 @@ front_is all body rest size e n =
 rest_is : (all body rest : List ℕ) (size : ℕ) → all ≡ body ++ rest → length body ≡ size → drop size all ≡ rest
 rest_is all body rest size e n = ap (λ k. drop k all) (sym n) ∙ ap (drop (length body)) e ∙ drop-append_seam body rest
 
-module _ {S : Type 0} (store : Store S) (buckets : List (List ℕ)) (r : Request) (p : Serving S) where
+module _ {S : Type 0} (store : Store S) (buckets : Buckets) (r : Request) (p : Serving S) where
   pub whole_body : (all body rest : List ℕ) → IsBody all r.length body rest → body_turn store buckets r p all ≡ passing p (whole_turn store buckets r body p rest)
   unfolding body_turn
   whole_body all body rest is =

@@ -4,6 +4,7 @@ use Rattle.lab_outside.specs.Connection.{Connection, IsFresh, OnPresent, TakesNe
 use Rattle.lab_outside.specs.Rose.{Rose}
 use Rattle.lab_outside.specs.Bytes.{Wrote, WrotePrefix}
 use Rattle.flow_model.specs.declared.order.Order.{Order}
+use Rattle.serve_model.specs.declared.buckets.Buckets.{Buckets}
 use Rattle.serve_model.specs.declared.served.Served.{Served}
 use Rattle.serve_model.specs.declared.served.ServeFault.{ServeFault}
 use Rattle.serve_model.specs.declared.served.ServeFault.TheVariants.{Kept}
@@ -37,7 +38,7 @@ same_fault r a b h k = cc
 
 -- ---- one connection
 
-module _ {S : Type 0} (store : Store S) (buckets : List (List ℕ)) (g : Grammar) (known : Known S) where
+module _ {S : Type 0} (store : Store S) (buckets : Buckets) (g : Grammar) (known : Known S) where
   record ServedOnce (p : Serving S) (bytes : List ℕ) (holds : S → Type 0) (times : Option (List ℕ)) (served : Served) (d : Connection) : Type 0 where
     serving : Serving S
     is_served : IsServed store buckets g known.fits p bytes d serving
@@ -98,7 +99,7 @@ comes_of [] new c h = absurd (some_is_none c h.1)
     some_is_none x e = cc
 comes_of (bytes ∷ rest) new c h = record { bytes = bytes; rest = rest; first = refl; new_is = h.0; left = h.1 }
 
-module _ {S : Type 0} (store : Store S) (fits lacks : S → ℕ → Order → Type 0) (buckets : List (List ℕ)) (g : Grammar) (p : Serving S) (number : ℕ) (holds holds' : S → Type 0) (times times' : Option (List ℕ)) (served served' : Served) (past past1 past2 : List Connection) where
+module _ {S : Type 0} (store : Store S) (fits lacks : S → ℕ → Order → Type 0) (buckets : Buckets) (g : Grammar) (p : Serving S) (number : ℕ) (holds holds' : S → Type 0) (times times' : Option (List ℕ)) (served served' : Served) (past past1 past2 : List Connection) where
   Talked : Result Unit ServeFault → Connection → Connection → Type 0
   Talked r c d = (q : Serving S) → Stands holds times served q → OnLeft (λ left. Talks (talk store buckets g request_limit q left) (Reached store fits lacks holds' q.store) (known_from store fits lacks q.store) times' served' r c d) c.left
 
@@ -162,7 +163,7 @@ module _ {S : Type 0} (store : Store S) (fits lacks : S → ℕ → Order → Ty
   all_but_last e (Some coming) old new (Some c) None a takes here there fresh goes talks = cc
   all_but_last e (Some coming) old new (Some c) (Some d) a takes here there fresh goes talks = last_begun coming old new c d a takes fresh goes e talks
 
-module _ {S : Type 0} (store : Store S) (buckets : List (List ℕ)) (g : Grammar) (FitsIt : Asking S → Type 0) (p : Serving S) (holds : S → Type 0) (times : Option (List ℕ)) (served : Served) where
+module _ {S : Type 0} (store : Store S) (buckets : Buckets) (g : Grammar) (FitsIt : Asking S → Type 0) (p : Serving S) (holds : S → Type 0) (times : Option (List ℕ)) (served : Served) where
   pub all_begin : (o o' : Option (List (List ℕ))) (past past' : List Connection) → o' ≡ o → past' ≡ past → Stands holds times served p → IfSome o (λ coming. ServesAll store buckets g FitsIt p 0 holds times served coming o' past past')
   all_begin None o' past past' e k st = tt
   all_begin (Some coming) o' past past' e k st =

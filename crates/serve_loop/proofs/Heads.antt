@@ -5,6 +5,7 @@ use Rattle.http_model.specs.declared.head.Head.{Head}
 use Rattle.http_model.specs.Cut.{ends, too_long, unfinished, cut}
 use Rattle.http_model.specs.Heads.{IsHead, IsNoHead, IsReading}
 use Rattle.http_model.proofs.HeadFacts.{head_unique}
+use Rattle.serve_model.specs.declared.buckets.Buckets.{Buckets}
 use Rattle.serve_model.specs.declared.served.Served.{Served}
 use Rattle.serve_model.specs.Stores.{Store}
 use Rattle.serve_model.specs.Talk.{Grammar, Serving, first_of, later_of, time_from, clocked, passing, said, bad_head, head_turn, cut_turn, turn}
@@ -40,7 +41,7 @@ reading_none front (Some head) is none = absurd (none head is)
 
 -- ---- the turn that follows
 
-module _ {S : Type 0} (store : Store S) (buckets : List (List ℕ)) (g : Grammar) (last : Bool) (p : Serving S) where
+module _ {S : Type 0} (store : Store S) (buckets : Buckets) (g : Grammar) (last : Bool) (p : Serving S) where
   pub turn_of_head : (head : Head) (all rest : List ℕ) → (front : List ℕ) × (cut all ≡ ends front rest) × IsHead front head → turn store buckets g last p all ≡ passing p (head_turn store buckets last (clocked p).time (Some head) (clocked p) rest)
   turn_of_head head all rest (front, e, is) =
       ap (λ x. passing p (cut_turn store buckets g last p x)) e ∙ ap (λ o. passing p (head_turn store buckets last (clocked p).time o (clocked p) rest)) (reading_some front head (g.head_of front) (g.reads front) is)

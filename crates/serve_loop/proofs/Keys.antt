@@ -16,11 +16,16 @@ use Rattle.s3_model.specs.Words.{is_empty, header, first_named}
 use Rattle.s3_model.specs.Headers.{has_refused_header}
 use Rattle.s3_model.specs.Lists.{list_with, list_of, is_list, max_of, url_of, after_of}
 use Rattle.s3_model.specs.Targets.{is_slash, place_in, place_past_slash, place_of, path_of, parameters_of, query_of, is_bad_target}
-use Rattle.s3_model.specs.Asks.{is_method, write_of, object_ask, bucket_ask, operation, operation_of, length_refusal, unless_refused, if_served, asked_of}
+use Rattle.s3_model.specs.Asks.{is_method, write_of, object_ask, bucket_ask, operation, operation_of, length_refusal, if_served, asked_of}
 use Rattle.s3_model.specs.Sources.{source_of}
 use Rattle.std.specs.Prelude.{⊤, codes, drop, option_map, ◌&&◌}
-use Rattle.s3_model.specs.declared.fault.Code.TheVariants.{InvalidRequest, NotImplemented}
-use Rattle.s3_model.specs.Faults.{fault_of}
+use Rattle.s3_model.specs.declared.fault.Code.TheVariants.{InvalidRequest, NotImplemented, AccessDenied}
+use Rattle.s3_model.specs.Faults.{fault_of, head_fault_of}
+use Rattle.layout_text.specs.declared.keys.Access.{Access}
+use Rattle.serve_model.specs.declared.admitted.Admitted.{Admitted}
+use Rattle.serve_model.specs.declared.admitted.Signer.{Signer}
+use Rattle.serve_model.specs.Keys.{may}
+use Rattle.serve_model.specs.Admitting.{unless_long, if_signed, if_asked, signer, admitted}
 use Rattle.serve_model.specs.Judging.{IsKeyed, order_of}
 
 -- ---- an order has the key of its ask
@@ -117,16 +122,36 @@ operation_keyed head Root parameters k = either (is_method head (codes "GET") &&
 operation_keyed head (Bucket bucket) parameters k = bucket_keyed head bucket parameters
 operation_keyed head (Object bucket key) parameters k = either (is_empty parameters) (object_ask head bucket key) None (object_keyed head bucket key k) tt
 
-unless_keyed : (a : Ask) (fault : Option S3Fault) → IsKeyed a → ResultKeyed (unless_refused a fault)
-unless_keyed a None k = k
-unless_keyed a (Some fault) k = tt
-
 served_keyed : (head : Head) (o : Option Ask) → AskKeyed o → ResultKeyed (if_served head o)
 served_keyed head None k = tt
-served_keyed head (Some a) k = either_result (has_refused_header head.headers) (Err (fault_of NotImplemented)) (unless_refused a (length_refusal head a)) tt (unless_keyed a (length_refusal head a) k)
+served_keyed head (Some a) k = either_result (has_refused_header head.headers) (Err (fault_of NotImplemented)) (Ok a) tt k
 
 asked_keyed : (head : Head) → ResultKeyed (asked_of head)
 asked_keyed head = either_result (is_bad_target head.target) (Err (fault_of InvalidRequest)) (if_served head (operation_of head)) tt (served_keyed head (operation_of head) (operation_keyed head (place_of (path_of head.target)) (parameters_of (query_of head.target)) (past_slash_keyed (drop 1 (path_of head.target)))))
 
-pub ask_keyed : (head : Head) (a : Ask) → asked_of head ≡ Ok a → IsKeyed a
-ask_keyed head a e = subst ResultKeyed e (asked_keyed head)
+-- ---- what is admitted has the key of its ask
+
+abbrev AdmittedKeyed : Result Admitted S3Fault → Type 0
+AdmittedKeyed (Ok a) = IsKeyed a.ask
+AdmittedKeyed (Err fault) = ⊤
+
+either_admitted : (b : Bool) (x y : Result Admitted S3Fault) → AdmittedKeyed x → AdmittedKeyed y → AdmittedKeyed (if b then x else y)
+either_admitted true x y h k = h
+either_admitted false x y h k = k
+
+unless_keyed : (a : Admitted) (fault : Option S3Fault) → IsKeyed a.ask → AdmittedKeyed (unless_long a fault)
+unless_keyed a None k = k
+unless_keyed a (Some fault) k = tt
+
+signed_keyed : (access : Access) (head : Head) (a : Ask) (s : Result Signer S3Fault) → IsKeyed a → AdmittedKeyed (if_signed access head a s)
+signed_keyed access head a (Ok s) k =
+    let it : Admitted = record { ask = a; who = s.who; digest = s.digest } in
+    either_admitted (may access s.who a) (unless_long it (length_refusal head a)) (Err (head_fault_of AccessDenied)) (unless_keyed it (length_refusal head a) k) tt
+signed_keyed access head a (Err fault) k = tt
+
+if_asked_keyed : (access : Access) (now : ℕ) (head : Head) (r : Result Ask S3Fault) → ResultKeyed r → AdmittedKeyed (if_asked access now head r)
+if_asked_keyed access now head (Ok a) k = signed_keyed access head a (signer access now head) k
+if_asked_keyed access now head (Err fault) k = tt
+
+pub admitted_keyed : (access : Access) (now : ℕ) (head : Head) (a : Admitted) → admitted access now head ≡ Ok a → IsKeyed a.ask
+admitted_keyed access now head a e = subst AdmittedKeyed e (if_asked_keyed access now head (asked_of head) (asked_keyed head))

@@ -6,3 +6,4 @@ pub mod Keys
 pub mod Carrying
 pub mod Talking
 pub mod Connections
+pub mod Admits

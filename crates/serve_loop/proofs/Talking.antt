@@ -8,6 +8,7 @@ use Rattle.lab_outside.specs.Bytes.{Wrote}
 use Rattle.lab_outside.proofs.Bytes.{wrote_none, wrote_more, wrote_prefix_after}
 use Rattle.lab_outside.proofs.Rose.{rose_after}
 use Rattle.flow_model.specs.declared.order.Order.{Order}
+use Rattle.serve_model.specs.declared.buckets.Buckets.{Buckets}
 use Rattle.serve_model.specs.declared.served.Served.{Served}
 use Rattle.serve_model.specs.declared.served.ServeFault.{ServeFault}
 use Rattle.serve_model.specs.declared.served.ServeFault.TheVariants.{Kept, Number, Memory}
@@ -143,7 +144,7 @@ same_err r a b e k = cc
 ok_is_no_error : (r : Result Bool ServeFault) (a : Bool) (e : ServeFault) → r ≡ Ok a → r ≡ Err e → ⊥
 ok_is_no_error r a e h k = cc
 
-module _ {S : Type 0} (store : Store S) (buckets : List (List ℕ)) (g : Grammar) where
+module _ {S : Type 0} (store : Store S) (buckets : Buckets) (g : Grammar) where
   talk_none : (p : Serving S) (bytes : List ℕ) → talk store buckets g 0 p bytes ≡ record { text = []; stops = []; asks = []; serving = p; is_over = false }
   unfolding talk
   talk_none p bytes = refl
@@ -181,7 +182,7 @@ module _ {S : Type 0} (store : Store S) (buckets : List (List ℕ)) (g : Grammar
 -- ---- so far
 
 -- so far a first part of what is stated of all bytes was written, each order that the store was asked fits, and what is stated of the rest is to come
-pub record InTalk {S : Type 0} (store : Store S) (FitsIt : Asking S → Type 0) (buckets : List (List ℕ)) (g : Grammar) (all : Talk S) (holds : S → Type 0) (times : Option (List ℕ)) (served : Served) (more : ℕ) (kept : List ℕ) (c d : Connection) : Type 0 where
+pub record InTalk {S : Type 0} (store : Store S) (FitsIt : Asking S → Type 0) (buckets : Buckets) (g : Grammar) (all : Talk S) (holds : S → Type 0) (times : Option (List ℕ)) (served : Served) (more : ℕ) (kept : List ℕ) (c d : Connection) : Type 0 where
   pub text : List ℕ
   pub stops : List (Stop S)
   pub asks : List (Asking S)
@@ -201,7 +202,7 @@ none_behind (x ∷ xs) = ap (λ ys. x ∷ ys) (none_behind xs)
 prefixed_none : {S : Type 0} (u : Talk S) → prefixed [] [] [] u ≡ u
 prefixed_none u = ap (λ x. record u { stops = x }) (none_behind u.stops)
 
-module _ {S : Type 0} (store : Store S) (FitsIt : Asking S → Type 0) (buckets : List (List ℕ)) (g : Grammar) where
+module _ {S : Type 0} (store : Store S) (FitsIt : Asking S → Type 0) (buckets : Buckets) (g : Grammar) where
   pub talk_begins : (limit more : ℕ) (p : Serving S) (bytes : List ℕ) (holds : S → Type 0) (times : Option (List ℕ)) (served : Served) (kept : List ℕ) (c : Connection) → c.left ≡ Some bytes → kept ≡ [] → more ≡ limit → Stands holds times served p → InTalk store FitsIt buckets g (talk store buckets g limit p bytes) holds times served more kept c c
   talk_begins limit more p bytes holds times served kept c told none all st =
       record {
@@ -218,7 +219,7 @@ module _ {S : Type 0} (store : Store S) (FitsIt : Asking S → Type 0) (buckets 
         is = ap (λ n. talk store buckets g n p bytes) (sym all) ∙ ap (λ k. talk store buckets g more p (k ++ bytes)) (sym none) ∙ sym (prefixed_none (talk store buckets g more p (kept ++ bytes)));
       }
 
-module _ {S : Type 0} (store : Store S) (fits lacks : S → ℕ → Order → Type 0) (buckets : List (List ℕ)) (g : Grammar) (all : Talk S) (start : S) (more : ℕ) (kept kept' : List ℕ) (holds holds' : S → Type 0) (times times' : Option (List ℕ)) (served served' : Served) (c d f : Connection)
+module _ {S : Type 0} (store : Store S) (fits lacks : S → ℕ → Order → Type 0) (buckets : Buckets) (g : Grammar) (all : Talk S) (start : S) (more : ℕ) (kept kept' : List ℕ) (holds holds' : S → Type 0) (times times' : Option (List ℕ)) (served served' : Served) (c d f : Connection)
     (i : InTalk store (fits_asking fits) buckets g all (Reached store fits lacks holds start) times served (suc more) kept c d) where
   abbrev pub Follows : Result Bool ServeFault → Type 0
   Follows r = Serves (turn store buckets g (more == 0) i.serving (kept ++ i.left)) (Reached store fits lacks holds' i.serving.store) (known_from store fits lacks i.serving.store) times' served' r kept' d f
@@ -305,7 +306,7 @@ module _ {S : Type 0} (store : Store S) (fits lacks : S → ℕ → Order → Ty
       talk_given_up e refl (subst Q (sym same) (why_of_all m why)) (stops_of_all (ComesTo (fits_asking fits) d f) (ComesTo (fits_asking fits) c f) comes_so_far at) (omega (arith, i.counted, n))
 
 -- as many requests were answered as one connection may have
-module _ {S : Type 0} (store : Store S) (buckets : List (List ℕ)) (g : Grammar) where
+module _ {S : Type 0} (store : Store S) (buckets : Buckets) (g : Grammar) where
   pub talk_is_over : (all : Talk S) (more : ℕ) (kept : List ℕ) (holds : S → Type 0) (known : Known S) (times : Option (List ℕ)) (served : Served) (c d : Connection) → more ≡ 0 → InTalk store known.fits buckets g all holds times served more kept c d → Talks all holds known times served (Ok tt) c d
   talk_is_over all more kept holds known times served c d over i =
       let rest : talk store buckets g more i.serving (kept ++ i.left) ≡ record { text = []; stops = []; asks = []; serving = i.serving; is_over = false } = ap (λ n. talk store buckets g n i.serving (kept ++ i.left)) over ∙ talk_none store buckets g i.serving (kept ++ i.left) in
@@ -317,7 +318,7 @@ module _ {S : Type 0} (store : Store S) (buckets : List (List ℕ)) (g : Grammar
 -- ---- over the connection that is present
 
 -- a turn more, whatever is to follow from it
-module _ {S : Type 0} (store : Store S) (fits lacks : S → ℕ → Order → Type 0) (buckets : List (List ℕ)) (g : Grammar) (all : List ℕ → Talk S) (start : S) (more n : ℕ) (kept kept' : List ℕ) (holds holds' : S → Type 0) (times times' : Option (List ℕ)) (served served' : Served) (r : Result Bool ServeFault) (Next' : List ℕ → Connection → Connection → Type 0) (o m k : Option Connection) where
+module _ {S : Type 0} (store : Store S) (fits lacks : S → ℕ → Order → Type 0) (buckets : Buckets) (g : Grammar) (all : List ℕ → Talk S) (start : S) (more n : ℕ) (kept kept' : List ℕ) (holds holds' : S → Type 0) (times times' : Option (List ℕ)) (served served' : Served) (r : Result Bool ServeFault) (Next' : List ℕ → Connection → Connection → Type 0) (o m k : Option Connection) where
   pub turn_then : n ≡ suc more → OnPresent (λ c d. OnLeft (λ left. InTalk store (fits_asking fits) buckets g (all left) (Reached store fits lacks holds start) times served n kept c d) c.left) o m → IsSome k
       → ((q : Serving S) → Stands holds times served q → ServesOn (λ left. turn store buckets g (more == 0) q (kept ++ left)) (Reached store fits lacks holds' q.store) (known_from store fits lacks q.store) times' served' r kept' m k)
       → ((left : List ℕ) (c d f : Connection) (i : InTalk store (fits_asking fits) buckets g (all left) (Reached store fits lacks holds start) times served (suc more) kept c d) → Follows store fits lacks buckets g (all left) start more kept kept' holds holds' times times' served served' c d f i r → Next' left c f)

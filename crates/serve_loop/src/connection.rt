@@ -8,10 +8,9 @@ ghost use Rattle.serve_model.specs.Connections.{Talks};
 
 use crate::request::serve_request;
 use crate::storage::Storage;
-use crdt_core::{Bytes, List};
 use http_wire::Kept;
 use lab_outside::{Clock, Link};
-use serve_model::{ServeFault, Served};
+use serve_model::{Buckets, ServeFault, Served};
 use std::alloc::Global;
 
 /// How many requests of one connection are answered.
@@ -24,7 +23,7 @@ pub(crate) fn serve_connection<S: Storage, L: Link, C: Clock>(
     link: &mut L,
     clock: &mut C,
     served: &mut Served,
-    buckets: &List<Bytes>,
+    buckets: &Buckets,
 ) -> Result<(), ServeFault>
     requires state { HasState (S.stands store.old) }
     requires present { IsSome (L.present link.old) }

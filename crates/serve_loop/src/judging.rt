@@ -2,11 +2,17 @@
 ghost use Rattle.std.specs.Prelude.{◌≡◌, Option, option_map, IfOk};
 ghost use Rattle.crdt_core.specs.Outcomes.{OnlyWant};
 ghost use Rattle.s3_model.specs.Sources.{is_long_key};
-ghost use Rattle.serve_model.specs.Judging.{bucket_of, key_of, has_bucket as has_bucket_of, is_missing as missing_of, has_wrong_digest as wrong_digest, has_bad_argument as bad_argument, source_bucket, refusal_in};
+ghost use Rattle.serve_model.specs.Keys.{has_bucket as has_bucket_of};
+ghost use Rattle.serve_model.specs.Judging.{bucket_of, key_of, is_missing as missing_of, has_wrong_digest as wrong_digest, has_bad_argument as bad_argument, source_bucket, differs as other_body, is_denied as denied, refusal_of};
 
+use crate::admitting::may_read;
 use crdt_core::{Bytes, List, Memory};
+use layout_text::Access;
 use s3_model::{Ask, Code};
 use s3_request::{copy_source, is_digest};
+use serve_model::{Buckets, Request};
+use sig_v4::is_body_of;
+use std::alloc::Global;
 
 /// How many bytes a key may have.
 const KEY_LIMIT: usize = 1024;
@@ -42,7 +48,8 @@ pub(crate) fn key(ask: &Ask) -> &[u8]
     }
 }
 
-fn has_bucket(buckets: &[Bytes], name: &[u8]) -> bool
+/// The bucket is one of these.
+pub(crate) fn has_bucket(buckets: &[Bytes], name: &[u8]) -> bool
     ensures { result ≡ has_bucket_of buckets.now name.now }
 {
     buckets.iter().any(|bucket| bucket.as_slice() == name)
@@ -91,26 +98,66 @@ fn has_bad_argument(ask: &Ask) -> Result<bool, Memory>
     }
 }
 
-// The bucket isn't there that a copy's source names.
-fn lacks_source(buckets: &List<Bytes>, ask: &Ask) -> Result<bool, Memory>
-    ensures same { IfOk result (λ lacks. lacks ≡ missing_of buckets.now (source_bucket ask.now)) }
+// The bucket from which is copied.
+fn source(ask: &Ask) -> Result<Option<Bytes>, Memory>
+    ensures same { IfOk result (λ bucket. bucket ≡ source_bucket ask.now) }
     ensures want { OnlyWant result }
 {
     let Ask::Copy { from, .. } = ask else {
-        return Ok(false);
+        return Ok(None);
     };
     match copy_source(from)? {
-        Some(source) => Ok(!has_bucket(buckets.as_slice(), source.0.as_slice())),
+        Some(source) => Ok(Some(source.0)),
+        None => Ok(None),
+    }
+}
+
+// Who asks may not read the bucket from which is copied.
+fn is_denied(access: &Access, who: Option<usize>, source: &Option<Bytes>) -> bool
+    ensures { result ≡ denied access.now who source.now }
+{
+    match source {
+        Some(bucket) => !may_read(access, who, bucket.as_slice()),
+        None => false,
+    }
+}
+
+// The bucket isn't there from which is copied.
+fn lacks(buckets: &List<Bytes>, source: &Option<Bytes>) -> bool
+    ensures { result ≡ missing_of buckets.now source.now }
+{
+    match source {
+        Some(bucket) => !has_bucket(buckets.as_slice(), bucket.as_slice()),
+        None => false,
+    }
+}
+
+// A digest of the body was signed, and the body has another.
+fn differs(alloc: Global, digest: &Option<Bytes>, body: &[u8]) -> Result<bool, Memory>
+    ensures same { IfOk result (λ differs. differs ≡ other_body digest.now body.now) }
+    ensures want { OnlyWant result }
+{
+    match digest {
+        Some(digest) => Ok(!is_body_of(alloc, digest.as_slice(), body)?),
         None => Ok(false),
     }
 }
 
 /// The refusal that comes first once the body was read, if the store needn't be asked for it.
-pub(crate) fn refusal(buckets: &List<Bytes>, ask: &Ask, body: &[u8]) -> Result<Option<Code>, Memory>
-    ensures same { IfOk result (λ code. code ≡ refusal_in buckets.now ask.now body.now) }
+pub(crate) fn refusal(
+    alloc: Global,
+    buckets: &Buckets,
+    request: &Request,
+    body: &[u8],
+) -> Result<Option<Code>, Memory>
+    ensures same { IfOk result (λ code. code ≡ refusal_of buckets.now request.now body.now) }
     ensures want { OnlyWant result }
 {
-    if is_missing(buckets, bucket(ask)) {
+    let ask = &request.ask;
+    if differs(alloc, &request.digest, body)? {
+        return Ok(Some(Code::XAmzContentSHA256Mismatch));
+    }
+    if is_missing(&buckets.names, bucket(ask)) {
         return Ok(Some(Code::NoSuchBucket));
     }
     if is_long(key(ask)) {
@@ -122,7 +169,11 @@ pub(crate) fn refusal(buckets: &List<Bytes>, ask: &Ask, body: &[u8]) -> Result<O
     if has_bad_argument(ask)? {
         return Ok(Some(Code::InvalidArgument));
     }
-    if lacks_source(buckets, ask)? {
+    let source = source(ask)?;
+    if is_denied(&buckets.access, request.who, &source) {
+        return Ok(Some(Code::AccessDenied));
+    }
+    if lacks(&buckets.names, &source) {
         return Ok(Some(Code::NoSuchBucket));
     }
     Ok(None)

@@ -5,10 +5,12 @@
 //! through. `serve_request` serves one request of the connection that is present, `serve` all connections. A `Storage`
 //! is what both need of a store: one call, which carries out an order at a time.
 //!
-//! Inside, `judging` says which refusal comes first once a body was read, what the store is asked, and what its end is
-//! answered with; `saying` writes answers; `request`, `connection` and `service` are the three layers of serving.
+//! Inside, `admitting` says what a head asks and who asks it, or which refusal of it comes first; `judging` says which
+//! refusal comes first once a body was read, what the store is asked, and what its end is answered with; `saying` writes
+//! answers; `request`, `connection` and `service` are the three layers of serving.
 #![tactic(auto)]
 
+mod admitting;
 mod answers;
 mod connection;
 mod counting;

@@ -3,12 +3,14 @@ ghost use Rattle.std.specs.Prelude.{◌≡◌, Some, option_map, IfOk};
 ghost use Rattle.crdt_core.specs.Outcomes.{OnlyWant};
 ghost use Rattle.flow_model.specs.declared.order.Order.TheVariants as asked;
 ghost use Rattle.s3_model.specs.Sources.{source_of};
-ghost use Rattle.serve_model.specs.Judging.{order_of, reply_without};
+ghost use Rattle.serve_model.specs.Judging.{order_of, shown_to, reply_without};
 
+use crate::admitting::may_read;
 use crdt_core::{Bytes, List, Memory, Value};
 use flow_model::Order;
 use s3_model::{Ask, Reply};
 use s3_request::copy_source;
+use serve_model::Buckets;
 use std::alloc::Global;
 
 // A copy of these headers, if there are some.
@@ -93,13 +95,32 @@ pub(crate) fn order(ask: &Ask, body: Bytes) -> Result<Option<Order>, Memory>
     }
 }
 
+// The names that are shown to who asks.
+fn shown(alloc: Global, buckets: &Buckets, who: Option<usize>) -> Result<List<Bytes>, Memory>
+    ensures same { IfOk result (λ names. names ≡ shown_to buckets.now who) }
+    ensures want { OnlyWant result }
+{
+    let mut shown: List<Bytes> = List::new(alloc);
+    for name in buckets.names.as_slice() {
+        if may_read(&buckets.access, who, name.as_slice()) {
+            shown.push(name.copy()?)?;
+        }
+    }
+    Ok(shown)
+}
+
 /// What is replied where the store isn't asked.
-pub(crate) fn reply(buckets: &List<Bytes>, ask: &Ask) -> Result<Reply, Memory>
-    ensures same { IfOk result (λ reply. reply ≡ reply_without buckets.now ask.now) }
+pub(crate) fn reply(
+    alloc: Global,
+    buckets: &Buckets,
+    who: Option<usize>,
+    ask: &Ask,
+) -> Result<Reply, Memory>
+    ensures same { IfOk result (λ reply. reply ≡ reply_without buckets.now who ask.now) }
     ensures want { OnlyWant result }
 {
     match ask {
-        Ask::ListBuckets => Ok(Reply::Buckets(buckets.copy()?)),
+        Ask::ListBuckets => Ok(Reply::Buckets(shown(alloc, buckets, who)?)),
         _ => Ok(Reply::Empty),
     }
 }

@@ -3,26 +3,27 @@ ghost use Rattle.std.specs.Prelude.{◌≡◌, ℕ, List, ◌++◌, ◌||◌, ma
 ghost use Rattle.crdt_core.specs.Outcomes.{OnlyWant};
 ghost use Rattle.lab_outside.specs.Connection.{OnPresent, Stays};
 ghost use Rattle.store_model.specs.Acts.{HasKey};
-ghost use Rattle.s3_model.specs.Asks.{is_method, asked_of};
+ghost use Rattle.s3_model.specs.Asks.{is_method};
 ghost use Rattle.serve_model.specs.declared.served.ServeFault.TheVariants.{Memory as Wanting};
 ghost use Rattle.serve_model.specs.Judging.{IsKeyed, order_of, reply_without, answer_to};
 ghost use Rattle.serve_model.specs.Stores.{known_from};
 ghost use Rattle.serve_model.specs.Talk.{Grammar, Serving, first_of, later_of, time_from, request_of, path_shown as path_of_refusal, interim as interim_of, bad_head, head_refusal, text_of, closes_of, clocked, order_turn, plan_turn, whole_turn, body_turn, waiting_turn, request_turn, head_turn, turn};
 ghost use Rattle.serve_model.specs.Serving.{HasState, Reached, Goes, Stands, SaysOn, ServesOn};
 
+use crate::admitting::admit;
 use crate::answers::answer_for;
 use crate::counting::{count, counts_after, counts_before};
 use crate::judging::refusal;
 use crate::orders::{order, reply};
 use crate::saying::{answer_request, refuse_head};
 use crate::storage::Storage;
-use crdt_core::{Bytes, List, Memory, Value};
+use crdt_core::{Bytes, Memory, Value};
 use flow_model::{FlowEnd, Order};
 use http_wire::{Head, HeadEnd, Kept, read_body, read_head};
 use lab_outside::{Clock, Link, send_whole};
-use s3_model::{Ask, AskFault, Code, S3Fault};
-use s3_request::{announced, closes, expects, fault, has_path, path, understand};
-use serve_model::{Answer, Request, ServeFault, Served};
+use s3_model::{AskFault, Code, S3Fault};
+use s3_request::{announced, closes, expects, fault, has_path, path};
+use serve_model::{Admitted, Answer, Buckets, Request, ServeFault, Served};
 use std::alloc::Global;
 
 /// The greatest time of a request, in milliseconds since 1970.
@@ -83,7 +84,7 @@ fn serve_whole<S: Storage, L: Link>(
     store: &mut S,
     link: &mut L,
     served: &mut Served,
-    buckets: &List<Bytes>,
+    buckets: &Buckets,
     request: &Request,
     body: Bytes,
 ) -> Result<bool, ServeFault>
@@ -96,7 +97,7 @@ fn serve_whole<S: Storage, L: Link>(
     ensures goes { Goes S.model S.fits S.lacks (S.stands store.old) (S.stands store.new) result }
     ensures stays { Stays (L.coming link.old) (L.coming link.new) (L.past link.old) (L.past link.new) (L.faults link.old) (L.faults link.new) }
 {
-    match refusal(buckets, &request.ask, body.as_slice()) {
+    match refusal(alloc, buckets, request, body.as_slice()) {
         Ok(Some(code)) => answer_request(alloc, link, request, Answer::Refusal(code)),
         Ok(None) => serve_judged(alloc, store, link, served, buckets, request, body),
         Err(_) => Err(ServeFault::Memory),
@@ -109,7 +110,7 @@ fn serve_judged<S: Storage, L: Link>(
     store: &mut S,
     link: &mut L,
     served: &mut Served,
-    buckets: &List<Bytes>,
+    buckets: &Buckets,
     request: &Request,
     body: Bytes,
 ) -> Result<bool, ServeFault>
@@ -133,16 +134,16 @@ fn serve_judged<S: Storage, L: Link>(
 fn answer_without<L: Link>(
     alloc: Global,
     link: &mut L,
-    buckets: &List<Bytes>,
+    buckets: &Buckets,
     request: &Request,
 ) -> Result<bool, ServeFault>
     requires { IsSome (L.present link.old) }
     ensures present { IsSome (L.present link.new) }
-    ensures says { SaysOn (text_of request.now (Answer.Reply (reply_without buckets.now request.now.ask))) (closes_of request.now (Answer.Reply (reply_without buckets.now request.now.ask))) result (L.present link.old) (L.present link.new) }
+    ensures says { SaysOn (text_of request.now (Answer.Reply (reply_without buckets.now request.now.who request.now.ask))) (closes_of request.now (Answer.Reply (reply_without buckets.now request.now.who request.now.ask))) result (L.present link.old) (L.present link.new) }
     ensures cause { IfErr result (λ e. e ≡ Wanting) }
     ensures stays { Stays (L.coming link.old) (L.coming link.new) (L.past link.old) (L.past link.new) (L.faults link.old) (L.faults link.new) }
 {
-    match reply(buckets, &request.ask) {
+    match reply(alloc, buckets, request.who, &request.ask) {
         Ok(reply) => answer_request(alloc, link, request, Answer::Reply(reply)),
         Err(_) => Err(ServeFault::Memory),
     }
@@ -155,7 +156,7 @@ fn serve_body<S: Storage, L: Link>(
     link: &mut L,
     kept: &mut Kept,
     served: &mut Served,
-    buckets: &List<Bytes>,
+    buckets: &Buckets,
     request: &Request,
 ) -> Result<bool, ServeFault>
     requires state { HasState (S.stands store.old) }
@@ -197,7 +198,7 @@ fn serve_waiting<S: Storage, L: Link>(
     link: &mut L,
     kept: &mut Kept,
     served: &mut Served,
-    buckets: &List<Bytes>,
+    buckets: &Buckets,
     request: &Request,
 ) -> Result<bool, ServeFault>
     requires state { HasState (S.stands store.old) }
@@ -222,7 +223,7 @@ fn serve_understood<S: Storage, L: Link>(
     link: &mut L,
     kept: &mut Kept,
     served: &mut Served,
-    buckets: &List<Bytes>,
+    buckets: &Buckets,
     request: &Request,
 ) -> Result<bool, ServeFault>
     requires state { HasState (S.stands store.old) }
@@ -234,7 +235,7 @@ fn serve_understood<S: Storage, L: Link>(
     ensures goes { Goes S.model S.fits S.lacks (S.stands store.old) (S.stands store.new) result }
     ensures stays { Stays (L.coming link.old) (L.coming link.new) (L.past link.old) (L.past link.new) (L.faults link.old) (L.faults link.new) }
 {
-    let size = counts_before(buckets, &request.ask, request.length);
+    let size = counts_before(&buckets.names, &request.ask, request.length);
     match count(served, size) {
         Ok(()) => serve_waiting(alloc, store, link, kept, served, buckets, request),
         Err(_) => Err(ServeFault::Kept),
@@ -259,20 +260,22 @@ fn is_head(head: &Head) -> bool
     head.method.as_slice() == b"HEAD".as_slice()
 }
 
-// What is known of a request whose head was understood.
+// What is known of a request whose head was admitted.
 fn request_for(
     alloc: Global,
     head: &Head,
-    ask: Ask,
+    asked: Admitted,
     last: bool,
     now: u64,
 ) -> Result<Request, Memory>
-    ensures same { IfOk result (λ request. request ≡ request_of last now head.now ask) }
+    ensures same { IfOk result (λ request. request ≡ request_of last now head.now asked) }
     ensures want { OnlyWant result }
 {
     let path = Bytes::from_slice(alloc, path(head.target.as_slice()))?;
     Ok(Request {
-        ask,
+        ask: asked.ask,
+        who: asked.who,
+        digest: asked.digest,
         path,
         is_head: is_head(head),
         length: announced(head),
@@ -302,7 +305,7 @@ fn refuse_read<L: Link>(
     }
 }
 
-// Serves a request that was understood.
+// Serves a request that was admitted.
 fn serve_ask<S: Storage, L: Link>(
     alloc: Global,
     store: &mut S,
@@ -310,21 +313,21 @@ fn serve_ask<S: Storage, L: Link>(
     link: &mut L,
     kept: &mut Kept,
     served: &mut Served,
-    buckets: &List<Bytes>,
+    buckets: &Buckets,
     head: &Head,
-    ask: Ask,
+    asked: Admitted,
     now: u64,
 ) -> Result<bool, ServeFault>
     requires state { HasState (S.stands store.old) }
-    requires keyed { IsKeyed ask }
+    requires keyed { IsKeyed asked.ask }
     requires present { IsSome (L.present link.old) }
     ensures present { IsSome (L.present link.new) }
     ensures serves { (p : Serving S.State) (times : Option (List ℕ)) → Stands (S.stands store.old) times served.old p →
-        ServesOn (λ left. request_turn S.model buckets.now (request_of last now head.now ask) p (kept.old.bytes.items ++ left)) (Reached S.model S.fits S.lacks (S.stands store.new) p.store) (known_from S.model S.fits S.lacks p.store) times served.new result kept.new.bytes.items (L.present link.old) (L.present link.new) }
+        ServesOn (λ left. request_turn S.model buckets.now (request_of last now head.now asked) p (kept.old.bytes.items ++ left)) (Reached S.model S.fits S.lacks (S.stands store.new) p.store) (known_from S.model S.fits S.lacks p.store) times served.new result kept.new.bytes.items (L.present link.old) (L.present link.new) }
     ensures goes { Goes S.model S.fits S.lacks (S.stands store.old) (S.stands store.new) result }
     ensures stays { Stays (L.coming link.old) (L.coming link.new) (L.past link.old) (L.past link.new) (L.faults link.old) (L.faults link.new) }
 {
-    match request_for(alloc, head, ask, last, now) {
+    match request_for(alloc, head, asked, last, now) {
         Ok(request) => serve_understood(alloc, store, link, kept, served, buckets, &request),
         Err(_) => Err(ServeFault::Memory),
     }
@@ -338,7 +341,7 @@ fn serve_head<S: Storage, L: Link>(
     link: &mut L,
     kept: &mut Kept,
     served: &mut Served,
-    buckets: &List<Bytes>,
+    buckets: &Buckets,
     head: &Head,
     now: u64,
 ) -> Result<bool, ServeFault>
@@ -350,9 +353,9 @@ fn serve_head<S: Storage, L: Link>(
     ensures goes { Goes S.model S.fits S.lacks (S.stands store.old) (S.stands store.new) result }
     ensures stays { Stays (L.coming link.old) (L.coming link.new) (L.past link.old) (L.past link.new) (L.faults link.old) (L.faults link.new) }
 {
-    match understand(head) {
-        Ok(ask) => serve_ask(
-            alloc, store, last, link, kept, served, buckets, head, ask, now,
+    match admit(alloc, &buckets.access, head, now) {
+        Ok(asked) => serve_ask(
+            alloc, store, last, link, kept, served, buckets, head, asked, now,
         ),
         Err(AskFault::Refused(fault)) => refuse_read(alloc, link, head, fault, now),
         Err(AskFault::Memory) => Err(ServeFault::Memory),
@@ -379,7 +382,7 @@ fn serve_found<S: Storage, L: Link, C: Clock>(
     kept: &mut Kept,
     clock: &mut C,
     served: &mut Served,
-    buckets: &List<Bytes>,
+    buckets: &Buckets,
     head: &Head,
 ) -> Result<bool, ServeFault>
     requires state { HasState (S.stands store.old) }
@@ -422,8 +425,8 @@ fn refuse_bad<L: Link, C: Clock>(
 
 /// Serves the next request of the connection that is present, and says whether the connection goes on.
 ///
-/// `last` says that it closes after this request. What is kept of its bytes comes before those that are left. `buckets`
-/// are those that there are, in order of their names. After an error the store is to be given up.
+/// `last` says that it closes after this request. What is kept of its bytes comes before those that are left. After an
+/// error the store is to be given up.
 pub fn serve_request<S: Storage, L: Link, C: Clock>(
     alloc: Global,
     store: &mut S,
@@ -432,7 +435,7 @@ pub fn serve_request<S: Storage, L: Link, C: Clock>(
     kept: &mut Kept,
     clock: &mut C,
     served: &mut Served,
-    buckets: &List<Bytes>,
+    buckets: &Buckets,
 ) -> Result<bool, ServeFault>
     requires state { HasState (S.stands store.old) }
     requires present { IsSome (L.present link.old) }

@@ -8,9 +8,8 @@ ghost use Rattle.serve_loop.specs.Service.{Ends, Leaves};
 
 use crate::connection::serve_connection;
 use crate::storage::Storage;
-use crdt_core::{Bytes, List};
 use lab_outside::{Clock, Link};
-use serve_model::{ServeFault, Served};
+use serve_model::{Buckets, ServeFault, Served};
 use std::alloc::Global;
 
 /// Why serving ended before so many connections were served as were asked.
@@ -23,8 +22,6 @@ pub enum ServeStop {
 }
 
 /// Serves so many connections of a port, one after the other, or fewer where no more come, and says how many.
-///
-/// `buckets` are those that there are, in order of their names.
 pub fn serve<S: Storage, L: Link, C: Clock>(
     alloc: Global,
     store: &mut S,
@@ -33,7 +30,7 @@ pub fn serve<S: Storage, L: Link, C: Clock>(
     link: &mut L,
     clock: &mut C,
     served: &mut Served,
-    buckets: &List<Bytes>,
+    buckets: &Buckets,
 ) -> Result<u32, ServeStop>
     requires state { HasState (S.stands store.old) }
     requires absent { L.present link.old ≡ None }

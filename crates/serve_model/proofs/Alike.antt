@@ -10,20 +10,22 @@ use Rattle.flow_model.specs.declared.order.Order.{Order}
 use Rattle.flow_model.specs.declared.flow.FlowEnd.{FlowEnd}
 use Rattle.http_model.specs.declared.head.Head.{Head}
 use Rattle.http_model.specs.Cut.{Cut, ends, too_long, unfinished, cut}
-use Rattle.s3_model.specs.declared.ask.Ask.{Ask}
 use Rattle.s3_model.specs.declared.fault.Code.{Code}
 use Rattle.s3_model.specs.declared.fault.S3Fault.{S3Fault}
 use Rattle.s3_model.specs.declared.fault.Code.TheVariants.{IncompleteBody}
-use Rattle.s3_model.specs.Asks.{is_method, asked_of}
+use Rattle.s3_model.specs.Asks.{is_method}
 use Rattle.serve_model.specs.declared.answer.Answer.{Answer}
 use Rattle.serve_model.specs.declared.answer.Answer.TheVariants as answer
+use Rattle.serve_model.specs.declared.admitted.Admitted.{Admitted}
+use Rattle.serve_model.specs.declared.buckets.Buckets.{Buckets}
 use Rattle.serve_model.specs.declared.request.Request.{Request}
+use Rattle.serve_model.specs.Admitting.{admitted}
 use Rattle.serve_model.specs.Stores.{Store, Asking}
 use Rattle.serve_model.specs.declared.served.ServeFault.{ServeFault}
 use Rattle.serve_model.specs.declared.served.ServeFault.TheVariants.{Kept, Number, Memory}
 use Rattle.serve_model.specs.Serving.{GivesUp}
 use Rattle.serve_model.specs.Connections.{IsPrefixOf, IsUpTo, IsServed, exact, part, AreServed, EndsSo, too_many, begun}
-use Rattle.serve_model.specs.Judging.{refusal_in, counted_before, order_of, reply_without, answer_to, counted_after}
+use Rattle.serve_model.specs.Judging.{refusal_of, counted_before, order_of, reply_without, answer_to, counted_after}
 use Rattle.serve_model.specs.Talk.{request_limit, Grammar, Serving, kept_limit, first_of, later_of, time_from, Next, goes, closes, exceeds, Stop, Turn, request_of, clocked, counted, stop, behind, passing, having_asked, after, said, answer_turn, exceeded, counting, end_turn, order_turn, plan_turn, judged_turn, whole_turn, body_turn, waiting_turn, request_turn, asked_turn, head_turn, cut_turn, turn, Talk, go_on, talk, interim, bad_head, head_refusal, path_shown, text_of, closes_of}
 use Rattle.serve_model.proofs.Ones.{one_weaker, one_left, one_right, one_mapped, all_mapped, one_at, at_one, at_all, all_under}
 
@@ -150,10 +152,10 @@ module _ {S T : Type 0} (one : Store S) (other : Store T) (Alike : S → T → T
       let k = answers p.store q.store r.time order l.store fit meant in
       end_alike r c.end d.end k.0 (record p { store = c.state }) (record q { store = d.state }) rest (record { store = k.1; times = l.times; time = l.time; kept = l.kept })))
 
-  module _ (buckets : List (List ℕ)) where
+  module _ (buckets : Buckets) where
     plan_alike : (r : Request) (o : Option Order) (p : Serving S) (q : Serving T) (rest : List ℕ) → Serves p q → TurnsSo (plan_turn one buckets r o p rest) (plan_turn other buckets r o q rest)
     plan_alike r (Some order) p q rest l = order_alike r order p q rest l
-    plan_alike r None p q rest l = answer_alike r (answer.Reply (reply_without buckets r.ask)) p q rest l
+    plan_alike r None p q rest l = answer_alike r (answer.Reply (reply_without buckets r.who r.ask)) p q rest l
 
     judged_alike : (r : Request) (body : List ℕ) (c : Option Code) (p : Serving S) (q : Serving T) (rest : List ℕ) → Serves p q → TurnsSo (judged_turn one buckets r body c p rest) (judged_turn other buckets r body c q rest)
     judged_alike r body (Some code) p q rest l = answer_alike r (answer.Refusal code) p q rest l
@@ -164,20 +166,20 @@ module _ {S T : Type 0} (one : Store S) (other : Store T) (Alike : S → T → T
     body_alike r p q rest l =
         passing_alike p q _ _ l
         (either (nat_le r.length (length rest)) (nat_le r.length (length rest)) refl (whole_turn one buckets r (take r.length rest) p (drop r.length rest)) (answer_turn r (answer.Refusal IncompleteBody) p rest) (whole_turn other buckets r (take r.length rest) q (drop r.length rest)) (answer_turn r (answer.Refusal IncompleteBody) q rest)
-        (judged_alike r (take r.length rest) (refusal_in buckets r.ask (take r.length rest)) p q (drop r.length rest) l) (answer_alike r (answer.Refusal IncompleteBody) p q rest l))
+        (judged_alike r (take r.length rest) (refusal_of buckets r (take r.length rest)) p q (drop r.length rest) l) (answer_alike r (answer.Refusal IncompleteBody) p q rest l))
 
     waiting_alike : (r : Request) (p : Serving S) (q : Serving T) (rest : List ℕ) → Serves p q → TurnsSo (waiting_turn one buckets r p rest) (waiting_turn other buckets r q rest)
     waiting_alike r p q rest l = after_alike (interim r) (body_turn one buckets r p rest) (body_turn other buckets r q rest) (body_alike r p q rest l)
 
     request_alike : (r : Request) (p : Serving S) (q : Serving T) (rest : List ℕ) → Serves p q → TurnsSo (request_turn one buckets r p rest) (request_turn other buckets r q rest)
-    request_alike r p q rest l = counting_alike (counted_before buckets r.ask r.length) p q l (λ v. waiting_turn one buckets r v rest) (λ v. waiting_turn other buckets r v rest) (λ m. waiting_alike r (counted (counted_before buckets r.ask r.length) p) (counted (counted_before buckets r.ask r.length) q) rest m)
+    request_alike r p q rest l = counting_alike (counted_before buckets.names r.ask r.length) p q l (λ v. waiting_turn one buckets r v rest) (λ v. waiting_turn other buckets r v rest) (λ m. waiting_alike r (counted (counted_before buckets.names r.ask r.length) p) (counted (counted_before buckets.names r.ask r.length) q) rest m)
 
-    asked_alike : (last : Bool) (now : ℕ) (head : Head) (a : Result Ask S3Fault) (p : Serving S) (q : Serving T) (rest : List ℕ) → Serves p q → TurnsSo (asked_turn one buckets last now head a p rest) (asked_turn other buckets last now head a q rest)
+    asked_alike : (last : Bool) (now : ℕ) (head : Head) (a : Result Admitted S3Fault) (p : Serving S) (q : Serving T) (rest : List ℕ) → Serves p q → TurnsSo (asked_turn one buckets last now head a p rest) (asked_turn other buckets last now head a q rest)
     asked_alike last now head (Ok ask) p q rest l = request_alike (request_of last now head ask) p q rest l
     asked_alike last now head (Err fault) p q rest l = said_alike (head_refusal fault (path_shown head) (is_method head (codes "HEAD")) now) true p q rest l
 
     head_alike : (last : Bool) (now : ℕ) (h : Option Head) (p : Serving S) (q : Serving T) (rest : List ℕ) → Serves p q → TurnsSo (head_turn one buckets last now h p rest) (head_turn other buckets last now h q rest)
-    head_alike last now (Some head) p q rest l = asked_alike last now head (asked_of head) p q rest l
+    head_alike last now (Some head) p q rest l = asked_alike last now head (admitted buckets.access now head) p q rest l
     head_alike last now None p q rest l = said_alike (bad_head now) true p q rest l
 
     module _ (g : Grammar) where

@@ -6,17 +6,19 @@ use Rattle.flow_model.specs.declared.order.Order.{Order}
 use Rattle.flow_model.specs.declared.flow.FlowEnd.{FlowEnd}
 use Rattle.http_model.specs.declared.head.Head.{Head}
 use Rattle.http_model.specs.Cut.{Cut, ends, too_long, unfinished, cut}
-use Rattle.s3_model.specs.declared.ask.Ask.{Ask}
 use Rattle.s3_model.specs.declared.fault.Code.{Code}
 use Rattle.s3_model.specs.declared.fault.S3Fault.{S3Fault}
 use Rattle.s3_model.specs.declared.fault.Code.TheVariants.{IncompleteBody}
-use Rattle.s3_model.specs.Asks.{is_method, asked_of}
+use Rattle.s3_model.specs.Asks.{is_method}
 use Rattle.serve_model.specs.declared.answer.Answer.{Answer}
 use Rattle.serve_model.specs.declared.answer.Answer.TheVariants as answer
+use Rattle.serve_model.specs.declared.admitted.Admitted.{Admitted}
+use Rattle.serve_model.specs.declared.buckets.Buckets.{Buckets}
 use Rattle.serve_model.specs.declared.request.Request.{Request}
+use Rattle.serve_model.specs.Admitting.{admitted}
 use Rattle.serve_model.specs.Stores.{Store, Asking}
 use Rattle.serve_model.specs.Connections.{IsPrefixOf, LiesWithin}
-use Rattle.serve_model.specs.Judging.{refusal_in, counted_before, order_of, reply_without, answer_to, counted_after}
+use Rattle.serve_model.specs.Judging.{refusal_of, counted_before, order_of, reply_without, answer_to, counted_after}
 use Rattle.serve_model.specs.Talk.{Grammar, Serving, kept_limit, Next, goes, closes, exceeds, Stop, Turn, request_of, clocked, counted, behind, passing, having_asked, after, said, answer_turn, exceeded, counting, end_turn, order_turn, plan_turn, judged_turn, whole_turn, body_turn, waiting_turn, request_turn, asked_turn, head_turn, cut_turn, turn, Talk, go_on, talk, interim, bad_head, head_refusal, path_shown, text_of, closes_of}
 use Rattle.serve_model.proofs.Ones.{all_mapped}
 
@@ -73,10 +75,10 @@ module _ {S : Type 0} where
         let t = end_turn r c.end (record p { store = c.state }) rest in
         passing_within p (having_asked a t) (behind_within [] t.text (a ∷ []) t.asks t.stops (end_within r c.end (record p { store = c.state }) rest))
 
-    module _ (buckets : List (List ℕ)) where
+    module _ (buckets : Buckets) where
       plan_within : (r : Request) (o : Option Order) (p : Serving S) (rest : List ℕ) → AllWithin (plan_turn store buckets r o p rest)
       plan_within r (Some order) p rest = order_within r order p rest
-      plan_within r None p rest = answer_within r (answer.Reply (reply_without buckets r.ask)) p rest
+      plan_within r None p rest = answer_within r (answer.Reply (reply_without buckets r.who r.ask)) p rest
 
       judged_within : (r : Request) (body : List ℕ) (c : Option Code) (p : Serving S) (rest : List ℕ) → AllWithin (judged_turn store buckets r body c p rest)
       judged_within r body (Some code) p rest = answer_within r (answer.Refusal code) p rest
@@ -87,7 +89,7 @@ module _ {S : Type 0} where
       body_within r p rest =
           passing_within p (if nat_le r.length (length rest) then whole_turn store buckets r (take r.length rest) p (drop r.length rest) else answer_turn r (answer.Refusal IncompleteBody) p rest)
           (elim (nat_le r.length (length rest)) as (λ b. AllWithin (if b then whole_turn store buckets r (take r.length rest) p (drop r.length rest) else answer_turn r (answer.Refusal IncompleteBody) p rest)) [
-            | true ↦ judged_within r (take r.length rest) (refusal_in buckets r.ask (take r.length rest)) p (drop r.length rest)
+            | true ↦ judged_within r (take r.length rest) (refusal_of buckets r (take r.length rest)) p (drop r.length rest)
             | false ↦ answer_within r (answer.Refusal IncompleteBody) p rest
           ])
 
@@ -95,14 +97,14 @@ module _ {S : Type 0} where
       waiting_within r p rest = let t = body_turn store buckets r p rest in behind_within (interim r) t.text [] t.asks t.stops (body_within r p rest)
 
       request_within : (r : Request) (p : Serving S) (rest : List ℕ) → AllWithin (request_turn store buckets r p rest)
-      request_within r p rest = counting_within (counted_before buckets r.ask r.length) p (λ q. waiting_turn store buckets r q rest) (λ q. waiting_within r q rest)
+      request_within r p rest = counting_within (counted_before buckets.names r.ask r.length) p (λ q. waiting_turn store buckets r q rest) (λ q. waiting_within r q rest)
 
-      asked_within : (last : Bool) (now : ℕ) (head : Head) (a : Result Ask S3Fault) (p : Serving S) (rest : List ℕ) → AllWithin (asked_turn store buckets last now head a p rest)
+      asked_within : (last : Bool) (now : ℕ) (head : Head) (a : Result Admitted S3Fault) (p : Serving S) (rest : List ℕ) → AllWithin (asked_turn store buckets last now head a p rest)
       asked_within last now head (Ok ask) p rest = request_within (request_of last now head ask) p rest
       asked_within last now head (Err fault) p rest = said_within (head_refusal fault (path_shown head) (is_method head (codes "HEAD")) now) true p rest
 
       head_within : (last : Bool) (now : ℕ) (h : Option Head) (p : Serving S) (rest : List ℕ) → AllWithin (head_turn store buckets last now h p rest)
-      head_within last now (Some head) p rest = asked_within last now head (asked_of head) p rest
+      head_within last now (Some head) p rest = asked_within last now head (admitted buckets.access now head) p rest
       head_within last now None p rest = said_within (bad_head now) true p rest
 
       module _ (g : Grammar) where

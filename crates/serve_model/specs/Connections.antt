@@ -5,6 +5,7 @@ use Rattle.crdt_core.specs.Members.{OneOf}
 use Rattle.lab_outside.specs.Connection.{Connection}
 use Rattle.lab_outside.specs.Rose.{Rose}
 use Rattle.lab_outside.specs.Bytes.{Wrote}
+use Rattle.serve_model.specs.declared.buckets.Buckets.{Buckets}
 use Rattle.serve_model.specs.declared.served.Served.{Served}
 use Rattle.serve_model.specs.declared.served.ServeFault.{ServeFault}
 use Rattle.serve_model.specs.declared.served.ServeFault.TheVariants.{Kept}
@@ -27,7 +28,7 @@ IsPrefixOf {A} front all = (rest : List A) × (front ++ rest ≡ all)
 abbrev pub LiesWithin : {S : Type 0} → Talk S → Stop S → Type 0
 LiesWithin t stop = IsPrefixOf stop.text t.text × IsPrefixOf stop.asks t.asks
 
-module _ {S : Type 0} (store : Store S) (buckets : List (List ℕ)) (g : Grammar) where
+module _ {S : Type 0} (store : Store S) (buckets : Buckets) (g : Grammar) where
   -- what is stated of a connection with these bytes
   abbrev pub stated : Serving S → List ℕ → Talk S
   stated p bytes = talk store buckets g request_limit p bytes

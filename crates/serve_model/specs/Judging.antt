@@ -1,6 +1,6 @@
 -- What becomes of a request whose body was read: which refusal comes first, what the store is asked, and what its end is answered with.
-use Rattle.std.specs.Prelude.{ℕ, ◌≤◌, ⊤, Bool, true, false, not, ◌&&◌, ◌||◌, List, [], length, bytes_eq, Option, Some, None, is_none, option_map, if◌then◌else◌}
-use Rattle.std.specs.List.{list_any}
+use Rattle.std.specs.Prelude.{ℕ, ◌≤◌, ⊤, Bool, true, false, not, ◌&&◌, ◌||◌, List, [], length, filter, Option, Some, None, is_none, option_map, if◌then◌else◌}
+use Rattle.layout_text.specs.declared.keys.Access.{Access}
 use Rattle.crdt_rows.specs.declared.version.Version.{Version}
 use Rattle.crdt_rows.specs.declared.body.Meta.{Meta}
 use Rattle.flow_model.specs.declared.order.Order.{Order}
@@ -12,15 +12,19 @@ use Rattle.s3_model.specs.declared.ask.Ask.TheVariants as ask
 use Rattle.s3_model.specs.declared.ask.Range.{Range}
 use Rattle.s3_model.specs.declared.page.ListAsk.{ListAsk}
 use Rattle.s3_model.specs.declared.fault.Code.{Code}
-use Rattle.s3_model.specs.declared.fault.Code.TheVariants.{NoSuchBucket, KeyTooLongError, BadDigest, InvalidArgument, NoSuchKey, InvalidRange}
+use Rattle.s3_model.specs.declared.fault.Code.TheVariants.{NoSuchBucket, KeyTooLongError, BadDigest, InvalidArgument, NoSuchKey, InvalidRange, AccessDenied, XAmzContentSHA256Mismatch}
 use Rattle.s3_model.specs.declared.reply.Reply.{Reply}
 use Rattle.s3_model.specs.declared.reply.Reply.TheVariants as reply
 use Rattle.s3_model.specs.Asks.{is_put}
 use Rattle.s3_model.specs.Page.{page_of}
 use Rattle.s3_model.specs.Ranges.{span_of}
 use Rattle.s3_model.specs.Sources.{source_of, is_long_key, is_digest_of}
+use Rattle.sig_v4.specs.Bodies.{is_body_of}
 use Rattle.serve_model.specs.declared.answer.Answer.{Answer}
 use Rattle.serve_model.specs.declared.answer.Answer.TheVariants as answer
+use Rattle.serve_model.specs.declared.buckets.Buckets.{Buckets}
+use Rattle.serve_model.specs.declared.request.Request.{Request}
+use Rattle.serve_model.specs.Keys.{has_bucket, may_read}
 
 -- the bucket that is asked; none for the list of all
 abbrev pub bucket_of : Ask → Option (List ℕ)
@@ -53,10 +57,6 @@ IsKeyed (ask.Put bucket key length' md5 headers) = 1 ≤ length key
 IsKeyed (ask.Copy from bucket key headers) = 1 ≤ length key
 IsKeyed _ = ⊤
 
--- a bucket is one of these
-abbrev pub has_bucket : List (List ℕ) → List ℕ → Bool
-has_bucket buckets name = list_any (λ b. bytes_eq b name) buckets
-
 -- a bucket is asked that isn't one of these
 abbrev pub is_missing : List (List ℕ) → Option (List ℕ) → Bool
 is_missing buckets None = false
@@ -78,14 +78,26 @@ abbrev pub source_bucket : Ask → Option (List ℕ)
 source_bucket (ask.Copy from bucket key headers) = option_map (λ s. s.0) (source_of from)
 source_bucket _ = None
 
--- the refusal that comes first once the body was read, if the store needn't be asked for it: the bucket isn't there, the key is too long, the digest is wrong, an argument is none, the bucket that is copied from isn't there
-abbrev pub refusal_in : List (List ℕ) → Ask → List ℕ → Option Code
-refusal_in buckets ask body =
-    if is_missing buckets (bucket_of ask) then Some NoSuchBucket
-    else if is_long_key (key_of ask) then Some KeyTooLongError
-    else if has_wrong_digest ask body then Some BadDigest
-    else if has_bad_argument ask then Some InvalidArgument
-    else if is_missing buckets (source_bucket ask) then Some NoSuchBucket
+-- a digest of the body was signed, and the body has another
+abbrev pub differs : Option (List ℕ) → List ℕ → Bool
+differs None body = false
+differs (Some digest) body = not (is_body_of digest body)
+
+-- who asks may not read the bucket from which is copied
+abbrev pub is_denied : Access → Option ℕ → Option (List ℕ) → Bool
+is_denied access who None = false
+is_denied access who (Some bucket) = not (may_read access who bucket)
+
+-- the refusal that comes first once the body was read, if the store needn't be asked for it: the body isn't the one that was signed, the bucket isn't there, the key is too long, the digest is wrong, an argument is none, the bucket that is copied from may not be read, or isn't there
+abbrev pub refusal_of : Buckets → Request → List ℕ → Option Code
+refusal_of buckets r body =
+    if differs r.digest body then Some XAmzContentSHA256Mismatch
+    else if is_missing buckets.names (bucket_of r.ask) then Some NoSuchBucket
+    else if is_long_key (key_of r.ask) then Some KeyTooLongError
+    else if has_wrong_digest r.ask body then Some BadDigest
+    else if has_bad_argument r.ask then Some InvalidArgument
+    else if is_denied buckets.access r.who (source_bucket r.ask) then Some AccessDenied
+    else if is_missing buckets.names (source_bucket r.ask) then Some NoSuchBucket
     else None
 
 -- how many bytes an ask of so long a body counts before it is read: those of an upload that neither its bucket nor its key refuses
@@ -104,10 +116,14 @@ order_of (ask.Delete bucket key) body = Some (order.Delete bucket key)
 order_of (ask.Put bucket key length md5 headers) body = Some (order.Put bucket key body headers)
 order_of (ask.Copy from bucket key headers) body = option_map (λ s. order.Copy s.0 s.1 bucket key headers) (source_of from)
 
--- what is replied where the store isn't asked: the names of all buckets, or that one is there
-abbrev pub reply_without : List (List ℕ) → Ask → Reply
-reply_without buckets ask.ListBuckets = reply.Buckets buckets
-reply_without buckets _ = reply.Empty
+-- the names that are shown to who asks: of the buckets that they may read
+abbrev pub shown_to : Buckets → Option ℕ → List (List ℕ)
+shown_to buckets who = filter (may_read buckets.access who) buckets.names
+
+-- what is replied where the store isn't asked: the names of buckets, or that one is there
+abbrev pub reply_without : Buckets → Option ℕ → Ask → Reply
+reply_without buckets who ask.ListBuckets = reply.Buckets (shown_to buckets who)
+reply_without buckets who _ = reply.Empty
 
 -- an object, unless the range isn't one of it
 abbrev pub found : Option Range → Version → Meta → List ℕ → Answer

@@ -1,6 +1,8 @@
 pub mod Faults
 pub mod Stores
 pub mod Clusters
+pub mod Keys
+pub mod Admitting
 pub mod Judging
 pub mod Talk
 pub mod Serving

@@ -5,23 +5,25 @@ use Rattle.flow_model.specs.declared.flow.FlowEnd.{FlowEnd}
 use Rattle.http_model.specs.declared.head.Head.{Head}
 use Rattle.http_model.specs.Cut.{Cut, ends, too_long, unfinished, cut}
 use Rattle.http_model.specs.Heads.{IsReading}
-use Rattle.s3_model.specs.declared.ask.Ask.{Ask}
 use Rattle.s3_model.specs.declared.fault.Code.{Code}
 use Rattle.s3_model.specs.declared.fault.Code.TheVariants.{InvalidRequest, IncompleteBody}
 use Rattle.s3_model.specs.declared.fault.S3Fault.{S3Fault}
 use Rattle.s3_model.specs.declared.reply.Reply.{Reply}
 use Rattle.s3_model.specs.declared.reply.Reply.TheVariants.{Refused}
 use Rattle.s3_model.specs.Answer.{answer_text}
-use Rattle.s3_model.specs.Asks.{is_method, asked_of}
+use Rattle.s3_model.specs.Asks.{is_method}
 use Rattle.s3_model.specs.Connections.{closes as closes_after_head, expects}
 use Rattle.s3_model.specs.Faults.{fault_of, closes_after}
 use Rattle.s3_model.specs.Headers.{length_of}
 use Rattle.s3_model.specs.Targets.{path_of, is_bad_target}
+use Rattle.serve_model.specs.declared.admitted.Admitted.{Admitted}
 use Rattle.serve_model.specs.declared.answer.Answer.{Answer}
 use Rattle.serve_model.specs.declared.answer.Answer.TheVariants as answer
+use Rattle.serve_model.specs.declared.buckets.Buckets.{Buckets}
 use Rattle.serve_model.specs.declared.request.Request.{Request}
 use Rattle.serve_model.specs.Stores.{Store, Asking}
-use Rattle.serve_model.specs.Judging.{refusal_in, counted_before, order_of, reply_without, answer_to, counted_after}
+use Rattle.serve_model.specs.Admitting.{admitted}
+use Rattle.serve_model.specs.Judging.{refusal_of, counted_before, order_of, reply_without, answer_to, counted_after}
 
 -- a reader of heads: what the bytes of a head say, if they say anything. There is one, and it is the only one.
 pub record Grammar : Type 0 where
@@ -91,11 +93,13 @@ pub record Turn (S : Type 0) : Type 0 where
 abbrev pub path_shown : Head → List ℕ
 path_shown head = if is_bad_target head.target then [] else path_of head.target
 
--- what is known of a request once its head is understood
-abbrev pub request_of : Bool → ℕ → Head → Ask → Request
-request_of last now head ask =
+-- what is known of a request once its head is admitted
+abbrev pub request_of : Bool → ℕ → Head → Admitted → Request
+request_of last now head a =
     record {
-      ask = ask;
+      ask = a.ask;
+      who = a.who;
+      digest = a.digest;
       path = path_of head.target;
       is_head = is_method head (codes "HEAD");
       length = length_of head.headers;
@@ -192,11 +196,11 @@ module _ {S : Type 0} where
       let c = store.carries p.store r.time order in
       passing p (having_asked (record { state = p.store; time = r.time; order = order }) (end_turn r c.end (record p { store = c.state }) rest))
 
-  module _ (store : Store S) (buckets : List (List ℕ)) where
+  module _ (store : Store S) (buckets : Buckets) where
     -- nothing refuses the request before the store is asked
     abbrev pub plan_turn : Request → Option Order → Serving S → List ℕ → Turn S
     plan_turn r (Some order) p rest = order_turn store r order p rest
-    plan_turn r None p rest = answer_turn r (answer.Reply (reply_without buckets r.ask)) p rest
+    plan_turn r None p rest = answer_turn r (answer.Reply (reply_without buckets r.who r.ask)) p rest
 
     -- a request whose body was read is refused, or isn't
     abbrev pub judged_turn : Request → List ℕ → Option Code → Serving S → List ℕ → Turn S
@@ -205,7 +209,7 @@ module _ {S : Type 0} where
 
     -- a body was read
     abbrev pub whole_turn : Request → List ℕ → Serving S → List ℕ → Turn S
-    whole_turn r body p rest = judged_turn r body (refusal_in buckets r.ask body) p rest
+    whole_turn r body p rest = judged_turn r body (refusal_of buckets r body) p rest
 
     -- a body is to be read, unless the input ends before it does
     unfoldable pub body_turn : Request → Serving S → List ℕ → Turn S
@@ -215,18 +219,18 @@ module _ {S : Type 0} where
     abbrev pub waiting_turn : Request → Serving S → List ℕ → Turn S
     waiting_turn r p rest = after (interim r) (body_turn r p rest)
 
-    -- a request was understood
+    -- a request was admitted
     abbrev pub request_turn : Request → Serving S → List ℕ → Turn S
-    request_turn r p rest = counting (counted_before buckets r.ask r.length) p (λ q. waiting_turn r q rest)
+    request_turn r p rest = counting (counted_before buckets.names r.ask r.length) p (λ q. waiting_turn r q rest)
 
-    -- what a head asks was understood, or it is refused
-    abbrev pub asked_turn : Bool → ℕ → Head → Result Ask S3Fault → Serving S → List ℕ → Turn S
-    asked_turn last now head (Ok ask) p rest = request_turn (request_of last now head ask) p rest
+    -- what a head asks was admitted, or it is refused
+    abbrev pub asked_turn : Bool → ℕ → Head → Result Admitted S3Fault → Serving S → List ℕ → Turn S
+    asked_turn last now head (Ok a) p rest = request_turn (request_of last now head a) p rest
     asked_turn last now head (Err fault) p rest = said (head_refusal fault (path_shown head) (is_method head (codes "HEAD")) now) true p rest
 
     -- a head was read, or is outside the grammar
     abbrev pub head_turn : Bool → ℕ → Option Head → Serving S → List ℕ → Turn S
-    head_turn last now (Some head) p rest = asked_turn last now head (asked_of head) p rest
+    head_turn last now (Some head) p rest = asked_turn last now head (admitted buckets.access now head) p rest
     head_turn last now None p rest = said (bad_head now) true p rest
 
     module _ (g : Grammar) where
@@ -258,6 +262,6 @@ module _ {S : Type 0} where
   go_on talk t exceeds = record { text = t.text; stops = t.stops; asks = t.asks; serving = t.serving; is_over = true }
 
   -- a connection with these bytes, on which so many requests are answered at most
-  unfoldable pub talk : Store S → List (List ℕ) → Grammar → ℕ → Serving S → List ℕ → Talk S
+  unfoldable pub talk : Store S → Buckets → Grammar → ℕ → Serving S → List ℕ → Talk S
   talk store buckets g zero p bytes = record { text = []; stops = []; asks = []; serving = p; is_over = false }
   talk store buckets g (suc more) p bytes = let t = turn store buckets g (more == 0) p bytes in go_on (talk store buckets g more) t t.next

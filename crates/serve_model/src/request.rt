@@ -6,6 +6,10 @@ use s3_model::Ask;
 #[derive(Drop)]
 pub struct Request {
     pub ask: Ask,
+    /// The place of the key that signed it; none where nobody need sign.
+    pub who: Option<usize>,
+    /// The SHA-256 of the body in lower-case hexadecimal, where it was signed.
+    pub digest: Option<Bytes>,
     /// The path as it was sent.
     pub path: Bytes,
     /// Whether it is a HEAD, whose refusals have no body.

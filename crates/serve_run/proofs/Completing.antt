@@ -1,9 +1,11 @@
 -- An input that says a plan isn't refused, and so without faults its server is served, passes a limit or wants memory.
-use Rattle.std.proofs.Common.{◌≡◌, ◌≤◌, ◌<◌, ℕ, List, [], Option, Ok, IfSome, refl, subst, arith, length}
+use Rattle.std.proofs.Common.{◌≡◌, ◌≤◌, ◌<◌, ℕ, List, [], Option, Ok, Err, IfSome, refl, subst, arith, length}
 use Rattle.lab_outside.specs.declared.exit.Status.{Status}
 use Rattle.lab_outside.specs.declared.exit.Status.TheVariants as status
 use Rattle.lab_outside.specs.Bytes.{Wrote}
 use Rattle.layout_roles.specs.Text.{layout_text}
+use Rattle.layout_text.specs.declared.config.ConfigFault.TheVariants.{Field}
+use Rattle.layout_text.specs.Keys.{access_said}
 use Rattle.layout_text.specs.Settings.{Settings, settings_of, said}
 use Rattle.layout_command.specs.Answer.{IsLaidOut, layout}
 use Rattle.layout_command.proofs.Stated.{SmallerSizes, laid_status, same_settings}
@@ -11,7 +13,7 @@ use Rattle.serve_model.specs.Talk.{Grammar}
 use Rattle.serve_run.specs.declared.plan.Plan.{Plan}
 use Rattle.lab_main.specs.Limits.{input_limit}
 use Rattle.lab_main.specs.Edges.{Answers}
-use Rattle.serve_run.specs.Plan.{greatest_node, IsSaid, IsRefused, not_text, not_toml, bad_field, no_layout, OfInput, SaysPlan}
+use Rattle.serve_run.specs.Plan.{greatest_node, IsSaid, IsRefused, not_text, not_toml, bad_field, bad_access, no_layout, OfInput, SaysPlan}
 use Rattle.serve_run.specs.Told.{Told}
 use Rattle.serve_run.specs.Answer.{IsEnd, long_input, refused, served, link_failed, too_much, no_room, IsStated, IsSilent, Completes, served_whole, over_limit, without_room, without_memory}
 use Rattle.serve_run.proofs.Ending.{done_served}
@@ -31,7 +33,12 @@ module _ (smaller : SmallerSizes) where
   not_refused p bytes line s (not_text h w) = h s.is_text
   not_refused p bytes line s (not_toml u e w) = let says = s.says in cc
   not_refused p bytes line s (bad_field name u e w) = let says = s.says in cc
-  not_refused p bytes line s (no_layout settings u says unfit) = not_laid_out p bytes line s settings says unfit
+  not_refused p bytes line s (bad_access settings name u says e w) =
+      let same : settings ≡ settings_of p.config = same_settings smaller (said greatest_node bytes) settings (settings_of p.config) says s.says in
+      let there : access_said p.config.buckets bytes ≡ Err (Field name) = subst (λ (o : Settings). access_said o.buckets bytes ≡ Err (Field name)) same e in
+      let allows = s.allows in
+      cc
+  not_refused p bytes line s (no_layout settings access u says allows unfit) = not_laid_out p bytes line s settings says unfit
 
   module _ (g : Grammar) (count : ℕ) (input old new : Option (List ℕ)) (t : Told) (p : Plan) (says : SaysPlan input p) where
     -- what is known of the input is known of the bytes that say the plan

@@ -10,6 +10,7 @@ use Rattle.cluster_machine.specs.Layouts.{layouts}
 use Rattle.store_model.specs.Run.{State, start}
 use Rattle.store_model.specs.Acts.{Act, adds, cuts, installs, acted, after_acts, AreLawfulActs}
 use Rattle.store_model.specs.Fresh.{NoClash}
+use Rattle.serve_model.specs.declared.buckets.Buckets.{Buckets}
 use Rattle.serve_model.specs.declared.served.ServeFault.{ServeFault}
 use Rattle.serve_model.specs.declared.served.ServeFault.TheVariants as cause
 use Rattle.serve_model.specs.Stores.{Store, Asking, fits_asking}
@@ -55,16 +56,16 @@ FirstHolds = (first : Layout) (buckets : List (List ℕ)) (block ticked : ℕ) �
 
 -- what the laws on connections say
 abbrev pub ServedFrom : Type 0
-ServedFrom = (buckets : List (List ℕ)) (g : Grammar) (p s : Serving Cluster) (P : Map) (came : List (List ℕ)) (gone : List Connection) → HoldsApart p.store P → AreApart (IsServedBlock buckets g p P came gone) →
+ServedFrom = (buckets : Buckets) (g : Grammar) (p s : Serving Cluster) (P : Map) (came : List (List ℕ)) (gone : List Connection) → HoldsApart p.store P → AreApart (IsServedBlock buckets g p P came gone) →
     AreServed cluster buckets g (fits_asking fits) p came gone s → AreServedFrom P buckets g p came gone s
 
 abbrev pub EndedFrom : Type 0
-EndedFrom = (buckets : List (List ℕ)) (g : Grammar) (p s : Serving Cluster) (P : Map) (came : List (List ℕ)) (gone : List Connection) (bytes : List ℕ) (last : Connection) (fault : ServeFault) →
+EndedFrom = (buckets : Buckets) (g : Grammar) (p s : Serving Cluster) (P : Map) (came : List (List ℕ)) (gone : List Connection) (bytes : List ℕ) (last : Connection) (fault : ServeFault) →
     HoldsApart p.store P → AreApart (IsServedBlock buckets g p P (came ++ bytes ∷ []) (gone ++ last ∷ [])) → AreServed cluster buckets g (fits_asking fits) p came gone s →
     EndsSo cluster buckets g (fits_asking fits) (λ asks. ⊤) (stated cluster buckets g s bytes) last fault → EndsFrom P buckets g p came gone bytes last fault
 
 -- whatever order had no room
-module _ {S : Type 0} (store : Store S) (buckets : List (List ℕ)) (g : Grammar) (FitsIt : Asking S → Type 0) (t : Talk S) (d : Connection) (overflows : List (Asking S) → Type 0) where
+module _ {S : Type 0} (store : Store S) (buckets : Buckets) (g : Grammar) (FitsIt : Asking S → Type 0) (t : Talk S) (d : Connection) (overflows : List (Asking S) → Type 0) where
   any_order : (fault : ServeFault) → GivesUp overflows t.asks fault → GivesUp (λ (asks : List (Asking S)). ⊤) t.asks fault
   any_order cause.Kept why = why
   any_order cause.Number why = tt
@@ -93,7 +94,7 @@ none_kept p first bytes k = all_put first p.config.buckets p.config.block_size [
 -- ---- the first connections
 
 -- the first of the connections that were served one after the other, with these texts
-record Front (buckets : List (List ℕ)) (g : Grammar) (q : Serving Cluster) (came : List (List ℕ)) (gone : List Connection) : Type 0 where
+record Front (buckets : Buckets) (g : Grammar) (q : Serving Cluster) (came : List (List ℕ)) (gone : List Connection) : Type 0 where
   pub front : List (List ℕ)
   pub back : List (List ℕ)
   pub comes : came ≡ front ++ back
@@ -110,7 +111,7 @@ tail_is x y xs ys e = cc
 lengths : {A : Type 0} (xs ys : List A) → xs ≡ ys → length xs ≡ length ys
 lengths xs ys e = ap length e
 
-front_of : (buckets : List (List ℕ)) (g : Grammar) (came : List (List ℕ)) (all gone later more : List Connection) (q s : Serving Cluster) → AreServed cluster buckets g (fits_asking fits) q came all s → all ++ more ≡ gone ++ later → length more ≤ length later → Front buckets g q came gone
+front_of : (buckets : Buckets) (g : Grammar) (came : List (List ℕ)) (all gone later more : List Connection) (q s : Serving Cluster) → AreServed cluster buckets g (fits_asking fits) q came all s → all ++ more ≡ gone ++ later → length more ≤ length later → Front buckets g q came gone
 front_of buckets g came all [] later more q s h e le = record { front = []; back = came; comes = refl; long = refl; at = q; served = refl }
 front_of buckets g came [] (d ∷ gone) later more q s h e le =
     let long : length more ≡ suc (length gone + length later) = lengths more (d ∷ gone ++ later) e ∙ ap suc (length-append gone later) in
@@ -132,7 +133,7 @@ same_front (x ∷ front) (y ∷ came) back later e l =
     λ i. heads i ∷ rest i
 
 -- what the first connections ask of those to come
-module _ (buckets : List (List ℕ)) (g : Grammar) (IsSo : Asking Map → Type 0) where
+module _ (buckets : Buckets) (g : Grammar) (IsSo : Asking Map → Type 0) where
   asked_before : (came more : List (List ℕ)) (gone : List Connection) (q : Serving Map) → SomeAsked plain buckets g IsSo q came gone → SomeAsked plain buckets g IsSo q (came ++ more) gone
   asked_before [] more gone q h = absurd h
   asked_before (bytes ∷ came) more [] q h = absurd h
@@ -147,7 +148,7 @@ module _ (buckets : List (List ℕ)) (g : Grammar) (IsSo : Asking Map → Type 0
 
 -- ---- the connections that came
 
-module _ (first_holds : FirstHolds) (served_from : ServedFrom) (g : Grammar) (p : Plan) (sized : 1 ≤ p.config.block_size) (first : Layout) (is_of : IsOf p first) (is_first : IsFirst first) (buckets : List (List ℕ)) (times : List ℕ) where
+module _ (first_holds : FirstHolds) (served_from : ServedFrom) (g : Grammar) (p : Plan) (sized : 1 ≤ p.config.block_size) (first : Layout) (is_of : IsOf p first) (is_first : IsFirst first) (buckets : Buckets) (times : List ℕ) where
   -- at first no block is kept, and nothing is in the map
   abbrev Puts : List (List ℕ) → List Connection → List ℕ → Type 0
   Puts came gone bytes = SomeAsked plain buckets g (PutsBlock bytes) (map_serving p times) came gone

@@ -3,7 +3,9 @@ use Rattle.std.proofs.Common.{◌≡◌, ℕ, ◌+◌, ◌≤◌, Option, Result
 use Rattle.std.specs.Prelude.{IsUtf8}
 use Rattle.std.specs.Result.{IsErrAnd}
 use Rattle.lab_main.proofs.Input.{not_longer, of_all}
+use Rattle.layout_text.specs.declared.keys.Access.{Access}
 use Rattle.layout_text.specs.Settings.{Settings, said}
+use Rattle.layout_text.specs.Keys.{access_said}
 use Rattle.serve_run.specs.declared.stop.Stop.{Stop}
 use Rattle.serve_run.specs.declared.stop.Stop.TheVariants.{Read, Link, Memory, LongInput, Refused, Kept, Number}
 use Rattle.lab_main.specs.Limits.{input_limit}
@@ -16,14 +18,14 @@ handed_on P (Ok x) stop is h = tt
 handed_on P (Err e) stop is h = subst P (sym is) h
 
 -- settings without a layout
-pub text_of_settings : (text : List ℕ) (settings : Settings) → IsUtf8 text → said greatest_node text ≡ Ok settings → (stop : Stop) → IsOfSettings settings stop → IsOfText text stop
-text_of_settings text settings u says Memory h = tt
-text_of_settings text settings u says (Refused line) h = no_layout settings u says h
-text_of_settings text settings u says Read h = absurd h
-text_of_settings text settings u says Link h = absurd h
-text_of_settings text settings u says LongInput h = absurd h
-text_of_settings text settings u says Kept h = absurd h
-text_of_settings text settings u says Number h = absurd h
+pub text_of_settings : (text : List ℕ) (settings : Settings) (access : Access) → IsUtf8 text → said greatest_node text ≡ Ok settings → access_said settings.buckets text ≡ Ok access → (stop : Stop) → IsOfSettings settings stop → IsOfText text stop
+text_of_settings text settings access u says allows Memory h = tt
+text_of_settings text settings access u says allows (Refused line) h = no_layout settings access u says allows h
+text_of_settings text settings access u says allows Read h = absurd h
+text_of_settings text settings access u says allows Link h = absurd h
+text_of_settings text settings access u says allows LongInput h = absurd h
+text_of_settings text settings access u says allows Kept h = absurd h
+text_of_settings text settings access u says allows Number h = absurd h
 
 -- a text without a plan
 pub input_of_text : (left : Option (List ℕ)) (all : List ℕ) → length all ≤ input_limit → IfSome left (λ bytes. all ≡ take (input_limit + 1) bytes) → IfSome left (λ bytes. length bytes ≤ input_limit → all ≡ bytes) →

@@ -32,7 +32,7 @@ use Rattle.s3_world.specs.Stands.{IsStore}
 use Rattle.serve_run.specs.Start.{opening, opened, IsOf, IsOpened}
 use Rattle.serve_run.specs.Told.{Told, told}
 use Rattle.serve_run.specs.FromMap.{AreFromMap, AreFromMapButLast}
-use Rattle.serve_run.specs.Served.{nodes_of, begun, state_after, tail, tail_of, serving, AreInOrder, HasServed, HasBrokenOff}
+use Rattle.serve_run.specs.Served.{nodes_of, begun, state_after, tail, tail_of, serving, HasServed, HasBrokenOff}
 use Rattle.serve_run.specs.Stop.{stop_of_memory, stop_of_serving}
 use Rattle.serve_run.specs.Answer.{IsUnshown, LacksRoom, for_order, at_first, afterwards, within, HasStopped, HowServed}
 use Rattle.serve_run.proofs.Requests.{run_is, all_kept}
@@ -108,16 +108,16 @@ module _ (g : Grammar) (p : Plan) (t : Told) where
 pub tail_is : (p : Plan) (number : ℕ) (nodes text : List ℕ) → nodes ≡ nodes_of p → (s t : State) → s ≡ t → text ≡ tail p.certified.sets.sets nodes number s → text ≡ tail_of p number t
 tail_is p number nodes text same s t e h = subst (λ (x : State). text ≡ tail_of p number x) e (subst (λ ns. text ≡ tail p.certified.sets.sets ns number s) same h)
 
-module _ (keeps : EveryRunKeepsPromises) (first_holds : FirstHolds) (served_from : ServedFrom) (g : Grammar) (p : Plan) (sized : 1 ≤ p.config.block_size) (holds0 : Cluster → Type 0) (b : BeginsAs p holds0) (buckets : List (List ℕ)) (in_order : AreInOrder p.config.buckets buckets) (holds : Cluster → Type 0) (counts : Served)
+module _ (keeps : EveryRunKeepsPromises) (first_holds : FirstHolds) (served_from : ServedFrom) (g : Grammar) (p : Plan) (sized : 1 ≤ p.config.block_size) (holds0 : Cluster → Type 0) (b : BeginsAs p holds0) (holds : Cluster → Type 0) (counts : Served)
     (times times' : Option (List ℕ)) (coming coming' : Option (List (List ℕ))) (past past' : List Connection) where
   abbrev All : List ℕ → ℕ → List (List ℕ) → Type 0
-  All ts number cs = ServesAll cluster buckets g (fits_asking fits) (serving p b.first ts) number (Reached cluster fits lacks holds (begun p b.first)) times' counts cs coming' past past'
+  All ts number cs = ServesAll cluster p.buckets g (fits_asking fits) (serving p b.first ts) number (Reached cluster fits lacks holds (begun p b.first)) times' counts cs coming' past past'
 
   -- the connections that were served are served as from the map
-  from_here : NoClash p.config.buckets → (ts : List ℕ) (cs : List (List ℕ)) (left_out : ℕ) (came to_come : List (List ℕ)) (all more : List Connection) (s : Serving Cluster) → AreServed cluster buckets g (fits_asking fits) (serving p b.first ts) came all s →
-      cs ≡ came ++ to_come → past' ≡ past ++ (all ++ more) → length more ≤ left_out → AreFromMap g p buckets left_out past past' ts cs
+  from_here : NoClash p.config.buckets → (ts : List ℕ) (cs : List (List ℕ)) (left_out : ℕ) (came to_come : List (List ℕ)) (all more : List Connection) (s : Serving Cluster) → AreServed cluster p.buckets g (fits_asking fits) (serving p b.first ts) came all s →
+      cs ≡ came ++ to_come → past' ≡ past ++ (all ++ more) → length more ≤ left_out → AreFromMap g p p.buckets left_out past past' ts cs
   from_here clash ts cs left_out came to_come all more s served comes goes few =
-      are_from_map first_holds served_from g p sized b.first b.is_of (installs_first p b.first b.lawful) buckets ts clash left_out past past' cs came to_come all more s served comes goes few
+      are_from_map first_holds served_from g p sized b.first b.is_of (installs_first p b.first b.lawful) p.buckets ts clash left_out past past' cs came to_come all more s served comes goes few
 
   -- where nothing is told of the times or of the connections to come
   from_reached : (number : ℕ) (times : Option (List ℕ)) (coming : Option (List (List ℕ))) → HasState (Reached cluster fits lacks holds (begun p b.first)) →
@@ -130,11 +130,9 @@ module _ (keeps : EveryRunKeepsPromises) (first_holds : FirstHolds) (served_from
           is_of = b.is_of;
           orders = leads.orders;
           kept = all_kept p b.first keeps b.lawful b.fit leads.orders leads.fit;
-          buckets = buckets;
-          in_order = in_order;
           counts = counts;
-          served = none_told (λ ts cs. ServesAll cluster buckets g (fits_asking fits) (serving p b.first ts) number (λ c. c.run ≡ state_after p b.first leads.orders) times' counts cs coming' past past') times coming untold;
-          from_map = λ clash. none_told (AreFromMap g p buckets 0 past past') times coming untold;
+          served = none_told (λ ts cs. ServesAll cluster p.buckets g (fits_asking fits) (serving p b.first ts) number (λ c. c.run ≡ state_after p b.first leads.orders) times' counts cs coming' past past') times coming untold;
+          from_map = λ clash. none_told (AreFromMap g p p.buckets 0 past past') times coming untold;
         };
         at = goes.0;
         stands = goes.1.0;
@@ -151,8 +149,6 @@ module _ (keeps : EveryRunKeepsPromises) (first_holds : FirstHolds) (served_from
           is_of = b.is_of;
           orders = leads.orders;
           kept = all_kept p b.first keeps b.lawful b.fit leads.orders leads.fit;
-          buckets = buckets;
-          in_order = in_order;
           counts = counts;
           served = record {
             came = a.came;
@@ -190,7 +186,7 @@ module _ (keeps : EveryRunKeepsPromises) (first_holds : FirstHolds) (served_from
 
   -- serving ended with a connection
   abbrev ButLast : ServeFault → List ℕ → List (List ℕ) → Type 0
-  ButLast fault ts cs = ServesAllButLast cluster buckets g (fits_asking fits) (OverflowsAmong cluster fits lacks (begun p b.first)) (serving p b.first ts) fault cs past past'
+  ButLast fault ts cs = ServesAllButLast cluster p.buckets g (fits_asking fits) (OverflowsAmong cluster fits lacks (begun p b.first)) (serving p b.first ts) fault cs past past'
 
   broken_off : EndedFrom → (fault : ServeFault) → Where (ButLast fault) times coming → HasBrokenOff g p fault (told times times' coming coming' past past')
   broken_off ended_from fault all =
@@ -198,23 +194,21 @@ module _ (keeps : EveryRunKeepsPromises) (first_holds : FirstHolds) (served_from
         first = b.first;
         is_of = b.is_of;
         kept = all_kept p b.first keeps b.lawful b.fit;
-        buckets = buckets;
-        in_order = in_order;
         served = some_told (ButLast fault) times coming all;
-        from_map = λ clash. some_told (AreFromMap g p buckets 1 past past') times coming (λ ts e. where_some (ButLast fault ts) (AreFromMap g p buckets 1 past past' ts) coming (λ cs a. from_here clash ts cs 1 a.came (a.bytes ∷ a.to_come) a.gone (a.last ∷ []) a.serving a.are_served a.comes (a.goes ∙ append_assoc past a.gone (a.last ∷ [])) (omega arith)) (all ts e));
+        from_map = λ clash. some_told (AreFromMap g p p.buckets 1 past past') times coming (λ ts e. where_some (ButLast fault ts) (AreFromMap g p p.buckets 1 past past' ts) coming (λ cs a. from_here clash ts cs 1 a.came (a.bytes ∷ a.to_come) a.gone (a.last ∷ []) a.serving a.are_served a.comes (a.goes ∙ append_assoc past a.gone (a.last ∷ [])) (omega arith)) (all ts e));
         ends_from_map = λ clash.
-            some_told (AreFromMapButLast g p buckets fault past past') times coming
+            some_told (AreFromMapButLast g p p.buckets fault past past') times coming
             (λ ts e.
-            where_some (ButLast fault ts) (AreFromMapButLast g p buckets fault past past' ts) coming
-            (λ cs a. end_from_map first_holds served_from g p sized b.first b.is_of (installs_first p b.first b.lawful) buckets ts ended_from clash (OverflowsAmong cluster fits lacks (begun p b.first)) fault past past' cs a) (all ts e));
+            where_some (ButLast fault ts) (AreFromMapButLast g p p.buckets fault past past' ts) coming
+            (λ cs a. end_from_map first_holds served_from g p sized b.first b.is_of (installs_first p b.first b.lawful) p.buckets ts ended_from clash (OverflowsAmong cluster fits lacks (begun p b.first)) fault past past' cs a) (all ts e));
       }
 
   -- what `serve` says of each state for which the code's cluster stood
   abbrev Says : Result ℕ ServeStop → Type 0
-  Says r = (q : Serving Cluster) → Stands holds0 times (record { kept = 0; time = 0 }) q → IfSome coming (λ cs. Ends cluster buckets g q (Reached cluster fits lacks holds q.store) (known_from cluster fits lacks q.store) times' counts r cs coming' past past')
+  Says r = (q : Serving Cluster) → Stands holds0 times (record { kept = 0; time = 0 }) q → IfSome coming (λ cs. Ends cluster p.buckets g q (Reached cluster fits lacks holds q.store) (known_from cluster fits lacks q.store) times' counts r cs coming' past past')
 
   says_so : (r : Result ℕ ServeStop) → Says r →
-      Where (λ ts cs. Ends cluster buckets g (serving p b.first ts) (Reached cluster fits lacks holds (begun p b.first)) (known_from cluster fits lacks (begun p b.first)) times' counts r cs coming' past past') times coming
+      Where (λ ts cs. Ends cluster p.buckets g (serving p b.first ts) (Reached cluster fits lacks holds (begun p b.first)) (known_from cluster fits lacks (begun p b.first)) times' counts r cs coming' past past') times coming
   says_so r served = λ ts e. served (serving p b.first ts) (begins p b.first holds0 times (record { kept = 0; time = 0 }) ts b.stands refl e)
 
   -- as many connections were served as were asked for, or no more came

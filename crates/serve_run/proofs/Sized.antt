@@ -11,6 +11,8 @@ use Rattle.layout_text.specs.declared.config.FieldName.TheVariants as field
 use Rattle.layout_text.specs.declared.config.ConfigFault.TheVariants.{NotToml}
 use Rattle.layout_roles.specs.Names.{is_between}
 use Rattle.layout_text.specs.Values.{keep_if, between, read_or, number_in, default_block_size, redundancy_in}
+use Rattle.layout_text.specs.declared.keys.Access.{Access}
+use Rattle.layout_text.specs.Keys.{access_in, access_said}
 use Rattle.layout_text.specs.Settings.{◌>>=◌, needed, roles_for, buckets_for, block_size_for, Settings, settings_in, faulted, said}
 use Rattle.serve_run.specs.Plan.{greatest_node}
 
@@ -57,3 +59,16 @@ document_sized (Some root) s e = fields_sized (settings_in greatest_node root) (
 pub said_sized : (text : List ℕ) (s : Settings) → said greatest_node text ≡ Ok s → 1 ≤ s.block_size
 unfolding said
 said_sized text s e = document_sized (parse_document text) s e
+
+-- a text that says settings is a TOML document for the keys too
+document_read : (o : Option Members) (s : Settings) (buckets : List (List ℕ)) → (ok_or o NotToml >>= (λ root. faulted (settings_in greatest_node root))) ≡ Ok s → (ok_or o NotToml >>= (λ root. faulted (access_in buckets root))) ≡ Err NotToml → ⊥
+document_read None s buckets e h = cc
+document_read (Some root) s buckets e h = no_fault (access_in buckets root) h
+  where
+    no_fault : (r : Result Access FieldName) → faulted r ≡ Err NotToml → ⊥
+    no_fault (Ok x) h = cc
+    no_fault (Err name) h = cc
+
+pub read_before : (text : List ℕ) (s : Settings) (buckets : List (List ℕ)) → said greatest_node text ≡ Ok s → access_said buckets text ≡ Err NotToml → ⊥
+unfolding said access_said
+read_before text s buckets e h = document_read (parse_document text) s buckets e h

@@ -16,7 +16,7 @@ use Rattle.serve_model.specs.Talk.{Grammar}
 use Rattle.serve_run.specs.Stop.{IsTooLong}
 use Rattle.serve_run.specs.Told.{Told}
 use Rattle.serve_run.specs.Answer.{IsEnd, IsStated, IsSilent, AnswersPrefix, WantsMemory}
-use Rattle.serve_run.specs.Command.{ServesSo}
+use Rattle.serve_run.specs.Command.{OnlySignedIsServed, ServesSo}
 use Rattle.serve_run.proofs.Ending.{done_whole}
 use Rattle.serve_run.proofs.Completing.{completed}
 
@@ -47,8 +47,9 @@ module _ {I O L C : Type 0} (i : source.Ghosts I) (o : sink.Ghosts O) (l : ports
       (result ≡ status.WriteFault → AnswersPrefix (IsEnd g count (i.left input) t) (o.written output) (o.written output')) → (IsSilent result → Wrote (o.written output) (o.written output') []) → (result ≡ status.Memory → WantsMemory g (i.left input) t) →
       (result ≡ status.Usage → ⊥) → (result ≡ status.ReadFault → output' ≡ output) → ((result ≡ status.Refused) ⊎ (result ≡ status.ReadFault) → (link' ≡ link) × (clock' ≡ clock)) → (IsTooLong (i.left input) → (link' ≡ link) × (clock' ≡ clock)) →
       (result ≡ status.WriteFault → Rose (o.faults output) (o.faults output')) → ((result ≡ status.WriteFault) ⊎ (o.faults output' ≡ o.faults output)) → (result ≡ status.LinkFault → Rose (l.faults link) (l.faults link')) →
+      OnlySignedIsServed g →
       ServesSo i o l g count result input input' output output' link link' clock clock' t
-  serves reads answers prefix silent wants no_usage unwritten untouched unopened write_fault write_told link_fault =
+  serves reads answers prefix silent wants no_usage unwritten untouched unopened write_fault write_told link_fault signed =
       let as_done : Status → Type 0 = λ s. IsStated s → Answers (IsEnd g count (i.left input) t) s (o.written output) (o.written output') in
       record {
         edges = record {
@@ -74,4 +75,5 @@ module _ {I O L C : Type 0} (i : source.Ghosts I) (o : sink.Ghosts O) (l : ports
           | inr (inr long) ↦ unopened long
         ];
         link_fault = link_fault;
+        signed = signed;
       }

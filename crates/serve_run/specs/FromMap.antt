@@ -3,6 +3,7 @@ use Rattle.std.specs.Prelude.{◌≡◌, ◌≤◌, ℕ, ⊤, List, [], ◌++◌
 use Rattle.lab_outside.specs.Connection.{Connection}
 use Rattle.store_model.specs.Fresh.{NoClash}
 use Rattle.serve_model.specs.Talk.{Grammar, Serving}
+use Rattle.serve_model.specs.declared.buckets.Buckets.{Buckets}
 use Rattle.serve_model.specs.declared.served.ServeFault.{ServeFault}
 use Rattle.serve_model.specs.Connections.{AreServed, SomeAsked, ServesAllButLast}
 use Rattle.serve_model.specs.Plain.{Plain as Map, plain, PutsBlock, AreApart}
@@ -18,28 +19,28 @@ abbrev pub map_serving : Plan → List ℕ → Serving Map
 map_serving p times = record { store = empty_map p; times = times; time = 0; kept = 0 }
 
 -- these connections, which have these bytes, are served as by that server
-abbrev pub AreServedFromMap : Grammar → Plan → List (List ℕ) → List ℕ → List (List ℕ) → List Connection → Type 0
+abbrev pub AreServedFromMap : Grammar → Plan → Buckets → List ℕ → List (List ℕ) → List Connection → Type 0
 AreServedFromMap g p buckets times came gone = (q : Serving Map) × AreServed plain buckets g (λ a. ⊤) (map_serving p times) came gone q
 
 -- no two blocks have one digest into which that server puts what these connections ask it to put, which have these bytes: from the end of each one on, and from wherever it may be cut off where its count of faults rose; of the connections nothing else is said
-abbrev pub PutsApart : Grammar → Plan → List (List ℕ) → List ℕ → List (List ℕ) → List Connection → Type 0
+abbrev pub PutsApart : Grammar → Plan → Buckets → List ℕ → List (List ℕ) → List Connection → Type 0
 PutsApart g p buckets times came gone = AreApart (λ bytes. SomeAsked plain buckets g (PutsBlock bytes) (map_serving p times) came gone)
 
 -- the first of the connections to come were served with these texts, all but at least so many: they are served as by that server, if its blocks are apart
-abbrev pub AreFromMap : Grammar → Plan → List (List ℕ) → ℕ → List Connection → List Connection → List ℕ → List (List ℕ) → Type 0
+abbrev pub AreFromMap : Grammar → Plan → Buckets → ℕ → List Connection → List Connection → List ℕ → List (List ℕ) → Type 0
 AreFromMap g p buckets left_out past past_after times coming =
     (came to_come : List (List ℕ)) (gone later : List Connection) → coming ≡ came ++ to_come → past_after ≡ past ++ gone ++ later → length came ≡ length gone → left_out ≤ length later → PutsApart g p buckets times came gone →
     AreServedFromMap g p buckets times came gone
 
 -- so it is where clock and link tell, and no two names of buckets have one digest
-abbrev pub IsFromMap : Grammar → Plan → List (List ℕ) → ℕ → Told → Type 0
+abbrev pub IsFromMap : Grammar → Plan → Buckets → ℕ → Told → Type 0
 IsFromMap g p buckets left_out t = NoClash p.config.buckets → WhereTold t (AreFromMap g p buckets left_out t.past t.past_after)
 
 -- these connections came, and with the last one serving ended for this fault: they are served as by that server, and with the last one it ends so, if its blocks are apart
-abbrev pub AreFromMapButLast : Grammar → Plan → List (List ℕ) → ServeFault → List Connection → List Connection → List ℕ → List (List ℕ) → Type 0
+abbrev pub AreFromMapButLast : Grammar → Plan → Buckets → ServeFault → List Connection → List Connection → List ℕ → List (List ℕ) → Type 0
 AreFromMapButLast g p buckets fault past past_after times coming =
     (gone : List Connection) → past_after ≡ past ++ gone → PutsApart g p buckets times coming gone → ServesAllButLast plain buckets g (λ a. ⊤) (λ asks. ⊤) (map_serving p times) fault coming past past_after
 
 -- so it is where clock and link tell, and no two names of buckets have one digest
-abbrev pub EndsFromMap : Grammar → Plan → List (List ℕ) → ServeFault → Told → Type 0
+abbrev pub EndsFromMap : Grammar → Plan → Buckets → ServeFault → Told → Type 0
 EndsFromMap g p buckets fault t = NoClash p.config.buckets → WhereTold t (AreFromMapButLast g p buckets fault t.past t.past_after)

@@ -1,7 +1,5 @@
 -- What a server did: the acts of its requests, what is promised of them, and what was written to its connections.
-use Rattle.std.specs.Prelude.{◌≡◌, ℕ, List, [], ◌∷◌, ◌++◌, map, flat_map, length, IsPermutation, IsSorted}
-use Rattle.std.specs.Ordering.{nat_cmp}
-use Rattle.std.specs.Cmp.Lexicographic.{slice_cmp}
+use Rattle.std.specs.Prelude.{◌≡◌, ℕ, List, [], ◌∷◌, ◌++◌, map, flat_map, length}
 use Rattle.layout_roles.specs.declared.layout.Layout.{Layout}
 use Rattle.layout_roles.specs.Fits.{NodeSet}
 use Rattle.layout_roles.specs.Text.{set_lines}
@@ -63,11 +61,6 @@ tail sets nodes number s = set_lines sets ++ flat_map (line_at s.world) nodes ++
 abbrev pub tail_of : Plan → ℕ → State → List ℕ
 tail_of p number s = tail p.certified.sets.sets (nodes_of p) number s
 
--- the same names, in order of their bytes
-pub record AreInOrder (buckets names : List (List ℕ)) : Type 0 where
-  pub same : IsPermutation buckets names
-  pub ordered : IsSorted (slice_cmp nat_cmp) names
-
 -- what is served at first, with these times of the clock
 abbrev pub serving : Plan → Layout → List ℕ → Serving Cluster
 serving p first times = record { store = begun p first; times = times; time = 0; kept = 0 }
@@ -78,19 +71,15 @@ pub record HasServed (g : Grammar) (p : Plan) (number : ℕ) (t : Told) : Type 0
   pub is_of : IsOf p first
   pub orders : List (ℕ × Order)
   pub kept : AreKept (all_acts p first orders)
-  pub buckets : List (List ℕ)
-  pub in_order : AreInOrder p.config.buckets buckets
   pub counts : Served
-  pub served : WhereTold t (λ times coming. ServesAll cluster buckets g (fits_asking fits) (serving p first times) number (λ c. c.run ≡ state_after p first orders) t.times_after counts coming t.coming_after t.past t.past_after)
-  pub from_map : IsFromMap g p buckets 0 t
+  pub served : WhereTold t (λ times coming. ServesAll cluster p.buckets g (fits_asking fits) (serving p first times) number (λ c. c.run ≡ state_after p first orders) t.times_after counts coming t.coming_after t.past t.past_after)
+  pub from_map : IsFromMap g p p.buckets 0 t
 
 -- serving ended with a connection, for this fault; where clock and link tell, all connections before it were served as it is stated, and what was written to it is what is stated of it, or a first part; and whatever orders can be carried out from the opened cluster on keep what is promised; and the connections are served, and serving ends with the last one, as by a server that is one map
 pub record HasBrokenOff (g : Grammar) (p : Plan) (fault : ServeFault) (t : Told) : Type 0 where
   pub first : Layout
   pub is_of : IsOf p first
   pub kept : (orders : List (ℕ × Order)) → OrdersFit cluster fits (begun p first) orders → AreKept (all_acts p first orders)
-  pub buckets : List (List ℕ)
-  pub in_order : AreInOrder p.config.buckets buckets
-  pub served : WhereTold t (λ times coming. ServesAllButLast cluster buckets g (fits_asking fits) (OverflowsAmong cluster fits lacks (begun p first)) (serving p first times) fault coming t.past t.past_after)
-  pub from_map : IsFromMap g p buckets 1 t
-  pub ends_from_map : EndsFromMap g p buckets fault t
+  pub served : WhereTold t (λ times coming. ServesAllButLast cluster p.buckets g (fits_asking fits) (OverflowsAmong cluster fits lacks (begun p first)) (serving p first times) fault coming t.past t.past_after)
+  pub from_map : IsFromMap g p p.buckets 1 t
+  pub ends_from_map : EndsFromMap g p p.buckets fault t

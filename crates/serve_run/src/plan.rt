@@ -1,20 +1,25 @@
 //! The cluster that the input says, with its layout.
-ghost use Rattle.std.specs.Prelude.{◌≡◌, ◌≤◌, ◌⊎◌, ◌+◌, drop, Some, Ok, Err, IfOk, OnOk, IfErr, IfSome};
+ghost use Rattle.std.specs.Prelude.{IsPermutation, IsSorted, ◌≡◌, ◌≤◌, ◌⊎◌, ◌+◌, drop, Some, Ok, Err, IfOk, OnOk, IfErr, IfSome};
 ghost use Rattle.std.specs.Io.KnownBytes.{IsAtEnd};
+ghost use Rattle.crdt_core.specs.Outcomes.{OnlyWant};
 ghost use Rattle.lab_outside.specs.Rose.{Rose};
 ghost use Rattle.layout_roles.specs.Certificates.{IsRedundancy};
+ghost use Rattle.layout_roles.specs.Fits.{IsGreatest};
 ghost use Rattle.layout_text.specs.Settings.{settings_of, said};
+ghost use Rattle.layout_text.specs.Keys.{access_said};
 ghost use Rattle.layout_command.specs.Answer.{AreEnough, IsLayout};
 ghost use Rattle.serve_run.specs.Stop.{IsOfText, IsOfSettings, IsOfInput, IsTold};
 ghost use Rattle.lab_main.specs.Limits.{input_limit};
-ghost use Rattle.serve_run.specs.Plan.{greatest_node, IsPlan, IsSaid, WasRead};
+ghost use Rattle.serve_run.specs.Plan.{greatest_node, AreInOrder, IsPlan, IsSaid, WasRead};
 
 use crate::stop::Stop;
+use crdt_core::{Bytes, List, Memory, Value};
 use lab_outside::{Source, read_up_to};
 use layout_command::{bad_field, bad_toml, reason};
 use layout_roles::Certified;
 use layout_size::compute;
-use layout_text::{Config, ConfigFault, read_config};
+use layout_text::{Access, Config, ConfigFault, read_access, read_config};
+use serve_model::Buckets;
 use std::alloc::Global;
 use std::str::from_utf8;
 
@@ -24,11 +29,13 @@ const INPUT_LIMIT: usize = 8_388_608;
 /// The greatest node of a server.
 const GREATEST_NODE: u8 = 16;
 
-/// A configuration, and the layout of the greatest partition size for its roles.
-#[derive(Debug, Drop)]
+/// A configuration, the layout of the greatest partition size for its roles, and its buckets in order of their names with
+/// those who may use them.
+#[derive(Drop)]
 pub struct Plan {
     pub config: Config,
     pub certified: Certified,
+    pub buckets: Buckets,
 }
 
 /// The configuration that a text says.
@@ -46,18 +53,40 @@ fn configured(alloc: Global, text: &str) -> Result<Config, Stop>
     }
 }
 
+/// The region and the keys that a text says for the buckets of its configuration.
+fn access_of(alloc: Global, text: &str, config: &Config) -> Result<Access, Stop>
+    requires says { said greatest_node text.now ≡ Ok (settings_of config.now) }
+    ensures allows { IfOk result (λ access. access_said config.now.buckets text.now ≡ Ok access) }
+    ensures causes { IfErr result (IsOfText text.now) }
+{
+    match read_access(alloc, text, config.buckets.as_slice()) {
+        Ok(access) => Ok(access),
+        Err(ConfigFault::NotToml) => Err(Stop::Refused(bad_toml(alloc)?)),
+        Err(ConfigFault::Field(name)) => Err(Stop::Refused(bad_field(alloc, name)?)),
+        Err(ConfigFault::Memory) => Err(Stop::Memory),
+    }
+}
+
+/// Names in order of their bytes.
+fn in_order(names: &List<Bytes>) -> Result<List<Bytes>, Memory>
+    ensures in_order { IfOk result (AreInOrder names.now) }
+    ensures want { OnlyWant result }
+{
+    let mut names = names.copy()?.into_vec();
+    names.as_mut_slice().sort_unstable();
+    Ok(List::from_vec(names))
+}
+
 /// The layout of a configuration.
-fn laid_out(alloc: Global, config: Config) -> Result<Plan, Stop>
-    requires redundancy { IsRedundancy config.redundancy }
-    requires sized { 1 ≤ config.block_size }
-    ensures plan { IfOk result IsPlan }
-    ensures config { IfOk result (λ plan. plan.config ≡ config) }
-    ensures enough { IfOk result (λ _. AreEnough (settings_of config)) }
-    ensures layout { IfOk result (λ plan. IsLayout (settings_of config) plan.certified) }
-    ensures causes { IfErr result (IsOfSettings (settings_of config)) }
+fn laid_out(alloc: Global, config: &Config) -> Result<Certified, Stop>
+    requires redundancy { IsRedundancy config.now.redundancy }
+    ensures greatest { IfOk result (λ certified. IsGreatest config.now.roles.list certified.r certified.size certified.sets.sets) }
+    ensures enough { IfOk result (λ _. AreEnough (settings_of config.now)) }
+    ensures layout { IfOk result (IsLayout (settings_of config.now)) }
+    ensures causes { IfErr result (IsOfSettings (settings_of config.now)) }
 {
     match compute(alloc, &config.roles, config.redundancy) {
-        Ok(certified) => Ok(Plan { config, certified }),
+        Ok(certified) => Ok(certified),
         Err(fault) => Err(Stop::Refused(reason(alloc, &config.roles, &fault)?)),
     }
 }
@@ -69,7 +98,14 @@ fn plan_of_text(alloc: Global, text: &str) -> Result<Plan, Stop>
     ensures causes { IfErr result (IsOfText text.now) }
 {
     let config = configured(alloc, text)?;
-    laid_out(alloc, config)
+    let access = access_of(alloc, text, &config)?;
+    let certified = laid_out(alloc, &config)?;
+    let names = in_order(&config.buckets)?;
+    Ok(Plan {
+        config,
+        certified,
+        buckets: Buckets { names, access },
+    })
 }
 
 /// The cluster that bytes say.

@@ -1,7 +1,6 @@
 //! The program as one call.
-ghost use Rattle.std.specs.Prelude.{IsPermutation, IsSorted, ◌≡◌, ◌⊎◌, ◌+◌, ℕ, [], drop, Some, None, Err, IfOk, OnOk, IfErr, IfSome};
+ghost use Rattle.std.specs.Prelude.{◌≡◌, ◌⊎◌, ◌+◌, [], drop, Some, None, Err, IfOk, OnOk, IfErr, IfSome};
 ghost use Rattle.std.specs.Io.KnownBytes.{IsAtEnd};
-ghost use Rattle.crdt_core.specs.Outcomes.{OnlyWant};
 ghost use Rattle.lab_outside.specs.Rose.{Rose};
 ghost use Rattle.lab_outside.specs.Bytes.{Wrote};
 ghost use Rattle.serve_model.specs.Talk.{Grammar};
@@ -12,14 +11,13 @@ ghost use Rattle.lab_main.specs.Edges.{IsAfterReading, Answers};
 ghost use Rattle.serve_run.specs.Command.{Serves};
 ghost use Rattle.serve_run.specs.Plan.{IsPlan};
 ghost use Rattle.serve_run.specs.Told.{told};
-ghost use Rattle.serve_run.specs.Served.{AreInOrder};
 ghost use Rattle.serve_run.specs.Answer.{HowServed, IsEnd, EndsSo, IsStated, IsSilent, AnswersPrefix, WantsMemory};
 
 use crate::plan::{Plan, read_plan};
 use crate::start::{installed, nodes};
 use crate::stop::Stop;
 use crate::tail::tail_text;
-use crdt_core::{Bytes, List, Memory, Value};
+use crdt_core::{Bytes, Value};
 use lab_main::ends;
 use lab_outside::{Clock, Link, Sink, Source, Status};
 use layout_roles::smaller_sizes;
@@ -27,6 +25,7 @@ use plain_laws::{a_first_layout_holds_the_empty_map, connections_are_served_as_f
 use serve_cluster::Cluster;
 use serve_loop::serve;
 use serve_model::Served;
+use signed_laws::{only_signed_requests_are_carried_out, what_is_admitted_is_allowed};
 use std::alloc::Global;
 use store_anchors::promises_are_kept;
 
@@ -35,16 +34,6 @@ use store_anchors::promises_are_kept;
 pub struct Server {
     pub port: u16,
     pub count: u32,
-}
-
-/// The buckets in order of their names.
-fn in_order(buckets: &List<Bytes>) -> Result<List<Bytes>, Memory>
-    ensures in_order { IfOk result (AreInOrder buckets.now) }
-    ensures want { OnlyWant result }
-{
-    let mut names = buckets.copy()?.into_vec();
-    names.as_mut_slice().sort_unstable();
-    Ok(List::from_vec(names))
 }
 
 /// Serves the connections that are asked for, and gives what is written then.
@@ -65,7 +54,6 @@ fn served<L: Link, C: Clock>(
     a_first_layout_holds_the_empty_map();
     connections_are_served_as_from_the_map();
     let members = nodes(alloc, plan.config.roles.list.as_slice())?;
-    let buckets = in_order(&plan.config.buckets)?;
     let copied = members.copy()?;
     let world = installed(alloc, plan)?;
     let mut cluster = Cluster::new(world, copied);
@@ -78,7 +66,7 @@ fn served<L: Link, C: Clock>(
         link,
         clock,
         &mut counts,
-        &buckets,
+        &plan.buckets,
     )?;
     let text = tail_text(
         alloc,
@@ -183,6 +171,9 @@ fn serve_and_tell<I: Source, O: Sink, L: Link, C: Clock>(
 /// Done, and of the last connection, with which serving ended, that its text is that of the map too, or a first part. After
 /// Memory no connection was served, or they were served as after Done, or all but the last one, with which serving ended: what
 /// was written to it is a first part of what is stated of its bytes, and of the map's text.
+///
+/// Where keys are configured, nothing is carried out, and nothing is answered but by a refusal, that no key signed which may
+/// ask it.
 pub fn run_server<I: Source, O: Sink, L: Link, C: Clock>(
     alloc: Global,
     server: Server,
@@ -197,5 +188,7 @@ pub fn run_server<I: Source, O: Sink, L: Link, C: Clock>(
     ensures no_usage { result ≡ Status.Usage → ⊥ }
 {
     smaller_sizes();
+    only_signed_requests_are_carried_out();
+    what_is_admitted_is_allowed();
     serve_and_tell(alloc, server, input, output, link, clock)
 }

@@ -1,1 +1,3 @@
 pub mod Joined
+pub mod Sorting
+pub mod Parameters

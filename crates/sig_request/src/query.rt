@@ -1,14 +1,14 @@
 //! The target of a request as it is signed.
-ghost use Rattle.std.specs.Prelude.{◌≡◌, ◌≤◌, [], map, insert, length, IfOk, OnOk};
+ghost use Rattle.std.specs.Prelude.{◌≡◌, [], map, IfOk};
 ghost use Rattle.crdt_core.specs.Outcomes.{OnlyWant};
 ghost use Rattle.sig_request.specs.Query as spec;
 
-use crate::texts::{after, before, decoded, escaped, is_less, joined, words};
+use crate::texts::{after, before, decoded, escaped, joined, words};
 use crdt_core::{Bytes, List, Memory};
 use std::alloc::Global;
 
-/// A parameter of a query, with its name and value decoded and encoded anew.
-#[derive(Debug, Drop)]
+/// A parameter of a query, with its name and value decoded and encoded anew; in order of names, then of values.
+#[derive(Debug, Drop, PartialEq, Eq, PartialOrd, Ord)]
 pub struct Parameter {
     pub name: Bytes,
     pub value: Bytes,
@@ -60,33 +60,17 @@ fn parameter_of(alloc: Global, word: &[u8]) -> Result<Parameter, Memory>
     })
 }
 
-fn comes_before(first: &Parameter, second: &Parameter) -> bool
-    ensures { result ≡ spec.comes_before first.now second.now }
-{
-    is_less(first.name.as_slice(), second.name.as_slice())
-        || (first.name.as_slice() == second.name.as_slice()
-            && is_less(first.value.as_slice(), second.value.as_slice()))
-}
-
-// Where a parameter comes among parameters in order.
-fn place_of(parameters: &[Parameter], parameter: &Parameter) -> usize
-    ensures within { result ≤ length parameters.now }
-    ensures put { insert parameters.now result parameter.now ≡ spec.put_parameter parameters.now parameter.now }
-{
-    for (i, other) in parameters.iter().enumerate() {
-        if comes_before(parameter, other) {
-            return i;
-        }
-    }
-    parameters.len()
-}
-
-fn put(parameters: &mut List<Parameter>, parameter: Parameter) -> Result<(), Memory>
-    ensures ok { OnOk result (parameters.new ≡ spec.put_parameter parameters.old parameter) }
+// The parameters that words spell.
+fn spelled(alloc: Global, words: &[Bytes]) -> Result<List<Parameter>, Memory>
+    ensures parameters { IfOk result (λ parameters. parameters ≡ map spec.parameter_of words.now) }
     ensures want { OnlyWant result }
 {
-    let place = place_of(parameters.as_slice(), &parameter);
-    parameters.insert(place, parameter)
+    let mut parameters: List<Parameter> = List::new(alloc);
+    for word in words {
+        let parameter = parameter_of(alloc, word.as_slice())?;
+        parameters.push(parameter)?;
+    }
+    Ok(parameters)
 }
 
 // The parameters that words spell, in order.
@@ -94,12 +78,9 @@ fn in_order(alloc: Global, words: &[Bytes]) -> Result<List<Parameter>, Memory>
     ensures parameters { IfOk result (λ parameters. parameters ≡ spec.parameters_after [] words.now) }
     ensures want { OnlyWant result }
 {
-    let mut parameters: List<Parameter> = List::new(alloc);
-    for word in words {
-        let parameter = parameter_of(alloc, word.as_slice())?;
-        put(&mut parameters, parameter)?;
-    }
-    Ok(parameters)
+    let mut parameters = spelled(alloc, words)?.into_vec();
+    parameters.sort_unstable();
+    Ok(List::from_vec(parameters))
 }
 
 // The parameters of a target, in order.

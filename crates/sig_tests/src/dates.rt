@@ -91,6 +91,11 @@ fn request(alloc: Global, date: &[u8], signature: &[u8]) -> Result<Bytes, Memory
     Ok(text)
 }
 
+/// The request of the second leap day, whose body isn't signed.
+pub fn unsigned_body(alloc: Global) -> Result<Bytes, Memory> {
+    request(alloc, DATES[2].0, DATES[2].2)
+}
+
 /// What the check of a request of a date answers at a time.
 fn answer(alloc: Global, date: &[u8], signature: &[u8], now: u64) -> Result<&'static [u8], Memory> {
     let mut keys: List<Key> = List::new(alloc);

@@ -2,7 +2,7 @@
 use crdt_core::{Bytes, List, Memory};
 use http_model::Head;
 use layout_text::Key;
-use sig_v4::{Refusal, check};
+use sig_v4::{Refusal, Signed, check};
 use std::alloc::Global;
 
 /// A request line without its version and headers, a line each; the clock; the word for the answer.
@@ -46,12 +46,19 @@ pub fn key(alloc: Global, id: &[u8], secret: &[u8]) -> Result<Key, Memory> {
     })
 }
 
+/// A word for each place of a key.
+fn key_word(place: usize) -> &'static [u8] {
+    match place {
+        0 => b"key 0",
+        1 => b"key 1",
+        _ => b"another key",
+    }
+}
+
 /// A word for each answer.
-pub fn word(answer: Result<usize, Refusal>) -> &'static [u8] {
+pub fn word(answer: Result<Signed, Refusal>) -> &'static [u8] {
     match answer {
-        Ok(0) => b"key 0",
-        Ok(1) => b"key 1",
-        Ok(_) => b"another key",
+        Ok(signed) => key_word(signed.place),
         Err(Refusal::Unsigned) => b"unsigned",
         Err(Refusal::Malformed) => b"malformed",
         Err(Refusal::UnknownKey) => b"unknown key",

@@ -10,6 +10,8 @@ use Rattle.http_model.specs.declared.head.Head.{Head}
 use Rattle.sig_v4.specs.declared.refusal.Refusal.{Refusal}
 use Rattle.sig_v4.specs.declared.refusal.Refusal.TheVariants.{Unsigned, Malformed, UnknownKey, Skewed, WrongSignature, Memory}
 use Rattle.sig_v4.specs.declared.claim.Claim.{Claim}
+use Rattle.sig_v4.specs.declared.signed.Signed.{Signed}
+use Rattle.sig_v4.specs.Bodies.{digest_of}
 use Rattle.sig_v4.specs.Signing.{text_to_sign, signature}
 use Rattle.sig_request.specs.Fields.{fields_of}
 use Rattle.sig_request.specs.Canonical.{canonical_request}
@@ -45,13 +47,13 @@ due_signature head secret region claim =
 abbrev pub is_forged : Head → List ℕ → List ℕ → Claim → Bool
 is_forged head secret region claim = not (same_name claim.signature (due_signature head secret region claim))
 
--- the place of the key that signed the request, or the first refusal that applies
-unfoldable pub checked : Head → List Key → List ℕ → ℕ → Result ℕ Refusal
+-- the key that signed the request and the body that it signed, or the first refusal that applies
+unfoldable pub checked : Head → List Key → List ℕ → ℕ → Result Signed Refusal
 checked head keys region now = do
   claim ← claim_in region (fields_of head)
   place ← ok_or (place_of keys claim.id) UnknownKey
   known ← unless (is_skewed now claim.seconds) Skewed place
-  unless (is_forged head (secret_at keys known) region claim) WrongSignature known
+  unless (is_forged head (secret_at keys known) region claim) WrongSignature (record { place = known; digest = digest_of claim.payload })
 
 -- what a call answers where this is due: the same, unless memory was wanting
 abbrev pub Answers : {A : Type 0} → Result A Refusal → Result A Refusal → Type 0

@@ -1,4 +1,5 @@
 pub mod Hmac
 pub mod Signing
 pub mod Claims
+pub mod Bodies
 pub mod Checks

@@ -5,9 +5,11 @@ ghost use Rattle.layout_roles.specs.Zones.{same_name};
 ghost use Rattle.sig_v4.specs.Checks as spec;
 ghost use Rattle.sig_v4.specs.Checks.{Answers};
 
+use crate::body::digest_of;
 use crate::claim::{Claim, claim_in, day_of};
 use crate::clock::is_skewed;
 use crate::refusal::Refusal;
+use crate::signed::Signed;
 use crate::signing::{signature, text_to_sign};
 use crdt_core::{Bytes, Memory};
 use http_model::Head;
@@ -92,19 +94,18 @@ fn secret_at(keys: &[Key], place: usize) -> &[u8]
 }
 
 #[tactic(auto, unfolding(crate::specs::Checks::checked))]
-/// The place of the key that signed a request, among keys with different ids; or the first of the refusals, in
-/// the order of `Refusal`, that applies. `region` is the server's own, `now` is in milliseconds since 1970.
-///
-/// What is said of the body is signed, but the body isn't looked at.
+/// The place of the key that signed a request, among keys with different ids, and the digest of the body that it
+/// signed; or the first of the refusals, in the order of `Refusal`, that applies. `region` is the server's own, `now` is
+/// in milliseconds since 1970. The body isn't looked at.
 pub fn check(
     alloc: Global,
     head: &Head,
     keys: &[Key],
     region: &[u8],
     now: u64,
-) -> Result<usize, Refusal>
+) -> Result<Signed, Refusal>
     ensures checked { Answers (spec.checked head.now keys.now region.now now) result }
-    ensures within { IfOk result (λ place. place < length keys.now) }
+    ensures within { IfOk result (λ signed. signed.place < length keys.now) }
 {
     let fields = fields_of(alloc, head)?;
     let claim = claim_in(alloc, region, fields.as_slice())?;
@@ -115,5 +116,6 @@ pub fn check(
     if is_forged(alloc, head, secret_at(keys, place), region, &claim)? {
         return Err(Refusal::WrongSignature);
     }
-    Ok(place)
+    let digest = digest_of(claim.payload);
+    Ok(Signed { place, digest })
 }

@@ -10,7 +10,7 @@ use sha2::{Digest, Sha256};
 use std::alloc::Global;
 
 /// Bytes in hexadecimal, in lower case.
-fn hexadecimal(alloc: Global, bytes: &[u8]) -> Result<Bytes, Memory>
+pub(crate) fn hexadecimal(alloc: Global, bytes: &[u8]) -> Result<Bytes, Memory>
     ensures text { IfOk result (λ text. text ≡ encode_lower bytes.now) }
     ensures want { OnlyWant result }
 {

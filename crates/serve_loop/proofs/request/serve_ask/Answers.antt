@@ -25,4 +25,4 @@ pub returns-in-Err-clause-serves : goal.returns-in-Err-clause-serves
 returns-in-Err-clause-serves g c = λ p times st.
     let model = g.S.Storage.model in
     let kept = c.args.kept.now.bytes.items in
-    gives_up (Reached model g.S.Storage.fits g.S.Storage.lacks (g.S.Storage.stands c.args.store.now) p.store) (known_from model g.S.Storage.fits g.S.Storage.lacks p.store) times c.args.served.now (λ left. request_turn model c.args.buckets.now (request_of c.args.last c.args.now c.args.head.now c.args.ask) p (kept ++ left)) Memory kept (g.L.Link.present c.args.link.now) (λ left. request_begins model c.args.buckets.now (request_of c.args.last c.args.now c.args.head.now c.args.ask) p (kept ++ left)) (λ left. tt)
+    gives_up (Reached model g.S.Storage.fits g.S.Storage.lacks (g.S.Storage.stands c.args.store.now) p.store) (known_from model g.S.Storage.fits g.S.Storage.lacks p.store) times c.args.served.now (λ left. request_turn model c.args.buckets.now (request_of c.args.last c.args.now c.args.head.now c.args.asked) p (kept ++ left)) Memory kept (g.L.Link.present c.args.link.now) (λ left. request_begins model c.args.buckets.now (request_of c.args.last c.args.now c.args.head.now c.args.asked) p (kept ++ left)) (λ left. tt)

@@ -3,7 +3,7 @@ use Rattle.serve_model.specs.declared.answer.Answer.TheVariants.{Refusal}
 use Rattle.serve_model.specs.declared.served.ServeFault.TheVariants.{Memory}
 use Rattle.serve_model.specs.Stores.{OverflowsAmong, known_from}
 use Rattle.serve_model.specs.Talk.{text_of, closes_of, answer_turn, plan_turn, judged_turn, whole_turn}
-use Rattle.serve_model.specs.Judging.{order_of, refusal_in}
+use Rattle.serve_model.specs.Judging.{order_of, refusal_of}
 use Rattle.serve_model.specs.Serving.{Reached}
 use Rattle.serve_loop.proofs.Serving.{serves_same, says_serves, stands_here, goes_here, gives_up}
 use Rattle.serve_loop.proofs.Begins.{whole_begins}
@@ -22,7 +22,7 @@ returns-in-Ok-Some-clause-serves g c = λ p times kept st.
     let o = g.L.Link.present c.args.link.now in
     let n = g.L.Link.present c.answer_request.new.link in
     serves_same holds known times served (λ left. answer_turn r a p (kept ++ left)) (λ left. whole_turn model buckets r c.args.body p (kept ++ left)) res kept o n
-    (λ left. ap (λ x. judged_turn model buckets r c.args.body x p (kept ++ left)) (ap (refusal_in buckets r.ask) (sym c.as_slice.ensures) ∙ sym c.in-Ok-Some.ensures.same ∙ c.in-Ok-Some.field-0-is))
+    (λ left. ap (λ x. judged_turn model buckets r c.args.body x p (kept ++ left)) (ap (refusal_of buckets r) (sym c.as_slice.ensures) ∙ sym c.in-Ok-Some.ensures.same ∙ c.in-Ok-Some.field-0-is))
     (says_serves holds known times served res kept o n (text_of r a) (closes_of r a) p (stands_here model g.S.Storage.fits g.S.Storage.lacks (g.S.Storage.stands c.args.store.now) times served p st) c.answer_request.ensures.says)
 
 pub returns-in-Ok-Some-clause-goes : goal.returns-in-Ok-Some-clause-goes
@@ -38,7 +38,7 @@ returns-in-Ok-None-clause-serves g c = λ p times kept st.
     let o = g.L.Link.present c.args.link.now in
     let n = g.L.Link.present c.serve_judged.new.link in
     serves_same holds known times c.serve_judged.new.served (λ left. plan_turn model buckets r (order_of r.ask c.args.body) p (kept ++ left)) (λ left. whole_turn model buckets r c.args.body p (kept ++ left)) c.serve_judged.result kept o n
-    (λ left. ap (λ x. judged_turn model buckets r c.args.body x p (kept ++ left)) (ap (refusal_in buckets r.ask) (sym c.as_slice.ensures) ∙ sym c.in-Ok-None.ensures.same ∙ c.in-Ok-None.field-0-is))
+    (λ left. ap (λ x. judged_turn model buckets r c.args.body x p (kept ++ left)) (ap (refusal_of buckets r) (sym c.as_slice.ensures) ∙ sym c.in-Ok-None.ensures.same ∙ c.in-Ok-None.field-0-is))
     (c.serve_judged.ensures.serves p times kept st)
 
 pub returns-in-Err-clause-serves : goal.returns-in-Err-clause-serves

@@ -16,7 +16,7 @@ returns-in_err-count-clause-how g c = λ g'.
     let p = c.args.plan.now in
     let members = members_are p c.as_slice.result.now c.in_ok-members.members c.as_slice.ensures c.in_ok-members.ensures.nodes in
     let b = begins_as p c.in_ok-world.world c.new-cluster.result c.in_ok-copied.copied c.in_ok-world.ensures.opened (c.in_ok-copied.ensures.same ∙ members) c.new-cluster.ensures in
-    how_stopped c.promises_are_kept.ensures c.a_first_layout_holds_the_empty_map.ensures c.connections_are_served_as_from_the_map.ensures.served g' p c.requires.plan.sized (StandsFor c.new-cluster.result) b c.in_ok-buckets.buckets c.in_ok-buckets.ensures.in_order (StandsFor c.serve.new.store) c.serve.new.served
+    how_stopped c.promises_are_kept.ensures c.a_first_layout_holds_the_empty_map.ensures c.connections_are_served_as_from_the_map.ensures.served g' p c.requires.plan.sized (StandsFor c.new-cluster.result) b (StandsFor c.serve.new.store) c.serve.new.served
     (g.C.Clock.times c.args.clock.now) (g.C.Clock.times c.serve.new.clock) (g.L.Link.coming c.args.link.now) (g.L.Link.coming c.serve.new.link) (g.L.Link.past c.args.link.now) (g.L.Link.past c.serve.new.link)
     c.connections_are_served_as_from_the_map.ensures.ended c.args.server.count c.from_residual-in_err-count.result c.in_err-count.field-0.0 c.from_residual-in_err-count.ensures.1 c.in_err-count.ensures.goes (c.in_err-count.ensures.served g')
 
@@ -31,7 +31,7 @@ returns-in_err-text-clause-how g c = λ g'.
     let coming' = g.L.Link.coming c.serve.new.link in
     let past = g.L.Link.past c.args.link.now in
     let past' = g.L.Link.past c.serve.new.link in
-    let l = left c.promises_are_kept.ensures c.a_first_layout_holds_the_empty_map.ensures c.connections_are_served_as_from_the_map.ensures.served g' p c.requires.plan.sized (StandsFor c.new-cluster.result) b c.in_ok-buckets.buckets c.in_ok-buckets.ensures.in_order (StandsFor c.serve.new.store) c.serve.new.served times times' coming coming' past past' c.in_ok-count.count c.in_ok-count.ensures.goes (c.in_ok-count.ensures.served g') in
+    let l = left c.promises_are_kept.ensures c.a_first_layout_holds_the_empty_map.ensures c.connections_are_served_as_from_the_map.ensures.served g' p c.requires.plan.sized (StandsFor c.new-cluster.result) b (StandsFor c.serve.new.store) c.serve.new.served times times' coming coming' past past' c.in_ok-count.count c.in_ok-count.ensures.goes (c.in_ok-count.ensures.served g') in
     unshown_stops g' p (told times times' coming coming' past past') c.in_ok-count.count l.has c.args.server.count c.from_residual-in_err-text.result c.in_err-text.field-0.0 c.from_residual-in_err-text.ensures.1
     (elim c.in_err-text.ensures.causes [
       | inl e ↦ inl e
@@ -44,7 +44,7 @@ returns-clause-how g c = λ g'.
     let members = members_are p c.as_slice.result.now c.in_ok-members.members c.as_slice.ensures c.in_ok-members.ensures.nodes in
     let b = begins_as p c.in_ok-world.world c.new-cluster.result c.in_ok-copied.copied c.in_ok-world.ensures.opened (c.in_ok-copied.ensures.same ∙ members) c.new-cluster.ensures in
     let l =
-    left c.promises_are_kept.ensures c.a_first_layout_holds_the_empty_map.ensures c.connections_are_served_as_from_the_map.ensures.served g' p c.requires.plan.sized (StandsFor c.new-cluster.result) b c.in_ok-buckets.buckets c.in_ok-buckets.ensures.in_order (StandsFor c.serve.new.store) c.serve.new.served
+    left c.promises_are_kept.ensures c.a_first_layout_holds_the_empty_map.ensures c.connections_are_served_as_from_the_map.ensures.served g' p c.requires.plan.sized (StandsFor c.new-cluster.result) b (StandsFor c.serve.new.store) c.serve.new.served
     (g.C.Clock.times c.args.clock.now) (g.C.Clock.times c.serve.new.clock) (g.L.Link.coming c.args.link.now) (g.L.Link.coming c.serve.new.link) (g.L.Link.past c.args.link.now) (g.L.Link.past c.serve.new.link)
     c.in_ok-count.count c.in_ok-count.ensures.goes (c.in_ok-count.ensures.served g')
     in
@@ -65,11 +65,6 @@ pub returns-in_err-members-clause-how : goal.returns-in_err-members-clause-how
 returns-in_err-members-clause-how g c = λ g'.
     let t = told (g.C.Clock.times c.args.clock.now) (g.C.Clock.times c.args.clock.now) (g.L.Link.coming c.args.link.now) (g.L.Link.coming c.args.link.now) (g.L.Link.past c.args.link.now) (g.L.Link.past c.args.link.now) in
     first_stops g' c.args.plan.now t refl c.args.server.count c.from_residual.result c.in_err-members.field-0.0 c.from_residual.ensures.1 c.in_err-members.ensures.want
-
-pub returns-in_err-buckets-clause-how : goal.returns-in_err-buckets-clause-how
-returns-in_err-buckets-clause-how g c = λ g'.
-    let t = told (g.C.Clock.times c.args.clock.now) (g.C.Clock.times c.args.clock.now) (g.L.Link.coming c.args.link.now) (g.L.Link.coming c.args.link.now) (g.L.Link.past c.args.link.now) (g.L.Link.past c.args.link.now) in
-    first_stops g' c.args.plan.now t refl c.args.server.count c.from_residual-in_err-buckets.result c.in_err-buckets.field-0.0 c.from_residual-in_err-buckets.ensures.1 c.in_err-buckets.ensures.want
 
 pub returns-in_err-copied-clause-how : goal.returns-in_err-copied-clause-how
 returns-in_err-copied-clause-how g c = λ g'.

@@ -1,0 +1,78 @@
+-- What is carried out and answered where keys are configured.
+use Rattle.std.specs.Prelude.{◌≡◌, ◌≤◌, ℕ, Bool, true, List, [], ◌++◌, length, take, Some, None, Ok}
+use Rattle.std.specs.List.{AllByRecursion}
+use Rattle.flow_model.specs.declared.order.Order.{Order}
+use Rattle.layout_text.specs.declared.keys.Access.{Access}
+use Rattle.http_model.specs.declared.head.Head.{Head}
+use Rattle.http_model.specs.Cut.{ends, cut}
+use Rattle.s3_model.specs.declared.fault.Code.{Code}
+use Rattle.s3_model.specs.declared.fault.S3Fault.{S3Fault}
+use Rattle.s3_model.specs.declared.reply.Reply.{Reply}
+use Rattle.s3_model.specs.Faults.{status_of}
+use Rattle.s3_model.specs.Asks.{length_refusal, asked_of}
+use Rattle.sig_v4.specs.declared.signed.Signed.{Signed}
+use Rattle.sig_v4.specs.Checks.{checked}
+use Rattle.serve_model.specs.declared.admitted.Admitted.{Admitted}
+use Rattle.serve_model.specs.declared.answer.Answer.TheVariants as answer
+use Rattle.serve_model.specs.declared.buckets.Buckets.{Buckets}
+use Rattle.serve_model.specs.declared.request.Request.{Request}
+use Rattle.serve_model.specs.Keys.{may}
+use Rattle.serve_model.specs.Judging.{refusal_of, order_of}
+use Rattle.serve_model.specs.Stores.{Store}
+use Rattle.serve_model.specs.Talk.{Grammar, Serving, request_of, interim, text_of, head_refusal, clocked, turn}
+
+-- a key signed the head at this time, it may ask what the head asks, and the length is in order
+pub record IsAllowed (access : Access) (now : ℕ) (head : Head) (a : Admitted) : Type 0 where
+  pub signed : Signed
+  pub is_signed : checked head access.keys access.region now ≡ Ok signed
+  pub who : a.who ≡ Some signed.place
+  pub digest : a.digest ≡ signed.digest
+  pub asks : asked_of head ≡ Ok a.ask
+  pub may_ask : may access a.who a.ask ≡ true
+  pub long : length_refusal head a.ask ≡ None
+
+-- these bytes begin with a head that is allowed, which asks this request, and these are left behind it
+pub record IsAdmitted (buckets : Buckets) (g : Grammar) (last : Bool) (now : ℕ) (bytes : List ℕ) (r : Request) (rest : List ℕ) : Type 0 where
+  pub front : List ℕ
+  pub head : Head
+  pub cut_is : cut bytes ≡ ends front rest
+  pub read : g.head_of front ≡ Some head
+  pub asked : Admitted
+  pub allowed : IsAllowed buckets.access now head asked
+  pub is_of : r ≡ request_of last now head asked
+
+-- these bytes begin with such a head and the whole body that it announces, which nothing refuses
+pub record IsRequest (buckets : Buckets) (g : Grammar) (last : Bool) (now : ℕ) (bytes : List ℕ) (r : Request) (body : List ℕ) : Type 0 where
+  pub rest : List ℕ
+  pub admitted : IsAdmitted buckets g last now bytes r rest
+  pub whole : r.length ≤ length rest
+  pub body_is : body ≡ take r.length rest
+  pub unrefused : refusal_of buckets r body ≡ None
+
+-- the order is what such a request asks
+pub record IsAsked (buckets : Buckets) (g : Grammar) (last : Bool) (now : ℕ) (bytes : List ℕ) (order : Order) : Type 0 where
+  pub request : Request
+  pub body : List ℕ
+  pub is_request : IsRequest buckets g last now bytes request body
+  pub asks : order_of request.ask body ≡ Some order
+
+-- a refusal has the status of its code
+abbrev pub IsOfCode : S3Fault → Type 0
+IsOfCode fault = fault.status ≡ status_of fault.code
+
+-- what is written for the first request in these bytes: nothing, a refusal of its head, the interim line and a refusal or no more behind a head that is allowed, or the reply to such a request
+pub data IsSaid (buckets : Buckets) (g : Grammar) (last : Bool) (now : ℕ) (bytes text : List ℕ) : Type 0 where
+  nothing : text ≡ [] → IsSaid buckets g last now bytes text
+  head_refused : (fault : S3Fault) (path : List ℕ) (is_head : Bool) → IsOfCode fault → text ≡ head_refusal fault path is_head now → IsSaid buckets g last now bytes text
+  unanswered : (r : Request) (rest : List ℕ) → IsAdmitted buckets g last now bytes r rest → text ≡ interim r → IsSaid buckets g last now bytes text
+  refused : (r : Request) (rest : List ℕ) (code : Code) → IsAdmitted buckets g last now bytes r rest → text ≡ interim r ++ text_of r (answer.Refusal code) → IsSaid buckets g last now bytes text
+  replied : (r : Request) (body : List ℕ) (reply : Reply) → IsRequest buckets g last now bytes r body → text ≡ interim r ++ text_of r (answer.Reply reply) → IsSaid buckets g last now bytes text
+
+module _ {S : Type 0} (store : Store S) (buckets : Buckets) (g : Grammar) where
+  -- whatever is served, with whatever bytes to come: the store is asked only what such a request asks
+  abbrev pub OnlySignedIsCarriedOut : Type 0
+  OnlySignedIsCarriedOut = (last : Bool) (p : Serving S) (bytes : List ℕ) → AllByRecursion (λ a. IsAsked buckets g last (clocked p).time bytes a.order) (turn store buckets g last p bytes).asks
+
+  -- and only such a request is answered otherwise than by a refusal
+  abbrev pub OnlyAllowedIsAnswered : Type 0
+  OnlyAllowedIsAnswered = (last : Bool) (p : Serving S) (bytes : List ℕ) → IsSaid buckets g last (clocked p).time bytes (turn store buckets g last p bytes).text
