@@ -27,6 +27,10 @@ pub enum FieldName {
     Id,
     Zone,
     Capacity,
+    /// The tables of changes.
+    Change,
+    /// After how many requests a change comes.
+    After,
     Region,
     Key,
     /// The tables of the old sets, which are looked at after all others.

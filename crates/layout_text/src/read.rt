@@ -119,7 +119,7 @@ fn node_values(root: &Table) -> Option<&Array>
     }
 }
 
-fn are_tables(values: &[Value]) -> bool
+pub(crate) fn are_tables(values: &[Value]) -> bool
     ensures { result ≡ list_all (λ value. is_some (as_table (view value))) values.now }
 {
     values.iter().all(|value| value.is_table())
@@ -141,7 +141,7 @@ fn roles_of(alloc: Global, greatest: u8, nodes: &[Value]) -> Result<Roles, Confi
 
 #[tactic(auto, unfolding(crate::specs::Settings::roles_for))]
 // The roles of the nodes, in order of nodes.
-fn roles(alloc: Global, greatest: u8, root: &Table) -> Result<Roles, ConfigFault>
+pub(crate) fn roles(alloc: Global, greatest: u8, root: &Table) -> Result<Roles, ConfigFault>
     ensures roles { IfOk result (λ roles. faulted (roles_for greatest (table_view root.now)) ≡ Ok roles.list) }
     ensures fault { IfErr result (IsFaultOf (faulted (roles_for greatest (table_view root.now)))) }
 {
