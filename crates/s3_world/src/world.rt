@@ -32,6 +32,7 @@ use crdt_rows::AnyRow;
 use flow_model::{FlowEnd, Order};
 use history_model::History;
 use layout_roles::{Kind as RoleKind, Layout, Redundancy, Roles, Zone};
+use name_set::Names;
 use s3_flow::ObjectFlows;
 use std::alloc::Global;
 use store_model::{Event, Told};
@@ -44,7 +45,7 @@ const BLOCK_SIZE: u32 = 1_048_576;
 #[derive(Drop)]
 pub struct S3World {
     driver: Driver<ObjectFlows>,
-    buckets: List<Bytes>,
+    buckets: Names,
     /// The size of the blocks of later requests, in bytes.
     block: u32,
     alloc: Global,
@@ -82,7 +83,7 @@ impl S3World {
     {
         Ok(S3World {
             driver: Driver::new(alloc, ObjectFlows)?,
-            buckets: List::new(alloc),
+            buckets: Names::new(alloc),
             block: BLOCK_SIZE,
             alloc,
         })
@@ -319,7 +320,7 @@ impl S3World {
         ensures plays { IfOk result (λ told. Plays self.old self.new told (λ s. silent (record s { buckets = s.buckets ++ name.now ∷ [] }))) }
         ensures want { OnlyWant result }
     {
-        self.buckets.push(name.copy()?)?;
+        self.buckets.push(name.as_slice())?;
         Ok(accepted(List::new(self.alloc)))
     }
 

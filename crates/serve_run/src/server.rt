@@ -65,7 +65,7 @@ fn served<L: Link, C: Clock>(
     a_first_layout_holds_the_empty_map();
     connections_are_served_as_from_the_map();
     let members = nodes(alloc, plan.config.roles.list.as_slice())?;
-    let buckets = in_order(&plan.config.buckets)?;
+    let buckets = in_order(plan.config.buckets.list())?;
     let copied = members.copy()?;
     let world = installed(alloc, plan)?;
     let mut cluster = Cluster::new(world, copied);

@@ -117,7 +117,7 @@ module _ {R : Type 0} (w : Model R) (n : ℕ) where
       let below = h.sound.versions n in
       let laid : Done R = chosen join s layouts trio stage_trio w n next (given l shown) in record {
         sound = fine_stays_sound w laid h.sound (fine_one w laid n (appends layouts (w.nodes n) l) h.sound (λ m. refl) tt
-        (sound_appended w.applied (length w.requests) (w.nodes n) l (node_of w h.sound n) best is (w.applied + 1) (length w.requests + 0) (omega arith) (omega arith)));
+            (sound_appended w.applied (length w.requests) (w.nodes n) l (node_of w h.sound n) best is (w.applied + 1) (length w.requests + 0) (omega arith) (omega arith)));
         stocked = at_tests (λ a b c. AllStocked (blake2b 32) s join (applied w (way join s (given l shown) a b c))) false false false outside taken full (sym e) (sym f) (sym g)
             (next_world (blake2b 32) laws layouts trio stage_trio w (record { step = Apply n; choice = given l shown }) h.stocked tt
             (at_tests (λ a b c. IsTrue (way join s (given l shown) a b c).is_spelled) outside taken full false false false e f g refl));
