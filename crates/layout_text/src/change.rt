@@ -1,4 +1,6 @@
 //! A change of the layout while it is served.
+ghost use Rattle.std.specs.Coded.{×_prop, Unit-prop, le_prop};
+ghost use Rattle.layout_roles.specs.declared.redundancy.Redundancy.TheVariants.{AtLeast, Maximum};
 ghost use Rattle.layout_roles.specs.Certificates.{IsRedundancy};
 
 use layout_roles::{Redundancy, Roles};
@@ -11,5 +13,5 @@ pub struct Change {
     pub redundancy: Redundancy,
     /// All roles from then on.
     pub roles: Roles,
-    pub ghost in_range: { IsRedundancy redundancy },
+    pub ghost in_range: { IsRedundancy redundancy } by { elim redundancy as (λ r. IsProp (IsRedundancy r)) [ AtLeast zones ↦ ×_prop le_prop le_prop | Maximum ↦ Unit-prop ] },
 }
