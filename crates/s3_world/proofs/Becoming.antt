@@ -14,7 +14,7 @@ use Rattle.store_model.specs.Run.{World, Moving, silent, drains}
 use Rattle.store_model.specs.Acts.{moves, installs, drain, all_messages, endings, acted}
 use Rattle.store_model.specs.Turns.{FitsOutcome}
 use Rattle.world_core.specs.declared.report.Report.{Report}
-use Rattle.world_core.specs.Given.{applying}
+use Rattle.change_model.specs.Given.{applying}
 use Rattle.world_core.specs.Stands.{PlaysSo, Turns}
 use Rattle.s3_world.specs.declared.asked.Asked.{Asked}
 use Rattle.s3_world.specs.declared.world.S3World.{S3World}

@@ -16,7 +16,7 @@ ghost use Rattle.cluster_machine.specs.Choices.{IsFirst};
 ghost use Rattle.cluster_machine.specs.Worlds.{IsMeant};
 ghost use Rattle.flow_model.specs.declared.order.Order.{Order as Ordered};
 ghost use Rattle.crdt_rows.specs.AnyRow.{any_join};
-ghost use Rattle.world_core.specs.Given.{applying};
+ghost use Rattle.change_model.specs.Given.{applying};
 ghost use Rattle.world_core.specs.Nodes.{shown_line};
 ghost use Rattle.store_model.specs.Run.{State, start as nothing_yet, begins, opened, delivers, drains, silent};
 ghost use Rattle.store_model.specs.Acts.{HasKey, acted, moves, installs, asks, drain, forgets, takes, end_of, all_messages};

@@ -25,15 +25,16 @@ use Rattle.cluster_machine.specs.Worlds.{Model, Done, IsLawfulStep, newest_at, d
 use Rattle.world_core.specs.declared.nodes.Nodes.{Nodes}
 use Rattle.world_core.specs.declared.report.Report.{Report}
 use Rattle.world_core.specs.declared.world.World.{World}
-use Rattle.world_core.specs.Nodes.{AreNodes, BecomesAt, given_to, with_node}
+use Rattle.world_core.specs.Nodes.{newest_in, AreNodes, BecomesAt, given_to, with_node}
 use Rattle.world_core.specs.Stands.{StandsFor, DoesSo, Stepped, Plays, nothing_given}
-use Rattle.world_core.specs.Given.{layout_of, IsFor, next_version, given_at, applying}
+use Rattle.change_model.specs.Given.{layout_of, IsFor, given_at, applying}
+use Rattle.world_core.specs.Given.{next_version}
 use Rattle.block_laws.proofs.Steps.{next_world}
 use Rattle.world_laws.proofs.Additions.{node_of, fine_stays_sound, fine_one}
 use Rattle.world_laws.proofs.Doings.{sound_appended}
 use Rattle.world_laws.proofs.TrioGreatest.{trio_is_first}
 use Rattle.world_core.proofs.WorldsStand.{stands_of, IsWhole, whole_of, same_post, same_clocks, same_requests, same_few, refused_report, told_report, is_told, plays_refusal}
-use Rattle.world_core.proofs.WorldsInstall.{first_stands}
+use Rattle.world_core.proofs.WorldsInstall.{newest_is, first_stands}
 
 at_tests : (P : Bool → Bool → Bool → Type 0) (a b c d e f : Bool) → a ≡ d → b ≡ e → c ≡ f → P d e f → P a b c
 at_tests P a b c d e f p q r h = subst (λ x. P x b c) (sym p) (subst (λ x. P d x c) (sym q) (subst (λ x. P d e x) (sym r) h))
@@ -67,7 +68,7 @@ module _ {R : Type 0} (w : Model R) (n : ℕ) where
 
   -- what is given where this layout was computed before
   abbrev choice_by : Applied → Bool → Bool → Bool → Decision
-  choice_by shown a b c = cond (comes a b c) (given (layout_of next shown) shown) nothing_given
+  choice_by shown a b c = cond (comes a b c) (given (layout_of next shown) shown) (none_given VersionLimit)
 
   -- where a refusal stands in the place of a version, this is what is done, and nothing may be given
   way_refused : (join : R → R → R) (s : Words R) (choice : Decision) (reason : Refusal Cut) (a b c : Bool) → version a b c ≡ Err reason → way join s choice a b c ≡ refusal w reason
@@ -88,6 +89,19 @@ module _ {R : Type 0} (w : Model R) (n : ℕ) where
   none_against v false true c e = cc
   none_against v false false true e = cc
   none_against v false false false e = (refl, refl, refl, cc)
+
+  -- what the tests say of the version
+  is_outside : outside ≡ true → next_version w n ≡ Err NotMember
+  is_outside e = λ i. version (e i) taken full
+
+  is_taken : outside ≡ false → taken ≡ true → next_version w n ≡ Err (VersionTaken next)
+  is_taken e f = λ i. version (e i) (f i) full
+
+  is_full : outside ≡ false → taken ≡ false → full ≡ true → next_version w n ≡ Err VersionLimit
+  is_full e f g = λ i. version (e i) (f i) (g i)
+
+  is_free : outside ≡ false → taken ≡ false → full ≡ false → next_version w n ≡ Ok next
+  is_free e f g = λ i. version (e i) (f i) (g i)
 
   -- a layout that was computed of what is staged may be given
   may_given : (shown : Applied) → IsFor w.roles w.redundancy shown → (a b c : Bool) → may (choice_by shown a b c) a b c
@@ -148,19 +162,49 @@ module _ {S R : Type 0} (join : R → R → R) (s : Words R) where
       let test : leb 1 w.applied ≡ true = le-leb 1 w.applied (omega arith) in
       subst (λ (b : Bool). DoesSo join s c report w (cond b (refusal {A = Applied} {C = Cut} w (VersionTaken 1)) (trio_applies join s layouts trio stage_trio w))) (sym test) (plays_refusal join s c w h report (VersionTaken 1) is)
 
+  module _ (c : World S R) (w : Model R) (h : StandsFor join s c w) (n : ℕ) where
+    pub outside_version : outside w n ≡ true → Err NotMember ≡ next_version w n
+    outside_version out = sym (is_outside w n out)
+
+    module _ (newest : ℕ) (known : newest ≡ newest_at w n) (inside : outside w n ≡ false) where
+      pub taken_version : newest < c.applied → Err (VersionTaken (newest + 1)) ≡ next_version w n
+      taken_version low =
+          let same = h.applied in
+          let after : newest + 1 ≡ suc (newest_at w n) = omega arith in
+          ap (λ v. Err (VersionTaken v)) after ∙ sym (is_taken w n inside (le-leb (suc (newest_at w n)) w.applied (omega arith)))
+
+      free : c.applied ≤ newest → taken w n ≡ false
+      free high = let same = h.applied in lt-leb (suc (newest_at w n)) w.applied (omega arith)
+
+      pub full_version : c.applied ≤ newest → 100 ≤ c.applied → Err VersionLimit ≡ next_version w n
+      full_version high many = let same = h.applied in sym (is_full w n inside (free high) (le-leb most_versions w.applied (omega arith)))
+
+      pub free_version : c.applied ≤ newest → c.applied < 100 → Ok (newest + 1) ≡ next_version w n
+      free_version high few =
+          let same = h.applied in
+          let after : newest + 1 ≡ suc (newest_at w n) = omega arith in
+          ap Ok after ∙ sym (is_free w n inside (free high) (lt-leb most_versions w.applied (omega arith)))
+
+    -- it is the one after the newest that the code's node knows
+    pub after_newest : (v : ℕ) → Ok v ≡ next_version w n → v ≡ newest_in c.nodes n + 1
+    after_newest v e =
+        let known = newest_is join s c.nodes w.nodes n h.nodes in
+        let is = none_against w n v (outside w n) (taken w n) (full w n) (sym e) in
+        let same = is.3 in omega arith
+
   module _ (c : World S R) (w : Model R) (h : StandsFor join s c w) (n : ℕ) (report : Report R) where
     -- the apply is refused before any layout is looked at, whatever would be given
-    pub apply_refused : (choice : Decision) (reason : Refusal Cut) → report ≡ refused_report reason → next_version w n ≡ Err reason → DoesSo join s c report w (does join s w (record { step = Apply n; choice = choice }))
+    pub apply_refused : (choice : Decision) (reason : Refusal Cut) → report ≡ refused_report reason → Err reason ≡ next_version w n → DoesSo join s c report w (does join s w (record { step = Apply n; choice = choice }))
     apply_refused choice reason is e =
-        subst (DoesSo join s c report w) (sym (way_refused w n join s choice reason (outside w n) (taken w n) (full w n) e)) (plays_refusal join s c w h report reason is)
+        subst (DoesSo join s c report w) (sym (way_refused w n join s choice reason (outside w n) (taken w n) (full w n) (sym e))) (plays_refusal join s c w h report reason is)
 
-    pub refused_step : (reason : Refusal Cut) → report ≡ refused_report reason → next_version w n ≡ Err reason → Stepped join s c report w (Apply n)
-    refused_step reason is e = record { choice = nothing_given; lawful = may_refused w n reason (outside w n) (taken w n) (full w n) e; does = apply_refused nothing_given reason is e }
+    pub refused_step : (reason : Refusal Cut) → report ≡ refused_report reason → Err reason ≡ next_version w n → Stepped join s c report w (Apply n)
+    refused_step reason is e = record { choice = nothing_given; lawful = may_refused w n reason (outside w n) (taken w n) (full w n) (sym e); does = apply_refused nothing_given reason is e }
 
     -- there is no layout of what is staged
-    pub undecided_step : (v : ℕ) (reason : Refusal Cut) → report ≡ refused_report reason → next_version w n ≡ Ok v → IsRefused c.roles.list c.redundancy reason → Stepped join s c report w (Apply n)
+    pub undecided_step : (v : ℕ) (reason : Refusal Cut) → report ≡ refused_report reason → Ok v ≡ next_version w n → IsRefused c.roles.list c.redundancy reason → Stepped join s c report w (Apply n)
     undecided_step v reason is e none =
-        let free = none_against w n v (outside w n) (taken w n) (full w n) e in
+        let free = none_against w n v (outside w n) (taken w n) (full w n) (sym e) in
         let here : IsRefused w.roles w.redundancy reason = subst (λ r. IsRefused w.roles r reason) h.redundancy (subst (λ rs. IsRefused rs c.redundancy reason) h.roles none) in
         record {
           choice = none_given reason;
@@ -169,10 +213,10 @@ module _ {S R : Type 0} (join : R → R → R) (s : Words R) where
         }
 
     -- the layout is the node's next version
-    pub laid : (laws : Laws join s) (now : Nodes S R) (v : ℕ) (l : Layout) (shown : Applied) → next_version w n ≡ Ok v → l ≡ layout_of v shown → HasGreatest (layout_of v shown) → report ≡ told_report (One v) (Laid shown ∷ []) →
+    pub laid : (laws : Laws join s) (now : Nodes S R) (v : ℕ) (l : Layout) (shown : Applied) → Ok v ≡ next_version w n → l ≡ layout_of v shown → HasGreatest (layout_of v shown) → report ≡ told_report (One v) (Laid shown ∷ []) →
         BecomesAt join s c.nodes now n (λ x. appends layouts x l) → DoesSo join s (record c { nodes = now; applied = c.applied + 1 }) report w (does join s w (applying w n shown))
     laid laws now v l shown e is best told becomes =
-        let free = none_against w n v (outside w n) (taken w n) (full w n) e in
+        let free = none_against w n v (outside w n) (taken w n) (full w n) (sym e) in
         let new : World S R = record c { nodes = now; applied = c.applied + 1 } in
         let same : l ≡ layout_of (next w n) shown = is ∙ ap (λ k. layout_of k shown) free.3 in
         at_tests (λ x y z. DoesSo join s new report w (way w n join s (choice_by w n shown x y z) x y z)) (outside w n) (taken w n) (full w n) false false false free.0 free.1 free.2

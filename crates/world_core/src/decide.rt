@@ -2,7 +2,8 @@
 ghost use Rattle.std.specs.Prelude.{◌≡◌, IfOk};
 ghost use Rattle.crdt_core.specs.Outcomes.{OnlyWant};
 ghost use Rattle.layout_roles.specs.Certificates.{IsRedundancy};
-ghost use Rattle.world_core.specs.Given.{layout_of, IsDecided};
+ghost use Rattle.change_model.specs.Given.{layout_of};
+ghost use Rattle.world_core.specs.Given.{IsDecided};
 
 use cluster_machine::applied::{Applied, Refusal};
 use crdt_core::Memory;

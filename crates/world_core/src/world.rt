@@ -20,7 +20,8 @@ ghost use Rattle.cluster_machine.specs.declared.line.EndWord.TheVariants as word
 ghost use Rattle.cluster_machine.specs.Step.{told};
 ghost use Rattle.cluster_machine.specs.World.{clock, is_member_at, undelivered, sent_bytes, node_line, forget_delivered, empty};
 ghost use Rattle.cluster_machine.specs.Worlds.{Model, IsMeant, does, installed};
-ghost use Rattle.world_core.specs.Given.{next_version, applying};
+ghost use Rattle.change_model.specs.Given.{applying};
+ghost use Rattle.world_core.specs.Given.{next_version};
 ghost use Rattle.world_core.specs.Nodes.{shown_line, newest_in};
 ghost use Rattle.world_core.specs.Stands.{SendsOut, CannotSend, acts_so, local_so, ended};
 
@@ -309,7 +310,7 @@ impl<S: Schema> World<S> {
     // The version of a layout that is applied at a node, or why it is refused.
     fn next_version(&self, node: u8) -> Result<u32, Refusal>
         requires stands { IsWorld S.Row.join S.words self.now }
-        ensures { (w : Model S.Row) → StandsFor S.Row.join S.words self.now w → result ≡ next_version w node }
+        ensures is { (w : Model S.Row) → StandsFor S.Row.join S.words self.now w → result ≡ next_version w node }
     {
         if self.is_outside(node) {
             return Err(Refusal::NotMember);

@@ -1,4 +1,5 @@
 use Rattle.std.proofs.Common.{refl}
+use Rattle.change_model.specs.Given.{applying}
 use Rattle.s3_world.proofs.Becoming.{doing_plays}
 use Rattle.s3_world.proofs.world.S3World.apply_with.Goals as goal
 
