@@ -1,7 +1,7 @@
 -- What a configuration says of changes of the layout while it is served.
 use Rattle.std.specs.Prelude.{ℕ, suc, nat_le, List, [], ◌∷◌, ◌++◌, length, codes, Option, Some, None, option_and_then, map, Result, Ok}
 use Rattle.std.specs.Option.{ok_or}
-use Rattle.toml.specs.Data.{Data, Items, Members, get_member, as_array}
+use Rattle.toml.specs.Data.{Data, Members, get_member, as_array}
 use Rattle.toml.specs.Parse.{parse_document}
 use Rattle.layout_roles.specs.declared.redundancy.Redundancy.{Redundancy}
 use Rattle.layout_roles.specs.declared.role.Role.{Role}

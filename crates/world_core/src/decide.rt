@@ -27,10 +27,10 @@ pub fn decide(alloc: Global, roles: &Roles, wanted: Redundancy) -> Result<Decide
     ensures want { OnlyWant result }
 {
     match compute(alloc, roles, wanted) {
-        Ok(certified) => Ok(Decided::Given(Applied {
-            certified,
-            roles: roles.copy()?,
-        })),
+        Ok(certified) => {
+            let roles = roles.copy()?;
+            Ok(Decided::Given(Applied { certified, roles }))
+        }
         Err(LayoutFault::TooFewNodes(nodes)) => {
             Ok(Decided::Refused(Refusal::TooFewNodes(nodes)))
         }
