@@ -125,7 +125,7 @@ module _ {R : Type 0} (w : Model R) (n : ℕ) where
 
   -- the node has one version more, of a greatest layout, and the world is whole still
   whole_laid : (join : R → R → R) (s : Words R) (laws : Laws join s) (l : Layout) (shown : Applied) → IsWhole join s w → HasGreatest l → l.version ≡ next → outside ≡ false → taken ≡ false → full ≡ false →
-      IsWhole join s (applied w (chosen join s layouts trio stage_trio w n next (given l shown)))
+      IsWhole join s (applied {C = Cut} w (chosen join s layouts trio stage_trio w n next (given l shown)))
   whole_laid join s laws l shown h best is e f g =
       let above : w.applied < next = leb-false next w.applied f in
       let below = h.sound.versions n in
