@@ -309,7 +309,7 @@ impl<S: Schema> World<S> {
     // The version of a layout that is applied at a node, or why it is refused.
     fn next_version(&self, node: u8) -> Result<u32, Refusal>
         requires stands { IsWorld S.Row.join S.words self.now }
-        ensures is { (w : Model S.Row) → StandsFor S.Row.join S.words self.now w → result ≡ next_version w node }
+        ensures { (w : Model S.Row) → StandsFor S.Row.join S.words self.now w → result ≡ next_version w node }
     {
         if self.is_outside(node) {
             return Err(Refusal::NotMember);
