@@ -98,7 +98,7 @@ pub fn installed(alloc: Global, plan: &Plan) -> Result<S3World, Memory>
 {
     let mut world = prepared(
         alloc,
-        plan.config.buckets.as_slice(),
+        plan.config.buckets.list().as_slice(),
         plan.config.block_size,
     )?;
     let nodes = nodes(alloc, plan.config.roles.list.as_slice())?;
