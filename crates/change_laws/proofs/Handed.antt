@@ -30,7 +30,8 @@ use Rattle.drained_laws.specs.Accounts.{Carries}
 use Rattle.drained_laws.proofs.Waits.{some_left}
 use Rattle.drained_laws.proofs.Views.{all_among, among_here, among_there}
 use Rattle.drained_laws.proofs.Deliveries.{one_changes}
-use Rattle.change_laws.specs.Script.{AreApart, each, after_each, Drains}
+use Rattle.change_model.specs.Steps.{each}
+use Rattle.change_laws.specs.Script.{AreApart, after_each, Drains}
 use Rattle.change_laws.specs.Rounds.{walks_in, IsGoing, AreRounds}
 use Rattle.change_laws.specs.Handing.{IsQuiet, AllKept, HasGood, Has, StoresIt, Means, IsSought, AreHanded}
 use Rattle.change_laws.proofs.Answering.{rounds_heard, no_walk}

@@ -8,7 +8,7 @@ use Rattle.cluster_machine.specs.Phases.{with_node, in_order}
 use Rattle.drained_laws.specs.Calm.{IsMember}
 use Rattle.drained_laws.proofs.Views.{in_order_has}
 use Rattle.change_laws.specs.Script.{AreApart}
-use Rattle.change_laws.specs.Whole.{members_of_both}
+use Rattle.change_model.specs.Steps.{members_of_both}
 
 -- these ascend, and all are above the number
 abbrev Up : ℕ → List ℕ → Type 0

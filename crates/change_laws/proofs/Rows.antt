@@ -26,7 +26,8 @@ use Rattle.drained_laws.specs.Calm.{IsMember}
 use Rattle.drained_laws.specs.Drained.{AreEqual}
 use Rattle.drained_laws.proofs.Posts.{member_at}
 use Rattle.drained_laws.proofs.Views.{all_among}
-use Rattle.change_laws.specs.Script.{AreApart, AreSpelled, each, Changes, RoundHashes}
+use Rattle.change_model.specs.Steps.{each}
+use Rattle.change_laws.specs.Script.{AreApart, AreSpelled, Changes, RoundHashes}
 use Rattle.change_laws.specs.Resting.{IsResting}
 use Rattle.change_laws.specs.Opening.{IsOpened}
 use Rattle.change_laws.specs.Between.{IsBetween}

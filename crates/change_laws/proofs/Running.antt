@@ -22,7 +22,8 @@ use Rattle.cluster_machine.specs.World.{Sent, Mark, World, numbered, clock, is_m
 use Rattle.cluster_machine.specs.Step.{Choice, given, none_given, Effects, most_versions, refusal, received, at_message, did, chosen, local, effects, skewed, shut, applied}
 use Rattle.cluster_machine.specs.Run.{Move, next, run}
 use Rattle.block_laws.proofs.Steps.{next_world}
-use Rattle.change_laws.specs.Script.{IsOfChange, IsFresh, AreFresh, AreSpelled, to_one, from_one, gossips, each, Spreads, after_each, Changes, RoundHashes, spread_moves, moves_of}
+use Rattle.change_model.specs.Steps.{to_one, from_one, gossips, each}
+use Rattle.change_laws.specs.Script.{IsOfChange, IsFresh, AreFresh, AreSpelled, Spreads, after_each, Changes, RoundHashes, spread_moves, moves_of}
 use Rattle.crdt_core.proofs.Each.{all_append}
 use Rattle.change_laws.proofs.Clear.{hashes_first, hashes_then}
 

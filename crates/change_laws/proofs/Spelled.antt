@@ -23,7 +23,8 @@ use Rattle.drained_laws.specs.Calm.{IsMember}
 use Rattle.drained_laws.specs.Waiting.{Has as HasOne}
 use Rattle.drained_laws.proofs.Views.{among_here, among_there}
 use Rattle.drained_laws.proofs.Waits.{all_has}
-use Rattle.change_laws.specs.Script.{AreApart, AreSpelled, each}
+use Rattle.change_model.specs.Steps.{each}
+use Rattle.change_laws.specs.Script.{AreApart, AreSpelled}
 use Rattle.change_laws.specs.Handing.{HasGood, Has}
 use Rattle.change_laws.proofs.Begun.{among_rows, IsIt, part_there}
 use Rattle.change_laws.proofs.Lists.{some_one, all_of_list}

@@ -27,7 +27,8 @@ use Rattle.drained_laws.specs.Accounts.{Carries, IsOnWay}
 use Rattle.drained_laws.proofs.Waits.{some_left}
 use Rattle.drained_laws.proofs.Views.{among_here, among_there}
 use Rattle.drained_laws.proofs.Deliveries.{one_changes}
-use Rattle.change_laws.specs.Script.{AreApart, each, after_each, Drains}
+use Rattle.change_model.specs.Steps.{each}
+use Rattle.change_laws.specs.Script.{AreApart, after_each, Drains}
 use Rattle.change_laws.specs.Resting.{AreUpTo}
 use Rattle.change_laws.specs.Rounds.{tops, IsOnWalk, IsRoundOf, IsGoing, IsRoundMessage, IsOfRounds, IsRounding, AreRounds}
 use Rattle.change_laws.proofs.Moving.{Kept, with_one, sends_at, deliveries_keep}

@@ -1,6 +1,5 @@
 -- The steps of a layout change, between which all messages are delivered.
-use Rattle.std.specs.Prelude.{◌≡◌, ℕ, false, not, ◌==◌, IsTrue, Some, List, [], ◌∷◌, ◌++◌, ⊤, map}
-use Rattle.std.specs.List.{filter}
+use Rattle.std.specs.Prelude.{◌≡◌, ℕ, false, IsTrue, Some, List, [], ◌∷◌, ◌++◌, ⊤}
 use Rattle.layout_roles.specs.declared.role.Role.{Role}
 use Rattle.table_schema.specs.Words.{Words}
 use Rattle.quorum_model.specs.Quorum.{is_among}
@@ -11,33 +10,13 @@ use Rattle.cluster_machine.specs.Layouts.{Layouts}
 use Rattle.cluster_machine.specs.World.{World, numbered, forget_delivered}
 use Rattle.cluster_machine.specs.Step.{Choice, given}
 use Rattle.cluster_machine.specs.Run.{Move, does, next, run}
+use Rattle.change_model.specs.Steps.{to_one, from_one, gossips, each}
 use Rattle.drained_laws.specs.Waiting.{fresh, waiting}
 
 -- no node stands twice
 abbrev pub AreApart : List ℕ → Type 0
 AreApart [] = ⊤
 AreApart (n ∷ ns) = (is_among n ns ≡ false) × AreApart ns
-
--- the others among these nodes
-abbrev pub others : ℕ → List ℕ → List ℕ
-others m nodes = filter (λ n. not (n == m)) nodes
-
--- each of the others to node m
-abbrev pub to_one : ℕ → List ℕ → List (ℕ × ℕ)
-to_one m nodes = map (λ n. (n, m)) (others m nodes)
-
--- node m to each of the others
-abbrev pub from_one : ℕ → List ℕ → List (ℕ × ℕ)
-from_one m nodes = map (λ n. (m, n)) (others m nodes)
-
-module _ {R L A C : Type 0} (choice : Choice L A C) where
-  -- nodes show their views to nodes
-  abbrev pub gossips : List (ℕ × ℕ) → List (Move R L A C)
-  gossips pairs = map (λ p. record { step = Gossip p.0 p.1; choice = choice }) pairs
-
-  -- these nodes do one thing, one after the other
-  abbrev pub each : (ℕ → Step R) → List ℕ → List (Move R L A C)
-  each does nodes = map (λ n. record { step = does n; choice = choice }) nodes
 
 -- the step delivers a message that waits
 abbrev pub IsFresh : {R L : Type 0} → World R L → Step R → Type 0

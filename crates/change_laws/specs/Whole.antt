@@ -1,10 +1,9 @@
 -- Which change may be made.
-use Rattle.std.specs.Prelude.{◌≡◌, ◌<◌, ℕ, suc, IsTrue, List, ◌++◌}
+use Rattle.std.specs.Prelude.{◌≡◌, ◌<◌, ℕ, suc, IsTrue, List}
 use Rattle.table_schema.specs.Words.{Words}
 use Rattle.table_model.specs.Rows.{AllProper}
 use Rattle.quorum_model.specs.Quorum.{is_among}
 use Rattle.cluster_machine.specs.Layouts.{Layouts}
-use Rattle.cluster_machine.specs.Phases.{in_order}
 use Rattle.cluster_machine.specs.Run.{IsLayout}
 use Rattle.cluster_machine.specs.World.{World}
 use Rattle.drained_laws.specs.Calm.{IsMember}
@@ -20,10 +19,6 @@ pub record MayChange {L : Type 0} (k : Layouts L) (l new : L) (part : List ℕ) 
   pub members : (n : ℕ) → IsMember k l n → IsTrue (is_among n part)
   pub members_new : (n : ℕ) → IsMember k new n → IsTrue (is_among n part)
   pub first : IsMember k l m
-
--- all members of both layouts, in order of numbers and each once
-abbrev pub members_of_both : {L : Type 0} → Layouts L → L → L → List ℕ
-members_of_both k l new = in_order (k.reading.members l ++ k.reading.members new)
 
 -- each row that one of these nodes accepted is proper
 abbrev pub AreProperAt : {R L : Type 0} → Words R → List ℕ → World R L → Type 0

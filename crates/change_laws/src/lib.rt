@@ -23,10 +23,11 @@ ghost use Rattle.drained_laws.specs.Calm.{IsMember, IsCalmRun};
 ghost use Rattle.drained_laws.specs.Accounts.{IsAccounted};
 ghost use Rattle.drained_laws.specs.Waiting.{waiting};
 ghost use Rattle.drained_laws.specs.Drained.{AreEqual, accepted_in};
-ghost use Rattle.change_laws.specs.Script.{AreApart, AreSpelled, each, Changes, RoundHashes, moves_of};
+ghost use Rattle.change_model.specs.Steps.{each, members_of_both};
+ghost use Rattle.change_laws.specs.Script.{AreApart, AreSpelled, Changes, RoundHashes, moves_of};
 ghost use Rattle.change_laws.specs.Resting.{HasAlone, IsResting};
 ghost use Rattle.change_laws.specs.Handing.{IsQuiet, AllKept, IsKeptIn};
-ghost use Rattle.change_laws.specs.Whole.{MayChange, members_of_both, AreProperAt};
+ghost use Rattle.change_laws.specs.Whole.{MayChange, AreProperAt};
 
 /// A change from a cluster at rest on a version leads to one at rest on the next version, whatever proper rows there are: each
 /// node that took part has that version alone, nothing waits, no request and no round is open. Digests may clash.

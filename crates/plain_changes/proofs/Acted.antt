@@ -38,7 +38,7 @@ use Rattle.drained_laws.proofs.Weights.{first_fresh, none_waits}
 use Rattle.drained_laws.proofs.Deliveries.{one_changes}
 use Rattle.store_laws.specs.Hashed.{StepsHash}
 use Rattle.change_laws.specs.Script.{IsOfChange, AreFresh, AreSpelled, Drains}
-use Rattle.plain_changes.specs.Acts.{steps}
+use Rattle.serve_changes.specs.Acts.{steps}
 
 -- no node has an open request
 abbrev pub IsIdle : World → Type 0

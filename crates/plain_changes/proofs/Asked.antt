@@ -9,7 +9,8 @@ use Rattle.serve_model.specs.Stores.{Asking, fits_asking}
 use Rattle.serve_model.specs.declared.served.ServeFault.{ServeFault}
 use Rattle.serve_model.specs.Talk.{Grammar, Serving, Stop, Talk}
 use Rattle.serve_model.specs.Connections.{stated, IsUpTo, IsServed, exact, part, AreServed, EndsSo, too_many, begun}
-use Rattle.plain_changes.specs.Changing.{Changing, changing, changing_fits, HashesAfter, SomeAfter, IsServedHash}
+use Rattle.serve_changes.specs.Changing.{Changing, changing, changing_fits}
+use Rattle.plain_changes.specs.Changing.{HashesAfter, SomeAfter, IsServedHash}
 
 module _ (IsHash : List ℕ → Type 0) where
   -- the order may be asked, and what the change after it hashes is such

@@ -46,7 +46,8 @@ use Rattle.drained_laws.proofs.ReadBegins.{one_row}
 use Rattle.drained_laws.proofs.Views.{among_here}
 use Rattle.change_laws.specs.Resting.{IsResting}
 use Rattle.change_laws.specs.Whole.{MayChange}
-use Rattle.change_laws.specs.Script.{AreSpelled, each, moves_of}
+use Rattle.change_model.specs.Steps.{each}
+use Rattle.change_laws.specs.Script.{AreSpelled, moves_of}
 use Rattle.change_laws.specs.Handing.{IsKeptIn, AllKept}
 use Rattle.change_laws.proofs.Equal.{row_there}
 use Rattle.change_laws.proofs.Rows.{equal_so, handed_so, items_so, nothing_new, blocks_so, each_kept}

@@ -10,6 +10,7 @@ pub mod Staged
 pub mod Standing
 pub mod Events
 pub mod Refused
+pub mod Applying
 pub mod Lawful
 pub mod Computed
 pub mod Due

@@ -21,12 +21,13 @@ use Rattle.store_model.specs.Run.{World, Moving, State, drains}
 use Rattle.store_model.specs.Acts.{Act, moves, drain, forgets, acted, after_acts, all_messages, ActsFit}
 use Rattle.store_model.proofs.Acts.{acts_after, fit_in_parts}
 use Rattle.drained_laws.proofs.Weights.{marked_next}
-use Rattle.change_laws.specs.Script.{IsOfChange, IsFresh, AreFresh, AreSpelled, to_one, from_one, gossips, each, Drains, Shows, Spreads, RoundHashes, spread_moves}
+use Rattle.change_model.specs.Steps.{to_one, from_one, gossips, each}
+use Rattle.change_laws.specs.Script.{IsOfChange, IsFresh, AreFresh, AreSpelled, Drains, Shows, Spreads, RoundHashes, spread_moves}
 use Rattle.change_laws.proofs.Clear.{hashes_parts}
 use Rattle.change_laws.proofs.Running.{spread_run}
 use Rattle.store_laws.specs.Hashed.{StepsHash, ActsHash}
 use Rattle.store_laws.proofs.Hashing.{hashed_part, hashed_rest}
-use Rattle.plain_changes.specs.Acts.{steps, shows_acts, spreads_acts, change_acts}
+use Rattle.serve_changes.specs.Acts.{steps, shows_acts, spreads_acts, change_acts}
 use Rattle.plain_changes.specs.Changed.{Changed, IsSpelled}
 use Rattle.plain_changes.proofs.Acted.{IsIdle, idle_run, machine, in_world, all_steps, drain_drains, drain_spelled, drain_hashes, drain_state}
 
@@ -189,9 +190,9 @@ pub record IsMade (new : Layout) (shown : Applied) (m : ℕ) (part : List ℕ) (
   pub state : t ≡ in_world s t.world
   pub changed : Changed given_none new shown m part s.world t.world
   pub spelled : IsSpelled given_none new shown m part s.world t.world changed
-  pub hashed : (y : List ℕ) → RoundHashes Applied Cut any_join words layouts trio stage_trio given_none new shown m part s.world t.world changed y → ActsHash s (change_acts new shown m part) y
+  pub hashed : (y : List ℕ) → RoundHashes Applied Cut any_join words layouts trio stage_trio given_none new shown m part s.world t.world changed y → ActsHash s (change_acts (given new shown) m part) y
 
-module _ (new : Layout) (shown : Applied) (m : ℕ) (part : List ℕ) (s : State) (h : IsCalmState s) (fits : ActsFit s (change_acts new shown m part)) where
+module _ (new : Layout) (shown : Applied) (m : ℕ) (part : List ℕ) (s : State) (h : IsCalmState s) (fits : ActsFit s (change_acts (given new shown) m part)) where
   abbrev applies : Moving
   applies = record { step = Apply m; choice = given new shown }
 
@@ -343,7 +344,7 @@ module _ (new : Layout) (shown : Applied) (m : ℕ) (part : List ℕ) (s : State
   end = in_world t10 (forget_delivered t10.world)
 
   -- the acts lead there
-  ends_so : after_acts s (change_acts new shown m part) ≡ end
+  ends_so : after_acts s (change_acts (given new shown) m part) ≡ end
   ends_so =
       ap (λ x. after_acts x (tell ++ rest1)) e0
       ∙ (acts_after t1 tell rest1
@@ -360,7 +361,7 @@ module _ (new : Layout) (shown : Applied) (m : ℕ) (part : List ℕ) (s : State
       ∙ ap (λ x. after_acts x (forgets ∷ [])) e9)))))))))))
 
   -- what the rounds hash the acts hash
-  rounds_hash : (y : List ℕ) → StepsHash t4.world (syncs ++ moved.drains.deliveries) y → ActsHash s (change_acts new shown m part) y
+  rounds_hash : (y : List ℕ) → StepsHash t4.world (syncs ++ moved.drains.deliveries) y → ActsHash s (change_acts (given new shown) m part) y
   rounds_hash y h =
       let of_rounds : ActsHash t4 rest3 y = elim (hashes_parts Applied Cut any_join words layouts trio stage_trio t4.world syncs moved.drains.deliveries y h) [
         | inl first ↦ hashed_part t4 (steps syncs) (drain all_messages ∷ rest5) y (steps_hash syncs t4 all_syncs y first)
@@ -401,5 +402,5 @@ module _ (new : Layout) (shown : Applied) (m : ℕ) (part : List ℕ) (s : State
       let tell_first = by_parts g told.drains.deliveries _ t1.world t2.world (machine_append g told.drains.deliveries t1.world ∙ sym told.drains.leads) told.spelled ack_first in
       record { state = ap (λ (x : State). in_world x end.world) to9; changed = is; spelled = (fits.0.0.1, tell_first); hashed = rounds_hash }
 
-  pub made_so : IsMade new shown m part s (after_acts s (change_acts new shown m part))
+  pub made_so : IsMade new shown m part s (after_acts s (change_acts (given new shown) m part))
   made_so = subst (IsMade new shown m part s) (sym ends_so) made_end

@@ -18,7 +18,8 @@ use Rattle.serve_model.proofs.Ones.{one_weaker}
 use Rattle.plain_laws.specs.Blocks.{IsKept, body_in, body_written, IsBlockAt, IsOfMap}
 use Rattle.plain_laws.proofs.Stores.{written_or_put, carries_grow, order_follows}
 use Rattle.serve_model.specs.Clusters.{cluster}
-use Rattle.plain_changes.specs.Changing.{Changing, changing, changing_fits, HashesAfter, StandsWith, over_map, IsServedBlock, IsServedHash, AreServedFrom, EndsFrom, IsTurnBlock, IsTurnHash, IsTurnFrom, IsAtMapStop, AreStopsFrom}
+use Rattle.serve_changes.specs.Changing.{Changing, changing, changing_fits}
+use Rattle.plain_changes.specs.Changing.{HashesAfter, StandsWith, over_map, IsServedBlock, IsServedHash, AreServedFrom, EndsFrom, IsTurnBlock, IsTurnHash, IsTurnFrom, IsAtMapStop, AreStopsFrom}
 use Rattle.plain_changes.proofs.Asked.{MaySuch, all_may, AreSuch, served_such, ends_such}
 use Rattle.plain_changes.proofs.Events.{stands_then}
 use Rattle.plain_changes.proofs.Due.{due_so}

@@ -8,6 +8,7 @@ use Rattle.crdt_rows.specs.AnyRow.{any_join}
 use Rattle.object_schema.specs.Schema.{words}
 use Rattle.cluster_machine.specs.declared.applied.Applied.{Applied}
 use Rattle.cluster_machine.specs.Layouts.{layouts}
+use Rattle.cluster_machine.specs.Step.{given}
 use Rattle.cluster_machine.specs.Trio.{trio, stage_trio}
 use Rattle.machine_laws.specs.Follows.{Follows}
 use Rattle.store_model.specs.Run.{State, World}
@@ -21,9 +22,10 @@ use Rattle.change_laws.specs.Script.{RoundHashes}
 use Rattle.change_laws.specs.Resting.{IsResting}
 use Rattle.change_laws.specs.Whole.{MayChange}
 use Rattle.plain_laws.specs.Blocks.{IsKept}
-use Rattle.plain_changes.specs.Acts.{change_acts}
+use Rattle.serve_changes.specs.Acts.{change_acts}
 use Rattle.plain_changes.specs.Changed.{staged, IsClear as IsClearRound, moved_to}
-use Rattle.plain_changes.specs.Standing.{Standing, IsStaging, Change, acts_of, after_change, after_changes, last_of, IsClear, MayFollow}
+use Rattle.serve_changes.specs.Changing.{Change}
+use Rattle.plain_changes.specs.Standing.{Standing, IsStaging, after_changes, last_of, IsClear, MayFollow, acts_of, after_change}
 use Rattle.plain_changes.proofs.Acted.{in_world}
 use Rattle.plain_changes.proofs.Changed.{holds_on, holds_at, rests_on, kept_back, apart_on}
 use Rattle.plain_changes.proofs.Following.{follows_changed}
@@ -32,7 +34,7 @@ use Rattle.plain_changes.proofs.Staged.{IsStaged, acts_staged}
 
 module _ (c : Cluster) (P : Plain) (l : Layout) (stands : Standing c P l) (ch : Change) (stages : AllByRecursion IsStaging ch.stages) (may : MayChange layouts l ch.new ch.part ch.first) (fits : ActsFit c.run (acts_of ch)) where
   abbrev acts_then : List Act
-  acts_then = change_acts ch.new ch.shown ch.first ch.part
+  acts_then = change_acts (given ch.new ch.shown) ch.first ch.part
 
   done : IsStaged c.run (after_acts c.run ch.stages)
   done = acts_staged c.run ch.stages stages

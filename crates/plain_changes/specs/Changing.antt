@@ -1,5 +1,5 @@
--- A cluster with layout changes to come, as a store, and what a server over it writes.
-use Rattle.std.specs.Prelude.{◌≡◌, ◌⊎◌, ◌≤◌, ◌==◌, ℕ, suc, Bool, cond, ⊤, List, [], ◌∷◌, ◌++◌, length}
+-- What a server over a cluster with layout changes to come writes.
+use Rattle.std.specs.Prelude.{◌≡◌, ◌⊎◌, ◌≤◌, ℕ, suc, Bool, ⊤, List, [], ◌∷◌}
 use Rattle.std.specs.List.{AllByRecursion}
 use Rattle.crdt_core.specs.Members.{OneOf}
 use Rattle.lab_outside.specs.Connection.{Connection}
@@ -8,57 +8,22 @@ use Rattle.layout_roles.specs.declared.role.Role.{Role}
 use Rattle.layout_roles.specs.declared.redundancy.Redundancy.{Redundancy}
 use Rattle.cluster_machine.specs.Choices.{IsBest}
 use Rattle.cluster_machine.specs.Layouts.{layouts}
-use Rattle.flow_model.specs.declared.order.Order.{Order}
 use Rattle.store_model.specs.Fresh.{NoClash}
-use Rattle.store_model.specs.Acts.{Act, AreLawfulActs, ActsFit}
 use Rattle.serve_model.specs.declared.buckets.Buckets.{Buckets}
 use Rattle.serve_model.specs.declared.served.ServeFault.{ServeFault}
 use Rattle.store_laws.specs.Hashed.{ActsHash}
-use Rattle.serve_model.specs.Stores.{Store, Asking, fits_asking}
-use Rattle.serve_model.specs.Clusters.{Cluster, cluster, acts_at, fits}
+use Rattle.serve_model.specs.Stores.{Asking, fits_asking}
+use Rattle.serve_model.specs.Clusters.{cluster}
 use Rattle.serve_model.specs.Talk.{Grammar, Serving, Stop, turn}
 use Rattle.serve_model.specs.Connections.{stated, AreServed, SomeAsked, EndsSo}
 use Rattle.serve_model.specs.Plain.{Plain, plain, PutsBlock}
+use Rattle.change_model.specs.Given.{layout_of}
 use Rattle.change_laws.specs.Whole.{MayChange}
 use Rattle.plain_laws.specs.Blocks.{IsKept, IsOfMap}
-use Rattle.plain_changes.specs.Standing.{Standing, IsStaging, Change, acts_of, after_change, TakesAll}
+use Rattle.serve_changes.specs.Changing.{Change, Changing, changing, changing_fits, acts_due}
+use Rattle.plain_changes.specs.Standing.{Standing, IsStaging, TakesAll}
 
--- ---- the store
-
--- each change with the count of requests after which it is made, in order
-pub record Changing : Type 0 where
-  pub cluster : Cluster
-  pub to_come : List (ℕ × Change)
-
--- the next change is made, if so many requests reached the cluster
-abbrev pub with_change : Cluster → List (ℕ × Change) → Changing
-with_change c [] = record { cluster = c; to_come = [] }
-with_change c (ch ∷ chs) = cond (length c.run.world.requests == ch.0) (record { cluster = after_change c ch.1; to_come = chs }) (record { cluster = c; to_come = ch ∷ chs })
-
--- the cluster carries out an order, and the change that it was to wait for
-abbrev pub changing : Store Changing
-changing = record {
-  carries = λ c time order. let carried = cluster.carries c.cluster time order in record { state = with_change carried.state c.to_come; end = carried.end };
-}
-
--- the acts of the next change are lawful and fit, if it is made
-abbrev pub ChangeFits : Cluster → List (ℕ × Change) → Type 0
-ChangeFits c [] = ⊤
-ChangeFits c (ch ∷ chs) = cond (length c.run.world.requests == ch.0) (AreLawfulActs c.run (acts_of ch.1) × ActsFit c.run (acts_of ch.1)) ⊤
-
--- the acts of an order are lawful and fit, and so are those of the change after it
-abbrev pub changing_fits : Changing → ℕ → Order → Type 0
-changing_fits c time order = fits c.cluster time order × ChangeFits (cluster.carries c.cluster time order).state c.to_come
-
--- the acts of the change that is made, if any
-abbrev pub acts_due : Cluster → List (ℕ × Change) → List Act
-acts_due c [] = []
-acts_due c (ch ∷ chs) = cond (length c.run.world.requests == ch.0) (acts_of ch.1) []
-
--- the acts of orders, each with its time, and of the changes between them
-abbrev pub acts_through : Changing → List (ℕ × Order) → List Act
-acts_through c [] = []
-acts_through c (o ∷ os) = acts_at c.cluster o.0 o.1 ++ (acts_due (cluster.carries c.cluster o.0 o.1).state c.to_come ++ acts_through (changing.carries c o.0 o.1).state os)
+-- ---- what is hashed
 
 -- the strings that the change after an order hashes for walks, if one is made
 abbrev pub HashesAfter : List ℕ → Asking Changing → Type 0
@@ -66,16 +31,17 @@ HashesAfter x a = let then = (cluster.carries a.state.cluster a.time a.order).st
 
 -- ---- what it holds
 
--- each change may be made of the layout before it
+-- each change may be made of the layout before it, and leads to what is shown as its next version
 abbrev pub MayCome : Layout → List (ℕ × Change) → Type 0
 MayCome l [] = ⊤
-MayCome l (ch ∷ chs) = AllByRecursion IsStaging ch.1.stages × MayChange layouts l ch.1.new ch.1.part ch.1.first × MayCome ch.1.new chs
+MayCome l (ch ∷ chs) =
+    AllByRecursion IsStaging ch.1.stages × MayChange layouts l ch.1.new ch.1.part ch.1.first × (ch.1.new ≡ layout_of (suc (layouts.reading.version l)) ch.1.shown) × MayCome ch.1.new chs
 
--- of each change something is staged, its layout is the best of the next version for some roles and some redundancy, and all members of both layouts take part
+-- of each change something is staged, its layout is the best of the next version for some roles and some redundancy, and what is shown as that version, and all members of both layouts take part
 abbrev pub AreComputed : Layout → List (ℕ × Change) → Type 0
 AreComputed l [] = ⊤
 AreComputed l (ch ∷ chs) =
-    AllByRecursion IsStaging ch.1.stages × ((roles : List Role) × (wanted : Redundancy) × IsBest roles wanted (suc (layouts.reading.version l)) ch.1.new ch.1.shown) × TakesAll l ch.1 × AreComputed ch.1.new chs
+    AllByRecursion IsStaging ch.1.stages × ((roles : List Role) × (wanted : Redundancy) × IsBest roles wanted (suc (layouts.reading.version l)) ch.1.new ch.1.shown) × (ch.1.new ≡ layout_of (suc (layouts.reading.version l)) ch.1.shown) × TakesAll l ch.1 × AreComputed ch.1.new chs
 
 -- the cluster stands with the map on a layout, from which the changes may be made; no two names of buckets have one digest, and blocks have a byte at least
 pub record StandsWith (c : Changing) (P : Plain) : Type 0 where

@@ -10,7 +10,8 @@ use Rattle.serve_model.specs.Clusters.{Cluster, cluster, fits}
 use Rattle.serve_model.specs.Plain.{Plain, plain, AreApart}
 use Rattle.change_laws.specs.Whole.{MayChange}
 use Rattle.plain_laws.specs.Blocks.{IsBlockAt}
-use Rattle.plain_changes.specs.Standing.{Standing, IsStaging, Change, acts_of, after_change, IsClear}
+use Rattle.serve_changes.specs.Changing.{Change}
+use Rattle.plain_changes.specs.Standing.{Standing, IsStaging, IsClear, acts_of, after_change}
 
 -- an order at a time, or a change
 pub data Event : Type 0 where

@@ -3,13 +3,13 @@ use Rattle.std.specs.Prelude.{◌≡◌, ℕ, IsTrue, ⊤, List, [], ◌∷◌, 
 use Rattle.std.specs.List.{AllByRecursion}
 use Rattle.crdt_rows.specs.declared.any_row.AnyRow.{AnyRow}
 use Rattle.layout_roles.specs.declared.layout.Layout.{Layout}
-use Rattle.cluster_machine.specs.declared.applied.Applied.{Applied}
 use Rattle.cluster_machine.specs.declared.step.Step.{Step}
 use Rattle.cluster_machine.specs.declared.step.Step.TheVariants.{Role as Stage, Redundancy as Spread}
 use Rattle.quorum_model.specs.Quorum.{is_among}
 use Rattle.cluster_machine.specs.Choices.{IsBest}
 use Rattle.cluster_machine.specs.Hashes.{NoClash}
 use Rattle.cluster_machine.specs.Layouts.{layouts}
+use Rattle.cluster_machine.specs.Step.{given}
 use Rattle.machine_laws.specs.Follows.{Follows}
 use Rattle.store_model.specs.Run.{State}
 use Rattle.store_model.specs.Acts.{Act, moves, after_acts, ActsFit}
@@ -22,7 +22,8 @@ use Rattle.change_laws.specs.Resting.{IsResting}
 use Rattle.change_laws.specs.Whole.{MayChange}
 use Rattle.plain_laws.specs.Blocks.{IsKept}
 use Rattle.plain_laws.specs.Holds.{Holds}
-use Rattle.plain_changes.specs.Acts.{change_acts}
+use Rattle.serve_changes.specs.Acts.{change_acts}
+use Rattle.serve_changes.specs.Changing.{Change}
 
 -- the cluster holds the map, is at rest on this layout, no two blocks that nodes keep have one digest, and what it did with views the control plane does
 pub record Standing (c : Cluster) (P : Plain) (l : Layout) : Type 0 where
@@ -43,17 +44,9 @@ abbrev pub IsStaging : Act → Type 0
 IsStaging (moves m) = Stages m.step
 IsStaging _ = ⊥
 
--- what is staged, the new layout and how it is shown, the node that applies it, and the nodes that take part
-pub record Change : Type 0 where
-  pub stages : List Act
-  pub new : Layout
-  pub shown : Applied
-  pub first : ℕ
-  pub part : List ℕ
-
--- all of its acts
+-- all of its acts, where its layout is applied
 abbrev pub acts_of : Change → List Act
-acts_of ch = ch.stages ++ change_acts ch.new ch.shown ch.first ch.part
+acts_of ch = ch.stages ++ change_acts (given ch.new ch.shown) ch.first ch.part
 
 -- the cluster after it
 abbrev pub after_change : Cluster → Change → Cluster

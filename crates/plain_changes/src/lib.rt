@@ -29,13 +29,15 @@ ghost use Rattle.serve_model.specs.Clusters.{Cluster};
 ghost use Rattle.serve_model.specs.Plain.{Plain, AreApart};
 ghost use Rattle.change_laws.specs.Handing.{IsQuiet};
 ghost use Rattle.change_laws.specs.Resting.{IsResting};
-ghost use Rattle.change_laws.specs.Whole.{MayChange, members_of_both};
+ghost use Rattle.change_model.specs.Steps.{members_of_both};
+ghost use Rattle.change_laws.specs.Whole.{MayChange};
 ghost use Rattle.drained_laws.specs.Calm.{IsMember};
 ghost use Rattle.plain_laws.specs.Blocks.{IsKept};
 ghost use Rattle.plain_laws.specs.Holds.{Holds};
-ghost use Rattle.plain_changes.specs.Changing.{Changing, changing, changing_fits, acts_through, MayCome, AreComputed, StandsWith, IsServedBlock, IsServedHash, AreServedFrom, EndsFrom, IsTurnBlock, IsTurnHash, IsTurnFrom, AreStopsFrom};
+ghost use Rattle.serve_changes.specs.Changing.{Changing, changing, changing_fits, acts_through, Change};
+ghost use Rattle.plain_changes.specs.Changing.{MayCome, AreComputed, StandsWith, IsServedBlock, IsServedHash, AreServedFrom, EndsFrom, IsTurnBlock, IsTurnHash, IsTurnFrom, AreStopsFrom};
 ghost use Rattle.plain_changes.specs.Events.{Event, EventsFit, AnswersThrough};
-ghost use Rattle.plain_changes.specs.Standing.{Standing, IsStaging, Change, acts_of, after_changes, last_of, MayFollow, IsComputedFor, TakesAll};
+ghost use Rattle.plain_changes.specs.Standing.{Standing, IsStaging, after_changes, last_of, MayFollow, IsComputedFor, TakesAll, acts_of};
 ghost use Rattle.plain_changes.specs.Changed.{staged, Changed, IsSpelled, IsClear, moved_to};
 
 /// A cluster at rest that holds a map holds it after a change, whatever was staged, on the new version and with its members,
