@@ -1,5 +1,6 @@
 -- What is done to a world in a layout change, as acts.
-use Rattle.std.specs.Prelude.{ℕ, List, [], ◌∷◌, ◌++◌}
+use Rattle.std.specs.Prelude.{ℕ, Some, List, [], ◌∷◌, ◌++◌}
+use Rattle.layout_roles.specs.declared.role.Role.{Role}
 use Rattle.crdt_rows.specs.declared.any_row.AnyRow.{AnyRow}
 use Rattle.cluster_machine.specs.declared.step.Action.{Action}
 use Rattle.cluster_machine.specs.declared.step.Action.TheVariants as action
@@ -21,6 +22,10 @@ step_of action.SyncAck = step.SyncAck
 step_of action.Clean = step.Clean
 step_of action.Work = step.Work
 step_of action.Repair = step.Repair
+
+-- the step by which a role is staged
+abbrev pub staged_as : Role → Step AnyRow
+staged_as role = step.Role role.node (Some (role.zone, role.kind))
 
 -- the act
 abbrev pub act_of : Deed → Act
