@@ -13,15 +13,9 @@ use std::alloc::Global;
 #[derive(Clone, Copy, Debug)]
 pub(crate) enum Deed {
     /// A node shows its view to another.
-    Show {
-        from: u8,
-        to: u8,
-    },
+    Show { from: u8, to: u8 },
     /// A node acts.
-    Turn {
-        action: Action,
-        node: u8,
-    },
+    Turn { action: Action, node: u8 },
     /// All messages are delivered.
     Drain,
 }
@@ -85,12 +79,7 @@ fn turns(deeds: &mut List<Deed>, action: Action, part: &[u8]) -> Result<(), Memo
 }
 
 // Each node acts so, and then it spreads what they know.
-fn turns_spread(
-    deeds: &mut List<Deed>,
-    action: Action,
-    node: u8,
-    part: &[u8],
-) -> Result<(), Memory>
+fn turns_spread(deeds: &mut List<Deed>, action: Action, node: u8, part: &[u8]) -> Result<(), Memory>
     ensures turns { OnOk result (map act_of deeds.new ≡ map act_of deeds.old ++ (each_acts (step_of action) part.now ++ spreads_acts node part.now)) }
     ensures want { OnlyWant result }
 {
@@ -101,11 +90,7 @@ fn turns_spread(
 
 /// What is done in a layout change once a node has applied the layout, among those that take part, but that delivered
 /// messages are forgotten at the end.
-pub(crate) fn deeds_past_apply(
-    alloc: Global,
-    node: u8,
-    part: &[u8],
-) -> Result<List<Deed>, Memory>
+pub(crate) fn deeds_past_apply(alloc: Global, node: u8, part: &[u8]) -> Result<List<Deed>, Memory>
     ensures deeds { IfOk result (λ deeds. map act_of deeds ≡ acts_past_apply node part.now) }
     ensures want { OnlyWant result }
 {

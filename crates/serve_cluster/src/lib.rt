@@ -20,3 +20,4 @@ mod members;
 pub use crate::change::Change;
 pub use crate::changing::Changing;
 pub use crate::cluster::Cluster;
+pub use crate::members::nodes_of;

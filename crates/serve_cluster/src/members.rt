@@ -9,7 +9,7 @@ use layout_roles::Role;
 use std::alloc::Global;
 
 /// The nodes of these roles, in order.
-pub(crate) fn nodes_of(alloc: Global, roles: &[Role]) -> Result<List<u8>, Memory>
+pub fn nodes_of(alloc: Global, roles: &[Role]) -> Result<List<u8>, Memory>
     ensures nodes { IfOk result (λ nodes. nodes ≡ map (λ role. role.node) roles.now) }
     ensures want { OnlyWant result }
 {

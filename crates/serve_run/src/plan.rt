@@ -13,12 +13,16 @@ ghost use Rattle.lab_main.specs.Limits.{input_limit};
 ghost use Rattle.serve_run.specs.Plan.{greatest_node, AreInOrder, IsPlan, IsSaid, WasRead};
 
 use crate::stop::Stop;
+use cluster_machine::applied::Applied;
 use crdt_core::{Bytes, List, Memory, Value};
 use lab_outside::{Source, read_up_to};
 use layout_command::{bad_field, bad_toml, reason};
-use layout_roles::Certified;
+use layout_roles::{Certified, Redundancy, Roles};
 use layout_size::compute;
-use layout_text::{Access, Config, ConfigFault, read_access, read_config};
+use layout_text::{
+    Access, Change as Coming, Config, ConfigFault, read_access, read_changes, read_config,
+};
+use serve_cluster::Change;
 use serve_model::Buckets;
 use std::alloc::Global;
 use std::str::from_utf8;
@@ -29,13 +33,14 @@ const INPUT_LIMIT: usize = 8_388_608;
 /// The greatest node of a server.
 const GREATEST_NODE: u8 = 16;
 
-/// A configuration, the layout of the greatest partition size for its roles, and its buckets in order of their names with
-/// those who may use them.
+/// A configuration, the layout of the greatest partition size for its roles, its buckets in order of their names with those
+/// who may use them, and the changes of the layout, in order, each with the layout that was computed for it.
 #[derive(Drop)]
 pub struct Plan {
     pub config: Config,
     pub certified: Certified,
     pub buckets: Buckets,
+    pub changes: List<Change>,
 }
 
 /// The configuration that a text says.
@@ -47,6 +52,21 @@ fn configured(alloc: Global, text: &str) -> Result<Config, Stop>
 {
     match read_config(alloc, text, GREATEST_NODE) {
         Ok(config) => Ok(config),
+        Err(ConfigFault::NotToml) => Err(Stop::Refused(bad_toml(alloc)?)),
+        Err(ConfigFault::Field(name)) => Err(Stop::Refused(bad_field(alloc, name)?)),
+        Err(ConfigFault::Memory) => Err(Stop::Memory),
+    }
+}
+
+/// The changes of the layout that a text says.
+fn changes_of(alloc: Global, text: &str, config: &Config) -> Result<List<Coming>, Stop>
+    requires says { said greatest_node text.now ≡ Ok (settings_of config.now) }
+    ensures says { IfOk result (λ changes. changes_said greatest_node text.now ≡ Ok (comings_of changes)) }
+    ensures few { IfOk result (λ changes. length changes ≤ 99) }
+    ensures causes { IfErr result (IsOfText text.now) }
+{
+    match read_changes(alloc, text, GREATEST_NODE) {
+        Ok(changes) => Ok(changes),
         Err(ConfigFault::NotToml) => Err(Stop::Refused(bad_toml(alloc)?)),
         Err(ConfigFault::Field(name)) => Err(Stop::Refused(bad_field(alloc, name)?)),
         Err(ConfigFault::Memory) => Err(Stop::Memory),
@@ -77,18 +97,48 @@ fn in_order(names: &List<Bytes>) -> Result<List<Bytes>, Memory>
     Ok(List::from_vec(names))
 }
 
-/// The layout of a configuration.
-fn laid_out(alloc: Global, config: &Config) -> Result<Certified, Stop>
-    requires redundancy { IsRedundancy config.now.redundancy }
-    ensures greatest { IfOk result (λ certified. IsGreatest config.now.roles.list certified.r certified.size certified.sets.sets) }
-    ensures enough { IfOk result (λ _. AreEnough (settings_of config.now)) }
-    ensures layout { IfOk result (IsLayout (settings_of config.now)) }
-    ensures causes { IfErr result (IsOfSettings (settings_of config.now)) }
+/// The layout of roles.
+fn laid_out(alloc: Global, roles: &Roles, wanted: Redundancy) -> Result<Certified, Stop>
+    requires redundancy { IsRedundancy wanted }
+    ensures greatest { IfOk result (λ certified. IsGreatest roles.now.list certified.r certified.size certified.sets.sets) }
+    ensures computed { IfOk result (λ certified. AreEnough roles.now.list wanted × IsCertified roles.now.list wanted certified) }
+    ensures causes { IfErr result (IsOfRoles roles.now.list wanted) }
 {
-    match compute(alloc, &config.roles, config.redundancy) {
+    match compute(alloc, roles, wanted) {
         Ok(certified) => Ok(certified),
-        Err(fault) => Err(Stop::Refused(reason(alloc, &config.roles, &fault)?)),
+        Err(fault) => Err(Stop::Refused(reason(alloc, roles, &fault)?)),
     }
+}
+
+/// A change with its layout.
+fn planned_one(alloc: Global, coming: Coming) -> Result<Change, Stop>
+    ensures computed { IfOk result IsComputed }
+    ensures same { IfOk result (λ change. coming_in change ≡ coming_of coming) }
+    ensures causes { IfErr result (IsOfRoles coming.roles.list coming.redundancy) }
+{
+    let certified = laid_out(alloc, &coming.roles, coming.redundancy)?;
+    Ok(Change {
+        after: coming.after,
+        redundancy: coming.redundancy,
+        shown: Applied {
+            certified,
+            roles: coming.roles,
+        },
+    })
+}
+
+/// Changes with their layouts, in order.
+fn planned(alloc: Global, mut comings: List<Coming>) -> Result<List<Change>, Stop>
+    ensures computed { IfOk result (AllByRecursion IsComputed) }
+    ensures same { IfOk result (λ changes. map coming_in changes ≡ comings_of comings) }
+    ensures causes { IfErr result (IsOfComings (comings_of comings)) }
+{
+    let mut changes = List::new(alloc);
+    'comings: while !comings.is_empty() {
+        let change = planned_one(alloc, comings.remove(0))?;
+        changes.push(change)?;
+    }
+    Ok(changes)
 }
 
 /// The cluster that a text says.
@@ -98,13 +148,16 @@ fn plan_of_text(alloc: Global, text: &str) -> Result<Plan, Stop>
     ensures causes { IfErr result (IsOfText text.now) }
 {
     let config = configured(alloc, text)?;
+    let comings = changes_of(alloc, text, &config)?;
     let access = access_of(alloc, text, &config)?;
-    let certified = laid_out(alloc, &config)?;
+    let certified = laid_out(alloc, &config.roles, config.redundancy)?;
+    let changes = planned(alloc, comings)?;
     let names = in_order(&config.buckets)?;
     Ok(Plan {
         config,
         certified,
         buckets: Buckets { names, access },
+        changes,
     })
 }
 
