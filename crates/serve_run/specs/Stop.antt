@@ -10,9 +10,8 @@ use Rattle.serve_model.specs.declared.served.ServeFault.TheVariants as fault
 use Rattle.serve_loop.specs.declared.service.ServeStop.{ServeStop}
 use Rattle.serve_loop.specs.declared.service.ServeStop.TheVariants as ended
 use Rattle.layout_text.specs.Settings.{Settings}
-use Rattle.layout_command.specs.Answer.{IsLaidOut}
 use Rattle.lab_main.specs.Limits.{input_limit, input_line, number_line}
-use Rattle.serve_run.specs.Plan.{IsRefused, OfInput}
+use Rattle.serve_run.specs.Plan.{IsFirstRefused, IsRefused, OfInput}
 use Rattle.serve_run.specs.declared.stop.Stop.{Stop}
 use Rattle.serve_run.specs.declared.stop.Stop.TheVariants.{Read, Link, Memory, LongInput, Refused, Kept, Number}
 
@@ -63,11 +62,11 @@ IsOfText text Memory = ⊤
 IsOfText text (Refused line) = IsRefused text line
 IsOfText text stop = ⊥
 
--- settings may be the cause: they have no layout, as this line says
-abbrev pub IsOfSettings : Settings → Stop → Type 0
-IsOfSettings settings Memory = ⊤
-IsOfSettings settings (Refused line) = IsLaidOut settings status.Refused line
-IsOfSettings settings stop = ⊥
+-- settings may be the cause: the first of these without a layout have none, as this line says
+abbrev pub IsOfSettings : List Settings → Stop → Type 0
+IsOfSettings all Memory = ⊤
+IsOfSettings all (Refused line) = IsFirstRefused all line
+IsOfSettings all stop = ⊥
 
 -- reading the input may be the cause, or what it says: that it is too long, or this line
 abbrev pub IsOfInput : Option (List ℕ) → Stop → Type 0
