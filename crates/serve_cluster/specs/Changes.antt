@@ -7,17 +7,18 @@ use Rattle.cluster_machine.specs.declared.applied.Applied.{Applied}
 use Rattle.cluster_machine.specs.Layouts.{layouts}
 use Rattle.cluster_machine.specs.Phases.{in_order}
 use Rattle.cluster_machine.specs.Ties as ties
-use Rattle.change_model.specs.Given.{given_at, applying, IsFor}
+use Rattle.change_model.specs.Given.{applying, IsFor}
 use Rattle.store_model.specs.Run.{State}
 use Rattle.store_model.specs.Acts.{Act, moves, after_acts}
 use Rattle.s3_world.specs.declared.world.S3World.{S3World}
 use Rattle.s3_world.specs.Stands.{IsStore}
-use Rattle.serve_model.specs.Clusters.{Cluster, asker}
-use Rattle.serve_changes.specs.Acts.{stages_of, change_acts}
+use Rattle.serve_model.specs.Clusters.{Cluster, asker, ActLacksRoom}
+use Rattle.serve_changes.specs.Acts.{stages_of}
 use Rattle.serve_changes.specs.Changing.{Change as Model, Changing as Models}
 use Rattle.serve_cluster.specs.declared.change.Change.{Change}
 use Rattle.serve_cluster.specs.declared.changing.Changing.{Changing}
 use Rattle.serve_cluster.specs.Acting.{DoneActs}
+use Rattle.serve_cluster.specs.Deeds.{acts_past_apply}
 use Rattle.serve_cluster.specs.Standing.{StandsFor}
 
 -- the nodes of these roles
@@ -34,18 +35,25 @@ pub record IsComputed (c : Change) : Type 0 where
 abbrev pub stages_in : Change → List Act
 stages_in c = stages_of c.shown.roles.list c.redundancy
 
+-- what is staged in it, its apply at a node in this state, and further acts
+abbrev pub acts_at : ℕ → Change → List Act → State → List Act
+acts_at node c more s = stages_in c ++ moves (applying (after_acts s (stages_in c)).world node c.shown) ∷ more
+
 -- its acts in a state, among these members
 abbrev pub acts_with : List ℕ → Change → State → List Act
-acts_with members c s =
-    stages_in c ++ change_acts (given_at (after_acts s (stages_in c)).world (asker members) c.shown) (asker members) (in_order (members ++ nodes_of c.shown.roles.list))
+acts_with members c s = acts_at (asker members) c (acts_past_apply (asker members) (in_order (members ++ nodes_of c.shown.roles.list))) s
 
 -- whatever state the world stood for, it did these acts, which were those of that state
 abbrev pub DoesIn : S3World → S3World → (State → List Act) → Type 0
 DoesIn old new acts = ties.Steps IsStore old (λ s. DoneActs new s (acts s))
 
--- in a state in which its roles and its redundancy are staged the layout that is shown was applied at a node
-abbrev pub Applies : S3World → S3World → ℕ → Applied → Type 0
-Applies old new node shown = ties.Steps IsStore old (λ s. IsFor s.world.roles s.world.redundancy shown → DoneActs new s (moves (applying s.world node shown) ∷ []))
+-- in a state in which its roles and its redundancy are staged the layout that is shown was applied at a node, and these acts were done
+abbrev pub Applies : S3World → S3World → ℕ → Applied → List Act → Type 0
+Applies old new node shown acts = ties.Steps IsStore old (λ s. IsFor s.world.roles s.world.redundancy shown → DoneActs new s (moves (applying s.world node shown) ∷ acts))
+
+-- in such a state one of these acts has no room
+abbrev pub ApplyLacks : S3World → ℕ → Applied → List Act → Type 0
+ApplyLacks old node shown acts = ties.Steps IsStore old (λ s. IsFor s.world.roles s.world.redundancy shown → ActLacksRoom s (moves (applying s.world node shown) ∷ acts))
 
 -- ---- changes to come
 

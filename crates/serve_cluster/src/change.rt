@@ -12,8 +12,8 @@ ghost use Rattle.store_model.specs.declared.event.Told.{Told};
 ghost use Rattle.s3_world.specs.Stands.{HasStore, IsMeantEvent, PlaysEvent, OverflowsEvent};
 ghost use Rattle.serve_cluster.specs.Acting.{DoesActs, LacksRoom};
 ghost use Rattle.s3_world.specs.declared.world.S3World.{S3World as World};
-ghost use Rattle.serve_cluster.specs.Changes.{IsComputed, Applies, acts_with, nodes_of as nodes_in, DoesIn};
-ghost use Rattle.serve_cluster.specs.Deeds.{act_of, step_of, staged_as};
+ghost use Rattle.serve_cluster.specs.Changes.{IsComputed, Applies, ApplyLacks, acts_at, acts_with, nodes_of as nodes_in, DoesIn};
+ghost use Rattle.serve_cluster.specs.Deeds.{act_of, step_of, staged_as, staged_roles};
 
 use crate::acts::drain_all;
 use crate::cluster::asker;
@@ -61,9 +61,8 @@ fn unstage_all(world: &mut S3World) -> Result<(), Memory>
 {
     let mut node = 0;
     'nodes: while node < GREATEST_NODE {
-        node += 1;
-        match unstage(world, node) {
-            Ok(()) => (),
+        match unstage(world, node + 1) {
+            Ok(()) => node += 1,
             Err(memory) => return Err(memory),
         }
     }
@@ -98,10 +97,10 @@ fn stage_all(world: &mut S3World, roles: &Roles) -> Result<(), Memory>
     ensures does { OnOk result (DoesActs world.old world.new (steps (map (λ role. plainly (staged_as role)) roles.now.list))) }
     ensures causes { WantOr result (LacksRoom world.old (λ _. steps (map (λ role. plainly (staged_as role)) roles.now.list))) }
 {
-    let all = roles.list.as_slice();
-    for role in all {
-        match stage(world, role) {
-            Ok(()) => (),
+    let mut rest = roles.list.as_slice();
+    'roles: while !rest.is_empty() {
+        match stage(world, &rest[0]) {
+            Ok(()) => rest = &rest[1..],
             Err(memory) => return Err(memory),
         }
     }
@@ -121,6 +120,19 @@ fn spread(world: &mut S3World, wanted: Redundancy) -> Result<(), Memory>
     }
 }
 
+// Each node has its role, and the copies have to lie in so many zones.
+fn stage_and_spread(world: &mut S3World, roles: &Roles, wanted: Redundancy) -> Result<(), Memory>
+    requires stands { HasStore world.old }
+    requires wanted { IsRedundancy wanted }
+    ensures does { OnOk result (DoesActs world.old world.new (staged_roles roles.now.list wanted)) }
+    ensures causes { WantOr result (LacksRoom world.old (λ _. staged_roles roles.now.list wanted)) }
+{
+    match stage_all(world, roles) {
+        Ok(()) => spread(world, wanted),
+        Err(memory) => Err(memory),
+    }
+}
+
 // What is staged is these roles, and this redundancy.
 fn stage_roles(world: &mut S3World, roles: &Roles, wanted: Redundancy) -> Result<(), Memory>
     requires stands { HasStore world.old }
@@ -129,11 +141,7 @@ fn stage_roles(world: &mut S3World, roles: &Roles, wanted: Redundancy) -> Result
     ensures causes { WantOr result (LacksRoom world.old (λ _. stages_of roles.now.list wanted)) }
 {
     match unstage_all(world) {
-        Ok(()) => (),
-        Err(memory) => return Err(memory),
-    }
-    match stage_all(world, roles) {
-        Ok(()) => spread(world, wanted),
+        Ok(()) => stage_and_spread(world, roles, wanted),
         Err(memory) => Err(memory),
     }
 }
@@ -198,9 +206,10 @@ fn play_all(world: &mut S3World, deeds: &[Deed]) -> Result<(), Memory>
     ensures does { OnOk result (DoesActs world.old world.new (map act_of deeds.now)) }
     ensures causes { WantOr result (LacksRoom world.old (λ _. map act_of deeds.now)) }
 {
-    for deed in deeds {
-        match play(world, *deed) {
-            Ok(()) => (),
+    let mut rest = deeds;
+    'deeds: while !rest.is_empty() {
+        match play(world, rest[0]) {
+            Ok(()) => rest = &rest[1..],
             Err(memory) => return Err(memory),
         }
     }
@@ -211,11 +220,50 @@ fn play_all(world: &mut S3World, deeds: &[Deed]) -> Result<(), Memory>
 fn apply(world: &mut S3World, node: u8, shown: Applied) -> Result<(), Memory>
     requires stands { HasStore world.old }
     requires greatest { IsGreatest shown.roles.list shown.certified.r shown.certified.size shown.certified.sets.sets }
-    ensures does { OnOk result (Applies world.old world.new node shown) }
+    ensures stands { OnOk result (HasStore world.new) }
+    ensures does { OnOk result (Applies world.old world.new node shown []) }
     ensures want { OnlyWant result }
 {
     match world.apply_with(node, shown) {
         Ok(_) => Ok(()),
+        Err(memory) => Err(memory),
+    }
+}
+
+// The layout that was computed is applied at a node, and then this is done.
+fn apply_and_play(
+    world: &mut S3World,
+    node: u8,
+    shown: Applied,
+    deeds: &[Deed],
+) -> Result<(), Memory>
+    requires stands { HasStore world.old }
+    requires greatest { IsGreatest shown.roles.list shown.certified.r shown.certified.size shown.certified.sets.sets }
+    ensures stands { OnOk result (HasStore world.new) }
+    ensures does { OnOk result (Applies world.old world.new node shown (map act_of deeds.now)) }
+    ensures causes { WantOr result (ApplyLacks world.old node shown (map act_of deeds.now)) }
+{
+    match apply(world, node, shown) {
+        Ok(()) => play_all(world, deeds),
+        Err(memory) => Err(memory),
+    }
+}
+
+// The roles are staged, their layout is applied at a node, and then this is done.
+fn stage_and_apply(
+    world: &mut S3World,
+    node: u8,
+    change: Change,
+    deeds: &[Deed],
+) -> Result<(), Memory>
+    requires stands { HasStore world.old }
+    requires computed { IsComputed change }
+    ensures stands { OnOk result (HasStore world.new) }
+    ensures does { OnOk result (DoesIn world.old world.new (acts_at node change (map act_of deeds.now))) }
+    ensures causes { WantOr result (LacksRoom world.old (acts_at node change (map act_of deeds.now))) }
+{
+    match stage_roles(world, &change.shown.roles, change.redundancy) {
+        Ok(()) => apply_and_play(world, node, change.shown, deeds),
         Err(memory) => Err(memory),
     }
 }
@@ -228,15 +276,17 @@ pub(crate) fn make(world: &mut S3World, older: &[u8], change: Change) -> Result<
     ensures does { OnOk result (DoesIn world.old world.new (acts_with older.now change)) }
     ensures causes { WantOr result (LacksRoom world.old (acts_with older.now change)) }
 {
-    let roles = &change.shown.roles;
-    let alloc = roles.list.allocator();
-    let newer = nodes_of(alloc, roles.list.as_slice())?;
+    let roles = change.shown.roles.list.as_slice();
+    let alloc = change.shown.roles.list.allocator();
+    let newer = nodes_of(alloc, roles)?;
     let part = of_both(alloc, older, newer.as_slice())?;
     let node = asker(older);
     let deeds = deeds_past_apply(alloc, node, part.as_slice())?;
-    stage_roles(world, roles, change.redundancy)?;
-    apply(world, node, change.shown)?;
-    play_all(world, deeds.as_slice())?;
-    world.forget_delivered();
-    Ok(newer)
+    match stage_and_apply(world, node, change, deeds.as_slice()) {
+        Ok(()) => {
+            world.forget_delivered();
+            Ok(newer)
+        }
+        Err(memory) => Err(memory),
+    }
 }

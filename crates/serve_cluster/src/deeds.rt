@@ -3,6 +3,7 @@ ghost use Rattle.std.specs.Prelude.{◌≡◌, ◌∷◌, ◌++◌, [], map, IfO
 ghost use Rattle.crdt_core.specs.Outcomes.{OnlyWant};
 ghost use Rattle.change_model.specs.Steps.{to_one, from_one};
 ghost use Rattle.serve_changes.specs.Acts.{shows_acts, spreads_acts, each_acts};
+ghost use Rattle.store_model.specs.Acts.{forgets};
 ghost use Rattle.serve_cluster.specs.Deeds.{act_of, step_of, acts_past_apply};
 
 use cluster_machine::Action;
@@ -91,7 +92,7 @@ fn turns_spread(deeds: &mut List<Deed>, action: Action, node: u8, part: &[u8]) -
 /// What is done in a layout change once a node has applied the layout, among those that take part, but that delivered
 /// messages are forgotten at the end.
 pub(crate) fn deeds_past_apply(alloc: Global, node: u8, part: &[u8]) -> Result<List<Deed>, Memory>
-    ensures deeds { IfOk result (λ deeds. map act_of deeds ≡ acts_past_apply node part.now) }
+    ensures deeds { IfOk result (λ deeds. map act_of deeds ++ forgets ∷ [] ≡ acts_past_apply node part.now) }
     ensures want { OnlyWant result }
 {
     let mut deeds = List::new(alloc);
