@@ -1,5 +1,6 @@
 -- Acts that are done one after the other, until none is left.
-use Rattle.std.proofs.Common.{◌≡◌, ℕ, List, [], ◌∷◌, ◌++◌, sym, ◌∙◌, ap, subst, append_assoc, append-nil}
+use Rattle.std.proofs.Common.{◌≡◌, ℕ, ◌-◌, ◌==◌, true, false, List, [], ◌∷◌, ◌++◌, map, length, get_or, take, drop, refl, sym, ◌∙◌, ap, subst, arith, append_assoc, append-nil}
+use Rattle.std.proofs.lemmas.List.{take_all}
 use Rattle.store_model.specs.Run.{State}
 use Rattle.store_model.specs.Acts.{Act, after_acts}
 use Rattle.store_model.proofs.Acts.{acts_after}
@@ -16,10 +17,7 @@ pub record Going (old new : S3World) (all rest : List Act) : Type 0 where
   pub does : DoesActs old new done
 
 pub begins : (old : S3World) (all : List Act) → Going old old all all
-begins old all = record { done = []; parts = ap (λ (as' : List Act). as') (same all); does = λ s st. record { lawful = tt; fit = tt; stands = st } }
-  where
-    same : (as' : List Act) → [] ++ as' ≡ as'
-    same as' = λ i. as'
+begins old all = record { done = []; parts = refl; does = λ s st. record { lawful = tt; fit = tt; stands = st } }
 
 pub one_done : (old mid new : S3World) (all rest : List Act) (a : Act) (later : List Act) → rest ≡ a ∷ later → Going old mid all rest → DoesActs mid new (a ∷ []) → Going old new all later
 one_done old mid new all rest a later e g f =
@@ -48,3 +46,14 @@ done_then s xs ys mid new a b =
 
 pub lacks_later : (s : State) (xs ys : List Act) (mid : S3World) → DoneActs mid s xs → ActLacksRoom (after_acts s xs) ys → ActLacksRoom s (xs ++ ys)
 lacks_later s xs ys mid a l = lacks_after s xs ys mid a l
+
+-- ---- items that are left, each with its act
+
+-- items that are left are a first one and those after it
+pub first_of : {A : Type 0} (xs : List A) (x : A) → false ≡ (length xs == 0) → xs ≡ get_or xs 0 x ∷ take (length xs - 1) (drop 1 xs)
+first_of [] x e = absurd (let no' : false ≡ true = e in cc)
+first_of (y ∷ ys) x e = ap (λ later. y ∷ later) (sym (take_all (length (y ∷ ys) - 1) ys (omega arith)))
+
+-- so are their acts
+pub first_act : {A : Type 0} (f : A → Act) (xs : List A) (x : A) (later : List A) → xs ≡ x ∷ later → map f xs ≡ f x ∷ map f later
+first_act f xs x later e = ap (map f) e

@@ -1,5 +1,6 @@
 -- A change, one part after the other, from what the code's world stood for.
-use Rattle.std.proofs.Common.{◌≡◌, ℕ, List, [], ◌∷◌, ◌++◌, sym, ◌∙◌, ap, subst, append_assoc}
+use Rattle.std.proofs.Common.{◌≡◌, ℕ, List, [], ◌∷◌, ◌++◌, Result, Ok, Err, OnOk, sym, ◌∙◌, ap, subst, append_assoc}
+use Rattle.crdt_core.specs.declared.memory.Memory.{Memory}
 use Rattle.layout_roles.specs.declared.roles.Roles.{Roles}
 use Rattle.cluster_machine.specs.declared.applied.Applied.{Applied}
 use Rattle.cluster_machine.specs.Phases.{in_order}
@@ -15,7 +16,7 @@ use Rattle.serve_cluster.specs.declared.change.Change.{Change}
 use Rattle.serve_cluster.specs.Acting.{DoneActs, DoesActs, LacksRoom}
 use Rattle.serve_cluster.specs.Changes.{nodes_of, IsComputed, stages_in, acts_at, acts_with, DoesIn, Applies, ApplyLacks}
 use Rattle.serve_cluster.specs.Deeds.{acts_past_apply}
-use Rattle.serve_cluster.proofs.Acting.{forgot, lacks_first}
+use Rattle.serve_cluster.proofs.Acting.{forgot, lacks_first, store_after}
 use Rattle.serve_cluster.proofs.Going.{done_then, lacks_later}
 use Rattle.serve_cluster.proofs.Staging.{Lies, lies_so, stages_staged}
 
@@ -84,3 +85,17 @@ module _ (old : S3World) (members : List ℕ) (c : Change) (deeds : List Act) (i
 
   pub make_lacks : LacksRoom old (acts_at m c deeds) → LacksRoom old (acts_with members c)
   make_lacks f = λ s st. subst (ActLacksRoom s) (whole s) (lacks_first s (acts_at m c deeds s) (forgets ∷ []) (f s st))
+
+-- ---- what the next call answers is handed on
+
+pub applies_next : {A : Type 0} (r : Result A Memory) (old mid new : S3World) (node : ℕ) (shown : Applied) (acts : List Act) → Applies old mid node shown [] → OnOk r (DoesActs mid new acts) → OnOk r (Applies old new node shown acts)
+applies_next (Ok v) old mid new node shown acts f g = applies_more old mid new node shown acts f g
+applies_next (Err e) old mid new node shown acts f g = tt
+
+pub store_next : {A : Type 0} (r : Result A Memory) (mid new : S3World) (acts : List Act) → HasStore mid → OnOk r (DoesActs mid new acts) → OnOk r (HasStore new)
+store_next (Ok v) mid new acts h f = store_after mid new acts h f
+store_next (Err e) mid new acts h f = tt
+
+pub stages_next : {A : Type 0} (r : Result A Memory) (old staged new : S3World) (node : ℕ) (c : Change) (computed : IsComputed c) (more : List Act) → DoesActs old staged (stages_in c) → OnOk r (Applies staged new node c.shown more) → OnOk r (DoesIn old new (acts_at node c more))
+stages_next (Ok v) old staged new node c computed more f g = stages_then old staged node c computed more f new g
+stages_next (Err e) old staged new node c computed more f g = tt

@@ -12,7 +12,7 @@ use Rattle.store_model.specs.Run.{State, Moving, plainly}
 use Rattle.store_model.specs.Acts.{Act, moves, acted, after_acts}
 use Rattle.store_model.proofs.Acts.{acts_after}
 use Rattle.serve_changes.specs.Acts.{steps, stages_of}
-use Rattle.serve_cluster.specs.Deeds.{staged_as}
+use Rattle.serve_cluster.specs.Deeds.{staged_as, staged_roles}
 
 -- ---- lists of roles
 
@@ -112,9 +112,12 @@ spread_leads wanted s = (refl, refl)
 steps_append : (a b : List Moving) → steps (a ++ b) ≡ steps a ++ steps b
 steps_append a b = map-append moves a b
 
+-- no node has a role any more
+abbrev pub out_acts : List Act
+out_acts = steps (map (λ k. plainly (step.Role k None)) (range_with_len 1 64))
+
 -- the parts of what is staged
-pub stages_parts : (roles : List Role) (wanted : Redundancy) →
-    stages_of roles wanted ≡ steps (map (λ k. plainly (step.Role k None)) (range_with_len 1 64)) ++ (steps (map (λ role. plainly (staged_as role)) roles) ++ steps (plainly (step.Redundancy wanted) ∷ []))
+pub stages_parts : (roles : List Role) (wanted : Redundancy) → stages_of roles wanted ≡ out_acts ++ staged_roles roles wanted
 stages_parts roles wanted =
     let out = map (λ k. plainly (step.Role k None)) (range_with_len 1 64) in
     let there = map (λ role. plainly (staged_as role)) roles in

@@ -50,7 +50,7 @@ impl Changing {
         ensures { (m : Modelled) → IsChanging self.now m → result ≡ is_due m.cluster m.to_come }
     {
         match self.to_come.get(0) {
-            Some(change) => u64::from(change.after) == self.cluster.world().requests(),
+            Some(change) => self.cluster.world().requests() == u64::from(change.after),
             None => false,
         }
     }
