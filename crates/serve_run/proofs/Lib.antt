@@ -1,3 +1,4 @@
+pub mod ToCome
 pub mod Input
 pub mod Sized
 pub mod Opening

@@ -21,7 +21,10 @@ use crdt_core::{Bytes, List, Memory, Value};
 use lab_main::ends;
 use lab_outside::{Clock, Link, Sink, Source, Status};
 use layout_roles::{Assignment, smaller_sizes};
-use plain_laws::{a_first_layout_holds_the_empty_map, connections_are_served_as_from_the_map};
+use plain_changes::{
+    a_first_layout_stands_with_the_empty_map, computed_changes_may_come,
+    connections_are_served_through_changes, members_of_both_are_all,
+};
 use serve_cluster::{Change, Changing, Cluster, nodes_of};
 use serve_loop::serve;
 use serve_model::Served;
@@ -63,8 +66,10 @@ fn served<L: Link, C: Clock>(
     ensures fault { result ≡ Err Stop.Link → Rose (L.faults link.old) (L.faults link.new) }
 {
     promises_are_kept();
-    a_first_layout_holds_the_empty_map();
-    connections_are_served_as_from_the_map();
+    a_first_layout_stands_with_the_empty_map();
+    computed_changes_may_come();
+    members_of_both_are_all();
+    connections_are_served_through_changes();
     let members = nodes_of(alloc, plan.config.roles.list.as_slice())?;
     let mut later = sets_of(alloc, plan.changes.as_slice())?;
     let world = installed(alloc, &plan)?;
@@ -80,7 +85,7 @@ fn served<L: Link, C: Clock>(
         &mut counts,
         &plan.buckets,
     )?;
-    later.truncate(later.len() - cluster.left());
+    later.truncate(later.len().saturating_sub(cluster.left()));
     let text = tail_text(
         alloc,
         &plan.certified.sets,
