@@ -6,6 +6,8 @@ use Rattle.std.specs.Cmp.Lexicographic.{slice_cmp}
 use Rattle.lab_outside.specs.declared.exit.Status.TheVariants.{Refused}
 use Rattle.lab_main.specs.Limits.{input_limit}
 use Rattle.layout_roles.specs.declared.certified.Certified.{Certified}
+use Rattle.layout_roles.specs.declared.redundancy.Redundancy.{Redundancy}
+use Rattle.layout_roles.specs.declared.role.Role.{Role}
 use Rattle.layout_roles.specs.Fits.{IsGreatest}
 use Rattle.layout_text.specs.declared.config.FieldName.{FieldName}
 use Rattle.layout_text.specs.declared.config.ConfigFault.TheVariants.{NotToml, Field}
@@ -39,9 +41,13 @@ pub record IsPlan (p : Plan) : Type 0 where
 abbrev pub coming_in : Change → Coming
 coming_in c = record { after = c.after; redundancy = c.redundancy; roles = c.shown.roles.list }
 
--- what would be said of a configuration with the roles and the redundancy of a change
-abbrev pub settings_in : Settings → Coming → Settings
-settings_in settings coming = record settings { redundancy = coming.redundancy; roles = coming.roles }
+-- settings with these roles and this redundancy, on which alone a layout depends
+abbrev pub settings_with : List Role → Redundancy → Settings
+settings_with roles wanted = record { redundancy = wanted; roles = roles; buckets = []; block_size = 0 }
+
+-- those of a change
+abbrev pub settings_in : Coming → Settings
+settings_in coming = settings_with coming.roles coming.redundancy
 
 -- these bytes say the plan: its settings, its changes, who may use its buckets, and a layout of each of the greatest partition size with the cut that shows it
 pub record IsSaid (bytes : List ℕ) (p : Plan) : Type 0 where
@@ -73,7 +79,7 @@ pub data IsRefused (bytes line : List ℕ) : Type 0 where
   bad_access : (settings : Settings) (comings : List Coming) (name : FieldName) → IsUtf8 bytes → said greatest_node bytes ≡ Ok settings → changes_said greatest_node bytes ≡ Ok comings → access_said settings.buckets bytes ≡ Err (Field name) → line ≡ field_line name →
       IsRefused bytes line
   no_layout : (settings : Settings) (comings : List Coming) (access : Access) → IsUtf8 bytes → said greatest_node bytes ≡ Ok settings → changes_said greatest_node bytes ≡ Ok comings → access_said settings.buckets bytes ≡ Ok access →
-      IsFirstRefused (settings ∷ map (settings_in settings) comings) line → IsRefused bytes line
+      IsFirstRefused (settings ∷ map settings_in comings) line → IsRefused bytes line
 
 -- where the input tells its bytes, they are no more than they may be, and so it is of them
 abbrev pub OfInput : (List ℕ → Type 0) → Option (List ℕ) → Type 0

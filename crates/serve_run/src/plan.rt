@@ -1,16 +1,18 @@
 //! The cluster that the input says, with its layout.
-ghost use Rattle.std.specs.Prelude.{IsPermutation, IsSorted, ◌≡◌, ◌≤◌, ◌⊎◌, ◌+◌, drop, Some, Ok, Err, IfOk, OnOk, IfErr, IfSome};
+ghost use Rattle.std.specs.Prelude.{List as Sequence, IsPermutation, IsSorted, ◌≡◌, ◌≤◌, ◌⊎◌, ◌+◌, drop, length, map, Some, Ok, Err, IfOk, OnOk, IfErr, IfSome};
+ghost use Rattle.std.specs.List.{AllByRecursion};
 ghost use Rattle.std.specs.Io.KnownBytes.{IsAtEnd};
 ghost use Rattle.crdt_core.specs.Outcomes.{OnlyWant};
 ghost use Rattle.lab_outside.specs.Rose.{Rose};
-ghost use Rattle.layout_roles.specs.Certificates.{IsRedundancy};
+ghost use Rattle.layout_roles.specs.Certificates.{IsRedundancy, AreEnough, IsCertified};
 ghost use Rattle.layout_roles.specs.Fits.{IsGreatest};
 ghost use Rattle.layout_text.specs.Settings.{settings_of, said};
 ghost use Rattle.layout_text.specs.Keys.{access_said};
-ghost use Rattle.layout_command.specs.Answer.{AreEnough, IsLayout};
-ghost use Rattle.serve_run.specs.Stop.{IsOfText, IsOfSettings, IsOfInput, IsTold};
+ghost use Rattle.layout_text.specs.Changes.{Coming as Said, changes_said, coming_of, comings_of};
+ghost use Rattle.serve_cluster.specs.Changes.{IsComputed};
+ghost use Rattle.serve_run.specs.Stop.{IsOfText, IsOfRoles, IsOfComings, IsOfInput, IsTold};
 ghost use Rattle.lab_main.specs.Limits.{input_limit};
-ghost use Rattle.serve_run.specs.Plan.{greatest_node, AreInOrder, IsPlan, IsSaid, WasRead};
+ghost use Rattle.serve_run.specs.Plan.{greatest_node, coming_in, AreInOrder, IsPlan, IsSaid, WasRead};
 
 use crate::stop::Stop;
 use cluster_machine::applied::Applied;
@@ -77,7 +79,7 @@ fn changes_of(alloc: Global, text: &str, config: &Config) -> Result<List<Coming>
 fn access_of(alloc: Global, text: &str, config: &Config) -> Result<Access, Stop>
     requires says { said greatest_node text.now ≡ Ok (settings_of config.now) }
     ensures allows { IfOk result (λ access. access_said config.now.buckets text.now ≡ Ok access) }
-    ensures causes { IfErr result (IsOfText text.now) }
+    ensures causes { (comings : Sequence Said) → changes_said greatest_node text.now ≡ Ok comings → IfErr result (IsOfText text.now) }
 {
     match read_access(alloc, text, config.buckets.as_slice()) {
         Ok(access) => Ok(access),
