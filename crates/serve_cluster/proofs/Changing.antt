@@ -20,8 +20,10 @@ use Rattle.serve_cluster.specs.declared.change.Change.{Change}
 use Rattle.serve_cluster.specs.declared.changing.Changing.{Changing}
 use Rattle.serve_cluster.specs.declared.cluster.Cluster.{Cluster}
 use Rattle.serve_cluster.specs.Acting.{DoneActs, LacksRoom}
-use Rattle.serve_cluster.specs.Changes.{nodes_of, IsComputed, acts_with, DoesIn, IsChange, AreChanges, IsChanging, is_due}
+use Rattle.serve_cluster.specs.Changes.{nodes_of, IsComputed, AreWithin, acts_with, DoesIn, IsChange, AreChanges, IsChanging, is_due}
 use Rattle.serve_cluster.specs.Standing.{StandsFor}
+use Rattle.serve_cluster.proofs.Making.{staged_after}
+use Rattle.serve_cluster.proofs.Unstaged.{order_leaves}
 
 -- ---- one change
 
@@ -45,6 +47,17 @@ module _ (old : Cluster) (c : Change) (m : Model) (ch : ℕ × Later) (st : Stan
 
   pub changes_lack : LacksRoom old.world (acts_with old.members c) → ActLacksRoom m.run (acts_in m.run ch.1)
   changes_lack f = subst (ActLacksRoom m.run) acts_are (f m.run st.world)
+
+-- what is staged is the same whatever the code stands for
+pub same_staged : (c : S3World) (s t : State) → IsStore c s → IsStore c t → AreWithin s.world.roles → AreWithin t.world.roles
+same_staged c s t a b h = subst AreWithin (sym a.world.roles ∙ b.world.roles) h
+
+-- it stays within the nodes of a server
+within_after : (code : Cluster) (k : Model) → StandsFor code k → (c : Change) (ch : ℕ × Later) → IsChange k.members c ch → AreWithin k.run.world.roles → AreWithin (after_acts k.run (acts_in k.run ch.1)).world.roles
+within_after code k st c ch h within =
+    let roles = staged_after code.world k.run st.world within k.members c in
+    let same = ap (λ as'. (after_acts k.run as').world.roles) (acts_same k.members c ch h k.run) in
+    subst AreWithin (sym roles ∙ same) h.computed.within
 
 -- ---- the next change
 
@@ -82,7 +95,7 @@ Changes old new c = (m : Model) (ch : ℕ × Later) → StandsFor old m → IsCh
 abbrev pub ChangeLacks : Cluster → Change → Type 0
 ChangeLacks old c = (m : Model) (ch : ℕ × Later) → StandsFor old m → IsChange m.members c ch → ActLacksRoom m.run (acts_in m.run ch.1)
 
-module _ (code : Cluster) (k : Model) (stands : StandsFor code k) (x : Change) where
+module _ (code : Cluster) (k : Model) (stands : StandsFor code k) (within : AreWithin k.run.world.roles) (x : Change) where
   made_at : (cs : List Change) (chs : List (ℕ × Later)) (rest : List Change) (new : Cluster) → AreChanges k.members cs chs → slice_get cs 0 ≡ Some x → rest ≡ remove cs 0 → Changes code new x → is_due k chs ≡ true →
       ChangeFits k chs × IsChanging (record { cluster = new; to_come = rest }) (with_change k chs)
   made_at [] chs rest new h e r f due = absurd (cc)
@@ -92,7 +105,7 @@ module _ (code : Cluster) (k : Model) (stands : StandsFor code k) (x : Change) w
       let one : IsChange k.members x ch = subst (λ y. IsChange k.members y ch) is h.0 in
       let d = f k ch stands one in
       let later : AreChanges (layouts.reading.members ch.1.new) cs chs = subst (λ ms. AreChanges ms cs chs) (sym h.0.newer) h.1 in
-      let made : IsChanging (record { cluster = new; to_come = rest }) (record { cluster = changed k ch.1; to_come = chs }) = record { cluster = d.2; to_come = subst (λ ys. AreChanges (layouts.reading.members ch.1.new) ys chs) (sym r) later } in (
+      let made : IsChanging (record { cluster = new; to_come = rest }) (record { cluster = changed k ch.1; to_come = chs }) = record { cluster = d.2; staged = within_after code k stands x ch one within; to_come = subst (λ ys. AreChanges (layouts.reading.members ch.1.new) ys chs) (sym r) later } in (
         subst (λ b. AreLawfulActs k.run (cond b (acts_in k.run ch.1) []) × ActsFit k.run (cond b (acts_in k.run ch.1) [])) (sym due) (d.0, d.1),
         subst (λ b. IsChanging (record { cluster = new; to_come = rest }) (cond {A = Models} b (record { cluster = changed k ch.1; to_come = chs }) (record { cluster = k; to_come = ch ∷ chs }))) (sym due) made,
       )
@@ -113,13 +126,17 @@ module _ (code : Cluster) (k : Model) (stands : StandsFor code k) (x : Change) w
 module _ (code : Changing) (x : Change) (there : slice_get code.to_come 0 ≡ Some x) where
   pub due_made : (rest : List Change) (new : Cluster) → rest ≡ remove code.to_come 0 → Changes code.cluster new x → (m : Models) → IsChanging code m → is_due m.cluster m.to_come ≡ true →
       ChangeFits m.cluster m.to_come × IsChanging (record { cluster = new; to_come = rest }) (with_change m.cluster m.to_come)
-  due_made rest new r f m h due = made_at code.cluster m.cluster h.cluster x code.to_come m.to_come rest new h.to_come there r f due
+  due_made rest new r f m h due = made_at code.cluster m.cluster h.cluster h.staged x code.to_come m.to_come rest new h.to_come there r f due
 
   pub due_lacks : ChangeLacks code.cluster x → (m : Models) → IsChanging code m → is_due m.cluster m.to_come ≡ true → ActLacksRoom m.cluster.run (acts_due m.cluster m.to_come)
-  due_lacks f m h due = lacks_at code.cluster m.cluster h.cluster x code.to_come m.to_come h.to_come there f due
+  due_lacks f m h due = lacks_at code.cluster m.cluster h.cluster h.staged x code.to_come m.to_come h.to_come there f due
 
   pub due_computed : (m : Models) → IsChanging code m → IsComputed x
-  due_computed m h = computed_at code.cluster m.cluster h.cluster x code.to_come m.to_come h.to_come there
+  due_computed m h = computed_at code.cluster m.cluster h.cluster h.staged x code.to_come m.to_come h.to_come there
+
+-- what is staged, whatever the code's cluster stands for
+pub due_within : (code : Changing) (m : Models) → IsChanging code m → (k : Model) → StandsFor code.cluster k → AreWithin k.run.world.roles
+due_within code m h k st = same_staged code.cluster.world m.cluster.run k.run h.cluster.world st.world h.staged
 
 -- how many changes are to come
 pub as_many : (members : List ℕ) (cs : List Change) (chs : List (ℕ × Later)) → AreChanges members cs chs → length cs ≡ length chs
@@ -138,7 +155,7 @@ module _ (old : Changing) (time : ℕ) (order : Order) (mid : Cluster) (end : Op
   then m = record { cluster = (cluster.carries m.cluster time order).state; to_come = m.to_come }
 
   pub stands_mid : (m : Models) → IsChanging old m → IsChanging (record { cluster = mid; to_come = old.to_come }) (then m)
-  stands_mid m h = record { cluster = (carried m.cluster h.cluster).stands; to_come = h.to_come }
+  stands_mid m h = record { cluster = (carried m.cluster h.cluster).stands; staged = subst AreWithin (sym (order_leaves m.cluster time order)) h.staged; to_come = h.to_come }
 
   pub mid_state : HasState (IsChanging old) → HasState (IsChanging (record { cluster = mid; to_come = old.to_come }))
   mid_state h = (then h.0, stands_mid h.0 h.1)

@@ -1,33 +1,40 @@
 -- What is staged after the first acts of a change: its roles and its redundancy, whatever was staged before.
-use Rattle.std.proofs.Common.{◌≡◌, ◌≤◌, ◌<◌, ℕ, zero, suc, ◌+◌, ◌==◌, Bool, true, false, cond, nat_lt, IsTrue, ⊤, Option, Some, None, List, [], ◌∷◌, ◌++◌, map, refl, sym, ◌∙◌, ap, subst, arith, append_assoc}
-use Rattle.std.specs.List.{list_all, range_with_len}
-use Rattle.std.proofs.lemmas.Bool.{and_parts, eqb-true, eqb-false, ltb-true, leb-true, lt-ltb, le-ltb, ne_eqb}
+use Rattle.std.proofs.Common.{◌≡◌, ◌≤◌, ◌<◌, ℕ, zero, suc, ◌+◌, ◌==◌, Bool, true, false, cond, nat_lt, ⊤, Option, Some, None, List, [], ◌∷◌, ◌++◌, map, refl, sym, ◌∙◌, ap, subst, arith, append_assoc}
+use Rattle.std.specs.List.{range_with_len}
+use Rattle.std.proofs.lemmas.Bool.{and_parts, eqb-true, eqb-false, ltb-true, lt-ltb, le-ltb, ne_eqb}
 use Rattle.std.proofs.lemmas.List.{map-append}
 use Rattle.layout_roles.specs.declared.role.Role.{Role}
 use Rattle.layout_roles.specs.declared.redundancy.Redundancy.{Redundancy}
-use Rattle.layout_roles.specs.Zones.{ascend_from, nodes_ascend, is_numbered}
+use Rattle.layout_roles.specs.Zones.{ascend_from}
 use Rattle.cluster_machine.specs.declared.step.Step.TheVariants as step
 use Rattle.cluster_machine.specs.World.{staged, new_role}
 use Rattle.store_model.specs.Run.{State, Moving, plainly}
 use Rattle.store_model.specs.Acts.{Act, moves, acted, after_acts}
 use Rattle.store_model.proofs.Acts.{acts_after}
 use Rattle.serve_changes.specs.Acts.{steps, stages_of}
+use Rattle.serve_cluster.specs.Changes.{AreWithin}
 use Rattle.serve_cluster.specs.Deeds.{staged_as, staged_roles}
 
 -- ---- lists of roles
 
--- the nodes are above this one, in order, and at most 64
+-- the nodes are above this one, in order, and at most 16
 abbrev pub Lies : ℕ → List Role → Type 0
 Lies low [] = ⊤
-Lies low (r ∷ rs) = (low < r.node) × (r.node ≤ 64) × Lies r.node rs
+Lies low (r ∷ rs) = (low < r.node) × (r.node ≤ 16) × Lies r.node rs
 
--- a list of roles lies so
-pub lies_so : (low : ℕ) (rs : List Role) → ascend_from low rs ≡ true → list_all is_numbered rs ≡ true → Lies low rs
+-- the nodes are above this one, in order
+abbrev pub Ascends : ℕ → List Role → Type 0
+Ascends low [] = ⊤
+Ascends low (r ∷ rs) = (low < r.node) × Ascends r.node rs
+
+pub ascends_so : (low : ℕ) (rs : List Role) → ascend_from low rs ≡ true → Ascends low rs
+ascends_so low [] a = tt
+ascends_so low (r ∷ rs) a = let up = and_parts (nat_lt low r.node) (ascend_from r.node rs) a in (ltb-true low r.node up.0, ascends_so r.node rs up.1)
+
+-- a list of roles within 1 to 16 lies so
+pub lies_so : (low : ℕ) (rs : List Role) → Ascends low rs → AreWithin rs → Lies low rs
 lies_so low [] a n = tt
-lies_so low (r ∷ rs) a n =
-    let up = and_parts (nat_lt low r.node) (ascend_from r.node rs) a in
-    let few = and_parts (is_numbered r) (list_all is_numbered rs) n in
-    (ltb-true low r.node up.0, leb-true r.node 64 few.0, lies_so r.node rs up.1 few.1)
+lies_so low (r ∷ rs) a n = (a.0, n.0, lies_so r.node rs a.1 n.1)
 
 -- ---- no role
 
@@ -50,7 +57,7 @@ one_out n (r ∷ rs) h =
     later : (n m : ℕ) → n < m → (m ≡ n + 1 → ⊥) → n + 1 < m
     later n m low other = omega (arith, low, other)
 
-all_out : (count n : ℕ) (rs : List Role) → Lies n rs → 64 ≤ n + count → unstaged (n + 1) count rs ≡ []
+all_out : (count n : ℕ) (rs : List Role) → Lies n rs → 16 ≤ n + count → unstaged (n + 1) count rs ≡ []
 all_out zero n [] h far = refl
 all_out zero n (r ∷ rs) h far = absurd (let low = h.0 in let high = h.1 in omega (arith, low, high, far))
 all_out (suc count) n rs h far = all_out count (n + 1) (staged (n + 1) None rs) (one_out n rs h) (omega (arith, far))
@@ -87,14 +94,14 @@ all_staged : List Role → List Role → List Role
 all_staged rs [] = rs
 all_staged rs (r ∷ more) = all_staged (staged r.node (Some (r.zone, r.kind)) rs) more
 
-all_in : (low : ℕ) (rs more : List Role) → AreUpTo low rs → Lies low more → all_staged rs more ≡ rs ++ more
+all_in : (low : ℕ) (rs more : List Role) → AreUpTo low rs → Ascends low more → all_staged rs more ≡ rs ++ more
 all_in low rs [] up h = sym (append_nil rs)
   where
     append_nil : (xs : List Role) → xs ++ [] ≡ xs
     append_nil [] = refl
     append_nil (x ∷ xs) = ap (λ ys. x ∷ ys) (append_nil xs)
 all_in low rs (r ∷ more) up h =
-    ap (λ xs. all_staged xs more) (one_in low rs r h.0 up) ∙ (all_in r.node (rs ++ r ∷ []) more (up_to_one low rs r h.0 up) h.2 ∙ append_assoc rs (r ∷ []) more)
+    ap (λ xs. all_staged xs more) (one_in low rs r h.0 up) ∙ (all_in r.node (rs ++ r ∷ []) more (up_to_one low rs r h.0 up) h.1 ∙ append_assoc rs (r ∷ []) more)
 
 -- ---- states
 
@@ -114,27 +121,27 @@ steps_append a b = map-append moves a b
 
 -- no node has a role any more
 abbrev pub out_acts : List Act
-out_acts = steps (map (λ k. plainly (step.Role k None)) (range_with_len 1 64))
+out_acts = steps (map (λ k. plainly (step.Role k None)) (range_with_len 1 16))
 
 -- the parts of what is staged
 pub stages_parts : (roles : List Role) (wanted : Redundancy) → stages_of roles wanted ≡ out_acts ++ staged_roles roles wanted
 stages_parts roles wanted =
-    let out = map (λ k. plainly (step.Role k None)) (range_with_len 1 64) in
+    let out = map (λ k. plainly (step.Role k None)) (range_with_len 1 16) in
     let there = map (λ role. plainly (staged_as role)) roles in
     let last = plainly (step.Redundancy wanted) ∷ [] in
     steps_append out (there ++ last) ∙ ap (λ as'. steps out ++ as') (steps_append there last)
 
-pub stages_staged : (s : State) (roles : List Role) (wanted : Redundancy) → Lies 0 s.world.roles → Lies 0 roles →
+pub stages_staged : (s : State) (roles : List Role) (wanted : Redundancy) → Lies 0 s.world.roles → Ascends 0 roles →
     ((after_acts s (stages_of roles wanted)).world.roles ≡ roles) × ((after_acts s (stages_of roles wanted)).world.redundancy ≡ wanted)
 stages_staged s roles wanted before there =
-    let out = steps (map (λ k. plainly (step.Role k None)) (range_with_len 1 64)) in
+    let out = steps (map (λ k. plainly (step.Role k None)) (range_with_len 1 16)) in
     let come = steps (map (λ role. plainly (staged_as role)) roles) in
     let last = steps (plainly (step.Redundancy wanted) ∷ []) in
     let t = after_acts s out in
     let u = after_acts t come in
     let whole : after_acts s (stages_of roles wanted) ≡ after_acts u last =
     ap (after_acts s) (stages_parts roles wanted) ∙ (acts_after s out (come ++ last) ∙ acts_after t come last) in
-    let none : t.world.roles ≡ [] = out_leads 64 1 s ∙ all_out 64 0 s.world.roles before (omega arith) in
+    let none : t.world.roles ≡ [] = out_leads 16 1 s ∙ all_out 16 0 s.world.roles before (omega arith) in
     let all : u.world.roles ≡ roles = in_leads roles t ∙ (ap (λ rs. all_staged rs roles) none ∙ all_in 0 [] roles tt there) in
     let end = spread_leads wanted u in
     (ap (λ (x : State). x.world.roles) whole ∙ (end.0 ∙ all), ap (λ (x : State). x.world.redundancy) whole ∙ end.1)

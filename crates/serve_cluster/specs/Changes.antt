@@ -1,5 +1,6 @@
 -- A layout change of the code, as acts.
-use Rattle.std.specs.Prelude.{◌≡◌, ◌==◌, ℕ, Bool, false, ⊤, List, [], ◌∷◌, ◌++◌, map, length}
+use Rattle.std.specs.Prelude.{◌≡◌, ◌==◌, ◌≤◌, ℕ, Bool, false, ⊤, List, [], ◌∷◌, ◌++◌, map, length}
+use Rattle.std.specs.List.{AllByRecursion}
 use Rattle.layout_roles.specs.declared.role.Role.{Role}
 use Rattle.layout_roles.specs.Fits.{IsGreatest}
 use Rattle.layout_roles.specs.Certificates.{IsRedundancy}
@@ -25,10 +26,19 @@ use Rattle.serve_cluster.specs.Standing.{StandsFor}
 abbrev pub nodes_of : List Role → List ℕ
 nodes_of roles = map (λ role. role.node) roles
 
--- what is shown was computed for its roles and the redundancy, and has the greatest partition size
+-- the nodes of these roles are those that a server may have
+abbrev pub AreWithin : List Role → Type 0
+AreWithin roles = AllByRecursion (λ (role : Role). role.node ≤ 16) roles
+
+-- whatever state the world stands for, no others are staged
+abbrev pub HasWithin : S3World → Type 0
+HasWithin c = ties.Steps IsStore c (λ s. AreWithin s.world.roles)
+
+-- what is shown was computed for its roles, which are of nodes that a server may have, and the redundancy, and has the greatest partition size
 pub record IsComputed (c : Change) : Type 0 where
   pub wanted : IsRedundancy c.redundancy
   pub is_for : IsFor c.shown.roles.list c.redundancy c.shown
+  pub within : AreWithin c.shown.roles.list
   pub greatest : IsGreatest c.shown.roles.list c.shown.certified.r c.shown.certified.size c.shown.certified.sets.sets
 
 -- what is staged in it
@@ -79,7 +89,8 @@ abbrev pub is_due : Cluster → List (ℕ × Model) → Bool
 is_due c [] = false
 is_due c (ch ∷ chs) = length c.run.world.requests == ch.0
 
--- a cluster with changes to come in code stands for one of the model
+-- a cluster with changes to come in code stands for one of the model; what is staged is of nodes that a server may have
 pub record IsChanging (c : Changing) (m : Models) : Type 0 where
   pub cluster : StandsFor c.cluster m.cluster
+  pub staged : AreWithin m.cluster.run.world.roles
   pub to_come : AreChanges m.cluster.members c.to_come m.to_come

@@ -12,7 +12,7 @@ ghost use Rattle.store_model.specs.declared.event.Told.{Told};
 ghost use Rattle.s3_world.specs.Stands.{HasStore, IsMeantEvent, PlaysEvent, OverflowsEvent};
 ghost use Rattle.serve_cluster.specs.Acting.{DoesActs, LacksRoom};
 ghost use Rattle.s3_world.specs.declared.world.S3World.{S3World as World};
-ghost use Rattle.serve_cluster.specs.Changes.{IsComputed, Applies, ApplyLacks, acts_at, acts_with, nodes_of as nodes_in, DoesIn};
+ghost use Rattle.serve_cluster.specs.Changes.{IsComputed, HasWithin, Applies, ApplyLacks, acts_at, acts_with, nodes_of as nodes_in, DoesIn};
 ghost use Rattle.serve_cluster.specs.Deeds.{act_of, step_of, staged_as, staged_roles};
 
 use crate::acts::drain_all;
@@ -36,8 +36,8 @@ pub struct Change {
     pub shown: Applied,
 }
 
-/// The greatest node that may have a role.
-const GREATEST_NODE: u8 = 64;
+/// The greatest node of a server.
+const GREATEST_NODE: u8 = 16;
 
 // A node has no role any more.
 fn unstage(world: &mut S3World, node: u8) -> Result<(), Memory>
@@ -56,8 +56,8 @@ fn unstage(world: &mut S3World, node: u8) -> Result<(), Memory>
 // No node has a role any more.
 fn unstage_all(world: &mut S3World) -> Result<(), Memory>
     requires { HasStore world.old }
-    ensures does { OnOk result (DoesActs world.old world.new (steps (map (λ n. plainly (step.Role n None)) (range_with_len 1 64)))) }
-    ensures causes { WantOr result (LacksRoom world.old (λ _. steps (map (λ n. plainly (step.Role n None)) (range_with_len 1 64)))) }
+    ensures does { OnOk result (DoesActs world.old world.new (steps (map (λ n. plainly (step.Role n None)) (range_with_len 1 16)))) }
+    ensures causes { WantOr result (LacksRoom world.old (λ _. steps (map (λ n. plainly (step.Role n None)) (range_with_len 1 16)))) }
 {
     let mut node = 0;
     'nodes: while node < GREATEST_NODE {
@@ -258,6 +258,7 @@ fn stage_and_apply(
 ) -> Result<(), Memory>
     requires stands { HasStore world.old }
     requires computed { IsComputed change }
+    requires within { HasWithin world.old }
     ensures stands { OnOk result (HasStore world.new) }
     ensures does { OnOk result (DoesIn world.old world.new (acts_at node change (map act_of deeds.now))) }
     ensures causes { WantOr result (LacksRoom world.old (acts_at node change (map act_of deeds.now))) }
@@ -272,6 +273,7 @@ fn stage_and_apply(
 pub(crate) fn make(world: &mut S3World, older: &[u8], change: Change) -> Result<List<u8>, Memory>
     requires stands { HasStore world.old }
     requires computed { IsComputed change }
+    requires within { HasWithin world.old }
     ensures newer { IfOk result (λ newer. newer ≡ nodes_in change.shown.roles.list) }
     ensures does { OnOk result (DoesIn world.old world.new (acts_with older.now change)) }
     ensures causes { WantOr result (LacksRoom world.old (acts_with older.now change)) }

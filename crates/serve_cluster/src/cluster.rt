@@ -36,7 +36,7 @@ pub(crate) fn asker(members: &[u8]) -> u8
 impl Cluster {
     ghost use Rattle.serve_model.specs.Serving.{HasState};
     ghost use Rattle.serve_cluster.specs.Standing.{StandsFor};
-    ghost use Rattle.serve_cluster.specs.Changes.{IsComputed, IsChange};
+    ghost use Rattle.serve_cluster.specs.Changes.{IsComputed, AreWithin, IsChange};
 
     /// A world whose time is 0, with the members of its one layout version, in order.
     pub fn new(world: S3World, members: List<u8>) -> Cluster
@@ -60,6 +60,7 @@ impl Cluster {
     pub(crate) fn change(&mut self, change: Change) -> Result<(), Memory>
         requires state { HasState (StandsFor self.old) }
         requires computed { IsComputed change }
+        requires within { (m : Modelled) → StandsFor self.old m → AreWithin m.run.world.roles }
         ensures does { OnOk result ((m : Modelled) (ch : ℕ × Model) → StandsFor self.old m → IsChange m.members change ch → AreLawfulActs m.run (acts_in m.run ch.1) × ActsFit m.run (acts_in m.run ch.1) × StandsFor self.new (changed m ch.1)) }
         ensures causes { WantOr result ((m : Modelled) (ch : ℕ × Model) → StandsFor self.old m → IsChange m.members change ch → ActLacksRoom m.run (acts_in m.run ch.1)) }
     {

@@ -10,10 +10,10 @@ apply_and_play-requires-clause-stands c = store_after c.args.world.now c.stage_r
 
 pub returns-in-Ok-clause-does : goal.returns-in-Ok-clause-does
 returns-in-Ok-clause-does c =
-    stages_next c.apply_and_play.result c.args.world.now c.stage_roles.new.world c.apply_and_play.new.world c.args.node c.args.change c.requires.computed (map act_of c.args.deeds.now) c.in-Ok.ensures.does c.apply_and_play.ensures.does
+    stages_next c.apply_and_play.result c.args.world.now c.stage_roles.new.world c.apply_and_play.new.world c.args.node c.args.change c.requires.computed c.requires.within (map act_of c.args.deeds.now) c.in-Ok.ensures.does c.apply_and_play.ensures.does
 
 pub returns-in-Ok-clause-causes : goal.returns-in-Ok-clause-causes
-returns-in-Ok-clause-causes c = causes_next c.apply_and_play.result (staged_lacks c.args.world.now c.stage_roles.new.world c.args.node c.args.change c.requires.computed (map act_of c.args.deeds.now) c.in-Ok.ensures.does) c.apply_and_play.ensures.causes
+returns-in-Ok-clause-causes c = causes_next c.apply_and_play.result (staged_lacks c.args.world.now c.stage_roles.new.world c.args.node c.args.change c.requires.computed c.requires.within (map act_of c.args.deeds.now) c.in-Ok.ensures.does) c.apply_and_play.ensures.causes
 
 pub returns-in-Err-clause-causes : goal.returns-in-Err-clause-causes
 returns-in-Err-clause-causes c = cause_more c.in-Err.memory (staging_lacks_all c.args.world.now c.args.node c.args.change (map act_of c.args.deeds.now)) c.in-Err.ensures.causes

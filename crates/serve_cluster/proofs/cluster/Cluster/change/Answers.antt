@@ -1,5 +1,5 @@
 use Rattle.serve_cluster.proofs.Acting.{cause_more}
-use Rattle.std.proofs.Common.{◌∙◌, subst}
+use Rattle.std.proofs.Common.{refl, subst}
 use Rattle.serve_cluster.specs.Changes.{acts_with, DoesIn}
 use Rattle.serve_cluster.specs.Acting.{LacksRoom}
 use Rattle.serve_cluster.proofs.Changing.{changes_so, changes_lack}
@@ -8,6 +8,9 @@ use Rattle.serve_cluster.proofs.cluster.Cluster.change.Goals as goal
 
 pub make-requires-clause-stands : goal.make-requires-clause-stands
 make-requires-clause-stands c = has_store c.args.self.now c.requires.state
+
+pub make-requires-clause-within : goal.make-requires-clause-within
+make-requires-clause-within c = λ s st. c.requires.within (record { run = s; ticked = c.args.self.now.ticked; members = c.args.self.now.members }) (record { world = st; ticked = refl; members = refl })
 
 pub returns-in-Ok-clause-does : goal.returns-in-Ok-clause-does
 returns-in-Ok-clause-does c = λ m ch st h.
