@@ -1,3 +1,4 @@
+pub mod Within
 pub mod Planned
 pub mod ToCome
 pub mod Input

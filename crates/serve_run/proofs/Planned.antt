@@ -63,5 +63,5 @@ module _ (text : List ℕ) (s : Settings) (comings : List Coming) (access : Acce
   text_of_comings certified enough fits stop.Number h = absurd h
 
 -- as many changes as were said
-pub as_few : (cs : List Change) (comings : List Said) → map coming_in cs ≡ comings_of comings → length comings ≤ 99 → length cs ≤ 99
-as_few cs comings e few = subst (λ n. n ≤ 99) (sym (sym (length-map coming_in cs) ∙ (ap (λ (xs : List Coming). length xs) e ∙ length-map coming_of comings))) few
+pub as_few : (cs : List Change) (comings : List Said) → map coming_in cs ≡ comings_of comings → length (comings_of comings) ≤ 99 → length cs ≤ 99
+as_few cs comings e few = subst (λ n. n ≤ 99) (sym (sym (length-map coming_in cs) ∙ ap (λ (xs : List Coming). length xs) e)) few

@@ -17,7 +17,7 @@ use Rattle.layout_text.specs.Keys.{access_said}
 use Rattle.layout_text.specs.Changes.{Coming, changes_said}
 use Rattle.layout_command.specs.Answer.{toml_line, field_line, AreEnough, IsLayout, IsLaidOut}
 use Rattle.serve_cluster.specs.declared.change.Change.{Change}
-use Rattle.serve_cluster.specs.Changes.{IsComputed}
+use Rattle.serve_cluster.specs.Changes.{AreWithin, IsComputed}
 use Rattle.serve_run.specs.declared.plan.Plan.{Plan}
 
 -- the greatest node of a server
@@ -36,6 +36,10 @@ pub record IsPlan (p : Plan) : Type 0 where
   pub ordered : AreInOrder p.config.buckets p.buckets.names
   pub few : length p.changes ≤ 99
   pub computed : AllByRecursion IsComputed p.changes
+
+-- changes as they may be said for a server: at most 99, with roles of nodes 1 to 16
+abbrev pub IsOfServer : List Coming → Type 0
+IsOfServer comings = AllByRecursion (λ (c : Coming). AreWithin c.roles) comings × (length comings ≤ 99)
 
 -- a change of a server as it is said
 abbrev pub coming_in : Change → Coming

@@ -9,10 +9,10 @@ ghost use Rattle.layout_roles.specs.Fits.{IsGreatest};
 ghost use Rattle.layout_text.specs.Settings.{settings_of, said};
 ghost use Rattle.layout_text.specs.Keys.{access_said};
 ghost use Rattle.layout_text.specs.Changes.{Coming as Said, changes_said, coming_of, comings_of};
-ghost use Rattle.serve_cluster.specs.Changes.{IsComputed};
+ghost use Rattle.serve_cluster.specs.Changes.{AreWithin, IsComputed};
 ghost use Rattle.serve_run.specs.Stop.{IsOfText, IsOfRoles, IsOfComings, IsOfInput, IsTold};
 ghost use Rattle.lab_main.specs.Limits.{input_limit};
-ghost use Rattle.serve_run.specs.Plan.{greatest_node, coming_in, AreInOrder, IsPlan, IsSaid, WasRead};
+ghost use Rattle.serve_run.specs.Plan.{greatest_node, coming_in, AreInOrder, IsOfServer, IsPlan, IsSaid, WasRead};
 
 use crate::stop::Stop;
 use cluster_machine::applied::Applied;
@@ -64,7 +64,7 @@ fn configured(alloc: Global, text: &str) -> Result<Config, Stop>
 fn changes_of(alloc: Global, text: &str, config: &Config) -> Result<List<Coming>, Stop>
     requires says { said greatest_node text.now ≡ Ok (settings_of config.now) }
     ensures says { IfOk result (λ changes. changes_said greatest_node text.now ≡ Ok (comings_of changes)) }
-    ensures few { IfOk result (λ changes. length changes ≤ 99) }
+    ensures of_server { IfOk result (λ changes. IsOfServer (comings_of changes)) }
     ensures causes { IfErr result (IsOfText text.now) }
 {
     match read_changes(alloc, text, GREATEST_NODE) {
@@ -114,6 +114,7 @@ fn laid_out(alloc: Global, roles: &Roles, wanted: Redundancy) -> Result<Certifie
 
 /// A change with its layout.
 fn planned_one(alloc: Global, coming: Coming) -> Result<Change, Stop>
+    requires within { AreWithin coming.roles.list }
     ensures computed { IfOk result IsComputed }
     ensures same { IfOk result (λ change. coming_in change ≡ coming_of coming) }
     ensures causes { IfErr result (IsOfRoles coming.roles.list coming.redundancy) }
@@ -131,6 +132,7 @@ fn planned_one(alloc: Global, coming: Coming) -> Result<Change, Stop>
 
 /// Changes with their layouts, in order.
 fn planned(alloc: Global, mut comings: List<Coming>) -> Result<List<Change>, Stop>
+    requires of_server { IsOfServer (comings_of comings) }
     ensures computed { IfOk result (AllByRecursion IsComputed) }
     ensures same { IfOk result (λ changes. map coming_in changes ≡ comings_of comings) }
     ensures causes { IfErr result (IsOfComings (comings_of comings)) }

@@ -1,7 +1,12 @@
 use Rattle.layout_text.specs.Settings.{settings_of}
 use Rattle.serve_run.specs.Plan.{bad_change}
 use Rattle.serve_run.proofs.Sized.{changes_read_before}
+use Rattle.layout_text.specs.Changes.{comings_of}
+use Rattle.serve_run.proofs.Within.{said_of_server}
 use Rattle.serve_run.proofs.plan.changes_of.Goals as goal
+
+pub returns-in-Ok-clause-of_server : goal.returns-in-Ok-clause-of_server
+returns-in-Ok-clause-of_server c = said_of_server c.args.text.now (comings_of c.in-Ok.changes) c.in-Ok.ensures.changes
 
 pub returns-in_ok-bad_toml-in-Err-NotToml-clause-causes : goal.returns-in_ok-bad_toml-in-Err-NotToml-clause-causes
 returns-in_ok-bad_toml-in-Err-NotToml-clause-causes c =

@@ -30,7 +30,7 @@ returns-clause-plan c = record {
   greatest = c.in_ok-certified.ensures.greatest;
   sized = c.in_ok-config.ensures.sized;
   ordered = c.in_ok-names.ensures.in_order;
-  few = as_few c.in_ok-changes.changes c.in_ok-comings.comings c.in_ok-changes.ensures.same c.in_ok-comings.ensures.few;
+  few = as_few c.in_ok-changes.changes c.in_ok-comings.comings c.in_ok-changes.ensures.same c.in_ok-comings.ensures.of_server.1;
   computed = c.in_ok-changes.ensures.computed;
 }
 
