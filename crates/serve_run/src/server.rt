@@ -73,7 +73,8 @@ fn served<L: Link, C: Clock>(
     let members = nodes_of(alloc, plan.config.roles.list.as_slice())?;
     let mut later = sets_of(alloc, plan.changes.as_slice())?;
     let world = installed(alloc, &plan)?;
-    let mut cluster = Changing::new(Cluster::new(world, members), plan.changes);
+    let inner = Cluster::new(world, members);
+    let mut cluster = Changing::new(inner, plan.changes);
     let mut counts = Served { kept: 0, time: 0 };
     let count = serve(
         alloc,
@@ -85,7 +86,9 @@ fn served<L: Link, C: Clock>(
         &mut counts,
         &plan.buckets,
     )?;
-    later.truncate(later.len().saturating_sub(cluster.left()));
+    let left = cluster.left();
+    let made = later.len().saturating_sub(left);
+    later.truncate(made);
     let text = tail_text(
         alloc,
         &plan.certified.sets,
