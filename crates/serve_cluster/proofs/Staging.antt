@@ -1,5 +1,6 @@
 -- What is staged after the first acts of a change: its roles and its redundancy, whatever was staged before.
-use Rattle.std.proofs.Common.{◌≡◌, ◌≤◌, ◌<◌, ℕ, zero, suc, ◌+◌, ◌==◌, Bool, true, false, cond, nat_lt, ⊤, Option, Some, None, List, [], ◌∷◌, ◌++◌, map, refl, sym, ◌∙◌, ap, subst, arith, append_assoc}
+use Rattle.std.proofs.Common.{◌≡◌, ◌≤◌, ◌<◌, ℕ, zero, suc, ◌+◌, ◌==◌, Bool, true, false, cond, nat_lt, Option, Some, None, List, [], ◌∷◌, ◌++◌, map, refl, sym, ◌∙◌, ap, subst, arith, append_assoc}
+use Rattle.std.specs.Prelude.{⊤}
 use Rattle.std.specs.List.{range_with_len}
 use Rattle.std.proofs.lemmas.Bool.{and_parts, eqb-true, eqb-false, ltb-true, lt-ltb, le-ltb, ne_eqb}
 use Rattle.std.proofs.lemmas.List.{map-append}
@@ -58,6 +59,7 @@ one_out n (r ∷ rs) h =
     later n m low other = omega (arith, low, other)
 
 all_out : (count n : ℕ) (rs : List Role) → Lies n rs → 16 ≤ n + count → unstaged (n + 1) count rs ≡ []
+unfolding unstaged
 all_out zero n [] h far = refl
 all_out zero n (r ∷ rs) h far = absurd (let low = h.0 in let high = h.1 in omega (arith, low, high, far))
 all_out (suc count) n rs h far = all_out count (n + 1) (staged (n + 1) None rs) (one_out n rs h) (omega (arith, far))
@@ -95,6 +97,7 @@ all_staged rs [] = rs
 all_staged rs (r ∷ more) = all_staged (staged r.node (Some (r.zone, r.kind)) rs) more
 
 all_in : (low : ℕ) (rs more : List Role) → AreUpTo low rs → Ascends low more → all_staged rs more ≡ rs ++ more
+unfolding all_staged
 all_in low rs [] up h = sym (append_nil rs)
   where
     append_nil : (xs : List Role) → xs ++ [] ≡ xs
@@ -106,10 +109,12 @@ all_in low rs (r ∷ more) up h =
 -- ---- states
 
 out_leads : (count n : ℕ) (s : State) → (after_acts s (steps (map (λ k. plainly (step.Role k None)) (range_with_len n count)))).world.roles ≡ unstaged n count s.world.roles
+unfolding unstaged
 out_leads zero n s = refl
 out_leads (suc count) n s = out_leads count (n + 1) (acted s (moves (plainly (step.Role n None)))).state
 
 in_leads : (roles : List Role) (s : State) → (after_acts s (steps (map (λ role. plainly (staged_as role)) roles))).world.roles ≡ all_staged s.world.roles roles
+unfolding all_staged
 in_leads [] s = refl
 in_leads (r ∷ roles) s = in_leads roles (acted s (moves (plainly (staged_as r)))).state
 

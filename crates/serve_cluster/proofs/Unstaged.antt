@@ -52,32 +52,36 @@ by_cond rs true d e h g = h
 by_cond rs false d e h g = g
 
 module _ (w : World) where
-  of_message : (f : Sent AnyRow Layout → Made) → ((x : Sent AnyRow Layout) → (f x).roles ≡ w.roles) → (o : Option (Sent AnyRow Layout)) (mark : Option Mark) → (at_message w f o mark).roles ≡ w.roles
+  -- the effect stages no other roles
+  abbrev Keeps : Made → Type 0
+  Keeps e = e.roles ≡ w.roles
+
+  of_message : (f : Sent AnyRow Layout → Made) → ((x : Sent AnyRow Layout) → (f x).roles ≡ w.roles) → (o : Option (Sent AnyRow Layout)) (mark : Option Mark) → Keeps (at_message w f o mark)
   of_message f h None mark = refl
   of_message f h (Some x) None = refl
   of_message f h (Some x) (Some mark) = by_cond w.roles mark.is_lost _ (f x) refl (h x)
 
-  of_expiry : (q : ℕ) (o : Option Request) → (expires {C = Cut} {A = Applied} w q o).roles ≡ w.roles
+  of_expiry : (q : ℕ) (o : Option Request) → Keeps (expires w q o)
   of_expiry q None = refl
   of_expiry q (Some r) = by_cond w.roles r.is_open _ _ refl refl
 
-  of_closing : (q : ℕ) (o : Option Request) → (closing {C = Cut} {A = Applied} w q o).roles ≡ w.roles
+  of_closing : (q : ℕ) (o : Option Request) → Keeps (closing w q o)
   of_closing q None = refl
   of_closing q (Some r) = by_cond w.roles r.is_open _ _ refl refl
 
-  of_begun : (n : ℕ) (phase : Phase AnyRow) (o : Option (Call AnyRow)) → (begun {A = Applied} {C = Cut} any_join words layouts trio stage_trio w n phase o).roles ≡ w.roles
+  of_begun : (n : ℕ) (phase : Phase AnyRow) (o : Option (Call AnyRow)) → Keeps (begun any_join words layouts trio stage_trio w n phase o)
   of_begun n phase None = refl
   of_begun n phase (Some c) = refl
 
-  of_beginning : (q : ℕ) (phase : Phase AnyRow) (o : Option Request) → (beginning {A = Applied} {C = Cut} any_join words layouts trio stage_trio w q phase o).roles ≡ w.roles
+  of_beginning : (q : ℕ) (phase : Phase AnyRow) (o : Option Request) → Keeps (beginning any_join words layouts trio stage_trio w q phase o)
   of_beginning q phase None = refl
   of_beginning q phase (Some r) = by_cond w.roles r.is_open _ _ (of_begun r.coordinator phase (call_at (w.nodes r.coordinator).calls q)) refl
 
-  of_chosen : (n next : ℕ) (choice : Decision) → (chosen any_join words layouts trio stage_trio w n next choice).roles ≡ w.roles
+  of_chosen : (n next : ℕ) (choice : Decision) → Keeps (chosen any_join words layouts trio stage_trio w n next choice)
   of_chosen n next (none_given r) = refl
   of_chosen n next (given l shown) = refl
 
-  step_leaves : (step : Step AnyRow) (choice : Decision) → StagesNone step → (effects any_join words layouts trio stage_trio w step choice).roles ≡ w.roles
+  step_leaves : (step : Step AnyRow) (choice : Decision) → StagesNone step → Keeps (effects any_join words layouts trio stage_trio w step choice)
   step_leaves (Apply n) choice h = by_cond w.roles _ _ _ refl (by_cond w.roles _ _ _ refl (by_cond w.roles _ _ _ refl (of_chosen n _ choice)))
   step_leaves (Deliver m) choice h = of_message _ (λ x. refl) (numbered w.messages m) (numbered w.marks m)
   step_leaves (Lose m) choice h = of_message _ (λ x. refl) (numbered w.messages m) (numbered w.marks m)
