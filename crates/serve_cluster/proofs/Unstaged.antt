@@ -1,12 +1,11 @@
 -- What is staged stays so through acts that stage nothing.
-use Rattle.std.specs.Prelude.{◌≡◌, ℕ, zero, suc, Bool, true, false, cond, Option, Some, None, ⊤, List, [], ◌∷◌, ◌++◌, length, map, refl}
+use Rattle.std.specs.Prelude.{◌≡◌, ℕ, zero, suc, Bool, true, false, cond, not, ◌&&◌, leb, Option, Some, None, ⊤, List, [], ◌∷◌, ◌++◌, length, map, refl}
 use Rattle.std.specs.List.{AllByRecursion}
 use Rattle.std.proofs.Common.{ap, sym, ◌∙◌}
 use Rattle.crdt_core.proofs.Each.{all_append}
 use Rattle.crdt_rows.specs.AnyRow.{any_join}
 use Rattle.crdt_rows.specs.declared.any_row.AnyRow.{AnyRow}
 use Rattle.object_schema.specs.Schema.{words}
-use Rattle.layout_roles.specs.declared.role.Role.{Role}
 use Rattle.layout_roles.specs.declared.layout.Layout.{Layout}
 use Rattle.layout_roles.specs.declared.cut.Cut.{Cut}
 use Rattle.wire_messages.specs.declared.phase.Phase.{Phase}
@@ -16,12 +15,17 @@ use Rattle.cluster_machine.specs.declared.step.Step.{Step}
 use Rattle.cluster_machine.specs.declared.step.Step.TheVariants.{Trio, Role as Stage, Apply, Tick, Skew, Deliver, Lose, Expire, Restart, Gossip, Ack, Sync, SyncAck, Clean, Work, Repair, Open, Phase as Begin, Close}
 use Rattle.cluster_machine.specs.declared.step.Step.TheVariants as step
 use Rattle.cluster_machine.specs.declared.step.Refusal.{Refusal}
-use Rattle.cluster_machine.specs.declared.step.Refusal.TheVariants.{VersionLimit}
+use Rattle.cluster_machine.specs.declared.step.Refusal.TheVariants.{VersionTaken, VersionLimit, NotMember, NoSuchMessage, Lost, NoSuchRequest, AlreadyEnded}
 use Rattle.cluster_machine.specs.Choices.{Decision}
 use Rattle.cluster_machine.specs.Layouts.{layouts, has_none}
+use Rattle.cluster_machine.specs.declared.step.Action.{Action}
+use Rattle.cluster_machine.specs.declared.step.Action.TheVariants.{Ack as RaiseAck, Sync as GoOn, SyncAck as RaiseSyncAck, Clean as CleanUp, Work as WorkOff, Repair as Mend}
+use Rattle.cluster_machine.specs.Acts.{Acted, acts}
+use Rattle.cluster_machine.specs.Receives.{receives}
 use Rattle.cluster_machine.specs.Node.{Call, Ended}
+use Rattle.view_model.specs.View.{newest}
 use Rattle.cluster_machine.specs.Phases.{call_at}
-use Rattle.cluster_machine.specs.Step.{Effects, given, none_given, nothing, refusal, at_message, expires, closing, chosen, begun, beginning, effects}
+use Rattle.cluster_machine.specs.Step.{Effects, most_versions, given, none_given, nothing, refusal, did, received, at_message, expires, closing, chosen, acting, local, begun, beginning, effects}
 use Rattle.cluster_machine.specs.Trio.{trio, stage_trio}
 use Rattle.cluster_machine.specs.World.{Sent, Mark, Request, numbered, clock, undelivered, is_member_at}
 use Rattle.flow_model.specs.declared.order.Order.{Order}
@@ -47,61 +51,87 @@ StagesNone Trio = ⊥
 StagesNone (Stage n role) = ⊥
 StagesNone _ = ⊤
 
-by_cond : (rs : List Role) (b : Bool) (d e : Made) → d.roles ≡ rs → e.roles ≡ rs → (cond b d e).roles ≡ rs
-by_cond rs true d e h g = h
-by_cond rs false d e h g = g
+-- what is staged stays
+record Keeps (w : World) (e : Made) : Type 0 where
+  same : e.roles ≡ w.roles
 
 module _ (w : World) where
-  -- the effect stages no other roles
-  abbrev Keeps : Made → Type 0
-  Keeps e = e.roles ≡ w.roles
+  keeps : (e : Made) → e.roles ≡ w.roles → Keeps w e
+  keeps e h = record { same = h }
 
-  of_message : (f : Sent AnyRow Layout → Made) → ((x : Sent AnyRow Layout) → (f x).roles ≡ w.roles) → (o : Option (Sent AnyRow Layout)) (mark : Option Mark) → Keeps (at_message w f o mark)
-  of_message f h None mark = refl
-  of_message f h (Some x) None = refl
-  of_message f h (Some x) (Some mark) = by_cond w.roles mark.is_lost _ (f x) refl (h x)
+  by_keeps : (b : Bool) (d e : Made) → Keeps w d → Keeps w e → Keeps w (cond b d e)
+  by_keeps true d e h g = h
+  by_keeps false d e h g = g
 
-  of_expiry : (q : ℕ) (o : Option Request) → Keeps (expires w q o)
-  of_expiry q None = refl
-  of_expiry q (Some r) = by_cond w.roles r.is_open _ _ refl refl
+  of_refusal : (r : Refusal Cut) → Keeps w (refusal w r)
+  of_refusal r = keeps (refusal w r) refl
 
-  of_closing : (q : ℕ) (o : Option Request) → Keeps (closing w q o)
-  of_closing q None = refl
-  of_closing q (Some r) = by_cond w.roles r.is_open _ _ refl refl
+  of_nothing : Keeps w (nothing w)
+  of_nothing = keeps (nothing w) refl
 
-  of_begun : (n : ℕ) (phase : Phase AnyRow) (o : Option (Call AnyRow)) → Keeps (begun any_join words layouts trio stage_trio w n phase o)
-  of_begun n phase None = refl
-  of_begun n phase (Some c) = refl
+  of_message : (f : Sent AnyRow Layout → Made) → ((x : Sent AnyRow Layout) → Keeps w (f x)) → (o : Option (Sent AnyRow Layout)) (mark : Option Mark) → Keeps w (at_message w f o mark)
+  of_message f h None mark = of_refusal NoSuchMessage
+  of_message f h (Some x) None = of_refusal NoSuchMessage
+  of_message f h (Some x) (Some mark) = by_keeps mark.is_lost (refusal w Lost) (f x) (of_refusal Lost) (h x)
 
-  of_beginning : (q : ℕ) (phase : Phase AnyRow) (o : Option Request) → Keeps (beginning any_join words layouts trio stage_trio w q phase o)
-  of_beginning q phase None = refl
-  of_beginning q phase (Some r) = by_cond w.roles r.is_open _ _ (of_begun r.coordinator phase (call_at (w.nodes r.coordinator).calls q)) refl
+  of_expiry : (q : ℕ) (o : Option Request) → Keeps w (expires w q o)
+  of_expiry q None = of_refusal NoSuchRequest
+  of_expiry q (Some r) = by_keeps r.is_open _ (refusal w AlreadyEnded) (keeps _ refl) (of_refusal AlreadyEnded)
 
-  of_chosen : (n next : ℕ) (choice : Decision) → Keeps (chosen any_join words layouts trio stage_trio w n next choice)
-  of_chosen n next (none_given r) = refl
-  of_chosen n next (given l shown) = refl
+  of_closing : (q : ℕ) (o : Option Request) → Keeps w (closing w q o)
+  of_closing q None = of_nothing
+  of_closing q (Some r) = by_keeps r.is_open _ (nothing w) (keeps _ refl) of_nothing
 
-  step_leaves : (step : Step AnyRow) (choice : Decision) → StagesNone step → Keeps (effects any_join words layouts trio stage_trio w step choice)
-  step_leaves (Apply n) choice h = by_cond w.roles _ _ _ refl (by_cond w.roles _ _ _ refl (by_cond w.roles _ _ _ refl (of_chosen n _ choice)))
-  step_leaves (Deliver m) choice h = of_message _ (λ x. refl) (numbered w.messages m) (numbered w.marks m)
-  step_leaves (Lose m) choice h = of_message _ (λ x. refl) (numbered w.messages m) (numbered w.marks m)
-  step_leaves (Expire q) choice h = of_expiry q (numbered w.requests q)
-  step_leaves (Ack n) choice h = by_cond w.roles (has_none layouts (w.nodes n).view) _ _ refl refl
-  step_leaves (Sync n) choice h = by_cond w.roles (has_none layouts (w.nodes n).view) _ _ refl refl
-  step_leaves (SyncAck n) choice h = by_cond w.roles (has_none layouts (w.nodes n).view) _ _ refl refl
-  step_leaves (Clean n) choice h = by_cond w.roles (has_none layouts (w.nodes n).view) _ _ refl refl
-  step_leaves (Work n) choice h = by_cond w.roles (has_none layouts (w.nodes n).view) _ _ refl refl
-  step_leaves (Repair n) choice h = by_cond w.roles _ _ _ refl refl
-  step_leaves (Open n) choice h = by_cond w.roles _ _ _ refl refl
-  step_leaves (Begin q phase) choice h = of_beginning q phase (numbered w.requests q)
-  step_leaves (Close q) choice h = of_closing q (numbered w.requests q)
-  step_leaves Trio choice h = absurd h
-  step_leaves (Stage n role) choice h = absurd h
-  step_leaves (Tick ms) choice h = refl
-  step_leaves (Skew n ms) choice h = refl
-  step_leaves (Restart n) choice h = refl
-  step_leaves (Gossip from to) choice h = refl
-  step_leaves (step.Redundancy r) choice h = refl
+  of_begun : (n : ℕ) (phase : Phase AnyRow) (o : Option (Call AnyRow)) → Keeps w (begun any_join words layouts trio stage_trio w n phase o)
+  of_begun n phase None = of_nothing
+  of_begun n phase (Some c) = keeps (begun any_join words layouts trio stage_trio w n phase (Some c)) refl
+
+  of_beginning : (q : ℕ) (phase : Phase AnyRow) (o : Option Request) → Keeps w (beginning any_join words layouts trio stage_trio w q phase o)
+  of_beginning q phase None = of_nothing
+  of_beginning q phase (Some r) = by_keeps r.is_open _ (nothing w) (of_begun r.coordinator phase (call_at (w.nodes r.coordinator).calls q)) of_nothing
+
+  of_chosen : (n next : ℕ) (choice : Decision) → Keeps w (chosen any_join words layouts trio stage_trio w n next choice)
+  of_chosen n next (none_given r) = of_refusal r
+  of_chosen n next (given l shown) = keeps (chosen any_join words layouts trio stage_trio w n next (given l shown)) refl
+
+  of_acting : (n : ℕ) (b : Bool) (a : Acted AnyRow Layout) → Keeps w (acting any_join words layouts trio stage_trio w n b a)
+  of_acting n true a = of_refusal NotMember
+  of_acting n false a = keeps (acting any_join words layouts trio stage_trio w n false a) refl
+
+  of_local : (n : ℕ) (action : Action) → Keeps w (local any_join words layouts trio stage_trio w n action)
+  of_local n action = of_acting n (has_none layouts (w.nodes n).view) (acts any_join words layouts n (clock w n) (w.nodes n) action)
+
+  step_keeps : (step : Step AnyRow) (choice : Decision) → StagesNone step → Keeps w (effects any_join words layouts trio stage_trio w step choice)
+  step_keeps (Apply n) choice h =
+      let next = suc (newest layouts.reading (w.nodes n).view) in
+      let last = chosen any_join words layouts trio stage_trio w n next choice in
+      let third : Made = cond (leb most_versions w.applied) (refusal w VersionLimit) last in
+      let second : Made = cond (leb next w.applied) (refusal w (VersionTaken next)) third in
+      by_keeps (leb 1 w.applied && not (is_member_at layouts w n)) (refusal w NotMember) second (of_refusal NotMember)
+      (by_keeps (leb next w.applied) (refusal w (VersionTaken next)) third (of_refusal (VersionTaken next)) (by_keeps (leb most_versions w.applied) (refusal w VersionLimit) last (of_refusal VersionLimit) (of_chosen n next choice)))
+  step_keeps (Deliver m) choice h =
+      of_message (λ sent. received m (did w sent.to (receives any_join words layouts sent.to (clock w sent.to) (w.nodes sent.to) sent.from sent.packet))) (λ x. keeps _ refl) (numbered w.messages m) (numbered w.marks m)
+  step_keeps (Lose m) choice h = of_message (λ sent. record (nothing w) { marks = Some (m, record { is_delivered = false; is_lost = true }) }) (λ x. keeps _ refl) (numbered w.messages m) (numbered w.marks m)
+  step_keeps (Expire q) choice h = of_expiry q (numbered w.requests q)
+  step_keeps (Ack n) choice h = of_local n RaiseAck
+  step_keeps (Sync n) choice h = of_local n GoOn
+  step_keeps (SyncAck n) choice h = of_local n RaiseSyncAck
+  step_keeps (Clean n) choice h = of_local n CleanUp
+  step_keeps (Work n) choice h = of_local n WorkOff
+  step_keeps (Repair n) choice h = of_acting n (not (is_member_at layouts w n)) (acts any_join words layouts n (clock w n) (w.nodes n) Mend)
+  step_keeps (Open n) choice h = by_keeps (is_member_at layouts w n) _ (refusal w NotMember) (keeps _ refl) (of_refusal NotMember)
+  step_keeps (Begin q phase) choice h = of_beginning q phase (numbered w.requests q)
+  step_keeps (Close q) choice h = of_closing q (numbered w.requests q)
+  step_keeps Trio choice h = absurd h
+  step_keeps (Stage n role) choice h = absurd h
+  step_keeps (Tick ms) choice h = keeps (effects any_join words layouts trio stage_trio w (Tick ms) choice) refl
+  step_keeps (Skew n ms) choice h = keeps (effects any_join words layouts trio stage_trio w (Skew n ms) choice) refl
+  step_keeps (Restart n) choice h = keeps (effects any_join words layouts trio stage_trio w (Restart n) choice) refl
+  step_keeps (Gossip from to) choice h = keeps (effects any_join words layouts trio stage_trio w (Gossip from to) choice) refl
+  step_keeps (step.Redundancy r) choice h = keeps (effects any_join words layouts trio stage_trio w (step.Redundancy r) choice) refl
+
+step_leaves : (w : World) (step : Step AnyRow) (choice : Decision) → StagesNone step → (effects any_join words layouts trio stage_trio w step choice).roles ≡ w.roles
+step_leaves w step choice h = (step_keeps w step choice h).same
 
 -- ---- outcomes of requests
 
