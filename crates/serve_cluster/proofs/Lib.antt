@@ -5,5 +5,5 @@ pub mod Unstaged
 pub mod Going
 pub mod Events
 pub mod Making
-pub mod Changing
-pub mod Deeds
+pub mod Coming
+pub mod Parts

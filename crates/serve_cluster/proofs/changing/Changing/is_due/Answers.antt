@@ -1,5 +1,5 @@
 use Rattle.std.proofs.Common.{◌∙◌, sym}
-use Rattle.serve_cluster.proofs.Changing.{due_some, due_none}
+use Rattle.serve_cluster.proofs.Coming.{due_some, due_none}
 use Rattle.serve_cluster.proofs.changing.Changing.is_due.Goals as goal
 
 pub returns-in-None : goal.returns-in-None

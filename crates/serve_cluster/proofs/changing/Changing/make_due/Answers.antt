@@ -1,6 +1,6 @@
 use Rattle.serve_cluster.proofs.Acting.{cause_more}
 use Rattle.std.proofs.Common.{sym, ◌∙◌}
-use Rattle.serve_cluster.proofs.Changing.{nothing_due, due_made, due_lacks, due_computed, due_within}
+use Rattle.serve_cluster.proofs.Coming.{nothing_due, due_made, due_lacks, due_computed, due_within}
 use Rattle.serve_cluster.proofs.changing.Changing.make_due.Goals as goal
 
 pub change-requires-clause-state : goal.change-requires-clause-state

@@ -1,5 +1,5 @@
 use Rattle.serve_cluster.proofs.Acting.{cause_more}
-use Rattle.serve_cluster.proofs.Changing.{mid_state, carried_all, carried_lacks, order_lacks}
+use Rattle.serve_cluster.proofs.Coming.{mid_state, carried_all, carried_lacks, order_lacks}
 use Rattle.serve_cluster.proofs.changing.ChangingStorage.carry.Goals as goal
 
 pub make_due-requires : goal.make_due-requires

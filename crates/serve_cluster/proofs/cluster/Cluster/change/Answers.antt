@@ -2,7 +2,7 @@ use Rattle.serve_cluster.proofs.Acting.{cause_more}
 use Rattle.std.proofs.Common.{refl, subst}
 use Rattle.serve_cluster.specs.Changes.{acts_with, DoesIn}
 use Rattle.serve_cluster.specs.Acting.{LacksRoom}
-use Rattle.serve_cluster.proofs.Changing.{changes_so, changes_lack}
+use Rattle.serve_cluster.proofs.Coming.{changes_so, changes_lack}
 use Rattle.serve_cluster.proofs.Carrying.{has_store}
 use Rattle.serve_cluster.proofs.cluster.Cluster.change.Goals as goal
 
