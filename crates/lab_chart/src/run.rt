@@ -41,6 +41,8 @@ fn field_text(name: FieldName) -> &'static str {
         FieldName::Id => "id",
         FieldName::Zone => "zone",
         FieldName::Capacity => "capacity",
+        FieldName::Change => "change",
+        FieldName::After => "after",
         FieldName::Region => "region",
         FieldName::Key => "key",
         FieldName::Old => "old",

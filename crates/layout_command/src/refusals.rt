@@ -32,6 +32,8 @@ fn field_word(name: FieldName) -> &'static [u8]
         FieldName::Id => b"id",
         FieldName::Zone => b"zone",
         FieldName::Capacity => b"capacity",
+        FieldName::Change => b"change",
+        FieldName::After => b"after",
         FieldName::Region => b"region",
         FieldName::Key => b"key",
         FieldName::Old => b"old",

@@ -94,7 +94,10 @@ const SERVED: &str =
 
 // Whether a configuration has the buckets `pics` and `a.b-9`, and one node in the zone `z9`.
 fn has_names(config: &Config) -> bool {
-    match (config.buckets.as_slice(), config.roles.list.as_slice()) {
+    match (
+        config.buckets.list().as_slice(),
+        config.roles.list.as_slice(),
+    ) {
         ([pics, dotted], [role]) => {
             pics.as_slice() == b"pics".as_slice()
                 && dotted.as_slice() == b"a.b-9".as_slice()

@@ -2,3 +2,4 @@ pub mod Values
 pub mod Settings
 pub mod Keys
 pub mod Old
+pub mod Changes

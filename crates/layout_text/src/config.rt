@@ -1,8 +1,8 @@
 //! What a configuration says.
 ghost use Rattle.std.specs.Prelude.{◌≡◌};
 
-use crdt_core::{Bytes, List};
 use layout_roles::{Redundancy, Roles};
+use name_set::Names;
 use std::alloc::AllocError;
 
 /// What a configuration says.
@@ -12,7 +12,7 @@ pub struct Config {
     pub redundancy: Redundancy,
     pub roles: Roles,
     /// The names of the buckets that `serve` has, each once; none for `layout`.
-    pub buckets: List<Bytes>,
+    pub buckets: Names,
     /// The size in bytes of the blocks that `serve` cuts objects into.
     pub block_size: u32,
 }
@@ -27,6 +27,10 @@ pub enum FieldName {
     Id,
     Zone,
     Capacity,
+    /// The tables of changes.
+    Change,
+    /// After how many requests a change comes.
+    After,
     Region,
     Key,
     /// The tables of the old sets, which are looked at after all others.

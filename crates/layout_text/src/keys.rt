@@ -13,6 +13,7 @@ use crate::config::{ConfigFault, FieldName};
 use crate::values;
 use crdt_core::{Bytes, List, Memory};
 use layout_roles::is_name_byte;
+use name_set::Names;
 use std::alloc::Global;
 use toml::{Table, Value};
 
@@ -131,20 +132,16 @@ fn secret(table: &Table) -> Option<&str>
 }
 
 // The name of a bucket that is configured.
-fn configured<'a>(buckets: &[Bytes], value: &'a Value) -> Option<&'a str>
+fn configured<'a>(buckets: &Names, value: &'a Value) -> Option<&'a str>
     ensures { option_copied result ≡ configured buckets.now (view value.now) }
 {
     match value.as_str() {
-        Some(name) if values::has_name(buckets, name.as_bytes()) => Some(name),
+        Some(name) if buckets.has(name.as_bytes()) => Some(name),
         _ => None,
     }
 }
 
-fn names_of(
-    alloc: Global,
-    buckets: &[Bytes],
-    values: &[Value],
-) -> Result<Option<List<Bytes>>, Memory>
+fn names_of(alloc: Global, buckets: &Names, values: &[Value]) -> Result<Option<List<Bytes>>, Memory>
     ensures names { IfOk result (λ names. names ≡ listed_of buckets.now [] (items_view values.now)) }
     ensures want { OnlyWant result }
 {
@@ -160,7 +157,7 @@ fn names_of(
 
 fn names_at(
     alloc: Global,
-    buckets: &[Bytes],
+    buckets: &Names,
     table: &Table,
     key: &str,
 ) -> Result<Option<List<Bytes>>, Memory>
@@ -176,7 +173,7 @@ fn names_at(
 // The buckets that a key has in a list, which it must have.
 fn listed(
     alloc: Global,
-    buckets: &[Bytes],
+    buckets: &Names,
     table: &Table,
     key: &str,
 ) -> Result<List<Bytes>, ConfigFault>
@@ -192,7 +189,7 @@ fn listed(
 // The key of a table, after the keys before it.
 fn one_key(
     alloc: Global,
-    buckets: &[Bytes],
+    buckets: &Names,
     before: &[Key],
     table: &Table,
 ) -> Result<Key, ConfigFault>
@@ -210,7 +207,7 @@ fn one_key(
     })
 }
 
-fn keys_of(alloc: Global, buckets: &[Bytes], values: &[Value]) -> Result<List<Key>, ConfigFault>
+fn keys_of(alloc: Global, buckets: &Names, values: &[Value]) -> Result<List<Key>, ConfigFault>
     ensures { Reads (faulted (keys_of buckets.now [] (items_view values.now))) result }
 {
     let mut keys: List<Key> = List::new(alloc);
@@ -222,7 +219,7 @@ fn keys_of(alloc: Global, buckets: &[Bytes], values: &[Value]) -> Result<List<Ke
     Ok(keys)
 }
 
-fn keys_at(alloc: Global, buckets: &[Bytes], root: &Table) -> Result<List<Key>, ConfigFault>
+fn keys_at(alloc: Global, buckets: &Names, root: &Table) -> Result<List<Key>, ConfigFault>
     ensures { Reads (faulted (keys_at buckets.now (get_member (codes "key") (table_view root.now)))) result }
 {
     match values::value_at(root, "key") {
@@ -235,7 +232,7 @@ fn keys_at(alloc: Global, buckets: &[Bytes], root: &Table) -> Result<List<Key>, 
 }
 
 #[tactic(auto, unfolding(crate::specs::Keys::access_in))]
-fn access_of(alloc: Global, buckets: &[Bytes], root: &Table) -> Result<Access, ConfigFault>
+fn access_of(alloc: Global, buckets: &Names, root: &Table) -> Result<Access, ConfigFault>
     ensures { Reads (faulted (access_in buckets.now (table_view root.now))) result }
 {
     let region = region(root).ok_or(FieldName::Region)?;
@@ -250,7 +247,7 @@ fn access_of(alloc: Global, buckets: &[Bytes], root: &Table) -> Result<Access, C
 /// The region and the keys of a configuration in TOML with these buckets: `region` at the top, `garage` where
 /// there is none, and the tables `[[key]]` with `id`, `secret` and the lists `read` and `write` of buckets.
 /// Else its first bad field, the region before the keys.
-pub fn read_access(alloc: Global, text: &str, buckets: &[Bytes]) -> Result<Access, ConfigFault>
+pub fn read_access(alloc: Global, text: &str, buckets: &Names) -> Result<Access, ConfigFault>
     ensures { Reads (access_said buckets.now text.now) result }
 {
     match toml::table_from_str(alloc, text) {

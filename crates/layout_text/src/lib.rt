@@ -7,6 +7,7 @@
 //! of the flow network for the next size (`cut_lines`), which shows that no greater size is possible. Equal
 //! neighbours share a line: `longest_runs` says that no line could be longer.
 //!
+//! `read_changes` reads which other roles the cluster gets while it is served, and after how many requests.
 //! `read_access` reads which keys may sign requests, and for which region.
 //!
 //! `append_word` and `append_number` write a word or a number after one space, and `run_length` finds the runs of
@@ -15,6 +16,8 @@
 //! Each call gives exactly what the definition of its contract says, and fails else only for want of memory.
 #![tactic(auto)]
 
+mod change;
+mod changes;
 mod config;
 mod cut;
 mod keys;
@@ -27,6 +30,8 @@ mod sets;
 mod values;
 mod words;
 
+pub use change::Change;
+pub use changes::read_changes;
 pub use config::{Config, ConfigFault, FieldName};
 pub use cut::{cut_lines, is_in_partition};
 pub use keys::{Access, Key, read_access};

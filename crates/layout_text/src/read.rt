@@ -13,6 +13,7 @@ use crate::config::{Config, ConfigFault, FieldName};
 use crate::values;
 use crdt_core::{Bytes, List, Memory};
 use layout_roles::{Role, Roles, Zone};
+use name_set::Names;
 use std::alloc::Global;
 use toml::value::Array;
 use toml::{Table, Value};
@@ -21,21 +22,21 @@ use toml::{Table, Value};
 const SERVE: u8 = 16;
 
 // The names of buckets, each once.
-fn names_of(alloc: Global, values: &[Value]) -> Result<Option<List<Bytes>>, Memory>
+fn names_of(alloc: Global, values: &[Value]) -> Result<Option<Names>, Memory>
     ensures names { IfOk result (λ names. names ≡ buckets_of [] (items_view values.now)) }
     ensures want { OnlyWant result }
 {
-    let mut names: List<Bytes> = List::new(alloc);
+    let mut names = Names::new(alloc);
     for value in values {
-        match values::bucket_of(names.as_slice(), value) {
-            Some(name) => names.push(Bytes::from_slice(alloc, name.as_bytes())?)?,
+        match values::bucket_of(&names, value) {
+            Some(name) => names.push(name.as_bytes())?,
             None => return Ok(None),
         }
     }
     Ok(Some(names))
 }
 
-fn named_buckets(alloc: Global, root: &Table) -> Result<Option<List<Bytes>>, Memory>
+fn named_buckets(alloc: Global, root: &Table) -> Result<Option<Names>, Memory>
     ensures names { IfOk result (λ names. names ≡ buckets_in (table_view root.now)) }
     ensures want { OnlyWant result }
 {
@@ -46,11 +47,11 @@ fn named_buckets(alloc: Global, root: &Table) -> Result<Option<List<Bytes>>, Mem
 }
 
 // The names of the buckets for `serve`, and none for `layout`.
-fn buckets(alloc: Global, greatest: u8, root: &Table) -> Result<List<Bytes>, ConfigFault>
+fn buckets(alloc: Global, greatest: u8, root: &Table) -> Result<Names, ConfigFault>
     ensures { Reads (faulted (needed field.Buckets (buckets_for greatest (table_view root.now)))) result }
 {
     if greatest != SERVE {
-        return Ok(List::new(alloc));
+        return Ok(Names::new(alloc));
     }
     match named_buckets(alloc, root)? {
         Some(names) => Ok(names),
@@ -119,7 +120,7 @@ fn node_values(root: &Table) -> Option<&Array>
     }
 }
 
-fn are_tables(values: &[Value]) -> bool
+pub(crate) fn are_tables(values: &[Value]) -> bool
     ensures { result ≡ list_all (λ value. is_some (as_table (view value))) values.now }
 {
     values.iter().all(|value| value.is_table())
@@ -141,7 +142,7 @@ fn roles_of(alloc: Global, greatest: u8, nodes: &[Value]) -> Result<Roles, Confi
 
 #[tactic(auto, unfolding(crate::specs::Settings::roles_for))]
 // The roles of the nodes, in order of nodes.
-fn roles(alloc: Global, greatest: u8, root: &Table) -> Result<Roles, ConfigFault>
+pub(crate) fn roles(alloc: Global, greatest: u8, root: &Table) -> Result<Roles, ConfigFault>
     ensures roles { IfOk result (λ roles. faulted (roles_for greatest (table_view root.now)) ≡ Ok roles.list) }
     ensures fault { IfErr result (IsFaultOf (faulted (roles_for greatest (table_view root.now)))) }
 {

@@ -1,13 +1,11 @@
 //! The values of a configuration's keys.
 ghost use Rattle.std.specs.Prelude.{◌≡◌, ◌≤◌, IfSome, option_map, option_copied, option_and_then};
-ghost use Rattle.std.specs.List.{list_any};
 ghost use Rattle.toml.specs.Data.{get_member, as_array};
 ghost use Rattle.toml.specs.View.{view, array_view, table_view};
-ghost use Rattle.layout_roles.specs.Zones.{same_name};
 ghost use Rattle.layout_text.specs.Values.{between, number_in, redundancy_of, redundancy_in, bucket_of, block_size_in, is_taken, id_in, zone_of, zone_in, is_set, kind_in};
 
-use crdt_core::Bytes;
 use layout_roles::{Kind, Redundancy, Role, is_bucket_name, is_zone_name};
+use name_set::Names;
 use toml::value::Array;
 use toml::{Table, Value};
 
@@ -78,22 +76,13 @@ pub(crate) fn redundancy(root: &Table) -> Option<Redundancy>
 
 /// A bucket's name that none of these before it is: 3 to 63 lower-case letters, digits, `-` and `.`, the
 /// first and the last a letter or digit.
-pub(crate) fn bucket_of<'a>(before: &[Bytes], value: &'a Value) -> Option<&'a str>
+pub(crate) fn bucket_of<'a>(before: &Names, value: &'a Value) -> Option<&'a str>
     ensures { option_copied result ≡ bucket_of before.now (view value.now) }
 {
     match value.as_str() {
-        Some(name) if is_bucket_name(name.as_bytes()) && !has_name(before, name.as_bytes()) => Some(
-            name,
-        ),
+        Some(name) if is_bucket_name(name.as_bytes()) && !before.has(name.as_bytes()) => Some(name),
         _ => None,
     }
-}
-
-/// Whether one of the names is this.
-pub(crate) fn has_name(names: &[Bytes], name: &[u8]) -> bool
-    ensures { result ≡ list_any (same_name name.now) names.now }
-{
-    names.iter().any(|other| name == other.as_slice())
 }
 
 /// The block size in bytes, 1,048,576 where there is none.

@@ -4,9 +4,10 @@ ghost use Rattle.crdt_core.specs.Outcomes.{OnlyWant};
 ghost use Rattle.store_model.specs.Orders.{kind_of as kind_of_order, name_of, buckets_of};
 ghost use Rattle.store_model.specs.Run.{began_with as record_of_beginning, is_bucket as is_made, are_buckets as are_made};
 
-use crdt_core::{Bytes, List, Memory, Value};
+use crdt_core::{Bytes, Memory, Value};
 use flow_model::Order;
 use history_model::{Kind, Record};
+use name_set::Names;
 
 /// What the request does.
 pub fn kind_of(order: &Order) -> Kind
@@ -53,14 +54,14 @@ pub fn began_with(request: u64, node: u8, order: &Order) -> Result<Record, Memor
 }
 
 /// Whether the bucket is one of these.
-pub fn is_bucket(buckets: &List<Bytes>, name: &Bytes) -> bool
+pub fn is_bucket(buckets: &Names, name: &Bytes) -> bool
     ensures { result ≡ is_made buckets.now name.now }
 {
-    buckets.as_slice().contains(name)
+    buckets.has(name.as_slice())
 }
 
 /// Whether each bucket that the request names is one of these.
-pub fn are_buckets(buckets: &List<Bytes>, order: &Order) -> bool
+pub fn are_buckets(buckets: &Names, order: &Order) -> bool
     ensures { result ≡ are_made buckets.now (buckets_of order.now) }
 {
     match order {

@@ -9,31 +9,34 @@ ghost use Rattle.cluster_machine.specs.declared.step.Words.TheVariants.{Empty};
 ghost use Rattle.cluster_machine.specs.declared.step.Step.TheVariants as step;
 ghost use Rattle.cluster_machine.specs.World.{is_member_at, undelivered, sent_bytes, node_line};
 ghost use Rattle.cluster_machine.specs.Layouts.{layouts};
+ghost use Rattle.layout_roles.specs.Fits.{IsGreatest};
 ghost use Rattle.view_model.specs.Layouts.{reading};
 ghost use Rattle.cluster_machine.specs.Blocks.{StepBringsBlocks};
 ghost use Rattle.cluster_machine.specs.Choices.{IsFirst};
 ghost use Rattle.cluster_machine.specs.Worlds.{IsMeant};
 ghost use Rattle.flow_model.specs.declared.order.Order.{Order as Ordered};
 ghost use Rattle.crdt_rows.specs.AnyRow.{any_join};
+ghost use Rattle.change_model.specs.Given.{applying};
 ghost use Rattle.world_core.specs.Nodes.{shown_line};
 ghost use Rattle.store_model.specs.Run.{State, start as nothing_yet, begins, opened, delivers, drains, silent};
-ghost use Rattle.store_model.specs.Acts.{HasKey, acted, installs, asks, drain, forgets, takes, end_of, all_messages};
+ghost use Rattle.store_model.specs.Acts.{HasKey, acted, moves, installs, asks, drain, forgets, takes, end_of, all_messages};
 ghost use Rattle.s3_world.specs.Stands.{IsMeantEvent, IsQuiet};
 
 use crate::driver::{Driver, accepted};
 use crate::events::{copy, delete, get, head, list, put};
 use crate::orders::are_buckets;
-use cluster_machine::applied::Refusal;
+use cluster_machine::applied::{Applied, Refusal};
 use cluster_machine::{Step, Words};
 use crdt_core::{Bytes, List, Memory, Value};
 use crdt_rows::AnyRow;
 use flow_model::{FlowEnd, Order};
 use history_model::History;
-use layout_roles::{Kind as RoleKind, Layout, Zone};
+use layout_roles::{Kind as RoleKind, Layout, Redundancy, Roles, Zone};
+use name_set::Names;
 use s3_flow::ObjectFlows;
 use std::alloc::Global;
 use store_model::{Event, Told};
-use world_core::NodeLine;
+use world_core::{NodeLine, Report};
 
 /// How many bytes a block has, where no schedule says otherwise: a mebibyte.
 const BLOCK_SIZE: u32 = 1_048_576;
@@ -42,7 +45,7 @@ const BLOCK_SIZE: u32 = 1_048_576;
 #[derive(Drop)]
 pub struct S3World {
     driver: Driver<ObjectFlows>,
-    buckets: List<Bytes>,
+    buckets: Names,
     /// The size of the blocks of later requests, in bytes.
     block: u32,
     alloc: Global,
@@ -59,6 +62,17 @@ fn copy_role(role: &Option<(Zone, RoleKind)>) -> Result<Option<(Zone, RoleKind)>
     }
 }
 
+// What a step of the world answers that ends no request.
+fn answered(report: Report<AnyRow>) -> Told
+    ensures { result ≡ record { refused = report.refused; words = report.words; lines = report.lines } }
+{
+    Told {
+        refused: report.refused,
+        words: report.words,
+        lines: report.lines,
+    }
+}
+
 impl S3World {
     ghost use Rattle.s3_world.specs.Stands.{IsStore, HasStore, Becomes, Carries, Starts, Plays, PlaysIf, PlaysStep, PlaysEvent, Overflows, OverflowsIf, OverflowsStep, OverflowsEvent};
 
@@ -69,7 +83,7 @@ impl S3World {
     {
         Ok(S3World {
             driver: Driver::new(alloc, ObjectFlows)?,
-            buckets: List::new(alloc),
+            buckets: Names::new(alloc),
             block: BLOCK_SIZE,
             alloc,
         })
@@ -110,6 +124,14 @@ impl S3World {
         self.driver.world.applied()
     }
 
+    /// The staged roles and redundancy.
+    pub fn staged(&self) -> (&Roles, Redundancy)
+        ensures roles { (s : State) → IsStore self.now s → result.0.now.list ≡ s.world.roles }
+        ensures redundancy { (s : State) → IsStore self.now s → result.1 ≡ s.world.redundancy }
+    {
+        self.driver.world.staged()
+    }
+
     /// What a node shows of itself, None where it knows no layout version.
     pub fn node_line(&self, node: u8) -> Result<Option<NodeLine>, Memory>
         ensures line { IfOk result (λ line. (s : State) → IsStore self.now s → option_map shown_line line ≡ node_line any_join words layouts s.world node) }
@@ -136,6 +158,18 @@ impl S3World {
         ensures want { OnlyWant result }
     {
         self.driver.world.install(first, nodes)
+    }
+
+    /// Applies a layout that was computed before at a node, as its next version. It has to be the greatest of its own
+    /// roles; that these are the ones that are staged is asked of a lawful run, not here.
+    pub fn apply_with(&mut self, node: u8, shown: Applied) -> Result<Told, Memory>
+        requires stands { HasStore self.old }
+        requires greatest { IsGreatest shown.roles.list shown.certified.r shown.certified.size shown.certified.sets.sets }
+        ensures plays { IfOk result (λ told. Plays self.old self.new told (λ s. acted s (moves (applying s.world node shown)))) }
+        ensures want { OnlyWant result }
+    {
+        let report = self.driver.world.apply_with(node, shown)?;
+        Ok(answered(report))
     }
 
     /// Opens a request at a node and gives its number, or says why not.
@@ -270,11 +304,7 @@ impl S3World {
         ensures causes { WantOr result (OverflowsStep self.old step) }
     {
         let report = self.driver.world.step(step)?;
-        Ok(Told {
-            refused: report.refused,
-            words: report.words,
-            lines: report.lines,
-        })
+        Ok(answered(report))
     }
 
     // Later requests cut bytes into blocks of this size.
@@ -290,7 +320,7 @@ impl S3World {
         ensures plays { IfOk result (λ told. Plays self.old self.new told (λ s. silent (record s { buckets = s.buckets ++ name.now ∷ [] }))) }
         ensures want { OnlyWant result }
     {
-        self.buckets.push(name.copy()?)?;
+        self.buckets.push(name.as_slice())?;
         Ok(accepted(List::new(self.alloc)))
     }
 

@@ -81,7 +81,7 @@ fn access_of(alloc: Global, text: &str, config: &Config) -> Result<Access, Stop>
     ensures allows { IfOk result (λ access. access_said config.now.buckets text.now ≡ Ok access) }
     ensures causes { (comings : Sequence Said) → changes_said greatest_node text.now ≡ Ok comings → IfErr result (IsOfText text.now) }
 {
-    match read_access(alloc, text, config.buckets.as_slice()) {
+    match read_access(alloc, text, &config.buckets) {
         Ok(access) => Ok(access),
         Err(ConfigFault::NotToml) => Err(Stop::Refused(bad_toml(alloc)?)),
         Err(ConfigFault::Field(name)) => Err(Stop::Refused(bad_field(alloc, name)?)),
@@ -156,7 +156,7 @@ fn plan_of_text(alloc: Global, text: &str) -> Result<Plan, Stop>
     let access = access_of(alloc, text, &config)?;
     let certified = laid_out(alloc, &config.roles, config.redundancy)?;
     let changes = planned(alloc, comings)?;
-    let names = in_order(&config.buckets)?;
+    let names = in_order(config.buckets.list())?;
     Ok(Plan {
         config,
         certified,

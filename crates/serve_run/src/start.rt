@@ -87,7 +87,7 @@ pub fn installed(alloc: Global, plan: &Plan) -> Result<S3World, Memory>
 {
     let mut world = prepared(
         alloc,
-        plan.config.buckets.as_slice(),
+        plan.config.buckets.list().as_slice(),
         plan.config.block_size,
     )?;
     let nodes = nodes_of(alloc, plan.config.roles.list.as_slice())?;

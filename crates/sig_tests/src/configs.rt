@@ -1,14 +1,15 @@
 //! Keys and regions of configurations.
-use crdt_core::{Bytes, List, Memory};
+use crdt_core::{Bytes, Memory};
 use layout_text::{Access, ConfigFault, FieldName, read_access};
+use name_set::Names;
 use std::alloc::Global;
 use std::test::Fail;
 
 fn access(alloc: Global, text: &str) -> Result<Access, ConfigFault> {
-    let mut buckets = List::new(alloc);
-    buckets.push(Bytes::from_slice(alloc, b"pics")?)?;
-    buckets.push(Bytes::from_slice(alloc, b"logs")?)?;
-    read_access(alloc, text, buckets.as_slice())
+    let mut buckets = Names::new(alloc);
+    buckets.push(b"pics")?;
+    buckets.push(b"logs")?;
+    read_access(alloc, text, &buckets)
 }
 
 fn appended(out: &mut Bytes, names: &[Bytes]) -> Result<(), Memory> {

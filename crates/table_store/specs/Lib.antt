@@ -1,4 +1,5 @@
 pub mod Index
+pub mod Notes
 pub mod Shelf
 pub mod Pairs
 pub mod Settled

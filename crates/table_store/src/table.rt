@@ -11,7 +11,7 @@ ghost use Rattle.walk_model.specs.Noting.{has_table, is_noted};
 ghost use Rattle.walk_model.specs.Walking.{is_open, taken, asks, notes, plain};
 ghost use Rattle.merkle_sync.specs.Telling.{Tells, TellsNothing};
 
-use crate::noted::{has_rows, push_noted};
+use crate::noted::{has_rows, notes_of, push_noted};
 use crate::roots::take_roots;
 use crate::settling::{settle_all, trie_of};
 use crate::shelf::{Shelf, Taken, drop_rows, find, push_blocks, push_partition, take_into};
@@ -169,10 +169,11 @@ impl<S: Schema> Table<S> {
         ensures are { IfOk result (λ rows. rows.items ≡ filter (is_noted S.words noted.now) (rows_in S.words p self.now)) }
         ensures want { OnlyWant result }
     {
+        let notes = notes_of(self.alloc, noted)?;
         let mut rows = Vec::new(self.alloc);
-        push_noted::<S>(&self.first, 1, p, noted, &mut rows)?;
-        push_noted::<S>(&self.second, 2, p, noted, &mut rows)?;
-        push_noted::<S>(&self.third, 3, p, noted, &mut rows)?;
+        push_noted::<S>(&self.first, 1, p, &notes, &mut rows)?;
+        push_noted::<S>(&self.second, 2, p, &notes, &mut rows)?;
+        push_noted::<S>(&self.third, 3, p, &notes, &mut rows)?;
         Ok(rows)
     }
 

@@ -28,7 +28,7 @@ use Rattle.cluster_machine.specs.Step.{trio_applies, applied}
 use Rattle.cluster_machine.specs.Layouts.{layouts}
 use Rattle.node_core.specs.declared.node.Node.{Node}
 use Rattle.node_core.specs.Stands.{view_of}
-use Rattle.cluster_machine.specs.Choices.{IsFirst}
+use Rattle.cluster_machine.specs.Choices.{IsFirst, HasGreatest}
 use Rattle.cluster_machine.specs.Worlds.{Model, installed}
 use Rattle.world_laws.proofs.Additions.{fine_stays_sound}
 use Rattle.world_laws.proofs.Steps.{fine_first}
@@ -219,9 +219,12 @@ each_once before [] h = tt
 each_once before (role ∷ roles) h = (above_all role.node role.node roles (omega arith) ((and_parts _ _ h).1), each_once role.node roles ((and_parts _ _ h).1))
 
 -- a greatest layout has members, each once
-pub first_has_members : (first : Layout) → IsFirst first → IsTrue (has_members first)
+pub greatest_has_members : (l : Layout) → HasGreatest l → IsTrue (has_members l)
 unfolding partitions
-first_has_members first is = some_members first.roles.list first.sets.sets is.greatest.fits.whole is.greatest.fits.threes
+greatest_has_members l is = some_members l.roles.list l.sets.sets is.fits.whole is.fits.threes
+
+pub first_has_members : (first : Layout) → IsFirst first → IsTrue (has_members first)
+first_has_members first is = greatest_has_members first is.greatest
 
 pub members_once : (roles : Roles) → IsDistinct nat_eq (map (λ role. role.node) roles.list)
 members_once roles = each_once 0 roles.list roles.ascending

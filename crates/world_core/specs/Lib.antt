@@ -1,3 +1,4 @@
 pub mod Parts
 pub mod Nodes
 pub mod Stands
+pub mod Given

@@ -2,9 +2,7 @@
 use Rattle.std.specs.Prelude.{◌≡◌, ◌<◌, ◌≤◌, ◌+◌, ◌^◌, ℕ, suc, Bool, true, false, not, ◌&&◌, cond, Option, Some, None, is_some, is_none, List, [], ◌∷◌, length, map, slice_get, slice_index_or, ⊤}
 use Rattle.std.specs.List.{AllZip}
 use Rattle.layout_roles.specs.declared.layout.Layout.{Layout}
-use Rattle.layout_roles.specs.declared.roles.Roles.{Roles}
 use Rattle.layout_roles.specs.declared.cut.Cut.{Cut}
-use Rattle.layout_roles.specs.declared.certified.Certified.{Certified}
 use Rattle.table_schema.specs.Words.{Words}
 use Rattle.cluster_machine.specs.declared.line.SentKind.{SentKind}
 use Rattle.cluster_machine.specs.declared.line.Line.TheVariants.{Sent as WasSent}
@@ -12,19 +10,16 @@ use Rattle.cluster_machine.specs.declared.step.Refusal.{Refusal}
 use Rattle.cluster_machine.specs.declared.step.Refusal.TheVariants.{NoSuchMessage, Lost}
 use Rattle.cluster_machine.specs.World as machine
 use Rattle.cluster_machine.specs.World.{Sent, Mark, numbered, packet_size, sent_bytes}
-use Rattle.cluster_machine.specs.Step.{given, none_given, kind_of as kind_told}
+use Rattle.cluster_machine.specs.Step.{kind_of as kind_told}
 use Rattle.cluster_machine.specs.declared.line.Line.{Line}
 use Rattle.node_parts.specs.declared.packet.Packet.{Packet}
 use Rattle.node_parts.specs.declared.packet.Envelope.{Envelope}
 use Rattle.node_parts.specs.Posts.{told}
 use Rattle.cluster_machine.specs.declared.applied.Applied.{Applied}
-use Rattle.cluster_machine.specs.Choices.{Decision}
 use Rattle.world_core.specs.declared.clocks.Clocks.{Clocks}
 use Rattle.world_core.specs.declared.requests.Request.{Request}
 use Rattle.world_core.specs.declared.post.Slot.{Slot}
 use Rattle.world_core.specs.declared.post.Post.{Post}
-use Rattle.world_core.specs.declared.decide.Decided.{Decided}
-use Rattle.world_core.specs.declared.decide.Decided.TheVariants.{Given, Refused}
 
 -- ---- requests
 
@@ -43,18 +38,6 @@ pub record AreClocks (c : Clocks) (time : ℕ) (skew_of : ℕ → ℕ) : Type 0 
   pub time_is : c.time ≡ time
   pub skews : (n : ℕ) → slice_index_or c.skews n 0 ≡ skew_of n
   pub none_late : NoneLate time skew_of
-
--- ---- layouts
-
--- what an apply is given, in the words of the machine
-abbrev pub decision : Decided → Decision
-decision (Given l shown) = given l shown
-decision (Refused refusal) = none_given refusal
-
--- a layout with this assignment is given
-abbrev pub IsGiven : Roles → ℕ → Certified → Decision → Type 0
-IsGiven roles version certified (given l shown) = (l ≡ record { version = version; roles = roles; r = certified.r; size = certified.size; sets = certified.sets }) × (shown ≡ record { certified = certified; roles = roles })
-IsGiven roles version certified (none_given refusal) = ⊥
 
 -- ---- messages
 

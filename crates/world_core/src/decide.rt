@@ -2,37 +2,35 @@
 ghost use Rattle.std.specs.Prelude.{◌≡◌, IfOk};
 ghost use Rattle.crdt_core.specs.Outcomes.{OnlyWant};
 ghost use Rattle.layout_roles.specs.Certificates.{IsRedundancy};
-ghost use Rattle.cluster_machine.specs.Choices.{IsComputed};
-ghost use Rattle.world_core.specs.Parts.{decision, IsGiven};
+ghost use Rattle.change_model.specs.Given.{layout_of};
+ghost use Rattle.world_core.specs.Given.{IsDecided};
 
 use cluster_machine::applied::{Applied, Refusal};
 use crdt_core::Memory;
-use layout_roles::{Certified, Layout, Redundancy, Roles};
+use layout_roles::{Layout, Redundancy, Roles};
 use layout_size::{LayoutFault, compute};
 use std::alloc::Global;
 
 /// What an apply is given.
 #[derive(Drop)]
 pub enum Decided {
-    /// A layout of the greatest partition size, and what is printed of it.
-    Given(Layout, Applied),
+    /// A layout of the greatest partition size.
+    Given(Applied),
     /// Why there is none.
     Refused(Refusal),
 }
 
-/// The layout of these roles as this version, or why there is none.
-pub fn decide(
-    alloc: Global,
-    roles: &Roles,
-    wanted: Redundancy,
-    version: u32,
-) -> Result<Decided, Memory>
+/// The layout of these roles, or why there is none.
+pub fn decide(alloc: Global, roles: &Roles, wanted: Redundancy) -> Result<Decided, Memory>
     requires { IsRedundancy wanted }
-    ensures computed { IfOk result (λ decided. IsComputed roles.now.list wanted version (decision decided)) }
+    ensures decided { IfOk result (λ decided. IsDecided roles.now wanted decided) }
     ensures want { OnlyWant result }
 {
     match compute(alloc, roles, wanted) {
-        Ok(certified) => given(roles, version, certified),
+        Ok(certified) => {
+            let roles = roles.copy()?;
+            Ok(Decided::Given(Applied { certified, roles }))
+        }
         Err(LayoutFault::TooFewNodes(nodes)) => {
             Ok(Decided::Refused(Refusal::TooFewNodes(nodes)))
         }
@@ -44,21 +42,16 @@ pub fn decide(
     }
 }
 
-// The layout with a computed assignment, and what is printed of it.
-fn given(roles: &Roles, version: u32, certified: Certified) -> Result<Decided, Memory>
-    ensures given { IfOk result (λ decided. IsGiven roles.now version certified (decision decided)) }
+/// The layout that is shown, as this version.
+pub fn layout_of(version: u32, shown: &Applied) -> Result<Layout, Memory>
+    ensures is { IfOk result (λ layout. layout ≡ layout_of version shown.now) }
     ensures want { OnlyWant result }
 {
-    let layout = Layout {
+    Ok(Layout {
         version,
-        roles: roles.copy()?,
-        r: certified.r,
-        size: certified.size,
-        sets: certified.sets.copy()?,
-    };
-    let applied = Applied {
-        certified,
-        roles: roles.copy()?,
-    };
-    Ok(Decided::Given(layout, applied))
+        roles: shown.roles.copy()?,
+        r: shown.certified.r,
+        size: shown.certified.size,
+        sets: shown.certified.sets.copy()?,
+    })
 }

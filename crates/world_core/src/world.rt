@@ -4,6 +4,7 @@ ghost use Rattle.crdt_core.specs.Outcomes.{OnlyWant, WantOr};
 ghost use Rattle.crdt_core.specs.declared.memory.Memory.TheVariants.{Full};
 ghost use Rattle.blake2_hash.specs.Blake2b.{blake2b};
 ghost use Rattle.layout_roles.specs.Certificates.{IsRedundancy};
+ghost use Rattle.layout_roles.specs.Fits.{IsGreatest};
 ghost use Rattle.table_model.specs.Rows.{rows};
 ghost use Rattle.table_model.specs.Top.{any_unspelled};
 ghost use Rattle.view_model.specs.Layouts.{reading};
@@ -19,11 +20,12 @@ ghost use Rattle.cluster_machine.specs.declared.line.EndWord.TheVariants as word
 ghost use Rattle.cluster_machine.specs.Step.{told};
 ghost use Rattle.cluster_machine.specs.World.{clock, is_member_at, undelivered, sent_bytes, node_line, forget_delivered, empty};
 ghost use Rattle.cluster_machine.specs.Worlds.{Model, IsMeant, installed};
+ghost use Rattle.world_core.specs.Given.{next_version, Applies};
 ghost use Rattle.world_core.specs.Nodes.{shown_line, newest_in};
 ghost use Rattle.world_core.specs.Stands.{SendsOut, CannotSend, acts_so, local_so, ended};
 
 use crate::clocks::Clocks;
-use crate::decide::{Decided, decide};
+use crate::decide::{Decided, decide, layout_of};
 use crate::lines::push_synced;
 use crate::node_line::NodeLine;
 use crate::nodes::Nodes;
@@ -142,6 +144,14 @@ impl<S: Schema> World<S> {
         self.requests.len()
     }
 
+    /// The staged roles and redundancy.
+    pub fn staged(&self) -> (&Roles, Redundancy)
+        ensures roles { (w : Model S.Row) → StandsFor S.Row.join S.words self.now w → result.0.now.list ≡ w.roles }
+        ensures redundancy { (w : Model S.Row) → StandsFor S.Row.join S.words self.now w → result.1 ≡ w.redundancy }
+    {
+        (&self.roles, self.redundancy)
+    }
+
     /// How many layout versions were applied.
     pub fn applied(&self) -> u32
         ensures { (w : Model S.Row) → StandsFor S.Row.join S.words self.now w → result ≡ w.applied }
@@ -198,6 +208,26 @@ impl<S: Schema> World<S> {
             Step::Phase(request, phase) => self.phase(request, phase),
             Step::Close(request) => self.close(request),
         }
+    }
+
+    /// The step `Apply` at a node with a layout that was computed before, as the node's next version. It has to be the
+    /// greatest of its own roles; that these are the ones that are staged is asked of a lawful run, not here.
+    pub fn apply_with(&mut self, node: u8, shown: Applied) -> Result<Report<S::Row>, Memory>
+        requires stands { IsWorld S.Row.join S.words self.old }
+        requires greatest { IsGreatest shown.roles.list shown.certified.r shown.certified.size shown.certified.sets.sets }
+        ensures applies { IfOk result (λ report. Applies S.Row.join S.words self.old self.new report node shown) }
+        ensures want { OnlyWant result }
+    {
+        let version = match self.next_version(node) {
+            Ok(version) => version,
+            Err(reason) => return Ok(self.refused(reason)),
+        };
+        let layout = layout_of(version, &shown)?;
+        self.nodes.append(node, layout)?;
+        self.applied += 1;
+        let mut lines = List::new(self.alloc);
+        lines.push(Line::Layout(shown))?;
+        Ok(self.told(Words::One(u64::from(version)), lines))
     }
 
     // Why a step is refused, and nothing else.
@@ -276,32 +306,35 @@ impl<S: Schema> World<S> {
         self.applied >= 1 && !self.nodes.is_member(node)
     }
 
-    // Versions are applied one after the other, each once in the world.
+    // The version of a layout that is applied at a node, or why it is refused.
+    fn next_version(&self, node: u8) -> Result<u32, Refusal>
+        requires stands { IsWorld S.Row.join S.words self.now }
+        ensures { (w : Model S.Row) → StandsFor S.Row.join S.words self.now w → result ≡ next_version w node }
+    {
+        if self.is_outside(node) {
+            return Err(Refusal::NotMember);
+        }
+        let newest = self.nodes.newest(node);
+        if newest < self.applied {
+            return Err(Refusal::VersionTaken(newest + 1));
+        }
+        if self.applied >= MOST_VERSIONS {
+            return Err(Refusal::VersionLimit);
+        }
+        Ok(newest + 1)
+    }
+
     fn apply(&mut self, node: u8) -> Result<Report<S::Row>, Memory>
         requires stands { IsWorld S.Row.join S.words self.old }
         ensures steps { IfOk result (λ report. Steps S.Row.join S.words self.old self.new report (step.Apply node)) }
         ensures want { OnlyWant result }
     {
-        if self.is_outside(node) {
-            return Ok(self.refused(Refusal::NotMember));
+        if let Err(reason) = self.next_version(node) {
+            return Ok(self.refused(reason));
         }
-        let newest = self.nodes.newest(node);
-        if newest < self.applied {
-            return Ok(self.refused(Refusal::VersionTaken(newest + 1)));
-        }
-        if self.applied >= MOST_VERSIONS {
-            return Ok(self.refused(Refusal::VersionLimit));
-        }
-        let version = newest + 1;
-        match decide(self.alloc, &self.roles, self.redundancy, version)? {
+        match decide(self.alloc, &self.roles, self.redundancy)? {
             Decided::Refused(reason) => Ok(self.refused(reason)),
-            Decided::Given(layout, applied) => {
-                self.nodes.append(node, layout)?;
-                self.applied += 1;
-                let mut lines = List::new(self.alloc);
-                lines.push(Line::Layout(applied))?;
-                Ok(self.told(Words::One(u64::from(version)), lines))
-            }
+            Decided::Given(shown) => self.apply_with(node, shown),
         }
     }
 

@@ -1,8 +1,6 @@
-use Rattle.std.proofs.Common.{◌≡◌, ◌++◌, Some, [], IsTrue, option_and_then, length, replicate, sym, ap, ◌∙◌, subst}
-use Rattle.std.specs.List.{list_all}
+use Rattle.std.proofs.Common.{◌≡◌, Some, [], option_and_then, length, sym, subst}
 use Rattle.toml.specs.Data.{as_table}
 use Rattle.toml.specs.View.{view, items_view}
-use Rattle.layout_roles.specs.Zones.{set_ascends}
 use Rattle.layout_text.specs.Old.{run_from, sets_of}
 use Rattle.layout_text.proofs.OldRuns.{ascending_more, rest_more}
 use Rattle.layout_text.proofs.old.sets.Goals as goal

@@ -1,4 +1,4 @@
-use Rattle.std.proofs.Common.{◌≡◌, ◌≤◌, [], IsTrue, drop, length}
+use Rattle.std.proofs.Common.{◌≡◌, [], IsTrue, drop}
 use Rattle.std.specs.List.{list_all}
 use Rattle.toml.specs.View.{items_view}
 use Rattle.layout_roles.specs.Zones.{set_ascends}

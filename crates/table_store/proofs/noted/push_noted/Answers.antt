@@ -3,12 +3,14 @@ use Rattle.std.proofs.Common.{ap, sym, ◌∙◌, append-nil, append_assoc}
 use Rattle.std.specs.Map.{keys_of}
 use Rattle.std.specs.Map.Iter.{deref_pair}
 use Rattle.std.specs.BTreeMap.{get}
+use Rattle.std.specs.BTreeSet.{contains}
 use Rattle.std.proofs.lemmas.Map.Views.{All-turn}
 use Rattle.blake2_hash.specs.Blake2b.{blake2b}
-use Rattle.walk_model.specs.Noting.{is_noted}
+use Rattle.blake2_hash.specs.Hash.{digest_of}
 use Rattle.table_store.specs.Index.{entries_in, known}
+use Rattle.table_store.specs.Notes.{is_among, note_cmp}
 use Rattle.table_store.specs.Shelf.{shelf_rows, vec_cmp}
-use Rattle.table_store.proofs.NotedRows.{has_hash, skip_key, take_key}
+use Rattle.table_store.proofs.NotedRows.{skip_key, take_key}
 use Rattle.table_store.proofs.Partitions.{walked, walk_is, are_there, none_in}
 use Rattle.table_store.proofs.noted.push_noted.Goals as goal
 
@@ -25,35 +27,35 @@ pub loop-key-preserved-in_ok-push-in-Some : goal.loop-key-preserved-in_ok-push-i
 loop-key-preserved-in_ok-push-in-Some g c =
     let words = g.S.Schema.words in
     let p = c.args.p in
-    let noted = c.args.noted.now in
+    let notes = c.args.notes.now in
     let entries = c.args.shelf.now.rows.entries in
     let key = c.in-Some-2.key.now in
     let next = keys_of c.next.new.self in
     let row = c.in-Some-row_in.row.now in
     let old = c.loop-key.rows.items in
-    let left = filter (is_noted words noted) (walked p next entries) in
-    let hash = c.key_hash.ensures ∙ ap (blake2b 32) c.as_slice.ensures.value in
-    let is : has_hash noted c.args.table (blake2b 32 key.items) ≡ true = ap (has_hash noted c.args.table) (sym hash) ∙ (sym c.has_noted.ensures ∙ c.if-has_noted.true) in
+    let left = filter (is_among words notes) (walked p next entries) in
+    let hash : c.key_hash.result ≡ digest_of key.items = λ i. record { 0 = (c.key_hash.ensures ∙ ap (blake2b 32) c.as_slice.ensures.value) i } in
+    let is : contains note_cmp notes (c.args.table, digest_of key.items) ≡ true = ap (λ h. contains note_cmp notes (c.args.table, h)) (sym hash) ∙ (sym c.contains.ensures ∙ c.if-contains.true) in
     ap (λ l. l ++ left) c.in_ok-push-in-Some.ensures.items
     ∙ (append_assoc old (c.in_ok-copy-in-Some.field-0 ∷ []) left
     ∙ (ap (λ r. old ++ r ∷ left) c.in_ok-copy-in-Some.ensures.same
-    ∙ (ap (λ l. old ++ l) (sym (take_key words c.args.table p entries c.requires.placed noted key next row is (sym c.in-Some-row_in.ensures)))
-    ∙ (ap (λ es. old ++ filter (is_noted words noted) (walked p (keys_of es) entries)) (sym c.in-Some-2.ensures.steps)
+    ∙ (ap (λ l. old ++ l) (sym (take_key words c.args.table p entries c.requires.placed notes key next row is (sym c.in-Some-row_in.ensures)))
+    ∙ (ap (λ es. old ++ filter (is_among words notes) (walked p (keys_of es) entries)) (sym c.in-Some-2.ensures.steps)
     ∙ c.loop-key.invariant))))
 
 pub loop-key-preserved : goal.loop-key-preserved
 loop-key-preserved g c =
     let words = g.S.Schema.words in
     let p = c.args.p in
-    let noted = c.args.noted.now in
+    let notes = c.args.notes.now in
     let entries = c.args.shelf.now.rows.entries in
     let key = c.in-Some-2.key.now in
     let next = keys_of c.next.new.self in
     let old = c.loop-key.rows.items in
-    let hash = c.key_hash.ensures ∙ ap (blake2b 32) c.as_slice.ensures.value in
-    let not : has_hash noted c.args.table (blake2b 32 key.items) ≡ false = ap (has_hash noted c.args.table) (sym hash) ∙ (sym c.has_noted.ensures ∙ c.if-has_noted.false) in
-    ap (λ l. old ++ l) (sym (skip_key words c.args.table p entries c.requires.placed noted key next not))
-    ∙ (ap (λ es. old ++ filter (is_noted words noted) (walked p (keys_of es) entries)) (sym c.in-Some-2.ensures.steps)
+    let hash : c.key_hash.result ≡ digest_of key.items = λ i. record { 0 = (c.key_hash.ensures ∙ ap (blake2b 32) c.as_slice.ensures.value) i } in
+    let not : contains note_cmp notes (c.args.table, digest_of key.items) ≡ false = ap (λ h. contains note_cmp notes (c.args.table, h)) (sym hash) ∙ (sym c.contains.ensures ∙ c.if-contains.false) in
+    ap (λ l. old ++ l) (sym (skip_key words c.args.table p entries c.requires.placed notes key next not))
+    ∙ (ap (λ es. old ++ filter (is_among words notes) (walked p (keys_of es) entries)) (sym c.in-Some-2.ensures.steps)
     ∙ c.loop-key.invariant)
 
 pub returns-in-None-clause-rows : goal.returns-in-None-clause-rows
@@ -61,7 +63,7 @@ returns-in-None-clause-rows g c =
     let p = c.args.p in
     let entries = c.args.shelf.now.rows.entries in
     let none = none_in p entries (are_there c.args.shelf.now.index p [] entries (ap (λ o. keys_of (entries_in o)) (sym c.in-None.ensures.value)) c.args.shelf.now.indexed) in
-    sym (append-nil c.args.rows.now.items) ∙ ap (λ es. c.args.rows.now.items ++ filter (is_noted g.S.Schema.words c.args.noted.now) (shelf_rows es)) (sym none)
+    sym (append-nil c.args.rows.now.items) ∙ ap (λ es. c.args.rows.now.items ++ filter (is_among g.S.Schema.words c.args.notes.now) (shelf_rows es)) (sym none)
 
 pub returns-in-None-2-clause-rows : goal.returns-in-None-2-clause-rows
 returns-in-None-2-clause-rows g c =
@@ -69,7 +71,7 @@ returns-in-None-2-clause-rows g c =
     let entries = c.args.shelf.now.rows.entries in
     let given = c.into_iter-key-iterator.ensures.into_iter_gives in
     let keys = keys_of c.in-Some.part.now.pairs.entries in
-    let test = is_noted g.S.Schema.words c.args.noted.now in
+    let test = is_among g.S.Schema.words c.args.notes.now in
     let there = are_there c.args.shelf.now.index p keys entries (ap (λ o. keys_of (entries_in o)) (sym c.in-Some.ensures.value)) c.args.shelf.now.indexed in
     let all = ap (λ es. walked p (keys_of es) entries) given.0 ∙ walk_is p keys entries c.are_in_order.ensures given.5 there in
     sym (append-nil c.loop-key.rows.items)
