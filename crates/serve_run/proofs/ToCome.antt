@@ -8,7 +8,7 @@ use Rattle.layout_roles.specs.declared.redundancy.Redundancy.{Redundancy}
 use Rattle.layout_roles.specs.declared.role.Role.{Role}
 use Rattle.quorum_model.specs.Quorum.{is_among}
 use Rattle.cluster_machine.specs.declared.step.Step.TheVariants as step
-use Rattle.cluster_machine.specs.Choices.{IsFirst}
+use Rattle.cluster_machine.specs.Choices.{IsFirst, IsBest}
 use Rattle.cluster_machine.specs.Layouts.{layouts}
 use Rattle.cluster_machine.specs.Run.{IsLayout}
 use Rattle.change_model.specs.Steps.{members_of_both}
@@ -76,7 +76,7 @@ all_computed all l [] layout h = tt
 all_computed all l (c ∷ cs) layout h =
     let ch = change_from l c.redundancy c.shown in
     let roles = c.shown.roles.list in
-    let best = record { version_is = refl; roles_are = refl; shown_roles = refl; redundancy = refl; size = refl; sets = refl; enough = h.0.is_for.enough; certified = h.0.is_for.certified } in
+    let best : IsBest roles c.redundancy (suc (layouts.reading.version l)) ch.new c.shown = record { version_is = refl; roles_are = refl; shown_roles = refl; redundancy = refl; size = refl; sets = refl; enough = h.0.is_for.enough; certified = h.0.is_for.certified } in
     let new : IsLayout layouts 256 ch.new = best_is_layout roles c.redundancy (suc (layouts.reading.version l)) ch.new c.shown (omega arith) best in (
       all_staging (range_with_len 1 64) roles c.redundancy,
       (roles, c.redundancy, best),
