@@ -1,5 +1,5 @@
 -- What is staged after the first acts of a change: its roles and its redundancy, whatever was staged before.
-use Rattle.std.proofs.Common.{◌≡◌, ◌≤◌, ◌<◌, ℕ, zero, suc, ◌+◌, ◌==◌, Bool, true, false, cond, nat_lt, Option, Some, None, List, [], ◌∷◌, ◌++◌, map, refl, sym, ◌∙◌, ap, subst, arith, append_assoc}
+use Rattle.std.proofs.Common.{◌≡◌, ◌≤◌, ◌<◌, ℕ, zero, suc, ◌+◌, ◌-◌, ◌==◌, Bool, true, false, cond, nat_lt, Option, Some, None, List, [], ◌∷◌, ◌++◌, map, refl, sym, ◌∙◌, ap, subst, arith, append_assoc}
 use Rattle.std.specs.Prelude.{⊤}
 use Rattle.std.specs.List.{range_with_len}
 use Rattle.std.proofs.lemmas.Bool.{and_parts, eqb-true, eqb-false, ltb-true, lt-ltb, le-ltb, ne_eqb}
@@ -127,6 +127,20 @@ steps_append a b = map-append moves a b
 -- no node has a role any more
 abbrev pub out_acts : List Act
 out_acts = steps (map (λ k. plainly (step.Role k None)) (range_with_len 1 16))
+
+-- what is left of it, once so many nodes have none
+abbrev pub out_from : ℕ → List Act
+out_from n = steps (map (λ k. plainly (step.Role k None)) (range_with_len (n + 1) (16 - n)))
+
+pub next_out : (n : ℕ) → n < 16 → out_from n ≡ moves (plainly (step.Role (n + 1) None)) ∷ out_from (n + 1)
+next_out n few =
+    let more : 16 - n ≡ suc (16 - (n + 1)) = omega (arith, few) in
+    ap (λ count. steps (map (λ k. plainly (step.Role k None)) (range_with_len (n + 1) count))) more
+
+pub none_out : (n : ℕ) → 16 ≤ n → out_from n ≡ []
+none_out n all =
+    let none : 16 - n ≡ 0 = omega (arith, all) in
+    ap (λ count. steps (map (λ k. plainly (step.Role k None)) (range_with_len (n + 1) count))) none
 
 -- the parts of what is staged
 pub stages_parts : (roles : List Role) (wanted : Redundancy) → stages_of roles wanted ≡ out_acts ++ staged_roles roles wanted

@@ -22,7 +22,7 @@ use crate::members::{nodes_of, of_both};
 use cluster_machine::Action;
 use cluster_machine::applied::Applied;
 use crdt_core::{List, Memory};
-use layout_roles::{Redundancy, Role, Roles};
+use layout_roles::{Kind, Redundancy, Role, Roles, Zone};
 use s3_world::{Event, S3World};
 
 /// A change of the layout that is to come.
@@ -39,15 +39,15 @@ pub struct Change {
 /// The greatest node of a server.
 const GREATEST_NODE: u8 = 16;
 
-// A node has no role any more.
-fn unstage(world: &mut S3World, node: u8) -> Result<(), Memory>
+// A node has this role, or none.
+fn stage_as(world: &mut S3World, node: u8, role: Option<(Zone, Kind)>) -> Result<(), Memory>
     requires stands { HasStore world.old }
     requires low { 1 ≤ node }
     requires high { node ≤ 64 }
-    ensures does { OnOk result (DoesActs world.old world.new (moves (plainly (step.Role node None)) ∷ [])) }
-    ensures causes { WantOr result (LacksRoom world.old (λ _. moves (plainly (step.Role node None)) ∷ [])) }
+    ensures does { OnOk result (DoesActs world.old world.new (moves (plainly (step.Role node role)) ∷ [])) }
+    ensures causes { WantOr result (LacksRoom world.old (λ _. moves (plainly (step.Role node role)) ∷ [])) }
 {
-    match world.step(&Event::Role { node, role: None }) {
+    match world.step(&Event::Role { node, role }) {
         Ok(_) => Ok(()),
         Err(memory) => Err(memory),
     }
@@ -61,7 +61,7 @@ fn unstage_all(world: &mut S3World) -> Result<(), Memory>
 {
     let mut node = 0;
     'nodes: while node < GREATEST_NODE {
-        match unstage(world, node + 1) {
+        match stage_as(world, node + 1, None) {
             Ok(()) => node += 1,
             Err(memory) => return Err(memory),
         }
@@ -77,16 +77,8 @@ fn stage(world: &mut S3World, role: &Role) -> Result<(), Memory>
     ensures does { OnOk result (DoesActs world.old world.new (moves (plainly (staged_as role.now)) ∷ [])) }
     ensures causes { WantOr result (LacksRoom world.old (λ _. moves (plainly (staged_as role.now)) ∷ [])) }
 {
-    let zone = match role.zone.copy() {
-        Ok(zone) => zone,
-        Err(memory) => return Err(memory),
-    };
-    let staged = Event::Role {
-        node: role.node,
-        role: Some((zone, role.kind)),
-    };
-    match world.step(&staged) {
-        Ok(_) => Ok(()),
+    match role.zone.copy() {
+        Ok(zone) => stage_as(world, role.node, Some((zone, role.kind))),
         Err(memory) => Err(memory),
     }
 }
@@ -224,10 +216,8 @@ fn apply(world: &mut S3World, node: u8, shown: Applied) -> Result<(), Memory>
     ensures does { OnOk result (Applies world.old world.new node shown []) }
     ensures want { OnlyWant result }
 {
-    match world.apply_with(node, shown) {
-        Ok(_) => Ok(()),
-        Err(memory) => Err(memory),
-    }
+    let _ = world.apply_with(node, shown)?;
+    Ok(())
 }
 
 // The layout that was computed is applied at a node, and then this is done.

@@ -22,11 +22,11 @@ impl Changing {
     ghost use Rattle.s3_world.specs.Stands.{IsStore};
     ghost use Rattle.serve_model.specs.Serving.{HasState};
     ghost use Rattle.serve_cluster.specs.Standing.{StandsFor};
-    ghost use Rattle.serve_cluster.specs.Changes.{AreChanges, IsChanging, is_due};
+    ghost use Rattle.serve_cluster.specs.Changes.{AreWithin, AreChanges, IsChanging, is_due};
 
-    /// A cluster with these changes to come, in order.
+    /// A cluster with these changes to come, in order, in which no roles are staged but of nodes 1 to 16.
     pub fn new(cluster: Cluster, to_come: List<Change>) -> Changing
-        ensures { (m : Modelled) → StandsFor cluster m.cluster → AreChanges m.cluster.members to_come m.to_come → IsChanging result m }
+        ensures { (m : Modelled) → StandsFor cluster m.cluster → AreWithin m.cluster.run.world.roles → AreChanges m.cluster.members to_come m.to_come → IsChanging result m }
     {
         Changing { cluster, to_come }
     }
