@@ -54,6 +54,11 @@ pub first_of : {A : Type 0} (xs : List A) (x : A) → false ≡ (length xs == 0)
 first_of [] x e = absurd (let no' : false ≡ true = e in cc)
 first_of (y ∷ ys) x e = ap (λ later. y ∷ later) (sym (take_all (length (y ∷ ys) - 1) ys (omega arith)))
 
+-- none is left
+pub none_of : {A : Type 0} (xs : List A) → true ≡ (length xs == 0) → xs ≡ []
+none_of [] e = refl
+none_of (y ∷ ys) e = absurd (let no' : true ≡ false = e in cc)
+
 -- so are their acts
 pub first_act : {A : Type 0} (f : A → Act) (xs : List A) (x : A) (later : List A) → xs ≡ x ∷ later → map f xs ≡ f x ∷ map f later
 first_act f xs x later e = ap (map f) e

@@ -1,12 +1,12 @@
 -- What is staged after the first acts of a change: its roles and its redundancy, whatever was staged before.
 use Rattle.std.proofs.Common.{◌≡◌, ◌≤◌, ◌<◌, ℕ, zero, suc, ◌+◌, ◌-◌, ◌==◌, Bool, true, false, cond, nat_lt, Option, Some, None, List, [], ◌∷◌, ◌++◌, map, refl, sym, ◌∙◌, ap, subst, arith, append_assoc}
 use Rattle.std.specs.Prelude.{⊤}
-use Rattle.std.specs.List.{range_with_len}
-use Rattle.std.proofs.lemmas.Bool.{and_parts, eqb-true, eqb-false, ltb-true, lt-ltb, le-ltb, ne_eqb}
+use Rattle.std.specs.List.{list_all, range_with_len}
+use Rattle.std.proofs.lemmas.Bool.{and_parts, eqb-true, eqb-false, ltb-true, leb-true, lt-ltb, le-ltb, ne_eqb}
 use Rattle.std.proofs.lemmas.List.{map-append}
 use Rattle.layout_roles.specs.declared.role.Role.{Role}
 use Rattle.layout_roles.specs.declared.redundancy.Redundancy.{Redundancy}
-use Rattle.layout_roles.specs.Zones.{ascend_from}
+use Rattle.layout_roles.specs.Zones.{ascend_from, is_numbered}
 use Rattle.cluster_machine.specs.declared.step.Step.TheVariants as step
 use Rattle.cluster_machine.specs.World.{staged, new_role}
 use Rattle.store_model.specs.Run.{State, Moving, plainly}
@@ -36,6 +36,21 @@ ascends_so low (r ∷ rs) a = let up = and_parts (nat_lt low r.node) (ascend_fro
 pub lies_so : (low : ℕ) (rs : List Role) → Ascends low rs → AreWithin rs → Lies low rs
 lies_so low [] a n = tt
 lies_so low (r ∷ rs) a n = (a.0, n.0, lies_so r.node rs a.1 n.1)
+
+-- the nodes are 1 to 64
+abbrev pub AreNodes : List Role → Type 0
+AreNodes [] = ⊤
+AreNodes (r ∷ rs) = (1 ≤ r.node) × (r.node ≤ 64) × AreNodes rs
+
+pub nodes_so : (low : ℕ) (rs : List Role) → Ascends low rs → list_all is_numbered rs ≡ true → AreNodes rs
+nodes_so low [] a n = tt
+nodes_so low (r ∷ rs) a n =
+    let few = and_parts (is_numbered r) (list_all is_numbered rs) n in
+    let above = a.0 in
+    (one_up low r.node above, leb-true r.node 64 few.0, nodes_so r.node rs a.1 few.1)
+  where
+    one_up : (low node : ℕ) → low < node → 1 ≤ node
+    one_up low node above = omega (arith, above)
 
 -- ---- no role
 
@@ -123,6 +138,10 @@ spread_leads wanted s = (refl, refl)
 
 steps_append : (a b : List Moving) → steps (a ++ b) ≡ steps a ++ steps b
 steps_append a b = map-append moves a b
+
+-- each of these nodes has its role
+abbrev pub in_acts : List Role → List Act
+in_acts roles = steps (map (λ role. plainly (staged_as role)) roles)
 
 -- no node has a role any more
 abbrev pub out_acts : List Act

@@ -11,8 +11,8 @@ use Rattle.layout_roles.specs.declared.assignment.Assignment.{Assignment}
 use Rattle.layout_roles.specs.Fits.{NodeSet}
 use Rattle.cluster_machine.specs.Layouts.{layouts}
 use Rattle.flow_model.specs.declared.order.Order.{Order}
-use Rattle.store_model.specs.Run.{State, start}
-use Rattle.store_model.specs.Acts.{AreLawfulActs, ActsFit}
+use Rattle.store_model.specs.Run.{State, World, start}
+use Rattle.store_model.specs.Acts.{AreLawfulActs, ActsFit, installs}
 use Rattle.store_model.specs.Fresh.{NoClash}
 use Rattle.serve_model.specs.declared.served.Served.{Served}
 use Rattle.serve_model.specs.declared.served.ServeFault.{ServeFault}
@@ -31,20 +31,21 @@ use Rattle.serve_run.specs.declared.stop.Stop.{Stop}
 use Rattle.serve_cluster.specs.declared.change.Change.{Change as Planned}
 use Rattle.serve_cluster.specs.declared.changing.Changing.{Changing as CodeChanging}
 use Rattle.serve_cluster.specs.declared.cluster.Cluster.{Cluster as Code}
-use Rattle.serve_cluster.specs.Changes.{AreChanges, IsChanging}
+use Rattle.serve_cluster.specs.Changes.{AreWithin, AreChanges, IsChanging}
 use Rattle.serve_cluster.specs.Standing.{StandsFor}
 use Rattle.world_text.specs.Shown.{is_unshown}
 use Rattle.s3_world.specs.declared.world.S3World.{S3World}
 use Rattle.s3_world.specs.Stands.{IsStore}
 use Rattle.plain_changes.specs.Changing.{MayCome}
 use Rattle.serve_run.specs.Plan.{IsPlan}
-use Rattle.serve_run.specs.Start.{opening, opened, IsOf, IsOpened}
+use Rattle.serve_run.specs.Start.{preparing, opening, opened, IsOf, IsOpened}
 use Rattle.serve_run.specs.Told.{Told, told}
 use Rattle.serve_run.specs.FromMap.{AreFromMap, AreFromMapButLast}
 use Rattle.serve_run.specs.Begun.{nodes_of, to_come_from, begun, serving}
 use Rattle.serve_run.specs.Served.{all_nodes, state_after, left_after, tail, versions_of, tail_of, HasServed, HasBrokenOff}
 use Rattle.serve_run.specs.Stop.{stop_of_memory, stop_of_serving}
 use Rattle.serve_run.specs.Answer.{IsUnshown, LacksRoom, for_order, at_first, afterwards, within, HasStopped, HowServed}
+use Rattle.serve_run.proofs.Opening.{after_last, world_kept}
 use Rattle.serve_run.proofs.Requests.{run_is, all_kept}
 use Rattle.serve_run.proofs.ToCome.{MayComeSo, TakeAllSo, are_changes, plan_may_come}
 use Rattle.serve_run.proofs.FromMap.{FirstStands, ServedFrom, EndedFrom, installs_first, are_from_map, end_from_map}
@@ -85,8 +86,15 @@ pub record BeginsAs (p : Plan) (holds : Changing → Type 0) : Type 0 where
   pub stands : holds (begun p first)
   pub may : MayCome first (to_come_from first p.changes)
 
+-- nothing is staged when a server begins
+none_staged : (p : Plan) (first : Layout) → AreWithin (opened p first).world.roles
+none_staged p first =
+    let acts = preparing p.config.buckets p.config.block_size in
+    let none : (opened p first).world.roles ≡ [] = ap (λ (t : State). t.world.roles) (after_last start acts (installs first)) ∙ ap (λ (w : World). w.roles) (world_kept start p.config.buckets p.config.block_size) in
+    subst AreWithin (sym none) tt
+
 pub begins_as : MayComeSo → TakeAllSo → (p : Plan) → IsPlan p → (world : S3World) (inner : Code) (c : CodeChanging) (members : List ℕ) → IsOpened world p → members ≡ nodes_of p → ((s : State) → IsStore world s → StandsFor inner (record { run = s; ticked = 0; members = members })) →
-    ((m : Changing) → StandsFor inner m.cluster → AreChanges m.cluster.members p.changes m.to_come → IsChanging c m) → BeginsAs p (IsChanging c)
+    ((m : Changing) → StandsFor inner m.cluster → AreWithin m.cluster.run.world.roles → AreChanges m.cluster.members p.changes m.to_come → IsChanging c m) → BeginsAs p (IsChanging c)
 begins_as law all p plan world inner c members o e h k =
     let there = subst (λ ms. StandsFor inner (record { run = opened p o.first; ticked = 0; members = ms })) e (h (opened p o.first) o.stands) in
     let same : layouts.reading.members o.first ≡ nodes_of p = ap (map (λ (role : Role). role.node)) o.is_of.roles in
@@ -95,7 +103,7 @@ begins_as law all p plan world inner c members o e h k =
       is_of = o.is_of;
       lawful = o.lawful;
       fit = o.fit;
-      stands = k (begun p o.first) there (subst (λ ms. AreChanges ms p.changes (to_come_from o.first p.changes)) same (are_changes o.first p.changes plan.computed));
+      stands = k (begun p o.first) there (none_staged p o.first) (subst (λ ms. AreChanges ms p.changes (to_come_from o.first p.changes)) same (are_changes o.first p.changes plan.computed));
       may = plan_may_come law all p plan o.first o.is_of (installs_first p o.first o.lawful);
     }
 
