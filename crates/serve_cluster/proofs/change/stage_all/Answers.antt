@@ -3,14 +3,16 @@ use Rattle.store_model.specs.Run.{plainly}
 use Rattle.store_model.specs.Acts.{moves}
 use Rattle.serve_cluster.specs.Deeds.{staged_as}
 use Rattle.serve_cluster.proofs.Acting.{cause_more}
-use Rattle.serve_cluster.proofs.Going.{begins, going_store, one_done, one_lacks_room, all_done, first_of, none_of}
+use Rattle.serve_cluster.proofs.Going.{Going, begins, going_store, one_done, one_lacks_room, all_done, first_of, none_of}
 use Rattle.serve_cluster.proofs.Staging.{AreNodes, nodes_so, ascends_so, in_acts}
 use Rattle.serve_cluster.proofs.change.stage_all.Goals as goal
 
 pub roles-init : goal.roles-init
 roles-init c = record {
-  nodes = nodes_so 0 c.args.roles.now.list (ascends_so 0 c.args.roles.now.list c.args.roles.now.ascending) c.args.roles.now.numbered;
-  going = begins c.args.world.now (in_acts c.args.roles.now.list);
+  nodes = subst AreNodes (sym c.as_slice-rest.ensures) (nodes_so 0 c.args.roles.now.list (ascends_so 0 c.args.roles.now.list c.args.roles.now.ascending) c.args.roles.now.numbered);
+  going =
+      subst (λ rs. Going c.args.world.now c.args.world.now (in_acts c.args.roles.now.list) (in_acts rs)) (sym c.as_slice-rest.ensures)
+      (begins c.args.world.now (in_acts c.args.roles.now.list));
 }
 
 pub stage-requires-clause-stands : goal.stage-requires-clause-stands
