@@ -98,6 +98,6 @@ fn a_body_that_is_not_signed(rt: HostRuntime) -> Result<(), Fail> {
         b"garage",
         1_709_251_199_000,
     );
-    assert!(rt; matches!(signed, Ok(signed) if signed.digest.is_none()));
+    assert!(rt; matches!(&signed, Ok(signed) if signed.digest.is_none()));
     Ok(())
 }
