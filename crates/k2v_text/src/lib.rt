@@ -8,5 +8,5 @@
 mod event;
 mod laws;
 
-pub use event::{ItemEvent, NumberedItemEvent};
+pub use event::{ItemEvent, ItemTold, NumberedItemEvent};
 pub use laws::{every_item_line_reads, item_lines_are_worded};
