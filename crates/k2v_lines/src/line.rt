@@ -1,11 +1,11 @@
 //! The event that a line spells.
-ghost use Rattle.std.specs.Prelude.{◌≡◌, ◌∷◌, codes, take, IfOk};
+ghost use Rattle.std.specs.Prelude.{◌≡◌, ◌↔◌, ◌∷◌, codes, take, IsTrue, IfOk};
 ghost use Rattle.crdt_core.specs.Outcomes.{OnlyWant};
 ghost use Rattle.schedule_text.specs.Kinds.{texts};
 ghost use Rattle.schedule_text.specs.Reads.{Finds};
 ghost use Rattle.text_model.specs.Words.{words_in};
 ghost use Rattle.k2v_text.specs.Grammar.{Spells, is_common};
-ghost use Rattle.k2v_lines.specs.Words.{IsSpelledBy};
+ghost use Rattle.k2v_lines.specs.Words.{IsSpelledBy, IsCommon};
 
 use crate::words::{item, number};
 use crdt_core::Memory;
@@ -133,6 +133,35 @@ fn words(alloc: Global, line: &[u8]) -> Result<Vec<&[u8]>, AllocError>
     line.split(|byte| *byte == b' ').take(9).collect(alloc)
 }
 
+/// Whether a word is this name.
+fn is(word: &[u8], name: &[u8]) -> bool
+    ensures { IsTrue result ↔ (word.now ≡ name.now) }
+{
+    word == name
+}
+
+/// The event that the words of a line spell, which begins so, or that the line spells as one that schedules of objects have.
+fn spelled(
+    alloc: Global,
+    line: &[u8],
+    name: &[u8],
+    words: &[&[u8]],
+) -> Result<Option<ItemEvent>, Memory>
+    requires first { take 9 (words_in line.now) ≡ name.now ∷ texts words.now }
+    ensures spelled { IfOk result (Finds (Spells line.now)) }
+    ensures want { OnlyWant result }
+{
+    if is(name, b"kput") {
+        put(alloc, words)
+    } else if is(name, b"kdel") {
+        delete(alloc, words)
+    } else if is(name, b"kget") {
+        get(alloc, words)
+    } else {
+        common(alloc, line)
+    }
+}
+
 /// The event that a line of a schedule over items spells, or none where it spells none: also where the line is empty or
 /// begins with `#`.
 pub fn item_line(alloc: Global, line: &[u8]) -> Result<Option<ItemEvent>, Memory>
@@ -141,9 +170,7 @@ pub fn item_line(alloc: Global, line: &[u8]) -> Result<Option<ItemEvent>, Memory
 {
     let words = words(alloc, line)?;
     match words.as_slice() {
-        [b"kput", rest @ ..] => put(alloc, rest),
-        [b"kdel", rest @ ..] => delete(alloc, rest),
-        [b"kget", rest @ ..] => get(alloc, rest),
-        _ => common(alloc, line),
+        [name, rest @ ..] => spelled(alloc, line, name, rest),
+        [] => Ok(None),
     }
 }
