@@ -70,7 +70,7 @@ follow_nobody old q end none s d =
 
 module _ (old : ItemWorld) (i q : ℕ) (a : Asked) (at : IsAt old i q a) where
   -- the model's request
-  pub abbrev waiting : (s : State) → IsItems old s → (m : ItemRequest) × (slice_get s.requests i ≡ Some m) × (kept m ≡ a)
+  abbrev pub waiting : (s : State) → IsItems old s → (m : ItemRequest) × (slice_get s.requests i ≡ Some m) × (kept m ≡ a)
   waiting s d = get_kept s.requests i a (sym (ap (λ rs. slice_get rs i) d.requests) ∙ at.there)
 
   followed : (s : State) (d : IsItems old s) (end : PhaseEnd K2vRow) → follow s q (numbered s.requests q) end ≡ follows s q (waiting s d).0 end (waiting s d).0.stage
@@ -163,11 +163,11 @@ is_reading_now (model.shown given begun) h = cc
 is_reading_now model.over h = cc
 
 is_storing_now : (stage : model.Stage) → kept_stage stage ≡ Storing → (row : K2vRow) × (stage ≡ model.storing row)
-is_storing_now model.reading h = cc
+is_storing_now model.reading h = absurd (cc)
 is_storing_now (model.storing row) h = (row, refl)
-is_storing_now (model.stored row) h = cc
-is_storing_now (model.shown given begun) h = cc
-is_storing_now model.over h = cc
+is_storing_now (model.stored row) h = absurd (cc)
+is_storing_now (model.shown given begun) h = absurd (cc)
+is_storing_now model.over h = absurd (cc)
 
 -- ---- a request that has read
 
@@ -202,7 +202,7 @@ module _ (old : ItemWorld) (i q : ℕ) (a : Asked) (at : IsAt old i q a) (reads 
     writes_so s d = read_so s d ∙ ap (reads_on s q (waiting old i q a at s d).0 read) asks
 
     -- what a write stores, by its row
-    stored_by : (s : State) → ItemRequest → Option K2vRow → Outcome
+    abbrev stored_by : State → ItemRequest → Option K2vRow → Outcome
     stored_by s m None = silent s
     stored_by s m (Some row) = stores s q m row
 
