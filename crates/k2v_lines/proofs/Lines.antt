@@ -1,6 +1,7 @@
 -- From the words of a line to the line.
-use Rattle.std.proofs.Common.{◌≡◌, ℕ, ◌≤◌, false, ◌⊎◌, inl, inr, Option, Some, None, List, [], ◌∷◌, length, take, length-take, Bor, codes, refl, sym, ◌∙◌, ap, subst, arith, lit≤}
-use Rattle.std.specs.Prelude.{IsTrue}
+use Rattle.std.proofs.Common.{◌≡◌, ℕ, ◌≤◌, Bool, true, false, Option, Some, None, List, [], ◌∷◌, length, take, length-take, Bor, codes, refl, sym, ◌∙◌, ap, subst, arith, lit≤}
+use Rattle.std.specs.Prelude.{IsTrue, IfOk, Result, Ok, Err}
+use Rattle.crdt_core.specs.declared.memory.Memory.{Memory}
 use Rattle.std.specs.List.{join_with_byte}
 use Rattle.std.proofs.lemmas.List.{take_all}
 use Rattle.std.proofs.lemmas.List.Splits.{join_with_byte-slice_split}
@@ -62,3 +63,17 @@ module _ (line name : List ℕ) (rest : List (List ℕ)) (same : take 9 (words_i
   pub finds_common : (o : Option ItemEvent) → Finds (IsCommon line) o → Finds (Spells line) o
   finds_common None none = λ e h. none e (is_common_one e h)
   finds_common (Some e) h = h.spells
+
+-- what was read of a line by its first word
+module _ (line name : List ℕ) (words : List (Bor (List ℕ))) (same : take 9 (words_in line) ≡ name ∷ texts words) where
+  pub named_line : (literal : List ℕ) → name ≡ literal → (r : Result (Option ItemEvent) Memory) → IfOk r (Finds (IsSpelledBy (literal ∷ texts words))) → IfOk r (Finds (Spells line))
+  named_line literal is (Ok o) h = finds_line line literal words o (same ∙ ap (λ n. n ∷ texts words) is) h
+  named_line literal is (Err e) h = tt
+
+  pub common_line : (name ≡ codes "kput" → ⊥) → (name ≡ codes "kdel" → ⊥) → (name ≡ codes "kget" → ⊥) → (r : Result (Option ItemEvent) Memory) → IfOk r (Finds (IsCommon line)) → IfOk r (Finds (Spells line))
+  common_line no_put no_delete no_get (Ok o) h = finds_common line name (texts words) same no_put no_delete no_get o h
+  common_line no_put no_delete no_get (Err e) h = tt
+
+-- a test that failed
+pub failed : (b : Bool) {P : Type 0} → b ≡ false → (P → b ≡ true) → P → ⊥
+failed b no f h = let yes = f h in cc

@@ -5,8 +5,7 @@ use Rattle.k2v_lines.proofs.words.number.Goals as goal
 
 pub returns-else-low-n : goal.returns-else-low-n
 returns-else-low-n c =
-    let is = rw c.in_ok-n.ensures.ok_part at c.decimal_number.ensures in
-    let other = no_other c.args.word.now c.args.low c.args.high c.in_ok-n.n is (omega arith) in
+    let other = no_other c.args.word.now c.args.low c.args.high c.in_ok-n.n c.in_ok-n.ensures (omega arith) in
     elim c.else-low-n.branch [
       | else-low-n-via-then-low-n+else-n-high w ↦ other (inr w.if-n-high.false)
       | else-low-n-via-else-low-n w ↦ other (inl w.if-low-n.false)
