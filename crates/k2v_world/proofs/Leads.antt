@@ -8,11 +8,13 @@ use Rattle.cluster_machine.specs.Node.{Ended}
 use Rattle.cluster_machine.specs.World.{numbered, undelivered}
 use Rattle.cluster_machine.specs.Worlds.{next, run, FitAll, HaveRoom}
 use Rattle.k2v_rows.specs.declared.k2v_row.K2vRow.{K2vRow}
-use Rattle.k2v_rows.specs.Row.{row_join}
+use Rattle.std.specs.Option.{unwrap_or}
+use Rattle.k2v_rows.specs.Row.{row_join, can_put, after_put}
+use Rattle.k2v_model.specs.Orders.{empty_row}
 use Rattle.k2v_schema.specs.Schema.{words}
 use Rattle.k2v_model.specs.declared.order.Ask.{Ask}
 use Rattle.k2v_model.specs.declared.order.Ask.TheVariants.{Write, Read}
-use Rattle.k2v_model.specs.Run.{World, Moving, ItemRequest, Stage, reading, storing, stored, shown, over, State, Outcome, silent, plainly, effect, doing, stores, reads_on, follows, follow, goes_on, delivers, then_drains, drains}
+use Rattle.k2v_model.specs.Run.{World, Moving, ItemRequest, Stage, reading, storing, stored, shown, over, State, Outcome, silent, plainly, effect, doing, token_at, stores, reads_on, follows, follow, goes_on, delivers, then_drains, drains}
 
 -- ---- steps in two parts
 
@@ -42,7 +44,9 @@ by_can s true o h = h
 by_can s false o h = refl
 
 reads_on_leads : (s : State) (q : ℕ) (a : ItemRequest) (read : Option K2vRow) (ask : Ask) → Leads s (reads_on s q a read ask)
-reads_on_leads s q a read (Write value token) = by_can s _ (stores s q a _) refl
+reads_on_leads s q a read (Write value token) =
+    let base = unwrap_or read (empty_row a.order.item) in
+    let times = token_at (numbered s.requests token) in by_can s (can_put base a.node q times) (stores s q a (after_put base a.node q value times)) refl
 reads_on_leads s q a read Read = refl
 
 follows_leads : (s : State) (q : ℕ) (a : ItemRequest) (end : PhaseEnd K2vRow) (stage : Stage) → Leads s (follows s q a end stage)

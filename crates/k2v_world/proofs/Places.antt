@@ -130,11 +130,8 @@ stage_kept xs i q m stage now place there is =
 
 one_kept : (xs : List ItemRequest) (q : ℕ) (o : Option ItemRequest) → ended_one (map kept xs) q (option_map kept o) ≡ map kept (ends_one xs q o)
 one_kept xs q None = refl
-one_kept xs q (Some a) = ap (λ b. cond b over_now (map kept xs)) (waits_kept a.stage) ∙ by_open (is_open a.stage) where
-  over_now : List Asked
-  over_now = slice_set (map kept xs) (q - 1) (record (kept a) { stage = Over })
-  by_open : (b : Bool) → cond b over_now (map kept xs) ≡ map kept (cond b (set_stage xs q a model.over) xs)
-  unfolding over_now
+one_kept xs q (Some a) = ap (λ b. cond b (slice_set (map kept xs) (q - 1) (record (kept a) { stage = Over })) (map kept xs)) (waits_kept a.stage) ∙ by_open (is_open a.stage) where
+  by_open : (b : Bool) → cond b (slice_set (map kept xs) (q - 1) (record (kept a) { stage = Over })) (map kept xs) ≡ map kept (cond b (set_stage xs q a model.over) xs)
   by_open true = sym (map-set kept xs (q - 1) (record a { stage = model.over }))
   by_open false = refl
 
