@@ -24,18 +24,21 @@ pub const THREE_NODES: &[u8] = b"\
     zone = 'c'\n\
     capacity = 1000\n";
 
-/// A configuration, what comes over two connections, and what is answered to each.
+/// What comes over a connection, and what is answered.
+pub type Row = (&'static [u8], &'static [u8]);
+
+/// A configuration, and two connections.
 #[derive(Clone, Copy)]
 pub struct Conversation {
     pub configuration: &'static [u8],
-    pub bytes: [&'static [u8]; 2],
-    pub answers: [&'static [u8]; 2],
+    pub first: Row,
+    pub second: Row,
 }
 
 /// One object is put, read and deleted; then somebody asks for another one. The answers were put together from docs/S3.md.
 const ONE_OBJECT: Conversation = Conversation {
     configuration: THREE_NODES,
-    bytes: [
+    first: (
         b"\
             PUT /pics/a.txt HTTP/1.1\r\n\
             Host: localhost:3900\r\n\
@@ -44,9 +47,6 @@ const ONE_OBJECT: Conversation = Conversation {
             abc\
             GET /pics/a.txt HTTP/1.1\r\n\r\n\
             DELETE /pics/a.txt HTTP/1.1\r\n\r\n",
-        b"GET /pics/b HTTP/1.1\r\nConnection: close\r\n\r\n",
-    ],
-    answers: [
         b"\
             HTTP/1.1 100 Continue\r\n\r\n\
             HTTP/1.1 200 OK\r\n\
@@ -63,6 +63,9 @@ const ONE_OBJECT: Conversation = Conversation {
             abc\
             HTTP/1.1 204 No Content\r\n\
             Date: Tue, 14 Nov 2023 22:13:20 GMT\r\n\r\n",
+    ),
+    second: (
+        b"GET /pics/b HTTP/1.1\r\nConnection: close\r\n\r\n",
         b"\
             HTTP/1.1 404 Not Found\r\n\
             Date: Tue, 14 Nov 2023 22:13:20 GMT\r\n\
@@ -71,7 +74,7 @@ const ONE_OBJECT: Conversation = Conversation {
             Connection: close\r\n\r\n\
             <?xml version=\"1.0\" encoding=\"UTF-8\"?>\n\
             <Error><Code>NoSuchKey</Code><Message>NoSuchKey</Message><Resource>/pics/b</Resource></Error>",
-    ],
+    ),
 };
 
 /// How a server of so many connections with this configuration ends, and what it writes to its output.
@@ -91,22 +94,25 @@ pub fn served<L: Link>(
     Ok((status, sink.bytes().to_vec(alloc)?))
 }
 
-/// Whether what was written to two connections is what a server may have written before a call of the one that is said failed:
-/// a first part to that one, and all to the other; nothing to the second one where none was waited for any more.
+/// Whether what was written to two connections is what a server may have written where such a call failed, of the second one
+/// or the wait for it where it is late: a first part to the connection whose call it was, all to the other, and nothing to one
+/// that didn't come.
 fn are_parts(
-    written: [&[u8]; 2],
-    answers: [&[u8]; 2],
+    it: &Conversation,
+    first: &[u8],
+    second: &[u8],
     failed: Option<Call>,
     is_late: bool,
 ) -> bool {
-    let [first, second] = written;
-    let [wanted, last] = answers;
+    let is_first_whole = first == it.first.1;
     match failed {
-        None => first == wanted && second == last,
-        Some(Call::Open | Call::Next) => second.is_empty()
-            && first == if is_late { wanted } else { b"" },
-        Some(Call::Read | Call::Write) if is_late => first == wanted && last.starts_with(second),
-        Some(Call::Read | Call::Write) => wanted.starts_with(first) && second == last,
+        None => is_first_whole && second == it.second.1,
+        Some(Call::Open | Call::Next) if is_late => is_first_whole && second.is_empty(),
+        Some(Call::Open | Call::Next) => first.is_empty() && second.is_empty(),
+        Some(Call::Read | Call::Write) if is_late => {
+            is_first_whole && it.second.1.starts_with(second)
+        }
+        Some(Call::Read | Call::Write) => it.first.1.starts_with(first) && second == it.second.1,
     }
 }
 
@@ -120,43 +126,59 @@ fn is_said(status: Status, output: &[u8], failed: Option<Call>) -> bool {
 
 /// Which call failed in a conversation whose call of this number fails, and whether it went on as it should.
 fn tried(alloc: Global, it: &Conversation, fails: u64) -> Result<(Option<Call>, bool), Fail> {
-    let [one, other] = it.bytes;
-    let bytes = [one.to_vec(alloc)?, other.to_vec(alloc)?];
-    let mut link = FailingLink::new(alloc, bytes, 100, fails);
+    let one = it.first.0.to_vec(alloc)?;
+    let other = it.second.0.to_vec(alloc)?;
+    let mut link = FailingLink::new(alloc, one, other, 100, fails);
     let (status, output) = served(alloc, it.configuration, 2, &mut link)?;
     let failed = link.failed();
-    let are_answered = are_parts(link.written(), it.answers, failed, link.failed_late());
+    let (first, second) = link.written();
+    let are_answered = are_parts(it, first, second, failed, link.failed_late());
     Ok((failed, are_answered && is_said(status, &output, failed)))
 }
 
-/// How many calls a conversation has, each of which failed once, and whether each kind of call was among them; or the first one
-/// after whose failure it went on otherwise.
-pub fn outcome(alloc: Global, it: &Conversation) -> Result<Result<[u64; 4], u64>, Fail> {
-    let mut counts = [0u64; 4];
+/// How many calls of a conversation failed, each once.
+#[derive(Clone, Copy, Debug, Default, PartialEq, Eq)]
+pub struct Counts {
+    pub opens: u64,
+    pub waits: u64,
+    pub reads: u64,
+    pub writes: u64,
+}
+
+impl Counts {
+    /// One more of this kind.
+    fn add(&mut self, call: Call) {
+        match call {
+            Call::Open => self.opens = self.opens.saturating_add(1),
+            Call::Next => self.waits = self.waits.saturating_add(1),
+            Call::Read => self.reads = self.reads.saturating_add(1),
+            Call::Write => self.writes = self.writes.saturating_add(1),
+        }
+    }
+}
+
+/// The counts of all calls of a conversation, and the first one after whose failure it went on otherwise than it should.
+pub fn outcome(alloc: Global, it: &Conversation) -> Result<(Counts, Option<u64>), Fail> {
+    let mut counts = Counts::default();
     for k in 1..=200 {
         let (failed, is_right) = tried(alloc, it, k)?;
         if !is_right {
-            return Ok(Err(k));
+            return Ok((counts, Some(k)));
         }
-        let place = match failed {
-            None => return Ok(Ok(counts)),
-            Some(Call::Open) => 0,
-            Some(Call::Next) => 1,
-            Some(Call::Read) => 2,
-            Some(Call::Write) => 3,
-        };
-        counts[place] = counts[place].saturating_add(1);
+        match failed {
+            Some(call) => counts.add(call),
+            None => return Ok((counts, None)),
+        }
     }
-    Ok(Err(0))
+    Err("two hundred calls".into())
 }
 
 /// The port is opened once, two connections are waited for, and five texts are written: the interim line and four answers.
 #[test]
 fn each_call_of_the_link_fails(rt: HostRuntime) -> Result<(), Fail> {
-    let found = outcome(rt.alloc(), &ONE_OBJECT)?;
-    assert!(rt;
-        matches!(found, Ok([1, 2, reads, 5]) if reads > 2),
-        "{found:?}"
-    );
+    let (counts, wrong) = outcome(rt.alloc(), &ONE_OBJECT)?;
+    assert_eq!(rt; wrong, None);
+    assert_eq!(rt; (counts.opens, counts.waits, counts.writes), (1, 2, 5));
+    assert!(rt; counts.reads > 2);
     Ok(())
 }

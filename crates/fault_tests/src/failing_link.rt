@@ -69,10 +69,9 @@ pub struct FailingLink {
 
 impl FailingLink {
     /// Connections that give these bytes, at most `size` at a time. The call of this number fails, none where it is 0.
-    pub fn new(alloc: Global, bytes: [Vec<u8>; 2], size: usize, fails: u64) -> FailingLink
+    pub fn new(alloc: Global, one: Vec<u8>, other: Vec<u8>, size: usize, fails: u64) -> FailingLink
         ensures present { ⟦<FailingLink as Link>⟧.present result ≡ None }
     {
-        let [one, other] = bytes;
         let plan = Plan {
             fails,
             calls: 0,
@@ -106,9 +105,9 @@ impl FailingLink {
         self.first == Some(0)
     }
 
-    /// What was written to the connections.
-    pub fn written(&self) -> [&[u8]; 2] {
-        [&self.one.written, &self.other.written]
+    /// What was written to the first connection, and to the second one.
+    pub fn written(&self) -> (&[u8], &[u8]) {
+        (&self.one.written, &self.other.written)
     }
 
     /// Ends the connection that is present, if one is.
@@ -170,12 +169,12 @@ impl Link for FailingLink {
             self.present = Some(raised(faults));
             return Err(Failed);
         }
-        let wire = match self.first {
-            None => &mut self.one,
-            Some(_) => &mut self.other,
-        };
         let room = into.len().min(self.size);
-        match wire.bytes.read(&mut into[..room]) {
+        let given = match self.first {
+            None => self.one.bytes.read(&mut into[..room]),
+            Some(_) => self.other.bytes.read(&mut into[..room]),
+        };
+        match given {
             Ok(count) => Ok(count),
             Err(_) => {
                 self.present = Some(raised(faults));
@@ -192,11 +191,10 @@ impl Link for FailingLink {
             self.present = Some(raised(faults));
             return Err(Failed);
         }
-        let wire = match self.first {
-            None => &mut self.one,
-            Some(_) => &mut self.other,
+        let _ = match self.first {
+            None => self.one.written.extend_from_slice(from),
+            Some(_) => self.other.written.extend_from_slice(from),
         };
-        let _ = wire.written.extend_from_slice(from);
         Ok(from.len())
     }
 

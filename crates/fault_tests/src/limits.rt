@@ -26,8 +26,7 @@ fn replayed(alloc: Global, input: &[u8]) -> Result<(Status, Vec<u8>), Fail> {
 
 /// How a server of no connection's bytes ends on an input.
 fn configured(alloc: Global, input: &[u8]) -> Result<(Status, Vec<u8>), Fail> {
-    let bytes = [Vec::new(alloc), Vec::new(alloc)];
-    let mut link = FailingLink::new(alloc, bytes, 4096, 0);
+    let mut link = FailingLink::new(alloc, Vec::new(alloc), Vec::new(alloc), 4096, 0);
     served(alloc, input, 1, &mut link)
 }
 
@@ -136,7 +135,8 @@ const COPY_ANSWER: &[u8] = b"\
 /// An object of 16,777,216 bytes, and so many copies of it.
 fn put_and_copies(alloc: Global, copies: usize) -> Result<Vec<u8>, Fail> {
     let mut bytes = PUT.to_vec(alloc)?;
-    bytes.resize(bytes.len().saturating_add(16_777_216), 0)?;
+    let size = PUT.len().saturating_add(16_777_216);
+    bytes.resize(size, 0)?;
     for _ in 0..copies {
         bytes.extend_from_slice(COPY)?;
     }
@@ -154,11 +154,11 @@ fn answers(alloc: Global, copies: usize) -> Result<Vec<u8>, Fail> {
 
 /// How a server of so many copies ends, what it says, and whether the put and 31 copies are answered and nothing else.
 fn kept(alloc: Global, copies: usize) -> Result<(Status, Vec<u8>, bool), Fail> {
-    let bytes = [put_and_copies(alloc, copies)?, Vec::new(alloc)];
-    let mut link = FailingLink::new(alloc, bytes, 1_048_576, 0);
+    let bytes = put_and_copies(alloc, copies)?;
+    let mut link = FailingLink::new(alloc, bytes, Vec::new(alloc), 1_048_576, 0);
     let (status, output) = served(alloc, THREE_NODES, 1, &mut link)?;
-    let wanted = answers(alloc, 31)?;
-    Ok((status, output, link.written()[0] == wanted.as_slice()))
+    let (written, _) = link.written();
+    Ok((status, output, written == answers(alloc, 31)?.as_slice()))
 }
 
 /// 32 times 16,777,216 bytes are 536,870,912: the 32nd copy is one object more, which is copied and not answered.

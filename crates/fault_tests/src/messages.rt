@@ -113,12 +113,11 @@ pub fn checked(alloc: Global, schedule: &[u8]) -> Result<(Status, Vec<u8>), Fail
     Ok((status, sink.bytes().to_vec(alloc)?))
 }
 
-/// The first eight bytes of a text's BLAKE2b-256, as a number.
+/// The BLAKE2b of eight bytes of a text, as a number.
 pub fn mark(text: &[u8]) -> u64 {
-    let mut digest = [0u8; 32];
+    let mut digest = [0u8; 8];
     blake2b(text, &mut digest);
-    let [a, b, c, d, e, f, g, h, ..] = digest;
-    u64::from_be_bytes([a, b, c, d, e, f, g, h])
+    u64::from_be_bytes(digest)
 }
 
 /// Whether a schedule is replayed to its end, with this transcript.
@@ -144,10 +143,24 @@ fn differing(alloc: Global, case: &Case) -> Result<Option<(Fault, usize)>, Fail>
     Ok(None)
 }
 
-/// The text of the node of this number behind its number, in the lines of a transcript.
-fn node_text<'a>(text: &'a [u8], number: &[u8]) -> Option<&'a [u8]> {
-    text.split(|byte| *byte == b'\n')
-        .find_map(|line| line.strip_prefix(number))
+/// What stands behind these words in the first line of a transcript that begins with them.
+fn line_of<'a>(text: &'a [u8], words: &[u8]) -> Option<&'a [u8]> {
+    for line in text.split(|byte| *byte == b'\n') {
+        if let Some(rest) = line.strip_prefix(words) {
+            return Some(rest);
+        }
+    }
+    None
+}
+
+/// Whether the three nodes have a line at the end of a transcript, and one that says the same of each.
+fn are_equal(text: &[u8]) -> bool {
+    match line_of(text, b"node 1 ") {
+        Some(first) => {
+            line_of(text, b"node 2 ") == Some(first) && line_of(text, b"node 3 ") == Some(first)
+        }
+        None => false,
+    }
 }
 
 /// The fault and the first message after which the three nodes differ at the end.
@@ -155,10 +168,7 @@ fn unequal(alloc: Global, case: &Case) -> Result<Option<(Fault, usize)>, Fail> {
     for fault in [Fault::Lost, Fault::Twice, Fault::Again] {
         for place in 0..case.lost.len() {
             let (_, text) = checked(alloc, &schedule(alloc, case, fault, place)?)?;
-            let first = node_text(&text, b"node 1 ");
-            let are_equal = first == node_text(&text, b"node 2 ")
-                && first == node_text(&text, b"node 3 ");
-            if first.is_none() || !are_equal {
+            if !are_equal(&text) {
                 return Ok(Some((fault, place)));
             }
         }
@@ -343,7 +353,13 @@ fn messages_of_outboxes_and_repairs(rt: HostRuntime) -> Result<(), Fail> {
 /// Whatever happened to one message, the nodes have the same rows and blocks once all have repaired.
 #[test]
 fn replicas_are_equal_after_repairs(rt: HostRuntime) -> Result<(), Fail> {
-    for case in PUTS.iter().chain(&WRITES).chain(&BACKGROUND) {
+    for case in &PUTS {
+        assert_eq!(rt; unequal(rt.alloc(), case)?, None, "{:?}", case.event);
+    }
+    for case in &WRITES {
+        assert_eq!(rt; unequal(rt.alloc(), case)?, None, "{:?}", case.event);
+    }
+    for case in &BACKGROUND {
         assert_eq!(rt; unequal(rt.alloc(), case)?, None, "{:?}", case.event);
     }
     Ok(())

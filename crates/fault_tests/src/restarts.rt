@@ -58,7 +58,8 @@ fn schedule(alloc: Global, node: u8, place: usize) -> Result<Vec<u8>, Fail> {
         place,
         count: 0,
     };
-    for line in [b"trio\n".as_slice(), b"bucket pics\n", b"block 4096\n"] {
+    let begin: [&[u8]; 3] = [b"trio\n", b"bucket pics\n", b"block 4096\n"];
+    for line in begin {
         schedule.push(alloc, line)?;
     }
     for (key, size, messages) in PUTS {
@@ -77,7 +78,7 @@ fn is_open(place: usize) -> bool {
     let mut first = 4usize;
     for (_, _, messages) in PUTS {
         let acknowledged = first.saturating_add(usize::from(messages).saturating_sub(1));
-        if (first..acknowledged).contains(&place) {
+        if first <= place && place < acknowledged {
             return true;
         }
         first = acknowledged.saturating_add(2);
@@ -89,9 +90,9 @@ fn is_open(place: usize) -> bool {
 /// that the others' restarts end none.
 fn pairs(node: u8, place: usize) -> &'static [u8] {
     if node == 1 && is_open(place) {
-        b"\nfresh 6\n"
+        b"fresh 6"
     } else {
-        b"\nfresh 8\n"
+        b"fresh 8"
     }
 }
 
@@ -100,8 +101,10 @@ fn differing(alloc: Global, node: u8, rows: &[u64]) -> Result<Option<usize>, Fai
     for (i, wanted) in rows.iter().enumerate() {
         let place = i.saturating_add(1);
         let (status, text) = checked(alloc, &schedule(alloc, node, place)?)?;
-        let line = pairs(node, place);
-        let is_checked = text.windows(line.len()).any(|part| part == line);
+        let wanted_line = pairs(node, place);
+        let is_checked = text
+            .split(|byte| *byte == b'\n')
+            .any(|line| line == wanted_line);
         if status != Status::Done || !is_checked || mark(&text) != *wanted {
             return Ok(Some(place));
         }

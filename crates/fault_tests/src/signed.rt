@@ -68,8 +68,8 @@ const SHORT_ANSWER: &[u8] = b"\
 /// The same put and get, and then a get that isn't signed.
 const SIGNED: Conversation = Conversation {
     configuration: ONE_KEY,
-    bytes: [PUT_AND_GET, b"GET /pics/b HTTP/1.1\r\n\r\n"],
-    answers: [
+    first: (
+        PUT_AND_GET,
         b"\
             HTTP/1.1 200 OK\r\n\
             Date: Tue, 14 Nov 2023 22:13:20 GMT\r\n\
@@ -83,6 +83,9 @@ const SIGNED: Conversation = Conversation {
             Content-Type: application/octet-stream\r\n\
             Accept-Ranges: bytes\r\n\r\n\
             abc",
+    ),
+    second: (
+        b"GET /pics/b HTTP/1.1\r\n\r\n",
         b"\
             HTTP/1.1 403 Forbidden\r\n\
             Date: Tue, 14 Nov 2023 22:13:20 GMT\r\n\
@@ -91,7 +94,7 @@ const SIGNED: Conversation = Conversation {
             Connection: close\r\n\r\n\
             <?xml version=\"1.0\" encoding=\"UTF-8\"?>\n\
             <Error><Code>AccessDenied</Code><Message>AccessDenied</Message><Resource>/pics/b</Resource></Error>",
-    ],
+    ),
 };
 
 /// What is answered where the put and the get are cut after so many bytes.
@@ -105,16 +108,17 @@ fn wanted(count: usize) -> &'static [u8] {
     } else if count < put.saturating_add(get) {
         PUT_ANSWER
     } else {
-        SIGNED.answers[0]
+        SIGNED.first.1
     }
 }
 
 /// Whether a put and a get that are cut after so many bytes are answered as they should.
 fn is_answered(alloc: Global, count: usize) -> Result<bool, Fail> {
     let bytes = PUT_AND_GET.get(..count).unwrap_or(PUT_AND_GET);
-    let mut link = FailingLink::new(alloc, [bytes.to_vec(alloc)?, Vec::new(alloc)], 4096, 0);
+    let mut link = FailingLink::new(alloc, bytes.to_vec(alloc)?, Vec::new(alloc), 4096, 0);
     let (status, _) = served(alloc, ONE_KEY, 1, &mut link)?;
-    Ok(status == Status::Done && link.written()[0] == wanted(count))
+    let (written, _) = link.written();
+    Ok(status == Status::Done && written == wanted(count))
 }
 
 #[test]
@@ -137,10 +141,9 @@ fn a_signed_get_cut_after_each_byte(rt: HostRuntime) -> Result<(), Fail> {
 /// The port is opened once, two connections are waited for, and three answers are written.
 #[test]
 fn each_call_of_a_signed_conversation_fails(rt: HostRuntime) -> Result<(), Fail> {
-    let found = outcome(rt.alloc(), &SIGNED)?;
-    assert!(rt;
-        matches!(found, Ok([1, 2, reads, 3]) if reads > 2),
-        "{found:?}"
-    );
+    let (counts, wrong) = outcome(rt.alloc(), &SIGNED)?;
+    assert_eq!(rt; wrong, None);
+    assert_eq!(rt; (counts.opens, counts.waits, counts.writes), (1, 2, 3));
+    assert!(rt; counts.reads > 2);
     Ok(())
 }
