@@ -3,8 +3,12 @@ use crate::recorder::recorded;
 use crate::served::THREE_NODES;
 use crate::signed_copies::{BODIES, BUCKETS, COPIES};
 use crate::signed_gets::{METHODS, SIGNED_GET};
-use crate::signed_more_pairs::{BODY_PAIRS, DENIED_PAIRS, FORGED_PAIRS, LENGTH_PAIRS, SKEWED_PAIRS};
-use crate::signed_pairs::{MALFORMED_PAIRS, TARGET_PAIRS, UNKNOWN_KEY_PAIRS, UNSERVED_PAIRS, UNSIGNED_PAIRS};
+use crate::signed_more_pairs::{
+    BODY_PAIRS, DENIED_PAIRS, FORGED_PAIRS, LENGTH_PAIRS, SKEWED_PAIRS,
+};
+use crate::signed_pairs::{
+    MALFORMED_PAIRS, TARGET_PAIRS, UNKNOWN_KEY_PAIRS, UNSERVED_PAIRS, UNSIGNED_PAIRS,
+};
 use crate::signed_refusals::Pair;
 use lab_outside::{MemClock, MemSink, MemSource, Status};
 use serve_run::{Server, run_server};

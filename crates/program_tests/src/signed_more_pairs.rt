@@ -1,7 +1,9 @@
 //! Requests with two causes at once, signed by Python's hmac and hashlib: the first in the table of docs/S3.md is
 //! answered.
 use crate::signed_refusals::{
-    ACCESS_DENIED, ENTITY_TOO_LARGE, INCOMPLETE_BODY, INVALID_REQUEST, KEY_TOO_LONG_ERROR, LONG_PATH, MISSING_CONTENT_LENGTH, NO_SUCH_KEY, OTHER_BODY, Pair, REQUEST_TIME_TOO_SKEWED, SIGNATURE_DOES_NOT_MATCH,
+    ACCESS_DENIED, ENTITY_TOO_LARGE, INCOMPLETE_BODY, INVALID_REQUEST, KEY_TOO_LONG_ERROR,
+    LONG_PATH, MISSING_CONTENT_LENGTH, NO_SUCH_KEY, OTHER_BODY, Pair, REQUEST_TIME_TOO_SKEWED,
+    SIGNATURE_DOES_NOT_MATCH,
 };
 
 /// The date is too far away, and something else is wrong.

@@ -1,7 +1,8 @@
 //! Requests with two causes at once, signed by Python's hmac and hashlib: the first in the table of docs/S3.md is
 //! answered.
 use crate::signed_refusals::{
-    ACCESS_DENIED, AUTHORIZATION_HEADER_MALFORMED, INVALID_ACCESS_KEY_ID, INVALID_REQUEST, LONG_PATH, NOT_IMPLEMENTED, Pair,
+    ACCESS_DENIED, AUTHORIZATION_HEADER_MALFORMED, INVALID_ACCESS_KEY_ID, INVALID_REQUEST,
+    LONG_PATH, NOT_IMPLEMENTED, Pair,
 };
 
 /// The target is none, and something else is wrong.

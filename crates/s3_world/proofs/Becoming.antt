@@ -1,5 +1,5 @@
 -- A store whose world changed without a step, and a drain that delivers all messages.
-use Rattle.std.proofs.Common.{◌≡◌, ℕ, ◌^◌, ◌-◌, [], ◌++◌, Result, Ok, Err, IfOk, refl, sym, ap, ◌∙◌, subst, append-nil}
+use Rattle.std.proofs.Common.{◌≡◌, ◌^◌, ◌-◌, [], ◌++◌, Result, Ok, Err, refl, sym, ap, ◌∙◌, subst, append-nil}
 use Rattle.std.specs.Prelude.{OnOk, OnErr}
 use Rattle.std.specs.List.{AllByRecursion}
 use Rattle.crdt_core.specs.declared.memory.Memory.{Memory}
@@ -7,14 +7,12 @@ use Rattle.crdt_rows.specs.declared.any_row.AnyRow.{AnyRow}
 use Rattle.crdt_rows.specs.AnyRow.{any_join}
 use Rattle.object_schema.specs.Schema.{words}
 use Rattle.layout_roles.specs.declared.layout.Layout.{Layout}
-use Rattle.cluster_machine.specs.declared.applied.Applied.{Applied}
 use Rattle.cluster_machine.specs.Worlds.{does, installed}
 use Rattle.store_model.specs.declared.event.Told.{Told}
 use Rattle.store_model.specs.Run.{World, Moving, silent, drains}
 use Rattle.store_model.specs.Acts.{moves, installs, drain, all_messages, endings, acted}
 use Rattle.store_model.specs.Turns.{FitsOutcome}
 use Rattle.world_core.specs.declared.report.Report.{Report}
-use Rattle.change_model.specs.Given.{applying}
 use Rattle.world_core.specs.Stands.{PlaysSo, Turns}
 use Rattle.s3_world.specs.declared.asked.Asked.{Asked}
 use Rattle.s3_world.specs.declared.world.S3World.{S3World}
@@ -61,11 +59,6 @@ module _ (old new : S3World) (buckets : new.buckets ≡ old.buckets) (block : ne
         tells = subst (λ (t : Told). Tells t (acted s (moves (f s.world)))) (sym is) (record { refused = x.tells.refused; words = x.tells.words; lines = x.tells.lines });
         fits = ((x.stands.fits, x.spelled), tt);
       }
-
-  pub given_plays : (n : ℕ) (shown : Applied) (report : Report AnyRow) (r : Result Told Memory) → IfOk r (λ told. told ≡ record { refused = report.refused; words = report.words; lines = report.lines }) →
-      PlaysSo any_join words old.driver.world new.driver.world report (λ w. does any_join words w (applying w n shown)) → IfOk r (λ told. Plays old new told (λ s. acted s (moves (applying s.world n shown))))
-  given_plays n shown report (Ok told) is plays = doing_plays (λ w. applying w n shown) (λ w. refl) report told is plays
-  given_plays n shown report (Err e) is plays = tt
 
 -- as many as messages can have numbers
 all_of_them : 2 ^ 64 - 1 ≡ all_messages

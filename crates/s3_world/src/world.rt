@@ -36,7 +36,7 @@ use name_set::Names;
 use s3_flow::ObjectFlows;
 use std::alloc::Global;
 use store_model::{Event, Told};
-use world_core::{NodeLine, Report};
+use world_core::NodeLine;
 
 /// How many bytes a block has, where no schedule says otherwise: a mebibyte.
 const BLOCK_SIZE: u32 = 1_048_576;
@@ -59,17 +59,6 @@ fn copy_role(role: &Option<(Zone, RoleKind)>) -> Result<Option<(Zone, RoleKind)>
     match role {
         Some((zone, kind)) => Ok(Some((zone.copy()?, *kind))),
         None => Ok(None),
-    }
-}
-
-// What a step of the world answers that ends no request.
-fn answered(report: Report<AnyRow>) -> Told
-    ensures { result ≡ record { refused = report.refused; words = report.words; lines = report.lines } }
-{
-    Told {
-        refused: report.refused,
-        words: report.words,
-        lines: report.lines,
     }
 }
 
@@ -169,7 +158,11 @@ impl S3World {
         ensures want { OnlyWant result }
     {
         let report = self.driver.world.apply_with(node, shown)?;
-        Ok(answered(report))
+        Ok(Told {
+            refused: report.refused,
+            words: report.words,
+            lines: report.lines,
+        })
     }
 
     /// Opens a request at a node and gives its number, or says why not.
@@ -304,7 +297,11 @@ impl S3World {
         ensures causes { WantOr result (OverflowsStep self.old step) }
     {
         let report = self.driver.world.step(step)?;
-        Ok(answered(report))
+        Ok(Told {
+            refused: report.refused,
+            words: report.words,
+            lines: report.lines,
+        })
     }
 
     // Later requests cut bytes into blocks of this size.

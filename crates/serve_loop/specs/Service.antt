@@ -2,6 +2,7 @@
 use Rattle.std.specs.Prelude.{ℕ, List, Option, Result, Ok, Err}
 use Rattle.lab_outside.specs.Connection.{Connection}
 use Rattle.flow_model.specs.declared.order.Order.{Order}
+use Rattle.serve_model.specs.declared.buckets.Buckets.{Buckets}
 use Rattle.serve_model.specs.declared.served.Served.{Served}
 use Rattle.serve_model.specs.Stores.{Store, Known}
 use Rattle.serve_model.specs.Talk.{Grammar, Serving}
@@ -12,7 +13,7 @@ use Rattle.serve_loop.specs.declared.service.ServeStop.TheVariants.{Link, Fault}
 
 module _ {S : Type 0} (store : Store S) where
   -- all connections that came were served, and so many they are; or all but the last, with which serving ended
-  abbrev pub Ends : List (List ℕ) → Grammar → Serving S → (S → Type 0) → Known S → Option (List ℕ) → Served → Result ℕ ServeStop → List (List ℕ) → Option (List (List ℕ)) → List Connection → List Connection → Type 0
+  abbrev pub Ends : Buckets → Grammar → Serving S → (S → Type 0) → Known S → Option (List ℕ) → Served → Result ℕ ServeStop → List (List ℕ) → Option (List (List ℕ)) → List Connection → List Connection → Type 0
   Ends buckets g p holds known times served (Ok n) coming coming_new past past_new = ServesAll store buckets g known.fits p n holds times served coming coming_new past past_new
   Ends buckets g p holds known times served (Err Link) coming coming_new past past_new = (n : ℕ) × ServesAll store buckets g known.fits p n holds times served coming coming_new past past_new
   Ends buckets g p holds known times served (Err (Fault e)) coming coming_new past past_new = ServesAllButLast store buckets g known.fits known.overflows p e coming past past_new

@@ -1,21 +1,14 @@
 -- What is decided of staged roles, from what was computed of them.
-use Rattle.std.proofs.Common.{◌≡◌, ◌<◌, ◌≤◌, ◌↔◌, ℕ, List, length, Result, Ok, Err, IfOk, ap, sym, subst, ◌∙◌, inl, inr, refl}
+use Rattle.std.proofs.Common.{◌≡◌, ◌<◌, ◌≤◌, ◌↔◌, ℕ, List, length, Result, Err, subst, inl, inr, refl}
 use Rattle.std.proofs.lemmas.Bool.{cases_lt}
 use Rattle.layout_roles.specs.declared.role.Role.{Role}
-use Rattle.layout_roles.specs.declared.roles.Roles.{Roles}
-use Rattle.layout_roles.specs.declared.layout.Layout.{Layout}
 use Rattle.layout_roles.specs.declared.redundancy.Redundancy.{Redundancy}
 use Rattle.layout_roles.specs.Zones.{storage_nodes, zone_names}
-use Rattle.layout_roles.specs.Certificates.{zones_wanted, AreEnough, IsCertified, ShowsNone}
+use Rattle.layout_roles.specs.Certificates.{zones_wanted, AreEnough, ShowsNone}
 use Rattle.layout_roles.specs.declared.cut.Cut.{Cut}
 use Rattle.layout_roles.specs.declared.certified.Certified.{Certified}
 use Rattle.layout_size.specs.declared.fault.LayoutFault.{LayoutFault}
 use Rattle.layout_size.specs.Answers.{IfNoAssignment}
-use Rattle.cluster_machine.specs.Step.{given, none_given}
-use Rattle.cluster_machine.specs.declared.applied.Applied.{Applied}
-use Rattle.cluster_machine.specs.Choices.{Decision, IsComputed}
-use Rattle.world_core.specs.declared.decide.Decided.{Decided}
-use Rattle.world_core.specs.Parts.{decision, IsGiven}
 
 -- nodes and zones are enough where neither is said to be too few
 pub enough : (roles : List Role) (wanted : Redundancy) (result : Result Certified LayoutFault) →

@@ -1,6 +1,7 @@
 -- The first layout of nodes 1, 2 and 3, and a layout that is applied.
-use Rattle.std.proofs.Common.{◌≡◌, ◌<◌, ◌≤◌, ◌+◌, ◌&&◌, not, leb, ℕ, suc, Bool, true, false, cond, IsTrue, [], ◌∷◌, length, Result, Ok, Err, refl, sym, subst, ap, ◌∙◌, arith}
+use Rattle.std.proofs.Common.{◌≡◌, ◌<◌, ◌≤◌, ◌+◌, ◌&&◌, not, leb, ℕ, suc, Bool, true, false, cond, IsTrue, [], ◌∷◌, length, Result, Ok, Err, IfOk, refl, sym, subst, ap, ◌∙◌, arith}
 use Rattle.std.proofs.lemmas.Bool.{le-leb, lt-leb, leb-false}
+use Rattle.crdt_core.specs.declared.memory.Memory.{Memory}
 use Rattle.blake2_hash.specs.Blake2b.{blake2b}
 use Rattle.layout_roles.specs.declared.roles.Roles.{Roles}
 use Rattle.layout_roles.specs.declared.layout.Layout.{Layout}
@@ -26,9 +27,9 @@ use Rattle.world_core.specs.declared.nodes.Nodes.{Nodes}
 use Rattle.world_core.specs.declared.report.Report.{Report}
 use Rattle.world_core.specs.declared.world.World.{World}
 use Rattle.world_core.specs.Nodes.{newest_in, AreNodes, BecomesAt, given_to, with_node}
-use Rattle.world_core.specs.Stands.{StandsFor, DoesSo, Stepped, Plays, nothing_given}
+use Rattle.world_core.specs.Stands.{StandsFor, DoesSo, Stepped, Steps, Plays, nothing_given}
 use Rattle.change_model.specs.Given.{layout_of, IsFor, given_at, applying}
-use Rattle.world_core.specs.Given.{next_version}
+use Rattle.world_core.specs.Given.{next_version, Applies}
 use Rattle.block_laws.proofs.Steps.{next_world}
 use Rattle.world_laws.proofs.Additions.{node_of, fine_stays_sound, fine_one}
 use Rattle.world_laws.proofs.Doings.{sound_appended}
@@ -125,7 +126,7 @@ module _ {R : Type 0} (w : Model R) (n : ℕ) where
 
   -- the node has one version more, of a greatest layout, and the world is whole still
   whole_laid : (join : R → R → R) (s : Words R) (laws : Laws join s) (l : Layout) (shown : Applied) → IsWhole join s w → HasGreatest l → l.version ≡ next → outside ≡ false → taken ≡ false → full ≡ false →
-      IsWhole join s (applied w (chosen join s layouts trio stage_trio w n next (given l shown)))
+      IsWhole join s (applied {C = Cut} w (chosen join s layouts trio stage_trio w n next (given l shown)))
   whole_laid join s laws l shown h best is e f g =
       let above : w.applied < next = leb-false next w.applied f in
       let below = h.sound.versions n in
@@ -242,3 +243,7 @@ module _ {S R : Type 0} (join : R → R → R) (s : Words R) where
   decided_step c new w n report shown h is done =
       let here : IsFor w.roles w.redundancy shown = subst (λ r. IsFor w.roles r shown) h.redundancy (subst (λ rs. IsFor rs c.redundancy shown) h.roles is) in
       record { choice = given_at w n shown; lawful = given_lawful w n shown here; does = done }
+
+  pub decided_steps : (c new : World S R) (n : ℕ) (shown : Applied) → IsFor c.roles.list c.redundancy shown → (r : Result (Report R) Memory) → IfOk r (λ report. Applies join s c new report n shown) → IfOk r (λ report. Steps join s c new report (Apply n))
+  decided_steps c new n shown is (Ok report) h = λ w stands. decided_step c new w n report shown stands is (h w stands)
+  decided_steps c new n shown is (Err e) h = tt

@@ -9,8 +9,13 @@ use Rattle.cluster_machine.specs.Layouts.{layouts}
 use Rattle.cluster_machine.specs.World.{is_member_at}
 use Rattle.cluster_machine.specs.Step.{most_versions}
 use Rattle.cluster_machine.specs.Choices.{IsRefused}
-use Rattle.cluster_machine.specs.Worlds.{Model, newest_at}
-use Rattle.change_model.specs.Given.{IsFor}
+use Rattle.cluster_machine.specs.declared.applied.Applied.{Applied}
+use Rattle.cluster_machine.specs.Worlds.{Model, newest_at, does}
+use Rattle.change_model.specs.Given.{applying, IsFor}
+use Rattle.table_schema.specs.Words.{Words}
+use Rattle.world_core.specs.declared.report.Report.{Report}
+use Rattle.world_core.specs.declared.world.World.{World}
+use Rattle.world_core.specs.Stands.{PlaysSo}
 use Rattle.world_core.specs.declared.decide.Decided.{Decided}
 use Rattle.world_core.specs.declared.decide.Decided.TheVariants.{Given, Refused}
 
@@ -25,3 +30,7 @@ next_version w n =
     cond (leb 1 w.applied && not (is_member_at layouts w n)) (Err NotMember)
     (cond (leb (suc (newest_at w n)) w.applied) (Err (VersionTaken (suc (newest_at w n))))
     (cond (leb most_versions w.applied) (Err VersionLimit) (Ok (suc (newest_at w n)))))
+
+-- whatever world it stood for, this layout was applied at node n, or the apply was refused
+abbrev pub Applies : {S R : Type 0} → (R → R → R) → Words R → World S R → World S R → Report R → ℕ → Applied → Type 0
+Applies join s old new report n shown = PlaysSo join s old new report (λ w. does join s w (applying w n shown))

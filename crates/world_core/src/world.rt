@@ -19,9 +19,8 @@ ghost use Rattle.cluster_machine.specs.declared.line.Line.TheVariants as line;
 ghost use Rattle.cluster_machine.specs.declared.line.EndWord.TheVariants as word;
 ghost use Rattle.cluster_machine.specs.Step.{told};
 ghost use Rattle.cluster_machine.specs.World.{clock, is_member_at, undelivered, sent_bytes, node_line, forget_delivered, empty};
-ghost use Rattle.cluster_machine.specs.Worlds.{Model, IsMeant, does, installed};
-ghost use Rattle.change_model.specs.Given.{applying};
-ghost use Rattle.world_core.specs.Given.{next_version};
+ghost use Rattle.cluster_machine.specs.Worlds.{Model, IsMeant, installed};
+ghost use Rattle.world_core.specs.Given.{next_version, Applies};
 ghost use Rattle.world_core.specs.Nodes.{shown_line, newest_in};
 ghost use Rattle.world_core.specs.Stands.{SendsOut, CannotSend, acts_so, local_so, ended};
 
@@ -216,7 +215,7 @@ impl<S: Schema> World<S> {
     pub fn apply_with(&mut self, node: u8, shown: Applied) -> Result<Report<S::Row>, Memory>
         requires stands { IsWorld S.Row.join S.words self.old }
         requires greatest { IsGreatest shown.roles.list shown.certified.r shown.certified.size shown.certified.sets.sets }
-        ensures plays { IfOk result (λ report. PlaysSo S.Row.join S.words self.old self.new report (λ w. does S.Row.join S.words w (applying w node shown))) }
+        ensures applies { IfOk result (λ report. Applies S.Row.join S.words self.old self.new report node shown) }
         ensures want { OnlyWant result }
     {
         let version = match self.next_version(node) {
@@ -310,7 +309,7 @@ impl<S: Schema> World<S> {
     // The version of a layout that is applied at a node, or why it is refused.
     fn next_version(&self, node: u8) -> Result<u32, Refusal>
         requires stands { IsWorld S.Row.join S.words self.now }
-        ensures is { (w : Model S.Row) → StandsFor S.Row.join S.words self.now w → result ≡ next_version w node }
+        ensures { (w : Model S.Row) → StandsFor S.Row.join S.words self.now w → result ≡ next_version w node }
     {
         if self.is_outside(node) {
             return Err(Refusal::NotMember);
