@@ -30,14 +30,14 @@ const READS: &[u8] = b"\
 
 /// The lines of a schedule, into which a restart comes after so many.
 #[derive(Drop)]
-struct Schedule {
+struct Lines {
     text: Vec<u8>,
     node: u8,
     place: usize,
     count: usize,
 }
 
-impl Schedule {
+impl Lines {
     /// One line more.
     fn push(&mut self, alloc: Global, line: &[u8]) -> Result<(), Fail> {
         self.text.extend_from_slice(line)?;
@@ -52,7 +52,7 @@ impl Schedule {
 
 /// The schedule in which this node restarts after so many events.
 fn schedule(alloc: Global, node: u8, place: usize) -> Result<Vec<u8>, Fail> {
-    let mut schedule = Schedule {
+    let mut lines = Lines {
         text: Vec::new(alloc),
         node,
         place,
@@ -60,17 +60,17 @@ fn schedule(alloc: Global, node: u8, place: usize) -> Result<Vec<u8>, Fail> {
     };
     let begin: [&[u8]; 3] = [b"trio\n", b"bucket pics\n", b"block 4096\n"];
     for line in begin {
-        schedule.push(alloc, line)?;
+        lines.push(alloc, line)?;
     }
     for (key, size, messages) in PUTS {
         let put = format!(in alloc; "put 1 pics {key} {size} 0\n")?;
-        schedule.push(alloc, put.as_bytes())?;
+        lines.push(alloc, put.as_bytes())?;
         for _ in 0..messages {
-            schedule.push(alloc, b"drain 1\n")?;
+            lines.push(alloc, b"drain 1\n")?;
         }
     }
-    schedule.text.extend_from_slice(READS)?;
-    Ok(schedule.text)
+    lines.text.extend_from_slice(READS)?;
+    Ok(lines.text)
 }
 
 /// Whether a put is open after so many events: its first event is the put, and its last but one acknowledges it.
