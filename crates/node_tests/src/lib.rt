@@ -2,8 +2,6 @@
 #![tactic(auto)]
 
 #[cfg(test)]
-mod applies;
-#[cfg(test)]
 mod tests;
 #[cfg(test)]
 mod times;
