@@ -222,7 +222,7 @@ fn refusal(alloc: Global, more: &[u8]) -> Result<(Status, Vec<u8>), Fail> {
     text.extend_from_slice(more)?;
     text.extend_from_slice(nodes())?;
     let mut link = recorded(alloc, b"", 16)?;
-    let mut clock = MemClock::new(Vec::new(alloc));
+    let mut clock = MemClock::new([1_700_000_000_000].to_vec(alloc)?);
     let mut source = MemSource::new(text, Vec::new(alloc));
     let mut sink = MemSink::new(alloc, Vec::new(alloc));
     let status = run_server(
