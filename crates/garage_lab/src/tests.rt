@@ -5,7 +5,7 @@ use std::alloc::Global;
 use std::test::Fail;
 
 const USAGE: &[u8] =
-    b"usage: garage_lab layout | replay [--check] | workload N SEED | serve PORT COUNT\n";
+    b"usage: garage_lab layout | replay [--check] | k2v | workload N SEED | serve PORT COUNT\n";
 
 /// The status and the bytes of a run with these words over this input, with no connection to come.
 fn answered(alloc: Global, words: &[&str], input: &[u8]) -> Result<(Status, Vec<u8>), Fail> {
@@ -24,7 +24,7 @@ fn answered(alloc: Global, words: &[&str], input: &[u8]) -> Result<(Status, Vec<
 /// Words and inputs, with the answer and what its text begins with.
 #[test]
 fn words_of_each_command(rt: HostRuntime) -> Result<(), Fail> {
-    let rows: [(&[&str], &[u8], Status, &[u8]); 14] = [
+    let rows: [(&[&str], &[u8], Status, &[u8]); 15] = [
         (&[], b"", Status::Usage, USAGE),
         (&["replay", "x"], b"", Status::Usage, USAGE),
         (&["layouts"], b"", Status::Usage, USAGE),
@@ -47,6 +47,7 @@ fn words_of_each_command(rt: HostRuntime) -> Result<(), Fail> {
             Status::Done,
             b"fresh 0\nend 0 0 0\n",
         ),
+        (&["k2v"], b"", Status::Done, b"end 0 0 0\n"),
         (
             &["workload", "5", "0"],
             b"",

@@ -112,3 +112,11 @@ unfolding event_of
 spelled_is_read line e h =
     let c : candidate (words_in line) ≡ Some e = ap candidate (words_spelled line e h) ∙ candidate_back e h.allowed h.kind in
     ap (spelled_by line) c ∙ is_where line e h
+
+nothing_read : (line : List ℕ) (o : Option ItemEvent) → event_of line ≡ o → ((e : ItemEvent) → Spells line e → ⊥) → o ≡ None
+nothing_read line None h none = refl
+nothing_read line (Some e) h none = absurd (none e (event_is_spelled line e h))
+
+-- where no event is spelled none is read
+pub none_is_read : (line : List ℕ) → ((e : ItemEvent) → Spells line e → ⊥) → event_of line ≡ None
+none_is_read line none = nothing_read line (event_of line) refl none

@@ -56,6 +56,10 @@ act_of_turn t = act_of t.numbered.event t.choice
 abbrev pub outcome_of : State → Turn → Outcome
 outcome_of s t = acted s (act_of_turn t)
 
+-- the state after an event
+abbrev pub after : State → Turn → State
+after s t = (outcome_of s t).state
+
 -- the state after events in order
 abbrev pub run : State → List Turn → State
 run s ts = after_acts s (map act_of_turn ts)

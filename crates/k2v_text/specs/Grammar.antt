@@ -58,6 +58,10 @@ abbrev pub is_allowed_kind : ItemEvent → Bool
 is_allowed_kind (Common e) = is_common e
 is_allowed_kind other = true
 
+-- the words of an event are in their ranges, and it is none of objects or blocks
+abbrev pub IsAllowed : ItemEvent → Type 0
+IsAllowed e = IsIn (range_of e) × IsTrue (is_allowed_kind e)
+
 -- a line spells an event
 pub record Spells (line : List ℕ) (e : ItemEvent) : Type 0 where
   pub spelled : line ≡ spelling e

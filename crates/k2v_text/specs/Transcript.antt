@@ -47,9 +47,13 @@ abbrev pub answer_text : Option ItemRefusal → Words → List ℕ
 answer_text None words = codes "ok" ++ words_text words
 answer_text (Some r) words = codes "refused" ++ word (refusal_text r)
 
+-- the line of an event and its answer, and then what happened
+abbrev pub told_text : ℕ → List ℕ → Option ItemRefusal → Words → List ItemLine → List ℕ
+told_text line name refused words lines = (decimal line ++ word name ++ word (answer_text refused words) ++ 10 ∷ []) ++ flat_map line_text lines
+
 -- the lines of one event, with what came of it
 abbrev pub event_text : NumberedItemEvent → Outcome → List ℕ
-event_text e o = (decimal e.line ++ word (name_of e.event) ++ word (answer_text o.refused o.words) ++ 10 ∷ []) ++ flat_map line_text o.lines
+event_text e o = told_text e.line (name_of e.event) o.refused o.words o.lines
 
 -- the text of turns
 abbrev pub turns_text : State → List Turn → List ℕ

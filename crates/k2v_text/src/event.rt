@@ -1,5 +1,7 @@
-//! The events of a schedule over items.
-use k2v_model::Item;
+//! The events of a schedule over items, and what each answers.
+use cluster_machine::Words;
+use crdt_core::List;
+use k2v_model::{Item, ItemLine, ItemRefusal};
 use store_model::Event;
 
 /// A line of a schedule over items. Nodes are 1 to 16.
@@ -34,4 +36,12 @@ pub enum ItemEvent {
 pub struct NumberedItemEvent {
     pub line: u64,
     pub event: ItemEvent,
+}
+
+/// What an event answers: why it was refused, or its words, and what happened.
+#[derive(Drop)]
+pub struct ItemTold {
+    pub refused: Option<ItemRefusal>,
+    pub words: Words,
+    pub lines: List<ItemLine>,
 }

@@ -1,0 +1,177 @@
+-- How the calls of a replay end.
+use Rattle.std.proofs.Common.{◌≡◌, ℕ, ◌≤◌, ◌⊎◌, Option, Result, Ok, Err, IfErr, List, [], ◌++◌, refl, sym, ◌∙◌, subst, append_assoc, inl, inr}
+use Rattle.std.specs.Prelude.{OnOk}
+use Rattle.std.specs.Result.{IsErrAnd}
+use Rattle.lab_outside.specs.declared.ports.Sink as sink
+use Rattle.lab_outside.specs.declared.exit.Status.{Status}
+use Rattle.lab_outside.specs.declared.exit.Status.TheVariants.{Done, Refused, ReadFault, WriteFault, Memory as MemoryStatus, Limit}
+use Rattle.lab_outside.specs.Rose.{Rose}
+use Rattle.lab_outside.specs.Bytes.{Wrote, WrotePrefix}
+use Rattle.lab_outside.proofs.Bytes.{wrote_none, wrote_more}
+use Rattle.lab_outside.proofs.Rose.{rose_before, rose_after}
+use Rattle.lab_main.specs.Ends.{Ends, said, cut_off}
+use Rattle.lab_main.specs.Limits.{number_line}
+use Rattle.lab_main.specs.Edges.{IsStated, IsUnlinked, Answers, Begins, nothing, begun, Writes}
+use Rattle.lab_main.proofs.Edges.{last_answers, last_begins, whole_writes}
+use Rattle.lab_main.proofs.Writing.{wrote_nothing}
+use Rattle.k2v_text.specs.declared.event.NumberedItemEvent.{NumberedItemEvent}
+use Rattle.k2v_text.specs.Schedule.{IsSchedule, IsFirstBadLine, HasTooManyEvents}
+use Rattle.k2v_text.specs.Transcript.{transcript}
+use Rattle.k2v_api.specs.declared.stop.Stop.{Stop}
+use Rattle.k2v_api.specs.declared.stop.Stop.TheVariants.{Write, Memory, TooManyEvents, BadLine, Number, Sent}
+use Rattle.k2v_api.specs.Replay.{sent_line, front, whole, wanting}
+use Rattle.k2v_api.specs.Answer.{events_line, bad_line_text, IsAnswer, bad_line, many_events, replayed}
+use Rattle.k2v_api.specs.Stop.{status_of, said_of, IsWhole, IsPart, of_turns, of_all, LacksLine, Halts, HaltsOn, IsNearly, IsOfSchedule, Says, ended, unsaid}
+
+-- the text is no schedule, and nothing was written
+no_schedule : (input : List ℕ) (old : Option (List ℕ)) (stop : Stop) → IsOfSchedule stop → ((n : ℕ) → stop ≡ BadLine n → IsFirstBadLine input n) → (stop ≡ TooManyEvents → HasTooManyEvents input) → HaltsOn input stop old old
+no_schedule input old Memory of_schedule bad many = nothing (wrote_none old)
+no_schedule input old TooManyEvents of_schedule bad many = record { front = []; wrote = wrote_none old; stated = many_events (many refl) refl refl }
+no_schedule input old (BadLine n) of_schedule bad many = record { front = []; wrote = wrote_none old; stated = bad_line n (bad n refl) refl refl }
+no_schedule input old Write of_schedule bad many = absurd of_schedule
+no_schedule input old Number of_schedule bad many = absurd of_schedule
+no_schedule input old Sent of_schedule bad many = absurd of_schedule
+
+pub schedule_halts : {A : Type 0} (input : List ℕ) (old : Option (List ℕ)) (stop : Stop) → IsOfSchedule stop → ((n : ℕ) → stop ≡ BadLine n → IsFirstBadLine input n) → (stop ≡ TooManyEvents → HasTooManyEvents input) →
+    (r : Result A Stop) → IsErrAnd r (λ e. e ≡ stop) → IfErr r (λ stop. HaltsOn input stop old old)
+schedule_halts input old stop of_schedule bad many (Ok x) is = tt
+schedule_halts input old stop of_schedule bad many (Err e) is = subst (λ (s : Stop). HaltsOn input s old old) (sym is) (no_schedule input old stop of_schedule bad many)
+
+-- what was written for the events of a schedule
+module _ (input : List ℕ) (events : List NumberedItemEvent) (spells : IsSchedule input events) (old new : Option (List ℕ)) where
+  of_part : IsPart events old new → Begins (IsAnswer input) old new
+  of_part (of_turns turns first wrote) = begun MemoryStatus (front turns) (replayed events spells (wanting turns first refl refl)) wrote
+  of_part (of_all turns are played wrote) = begun Done (transcript turns) (replayed events spells (whole turns are played refl refl)) wrote
+
+  of_line : (line : List ℕ) → LacksLine events line old new → IsNearly input Limit line old new
+  of_line line h = record { front = h.before; wrote = h.wrote; stated = replayed events spells h.stated }
+
+  run_halted : (stop : Stop) → Halts events stop old new → HaltsOn input stop old new
+  run_halted Write h = of_part h
+  run_halted Memory h = of_part h
+  run_halted TooManyEvents h = absurd h
+  run_halted (BadLine n) h = absurd h
+  run_halted Number h = of_line number_line h
+  run_halted Sent h = of_line sent_line h
+
+  pub write_halts : {A : Type 0} (r : Result A Stop) → IfErr r (λ stop. Halts events stop old new) → IfErr r (λ stop. HaltsOn input stop old new)
+  write_halts (Ok x) h = tt
+  write_halts (Err stop) h = run_halted stop h
+
+  write_all : IsWhole events old new → Answers (IsAnswer input) Done old new
+  write_all h = record { text = transcript h.turns; stated = replayed events spells (whole h.turns h.events_are h.played refl refl); wrote = h.wrote }
+
+  pub write_done : {A : Type 0} (r : Result A Stop) → OnOk r (IsWhole events old new) → OnOk r (Answers (IsAnswer input) Done old new)
+  write_done (Ok x) h = write_all h
+  write_done (Err stop) h = tt
+
+-- nothing more was written
+kept : (Stated : Status → List ℕ → Type 0) (old mid new : Option (List ℕ)) → Begins Stated old mid → Wrote mid new [] → Begins Stated old new
+kept Stated old mid new (nothing wrote) k = nothing (wrote_more old mid new [] [] wrote k)
+kept Stated old mid new (begun is text stated wrote) k = begun is text stated (record {
+  front = wrote.front ++ [];
+  rest = wrote.rest;
+  whole = append_assoc wrote.front [] wrote.rest ∙ wrote.whole;
+  wrote = wrote_more old mid new wrote.front [] wrote.wrote k;
+})
+
+-- nothing more is said
+module _ (status result : Status) (mid new : Option (List ℕ)) (faults risen : ℕ) where
+  silent_wrote : Says status [] result mid new faults risen → Wrote mid new []
+  silent_wrote (ended (said is wrote)) = wrote
+  silent_wrote (ended (cut_off is rose wrote)) = wrote_nothing mid new wrote
+  silent_wrote (unsaid is wrote) = wrote
+
+  silent_unstated : Says status [] result mid new faults risen → (IsStated status → ⊥) → IsStated result → ⊥
+  silent_unstated (ended (said is wrote)) never stated = never (subst IsStated is stated)
+  silent_unstated (ended (cut_off is rose wrote)) never stated = subst IsStated is stated
+  silent_unstated (unsaid is wrote) never stated = subst IsStated is stated
+
+-- the last text of a replay that gave up
+module _ (input : List ℕ) (status result : Status) (last : List ℕ) (old mid new : Option (List ℕ)) (faults risen : ℕ) (near : IsNearly input status last old mid) where
+  nearly_said : Says status last result mid new faults risen → IsStated result → Answers (IsAnswer input) result old new
+  nearly_said (ended h) stated = last_answers (IsAnswer input) status near.front last result old mid new faults risen near.stated near.wrote h stated
+  nearly_said (unsaid is wrote) stated = absurd (subst IsStated is stated)
+
+  nearly_begins : Says status last result mid new faults risen → Begins (IsAnswer input) old new
+  nearly_begins (ended h) = last_begins (IsAnswer input) status near.front last result old mid new faults risen near.stated near.wrote h
+  nearly_begins (unsaid is wrote) = begun status (near.front ++ last) near.stated (record {
+    front = near.front ++ [];
+    rest = last;
+    whole = append_assoc near.front [] last;
+    wrote = wrote_more old mid new near.front [] near.wrote wrote;
+  })
+
+module _ (input : List ℕ) (result : Status) (old mid new : Option (List ℕ)) (faults risen : ℕ) where
+  stopped_answers : (stop : Stop) → HaltsOn input stop old mid → Says (status_of stop) (said_of stop) result mid new faults risen → IsStated result → Answers (IsAnswer input) result old new
+  stopped_answers Write h says stated = absurd (silent_unstated WriteFault result mid new faults risen says (λ x. x) stated)
+  stopped_answers Memory h says stated = absurd (silent_unstated MemoryStatus result mid new faults risen says (λ x. x) stated)
+  stopped_answers TooManyEvents h says stated = nearly_said input Limit result events_line old mid new faults risen h says stated
+  stopped_answers (BadLine n) h says stated = nearly_said input Refused result (bad_line_text n) old mid new faults risen h says stated
+  stopped_answers Number h says stated = nearly_said input Limit result number_line old mid new faults risen h says stated
+  stopped_answers Sent h says stated = nearly_said input Limit result sent_line old mid new faults risen h says stated
+
+  stopped_begins : (stop : Stop) → HaltsOn input stop old mid → Says (status_of stop) (said_of stop) result mid new faults risen → Begins (IsAnswer input) old new
+  stopped_begins Write h says = kept (IsAnswer input) old mid new h (silent_wrote WriteFault result mid new faults risen says)
+  stopped_begins Memory h says = kept (IsAnswer input) old mid new h (silent_wrote MemoryStatus result mid new faults risen says)
+  stopped_begins TooManyEvents h says = nearly_begins input Limit result events_line old mid new faults risen h says
+  stopped_begins (BadLine n) h says = nearly_begins input Refused result (bad_line_text n) old mid new faults risen h says
+  stopped_begins Number h says = nearly_begins input Limit result number_line old mid new faults risen h says
+  stopped_begins Sent h says = nearly_begins input Limit result sent_line old mid new faults risen h says
+
+write_alone : (stop : Stop) → status_of stop ≡ WriteFault → stop ≡ Write
+write_alone Write e = refl
+write_alone Memory e = cc
+write_alone TooManyEvents e = cc
+write_alone (BadLine n) e = cc
+write_alone Number e = cc
+write_alone Sent e = cc
+
+halted_fault : (stop : Stop) (result : Status) (mid new : Option (List ℕ)) (before faults risen : ℕ) → Says (status_of stop) (said_of stop) result mid new faults risen → (stop ≡ Write → Rose before faults) →
+    before ≤ faults → faults ≤ risen → result ≡ WriteFault → Rose before risen
+halted_fault stop result mid new before faults risen (ended (said is wrote)) rose low high e = rose_before before faults risen (rose (write_alone stop (sym is ∙ e))) high
+halted_fault stop result mid new before faults risen (ended (cut_off is later wrote)) rose low high e = rose_after before faults risen low later
+halted_fault stop result mid new before faults risen (unsaid is wrote) rose low high e = let no : MemoryStatus ≡ WriteFault = sym is ∙ e in cc
+
+-- what was written of a replay that ended or gave up
+module _ {O : Type 0} (o : sink.Ghosts O) (input : List ℕ) (old mid new : O) where
+  pub done_writes : Answers (IsAnswer input) Done (o.written old) (o.written new) → o.faults new ≡ o.faults old → Writes o (IsAnswer input) Done old new
+  done_writes h same = whole_writes o (IsAnswer input) Done old new h (λ e. let no : Done ≡ WriteFault = e in cc) same
+
+  pub halted_writes : (stop : Stop) (result : Status) → HaltsOn input stop (o.written old) (o.written mid) → Says (status_of stop) (said_of stop) result (o.written mid) (o.written new) (o.faults mid) (o.faults new) → (stop ≡ Write → Rose (o.faults old) (o.faults mid)) →
+      o.faults old ≤ o.faults mid → o.faults mid ≤ o.faults new → (result ≡ WriteFault) ⊎ (o.faults new ≡ o.faults old) → Writes o (IsAnswer input) result old new
+  halted_writes stop result h says rose low high told = record {
+    whole = stopped_answers input result (o.written old) (o.written mid) (o.written new) (o.faults mid) (o.faults new) stop h says;
+    begins = stopped_begins input result (o.written old) (o.written mid) (o.written new) (o.faults mid) (o.faults new) stop h says;
+    fault = halted_fault stop result (o.written mid) (o.written new) (o.faults old) (o.faults mid) (o.faults new) says rose low high;
+    told = told;
+  }
+
+-- where a failed write is told before and after, it is told
+pub told_both : {A : Type 0} (stop : Stop) (result : Status) (before faults risen : ℕ) → ((◌≡◌ {A = Result A Stop} (Err stop) (Err Write)) ⊎ (faults ≡ before)) → (stop ≡ Write → result ≡ WriteFault) → (result ≡ WriteFault) ⊎ (risen ≡ faults) → (result ≡ WriteFault) ⊎ (risen ≡ before)
+told_both stop result before faults risen (inl e) write later = let is : stop ≡ Write = cc in inl (write is)
+told_both stop result before faults risen (inr same) write (inl e) = inl e
+told_both stop result before faults risen (inr same) write (inr also) = inr (also ∙ same)
+
+-- the statuses with which it ends
+by_stop : (P : Status → Type 0) → P WriteFault → P MemoryStatus → P Limit → P Refused → (stop : Stop) → P (status_of stop)
+by_stop P w m l r Write = w
+by_stop P w m l r Memory = m
+by_stop P w m l r TooManyEvents = l
+by_stop P w m l r (BadLine n) = r
+by_stop P w m l r Number = l
+by_stop P w m l r Sent = l
+
+pub stop_statuses : (stop : Stop) (result : Status) (mid new : Option (List ℕ)) (faults risen : ℕ) → Says (status_of stop) (said_of stop) result mid new faults risen → IsUnlinked result
+stop_statuses stop result mid new faults risen (ended (said is wrote)) = subst IsUnlinked (sym is) (by_stop IsUnlinked tt tt tt tt stop)
+stop_statuses stop result mid new faults risen (ended (cut_off is rose wrote)) = subst IsUnlinked (sym is) tt
+stop_statuses stop result mid new faults risen (unsaid is wrote) = subst IsUnlinked (sym is) tt
+
+-- none of them is that of a failed read
+abbrev IsOther : Status → Type 0
+IsOther status = status ≡ ReadFault → ⊥
+
+pub stop_no_read : (stop : Stop) (result : Status) (mid new : Option (List ℕ)) (faults risen : ℕ) → Says (status_of stop) (said_of stop) result mid new faults risen → result ≡ ReadFault → ⊥
+stop_no_read stop result mid new faults risen (ended (said is wrote)) e = by_stop IsOther (λ k. cc) (λ k. cc) (λ k. cc) (λ k. cc) stop (sym is ∙ e)
+stop_no_read stop result mid new faults risen (ended (cut_off is rose wrote)) e = let no : WriteFault ≡ ReadFault = sym is ∙ e in cc
+stop_no_read stop result mid new faults risen (unsaid is wrote) e = let no : MemoryStatus ≡ ReadFault = sym is ∙ e in cc

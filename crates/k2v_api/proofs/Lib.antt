@@ -1,0 +1,10 @@
+pub mod Answering
+pub mod Causes
+pub mod Drains
+pub mod Ends
+pub mod Meant
+pub mod Moments
+pub mod Running
+pub mod Stepping
+pub mod Stops
+pub mod Turns

@@ -1,0 +1,194 @@
+-- What a request for an item with given words is.
+use Rattle.std.proofs.Common.{◌≡◌, ℕ, false, ◌⊎◌, inl, inr, ◌<◌, ◌≤◌, List, [], ◌∷◌, length, Bor, slice_index_or, refl, sym, ◌∙◌, ap, arith, nat_eq, codes, decimal}
+use Rattle.std.specs.Cmp.Lexicographic.{pointwise, told_text}
+use Rattle.std.proofs.lemmas.List.{length-map}
+use Rattle.store_model.specs.declared.event.Event.TheVariants as event
+use Rattle.text_model.specs.Grammar.{IsIn, IsFrom, first_word}
+use Rattle.schedule_text.specs.Kinds.{texts}
+use Rattle.k2v_model.specs.declared.order.Item.{Item}
+use Rattle.k2v_text.specs.declared.event.ItemEvent.{ItemEvent}
+use Rattle.k2v_text.specs.declared.event.ItemEvent.TheVariants.{Common, Put, Delete, Get}
+use Rattle.k2v_text.specs.Grammar.{item_words, words_of, item_range, token_range}
+use Rattle.k2v_lines.specs.Words.{IsItem, IsSpelledBy}
+
+abbrev Words : Type 0
+Words = List (Bor (List ℕ))
+
+-- the bytes of word i
+abbrev pub at : Words → ℕ → List ℕ
+at words i = (slice_index_or words i (record { ref_ptr = (0, 0); now = [] })).now
+
+-- as many words as the bytes of these
+length_of : (words : Words) (ws : List (List ℕ)) → texts words ≡ ws → length words ≡ length ws
+length_of words ws h = sym (length-map words (λ (word : Bor (List ℕ)). word.now)) ∙ ap length h
+
+pub four : (words : Words) → 4 ≤ length words → length words < 5 → texts words ≡ at words 0 ∷ at words 1 ∷ at words 2 ∷ at words 3 ∷ []
+four [] low high = absurd (omega arith)
+four (a ∷ []) low high = absurd (omega arith)
+four (a ∷ b ∷ []) low high = absurd (omega arith)
+four (a ∷ b ∷ c ∷ []) low high = absurd (omega arith)
+four (a ∷ b ∷ c ∷ d ∷ []) low high = refl
+four (a ∷ b ∷ c ∷ d ∷ e ∷ ws) low high = absurd (omega arith)
+
+pub five : (words : Words) → 5 ≤ length words → length words < 6 → texts words ≡ at words 0 ∷ at words 1 ∷ at words 2 ∷ at words 3 ∷ at words 4 ∷ []
+five [] low high = absurd (omega arith)
+five (a ∷ []) low high = absurd (omega arith)
+five (a ∷ b ∷ []) low high = absurd (omega arith)
+five (a ∷ b ∷ c ∷ []) low high = absurd (omega arith)
+five (a ∷ b ∷ c ∷ d ∷ []) low high = absurd (omega arith)
+five (a ∷ b ∷ c ∷ d ∷ e ∷ []) low high = refl
+five (a ∷ b ∷ c ∷ d ∷ e ∷ f ∷ ws) low high = absurd (omega arith)
+
+pub seven : (words : Words) → 7 ≤ length words → length words < 8 →
+    texts words ≡ at words 0 ∷ at words 1 ∷ at words 2 ∷ at words 3 ∷ at words 4 ∷ at words 5 ∷ at words 6 ∷ []
+seven [] low high = absurd (omega arith)
+seven (a ∷ []) low high = absurd (omega arith)
+seven (a ∷ b ∷ []) low high = absurd (omega arith)
+seven (a ∷ b ∷ c ∷ []) low high = absurd (omega arith)
+seven (a ∷ b ∷ c ∷ d ∷ []) low high = absurd (omega arith)
+seven (a ∷ b ∷ c ∷ d ∷ e ∷ []) low high = absurd (omega arith)
+seven (a ∷ b ∷ c ∷ d ∷ e ∷ f ∷ []) low high = absurd (omega arith)
+seven (a ∷ b ∷ c ∷ d ∷ e ∷ f ∷ g ∷ []) low high = refl
+seven (a ∷ b ∷ c ∷ d ∷ e ∷ f ∷ g ∷ h ∷ ws) low high = absurd (omega arith)
+
+-- an event of another name
+another : (name : List ℕ) (ws : List (List ℕ)) (e : ItemEvent) → IsSpelledBy (name ∷ ws) e → false ≡ pointwise nat_eq name (first_word (words_of e)) → ⊥
+another name ws e h differs = told_text name (first_word (words_of e)) false differs (ap first_word h.spelled)
+
+-- ---- to read
+
+pub record IsGet (ws : List (List ℕ)) : Type 0 where
+  pub node : ℕ
+  pub item : Item
+  pub words : ws ≡ decimal node ∷ item_words item []
+  pub allowed : IsIn (item_range node item)
+
+get_parts : (ws : List (List ℕ)) (e : ItemEvent) → IsSpelledBy (codes "kget" ∷ ws) e → IsGet ws
+get_parts ws (Get n i) h = record { node = n; item = i; words = (let s = h.spelled in cc); allowed = h.allowed }
+get_parts ws (Common event.Trio) h = absurd (another (codes "kget") ws (Common event.Trio) h refl)
+get_parts ws e h = absurd (another (codes "kget") ws e h refl)
+
+module _ (words : Words) where
+  pub get_few : (length words < 4) ⊎ (5 ≤ length words) → (e : ItemEvent) → IsSpelledBy (codes "kget" ∷ texts words) e → ⊥
+  get_few few e h = let n = length_of words _ (get_parts (texts words) e h).words in elim few [ inl k ↦ omega (arith, n) | inr k ↦ omega (arith, n) ]
+
+  module _ (low : 4 ≤ length words) (high : length words < 5) where
+    pub get_nowhere : ((n : ℕ) → (at words 0 ≡ decimal n) × IsFrom 1 16 n → ⊥) → (e : ItemEvent) → IsSpelledBy (codes "kget" ∷ texts words) e → ⊥
+    get_nowhere none e h = let p = get_parts (texts words) e h in let t = four words low high in let w = p.words in none p.node (cc, p.allowed.0)
+
+    pub get_nothing : ((i : Item) → IsItem (at words 1) (at words 2) (at words 3) i → ⊥) → (e : ItemEvent) → IsSpelledBy (codes "kget" ∷ texts words) e → ⊥
+    get_nothing none e h =
+        let p = get_parts (texts words) e h in
+        let t = four words low high in
+        let w = p.words in
+        none p.item (record { bucket_is = cc; pk_is = cc; sk_is = cc; allowed = p.allowed.1 })
+
+    pub get_read : (n : ℕ) (i : Item) → (at words 0 ≡ decimal n) × IsFrom 1 16 n → IsItem (at words 1) (at words 2) (at words 3) i → IsSpelledBy (codes "kget" ∷ texts words) (Get n i)
+    get_read n i at_n is = record {
+      spelled = ap (codes "kget" ∷◌) (four words low high ∙ (λ j. at_n.0 j ∷ sym is.bucket_is j ∷ sym is.pk_is j ∷ sym is.sk_is j ∷ []));
+      allowed = (at_n.1, is.allowed);
+      kind = refl;
+    }
+
+-- ---- to write that there is no value
+
+pub record IsDelete (ws : List (List ℕ)) : Type 0 where
+  pub node : ℕ
+  pub item : Item
+  pub token : ℕ
+  pub words : ws ≡ decimal node ∷ item_words item (decimal token ∷ [])
+  pub allowed : IsIn (item_range node item)
+  pub token_allowed : IsIn (token_range token)
+
+delete_parts : (ws : List (List ℕ)) (e : ItemEvent) → IsSpelledBy (codes "kdel" ∷ ws) e → IsDelete ws
+delete_parts ws (Delete n i t) h = record { node = n; item = i; token = t; words = (let s = h.spelled in cc); allowed = h.allowed.0; token_allowed = h.allowed.1 }
+delete_parts ws (Common event.Trio) h = absurd (another (codes "kdel") ws (Common event.Trio) h refl)
+delete_parts ws e h = absurd (another (codes "kdel") ws e h refl)
+
+module _ (words : Words) where
+  pub delete_few : (length words < 5) ⊎ (6 ≤ length words) → (e : ItemEvent) → IsSpelledBy (codes "kdel" ∷ texts words) e → ⊥
+  delete_few few e h = let n = length_of words _ (delete_parts (texts words) e h).words in elim few [ inl k ↦ omega (arith, n) | inr k ↦ omega (arith, n) ]
+
+  module _ (low : 5 ≤ length words) (high : length words < 6) where
+    pub delete_nowhere : ((n : ℕ) → (at words 0 ≡ decimal n) × IsFrom 1 16 n → ⊥) → (e : ItemEvent) → IsSpelledBy (codes "kdel" ∷ texts words) e → ⊥
+    delete_nowhere none e h = let p = delete_parts (texts words) e h in let t = five words low high in let w = p.words in none p.node (cc, p.allowed.0)
+
+    pub delete_tokenless : ((n : ℕ) → (at words 4 ≡ decimal n) × IsFrom 0 4294967295 n → ⊥) → (e : ItemEvent) → IsSpelledBy (codes "kdel" ∷ texts words) e → ⊥
+    delete_tokenless none e h = let p = delete_parts (texts words) e h in let t = five words low high in let w = p.words in none p.token (cc, p.token_allowed)
+
+    pub delete_nothing : ((i : Item) → IsItem (at words 1) (at words 2) (at words 3) i → ⊥) → (e : ItemEvent) → IsSpelledBy (codes "kdel" ∷ texts words) e → ⊥
+    delete_nothing none e h =
+        let p = delete_parts (texts words) e h in
+        let t = five words low high in
+        let w = p.words in
+        none p.item (record { bucket_is = cc; pk_is = cc; sk_is = cc; allowed = p.allowed.1 })
+
+    pub delete_read : (n : ℕ) (i : Item) (token : ℕ) → (at words 0 ≡ decimal n) × IsFrom 1 16 n → IsItem (at words 1) (at words 2) (at words 3) i → (at words 4 ≡ decimal token) × IsFrom 0 4294967295 token →
+        IsSpelledBy (codes "kdel" ∷ texts words) (Delete n i token)
+    delete_read n i token at_n is at_t = record {
+      spelled = ap (codes "kdel" ∷◌) (five words low high ∙ (λ j. at_n.0 j ∷ sym is.bucket_is j ∷ sym is.pk_is j ∷ sym is.sk_is j ∷ at_t.0 j ∷ []));
+      allowed = ((at_n.1, is.allowed), at_t.1);
+      kind = refl;
+    }
+
+-- ---- to write a value
+
+pub record IsPut (ws : List (List ℕ)) : Type 0 where
+  pub node : ℕ
+  pub item : Item
+  pub size : ℕ
+  pub fill : ℕ
+  pub token : ℕ
+  pub words : ws ≡ decimal node ∷ item_words item (decimal size ∷ decimal fill ∷ decimal token ∷ [])
+  pub allowed : IsIn (item_range node item)
+  pub size_allowed : IsFrom 0 65536 size
+  pub fill_allowed : IsFrom 0 250 fill
+  pub token_allowed : IsIn (token_range token)
+
+put_parts : (ws : List (List ℕ)) (e : ItemEvent) → IsSpelledBy (codes "kput" ∷ ws) e → IsPut ws
+put_parts ws (Put n i size fill t) h = record {
+  node = n;
+  item = i;
+  size = size;
+  fill = fill;
+  token = t;
+  words = (let s = h.spelled in cc);
+  allowed = h.allowed.0;
+  size_allowed = h.allowed.1.0.0;
+  fill_allowed = h.allowed.1.0.1;
+  token_allowed = h.allowed.1.1;
+}
+put_parts ws (Common event.Trio) h = absurd (another (codes "kput") ws (Common event.Trio) h refl)
+put_parts ws e h = absurd (another (codes "kput") ws e h refl)
+
+module _ (words : Words) where
+  pub put_few : (length words < 7) ⊎ (8 ≤ length words) → (e : ItemEvent) → IsSpelledBy (codes "kput" ∷ texts words) e → ⊥
+  put_few few e h = let n = length_of words _ (put_parts (texts words) e h).words in elim few [ inl k ↦ omega (arith, n) | inr k ↦ omega (arith, n) ]
+
+  module _ (low : 7 ≤ length words) (high : length words < 8) where
+    pub put_nowhere : ((n : ℕ) → (at words 0 ≡ decimal n) × IsFrom 1 16 n → ⊥) → (e : ItemEvent) → IsSpelledBy (codes "kput" ∷ texts words) e → ⊥
+    put_nowhere none e h = let p = put_parts (texts words) e h in let t = seven words low high in let w = p.words in none p.node (cc, p.allowed.0)
+
+    pub put_sizeless : ((n : ℕ) → (at words 4 ≡ decimal n) × IsFrom 0 65536 n → ⊥) → (e : ItemEvent) → IsSpelledBy (codes "kput" ∷ texts words) e → ⊥
+    put_sizeless none e h = let p = put_parts (texts words) e h in let t = seven words low high in let w = p.words in none p.size (cc, p.size_allowed)
+
+    pub put_fillless : ((n : ℕ) → (at words 5 ≡ decimal n) × IsFrom 0 250 n → ⊥) → (e : ItemEvent) → IsSpelledBy (codes "kput" ∷ texts words) e → ⊥
+    put_fillless none e h = let p = put_parts (texts words) e h in let t = seven words low high in let w = p.words in none p.fill (cc, p.fill_allowed)
+
+    pub put_tokenless : ((n : ℕ) → (at words 6 ≡ decimal n) × IsFrom 0 4294967295 n → ⊥) → (e : ItemEvent) → IsSpelledBy (codes "kput" ∷ texts words) e → ⊥
+    put_tokenless none e h = let p = put_parts (texts words) e h in let t = seven words low high in let w = p.words in none p.token (cc, p.token_allowed)
+
+    pub put_nothing : ((i : Item) → IsItem (at words 1) (at words 2) (at words 3) i → ⊥) → (e : ItemEvent) → IsSpelledBy (codes "kput" ∷ texts words) e → ⊥
+    put_nothing none e h =
+        let p = put_parts (texts words) e h in
+        let t = seven words low high in
+        let w = p.words in
+        none p.item (record { bucket_is = cc; pk_is = cc; sk_is = cc; allowed = p.allowed.1 })
+
+    pub put_read : (n : ℕ) (i : Item) (size fill token : ℕ) → (at words 0 ≡ decimal n) × IsFrom 1 16 n → IsItem (at words 1) (at words 2) (at words 3) i → (at words 4 ≡ decimal size) × IsFrom 0 65536 size →
+        (at words 5 ≡ decimal fill) × IsFrom 0 250 fill → (at words 6 ≡ decimal token) × IsFrom 0 4294967295 token → IsSpelledBy (codes "kput" ∷ texts words) (Put n i size fill token)
+    put_read n i size fill token at_n is at_s at_f at_t = record {
+      spelled = ap (codes "kput" ∷◌) (seven words low high ∙ (λ j. at_n.0 j ∷ sym is.bucket_is j ∷ sym is.pk_is j ∷ sym is.sk_is j ∷ at_s.0 j ∷ at_f.0 j ∷ at_t.0 j ∷ []));
+      allowed = ((at_n.1, is.allowed), ((at_s.1, at_f.1), at_t.1));
+      kind = refl;
+    }

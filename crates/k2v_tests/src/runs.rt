@@ -1,0 +1,34 @@
+//! Runs of the command, with ample memory.
+use k2v_api::run_k2v;
+use lab_outside::{MemSink, MemSource, Status};
+use std::alloc::Global;
+use std::test::Fail;
+
+/// Whether a line is of a single message or of a node.
+fn is_left_out(line: &[u8]) -> bool {
+    line.is_empty()
+        || line.starts_with(b"got ")
+        || line.starts_with(b"sent ")
+        || line.starts_with(b"node ")
+}
+
+/// The status and the text of a run over this input.
+pub fn played(alloc: Global, input: &[u8]) -> Result<(Status, Vec<u8>), Fail> {
+    let mut source = MemSource::new(input.to_vec(alloc)?, Vec::new(alloc));
+    let mut sink = MemSink::new(alloc, Vec::new(alloc));
+    let status = run_k2v(alloc, &mut source, &mut sink);
+    Ok((status, sink.bytes().to_vec(alloc)?))
+}
+
+/// The same without the lines of single messages and of nodes.
+pub fn told(alloc: Global, input: &[u8]) -> Result<(Status, Vec<u8>), Fail> {
+    let (status, text) = played(alloc, input)?;
+    let mut left = Vec::new(alloc);
+    for line in text.split(|byte| *byte == b'\n') {
+        if !is_left_out(line) {
+            left.extend_from_slice(line)?;
+            left.push(b'\n')?;
+        }
+    }
+    Ok((status, left))
+}

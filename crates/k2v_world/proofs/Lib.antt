@@ -1,0 +1,12 @@
+pub mod Causes
+pub mod Delivers
+pub mod Drains
+pub mod Follows
+pub mod Items
+pub mod Leads
+pub mod Opens
+pub mod Places
+pub mod Plain
+pub mod Played
+pub mod Tokens
+pub mod Values
