@@ -4,6 +4,7 @@ use blake2_hash::Hash32;
 use crdt_core::{Bytes, Crdt, Map};
 use k2v_rows::{K2vRow, K2vValue};
 use k2v_schema::{K2vSchema, decode, encode};
+use shared_value::Shared;
 use std::alloc::Global;
 use std::test::Fail;
 use table_schema::{RowFault, Schema};
@@ -68,7 +69,8 @@ fn write_at(alloc: Global, node: u8, byte: u8) -> Result<K2vRow, Fail> {
     if !row.can_put(node, 1, &none) {
         return Err(Fail::new("no write"));
     }
-    let value = K2vValue::Value(Bytes::from_slice(alloc, &[byte])?);
+    let byte = Shared::new(alloc, Bytes::from_slice(alloc, &[byte])?)?;
+    let value = K2vValue::Value(byte);
     row.put(node, 1, value, &none)?;
     Ok(row)
 }

@@ -12,6 +12,7 @@ use crate::writes::Writes;
 use blake2_hash::Hash32;
 use crdt_core::{Bytes, Map, Memory};
 use row_codec::{Fault, Field};
+use shared_value::Shared;
 use std::alloc::Global;
 
 impl Field for K2vValue {
@@ -28,14 +29,14 @@ impl Field for K2vValue {
     fn is_short(&self) -> bool {
         match self {
             K2vValue::Deleted => true,
-            K2vValue::Value(bytes) => bytes.is_short(),
+            K2vValue::Value(bytes) => bytes.get().is_short(),
         }
     }
 
     fn spelled_len(&self) -> Option<usize> {
         match self {
             K2vValue::Deleted => Some(1),
-            K2vValue::Value(bytes) => bytes.spelled_len()?.checked_add(1),
+            K2vValue::Value(bytes) => bytes.get().spelled_len()?.checked_add(1),
         }
     }
 
@@ -44,7 +45,7 @@ impl Field for K2vValue {
             K2vValue::Deleted => out.push(0),
             K2vValue::Value(bytes) => {
                 out.push(1)?;
-                bytes.put(out)
+                bytes.get().put(out)
             }
         }
     }
@@ -55,7 +56,7 @@ impl Field for K2vValue {
             [0, rest @ ..] => Ok((K2vValue::Deleted, rest)),
             [1, rest @ ..] => {
                 let (value, rest) = Bytes::take(alloc, rest)?;
-                Ok((K2vValue::Value(value), rest))
+                Ok((K2vValue::Value(Shared::new(alloc, value)?), rest))
             }
             _ => Err(Fault::NotARow),
         }

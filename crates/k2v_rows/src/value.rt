@@ -6,6 +6,7 @@ ghost use Rattle.k2v_rows.specs.Value.{value_cmp};
 ghost use Rattle.k2v_rows.specs.ValueLaws.{value_total, value_identical};
 
 use crdt_core::{Bytes, Memory, Value};
+use shared_value::Shared;
 use std::cmp::Ordering;
 
 /// What one write of an item leaves. `Deleted` is the least, and two values are ordered byte by byte.
@@ -13,8 +14,8 @@ use std::cmp::Ordering;
 pub enum K2vValue {
     /// The write deleted the item.
     Deleted,
-    /// The write gave the item these bytes.
-    Value(Bytes),
+    /// The write gave the item these bytes, which all rows share that have them.
+    Value(Shared<Bytes>),
 }
 
 impl K2vValue {
@@ -28,7 +29,7 @@ impl K2vValue {
             },
             K2vValue::Value(ours) => match other {
                 K2vValue::Deleted => Ordering::Greater,
-                K2vValue::Value(theirs) => ours.cmp(theirs),
+                K2vValue::Value(theirs) => ours.get().cmp(theirs.get()),
             },
         }
     }
@@ -78,7 +79,7 @@ impl Value for K2vValue {
     fn copy(&self) -> Result<K2vValue, Memory> {
         match self {
             K2vValue::Deleted => Ok(K2vValue::Deleted),
-            K2vValue::Value(bytes) => Ok(K2vValue::Value(bytes.copy()?)),
+            K2vValue::Value(bytes) => Ok(K2vValue::Value(bytes.share()?)),
         }
     }
 }

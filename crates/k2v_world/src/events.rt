@@ -8,6 +8,7 @@ ghost use Rattle.store_model.specs.Events.{object_bytes as bytes_of_object};
 use crdt_core::{Bytes, Memory, Value};
 use k2v_model::{Ask, Item, Order};
 use k2v_rows::K2vValue;
+use shared_value::Shared;
 use std::alloc::Global;
 
 /// A copy of an item.
@@ -40,10 +41,11 @@ pub fn put(alloc: Global, item: &Item, size: u32, fill: u8, token: u64) -> Resul
     ensures is { IfOk result (λ o. o ≡ record { item = item.now; ask = ask.Write (wrote.Value (bytes_of_object size fill)) token }) }
     ensures want { OnlyWant result }
 {
+    let bytes = value_bytes(alloc, size, fill)?;
     Ok(Order {
         item: copy_item(item)?,
         ask: Ask::Write {
-            value: K2vValue::Value(value_bytes(alloc, size, fill)?),
+            value: K2vValue::Value(Shared::new(alloc, bytes)?),
             token,
         },
     })

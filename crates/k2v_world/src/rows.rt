@@ -102,8 +102,8 @@ fn push_value(
         K2vValue::Value(bytes) => shown.push(ShownValue {
             node,
             time: entry.0,
-            size: bytes.len() as u64,
-            md5: Md5::digest(bytes.as_slice()),
+            size: bytes.get().len() as u64,
+            md5: Md5::digest(bytes.get().as_slice()),
         }),
     }
 }
