@@ -72,7 +72,7 @@ value_joined a b p q = larger_has ValueFits value_cmp a.0 b.0 (value_cmp a.0 b.0
 discard_joined : (a b : Writes) → IsTime a.discard.0 → IsTime b.discard.0 → IsTime (joined_discard a b).0
 discard_joined a b p q = larger_has IsTime nat_cmp a.discard.0 b.discard.0 (nat_cmp a.discard.0 b.discard.0) p q
 
-writes_have : (C : Writes → Type 0) (d : Max ℕ) (m : ValueMap) (b : Bool) (h : are_later d.0 (map_entries m) ≡ b) (other : Writes) → ((kept : are_later d.0 (map_entries m) ≡ true) → C (record { discard = d; values = m; kept = kept })) → C other → C (writes_of d m b h other)
+pub writes_have : (C : Writes → Type 0) (d : Max ℕ) (m : ValueMap) (b : Bool) (h : are_later d.0 (map_entries m) ≡ b) (other : Writes) → ((kept : are_later d.0 (map_entries m) ≡ true) → C (record { discard = d; values = m; kept = kept })) → C other → C (writes_of d m b h other)
 writes_have C d m true h other a c = a h
 writes_have C d m false h other a c = c
 

@@ -9,3 +9,5 @@ pub mod Given
 pub mod Moves
 pub mod Runs
 pub mod Stepwise
+pub mod Room
+pub mod Lists

@@ -112,33 +112,25 @@ module _ {R : Type 0} {join : R → R → R} {s : Words R} {P : R → Type 0} {w
       }
 
   -- the first world
-  pub start_run : IsSound (empty {R = R} {L = Layout}) → RunFits join s P weight 0 empty
-  start_run sound = record {
-    t = 0;
-    k = 0;
-    world = record {
-      early = omega arith;
-      sound = sound;
-      asks = λ n q p. None;
-      rows = record { nodes = λ n. record { accepted = tt; items = tt; calls = tt }; messages = tt; later = λ n q p h. refl; reads = tt };
-      nodes = λ n. record { counted = omega arith; listed = omega arith; small = tt; rounds = omega arith; phases = tt; blocks = tt; round = tt };
-      beside = tt;
-      time = omega arith;
-      skews = λ n. omega arith;
-      requests = omega arith;
-      applied = omega arith;
-      bytes = 0;
-      bytes_are = refl;
-      few = omega arith;
-    };
-    marks = refl;
-    count = 0;
-    size = 0;
-    one = omega arith;
-    two = omega arith;
-    steps = omega arith;
-    bytes = omega arith;
+  pub start_world : IsSound (empty {R = R} {L = Layout}) → WorldFits join s P weight 0 0 268435456 empty
+  start_world sound = record {
+    early = omega arith;
+    sound = sound;
+    asks = λ n q p. None;
+    rows = record { nodes = λ n. record { accepted = tt; items = tt; calls = tt }; messages = tt; later = λ n q p h. refl; reads = tt };
+    nodes = λ n. record { counted = omega arith; listed = omega arith; small = tt; rounds = omega arith; phases = tt; blocks = tt; round = tt };
+    beside = tt;
+    time = omega arith;
+    skews = λ n. omega arith;
+    requests = omega arith;
+    applied = omega arith;
+    bytes = 0;
+    bytes_are = refl;
+    few = omega arith;
   }
+
+  pub start_run : IsSound (empty {R = R} {L = Layout}) → RunFits join s P weight 0 empty
+  start_run sound = record { t = 0; k = 0; world = start_world sound; marks = refl; count = 0; size = 0; one = omega arith; two = omega arith; steps = omega arith; bytes = omega arith }
 
   -- ---- deliveries
 
