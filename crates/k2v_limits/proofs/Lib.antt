@@ -1,3 +1,4 @@
+pub mod Words
 pub mod Merged
 pub mod Rows
 pub mod Weights

@@ -53,9 +53,8 @@ numbered_has xs (suc j) x h = by_place xs j h
 -- ---- how far a run comes
 
 module _ {R : Type 0} (join : R → R → R) (s : Words R) (P : R → Type 0) (weight : R → ℕ) where
-  -- a world to which a run within the limits came in so many events: three steps at most for each event and each delivery of a drain, and what a drain delivers was sent once
-  pub record RunFits (e : ℕ) (w : Model R) : Type 0 where
-    pub t : ℕ
+  -- a world to which a run within the limits came in so many events and steps: three steps at most for each event and each delivery of a drain, and what a drain delivers was sent once
+  pub record RunFits (e t : ℕ) (w : Model R) : Type 0 where
     pub k : ℕ
     pub world : WorldFits join s P weight t k 268435456 w
     pub marks : length w.messages ≡ length w.marks
@@ -68,13 +67,13 @@ module _ {R : Type 0} (join : R → R → R) (s : Words R) (P : R → Type 0) (w
 
 module _ {R : Type 0} {join : R → R → R} {s : Words R} {P : R → Type 0} {weight : R → ℕ} where
   -- how far it can have come
-  pub record Far (e : ℕ) (w : Model R) (r : RunFits join s P weight e w) : Type 0 where
+  pub record Far (e t : ℕ) (w : Model R) (r : RunFits join s P weight e t w) : Type 0 where
     pub count : r.count ≤ 4194304
     pub size : r.size ≤ 268435456
     pub sent : total (size_of s) w.messages ≤ 268435456
 
-  pub far : (e : ℕ) (w : Model R) (r : RunFits join s P weight e w) → Far e w r
-  far e w r =
+  pub far : (e t : ℕ) (w : Model R) (r : RunFits join s P weight e t w) → Far e t w r
+  far e t w r =
       let few = r.world.few in
       let messages = messages_few s w.messages r.world.bytes r.world.bytes_are in
       let ones = total_ones w.messages in
@@ -84,22 +83,21 @@ module _ {R : Type 0} {join : R → R → R} {s : Words R} {P : R → Type 0} {w
       record { count = omega arith; size = omega arith; sent = omega arith }
 
   -- in more events
-  pub later_run : (e u : ℕ) (w : Model R) → e ≤ u → RunFits join s P weight e w → RunFits join s P weight u w
-  later_run e u w h r =
+  pub later_run : (e u t : ℕ) (w : Model R) → e ≤ u → RunFits join s P weight e t w → RunFits join s P weight u t w
+  later_run e u t w h r =
       let steps = r.steps in
       let bytes = r.bytes in
-      record { t = r.t; k = r.k; world = r.world; marks = r.marks; count = r.count; size = r.size; one = r.one; two = r.two; steps = omega arith; bytes = omega arith }
+      record { k = r.k; world = r.world; marks = r.marks; count = r.count; size = r.size; one = r.one; two = r.two; steps = omega arith; bytes = omega arith }
 
   -- a world after what happened, in so many steps, where no more was sent than may be
-  pub advance : (e u : ℕ) (w new : Model R) (r : RunFits join s P weight e w) (t m b : ℕ) (c : (Mailed R → ℕ) → ℕ) → WorldFits join s P weight t m b new → length new.messages ≡ length new.marks → ((f : Mailed R → ℕ) → Spends f w new (c f)) →
-      t ≤ 3 * (u + (r.count + c (λ (x : Mailed R). 1))) → m ≤ u * 268435456 + (r.size + c (size_of s)) → (n : ℕ) → sent_bytes s new.messages ≡ Some n → n ≤ 268435456 → RunFits join s P weight u new
-  advance e u w new r t m b c fits marks spends steps bytes n sent within =
+  pub advance : (e u now : ℕ) (w new : Model R) (r : RunFits join s P weight e now w) (t m b : ℕ) (c : (Mailed R → ℕ) → ℕ) → WorldFits join s P weight t m b new → length new.messages ≡ length new.marks → ((f : Mailed R → ℕ) → Spends f w new (c f)) →
+      t ≤ 3 * (u + (r.count + c (λ (x : Mailed R). 1))) → m ≤ u * 268435456 + (r.size + c (size_of s)) → (n : ℕ) → sent_bytes s new.messages ≡ Some n → n ≤ 268435456 → RunFits join s P weight u t new
+  advance e u now w new r t m b c fits marks spends steps bytes n sent within =
       let one = r.one in
       let two = r.two in
       let more_one = spends (λ (x : Mailed R). 1) in
       let more_two = spends (size_of s) in
       record {
-        t = t;
         k = m;
         world = world_exact t m b 268435456 new n sent within fits;
         marks = marks;
@@ -129,20 +127,27 @@ module _ {R : Type 0} {join : R → R → R} {s : Words R} {P : R → Type 0} {w
     few = omega arith;
   }
 
-  pub start_run : IsSound (empty {R = R} {L = Layout}) → RunFits join s P weight 0 empty
-  start_run sound = record { t = 0; k = 0; world = start_world sound; marks = refl; count = 0; size = 0; one = omega arith; two = omega arith; steps = omega arith; bytes = omega arith }
+  pub start_run : IsSound (empty {R = R} {L = Layout}) → RunFits join s P weight 0 0 empty
+  start_run sound = record { k = 0; world = start_world sound; marks = refl; count = 0; size = 0; one = omega arith; two = omega arith; steps = omega arith; bytes = omega arith }
 
   -- ---- deliveries
 
   -- there is room for each message that was sent
-  pub message_place : (e : ℕ) (w : Model R) (i m : ℕ) (r : RunFits join s P weight e w) → r.k + 268435456 ≤ m → HasPlace s r.k m w (Deliver i)
-  message_place e w i m r high x there c is =
-      let sent = (far e w r).sent in
+  pub message_place : (e t : ℕ) (w : Model R) (i m : ℕ) (r : RunFits join s P weight e t w) → r.k + 268435456 ≤ m → HasPlace s r.k m w (Deliver i)
+  message_place e t w i m r high x there c is =
+      let sent = (far e t w r).sent in
       let within : size_of s x ≤ total (size_of s) w.messages = total_has (size_of s) w.messages x (numbered_has w.messages i x there) in
       let same : size_of s x ≡ c = ap (λ o. unwrap_or o 0) is in
       omega arith
 
--- and for one that is there, with what it counts
+  -- which counts no more than all that were sent
+  pub message_size : (e t : ℕ) (w : Model R) (i : ℕ) (x : Mailed R) → RunFits join s P weight e t w → numbered w.messages i ≡ Some x → size_of s x ≤ 268435456
+  message_size e t w i x r there =
+      let sent = (far e t w r).sent in
+      let within : size_of s x ≤ total (size_of s) w.messages = total_has (size_of s) w.messages x (numbered_has w.messages i x there) in
+      omega arith
+
+-- and there is room for one that is there, with what it counts
 pub own_place : {R : Type 0} (s : Words R) (w : Model R) (i k : ℕ) (x : Mailed R) → numbered w.messages i ≡ Some x → HasPlace s k (k + size_of s x) w (Deliver i)
 own_place s w i k x is y there b e =
     let both : Some y ≡ Some x = sym there ∙ is in
