@@ -50,7 +50,7 @@ use Rattle.object_schema.specs.Laws.{object_keys, version_ids}
 use Rattle.row_codec.proofs.ByteOrder.{four_length, eight_length}
 use Rattle.object_origins.proofs.Given.{entries_found}
 use Rattle.object_origins.proofs.Shown.{Facts, neither, undeleted}
-use Rattle.limit_rows.proofs.Totals.{AreApart, has_left, has_right, has_parts, has_filter, all_has, all_from, apart_filter, apart_append, total, total_append, total_least, total_ones, fewer}
+use Rattle.machine_limits.proofs.Totals.{AreApart, has_left, has_right, has_parts, has_filter, all_has, all_from, apart_filter, apart_append, total, total_append, total_least, total_ones, fewer}
 use Rattle.limit_rows.proofs.Keyed.{apart_keys, apart_entries, there}
 use Rattle.limit_rows.specs.Fitting.{Drawn, AreWithin, MetaFits, StateFits, SaysFits, RowFits, weight}
 

@@ -59,8 +59,8 @@ module _ {R : Type 0} {join : R → R → R} {s : Words R} {P : R → Type 0} {w
     ends_by new (e ∷ f ∷ es) keeps reads one given fetched = absurd one
 
     -- what a message ends
-    pub receives_fit : AreDifferent x.calls → (t k : ℕ) → NodeFits join s weight t k x → (now from : ℕ) (p : Packet R Layout) → IsPacket join s P Short g from n p → AllFit (receives join s layouts n now x from p).ends
-    receives_fit differ t k f now from p is =
+    pub receives_gives : AreDifferent x.calls → (t k : ℕ) → NodeFits join s weight t k x → (now from : ℕ) (p : Packet R Layout) → IsPacket join s P Short g from n p → AllFit (receives join s layouts n now x from p).ends
+    receives_gives differ t k f now from p is =
         let d = receives join s layouts n now x from p in
         let done = receives_done (rules_of bounded) Short layouts g count n x i now from p f.blocks is in
         let follow = follows_receives join s layouts x differ n now from p in
@@ -77,5 +77,5 @@ module _ {R : Type 0} {join : R → R → R} {s : Words R} {P : R → Type 0} {w
       by_message None mark e = tt
       by_message (Some x) None e = tt
       by_message (Some x) (Some mark) e =
-          let here = receives_fit fits.asks (length w.requests) x.to (w.nodes x.to) (fits.rows.nodes x.to) (fits.sound.different x.to) t k (fits.nodes x.to) (clock w x.to) x.from x.packet (all_numbered (IsSent join s P Short fits.asks) w.messages i x fits.rows.messages e) in
+          let here = receives_gives fits.asks (length w.requests) x.to (w.nodes x.to) (fits.rows.nodes x.to) (fits.sound.different x.to) t k (fits.nodes x.to) (clock w x.to) x.from x.packet (all_numbered (IsSent join s P Short fits.asks) w.messages i x fits.rows.messages e) in
           elim mark.is_lost as (λ c. AllFit (cond c (refusal w Lost) (delivered x)).ends) [ true ↦ tt | false ↦ here ]
