@@ -60,6 +60,10 @@ total_most : {X : Type 0} (f : X → ℕ) (n : ℕ) (xs : List X) → AllByRecur
 total_most f n [] a = omega arith
 total_most f n (x ∷ xs) a = let rest : total f xs ≤ n * length xs = total_most f n xs a.1 in let here : f x ≤ n = a.0 in let more : n * suc (length xs) ≡ n * length xs + n = mul-suc n (length xs) in omega arith
 
+total_same : {X : Type 0} (f g : X → ℕ) → ((x : X) → f x ≡ g x) → (xs : List X) → total f xs ≡ total g xs
+total_same f g h [] = refl
+total_same f g h (x ∷ xs) = let rest = total_same f g h xs in let here = h x in omega (arith, rest, here)
+
 -- ---- spellings
 
 early_eight : (n : ℕ) → IsTime n → is_eight n ≡ true
@@ -118,10 +122,6 @@ writes_is w =
     let c = counted_length (λ (e : ℕ × Max K2vValue). eight e.0 ++ value_bytes e.1.0) es in
     let d = total_same (λ (e : ℕ × Max K2vValue). length (eight e.0 ++ value_bytes e.1.0)) (λ (e : ℕ × Max K2vValue). 8 + value_weight e.1) timed_is es in
     omega (arith, a, b, c, d)
-  where
-    total_same : {X : Type 0} (f g : X → ℕ) → ((x : X) → f x ≡ g x) → (xs : List X) → total f xs ≡ total g xs
-    total_same f g h [] = refl
-    total_same f g h (x ∷ xs) = let rest = total_same f g h xs in let here = h x in omega (arith, rest, here)
 
 row_is : (r : K2vRow) → is_hash r.bucket ≡ true → weight r ≡ 45 + length r.pk + length r.sk + total (λ (e : ℕ × Writes). 1 + writes_weight e.1) (map_entries r.entries)
 row_is r h =
@@ -136,7 +136,9 @@ row_is r h =
     let g = four_length (length r.sk) in
     let i = block_length 32 r.bucket.0 h in
     let j = counted_length (λ (e : ℕ × Writes). byte e.0 ++ writes_bytes e.1) es in
-    omega (arith, a, b, c, d, e, f, g, i, j)
+    let k = total_same (λ (e : ℕ × Writes). length (byte e.0 ++ writes_bytes e.1)) (λ (e : ℕ × Writes). 1 + writes_weight e.1) (λ e. omega arith) es in
+    let whole : weight r ≡ suc (length (r.bucket.0 ++ (field r.pk ++ (field r.sk ++ nodes)))) = refl in
+    whole ∙ omega (arith, a, b, c, d, e, f, g, i, j, k)
 
 -- ---- a row counts few bytes
 
