@@ -89,8 +89,8 @@ module _ {R : Type 0} {join : R → R → R} {s : Words R} {P : R → Type 0} {w
       let bytes = r.bytes in
       record { k = r.k; world = r.world; marks = r.marks; count = r.count; size = r.size; one = r.one; two = r.two; steps = omega arith; bytes = omega arith }
 
-  -- a world after what happened, in so many steps, where no more was sent than may be
-  pub advance : (e u now : ℕ) (w new : Model R) (r : RunFits join s P weight e now w) (t m b : ℕ) (c : (Mailed R → ℕ) → ℕ) → WorldFits join s P weight t m b new → length new.messages ≡ length new.marks → ((f : Mailed R → ℕ) → Spends f w new (c f)) →
+  -- a world after what happened, in so many steps, where no more was sent than may be; more may be known of its rows than before
+  pub advance : {Q : R → Type 0} (e u now : ℕ) (w new : Model R) (r : RunFits join s Q weight e now w) (t m b : ℕ) (c : (Mailed R → ℕ) → ℕ) → WorldFits join s P weight t m b new → length new.messages ≡ length new.marks → ((f : Mailed R → ℕ) → Spends f w new (c f)) →
       t ≤ 3 * (u + (r.count + c (λ (x : Mailed R). 1))) → m ≤ u * 268435456 + (r.size + c (size_of s)) → (n : ℕ) → sent_bytes s new.messages ≡ Some n → n ≤ 268435456 → RunFits join s P weight u t new
   advance e u now w new r t m b c fits marks spends steps bytes n sent within =
       let one = r.one in
