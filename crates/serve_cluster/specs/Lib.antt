@@ -1,2 +1,4 @@
 pub mod Acting
 pub mod Standing
+pub mod Deeds
+pub mod Changes
