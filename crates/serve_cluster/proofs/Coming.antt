@@ -134,6 +134,13 @@ module _ (code : Changing) (x : Change) (there : slice_get code.to_come 0 ≡ So
   pub due_computed : (m : Models) → IsChanging code m → IsComputed x
   due_computed m h = computed_at code.cluster m.cluster h.cluster h.staged x code.to_come m.to_come h.to_come there
 
+-- what the change of the cluster answers is handed on
+pub due_next : {A : Type 0} (r : Result A Memory) (code : Changing) (x : Change) → slice_get code.to_come 0 ≡ Some x → (rest : List Change) (new : Cluster) → rest ≡ remove code.to_come 0 →
+    ((m : Models) → IsChanging code m → is_due m.cluster m.to_come ≡ true) → OnOk r (Changes code.cluster new x) →
+    OnOk r ((m : Models) → IsChanging code m → ChangeFits m.cluster m.to_come × IsChanging (record { cluster = new; to_come = rest }) (with_change m.cluster m.to_come))
+due_next (Ok v) code x there rest new r due f = λ m h. due_made code x there rest new r f m h (due m h)
+due_next (Err e) code x there rest new r due f = tt
+
 -- what is staged, whatever the code's cluster stands for
 pub due_within : (code : Changing) (m : Models) → IsChanging code m → (k : Model) → StandsFor code.cluster k → AreWithin k.run.world.roles
 due_within code m h k st = same_staged code.cluster.world m.cluster.run k.run h.cluster.world st.world h.staged

@@ -13,7 +13,7 @@ use Rattle.store_model.specs.Acts.{moves}
 use Rattle.s3_world.specs.declared.world.S3World.{S3World}
 use Rattle.s3_world.specs.Stands.{PlaysEvent, OverflowsEvent}
 use Rattle.serve_cluster.specs.Acting.{DoesActs, LacksRoom}
-use Rattle.serve_cluster.specs.Deeds.{step_of}
+use Rattle.change_deeds.specs.Deeds.{step_of}
 use Rattle.serve_cluster.proofs.Acting.{does_event, event_lacks}
 
 module _ (old new : S3World) (told : Told) where

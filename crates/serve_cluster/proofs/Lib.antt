@@ -6,4 +6,3 @@ pub mod Going
 pub mod Events
 pub mod Making
 pub mod Coming
-pub mod Parts

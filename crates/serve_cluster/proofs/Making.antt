@@ -22,7 +22,7 @@ use Rattle.serve_model.specs.Clusters.{asker, ActLacksRoom}
 use Rattle.serve_cluster.specs.declared.change.Change.{Change}
 use Rattle.serve_cluster.specs.Acting.{DoneActs, DoesActs, LacksRoom}
 use Rattle.serve_cluster.specs.Changes.{nodes_of, IsComputed, AreWithin, HasWithin, stages_in, acts_at, acts_with, DoesIn, Applies, ApplyLacks}
-use Rattle.serve_cluster.specs.Deeds.{acts_past_apply}
+use Rattle.change_deeds.specs.Deeds.{acts_past_apply}
 use Rattle.serve_cluster.proofs.Acting.{forgot, lacks_first, store_after}
 use Rattle.serve_cluster.proofs.Unstaged.{StagesNone, IsUnstaging, AllUnstaging, acts_leave}
 use Rattle.serve_cluster.proofs.Going.{done_then, lacks_later}

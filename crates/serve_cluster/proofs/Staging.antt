@@ -14,7 +14,7 @@ use Rattle.store_model.specs.Acts.{Act, moves, acted, after_acts}
 use Rattle.store_model.proofs.Acts.{acts_after}
 use Rattle.serve_changes.specs.Acts.{steps, stages_of}
 use Rattle.serve_cluster.specs.Changes.{AreWithin}
-use Rattle.serve_cluster.specs.Deeds.{staged_as, staged_roles}
+use Rattle.change_deeds.specs.Deeds.{staged_as, staged_roles}
 
 -- ---- lists of roles
 

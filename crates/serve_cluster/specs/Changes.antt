@@ -19,7 +19,7 @@ use Rattle.serve_changes.specs.Changing.{Change as Model, Changing as Models}
 use Rattle.serve_cluster.specs.declared.change.Change.{Change}
 use Rattle.serve_cluster.specs.declared.changing.Changing.{Changing}
 use Rattle.serve_cluster.specs.Acting.{DoneActs}
-use Rattle.serve_cluster.specs.Deeds.{acts_past_apply}
+use Rattle.change_deeds.specs.Deeds.{acts_past_apply}
 use Rattle.serve_cluster.specs.Standing.{StandsFor}
 
 -- the nodes of these roles

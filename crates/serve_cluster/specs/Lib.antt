@@ -1,4 +1,3 @@
 pub mod Acting
 pub mod Standing
-pub mod Deeds
 pub mod Changes

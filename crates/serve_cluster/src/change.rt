@@ -13,12 +13,11 @@ ghost use Rattle.s3_world.specs.Stands.{HasStore, IsMeantEvent, PlaysEvent, Over
 ghost use Rattle.serve_cluster.specs.Acting.{DoesActs, LacksRoom};
 ghost use Rattle.s3_world.specs.declared.world.S3World.{S3World as World};
 ghost use Rattle.serve_cluster.specs.Changes.{IsComputed, HasWithin, Applies, ApplyLacks, acts_at, acts_with, nodes_of as nodes_in, DoesIn};
-ghost use Rattle.serve_cluster.specs.Deeds.{act_of, step_of, staged_as, staged_roles};
+ghost use Rattle.change_deeds.specs.Deeds.{act_of, step_of, staged_as, staged_roles};
 
 use crate::acts::drain_all;
 use crate::cluster::asker;
-use crate::deeds::{Deed, deeds_past_apply};
-use crate::members::{nodes_of, of_both};
+use change_deeds::{Deed, deeds_past_apply, nodes_of, of_both};
 use cluster_machine::Action;
 use cluster_machine::applied::Applied;
 use crdt_core::{List, Memory};

@@ -7,17 +7,14 @@
 //!
 //! A `Changing` is a cluster with layout changes to come: once so many requests have reached it, the next change is made,
 //! after the order. Its acts are those of serve_changes: its roles are staged, and the layout that was computed before is
-//! applied (`change`), and then it is told, acknowledged, rows are moved, and older versions are dropped (`deeds`).
+//! applied (`change`), and then it is told, acknowledged, rows are moved, and older versions are dropped (change_deeds).
 #![tactic(auto)]
 
 mod acts;
 mod change;
 mod changing;
 mod cluster;
-mod deeds;
-mod members;
 
 pub use crate::change::Change;
 pub use crate::changing::Changing;
 pub use crate::cluster::Cluster;
-pub use crate::members::nodes_of;

@@ -25,7 +25,7 @@ use Rattle.plain_changes.specs.Standing.{IsStaging, TakesAll}
 use Rattle.plain_changes.specs.Changing.{MayCome, AreComputed}
 use Rattle.serve_cluster.specs.declared.change.Change.{Change as Planned}
 use Rattle.serve_cluster.specs.Changes.{nodes_of, IsComputed, AreChanges}
-use Rattle.serve_cluster.specs.Deeds.{staged_as}
+use Rattle.change_deeds.specs.Deeds.{staged_as}
 use Rattle.serve_run.specs.declared.plan.Plan.{Plan}
 use Rattle.serve_run.specs.Plan.{IsPlan}
 use Rattle.serve_run.specs.Start.{IsOf}

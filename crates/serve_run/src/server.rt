@@ -17,6 +17,7 @@ use crate::plan::{Plan, read_plan};
 use crate::start::installed;
 use crate::stop::Stop;
 use crate::tail::tail_text;
+use change_deeds::nodes_of;
 use crdt_core::{Bytes, List, Memory, Value};
 use lab_main::ends;
 use lab_outside::{Clock, Link, Sink, Source, Status};
@@ -25,7 +26,7 @@ use plain_changes::{
     a_first_layout_stands_with_the_empty_map, computed_changes_may_come,
     connections_are_served_through_changes, members_of_both_are_all,
 };
-use serve_cluster::{Change, Changing, Cluster, nodes_of};
+use serve_cluster::{Change, Changing, Cluster};
 use serve_loop::serve;
 use serve_model::Served;
 use signed_laws::{only_signed_requests_are_carried_out, what_is_admitted_is_allowed};

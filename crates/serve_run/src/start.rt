@@ -9,10 +9,10 @@ ghost use Rattle.serve_run.specs.Plan.{IsPlan};
 ghost use Rattle.serve_run.specs.Start.{preparing, IsOf, IsOpened, Does};
 
 use crate::plan::Plan;
+use change_deeds::nodes_of;
 use crdt_core::{Bytes, List, Memory, Value};
 use layout_roles::Layout;
 use s3_world::{Event, S3World};
-use serve_cluster::nodes_of;
 use std::alloc::Global;
 
 /// The computed layout as version 1.

@@ -1,5 +1,5 @@
 use Rattle.std.proofs.Common.{map}
-use Rattle.serve_cluster.specs.Deeds.{act_of}
+use Rattle.change_deeds.specs.Deeds.{act_of}
 use Rattle.serve_cluster.proofs.Acting.{causes_next}
 use Rattle.serve_cluster.proofs.Making.{applies_next, applies_lacks, store_next}
 use Rattle.serve_cluster.proofs.change.apply_and_play.Goals as goal

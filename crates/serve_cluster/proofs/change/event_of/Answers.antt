@@ -3,7 +3,7 @@ use Rattle.cluster_machine.specs.declared.step.Action.{Action}
 use Rattle.store_model.specs.Run.{plainly}
 use Rattle.store_model.specs.Acts.{moves}
 use Rattle.serve_cluster.specs.Acting.{DoesActs, LacksRoom}
-use Rattle.serve_cluster.specs.Deeds.{step_of}
+use Rattle.change_deeds.specs.Deeds.{step_of}
 use Rattle.serve_cluster.proofs.Events.{acked_so, synced_so, sync_acked_so, cleaned_so, worked_so, repaired_so, ack_lacks, sync_lacks, sync_ack_lacks, clean_lacks, working_lacks, repairing_lacks}
 use Rattle.serve_cluster.proofs.change.event_of.Goals as goal
 

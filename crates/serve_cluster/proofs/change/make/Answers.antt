@@ -3,7 +3,7 @@ use Rattle.cluster_machine.specs.Phases.{in_order}
 use Rattle.serve_model.specs.Clusters.{asker}
 use Rattle.serve_cluster.specs.Acting.{LacksRoom}
 use Rattle.serve_cluster.specs.Changes.{nodes_of, acts_at, DoesIn}
-use Rattle.serve_cluster.specs.Deeds.{act_of, acts_past_apply}
+use Rattle.change_deeds.specs.Deeds.{act_of, acts_past_apply}
 use Rattle.serve_cluster.proofs.Acting.{cause_more}
 use Rattle.serve_cluster.proofs.Making.{makes, make_lacks}
 use Rattle.serve_cluster.proofs.change.make.Goals as goal

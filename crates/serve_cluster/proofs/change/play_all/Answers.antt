@@ -1,7 +1,7 @@
 use Rattle.std.proofs.Common.{map, length, get_or, take, drop, ◌-◌}
 use Rattle.serve_cluster.proofs.Acting.{cause_more}
 use Rattle.serve_cluster.proofs.Going.{going_store, one_done, one_lacks_room, first_of, first_act}
-use Rattle.serve_cluster.specs.Deeds.{act_of}
+use Rattle.change_deeds.specs.Deeds.{act_of}
 use Rattle.serve_cluster.proofs.change.play_all.Goals as goal
 
 pub play-requires : goal.play-requires

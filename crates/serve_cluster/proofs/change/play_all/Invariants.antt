@@ -1,5 +1,5 @@
 use Rattle.std.proofs.Common.{length, map}
-use Rattle.serve_cluster.specs.Deeds.{act_of}
+use Rattle.change_deeds.specs.Deeds.{act_of}
 use Rattle.serve_cluster.proofs.Going.{Going}
 use Rattle.serve_cluster.proofs.change.play_all.Given as goal
 

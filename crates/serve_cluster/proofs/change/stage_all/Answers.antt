@@ -1,7 +1,7 @@
 use Rattle.std.proofs.Common.{◌≡◌, ◌∷◌, length, take, drop, ◌-◌, sym, ◌∙◌, ap, subst}
 use Rattle.store_model.specs.Run.{plainly}
 use Rattle.store_model.specs.Acts.{moves}
-use Rattle.serve_cluster.specs.Deeds.{staged_as}
+use Rattle.change_deeds.specs.Deeds.{staged_as}
 use Rattle.serve_cluster.proofs.Acting.{cause_more}
 use Rattle.serve_cluster.proofs.Going.{Going, begins, going_store, one_done, one_lacks_room, all_done, first_of, none_of}
 use Rattle.serve_cluster.proofs.Staging.{AreNodes, nodes_so, ascends_so, in_acts}

@@ -1,6 +1,6 @@
 use Rattle.std.proofs.Common.{map}
 use Rattle.serve_cluster.specs.Changes.{stages_in}
-use Rattle.serve_cluster.specs.Deeds.{act_of}
+use Rattle.change_deeds.specs.Deeds.{act_of}
 use Rattle.serve_cluster.proofs.Acting.{store_after, cause_more, causes_next}
 use Rattle.serve_cluster.proofs.Making.{stages_next, staged_lacks, staging_lacks_all}
 use Rattle.serve_cluster.proofs.change.stage_and_apply.Goals as goal

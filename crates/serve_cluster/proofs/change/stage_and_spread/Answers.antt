@@ -3,7 +3,7 @@ use Rattle.store_model.specs.Run.{plainly}
 use Rattle.store_model.specs.Acts.{moves}
 use Rattle.cluster_machine.specs.declared.step.Step.TheVariants as step
 use Rattle.serve_changes.specs.Acts.{steps}
-use Rattle.serve_cluster.specs.Deeds.{staged_as}
+use Rattle.change_deeds.specs.Deeds.{staged_as}
 use Rattle.serve_cluster.proofs.Acting.{store_after, does_next, lacks_more, lacks_then, cause_more, causes_next}
 use Rattle.serve_cluster.proofs.change.stage_and_spread.Goals as goal
 

@@ -7,7 +7,7 @@ use Rattle.store_model.specs.Run.{plainly}
 use Rattle.store_model.specs.Acts.{Act}
 use Rattle.serve_changes.specs.Acts.{steps}
 use Rattle.serve_cluster.specs.Acting.{DoesActs, LacksRoom}
-use Rattle.serve_cluster.specs.Deeds.{staged_roles}
+use Rattle.change_deeds.specs.Deeds.{staged_roles}
 use Rattle.serve_cluster.proofs.Acting.{store_after, does_next, lacks_more, lacks_then, cause_more, causes_next}
 use Rattle.serve_cluster.proofs.Staging.{out_acts, stages_parts}
 use Rattle.serve_cluster.proofs.change.stage_roles.Goals as goal

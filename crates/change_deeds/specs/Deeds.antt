@@ -12,8 +12,8 @@ use Rattle.change_model.specs.Steps.{from_one}
 use Rattle.store_model.specs.Run.{plainly}
 use Rattle.store_model.specs.Acts.{Act, moves, drain, forgets, all_messages}
 use Rattle.serve_changes.specs.Acts.{steps, shows_acts, spreads_acts, each_acts}
-use Rattle.serve_cluster.specs.declared.deeds.Deed.{Deed}
-use Rattle.serve_cluster.specs.declared.deeds.Deed.TheVariants.{Show, Turn, Drain}
+use Rattle.change_deeds.specs.declared.deeds.Deed.{Deed}
+use Rattle.change_deeds.specs.declared.deeds.Deed.TheVariants.{Show, Turn, Drain}
 
 -- the step by which a node acts so
 abbrev pub step_of : Action → ℕ → Step AnyRow

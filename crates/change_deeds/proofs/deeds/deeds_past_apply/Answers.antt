@@ -4,10 +4,10 @@ use Rattle.cluster_machine.specs.declared.step.Step.TheVariants as step
 use Rattle.change_model.specs.Steps.{from_one}
 use Rattle.store_model.specs.Acts.{drain, forgets, all_messages}
 use Rattle.serve_changes.specs.Acts.{shows_acts, spreads_acts, each_acts}
-use Rattle.serve_cluster.specs.declared.deeds.Deed.TheVariants.{Drain}
-use Rattle.serve_cluster.specs.Deeds.{act_of}
-use Rattle.serve_cluster.proofs.Parts.{all_parts}
-use Rattle.serve_cluster.proofs.deeds.deeds_past_apply.Goals as goal
+use Rattle.change_deeds.specs.declared.deeds.Deed.TheVariants.{Drain}
+use Rattle.change_deeds.specs.Deeds.{act_of}
+use Rattle.change_deeds.proofs.Parts.{all_parts}
+use Rattle.change_deeds.proofs.deeds.deeds_past_apply.Goals as goal
 
 pub returns-clause-deeds : goal.returns-clause-deeds
 returns-clause-deeds c =

@@ -1,6 +1,6 @@
 use Rattle.std.proofs.Common.{◌≡◌, ◌++◌, take, drop}
 use Rattle.cluster_machine.specs.Phases.{with_node}
-use Rattle.serve_cluster.proofs.members.put_in.Given as goal
+use Rattle.change_deeds.proofs.members.put_in.Given as goal
 
 -- the node's place isn't before this one
 abbrev pub invariant-loop-place : goal.invariant-loop-place

@@ -4,7 +4,7 @@ ghost use Rattle.crdt_core.specs.Outcomes.{OnlyWant};
 ghost use Rattle.change_model.specs.Steps.{to_one, from_one};
 ghost use Rattle.serve_changes.specs.Acts.{shows_acts, spreads_acts, each_acts};
 ghost use Rattle.store_model.specs.Acts.{forgets};
-ghost use Rattle.serve_cluster.specs.Deeds.{act_of, step_of, acts_past_apply};
+ghost use Rattle.change_deeds.specs.Deeds.{act_of, step_of, acts_past_apply};
 
 use cluster_machine::Action;
 use crdt_core::{List, Memory};
@@ -12,7 +12,7 @@ use std::alloc::Global;
 
 /// What is done to a world.
 #[derive(Clone, Copy, Debug)]
-pub(crate) enum Deed {
+pub enum Deed {
     /// A node shows its view to another.
     Show { from: u8, to: u8 },
     /// A node acts.
@@ -91,7 +91,7 @@ fn turns_spread(deeds: &mut List<Deed>, action: Action, node: u8, part: &[u8]) -
 
 /// What is done in a layout change once a node has applied the layout, among those that take part, but that delivered
 /// messages are forgotten at the end.
-pub(crate) fn deeds_past_apply(alloc: Global, node: u8, part: &[u8]) -> Result<List<Deed>, Memory>
+pub fn deeds_past_apply(alloc: Global, node: u8, part: &[u8]) -> Result<List<Deed>, Memory>
     ensures deeds { IfOk result (λ deeds. map act_of deeds ++ forgets ∷ [] ≡ acts_past_apply node part.now) }
     ensures want { OnlyWant result }
 {

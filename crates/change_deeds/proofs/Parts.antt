@@ -2,7 +2,7 @@
 use Rattle.std.proofs.Common.{◌≡◌, ℕ, List, [], ◌∷◌, ◌++◌, refl, ◌∙◌, ap, append_assoc}
 use Rattle.cluster_machine.specs.Phases.{with_node, in_order}
 use Rattle.store_model.specs.Acts.{Act}
-use Rattle.serve_cluster.specs.Deeds.{with_nodes}
+use Rattle.change_deeds.specs.Deeds.{with_nodes}
 
 -- the parts of a change past its apply, one behind the other
 pub all_parts : (a b c d e f g h last : List Act) (drain : Act) →

@@ -1,6 +1,6 @@
 use Rattle.std.proofs.Common.{◌≡◌, ◌≤◌, length, drop}
-use Rattle.serve_cluster.specs.Deeds.{with_nodes}
-use Rattle.serve_cluster.proofs.members.put_all.Given as goal
+use Rattle.change_deeds.specs.Deeds.{with_nodes}
+use Rattle.change_deeds.proofs.members.put_all.Given as goal
 
 -- the nodes behind are put in
 abbrev pub invariant-loop-left : goal.invariant-loop-left

@@ -1,7 +1,7 @@
 use Rattle.std.proofs.Common.{sym, ◌∙◌, ap}
-use Rattle.serve_cluster.specs.Deeds.{with_nodes}
-use Rattle.serve_cluster.proofs.Parts.{in_order_both}
-use Rattle.serve_cluster.proofs.members.of_both.Goals as goal
+use Rattle.change_deeds.specs.Deeds.{with_nodes}
+use Rattle.change_deeds.proofs.Parts.{in_order_both}
+use Rattle.change_deeds.proofs.members.of_both.Goals as goal
 
 pub returns-clause-both : goal.returns-clause-both
 returns-clause-both c =

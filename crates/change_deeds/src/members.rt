@@ -2,7 +2,7 @@
 ghost use Rattle.std.specs.Prelude.{◌≡◌, ◌++◌, map, IfOk, OnOk};
 ghost use Rattle.crdt_core.specs.Outcomes.{OnlyWant};
 ghost use Rattle.cluster_machine.specs.Phases.{with_node, in_order};
-ghost use Rattle.serve_cluster.specs.Deeds.{with_nodes};
+ghost use Rattle.change_deeds.specs.Deeds.{with_nodes};
 
 use crdt_core::{List, Memory};
 use layout_roles::Role;
@@ -53,7 +53,7 @@ fn put_all(nodes: &mut Vec<u8>, more: &[u8]) -> Result<(), Memory>
 }
 
 /// The members of an older layout and of a newer one, in order and each once.
-pub(crate) fn of_both(alloc: Global, older: &[u8], newer: &[u8]) -> Result<List<u8>, Memory>
+pub fn of_both(alloc: Global, older: &[u8], newer: &[u8]) -> Result<List<u8>, Memory>
     ensures both { IfOk result (λ nodes. nodes ≡ in_order (older.now ++ newer.now)) }
     ensures want { OnlyWant result }
 {
