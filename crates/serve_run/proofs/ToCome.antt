@@ -78,7 +78,7 @@ all_computed all l (c ∷ cs) layout h =
     let roles = c.shown.roles.list in
     let best : IsBest roles c.redundancy (suc (layouts.reading.version l)) ch.new c.shown = record { version_is = refl; roles_are = refl; shown_roles = refl; redundancy = refl; size = refl; sets = refl; enough = h.0.is_for.enough; certified = h.0.is_for.certified } in
     let new : IsLayout layouts 256 ch.new = best_is_layout roles c.redundancy (suc (layouts.reading.version l)) ch.new c.shown (omega arith) best in (
-      all_staging (range_with_len 1 64) roles c.redundancy,
+      all_staging (range_with_len 1 16) roles c.redundancy,
       (roles, c.redundancy, best),
       refl,
       all l ch refl (asker_member l layout),
