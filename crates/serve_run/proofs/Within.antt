@@ -55,7 +55,7 @@ made id zone kind = record { node = id; zone = record { 0 = zone }; kind = kind 
 
 role_made : (id : Option ℕ) (zone : Option (List ℕ)) (kind : Option Kind) (role : Role) → ((n : ℕ) → id ≡ Some n → n ≤ 16) →
     (needed field.Id id >>= (λ i. needed field.Zone zone >>= (λ z. needed field.Capacity kind >>= (λ k. Ok (made i z k))))) ≡ Ok role → role.node ≤ 16
-role_made None zone kind role most h = absurd (cc)
+role_made None place kind role most h = absurd (cc)
 role_made (Some i) None kind role most h = absurd (cc)
 role_made (Some i) (Some z) None role most h = absurd (cc)
 role_made (Some i) (Some z) (Some k) role most h =
@@ -66,21 +66,24 @@ role_within : (before : List Role) (node : Members) (role : Role) → role_in gr
 unfolding role_in
 role_within before node role h = role_made (id_in greatest_node before node) (zone_in node) (kind_in node) role (id_at_most before node) h
 
+by_place : (role r : Role) (rs : List Role) (b : Bool) → role.node ≤ 16 → AreWithin (r ∷ rs) → AreWithin (put_role rs role) → AreWithin (cond b (role ∷ r ∷ rs) (r ∷ put_role rs role))
+by_place role r rs true g h later = (g, h)
+by_place role r rs false g h later = (h.0, later)
+
 put_within : (roles : List Role) (role : Role) → AreWithin roles → role.node ≤ 16 → AreWithin (put_role roles role)
 put_within [] role h g = (g, tt)
-put_within (r ∷ rs) role h g = by_place (nat_lt role.node r.node)
-  where
-    by_place : (b : Bool) → AreWithin (cond b (role ∷ r ∷ rs) (r ∷ put_role rs role))
-    by_place true = (g, h)
-    by_place false = (h.0, put_within rs role h.1 g)
+put_within (r ∷ rs) role h g = by_place role r rs (nat_lt role.node r.node) g h (put_within rs role h.1 g)
+
+-- one role more, and then the rest
+next_roles : (nodes : List Members) (before roles : List Role) (r : Result Role FieldName) → ((role : Role) → r ≡ Ok role → AreWithin (put_role before role)) →
+    ((more : List Role) → AreWithin more → roles_in greatest_node more nodes ≡ Ok roles → AreWithin roles) → (r >>= (λ role. roles_in greatest_node (put_role before role) nodes)) ≡ Ok roles → AreWithin roles
+next_roles nodes before roles (Ok role) put rest k = rest (put_role before role) (put role refl) k
+next_roles nodes before roles (Err name) put rest k = absurd (cc)
 
 roles_within : (nodes : List Members) (before roles : List Role) → AreWithin before → roles_in greatest_node before nodes ≡ Ok roles → AreWithin roles
 roles_within [] before roles h e = let same : before ≡ roles = cc in subst AreWithin same h
-roles_within (node ∷ nodes) before roles h e = next (role_in greatest_node before node) (role_within before node) e
-  where
-    next : (r : Result Role FieldName) → ((role : Role) → r ≡ Ok role → role.node ≤ 16) → (r >>= (λ role. roles_in greatest_node (put_role before role) nodes)) ≡ Ok roles → AreWithin roles
-    next (Ok role) most k = roles_within nodes (put_role before role) roles (put_within before role h (most role refl)) k
-    next (Err name) most k = absurd (cc)
+roles_within (node ∷ nodes) before roles h e =
+    next_roles nodes before roles (role_in greatest_node before node) (λ role is. put_within before role h (role_within before node role is)) (λ more within k. roles_within nodes more roles within k) e
 
 all_within : (nodes : Option (List Members)) (roles : List Role) → (needed field.Node nodes >>= roles_in greatest_node []) ≡ Ok roles → AreWithin roles
 all_within None roles h = absurd (cc)
@@ -116,17 +119,21 @@ record AreFine (count : ℕ) (comings : List Coming) : Type 0 where
   within : AllWithin comings
   many : length comings ≡ count
 
+-- one change more, and then the rest
+next_change : (tables : List Members) (changes all : List Coming) (r : Result Coming FieldName) → AllWithin changes → ((c : Coming) → r ≡ Ok c → AreWithin c.roles) →
+    ((before : ℕ) (more : List Coming) → AllWithin more → changes_of greatest_node before more tables ≡ Ok all → AreFine (length more + length tables) all) →
+    (r >>= (λ c. changes_of greatest_node c.after (changes ++ c ∷ []) tables)) ≡ Ok all → AreFine (length changes + suc (length tables)) all
+next_change tables changes all (Ok c) h within next k =
+    let rest = next c.after (changes ++ c ∷ []) (all_append (λ (x : Coming). AreWithin x.roles) changes (c ∷ []) h (within c refl, tt)) k in
+    let more : length (changes ++ c ∷ []) ≡ length changes + 1 = length-append changes (c ∷ []) in
+    let many = rest.many in
+    record { within = rest.within; many = omega (arith, many, more) }
+next_change tables changes all (Err name) h within next k = absurd (cc)
+
 changes_fine : (tables : List Members) (before : ℕ) (changes all : List Coming) → AllWithin changes → changes_of greatest_node before changes tables ≡ Ok all → AreFine (length changes + length tables) all
 changes_fine [] before changes all h e = let same : changes ≡ all = cc in record { within = subst AllWithin same h; many = ap (λ (xs : List Coming). length xs) (sym same) ∙ omega arith }
-changes_fine (table ∷ tables) before changes all h e = next (change_in greatest_node before table) (change_within before table) e
-  where
-    next : (r : Result Coming FieldName) → ((c : Coming) → r ≡ Ok c → AreWithin c.roles) → (r >>= (λ c. changes_of greatest_node c.after (changes ++ c ∷ []) tables)) ≡ Ok all → AreFine (length changes + length (table ∷ tables)) all
-    next (Ok c) within k =
-        let rest = changes_fine tables c.after (changes ++ c ∷ []) all (all_append (λ (x : Coming). AreWithin x.roles) changes (c ∷ []) h (within c refl, tt)) k in
-        let more : length (changes ++ c ∷ []) ≡ length changes + 1 = length-append changes (c ∷ []) in
-        let many = rest.many in
-        record { within = rest.within; many = omega (arith, many, more) }
-    next (Err name) within k = absurd (cc)
+changes_fine (table ∷ tables) before changes all h e =
+    next_change tables changes all (change_in greatest_node before table) h (change_within before table) (λ after more within k. changes_fine tables after more all within k) e
 
 tables_few : (found : Option (List Members)) (comings : List Coming) → (needed field.Change (option_and_then few found) >>= changes_of greatest_node 0 []) ≡ Ok comings → IsOfServer comings
 tables_few None comings h = absurd (cc)

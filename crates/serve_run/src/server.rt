@@ -179,15 +179,16 @@ fn serve_and_tell<I: Source, O: Sink, L: Link, C: Clock>(
 ///
 /// After Done so many connections were served, no more than are asked for, and fewer only where no more come, by a server of
 /// the plan that the input says. Its acts are lawful and fit, from nothing on: buckets, size of blocks and the first layout,
-/// and then the acts of each request. At each moment of them, within drains too, what lines of reads tell of a version's bytes
-/// is as was written, and replicas that accepted the same rows are equal; and answered reads are fresh, also by the records
-/// alone, where no digests of walks clash (a server begins no round and no repair).
+/// and then the acts of each request, and those of each layout change between two of them. At each moment of them, within
+/// drains too, what lines of reads tell of a version's bytes is as was written, and replicas that accepted the same rows are
+/// equal; and answered reads are fresh, also by the records alone, where no digests of walks clash (a server begins no repair,
+/// and rounds in layout changes alone).
 /// What was written is the text of the state after these acts; and where clock and link tell, what was written to each
 /// connection is what is stated of its bytes, from what the connections before it left, or a first part of that where its count
 /// of faults rose, and they led to this very state. And each text is the one that a server writes which is one map from names
 /// to objects, with no cluster, or a first part of that where its count of faults rose; and the next connections are served
 /// from the map as the requests that were carried out have left it; where neither two names of buckets nor two of the blocks
-/// that they put have one digest.
+/// that they put have one digest, and neither two strings that layout changes hash for walks.
 ///
 /// After LinkFault, and where too many bytes were put or copied or a number had no room, serving up to there is stated as after
 /// Done, and of the last connection, with which serving ended, that its text is that of the map too, or a first part. After
