@@ -5,21 +5,21 @@ use Rattle.store_model.specs.Acts.{Act}
 use Rattle.change_deeds.specs.Deeds.{with_nodes}
 
 -- the parts of a change past its apply, one behind the other
-pub all_parts : (a b c d e f g h last : List Act) (drain : Act) →
-    ((((((a ++ (b ++ c)) ++ d) ++ drain ∷ []) ++ e) ++ (f ++ g)) ++ h) ++ last ≡ a ++ (b ++ (c ++ (d ++ (drain ∷ (e ++ (f ++ (g ++ (h ++ last))))))))
-all_parts a b c d e f g h last drain =
+pub all_parts : (a b c d e f g h last : List Act) (one : Act) →
+    ((((((a ++ (b ++ c)) ++ d) ++ one ∷ []) ++ e) ++ (f ++ g)) ++ h) ++ last ≡ a ++ (b ++ (c ++ (d ++ (one ∷ (e ++ (f ++ (g ++ (h ++ last))))))))
+all_parts a b c d e f g h last one =
     let x1 = a ++ (b ++ c) in
     let x2 = x1 ++ d in
-    let x3 = x2 ++ drain ∷ [] in
+    let x3 = x2 ++ one ∷ [] in
     let x4 = x3 ++ e in
     let x5 = x4 ++ (f ++ g) in
     let t1 = f ++ (g ++ (h ++ last)) in
-    let t2 = drain ∷ (e ++ t1) in
+    let t2 = one ∷ (e ++ t1) in
     append_assoc x5 h last
     ∙ (append_assoc x4 (f ++ g) (h ++ last)
     ∙ (ap (λ y. x4 ++ y) (append_assoc f g (h ++ last))
     ∙ (append_assoc x3 e t1
-    ∙ (append_assoc x2 (drain ∷ []) (e ++ t1)
+    ∙ (append_assoc x2 (one ∷ []) (e ++ t1)
     ∙ (append_assoc x1 d t2
     ∙ (append_assoc a (b ++ c) (d ++ t2)
     ∙ ap (λ y. a ++ y) (append_assoc b c (d ++ t2))))))))
