@@ -1,5 +1,6 @@
 -- Acts that are done one after the other, until none is left.
 use Rattle.std.proofs.Common.{◌≡◌, ℕ, ◌-◌, ◌==◌, true, false, List, [], ◌∷◌, ◌++◌, map, length, get_or, take, drop, refl, sym, ◌∙◌, ap, subst, arith, append_assoc, append-nil}
+use Rattle.std.proofs.lemmas.Bool.{eqb-true}
 use Rattle.std.proofs.lemmas.List.{take_all}
 use Rattle.store_model.specs.Run.{State}
 use Rattle.store_model.specs.Acts.{Act, after_acts}
@@ -57,7 +58,7 @@ first_of (y ∷ ys) x e = ap (λ later. y ∷ later) (sym (take_all (length (y �
 -- none is left
 pub none_of : {A : Type 0} (xs : List A) → true ≡ (length xs == 0) → xs ≡ []
 none_of [] e = refl
-none_of (y ∷ ys) e = absurd (let no' : true ≡ false = e in cc)
+none_of (y ∷ ys) e = absurd (let none : length (y ∷ ys) ≡ 0 = eqb-true (length (y ∷ ys)) 0 (sym e) in omega (arith, none))
 
 -- so are their acts
 pub first_act : {A : Type 0} (f : A → Act) (xs : List A) (x : A) (later : List A) → xs ≡ x ∷ later → map f xs ≡ f x ∷ map f later
