@@ -70,11 +70,11 @@ first_left (n ∷ ns) e = ap (λ later. n ∷ later) (sym (take_all (length (n �
 -- ---- acts without room
 
 -- more acts follow
-lacks_first : (s : State) (xs ys : List Act) → ActLacksRoom s xs → ActLacksRoom s (xs ++ ys)
+pub lacks_first : (s : State) (xs ys : List Act) → ActLacksRoom s xs → ActLacksRoom s (xs ++ ys)
 lacks_first s xs ys l = record { before = l.before; act = l.act; later = l.later ++ ys; parts = ap (λ as'. as' ++ ys) l.parts ∙ append_assoc l.before (l.act ∷ l.later) ys; lawful = l.lawful; fit = l.fit; may = l.may; lacks = l.lacks }
 
 -- acts were done before
-lacks_after : (s : State) (xs ys : List Act) (mid : S3World) → DoneActs mid s xs → ActLacksRoom (after_acts s xs) ys → ActLacksRoom s (xs ++ ys)
+pub lacks_after : (s : State) (xs ys : List Act) (mid : S3World) → DoneActs mid s xs → ActLacksRoom (after_acts s xs) ys → ActLacksRoom s (xs ++ ys)
 lacks_after s xs ys mid a l =
     let e = acts_after s xs l.before in
     record {
@@ -121,7 +121,7 @@ causes_next (Err e) f h = cause_more e f h
 
 -- ---- the calls of a world
 
-does_event : (new : S3World) (told : Told) (s : State) (event : Event) (h : DoesEvent new told s event) → DoneActs new s (act_of event h.choice ∷ [])
+pub does_event : (new : S3World) (told : Told) (s : State) (event : Event) (h : DoesEvent new told s event) → DoneActs new s (act_of event h.choice ∷ [])
 does_event new told s event h = record { lawful = (h.lawful, tt); fit = (h.does.fits, tt); stands = h.does.stands }
 
 pub ticked : (old new : S3World) (told : Told) (ms : ℕ) → PlaysEvent old new told (Event.Tick ms) → DoesActs old new (moves (plainly (Tick ms)) ∷ [])
@@ -137,7 +137,7 @@ pub expired_open : (old new : S3World) (told : Told) (q : ℕ) (end : Option Flo
 expired_open old new told q None e h = expired old new told q h
 expired_open old new told q (Some end) e h = absurd (let no' : true ≡ false = e in cc)
 
-event_lacks : (s : State) (event : Event) (l : EventLacksRoom s event) → ActLacksRoom s (act_of event l.choice ∷ [])
+pub event_lacks : (s : State) (event : Event) (l : EventLacksRoom s event) → ActLacksRoom s (act_of event l.choice ∷ [])
 event_lacks s event l = lacks_act s (act_of event l.choice) l.lawful l.lacks
 
 pub tick_lacks : (old : S3World) (ms : ℕ) → OverflowsEvent old (Event.Tick ms) → LacksRoom old (λ _. moves (plainly (Tick ms)) ∷ [])
@@ -165,7 +165,7 @@ ask_lacks old n order keyed h = λ s st. lacks_act s (asks n order) keyed (h s s
 taken : (old new : S3World) (q : ℕ) → Becomes old new (λ s. acted s (takes q)) → DoesActs old new (takes q ∷ [])
 taken old new q h = λ s st. record { lawful = (tt, tt); fit = (tt, tt); stands = h s st }
 
-forgot : (old new : S3World) → Becomes old new (λ s. acted s forgets) → DoesActs old new (forgets ∷ [])
+pub forgot : (old new : S3World) → Becomes old new (λ s. acted s forgets) → DoesActs old new (forgets ∷ [])
 forgot old new h = λ s st. record { lawful = (tt, tt); fit = (tt, tt); stands = h s st }
 
 pub took_end : (old mid late new : S3World) (q : ℕ) (end : Option FlowEnd) → ((s : State) → IsStore old s → end ≡ end_of s.ends q) → Becomes old mid (λ s. acted s (takes q)) → DoesActs mid late (expiry q end) → Becomes late new (λ s. acted s forgets) → TakesEnd old new q end

@@ -24,8 +24,8 @@ pub(crate) fn tick(world: &mut S3World, ms: u64) -> Result<(), Memory>
     }
 }
 
-// All messages are delivered.
-fn drain_all(world: &mut S3World) -> Result<(), Memory>
+/// All messages are delivered.
+pub(crate) fn drain_all(world: &mut S3World) -> Result<(), Memory>
     requires { HasStore world.old }
     ensures does { OnOk result (DoesActs world.old world.new (drain all_messages ∷ [])) }
     ensures causes { WantOr result (LacksRoom world.old (λ _. drain all_messages ∷ [])) }

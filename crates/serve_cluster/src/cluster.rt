@@ -1,10 +1,15 @@
 //! A world with its members.
-ghost use Rattle.std.specs.Prelude.{◌≡◌};
+ghost use Rattle.std.specs.Prelude.{◌≡◌, ℕ, OnOk};
+ghost use Rattle.crdt_core.specs.Outcomes.{WantOr};
 ghost use Rattle.store_model.specs.Run.{State};
+ghost use Rattle.store_model.specs.Acts.{AreLawfulActs, ActsFit};
 ghost use Rattle.serve_model.specs.Clusters.{Cluster as Modelled, asker as asker_of, cluster, fits as fits_of, lacks as lacks_of};
+ghost use Rattle.serve_model.specs.Clusters.{ActLacksRoom};
+ghost use Rattle.serve_changes.specs.Changing.{Change as Model, acts_in, changed};
 ghost use Rattle.s3_world.specs.Stands.{IsStore};
 
 use crate::acts::{finish, tick};
+use crate::change::{Change, make};
 use crdt_core::{List, Memory};
 use flow_model::{FlowEnd, Order};
 use s3_world::S3World;
@@ -18,8 +23,8 @@ pub struct Cluster {
     ticked: u64,
 }
 
-// The first of the members.
-fn asker(members: &[u8]) -> u8
+/// The first of the members.
+pub(crate) fn asker(members: &[u8]) -> u8
     ensures { result ≡ asker_of members.now }
 {
     match members.first() {
@@ -29,7 +34,9 @@ fn asker(members: &[u8]) -> u8
 }
 
 impl Cluster {
+    ghost use Rattle.serve_model.specs.Serving.{HasState};
     ghost use Rattle.serve_cluster.specs.Standing.{StandsFor};
+    ghost use Rattle.serve_cluster.specs.Changes.{IsComputed, AreWithin, IsChange};
 
     /// A world whose time is 0, with the members of its one layout version, in order.
     pub fn new(world: S3World, members: List<u8>) -> Cluster
@@ -47,6 +54,23 @@ impl Cluster {
         ensures { (c : Modelled) → StandsFor self.now c → IsStore result.now c.run }
     {
         &self.world
+    }
+
+    /// Carries a change out: the members are those of the newer layout then.
+    pub(crate) fn change(&mut self, change: Change) -> Result<(), Memory>
+        requires state { HasState (StandsFor self.old) }
+        requires computed { IsComputed change }
+        requires within { (m : Modelled) → StandsFor self.old m → AreWithin m.run.world.roles }
+        ensures does { OnOk result ((m : Modelled) (ch : ℕ × Model) → StandsFor self.old m → IsChange m.members change ch → AreLawfulActs m.run (acts_in m.run ch.1) × ActsFit m.run (acts_in m.run ch.1) × StandsFor self.new (changed m ch.1)) }
+        ensures causes { WantOr result ((m : Modelled) (ch : ℕ × Model) → StandsFor self.old m → IsChange m.members change ch → ActLacksRoom m.run (acts_in m.run ch.1)) }
+    {
+        match make(&mut self.world, self.members.as_slice(), change) {
+            Ok(newer) => {
+                self.members = newer;
+                Ok(())
+            }
+            Err(memory) => Err(memory),
+        }
     }
 }
 

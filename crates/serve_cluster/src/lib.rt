@@ -4,9 +4,17 @@
 //! serve_model lists: the world's time goes on, the first member asks, all messages are delivered, all members work twice,
 //! the end is taken, and delivered messages are forgotten. So a server over it (serve_loop) goes through states of a run,
 //! and what is proved of every list of acts holds of what it does.
+//!
+//! A `Changing` is a cluster with layout changes to come: once so many requests have reached it, the next change is made,
+//! after the order. Its acts are those of serve_changes: its roles are staged, and the layout that was computed before is
+//! applied (`change`), and then it is told, acknowledged, rows are moved, and older versions are dropped (change_deeds).
 #![tactic(auto)]
 
 mod acts;
+mod change;
+mod changing;
 mod cluster;
 
+pub use crate::change::Change;
+pub use crate::changing::Changing;
 pub use crate::cluster::Cluster;

@@ -6,6 +6,7 @@ use Rattle.lab_outside.specs.Connection.{Connection}
 use Rattle.layout_roles.specs.declared.layout.Layout.{Layout}
 use Rattle.layout_roles.specs.declared.role.Role.{Role}
 use Rattle.cluster_machine.specs.Choices.{IsFirst}
+use Rattle.cluster_machine.specs.Hashes.{NoClash as NoWalkClash}
 use Rattle.cluster_machine.specs.Layouts.{layouts}
 use Rattle.store_model.specs.Run.{State, start}
 use Rattle.store_model.specs.Acts.{Act, adds, cuts, installs, acted, after_acts, AreLawfulActs}
@@ -14,20 +15,19 @@ use Rattle.serve_model.specs.declared.buckets.Buckets.{Buckets}
 use Rattle.serve_model.specs.declared.served.ServeFault.{ServeFault}
 use Rattle.serve_model.specs.declared.served.ServeFault.TheVariants as cause
 use Rattle.serve_model.specs.Stores.{Store, Asking, fits_asking}
-use Rattle.serve_model.specs.Clusters.{Cluster, cluster, fits}
+use Rattle.serve_changes.specs.Changing.{Change, Changing, changing, changing_fits}
 use Rattle.serve_model.specs.Talk.{Grammar, Serving, Stop, Talk, talk, request_limit}
 use Rattle.serve_model.specs.Serving.{GivesUp}
 use Rattle.serve_model.specs.Connections.{stated, IsServed, AreServed, SomeAsked, EndsSo, too_many, begun as has_begun, ServesAllButLast}
 use Rattle.serve_model.proofs.Ones.{one_weaker}
 use Rattle.serve_model.specs.Plain.{Plain as Map, plain, PutsBlock, AreApart}
-use Rattle.plain_laws.specs.Holds.{Holds}
 use Rattle.plain_laws.specs.Blocks.{IsKept, IsOfMap}
-use Rattle.plain_laws.specs.Served.{IsServedBlock, HoldsApart, AreServedFrom, EndsFrom}
+use Rattle.plain_changes.specs.Changing.{MayCome, StandsWith, SomeAfter, IsServedBlock, IsServedHash, AreServedFrom, EndsFrom}
 use Rattle.plain_laws.proofs.Stores.{all_put}
 use Rattle.serve_run.specs.declared.plan.Plan.{Plan}
 use Rattle.serve_run.specs.Start.{preparing, opening, opened, IsOf}
-use Rattle.serve_run.specs.Served.{nodes_of, begun, serving}
-use Rattle.serve_run.specs.FromMap.{empty_map, map_serving, AreServedFromMap, PutsApart, AreFromMap, AreFromMapButLast}
+use Rattle.serve_run.specs.Begun.{nodes_of, to_come_from, begun, serving}
+use Rattle.serve_run.specs.FromMap.{empty_map, map_serving, AreServedFromMap, PutsApart, WalksApart, AreFromMap, AreFromMapButLast}
 
 -- ---- the first state
 
@@ -49,20 +49,20 @@ pub installs_first : (p : Plan) (first : Layout) → AreLawfulActs start (openin
 installs_first p first h = last_is_first start (preparing p.config.buckets p.config.block_size) first [] h
 
 -- what the law on first layouts says
-abbrev pub FirstHolds : Type 0
-FirstHolds = (first : Layout) (buckets : List (List ℕ)) (block ticked : ℕ) → IsFirst first →
-    Holds (record { run = (acted (record start { buckets = buckets; block = block }) (installs first)).state; ticked = ticked; members = layouts.reading.members first })
-    (record { buckets = buckets; block = block; clock = 0; ticked = ticked; asked = 0; entries = [] })
+abbrev pub FirstStands : Type 0
+FirstStands = (first : Layout) (buckets : List (List ℕ)) (block : ℕ) (to_come : List (ℕ × Change)) → IsFirst first → NoClash buckets → 1 ≤ block → MayCome first to_come →
+    StandsWith (record { cluster = record { run = (acted (record start { buckets = buckets; block = block }) (installs first)).state; ticked = 0; members = layouts.reading.members first }; to_come = to_come })
+    (record { buckets = buckets; block = block; clock = 0; ticked = 0; asked = 0; entries = [] })
 
 -- what the laws on connections say
 abbrev pub ServedFrom : Type 0
-ServedFrom = (buckets : Buckets) (g : Grammar) (p s : Serving Cluster) (P : Map) (came : List (List ℕ)) (gone : List Connection) → HoldsApart p.store P → AreApart (IsServedBlock buckets g p P came gone) →
-    AreServed cluster buckets g (fits_asking fits) p came gone s → AreServedFrom P buckets g p came gone s
+ServedFrom = (buckets : Buckets) (g : Grammar) (p s : Serving Changing) (P : Map) (came : List (List ℕ)) (gone : List Connection) → StandsWith p.store P → AreApart (IsServedBlock buckets g p P came gone) → NoWalkClash (IsServedHash buckets g p came gone) →
+    AreServed changing buckets g (fits_asking changing_fits) p came gone s → AreServedFrom P buckets g p came gone s
 
 abbrev pub EndedFrom : Type 0
-EndedFrom = (buckets : Buckets) (g : Grammar) (p s : Serving Cluster) (P : Map) (came : List (List ℕ)) (gone : List Connection) (bytes : List ℕ) (last : Connection) (fault : ServeFault) →
-    HoldsApart p.store P → AreApart (IsServedBlock buckets g p P (came ++ bytes ∷ []) (gone ++ last ∷ [])) → AreServed cluster buckets g (fits_asking fits) p came gone s →
-    EndsSo cluster buckets g (fits_asking fits) (λ asks. ⊤) (stated cluster buckets g s bytes) last fault → EndsFrom P buckets g p came gone bytes last fault
+EndedFrom = (buckets : Buckets) (g : Grammar) (p s : Serving Changing) (P : Map) (came : List (List ℕ)) (gone : List Connection) (bytes : List ℕ) (last : Connection) (fault : ServeFault) →
+    StandsWith p.store P → AreApart (IsServedBlock buckets g p P (came ++ bytes ∷ []) (gone ++ last ∷ [])) → NoWalkClash (IsServedHash buckets g p (came ++ bytes ∷ []) (gone ++ last ∷ [])) → AreServed changing buckets g (fits_asking changing_fits) p came gone s →
+    EndsSo changing buckets g (fits_asking changing_fits) (λ asks. ⊤) (stated changing buckets g s bytes) last fault → EndsFrom P buckets g p came gone bytes last fault
 
 -- whatever order had no room
 module _ {S : Type 0} (store : Store S) (buckets : Buckets) (g : Grammar) (FitsIt : Asking S → Type 0) (t : Talk S) (d : Connection) (overflows : List (Asking S) → Type 0) where
@@ -75,12 +75,12 @@ module _ {S : Type 0} (store : Store S) (buckets : Buckets) (g : Grammar) (FitsI
   ends_anyhow fault (too_many over wrote fit) = too_many over wrote fit
   ends_anyhow fault (has_begun e why stops) = has_begun e (any_order e why) stops
 
-begun_holds : FirstHolds → (p : Plan) (first : Layout) → IsOf p first → IsFirst first → Holds (begun p first) (empty_map p)
-begun_holds law p first of is =
+begun_stands : FirstStands → (p : Plan) (first : Layout) → IsOf p first → IsFirst first → NoClash p.config.buckets → 1 ≤ p.config.block_size → MayCome first (to_come_from first p.changes) → StandsWith (begun p first) (empty_map p)
+begun_stands law p first of is clash sized may =
     let members : layouts.reading.members first ≡ nodes_of p = ap (map (λ (role : Role). role.node)) of.roles in
-    let K : State → List ℕ → Type 0 = λ s ms. Holds (record { run = s; ticked = 0; members = ms }) (empty_map p) in
+    let K : State → List ℕ → Type 0 = λ s ms. StandsWith (record { cluster = record { run = s; ticked = 0; members = ms }; to_come = to_come_from first p.changes }) (empty_map p) in
     subst (λ ms. K (opened p first) ms) members
-    (subst (λ s. K s (layouts.reading.members first)) (sym (opened_is p first)) (law first p.config.buckets p.config.block_size 0 is))
+    (subst (λ s. K s (layouts.reading.members first)) (sym (opened_is p first)) (law first p.config.buckets p.config.block_size (to_come_from first p.changes) is clash sized may))
 
 -- ---- no blocks yet
 
@@ -94,13 +94,13 @@ none_kept p first bytes k = all_put first p.config.buckets p.config.block_size [
 -- ---- the first connections
 
 -- the first of the connections that were served one after the other, with these texts
-record Front (buckets : Buckets) (g : Grammar) (q : Serving Cluster) (came : List (List ℕ)) (gone : List Connection) : Type 0 where
+record Front (buckets : Buckets) (g : Grammar) (q : Serving Changing) (came : List (List ℕ)) (gone : List Connection) : Type 0 where
   pub front : List (List ℕ)
   pub back : List (List ℕ)
   pub comes : came ≡ front ++ back
   pub long : length front ≡ length gone
-  pub at : Serving Cluster
-  pub served : AreServed cluster buckets g (fits_asking fits) q front gone at
+  pub at : Serving Changing
+  pub served : AreServed changing buckets g (fits_asking changing_fits) q front gone at
 
 head_is : {A : Type 0} (x y : A) (xs ys : List A) → x ∷ xs ≡ y ∷ ys → x ≡ y
 head_is x y xs ys e = cc
@@ -111,7 +111,7 @@ tail_is x y xs ys e = cc
 lengths : {A : Type 0} (xs ys : List A) → xs ≡ ys → length xs ≡ length ys
 lengths xs ys e = ap length e
 
-front_of : (buckets : Buckets) (g : Grammar) (came : List (List ℕ)) (all gone later more : List Connection) (q s : Serving Cluster) → AreServed cluster buckets g (fits_asking fits) q came all s → all ++ more ≡ gone ++ later → length more ≤ length later → Front buckets g q came gone
+front_of : (buckets : Buckets) (g : Grammar) (came : List (List ℕ)) (all gone later more : List Connection) (q s : Serving Changing) → AreServed changing buckets g (fits_asking changing_fits) q came all s → all ++ more ≡ gone ++ later → length more ≤ length later → Front buckets g q came gone
 front_of buckets g came all [] later more q s h e le = record { front = []; back = came; comes = refl; long = refl; at = q; served = refl }
 front_of buckets g came [] (d ∷ gone) later more q s h e le =
     let long : length more ≡ suc (length gone + length later) = lengths more (d ∷ gone ++ later) e ∙ ap suc (length-append gone later) in
@@ -119,7 +119,7 @@ front_of buckets g came [] (d ∷ gone) later more q s h e le =
 front_of buckets g [] (x ∷ all) (d ∷ gone) later more q s h e le = absurd h
 front_of buckets g (bytes ∷ came) (x ∷ all) (d ∷ gone) later more q s h e le =
     let rest = front_of buckets g came all gone later more h.0 s h.2 (tail_is x d (all ++ more) (gone ++ later) e) le in
-    let first = subst (λ y. IsServed cluster buckets g (fits_asking fits) q bytes y h.0) (head_is x d (all ++ more) (gone ++ later) e) h.1 in
+    let first = subst (λ y. IsServed changing buckets g (fits_asking changing_fits) q bytes y h.0) (head_is x d (all ++ more) (gone ++ later) e) h.1 in
     record { front = bytes ∷ rest.front; back = rest.back; comes = ap (λ x. bytes ∷ x) rest.comes; long = ap suc rest.long; at = rest.at; served = (h.0, first, rest.served) }
 
 -- lists of one length with which one list begins are the same
@@ -146,9 +146,25 @@ module _ (buckets : Buckets) (g : Grammar) (IsSo : Asking Map → Type 0) where
         one_weaker (λ (s : Stop Map). SomeAsked plain buckets g IsSo s.serving came gone) (λ (s : Stop Map). SomeAsked plain buckets g IsSo s.serving (came ++ more) gone) (λ s h. asked_before came more gone s.serving h) (talk plain buckets g request_limit q bytes).stops at,
       ))
 
+-- what the changes hash among the first connections they hash among all
+module _ (buckets : Buckets) (g : Grammar) (x : List ℕ) where
+  hashed_before : (came more : List (List ℕ)) (gone : List Connection) (q : Serving Changing) → IsServedHash buckets g q came gone x → IsServedHash buckets g q (came ++ more) gone x
+  hashed_before [] more gone q h = absurd h
+  hashed_before (bytes ∷ came) more [] q h = absurd h
+  hashed_before (bytes ∷ came) more (d ∷ gone) q (inl one) = inl one
+  hashed_before (bytes ∷ came) more (d ∷ gone) q (inr (inl later)) = inr (inl (hashed_before came more gone (stated changing buckets g q bytes).serving later))
+  hashed_before (bytes ∷ came) more (d ∷ gone) q (inr (inr at)) =
+      inr (inr (one_weaker (λ (s : Stop Changing). IsServedHash buckets g s.serving came gone x) (λ (s : Stop Changing). IsServedHash buckets g s.serving (came ++ more) gone x) (λ s h. hashed_before came more gone s.serving h) (stated changing buckets g q bytes).stops at))
+
+walks_before : (buckets : Buckets) (g : Grammar) (q : Serving Changing) (came more : List (List ℕ)) (gone : List Connection) → NoWalkClash (IsServedHash buckets g q (came ++ more) gone) → NoWalkClash (IsServedHash buckets g q came gone)
+walks_before buckets g q came more gone h = record {
+  apart = λ x y hx hy e. h.apart x y (hashed_before buckets g x came more gone q hx) (hashed_before buckets g y came more gone q hy) e;
+  some = λ x hx. h.some x (hashed_before buckets g x came more gone q hx);
+}
+
 -- ---- the connections that came
 
-module _ (first_holds : FirstHolds) (served_from : ServedFrom) (g : Grammar) (p : Plan) (sized : 1 ≤ p.config.block_size) (first : Layout) (is_of : IsOf p first) (is_first : IsFirst first) (buckets : Buckets) (times : List ℕ) where
+module _ (first_stands : FirstStands) (served_from : ServedFrom) (g : Grammar) (p : Plan) (sized : 1 ≤ p.config.block_size) (first : Layout) (is_of : IsOf p first) (is_first : IsFirst first) (may : MayCome first (to_come_from first p.changes)) (buckets : Buckets) (times : List ℕ) where
   -- at first no block is kept, and nothing is in the map
   abbrev Puts : List (List ℕ) → List Connection → List ℕ → Type 0
   Puts came gone bytes = SomeAsked plain buckets g (PutsBlock bytes) (map_serving p times) came gone
@@ -158,35 +174,36 @@ module _ (first_holds : FirstHolds) (served_from : ServedFrom) (g : Grammar) (p 
   is_put came gone bytes (inr (inl m)) = absurd (none_there p first bytes m)
   is_put came gone bytes (inr (inr put)) = put
 
-  at_first : NoClash p.config.buckets → HoldsApart (begun p first) (empty_map p)
-  at_first clash = record { holds = begun_holds first_holds p first is_of is_first; clash = clash; some = sized }
+  at_first : NoClash p.config.buckets → StandsWith (begun p first) (empty_map p)
+  at_first clash = begun_stands first_stands p first is_of is_first clash sized may
 
-  from_map_here : NoClash p.config.buckets → (came : List (List ℕ)) (gone : List Connection) (s : Serving Cluster) → AreServed cluster buckets g (fits_asking fits) (serving p first times) came gone s → PutsApart g p buckets times came gone → AreServedFromMap g p buckets times came gone
-  from_map_here clash came gone s served apart =
-      let k = served_from buckets g (serving p first times) s (empty_map p) came gone (at_first clash) (λ x y h l e. apart x y (is_put came gone x h) (is_put came gone y l) e) served in
+  from_map_here : NoClash p.config.buckets → (came : List (List ℕ)) (gone : List Connection) (s : Serving Changing) → AreServed changing buckets g (fits_asking changing_fits) (serving p first times) came gone s → PutsApart g p buckets times came gone → WalksApart g p first buckets times came gone → AreServedFromMap g p buckets times came gone
+  from_map_here clash came gone s served apart clear =
+      let k = served_from buckets g (serving p first times) s (empty_map p) came gone (at_first clash) (λ x y h l e. apart x y (is_put came gone x h) (is_put came gone y l) e) clear served in
       (k.serving, k.are_served)
 
-  pub are_from_map : NoClash p.config.buckets → (left_out : ℕ) (past past_after : List Connection) (coming came to_come : List (List ℕ)) (all more : List Connection) (s : Serving Cluster) → AreServed cluster buckets g (fits_asking fits) (serving p first times) came all s →
-      coming ≡ came ++ to_come → past_after ≡ past ++ (all ++ more) → length more ≤ left_out → AreFromMap g p buckets left_out past past_after times coming
-  are_from_map clash left_out past past_after coming came to_come all more s served comes goes few = λ front back gone later comes_so goes_so long out apart.
+  pub are_from_map : NoClash p.config.buckets → (left_out : ℕ) (past past_after : List Connection) (coming came to_come : List (List ℕ)) (all more : List Connection) (s : Serving Changing) → AreServed changing buckets g (fits_asking changing_fits) (serving p first times) came all s →
+      coming ≡ came ++ to_come → past_after ≡ past ++ (all ++ more) → length more ≤ left_out → AreFromMap g p first buckets left_out past past_after times coming
+  are_from_map clash left_out past past_after coming came to_come all more s served comes goes few = λ front back gone later comes_so goes_so long out apart clear.
       let same : all ++ more ≡ gone ++ later = append_cancel_left past (all ++ more) (gone ++ later) (sym goes ∙ goes_so ∙ append_assoc past gone later) in
       let f = front_of buckets g came all gone later more (serving p first times) s served same (omega (arith, few, out)) in
       let joined : f.front ++ (f.back ++ to_come) ≡ front ++ back = sym (append_assoc f.front f.back to_come) ∙ ap (λ x. x ++ to_come) (sym f.comes) ∙ sym comes ∙ comes_so in
       let is : f.front ≡ front = same_front f.front front (f.back ++ to_come) back joined (f.long ∙ sym long) in
-      let served_here = subst (λ x. AreServed cluster buckets g (fits_asking fits) (serving p first times) x gone f.at) is f.served in
-      from_map_here clash front gone f.at served_here apart
+      let served_here = subst (λ x. AreServed changing buckets g (fits_asking changing_fits) (serving p first times) x gone f.at) is f.served in
+      from_map_here clash front gone f.at served_here apart clear
 
   -- serving ended with the last of them
-  pub end_from_map : EndedFrom → NoClash p.config.buckets → (overflows : List (Asking Cluster) → Type 0) (fault : ServeFault) (past past_after : List Connection) (coming : List (List ℕ)) →
-      ServesAllButLast cluster buckets g (fits_asking fits) overflows (serving p first times) fault coming past past_after → AreFromMapButLast g p buckets fault past past_after times coming
-  end_from_map ended_from clash overflows fault past past_after coming a = λ gone goes_so apart.
+  pub end_from_map : EndedFrom → NoClash p.config.buckets → (overflows : List (Asking Changing) → Type 0) (fault : ServeFault) (past past_after : List Connection) (coming : List (List ℕ)) →
+      ServesAllButLast changing buckets g (fits_asking changing_fits) overflows (serving p first times) fault coming past past_after → AreFromMapButLast g p first buckets fault past past_after times coming
+  end_from_map ended_from clash overflows fault past past_after coming a = λ gone goes_so apart clear.
       let front = a.came ++ a.bytes ∷ [] in
       let back = a.gone ++ a.last ∷ [] in
       let same : gone ≡ back = append_cancel_left past gone back (sym goes_so ∙ a.goes ∙ append_assoc past a.gone (a.last ∷ [])) in
       let all : coming ≡ front ++ a.to_come = a.comes ∙ sym (append_assoc a.came (a.bytes ∷ []) a.to_come) in
       let there : PutsApart g p buckets times (front ++ a.to_come) back = subst (λ x. PutsApart g p buckets times x back) all (subst (λ x. PutsApart g p buckets times coming x) same apart) in
+      let walks : WalksApart g p first buckets times front back = walks_before buckets g (serving p first times) front a.to_come back (subst (λ x. WalksApart g p first buckets times x back) all (subst (λ x. WalksApart g p first buckets times coming x) same clear)) in
       let put : (bytes : List ℕ) → IsServedBlock buckets g (serving p first times) (empty_map p) front back bytes → Puts (front ++ a.to_come) back bytes = λ bytes h. asked_before buckets g (PutsBlock bytes) front a.to_come back (map_serving p times) (is_put front back bytes h) in
-      let k = ended_from buckets g (serving p first times) a.serving (empty_map p) a.came a.gone a.bytes a.last fault (at_first clash) (λ x y h l e. there x y (put x h) (put y l) e) a.are_served (ends_anyhow cluster buckets g (fits_asking fits) (stated cluster buckets g a.serving a.bytes) a.last overflows fault a.ends) in
+      let k = ended_from buckets g (serving p first times) a.serving (empty_map p) a.came a.gone a.bytes a.last fault (at_first clash) (λ x y h l e. there x y (put x h) (put y l) e) walks a.are_served (ends_anyhow changing buckets g (fits_asking changing_fits) (stated changing buckets g a.serving a.bytes) a.last overflows fault a.ends) in
       record {
         came = a.came;
         bytes = a.bytes;

@@ -1,31 +1,17 @@
 -- What the input says, and which stop it is where it says no plan.
 use Rattle.std.proofs.Common.{◌≡◌, ℕ, ◌+◌, ◌≤◌, Option, Result, Ok, Err, IfErr, IfSome, List, length, take, sym, subst}
-use Rattle.std.specs.Prelude.{IsUtf8}
 use Rattle.std.specs.Result.{IsErrAnd}
 use Rattle.lab_main.proofs.Input.{not_longer, of_all}
-use Rattle.layout_text.specs.declared.keys.Access.{Access}
-use Rattle.layout_text.specs.Settings.{Settings, said}
-use Rattle.layout_text.specs.Keys.{access_said}
 use Rattle.serve_run.specs.declared.stop.Stop.{Stop}
 use Rattle.serve_run.specs.declared.stop.Stop.TheVariants.{Read, Link, Memory, LongInput, Refused, Kept, Number}
 use Rattle.lab_main.specs.Limits.{input_limit}
-use Rattle.serve_run.specs.Plan.{greatest_node, IsRefused, no_layout}
-use Rattle.serve_run.specs.Stop.{IsOfText, IsOfSettings, IsOfInput}
+use Rattle.serve_run.specs.Plan.{IsRefused}
+use Rattle.serve_run.specs.Stop.{IsOfText, IsOfInput}
 
 -- the same stop is handed on
 pub handed_on : {A : Type 0} (P : Stop → Type 0) (r : Result A Stop) (stop : Stop) → IsErrAnd r (λ e. e ≡ stop) → P stop → IfErr r P
 handed_on P (Ok x) stop is h = tt
 handed_on P (Err e) stop is h = subst P (sym is) h
-
--- settings without a layout
-pub text_of_settings : (text : List ℕ) (settings : Settings) (access : Access) → IsUtf8 text → said greatest_node text ≡ Ok settings → access_said settings.buckets text ≡ Ok access → (stop : Stop) → IsOfSettings settings stop → IsOfText text stop
-text_of_settings text settings access u says allows Memory h = tt
-text_of_settings text settings access u says allows (Refused line) h = no_layout settings access u says allows h
-text_of_settings text settings access u says allows Read h = absurd h
-text_of_settings text settings access u says allows Link h = absurd h
-text_of_settings text settings access u says allows LongInput h = absurd h
-text_of_settings text settings access u says allows Kept h = absurd h
-text_of_settings text settings access u says allows Number h = absurd h
 
 -- a text without a plan
 pub input_of_text : (left : Option (List ℕ)) (all : List ℕ) → length all ≤ input_limit → IfSome left (λ bytes. all ≡ take (input_limit + 1) bytes) → IfSome left (λ bytes. length bytes ≤ input_limit → all ≡ bytes) →

@@ -1,3 +1,6 @@
+pub mod Within
+pub mod Planned
+pub mod ToCome
 pub mod Input
 pub mod Sized
 pub mod Opening

@@ -14,6 +14,7 @@ use Rattle.layout_text.specs.Values.{keep_if, between, read_or, number_in, defau
 use Rattle.layout_text.specs.declared.keys.Access.{Access}
 use Rattle.layout_text.specs.Keys.{access_in, access_said}
 use Rattle.layout_text.specs.Settings.{◌>>=◌, needed, roles_for, buckets_for, block_size_for, Settings, settings_in, faulted, said}
+use Rattle.layout_text.specs.Changes.{Coming, changes_in, changes_said}
 use Rattle.serve_run.specs.Plan.{greatest_node}
 
 some_at_least : (low high : ℕ) (z : ℤ) (n : ℕ) → between low high z ≡ Some n → low ≤ n
@@ -72,3 +73,16 @@ document_read (Some root) s buckets e h = no_fault (access_in buckets root) h
 pub read_before : (text : List ℕ) (s : Settings) (buckets : List (List ℕ)) → said greatest_node text ≡ Ok s → access_said buckets text ≡ Err NotToml → ⊥
 unfolding said access_said
 read_before text s buckets e h = document_read (parse_document text) s buckets e h
+
+-- and for the changes
+changes_document_read : (o : Option Members) (s : Settings) → (ok_or o NotToml >>= (λ root. faulted (settings_in greatest_node root))) ≡ Ok s → (ok_or o NotToml >>= (λ root. faulted (changes_in greatest_node root))) ≡ Err NotToml → ⊥
+changes_document_read None s e h = cc
+changes_document_read (Some root) s e h = no_fault (changes_in greatest_node root) h
+  where
+    no_fault : (r : Result (List Coming) FieldName) → faulted r ≡ Err NotToml → ⊥
+    no_fault (Ok x) h = cc
+    no_fault (Err name) h = cc
+
+pub changes_read_before : (text : List ℕ) (s : Settings) → said greatest_node text ≡ Ok s → changes_said greatest_node text ≡ Err NotToml → ⊥
+unfolding said changes_said
+changes_read_before text s e h = changes_document_read (parse_document text) s e h

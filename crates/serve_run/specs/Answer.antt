@@ -7,7 +7,7 @@ use Rattle.lab_outside.specs.Bytes.{Wrote, WrotePrefix}
 use Rattle.serve_model.specs.declared.served.ServeFault.TheVariants as fault
 use Rattle.store_model.specs.Run.{State}
 use Rattle.serve_model.specs.Stores.{Overflows}
-use Rattle.serve_model.specs.Clusters.{cluster, fits, lacks}
+use Rattle.serve_changes.specs.Changing.{changing, changing_fits, changing_lacks}
 use Rattle.serve_model.specs.Talk.{Grammar}
 use Rattle.lab_main.specs.Edges.{Answers}
 use Rattle.world_text.specs.Shown.{is_unshown}
@@ -17,29 +17,30 @@ use Rattle.serve_run.specs.declared.stop.Stop.TheVariants.{Link, Memory, Kept, N
 use Rattle.lab_main.specs.Limits.{input_limit, input_line, number_line}
 use Rattle.serve_run.specs.Plan.{IsRefused, OfInput, WasRead}
 use Rattle.serve_run.specs.Told.{Told}
-use Rattle.serve_run.specs.Served.{HasServed, HasBrokenOff, nodes_of, begun, state_after, tail_of}
+use Rattle.serve_run.specs.Begun.{begun}
+use Rattle.serve_run.specs.Served.{HasServed, HasBrokenOff, all_nodes, state_after, tail_of}
 use Rattle.serve_run.specs.Stop.{kept_line, status_of, said_of, IsTold}
 
 -- ---- why a number has no room
 
--- one of the nodes of the plan has a row without a spelling
-abbrev pub IsUnshown : Plan → State → Type 0
-IsUnshown p s = IsTrue (list_any (is_unshown s.world) (nodes_of p))
+-- one of the nodes has a row without a spelling
+abbrev pub IsUnshown : State → Type 0
+IsUnshown s = IsTrue (list_any (is_unshown s.world) all_nodes)
 
 -- serving ended with a connection, and orders lead to a state in which an order can be asked that has no room; or after so many connections a node can't be shown
 pub data LacksRoom (g : Grammar) (p : Plan) (t : Told) : Type 0 where
-  for_order : (has : HasBrokenOff g p fault.Number t) → Overflows cluster fits lacks (begun p has.first) → LacksRoom g p t
-  to_show : (number : ℕ) → (has : HasServed g p number t) → IsUnshown p (state_after p has.first has.orders) → LacksRoom g p t
+  for_order : (has : HasBrokenOff g p fault.Number t) → Overflows changing changing_fits changing_lacks (begun p has.first) → LacksRoom g p t
+  to_show : (number : ℕ) → (has : HasServed g p number t) → IsUnshown (state_after p has.first has.orders) → LacksRoom g p t
 
 -- ---- why serving ends
 
--- so many connections were served, no more than were asked for, and fewer only where no more come; and this is the text of the state that they left
+-- so many connections were served, no more than were asked for, and fewer only where no more come; and this is the text of the layout versions that were applied and of the state that they left
 pub record HasEnded (g : Grammar) (p : Plan) (count : ℕ) (t : Told) (text : List ℕ) : Type 0 where
   pub number : ℕ
   pub within : number ≤ count
   pub short : number < count → IfSome t.coming (λ coming. t.coming_after ≡ Some [])
   pub has : HasServed g p number t
-  pub text_is : text ≡ tail_of p number (state_after p has.first has.orders)
+  pub text_is : text ≡ tail_of p has.first has.orders number
 
 -- memory was wanting before a connection was served, or after so many, or with one more, with which serving ended
 pub data IsWanting (g : Grammar) (p : Plan) (t : Told) : Type 0 where
@@ -100,7 +101,7 @@ pub record AnswersPrefix (Stated : Status → List ℕ → Type 0) (old new : Op
   pub stated : Stated is text
   pub wrote : WrotePrefix old new text
 
--- what Done says: the plan is the one that the input says; so many connections were served, no more than are asked for, and fewer only where no more come; each was written what is stated of its bytes; all that was done keeps what is promised; and what was written to the output is the text of the state that was left
+-- what Done says: the plan is the one that the input says; so many connections were served, no more than are asked for, and fewer only where no more come; each was written what is stated of its bytes; all that was done keeps what is promised; and what was written to the output is the text of the layout versions that were applied and of the state that was left
 pub record IsServedWhole (g : Grammar) (count : ℕ) (input old new : Option (List ℕ)) (t : Told) : Type 0 where
   pub plan : Plan
   pub was_read : WasRead input plan
@@ -108,7 +109,7 @@ pub record IsServedWhole (g : Grammar) (count : ℕ) (input old new : Option (Li
   pub within : number ≤ count
   pub short : number < count → IfSome t.coming (λ coming. t.coming_after ≡ Some [])
   pub has : HasServed g plan number t
-  pub wrote : Wrote old new (tail_of plan number (state_after plan has.first has.orders))
+  pub wrote : Wrote old new (tail_of plan has.first has.orders number)
 
 -- what Memory says: memory was wanting before the input was read, or of a server of the plan that it says
 pub data WantsMemory (g : Grammar) (input : Option (List ℕ)) (t : Told) : Type 0 where

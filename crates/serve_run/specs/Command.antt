@@ -11,7 +11,7 @@ use Rattle.lab_outside.specs.Bytes.{Wrote}
 use Rattle.lab_main.specs.Edges.{Answers, Edges}
 use Rattle.s3_model.specs.Words.{is_empty}
 use Rattle.serve_model.specs.declared.buckets.Buckets.{Buckets}
-use Rattle.serve_model.specs.Clusters.{cluster}
+use Rattle.serve_changes.specs.Changing.{changing}
 use Rattle.serve_model.specs.Talk.{Grammar}
 use Rattle.signed_laws.specs.Allowed.{OnlySignedIsCarriedOut, OnlyAllowedIsAnswered}
 use Rattle.serve_run.specs.declared.plan.Plan.{Plan}
@@ -22,7 +22,7 @@ use Rattle.serve_run.specs.Answer.{IsEnd, IsSilent, AnswersPrefix, IsServedWhole
 
 -- where keys are configured, nothing is carried out, and nothing is answered but by a refusal, that no key signed which may ask it, whatever buckets and keys a server has
 abbrev pub OnlySignedIsServed : Grammar → Type 0
-OnlySignedIsServed g = (buckets : Buckets) → is_empty buckets.access.keys ≡ false → OnlySignedIsCarriedOut cluster buckets g × OnlyAllowedIsAnswered cluster buckets g
+OnlySignedIsServed g = (buckets : Buckets) → is_empty buckets.access.keys ≡ false → OnlySignedIsCarriedOut changing buckets g × OnlyAllowedIsAnswered changing buckets g
 
 -- what `serve` does for so many connections of a port. Input and output are as is said of every command. After Done, a failed link and a limit the whole text that is stated was written; so many connections were served as is stated of the plan that the input says, and as by a server that is one map; a failed write comes after a first part of such a text, a failed read and want of memory with nothing. Where no count of faults rose and the input says a plan, all was served, a limit was passed, or memory was wanting. Where the input is refused, can't be read or is too long, link and clock are as before. A failed link comes only where its count rose. Where keys are configured, only signed requests are served
 pub record ServesSo {I O L C : Type 0} (i : source.Ghosts I) (o : sink.Ghosts O) (l : ports.Ghosts L) (g : Grammar) (count : ℕ) (result : Status) (input input' : I) (output output' : O) (link link' : L) (clock clock' : C) (t : Told) : Type 0 where

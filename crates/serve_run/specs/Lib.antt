@@ -2,6 +2,7 @@ pub mod Plan
 pub mod Stop
 pub mod Start
 pub mod Told
+pub mod Begun
 pub mod Served
 pub mod Answer
 pub mod FromMap

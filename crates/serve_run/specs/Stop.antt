@@ -1,5 +1,5 @@
 -- Why nothing was served to the end: the status and the text that go with it.
-use Rattle.std.specs.Prelude.{◌≡◌, ⊤, ℕ, ◌<◌, List, [], ◌∷◌, ◌++◌, codes, length, Option, Some, IfSome}
+use Rattle.std.specs.Prelude.{◌≡◌, ⊤, ℕ, ◌<◌, List, [], ◌∷◌, ◌++◌, map, codes, length, Option, Some, IfSome}
 use Rattle.crdt_core.specs.declared.memory.Memory.{Memory as Why}
 use Rattle.crdt_core.specs.declared.memory.Memory.TheVariants.{Want, Full}
 use Rattle.lab_outside.specs.declared.exit.Status.{Status}
@@ -9,10 +9,12 @@ use Rattle.lab_outside.specs.declared.whole.ReadStop.TheVariants as read
 use Rattle.serve_model.specs.declared.served.ServeFault.TheVariants as fault
 use Rattle.serve_loop.specs.declared.service.ServeStop.{ServeStop}
 use Rattle.serve_loop.specs.declared.service.ServeStop.TheVariants as ended
-use Rattle.layout_text.specs.Settings.{Settings}
+use Rattle.layout_roles.specs.declared.redundancy.Redundancy.{Redundancy}
+use Rattle.layout_roles.specs.declared.role.Role.{Role}
+use Rattle.layout_text.specs.Changes.{Coming}
 use Rattle.layout_command.specs.Answer.{IsLaidOut}
 use Rattle.lab_main.specs.Limits.{input_limit, input_line, number_line}
-use Rattle.serve_run.specs.Plan.{IsRefused, OfInput}
+use Rattle.serve_run.specs.Plan.{settings_with, settings_in, IsFirstRefused, IsRefused, OfInput}
 use Rattle.serve_run.specs.declared.stop.Stop.{Stop}
 use Rattle.serve_run.specs.declared.stop.Stop.TheVariants.{Read, Link, Memory, LongInput, Refused, Kept, Number}
 
@@ -63,11 +65,17 @@ IsOfText text Memory = ⊤
 IsOfText text (Refused line) = IsRefused text line
 IsOfText text stop = ⊥
 
--- settings may be the cause: they have no layout, as this line says
-abbrev pub IsOfSettings : Settings → Stop → Type 0
-IsOfSettings settings Memory = ⊤
-IsOfSettings settings (Refused line) = IsLaidOut settings status.Refused line
-IsOfSettings settings stop = ⊥
+-- roles may be the cause: they have no layout for this redundancy, as this line says
+abbrev pub IsOfRoles : List Role → Redundancy → Stop → Type 0
+IsOfRoles roles wanted Memory = ⊤
+IsOfRoles roles wanted (Refused line) = IsLaidOut (settings_with roles wanted) status.Refused line
+IsOfRoles roles wanted stop = ⊥
+
+-- changes may be the cause: the first of them without a layout has none, as this line says
+abbrev pub IsOfComings : List Coming → Stop → Type 0
+IsOfComings comings Memory = ⊤
+IsOfComings comings (Refused line) = IsFirstRefused (map settings_in comings) line
+IsOfComings comings stop = ⊥
 
 -- reading the input may be the cause, or what it says: that it is too long, or this line
 abbrev pub IsOfInput : Option (List ℕ) → Stop → Type 0

@@ -1,24 +1,30 @@
 //! The cluster that the input says, with its layout.
-ghost use Rattle.std.specs.Prelude.{IsPermutation, IsSorted, ◌≡◌, ◌≤◌, ◌⊎◌, ◌+◌, drop, Some, Ok, Err, IfOk, OnOk, IfErr, IfSome};
+ghost use Rattle.std.specs.Prelude.{List as Sequence, IsPermutation, IsSorted, ◌≡◌, ◌≤◌, ◌⊎◌, ◌+◌, drop, length, map, Some, Ok, Err, IfOk, OnOk, IfErr, IfSome};
+ghost use Rattle.std.specs.List.{AllByRecursion};
 ghost use Rattle.std.specs.Io.KnownBytes.{IsAtEnd};
 ghost use Rattle.crdt_core.specs.Outcomes.{OnlyWant};
 ghost use Rattle.lab_outside.specs.Rose.{Rose};
-ghost use Rattle.layout_roles.specs.Certificates.{IsRedundancy};
+ghost use Rattle.layout_roles.specs.Certificates.{IsRedundancy, AreEnough, IsCertified};
 ghost use Rattle.layout_roles.specs.Fits.{IsGreatest};
 ghost use Rattle.layout_text.specs.Settings.{settings_of, said};
 ghost use Rattle.layout_text.specs.Keys.{access_said};
-ghost use Rattle.layout_command.specs.Answer.{AreEnough, IsLayout};
-ghost use Rattle.serve_run.specs.Stop.{IsOfText, IsOfSettings, IsOfInput, IsTold};
+ghost use Rattle.layout_text.specs.Changes.{Coming as Said, changes_said, coming_of, comings_of};
+ghost use Rattle.serve_cluster.specs.Changes.{AreWithin, IsComputed};
+ghost use Rattle.serve_run.specs.Stop.{IsOfText, IsOfRoles, IsOfComings, IsOfInput, IsTold};
 ghost use Rattle.lab_main.specs.Limits.{input_limit};
-ghost use Rattle.serve_run.specs.Plan.{greatest_node, AreInOrder, IsPlan, IsSaid, WasRead};
+ghost use Rattle.serve_run.specs.Plan.{greatest_node, coming_in, AreInOrder, IsOfServer, IsPlan, IsSaid, WasRead};
 
 use crate::stop::Stop;
+use cluster_machine::applied::Applied;
 use crdt_core::{Bytes, List, Memory, Value};
 use lab_outside::{Source, read_up_to};
 use layout_command::{bad_field, bad_toml, reason};
-use layout_roles::Certified;
+use layout_roles::{Certified, Redundancy, Roles};
 use layout_size::compute;
-use layout_text::{Access, Config, ConfigFault, read_access, read_config};
+use layout_text::{
+    Access, Change as Coming, Config, ConfigFault, read_access, read_changes, read_config,
+};
+use serve_cluster::Change;
 use serve_model::Buckets;
 use std::alloc::Global;
 use std::str::from_utf8;
@@ -29,13 +35,14 @@ const INPUT_LIMIT: usize = 8_388_608;
 /// The greatest node of a server.
 const GREATEST_NODE: u8 = 16;
 
-/// A configuration, the layout of the greatest partition size for its roles, and its buckets in order of their names with
-/// those who may use them.
+/// A configuration, the layout of the greatest partition size for its roles, its buckets in order of their names with those
+/// who may use them, and the changes of the layout, in order, each with the layout that was computed for it.
 #[derive(Drop)]
 pub struct Plan {
     pub config: Config,
     pub certified: Certified,
     pub buckets: Buckets,
+    pub changes: List<Change>,
 }
 
 /// The configuration that a text says.
@@ -53,11 +60,26 @@ fn configured(alloc: Global, text: &str) -> Result<Config, Stop>
     }
 }
 
+/// The changes of the layout that a text says.
+fn changes_of(alloc: Global, text: &str, config: &Config) -> Result<List<Coming>, Stop>
+    requires says { said greatest_node text.now ≡ Ok (settings_of config.now) }
+    ensures says { IfOk result (λ changes. changes_said greatest_node text.now ≡ Ok (comings_of changes)) }
+    ensures of_server { IfOk result (λ changes. IsOfServer (comings_of changes)) }
+    ensures causes { IfErr result (IsOfText text.now) }
+{
+    match read_changes(alloc, text, GREATEST_NODE) {
+        Ok(changes) => Ok(changes),
+        Err(ConfigFault::NotToml) => Err(Stop::Refused(bad_toml(alloc)?)),
+        Err(ConfigFault::Field(name)) => Err(Stop::Refused(bad_field(alloc, name)?)),
+        Err(ConfigFault::Memory) => Err(Stop::Memory),
+    }
+}
+
 /// The region and the keys that a text says for the buckets of its configuration.
 fn access_of(alloc: Global, text: &str, config: &Config) -> Result<Access, Stop>
     requires says { said greatest_node text.now ≡ Ok (settings_of config.now) }
     ensures allows { IfOk result (λ access. access_said config.now.buckets text.now ≡ Ok access) }
-    ensures causes { IfErr result (IsOfText text.now) }
+    ensures causes { (comings : Sequence Said) → changes_said greatest_node text.now ≡ Ok comings → IfErr result (IsOfText text.now) }
 {
     match read_access(alloc, text, &config.buckets) {
         Ok(access) => Ok(access),
@@ -77,18 +99,50 @@ fn in_order(names: &List<Bytes>) -> Result<List<Bytes>, Memory>
     Ok(List::from_vec(names))
 }
 
-/// The layout of a configuration.
-fn laid_out(alloc: Global, config: &Config) -> Result<Certified, Stop>
-    requires redundancy { IsRedundancy config.now.redundancy }
-    ensures greatest { IfOk result (λ certified. IsGreatest config.now.roles.list certified.r certified.size certified.sets.sets) }
-    ensures enough { IfOk result (λ _. AreEnough (settings_of config.now)) }
-    ensures layout { IfOk result (IsLayout (settings_of config.now)) }
-    ensures causes { IfErr result (IsOfSettings (settings_of config.now)) }
+/// The layout of roles.
+fn laid_out(alloc: Global, roles: &Roles, wanted: Redundancy) -> Result<Certified, Stop>
+    requires redundancy { IsRedundancy wanted }
+    ensures greatest { IfOk result (λ certified. IsGreatest roles.now.list certified.r certified.size certified.sets.sets) }
+    ensures computed { IfOk result (λ certified. AreEnough roles.now.list wanted × IsCertified roles.now.list wanted certified) }
+    ensures causes { IfErr result (IsOfRoles roles.now.list wanted) }
 {
-    match compute(alloc, &config.roles, config.redundancy) {
+    match compute(alloc, roles, wanted) {
         Ok(certified) => Ok(certified),
-        Err(fault) => Err(Stop::Refused(reason(alloc, &config.roles, &fault)?)),
+        Err(fault) => Err(Stop::Refused(reason(alloc, roles, &fault)?)),
     }
+}
+
+/// A change with its layout.
+fn planned_one(alloc: Global, coming: Coming) -> Result<Change, Stop>
+    requires within { AreWithin coming.roles.list }
+    ensures computed { IfOk result IsComputed }
+    ensures same { IfOk result (λ change. coming_in change ≡ coming_of coming) }
+    ensures causes { IfErr result (IsOfRoles coming.roles.list coming.redundancy) }
+{
+    let certified = laid_out(alloc, &coming.roles, coming.redundancy)?;
+    Ok(Change {
+        after: coming.after,
+        redundancy: coming.redundancy,
+        shown: Applied {
+            certified,
+            roles: coming.roles,
+        },
+    })
+}
+
+/// Changes with their layouts, in order.
+fn planned(alloc: Global, mut comings: List<Coming>) -> Result<List<Change>, Stop>
+    requires of_server { IsOfServer (comings_of comings) }
+    ensures computed { IfOk result (AllByRecursion IsComputed) }
+    ensures same { IfOk result (λ changes. map coming_in changes ≡ comings_of comings) }
+    ensures causes { IfErr result (IsOfComings (comings_of comings)) }
+{
+    let mut changes = List::new(alloc);
+    'comings: while !comings.is_empty() {
+        let change = planned_one(alloc, comings.remove(0))?;
+        changes.push(change)?;
+    }
+    Ok(changes)
 }
 
 /// The cluster that a text says.
@@ -98,13 +152,16 @@ fn plan_of_text(alloc: Global, text: &str) -> Result<Plan, Stop>
     ensures causes { IfErr result (IsOfText text.now) }
 {
     let config = configured(alloc, text)?;
+    let comings = changes_of(alloc, text, &config)?;
     let access = access_of(alloc, text, &config)?;
-    let certified = laid_out(alloc, &config)?;
+    let certified = laid_out(alloc, &config.roles, config.redundancy)?;
+    let changes = planned(alloc, comings)?;
     let names = in_order(config.buckets.list())?;
     Ok(Plan {
         config,
         certified,
         buckets: Buckets { names, access },
+        changes,
     })
 }
 

@@ -14,15 +14,19 @@ ghost use Rattle.serve_run.specs.Told.{told};
 ghost use Rattle.serve_run.specs.Answer.{HowServed, IsEnd, EndsSo, IsStated, IsSilent, AnswersPrefix, WantsMemory};
 
 use crate::plan::{Plan, read_plan};
-use crate::start::{installed, nodes};
+use crate::start::installed;
 use crate::stop::Stop;
 use crate::tail::tail_text;
-use crdt_core::{Bytes, Value};
+use change_deeds::nodes_of;
+use crdt_core::{Bytes, List, Memory, Value};
 use lab_main::ends;
 use lab_outside::{Clock, Link, Sink, Source, Status};
-use layout_roles::smaller_sizes;
-use plain_laws::{a_first_layout_holds_the_empty_map, connections_are_served_as_from_the_map};
-use serve_cluster::Cluster;
+use layout_roles::{Assignment, smaller_sizes};
+use plain_changes::{
+    a_first_layout_stands_with_the_empty_map, computed_changes_may_come,
+    connections_are_served_through_changes, members_of_both_are_all,
+};
+use serve_cluster::{Change, Changing, Cluster};
 use serve_loop::serve;
 use serve_model::Served;
 use signed_laws::{only_signed_requests_are_carried_out, what_is_admitted_is_allowed};
@@ -36,27 +40,42 @@ pub struct Server {
     pub count: u32,
 }
 
+/// The sets of the changes' layouts, in order.
+fn sets_of(alloc: Global, changes: &[Change]) -> Result<List<Assignment>, Memory>
+    ensures sets { IfOk result (λ sets. sets ≡ map (λ change. change.shown.certified.sets) changes.now) }
+    ensures want { OnlyWant result }
+{
+    let mut sets = List::new(alloc);
+    for change in changes {
+        sets.push(change.shown.certified.sets.copy()?)?;
+    }
+    Ok(sets)
+}
+
 /// Serves the connections that are asked for, and gives what is written then.
 fn served<L: Link, C: Clock>(
     alloc: Global,
-    plan: &Plan,
+    plan: Plan,
     server: Server,
     link: &mut L,
     clock: &mut C,
 ) -> Result<Bytes, Stop>
-    requires plan { IsPlan plan.now }
+    requires plan { IsPlan plan }
     requires absent { L.present link.old ≡ None }
-    ensures how { (g : Grammar) → HowServed g plan.now server.count (told (C.times clock.old) (C.times clock.new) (L.coming link.old) (L.coming link.new) (L.past link.old) (L.past link.new)) result }
+    ensures how { (g : Grammar) → HowServed g plan server.count (told (C.times clock.old) (C.times clock.new) (L.coming link.old) (L.coming link.new) (L.past link.old) (L.past link.new)) result }
     ensures causes { IfErr result IsOfServing }
     ensures fault { result ≡ Err Stop.Link → Rose (L.faults link.old) (L.faults link.new) }
 {
     promises_are_kept();
-    a_first_layout_holds_the_empty_map();
-    connections_are_served_as_from_the_map();
-    let members = nodes(alloc, plan.config.roles.list.as_slice())?;
-    let copied = members.copy()?;
-    let world = installed(alloc, plan)?;
-    let mut cluster = Cluster::new(world, copied);
+    a_first_layout_stands_with_the_empty_map();
+    computed_changes_may_come();
+    members_of_both_are_all();
+    connections_are_served_through_changes();
+    let members = nodes_of(alloc, plan.config.roles.list.as_slice())?;
+    let mut later = sets_of(alloc, plan.changes.as_slice())?;
+    let world = installed(alloc, &plan)?;
+    let inner = Cluster::new(world, members);
+    let mut cluster = Changing::new(inner, plan.changes);
     let mut counts = Served { kept: 0, time: 0 };
     let count = serve(
         alloc,
@@ -68,11 +87,14 @@ fn served<L: Link, C: Clock>(
         &mut counts,
         &plan.buckets,
     )?;
+    let left = cluster.left();
+    let made = later.len().saturating_sub(left);
+    later.truncate(made);
     let text = tail_text(
         alloc,
         &plan.certified.sets,
+        later.as_slice(),
         cluster.world(),
-        members.as_slice(),
         count,
     )?;
     Ok(text)
@@ -98,7 +120,7 @@ fn read_and_served<I: Source, L: Link, C: Clock>(
     ensures link_fault { result ≡ Err Stop.Link → Rose (L.faults link.old) (L.faults link.new) }
 {
     let plan = read_plan(alloc, input)?;
-    let text = served(alloc, &plan, server, link, clock)?;
+    let text = served(alloc, plan, server, link, clock)?;
     Ok(text)
 }
 
@@ -157,15 +179,16 @@ fn serve_and_tell<I: Source, O: Sink, L: Link, C: Clock>(
 ///
 /// After Done so many connections were served, no more than are asked for, and fewer only where no more come, by a server of
 /// the plan that the input says. Its acts are lawful and fit, from nothing on: buckets, size of blocks and the first layout,
-/// and then the acts of each request. At each moment of them, within drains too, what lines of reads tell of a version's bytes
-/// is as was written, and replicas that accepted the same rows are equal; and answered reads are fresh, also by the records
-/// alone, where no digests of walks clash (a server begins no round and no repair).
+/// and then the acts of each request, and those of each layout change between two of them. At each moment of them, within
+/// drains too, what lines of reads tell of a version's bytes is as was written, and replicas that accepted the same rows are
+/// equal; and answered reads are fresh, also by the records alone, where no digests of walks clash (a server begins no repair,
+/// and rounds in layout changes alone).
 /// What was written is the text of the state after these acts; and where clock and link tell, what was written to each
 /// connection is what is stated of its bytes, from what the connections before it left, or a first part of that where its count
 /// of faults rose, and they led to this very state. And each text is the one that a server writes which is one map from names
 /// to objects, with no cluster, or a first part of that where its count of faults rose; and the next connections are served
 /// from the map as the requests that were carried out have left it; where neither two names of buckets nor two of the blocks
-/// that they put have one digest.
+/// that they put have one digest, and neither two strings that layout changes hash for walks.
 ///
 /// After LinkFault, and where too many bytes were put or copied or a number had no room, serving up to there is stated as after
 /// Done, and of the last connection, with which serving ended, that its text is that of the map too, or a first part. After

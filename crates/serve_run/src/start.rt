@@ -9,8 +9,9 @@ ghost use Rattle.serve_run.specs.Plan.{IsPlan};
 ghost use Rattle.serve_run.specs.Start.{preparing, IsOf, IsOpened, Does};
 
 use crate::plan::Plan;
+use change_deeds::nodes_of;
 use crdt_core::{Bytes, List, Memory, Value};
-use layout_roles::{Layout, Role};
+use layout_roles::Layout;
 use s3_world::{Event, S3World};
 use std::alloc::Global;
 
@@ -28,18 +29,6 @@ fn first_layout(plan: &Plan) -> Result<Layout, Memory>
         size: plan.certified.size,
         sets: plan.certified.sets.copy()?,
     })
-}
-
-/// The nodes of these roles, in order.
-pub fn nodes(alloc: Global, roles: &[Role]) -> Result<List<u8>, Memory>
-    ensures nodes { IfOk result (λ nodes. nodes ≡ map (λ role. role.node) roles.now) }
-    ensures want { OnlyWant result }
-{
-    let mut nodes = List::new(alloc);
-    for role in roles {
-        nodes.push(role.node)?;
-    }
-    Ok(nodes)
 }
 
 /// Adds a bucket.
@@ -101,7 +90,7 @@ pub fn installed(alloc: Global, plan: &Plan) -> Result<S3World, Memory>
         plan.config.buckets.list().as_slice(),
         plan.config.block_size,
     )?;
-    let nodes = nodes(alloc, plan.config.roles.list.as_slice())?;
+    let nodes = nodes_of(alloc, plan.config.roles.list.as_slice())?;
     let first = first_layout(plan)?;
     world.install(first, nodes.as_slice())?;
     Ok(world)

@@ -1,4 +1,4 @@
-//! What holds of a server with keys, over the map and over a cluster: nothing is carried out and nothing is answered but what
+//! What holds of a server with keys, over the map, over a cluster and over one whose layout changes: nothing is carried out and nothing is answered but what
 //! a key signed that may ask it. No body does anything: each is called for its contract.
 #![tactic(auto)]
 
@@ -17,6 +17,7 @@ ghost use Rattle.serve_model.specs.Judging.{shown_to};
 ghost use Rattle.serve_model.specs.Clusters.{cluster};
 ghost use Rattle.serve_model.specs.Plain.{plain};
 ghost use Rattle.serve_model.specs.Talk.{Grammar};
+ghost use Rattle.serve_changes.specs.Changing.{changing};
 ghost use Rattle.signed_laws.specs.Allowed.{IsAllowed, OnlySignedIsCarriedOut, OnlyAllowedIsAnswered};
 
 /// Where keys are configured, the store is asked only what a request asks whose head a key signed that may ask it, and
@@ -24,15 +25,17 @@ ghost use Rattle.signed_laws.specs.Allowed.{IsAllowed, OnlySignedIsCarriedOut, O
 pub fn only_signed_requests_are_carried_out()
     ensures of_map { (buckets : Buckets) (g : Grammar) → is_empty buckets.access.keys ≡ false → OnlySignedIsCarriedOut plain buckets g }
     ensures of_cluster { (buckets : Buckets) (g : Grammar) → is_empty buckets.access.keys ≡ false → OnlySignedIsCarriedOut cluster buckets g }
+    ensures of_changing { (buckets : Buckets) (g : Grammar) → is_empty buckets.access.keys ≡ false → OnlySignedIsCarriedOut changing buckets g }
 {}
 
 /// Where keys are configured, what is admitted is allowed: a key signed it that may ask it (`admitted`). What is written for
 /// a request is a refusal, whose status is 400 or more (`statuses`), or the reply to such a request whose body nothing
-/// refuses (`of_map`, `of_cluster`); and the list of all buckets shows those that the key reads (`shown`).
+/// refuses (`of_map`, `of_cluster`, `of_changing`); and the list of all buckets shows those that the key reads (`shown`).
 pub fn what_is_admitted_is_allowed()
     ensures admitted { (access : Access) (now : ℕ) (head : Head) (a : Admitted) → is_empty access.keys ≡ false → admitted access now head ≡ Ok a → IsAllowed access now head a }
     ensures of_map { (buckets : Buckets) (g : Grammar) → is_empty buckets.access.keys ≡ false → OnlyAllowedIsAnswered plain buckets g }
     ensures of_cluster { (buckets : Buckets) (g : Grammar) → is_empty buckets.access.keys ≡ false → OnlyAllowedIsAnswered cluster buckets g }
+    ensures of_changing { (buckets : Buckets) (g : Grammar) → is_empty buckets.access.keys ≡ false → OnlyAllowedIsAnswered changing buckets g }
     ensures statuses { (code : Code) → 400 ≤ status_of code }
     ensures shown { (buckets : Buckets) (place : ℕ) → AllByRecursion (λ name. has_bucket (read_by buckets.access place) name ≡ true) (shown_to buckets (Some place)) }
 {}

@@ -1,5 +1,6 @@
 use Rattle.serve_model.specs.Clusters.{cluster}
 use Rattle.serve_model.specs.Plain.{plain}
+use Rattle.serve_changes.specs.Changing.{changing}
 use Rattle.signed_laws.proofs.Turns.{turn_is}
 use Rattle.signed_laws.proofs.only_signed_requests_are_carried_out.Goals as goal
 
@@ -8,3 +9,6 @@ returns-clause-of_map c buckets g some last p bytes = (turn_is plain buckets som
 
 pub returns-clause-of_cluster : goal.returns-clause-of_cluster
 returns-clause-of_cluster c buckets g some last p bytes = (turn_is cluster buckets some g last bytes p).0
+
+pub returns-clause-of_changing : goal.returns-clause-of_changing
+returns-clause-of_changing c buckets g some last p bytes = (turn_is changing buckets some g last bytes p).0

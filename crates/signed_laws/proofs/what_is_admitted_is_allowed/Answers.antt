@@ -6,6 +6,7 @@ use Rattle.s3_model.specs.Faults.{status_of}
 use Rattle.serve_model.specs.Keys.{has_bucket, read_by}
 use Rattle.serve_model.specs.Clusters.{cluster}
 use Rattle.serve_model.specs.Plain.{plain}
+use Rattle.serve_changes.specs.Changing.{changing}
 use Rattle.signed_laws.proofs.Admitted.{allowed}
 use Rattle.signed_laws.proofs.Turns.{turn_is}
 use Rattle.signed_laws.proofs.what_is_admitted_is_allowed.Goals as goal
@@ -46,6 +47,9 @@ returns-clause-of_map c buckets g some last p bytes = (turn_is plain buckets som
 
 pub returns-clause-of_cluster : goal.returns-clause-of_cluster
 returns-clause-of_cluster c buckets g some last p bytes = (turn_is cluster buckets some g last bytes p).1
+
+pub returns-clause-of_changing : goal.returns-clause-of_changing
+returns-clause-of_changing c buckets g some last p bytes = (turn_is changing buckets some g last bytes p).1
 
 pub returns-clause-statuses : goal.returns-clause-statuses
 returns-clause-statuses c x = many x

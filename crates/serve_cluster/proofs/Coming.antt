@@ -1,0 +1,181 @@
+-- A cluster with changes to come, from what the code's stood for.
+use Rattle.std.proofs.Common.{◌≡◌, ◌⊎◌, inl, inr, ◌==◌, ℕ, suc, Bool, true, false, cond, List, [], ◌∷◌, ◌++◌, length, map, Option, Some, None, Result, Ok, Err, OnOk, IfOk, slice_get, refl, sym, ◌∙◌, ap, subst}
+use Rattle.std.specs.List.{remove}
+use Rattle.crdt_core.specs.Outcomes.{WantOr}
+use Rattle.crdt_core.specs.declared.memory.Memory.{Memory}
+use Rattle.cluster_machine.specs.Layouts.{layouts}
+use Rattle.cluster_machine.specs.declared.applied.Applied.{Applied}
+use Rattle.change_model.specs.Given.{given_at}
+use Rattle.flow_model.specs.declared.order.Order.{Order}
+use Rattle.flow_model.specs.declared.flow.FlowEnd.{FlowEnd}
+use Rattle.store_model.specs.Run.{State}
+use Rattle.store_model.specs.Acts.{Act, after_acts, AreLawfulActs, ActsFit}
+use Rattle.s3_world.specs.declared.world.S3World.{S3World}
+use Rattle.s3_world.specs.Stands.{IsStore}
+use Rattle.serve_model.specs.Clusters.{Cluster as Model, asker, cluster, fits, lacks, ActLacksRoom}
+use Rattle.serve_model.specs.Serving.{HasState, CarriedOut}
+use Rattle.serve_changes.specs.Acts.{change_acts}
+use Rattle.serve_changes.specs.Changing.{Change as Later, Changing as Models, acts_in, changed, with_change, changing, acts_due, ChangeFits, changing_fits, changing_lacks}
+use Rattle.serve_cluster.specs.declared.change.Change.{Change}
+use Rattle.serve_cluster.specs.declared.changing.Changing.{Changing}
+use Rattle.serve_cluster.specs.declared.cluster.Cluster.{Cluster}
+use Rattle.serve_cluster.specs.Acting.{DoneActs, LacksRoom}
+use Rattle.serve_cluster.specs.Changes.{nodes_of, IsComputed, AreWithin, acts_with, DoesIn, IsChange, AreChanges, IsChanging, is_due}
+use Rattle.serve_cluster.specs.Standing.{StandsFor}
+use Rattle.serve_cluster.proofs.Making.{staged_after}
+use Rattle.serve_cluster.proofs.Unstaged.{order_leaves}
+
+-- ---- one change
+
+acts_same : (members : List ℕ) (c : Change) (ch : ℕ × Later) → IsChange members c ch → (s : State) → acts_with members c s ≡ acts_in s ch.1
+acts_same members c ch h s =
+    let F : List Act → ℕ → Applied → List ℕ → List Act = λ stages first shown part. stages ++ change_acts (given_at (after_acts s stages).world first shown) first part in
+    λ i. F (sym h.stages i) (sym h.first i) (sym h.shown i) (sym h.part i)
+
+module _ (old : Cluster) (c : Change) (m : Model) (ch : ℕ × Later) (st : StandsFor old m) (h : IsChange m.members c ch) where
+  acts_are : acts_with old.members c m.run ≡ acts_in m.run ch.1
+  acts_are = ap (λ ms. acts_with ms c m.run) st.members ∙ acts_same m.members c ch h m.run
+
+  pub changes_so : (world : S3World) (newer : List ℕ) → newer ≡ nodes_of c.shown.roles.list → DoesIn old.world world (acts_with old.members c) →
+      AreLawfulActs m.run (acts_in m.run ch.1) × ActsFit m.run (acts_in m.run ch.1) × StandsFor (record { world = world; members = newer; ticked = old.ticked }) (changed m ch.1)
+  changes_so world newer is f =
+      let a = f m.run st.world in (
+        subst (AreLawfulActs m.run) acts_are a.lawful,
+        subst (ActsFit m.run) acts_are a.fit,
+        record { world = subst (λ as'. IsStore world (after_acts m.run as')) acts_are a.stands; ticked = st.ticked; members = is ∙ sym h.newer },
+      )
+
+  pub changes_lack : LacksRoom old.world (acts_with old.members c) → ActLacksRoom m.run (acts_in m.run ch.1)
+  changes_lack f = subst (ActLacksRoom m.run) acts_are (f m.run st.world)
+
+-- what is staged is the same whatever the code stands for
+pub same_staged : (c : S3World) (s t : State) → IsStore c s → IsStore c t → AreWithin s.world.roles → AreWithin t.world.roles
+same_staged c s t a b h = subst AreWithin (sym a.world.roles ∙ b.world.roles) h
+
+-- it stays within the nodes of a server
+within_after : (code : Cluster) (k : Model) → StandsFor code k → (c : Change) (ch : ℕ × Later) → IsChange k.members c ch → AreWithin k.run.world.roles → AreWithin (after_acts k.run (acts_in k.run ch.1)).world.roles
+within_after code k st c ch h within =
+    let roles = staged_after code.world k.run st.world within k.members c in
+    let same = ap (λ as'. (after_acts k.run as').world.roles) (acts_same k.members c ch h k.run) in
+    subst AreWithin (sym roles ∙ same) h.computed.within
+
+-- ---- the next change
+
+pub due_some : (members : List ℕ) (cs : List Change) (chs : List (ℕ × Later)) (x : Change) (k : Model) (n : ℕ) → Some x ≡ slice_get cs 0 → AreChanges members cs chs → n ≡ length k.run.world.requests → (n == x.after) ≡ is_due k chs
+due_some members [] chs x k n e h same = absurd (cc)
+due_some members (c ∷ cs) [] x k n e h same = absurd h
+due_some members (c ∷ cs) (ch ∷ chs) x k n e h same =
+    let is : x ≡ c = cc in
+    ap (λ (y : Change). n == y.after) is ∙ (ap (λ a. n == a) h.0.after ∙ ap (λ a. a == ch.0) same)
+
+pub due_none : (members : List ℕ) (cs : List Change) (chs : List (ℕ × Later)) (k : Model) → None ≡ slice_get cs 0 → AreChanges members cs chs → false ≡ is_due k chs
+due_none members [] [] k e h = refl
+due_none members [] (ch ∷ chs) k e h = absurd h
+due_none members (c ∷ cs) chs k e h = absurd (cc)
+
+-- none is due
+pub not_due : (k : Model) (chs : List (ℕ × Later)) → is_due k chs ≡ false → (acts_due k chs ≡ []) × (with_change k chs ≡ record { cluster = k; to_come = chs })
+not_due k [] e = (refl, refl)
+not_due k (ch ∷ chs) e = (
+  ap (λ b. cond b (acts_in k.run ch.1) []) e,
+  ap (λ b. cond {A = Models} b (record { cluster = changed k ch.1; to_come = chs }) (record { cluster = k; to_come = ch ∷ chs })) e,
+)
+
+pub nothing_due : (code : Changing) (m : Models) → IsChanging code m → is_due m.cluster m.to_come ≡ false → ChangeFits m.cluster m.to_come × IsChanging code (with_change m.cluster m.to_come)
+nothing_due code m h e =
+    let n = not_due m.cluster m.to_come e in (
+      subst (λ as'. AreLawfulActs m.cluster.run as' × ActsFit m.cluster.run as') (sym n.0) (tt, tt),
+      subst (IsChanging code) (sym n.1) h,
+    )
+
+-- what is asked of the change of a cluster
+abbrev pub Changes : Cluster → Cluster → Change → Type 0
+Changes old new c = (m : Model) (ch : ℕ × Later) → StandsFor old m → IsChange m.members c ch → AreLawfulActs m.run (acts_in m.run ch.1) × ActsFit m.run (acts_in m.run ch.1) × StandsFor new (changed m ch.1)
+
+abbrev pub ChangeLacks : Cluster → Change → Type 0
+ChangeLacks old c = (m : Model) (ch : ℕ × Later) → StandsFor old m → IsChange m.members c ch → ActLacksRoom m.run (acts_in m.run ch.1)
+
+module _ (code : Cluster) (k : Model) (stands : StandsFor code k) (within : AreWithin k.run.world.roles) (x : Change) where
+  made_at : (cs : List Change) (chs : List (ℕ × Later)) (rest : List Change) (new : Cluster) → AreChanges k.members cs chs → slice_get cs 0 ≡ Some x → rest ≡ remove cs 0 → Changes code new x → is_due k chs ≡ true →
+      ChangeFits k chs × IsChanging (record { cluster = new; to_come = rest }) (with_change k chs)
+  made_at [] chs rest new h e r f due = absurd (cc)
+  made_at (c ∷ cs) [] rest new h e r f due = absurd h
+  made_at (c ∷ cs) (ch ∷ chs) rest new h e r f due =
+      let is : c ≡ x = cc in
+      let one : IsChange k.members x ch = subst (λ y. IsChange k.members y ch) is h.0 in
+      let d = f k ch stands one in
+      let later : AreChanges (layouts.reading.members ch.1.new) cs chs = subst (λ ms. AreChanges ms cs chs) (sym h.0.newer) h.1 in
+      let made : IsChanging (record { cluster = new; to_come = rest }) (record { cluster = changed k ch.1; to_come = chs }) = record { cluster = d.2; staged = within_after code k stands x ch one within; to_come = subst (λ ys. AreChanges (layouts.reading.members ch.1.new) ys chs) (sym r) later } in (
+        subst (λ b. AreLawfulActs k.run (cond b (acts_in k.run ch.1) []) × ActsFit k.run (cond b (acts_in k.run ch.1) [])) (sym due) (d.0, d.1),
+        subst (λ b. IsChanging (record { cluster = new; to_come = rest }) (cond {A = Models} b (record { cluster = changed k ch.1; to_come = chs }) (record { cluster = k; to_come = ch ∷ chs }))) (sym due) made,
+      )
+
+  lacks_at : (cs : List Change) (chs : List (ℕ × Later)) → AreChanges k.members cs chs → slice_get cs 0 ≡ Some x → ChangeLacks code x → is_due k chs ≡ true → ActLacksRoom k.run (acts_due k chs)
+  lacks_at [] chs h e f due = absurd (cc)
+  lacks_at (c ∷ cs) [] h e f due = absurd h
+  lacks_at (c ∷ cs) (ch ∷ chs) h e f due =
+      let is : c ≡ x = cc in
+      let one : IsChange k.members x ch = subst (λ y. IsChange k.members y ch) is h.0 in
+      subst (λ b. ActLacksRoom k.run (cond b (acts_in k.run ch.1) [])) (sym due) (f k ch stands one)
+
+  computed_at : (cs : List Change) (chs : List (ℕ × Later)) → AreChanges k.members cs chs → slice_get cs 0 ≡ Some x → IsComputed x
+  computed_at [] chs h e = absurd (cc)
+  computed_at (c ∷ cs) [] h e = absurd h
+  computed_at (c ∷ cs) (ch ∷ chs) h e = let is : c ≡ x = cc in subst IsComputed is h.0.computed
+
+module _ (code : Changing) (x : Change) (there : slice_get code.to_come 0 ≡ Some x) where
+  pub due_made : (rest : List Change) (new : Cluster) → rest ≡ remove code.to_come 0 → Changes code.cluster new x → (m : Models) → IsChanging code m → is_due m.cluster m.to_come ≡ true →
+      ChangeFits m.cluster m.to_come × IsChanging (record { cluster = new; to_come = rest }) (with_change m.cluster m.to_come)
+  due_made rest new r f m h due = made_at code.cluster m.cluster h.cluster h.staged x code.to_come m.to_come rest new h.to_come there r f due
+
+  pub due_lacks : ChangeLacks code.cluster x → (m : Models) → IsChanging code m → is_due m.cluster m.to_come ≡ true → ActLacksRoom m.cluster.run (acts_due m.cluster m.to_come)
+  due_lacks f m h due = lacks_at code.cluster m.cluster h.cluster h.staged x code.to_come m.to_come h.to_come there f due
+
+  pub due_computed : (m : Models) → IsChanging code m → IsComputed x
+  due_computed m h = computed_at code.cluster m.cluster h.cluster h.staged x code.to_come m.to_come h.to_come there
+
+-- what the change of the cluster answers is handed on
+pub due_next : {A : Type 0} (r : Result A Memory) (code : Changing) (x : Change) → slice_get code.to_come 0 ≡ Some x → (rest : List Change) (new : Cluster) → rest ≡ remove code.to_come 0 →
+    ((m : Models) → IsChanging code m → is_due m.cluster m.to_come ≡ true) → OnOk r (Changes code.cluster new x) →
+    OnOk r ((m : Models) → IsChanging code m → ChangeFits m.cluster m.to_come × IsChanging (record { cluster = new; to_come = rest }) (with_change m.cluster m.to_come))
+due_next (Ok v) code x there rest new r due f = λ m h. due_made code x there rest new r f m h (due m h)
+due_next (Err e) code x there rest new r due f = tt
+
+-- what is staged, whatever the code's cluster stands for
+pub due_within : (code : Changing) (m : Models) → IsChanging code m → (k : Model) → StandsFor code.cluster k → AreWithin k.run.world.roles
+due_within code m h k st = same_staged code.cluster.world m.cluster.run k.run h.cluster.world st.world h.staged
+
+-- how many changes are to come
+pub as_many : (members : List ℕ) (cs : List Change) (chs : List (ℕ × Later)) → AreChanges members cs chs → length cs ≡ length chs
+as_many members [] [] h = refl
+as_many members [] (ch ∷ chs) h = absurd h
+as_many members (c ∷ cs) [] h = absurd h
+as_many members (c ∷ cs) (ch ∷ chs) h = ap suc (as_many (nodes_of c.shown.roles.list) cs chs h.1)
+
+-- ---- one order, and the change after it
+
+abbrev pub Carries : Cluster → Cluster → ℕ → Order → Option FlowEnd → Type 0
+Carries old new time order end = (s : Model) → StandsFor old s → CarriedOut cluster fits lacks (StandsFor new) s time order end
+
+module _ (old : Changing) (time : ℕ) (order : Order) (mid : Cluster) (end : Option FlowEnd) (carried : Carries old.cluster mid time order end) where
+  abbrev then : Models → Models
+  then m = record { cluster = (cluster.carries m.cluster time order).state; to_come = m.to_come }
+
+  pub stands_mid : (m : Models) → IsChanging old m → IsChanging (record { cluster = mid; to_come = old.to_come }) (then m)
+  stands_mid m h = record { cluster = (carried m.cluster h.cluster).stands; staged = subst AreWithin (sym (order_leaves m.cluster time order)) h.staged; to_come = h.to_come }
+
+  pub mid_state : HasState (IsChanging old) → HasState (IsChanging (record { cluster = mid; to_come = old.to_come }))
+  mid_state h = (then h.0, stands_mid h.0 h.1)
+
+  pub carried_all : (new : Changing) → ((m : Models) → IsChanging (record { cluster = mid; to_come = old.to_come }) m → ChangeFits m.cluster m.to_come × IsChanging new (with_change m.cluster m.to_come)) →
+      (m : Models) → IsChanging old m → CarriedOut changing changing_fits changing_lacks (IsChanging new) m time order end
+  carried_all new f m h =
+      let a = carried m.cluster h.cluster in
+      let d = f (then m) (stands_mid m h) in
+      record { end_is = a.end_is; fit = (a.fit, d.0); stands = d.1 }
+
+  pub carried_lacks : ((m : Models) → IsChanging (record { cluster = mid; to_come = old.to_come }) m → ActLacksRoom m.cluster.run (acts_due m.cluster m.to_come)) → (m : Models) → IsChanging old m → changing_lacks m time order
+  carried_lacks f m h = inr ((carried m.cluster h.cluster).fit, f (then m) (stands_mid m h))
+
+pub order_lacks : (old : Changing) (time : ℕ) (order : Order) → ((s : Model) → StandsFor old.cluster s → lacks s time order) → (m : Models) → IsChanging old m → changing_lacks m time order
+order_lacks old time order f m h = inl (f m.cluster h.cluster)

@@ -1,0 +1,9 @@
+use Rattle.serve_cluster.proofs.Acting.{cause_more}
+use Rattle.serve_cluster.proofs.Events.{shown_so, showing_lacks}
+use Rattle.serve_cluster.proofs.change.show.Goals as goal
+
+pub returns-in-Ok-clause-does : goal.returns-in-Ok-clause-does
+returns-in-Ok-clause-does c = shown_so c.args.world.now c.step.new.self c.in-Ok.field-0 c.args.from c.args.to c.in-Ok.ensures.plays
+
+pub returns-clause-causes : goal.returns-clause-causes
+returns-clause-causes c = cause_more c.in-Err.memory (showing_lacks c.args.world.now c.args.from c.args.to) c.in-Err.ensures.causes
