@@ -1,4 +1,3 @@
-pub mod Words
 pub mod Merged
 pub mod Rows
 pub mod Weights

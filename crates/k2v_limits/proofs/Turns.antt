@@ -40,7 +40,7 @@ use Rattle.k2v_text.specs.Grammar.{item_range, IsAllowed}
 use Rattle.k2v_text.specs.Events.{Turn, act_of, after, run}
 use Rattle.k2v_text.specs.Played.{Step, outcome, deliveries, steps_of, GoesOn, IsLawful, AreLawful, AllGoOn}
 use Rattle.text_model.specs.Grammar.{IsIn}
-use Rattle.k2v_limits.proofs.Words.{hash_of, key_fits, object_fits}
+use Rattle.limit_laws.proofs.Words.{hash_of, key_fits, object_fits}
 use Rattle.k2v_limits.specs.Limits.{AreAllowed}
 use Rattle.k2v_limits.proofs.Rows.{KeyFits, RowFits}
 use Rattle.k2v_limits.proofs.Weights.{weight, rows_bounded}

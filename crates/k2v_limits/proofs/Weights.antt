@@ -6,8 +6,6 @@ use Rattle.std.specs.declared.cmp.Ordering.TheVariants.{Less, Equal, Greater}
 use Rattle.std.specs.Ordering.{nat_cmp}
 use Rattle.std.proofs.Common.{ap, sym, ◌∙◌, arith, mul-suc, mul-le-mul_left, length-append}
 use Rattle.std.proofs.lemmas.Bool.{lt-ltb}
-use Rattle.std.proofs.lemmas.List.Concat.{length-flat_map}
-use Rattle.std.proofs.lemmas.List.Recursion.{is_sum_by}
 use Rattle.crdt_core.proofs.Each.{all_weaker}
 use Rattle.crdt_core.specs.declared.max.Max.{Max}
 use Rattle.crdt_core.specs.EntryLaws.{and_both}
@@ -33,7 +31,8 @@ use Rattle.k2v_rows.specs.Row.{item_key, item_cmp, row_join}
 use Rattle.k2v_schema.specs.Schema.{words}
 use Rattle.k2v_schema.specs.Laws.{schema_laws}
 use Rattle.machine_limits.specs.Bounds.{AreBounded}
-use Rattle.machine_limits.proofs.Totals.{total, total_weaker}
+use Rattle.machine_limits.proofs.Lists.{all_pass, below_is}
+use Rattle.machine_limits.proofs.Totals.{total, total_same, total_most, flat_length}
 use Rattle.k2v_limits.proofs.Merged.{join_sum, from_sum, few_keys}
 use Rattle.k2v_limits.proofs.Rows.{IsTime, ValueFits, IsTimed, WritesFit, EntryFits, RowFits, writes_have, joined_fits}
 
@@ -41,28 +40,12 @@ use Rattle.k2v_limits.proofs.Rows.{IsTime, ValueFits, IsTimed, WritesFit, EntryF
 abbrev pub weight : K2vRow → ℕ
 weight r = length (spelled r)
 
-all_pass : {X : Type 0} (P : X → Type 0) (test : X → Bool) → ((x : X) → P x → test x ≡ true) → (xs : List X) → AllByRecursion P xs → list_all test xs ≡ true
-all_pass P test h [] a = refl
-all_pass P test h (x ∷ xs) a = and_both (test x) (list_all test xs) (h x a.0) (all_pass P test h xs a.1)
-
-below_is : {X : Type 0} (xs : List X) → length xs < 4294967296 → is_below xs ≡ true
-below_is xs h = lt-ltb (length xs) (2 ^ 32) h
-
 counted_length : {X : Type 0} (f : X → List ℕ) (xs : List X) → length (counted f xs) ≡ 4 + total (λ x. length (f x)) xs
 counted_length f xs =
     let a = length-append (four (length xs)) (flat_map f xs) in
     let b = four_length (length xs) in
-    let c = length-flat_map f xs in
-    let d : total (λ x. length (f x)) xs ≡ _ = is_sum_by (total (λ x. length (f x))) (λ x. length (f x)) refl (λ y ys. refl) xs in
+    let c = flat_length f xs in
     omega arith
-
-total_most : {X : Type 0} (f : X → ℕ) (n : ℕ) (xs : List X) → AllByRecursion (λ x. f x ≤ n) xs → total f xs ≤ n * length xs
-total_most f n [] a = omega arith
-total_most f n (x ∷ xs) a = let rest : total f xs ≤ n * length xs = total_most f n xs a.1 in let here : f x ≤ n = a.0 in let more : n * suc (length xs) ≡ n * length xs + n = mul-suc n (length xs) in omega arith
-
-total_same : {X : Type 0} (f g : X → ℕ) → ((x : X) → f x ≡ g x) → (xs : List X) → total f xs ≡ total g xs
-total_same f g h [] = refl
-total_same f g h (x ∷ xs) = let rest = total_same f g h xs in let here = h x in omega (arith, rest, here)
 
 -- ---- spellings
 

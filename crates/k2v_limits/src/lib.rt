@@ -27,8 +27,10 @@ use world_laws::{empty_world_is_sound, sound_worlds_stay_sound};
 /// After turns that are played, fewer than 100,000 and with words in the grammar's ranges, each step of a further such event
 /// has room, where the replay goes on after each step of it before: so no replay stops for lack of room.
 pub fn played_item_turns_have_room()
-    ensures { (before : List Turn) (next : Turn) → ArePlayed before → AreAllowed before → length before < 100000 → IsAllowed next.numbered.event → IsLawful (run start before) next →
-        (done : List Step) (last : Step) (later : List Step) → steps_of (run start before) next.numbered.event next.choice ≡ done ++ last ∷ later → AllByRecursion GoesOn done →
+    ensures { (before : List Turn) (next : Turn) → ArePlayed before → AreAllowed before → length before < 100000 →
+        IsAllowed next.numbered.event → IsLawful (run start before) next →
+        (done : List Step) (last : Step) (later : List Step) →
+        steps_of (run start before) next.numbered.event next.choice ≡ done ++ last ∷ later → AllByRecursion GoesOn done →
         HaveRoom row_join words last.from.world last.outcome.moves }
 {
     empty_world_is_sound::<K2vRow>();

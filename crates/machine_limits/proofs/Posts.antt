@@ -10,7 +10,7 @@ use Rattle.layout_roles.specs.declared.layout.Layout.{Layout}
 use Rattle.view_model.specs.View.{View, newest, layout_at}
 use Rattle.table_schema.specs.Words.{Words, partition_of}
 use Rattle.table_model.specs.Rows.{rows}
-use Rattle.wire_messages.specs.Size.{plus, row_length, rows_length, block_length, stored_length, size}
+use Rattle.wire_messages.specs.Size.{plus, rows_length, block_length, stored_length, size}
 use Rattle.wire_messages.specs.declared.message.Message.{Message}
 use Rattle.wire_messages.specs.declared.message.Message.TheVariants.{Store}
 use Rattle.wire_messages.specs.declared.message.Tag.TheVariants.{Round as ForRound, Item as ForItem}
@@ -28,7 +28,7 @@ use Rattle.cluster_machine.specs.Step.{sent_by}
 use Rattle.machine_origins.proofs.Good.{IsGood, rows_good}
 use Rattle.machine_origins.proofs.Lists.{all_filter}
 use Rattle.machine_limits.specs.Bounds.{AreBounded}
-use Rattle.machine_limits.specs.Steps.{IsShort, IsShortBlock}
+use Rattle.machine_limits.specs.Steps.{IsShort}
 use Rattle.machine_limits.proofs.Totals.{total, total_times, total_weaker, total_map, total_filter}
 use Rattle.machine_limits.proofs.Contents.{rules_of, load, from_part, part_counts, all_parts_count}
 

@@ -12,13 +12,13 @@ use Rattle.cluster_machine.specs.declared.step.Step.TheVariants.{Deliver}
 use Rattle.cluster_machine.specs.declared.step.Refusal.TheVariants.{Lost}
 use Rattle.cluster_machine.specs.Layouts.{layouts}
 use Rattle.cluster_machine.specs.Receives.{receives}
-use Rattle.cluster_machine.specs.World.{World, empty, clock, numbered, packet_size, sent_bytes, undelivered}
+use Rattle.cluster_machine.specs.World.{empty, clock, numbered, packet_size, sent_bytes, undelivered}
 use Rattle.cluster_machine.specs.Step.{Choice, received, did, at_message, refusal}
 use Rattle.cluster_machine.specs.Worlds.{Model, Done, IsSound, does, next}
 use Rattle.machine_limits.specs.Steps.{HasPlace}
 use Rattle.machine_limits.proofs.Totals.{total, total_ones, total_has}
 use Rattle.machine_limits.proofs.Worlds.{WorldFits, messages_few}
-use Rattle.machine_limits.proofs.Moves.{world_exact, world_wider}
+use Rattle.machine_limits.proofs.Moves.{world_exact}
 use Rattle.machine_limits.proofs.Spending.{Mailed, Spends, delivery_spends, first_mark, message_there}
 
 -- ---- bytes

@@ -18,7 +18,8 @@ use world_laws::{empty_world_is_sound, sound_worlds_stay_sound};
 /// row that it sends or queues has a spelling.
 pub fn small_runs_have_room<R>()
     ensures { (join : R → R → R) (s : Words R) (fits : R → Bool) (weight : R → ℕ) (moves : List (Doing R)) →
-        AreBounded join s (λ r. IsTrue (fits r)) weight → AreSmall join s (λ r. IsTrue (fits r)) weight 0 empty moves → length moves ≤ 16777216 → HaveRoom join s empty moves }
+        AreBounded join s (λ r. IsTrue (fits r)) weight → AreSmall join s (λ r. IsTrue (fits r)) weight 0 empty moves →
+        length moves ≤ 16777216 → HaveRoom join s empty moves }
 {
     empty_world_is_sound::<R>();
     sound_worlds_stay_sound::<R>();
