@@ -1,7 +1,6 @@
 -- A cluster with changes to come, from what the code's stood for.
-use Rattle.std.proofs.Common.{◌≡◌, ◌⊎◌, inl, inr, ◌==◌, ℕ, suc, Bool, true, false, cond, List, [], ◌∷◌, ◌++◌, length, map, Option, Some, None, Result, Ok, Err, OnOk, IfOk, slice_get, refl, sym, ◌∙◌, ap, subst}
+use Rattle.std.proofs.Common.{◌≡◌, inl, inr, ◌==◌, ℕ, suc, true, false, cond, List, [], ◌∷◌, ◌++◌, length, Option, Some, None, Result, Ok, Err, OnOk, slice_get, refl, sym, ◌∙◌, ap, subst}
 use Rattle.std.specs.List.{remove}
-use Rattle.crdt_core.specs.Outcomes.{WantOr}
 use Rattle.crdt_core.specs.declared.memory.Memory.{Memory}
 use Rattle.cluster_machine.specs.Layouts.{layouts}
 use Rattle.cluster_machine.specs.declared.applied.Applied.{Applied}
@@ -12,14 +11,14 @@ use Rattle.store_model.specs.Run.{State}
 use Rattle.store_model.specs.Acts.{Act, after_acts, AreLawfulActs, ActsFit}
 use Rattle.s3_world.specs.declared.world.S3World.{S3World}
 use Rattle.s3_world.specs.Stands.{IsStore}
-use Rattle.serve_model.specs.Clusters.{Cluster as Model, asker, cluster, fits, lacks, ActLacksRoom}
+use Rattle.serve_model.specs.Clusters.{Cluster as Model, cluster, fits, lacks, ActLacksRoom}
 use Rattle.serve_model.specs.Serving.{HasState, CarriedOut}
 use Rattle.serve_changes.specs.Acts.{change_acts}
 use Rattle.serve_changes.specs.Changing.{Change as Later, Changing as Models, acts_in, changed, with_change, changing, acts_due, ChangeFits, changing_fits, changing_lacks}
 use Rattle.serve_cluster.specs.declared.change.Change.{Change}
 use Rattle.serve_cluster.specs.declared.changing.Changing.{Changing}
 use Rattle.serve_cluster.specs.declared.cluster.Cluster.{Cluster}
-use Rattle.serve_cluster.specs.Acting.{DoneActs, LacksRoom}
+use Rattle.serve_cluster.specs.Acting.{LacksRoom}
 use Rattle.serve_cluster.specs.Changes.{nodes_of, IsComputed, AreWithin, acts_with, DoesIn, IsChange, AreChanges, IsChanging, is_due}
 use Rattle.serve_cluster.specs.Standing.{StandsFor}
 use Rattle.serve_cluster.proofs.Making.{staged_after}

@@ -1,10 +1,8 @@
 -- Events of a change, each the act that it is.
-use Rattle.std.proofs.Common.{ℕ, Option, None, List, [], ◌∷◌}
+use Rattle.std.proofs.Common.{ℕ, Option, [], ◌∷◌}
 use Rattle.layout_roles.specs.declared.redundancy.Redundancy.{Redundancy}
 use Rattle.layout_roles.specs.declared.role.Zone.{Zone}
 use Rattle.layout_roles.specs.declared.role.Kind.{Kind}
-use Rattle.cluster_machine.specs.declared.step.Action.{Action}
-use Rattle.cluster_machine.specs.declared.step.Action.TheVariants as action
 use Rattle.cluster_machine.specs.declared.step.Step.TheVariants as step
 use Rattle.store_model.specs.declared.event.Event.TheVariants as event
 use Rattle.store_model.specs.declared.event.Told.{Told}
@@ -13,7 +11,6 @@ use Rattle.store_model.specs.Acts.{moves}
 use Rattle.s3_world.specs.declared.world.S3World.{S3World}
 use Rattle.s3_world.specs.Stands.{PlaysEvent, OverflowsEvent}
 use Rattle.serve_cluster.specs.Acting.{DoesActs, LacksRoom}
-use Rattle.change_deeds.specs.Deeds.{step_of}
 use Rattle.serve_cluster.proofs.Acting.{does_event, event_lacks}
 
 module _ (old new : S3World) (told : Told) where

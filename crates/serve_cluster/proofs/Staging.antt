@@ -1,10 +1,12 @@
 -- What is staged after the first acts of a change: its roles and its redundancy, whatever was staged before.
-use Rattle.std.proofs.Common.{◌≡◌, ◌≤◌, ◌<◌, ℕ, zero, suc, ◌+◌, ◌-◌, ◌==◌, Bool, true, false, cond, nat_lt, Option, Some, None, List, [], ◌∷◌, ◌++◌, map, refl, sym, ◌∙◌, ap, subst, arith, append_assoc}
+use Rattle.std.proofs.Common.{◌≡◌, ◌≤◌, ◌<◌, ℕ, zero, suc, ◌+◌, ◌-◌, ◌==◌, true, false, cond, nat_lt, Option, Some, None, List, [], ◌∷◌, ◌++◌, map, refl, sym, ◌∙◌, ap, subst, arith, append_assoc}
 use Rattle.std.specs.Prelude.{⊤}
 use Rattle.std.specs.List.{list_all, range_with_len}
 use Rattle.std.proofs.lemmas.Bool.{and_parts, eqb-true, eqb-false, ltb-true, leb-true, lt-ltb, le-ltb, ne_eqb}
 use Rattle.std.proofs.lemmas.List.{map-append}
 use Rattle.layout_roles.specs.declared.role.Role.{Role}
+use Rattle.layout_roles.specs.declared.role.Zone.{Zone}
+use Rattle.layout_roles.specs.declared.role.Kind.{Kind}
 use Rattle.layout_roles.specs.declared.redundancy.Redundancy.{Redundancy}
 use Rattle.layout_roles.specs.Zones.{ascend_from, is_numbered}
 use Rattle.cluster_machine.specs.declared.step.Step.TheVariants as step
@@ -97,7 +99,7 @@ up_to_one low (r ∷ rs) role lt h = ((let low' = h.0 in omega (arith, lt, low')
 one_in : (low : ℕ) (rs : List Role) (role : Role) → low < role.node → AreUpTo low rs → staged role.node (Some (role.zone, role.kind)) rs ≡ rs ++ role ∷ []
 one_in low [] role lt h = refl
 one_in low (r ∷ rs) role lt h =
-    let x : Option _ = Some (role.zone, role.kind) in
+    let x : Option (Zone × Kind) = Some (role.zone, role.kind) in
     let le = h.0 in
     let below : r.node < role.node = omega (arith, lt, le) in
     let other : (r.node == role.node) ≡ false = ne_eqb r.node role.node (λ e. omega (arith, below, e)) in

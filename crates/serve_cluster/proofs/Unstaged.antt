@@ -1,7 +1,7 @@
 -- What is staged stays so through acts that stage nothing.
-use Rattle.std.specs.Prelude.{◌≡◌, ℕ, zero, suc, Bool, true, false, cond, not, ◌&&◌, leb, Option, Some, None, ⊤, List, [], ◌∷◌, ◌++◌, length, map, refl}
+use Rattle.std.specs.Prelude.{◌≡◌, ℕ, zero, suc, Bool, true, false, cond, not, ◌&&◌, leb, Option, Some, None, ⊤, List, [], ◌∷◌, length, refl}
 use Rattle.std.specs.List.{AllByRecursion}
-use Rattle.std.proofs.Common.{ap, sym, ◌∙◌}
+use Rattle.std.proofs.Common.{◌∙◌}
 use Rattle.crdt_core.proofs.Each.{all_append}
 use Rattle.crdt_rows.specs.AnyRow.{any_join}
 use Rattle.crdt_rows.specs.declared.any_row.AnyRow.{AnyRow}
@@ -36,7 +36,7 @@ use Rattle.flow_model.specs.declared.flow.FlowStep.TheVariants.{More, Wait, End}
 use Rattle.flow_model.specs.Flow.{started}
 use Rattle.flow_model.specs.Next as flow
 use Rattle.store_model.specs.Orders.{buckets_of}
-use Rattle.store_model.specs.Run.{World, Moving, Asked, Draw, State, Outcome, silent, plainly, effect, doing, takes, draws_of, follows, follow, goes_on, delivers, then_drains, drains, opened, begins, are_buckets}
+use Rattle.store_model.specs.Run.{World, Asked, Draw, State, Outcome, silent, plainly, effect, doing, takes, draws_of, follows, follow, goes_on, delivers, then_drains, drains, opened, begins, are_buckets}
 use Rattle.store_model.specs.Acts.{Act, moves, asks, drain, forgets, takes as takes_end, acted, after_acts, all_messages}
 use Rattle.serve_model.specs.Clusters.{Cluster, works, round, acts_to_end, expiry, acts_past_end, acts_then, end_in, acts_at}
 

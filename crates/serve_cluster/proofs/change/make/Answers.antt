@@ -25,6 +25,6 @@ returns-in-Err-clause-causes c =
     let part : c.as_slice-2.result.now ≡ in_order (c.args.older.now ++ nodes_of c.args.change.shown.roles.list) = c.as_slice-2.ensures ∙ (c.in_ok-part.ensures.both ∙ ap (λ ns. in_order (c.args.older.now ++ ns)) (c.as_slice.ensures ∙ newer)) in
     cause_more c.in-Err.memory
     (λ full. make_lacks c.args.world.now c.args.older.now c.args.change (map act_of c.in_ok-deeds.deeds) (c.in_ok-deeds.ensures.deeds ∙ (λ i. acts_past_apply (node i) (part i)))
-      (subst (λ ds. LacksRoom c.args.world.now (acts_at (asker c.args.older.now) c.args.change (map act_of ds))) c.as_slice-3.ensures
-      (subst (λ n. LacksRoom c.args.world.now (acts_at n c.args.change (map act_of c.as_slice-3.result.now))) node full)))
+    (subst (λ ds. LacksRoom c.args.world.now (acts_at (asker c.args.older.now) c.args.change (map act_of ds))) c.as_slice-3.ensures
+    (subst (λ n. LacksRoom c.args.world.now (acts_at n c.args.change (map act_of c.as_slice-3.result.now))) node full)))
     c.in-Err.ensures.causes

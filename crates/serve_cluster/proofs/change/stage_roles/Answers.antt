@@ -1,11 +1,7 @@
-use Rattle.std.proofs.Common.{◌≡◌, map, sym, subst, None, List}
-use Rattle.std.specs.List.{range_with_len}
+use Rattle.std.proofs.Common.{sym, subst, List}
 use Rattle.crdt_core.specs.Outcomes.{WantOr}
 use Rattle.std.proofs.Common.{OnOk}
-use Rattle.cluster_machine.specs.declared.step.Step.TheVariants as step
-use Rattle.store_model.specs.Run.{plainly}
 use Rattle.store_model.specs.Acts.{Act}
-use Rattle.serve_changes.specs.Acts.{steps}
 use Rattle.serve_cluster.specs.Acting.{DoesActs, LacksRoom}
 use Rattle.change_deeds.specs.Deeds.{staged_roles}
 use Rattle.serve_cluster.proofs.Acting.{store_after, does_next, lacks_more, lacks_then, cause_more, causes_next}

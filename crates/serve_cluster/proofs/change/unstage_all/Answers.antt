@@ -1,4 +1,4 @@
-use Rattle.std.proofs.Common.{◌≤◌, ◌<◌, ◌+◌, None, arith}
+use Rattle.std.proofs.Common.{◌<◌, ◌+◌, None, arith}
 use Rattle.cluster_machine.specs.declared.step.Step.TheVariants as step
 use Rattle.store_model.specs.Run.{plainly}
 use Rattle.store_model.specs.Acts.{moves}

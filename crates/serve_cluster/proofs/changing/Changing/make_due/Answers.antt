@@ -1,6 +1,5 @@
 use Rattle.std.proofs.Common.{sym, ◌∙◌}
-use Rattle.serve_cluster.proofs.Acting.{causes_next}
-use Rattle.serve_cluster.proofs.Coming.{nothing_due, due_next, due_lacks, due_computed, due_within}
+use Rattle.serve_cluster.proofs.Coming.{due_next, due_computed, due_within}
 use Rattle.serve_cluster.proofs.changing.Changing.make_due.Goals as goal
 
 pub change-requires-clause-state : goal.change-requires-clause-state
