@@ -5,7 +5,5 @@
 mod deeds;
 mod members;
 
-pub use crate::deeds::Deed;
-pub use crate::deeds::deeds_past_apply;
-pub use crate::members::nodes_of;
-pub use crate::members::of_both;
+pub use crate::deeds::{Deed, deeds_past_apply};
+pub use crate::members::{nodes_of, of_both};
