@@ -2,7 +2,6 @@
 ghost use Rattle.std.specs.Prelude.{◌≡◌};
 ghost use Rattle.std.specs.List.{position};
 ghost use Rattle.std.specs.Ordering.{is_eq};
-ghost use Rattle.k2v_rows.specs.Row.{item_cmp};
 ghost use Rattle.k2v_model.specs.Orders.{is_write as is_write_of};
 ghost use Rattle.k2v_world.specs.Kept.{is_open_write};
 
@@ -40,12 +39,7 @@ pub fn is_write(ask: &Ask) -> bool
 }
 
 /// The place of the first open write of this item at this node.
-pub fn open_write(
-    requests: &[Asked],
-    node: u8,
-    bucket: &Hash32,
-    item: &Item,
-) -> Option<usize>
+pub fn open_write(requests: &[Asked], node: u8, bucket: &Hash32, item: &Item) -> Option<usize>
     ensures { result ≡ position (is_open_write node (bucket.now, (item.now.pk, item.now.sk))) requests.now }
 {
     requests
