@@ -66,7 +66,7 @@ returns-clause-how g c = λ g'.
     left c.promises_are_kept.ensures c.a_first_layout_stands_with_the_empty_map.ensures c.connections_are_served_through_changes.ensures.served g' p c.requires.plan.sized (IsChanging c.new-cluster.result) b (IsChanging c.serve.new.store) c.serve.new.served
     times times' coming coming' past past' c.in_ok-count.count c.in_ok-count.ensures.goes (c.in_ok-count.ensures.served g') in
     let sets = c.in_ok-later.ensures.sets in
-    let count = c.len.ensures ∙ (ap (λ xs. length xs) sets ∙ length-map (λ (change : Change). change.shown.certified.sets) p.changes) in
+    let count = c.len.ensures ∙ (ap (λ xs. length xs) sets ∙ length-map p.changes (λ (change : Change). change.shown.certified.sets)) in
     record {
       number = c.in_ok-count.count;
       within = c.in_ok-count.ensures.within;
