@@ -1,7 +1,7 @@
 -- The layouts of a plan's changes, and which refusal comes first.
-use Rattle.std.proofs.Common.{◌≡◌, ◌≤◌, ◌⊎◌, inl, inr, ℕ, List, [], ◌∷◌, ◌++◌, map, length, Result, Ok, Err, refl, sym, ◌∙◌, ap, subst}
+use Rattle.std.proofs.Common.{◌≡◌, ◌≤◌, ◌⊎◌, inl, inr, ℕ, List, [], ◌∷◌, ◌++◌, map, length, Some, slice_get, Result, Ok, Err, refl, sym, ◌∙◌, ap, subst}
 use Rattle.std.specs.Prelude.{IsUtf8}
-use Rattle.std.specs.List.{AllByRecursion}
+use Rattle.std.specs.List.{AllByRecursion, remove}
 use Rattle.std.proofs.lemmas.List.{length-map}
 use Rattle.lab_outside.specs.declared.exit.Status.TheVariants.{Refused}
 use Rattle.layout_roles.specs.declared.certified.Certified.{Certified}
@@ -30,6 +30,11 @@ laid_same s line (layout c h g e w) = layout c h g e w
 pub refused_behind : (cs : List Change) (later : List Coming) (line : List ℕ) → AllByRecursion IsComputed cs → IsFirstRefused (map settings_in later) line → IsFirstRefused (map settings_in (map coming_in cs ++ later)) line
 refused_behind [] later line h f = f
 refused_behind (c ∷ cs) later line h f = inr (record { certified = c.shown.certified; enough = h.0.is_for.enough; layout = h.0.is_for.certified }, refused_behind cs later line h.1 f)
+
+-- what is said first stands before the rest
+pub first_said : (xs : List Said) (x : Said) → slice_get xs 0 ≡ Some x → comings_of xs ≡ coming_of x ∷ comings_of (remove xs 0)
+first_said [] x e = absurd (cc)
+first_said (y ∷ ys) x e = let is : y ≡ x = cc in ap (λ z. coming_of z ∷ comings_of ys) is
 
 -- the next change has no layout
 pub comings_stop : (cs : List Change) (coming : Coming) (later all : List Coming) → AllByRecursion IsComputed cs → map coming_in cs ++ coming ∷ later ≡ all → (why : Stop) → IsOfRoles coming.roles coming.redundancy why → IsOfComings all why
@@ -64,4 +69,4 @@ module _ (text : List ℕ) (s : Settings) (comings : List Coming) (access : Acce
 
 -- as many changes as were said
 pub as_few : (cs : List Change) (comings : List Said) → map coming_in cs ≡ comings_of comings → length (comings_of comings) ≤ 99 → length cs ≤ 99
-as_few cs comings e few = subst (λ n. n ≤ 99) (sym (sym (length-map coming_in cs) ∙ ap (λ (xs : List Coming). length xs) e)) few
+as_few cs comings e few = subst (λ n. n ≤ 99) (sym (sym (length-map cs coming_in) ∙ ap (λ (xs : List Coming). length xs) e)) few

@@ -60,7 +60,7 @@ pub record Left (g : Grammar) (p : Plan) (number : ℕ) (times times' : Option (
 
 -- the code's clock and counts stand for what is served at first
 pub begins : (p : Plan) (first : Layout) (holds : Changing → Type 0) (times : Option (List ℕ)) (counts : Served) (ts : List ℕ) → holds (begun p first) → counts ≡ record { kept = 0; time = 0 } → times ≡ Some ts → Stands holds times counts (serving p first ts)
-begins p first holds times counts ts stands zero e = record { store = stands; clock = e; time = ap (λ (s : Served). s.time) zero; kept = ap (λ (s : Served). s.kept) zero }
+begins p first holds times counts ts stands same e = record { store = stands; clock = e; time = ap (λ (s : Served). s.time) same; kept = ap (λ (s : Served). s.kept) same }
 
 -- where times and connections aren't both told, and where they may be
 module _ (P : List ℕ → List (List ℕ) → Type 0) where

@@ -1,6 +1,7 @@
 //! The program as one call.
-ghost use Rattle.std.specs.Prelude.{◌≡◌, ◌⊎◌, ◌+◌, [], drop, Some, None, Err, IfOk, OnOk, IfErr, IfSome};
+ghost use Rattle.std.specs.Prelude.{◌≡◌, ◌⊎◌, ◌+◌, [], drop, map, Some, None, Err, IfOk, OnOk, IfErr, IfSome};
 ghost use Rattle.std.specs.Io.KnownBytes.{IsAtEnd};
+ghost use Rattle.crdt_core.specs.Outcomes.{OnlyWant};
 ghost use Rattle.lab_outside.specs.Rose.{Rose};
 ghost use Rattle.lab_outside.specs.Bytes.{Wrote};
 ghost use Rattle.serve_model.specs.Talk.{Grammar};

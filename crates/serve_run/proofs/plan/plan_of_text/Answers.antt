@@ -1,6 +1,7 @@
-use Rattle.std.proofs.Common.{◌∙◌, sym, ap, Ok}
+use Rattle.std.proofs.Common.{◌∙◌, sym, ap, subst, Ok}
 use Rattle.layout_text.specs.Settings.{settings_of}
 use Rattle.layout_text.specs.Changes.{comings_of}
+use Rattle.serve_run.specs.Plan.{AreInOrder}
 use Rattle.serve_run.specs.Stop.{IsOfText}
 use Rattle.serve_run.proofs.Input.{handed_on}
 use Rattle.serve_run.proofs.Planned.{text_of_roles, text_of_comings, as_few}
@@ -29,7 +30,7 @@ pub returns-clause-plan : goal.returns-clause-plan
 returns-clause-plan c = record {
   greatest = c.in_ok-certified.ensures.greatest;
   sized = c.in_ok-config.ensures.sized;
-  ordered = c.in_ok-names.ensures.in_order;
+  ordered = subst (λ names. AreInOrder names c.in_ok-names.names) c.list.ensures c.in_ok-names.ensures.in_order;
   few = as_few c.in_ok-changes.changes c.in_ok-comings.comings c.in_ok-changes.ensures.same c.in_ok-comings.ensures.of_server.1;
   computed = c.in_ok-changes.ensures.computed;
 }

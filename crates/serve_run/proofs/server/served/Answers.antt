@@ -1,4 +1,4 @@
-use Rattle.std.proofs.Common.{inl, inr, ◌∙◌, ◌-◌, refl, ap, take, length}
+use Rattle.std.proofs.Common.{inl, inr, ◌∙◌, ◌-◌, refl, ap, map, take, length}
 use Rattle.std.proofs.lemmas.List.{length-map}
 use Rattle.serve_cluster.specs.declared.change.Change.{Change}
 use Rattle.serve_cluster.specs.Changes.{IsChanging}
@@ -65,17 +65,17 @@ returns-clause-how g c = λ g'.
     let l =
     left c.promises_are_kept.ensures c.a_first_layout_stands_with_the_empty_map.ensures c.connections_are_served_through_changes.ensures.served g' p c.requires.plan.sized (IsChanging c.new-cluster.result) b (IsChanging c.serve.new.store) c.serve.new.served
     times times' coming coming' past past' c.in_ok-count.count c.in_ok-count.ensures.goes (c.in_ok-count.ensures.served g') in
-    let sets = c.in_ok-later.ensures.sets in
-    let count = c.len.ensures ∙ (ap (λ xs. length xs) sets ∙ length-map (λ (change : Change). change.shown.certified.sets) p.changes) in
+    let sets = c.in_ok-later.ensures.sets ∙ ap (map (λ (change : Change). change.shown.certified.sets)) c.as_slice-2.ensures in
+    let count = c.len.ensures ∙ (ap (λ xs. length xs) sets ∙ length-map p.changes (λ (change : Change). change.shown.certified.sets)) in
     record {
       number = c.in_ok-count.count;
       within = c.in_ok-count.ensures.within;
       short = c.in_ok-count.ensures.short;
       has = l.has;
       text_is =
-          tail_is p l.has.first l.has.orders c.in_ok-count.count c.left.result c.truncate.new.self c.in_ok-text.text
-          (c.truncate.ensures ∙ (ap (λ n. take n c.in_ok-later.later) (c.saturating_sub-made.ensures ∙ ap (λ n. n - c.left.result) count) ∙ ap (take (length p.changes - c.left.result)) sets))
-          (c.left.ensures l.at l.stands ∙ ap (λ xs. length xs) l.left) l.at.cluster.run l.run (c.in_ok-text.ensures.text l.at.cluster.run (c.world.ensures l.at l.stands));
+          tail_is p l.has.first l.has.orders c.in_ok-count.count c.left-left.result c.as_slice-3.result.now c.in_ok-text.text
+          (c.as_slice-3.ensures ∙ c.truncate.ensures ∙ (ap (λ n. take n c.in_ok-later.later) (c.saturating_sub-made.ensures ∙ ap (λ n. n - c.left-left.result) count) ∙ ap (take (length p.changes - c.left-left.result)) sets))
+          (c.left-left.ensures l.at l.stands ∙ ap (λ xs. length xs) l.left) l.at.cluster.run l.run (c.in_ok-text.ensures.text l.at.cluster.run (c.world.ensures l.at l.stands));
     }
 
 pub returns-in_err-world-clause-how : goal.returns-in_err-world-clause-how
