@@ -3,7 +3,7 @@ use crdt_core::{Bytes, List, Memory};
 use crdt_rows::Version;
 use std::alloc::Global;
 use std::test::Fail;
-use world_history::{Answer, Cause, History, Kind, Record, fresh, pairs};
+use world_history::{Answer, Cause, History, Kind, Record, first_stale, fresh, pairs};
 
 // What is told next of a request, in the bucket `pics` at node 1, or what the history told so far is judged as.
 #[derive(Clone, Copy)]
@@ -16,6 +16,8 @@ enum Told {
     Superseded(u64),
     // Whether it is fresh, and its pairs.
     Judged(bool, u64),
+    // The first read that isn't fresh.
+    Stale(u64),
 }
 
 fn finished(request: u64, answer: Answer) -> Option<Record> {
@@ -54,7 +56,7 @@ fn record(alloc: Global, told: Told) -> Result<Option<Record>, Memory> {
             request,
             cause: Cause::Superseded(1),
         })),
-        Told::Judged(_, _) => Ok(None),
+        Told::Judged(_, _) | Told::Stale(_) => Ok(None),
     }
 }
 
@@ -67,6 +69,11 @@ fn is_judged(alloc: Global, told: &[Told]) -> Result<bool, Memory> {
                 return Ok(false);
             }
         }
+        if let Told::Stale(request) = *next {
+            if first_stale(alloc, &history)? != Some(request) {
+                return Ok(false);
+            }
+        }
         if let Some(record) = record(alloc, *next)? {
             history.0.push(record)?;
         }
@@ -74,7 +81,7 @@ fn is_judged(alloc: Global, told: &[Told]) -> Result<bool, Memory> {
     Ok(true)
 }
 
-const NEWEST_ACKNOWLEDGED_VERSION: [Told; 14] = [
+const NEWEST_ACKNOWLEDGED_VERSION: [Told; 18] = [
     Told::Judged(true, 0),
     Told::Began(1, Kind::Put, "a"),
     Told::Version(1, 5, 1),
@@ -88,8 +95,13 @@ const NEWEST_ACKNOWLEDGED_VERSION: [Told; 14] = [
     Told::Version(4, 6, 2),
     Told::Judged(true, 3),
     Told::Began(5, Kind::Get, "a"),
+    Told::Began(6, Kind::Get, "a"),
+    Told::Nothing(6),
+    Told::Stale(6),
     Told::Version(5, 5, 1),
-    Told::Judged(false, 5),
+    Told::Judged(false, 7),
+    // Of the two the one that finished first, not the one that began first.
+    Told::Stale(6),
 ];
 
 const LATER_TIMESTAMP_WITH_SMALLER_IDENTIFIER: [Told; 10] = [

@@ -1,5 +1,5 @@
--- The tests of which `fresh` consists decide the sentences of `Fresh`.
-use Rattle.std.proofs.Common.{◌≡◌, ℕ, ◌<◌, Bool, true, false, not, ◌&&◌, ◌||◌, List, Some, length, slice_get, refl, ap, sym, subst, ◌∙◌, arith}
+-- The tests of which `first_stale` consists decide the sentences of `Fresh`.
+use Rattle.std.proofs.Common.{◌≡◌, ℕ, ◌<◌, Bool, true, false, not, ◌&&◌, ◌||◌, List, Option, Some, None, length, slice_get, refl, ap, sym, subst, ◌∙◌, arith}
 use Rattle.std.specs.Bool.{Decides, IsTrue}
 use Rattle.std.specs.List.{Contains}
 use Rattle.std.proofs.lemmas.Bool.Decides.{Decides-like, Decides-eqb, Decides-and, Decides-not, Decides-ltb}
@@ -9,13 +9,14 @@ use Rattle.crdt_rows.specs.declared.version.Version.{Version}
 use Rattle.history_model.specs.declared.record.Kind.{Kind}
 use Rattle.history_model.specs.declared.record.Answer.{Answer}
 use Rattle.history_model.specs.declared.record.Record.{Record}
-use Rattle.history_model.specs.declared.record.Record.TheVariants.{Began}
+use Rattle.history_model.specs.declared.record.Record.TheVariants.{Began, Finished, Ended}
 use Rattle.history_model.specs.Record.{is_read, is_write, is_delete, is_source, finish, acknowledged, BeganAt, names, shown, Shows}
 use Rattle.history_model.specs.Fresh.{Below, IsRead, IsAcknowledged, IsDeleted, IsWritten, Covers, IsFreshRead, Fresh}
-use Rattle.world_history.specs.Checks.{all_below, deletes_at, is_deleted, writes_at, is_written, shows, shows_below, covers, covers_at, covers_all, is_written_if_named, shows_written, fresh_at}
+use Rattle.world_history.specs.Checks.{deletes_at, is_deleted, writes_at, is_written, shows, shows_below, covers, covers_at, covers_all, is_written_if_named, shows_written, stale_finish, stale_of, stale_at}
+use Rattle.stale_model.specs.Stale.{IsStaleRead}
 use Rattle.world_history.proofs.Below.{any_below-Decides, all_below-Decides}
 use Rattle.world_history.proofs.Places.{acknowledged-later}
-use Rattle.world_history.proofs.Parts.{Begun, Decides-itself, passes, begins-Decides, is_none_or-Decides, is_some_with-Decides, is_below-Decides, same_version-Decides, list_any-Decides, list_all-Decides}
+use Rattle.world_history.proofs.Parts.{Begun, Decides-itself, passes, fails, begins-Decides, is_none_or-Decides, is_some_with-Decides, is_below-Decides, same_version-Decides, list_any-Decides, list_all-Decides}
 
 -- what a record says of a request is the same at equal buckets and keys
 began_there : (h : List Record) (i q node : ℕ) (kind : Kind) (b bucket k key : List ℕ) → slice_get h i ≡ Some (Began q node kind b k) → b ≡ bucket → k ≡ key → BeganAt h i q kind bucket key
@@ -206,44 +207,76 @@ module _ (h : List Record) (i j : ℕ) (kind : Kind) (bucket own : List ℕ) (an
   FreshParts = CoversAll × WrittenAll
 
 module _ (h : List Record) where
-  -- a read that finished and isn't fresh
-  abbrev StaleAs : ℕ → ℕ → Kind → List ℕ → List ℕ → Type 0
-  StaleAs i q kind bucket own =
-      (is_read kind ≡ true) × ((f : ℕ × Answer) × (finish h i q ≡ Some f) × ¬ FreshParts h i f.0 kind bucket own f.1)
+  whole : {i j : ℕ} {kind : Kind} {bucket own : List ℕ} {answer : Answer} → FreshParts h i j kind bucket own answer → IsFreshRead h i j kind bucket own answer
+  whole parts = record { covers = parts.0; written = parts.1 }
 
-  fresh_at-Decides : (i : ℕ) → Decides (fresh_at h i) (¬ Begun (slice_get h i) (StaleAs i))
-  fresh_at-Decides i =
-      Decides-not _ (begins-Decides _ (StaleAs i)
-      (λ q kind bucket own. Decides-and _ _ (Decides-itself (is_read kind))
-      (is_some_with-Decides _ (λ f. ¬ FreshParts h i f.0 kind bucket own f.1) (λ f. parts f i kind bucket own) (finish h i q)))
-      (slice_get h i))
+  parts-Decides : (i : ℕ) (kind : Kind) (bucket own : List ℕ) (f : ℕ × Answer) → Decides (covers_all h i f.0 kind bucket own f.1 && shows_written h f.0 kind bucket own f.1) (FreshParts h i f.0 kind bucket own f.1)
+  parts-Decides i kind bucket own f = Decides-and _ _ (covers_all-Decides h i f.0 kind bucket own f.1) (shows_written-Decides h i f.0 kind bucket own f.1)
+
+  -- what is found at a place is a read that isn't fresh
+  pub stale_there : (i : ℕ) (f : ℕ × ℕ) → stale_at h i ≡ Some f → IsStaleRead h i f.0 f.1
+  stale_there i f = there (slice_get h i) refl
     where
-      parts : (f : ℕ × Answer) (i : ℕ) (kind : Kind) (bucket own : List ℕ) → Decides (not (covers_all h i f.0 kind bucket own f.1 && shows_written h f.0 kind bucket own f.1)) (¬ FreshParts h i f.0 kind bucket own f.1)
-      parts f i kind bucket own = Decides-not _ (Decides-and _ _ (covers_all-Decides h i f.0 kind bucket own f.1) (shows_written-Decides h i f.0 kind bucket own f.1))
+      there : (o : Option Record) → slice_get h i ≡ o → stale_of h i o ≡ Some f → IsStaleRead h i f.0 f.1
+      there None at e = let no : ◌≡◌ {A = Option (ℕ × ℕ)} None (Some f) = e in cc
+      there (Some (Finished q answer)) at e = let no : ◌≡◌ {A = Option (ℕ × ℕ)} None (Some f) = e in cc
+      there (Some (Ended q cause)) at e = let no : ◌≡◌ {A = Option (ℕ × ℕ)} None (Some f) = e in cc
+      there (Some (Began q node kind bucket own)) at e = by_kind (is_read kind) refl
+        where
+          by_test : (g : ℕ × Answer) → finish h i q ≡ Some g → stale_finish h i q kind bucket own (Some g) ≡ Some f → is_read kind ≡ true → (t : Bool) → (covers_all h i g.0 kind bucket own g.1 && shows_written h g.0 kind bucket own g.1) ≡ t → IsStaleRead h i f.0 f.1
+          by_test g is found reads true t = let no : ◌≡◌ {A = Option (ℕ × ℕ)} None (Some f) = rw t at found in cc
+          by_test g is found reads false t =
+              let same : ◌≡◌ {A = Option (ℕ × ℕ)} (Some (g.0, q)) (Some f) = rw t at found in
+              let one : (g.0, q) ≡ f = cc in
+              subst (λ x. IsStaleRead h i x.0 x.1) one (record {
+                kind = kind;
+                bucket = bucket;
+                own = own;
+                answer = g.1;
+                reads = reads;
+                began = (node, at);
+                finished = is;
+                stale = λ fresh. let yes = (parts-Decides i kind bucket own g).1 (fresh.covers, fresh.written) in let no : false ≡ true = sym t ∙ yes in cc;
+              })
 
-  -- the tests of all places decide whether the history is fresh
-  pub fresh-Decides : Decides (all_below (fresh_at h) (length h)) (Fresh h)
-  fresh-Decides =
-      Decides-like _
-      (λ all i j kind bucket own answer r. record { covers = (parts all i j kind bucket own answer r).0; written = (parts all i j kind bucket own answer r).1 })
-      (λ fresh i lt b. let x = b.holds.1 in x.2 (whole (fresh i x.0.0 b.kind b.bucket b.key x.0.1 (read i b))))
-      (all_below-Decides (fresh_at h) (λ i. ¬ Begun (slice_get h i) (StaleAs i)) fresh_at-Decides (length h))
+          by_finish : (o : Option (ℕ × Answer)) → finish h i q ≡ o → stale_finish h i q kind bucket own o ≡ Some f → is_read kind ≡ true → IsStaleRead h i f.0 f.1
+          by_finish None is found reads = let no : ◌≡◌ {A = Option (ℕ × ℕ)} None (Some f) = found in cc
+          by_finish (Some g) is found reads = by_test g is found reads _ refl
+
+          by_kind : (t : Bool) → is_read kind ≡ t → IsStaleRead h i f.0 f.1
+          by_kind true t = by_finish (finish h i q) refl (rw t at e) t
+          by_kind false t = let no : ◌≡◌ {A = Option (ℕ × ℕ)} None (Some f) = rw t at e in cc
+
+  -- and the other way round
+  pub stale_found : (i j q : ℕ) → IsStaleRead h i j q → stale_at h i ≡ Some (j, q)
+  stale_found i j q s =
+      let reads : is_read s.kind ≡ true = s.reads in
+      let finished : finish h i q ≡ Some (j, s.answer) = s.finished in
+      let owes : (covers_all h i j s.kind s.bucket s.own s.answer && shows_written h j s.kind s.bucket s.own s.answer) ≡ false =
+      fails _ (parts-Decides i s.kind s.bucket s.own (j, s.answer)) (λ parts. s.stale (whole parts)) in
+      ap (stale_of h i) s.began.1 ∙ rw (reads, finished, owes) refl
+
+  -- a stale read began at one of the places
+  pub stale_within : (i j q : ℕ) → IsStaleRead h i j q → i < length h
+  stale_within i j q s = slice_get_within h i _ s.began.1
+
+  -- where none is found the history is fresh
+  pub none_stale : ((i : ℕ) → i < length h → stale_at h i ≡ None) → Fresh h
+  none_stale none i j kind bucket own answer r =
+      whole (passes _ (parts-Decides i kind bucket own (j, answer)) (λ owes. found (record {
+        kind = kind;
+        bucket = bucket;
+        own = own;
+        answer = answer;
+        reads = r.reads;
+        began = r.began;
+        finished = r.finished;
+        stale = λ fresh. owes (fresh.covers, fresh.written);
+      })))
     where
-      parts : ((k : ℕ) → k < length h → ¬ Begun (slice_get h k) (StaleAs k)) → (i j : ℕ) (kind : Kind) (bucket own : List ℕ) (answer : Answer) → IsRead h i j kind bucket own answer → FreshParts h i j kind bucket own answer
-      parts all i j kind bucket own answer r =
-          passes _ (Decides-and _ _ (covers_all-Decides h i j kind bucket own answer) (shows_written-Decides h i j kind bucket own answer))
-          (λ stale. all i (slice_get_within h i _ r.began.1) (record {
-            request = r.request;
-            node = r.began.0;
-            kind = kind;
-            bucket = bucket;
-            key = own;
-            is = r.began.1;
-            holds = (r.reads, ((j, answer), r.finished, stale));
-          }))
+      found : IsStaleRead h i j r.request → ⊥
+      found s = let no : ◌≡◌ {A = Option (ℕ × ℕ)} None (Some (j, r.request)) = sym (none i (stale_within i j r.request s)) ∙ stale_found i j r.request s in cc
 
-      whole : {i j : ℕ} {kind : Kind} {bucket own : List ℕ} {answer : Answer} → IsFreshRead h i j kind bucket own answer → FreshParts h i j kind bucket own answer
-      whole f = (f.covers, f.written)
-
-      read : (i : ℕ) (b : Begun (slice_get h i) (StaleAs i)) → IsRead h i b.holds.1.0.0 b.kind b.bucket b.key b.holds.1.0.1
-      read i b = record { request = b.request; reads = b.holds.0; began = (b.node, b.is); finished = b.holds.1.1 }
+  -- where it is fresh none is stale
+  pub no_stale : Fresh h → (i j q : ℕ) → IsStaleRead h i j q → ⊥
+  no_stale fresh i j q s = s.stale (fresh i j s.kind s.bucket s.own s.answer (record { request = q; reads = s.reads; began = s.began; finished = s.finished }))

@@ -1,6 +1,7 @@
 pub mod Below
 pub mod Counts
 pub mod Decided
+pub mod First
 pub mod Newest
 pub mod Places
 pub mod Parts

@@ -1,6 +1,6 @@
--- The tests of which `fresh` consists, each of which decides the sentence of `Fresh` that it is named for, and
+-- The tests of which `first_stale` consists, each of which decides the sentence of `Fresh` that it is named for, and
 -- what `pairs` adds up.
-use Rattle.std.specs.Prelude.{◌≡◌, ◌<◌, ℕ, zero, suc, nat_eq, nat_lt, Bool, true, false, not, ◌&&◌, ◌||◌, if◌then◌else◌, Option, Some, None, is_some, List, slice_get}
+use Rattle.std.specs.Prelude.{◌≡◌, ◌<◌, ◌≤◌, ℕ, zero, suc, nat_eq, nat_lt, Bool, true, false, not, ◌&&◌, ◌||◌, if◌then◌else◌, Option, Some, None, is_some, List, slice_get}
 use Rattle.std.specs.List.{list_any, list_all}
 use Rattle.std.specs.Ordering.{is_lt}
 use Rattle.crdt_rows.specs.declared.version.Version.{Version}
@@ -114,11 +114,34 @@ abbrev pub shows_written : List Record → ℕ → Kind → List ℕ → List �
 shows_written h j kind bucket own answer =
     list_all (is_written_if_named h j kind bucket own) (shown own answer)
 
--- at this place no read began that finished and isn't fresh
-abbrev pub fresh_at : List Record → ℕ → Bool
-fresh_at h i =
-    not (begins (λ q kind bucket own. is_read kind
-    && is_some_with (λ f. not (covers_all h i f.0 kind bucket own f.1 && shows_written h f.0 kind bucket own f.1)) (finish h i q)) (slice_get h i))
+-- where a read finished that isn't fresh, with its request's number
+abbrev pub stale_finish : List Record → ℕ → ℕ → Kind → List ℕ → List ℕ → Option (ℕ × Answer) → Option (ℕ × ℕ)
+stale_finish h i q kind bucket own None = None
+stale_finish h i q kind bucket own (Some f) =
+    if covers_all h i f.0 kind bucket own f.1 && shows_written h f.0 kind bucket own f.1 then None else Some (f.0, q)
+
+-- the same, if the record at place i says that a read began
+abbrev pub stale_of : List Record → ℕ → Option Record → Option (ℕ × ℕ)
+stale_of h i None = None
+stale_of h i (Some (Began q node kind bucket own)) = if is_read kind then stale_finish h i q kind bucket own (finish h i q) else None
+stale_of h i (Some (Finished q answer)) = None
+stale_of h i (Some (Ended q cause)) = None
+
+-- the same, of the record at this place
+abbrev pub stale_at : List Record → ℕ → Option (ℕ × ℕ)
+stale_at h i = stale_of h i (slice_get h i)
+
+-- the earlier of two places, each with a number, of which each may be missing
+abbrev pub earlier_of : Option (ℕ × ℕ) → Option (ℕ × ℕ) → Option (ℕ × ℕ)
+earlier_of None b = b
+earlier_of (Some a) None = Some a
+earlier_of (Some a) (Some b) = Some (if nat_lt b.0 a.0 then b else a)
+
+-- of the places that the numbers below n have, if they have any, none is earlier
+pub record IsFirstBelow (p : ℕ → Option (ℕ × ℕ)) (n : ℕ) (first : Option (ℕ × ℕ)) : Type 0 where
+  pub none : first ≡ None → (k : ℕ) → k < n → p k ≡ None
+  pub some : (a : ℕ × ℕ) → first ≡ Some a → (k : ℕ) × (k < n) × (p k ≡ Some a)
+  pub least : (a : ℕ × ℕ) → first ≡ Some a → (k : ℕ) (b : ℕ × ℕ) → k < n → p k ≡ Some b → a.0 ≤ b.0
 
 -- how many writes it owes something, if the record at place i says that a read began, and it finished
 abbrev pub owed_of : List Record → ℕ → Option Record → ℕ

@@ -1,7 +1,8 @@
-//! Whether each finished read of a history is fresh.
-ghost use Rattle.std.specs.Prelude.{◌≡◌, ◌<◌, ◌↔◌, length, IsTrue, IfOk};
+//! Whether each finished read of a history is fresh, and which one isn't.
+ghost use Rattle.std.specs.Prelude.{◌≡◌, ◌<◌, ◌↔◌, length, IsTrue, IsNone, IfSome, IfOk};
 ghost use Rattle.crdt_core.specs.Outcomes.{OnlyWant};
-ghost use Rattle.world_history.specs.Checks.{all_below, fresh_at};
+ghost use Rattle.world_history.specs.Checks.{stale_at, earlier_of, IsFirstBelow};
+ghost use Rattle.stale_model.specs.Stale.{IsFirstStale};
 ghost use Rattle.history_model.specs.Fresh.{Fresh};
 
 use crate::finish::finish;
@@ -11,10 +12,10 @@ use crdt_core::Memory;
 use history_model::{History, Record};
 use std::alloc::Global;
 
-// Whether the read that began at this place, if one did and finished, is fresh.
-fn fresh_at(table: &Table<'_>, i: usize) -> bool
+// Where the read that began at this place, if one did, finished, with its request's number, unless it is fresh.
+fn stale_at(table: &Table<'_>, i: usize) -> Option<(usize, u64)>
     requires { i < length table.now.index.records.now }
-    ensures { result ≡ fresh_at table.now.index.records.now i }
+    ensures { result ≡ stale_at table.now.index.records.now i }
 {
     match &table.index.records[i] {
         Record::Began {
@@ -23,33 +24,59 @@ fn fresh_at(table: &Table<'_>, i: usize) -> bool
             bucket,
             key,
             ..
-        } if kind.is_read() => match finish(&table.index, i, *request) {
-            Some((finished, answer)) => {
-                let read = Read {
-                    kind: *kind,
-                    bucket,
-                    key,
-                    began: i,
-                    finished,
-                    answer,
-                };
-                read.covers_all(table) && read.shows_written(&table.index)
+        } if kind.is_read() => {
+            let (finished, answer) = finish(&table.index, i, *request)?;
+            let read = Read {
+                kind: *kind,
+                bucket,
+                key,
+                began: i,
+                finished,
+                answer,
+            };
+            if read.covers_all(table) && read.shows_written(&table.index) {
+                None
+            } else {
+                Some((finished, *request))
             }
-            None => true,
-        },
-        _ => true,
+        }
+        _ => None,
     }
 }
 
-fn each_fresh(table: &Table<'_>) -> bool
-    ensures { result ≡ all_below (fresh_at table.now.index.records.now) (length table.now.index.records.now) }
+// The earlier of two places, each with a request's number, of which each may be missing.
+fn earlier(a: Option<(usize, u64)>, b: Option<(usize, u64)>) -> Option<(usize, u64)>
+    ensures { result ≡ earlier_of a b }
 {
-    for i in 0..table.index.records.len() {
-        if !fresh_at(table, i) {
-            return false;
-        }
+    match (a, b) {
+        (Some(a), Some(b)) => Some(if b.0 < a.0 { b } else { a }),
+        (None, b) => b,
+        (a, None) => a,
     }
-    true
+}
+
+// The first place at which a read finished that isn't fresh, with its request's number.
+fn first_of(table: &Table<'_>) -> Option<(usize, u64)>
+    ensures { IsFirstBelow (stale_at table.now.index.records.now) (length table.now.index.records.now) result }
+{
+    let mut first = None;
+    for i in 0..table.index.records.len() {
+        first = earlier(first, stale_at(table, i));
+    }
+    first
+}
+
+/// The number of the request whose finished read doesn't show what it owes; of several the one that finished first.
+pub fn first_stale(alloc: Global, h: &History) -> Result<Option<u64>, Memory>
+    ensures none { IfOk result (λ stale. IsNone stale ↔ Fresh h.now.0) }
+    ensures first { IfOk result (λ stale. IfSome stale (IsFirstStale h.now.0)) }
+    ensures want { OnlyWant result }
+{
+    let table = Table::new(alloc, h.0.as_slice())?;
+    match first_of(&table) {
+        Some((_, request)) => Ok(Some(request)),
+        None => Ok(None),
+    }
 }
 
 /// Whether each finished read shows what it owes.
@@ -57,6 +84,6 @@ pub fn fresh(alloc: Global, h: &History) -> Result<bool, Memory>
     ensures told { IfOk result (λ yes. IsTrue yes ↔ Fresh h.now.0) }
     ensures want { OnlyWant result }
 {
-    let table = Table::new(alloc, h.0.as_slice())?;
-    Ok(each_fresh(&table))
+    let stale = first_stale(alloc, h)?;
+    Ok(stale.is_none())
 }

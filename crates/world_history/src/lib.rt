@@ -7,8 +7,9 @@
 //!
 //! `fresh` says whether each finished read shows what it owes: for each key that it names, no version that is
 //! below one acknowledged before the read began, and none only where a delete explains it; and each version
-//! that it shows is that of a put or copy of the key. `pairs` counts what there was to check: the pairs of a
-//! finished read and a write acknowledged before it began, of a key that it names. Both hold of any list of
+//! that it shows is that of a put or copy of the key. `first_stale` names the read that doesn't, and of several
+//! the one that finished first. `pairs` counts what there was to check: the pairs of a
+//! finished read and a write acknowledged before it began, of a key that it names. All hold of any list of
 //! records. Each takes memory for one entry of 16 bytes for each record, and for one row, with a copy of its
 //! bucket and key, for each acknowledged write.
 #![tactic(auto)]
@@ -20,6 +21,6 @@ mod pair_count;
 mod read;
 mod rows;
 
-pub use freshness::fresh;
+pub use freshness::{first_stale, fresh};
 pub use history_model::{Answer, Cause, History, Kind, Record};
 pub use pair_count::pairs;

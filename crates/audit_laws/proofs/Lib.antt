@@ -1,0 +1,6 @@
+pub mod Shown
+pub mod Account
+pub mod Blunt
+pub mod Spelled
+pub mod Hearing
+pub mod Answering

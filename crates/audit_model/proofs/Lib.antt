@@ -1,0 +1,4 @@
+pub mod Read
+pub mod Unique
+pub mod Decided
+pub mod One

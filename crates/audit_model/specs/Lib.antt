@@ -1,0 +1,5 @@
+pub mod Lines
+pub mod Reading
+pub mod Heard
+pub mod Printed
+pub mod Audit

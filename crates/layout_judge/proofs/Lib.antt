@@ -1,0 +1,4 @@
+pub mod Counted
+pub mod Fitting
+pub mod Marking
+pub mod Weighed
