@@ -11,7 +11,7 @@ use Rattle.history_model.specs.declared.record.Answer.{Answer}
 use Rattle.history_model.specs.declared.record.Record.{Record}
 use Rattle.history_model.specs.declared.record.Record.TheVariants.{Began, Finished, Ended}
 use Rattle.history_model.specs.Record.{is_read, is_write, is_delete, is_source, finish, acknowledged, BeganAt, names, shown, Shows}
-use Rattle.history_model.specs.Fresh.{Below, IsRead, IsAcknowledged, IsDeleted, IsWritten, Covers, IsFreshRead, Fresh}
+use Rattle.history_model.specs.Fresh.{Below, IsAcknowledged, IsDeleted, IsWritten, Covers, IsFreshRead, Fresh}
 use Rattle.world_history.specs.Checks.{deletes_at, is_deleted, writes_at, is_written, shows, shows_below, covers, covers_at, covers_all, is_written_if_named, shows_written, stale_finish, stale_of, stale_at}
 use Rattle.stale_model.specs.Stale.{IsStaleRead}
 use Rattle.world_history.proofs.Below.{any_below-Decides, all_below-Decides}

@@ -1,10 +1,10 @@
 -- The first of the places that the numbers below one have, and of the reads that aren't fresh.
-use Rattle.std.proofs.Common.{◌≡◌, ℕ, ◌+◌, ◌<◌, ◌≤◌, Bool, true, false, List, Option, Some, None, IsNone, IfSome, ◌↔◌, nat_lt, length, refl, sym, subst, ◌∙◌, arith, below_more}
+use Rattle.std.proofs.Common.{◌≡◌, ℕ, zero, suc, ◌+◌, ◌<◌, ◌≤◌, Bool, true, false, List, Option, Some, None, IsNone, ◌↔◌, ◌⊎◌, inl, inr, nat_lt, length, refl, sym, subst, ◌∙◌, arith, below_more}
 use Rattle.std.proofs.lemmas.Bool.{ltb-true, ltb-false}
 use Rattle.history_model.specs.declared.record.Record.{Record}
 use Rattle.history_model.specs.Fresh.{Fresh}
 use Rattle.world_history.specs.Checks.{stale_at, earlier_of, IsFirstBelow}
-use Rattle.stale_model.specs.Stale.{IsStaleRead, IsFirstStale}
+use Rattle.stale_model.specs.Stale.{IsFirstStale}
 use Rattle.world_history.proofs.Decided.{stale_there, stale_found, stale_within, none_stale, no_stale}
 
 abbrev Place : Type 0
@@ -68,6 +68,14 @@ first_more p n r old = step r (p n) refl old
             (λ k lt c at. old.least a refl k c lt at)
             (λ c at. let least = itself b c e at in omega arith)))
 
+-- some is the first, or there is none
+first_below : (p : ℕ → Option Place) (n : ℕ) → (r : Option Place) × IsFirstBelow p n r
+first_below p zero = (None, first_none p)
+first_below p (suc n) =
+    let before = first_below p n in
+    let next : n + 1 ≡ suc n = omega arith in
+    (earlier_of before.0 (p n), subst (λ m. IsFirstBelow p m (earlier_of before.0 (p n))) next (first_more p n before.0 before.1))
+
 module _ (h : List Record) where
   -- the first that is found is the stale read that finished first
   pub first_of : (a : Place) → IsFirstBelow (stale_at h) (length h) (Some a) → IsFirstStale h a.1
@@ -85,3 +93,21 @@ module _ (h : List Record) where
 
   pub not_fresh : (a : Place) → IsFirstBelow (stale_at h) (length h) (Some a) → Fresh h → ⊥
   not_fresh a first fresh = let s = first_of a first in no_stale h fresh s.began s.finished a.1 s.one
+
+-- a history in the place of equal records
+pub of_history : (k h : List Record) (o : Option Place) → k ≡ h → IsFirstBelow (stale_at k) (length k) o → IsFirstBelow (stale_at h) (length h) o
+of_history k h o same first = subst (λ (r : List Record). IsFirstBelow (stale_at r) (length r) o) same first
+
+pub none_is_fresh : (h : List Record) → IsFirstBelow (stale_at h) (length h) None → IsNone {T = ℕ} None ↔ Fresh h
+none_is_fresh h first = (λ none. fresh_none h first, λ fresh. refl)
+
+pub some_is_stale : (h : List Record) (place q : ℕ) → IsFirstBelow (stale_at h) (length h) (Some (place, q)) → IsNone (Some q) ↔ Fresh h
+some_is_stale h place q first = (λ none. let no : true ≡ false = none in cc, λ fresh. absurd (not_fresh h (place, q) first fresh))
+
+-- each history is fresh or isn't
+pub fresh_or_not : (h : List Record) → Fresh h ⊎ (Fresh h → ⊥)
+fresh_or_not h = let found = first_below (stale_at h) (length h) in by_first found.0 found.1
+  where
+    by_first : (r : Option Place) → IsFirstBelow (stale_at h) (length h) r → Fresh h ⊎ (Fresh h → ⊥)
+    by_first None first = inl (fresh_none h first)
+    by_first (Some a) first = inr (not_fresh h a first)

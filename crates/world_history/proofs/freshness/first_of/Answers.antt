@@ -1,4 +1,4 @@
-use Rattle.std.proofs.Common.{◌≡◌, ◌+◌, length, sym, ap, subst, ◌∙◌, arith}
+use Rattle.std.proofs.Common.{◌≡◌, ◌+◌, sym, ap, subst, ◌∙◌}
 use Rattle.world_history.specs.Checks.{stale_at, earlier_of, IsFirstBelow}
 use Rattle.world_history.proofs.First.{first_none, first_more}
 use Rattle.world_history.proofs.freshness.first_of.Goals as goal
