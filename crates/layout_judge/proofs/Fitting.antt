@@ -1,12 +1,12 @@
 -- The tests decide what it is for an assignment to fit.
-use Rattle.std.proofs.Common.{◌≡◌, ℕ, ◌≤◌, Bool, true, false, cond, not, ◌&&◌, ◌||◌, ◌==◌, nat_eq, nat_le, IsTrue, List, [], ◌∷◌, length, refl, sym, ap, ◌∙◌, eqb-true}
+use Rattle.std.proofs.Common.{◌≡◌, ℕ, ◌≤◌, Bool, true, false, cond, not, ◌&&◌, ◌||◌, ◌==◌, nat_eq, nat_le, IsTrue, List, [], ◌∷◌, length, refl, sym, ap, ◌∙◌}
 use Rattle.std.specs.Bool.{Decides}
-use Rattle.std.specs.List.{list_all, filter, All, AllByRecursion, IsDistinct}
+use Rattle.std.specs.List.{list_all, All, IsDistinct}
 use Rattle.std.proofs.lemmas.Bool.Decides.{Decides-like, Decides-and, Decides-by_and, Decides-eqb}
 use Rattle.std.proofs.lemmas.Bool.{and_parts, and_from, not-true, leb-true, le-leb}
 use Rattle.layout_roles.specs.declared.role.Role.{Role}
 use Rattle.layout_roles.specs.Zones.{is_storage, storage_nodes}
-use Rattle.layout_roles.specs.Fits.{NodeSet, is_storage_node, IsThree, zones_of, load, room, partitions, FitsAll, Fits}
+use Rattle.layout_roles.specs.Fits.{NodeSet, is_storage_node, IsThree, zones_of, load, room, partitions, Fits}
 use Rattle.layout_judge.proofs.Counted.{any_filter}
 use Rattle.layout_judge.specs.Tests.{is_stored, are_apart, is_three, is_spread, has_room, passes}
 

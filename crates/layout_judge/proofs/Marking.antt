@@ -1,7 +1,7 @@
 -- A mark more in a table.
-use Rattle.std.proofs.Common.{◌≡◌, ℕ, ◌<◌, Bool, true, false, ◌&&◌, ◌||◌, ◌==◌, List, [], length, get_or, set, refl, sym, ap, ◌∙◌, inl, inr, eqb-true}
+use Rattle.std.proofs.Common.{◌≡◌, ℕ, ◌<◌, Bool, true, false, ◌&&◌, ◌||◌, ◌==◌, List, [], length, get_or, set, replicate, refl, sym, ap, ◌∙◌, inl, inr, eqb-true}
 use Rattle.std.proofs.lemmas.Bool.{cases_Bool, eq-eqb}
-use Rattle.std.proofs.lemmas.List.{get_or-set_same, get_or-set_other}
+use Rattle.std.proofs.lemmas.List.{get_or-set_same, get_or-set_other, get_or-replicate}
 use Rattle.std.proofs.Math.Bool.{or-false}
 use Rattle.layout_roles.specs.declared.vertex.Vertex.{Vertex}
 use Rattle.layout_roles.specs.declared.vertex.Vertex.TheVariants.{Source, Up, Down, Zone, Node, Sink}
@@ -42,3 +42,22 @@ zone_marked t row p z inside marked (Down q) small = sym (or-false (get_or t.dow
 zone_marked t row p z inside marked (Zone q y) small = row_marked t.zones row p z inside marked q y small.1
 zone_marked t row p z inside marked (Node n) small = sym (or-false (get_or t.nodes n false))
 zone_marked t row p z inside marked Sink small = sym (or-false t.sink)
+
+-- a table without marks
+abbrev pub unmarked : Table
+unmarked = record {
+  source = false;
+  sink = false;
+  up = replicate 256 false;
+  down = replicate 256 false;
+  zones = replicate 256 (replicate 256 false);
+  nodes = replicate 256 false;
+}
+
+pub none_marked : (vertex : Vertex) → IsSmall vertex → is_marked unmarked vertex ≡ false
+none_marked Source small = refl
+none_marked (Up p) small = get_or-replicate 256 p false false small
+none_marked (Down p) small = get_or-replicate 256 p false false small
+none_marked (Zone p zone) small = ap (λ row. get_or row zone false) (get_or-replicate 256 p (replicate 256 false) [] small.0) ∙ get_or-replicate 256 zone false false small.1
+none_marked (Node n) small = get_or-replicate 256 n false false small
+none_marked Sink small = refl

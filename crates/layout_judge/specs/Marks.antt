@@ -1,5 +1,5 @@
 -- What a table of marks says of each vertex.
-use Rattle.std.specs.Prelude.{◌≡◌, ◌<◌, ℕ, Bool, true, false, get_or, [], List, ⊤}
+use Rattle.std.specs.Prelude.{◌≡◌, ◌<◌, false, get_or, [], List, ⊤}
 use Rattle.layout_roles.specs.declared.vertex.Vertex.{Vertex}
 use Rattle.layout_roles.specs.declared.vertex.Vertex.TheVariants.{Source, Up, Down, Zone, Node, Sink}
 use Rattle.layout_roles.specs.Cuts.{Side}

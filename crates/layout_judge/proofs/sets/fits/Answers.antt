@@ -1,4 +1,4 @@
-use Rattle.std.proofs.Common.{sym, subst, ◌∙◌, ap}
+use Rattle.std.proofs.Common.{◌∙◌, ap}
 use Rattle.std.proofs.lemmas.Bool.Decides.{Decides-at}
 use Rattle.layout_judge.specs.Tests.{passes}
 use Rattle.layout_judge.proofs.Fitting.{fits_decides}
