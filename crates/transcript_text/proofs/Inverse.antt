@@ -1,8 +1,10 @@
 -- What a line with given words says.
-use Rattle.std.proofs.Common.{◌≡◌, ℕ, Bool, true, false, IsTrue, List, [], ◌∷◌, ◌++◌, map, length, drop, Bor, slice_index_or, refl, sym, ap, subst, ◌∙◌, arith, nat_eq, bytes_eq, Option, Some, None, Err}
+use Rattle.std.proofs.Common.{◌≡◌, ℕ, Bool, true, false, IsTrue, List, [], ◌∷◌, ◌++◌, map, length, drop, Bor, slice_index_or, refl, sym, ap, subst, ◌∙◌, arith, nat_eq, bytes_eq, Err}
 use Rattle.std.specs.List.{list_all}
-use Rattle.std.specs.Prelude.{◌<◌, ◌≤◌, ◌^◌, codes, decimal}
+use Rattle.std.specs.Prelude.{◌<◌, ◌≤◌, codes, decimal}
 use Rattle.std.specs.Cmp.Lexicographic.{pointwise, told_text}
+use Rattle.std.proofs.lemmas.Slice.Eq.{bytes_eq-Decides}
+use Rattle.hex.specs.Hex.{encode_lower}
 use Rattle.cluster_machine.specs.declared.line.DoneWord.{DoneWord}
 use Rattle.cluster_machine.specs.declared.line.DoneWord.TheVariants as done
 use Rattle.cluster_machine.specs.declared.line.EndWord.{EndWord}
@@ -11,8 +13,7 @@ use Rattle.text_model.specs.Grammar.{first_word, IsFrom}
 use Rattle.text_model.specs.Reading.{is_number}
 use Rattle.text_model.specs.Transcript.{done_text}
 use Rattle.schedule_text.specs.declared.fault.LineFault.{LineFault}
-use Rattle.schedule_text.specs.declared.fault.LineFault.TheVariants.{Outside, Memory}
-use Rattle.schedule_text.specs.Reads.{Reads, Finds}
+use Rattle.schedule_text.specs.Reads.{Reads}
 use Rattle.schedule_text.specs.Kinds.{texts}
 use Rattle.schedule_text.proofs.Inverse.{unread}
 use Rattle.audit_model.specs.declared.said.Answered.{Answered}
@@ -24,7 +25,7 @@ use Rattle.audit_model.specs.Reading.{begins}
 use Rattle.audit_model.proofs.Read.{decimal_is_number}
 use Rattle.transcript_text.specs.declared.line_kind.Kind.{Kind}
 use Rattle.transcript_text.specs.declared.line_kind.Kind.TheVariants as kind
-use Rattle.transcript_text.specs.Words.{first_text, IsSpelledBy, IsAlone, IsPair, IsTriple, IsTold, IsEvent, IsAnswered, IsDone, IsListed, AreZones, AreNodes, IsSets, IsSide, IsSent, IsKey, IsEnded, IsNode}
+use Rattle.transcript_text.specs.Words.{first_text, IsSpelledBy, IsAlone, IsPair, IsTriple, IsTold, IsEvent, IsAnswered, IsDone, IsListed, AreZones, AreNodes, IsSets, IsSide, IsSent, IsKey, IsEnded, IsNode, IsDigest}
 
 abbrev Words : Type 0
 Words = List (Bor (List ℕ))
@@ -39,10 +40,10 @@ another name ws s h differs = told_text name (first_word (words_of s)) false dif
 
 -- an event's line begins with a digit
 no_event : (name : List ℕ) (ws : List (List ℕ)) (line : ℕ) (event : List ℕ) (told : Told) → is_number name ≡ false → IsSpelledBy (name ∷ ws) (Event line event told) → ⊥
-no_event name ws line event told no h =
+no_event name ws line event told never h =
     let first : name ≡ decimal line = ap first_word h.spelled in
     let digit : is_number name ≡ true = ap is_number first ∙ decimal_is_number line h.in_range.0.0 in
-    let both : false ≡ true = sym no ∙ digit in cc
+    let both : false ≡ true = sym never ∙ digit in cc
 
 abbrev Unread : {T : Type 0} → (T → Type 0) → List ℕ → List (List ℕ) → Type 0
 Unread P name ws = (f : LineFault) → Reads P (Err f) → Reads (IsSpelledBy (name ∷ ws)) (Err f)
@@ -103,7 +104,7 @@ end_part ws s h = absurd (another (codes "end") ws s h refl)
 pub end_unread : (ws : List (List ℕ)) → Unread (IsTriple ws) (codes "end") ws
 end_unread ws f none = unread (IsSpelledBy (codes "end" ∷ ws)) (IsTriple ws) f (end_part ws) none
 
-sets_part : (ws : List (List ℕ)) (s : Said) → IsSpelledBy (codes "p" ∷ ws) s → (x : ℕ × ℕ × ℕ × ℕ × ℕ) × IsSets ws x
+sets_part : (ws : List (List ℕ)) (s : Said) → IsSpelledBy (codes "p" ∷ ws) s → (x : ℕ × ℕ × (ℕ × ℕ × ℕ)) × IsSets ws x
 sets_part ws (Sets first last set) h = let s = h.spelled in ((first, last, set), (cc, h.in_range))
 sets_part ws (Event line event told) h = absurd (no_event (codes "p") ws line event told refl h)
 sets_part ws s h = absurd (another (codes "p") ws s h refl)
@@ -166,13 +167,13 @@ redundancy_unread ws f none = unread (IsSpelledBy (codes "redundancy" ∷ ws)) (
 -- ---- requests that finished
 
 done_part : (ws : List (List ℕ)) → ((x : ℕ × ℕ) → IsListed ws x → ⊥) → (s : Said) → IsSpelledBy (codes "done" ∷ ws) s → (x : ℕ × DoneWord × Answered) × IsDone ws x
-done_part ws no (Done q word answer) h = let s = h.spelled in ((q, word, answer), (cc, h.in_range.0.0, h.in_range.0.1, h.in_range.1))
-done_part ws no (Listed q count) h = absurd (no (q, count) (let s = h.spelled in (cc, h.in_range.0, h.in_range.1.0)))
-done_part ws no (Event line event told) h = absurd (no_event (codes "done") ws line event told refl h)
-done_part ws no s h = absurd (another (codes "done") ws s h refl)
+done_part ws never (Done q word answer) h = let s = h.spelled in ((q, word, answer), (cc, h.in_range.0.0, h.in_range.0.1, h.in_range.1))
+done_part ws never (Listed q count) h = absurd (never (q, count) (let s = h.spelled in (cc, h.in_range.0, h.in_range.1.0)))
+done_part ws never (Event line event told) h = absurd (no_event (codes "done") ws line event told refl h)
+done_part ws never s h = absurd (another (codes "done") ws s h refl)
 
 pub done_unread : (ws : List (List ℕ)) → ((x : ℕ × ℕ) → IsListed ws x → ⊥) → Unread (IsDone ws) (codes "done") ws
-done_unread ws no f none = unread (IsSpelledBy (codes "done" ∷ ws)) (IsDone ws) f (done_part ws no) none
+done_unread ws never f none = unread (IsSpelledBy (codes "done" ∷ ws)) (IsDone ws) f (done_part ws never) none
 
 -- a kind of request has one word
 one_done : (v w : DoneWord) → done_text v ≡ done_text w → v ≡ w
@@ -215,41 +216,41 @@ name_unread (a ∷ b ∷ ws) low f none =
 
 -- the first word of a line is that of a kind, or the number of an event's line
 event_part : (w : List ℕ) (ws : List (List ℕ)) → ((k : Kind) → w ≡ first_text k → ⊥) → (s : Said) → IsSpelledBy (w ∷ ws) s → (x : ℕ × List ℕ × Told) × IsEvent (w ∷ ws) x
-event_part w ws no (Event line event told) h = ((line, event, told), (h.spelled, h.in_range.0.0, h.in_range.1, h.in_range.0.1))
-event_part w ws no (Size _) h = absurd (no kind.Size (ap first_word h.spelled))
-event_part w ws no (Redundancy _) h = absurd (no kind.Redundancy (ap first_word h.spelled))
-event_part w ws no (Sets _ _ _) h = absurd (no kind.Sets (ap first_word h.spelled))
-event_part w ws no (Cut _ _) h = absurd (no kind.Cut (ap first_word h.spelled))
-event_part w ws no (Side _ _ _ _ _) h = absurd (no kind.Side (ap first_word h.spelled))
-event_part w ws no (Nodes _) h = absurd (no kind.Nodes (ap first_word h.spelled))
-event_part w ws no (Got _) h = absurd (no kind.Got (ap first_word h.spelled))
-event_part w ws no (Sent _ _ _ _) h = absurd (no kind.Sent (ap first_word h.spelled))
-event_part w ws no (Synced _ _) h = absurd (no kind.Synced (ap first_word h.spelled))
-event_part w ws no (Done _ _ _) h = absurd (no kind.Done (ap first_word h.spelled))
-event_part w ws no (Listed _ _) h = absurd (no kind.Done (ap first_word h.spelled))
-event_part w ws no (Key _ _ _) h = absurd (no kind.Key (ap first_word h.spelled))
-event_part w ws no (Ended _ _) h = absurd (no kind.Ended (ap first_word h.spelled))
-event_part w ws no (Node _ _ _ _) h = absurd (no kind.Node (ap first_word h.spelled))
-event_part w ws no (Fresh _) h = absurd (no kind.Fresh (ap first_word h.spelled))
-event_part w ws no (End _ _ _) h = absurd (no kind.End (ap first_word h.spelled))
+event_part w ws never (Event line event told) h = ((line, event, told), (h.spelled, h.in_range.0.0, h.in_range.1, h.in_range.0.1))
+event_part w ws never (Size _) h = absurd (never kind.Size (ap first_word h.spelled))
+event_part w ws never (Redundancy _) h = absurd (never kind.Redundancy (ap first_word h.spelled))
+event_part w ws never (Sets _ _ _) h = absurd (never kind.Sets (ap first_word h.spelled))
+event_part w ws never (Cut _ _) h = absurd (never kind.Cut (ap first_word h.spelled))
+event_part w ws never (Side _ _ _ _ _) h = absurd (never kind.Side (ap first_word h.spelled))
+event_part w ws never (Nodes _) h = absurd (never kind.Nodes (ap first_word h.spelled))
+event_part w ws never (Got _) h = absurd (never kind.Got (ap first_word h.spelled))
+event_part w ws never (Sent _ _ _ _) h = absurd (never kind.Sent (ap first_word h.spelled))
+event_part w ws never (Synced _ _) h = absurd (never kind.Synced (ap first_word h.spelled))
+event_part w ws never (Done _ _ _) h = absurd (never kind.Done (ap first_word h.spelled))
+event_part w ws never (Listed _ _) h = absurd (never kind.Done (ap first_word h.spelled))
+event_part w ws never (Key _ _ _) h = absurd (never kind.Key (ap first_word h.spelled))
+event_part w ws never (Ended _ _) h = absurd (never kind.Ended (ap first_word h.spelled))
+event_part w ws never (Node _ _ _ _) h = absurd (never kind.Node (ap first_word h.spelled))
+event_part w ws never (Fresh _) h = absurd (never kind.Fresh (ap first_word h.spelled))
+event_part w ws never (End _ _ _) h = absurd (never kind.End (ap first_word h.spelled))
 
 pub event_unread : (words : Words) → 1 ≤ length words → ((k : Kind) → at words 0 ≡ first_text k → ⊥) → (f : LineFault) → Reads (IsEvent (texts words)) (Err f) → Reads (IsSpelledBy (texts words)) (Err f)
-event_unread [] low no f none = absurd (omega arith)
-event_unread (w ∷ ws) low no f none = unread (IsSpelledBy (texts (w ∷ ws))) (IsEvent (texts (w ∷ ws))) f (event_part w.now (texts ws) no) none
+event_unread [] low never f none = absurd (omega arith)
+event_unread (w ∷ ws) low never f none = unread (IsSpelledBy (texts (w ∷ ws))) (IsEvent (texts (w ∷ ws))) f (event_part w.now (texts ws) never) none
 
 -- ---- vertices
 
 -- no word of a zone is another word
 not_zone : (name : List ℕ) (zones : List (List ℕ)) → ((z : List ℕ) → bytes_eq (zone_word z) name ≡ false) → begins name (map zone_word zones) ≡ false
-not_zone name [] no = refl
-not_zone name (z ∷ zs) no = no z
+not_zone name [] never = refl
+not_zone name (z ∷ zs) never = never z
 
 behind_down : (middle rest : List (List ℕ)) (down had : Bool) (zones : List (List ℕ)) → middle ≡ word_where down (codes "down") ++ rest → down ≡ begins (codes "down") middle → middle ≡ word_where had (codes "down") ++ map zone_word zones → rest ≡ map zone_word zones
 behind_down middle rest true true zones a b e = cc
 behind_down middle rest false false zones a b e = cc
 behind_down middle rest true false zones a b e =
-    let no : begins (codes "down") middle ≡ false = ap (begins (codes "down")) e ∙ not_zone (codes "down") zones (λ z. refl) in
-    let both : true ≡ false = b ∙ no in cc
+    let never : begins (codes "down") middle ≡ false = ap (begins (codes "down")) e ∙ not_zone (codes "down") zones (λ z. refl) in
+    let both : true ≡ false = b ∙ never in cc
 behind_down middle rest false true zones a b e =
     let yes : begins (codes "down") middle ≡ true = ap (begins (codes "down")) e in
     let both : false ≡ true = b ∙ yes in cc
@@ -264,17 +265,17 @@ behind_both : (ws middle rest : List (List ℕ)) (up down had has : Bool) (zones
 behind_both ws middle rest true down true has zones a b d e w = behind_down middle rest down has zones d e cc
 behind_both ws middle rest false down false has zones a b d e w = behind_down middle rest down has zones d e cc
 behind_both ws middle rest true down false has zones a b d e w =
-    let no : begins (codes "up") ws ≡ false = ap (begins (codes "up")) w ∙ up_not has zones in
-    let both : true ≡ false = b ∙ no in cc
+    let never : begins (codes "up") ws ≡ false = ap (begins (codes "up")) w ∙ up_not has zones in
+    let both : true ≡ false = b ∙ never in cc
 behind_both ws middle rest false down true has zones a b d e w =
     let yes : begins (codes "up") ws ≡ true = ap (begins (codes "up")) w in
     let both : false ≡ true = b ∙ yes in cc
 
 -- what stands behind the words of up and down
-side_part : (first last : List ℕ) (ws middle rest : List (List ℕ)) (up down : Bool) →
+zones_part : (first last : List ℕ) (ws middle rest : List (List ℕ)) (up down : Bool) →
     ws ≡ word_where up (codes "up") ++ middle → up ≡ begins (codes "up") ws → middle ≡ word_where down (codes "down") ++ rest → down ≡ begins (codes "down") middle →
     (x : ℕ × ℕ × Bool × Bool × List (List ℕ)) → IsSide (first ∷ last ∷ ws) x → (y : List (List ℕ)) × AreZones rest y
-side_part first last ws middle rest up down a b d e x h =
+zones_part first last ws middle rest up down a b d e x h =
     let s = h.0 in
     let words : ws ≡ word_where x.2 (codes "up") ++ word_where x.3 (codes "down") ++ map zone_word x.4 = cc in
     (x.4, (behind_both ws middle rest up down x.2 x.3 x.4 a b d e words, h.2))
@@ -286,4 +287,47 @@ zones_unread [] rest middle last up down low same a b d e f none = absurd (omega
 zones_unread (w ∷ []) rest middle last up down low same a b d e f none = absurd (omega arith)
 zones_unread (w ∷ v ∷ ws) rest middle last up down low same a b d e f none =
     unread (IsSide (texts (w ∷ v ∷ ws))) (AreZones last) f
-    (λ x h. side_part w.now v.now rest middle last up down a b d e x (subst (λ r. IsSide (w.now ∷ v.now ∷ r) x) (sym same) h)) none
+    (λ x h. zones_part w.now v.now rest middle last up down a b d e x (subst (λ r. IsSide (w.now ∷ v.now ∷ r) x) (sym same) h)) none
+
+-- what stands in front is another word, or nothing does
+pub begins_not : (words : Words) (name : List ℕ) → (1 ≤ length words → at words 0 ≡ name → ⊥) → false ≡ begins name (texts words)
+begins_not [] name never = refl
+begins_not (w ∷ ws) name never = by_test (bytes_eq w.now name) refl
+  where
+    by_test : (b : Bool) → bytes_eq w.now name ≡ b → false ≡ b
+    by_test true e = absurd (never (omega arith) ((bytes_eq-Decides w.now name).0 e))
+    by_test false e = refl
+
+-- ---- a node's line
+
+seven : (words : Words) → 7 ≤ length words → length words < 8 → texts words ≡ at words 0 ∷ at words 1 ∷ at words 2 ∷ at words 3 ∷ at words 4 ∷ at words 5 ∷ at words 6 ∷ []
+seven [] low high = absurd (omega arith)
+seven (a ∷ []) low high = absurd (omega arith)
+seven (a ∷ b ∷ []) low high = absurd (omega arith)
+seven (a ∷ b ∷ c ∷ []) low high = absurd (omega arith)
+seven (a ∷ b ∷ c ∷ d ∷ []) low high = absurd (omega arith)
+seven (a ∷ b ∷ c ∷ d ∷ e ∷ []) low high = absurd (omega arith)
+seven (a ∷ b ∷ c ∷ d ∷ e ∷ f ∷ []) low high = absurd (omega arith)
+seven (a ∷ b ∷ c ∷ d ∷ e ∷ f ∷ g ∷ []) low high = refl
+seven (a ∷ b ∷ c ∷ d ∷ e ∷ f ∷ g ∷ h ∷ ws) low high = absurd (omega arith)
+
+module _ (words : Words) (low : 7 ≤ length words) (high : length words < 8) where
+  pub node_read : (n rows blocks : ℕ) (top : List ℕ) → at words 0 ≡ decimal n → at words 1 ≡ codes "rows" → at words 2 ≡ decimal rows → at words 3 ≡ codes "blocks" → at words 4 ≡ decimal blocks → at words 5 ≡ codes "top" → at words 6 ≡ encode_lower top →
+      texts words ≡ decimal n ∷ codes "rows" ∷ decimal rows ∷ codes "blocks" ∷ decimal blocks ∷ codes "top" ∷ encode_lower top ∷ []
+  node_read n rows blocks top a b c d e f g = seven words low high ∙ (λ k. a k ∷ b k ∷ c k ∷ d k ∷ e k ∷ f k ∷ g k ∷ [])
+
+  pub hash_unread : (f : LineFault) → Reads (IsDigest 32 (at words 6)) (Err f) → Reads (IsNode (texts words)) (Err f)
+  hash_unread f none =
+      let t = seven words low high in
+      unread (IsNode (texts words)) (IsDigest 32 (at words 6)) f (λ x h. let s = h.0 in (x.3, (cc, h.2, h.3))) none
+
+  pub top_differs : (at words 5 ≡ codes "top" → ⊥) → (x : ℕ × ℕ × ℕ × List ℕ) → IsNode (texts words) x → ⊥
+  top_differs differs x h =
+      let t = seven words low high in
+      let s = h.0 in
+      let same : at words 5 ≡ codes "top" = cc in
+      differs same
+
+-- a test that fails
+pub fails : (b : Bool) {P : Type 0} → (b ≡ true → P) × (P → b ≡ true) → b ≡ false → P → ⊥
+fails b decides e p = let yes : b ≡ true = decides.1 p in let both : true ≡ false = sym yes ∙ e in cc

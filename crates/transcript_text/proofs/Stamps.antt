@@ -1,5 +1,5 @@
 -- A version's word is cut at its slash.
-use Rattle.std.proofs.Common.{◌≡◌, ℕ, suc, ◌+◌, ◌<◌, ◌^◌, true, ◌==◌, Option, Some, None, List, [], ◌∷◌, ◌++◌, length, take, drop, get_or, position, Err, refl, sym, ap, ◌∙◌, arith, drop-cons}
+use Rattle.std.proofs.Common.{◌≡◌, ℕ, suc, ◌+◌, ◌<◌, true, ◌==◌, Some, None, List, ◌∷◌, ◌++◌, length, take, drop, get_or, position, Err, refl, sym, ap, ◌∙◌, arith, drop-cons}
 use Rattle.std.specs.Prelude.{decimal, nat_lt}
 use Rattle.std.specs.List.{position_or_len}
 use Rattle.std.proofs.lemmas.List.{take-append-drop, get_or_append_left, length-append}
@@ -58,8 +58,13 @@ IsWhole word n = (word ≡ decimal n) × IsNumber n
 pub ts_unread : (word first : List ℕ) (i : ℕ) → Some i ≡ position (λ b. b == 47) word → first ≡ take i word → (f : LineFault) → Reads (IsWhole first) (Err f) → Reads (IsVersion word) (Err f)
 ts_unread word first i found is f none = unread (IsVersion word) (IsWhole first) f (λ v h. (v.0, (is ∙ (version_cut word i v (sym found) h).0, h.1))) none
 
-pub id_unread : (word second : List ℕ) (i : ℕ) → Some i ≡ position (λ b. b == 47) word → second ≡ drop (suc i) word → (f : LineFault) → Reads (IsWhole second) (Err f) → Reads (IsVersion word) (Err f)
-id_unread word second i found is f none = unread (IsVersion word) (IsWhole second) f (λ v h. (v.1, (is ∙ (version_cut word i v (sym found) h).1, h.2))) none
+-- behind place i
+after : (word : List ℕ) (i : ℕ) → drop (i + 1) word ≡ drop (suc i) word
+after word i = let next : i + 1 ≡ suc i = omega arith in ap (λ n. drop n word) next
 
-pub version_read : (word first second : List ℕ) (i a b : ℕ) → Some i ≡ position (λ b. b == 47) word → first ≡ take i word → second ≡ drop (suc i) word → IsWhole first a → IsWhole second b → IsVersion word (a, b)
-version_read word first second i a b found f s h k = (version_whole word i a b (sym found) (sym f ∙ h.0) (sym s ∙ k.0), h.1, k.1)
+pub id_unread : (word second : List ℕ) (i : ℕ) → Some i ≡ position (λ b. b == 47) word → second ≡ drop (i + 1) word → (f : LineFault) → Reads (IsWhole second) (Err f) → Reads (IsVersion word) (Err f)
+id_unread word second i found is f none =
+    unread (IsVersion word) (IsWhole second) f (λ v h. (v.1, (is ∙ (after word i ∙ (version_cut word i v (sym found) h).1), h.2))) none
+
+pub version_read : (word first second : List ℕ) (i a b : ℕ) → Some i ≡ position (λ b. b == 47) word → first ≡ take i word → second ≡ drop (i + 1) word → IsWhole first a → IsWhole second b → IsVersion word (a, b)
+version_read word first second i a b found f s h k = (version_whole word i a b (sym found) (sym f ∙ h.0) (sym (s ∙ after word i) ∙ k.0), h.1, k.1)

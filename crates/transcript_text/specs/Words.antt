@@ -1,5 +1,5 @@
 -- The words of a line of a transcript, and of its parts.
-use Rattle.std.specs.Prelude.{◌≡◌, ◌<◌, ◌^◌, ℕ, ⊤, Bool, IsTrue, List, [], ◌∷◌, ◌++◌, codes, decimal, length, map}
+use Rattle.std.specs.Prelude.{◌≡◌, ℕ, Bool, IsTrue, List, [], ◌∷◌, ◌++◌, codes, decimal, length, map}
 use Rattle.std.specs.List.{list_all}
 use Rattle.hex.specs.Hex.{encode_lower, IsBytes}
 use Rattle.layout_roles.specs.Names.{is_zone_name}
@@ -95,7 +95,7 @@ AreNodes words nodes = (words ≡ map decimal nodes) × AreNumbers nodes
 -- ---- the words of each kind of line, behind its first one
 
 -- the set of partitions from the first to the last
-abbrev pub IsSets : List (List ℕ) → ℕ × ℕ × ℕ × ℕ × ℕ → Type 0
+abbrev pub IsSets : List (List ℕ) → ℕ × ℕ × (ℕ × ℕ × ℕ) → Type 0
 IsSets words n =
     (words ≡ decimal n.0 ∷ decimal n.1 ∷ decimal n.2.0 ∷ decimal n.2.1 ∷ decimal n.2.2 ∷ []) × AreNumbers (n.0 ∷ n.1 ∷ n.2.0 ∷ n.2.1 ∷ n.2.2 ∷ [])
 
