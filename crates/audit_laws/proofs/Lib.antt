@@ -4,3 +4,4 @@ pub mod Blunt
 pub mod Spelled
 pub mod Hearing
 pub mod Answering
+pub mod Stale

@@ -13,6 +13,7 @@ ghost use Rattle.cluster_machine.specs.World.{NodeLine};
 ghost use Rattle.history_model.specs.declared.record.Record.{Record};
 ghost use Rattle.history_model.specs.declared.record.Kind.{Kind};
 ghost use Rattle.history_model.specs.Fresh.{Fresh};
+ghost use Rattle.stale_model.specs.Stale.{IsFirstStale};
 ghost use Rattle.store_model.specs.declared.event.Event.{Event};
 ghost use Rattle.store_model.specs.declared.event.Numbered.{Numbered};
 ghost use Rattle.store_model.specs.Run.{State, Outcome};
@@ -46,8 +47,10 @@ pub fn texts_give_one_account()
     ensures line { (events : List Numbered) (lines : List (List ℕ)) (k j : ℕ) → IsUnreadable events lines k → IsUnreadable events lines j → k ≡ j }
 {}
 
-/// One printed layout is the first that isn't lawful, and in one line two texts differ first.
+/// One request's read is the first that is stale, one printed layout the first that isn't lawful, and in one line two texts
+/// differ first.
 pub fn findings_name_one_line()
+    ensures stale { (history : List Record) (q other : ℕ) → IsFirstStale history q → IsFirstStale history other → q ≡ other }
     ensures unlawful { (prints : List Print) (k j : ℕ) → IsUnlawful prints k → IsUnlawful prints j → k ≡ j }
     ensures differs { (a b : List (List ℕ)) (k j : ℕ) → DifferFirst a b k → DifferFirst a b j → k ≡ j }
 {}

@@ -13,4 +13,6 @@ mod line_texts;
 #[cfg(test)]
 mod request_texts;
 #[cfg(test)]
+mod said_lines;
+#[cfg(test)]
 mod transcripts;

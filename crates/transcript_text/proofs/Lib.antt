@@ -1,0 +1,5 @@
+pub mod Inverse
+pub mod Stamps
+pub mod Digests
+pub mod Lists
+pub mod Lines

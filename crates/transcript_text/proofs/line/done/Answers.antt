@@ -1,0 +1,9 @@
+use Rattle.std.proofs.lemmas.Result.{err_from_is_err_and}
+use Rattle.schedule_text.specs.Kinds.{texts}
+use Rattle.transcript_text.proofs.Inverse.{done_unread}
+use Rattle.transcript_text.proofs.line.done.Goals as goal
+
+pub returns-in_err-request : goal.returns-in_err-request
+returns-in_err-request c =
+    let p = err_from_is_err_and c.from_residual.result c.from_residual.ensures.1 in
+    rw (p.1, p.2) (done_unread (texts c.args.words.now) c.in_default.ensures c.in_err-request.field-0.0 c.in_err-request.ensures)

@@ -1,0 +1,9 @@
+use Rattle.std.proofs.lemmas.Result.{err_from_is_err_and}
+use Rattle.schedule_text.specs.Kinds.{texts}
+use Rattle.transcript_text.proofs.Inverse.{end_unread}
+use Rattle.transcript_text.proofs.line.end.Goals as goal
+
+pub returns-in_err-events : goal.returns-in_err-events
+returns-in_err-events c =
+    let p = err_from_is_err_and c.from_residual.result c.from_residual.ensures.1 in
+    rw (p.1, p.2) (end_unread (texts c.args.words.now) c.in_err-events.field-0.0 c.in_err-events.ensures)
