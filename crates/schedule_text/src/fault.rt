@@ -16,7 +16,7 @@ pub enum ScheduleFault {
 
 /// Why a line isn't read.
 #[derive(Clone, Copy, Debug, PartialEq, Eq)]
-pub(crate) enum LineFault {
+pub enum LineFault {
     /// It spells no event.
     Outside,
     /// The allocator had none to give.

@@ -11,7 +11,7 @@ use layout_roles::{is_bucket_name, is_zone_name};
 use std::alloc::Global;
 
 /// Whether a word is this name.
-pub(crate) fn is(word: &[u8], name: &[u8]) -> bool
+pub fn is(word: &[u8], name: &[u8]) -> bool
     ensures { IsTrue result ↔ (word.now ≡ name.now) }
 {
     word == name
@@ -52,7 +52,7 @@ pub(crate) fn bucket_name(alloc: Global, word: &[u8]) -> Result<Bytes, LineFault
 }
 
 /// A zone's name has 1 to 16 lower-case letters and digits.
-pub(crate) fn zone_name(alloc: Global, word: &[u8]) -> Result<Bytes, LineFault>
+pub fn zone_name(alloc: Global, word: &[u8]) -> Result<Bytes, LineFault>
     ensures { Reads (λ name. (name ≡ word.now) × IsTrue (is_zone_name name)) result }
 {
     if !is_zone_name(word) {
@@ -62,7 +62,7 @@ pub(crate) fn zone_name(alloc: Global, word: &[u8]) -> Result<Bytes, LineFault>
 }
 
 /// A key has 1 to 64 letters, digits, `.`, `_`, `/` and `-`.
-pub(crate) fn object_key(alloc: Global, word: &[u8]) -> Result<Bytes, LineFault>
+pub fn object_key(alloc: Global, word: &[u8]) -> Result<Bytes, LineFault>
     ensures { Reads (λ key. (key ≡ word.now) × IsTrue (is_key key)) result }
 {
     if !is_key(word) {

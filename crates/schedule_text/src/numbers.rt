@@ -22,7 +22,7 @@ pub fn decimal_number(word: &[u8]) -> Option<u64>
 }
 
 /// The number from `low` to `high` that a word spells in decimal digits, without a leading zero.
-pub(crate) fn number(word: &[u8], low: u64, high: u64) -> Result<u64, LineFault>
+pub fn number(word: &[u8], low: u64, high: u64) -> Result<u64, LineFault>
     ensures { Reads (λ n. (word.now ≡ decimal n) × IsFrom low high n) result }
 {
     let n = decimal_number(word).ok_or(LineFault::Outside)?;
@@ -41,7 +41,7 @@ pub(crate) fn node(word: &[u8]) -> Result<u8, LineFault>
 }
 
 /// The number from `low` to `high` that the one word spells.
-pub(crate) fn number_alone(words: &[&[u8]], low: u64, high: u64) -> Result<u64, LineFault>
+pub fn number_alone(words: &[&[u8]], low: u64, high: u64) -> Result<u64, LineFault>
     ensures { Reads (λ n. (texts words.now ≡ decimal n ∷ []) × IsFrom low high n) result }
 {
     match *words {
