@@ -1,7 +1,8 @@
 -- From the words of a line to the line.
 use Rattle.std.proofs.Common.{◌≡◌, ℕ, ◌≤◌, Bool, true, false, Option, Some, None, List, [], ◌∷◌, length, take, length-take, Bor, codes, refl, sym, ◌∙◌, ap, subst, arith, lit≤}
-use Rattle.std.specs.Prelude.{IsTrue, IfOk, Result, Ok, Err}
-use Rattle.crdt_core.specs.declared.memory.Memory.{Memory}
+use Rattle.std.specs.Prelude.{Result, Ok, Err}
+use Rattle.schedule_text.specs.declared.fault.LineFault.{LineFault}
+use Rattle.schedule_text.specs.declared.fault.LineFault.TheVariants.{Outside, Memory}
 use Rattle.std.specs.List.{join_with_byte}
 use Rattle.std.proofs.lemmas.List.{take_all}
 use Rattle.std.proofs.lemmas.List.Splits.{join_with_byte-slice_split}
@@ -10,7 +11,7 @@ use Rattle.store_model.specs.declared.event.Event.TheVariants.{Role}
 use Rattle.text_model.specs.Grammar.{words_of as common_words}
 use Rattle.text_model.specs.Words.{words_in}
 use Rattle.schedule_text.specs.Kinds.{texts}
-use Rattle.schedule_text.specs.Reads.{Finds}
+use Rattle.schedule_text.specs.Reads.{Reads}
 use Rattle.k2v_text.specs.declared.event.ItemEvent.{ItemEvent}
 use Rattle.k2v_text.specs.declared.event.ItemEvent.TheVariants.{Common, Put, Delete, Get}
 use Rattle.k2v_text.specs.Grammar.{words_of, Spells}
@@ -47,10 +48,27 @@ words_taken line e h =
     let n : length (words_in line) ≤ 8 = rw w (few e) in
     record { spelled = take_all 9 (words_in line) (omega arith) ∙ w; allowed = h.allowed; kind = h.kind }
 
--- what is found by the words of a line is found by the line
-pub finds_line : (line name : List ℕ) (words : List (Bor (List ℕ))) (o : Option ItemEvent) → take 9 (words_in line) ≡ name ∷ texts words → Finds (IsSpelledBy (name ∷ texts words)) o → Finds (Spells line) o
-finds_line line name words None same none = λ e h. none e (subst (λ ws. IsSpelledBy ws e) same (words_taken line e h))
-finds_line line name words (Some e) same h = line_spelled line e (subst (λ ws. IsSpelledBy ws e) (sym same) h)
+-- what is read of the words of a line is read of the line
+reads_line : (line : List ℕ) (ws : List (List ℕ)) (r : Result ItemEvent LineFault) → take 9 (words_in line) ≡ ws → Reads (IsSpelledBy ws) r → Reads (Spells line) r
+reads_line line ws (Ok e) same h = line_spelled line e (subst (λ (xs : List (List ℕ)). IsSpelledBy xs e) (sym same) h)
+reads_line line ws (Err Outside) same none = λ e h. none e (subst (λ (xs : List (List ℕ)). IsSpelledBy xs e) same (words_taken line e h))
+reads_line line ws (Err Memory) same h = tt
+
+-- an event has a word
+some_common : (e : Event) → common_words e ≡ [] → ⊥
+some_common (Role _ None) h = cc
+some_common (Role _ (Some _)) h = cc
+some_common e h = cc
+
+some_words : (e : ItemEvent) → words_of e ≡ [] → ⊥
+some_words (Common e) h = some_common e h
+some_words (Put n i size fill token) h = cc
+some_words (Delete n i token) h = cc
+some_words (Get n i) h = cc
+
+pub no_words : (line : List ℕ) (words : List (Bor (List ℕ))) → texts words ≡ take 9 (words_in line) → length words ≡ 0 → (e : ItemEvent) → Spells line e → ⊥
+no_words line [] same none e h = some_words e (sym (words_taken line e h).spelled ∙ sym same)
+no_words line (w ∷ ws) same none e h = absurd (omega arith)
 
 -- a line whose first word is of no request for an item spells one that schedules of objects have, or none
 module _ (line name : List ℕ) (rest : List (List ℕ)) (same : take 9 (words_in line) ≡ name ∷ rest) (no_put : name ≡ codes "kput" → ⊥) (no_delete : name ≡ codes "kdel" → ⊥) (no_get : name ≡ codes "kget" → ⊥) where
@@ -60,19 +78,18 @@ module _ (line name : List ℕ) (rest : List (List ℕ)) (same : take 9 (words_i
   is_common_one (Delete n i token) h = let w = sym same ∙ (words_taken line _ h).spelled in absurd (no_delete (cc))
   is_common_one (Get n i) h = let w = sym same ∙ (words_taken line _ h).spelled in absurd (no_get (cc))
 
-  pub finds_common : (o : Option ItemEvent) → Finds (IsCommon line) o → Finds (Spells line) o
-  finds_common None none = λ e h. none e (is_common_one e h)
-  finds_common (Some e) h = h.spells
+  reads_common : (r : Result ItemEvent LineFault) → Reads (IsCommon line) r → Reads (Spells line) r
+  reads_common (Ok e) h = h.spells
+  reads_common (Err Outside) none = λ e h. none e (is_common_one e h)
+  reads_common (Err Memory) h = tt
 
 -- what was read of a line by its first word
 module _ (line name : List ℕ) (words : List (Bor (List ℕ))) (same : take 9 (words_in line) ≡ name ∷ texts words) where
-  pub named_line : (literal : List ℕ) → name ≡ literal → (r : Result (Option ItemEvent) Memory) → IfOk r (Finds (IsSpelledBy (literal ∷ texts words))) → IfOk r (Finds (Spells line))
-  named_line literal is (Ok o) h = finds_line line literal words o (same ∙ ap (λ n. n ∷ texts words) is) h
-  named_line literal is (Err e) h = tt
+  pub named_line : (literal : List ℕ) → name ≡ literal → (r : Result ItemEvent LineFault) → Reads (IsSpelledBy (literal ∷ texts words)) r → Reads (Spells line) r
+  named_line literal is r h = reads_line line (literal ∷ texts words) r (same ∙ ap (λ n. n ∷ texts words) is) h
 
-  pub common_line : (name ≡ codes "kput" → ⊥) → (name ≡ codes "kdel" → ⊥) → (name ≡ codes "kget" → ⊥) → (r : Result (Option ItemEvent) Memory) → IfOk r (Finds (IsCommon line)) → IfOk r (Finds (Spells line))
-  common_line no_put no_delete no_get (Ok o) h = finds_common line name (texts words) same no_put no_delete no_get o h
-  common_line no_put no_delete no_get (Err e) h = tt
+  pub common_line : (name ≡ codes "kput" → ⊥) → (name ≡ codes "kdel" → ⊥) → (name ≡ codes "kget" → ⊥) → (r : Result ItemEvent LineFault) → Reads (IsCommon line) r → Reads (Spells line) r
+  common_line no_put no_delete no_get r h = reads_common line name (texts words) same no_put no_delete no_get r h
 
 -- a test that failed
 pub failed : (b : Bool) {P : Type 0} → b ≡ false → (P → b ≡ true) → P → ⊥

@@ -1,10 +1,13 @@
 -- What a request for an item with given words is.
-use Rattle.std.proofs.Common.{◌≡◌, ℕ, false, ◌⊎◌, inl, inr, ◌<◌, ◌≤◌, List, [], ◌∷◌, length, Bor, slice_index_or, refl, sym, ◌∙◌, ap, arith, nat_eq, codes, decimal}
+use Rattle.std.proofs.Common.{◌≡◌, ℕ, false, ◌⊎◌, inl, inr, ◌<◌, ◌≤◌, List, [], ◌∷◌, length, Bor, slice_index_or, Err, refl, sym, ◌∙◌, ap, arith, nat_eq, codes, decimal}
 use Rattle.std.specs.Cmp.Lexicographic.{pointwise, told_text}
 use Rattle.std.proofs.lemmas.List.{length-map}
 use Rattle.store_model.specs.declared.event.Event.TheVariants as event
 use Rattle.text_model.specs.Grammar.{IsIn, IsFrom, first_word}
+use Rattle.schedule_text.specs.declared.fault.LineFault.{LineFault}
 use Rattle.schedule_text.specs.Kinds.{texts}
+use Rattle.schedule_text.specs.Reads.{Reads}
+use Rattle.schedule_text.proofs.Inverse.{unread}
 use Rattle.k2v_model.specs.declared.order.Item.{Item}
 use Rattle.k2v_text.specs.declared.event.ItemEvent.{ItemEvent}
 use Rattle.k2v_text.specs.declared.event.ItemEvent.TheVariants.{Common, Put, Delete, Get}
@@ -13,6 +16,10 @@ use Rattle.k2v_lines.specs.Words.{IsItem, IsSpelledBy}
 
 abbrev Words : Type 0
 Words = List (Bor (List ℕ))
+
+-- a word spells a number in this range
+abbrev pub IsNumber : List ℕ → ℕ → ℕ → ℕ → Type 0
+IsNumber word low high n = (word ≡ decimal n) × IsFrom low high n
 
 -- the bytes of word i
 abbrev pub at : Words → ℕ → List ℕ
@@ -73,15 +80,17 @@ module _ (words : Words) where
   get_few few e h = let n = length_of words _ (get_parts (texts words) e h).words in elim few [ inl k ↦ omega (arith, n) | inr k ↦ omega (arith, n) ]
 
   module _ (low : 4 ≤ length words) (high : length words < 5) where
-    pub get_nowhere : ((n : ℕ) → (at words 0 ≡ decimal n) × IsFrom 1 16 n → ⊥) → (e : ItemEvent) → IsSpelledBy (codes "kget" ∷ texts words) e → ⊥
-    get_nowhere none e h = let p = get_parts (texts words) e h in let t = four words low high in let w = p.words in none p.node (cc, p.allowed.0)
+    pub get_nowhere : (f : LineFault) → Reads (IsNumber (at words 0) 1 16) (Err f) → Reads (IsSpelledBy (codes "kget" ∷ texts words)) (Err f)
+    get_nowhere f none = unread _ (IsNumber (at words 0) 1 16) f (λ e h. let p = get_parts (texts words) e h in let t = four words low high in let w = p.words in (p.node, (cc, p.allowed.0))) none
 
-    pub get_nothing : ((i : Item) → IsItem (at words 1) (at words 2) (at words 3) i → ⊥) → (e : ItemEvent) → IsSpelledBy (codes "kget" ∷ texts words) e → ⊥
-    get_nothing none e h =
+    pub get_nothing : (f : LineFault) → Reads (IsItem (at words 1) (at words 2) (at words 3)) (Err f) → Reads (IsSpelledBy (codes "kget" ∷ texts words)) (Err f)
+    get_nothing f none =
+        unread _ (IsItem (at words 1) (at words 2) (at words 3)) f
+        (λ e h.
         let p = get_parts (texts words) e h in
         let t = four words low high in
-        let w = p.words in
-        none p.item (record { bucket_is = cc; pk_is = cc; sk_is = cc; allowed = p.allowed.1 })
+        let w = p.words in (p.item, record { bucket_is = cc; pk_is = cc; sk_is = cc; allowed = p.allowed.1 }))
+        none
 
     pub get_read : (n : ℕ) (i : Item) → (at words 0 ≡ decimal n) × IsFrom 1 16 n → IsItem (at words 1) (at words 2) (at words 3) i → IsSpelledBy (codes "kget" ∷ texts words) (Get n i)
     get_read n i at_n is = record {
@@ -110,18 +119,22 @@ module _ (words : Words) where
   delete_few few e h = let n = length_of words _ (delete_parts (texts words) e h).words in elim few [ inl k ↦ omega (arith, n) | inr k ↦ omega (arith, n) ]
 
   module _ (low : 5 ≤ length words) (high : length words < 6) where
-    pub delete_nowhere : ((n : ℕ) → (at words 0 ≡ decimal n) × IsFrom 1 16 n → ⊥) → (e : ItemEvent) → IsSpelledBy (codes "kdel" ∷ texts words) e → ⊥
-    delete_nowhere none e h = let p = delete_parts (texts words) e h in let t = five words low high in let w = p.words in none p.node (cc, p.allowed.0)
+    pub delete_nowhere : (f : LineFault) → Reads (IsNumber (at words 0) 1 16) (Err f) → Reads (IsSpelledBy (codes "kdel" ∷ texts words)) (Err f)
+    delete_nowhere f none =
+        unread _ (IsNumber (at words 0) 1 16) f (λ e h. let p = delete_parts (texts words) e h in let t = five words low high in let w = p.words in (p.node, (cc, p.allowed.0))) none
 
-    pub delete_tokenless : ((n : ℕ) → (at words 4 ≡ decimal n) × IsFrom 0 4294967295 n → ⊥) → (e : ItemEvent) → IsSpelledBy (codes "kdel" ∷ texts words) e → ⊥
-    delete_tokenless none e h = let p = delete_parts (texts words) e h in let t = five words low high in let w = p.words in none p.token (cc, p.token_allowed)
+    pub delete_tokenless : (f : LineFault) → Reads (IsNumber (at words 4) 0 4294967295) (Err f) → Reads (IsSpelledBy (codes "kdel" ∷ texts words)) (Err f)
+    delete_tokenless f none =
+        unread _ (IsNumber (at words 4) 0 4294967295) f (λ e h. let p = delete_parts (texts words) e h in let t = five words low high in let w = p.words in (p.token, (cc, p.token_allowed))) none
 
-    pub delete_nothing : ((i : Item) → IsItem (at words 1) (at words 2) (at words 3) i → ⊥) → (e : ItemEvent) → IsSpelledBy (codes "kdel" ∷ texts words) e → ⊥
-    delete_nothing none e h =
+    pub delete_nothing : (f : LineFault) → Reads (IsItem (at words 1) (at words 2) (at words 3)) (Err f) → Reads (IsSpelledBy (codes "kdel" ∷ texts words)) (Err f)
+    delete_nothing f none =
+        unread _ (IsItem (at words 1) (at words 2) (at words 3)) f
+        (λ e h.
         let p = delete_parts (texts words) e h in
         let t = five words low high in
-        let w = p.words in
-        none p.item (record { bucket_is = cc; pk_is = cc; sk_is = cc; allowed = p.allowed.1 })
+        let w = p.words in (p.item, record { bucket_is = cc; pk_is = cc; sk_is = cc; allowed = p.allowed.1 }))
+        none
 
     pub delete_read : (n : ℕ) (i : Item) (token : ℕ) → (at words 0 ≡ decimal n) × IsFrom 1 16 n → IsItem (at words 1) (at words 2) (at words 3) i → (at words 4 ≡ decimal token) × IsFrom 0 4294967295 token →
         IsSpelledBy (codes "kdel" ∷ texts words) (Delete n i token)
@@ -166,24 +179,30 @@ module _ (words : Words) where
   put_few few e h = let n = length_of words _ (put_parts (texts words) e h).words in elim few [ inl k ↦ omega (arith, n) | inr k ↦ omega (arith, n) ]
 
   module _ (low : 7 ≤ length words) (high : length words < 8) where
-    pub put_nowhere : ((n : ℕ) → (at words 0 ≡ decimal n) × IsFrom 1 16 n → ⊥) → (e : ItemEvent) → IsSpelledBy (codes "kput" ∷ texts words) e → ⊥
-    put_nowhere none e h = let p = put_parts (texts words) e h in let t = seven words low high in let w = p.words in none p.node (cc, p.allowed.0)
+    pub put_nowhere : (f : LineFault) → Reads (IsNumber (at words 0) 1 16) (Err f) → Reads (IsSpelledBy (codes "kput" ∷ texts words)) (Err f)
+    put_nowhere f none =
+        unread _ (IsNumber (at words 0) 1 16) f (λ e h. let p = put_parts (texts words) e h in let t = seven words low high in let w = p.words in (p.node, (cc, p.allowed.0))) none
 
-    pub put_sizeless : ((n : ℕ) → (at words 4 ≡ decimal n) × IsFrom 0 65536 n → ⊥) → (e : ItemEvent) → IsSpelledBy (codes "kput" ∷ texts words) e → ⊥
-    put_sizeless none e h = let p = put_parts (texts words) e h in let t = seven words low high in let w = p.words in none p.size (cc, p.size_allowed)
+    pub put_sizeless : (f : LineFault) → Reads (IsNumber (at words 4) 0 65536) (Err f) → Reads (IsSpelledBy (codes "kput" ∷ texts words)) (Err f)
+    put_sizeless f none =
+        unread _ (IsNumber (at words 4) 0 65536) f (λ e h. let p = put_parts (texts words) e h in let t = seven words low high in let w = p.words in (p.size, (cc, p.size_allowed))) none
 
-    pub put_fillless : ((n : ℕ) → (at words 5 ≡ decimal n) × IsFrom 0 250 n → ⊥) → (e : ItemEvent) → IsSpelledBy (codes "kput" ∷ texts words) e → ⊥
-    put_fillless none e h = let p = put_parts (texts words) e h in let t = seven words low high in let w = p.words in none p.fill (cc, p.fill_allowed)
+    pub put_fillless : (f : LineFault) → Reads (IsNumber (at words 5) 0 250) (Err f) → Reads (IsSpelledBy (codes "kput" ∷ texts words)) (Err f)
+    put_fillless f none =
+        unread _ (IsNumber (at words 5) 0 250) f (λ e h. let p = put_parts (texts words) e h in let t = seven words low high in let w = p.words in (p.fill, (cc, p.fill_allowed))) none
 
-    pub put_tokenless : ((n : ℕ) → (at words 6 ≡ decimal n) × IsFrom 0 4294967295 n → ⊥) → (e : ItemEvent) → IsSpelledBy (codes "kput" ∷ texts words) e → ⊥
-    put_tokenless none e h = let p = put_parts (texts words) e h in let t = seven words low high in let w = p.words in none p.token (cc, p.token_allowed)
+    pub put_tokenless : (f : LineFault) → Reads (IsNumber (at words 6) 0 4294967295) (Err f) → Reads (IsSpelledBy (codes "kput" ∷ texts words)) (Err f)
+    put_tokenless f none =
+        unread _ (IsNumber (at words 6) 0 4294967295) f (λ e h. let p = put_parts (texts words) e h in let t = seven words low high in let w = p.words in (p.token, (cc, p.token_allowed))) none
 
-    pub put_nothing : ((i : Item) → IsItem (at words 1) (at words 2) (at words 3) i → ⊥) → (e : ItemEvent) → IsSpelledBy (codes "kput" ∷ texts words) e → ⊥
-    put_nothing none e h =
+    pub put_nothing : (f : LineFault) → Reads (IsItem (at words 1) (at words 2) (at words 3)) (Err f) → Reads (IsSpelledBy (codes "kput" ∷ texts words)) (Err f)
+    put_nothing f none =
+        unread _ (IsItem (at words 1) (at words 2) (at words 3)) f
+        (λ e h.
         let p = put_parts (texts words) e h in
         let t = seven words low high in
-        let w = p.words in
-        none p.item (record { bucket_is = cc; pk_is = cc; sk_is = cc; allowed = p.allowed.1 })
+        let w = p.words in (p.item, record { bucket_is = cc; pk_is = cc; sk_is = cc; allowed = p.allowed.1 }))
+        none
 
     pub put_read : (n : ℕ) (i : Item) (size fill token : ℕ) → (at words 0 ≡ decimal n) × IsFrom 1 16 n → IsItem (at words 1) (at words 2) (at words 3) i → (at words 4 ≡ decimal size) × IsFrom 0 65536 size →
         (at words 5 ≡ decimal fill) × IsFrom 0 250 fill → (at words 6 ≡ decimal token) × IsFrom 0 4294967295 token → IsSpelledBy (codes "kput" ∷ texts words) (Put n i size fill token)

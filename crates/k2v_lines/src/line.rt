@@ -1,16 +1,16 @@
 //! The event that a line spells.
-ghost use Rattle.std.specs.Prelude.{◌≡◌, ◌↔◌, ◌∷◌, codes, take, IsTrue, IfOk};
+ghost use Rattle.std.specs.Prelude.{◌≡◌, ◌∷◌, codes, take, IfOk};
 ghost use Rattle.crdt_core.specs.Outcomes.{OnlyWant};
 ghost use Rattle.schedule_text.specs.Kinds.{texts};
-ghost use Rattle.schedule_text.specs.Reads.{Finds};
+ghost use Rattle.schedule_text.specs.Reads.{Finds, Reads};
 ghost use Rattle.text_model.specs.Words.{words_in};
 ghost use Rattle.k2v_text.specs.Grammar.{Spells, is_common};
 ghost use Rattle.k2v_lines.specs.Words.{IsSpelledBy, IsCommon};
 
-use crate::words::{item, number};
+use crate::words::item;
 use crdt_core::Memory;
 use k2v_text::ItemEvent;
-use schedule_text::event_line;
+use schedule_text::{LineFault, event_line, is, number};
 use std::alloc::{AllocError, Global};
 use store_model::Event;
 
@@ -18,79 +18,46 @@ use store_model::Event;
 const TOKEN_LIMIT: u64 = 4_294_967_295;
 
 /// A request to write a value, by the words behind its name.
-fn put(alloc: Global, words: &[&[u8]]) -> Result<Option<ItemEvent>, Memory>
-    ensures event { IfOk result (Finds (IsSpelledBy (codes "kput" ∷ texts words.now))) }
-    ensures want { OnlyWant result }
+fn put(alloc: Global, words: &[&[u8]]) -> Result<ItemEvent, LineFault>
+    ensures { Reads (IsSpelledBy (codes "kput" ∷ texts words.now)) result }
 {
-    let [at, bucket, pk, sk, size, fill, token] = *words else {
-        return Ok(None);
-    };
-    let Some(node) = number(at, 1, 16) else {
-        return Ok(None);
-    };
-    let Some(size) = number(size, 0, 65_536) else {
-        return Ok(None);
-    };
-    let Some(fill) = number(fill, 0, 250) else {
-        return Ok(None);
-    };
-    let Some(token) = number(token, 0, TOKEN_LIMIT) else {
-        return Ok(None);
-    };
-    let Some(item) = item(alloc, bucket, pk, sk)? else {
-        return Ok(None);
-    };
-    Ok(Some(ItemEvent::Put {
-        node: node as u8,
-        item,
-        size: size as u32,
-        fill: fill as u8,
-        token,
-    }))
+    match *words {
+        [at, bucket, pk, sk, size, fill, token] => Ok(ItemEvent::Put {
+            node: number(at, 1, 16)? as u8,
+            item: item(alloc, bucket, pk, sk)?,
+            size: number(size, 0, 65_536)? as u32,
+            fill: number(fill, 0, 250)? as u8,
+            token: number(token, 0, TOKEN_LIMIT)?,
+        }),
+        _ => Err(LineFault::Outside),
+    }
 }
 
 /// A request to write that there is no value, by the words behind its name.
-fn delete(alloc: Global, words: &[&[u8]]) -> Result<Option<ItemEvent>, Memory>
-    ensures event { IfOk result (Finds (IsSpelledBy (codes "kdel" ∷ texts words.now))) }
-    ensures want { OnlyWant result }
+fn delete(alloc: Global, words: &[&[u8]]) -> Result<ItemEvent, LineFault>
+    ensures { Reads (IsSpelledBy (codes "kdel" ∷ texts words.now)) result }
 {
-    let [at, bucket, pk, sk, token] = *words else {
-        return Ok(None);
-    };
-    let Some(node) = number(at, 1, 16) else {
-        return Ok(None);
-    };
-    let Some(token) = number(token, 0, TOKEN_LIMIT) else {
-        return Ok(None);
-    };
-    let Some(item) = item(alloc, bucket, pk, sk)? else {
-        return Ok(None);
-    };
-    Ok(Some(ItemEvent::Delete {
-        node: node as u8,
-        item,
-        token,
-    }))
+    match *words {
+        [at, bucket, pk, sk, token] => Ok(ItemEvent::Delete {
+            node: number(at, 1, 16)? as u8,
+            item: item(alloc, bucket, pk, sk)?,
+            token: number(token, 0, TOKEN_LIMIT)?,
+        }),
+        _ => Err(LineFault::Outside),
+    }
 }
 
 /// A request to read, by the words behind its name.
-fn get(alloc: Global, words: &[&[u8]]) -> Result<Option<ItemEvent>, Memory>
-    ensures event { IfOk result (Finds (IsSpelledBy (codes "kget" ∷ texts words.now))) }
-    ensures want { OnlyWant result }
+fn get(alloc: Global, words: &[&[u8]]) -> Result<ItemEvent, LineFault>
+    ensures { Reads (IsSpelledBy (codes "kget" ∷ texts words.now)) result }
 {
-    let [at, bucket, pk, sk] = *words else {
-        return Ok(None);
-    };
-    let Some(node) = number(at, 1, 16) else {
-        return Ok(None);
-    };
-    let Some(item) = item(alloc, bucket, pk, sk)? else {
-        return Ok(None);
-    };
-    Ok(Some(ItemEvent::Get {
-        node: node as u8,
-        item,
-    }))
+    match *words {
+        [at, bucket, pk, sk] => Ok(ItemEvent::Get {
+            node: number(at, 1, 16)? as u8,
+            item: item(alloc, bucket, pk, sk)?,
+        }),
+        _ => Err(LineFault::Outside),
+    }
 }
 
 /// Whether both kinds of schedules have an event: it concerns no object and no size of blocks.
@@ -110,20 +77,16 @@ fn is_common(event: &Event) -> bool
 }
 
 /// The event of a line that schedules of objects have too.
-fn common(alloc: Global, line: &[u8]) -> Result<Option<ItemEvent>, Memory>
-    ensures event { IfOk result (Finds (IsCommon line.now)) }
-    ensures want { OnlyWant result }
+fn common(alloc: Global, line: &[u8]) -> Result<ItemEvent, LineFault>
+    ensures { Reads (IsCommon line.now) result }
 {
-    match event_line(alloc, line)? {
-        Some(event) => {
-            if is_common(&event) {
-                Ok(Some(ItemEvent::Common(event)))
-            } else {
-                Ok(None)
-            }
-        }
-        None => Ok(None),
+    let Some(event) = event_line(alloc, line)? else {
+        return Err(LineFault::Outside);
+    };
+    if !is_common(&event) {
+        return Err(LineFault::Outside);
     }
+    Ok(ItemEvent::Common(event))
 }
 
 /// The first words of a line: no event has more than eight, so a ninth stands for all the others.
@@ -133,23 +96,15 @@ fn words(alloc: Global, line: &[u8]) -> Result<Vec<&[u8]>, AllocError>
     line.split(|byte| *byte == b' ').take(9).collect(alloc)
 }
 
-/// Whether a word is this name.
-fn is(word: &[u8], name: &[u8]) -> bool
-    ensures { IsTrue result ↔ (word.now ≡ name.now) }
-{
-    word == name
-}
-
 /// The event that the words of a line spell, which begins so, or that the line spells as one that schedules of objects have.
 fn spelled(
     alloc: Global,
     line: &[u8],
     name: &[u8],
     words: &[&[u8]],
-) -> Result<Option<ItemEvent>, Memory>
+) -> Result<ItemEvent, LineFault>
     requires first { take 9 (words_in line.now) ≡ name.now ∷ texts words.now }
-    ensures spelled { IfOk result (Finds (Spells line.now)) }
-    ensures want { OnlyWant result }
+    ensures { Reads (Spells line.now) result }
 {
     if is(name, b"kput") {
         put(alloc, words)
@@ -162,15 +117,26 @@ fn spelled(
     }
 }
 
+/// The event that a line spells.
+fn event_in(alloc: Global, line: &[u8]) -> Result<ItemEvent, LineFault>
+    ensures { Reads (Spells line.now) result }
+{
+    let words = words(alloc, line)?;
+    match words.as_slice() {
+        [name, rest @ ..] => spelled(alloc, line, name, rest),
+        [] => Err(LineFault::Outside),
+    }
+}
+
 /// The event that a line of a schedule over items spells, or none where it spells none: also where the line is empty or
 /// begins with `#`.
 pub fn item_line(alloc: Global, line: &[u8]) -> Result<Option<ItemEvent>, Memory>
     ensures spelled { IfOk result (Finds (Spells line.now)) }
     ensures want { OnlyWant result }
 {
-    let words = words(alloc, line)?;
-    match words.as_slice() {
-        [name, rest @ ..] => spelled(alloc, line, name, rest),
-        [] => Ok(None),
+    match event_in(alloc, line) {
+        Ok(event) => Ok(Some(event)),
+        Err(LineFault::Outside) => Ok(None),
+        Err(LineFault::Memory) => Err(Memory::Want),
     }
 }
