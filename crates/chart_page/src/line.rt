@@ -32,7 +32,7 @@ pub(crate) enum Line<'a> {
         answer: &'a str,
         is_answered: bool,
     },
-    /// A line of a layout, or a key that a list shows.
+    /// A line of a layout, a key that a list shows, or a value that a read of an item shows.
     Other,
     /// Whether all finished reads are fresh, and how many pairs of a read and a write were looked at.
     Check {
@@ -48,7 +48,7 @@ const KINDS: [&str; 15] = [
     "noblock", "walk", "same", "differ", "view",
 ];
 
-const EVENTS: [&str; 26] = [
+const EVENTS: [&str; 29] = [
     "trio",
     "block",
     "bucket",
@@ -63,6 +63,9 @@ const EVENTS: [&str; 26] = [
     "delete",
     "copy",
     "list",
+    "kput",
+    "kdel",
+    "kget",
     "deliver",
     "lose",
     "drain",
@@ -77,7 +80,9 @@ const EVENTS: [&str; 26] = [
     "repair",
 ];
 
-const REQUESTS: [&str; 6] = ["put", "get", "head", "delete", "copy", "list"];
+const REQUESTS: [&str; 9] = [
+    "put", "get", "head", "delete", "copy", "list", "kput", "kdel", "kget",
+];
 
 const CAUSES: [&str; 3] = ["expired", "restarted", "superseded"];
 
@@ -178,6 +183,7 @@ fn last(words: &[&str]) -> Option<Line<'static>> {
             Some(Line::Last)
         }
         ["key", _, _, size] if are_numbers(&[size]) => Some(Line::Other),
+        ["value", _, size, _] if are_numbers(&[size]) => Some(Line::Other),
         ["limit", "number"] => Some(Line::Last),
         ["limit", "sent", bytes] if are_numbers(&[bytes]) => Some(Line::Last),
         _ if is_layout_line(words) => Some(Line::Other),

@@ -11,9 +11,9 @@ pub(crate) struct Plan {
 }
 
 /// The events whose second word is their node.
-const AT_NODES: [&str; 16] = [
-    "apply", "skew", "put", "get", "head", "delete", "copy", "list", "restart", "gossip", "ack",
-    "sync", "syncack", "clean", "work", "repair",
+const AT_NODES: [&str; 19] = [
+    "apply", "skew", "put", "get", "head", "delete", "copy", "list", "kput", "kdel", "kget",
+    "restart", "gossip", "ack", "sync", "syncack", "clean", "work", "repair",
 ];
 
 /// Whether a line with these words is one of a schedule: of an event, a comment, or empty.
