@@ -1,5 +1,5 @@
 -- From the words of a line to the line.
-use Rattle.std.proofs.Common.{◌≡◌, ℕ, ◌≤◌, Bool, true, false, Option, Some, None, List, [], ◌∷◌, length, take, length-take, Bor, codes, refl, sym, ◌∙◌, ap, subst, arith, lit≤}
+use Rattle.std.proofs.Common.{◌≡◌, ℕ, ◌≤◌, Bool, true, false, Some, None, List, [], ◌∷◌, length, take, length-take, Bor, codes, refl, sym, ◌∙◌, ap, subst, arith, lit≤}
 use Rattle.std.specs.Prelude.{Result, Ok, Err}
 use Rattle.schedule_text.specs.declared.fault.LineFault.{LineFault}
 use Rattle.schedule_text.specs.declared.fault.LineFault.TheVariants.{Outside, Memory}
@@ -93,4 +93,4 @@ module _ (line name : List ℕ) (words : List (Bor (List ℕ))) (same : take 9 (
 
 -- a test that failed
 pub failed : (b : Bool) {P : Type 0} → b ≡ false → (P → b ≡ true) → P → ⊥
-failed b no f h = let yes = f h in cc
+failed b fails f h = let holds = f h in cc

@@ -97,12 +97,7 @@ fn words(alloc: Global, line: &[u8]) -> Result<Vec<&[u8]>, AllocError>
 }
 
 /// The event that the words of a line spell, which begins so, or that the line spells as one that schedules of objects have.
-fn spelled(
-    alloc: Global,
-    line: &[u8],
-    name: &[u8],
-    words: &[&[u8]],
-) -> Result<ItemEvent, LineFault>
+fn spelled(alloc: Global, line: &[u8], name: &[u8], words: &[&[u8]]) -> Result<ItemEvent, LineFault>
     requires first { take 9 (words_in line.now) ≡ name.now ∷ texts words.now }
     ensures { Reads (Spells line.now) result }
 {
