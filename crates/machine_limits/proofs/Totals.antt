@@ -1,7 +1,7 @@
 -- Totals over lists, and lists without a repeat whose elements are all in another.
 use Rattle.std.specs.Prelude.{◌≡◌, ◌≤◌, ℕ, zero, suc, ◌+◌, ◌*◌, Bool, true, false, cond, List, [], ◌∷◌, ◌++◌, length, map, take, refl}
-use Rattle.std.specs.List.{AllByRecursion, filter}
-use Rattle.std.proofs.Common.{ap, sym, subst, ◌∙◌, ◌⊎◌, inl, inr, mul-suc, mul-add, arith}
+use Rattle.std.specs.List.{AllByRecursion, filter, flat_map}
+use Rattle.std.proofs.Common.{ap, sym, subst, ◌∙◌, ◌⊎◌, inl, inr, mul-suc, mul-add, length-append, arith}
 use Rattle.crdt_core.specs.Members.{Has}
 
 -- no element is there twice
@@ -123,3 +123,16 @@ total_weaker f g (x ∷ xs) a = let rest : total f xs ≤ total g xs = total_wea
 pub total_times : {X : Type 0} (n : ℕ) (f : X → ℕ) (xs : List X) → total (λ x. n * f x) xs ≡ n * total f xs
 total_times n f [] = omega arith
 total_times n f (x ∷ xs) = let rest : total (λ x. n * f x) xs ≡ n * total f xs = total_times n f xs in let more : n * (f x + total f xs) ≡ n * f x + n * total f xs = mul-add n (f x) (total f xs) in omega arith
+
+pub total_same : {X : Type 0} (f g : X → ℕ) → ((x : X) → f x ≡ g x) → (xs : List X) → total f xs ≡ total g xs
+total_same f g h [] = refl
+total_same f g h (x ∷ xs) = let rest = total_same f g h xs in let here = h x in omega (arith, rest, here)
+
+-- each counts at most so much
+pub total_most : {X : Type 0} (f : X → ℕ) (n : ℕ) (xs : List X) → AllByRecursion (λ x. f x ≤ n) xs → total f xs ≤ n * length xs
+total_most f n [] a = omega arith
+total_most f n (x ∷ xs) a = let rest : total f xs ≤ n * length xs = total_most f n xs a.1 in let here : f x ≤ n = a.0 in let more : n * suc (length xs) ≡ n * length xs + n = mul-suc n (length xs) in omega arith
+
+pub flat_length : {X : Type 0} (f : X → List ℕ) (xs : List X) → length (flat_map f xs) ≡ total (λ x. length (f x)) xs
+flat_length f [] = refl
+flat_length f (x ∷ xs) = length-append (f x) (flat_map f xs) ∙ ap (λ n. length (f x) + n) (flat_length f xs)
