@@ -7,4 +7,4 @@ pub mod Limits
 pub mod Cutting
 pub mod Ending
 pub mod Further
-pub mod Moments
+pub mod Keeping

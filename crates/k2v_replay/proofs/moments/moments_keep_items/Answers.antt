@@ -1,4 +1,4 @@
-use Rattle.k2v_replay.proofs.Moments.{moments_keep}
+use Rattle.k2v_replay.proofs.Keeping.{moments_keep}
 use Rattle.k2v_replay.proofs.moments.moments_keep_items.Goals as goal
 
 pub returns : goal.returns
