@@ -24,7 +24,7 @@ use Rattle.k2v_api.proofs.Causes.{stop_is}
 use Rattle.k2v_replay.proofs.Turns.{run_push, front_push, events_push, played_none, played_push}
 
 -- what the items took is a turn, with what is written of what it told
-pub turns_one : (old new : ItemWorld) (told : ItemTold) (e : NumberedItemEvent) (text : List ℕ) → ((s : State) → IsItems old s → Takes new told s e.event) →
+turns_one : (old new : ItemWorld) (told : ItemTold) (e : NumberedItemEvent) (text : List ℕ) → ((s : State) → IsItems old s → Takes new told s e.event) →
     text ≡ told_text e.line (name_of e.event) told.refused told.words told.lines → TurnsOne old new e text
 turns_one old new told e text takes is s stands =
     let d = takes s stands in
@@ -39,6 +39,11 @@ turns_one old new told e text takes is s stands =
           ∙ ap (λ w. told_text e.line (name_of e.event) o.refused w told.lines) d.tells.words
           ∙ ap (λ ls. told_text e.line (name_of e.event) o.refused o.words ls) d.tells.lines;
     }
+
+-- the same, where the name is told apart
+pub turns_named : (old new : ItemWorld) (told : ItemTold) (e : NumberedItemEvent) (text name : List ℕ) → ((s : State) → IsItems old s → Takes new told s e.event) →
+    name ≡ name_of e.event → text ≡ told_text e.line name told.refused told.words told.lines → TurnsOne old new e text
+turns_named old new told e text name takes same is = turns_one old new told e text takes (is ∙ ap (λ (n : List ℕ). told_text e.line n told.refused told.words told.lines) same)
 
 -- the first i events were played, with some layouts, and what is written of them was written
 pub record Running (items : ItemWorld) (old now : Option (List ℕ)) (events : List NumberedItemEvent) (i : ℕ) : Type 0 where
