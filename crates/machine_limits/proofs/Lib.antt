@@ -1,0 +1,13 @@
+pub mod Totals
+pub mod Contents
+pub mod Posts
+pub mod Nodes
+pub mod Worlds
+pub mod Weaker
+pub mod Spending
+pub mod Given
+pub mod Moves
+pub mod Runs
+pub mod Stepwise
+pub mod Room
+pub mod Lists
