@@ -12,7 +12,7 @@ use Rattle.crdt_core.specs.Lex.{by_order}
 use Rattle.crdt_core.specs.Entries.{is_below, is_ascending, value_at}
 use Rattle.crdt_core.specs.EntryLaws.{and_parts, below_none}
 use Rattle.object_origins.proofs.Given.{entries_found}
-use Rattle.limit_rows.proofs.Totals.{AreApart}
+use Rattle.machine_limits.proofs.Totals.{AreApart}
 
 pub has_key : {K V : Type 0} (es : List (K × V)) (e : K × V) → Has es e → Has (map (λ (x : K × V). x.0) es) e.0
 has_key [] e h = elim h [ ]

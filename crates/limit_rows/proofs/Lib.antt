@@ -1,5 +1,4 @@
-pub mod Totals
 pub mod Keyed
 pub mod Handed
 pub mod Weights
-pub mod Contents
+pub mod Bounded

@@ -1,5 +1,5 @@
 -- How many bytes a row counts: a row that fits has a spelling, and a merge counts no more than both rows, the rows that it calls for among it.
-use Rattle.std.specs.Prelude.{◌≡◌, ◌≤◌, ◌<◌, ◌^◌, ◌+◌, ◌*◌, ℕ, suc, Bool, true, false, not, ◌&&◌, List, [], ◌∷◌, ◌++◌, Option, Some, None, option_map, is_none, map, filter, length, refl}
+use Rattle.std.specs.Prelude.{◌≡◌, ◌≤◌, ◌^◌, ◌+◌, ◌*◌, ℕ, suc, Bool, true, false, not, ◌&&◌, List, [], ◌∷◌, ◌++◌, Option, Some, None, option_map, is_none, map, filter, length, refl}
 use Rattle.std.specs.List.{AllByRecursion, list_all, flat_map}
 use Rattle.std.specs.declared.cmp.Ordering.{Ordering}
 use Rattle.std.specs.declared.cmp.Ordering.TheVariants.{Less, Equal, Greater}
@@ -50,20 +50,10 @@ use Rattle.object_schema.specs.Laws.{object_keys, version_ids}
 use Rattle.row_codec.proofs.ByteOrder.{four_length, eight_length}
 use Rattle.object_origins.proofs.Given.{entries_found}
 use Rattle.object_origins.proofs.Shown.{Facts, neither, undeleted}
-use Rattle.limit_rows.proofs.Totals.{AreApart, has_left, has_right, has_parts, has_filter, all_has, all_from, apart_filter, apart_append, total, total_append, total_least, total_ones, fewer}
+use Rattle.machine_limits.proofs.Totals.{AreApart, has_left, has_right, has_parts, has_filter, all_has, all_from, apart_filter, apart_append, total, total_append, total_least, total_ones, fewer, flat_length}
+use Rattle.machine_limits.proofs.Lists.{all_pass, below_is}
 use Rattle.limit_rows.proofs.Keyed.{apart_keys, apart_entries, there}
 use Rattle.limit_rows.specs.Fitting.{Drawn, AreWithin, MetaFits, StateFits, SaysFits, RowFits, weight}
-
-all_pass : {X : Type 0} (test : X → Bool) (xs : List X) → AllByRecursion (λ x. test x ≡ true) xs → list_all test xs ≡ true
-all_pass test [] a = refl
-all_pass test (x ∷ xs) a = and_both (test x) (list_all test xs) a.0 (all_pass test xs a.1)
-
-flat_length : {X : Type 0} (f : X → List ℕ) (xs : List X) → length (flat_map f xs) ≡ total (λ x. length (f x)) xs
-flat_length f [] = refl
-flat_length f (x ∷ xs) = length-append (f x) (flat_map f xs) ∙ ap (λ n. length (f x) + n) (flat_length f xs)
-
-below_is : {X : Type 0} (xs : List X) → length xs < 4294967296 → is_below xs ≡ true
-below_is xs h = lt-ltb (length xs) (2 ^ 32) h
 
 -- ---- object rows
 
@@ -159,11 +149,11 @@ module _ (t : ℕ) (v : Drawn) (within : AreWithin t v) where
       let top = within.few in
       let short = f.0.2 in
       let ranges : in_range (rows.Object r) ≡ true =
-      and_both (is_hash r.bucket) _ f.0.0 (and_both (are_bytes r.key) _ f.0.1 (all_pass (λ (e : Entry). version_in_range e.0 && state_in_range e.1.0) es
-      (all_weaker (λ (e : Entry). Has v.versions e.0 × StateFits e.1.0) (λ (e : Entry). (version_in_range e.0 && state_in_range e.1.0) ≡ true) (λ e h. and_both (version_in_range e.0) (state_in_range e.1.0) (version_range e.0 h.0) (state_range e.1.0 h.1).0) es fit))) in
+      and_both (is_hash r.bucket) _ f.0.0 (and_both (are_bytes r.key) _ f.0.1 (all_pass (λ (e : Entry). Has v.versions e.0 × StateFits e.1.0) (λ (e : Entry). version_in_range e.0 && state_in_range e.1.0)
+      (λ e h. and_both (version_in_range e.0) (state_in_range e.1.0) (version_range e.0 h.0) (state_range e.1.0 h.1).0) es fit)) in
       let lengths : has_bytes (rows.Object r) ≡ true =
-      and_both (is_below r.key) _ (below_is r.key (omega arith)) (and_both (is_below es) _ (below_is es (omega arith)) (all_pass (λ (e : Entry). is_short_state e.1.0) es
-      (all_weaker (λ (e : Entry). Has v.versions e.0 × StateFits e.1.0) (λ (e : Entry). is_short_state e.1.0 ≡ true) (λ e h. (state_range e.1.0 h.1).1) es fit))) in
+      and_both (is_below r.key) _ (below_is r.key (omega arith)) (and_both (is_below es) _ (below_is es (omega arith)) (all_pass (λ (e : Entry). Has v.versions e.0 × StateFits e.1.0) (λ (e : Entry). is_short_state e.1.0)
+      (λ e h. (state_range e.1.0 h.1).1) es fit)) in
       rw (ranges, lengths) refl
 
 -- ---- version rows
@@ -234,9 +224,9 @@ module _ (t : ℕ) (v : Drawn) (within : AreWithin t v) where
       let d = within.few_parts in
       let top = within.few in
       let ranges : in_range (rows.Version (of_blocks id (Present m))) ≡ true =
-      and_both (is_eight id) _ f.0 (all_pass (λ (e : Place). part_in_range e.0 && block_in_range e.1.0) es
-      (all_weaker (λ (e : Place). Has v.parts e.0 × (block_in_range e.1.0 ≡ true)) (λ (e : Place). (part_in_range e.0 && block_in_range e.1.0) ≡ true) (λ e h. and_both (part_in_range e.0) (block_in_range e.1.0) (part_range e.0 h.0) h.1) es fit)) in
-      let lengths : has_bytes (rows.Version (of_blocks id (Present m))) ≡ true = and_both (is_below es) _ (below_is es (omega arith)) (all_pass (λ (e : Place). true) es (all_weaker (λ (e : Place). Has v.parts e.0 × (block_in_range e.1.0 ≡ true)) (λ (e : Place). true ≡ true) (λ e h. refl) es fit)) in
+      and_both (is_eight id) _ f.0 (all_pass (λ (e : Place). Has v.parts e.0 × (block_in_range e.1.0 ≡ true)) (λ (e : Place). part_in_range e.0 && block_in_range e.1.0)
+      (λ e h. and_both (part_in_range e.0) (block_in_range e.1.0) (part_range e.0 h.0) h.1) es fit) in
+      let lengths : has_bytes (rows.Version (of_blocks id (Present m))) ≡ true = and_both (is_below es) _ (below_is es (omega arith)) (all_pass (λ (e : Place). Has v.parts e.0 × (block_in_range e.1.0 ≡ true)) (λ (e : Place). true) (λ e h. refl) es fit) in
       rw (ranges, lengths) refl
     where
       part_range : (p : Part) → Has v.parts p → part_in_range p ≡ true
