@@ -1,14 +1,13 @@
 -- Rows that fit: of the first requests, with short keys and values. Merges and writes hand this on, and tokens are of such times.
-use Rattle.std.specs.Prelude.{◌≡◌, ◌≤◌, ◌<◌, ℕ, Bool, true, false, List, [], ◌∷◌, Option, Some, None, length, map, refl, ⊤}
+use Rattle.std.specs.Prelude.{◌≡◌, ◌≤◌, ℕ, Bool, true, false, List, [], ◌∷◌, length, refl, ⊤}
 use Rattle.std.specs.List.{AllByRecursion}
 use Rattle.std.specs.declared.cmp.Ordering.{Ordering}
 use Rattle.std.specs.declared.cmp.Ordering.TheVariants.{Less, Equal, Greater}
 use Rattle.std.specs.Ordering.{nat_cmp}
-use Rattle.std.proofs.Common.{subst, arith}
-use Rattle.crdt_core.proofs.Each.{all_weaker}
+use Rattle.std.proofs.Common.{arith}
 use Rattle.crdt_core.specs.declared.max.Max.{Max}
 use Rattle.crdt_core.specs.Entries.{is_ascending}
-use Rattle.crdt_core.specs.Lex.{by_order, larger}
+use Rattle.crdt_core.specs.Lex.{by_order}
 use Rattle.crdt_core.specs.Map.{map_entries, map_join, map_single}
 use Rattle.crdt_core.specs.Max.{max_join}
 use Rattle.row_codec.specs.Reads.{are_bytes}
@@ -19,8 +18,8 @@ use Rattle.k2v_rows.specs.declared.writes.Writes.{Writes}
 use Rattle.k2v_rows.specs.declared.k2v_row.K2vRow.{K2vRow}
 use Rattle.k2v_rows.specs.Later.{are_later, greatest_from}
 use Rattle.k2v_rows.specs.Value.{value_cmp}
-use Rattle.k2v_rows.specs.Values.{ValueMap, later_values}
-use Rattle.k2v_rows.specs.Writes.{greatest_time, joined_discard, joined_values, writes_of, writes_join}
+use Rattle.k2v_rows.specs.Values.{ValueMap}
+use Rattle.k2v_rows.specs.Writes.{joined_discard, joined_values, writes_of, writes_join}
 use Rattle.k2v_rows.specs.Token.{WritesMap, TimeMap, entries_join, token_entries, discarded, raised}
 use Rattle.k2v_rows.specs.Row.{ItemKey, item_key, item_cmp, row_join, written, after_put}
 use Rattle.k2v_model.specs.Orders.{times_by, token_in}

@@ -1,5 +1,5 @@
 -- Turns of a schedule over items within the limits: after each of their steps there is room.
-use Rattle.std.specs.Prelude.{◌≡◌, ◌≤◌, ◌<◌, ◌+◌, ◌*◌, ◌^◌, ◌%◌, ◌==◌, ◌||◌, ℕ, zero, suc, Bool, true, false, nat_lt, nat_le, IsTrue, List, [], ◌∷◌, ◌++◌, Option, Some, None, length, refl, ⊤}
+use Rattle.std.specs.Prelude.{◌≡◌, ◌≤◌, ◌<◌, ◌+◌, ◌*◌, ℕ, zero, suc, false, IsTrue, List, [], ◌∷◌, ◌++◌, Option, Some, None, length, refl, ⊤}
 use Rattle.std.specs.List.{AllByRecursion}
 use Rattle.std.proofs.Common.{sym, subst, arith}
 use Rattle.layout_roles.specs.declared.layout.Layout.{Layout}
@@ -44,7 +44,7 @@ use Rattle.limit_laws.proofs.Words.{hash_of, key_fits, object_fits}
 use Rattle.k2v_limits.specs.Limits.{AreAllowed}
 use Rattle.k2v_limits.proofs.Rows.{KeyFits, RowFits}
 use Rattle.k2v_limits.proofs.Weights.{weight, rows_bounded}
-use Rattle.k2v_limits.proofs.Requests.{RequestFits, AreRequests, StateFits, state_wider, OutFits, nothing_spent, still_out, OrderFits, delivers_out, begins_out, plain_out}
+use Rattle.k2v_limits.proofs.Requests.{AreRequests, StateFits, state_wider, OutFits, nothing_spent, OrderFits, delivers_out, begins_out, plain_out}
 
 -- a state that a run within the limits came to in so many events
 pub record ReplayFits (e : ℕ) (s : State) : Type 0 where

@@ -1,19 +1,18 @@
 -- How many bytes a row counts: a row that fits has a spelling, of few bytes, and what two rows merge to counts no more than both.
-use Rattle.std.specs.Prelude.{◌≡◌, ◌≤◌, ◌<◌, ◌^◌, ◌+◌, ◌*◌, ℕ, suc, Bool, true, false, ◌&&◌, List, [], ◌∷◌, ◌++◌, Option, Some, None, option_map, length, refl}
-use Rattle.std.specs.List.{AllByRecursion, list_all, flat_map}
+use Rattle.std.specs.Prelude.{◌≡◌, ◌≤◌, ◌^◌, ◌+◌, ℕ, suc, true, ◌&&◌, List, ◌++◌, Some, None, length, refl}
+use Rattle.std.specs.List.{flat_map}
 use Rattle.std.specs.declared.cmp.Ordering.{Ordering}
 use Rattle.std.specs.declared.cmp.Ordering.TheVariants.{Less, Equal, Greater}
-use Rattle.std.specs.Ordering.{nat_cmp}
-use Rattle.std.proofs.Common.{ap, sym, ◌∙◌, arith, mul-suc, mul-le-mul_left, length-append}
+use Rattle.std.proofs.Common.{◌∙◌, arith, length-append}
 use Rattle.std.proofs.lemmas.Bool.{lt-ltb}
 use Rattle.crdt_core.proofs.Each.{all_weaker}
 use Rattle.crdt_core.specs.declared.max.Max.{Max}
 use Rattle.crdt_core.specs.EntryLaws.{and_both}
-use Rattle.crdt_core.specs.Lex.{by_order, larger}
+use Rattle.crdt_core.specs.Lex.{by_order}
 use Rattle.crdt_core.specs.Map.{map_entries, map_join}
 use Rattle.crdt_core.specs.Max.{max_join}
 use Rattle.row_codec.specs.Reads.{are_bytes}
-use Rattle.row_codec.specs.Range.{is_byte, is_eight, is_hash, is_below, are_short}
+use Rattle.row_codec.specs.Range.{is_byte, is_eight, is_hash, is_below}
 use Rattle.row_codec.specs.Spelling.{byte, four, eight, field, counted}
 use Rattle.row_codec.specs.NumberLaws.{block_length}
 use Rattle.row_codec.proofs.ByteOrder.{four_length, eight_length}
@@ -26,7 +25,7 @@ use Rattle.k2v_rows.specs.Range.{value_in_range, writes_in_range, in_range, is_s
 use Rattle.k2v_rows.specs.Spelling.{value as value_bytes, writes as writes_bytes, spelled}
 use Rattle.k2v_rows.specs.Value.{value_cmp}
 use Rattle.k2v_rows.specs.Writes.{joined_discard, joined_values, writes_join}
-use Rattle.k2v_rows.specs.Token.{WritesMap, entries_join}
+use Rattle.k2v_rows.specs.Token.{entries_join}
 use Rattle.k2v_rows.specs.Row.{item_key, item_cmp, row_join}
 use Rattle.k2v_schema.specs.Schema.{words}
 use Rattle.k2v_schema.specs.Laws.{schema_laws}
@@ -166,11 +165,11 @@ writes_joined a b =
     let two = writes_is b in
     writes_have (λ w. writes_weight w ≤ writes_weight a + writes_weight b) (joined_discard a b) (joined_values a b) _ refl a
     (λ kept. (
-        let is = writes_is (record { discard = joined_discard a b; values = joined_values a b; kept = kept }) in
-        let all = join_sum (max_join value_cmp) (λ v. 8 + value_weight v) value_joined a.values b.values in
-        let some = from_sum (λ (e : ℕ × Max K2vValue). 8 + value_weight e.1) (suc (joined_discard a b).0) (map_join (max_join value_cmp) a.values b.values) in
-        omega (arith, one, two, is, all, some)
-        )) (omega arith)
+    let is = writes_is (record { discard = joined_discard a b; values = joined_values a b; kept = kept }) in
+    let all = join_sum (max_join value_cmp) (λ v. 8 + value_weight v) value_joined a.values b.values in
+    let some = from_sum (λ (e : ℕ × Max K2vValue). 8 + value_weight e.1) (suc (joined_discard a b).0) (map_join (max_join value_cmp) a.values b.values) in
+    omega (arith, one, two, is, all, some)
+    )) (omega arith)
 
 entry_joined : (a b : Writes) → 1 + writes_weight (writes_join a b) ≤ (1 + writes_weight a) + (1 + writes_weight b)
 entry_joined a b = let low = writes_joined a b in omega (arith, low)

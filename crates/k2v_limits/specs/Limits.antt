@@ -1,5 +1,5 @@
 -- The limits of schedules over items.
-use Rattle.std.specs.Prelude.{◌≤◌, ℕ, List, length}
+use Rattle.std.specs.Prelude.{◌≤◌, List, length}
 use Rattle.std.specs.List.{AllByRecursion}
 use Rattle.k2v_text.specs.declared.event.NumberedItemEvent.{NumberedItemEvent}
 use Rattle.k2v_text.specs.Grammar.{IsAllowed}

@@ -22,7 +22,7 @@ IsShortBlock None = ⊤
 IsShortBlock (Some bytes) = IsShort bytes
 
 module _ {R : Type 0} (P : R → Type 0) (weight : R → ℕ) where
-  -- a row that is to be stored has the property, and its block is short
+  -- a row that is to be stored has the property and counts 10 ^ 15 bytes at most, and its block is short
   abbrev pub StoredFits : R × Option (List ℕ) → Type 0
   StoredFits r = P r.0 × (weight r.0 ≤ 1000000000000000) × IsShortBlock r.1
 
