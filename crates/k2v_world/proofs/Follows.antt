@@ -4,6 +4,7 @@ use Rattle.std.specs.Prelude.{slice_get, map}
 use Rattle.std.specs.Option.{unwrap_or}
 use Rattle.std.proofs.lemmas.List.{length-map}
 use Rattle.crdt_core.specs.declared.memory.Memory.{Memory}
+use Rattle.blake2_hash.specs.Hash.{digest_of}
 use Rattle.wire_messages.specs.declared.phase.Phase.{Phase}
 use Rattle.wire_messages.specs.declared.phase.Phase.TheVariants.{Store}
 use Rattle.wire_messages.specs.declared.phase.PhaseEnd.{PhaseEnd}
@@ -67,6 +68,23 @@ follow_nobody old q end none s d =
     ap (λ o. follow s q o end) (get_none s.requests q (subst (λ n. (q ≡ 0) ⊎ (n < q)) same none))
 
 -- ---- a request at its place
+
+-- one request stands at a place
+same_some : {A : Type 0} (x y : A) → Some x ≡ Some y → x ≡ y
+same_some x y e = cc
+
+module _ (c : ItemWorld) (i q : ℕ) (stage : Stage) (h : IsIn c i q stage) (a : Asked) (there : slice_get c.requests i ≡ Some a) where
+  pub found_at : IsAt c i q a
+  found_at = record { place = h.at.place; there = there }
+
+  pub found_in : a.stage ≡ stage
+  found_in = subst (λ (x : Asked). x.stage ≡ stage) (same_some h.one a (sym h.at.there ∙ there)) h.is_in
+
+-- the digest that is kept of it is that of its bucket's name
+pub digest_kept : (old : ItemWorld) (i : ℕ) (a : Asked) → HasItems old → slice_get old.requests i ≡ Some a → a.bucket ≡ digest_of a.order.item.bucket
+digest_kept old i a has there =
+    let m = get_kept has.0.requests i a (sym (ap (λ (rs : List Asked). slice_get rs i) has.1.requests) ∙ there) in
+    subst (λ (x : Asked). x.bucket ≡ digest_of x.order.item.bucket) m.2 refl
 
 module _ (old : ItemWorld) (i q : ℕ) (a : Asked) (at : IsAt old i q a) where
   -- the model's request

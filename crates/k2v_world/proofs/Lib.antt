@@ -1,6 +1,7 @@
 pub mod Causes
 pub mod Delivers
 pub mod Drains
+pub mod Finds
 pub mod Follows
 pub mod Items
 pub mod Leads
@@ -10,3 +11,4 @@ pub mod Plain
 pub mod Played
 pub mod Tokens
 pub mod Values
+pub mod Written

@@ -1,6 +1,8 @@
 -- A step of the world by itself, and the requests that it ends.
-use Rattle.std.proofs.Common.{◌≡◌, ℕ, suc, Bool, true, false, not, ◌&&◌, cond, leb, Option, Some, None, List, [], ◌∷◌, refl, sym, ap, ◌∙◌, subst}
+use Rattle.std.proofs.Common.{◌≡◌, ℕ, suc, Bool, true, false, not, ◌&&◌, cond, leb, Option, Some, None, Result, Ok, Err, IfOk, List, [], ◌∷◌, refl, sym, ap, ◌∙◌, subst}
 use Rattle.std.specs.Prelude.{map, option_map}
+use Rattle.crdt_core.specs.declared.memory.Memory.{Memory}
+use Rattle.blake2_hash.specs.Blake2b.{blake2b}
 use Rattle.layout_roles.specs.declared.layout.Layout.{Layout}
 use Rattle.layout_roles.specs.declared.cut.Cut.{Cut}
 use Rattle.cluster_machine.specs.declared.applied.Applied.{Applied}
@@ -10,6 +12,7 @@ use Rattle.cluster_machine.specs.declared.step.Action.{Action}
 use Rattle.cluster_machine.specs.declared.step.Refusal.{Refusal}
 use Rattle.cluster_machine.specs.declared.step.Refusal.TheVariants.{VersionTaken, VersionLimit, NotMember}
 use Rattle.cluster_machine.specs.Acts.{Acted, acts}
+use Rattle.cluster_machine.specs.Blocks.{StepBringsBlocks}
 use Rattle.cluster_machine.specs.Choices.{Decision}
 use Rattle.cluster_machine.specs.Layouts.{layouts, has_none}
 use Rattle.cluster_machine.specs.Trio.{trio, stage_trio}
@@ -95,12 +98,44 @@ by_refusal : (xs : List Asked) (q : ℕ) (o : Option (Refusal Cut)) → ended_by
 by_refusal xs q None = refl
 by_refusal xs q (Some r) = refl
 
+-- it begins no store phase
+pub quiet_brings : (st : Step K2vRow) → IsQuiet st → StepBringsBlocks (blake2b 32) words st
+quiet_brings Trio is = tt
+quiet_brings (Stage n role) is = tt
+quiet_brings (Spread r) is = tt
+quiet_brings (Apply n) is = tt
+quiet_brings (Tick ms) is = tt
+quiet_brings (Skew n ms) is = tt
+quiet_brings (Deliver m) is = tt
+quiet_brings (Lose m) is = tt
+quiet_brings (Expire q) is = tt
+quiet_brings (Restart n) is = tt
+quiet_brings (Gossip from to) is = tt
+quiet_brings (Ack n) is = tt
+quiet_brings (Syncs n) is = tt
+quiet_brings (SyncAck n) is = tt
+quiet_brings (Clean n) is = tt
+quiet_brings (Work n) is = tt
+quiet_brings (Repair n) is = tt
+quiet_brings (Open n) is = tt
+quiet_brings (Begin q phase) is = absurd is
+quiet_brings (Close q) is = tt
+
 -- ---- the step as an event
+
+-- what is told of it
+abbrev told_of : Report K2vRow → ItemTold
+told_of report = record { refused = option_map Cluster report.refused; words = report.words; lines = cluster_lines report.lines }
+
+-- an answer of the call that tells it
+answers : (P : ItemTold → Type 0) (report : Report K2vRow) → ((told : ItemTold) → told ≡ told_of report → P told) → (r : Result ItemTold Memory) → IfOk r (λ told. told ≡ told_of report) → IfOk r P
+answers P report plays (Ok told) h = plays told h
+answers P report plays (Err e) h = tt
 
 module _ (old new : ItemWorld) (st : Step K2vRow) (report : Report K2vRow) (steps : Steps row_join words old.world new.world report st) (buckets : new.buckets ≡ old.buckets) where
   step_plays : ((s : State) (choice : Decision) → IsItems old s → Tells report (effect s (record { step = st; choice = choice })) → new.requests ≡ map kept (ends_all s.requests (effect s (record { step = st; choice = choice })).closes)) →
-      (told : ItemTold) → told ≡ record { refused = option_map Cluster report.refused; words = report.words; lines = cluster_lines report.lines } → PlaysStep old new told st
-  step_plays requests told says s d =
+      (r : Result ItemTold Memory) → IfOk r (λ told. told ≡ told_of report) → IfOk r (λ told. PlaysStep old new told st)
+  step_plays requests = answers (λ told. PlaysStep old new told st) report (λ told says s d.
       let did = steps s.world d.world in
       record {
         choice = did.choice;
@@ -114,13 +149,13 @@ module _ (old new : ItemWorld) (st : Step K2vRow) (report : Report K2vRow) (step
           };
           fits = ((did.does.stands.fits, did.does.spelled), tt);
         };
-      }
+      })
 
-  pub quiet_plays : IsQuiet st → new.requests ≡ old.requests → (told : ItemTold) → told ≡ record { refused = option_map Cluster report.refused; words = report.words; lines = cluster_lines report.lines } → PlaysStep old new told st
+  pub quiet_plays : IsQuiet st → new.requests ≡ old.requests → (r : Result ItemTold Memory) → IfOk r (λ told. told ≡ told_of report) → IfOk r (λ told. PlaysStep old new told st)
   quiet_plays quiet requests = step_plays (λ s choice d tells. requests ∙ d.requests ∙ ap (λ qs. map kept (ends_all s.requests qs)) (sym (ends_none s st choice quiet)))
 
 pub expire_plays : (old new : ItemWorld) (q : ℕ) (report : Report K2vRow) → Steps row_join words old.world new.world report (Expire q) → new.buckets ≡ old.buckets → new.requests ≡ ended_by old.requests q report.refused →
-    (told : ItemTold) → told ≡ record { refused = option_map Cluster report.refused; words = report.words; lines = cluster_lines report.lines } → PlaysStep old new told (Expire q)
+    (r : Result ItemTold Memory) → IfOk r (λ told. told ≡ told_of report) → IfOk r (λ told. PlaysStep old new told (Expire q))
 expire_plays old new q report steps buckets requests = step_plays old new (Expire q) report steps buckets (λ s choice d tells.
     requests
     ∙ ap (ended_by old.requests q) tells.refused
@@ -130,7 +165,7 @@ expire_plays old new q report steps buckets requests = step_plays old new (Expir
     ∙ all_kept s.requests (expires {A = Applied} {C = Cut} s.world q (numbered s.world.requests q)).closes)
 
 pub restart_plays : (old new : ItemWorld) (n : ℕ) (report : Report K2vRow) → Steps row_join words old.world new.world report (Restart n) → new.buckets ≡ old.buckets → new.requests ≡ ended_all old.requests report.lost →
-    (told : ItemTold) → told ≡ record { refused = option_map Cluster report.refused; words = report.words; lines = cluster_lines report.lines } → PlaysStep old new told (Restart n)
+    (r : Result ItemTold Memory) → IfOk r (λ told. told ≡ told_of report) → IfOk r (λ told. PlaysStep old new told (Restart n))
 restart_plays old new n report steps buckets requests = step_plays old new (Restart n) report steps buckets (λ s choice d tells.
     requests ∙ ap (ended_all old.requests) tells.lost ∙ ap (λ rs. ended_all rs (effect s (record { step = Restart n; choice = choice })).lost) d.requests ∙ all_kept s.requests (effect s (record { step = Restart n; choice = choice })).lost)
 

@@ -1,0 +1,42 @@
+-- What the code finds among its requests.
+use Rattle.std.proofs.Common.{◌≡◌, ℕ, suc, ◌+◌, ◌-◌, ◌<◌, Bool, true, false, not, cond, ◌&&◌, ◌||◌, ◌==◌, Option, Some, None, List, [], ◌∷◌, length, refl, sym, ap, ◌∙◌, arith, ◌⊎◌}
+use Rattle.std.specs.Prelude.{slice_get, option_map, if◌then◌else◌, nat_lt}
+use Rattle.std.specs.List.{position, prefix_len}
+use Rattle.cluster_machine.specs.World.{numbered}
+use Rattle.k2v_rows.specs.Row.{ItemKey}
+use Rattle.k2v_world.specs.declared.asked.Asked.{Asked}
+use Rattle.k2v_world.specs.Kept.{is_shown, is_of, has_shown, is_token, is_open_write, busy_from}
+use Rattle.k2v_world.proofs.Places.{numbered_place, get_none}
+
+-- ---- a token
+
+or_none : (b : Bool) → b ≡ (b || false)
+or_none true = refl
+or_none false = refl
+
+pub token_there : (xs : List Asked) (key : ItemKey) (i t : ℕ) (a : Asked) → i + 1 ≡ t → slice_get xs i ≡ Some a → (is_shown a.stage && is_of key a) ≡ is_token xs key t
+token_there xs key i t a place there =
+    let some : (t == 0) ≡ false = grind arith in
+    let here : numbered xs t ≡ Some a = numbered_place xs i t place ∙ there in
+    ap (has_shown key) (sym here) ∙ ap (λ b. b || has_shown key (numbered xs t)) (sym some)
+
+pub token_nowhere : (xs : List Asked) (key : ItemKey) (t : ℕ) → (t ≡ 0) ⊎ (length xs < t) → (t == 0) ≡ is_token xs key t
+token_nowhere xs key t none = or_none (t == 0) ∙ ap (λ o. (t == 0) || has_shown key o) (sym (get_none xs t none))
+
+-- ---- an open write
+
+module _ (n : ℕ) (key : ItemKey) where
+  -- the place of the first, from a place on
+  from_place : (q p : ℕ) (b : Bool) → option_map (λ i. suc q + i) (cond b (Some p) None) ≡ option_map (λ i. q + i) (cond b (Some (1 + p)) None)
+  from_place q p true = ap Some (omega arith)
+  from_place q p false = refl
+
+  none_before : (xs : List Asked) → ℕ
+  none_before xs = prefix_len (λ a. not (is_open_write n key a)) xs
+
+  pub busy_is : (q : ℕ) (xs : List Asked) → busy_from q xs n key ≡ option_map (λ i. q + i) (position (is_open_write n key) xs)
+  busy_is q [] = refl
+  busy_is q (a ∷ xs) = by_test (is_open_write n key a) where
+    by_test : (b : Bool) → (if b then Some q else busy_from (suc q) xs n key) ≡ option_map (λ i. q + i) (cond (nat_lt (cond (not b) (1 + none_before xs) 0) (suc (length xs))) (Some (cond (not b) (1 + none_before xs) 0)) None)
+    by_test true = ap Some (omega arith)
+    by_test false = busy_is (suc q) xs ∙ from_place q (none_before xs) (nat_lt (none_before xs) (length xs))
