@@ -34,9 +34,12 @@ module _ (n : ℕ) (key : ItemKey) where
   none_before : (xs : List Asked) → ℕ
   none_before xs = prefix_len (λ a. not (is_open_write n key a)) xs
 
+  -- by whether the first is one
+  by_first : (q : ℕ) (xs : List Asked) (b : Bool) → busy_from (suc q) xs n key ≡ option_map (λ i. suc q + i) (position (is_open_write n key) xs) →
+      (if b then Some q else busy_from (suc q) xs n key) ≡ option_map (λ i. q + i) (cond (nat_lt (cond (not b) (1 + none_before xs) 0) (suc (length xs))) (Some (cond (not b) (1 + none_before xs) 0)) None)
+  by_first q xs true h = ap Some (omega arith)
+  by_first q xs false h = h ∙ from_place q (none_before xs) (nat_lt (none_before xs) (length xs))
+
   pub busy_is : (q : ℕ) (xs : List Asked) → busy_from q xs n key ≡ option_map (λ i. q + i) (position (is_open_write n key) xs)
   busy_is q [] = refl
-  busy_is q (a ∷ xs) = by_test (is_open_write n key a) where
-    by_test : (b : Bool) → (if b then Some q else busy_from (suc q) xs n key) ≡ option_map (λ i. q + i) (cond (nat_lt (cond (not b) (1 + none_before xs) 0) (suc (length xs))) (Some (cond (not b) (1 + none_before xs) 0)) None)
-    by_test true = ap Some (omega arith)
-    by_test false = busy_is (suc q) xs ∙ from_place q (none_before xs) (nat_lt (none_before xs) (length xs))
+  busy_is q (a ∷ xs) = by_first q xs (is_open_write n key a) (busy_is (suc q) xs)

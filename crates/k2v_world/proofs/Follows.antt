@@ -187,6 +187,19 @@ is_storing_now (model.stored row) h = absurd (cc)
 is_storing_now (model.shown given begun) h = absurd (cc)
 is_storing_now model.over h = absurd (cc)
 
+-- the code's tests of stages
+pub reading_is : (stage : Stage) → is_reading stage ≡ true → stage ≡ Reading
+reading_is Reading h = refl
+reading_is Storing h = cc
+reading_is (Shown times) h = cc
+reading_is Over h = cc
+
+pub storing_is : (stage : Stage) → is_storing stage ≡ true → stage ≡ Storing
+storing_is Reading h = cc
+storing_is Storing h = refl
+storing_is (Shown times) h = cc
+storing_is Over h = cc
+
 -- ---- a request that has read
 
 module _ (old : ItemWorld) (i q : ℕ) (a : Asked) (at : IsAt old i q a) (reads : a.stage ≡ Reading) (read : Option K2vRow) where

@@ -18,7 +18,7 @@ use Rattle.cluster_machine.specs.Layouts.{layouts, has_none}
 use Rattle.cluster_machine.specs.Trio.{trio, stage_trio}
 use Rattle.cluster_machine.specs.Step.{most_versions, given, none_given, at_message, expires, chosen, applies_at, acting, refusal, trio_applies, nothing}
 use Rattle.cluster_machine.specs.World.{Request, Sent, Mark, numbered, clock, is_member_at}
-use Rattle.cluster_machine.specs.Worlds.{Done as Effect}
+use Rattle.cluster_machine.specs.Worlds.{Done as Effect, newest_at}
 use Rattle.k2v_rows.specs.declared.k2v_row.K2vRow.{K2vRow}
 use Rattle.k2v_rows.specs.Row.{row_join}
 use Rattle.k2v_schema.specs.Schema.{words}
@@ -55,7 +55,13 @@ module _ (w : World) where
   by_choice n next (given l shown) = refl
 
   by_apply : (n : ℕ) (choice : Decision) → Ends (applies_at row_join words layouts trio stage_trio w n choice)
-  by_apply n choice = by_test _ _ _ refl (by_test _ _ _ refl (by_test _ _ _ refl (by_choice n _ choice)))
+  by_apply n choice =
+      let next = suc (newest_at w n) in
+      let applies : Effect K2vRow = chosen row_join words layouts trio stage_trio w n next choice in
+      let within : Effect K2vRow = cond (leb most_versions w.applied) (refusal w VersionLimit) applies in
+      let fresh : Effect K2vRow = cond (leb next w.applied) (refusal w (VersionTaken next)) within in
+      by_test (leb 1 w.applied && not (is_member_at layouts w n)) (refusal w NotMember) fresh refl
+      (by_test (leb next w.applied) (refusal w (VersionTaken next)) within refl (by_test (leb most_versions w.applied) (refusal w VersionLimit) applies refl (by_choice n next choice)))
 
   by_act : (n : ℕ) (b : Bool) (a : Acted K2vRow Layout) → Ends (acting row_join words layouts trio stage_trio w n b a)
   by_act n b a = by_test b _ _ refl refl

@@ -34,7 +34,7 @@ module _ (c : ItemWorld) (i q : ℕ) (one : Asked) (there : slice_get c.requests
   by_can b e = ap (λ t. cond t (Some (after_put row one.node q value times)) None) (sym e)
 
   pub not_written : can_put row one.node q times ≡ false → (a : Asked) → IsAt c i q a → None ≡ written c.requests q a value token read
-  not_written no = of_any None (by_can false no)
+  not_written cannot = of_any None (by_can false cannot)
 
   pub is_written : can_put row one.node q times ≡ true → (new : K2vRow) → new ≡ after_put row one.node q value times → (a : Asked) → IsAt c i q a → Some new ≡ written c.requests q a value token read
-  is_written yes new e = of_any (Some new) (ap Some e ∙ by_can true yes)
+  is_written can new e = of_any (Some new) (ap Some e ∙ by_can true can)

@@ -21,7 +21,7 @@ ghost use Rattle.k2v_model.specs.Run.{State, start, silent, cluster_lines, value
 ghost use Rattle.k2v_world.specs.Kept.{read_token, is_token, busy_from, times_at, hindrance, written, ended_one, ended_all, ended_by};
 ghost use Rattle.k2v_world.specs.Stands.{IsMeantEvent, IsQuiet};
 
-use crate::asked::{Asked, Stage};
+use crate::asked::{Asked, Stage, open_write};
 use crate::events::{delete, get, put};
 use crate::rows::{asks_for, base, is_deletion, token_of, values_told};
 use crate::told::{accepted, cluster_lines, of_cluster, refusal};
@@ -356,14 +356,11 @@ impl ItemWorld {
     }
 
     // The least number of an open write of the item at the node.
+    #[tactic(auto, using(crate::proofs::Finds::busy_is))]
     fn busy(&self, node: u8, bucket: &Hash32, item: &Item) -> Option<u64>
         ensures { result ≡ busy_from 1 self.now.requests node (bucket.now, (item.now.pk, item.now.sk)) }
     {
-        let found = self
-            .requests
-            .as_slice()
-            .iter()
-            .position(|asked| asked.is_open_write_of(node, bucket, item))?;
+        let found = open_write(self.requests.as_slice(), node, bucket, item)?;
         Some(found as u64 + 1)
     }
 
@@ -477,7 +474,8 @@ impl ItemWorld {
         match &self.requests.at(i).order.ask {
             Ask::Read => self.shows(i, request, read),
             Ask::Write { value, token } => {
-                let (value, token) = (value.copy()?, *token);
+                let token = *token;
+                let value = value.copy()?;
                 match self.written(i, request, value, token, read)? {
                     Some(row) => self.stores(i, request, row),
                     None => Ok(self.quiet()),

@@ -18,3 +18,9 @@ returns-in-Read-clause-causes c =
     (shows_overflows c.args.self.now c.args.i c.args.request a (found_at c.args.self.now c.args.i c.args.request Reading c.requires.reading a there) (found_in c.args.self.now c.args.i c.args.request Reading c.requires.reading a there)
     c.args.read c.in-Read.is)
     c.shows.ensures.causes
+
+pub returns-in-Some-clause-plays : goal.returns-in-Some-clause-plays
+returns-in-Some-clause-plays c = ?
+
+pub returns-in-None-clause-plays : goal.returns-in-None-clause-plays
+returns-in-None-clause-plays c = ?
