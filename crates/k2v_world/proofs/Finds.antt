@@ -1,7 +1,8 @@
 -- What the code finds among its requests.
 use Rattle.std.proofs.Common.{◌≡◌, ℕ, suc, ◌+◌, ◌-◌, ◌<◌, Bool, true, false, not, cond, ◌&&◌, ◌||◌, ◌==◌, Option, Some, None, List, [], ◌∷◌, length, refl, sym, ap, ◌∙◌, arith, ◌⊎◌}
-use Rattle.std.specs.Prelude.{slice_get, option_map, if◌then◌else◌, nat_lt}
-use Rattle.std.specs.List.{position, prefix_len}
+use Rattle.std.specs.Prelude.{slice_get, option_map, nat_lt}
+use borrow.Author.Tests.{tests}
+use Rattle.std.specs.List.{position, position_or_len}
 use Rattle.cluster_machine.specs.World.{numbered}
 use Rattle.k2v_rows.specs.Row.{ItemKey}
 use Rattle.k2v_world.specs.declared.asked.Asked.{Asked}
@@ -26,20 +27,23 @@ token_nowhere xs key t none = or_none (t == 0) ∙ ap (λ o. (t == 0) || has_sho
 -- ---- an open write
 
 module _ (n : ℕ) (key : ItemKey) where
-  -- the place of the first, from a place on
-  from_place : (q p : ℕ) (b : Bool) → option_map (λ i. suc q + i) (cond b (Some p) None) ≡ option_map (λ i. q + i) (cond b (Some (1 + p)) None)
-  from_place q p true = ap Some (omega arith)
-  from_place q p false = refl
+  -- how many stand before the first
+  abbrev before_it : List Asked → ℕ
+  before_it xs = position_or_len (is_open_write n key) xs
 
-  none_before : (xs : List Asked) → ℕ
-  none_before xs = prefix_len (λ a. not (is_open_write n key a)) xs
+  -- by whether the first request is one
+  by_first : (q : ℕ) (xs : List Asked) (b : Bool) → busy_from (suc q) xs n key ≡ cond (nat_lt (before_it xs) (length xs)) (Some (suc q + before_it xs)) None →
+      cond b (Some q) (busy_from (suc q) xs n key) ≡ cond (nat_lt (cond (not b) (1 + before_it xs) 0) (suc (length xs))) (Some (q + cond (not b) (1 + before_it xs) 0)) None
+  by_first q xs true rest = grind (arith, tests)
+  by_first q xs false rest = grind (arith, tests, rest)
 
-  -- by whether the first is one
-  by_first : (q : ℕ) (xs : List Asked) (b : Bool) → busy_from (suc q) xs n key ≡ option_map (λ i. suc q + i) (position (is_open_write n key) xs) →
-      (if b then Some q else busy_from (suc q) xs n key) ≡ option_map (λ i. q + i) (cond (nat_lt (cond (not b) (1 + none_before xs) 0) (suc (length xs))) (Some (cond (not b) (1 + none_before xs) 0)) None)
-  by_first q xs true h = ap Some (omega arith)
-  by_first q xs false h = h ∙ from_place q (none_before xs) (nat_lt (none_before xs) (length xs))
+  counts : (q : ℕ) (xs : List Asked) → busy_from q xs n key ≡ cond (nat_lt (before_it xs) (length xs)) (Some (q + before_it xs)) None
+  counts q [] = refl
+  counts q (a ∷ xs) = by_first q xs (is_open_write n key a) (counts (suc q) xs)
+
+  numbered_from : (q p : ℕ) (b : Bool) → cond b (Some (q + p)) None ≡ option_map (λ i. q + i) (cond b (Some p) None)
+  numbered_from q p true = refl
+  numbered_from q p false = refl
 
   pub busy_is : (q : ℕ) (xs : List Asked) → busy_from q xs n key ≡ option_map (λ i. q + i) (position (is_open_write n key) xs)
-  busy_is q [] = refl
-  busy_is q (a ∷ xs) = by_first q xs (is_open_write n key a) (busy_is (suc q) xs)
+  busy_is q xs = counts q xs ∙ numbered_from q (before_it xs) (nat_lt (before_it xs) (length xs))

@@ -67,6 +67,29 @@ follow_nobody old q end none s d =
     let same : length old.requests ≡ length s.requests = ap (λ (rs : List Asked). length rs) d.requests ∙ length_kept s.requests in
     ap (λ o. follow s q o end) (get_none s.requests q (subst (λ n. (q ≡ 0) ⊎ (n < q)) same none))
 
+-- windows and blocks are awaited by nobody
+module _ (s : State) (q : ℕ) where
+  window_ends : (m : ItemRequest) (rows : List K2vRow) (more : Option (List ℕ)) (stage : model.Stage) → follows s q m (Window rows more) stage ≡ silent s
+  window_ends m rows more model.reading = refl
+  window_ends m rows more (model.storing row) = refl
+  window_ends m rows more (model.stored row) = refl
+  window_ends m rows more (model.shown given begun) = refl
+  window_ends m rows more model.over = refl
+
+  block_ends : (m : ItemRequest) (bytes : List ℕ) (stage : model.Stage) → follows s q m (Block bytes) stage ≡ silent s
+  block_ends m bytes model.reading = refl
+  block_ends m bytes (model.storing row) = refl
+  block_ends m bytes (model.stored row) = refl
+  block_ends m bytes (model.shown given begun) = refl
+  block_ends m bytes model.over = refl
+
+  pub other_ends : (o : Option ItemRequest) (end : PhaseEnd K2vRow) → ((read : Option K2vRow) → end ≡ Row read → ⊥) → (end ≡ Kept → ⊥) → follow s q o end ≡ silent s
+  other_ends None end no_row no_kept = refl
+  other_ends (Some m) (Row read) no_row no_kept = absurd (no_row read refl)
+  other_ends (Some m) (Window rows more) no_row no_kept = window_ends m rows more m.stage
+  other_ends (Some m) (Block bytes) no_row no_kept = block_ends m bytes m.stage
+  other_ends (Some m) Kept no_row no_kept = absurd (no_kept refl)
+
 -- ---- a request at its place
 
 -- one request stands at a place
@@ -118,25 +141,6 @@ module _ (old : ItemWorld) (i q : ℕ) (a : Asked) (at : IsAt old i q a) where
     by_stage (model.stored row) h = refl
     by_stage (model.shown given begun) h = refl
     by_stage model.over h = refl
-
-  -- windows and blocks are awaited by nobody
-  pub window_ignored : (rows : List K2vRow) (more : Option (List ℕ)) (s : State) → IsItems old s → follow s q (numbered s.requests q) (Window rows more) ≡ silent s
-  window_ignored rows more s d = followed s d (Window rows more) ∙ by_stage (waiting s d).0.stage where
-    by_stage : (stage : model.Stage) → follows s q (waiting s d).0 (Window rows more) stage ≡ silent s
-    by_stage model.reading = refl
-    by_stage (model.storing row) = refl
-    by_stage (model.stored row) = refl
-    by_stage (model.shown given begun) = refl
-    by_stage model.over = refl
-
-  pub block_ignored : (bytes : List ℕ) (s : State) → IsItems old s → follow s q (numbered s.requests q) (Block bytes) ≡ silent s
-  block_ignored bytes s d = followed s d (Block bytes) ∙ by_stage (waiting s d).0.stage where
-    by_stage : (stage : model.Stage) → follows s q (waiting s d).0 (Block bytes) stage ≡ silent s
-    by_stage model.reading = refl
-    by_stage (model.storing row) = refl
-    by_stage (model.stored row) = refl
-    by_stage (model.shown given begun) = refl
-    by_stage model.over = refl
 
   -- ---- it goes on
 

@@ -9,6 +9,7 @@ use Rattle.cluster_machine.specs.declared.applied.Applied.{Applied}
 use Rattle.cluster_machine.specs.declared.step.Step.{Step}
 use Rattle.cluster_machine.specs.declared.step.Step.TheVariants.{Trio, Role as Stage, Redundancy as Spread, Apply, Tick, Skew, Deliver, Lose, Expire, Restart, Gossip, Ack, Sync as Syncs, SyncAck, Clean, Work, Repair, Open, Phase as Begin, Close}
 use Rattle.cluster_machine.specs.declared.step.Action.{Action}
+use Rattle.cluster_machine.specs.declared.step.Action.TheVariants as action
 use Rattle.cluster_machine.specs.declared.step.Refusal.{Refusal}
 use Rattle.cluster_machine.specs.declared.step.Refusal.TheVariants.{VersionTaken, VersionLimit, NotMember}
 use Rattle.cluster_machine.specs.Acts.{Acted, acts}
@@ -63,8 +64,9 @@ module _ (w : World) where
       by_test (leb 1 w.applied && not (is_member_at layouts w n)) (refusal w NotMember) fresh refl
       (by_test (leb next w.applied) (refusal w (VersionTaken next)) within refl (by_test (leb most_versions w.applied) (refusal w VersionLimit) applies refl (by_choice n next choice)))
 
-  by_act : (n : ℕ) (b : Bool) (a : Acted K2vRow Layout) → Ends (acting row_join words layouts trio stage_trio w n b a)
-  by_act n b a = by_test b _ _ refl refl
+  by_act : (n : ℕ) (b : Bool) (action : Action) →
+      Ends (acting row_join words layouts trio stage_trio w n b (acts row_join words layouts n (clock w n) (w.nodes n) action))
+  by_act n b action = by_test b _ _ refl refl
 
 pub ends_none : (s : State) (st : Step K2vRow) (choice : Decision) → IsQuiet st → Ends (effect s (record { step = st; choice = choice }))
 ends_none s Trio choice is = by_test _ _ _ refl refl
@@ -78,12 +80,12 @@ ends_none s (Lose m) choice is = by_message s.world _ (λ sent. refl) _ _
 ends_none s (Expire q) choice is = absurd is
 ends_none s (Restart n) choice is = absurd is
 ends_none s (Gossip from to) choice is = refl
-ends_none s (Ack n) choice is = by_act s.world n _ _
-ends_none s (Syncs n) choice is = by_act s.world n _ _
-ends_none s (SyncAck n) choice is = by_act s.world n _ _
-ends_none s (Clean n) choice is = by_act s.world n _ _
-ends_none s (Work n) choice is = by_act s.world n _ _
-ends_none s (Repair n) choice is = by_act s.world n _ _
+ends_none s (Ack n) choice is = by_act s.world n _ action.Ack
+ends_none s (Syncs n) choice is = by_act s.world n _ action.Sync
+ends_none s (SyncAck n) choice is = by_act s.world n _ action.SyncAck
+ends_none s (Clean n) choice is = by_act s.world n _ action.Clean
+ends_none s (Work n) choice is = by_act s.world n _ action.Work
+ends_none s (Repair n) choice is = by_act s.world n _ action.Repair
 ends_none s (Open n) choice is = absurd is
 ends_none s (Begin q phase) choice is = absurd is
 ends_none s (Close q) choice is = absurd is
