@@ -48,9 +48,9 @@ returns-in-Block-clause-plays c =
     let act = λ (v : Event). common_act v nothing_given in
     let nothing : common_act c.args.event.now nothing_given ≡ drain 0 =
     either c.in-Block.is (λ h. ap act h.1)
-    (λ h. either h (λ h. ap act h.1.1.1.1.1)
-    (λ h. either h (λ h. ap act h.1.1.1)
-    (λ h. either h (λ h. ap act h.1.1.1)
-    (λ h. either h (λ h. ap act h.1.1.1)
-    (λ h. either h (λ h. ap act h.1.1.1.1.1) (λ h. ap act h.1.1.1))))))
+    (λ h. either h (λ h. ap act h.5)
+    (λ h. either h (λ h. ap act h.3)
+    (λ h. either h (λ h. ap act h.3)
+    (λ h. either h (λ h. ap act h.3)
+    (λ h. either h (λ h. ap act h.5) (λ h. ap act h.3))))))
     in nothing_plays c.args.self.now c.args.event.now c.quiet.result nothing c.quiet.ensures
