@@ -1,11 +1,10 @@
 -- What a request does whose phase ended, case by case.
-use Rattle.std.proofs.Common.{◌≡◌, ℕ, ◌+◌, ◌<◌, true, false, cond, Bool, Option, Some, None, Result, Ok, Err, IfOk, List, [], ◌∷◌, length, refl, sym, ap, ◌∙◌, subst, ◌⊎◌}
+use Rattle.std.proofs.Common.{◌≡◌, ℕ, ◌<◌, true, false, cond, Bool, Option, Some, None, Result, Ok, Err, IfOk, List, [], ◌∷◌, length, refl, sym, ap, ◌∙◌, subst, ◌⊎◌}
 use Rattle.std.specs.Prelude.{slice_get, map}
 use Rattle.std.specs.Option.{unwrap_or}
 use Rattle.std.proofs.lemmas.List.{length-map}
 use Rattle.crdt_core.specs.declared.memory.Memory.{Memory}
 use Rattle.blake2_hash.specs.Hash.{digest_of}
-use Rattle.wire_messages.specs.declared.phase.Phase.{Phase}
 use Rattle.wire_messages.specs.declared.phase.Phase.TheVariants.{Store}
 use Rattle.wire_messages.specs.declared.phase.PhaseEnd.{PhaseEnd}
 use Rattle.wire_messages.specs.declared.phase.PhaseEnd.TheVariants.{Row, Window, Kept, Block}
@@ -20,7 +19,6 @@ use Rattle.k2v_rows.specs.declared.value.K2vValue.{K2vValue}
 use Rattle.k2v_rows.specs.declared.k2v_row.K2vRow.{K2vRow}
 use Rattle.k2v_rows.specs.Row.{row_join, can_put, after_put}
 use Rattle.k2v_schema.specs.Schema.{words}
-use Rattle.k2v_model.specs.declared.order.Ask.{Ask}
 use Rattle.k2v_model.specs.declared.order.Ask.TheVariants.{Write, Read}
 use Rattle.k2v_model.specs.declared.line.ItemLine.{ItemLine}
 use Rattle.k2v_model.specs.declared.line.ItemLine.TheVariants.{WriteDone, ReadDone}
@@ -36,7 +34,7 @@ use Rattle.k2v_world.specs.declared.asked.Stage.TheVariants.{Reading, Storing, S
 use Rattle.k2v_world.specs.declared.world.ItemWorld.{ItemWorld}
 use Rattle.k2v_world.specs.Kept.{read_token, kept, kept_stage, is_reading, is_storing, times_at, with_stage, written}
 use Rattle.k2v_world.specs.Stands.{IsItems, HasItems, IsAt, IsIn, Does, Plays, Overflows, Goes}
-use Rattle.k2v_world.proofs.Places.{numbered_place, get_kept, get_none, numbered_map, times_kept, stage_kept}
+use Rattle.k2v_world.proofs.Places.{numbered_place, same_some, get_kept, get_none, numbered_map, times_kept, stage_kept}
 
 -- the new world is the one after these effects, and all fits after them
 abbrev IsWorldNow : ItemWorld → State → Effect K2vRow → Type 0
@@ -47,15 +45,6 @@ FitsNow s e = FitsWith row_join words s.world e
 
 length_kept : (xs : List ItemRequest) → length (map kept xs) ≡ length xs
 length_kept xs = length-map xs kept
-
--- ---- nothing
-
-pub silent_plays : (old : ItemWorld) (told : ItemTold) → told ≡ record { refused = None; words = Empty; lines = [] } → Plays old old told silent
-silent_plays old told says s d = record {
-  stands = d;
-  tells = record { refused = ap (λ (t : ItemTold). t.refused) says; words = ap (λ (t : ItemTold). t.words) says; lines = ap (λ (t : ItemTold). t.lines) says };
-  fits = tt;
-}
 
 -- an outcome that is nothing
 pub silent_as : (old : ItemWorld) (told : ItemTold) (f : State → Outcome) → ((s : State) → IsItems old s → f s ≡ silent s) → Plays old old told silent → Plays old old told f
@@ -91,10 +80,6 @@ module _ (s : State) (q : ℕ) where
   other_ends (Some m) Kept no_row no_kept = absurd (no_kept refl)
 
 -- ---- a request at its place
-
--- one request stands at a place
-same_some : {A : Type 0} (x y : A) → Some x ≡ Some y → x ≡ y
-same_some x y e = cc
 
 module _ (c : ItemWorld) (i q : ℕ) (stage : Stage) (h : IsIn c i q stage) (a : Asked) (there : slice_get c.requests i ≡ Some a) where
   pub found_at : IsAt c i q a

@@ -1,9 +1,8 @@
+pub mod Busy
 pub mod Causes
 pub mod Delivers
 pub mod Drains
-pub mod Finds
 pub mod Follows
-pub mod Items
 pub mod Leads
 pub mod Opens
 pub mod Places

@@ -1,5 +1,5 @@
 -- A step of the world by itself, and the requests that it ends.
-use Rattle.std.proofs.Common.{◌≡◌, ℕ, suc, Bool, true, false, not, ◌&&◌, cond, leb, Option, Some, None, Result, Ok, Err, IfOk, List, [], ◌∷◌, refl, sym, ap, ◌∙◌, subst}
+use Rattle.std.proofs.Common.{◌≡◌, ℕ, suc, Bool, true, false, not, ◌&&◌, cond, leb, Option, Some, None, Result, Ok, Err, IfOk, List, [], ◌∷◌, refl, sym, ap, ◌∙◌}
 use Rattle.std.specs.Prelude.{map, option_map}
 use Rattle.crdt_core.specs.declared.memory.Memory.{Memory}
 use Rattle.blake2_hash.specs.Blake2b.{blake2b}
@@ -12,12 +12,12 @@ use Rattle.cluster_machine.specs.declared.step.Action.{Action}
 use Rattle.cluster_machine.specs.declared.step.Action.TheVariants as action
 use Rattle.cluster_machine.specs.declared.step.Refusal.{Refusal}
 use Rattle.cluster_machine.specs.declared.step.Refusal.TheVariants.{VersionTaken, VersionLimit, NotMember}
-use Rattle.cluster_machine.specs.Acts.{Acted, acts}
+use Rattle.cluster_machine.specs.Acts.{acts}
 use Rattle.cluster_machine.specs.Blocks.{StepBringsBlocks}
 use Rattle.cluster_machine.specs.Choices.{Decision}
-use Rattle.cluster_machine.specs.Layouts.{layouts, has_none}
+use Rattle.cluster_machine.specs.Layouts.{layouts}
 use Rattle.cluster_machine.specs.Trio.{trio, stage_trio}
-use Rattle.cluster_machine.specs.Step.{most_versions, given, none_given, at_message, expires, chosen, applies_at, acting, refusal, trio_applies, nothing}
+use Rattle.cluster_machine.specs.Step.{most_versions, given, none_given, at_message, expires, chosen, applies_at, acting, refusal}
 use Rattle.cluster_machine.specs.World.{Request, Sent, Mark, numbered, clock, is_member_at}
 use Rattle.cluster_machine.specs.Worlds.{Done as Effect, newest_at}
 use Rattle.k2v_rows.specs.declared.k2v_row.K2vRow.{K2vRow}

@@ -1,5 +1,5 @@
 -- The row that a write stores, from the one that it read.
-use Rattle.std.proofs.Common.{◌≡◌, ℕ, Bool, true, false, cond, Option, Some, None, sym, ap, ◌∙◌, subst}
+use Rattle.std.proofs.Common.{◌≡◌, ℕ, Bool, true, cond, Option, Some, None, sym, ap, ◌∙◌}
 use Rattle.std.specs.Prelude.{slice_get}
 use Rattle.std.specs.Option.{unwrap_or}
 use Rattle.cluster_machine.specs.World.{numbered}
@@ -12,9 +12,7 @@ use Rattle.k2v_world.specs.declared.asked.Asked.{Asked}
 use Rattle.k2v_world.specs.declared.world.ItemWorld.{ItemWorld}
 use Rattle.k2v_world.specs.Kept.{times_at, written}
 use Rattle.k2v_world.specs.Stands.{IsAt}
-
-same_some : {A : Type 0} (x y : A) → Some x ≡ Some y → x ≡ y
-same_some x y e = cc
+use Rattle.k2v_world.proofs.Places.{same_some}
 
 module _ (c : ItemWorld) (i q : ℕ) (one : Asked) (there : slice_get c.requests i ≡ Some one) (value : K2vValue) (token : ℕ) (read : Option K2vRow)
     (row : K2vRow) (is_base : row ≡ unwrap_or read (empty_row one.order.item)) (times : TimeMap) (are_times : times ≡ times_at (numbered c.requests token)) where
@@ -32,9 +30,6 @@ module _ (c : ItemWorld) (i q : ℕ) (one : Asked) (there : slice_get c.requests
 
   by_can : (b : Bool) → can_put row one.node q times ≡ b → cond b (Some (after_put row one.node q value times)) None ≡ made row times
   by_can b e = ap (λ t. cond t (Some (after_put row one.node q value times)) None) (sym e)
-
-  pub not_written : can_put row one.node q times ≡ false → (a : Asked) → IsAt c i q a → None ≡ written c.requests q a value token read
-  not_written cannot = of_any None (by_can false cannot)
 
   pub is_written : can_put row one.node q times ≡ true → (new : K2vRow) → new ≡ after_put row one.node q value times → (a : Asked) → IsAt c i q a → Some new ≡ written c.requests q a value token read
   is_written can new e = of_any (Some new) (ap Some e ∙ by_can true can)

@@ -1,5 +1,5 @@
 -- What the code keeps of requests, and what it finds among them.
-use Rattle.std.specs.Prelude.{ℕ, suc, ◌-◌, Bool, true, false, ◌&&◌, ◌||◌, ◌==◌, if◌then◌else◌, cond, Option, Some, None, option_map, List, [], ◌∷◌, slice_get, slice_set}
+use Rattle.std.specs.Prelude.{ℕ, suc, ◌-◌, Bool, true, false, ◌&&◌, ◌||◌, ◌==◌, if◌then◌else◌, cond, Option, Some, None, option_map, List, [], ◌∷◌, slice_set}
 use Rattle.std.specs.Option.{unwrap_or}
 use Rattle.blake2_hash.specs.Hash.{digest_of}
 use Rattle.layout_roles.specs.declared.cut.Cut.{Cut}

@@ -356,7 +356,7 @@ impl ItemWorld {
     }
 
     // The least number of an open write of the item at the node.
-    #[tactic(auto, using(crate::proofs::Finds::busy_is))]
+    #[tactic(auto, using(crate::proofs::Busy::busy_is))]
     fn busy(&self, node: u8, bucket: &Hash32, item: &Item) -> Option<u64>
         ensures { result ≡ busy_from 1 self.now.requests node (bucket.now, (item.now.pk, item.now.sk)) }
     {

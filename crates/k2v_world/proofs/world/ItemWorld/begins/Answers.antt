@@ -1,9 +1,6 @@
 use Rattle.std.proofs.Common.{rules, ◌≡◌, true, sym, ◌∙◌}
-use Rattle.cluster_machine.specs.Layouts.{layouts}
-use Rattle.cluster_machine.specs.World.{is_member_at}
 use Rattle.blake2_hash.specs.Hash.{digest_of}
 use Rattle.k2v_model.specs.Run.{is_bucket}
-use Rattle.k2v_world.specs.Stands.{IsItems}
 use Rattle.k2v_world.proofs.Causes.{same_causes}
 use Rattle.k2v_world.proofs.Opens.{hindered, begun_plays, begun_overflows}
 use Rattle.k2v_world.proofs.world.ItemWorld.begins.Goals as goal

@@ -1,4 +1,4 @@
-use Rattle.std.proofs.Common.{refl, ◌∙◌}
+use Rattle.std.proofs.Common.{refl}
 use Rattle.k2v_world.proofs.Causes.{handed_on}
 use Rattle.k2v_world.proofs.Delivers.{has_next, delivered_plays, next_overflows, step_overflows}
 use Rattle.k2v_world.proofs.world.ItemWorld.delivers.Goals as goal

@@ -1,6 +1,5 @@
-use Rattle.std.proofs.Common.{refl, ap}
+use Rattle.std.proofs.Common.{refl}
 use Rattle.cluster_machine.specs.declared.step.Step.TheVariants.{Expire}
-use Rattle.k2v_world.specs.declared.world.ItemWorld.{ItemWorld}
 use Rattle.k2v_world.proofs.Causes.{handed_on}
 use Rattle.k2v_world.proofs.Plain.{expire_plays, step_overflows}
 use Rattle.k2v_world.proofs.world.ItemWorld.expire.Goals as goal

@@ -1,4 +1,4 @@
-use Rattle.std.proofs.Common.{refl, ap}
+use Rattle.std.proofs.Common.{refl}
 use Rattle.cluster_machine.specs.declared.step.Step.TheVariants.{Restart}
 use Rattle.k2v_world.proofs.Causes.{handed_on}
 use Rattle.k2v_world.proofs.Plain.{restart_plays, step_overflows}

@@ -1,30 +1,11 @@
--- What the code finds among its requests.
-use Rattle.std.proofs.Common.{◌≡◌, ℕ, suc, ◌+◌, ◌-◌, ◌<◌, Bool, true, false, not, cond, ◌&&◌, ◌||◌, ◌==◌, Option, Some, None, List, [], ◌∷◌, length, refl, sym, ap, ◌∙◌, arith, ◌⊎◌}
-use Rattle.std.specs.Prelude.{slice_get, option_map, nat_lt}
+-- The least number of an open write, from its place.
+use Rattle.std.proofs.Common.{◌≡◌, ℕ, suc, ◌+◌, Bool, true, false, not, cond, Some, None, List, [], ◌∷◌, length, refl, ◌∙◌, arith}
+use Rattle.std.specs.Prelude.{option_map, nat_lt}
 use borrow.Author.Tests.{tests}
 use Rattle.std.specs.List.{position, position_or_len}
-use Rattle.cluster_machine.specs.World.{numbered}
 use Rattle.k2v_rows.specs.Row.{ItemKey}
 use Rattle.k2v_world.specs.declared.asked.Asked.{Asked}
-use Rattle.k2v_world.specs.Kept.{is_shown, is_of, has_shown, is_token, is_open_write, busy_from}
-use Rattle.k2v_world.proofs.Places.{numbered_place, get_none}
-
--- ---- a token
-
-or_none : (b : Bool) → b ≡ (b || false)
-or_none true = refl
-or_none false = refl
-
-pub token_there : (xs : List Asked) (key : ItemKey) (i t : ℕ) (a : Asked) → i + 1 ≡ t → slice_get xs i ≡ Some a → (is_shown a.stage && is_of key a) ≡ is_token xs key t
-token_there xs key i t a place there =
-    let some : (t == 0) ≡ false = grind arith in
-    let here : numbered xs t ≡ Some a = numbered_place xs i t place ∙ there in
-    ap (has_shown key) (sym here) ∙ ap (λ b. b || has_shown key (numbered xs t)) (sym some)
-
-pub token_nowhere : (xs : List Asked) (key : ItemKey) (t : ℕ) → (t ≡ 0) ⊎ (length xs < t) → (t == 0) ≡ is_token xs key t
-token_nowhere xs key t none = or_none (t == 0) ∙ ap (λ o. (t == 0) || has_shown key o) (sym (get_none xs t none))
-
--- ---- an open write
+use Rattle.k2v_world.specs.Kept.{is_open_write, busy_from}
 
 module _ (n : ℕ) (key : ItemKey) where
   -- how many stand before the first
