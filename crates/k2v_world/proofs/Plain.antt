@@ -32,7 +32,7 @@ use Rattle.world_core.specs.Stands.{Tells, Steps, Overflows as WorldOverflows}
 use Rattle.k2v_world.specs.declared.asked.Asked.{Asked}
 use Rattle.k2v_world.specs.declared.world.ItemWorld.{ItemWorld}
 use Rattle.k2v_world.specs.Kept.{kept, ended_all, ended_by}
-use Rattle.k2v_world.specs.Stands.{IsItems, IsQuiet, PlaysStep, OverflowsStep}
+use Rattle.k2v_world.specs.Stands.{IsItems, IsQuiet, told_of, PlaysStep, OverflowsStep}
 use Rattle.k2v_world.proofs.Places.{all_kept}
 
 -- ---- which requests a step ends
@@ -130,10 +130,6 @@ quiet_brings (Begin q phase) is = absurd is
 quiet_brings (Close q) is = tt
 
 -- ---- the step as an event
-
--- what is told of it
-abbrev told_of : Report K2vRow → ItemTold
-told_of report = record { refused = option_map Cluster report.refused; words = report.words; lines = cluster_lines report.lines }
 
 -- an answer of the call that tells it
 answers : (P : ItemTold → Type 0) (report : Report K2vRow) → ((told : ItemTold) → told ≡ told_of report → P told) → (r : Result ItemTold Memory) → IfOk r (λ told. told ≡ told_of report) → IfOk r P
