@@ -109,23 +109,23 @@ module _ (old : ItemWorld) (i q : ℕ) (a : Asked) (at : IsAt old i q a) where
   pub read_ignored : (read : Option K2vRow) → is_reading a.stage ≡ false → (s : State) → IsItems old s → follow s q (numbered s.requests q) (Row read) ≡ silent s
   read_ignored read other s d =
       let m = waiting s d in followed s d (Row read) ∙ by_stage m.0.stage (ap is_reading (stage_is s d) ∙ other) where
-    by_stage : (stage : model.Stage) → is_reading (kept_stage stage) ≡ false → follows s q (waiting s d).0 (Row read) stage ≡ silent s
-    by_stage model.reading h = cc
-    by_stage (model.storing row) h = refl
-    by_stage (model.stored row) h = refl
-    by_stage (model.shown given begun) h = refl
-    by_stage model.over h = refl
+        by_stage : (stage : model.Stage) → is_reading (kept_stage stage) ≡ false → follows s q (waiting s d).0 (Row read) stage ≡ silent s
+        by_stage model.reading h = cc
+        by_stage (model.storing row) h = refl
+        by_stage (model.stored row) h = refl
+        by_stage (model.shown given begun) h = refl
+        by_stage model.over h = refl
 
   -- the end of a store phase where none is awaited
   pub kept_ignored : is_storing a.stage ≡ false → (s : State) → IsItems old s → follow s q (numbered s.requests q) Kept ≡ silent s
   kept_ignored other s d =
       let m = waiting s d in followed s d Kept ∙ by_stage m.0.stage (ap is_storing (stage_is s d) ∙ other) where
-    by_stage : (stage : model.Stage) → is_storing (kept_stage stage) ≡ false → follows s q (waiting s d).0 Kept stage ≡ silent s
-    by_stage model.reading h = refl
-    by_stage (model.storing row) h = cc
-    by_stage (model.stored row) h = refl
-    by_stage (model.shown given begun) h = refl
-    by_stage model.over h = refl
+        by_stage : (stage : model.Stage) → is_storing (kept_stage stage) ≡ false → follows s q (waiting s d).0 Kept stage ≡ silent s
+        by_stage model.reading h = refl
+        by_stage (model.storing row) h = cc
+        by_stage (model.stored row) h = refl
+        by_stage (model.shown given begun) h = refl
+        by_stage model.over h = refl
 
   -- ---- it goes on
 
@@ -269,11 +269,12 @@ module _ (old : ItemWorld) (i q : ℕ) (a : Asked) (at : IsAt old i q a) (stores
   kept_so : (s : State) (d : IsItems old s) → (row : K2vRow) × (follow s q (numbered s.requests q) Kept ≡ finishes s q (waiting old i q a at s d).0 (model.stored row) (WriteDone q (is_deletion a.order.ask) a.node))
   kept_so s d =
       let m = waiting old i q a at s d in
-      let now = is_storing_now m.0.stage (stage_is old i q a at s d ∙ stores) in
-      (now.0,
-      followed old i q a at s d Kept
-      ∙ ap (follows s q m.0 Kept) now.1
-      ∙ ap (λ (x : Asked). finishes s q m.0 (model.stored now.0) (WriteDone q (is_deletion x.order.ask) x.node)) m.2)
+      let now = is_storing_now m.0.stage (stage_is old i q a at s d ∙ stores) in (
+        now.0,
+        followed old i q a at s d Kept
+            ∙ ap (follows s q m.0 Kept) now.1
+            ∙ ap (λ (x : Asked). finishes s q m.0 (model.stored now.0) (WriteDone q (is_deletion x.order.ask) x.node)) m.2,
+      )
 
   kept_does : (new : ItemWorld) (told : ItemTold) → Goes old new told i (step.Close q) Over (λ report. WriteDone q (is_deletion a.order.ask) a.node ∷ []) → Plays old new told (λ s. follow s q (numbered s.requests q) Kept)
   kept_does new told goes s d =
