@@ -58,8 +58,5 @@ goes_first [] e h s = absurd (cc)
 goes_first (x ∷ xs) e h s = let same : x ≡ e = cc in ap (λ (y : ℕ × PhaseEnd K2vRow). follow s y.0 (numbered s.requests y.0) y.1) same
 
 module _ (old : ItemWorld) (ends : List (ℕ × PhaseEnd K2vRow)) (e : ℕ × PhaseEnd K2vRow) (first : slice_get ends 0 ≡ Some e) where
-  pub goes_plays : (new : ItemWorld) (told : ItemTold) → Plays old new told (λ s. follow s e.0 (numbered s.requests e.0) e.1) → Plays old new told (λ s. goes_on s (map ended ends))
-  goes_plays new told plays s d = subst (λ (o : Outcome). Does new told s o) (sym (goes_first ends e first s)) (plays s d)
-
   pub goes_overflows : Overflows old (λ s. follow s e.0 (numbered s.requests e.0) e.1) → Overflows old (λ s. goes_on s (map ended ends))
   goes_overflows lacks s d fits = lacks s d (subst (λ (o : Outcome). HaveRoom row_join words s.world o.moves) (goes_first ends e first s) fits)

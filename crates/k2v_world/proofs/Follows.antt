@@ -1,10 +1,10 @@
 -- What a request does whose phase ended, case by case.
-use Rattle.std.proofs.Common.{◌≡◌, ℕ, ◌+◌, ◌<◌, true, false, cond, Bool, Option, Some, None, Result, Ok, Err, IfOk, List, [], ◌∷◌, length, refl, sym, ap, ◌∙◌, subst, ◌⊎◌}
+use Rattle.std.proofs.Common.{◌≡◌, ℕ, ◌<◌, true, false, cond, Bool, Option, Some, None, Result, Ok, Err, IfOk, List, [], ◌∷◌, length, refl, sym, ap, ◌∙◌, subst, ◌⊎◌}
 use Rattle.std.specs.Prelude.{slice_get, map}
 use Rattle.std.specs.Option.{unwrap_or}
 use Rattle.std.proofs.lemmas.List.{length-map}
 use Rattle.crdt_core.specs.declared.memory.Memory.{Memory}
-use Rattle.wire_messages.specs.declared.phase.Phase.{Phase}
+use Rattle.blake2_hash.specs.Hash.{digest_of}
 use Rattle.wire_messages.specs.declared.phase.Phase.TheVariants.{Store}
 use Rattle.wire_messages.specs.declared.phase.PhaseEnd.{PhaseEnd}
 use Rattle.wire_messages.specs.declared.phase.PhaseEnd.TheVariants.{Row, Window, Kept, Block}
@@ -19,7 +19,6 @@ use Rattle.k2v_rows.specs.declared.value.K2vValue.{K2vValue}
 use Rattle.k2v_rows.specs.declared.k2v_row.K2vRow.{K2vRow}
 use Rattle.k2v_rows.specs.Row.{row_join, can_put, after_put}
 use Rattle.k2v_schema.specs.Schema.{words}
-use Rattle.k2v_model.specs.declared.order.Ask.{Ask}
 use Rattle.k2v_model.specs.declared.order.Ask.TheVariants.{Write, Read}
 use Rattle.k2v_model.specs.declared.line.ItemLine.{ItemLine}
 use Rattle.k2v_model.specs.declared.line.ItemLine.TheVariants.{WriteDone, ReadDone}
@@ -35,7 +34,7 @@ use Rattle.k2v_world.specs.declared.asked.Stage.TheVariants.{Reading, Storing, S
 use Rattle.k2v_world.specs.declared.world.ItemWorld.{ItemWorld}
 use Rattle.k2v_world.specs.Kept.{read_token, kept, kept_stage, is_reading, is_storing, times_at, with_stage, written}
 use Rattle.k2v_world.specs.Stands.{IsItems, HasItems, IsAt, IsIn, Does, Plays, Overflows, Goes}
-use Rattle.k2v_world.proofs.Places.{numbered_place, get_kept, get_none, numbered_map, times_kept, stage_kept}
+use Rattle.k2v_world.proofs.Places.{numbered_place, same_some, get_kept, get_none, numbered_map, times_kept, stage_kept}
 
 -- the new world is the one after these effects, and all fits after them
 abbrev IsWorldNow : ItemWorld → State → Effect K2vRow → Type 0
@@ -47,15 +46,6 @@ FitsNow s e = FitsWith row_join words s.world e
 length_kept : (xs : List ItemRequest) → length (map kept xs) ≡ length xs
 length_kept xs = length-map xs kept
 
--- ---- nothing
-
-pub silent_plays : (old : ItemWorld) (told : ItemTold) → told ≡ record { refused = None; words = Empty; lines = [] } → Plays old old told silent
-silent_plays old told says s d = record {
-  stands = d;
-  tells = record { refused = ap (λ (t : ItemTold). t.refused) says; words = ap (λ (t : ItemTold). t.words) says; lines = ap (λ (t : ItemTold). t.lines) says };
-  fits = tt;
-}
-
 -- an outcome that is nothing
 pub silent_as : (old : ItemWorld) (told : ItemTold) (f : State → Outcome) → ((s : State) → IsItems old s → f s ≡ silent s) → Plays old old told silent → Plays old old told f
 silent_as old told f same quiet s d = subst (λ (o : Outcome). Does old told s o) (sym (same s d)) (quiet s d)
@@ -66,7 +56,43 @@ follow_nobody old q end none s d =
     let same : length old.requests ≡ length s.requests = ap (λ (rs : List Asked). length rs) d.requests ∙ length_kept s.requests in
     ap (λ o. follow s q o end) (get_none s.requests q (subst (λ n. (q ≡ 0) ⊎ (n < q)) same none))
 
+-- windows and blocks are awaited by nobody
+module _ (s : State) (q : ℕ) where
+  window_ends : (m : ItemRequest) (rows : List K2vRow) (more : Option (List ℕ)) (stage : model.Stage) → follows s q m (Window rows more) stage ≡ silent s
+  window_ends m rows more model.reading = refl
+  window_ends m rows more (model.storing row) = refl
+  window_ends m rows more (model.stored row) = refl
+  window_ends m rows more (model.shown given begun) = refl
+  window_ends m rows more model.over = refl
+
+  block_ends : (m : ItemRequest) (bytes : List ℕ) (stage : model.Stage) → follows s q m (Block bytes) stage ≡ silent s
+  block_ends m bytes model.reading = refl
+  block_ends m bytes (model.storing row) = refl
+  block_ends m bytes (model.stored row) = refl
+  block_ends m bytes (model.shown given begun) = refl
+  block_ends m bytes model.over = refl
+
+  pub other_ends : (o : Option ItemRequest) (end : PhaseEnd K2vRow) → ((read : Option K2vRow) → end ≡ Row read → ⊥) → (end ≡ Kept → ⊥) → follow s q o end ≡ silent s
+  other_ends None end no_row no_kept = refl
+  other_ends (Some m) (Row read) no_row no_kept = absurd (no_row read refl)
+  other_ends (Some m) (Window rows more) no_row no_kept = window_ends m rows more m.stage
+  other_ends (Some m) (Block bytes) no_row no_kept = block_ends m bytes m.stage
+  other_ends (Some m) Kept no_row no_kept = absurd (no_kept refl)
+
 -- ---- a request at its place
+
+module _ (c : ItemWorld) (i q : ℕ) (stage : Stage) (h : IsIn c i q stage) (a : Asked) (there : slice_get c.requests i ≡ Some a) where
+  pub found_at : IsAt c i q a
+  found_at = record { place = h.at.place; there = there }
+
+  pub found_in : a.stage ≡ stage
+  found_in = subst (λ (x : Asked). x.stage ≡ stage) (same_some h.one a (sym h.at.there ∙ there)) h.is_in
+
+-- the digest that is kept of it is that of its bucket's name
+pub digest_kept : (old : ItemWorld) (i : ℕ) (a : Asked) → HasItems old → slice_get old.requests i ≡ Some a → a.bucket ≡ digest_of a.order.item.bucket
+digest_kept old i a has there =
+    let m = get_kept has.0.requests i a (sym (ap (λ (rs : List Asked). slice_get rs i) has.1.requests) ∙ there) in
+    subst (λ (x : Asked). x.bucket ≡ digest_of x.order.item.bucket) m.2 refl
 
 module _ (old : ItemWorld) (i q : ℕ) (a : Asked) (at : IsAt old i q a) where
   -- the model's request
@@ -83,42 +109,23 @@ module _ (old : ItemWorld) (i q : ℕ) (a : Asked) (at : IsAt old i q a) where
   pub read_ignored : (read : Option K2vRow) → is_reading a.stage ≡ false → (s : State) → IsItems old s → follow s q (numbered s.requests q) (Row read) ≡ silent s
   read_ignored read other s d =
       let m = waiting s d in followed s d (Row read) ∙ by_stage m.0.stage (ap is_reading (stage_is s d) ∙ other) where
-    by_stage : (stage : model.Stage) → is_reading (kept_stage stage) ≡ false → follows s q (waiting s d).0 (Row read) stage ≡ silent s
-    by_stage model.reading h = cc
-    by_stage (model.storing row) h = refl
-    by_stage (model.stored row) h = refl
-    by_stage (model.shown given begun) h = refl
-    by_stage model.over h = refl
+        by_stage : (stage : model.Stage) → is_reading (kept_stage stage) ≡ false → follows s q (waiting s d).0 (Row read) stage ≡ silent s
+        by_stage model.reading h = cc
+        by_stage (model.storing row) h = refl
+        by_stage (model.stored row) h = refl
+        by_stage (model.shown given begun) h = refl
+        by_stage model.over h = refl
 
   -- the end of a store phase where none is awaited
   pub kept_ignored : is_storing a.stage ≡ false → (s : State) → IsItems old s → follow s q (numbered s.requests q) Kept ≡ silent s
   kept_ignored other s d =
       let m = waiting s d in followed s d Kept ∙ by_stage m.0.stage (ap is_storing (stage_is s d) ∙ other) where
-    by_stage : (stage : model.Stage) → is_storing (kept_stage stage) ≡ false → follows s q (waiting s d).0 Kept stage ≡ silent s
-    by_stage model.reading h = refl
-    by_stage (model.storing row) h = cc
-    by_stage (model.stored row) h = refl
-    by_stage (model.shown given begun) h = refl
-    by_stage model.over h = refl
-
-  -- windows and blocks are awaited by nobody
-  pub window_ignored : (rows : List K2vRow) (more : Option (List ℕ)) (s : State) → IsItems old s → follow s q (numbered s.requests q) (Window rows more) ≡ silent s
-  window_ignored rows more s d = followed s d (Window rows more) ∙ by_stage (waiting s d).0.stage where
-    by_stage : (stage : model.Stage) → follows s q (waiting s d).0 (Window rows more) stage ≡ silent s
-    by_stage model.reading = refl
-    by_stage (model.storing row) = refl
-    by_stage (model.stored row) = refl
-    by_stage (model.shown given begun) = refl
-    by_stage model.over = refl
-
-  pub block_ignored : (bytes : List ℕ) (s : State) → IsItems old s → follow s q (numbered s.requests q) (Block bytes) ≡ silent s
-  block_ignored bytes s d = followed s d (Block bytes) ∙ by_stage (waiting s d).0.stage where
-    by_stage : (stage : model.Stage) → follows s q (waiting s d).0 (Block bytes) stage ≡ silent s
-    by_stage model.reading = refl
-    by_stage (model.storing row) = refl
-    by_stage (model.stored row) = refl
-    by_stage (model.shown given begun) = refl
-    by_stage model.over = refl
+        by_stage : (stage : model.Stage) → is_storing (kept_stage stage) ≡ false → follows s q (waiting s d).0 Kept stage ≡ silent s
+        by_stage model.reading h = refl
+        by_stage (model.storing row) h = cc
+        by_stage (model.stored row) h = refl
+        by_stage (model.shown given begun) h = refl
+        by_stage model.over h = refl
 
   -- ---- it goes on
 
@@ -168,6 +175,19 @@ is_storing_now (model.storing row) h = (row, refl)
 is_storing_now (model.stored row) h = absurd (cc)
 is_storing_now (model.shown given begun) h = absurd (cc)
 is_storing_now model.over h = absurd (cc)
+
+-- the code's tests of stages
+pub reading_is : (stage : Stage) → is_reading stage ≡ true → stage ≡ Reading
+reading_is Reading h = refl
+reading_is Storing h = cc
+reading_is (Shown times) h = cc
+reading_is Over h = cc
+
+pub storing_is : (stage : Stage) → is_storing stage ≡ true → stage ≡ Storing
+storing_is Reading h = cc
+storing_is Storing h = refl
+storing_is (Shown times) h = cc
+storing_is Over h = cc
 
 -- ---- a request that has read
 
@@ -249,11 +269,12 @@ module _ (old : ItemWorld) (i q : ℕ) (a : Asked) (at : IsAt old i q a) (stores
   kept_so : (s : State) (d : IsItems old s) → (row : K2vRow) × (follow s q (numbered s.requests q) Kept ≡ finishes s q (waiting old i q a at s d).0 (model.stored row) (WriteDone q (is_deletion a.order.ask) a.node))
   kept_so s d =
       let m = waiting old i q a at s d in
-      let now = is_storing_now m.0.stage (stage_is old i q a at s d ∙ stores) in
-      (now.0,
-      followed old i q a at s d Kept
-      ∙ ap (follows s q m.0 Kept) now.1
-      ∙ ap (λ (x : Asked). finishes s q m.0 (model.stored now.0) (WriteDone q (is_deletion x.order.ask) x.node)) m.2)
+      let now = is_storing_now m.0.stage (stage_is old i q a at s d ∙ stores) in (
+        now.0,
+        followed old i q a at s d Kept
+            ∙ ap (follows s q m.0 Kept) now.1
+            ∙ ap (λ (x : Asked). finishes s q m.0 (model.stored now.0) (WriteDone q (is_deletion x.order.ask) x.node)) m.2,
+      )
 
   kept_does : (new : ItemWorld) (told : ItemTold) → Goes old new told i (step.Close q) Over (λ report. WriteDone q (is_deletion a.order.ask) a.node ∷ []) → Plays old new told (λ s. follow s q (numbered s.requests q) Kept)
   kept_does new told goes s d =

@@ -1,8 +1,8 @@
+pub mod Busy
 pub mod Causes
 pub mod Delivers
 pub mod Drains
 pub mod Follows
-pub mod Items
 pub mod Leads
 pub mod Opens
 pub mod Places
@@ -10,3 +10,4 @@ pub mod Plain
 pub mod Played
 pub mod Tokens
 pub mod Values
+pub mod Written

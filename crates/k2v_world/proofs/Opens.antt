@@ -1,5 +1,5 @@
 -- A request begins: two steps of the world, and one more request.
-use Rattle.std.proofs.Common.{◌≡◌, ℕ, suc, true, false, Option, None, Some, Result, Ok, Err, IfOk, List, [], ◌∷◌, ◌++◌, length, refl, ap, sym, ◌∙◌, subst, add-one}
+use Rattle.std.proofs.Common.{◌≡◌, ℕ, suc, true, None, Some, Result, Ok, Err, IfOk, [], ◌∷◌, ◌++◌, length, refl, ap, sym, ◌∙◌, subst, add-one}
 use Rattle.std.specs.Prelude.{map}
 use Rattle.crdt_core.specs.declared.memory.Memory.{Memory}
 use Rattle.std.proofs.lemmas.List.{length_push, map_push}
@@ -8,7 +8,6 @@ use Rattle.blake2_hash.specs.Hash.{digest_of}
 use Rattle.wire_messages.specs.declared.phase.Phase.{Phase}
 use Rattle.cluster_machine.specs.declared.step.Step.TheVariants.{Open, Phase as Begin}
 use Rattle.cluster_machine.specs.declared.step.Words.TheVariants.{Empty, One}
-use Rattle.cluster_machine.specs.declared.step.Refusal.TheVariants.{NotMember, NoSuchBucket}
 use Rattle.cluster_machine.specs.World.{Request, is_member_at}
 use Rattle.cluster_machine.specs.Layouts.{layouts}
 use Rattle.cluster_machine.specs.Worlds.{next, HaveRoom}
@@ -18,14 +17,12 @@ use Rattle.k2v_schema.specs.declared.schema.K2vSchema.{K2vSchema}
 use Rattle.k2v_schema.specs.Schema.{words}
 use Rattle.k2v_model.specs.declared.order.Order.{Order}
 use Rattle.k2v_model.specs.declared.line.ItemRefusal.{ItemRefusal}
-use Rattle.k2v_model.specs.declared.line.ItemRefusal.TheVariants.{Cluster}
 use Rattle.k2v_model.specs.Orders.{asks_for}
 use Rattle.k2v_model.specs.Run.{World as Model, State, Outcome, plainly, new_request, begins_reading, cluster_lines, refusal, is_bucket, begins, admits}
 use Rattle.k2v_text.specs.declared.event.ItemTold.{ItemTold}
 use Rattle.world_core.specs.declared.world.World.{World}
 use Rattle.world_core.specs.declared.report.Report.{Report}
 use Rattle.world_core.specs.Stands.{StandsFor, IsWorld, Steps, Overflows as WorldOverflows}
-use Rattle.k2v_world.specs.declared.asked.Asked.{Asked}
 use Rattle.k2v_world.specs.declared.asked.Stage.TheVariants.{Reading}
 use Rattle.k2v_world.specs.declared.world.ItemWorld.{ItemWorld}
 use Rattle.k2v_world.specs.Kept.{kept, hindrance}
@@ -94,42 +91,29 @@ refused_plays old reason told says s d = record {
   fits = tt;
 }
 
-module _ (old : ItemWorld) (node : ℕ) (order : Order) where
-  -- the node is no member
-  pub no_member : (told : ItemTold) → ((s : State) → IsItems old s → is_member_at layouts s.world node ≡ false) → told ≡ record { refused = Some (Cluster NotMember); words = Empty; lines = [] } → Plays old old told (λ s. begins s node order)
-  no_member told not_there says s d =
+module _ (old : ItemWorld) (node : ℕ) (order : Order) (member : (s : State) → IsItems old s → is_member_at layouts s.world node ≡ true) (made : is_bucket old.buckets order.item.bucket ≡ true)
+    (bucket : Hash32) (digest : bucket ≡ digest_of order.item.bucket) where
+  begins_so : (s : State) → IsItems old s → begins s node order ≡ admitted s node order (hindrance old.requests node (bucket, (order.item.pk, order.item.sk)) order.ask)
+  begins_so s d =
+      let there : is_bucket s.buckets order.item.bucket ≡ true = ap (λ bs. is_bucket bs order.item.bucket) (sym d.buckets) ∙ made in
+      let first : begins s node order ≡ admits s node order order.ask = rw (member s d, there) refl in
+      first ∙ by_ask s node order order.ask
+      ∙ ap (λ rs. admitted s node order (hindrance rs node (digest_of order.item.bucket, (order.item.pk, order.item.sk)) order.ask)) (sym d.requests)
+      ∙ ap (λ (b : Hash32). admitted s node order (hindrance old.requests node (b, (order.item.pk, order.item.sk)) order.ask)) (sym digest)
+
+  pub hindered : (reason : ItemRefusal) (told : ItemTold) → Some reason ≡ hindrance old.requests node (bucket, (order.item.pk, order.item.sk)) order.ask →
+      told ≡ record { refused = Some reason; words = Empty; lines = [] } → Plays old old told (λ s. begins s node order)
+  hindered reason told why says s d =
       let P : Outcome → Type 0 = λ o. Does old told s o in
-      let is : refusal s (Cluster NotMember) ≡ begins s node order = rw (not_there s d) refl in subst P is (refused_plays old (Cluster NotMember) told says s d)
+      subst P (sym (begins_so s d ∙ ap (admitted s node order) (sym why))) (refused_plays old reason told says s d)
 
-  module _ (member : (s : State) → IsItems old s → is_member_at layouts s.world node ≡ true) where
-    pub no_bucket : (told : ItemTold) → is_bucket old.buckets order.item.bucket ≡ false → told ≡ record { refused = Some (Cluster NoSuchBucket); words = Empty; lines = [] } → Plays old old told (λ s. begins s node order)
-    no_bucket told not_made says s d =
-        let P : Outcome → Type 0 = λ o. Does old told s o in
-        let none : is_bucket s.buckets order.item.bucket ≡ false = ap (λ bs. is_bucket bs order.item.bucket) (sym d.buckets) ∙ not_made in
-        let is : refusal s (Cluster NoSuchBucket) ≡ begins s node order = rw (member s d, none) refl in subst P is (refused_plays old (Cluster NoSuchBucket) told says s d)
+  module _ (free : None ≡ hindrance old.requests node (bucket, (order.item.pk, order.item.sk)) order.ask) where
+    begins_free : (s : State) → IsItems old s → begins s node order ≡ begins_reading s node order
+    begins_free s d = begins_so s d ∙ ap (admitted s node order) (sym free)
 
-    module _ (made : is_bucket old.buckets order.item.bucket ≡ true) (bucket : Hash32) (digest : bucket ≡ digest_of order.item.bucket) where
-      begins_so : (s : State) → IsItems old s → begins s node order ≡ admitted s node order (hindrance old.requests node (bucket, (order.item.pk, order.item.sk)) order.ask)
-      begins_so s d =
-          let there : is_bucket s.buckets order.item.bucket ≡ true = ap (λ bs. is_bucket bs order.item.bucket) (sym d.buckets) ∙ made in
-          let first : begins s node order ≡ admits s node order order.ask = rw (member s d, there) refl in
-          first ∙ by_ask s node order order.ask
-          ∙ ap (λ rs. admitted s node order (hindrance rs node (digest_of order.item.bucket, (order.item.pk, order.item.sk)) order.ask)) (sym d.requests)
-          ∙ ap (λ (b : Hash32). admitted s node order (hindrance old.requests node (b, (order.item.pk, order.item.sk)) order.ask)) (sym digest)
+    pub begun_plays : (new : ItemWorld) (r : Result ItemTold Memory) → IfOk r (λ told. PlaysIf (λ s. is_member_at layouts s.world node ≡ true) old new told (λ s. begins_reading s node order)) → IfOk r (λ told. Plays old new told (λ s. begins s node order))
+    begun_plays new (Err e) h = tt
+    begun_plays new (Ok told) h = λ s d. let P : Outcome → Type 0 = λ o. Does new told s o in subst P (sym (begins_free s d)) (h s d (member s d))
 
-      pub hindered : (reason : ItemRefusal) (told : ItemTold) → Some reason ≡ hindrance old.requests node (bucket, (order.item.pk, order.item.sk)) order.ask →
-          told ≡ record { refused = Some reason; words = Empty; lines = [] } → Plays old old told (λ s. begins s node order)
-      hindered reason told why says s d =
-          let P : Outcome → Type 0 = λ o. Does old told s o in
-          subst P (sym (begins_so s d ∙ ap (admitted s node order) (sym why))) (refused_plays old reason told says s d)
-
-      module _ (free : None ≡ hindrance old.requests node (bucket, (order.item.pk, order.item.sk)) order.ask) where
-        begins_free : (s : State) → IsItems old s → begins s node order ≡ begins_reading s node order
-        begins_free s d = begins_so s d ∙ ap (admitted s node order) (sym free)
-
-        pub begun_plays : (new : ItemWorld) (r : Result ItemTold Memory) → IfOk r (λ told. PlaysIf (λ s. is_member_at layouts s.world node ≡ true) old new told (λ s. begins_reading s node order)) → IfOk r (λ told. Plays old new told (λ s. begins s node order))
-        begun_plays new (Err e) h = tt
-        begun_plays new (Ok told) h = λ s d. let P : Outcome → Type 0 = λ o. Does new told s o in subst P (sym (begins_free s d)) (h s d (member s d))
-
-        pub begun_overflows : OverflowsIf (λ s. is_member_at layouts s.world node ≡ true) old (λ s. begins_reading s node order) → Overflows old (λ s. begins s node order)
-        begun_overflows full s d fits = full s d (member s d) (subst (λ (o : Outcome). HaveRoom row_join words s.world o.moves) (begins_free s d) fits)
+    pub begun_overflows : OverflowsIf (λ s. is_member_at layouts s.world node ≡ true) old (λ s. begins_reading s node order) → Overflows old (λ s. begins s node order)
+    begun_overflows full s d fits = full s d (member s d) (subst (λ (o : Outcome). HaveRoom row_join words s.world o.moves) (begins_free s d) fits)

@@ -1,23 +1,22 @@
 -- Requests by their places and numbers.
-use Rattle.std.proofs.Common.{◌≡◌, ℕ, zero, suc, ◌+◌, ◌-◌, ◌<◌, Bool, true, false, cond, ◌&&◌, ◌||◌, ◌==◌, Option, Some, None, option_map, List, [], ◌∷◌, length, refl, sym, ap, ◌∙◌, subst, arith, ◌⊎◌, inl, inr}
+use Rattle.std.proofs.Common.{◌≡◌, ℕ, zero, suc, ◌+◌, ◌-◌, ◌<◌, Bool, true, false, cond, ◌&&◌, ◌||◌, ◌==◌, Option, Some, None, option_map, List, [], ◌∷◌, length, refl, sym, ap, ◌∙◌, arith, ◌⊎◌, inl, inr}
 use Rattle.std.specs.Prelude.{slice_get, slice_set, map, if◌then◌else◌}
 use Rattle.std.proofs.lemmas.List.{map-set}
 use Rattle.cluster_machine.specs.World.{numbered}
 use Rattle.k2v_rows.specs.Row.{ItemKey}
-use Rattle.k2v_rows.specs.Token.{TimeMap}
 use Rattle.k2v_model.specs.declared.order.Ask.{Ask}
 use Rattle.k2v_model.specs.declared.order.Ask.TheVariants.{Write, Read}
 use Rattle.k2v_model.specs.declared.order.Order.{Order}
 use Rattle.k2v_model.specs.declared.line.ItemRefusal.{ItemRefusal}
 use Rattle.k2v_model.specs.declared.line.ItemRefusal.TheVariants.{NoSuchToken, Busy}
-use Rattle.k2v_model.specs.Orders.{key_of, is_same_key, is_write, no_times}
+use Rattle.k2v_model.specs.Orders.{key_of, is_same_key, is_write}
 use Rattle.k2v_model.specs.Run as model
 use Rattle.k2v_model.specs.Run.{ItemRequest, State, Outcome, is_open, set_stage, begins_reading, refusal, admits, unless_busy}
 use Rattle.k2v_model.specs.Acts.{ends_one, ends_all}
 use Rattle.k2v_world.specs.declared.asked.Asked.{Asked}
 use Rattle.k2v_world.specs.declared.asked.Stage.{Stage}
 use Rattle.k2v_world.specs.declared.asked.Stage.TheVariants.{Over}
-use Rattle.k2v_world.specs.Kept.{kept, kept_stage, waits, is_shown, is_of, is_open_write, has_shown, is_token, times_at, busy_from, hindrance, with_stage, ended_one, ended_all}
+use Rattle.k2v_world.specs.Kept.{kept, kept_stage, waits, is_shown, has_shown, is_token, times_at, busy_from, hindrance, with_stage, ended_one, ended_all}
 
 -- ---- places
 
@@ -35,6 +34,10 @@ get_past (x ∷ xs) (suc (suc q)) lt = get_past xs (suc q) (omega arith)
 pub get_none : {A : Type 0} (xs : List A) (q : ℕ) → (q ≡ 0) ⊎ (length xs < q) → numbered xs q ≡ None
 get_none xs q (inl zero_is) = ap (numbered xs) zero_is
 get_none xs q (inr past) = get_past xs q past
+
+-- one stands at a place
+pub same_some : {A : Type 0} (x y : A) → Some x ≡ Some y → x ≡ y
+same_some x y e = cc
 
 -- what is kept at a place is what is kept of the request there
 pub get_map : (xs : List ItemRequest) (i : ℕ) → slice_get (map kept xs) i ≡ option_map kept (slice_get xs i)
@@ -139,20 +142,3 @@ pub all_kept : (xs : List ItemRequest) (qs : List ℕ) → ended_all (map kept x
 all_kept xs [] = refl
 all_kept xs (q ∷ qs) =
     ap (λ rs. ended_all rs qs) (ap (ended_one (map kept xs) q) (numbered_map xs q) ∙ one_kept xs q (numbered xs q)) ∙ all_kept (ends_one xs q (numbered xs q)) qs
-
--- ---- a request that is open is over
-
-module _ (xs : List Asked) (i q : ℕ) (place : i + 1 ≡ q) (a : Asked) (at : slice_get xs i ≡ Some a) where
-  pub over_here : waits a.stage ≡ true → slice_set xs i (record a { stage = Over }) ≡ ended_one xs q (numbered xs q)
-  over_here open_is =
-      let at_place : i ≡ q - 1 = omega arith in
-      ap (λ n. slice_set xs n (record a { stage = Over })) at_place
-      ∙ ap (λ b. cond b (slice_set xs (q - 1) (record a { stage = Over })) xs) (sym open_is)
-      ∙ ap (ended_one xs q) (sym (numbered_place xs i q place ∙ at))
-
-  pub over_before : waits a.stage ≡ false → xs ≡ ended_one xs q (numbered xs q)
-  over_before closed_is =
-      ap (λ b. cond b (slice_set xs (q - 1) (record a { stage = Over })) xs) (sym closed_is) ∙ ap (ended_one xs q) (sym (numbered_place xs i q place ∙ at))
-
-pub over_nobody : (xs : List Asked) (q : ℕ) → (q ≡ 0) ⊎ (length xs < q) → xs ≡ ended_one xs q (numbered xs q)
-over_nobody xs q none = ap (ended_one xs q) (sym (get_none xs q none))

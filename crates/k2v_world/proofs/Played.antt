@@ -1,26 +1,21 @@
 -- An event, from what its call did.
-use Rattle.std.proofs.Common.{◌≡◌, ℕ, Result, Ok, Err, IfOk, [], ◌∷◌, sym, ap, ◌∙◌, subst}
-use Rattle.std.specs.Prelude.{IfErr, map, option_map}
+use Rattle.std.proofs.Common.{◌≡◌, ℕ, Result, Ok, Err, IfOk, ◌⊎◌, inl, inr, sym, ap, ◌∙◌, subst}
+use Rattle.std.specs.Prelude.{IfErr}
 use Rattle.crdt_core.specs.declared.memory.Memory.{Memory}
-use Rattle.cluster_machine.specs.declared.step.Step.{Step}
 use Rattle.cluster_machine.specs.declared.step.Step.TheVariants as step
-use Rattle.cluster_machine.specs.Choices.{Decision}
-use Rattle.cluster_machine.specs.Step.{applied}
-use Rattle.cluster_machine.specs.Worlds.{Done as Effect, FitsWith, RoomWith, HaveRoom}
+use Rattle.cluster_machine.specs.Worlds.{HaveRoom}
+use Rattle.store_model.specs.declared.event.Event.{Event}
 use Rattle.store_model.specs.declared.event.Event.TheVariants.{Apply}
-use Rattle.k2v_rows.specs.declared.k2v_row.K2vRow.{K2vRow}
 use Rattle.k2v_rows.specs.Row.{row_join}
 use Rattle.k2v_schema.specs.Schema.{words}
 use Rattle.k2v_model.specs.declared.order.Order.{Order}
-use Rattle.k2v_model.specs.declared.line.ItemRefusal.TheVariants.{Cluster}
-use Rattle.k2v_model.specs.Run.{State, Outcome, plainly, effect, cluster_lines, begins}
-use Rattle.k2v_model.specs.Acts.{Act, moves, asks, acted, plain, ends_all, IsLawfulAct}
+use Rattle.k2v_model.specs.Run.{State, Outcome, silent, begins}
+use Rattle.k2v_model.specs.Acts.{Act, asks, drain, acted, IsLawfulAct}
 use Rattle.k2v_text.specs.declared.event.ItemEvent.{ItemEvent}
 use Rattle.k2v_text.specs.declared.event.ItemEvent.TheVariants.{Common}
 use Rattle.k2v_text.specs.declared.event.ItemTold.{ItemTold}
-use Rattle.k2v_text.specs.Events.{act_of}
-use Rattle.world_core.specs.Stands.{StandsFor, nothing_given}
-use Rattle.k2v_world.specs.Kept.{kept}
+use Rattle.k2v_text.specs.Events.{act_of, common_act}
+use Rattle.world_core.specs.Stands.{nothing_given}
 use Rattle.k2v_world.specs.declared.world.ItemWorld.{ItemWorld}
 use Rattle.k2v_world.specs.Stands.{Does, Plays, Overflows, PlaysStep, OverflowsStep, PlaysEvent, OverflowsEvent}
 use Rattle.k2v_world.proofs.Causes.{Comes, same_causes}
@@ -57,43 +52,15 @@ module _ (old new : ItemWorld) (node : ℕ) where
   pub apply_overflows : (r : Result ItemTold Memory) → IfErr r (λ e. Comes e (OverflowsStep old (step.Apply node))) → IfErr r (λ e. Comes e (OverflowsEvent old (Common (Apply node))))
   apply_overflows r h = same_causes r (λ full s d. let no = full s d in record { choice = no.choice; lawful = (tt, tt, no.lawful); lacks = no.lacks }) h
 
--- any other event that is a step of the world is given nothing, whatever the step was given
-module _ (old new : ItemWorld) (event : ItemEvent) (st : Step K2vRow) (act : act_of event nothing_given ≡ moves (plainly st)) (free : (s : State) (choice : Decision) → effect s (record { step = st; choice = choice }) ≡ effect s (plainly st))
-    (lawful : (s : State) → IsLawfulAct s (moves (plainly st))) where
-  freely : (told : ItemTold) (s : State) (choice : Decision) → Does new told s (plain s (record { step = st; choice = choice })) → Does new told s (plain s (plainly st))
-  freely told s choice x =
-      let same = free s choice in
-      record {
-        stands = record {
-          world = subst (λ (e : Effect K2vRow). StandsFor row_join words new.world (applied s.world e)) same x.stands.world;
-          buckets = x.stands.buckets;
-          requests = subst (λ (e : Effect K2vRow). new.requests ≡ map kept (ends_all s.requests e.closes)) same x.stands.requests;
-        };
-        tells = record {
-          refused = x.tells.refused ∙ ap (λ (e : Effect K2vRow). option_map Cluster e.refused) same;
-          words = x.tells.words ∙ ap (λ (e : Effect K2vRow). e.words) same;
-          lines = x.tells.lines ∙ ap (λ (e : Effect K2vRow). cluster_lines e.tells) same;
-        };
-        fits = (subst (λ (e : Effect K2vRow). FitsWith row_join words s.world e) same x.fits.0, tt);
-      }
+-- one of two
+pub either : {A B P : Type 0} → A ⊎ B → (A → P) → (B → P) → P
+either (inl a) f g = f a
+either (inr b) f g = g b
 
-  pub step_event : (r : Result ItemTold Memory) → IfOk r (λ told. PlaysStep old new told st) → IfOk r (λ told. PlaysEvent old new told event)
-  step_event (Err e) h = tt
-  step_event (Ok told) h = λ s d.
-      let did = h s d in
-      record {
-        choice = nothing_given;
-        lawful = subst (IsLawfulAct s) (sym act) (lawful s);
-        does = subst (λ (a : Act). Does new told s (acted s a)) (sym act) (freely told s did.choice did.does);
-      }
-
-  pub step_causes : (r : Result ItemTold Memory) → IfErr r (λ e. Comes e (OverflowsStep old st)) → IfErr r (λ e. Comes e (OverflowsEvent old event))
-  step_causes r h = same_causes r (λ full s d.
-      let no = full s d in
-      record {
-        choice = nothing_given;
-        lawful = subst (IsLawfulAct s) (sym act) (lawful s);
-        lacks = λ fits.
-            let here : HaveRoom row_join words s.world (plainly st ∷ []) = subst (λ (a : Act). HaveRoom row_join words s.world (acted s a).moves) act fits in
-            no.lacks (subst (λ (e : Effect K2vRow). RoomWith row_join words s.world e) (sym (free s no.choice)) here.0, tt);
-      }) h
+-- an event that does nothing
+pub nothing_plays : (old : ItemWorld) (event : Event) (told : ItemTold) → common_act event nothing_given ≡ drain 0 → Plays old old told silent → PlaysEvent old old told (Common event)
+nothing_plays old event told act h = λ s d. record {
+  choice = nothing_given;
+  lawful = subst (IsLawfulAct s) (sym act) tt;
+  does = subst (λ (a : Act). Does old told s (acted s a)) (sym act) (h s d);
+}

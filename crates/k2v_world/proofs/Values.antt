@@ -5,7 +5,6 @@ use Rattle.std.specs.Cmp.Lexicographic.{pointwise}
 use Rattle.crdt_core.specs.declared.max.Max.{Max}
 use Rattle.k2v_rows.specs.declared.value.K2vValue.{K2vValue}
 use Rattle.k2v_rows.specs.declared.value.K2vValue.TheVariants.{Deleted, Value}
-use Rattle.k2v_model.specs.declared.line.ShownValue.{ShownValue}
 use Rattle.k2v_model.specs.Run.{is_bucket, values_of}
 use Rattle.store_model.specs.Events.{object_bytes}
 

@@ -1,5 +1,5 @@
 -- What the code keeps of requests, and what it finds among them.
-use Rattle.std.specs.Prelude.{ℕ, suc, ◌-◌, Bool, true, false, ◌&&◌, ◌||◌, ◌==◌, if◌then◌else◌, cond, Option, Some, None, option_map, List, [], ◌∷◌, slice_get, slice_set}
+use Rattle.std.specs.Prelude.{ℕ, suc, ◌-◌, Bool, true, false, ◌&&◌, ◌||◌, ◌==◌, if◌then◌else◌, cond, Option, Some, None, option_map, List, [], ◌∷◌, slice_set}
 use Rattle.std.specs.Option.{unwrap_or}
 use Rattle.blake2_hash.specs.Hash.{digest_of}
 use Rattle.layout_roles.specs.declared.cut.Cut.{Cut}
@@ -106,7 +106,8 @@ busy_from q (a ∷ as') n key = if is_open_write n key a then Some q else busy_f
 -- why a request may not begin: its token isn't one, or another write of the item is open at the node
 abbrev pub hindrance : List Asked → ℕ → ItemKey → Ask → Option ItemRefusal
 hindrance requests n key Read = None
-hindrance requests n key (Write value token) = if is_token requests key token then option_map Busy (busy_from 1 requests n key) else Some (NoSuchToken token)
+hindrance requests n key (Write value token) =
+    if is_token requests key token then option_map Busy (busy_from 1 requests n key) else Some (NoSuchToken token)
 
 -- the request at place i is in this stage now
 abbrev pub with_stage : List Asked → ℕ → Option Asked → Stage → List Asked

@@ -1,17 +1,24 @@
 -- When the code's world of items stands for a state of the model, and what its calls do.
-use Rattle.std.specs.Prelude.{◌≡◌, ◌+◌, ℕ, ⊤, true, Option, Some, None, List, [], ◌∷◌, map, slice_get}
+use Rattle.std.specs.Prelude.{◌≡◌, ◌+◌, ℕ, ⊤, true, Option, option_map, Some, None, List, [], ◌∷◌, map, slice_get}
+use Rattle.wire_messages.specs.declared.phase.Phase.TheVariants.{Store}
+use Rattle.wire_messages.specs.declared.phase.PhaseEnd.{PhaseEnd}
 use Rattle.cluster_machine.specs.Ties as ties
 use Rattle.cluster_machine.specs.declared.step.Step.{Step}
 use Rattle.cluster_machine.specs.declared.step.Step.TheVariants as step
 use Rattle.cluster_machine.specs.declared.step.Words.TheVariants.{Empty}
 use Rattle.cluster_machine.specs.Choices.{Decision}
+use Rattle.cluster_machine.specs.World.{numbered, is_member_at}
+use Rattle.cluster_machine.specs.Layouts.{layouts}
 use Rattle.cluster_machine.specs.Worlds.{IsMeant, IsLawfulStep, FitAll, HaveRoom}
 use Rattle.store_model.specs.declared.event.Event.TheVariants.{Role, Redundancy}
+use Rattle.k2v_rows.specs.declared.value.K2vValue.{K2vValue}
 use Rattle.k2v_rows.specs.declared.k2v_row.K2vRow.{K2vRow}
 use Rattle.k2v_rows.specs.Row.{row_join}
 use Rattle.k2v_schema.specs.Schema.{words}
 use Rattle.k2v_model.specs.declared.line.ItemLine.{ItemLine}
-use Rattle.k2v_model.specs.Run.{State, Outcome}
+use Rattle.k2v_model.specs.declared.line.ItemLine.TheVariants.{ReadDone}
+use Rattle.k2v_model.specs.declared.line.ItemRefusal.TheVariants.{Cluster}
+use Rattle.k2v_model.specs.Run.{State, Outcome, cluster_lines, values_told, follow}
 use Rattle.k2v_model.specs.Acts.{acted, plain, IsOuter, IsLawfulAct}
 use Rattle.k2v_text.specs.declared.event.ItemEvent.{ItemEvent}
 use Rattle.k2v_text.specs.declared.event.ItemEvent.TheVariants.{Common}
@@ -21,8 +28,9 @@ use Rattle.world_core.specs.declared.report.Report.{Report}
 use Rattle.world_core.specs.Stands.{StandsFor, Steps}
 use Rattle.k2v_world.specs.declared.asked.Asked.{Asked}
 use Rattle.k2v_world.specs.declared.asked.Stage.{Stage}
+use Rattle.k2v_world.specs.declared.asked.Stage.TheVariants.{Storing, Shown}
 use Rattle.k2v_world.specs.declared.world.ItemWorld.{ItemWorld}
-use Rattle.k2v_world.specs.Kept.{kept, with_stage}
+use Rattle.k2v_world.specs.Kept.{kept, read_token, with_stage, written}
 
 -- the code tells what the model tells
 pub record Tells (told : ItemTold) (o : Outcome) : Type 0 where
@@ -114,6 +122,18 @@ IsQuiet (step.Expire q) = ⊥
 IsQuiet (step.Restart n) = ⊥
 IsQuiet st = IsOuter st
 
+-- the node is a member
+abbrev pub HasMember : ℕ → State → Type 0
+HasMember n s = is_member_at layouts s.world n ≡ true
+
+-- what request q does whose phase ended so
+abbrev pub followed : ℕ → PhaseEnd K2vRow → State → Outcome
+followed q end s = follow s q (numbered s.requests q) end
+
+-- what a step of the world answers, as the answer of an event
+abbrev pub told_of : Report K2vRow → ItemTold
+told_of report = record { refused = option_map Cluster report.refused; words = report.words; lines = cluster_lines report.lines }
+
 -- request q, at place i, is this one
 pub record IsAt (c : ItemWorld) (i q : ℕ) (a : Asked) : Type 0 where
   pub place : i + 1 ≡ q
@@ -125,9 +145,30 @@ pub record IsIn (c : ItemWorld) (i q : ℕ) (stage : Stage) : Type 0 where
   pub at : IsAt c i q one
   pub is_in : one.stage ≡ stage
 
+-- the row, or none, is what the request at place i stores that has read this
+abbrev pub IsWritten : ItemWorld → ℕ → ℕ → K2vValue → ℕ → Option K2vRow → Option K2vRow → Type 0
+IsWritten c i q value token read row = (a : Asked) → IsAt c i q a → row ≡ written c.requests q a value token read
+
 -- this step of the world was done, and the request at place i is in this stage; these lines are told of what the step tells
-pub record Goes (old new : ItemWorld) (told : ItemTold) (i : ℕ) (st : Step K2vRow) (stage : Stage) (lines : Report K2vRow → List ItemLine) : Type 0 where
+pub record Goes (old new : ItemWorld) (told : ItemTold) (i : ℕ) (st : Step K2vRow) (stage : Stage)
+    (lines : Report K2vRow → List ItemLine) : Type 0 where
   pub report : Report K2vRow
   pub steps : Steps row_join words old.world new.world report st
   pub rest : new ≡ record old { world = new.world; requests = with_stage old.requests i (slice_get old.requests i) stage }
   pub tells : told ≡ record { refused = None; words = Empty; lines = lines report }
+
+-- the step by which request q stores this row
+abbrev pub storing_step : ℕ → K2vRow → Step K2vRow
+storing_step q row = step.Phase q (Store ((row, None) ∷ []))
+
+-- request q, at place i, stores this row
+abbrev pub Stores : ItemWorld → ItemWorld → ItemTold → ℕ → ℕ → K2vRow → Type 0
+Stores old new told i q row = Goes old new told i (storing_step q row) Storing (λ report. cluster_lines report.lines)
+
+-- request q, at place i, is closed, and this line is told
+abbrev pub Closes : ItemWorld → ItemWorld → ItemTold → ℕ → ℕ → Stage → ItemLine → Type 0
+Closes old new told i q stage line = Goes old new told i (step.Close q) stage (λ report. line ∷ [])
+
+-- request q, at place i, finishes with what it read
+abbrev pub Finishes : ItemWorld → ItemWorld → ItemTold → ℕ → ℕ → Option K2vRow → Type 0
+Finishes old new told i q read = Closes old new told i q (Shown (read_token read)) (ReadDone q (values_told read))

@@ -1,8 +1,10 @@
 //! What is kept of a request.
 ghost use Rattle.std.specs.Prelude.{◌≡◌};
+ghost use Rattle.std.specs.List.{position};
 ghost use Rattle.std.specs.Ordering.{is_eq};
 ghost use Rattle.k2v_rows.specs.Row.{item_cmp};
 ghost use Rattle.k2v_model.specs.Orders.{is_write as is_write_of};
+ghost use Rattle.k2v_world.specs.Kept.{is_open_write};
 
 use blake2_hash::Hash32;
 use crdt_core::{Map, Max};
@@ -37,8 +39,17 @@ pub fn is_write(ask: &Ask) -> bool
     matches!(ask, Ask::Write { .. })
 }
 
+/// The place of the first open write of this item at this node.
+pub fn open_write(requests: &[Asked], node: u8, bucket: &Hash32, item: &Item) -> Option<usize>
+    ensures { result ≡ position (is_open_write node (bucket.now, (item.now.pk, item.now.sk))) requests.now }
+{
+    requests
+        .iter()
+        .position(|asked| asked.is_open_write_of(node, bucket, item))
+}
+
 impl Asked {
-    ghost use Rattle.k2v_world.specs.Kept.{waits, is_reading, is_storing, is_shown, is_of, is_open_write};
+    ghost use Rattle.k2v_world.specs.Kept.{waits, is_reading, is_storing, is_shown, is_of};
 
     /// It asks for its item's row.
     pub fn is_reading(&self) -> bool

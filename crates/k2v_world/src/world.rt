@@ -17,11 +17,12 @@ ghost use Rattle.world_core.specs.Nodes.{shown_line};
 ghost use Rattle.world_core.specs.Stands.{Overflows as WorldOverflows, ended};
 ghost use Rattle.k2v_model.specs.declared.line.ItemLine.TheVariants as item;
 ghost use Rattle.k2v_model.specs.Orders.{no_times};
-ghost use Rattle.k2v_model.specs.Run.{State, start, silent, cluster_lines, values_told, begins, begins_reading, is_bucket as is_made, follow, goes_on, delivers, drains};
-ghost use Rattle.k2v_world.specs.Kept.{read_token, is_token, busy_from, times_at, hindrance, written, ended_one, ended_all, ended_by};
-ghost use Rattle.k2v_world.specs.Stands.{IsMeantEvent, IsQuiet};
+ghost use Rattle.k2v_model.specs.Acts.{acted, adds};
+ghost use Rattle.k2v_model.specs.Run.{State, start, silent, values_told, begins, begins_reading, is_bucket as is_made, goes_on, delivers, drains};
+ghost use Rattle.k2v_world.specs.Kept.{read_token, is_token, busy_from, times_at, hindrance, ended_one, ended_all, ended_by};
+ghost use Rattle.k2v_world.specs.Stands.{IsMeantEvent, IsQuiet, HasMember, followed, told_of, storing_step};
 
-use crate::asked::{Asked, Stage};
+use crate::asked::{Asked, Stage, open_write};
 use crate::events::{delete, get, put};
 use crate::rows::{asks_for, base, is_deletion, token_of, values_told};
 use crate::told::{accepted, cluster_lines, of_cluster, refusal};
@@ -82,7 +83,7 @@ fn is_bucket(buckets: &List<Bytes>, name: &Bytes) -> bool
 impl ItemWorld {
     ghost use Rattle.k2v_world.specs.declared.asked.Asked.{Asked};
     ghost use Rattle.k2v_world.specs.declared.asked.Stage.TheVariants as doing;
-    ghost use Rattle.k2v_world.specs.Stands.{IsItems, HasItems, IsAt, IsIn, Plays, PlaysIf, PlaysStep, PlaysEvent, Overflows, OverflowsIf, OverflowsStep, OverflowsEvent, Goes};
+    ghost use Rattle.k2v_world.specs.Stands.{IsItems, HasItems, IsIn, IsWritten, Plays, PlaysIf, PlaysStep, PlaysEvent, Overflows, OverflowsIf, OverflowsStep, OverflowsEvent, Stores, Closes, Finishes};
 
     /// Nothing has happened.
     pub fn new(alloc: Global) -> Result<ItemWorld, Memory>
@@ -218,7 +219,7 @@ impl ItemWorld {
 
     // What a step of the world answers, as the answer of an event.
     fn told(&self, report: Report<K2vRow>) -> Result<ItemTold, Memory>
-        ensures tells { IfOk result (λ told. told ≡ record { refused = option_map ItemRefusal.Cluster report.refused; words = report.words; lines = cluster_lines report.lines }) }
+        ensures tells { IfOk result (λ told. told ≡ told_of report) }
         ensures want { OnlyWant result }
     {
         Ok(ItemTold {
@@ -293,7 +294,7 @@ impl ItemWorld {
 
     fn add_bucket(&mut self, name: &Bytes) -> Result<ItemTold, Memory>
         requires stands { HasItems self.old }
-        ensures plays { IfOk result (λ told. Plays self.old self.new told (λ s. silent (record s { buckets = s.buckets ++ name.now ∷ [] }))) }
+        ensures plays { IfOk result (λ told. Plays self.old self.new told (λ s. acted s (adds name.now))) }
         ensures want { OnlyWant result }
     {
         self.buckets.push(name.copy()?)?;
@@ -356,14 +357,11 @@ impl ItemWorld {
     }
 
     // The least number of an open write of the item at the node.
+    #[tactic(auto, using(crate::proofs::Busy::busy_is))]
     fn busy(&self, node: u8, bucket: &Hash32, item: &Item) -> Option<u64>
         ensures { result ≡ busy_from 1 self.now.requests node (bucket.now, (item.now.pk, item.now.sk)) }
     {
-        let found = self
-            .requests
-            .as_slice()
-            .iter()
-            .position(|asked| asked.is_open_write_of(node, bucket, item))?;
+        let found = open_write(self.requests.as_slice(), node, bucket, item)?;
         Some(found as u64 + 1)
     }
 
@@ -371,8 +369,8 @@ impl ItemWorld {
     fn opens(&mut self, node: u8, bucket: Hash32, order: Order) -> Result<ItemTold, Memory>
         requires stands { HasItems self.old }
         requires bucket { bucket ≡ digest_of order.item.bucket }
-        ensures plays { IfOk result (λ told. PlaysIf (λ s. is_member_at layouts s.world node ≡ true) self.old self.new told (λ s. begins_reading s node order)) }
-        ensures causes { WantOr result (OverflowsIf (λ s. is_member_at layouts s.world node ≡ true) self.old (λ s. begins_reading s node order)) }
+        ensures plays { IfOk result (λ told. PlaysIf (HasMember node) self.old self.new told (λ s. begins_reading s node order)) }
+        ensures causes { WantOr result (OverflowsIf (HasMember node) self.old (λ s. begins_reading s node order)) }
     {
         let _ = self.world.step(Step::Open(node))?;
         let number = self.world.requests();
@@ -395,8 +393,8 @@ impl ItemWorld {
     fn stores(&mut self, i: usize, request: u64, row: K2vRow) -> Result<ItemTold, Memory>
         requires stands { HasItems self.old }
         requires there { i < length self.old.requests }
-        ensures goes { IfOk result (λ told. Goes self.old self.new told i (step.Phase request (phase.Store ((row, None) ∷ []))) doing.Storing (λ report. cluster_lines report.lines)) }
-        ensures causes { WantOr result (WorldOverflows row_join words self.old.world (step.Phase request (phase.Store ((row, None) ∷ [])))) }
+        ensures goes { IfOk result (λ told. Stores self.old self.new told i request row) }
+        ensures causes { WantOr result (WorldOverflows row_join words self.old.world (storing_step request row)) }
     {
         let mut rows = List::new(self.alloc);
         rows.push((row, None))?;
@@ -417,7 +415,7 @@ impl ItemWorld {
     ) -> Result<ItemTold, Memory>
         requires stands { HasItems self.old }
         requires there { i < length self.old.requests }
-        ensures goes { IfOk result (λ told. Goes self.old self.new told i (step.Close request) stage (λ report. line ∷ [])) }
+        ensures goes { IfOk result (λ told. Closes self.old self.new told i request stage line) }
         ensures causes { WantOr result (WorldOverflows row_join words self.old.world (step.Close request)) }
     {
         let _ = self.world.step(Step::Close(request))?;
@@ -439,7 +437,7 @@ impl ItemWorld {
     ) -> Result<Option<K2vRow>, Memory>
         requires stands { HasItems self.now }
         requires there { i < length self.now.requests }
-        ensures is { IfOk result (λ row. (a : Asked) → IsAt self.now i request a → row ≡ written self.now.requests request a value token read) }
+        ensures is { IfOk result (λ row. IsWritten self.now i request value token read row) }
         ensures want { OnlyWant result }
     {
         let asked = self.requests.at(i);
@@ -471,13 +469,14 @@ impl ItemWorld {
     fn has_read(&mut self, i: usize, request: u64, read: Option<K2vRow>) -> Result<ItemTold, Memory>
         requires stands { HasItems self.old }
         requires reading { IsIn self.old i request doing.Reading }
-        ensures plays { IfOk result (λ told. Plays self.old self.new told (λ s. follow s request (numbered s.requests request) (ends.Row read))) }
-        ensures causes { WantOr result (Overflows self.old (λ s. follow s request (numbered s.requests request) (ends.Row read))) }
+        ensures plays { IfOk result (λ told. Plays self.old self.new told (followed request (ends.Row read))) }
+        ensures causes { WantOr result (Overflows self.old (followed request (ends.Row read))) }
     {
         match &self.requests.at(i).order.ask {
             Ask::Read => self.shows(i, request, read),
             Ask::Write { value, token } => {
-                let (value, token) = (value.copy()?, *token);
+                let token = *token;
+                let value = value.copy()?;
                 match self.written(i, request, value, token, read)? {
                     Some(row) => self.stores(i, request, row),
                     None => Ok(self.quiet()),
@@ -490,7 +489,7 @@ impl ItemWorld {
     fn shows(&mut self, i: usize, request: u64, read: Option<K2vRow>) -> Result<ItemTold, Memory>
         requires stands { HasItems self.old }
         requires there { i < length self.old.requests }
-        ensures goes { IfOk result (λ told. Goes self.old self.new told i (step.Close request) (doing.Shown (read_token read)) (λ report. item.ReadDone request (values_told read) ∷ [])) }
+        ensures goes { IfOk result (λ told. Finishes self.old self.new told i request read) }
         ensures causes { WantOr result (WorldOverflows row_join words self.old.world (step.Close request)) }
     {
         let times = token_of(self.alloc, &read)?;
@@ -507,8 +506,8 @@ impl ItemWorld {
     fn is_kept(&mut self, i: usize, request: u64) -> Result<ItemTold, Memory>
         requires stands { HasItems self.old }
         requires storing { IsIn self.old i request doing.Storing }
-        ensures plays { IfOk result (λ told. Plays self.old self.new told (λ s. follow s request (numbered s.requests request) ends.Kept)) }
-        ensures causes { WantOr result (Overflows self.old (λ s. follow s request (numbered s.requests request) ends.Kept)) }
+        ensures plays { IfOk result (λ told. Plays self.old self.new told (followed request ends.Kept)) }
+        ensures causes { WantOr result (Overflows self.old (followed request ends.Kept)) }
     {
         let asked = self.requests.at(i);
         let line = ItemLine::WriteDone {
@@ -522,8 +521,8 @@ impl ItemWorld {
     // What a request does when its phase ended.
     fn follow(&mut self, request: u64, end: PhaseEnd<K2vRow>) -> Result<ItemTold, Memory>
         requires stands { HasItems self.old }
-        ensures plays { IfOk result (λ told. Plays self.old self.new told (λ s. follow s request (numbered s.requests request) end)) }
-        ensures causes { WantOr result (Overflows self.old (λ s. follow s request (numbered s.requests request) end)) }
+        ensures plays { IfOk result (λ told. Plays self.old self.new told (followed request end)) }
+        ensures causes { WantOr result (Overflows self.old (followed request end)) }
     {
         let Some(i) = place(request, self.requests.len()) else {
             return Ok(self.quiet());

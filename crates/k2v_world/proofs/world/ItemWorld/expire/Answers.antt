@@ -1,0 +1,13 @@
+use Rattle.std.proofs.Common.{refl}
+use Rattle.cluster_machine.specs.declared.step.Step.TheVariants.{Expire}
+use Rattle.k2v_world.proofs.Causes.{handed_on}
+use Rattle.k2v_world.proofs.Plain.{expire_plays, step_overflows}
+use Rattle.k2v_world.proofs.world.ItemWorld.expire.Goals as goal
+
+pub returns-in_err-report-clause-causes : goal.returns-in_err-report-clause-causes
+returns-in_err-report-clause-causes c =
+    handed_on c.from_residual.result c.in_err-report.field-0.0 c.from_residual.ensures.1 (step_overflows c.args.self.now (Expire c.args.request)) c.in_err-report.ensures.causes
+
+pub returns-clause-plays : goal.returns-clause-plays
+returns-clause-plays c =
+    rw c.end_unless.ensures (expire_plays c.args.self.now _ c.args.request c.in_ok-report.report c.in_ok-report.ensures.steps refl refl c.told.result c.told.ensures.tells)
