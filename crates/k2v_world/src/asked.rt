@@ -2,7 +2,6 @@
 ghost use Rattle.std.specs.Prelude.{◌≡◌};
 ghost use Rattle.std.specs.List.{position};
 ghost use Rattle.std.specs.Ordering.{is_eq};
-ghost use Rattle.k2v_rows.specs.Row.{item_cmp};
 ghost use Rattle.k2v_model.specs.Orders.{is_write as is_write_of};
 ghost use Rattle.k2v_world.specs.Kept.{is_open_write};
 

@@ -1,10 +1,9 @@
 //! What a request makes of the row that it read.
-ghost use Rattle.std.specs.Prelude.{◌≡◌, ◌++◌, ◌∷◌, [], if◌then◌else◌, Some, None, IfOk, OnOk};
+ghost use Rattle.std.specs.Prelude.{◌≡◌, ◌++◌, ◌∷◌, [], Some, None, IfOk, OnOk};
 ghost use Rattle.std.specs.Option.{unwrap_or};
 ghost use Rattle.crdt_core.specs.Map.{map_entries};
 ghost use Rattle.crdt_core.specs.Outcomes.{OnlyWant};
 ghost use Rattle.blake2_hash.specs.Hash.{digest_of};
-ghost use Rattle.k2v_rows.specs.Row.{after_put, can_put};
 ghost use Rattle.k2v_model.specs.Orders.{empty_row, asks_for as read_phase};
 ghost use Rattle.k2v_model.specs.Run.{is_deletion as is_deletion_of, values_of, values_in, values_told as values_of_read};
 ghost use Rattle.k2v_world.specs.Kept.{read_token};

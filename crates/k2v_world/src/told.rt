@@ -1,5 +1,5 @@
 //! Answers of events.
-ghost use Rattle.std.specs.Prelude.{◌≡◌, ◌++◌, map, option_map, Some, None, [], IfOk};
+ghost use Rattle.std.specs.Prelude.{◌≡◌, option_map, Some, None, [], IfOk};
 ghost use Rattle.crdt_core.specs.Outcomes.{OnlyWant};
 ghost use Rattle.cluster_machine.specs.declared.step.Words.TheVariants.{Empty};
 ghost use Rattle.k2v_model.specs.declared.line.ItemRefusal.TheVariants.{Cluster as OfCluster};

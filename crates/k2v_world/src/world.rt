@@ -1,25 +1,23 @@
 //! The cluster with its buckets and its requests for items.
-ghost use Rattle.std.specs.Prelude.{◌≡◌, [], ◌∷◌, ◌++◌, ◌⊎◌, ◌+◌, ◌<◌, length, map, option_map, Some, None, true, IsTrue, IfOk, IfSome, IfNone};
+ghost use Rattle.std.specs.Prelude.{◌≡◌, [], ◌⊎◌, ◌+◌, ◌<◌, length, map, option_map, Some, None, IsTrue, IfOk, IfSome, IfNone};
 ghost use Rattle.crdt_core.specs.Outcomes.{OnlyWant, WantOr};
 ghost use Rattle.table_model.specs.Rows.{rows};
 ghost use Rattle.table_model.specs.Top.{any_unspelled};
 ghost use Rattle.blake2_hash.specs.Hash.{digest_of};
-ghost use Rattle.wire_messages.specs.declared.phase.Phase.TheVariants as phase;
 ghost use Rattle.wire_messages.specs.declared.phase.PhaseEnd.TheVariants as ends;
 ghost use Rattle.cluster_machine.specs.declared.step.Words.TheVariants.{Empty};
 ghost use Rattle.cluster_machine.specs.declared.step.Step.TheVariants as step;
-ghost use Rattle.cluster_machine.specs.World.{numbered, is_member_at, undelivered, sent_bytes, node_line};
+ghost use Rattle.cluster_machine.specs.World.{numbered, undelivered, sent_bytes, node_line};
 ghost use Rattle.cluster_machine.specs.Layouts.{layouts};
 ghost use Rattle.cluster_machine.specs.Worlds.{IsMeant};
 ghost use Rattle.k2v_rows.specs.Row.{row_join};
 ghost use Rattle.k2v_schema.specs.Schema.{words};
 ghost use Rattle.world_core.specs.Nodes.{shown_line};
 ghost use Rattle.world_core.specs.Stands.{Overflows as WorldOverflows, ended};
-ghost use Rattle.k2v_model.specs.declared.line.ItemLine.TheVariants as item;
 ghost use Rattle.k2v_model.specs.Orders.{no_times};
 ghost use Rattle.k2v_model.specs.Acts.{acted, adds};
-ghost use Rattle.k2v_model.specs.Run.{State, start, silent, values_told, begins, begins_reading, is_bucket as is_made, goes_on, delivers, drains};
-ghost use Rattle.k2v_world.specs.Kept.{read_token, is_token, busy_from, times_at, hindrance, ended_one, ended_all, ended_by};
+ghost use Rattle.k2v_model.specs.Run.{State, start, silent, begins, begins_reading, is_bucket as is_made, goes_on, delivers, drains};
+ghost use Rattle.k2v_world.specs.Kept.{is_token, busy_from, times_at, hindrance, ended_one, ended_all, ended_by};
 ghost use Rattle.k2v_world.specs.Stands.{IsMeantEvent, IsQuiet, HasMember, followed, told_of, storing_step};
 
 use crate::asked::{Asked, Stage, open_write};
