@@ -1,5 +1,5 @@
 -- The first events of a schedule, played, begin a replay of all of them that has a stated end.
-use Rattle.std.proofs.Common.{◌≡◌, ℕ, ◌⊎◌, inl, inr, List, [], ◌∷◌, ◌++◌, length, refl, sym, ap, ◌∙◌, subst, append_assoc}
+use Rattle.std.proofs.Common.{◌≡◌, ◌⊎◌, inl, inr, List, [], ◌∷◌, ◌++◌, length, refl, sym, ap, ◌∙◌, subst, append_assoc}
 use Rattle.std.specs.List.{AllByRecursion}
 use Rattle.lab_outside.specs.declared.exit.Status.TheVariants.{Done, Limit}
 use Rattle.k2v_model.specs.Run.{State, start}
@@ -11,7 +11,7 @@ use Rattle.k2v_text.specs.Transcript.{event_text, turns_text, tail_text}
 use Rattle.k2v_limits.specs.Limits.{AreScheduled}
 use Rattle.k2v_replay.specs.Replay.{sent_line, front, AreFirst, CutOff, IsReplay, whole, GoesFurther}
 use Rattle.k2v_replay.proofs.Lawful.{IsFine, start_fine, after_fine}
-use Rattle.k2v_replay.proofs.Ending.{AreAllowedEvents, Given, given}
+use Rattle.k2v_replay.proofs.Ending.{AreAllowedEvents, given}
 use Rattle.k2v_replay.proofs.Cutting.{never_played_and_cut_off}
 
 -- what is written of turns and of those after them

@@ -1,6 +1,5 @@
 -- The acts of turns that were played are lawful and fit, and so are those that lead to a moment of their run; what is owed at each.
-use Rattle.std.proofs.Common.{◌≡◌, ◌≤◌, ℕ, zero, suc, Option, Some, None, List, [], ◌∷◌, ◌++◌, sym, subst, arith}
-use Rattle.std.specs.Prelude.{IfSome}
+use Rattle.std.proofs.Common.{◌≤◌, ℕ, zero, suc, Some, None, List, [], ◌∷◌, ◌++◌, sym, subst, arith}
 use Rattle.std.specs.List.{AllByRecursion}
 use Rattle.cluster_machine.specs.Choices.{Decision}
 use Rattle.cluster_machine.specs.World.{undelivered}

@@ -1,5 +1,5 @@
 -- Each event of a schedule can be given something lawful.
-use Rattle.std.proofs.Common.{ℕ, zero, suc, ◌≤◌, length, Bool, true, false, if◌then◌else◌, cond, Option, Some, None, List, [], ◌∷◌, refl, arith}
+use Rattle.std.proofs.Common.{ℕ, zero, suc, length, Bool, true, false, if◌then◌else◌, cond, Option, Some, None, List, [], ◌∷◌, refl, arith}
 use Rattle.std.specs.Option.{unwrap_or}
 use Rattle.layout_roles.specs.declared.redundancy.Redundancy.{Redundancy}
 use Rattle.layout_roles.specs.declared.redundancy.Redundancy.TheVariants.{AtLeast, Maximum}
@@ -28,7 +28,7 @@ use Rattle.k2v_model.specs.declared.order.Order.{Order}
 use Rattle.k2v_model.specs.declared.line.ItemLine.{ItemLine}
 use Rattle.k2v_model.specs.declared.line.ItemRefusal.TheVariants.{Cluster, NoSuchToken}
 use Rattle.k2v_model.specs.Orders.{key_of, empty_row, asks_for}
-use Rattle.k2v_model.specs.Run.{Moving, ItemRequest, Stage, reading, storing, stored, shown, over, State, Outcome, start, silent, refusal, plainly, effect, doing, phases, set_stage, with_request, begins_reading, unless_busy, is_token, busy_from, admits, is_bucket, begins, token_at, stores, finishes, writes, reads_on, follows, follow, goes_on, delivers, then_drains, drains}
+use Rattle.k2v_model.specs.Run.{Moving, ItemRequest, Stage, reading, storing, stored, shown, over, State, Outcome, start, silent, refusal, plainly, effect, doing, phases, begins_reading, unless_busy, is_token, busy_from, admits, is_bucket, begins, token_at, stores, finishes, writes, reads_on, follows, follow, goes_on, delivers, then_drains, drains}
 use Rattle.k2v_model.specs.Acts.{moves, plain, IsLawfulAct}
 use Rattle.k2v_text.specs.declared.event.ItemEvent.{ItemEvent}
 use Rattle.k2v_text.specs.declared.event.ItemEvent.TheVariants.{Common, Put, Delete, Get}

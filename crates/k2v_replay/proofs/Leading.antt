@@ -19,7 +19,7 @@ use Rattle.k2v_model.specs.declared.order.Ask.TheVariants.{Write, Read}
 use Rattle.k2v_model.specs.declared.order.Order.{Order}
 use Rattle.k2v_model.specs.declared.line.ItemRefusal.TheVariants.{Cluster, NoSuchToken}
 use Rattle.k2v_model.specs.Orders.{key_of}
-use Rattle.k2v_model.specs.Run.{World, Moving, State, Outcome, start, silent, refusal, is_bucket, is_token, busy_from, unless_busy, begins_reading, admits, begins, delivers, then_drains, drains}
+use Rattle.k2v_model.specs.Run.{World, Moving, State, Outcome, start, silent, refusal, is_bucket, is_token, busy_from, unless_busy, admits, begins, delivers, then_drains, drains}
 use Rattle.k2v_text.specs.declared.event.ItemEvent.{ItemEvent}
 use Rattle.k2v_text.specs.declared.event.ItemEvent.TheVariants.{Common, Put, Delete, Get}
 use Rattle.k2v_text.specs.Played.{Step, outcome, deliveries, steps_of, HasSent, GoesOn}
