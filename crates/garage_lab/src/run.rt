@@ -4,7 +4,7 @@ ghost use Rattle.garage_lab.specs.Command.{IsInRange, Asks, AskNothing};
 ghost use Rattle.garage_lab.specs.Run.{Does, TellsUsage};
 
 use crate::command::{Command, asked_by};
-use k2v_api::run_k2v;
+use k2v_api::k2v;
 use lab_main::usage;
 use lab_outside::{Clock, Link, Sink, Source, Status};
 use layout_command::{Goal, run_layout};
@@ -33,7 +33,7 @@ fn run_command<I: Source, O: Sink, L: Link, C: Clock>(
         Command::Moves => run_layout(alloc, Goal::Moves, input, output),
         Command::Replay => run_replay(alloc, Account::Transcript, input, output),
         Command::Check => run_replay(alloc, Account::Checked, input, output),
-        Command::Items => run_k2v(alloc, input, output),
+        Command::Items => k2v(alloc, input, output),
         Command::Workload(workload) => run_workload(alloc, workload, output),
         Command::Serve(server) => run_server(alloc, server, input, output, link, clock),
     }

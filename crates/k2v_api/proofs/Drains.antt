@@ -13,9 +13,9 @@ use Rattle.k2v_world.specs.Stands.{IsItems, HasItems}
 use Rattle.k2v_api.specs.declared.stop.Stop.{Stop}
 use Rattle.k2v_api.specs.declared.stop.Stop.TheVariants.{Write, Memory, TooManyEvents, BadLine, Number, Sent}
 use Rattle.k2v_text.specs.Played.{Step, deliveries, GoesOn}
-use Rattle.k2v_api.specs.Replay.{SendsTooMuch, LacksRoom, StopsAt}
+use Rattle.k2v_replay.specs.Replay.{SendsTooMuch, LacksRoom, StopsAt}
 use Rattle.k2v_api.specs.Turning.{TakesStep, StepIs, StepStops, Delivers, DrainStops}
-use Rattle.k2v_api.proofs.Causes.{all_push}
+use Rattle.k2v_replay.proofs.Turns.{all_push}
 
 -- a delivery as a step
 abbrev pub delivered : State → ℕ → Step

@@ -7,20 +7,22 @@ use Rattle.lab_outside.specs.declared.exit.Status.{Status}
 use Rattle.lab_outside.specs.declared.exit.Status.TheVariants.{Done, Refused, ReadFault, WriteFault, Memory as MemoryStatus, Limit}
 use Rattle.lab_outside.specs.Rose.{Rose}
 use Rattle.lab_outside.specs.Bytes.{Wrote, WrotePrefix}
-use Rattle.lab_outside.proofs.Bytes.{wrote_none, wrote_more}
+use Rattle.lab_outside.proofs.Bytes.{wrote_none, wrote_more, wrote_prefix_more}
 use Rattle.lab_outside.proofs.Rose.{rose_before, rose_after}
 use Rattle.lab_main.specs.Ends.{Ends, said, cut_off}
-use Rattle.lab_main.specs.Limits.{number_line}
 use Rattle.lab_main.specs.Edges.{IsStated, IsUnlinked, Answers, Begins, nothing, begun, Writes}
 use Rattle.lab_main.proofs.Edges.{last_answers, last_begins, whole_writes}
 use Rattle.lab_main.proofs.Writing.{wrote_nothing}
 use Rattle.k2v_text.specs.declared.event.NumberedItemEvent.{NumberedItemEvent}
+use Rattle.k2v_text.specs.Events.{Turn}
 use Rattle.k2v_text.specs.Schedule.{IsSchedule, IsFirstBadLine, HasTooManyEvents}
 use Rattle.k2v_text.specs.Transcript.{transcript}
 use Rattle.k2v_api.specs.declared.stop.Stop.{Stop}
 use Rattle.k2v_api.specs.declared.stop.Stop.TheVariants.{Write, Memory, TooManyEvents, BadLine, Number, Sent}
-use Rattle.k2v_api.specs.Replay.{sent_line, front, whole, wanting}
+use Rattle.k2v_limits.specs.Limits.{AreScheduled}
+use Rattle.k2v_replay.specs.Replay.{sent_line, front, AreFirst, ReplayLacksRoom, whole, GoesFurther}
 use Rattle.k2v_api.specs.Answer.{events_line, bad_line_text, IsAnswer, bad_line, many_events, replayed}
+use Rattle.k2v_api.proofs.Stating.{EveryFits}
 use Rattle.k2v_api.specs.Stop.{status_of, said_of, IsWhole, IsPart, of_turns, of_all, LacksLine, Halts, HaltsOn, IsNearly, IsOfSchedule, Says, ended, unsaid}
 
 -- the text is no schedule, and nothing was written
@@ -37,27 +39,35 @@ pub schedule_halts : {A : Type 0} (input : List ℕ) (old : Option (List ℕ)) (
 schedule_halts input old stop of_schedule bad many (Ok x) is = tt
 schedule_halts input old stop of_schedule bad many (Err e) is = subst (λ (s : Stop). HaltsOn input s old old) (sym is) (no_schedule input old stop of_schedule bad many)
 
--- what was written for the events of a schedule
-module _ (input : List ℕ) (events : List NumberedItemEvent) (spells : IsSchedule input events) (old new : Option (List ℕ)) where
-  of_part : IsPart events old new → Begins (IsAnswer input) old new
-  of_part (of_turns turns first wrote) = begun MemoryStatus (front turns) (replayed events spells (wanting turns first refl refl)) wrote
-  of_part (of_all turns are played wrote) = begun Done (transcript turns) (replayed events spells (whole turns are played refl refl)) wrote
+-- what is written of the first events begins what is stated for all
+abbrev pub AllGoFurther : Type 0
+AllGoFurther = (events : List NumberedItemEvent) (turns : List Turn) → AreScheduled events → AreFirst events turns → GoesFurther events turns
 
-  of_line : (line : List ℕ) → LacksLine events line old new → IsNearly input Limit line old new
-  of_line line h = record { front = h.before; wrote = h.wrote; stated = replayed events spells h.stated }
+-- no replay lacks room
+abbrev pub NoneLacks : Type 0
+NoneLacks = (events : List NumberedItemEvent) → AreScheduled events → ReplayLacksRoom events → ⊥
+
+-- what was written for the events of a schedule
+module _ (fits : EveryFits) (further : AllGoFurther) (room : NoneLacks) (input : List ℕ) (events : List NumberedItemEvent) (spells : IsSchedule input events) (old new : Option (List ℕ)) where
+  of_part : IsPart events old new → Begins (IsAnswer input) old new
+  of_part (of_turns turns first wrote) =
+      let g = further events turns (fits input events spells) first in begun g.status (front turns ++ g.rest) (replayed events spells g.stated) (wrote_prefix_more old new (front turns) g.rest wrote)
+  of_part (of_all turns are played wrote) = begun Done (transcript turns) (replayed events spells (whole turns are played refl refl)) wrote
 
   run_halted : (stop : Stop) → Halts events stop old new → HaltsOn input stop old new
   run_halted Write h = of_part h
   run_halted Memory h = of_part h
   run_halted TooManyEvents h = absurd h
   run_halted (BadLine n) h = absurd h
-  run_halted Number h = of_line number_line h
-  run_halted Sent h = of_line sent_line h
+  run_halted Number h = room events (fits input events spells) h.1
+  run_halted Sent h = record { front = h.before; wrote = h.wrote; stated = replayed events spells h.stated }
 
   pub write_halts : {A : Type 0} (r : Result A Stop) → IfErr r (λ stop. Halts events stop old new) → IfErr r (λ stop. HaltsOn input stop old new)
   write_halts (Ok x) h = tt
   write_halts (Err stop) h = run_halted stop h
 
+-- of a schedule that was played whole
+module _ (input : List ℕ) (events : List NumberedItemEvent) (spells : IsSchedule input events) (old new : Option (List ℕ)) where
   write_all : IsWhole events old new → Answers (IsAnswer input) Done old new
   write_all h = record { text = transcript h.turns; stated = replayed events spells (whole h.turns h.events_are h.played refl refl); wrote = h.wrote }
 
@@ -108,7 +118,7 @@ module _ (input : List ℕ) (result : Status) (old mid new : Option (List ℕ)) 
   stopped_answers Memory h says stated = absurd (silent_unstated MemoryStatus result mid new faults risen says (λ x. x) stated)
   stopped_answers TooManyEvents h says stated = nearly_said input Limit result events_line old mid new faults risen h says stated
   stopped_answers (BadLine n) h says stated = nearly_said input Refused result (bad_line_text n) old mid new faults risen h says stated
-  stopped_answers Number h says stated = nearly_said input Limit result number_line old mid new faults risen h says stated
+  stopped_answers Number h says stated = absurd h
   stopped_answers Sent h says stated = nearly_said input Limit result sent_line old mid new faults risen h says stated
 
   stopped_begins : (stop : Stop) → HaltsOn input stop old mid → Says (status_of stop) (said_of stop) result mid new faults risen → Begins (IsAnswer input) old new
@@ -116,7 +126,7 @@ module _ (input : List ℕ) (result : Status) (old mid new : Option (List ℕ)) 
   stopped_begins Memory h says = kept (IsAnswer input) old mid new h (silent_wrote MemoryStatus result mid new faults risen says)
   stopped_begins TooManyEvents h says = nearly_begins input Limit result events_line old mid new faults risen h says
   stopped_begins (BadLine n) h says = nearly_begins input Refused result (bad_line_text n) old mid new faults risen h says
-  stopped_begins Number h says = nearly_begins input Limit result number_line old mid new faults risen h says
+  stopped_begins Number h says = absurd h
   stopped_begins Sent h says = nearly_begins input Limit result sent_line old mid new faults risen h says
 
 write_alone : (stop : Stop) → status_of stop ≡ WriteFault → stop ≡ Write

@@ -3,8 +3,7 @@ pub mod Causes
 pub mod Drains
 pub mod Ends
 pub mod Meant
-pub mod Moments
 pub mod Running
 pub mod Stepping
 pub mod Stops
-pub mod Turns
+pub mod Stating

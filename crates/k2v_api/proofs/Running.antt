@@ -17,14 +17,14 @@ use Rattle.k2v_api.specs.declared.stop.Stop.{Stop}
 use Rattle.k2v_api.specs.declared.stop.Stop.TheVariants.{Write, Memory, TooManyEvents, BadLine, Number, Sent}
 use Rattle.k2v_text.specs.Played.{events_of, Step, ArePlayed}
 use Rattle.k2v_api.specs.Tail.{CannotTell, TellsTail}
-use Rattle.k2v_api.specs.Replay.{front, SendsTooMuch, LacksRoom, AreFirst, StopsAfter, in_step, in_line, sent}
+use Rattle.k2v_replay.specs.Replay.{front, SendsTooMuch, LacksRoom, AreFirst, StopsAfter, in_step, in_line, sent}
 use Rattle.k2v_api.specs.Turning.{turn, Takes, StopsIn, EventStops, TurnsTo, TurnsOne}
 use Rattle.k2v_api.specs.Stop.{stop_of_memory, IsWhole, IsPart, of_turns, of_all, Halts}
 use Rattle.k2v_api.proofs.Causes.{stop_is}
-use Rattle.k2v_api.proofs.Turns.{run_push, front_push, events_push, played_none, played_push}
+use Rattle.k2v_replay.proofs.Turns.{run_push, front_push, events_push, played_none, played_push}
 
 -- what the items took is a turn, with what is written of what it told
-pub turns_one : (old new : ItemWorld) (told : ItemTold) (e : NumberedItemEvent) (text : List ℕ) → ((s : State) → IsItems old s → Takes new told s e.event) →
+turns_one : (old new : ItemWorld) (told : ItemTold) (e : NumberedItemEvent) (text : List ℕ) → ((s : State) → IsItems old s → Takes new told s e.event) →
     text ≡ told_text e.line (name_of e.event) told.refused told.words told.lines → TurnsOne old new e text
 turns_one old new told e text takes is s stands =
     let d = takes s stands in
@@ -39,6 +39,11 @@ turns_one old new told e text takes is s stands =
           ∙ ap (λ w. told_text e.line (name_of e.event) o.refused w told.lines) d.tells.words
           ∙ ap (λ ls. told_text e.line (name_of e.event) o.refused o.words ls) d.tells.lines;
     }
+
+-- the same, where the name is told apart
+pub turns_named : (old new : ItemWorld) (told : ItemTold) (e : NumberedItemEvent) (text name : List ℕ) → ((s : State) → IsItems old s → Takes new told s e.event) →
+    name ≡ name_of e.event → text ≡ told_text e.line name told.refused told.words told.lines → TurnsOne old new e text
+turns_named old new told e text name takes same is = turns_one old new told e text takes (is ∙ ap (λ (n : List ℕ). told_text e.line n told.refused told.words told.lines) same)
 
 -- the first i events were played, with some layouts, and what is written of them was written
 pub record Running (items : ItemWorld) (old now : Option (List ℕ)) (events : List NumberedItemEvent) (i : ℕ) : Type 0 where
@@ -131,7 +136,7 @@ module _ (items new : ItemWorld) (old mid now : Option (List ℕ)) (events : Lis
   running_halts Memory h = running_part items old mid events i r
   running_halts TooManyEvents h = h
   running_halts (BadLine k) h = h
-  running_halts Number h = record { before = front r.turns; wrote = r.wrote; stated = in_step r.turns (stops_after LacksRoom h) refl refl }
+  running_halts Number h = (running_part items old mid events i r, in_step r.turns (stops_after LacksRoom h))
   running_halts Sent h = record { before = front r.turns; wrote = r.wrote; stated = sent r.turns (stops_after SendsTooMuch h) refl refl }
 
 module _ (items : ItemWorld) (old mid now : Option (List ℕ)) (events : List NumberedItemEvent) (i : ℕ) (r : Running items old mid events i) (le : length events ≤ i) where
@@ -143,7 +148,7 @@ module _ (items : ItemWorld) (old mid now : Option (List ℕ)) (events : List Nu
 
   -- after the last event a node can't be shown
   unshown_here : CannotTell items → Halts events Number old mid
-  unshown_here none = record { before = front r.turns; wrote = r.wrote; stated = in_line r.turns all_are r.played (none (run start r.turns) r.stands) refl refl }
+  unshown_here none = (running_part items old mid events i r, in_line r.turns all_are r.played (none (run start r.turns) r.stands))
 
   -- what follows the last event came to nothing
   pub all_halts : (why : Why) → (why ≡ Want) ⊎ ((why ≡ Full) × CannotTell items) → Halts events (stop_of_memory why) old mid

@@ -18,7 +18,7 @@ use Rattle.k2v_api.specs.declared.stop.Stop.{Stop}
 use Rattle.k2v_api.specs.declared.stop.Stop.TheVariants.{Write, Memory, TooManyEvents, BadLine, Number, Sent}
 use Rattle.text_model.specs.Played.{sent_limit}
 use Rattle.k2v_text.specs.Played.{Step, steps_of, HasSent, GoesOn}
-use Rattle.k2v_api.specs.Replay.{SendsTooMuch, LacksRoom}
+use Rattle.k2v_replay.specs.Replay.{SendsTooMuch, LacksRoom}
 use Rattle.k2v_api.specs.Turning.{drain_count, step_of, TakesStep, StepIs, Takes, StopsIn, StepStops, Delivers, DrainStops, EventStops}
 
 -- what was played is a step after which so many bytes were sent

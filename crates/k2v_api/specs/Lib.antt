@@ -1,5 +1,4 @@
 pub mod Tail
-pub mod Replay
 pub mod Turning
 pub mod Stop
 pub mod Answer

@@ -16,7 +16,7 @@ use Rattle.k2v_text.specs.Played.{events_of, ArePlayed}
 use Rattle.k2v_text.specs.Transcript.{transcript}
 use Rattle.k2v_api.specs.declared.stop.Stop.{Stop}
 use Rattle.k2v_api.specs.declared.stop.Stop.TheVariants.{Write, Memory, TooManyEvents, BadLine, Number, Sent}
-use Rattle.k2v_api.specs.Replay.{sent_line, front, AreFirst, IsReplay}
+use Rattle.k2v_replay.specs.Replay.{sent_line, front, AreFirst, ReplayLacksRoom, IsReplay}
 use Rattle.k2v_api.specs.Answer.{events_line, bad_line_text, IsAnswer}
 
 -- why an event could not be done
@@ -75,13 +75,13 @@ pub record LacksLine (events : List NumberedItemEvent) (line : List ℕ) (old ne
   pub wrote : Wrote old new before
   pub stated : IsReplay events Limit (before ++ line)
 
--- what was written when a replay of these events gave up
+-- what was written when a replay of these events gave up; Number comes only where a step has no room or a node can't be shown
 abbrev pub Halts : List NumberedItemEvent → Stop → Option (List ℕ) → Option (List ℕ) → Type 0
 Halts events Write old new = IsPart events old new
 Halts events Memory old new = IsPart events old new
 Halts events TooManyEvents old new = ⊥
 Halts events (BadLine n) old new = ⊥
-Halts events Number old new = LacksLine events number_line old new
+Halts events Number old new = IsPart events old new × ReplayLacksRoom events
 Halts events Sent old new = LacksLine events sent_line old new
 
 -- what was written so far, with this last text, is what is stated with this status
@@ -90,13 +90,13 @@ pub record IsNearly (input : List ℕ) (status : Status) (last : List ℕ) (old 
   pub wrote : Wrote old new front
   pub stated : IsAnswer input status (front ++ last)
 
--- what was written when a replay of this input gave up
+-- what was written when a replay of this input gave up; no input brings it to a number or row that would not fit
 abbrev pub HaltsOn : List ℕ → Stop → Option (List ℕ) → Option (List ℕ) → Type 0
 HaltsOn input Write old new = Begins (IsAnswer input) old new
 HaltsOn input Memory old new = Begins (IsAnswer input) old new
 HaltsOn input TooManyEvents old new = IsNearly input Limit events_line old new
 HaltsOn input (BadLine n) old new = IsNearly input Refused (bad_line_text n) old new
-HaltsOn input Number old new = IsNearly input Limit number_line old new
+HaltsOn input Number old new = ⊥
 HaltsOn input Sent old new = IsNearly input Limit sent_line old new
 
 -- it ends with this status and this text written, unless a write fails or memory is wanting

@@ -1,23 +1,11 @@
 -- What is written after the last event, and when it can't be.
-use Rattle.std.specs.Prelude.{◌≡◌, ℕ, Bool, List, IsTrue, flat_map}
-use Rattle.std.specs.List.{list_any, range_with_len}
-use Rattle.table_model.specs.Rows.{rows}
-use Rattle.table_model.specs.Top.{any_unspelled}
+use Rattle.std.specs.Prelude.{◌≡◌, ℕ, List, IsTrue, flat_map}
+use Rattle.std.specs.List.{list_any}
 use Rattle.cluster_machine.specs.Ties as ties
-use Rattle.k2v_rows.specs.Row.{row_join}
-use Rattle.k2v_schema.specs.Schema.{words}
-use Rattle.k2v_model.specs.Run.{World, State}
 use Rattle.k2v_text.specs.Transcript.{line_at, tail_text}
+use Rattle.k2v_replay.specs.Replay.{is_unshown, IsUnshown}
 use Rattle.k2v_world.specs.declared.world.ItemWorld.{ItemWorld}
 use Rattle.k2v_world.specs.Stands.{IsItems}
-
--- node n of a world has a row without a spelling
-abbrev pub is_unshown : World → ℕ → Bool
-is_unshown w n = any_unspelled words (rows row_join words (w.nodes n).accepted)
-
--- one of nodes 1 to 16 has such a row
-abbrev pub IsUnshown : State → Type 0
-IsUnshown s = IsTrue (list_any (is_unshown s.world) (range_with_len 1 16))
 
 -- whatever state the code's world of items stands for, this is the line of node n
 abbrev pub ShowsNode : ItemWorld → ℕ → List ℕ → Type 0

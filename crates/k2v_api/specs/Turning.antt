@@ -18,7 +18,7 @@ use Rattle.k2v_world.specs.declared.world.ItemWorld.{ItemWorld}
 use Rattle.k2v_world.specs.Stands.{IsItems, Tells}
 use Rattle.k2v_api.specs.declared.stop.Stop.{Stop}
 use Rattle.k2v_api.specs.declared.stop.Stop.TheVariants.{Write, Memory, TooManyEvents, BadLine, Number, Sent}
-use Rattle.k2v_api.specs.Replay.{SendsTooMuch, LacksRoom, StopsAt}
+use Rattle.k2v_replay.specs.Replay.{SendsTooMuch, LacksRoom, StopsAt}
 
 -- how many deliveries a drain may have; none for another event
 abbrev pub drain_count : ItemEvent → Option ℕ

@@ -10,11 +10,13 @@ ghost use Rattle.k2v_api.specs.Answer.{bad_line_text, IsAnswer};
 ghost use Rattle.k2v_api.specs.Stop.{status_of, said_of, HaltsOn, IsOfSchedule, Says};
 ghost use Rattle.k2v_api.specs.Command.{ReplaysItems};
 
+use crate::laws::some_item_replay_is_stated;
 use crate::stop::Stop;
 use crate::transcript;
 use crdt_core::{Bytes, List, Memory};
-use k2v_laws::items_keep_what_they_owe;
+use k2v_limits::item_schedules_are_within_limits;
 use k2v_lines::parse_items;
+use k2v_replay::{first_item_turns_go_further, item_turns_end_once, moments_keep_items, no_item_replay_lacks_room};
 use k2v_text::{NumberedItemEvent, every_item_text_reads};
 use lab_main::{ends, read_input, unread};
 use lab_outside::{Sink, Source, Status};
@@ -72,6 +74,9 @@ fn replay<O: Sink>(alloc: Global, text: &[u8], output: &mut O) -> Result<(), Sto
     ensures counted { O.faults output.old ≤ O.faults output.new }
     ensures told { (result ≡ Err Stop.Write) ⊎ (O.faults output.new ≡ O.faults output.old) }
 {
+    item_schedules_are_within_limits();
+    no_item_replay_lacks_room();
+    first_item_turns_go_further();
     let events = schedule_of(alloc, text)?;
     transcript::replay(alloc, events.as_slice(), output)
 }
@@ -96,10 +101,12 @@ fn replayed<O: Sink>(alloc: Global, text: &[u8], output: &mut O) -> Status
 /// zero bytes: each finished read shows each write of its item that was acknowledged before it began, or one that replaced
 /// it; it shows none that was replaced by a write acknowledged before it began; and a row that shows a write of a node
 /// shows each acknowledged write of its item at that node with a smaller number, or its discard time covers it.
-pub fn run_k2v<I: Source, O: Sink>(alloc: Global, input: &mut I, output: &mut O) -> Status
+pub fn k2v<I: Source, O: Sink>(alloc: Global, input: &mut I, output: &mut O) -> Status
     ensures { ReplaysItems I.Source O.Sink result input.old input.new output.old output.new }
 {
-    items_keep_what_they_owe();
+    moments_keep_items();
+    some_item_replay_is_stated();
+    item_turns_end_once();
     match read_input(alloc, input) {
         Ok(text) => replayed(alloc, &text, output),
         Err(stop) => unread(output, stop),

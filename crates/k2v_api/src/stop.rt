@@ -16,6 +16,7 @@ pub enum Stop {
     /// The first line outside the grammar, counted from 1.
     BadLine(u64),
     /// After the next step a number or row would not fit, or after the last one a node has a row without a spelling.
+    /// No schedule brings it (`no_item_replay_lacks_room` of k2v_replay).
     Number,
     /// With the next step more bytes were sent than may be.
     Sent,

@@ -2,6 +2,10 @@
 #![tactic(auto)]
 
 #[cfg(test)]
+mod changes;
+#[cfg(test)]
+mod limits;
+#[cfg(test)]
 mod requests;
 #[cfg(test)]
 mod rows;

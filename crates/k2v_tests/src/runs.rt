@@ -1,5 +1,5 @@
 //! Runs of the command, with ample memory.
-use k2v_api::run_k2v;
+use k2v_api::k2v;
 use lab_outside::{MemSink, MemSource, Status};
 use std::alloc::Global;
 use std::test::Fail;
@@ -16,7 +16,7 @@ fn is_left_out(line: &[u8]) -> bool {
 pub fn played(alloc: Global, input: &[u8]) -> Result<(Status, Vec<u8>), Fail> {
     let mut source = MemSource::new(input.to_vec(alloc)?, Vec::new(alloc));
     let mut sink = MemSink::new(alloc, Vec::new(alloc));
-    let status = run_k2v(alloc, &mut source, &mut sink);
+    let status = k2v(alloc, &mut source, &mut sink);
     Ok((status, sink.bytes().to_vec(alloc)?))
 }
 

@@ -31,10 +31,10 @@ pub returns-in-Check-clause-no_usage : goal.returns-in-Check-clause-no_usage
 returns-in-Check-clause-no_usage g c = unlinked_no_usage c.run_replay-in-Check.result c.run_replay-in-Check.ensures.statuses
 
 pub returns-in-Items-clause-does : goal.returns-in-Items-clause-does
-returns-in-Items-clause-does g c = rw c.in-Items.is (c.run_k2v.ensures, refl, refl)
+returns-in-Items-clause-does g c = rw c.in-Items.is (c.k2v.ensures, refl, refl)
 
 pub returns-in-Items-clause-no_usage : goal.returns-in-Items-clause-no_usage
-returns-in-Items-clause-no_usage g c = unlinked_no_usage c.run_k2v.result c.run_k2v.ensures.statuses
+returns-in-Items-clause-no_usage g c = unlinked_no_usage c.k2v.result c.k2v.ensures.statuses
 
 pub returns-in-Workload-clause-does : goal.returns-in-Workload-clause-does
 returns-in-Workload-clause-does g c = rw c.in-Workload.is (c.run_workload.ensures, refl, refl, refl)

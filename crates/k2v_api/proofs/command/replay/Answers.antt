@@ -10,7 +10,7 @@ returns-in_err-events-clause-halts g c =
 
 pub returns-clause-halts : goal.returns-clause-halts
 returns-clause-halts g c =
-    write_halts c.args.text.now c.as_slice.result.now (subst (IsSchedule c.args.text.now) (sym c.as_slice.ensures) c.in_ok-events.ensures.schedule) (g.O.Sink.written c.args.output.now) (g.O.Sink.written c.replay.new.output)
+    write_halts c.item_schedules_are_within_limits.ensures c.first_item_turns_go_further.ensures c.no_item_replay_lacks_room.ensures c.args.text.now c.as_slice.result.now (subst (IsSchedule c.args.text.now) (sym c.as_slice.ensures) c.in_ok-events.ensures.schedule) (g.O.Sink.written c.args.output.now) (g.O.Sink.written c.replay.new.output)
     c.replay.result c.replay.ensures.halts
 
 pub returns-clause-done : goal.returns-clause-done

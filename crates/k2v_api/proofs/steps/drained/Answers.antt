@@ -20,8 +20,8 @@ pub returns-in_err-append-clause-causes : goal.returns-in_err-append-clause-caus
 returns-in_err-append-clause-causes c =
     wanting c.from_residual-in_err-append.result c.in_err-append.field-0.0 (DrainStops c.args.items.now c.args.count) c.from_residual-in_err-append.ensures.1 tt c.in_err-append.ensures.want
 
-pub loop-left-preserved : goal.loop-left-preserved
-loop-left-preserved c =
+pub loop-left-preserved-in_ok-append-10 : goal.loop-left-preserved-in_ok-append-10
+loop-left-preserved-in_ok-append-10 c =
     rw c.in_ok-append.ensures.ok.0 (
     draining_on c.args.items.now c.loop-left.items c.loop-left.lines c.loop-left.left (c.loop-left.left - 1) c.args.count c.in-Some.message (omega arith) c.loop-left.invariant
     (λ s d. c.in-Some.ensures s d) c.one_step.new.items c.in_ok-told.told c.in_ok-told.ensures.takes)

@@ -5,7 +5,7 @@ use Rattle.k2v_model.specs.Run.{State, start}
 use Rattle.k2v_text.specs.Events.{Turn, outcome_of, after, run}
 use Rattle.k2v_text.specs.Transcript.{event_text, turns_text}
 use Rattle.k2v_text.specs.Played.{events_of, IsLawful, AreLawful, GoesOn, steps_of, AllGoOn, ArePlayed}
-use Rattle.k2v_api.specs.Replay.{front}
+use Rattle.k2v_replay.specs.Replay.{front}
 
 pub run_push : (s : State) (ts : List Turn) (t : Turn) → run s (ts ++ t ∷ []) ≡ after (run s ts) t
 run_push s [] t = refl
@@ -37,3 +37,7 @@ played_none = record { lawful = tt; go_on = tt }
 
 pub played_push : (ts : List Turn) (t : Turn) → ArePlayed ts → IsLawful (run start ts) t → AllByRecursion GoesOn (steps_of (run start ts) t.numbered.event t.choice) → ArePlayed (ts ++ t ∷ [])
 played_push ts t h lawful go_on = record { lawful = lawful_push start ts t h.lawful lawful; go_on = go_on_push start ts t h.go_on go_on }
+
+pub all_push : {A : Type 0} (P : A → Type 0) (xs : List A) (x : A) → AllByRecursion P xs → P x → AllByRecursion P (xs ++ x ∷ [])
+all_push P [] x h p = (p, tt)
+all_push P (y ∷ ys) x h p = (h.0, all_push P ys x h.1 p)

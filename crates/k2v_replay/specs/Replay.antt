@@ -1,19 +1,19 @@
 -- How a replay of events over items ends, and what is written for it.
-use Rattle.std.specs.Prelude.{◌≡◌, ℕ, ◌<◌, List, [], ◌∷◌, ◌++◌, codes}
-use Rattle.std.specs.List.{AllByRecursion}
+use Rattle.std.specs.Prelude.{◌≡◌, ℕ, ◌<◌, Bool, IsTrue, List, [], ◌∷◌, ◌++◌, codes}
+use Rattle.std.specs.List.{AllByRecursion, list_any, range_with_len}
+use Rattle.table_model.specs.Rows.{rows}
+use Rattle.table_model.specs.Top.{any_unspelled}
 use Rattle.cluster_machine.specs.Worlds.{FitAll, HaveRoom}
 use Rattle.text_model.specs.Played.{sent_limit}
 use Rattle.k2v_rows.specs.Row.{row_join}
 use Rattle.k2v_schema.specs.Schema.{words}
 use Rattle.lab_outside.specs.declared.exit.Status.{Status}
-use Rattle.lab_outside.specs.declared.exit.Status.TheVariants.{Done, Limit, Memory}
-use Rattle.lab_main.specs.Limits.{number_line}
-use Rattle.k2v_model.specs.Run.{State, start}
+use Rattle.lab_outside.specs.declared.exit.Status.TheVariants.{Done, Limit}
+use Rattle.k2v_model.specs.Run.{World, State, start}
 use Rattle.k2v_text.specs.declared.event.NumberedItemEvent.{NumberedItemEvent}
 use Rattle.k2v_text.specs.Events.{Turn, run}
 use Rattle.k2v_text.specs.Played.{Step, events_of, steps_of, HasSent, GoesOn, IsLawful, ArePlayed}
 use Rattle.k2v_text.specs.Transcript.{turns_text, transcript}
-use Rattle.k2v_api.specs.Tail.{IsUnshown}
 
 -- more was sent than may be
 abbrev pub sent_line : List ℕ
@@ -54,14 +54,39 @@ pub record StopsAfter (IsSo : Step → Type 0) (events : List NumberedItemEvent)
   pub lawful : IsLawful (run start before) next
   pub stops : StopsAt IsSo (steps_of (run start before) next.numbered.event next.choice)
 
+-- given these turns, a replay is cut off: those before are played, and of the next one's steps the first after which it doesn't go on has sent too much; any turns come later
+pub record CutOff (turns : List Turn) : Type 0 where
+  pub before : List Turn
+  pub next : Turn
+  pub later : List Turn
+  pub whole : turns ≡ before ++ next ∷ later
+  pub played : ArePlayed before
+  pub stops : StopsAt SendsTooMuch (steps_of (run start before) next.numbered.event next.choice)
+
+-- node n of a world has a row without a spelling
+abbrev pub is_unshown : World → ℕ → Bool
+is_unshown w n = any_unspelled words (rows row_join words (w.nodes n).accepted)
+
+-- one of nodes 1 to 16 has such a row
+abbrev pub IsUnshown : State → Type 0
+IsUnshown s = IsTrue (list_any (is_unshown s.world) (range_with_len 1 16))
+
+-- a replay of these events has no room for a number or a row: after the first step after which it doesn't go on, or in the line of a node after all of them
+pub data ReplayLacksRoom (events : List NumberedItemEvent) : Type 0 where
+  in_step : (before : List Turn) → StopsAfter LacksRoom events before → ReplayLacksRoom events
+  in_line : (turns : List Turn) → events_of turns ≡ events → ArePlayed turns → IsUnshown (run start turns) → ReplayLacksRoom events
+
 -- what is written of turns, one by one
 abbrev pub front : List Turn → List ℕ
 front turns = turns_text start turns
 
--- how a replay of these events ends, and what is written for it: the whole transcript; or what is written of the events before the one with the first step after which more was sent than may be, or something has no room, and the line of that limit; or, where a node can't be shown after all events, what is written of them and that line. Where memory is wanting it is what is written of the first events. Which lawful layouts are given is free
+-- how a replay of these events ends, and what is written for it: the whole transcript; or what is written of the events before the one with the first step after which more was sent than may be, and the line of that limit. Which lawful layouts are given is free
 pub data IsReplay (events : List NumberedItemEvent) (status : Status) (text : List ℕ) : Type 0 where
   whole : (turns : List Turn) → events_of turns ≡ events → ArePlayed turns → status ≡ Done → text ≡ transcript turns → IsReplay events status text
   sent : (before : List Turn) → StopsAfter SendsTooMuch events before → status ≡ Limit → text ≡ front before ++ sent_line → IsReplay events status text
-  in_step : (before : List Turn) → StopsAfter LacksRoom events before → status ≡ Limit → text ≡ front before ++ number_line → IsReplay events status text
-  in_line : (turns : List Turn) → events_of turns ≡ events → ArePlayed turns → IsUnshown (run start turns) → status ≡ Limit → text ≡ front turns ++ number_line → IsReplay events status text
-  wanting : (turns : List Turn) → AreFirst events turns → status ≡ Memory → text ≡ front turns → IsReplay events status text
+
+-- a replay of the events has a stated end, whose text begins with what is written of these turns
+pub record GoesFurther (events : List NumberedItemEvent) (turns : List Turn) : Type 0 where
+  pub status : Status
+  pub rest : List ℕ
+  pub stated : IsReplay events status (front turns ++ rest)

@@ -1,10 +1,9 @@
 -- The acts of turns that were played are lawful and fit, and so are those that lead to a moment of their run; what is owed at each.
-use Rattle.std.proofs.Common.{◌≡◌, ◌≤◌, ℕ, zero, suc, Option, Some, None, List, [], ◌∷◌, ◌++◌, sym, subst, arith}
-use Rattle.std.specs.Prelude.{IfSome}
+use Rattle.std.proofs.Common.{◌≤◌, ℕ, zero, suc, Some, None, List, [], ◌∷◌, ◌++◌, sym, subst, arith}
 use Rattle.std.specs.List.{AllByRecursion}
 use Rattle.cluster_machine.specs.Choices.{Decision}
 use Rattle.cluster_machine.specs.World.{undelivered}
-use Rattle.cluster_machine.specs.Worlds.{FitAll, run}
+use Rattle.cluster_machine.specs.Worlds.{next, FitAll, run}
 use Rattle.store_model.specs.declared.event.Event.TheVariants.{Drain}
 use Rattle.k2v_rows.specs.Row.{row_join}
 use Rattle.k2v_schema.specs.Schema.{words}
@@ -15,9 +14,9 @@ use Rattle.k2v_laws.specs.Hashed.{AfterEveryClearRun}
 use Rattle.k2v_text.specs.declared.event.ItemEvent.{ItemEvent}
 use Rattle.k2v_text.specs.declared.event.ItemEvent.TheVariants.{Common}
 use Rattle.k2v_text.specs.Events.{Turn, after}
-use Rattle.k2v_text.specs.Played.{acts_of, outcome, deliveries, steps_of, GoesOn, AllGoOn, ArePlayed}
-use Rattle.k2v_world.proofs.Leads.{fit_more, delivers_lead}
-use Rattle.k2v_api.specs.Command.{IsMoment, between, within, KeepsItems}
+use Rattle.k2v_text.specs.Played.{Step, acts_of, outcome, deliveries, steps_of, GoesOn, AllGoOn, ArePlayed}
+use Rattle.k2v_replay.proofs.Leads.{fit_more, delivers_lead}
+use Rattle.k2v_replay.specs.Moments.{IsMoment, between, within, KeepsItems}
 
 -- ---- turns that were played fit
 
@@ -25,7 +24,7 @@ delivered_fit : (n : ℕ) (s : State) → AllByRecursion GoesOn (deliveries n s)
 delivered_fit zero s h = tt
 delivered_fit (suc n) s h =
     elim (undelivered s.world) as (λ o.
-    AllByRecursion GoesOn (elim o as (λ o. _) [ None ↦ [] | Some m ↦ record { from = s; outcome = delivers s m } ∷ deliveries n (delivers s m).state ]) →
+    AllByRecursion GoesOn (elim o as (λ o. List Step) [ None ↦ [] | Some m ↦ record { from = s; outcome = delivers s m } ∷ deliveries n (delivers s m).state ]) →
     FitAll row_join words s.world (elim o as (λ o. Outcome) [ None ↦ silent s | Some m ↦ let o = delivers s m in then_drains o (drains n o.state) ]).moves) [
       | None ↦ λ h. tt
       | Some m ↦ λ h.
@@ -62,9 +61,13 @@ fit_last s [] a after last h f = f h.0
 fit_last s (b ∷ before) a after last h f = (h.0, fit_last (acted s b).state before a after last h.1 f)
 
 -- what fits in two parts fits in each
-fit_parts : (w : World) (first rest : List Moving) → FitAll row_join words w (first ++ rest) → FitAll row_join words w first × FitAll row_join words (run row_join words w first) rest
-fit_parts w [] rest h = (tt, h)
-fit_parts w (m ∷ first) rest h = let p = fit_parts _ first rest h.1 in ((h.0, p.0), p.1)
+first_fits : (w : World) (first rest : List Moving) → FitAll row_join words w (first ++ rest) → FitAll row_join words w first
+first_fits w [] rest h = tt
+first_fits w (m ∷ first) rest h = (h.0, first_fits (next row_join words w m) first rest h.1)
+
+rest_fits : (w : World) (first rest : List Moving) → FitAll row_join words w (first ++ rest) → FitAll row_join words (run row_join words w first) rest
+rest_fits w [] rest h = h
+rest_fits w (m ∷ first) rest h = rest_fits (next row_join words w m) first rest h.1
 
 -- some of a drain's deliveries fit where all do
 fewer_fit : (k n : ℕ) (s : State) → k ≤ n → FitAll row_join words s.world (drains n s).moves → FitAll row_join words s.world (drains k s).moves
@@ -77,10 +80,10 @@ fewer_fit (suc k) (suc n) s low fits =
       | None ↦ λ fits. fits
       | Some m ↦ λ fits.
           let first : Outcome = delivers s m in
-          let parts = fit_parts s.world first.moves (drains n first.state).moves fits in
+          let rest = (drains n first.state).moves in
           let leads = delivers_lead s m in
-          fit_more s.world first.moves (drains k first.state).moves parts.0
-          (subst (λ (w : World). FitAll row_join words w (drains k first.state).moves) (sym leads) (fewer_fit k n first.state (omega (arith, low)) (subst (λ (w : World). FitAll row_join words w (drains n first.state).moves) leads parts.1)))
+          fit_more s.world first.moves (drains k first.state).moves (first_fits s.world first.moves rest fits)
+          (subst (λ (w : World). FitAll row_join words w (drains k first.state).moves) (sym leads) (fewer_fit k n first.state (omega (arith, low)) (subst (λ (w : World). FitAll row_join words w (drains n first.state).moves) leads (rest_fits s.world first.moves rest fits))))
     ] fits
 
 moment_runs : (s : State) (acts moment : List Act) → AreLawfulActs s acts → ActsFit s acts → IsMoment acts moment → AreLawfulActs s moment × ActsFit s moment

@@ -1,0 +1,10 @@
+pub mod Turns
+pub mod Leads
+pub mod Leading
+pub mod Staged
+pub mod Lawful
+pub mod Limits
+pub mod Cutting
+pub mod Ending
+pub mod Further
+pub mod Keeping
