@@ -1,5 +1,5 @@
 -- An input that says a plan isn't refused, and so without faults its server is served, passes a limit or wants memory.
-use Rattle.std.proofs.Common.{◌≡◌, ◌≤◌, ◌<◌, inl, inr, ℕ, List, [], ◌∷◌, map, Option, Ok, Err, IfSome, refl, subst, arith, length}
+use Rattle.std.proofs.Common.{◌≡◌, ◌≤◌, ◌<◌, inl, inr, ℕ, List, [], ◌∷◌, map, Option, Err, IfSome, refl, subst, arith, length}
 use Rattle.std.specs.List.{AllByRecursion}
 use Rattle.lab_outside.specs.declared.exit.Status.{Status}
 use Rattle.lab_outside.specs.declared.exit.Status.TheVariants as status

@@ -22,7 +22,7 @@ use Rattle.serve_model.specs.Connections.{stated, IsServed, AreServed, SomeAsked
 use Rattle.serve_model.proofs.Ones.{one_weaker}
 use Rattle.serve_model.specs.Plain.{Plain as Map, plain, PutsBlock, AreApart}
 use Rattle.plain_laws.specs.Blocks.{IsKept, IsOfMap}
-use Rattle.plain_changes.specs.Changing.{MayCome, StandsWith, SomeAfter, IsServedBlock, IsServedHash, AreServedFrom, EndsFrom}
+use Rattle.plain_changes.specs.Changing.{MayCome, StandsWith, IsServedBlock, IsServedHash, AreServedFrom, EndsFrom}
 use Rattle.plain_laws.proofs.Stores.{all_put}
 use Rattle.serve_run.specs.declared.plan.Plan.{Plan}
 use Rattle.serve_run.specs.Start.{preparing, opening, opened, IsOf}

@@ -1,5 +1,5 @@
 -- The layouts of a plan's changes, and which refusal comes first.
-use Rattle.std.proofs.Common.{◌≡◌, ◌≤◌, ◌⊎◌, inl, inr, ℕ, List, [], ◌∷◌, ◌++◌, map, length, Some, slice_get, Result, Ok, Err, refl, sym, ◌∙◌, ap, subst}
+use Rattle.std.proofs.Common.{◌≡◌, ◌≤◌, inl, inr, ℕ, List, [], ◌∷◌, ◌++◌, map, length, Some, slice_get, Ok, sym, ◌∙◌, ap, subst}
 use Rattle.std.specs.Prelude.{IsUtf8}
 use Rattle.std.specs.List.{AllByRecursion, remove}
 use Rattle.std.proofs.lemmas.List.{length-map}
@@ -16,7 +16,7 @@ use Rattle.serve_cluster.specs.declared.change.Change.{Change}
 use Rattle.serve_cluster.specs.Changes.{IsComputed}
 use Rattle.serve_run.specs.declared.stop.Stop.{Stop}
 use Rattle.serve_run.specs.declared.stop.Stop.TheVariants as stop
-use Rattle.serve_run.specs.Plan.{greatest_node, coming_in, settings_with, settings_in, HasLayout, IsFirstRefused, no_layout}
+use Rattle.serve_run.specs.Plan.{greatest_node, coming_in, settings_with, settings_in, IsFirstRefused, no_layout}
 use Rattle.serve_run.specs.Stop.{IsOfText, IsOfRoles, IsOfComings}
 
 -- a layout depends on roles and redundancy alone

@@ -3,7 +3,7 @@ use Rattle.std.proofs.Common.{◌≡◌, ℕ, List, sym, ◌∙◌, ap}
 use Rattle.layout_roles.specs.declared.layout.Layout.{Layout}
 use Rattle.flow_model.specs.declared.order.Order.{Order}
 use Rattle.store_model.specs.Run.{start}
-use Rattle.store_model.specs.Acts.{after_acts, AreLawfulActs, ActsFit}
+use Rattle.store_model.specs.Acts.{AreLawfulActs, ActsFit}
 use Rattle.store_model.proofs.Acts.{acts_after}
 use Rattle.serve_model.specs.Stores.{after_orders, OrdersFit}
 use Rattle.serve_changes.specs.Changing.{Changing, changing, changing_fits, acts_through}

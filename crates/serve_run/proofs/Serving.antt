@@ -17,7 +17,7 @@ use Rattle.store_model.specs.Fresh.{NoClash}
 use Rattle.serve_model.specs.declared.served.Served.{Served}
 use Rattle.serve_model.specs.declared.served.ServeFault.{ServeFault}
 use Rattle.serve_model.specs.declared.served.ServeFault.TheVariants as fault
-use Rattle.serve_changes.specs.Changing.{Change, Changing, changing, changing_fits, changing_lacks}
+use Rattle.serve_changes.specs.Changing.{Changing, changing, changing_fits, changing_lacks}
 use Rattle.serve_model.specs.Stores.{fits_asking, OverflowsAmong, known_from}
 use Rattle.serve_model.specs.Talk.{Grammar, Serving}
 use Rattle.serve_model.specs.Serving.{HasState, Reached, Stands}

@@ -1,6 +1,5 @@
 -- All that is said of the command.
-use Rattle.std.proofs.Common.{◌≡◌, ◌⊎◌, ◌+◌, ℕ, List, [], Option, Some, IfSome, inl, inr, refl, subst, drop}
-use Rattle.std.specs.Io.KnownBytes.{IsAtEnd}
+use Rattle.std.proofs.Common.{◌≡◌, ◌⊎◌, ℕ, List, [], Option, inl, inr, refl, subst}
 use Rattle.lab_outside.specs.declared.ports.Source as source
 use Rattle.lab_outside.specs.declared.ports.Sink as sink
 use Rattle.lab_outside.specs.declared.ports.Link as ports
@@ -9,8 +8,7 @@ use Rattle.lab_outside.specs.declared.exit.Status.TheVariants as status
 use Rattle.lab_outside.specs.Rose.{Rose}
 use Rattle.lab_outside.specs.Bytes.{Wrote}
 use Rattle.layout_command.proofs.Stated.{SmallerSizes}
-use Rattle.lab_main.specs.Limits.{input_limit}
-use Rattle.lab_main.specs.Edges.{IsStated as IsWhole, IsAfterReading, Answers, Begins, nothing, begun, Reads, Writes}
+use Rattle.lab_main.specs.Edges.{IsStated as IsWhole, Answers, Begins, nothing, begun, Reads}
 use Rattle.lab_main.proofs.Edges.{answers_begin}
 use Rattle.serve_model.specs.Talk.{Grammar}
 use Rattle.serve_run.specs.Stop.{IsTooLong}

@@ -1,8 +1,6 @@
 -- The changes of a plan: they are changes of the model, and may be made one after the other.
-use Rattle.std.proofs.Common.{◌≡◌, ◌≤◌, ◌+◌, ◌==◌, ◌||◌, ℕ, suc, Bool, true, false, IsTrue, None, List, [], ◌∷◌, ◌++◌, map, length, refl, sym, ◌∙◌, ap, subst, arith}
+use Rattle.std.proofs.Common.{◌≡◌, ◌≤◌, ◌+◌, ℕ, suc, true, None, List, [], ◌∷◌, ◌++◌, map, length, refl, sym, ap, subst, arith}
 use Rattle.std.specs.List.{AllByRecursion, range_with_len}
-use Rattle.std.proofs.lemmas.Bool.{eq-eqb}
-use Rattle.crdt_core.proofs.Each.{all_append}
 use Rattle.layout_roles.specs.declared.layout.Layout.{Layout}
 use Rattle.layout_roles.specs.declared.redundancy.Redundancy.{Redundancy}
 use Rattle.layout_roles.specs.declared.role.Role.{Role}
@@ -17,14 +15,13 @@ use Rattle.drained_laws.proofs.Posts.{three_at, member_at}
 use Rattle.drained_laws.proofs.Views.{among_here}
 use Rattle.world_laws.proofs.Sets.{first_is_layout, best_is_layout}
 use Rattle.store_model.specs.Run.{plainly}
-use Rattle.store_model.specs.Acts.{Act, moves}
 use Rattle.serve_model.specs.Clusters.{asker}
-use Rattle.serve_changes.specs.Acts.{steps, stages_of}
+use Rattle.serve_changes.specs.Acts.{steps}
 use Rattle.serve_changes.specs.Changing.{Change, change_from}
 use Rattle.plain_changes.specs.Standing.{IsStaging, TakesAll}
 use Rattle.plain_changes.specs.Changing.{MayCome, AreComputed}
 use Rattle.serve_cluster.specs.declared.change.Change.{Change as Planned}
-use Rattle.serve_cluster.specs.Changes.{nodes_of, IsComputed, AreChanges}
+use Rattle.serve_cluster.specs.Changes.{IsComputed, AreChanges}
 use Rattle.change_deeds.specs.Deeds.{staged_as}
 use Rattle.serve_run.specs.declared.plan.Plan.{Plan}
 use Rattle.serve_run.specs.Plan.{IsPlan}

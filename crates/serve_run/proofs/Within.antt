@@ -15,7 +15,7 @@ use Rattle.layout_text.specs.declared.config.FieldName.TheVariants as field
 use Rattle.layout_text.specs.declared.config.ConfigFault.TheVariants.{NotToml}
 use Rattle.layout_text.specs.Values.{keep_if, between, number_in, redundancy_in, tables_of, nodes_in, is_taken, id_in, zone_in, kind_in}
 use Rattle.layout_text.specs.Settings.{◌>>=◌, needed, put_role, role_in, roles_in, roles_for, faulted}
-use Rattle.layout_text.specs.Changes.{Coming, after_in, change_in, changes_of, few, tables_in, changes_at, changes_if, changes_in, changes_said}
+use Rattle.layout_text.specs.Changes.{Coming, after_in, change_in, changes_of, few, changes_at, changes_if, changes_in, changes_said}
 use Rattle.serve_cluster.specs.Changes.{AreWithin}
 use Rattle.serve_run.specs.Plan.{greatest_node, IsOfServer}
 

@@ -9,7 +9,6 @@ use Rattle.store_model.specs.Run.{State}
 use Rattle.serve_model.specs.Stores.{Overflows}
 use Rattle.serve_changes.specs.Changing.{changing, changing_fits, changing_lacks}
 use Rattle.serve_model.specs.Talk.{Grammar}
-use Rattle.lab_main.specs.Edges.{Answers}
 use Rattle.world_text.specs.Shown.{is_unshown}
 use Rattle.serve_run.specs.declared.plan.Plan.{Plan}
 use Rattle.serve_run.specs.declared.stop.Stop.{Stop}

@@ -1,5 +1,5 @@
 -- What `serve` does with its input, its output, its link and its clock.
-use Rattle.std.specs.Prelude.{◌≡◌, ◌⊎◌, ℕ, false, List, []}
+use Rattle.std.specs.Prelude.{◌≡◌, ◌⊎◌, ℕ, false, []}
 use Rattle.lab_outside.specs.declared.ports.Source as source
 use Rattle.lab_outside.specs.declared.ports.Sink as sink
 use Rattle.lab_outside.specs.declared.ports.Link as ports

@@ -1,5 +1,5 @@
 -- What a server did: the acts of its requests, what is promised of them, and what was written to its connections.
-use Rattle.std.specs.Prelude.{◌≡◌, ℕ, ◌-◌, List, [], ◌∷◌, ◌++◌, map, flat_map, length, take}
+use Rattle.std.specs.Prelude.{◌≡◌, ℕ, ◌-◌, List, ◌∷◌, ◌++◌, map, flat_map, length, take}
 use Rattle.std.specs.List.{range_with_len}
 use Rattle.layout_roles.specs.declared.layout.Layout.{Layout}
 use Rattle.layout_roles.specs.Fits.{NodeSet}

@@ -1,5 +1,4 @@
 use Rattle.std.proofs.Common.{refl}
-use Rattle.serve_run.specs.Stop.{IsOfRoles}
 use Rattle.serve_run.proofs.plan.planned_one.Goals as goal
 
 pub returns-clause-computed : goal.returns-clause-computed
