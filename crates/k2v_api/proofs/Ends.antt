@@ -6,10 +6,10 @@ use Rattle.lab_outside.specs.declared.ports.Sink as sink
 use Rattle.lab_outside.specs.declared.exit.Status.{Status}
 use Rattle.lab_outside.specs.declared.exit.Status.TheVariants.{Done, Refused, ReadFault, WriteFault, Memory as MemoryStatus, Limit}
 use Rattle.lab_outside.specs.Rose.{Rose}
-use Rattle.lab_outside.specs.Bytes.{Wrote, WrotePrefix}
+use Rattle.lab_outside.specs.Bytes.{Wrote}
 use Rattle.lab_outside.proofs.Bytes.{wrote_none, wrote_more, wrote_prefix_more}
 use Rattle.lab_outside.proofs.Rose.{rose_before, rose_after}
-use Rattle.lab_main.specs.Ends.{Ends, said, cut_off}
+use Rattle.lab_main.specs.Ends.{said, cut_off}
 use Rattle.lab_main.specs.Edges.{IsStated, IsUnlinked, Answers, Begins, nothing, begun, Writes}
 use Rattle.lab_main.proofs.Edges.{last_answers, last_begins, whole_writes}
 use Rattle.lab_main.proofs.Writing.{wrote_nothing}
@@ -23,7 +23,7 @@ use Rattle.k2v_limits.specs.Limits.{AreScheduled}
 use Rattle.k2v_replay.specs.Replay.{sent_line, front, AreFirst, ReplayLacksRoom, whole, GoesFurther}
 use Rattle.k2v_api.specs.Answer.{events_line, bad_line_text, IsAnswer, bad_line, many_events, replayed}
 use Rattle.k2v_api.proofs.Stating.{EveryFits}
-use Rattle.k2v_api.specs.Stop.{status_of, said_of, IsWhole, IsPart, of_turns, of_all, LacksLine, Halts, HaltsOn, IsNearly, IsOfSchedule, Says, ended, unsaid}
+use Rattle.k2v_api.specs.Stop.{status_of, said_of, IsWhole, IsPart, of_turns, of_all, Halts, HaltsOn, IsNearly, IsOfSchedule, Says, ended, unsaid}
 
 -- the text is no schedule, and nothing was written
 no_schedule : (input : List ℕ) (old : Option (List ℕ)) (stop : Stop) → IsOfSchedule stop → ((n : ℕ) → stop ≡ BadLine n → IsFirstBadLine input n) → (stop ≡ TooManyEvents → HasTooManyEvents input) → HaltsOn input stop old old

@@ -16,7 +16,9 @@ use crate::transcript;
 use crdt_core::{Bytes, List, Memory};
 use k2v_limits::item_schedules_are_within_limits;
 use k2v_lines::parse_items;
-use k2v_replay::{first_item_turns_go_further, item_turns_end_once, moments_keep_items, no_item_replay_lacks_room};
+use k2v_replay::{
+    first_item_turns_go_further, item_turns_end_once, moments_keep_items, no_item_replay_lacks_room,
+};
 use k2v_text::{NumberedItemEvent, every_item_text_reads};
 use lab_main::{ends, read_input, unread};
 use lab_outside::{Sink, Source, Status};
