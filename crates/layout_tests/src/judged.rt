@@ -16,9 +16,11 @@ fn are_judged(alloc: Global, rows: &[Row], r: u8, size: u64) -> Result<bool, Mem
         return Err(Memory::Full);
     };
     let sets = made.sets.as_slice();
-    Ok(fits(&roles, r, size, sets)
-        && !fits(&roles, r, size + 1, sets)
-        && !fits(&roles, r, size, &sets[1..]))
+    Ok(
+        fits(&roles, r, size, sets)
+            && !fits(&roles, r, size + 1, sets)
+            && !fits(&roles, r, size, &sets[1..]),
+    )
 }
 
 #[test]
@@ -53,8 +55,14 @@ fn cuts_weigh_what_they_are_said_to(rt: HostRuntime) -> Result<(), Fail> {
     let source = [Vertex::Source, Vertex::Source];
     assert_eq!(rt; weight(rt.alloc(), &roles, 3, 4, &source)?, Some(768));
     // And what node 2 has room for.
-    assert_eq!(rt; weight(rt.alloc(), &roles, 3, 4, &[Vertex::Source, Vertex::Node(2)])?, Some(1018));
+    assert_eq!(rt;
+        weight(rt.alloc(), &roles, 3, 4, &[Vertex::Source, Vertex::Node(2)])?,
+        Some(1018)
+    );
     assert_eq!(rt; weight(rt.alloc(), &roles, 3, 4, &[Vertex::Up(0)])?, None);
-    assert_eq!(rt; weight(rt.alloc(), &roles, 3, 4, &[Vertex::Source, Vertex::Sink])?, None);
+    assert_eq!(rt;
+        weight(rt.alloc(), &roles, 3, 4, &[Vertex::Source, Vertex::Sink])?,
+        None
+    );
     Ok(())
 }

@@ -79,32 +79,39 @@ fn each_form_of_line_is_read(rt: HostRuntime) -> Result<(), Fail> {
 fn numbers(alloc: Global, line: &[u8]) -> Result<[u64; 5], Memory> {
     Ok(match said(alloc, line)? {
         Some(Said::Sets { first, last, set }) => [first, last, set.0, set.1, set.2],
-        Some(Said::Sent {
-            number,
-            kind: SentKind::Differ,
-            from,
-            to,
-        }) => [number, from, to, 0, 0],
-        Some(Said::Event {
-            line,
-            told: Told::Accepted(Words::Idle(read, least)),
-            ..
-        }) => [line, u64::from(read), u64::from(least), 0, 0],
-        Some(Said::Event {
-            line,
-            told: Told::Refused(Refusal::TooFewZones(zones, wanted)),
-            ..
-        }) => [line, u64::from(zones), u64::from(wanted), 0, 0],
-        Some(Said::Done {
-            request,
-            word: DoneWord::Head,
-            answer:
-                Answered::Version {
+        Some(
+            Said::Sent {
+                number,
+                kind: SentKind::Differ,
+                from,
+                to,
+            },
+        ) => [number, from, to, 0, 0],
+        Some(
+            Said::Event {
+                line,
+                told: Told::Accepted(Words::Idle(read, least)),
+                ..
+            },
+        ) => [line, u64::from(read), u64::from(least), 0, 0],
+        Some(
+            Said::Event {
+                line,
+                told: Told::Refused(Refusal::TooFewZones(zones, wanted)),
+                ..
+            },
+        ) => [line, u64::from(zones), u64::from(wanted), 0, 0],
+        Some(
+            Said::Done {
+                request,
+                word: DoneWord::Head,
+                answer: Answered::Version {
                     version,
                     size: Some(size),
                     md5: None,
                 },
-        }) => [request, version.0, version.1, size, 0],
+            },
+        ) => [request, version.0, version.1, size, 0],
         _ => [0; 5],
     })
 }
