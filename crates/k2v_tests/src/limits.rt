@@ -23,6 +23,8 @@ fn writes(alloc: Global) -> Result<Vec<u8>, Fail> {
 fn a_row_grows_until_the_limit(rt: HostRuntime) -> Result<(), Fail> {
     let (status, text) = told(rt.alloc(), &writes(rt.alloc())?)?;
     assert_eq!(rt; status, Status::Limit);
-    assert!(rt; text.ends_with(b"74 drain ok\ndone 36 kput 1/36\n75 kput ok 37\nlimit sent 268435456\n"));
+    assert!(rt;
+        text.ends_with(b"74 drain ok\ndone 36 kput 1/36\n75 kput ok 37\nlimit sent 268435456\n")
+    );
     Ok(())
 }
