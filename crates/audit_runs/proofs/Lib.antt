@@ -1,0 +1,15 @@
+pub mod Greatest
+pub mod Cuts
+pub mod Prints
+pub mod Lawful
+pub mod Fit
+pub mod Promises
+pub mod Frames
+pub mod Staging
+pub mod Ascend
+pub mod Audited
+pub mod Lines
+pub mod Texts
+pub mod Tails
+pub mod Tellings
+pub mod Fixed

@@ -1,0 +1,7 @@
+pub mod Alike
+pub mod Kept
+pub mod Told
+pub mod Audited
+pub mod Whole
+pub mod Fixed
+pub mod Given
