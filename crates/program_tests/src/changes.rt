@@ -313,13 +313,59 @@ fn changes_there_and_back(rt: HostRuntime) -> Result<(), Fail> {
     Ok(())
 }
 
+/// A gateway of the configuration.
+const GATEWAY: &[u8] = b"\
+    [[node]]\n\
+    id = 7\n\
+    zone = 'd'\n\
+    gateway = true\n";
+
+/// The same gateway, in the change before it.
+const GATEWAY_STAYS: &[u8] = b"\
+    [[change.node]]\n\
+    id = 7\n\
+    zone = 'd'\n\
+    gateway = true\n";
+
+/// With a gateway in both layouts seven nodes take part: 6 views of the first node, and 36 to spread what each of seven knows,
+/// three times; the nine pairs push as without it, and it holds no row.
+#[test]
+fn gateway_in_both_layouts(rt: HostRuntime) -> Result<(), Fail> {
+    assert!(rt;
+        lines_are(
+            rt.alloc(),
+            &[GATEWAY, TO_NEW_NODES, GATEWAY_STAYS],
+            &[
+                b"p 0 255 1 2 3",
+                b"p 0 255 4 5 6",
+                b"node 1 rows 0 blocks 0 top ",
+                b"node 2 rows 0 blocks 0 top ",
+                b"node 3 rows 0 blocks 0 top ",
+                b"node 4 rows 1 blocks 0 top ",
+                b"node 5 rows 1 blocks 0 top ",
+                b"node 6 rows 1 blocks 0 top ",
+                b"node 7 rows 0 blocks 0 top ",
+                b"end 1 2 96\n",
+            ]
+        )?
+    );
+    Ok(())
+}
+
+/// An object of one block, all of whose bytes are the same, is put.
+fn push_put(bytes: &mut Vec<u8>, byte: u8) -> Result<(), Fail> {
+    bytes.extend_from_slice(b"PUT /pics/a.txt HTTP/1.1\r\nContent-Length: 4000\r\n\r\n")?;
+    for _ in 0..4000 {
+        bytes.push(byte)?;
+    }
+    Ok(())
+}
+
 /// What is put in blocks moves with its rows; the blocks of nodes that left stay there.
 #[test]
 fn blocks_of_nodes_that_leave(rt: HostRuntime) -> Result<(), Fail> {
-    let mut bytes = b"PUT /pics/a.txt HTTP/1.1\r\nContent-Length: 4000\r\n\r\n".to_vec(rt.alloc())?;
-    for _ in 0..4000 {
-        bytes.push(b'x')?;
-    }
+    let mut bytes = Vec::new(rt.alloc());
+    push_put(&mut bytes, b'x')?;
     let end = served(rt.alloc(), &[TO_NEW_NODES], &bytes)?;
     assert_eq!(rt; end.status, Status::Done);
     assert!(rt;
@@ -335,6 +381,34 @@ fn blocks_of_nodes_that_leave(rt: HostRuntime) -> Result<(), Fail> {
                 b"node 5 rows 3 blocks 1 top ",
                 b"node 6 rows 3 blocks 1 top ",
                 b"end 1 1 ",
+            ]
+        )
+    );
+    Ok(())
+}
+
+/// The block of an object that was overwritten waits for its ten minutes where it lies: nodes that left keep both blocks, and
+/// to the others come the rows of both versions, with the block of the second alone.
+#[test]
+fn overwritten_block_stays(rt: HostRuntime) -> Result<(), Fail> {
+    let mut bytes = Vec::new(rt.alloc());
+    push_put(&mut bytes, b'x')?;
+    push_put(&mut bytes, b'y')?;
+    let end = served(rt.alloc(), &[TO_NEW_NODES_LATER], &bytes)?;
+    assert_eq!(rt; end.status, Status::Done);
+    assert!(rt;
+        begins_so(
+            &end.output,
+            &[
+                b"p 0 255 1 2 3",
+                b"p 0 255 4 5 6",
+                b"node 1 rows 0 blocks 2 top ",
+                b"node 2 rows 0 blocks 2 top ",
+                b"node 3 rows 0 blocks 2 top ",
+                b"node 4 rows 5 blocks 1 top ",
+                b"node 5 rows 5 blocks 1 top ",
+                b"node 6 rows 5 blocks 1 top ",
+                b"end 1 2 ",
             ]
         )
     );
