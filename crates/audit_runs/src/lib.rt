@@ -1,0 +1,40 @@
+//! What holds of the runs that an audit plays, whatever plays them: runs that are given layouts with other cuts than the
+//! least ones. No body does more than name laws: each is called for its contract.
+#![tactic(auto)]
+
+ghost use Rattle.std.specs.Prelude.{◌≡◌, ◌<◌, ℕ, IsTrue, List, take};
+ghost use Rattle.layout_roles.specs.declared.layout.Layout.{Layout};
+ghost use Rattle.layout_roles.specs.Zones.{nodes_ascend};
+ghost use Rattle.layout_roles.specs.Fits.{NoneFits, IsGreatest};
+ghost use Rattle.layout_roles.specs.Certificates.{IsRedundancy, zones_wanted};
+ghost use Rattle.cluster_machine.specs.declared.applied.Applied.{Applied};
+ghost use Rattle.cluster_machine.specs.Choices.{IsBest};
+ghost use Rattle.store_model.specs.Run.{State};
+ghost use Rattle.store_model.specs.Events.{Turn, events_of, run};
+ghost use Rattle.text_model.specs.Played.{AllGoOn};
+ghost use Rattle.audit_model.specs.Printed.{Staged, Printed, IsLawful, IsOfPrint};
+ghost use Rattle.audit_runs.specs.Alike.{AreSameButCut, DifferInCuts};
+
+use layout_flow::light_cuts;
+use layout_roles::smaller_sizes;
+
+/// A printed layout that is lawful for what is staged, its cut whatever light one, has the greatest partition size; and a layout
+/// that is given as it was printed is one that is computed, with another cut perhaps.
+pub fn lawful_prints_are_greatest()
+    ensures greatest { (s : Staged) (p : Printed) → IsTrue (nodes_ascend s.roles) → IsRedundancy s.wanted → IsLawful s p →
+        IsGreatest s.roles (zones_wanted s.wanted s.roles) p.size p.sets × ((size : ℕ) → p.size < size → NoneFits s.roles (zones_wanted s.wanted s.roles) size) }
+    ensures computed { (s : Staged) (p : Printed) (version : ℕ) (l : Layout) (shown : Applied) → IsRedundancy s.wanted → IsLawful s p →
+        IsOfPrint s.roles s.wanted version p l shown → (best : Applied) × (AreSameButCut shown best × IsBest s.roles s.wanted version l best) }
+{
+    light_cuts();
+    smaller_sizes();
+}
+
+/// Runs that are given the same layouts with other cuts have the same states, event by event; and where everything fits after
+/// each step of one of them, and no more was sent than may be, it is so of the other.
+pub fn cuts_change_no_run()
+    ensures events { (turns others : List Turn) → DifferInCuts turns others → events_of turns ≡ events_of others }
+    ensures states { (s : State) (turns others : List Turn) → DifferInCuts turns others → (n : ℕ) → run s (take n turns) ≡ run s (take n others) }
+    ensures end { (s : State) (turns others : List Turn) → DifferInCuts turns others → run s turns ≡ run s others }
+    ensures go_on { (s : State) (turns others : List Turn) → DifferInCuts turns others → AllGoOn s turns → AllGoOn s others }
+{}
