@@ -95,7 +95,7 @@ event_alike s (Work n) c d differ = record { state = refl; go_on = λ h. h }
 event_alike s (Repair n) c d differ = record { state = refl; go_on = λ h. h }
 
 -- two turns of one event
-turn_alike : (s : State) (t u : Turn) → t.numbered ≡ u.numbered → DifferInCut t.choice u.choice →
+pub turn_alike : (s : State) (t u : Turn) → t.numbered ≡ u.numbered → DifferInCut t.choice u.choice →
     (after s t ≡ after s u) × (AllByRecursion GoesOn (steps_of s t.numbered.event t.choice) → AllByRecursion GoesOn (steps_of s u.numbered.event u.choice))
 turn_alike s t u same differ =
     let alike : IsAlike s t.numbered.event t.choice u.choice = event_alike s t.numbered.event t.choice u.choice differ in
@@ -108,27 +108,27 @@ same_states s [] [] differ (suc n) = refl
 same_states s [] (u ∷ us) differ (suc n) = absurd differ
 same_states s (t ∷ ts) [] differ (suc n) = absurd differ
 same_states s (t ∷ ts) (u ∷ us) differ (suc n) =
-    let here = turn_alike s t u differ.0 differ.1.0 in
-    same_states (after s t) ts us differ.1.1 n ∙ ap (λ (x : State). run x (take n us)) here.0
+    let here = turn_alike s t u differ.0 differ.1 in
+    same_states (after s t) ts us differ.2 n ∙ ap (λ (x : State). run x (take n us)) here.0
 
 pub same_end : (s : State) (turns others : List Turn) → DifferInCuts turns others → run s turns ≡ run s others
 same_end s [] [] differ = refl
 same_end s [] (u ∷ us) differ = absurd differ
 same_end s (t ∷ ts) [] differ = absurd differ
 same_end s (t ∷ ts) (u ∷ us) differ =
-    let here = turn_alike s t u differ.0 differ.1.0 in
-    same_end (after s t) ts us differ.1.1 ∙ ap (λ (x : State). run x us) here.0
+    let here = turn_alike s t u differ.0 differ.1 in
+    same_end (after s t) ts us differ.2 ∙ ap (λ (x : State). run x us) here.0
 
 pub same_events : (turns others : List Turn) → DifferInCuts turns others → events_of turns ≡ events_of others
 same_events [] [] differ = refl
 same_events [] (u ∷ us) differ = absurd differ
 same_events (t ∷ ts) [] differ = absurd differ
-same_events (t ∷ ts) (u ∷ us) differ = (λ i. differ.0 i ∷ same_events ts us differ.1.1 i)
+same_events (t ∷ ts) (u ∷ us) differ = (λ i. differ.0 i ∷ same_events ts us differ.2 i)
 
 pub go_on_together : (s : State) (turns others : List Turn) → DifferInCuts turns others → AllGoOn s turns → AllGoOn s others
 go_on_together s [] [] differ h = tt
 go_on_together s [] (u ∷ us) differ h = absurd differ
 go_on_together s (t ∷ ts) [] differ h = absurd differ
 go_on_together s (t ∷ ts) (u ∷ us) differ h =
-    let here = turn_alike s t u differ.0 differ.1.0 in
-    (here.1 h.0, subst (λ (x : State). AllGoOn x us) here.0 (go_on_together (after s t) ts us differ.1.1 h.1))
+    let here = turn_alike s t u differ.0 differ.1 in
+    (here.1 h.0, subst (λ (x : State). AllGoOn x us) here.0 (go_on_together (after s t) ts us differ.2 h.1))

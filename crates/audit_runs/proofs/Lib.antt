@@ -1,2 +1,4 @@
 pub mod Greatest
 pub mod Cuts
+pub mod Prints
+pub mod Lawful

@@ -3,17 +3,22 @@
 #![tactic(auto)]
 
 ghost use Rattle.std.specs.Prelude.{◌≡◌, ◌<◌, ℕ, IsTrue, List, take};
+ghost use Rattle.std.specs.List.{AllByRecursion};
 ghost use Rattle.layout_roles.specs.declared.layout.Layout.{Layout};
 ghost use Rattle.layout_roles.specs.Zones.{nodes_ascend};
 ghost use Rattle.layout_roles.specs.Fits.{NoneFits, IsGreatest};
 ghost use Rattle.layout_roles.specs.Certificates.{IsRedundancy, zones_wanted};
 ghost use Rattle.cluster_machine.specs.declared.applied.Applied.{Applied};
 ghost use Rattle.cluster_machine.specs.Choices.{IsBest};
-ghost use Rattle.store_model.specs.Run.{State};
+ghost use Rattle.store_model.specs.declared.event.Numbered.{Numbered};
+ghost use Rattle.store_model.specs.Run.{State, start};
 ghost use Rattle.store_model.specs.Events.{Turn, events_of, run};
-ghost use Rattle.text_model.specs.Played.{AllGoOn};
-ghost use Rattle.audit_model.specs.Printed.{Staged, Printed, IsLawful, IsOfPrint};
-ghost use Rattle.audit_runs.specs.Alike.{AreSameButCut, DifferInCuts};
+ghost use Rattle.store_model.specs.Turns.{AreLawful};
+ghost use Rattle.text_model.specs.Played.{AllGoOn, ArePlayed, AreScheduled};
+ghost use Rattle.audit_model.specs.declared.said.Said.{Said};
+ghost use Rattle.audit_model.specs.Printed.{Staged, Printed, IsLawful, IsOfPrint, all_prints, IsLawfulPrint};
+ghost use Rattle.audit_model.specs.Audit.{ArePrinted};
+ghost use Rattle.audit_runs.specs.Alike.{AreSameButCut, DifferInCuts, AreStagedSo};
 
 use layout_flow::light_cuts;
 use layout_roles::smaller_sizes;
@@ -38,3 +43,12 @@ pub fn cuts_change_no_run()
     ensures end { (s : State) (turns others : List Turn) → DifferInCuts turns others → run s turns ≡ run s others }
     ensures go_on { (s : State) (turns others : List Turn) → DifferInCuts turns others → AllGoOn s turns → AllGoOn s others }
 {}
+
+/// Where each layout that a transcript prints is lawful, and the roles that its lines say were staged are those of the run, the
+/// run that is given these layouts differs from a replay in nothing but cuts.
+pub fn printed_turns_are_played()
+    ensures { (events : List Numbered) (saids : List Said) (turns : List Turn) → AreScheduled events → AllByRecursion IsLawfulPrint (all_prints events saids) →
+        ArePrinted events (all_prints events saids) turns → AreStagedSo (all_prints events saids) start turns → (others : List Turn) × (DifferInCuts turns others × ArePlayed others) }
+{
+    lawful_prints_are_greatest();
+}
