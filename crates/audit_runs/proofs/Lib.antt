@@ -2,3 +2,5 @@ pub mod Greatest
 pub mod Cuts
 pub mod Prints
 pub mod Lawful
+pub mod Fit
+pub mod Promises

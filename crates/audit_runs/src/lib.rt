@@ -19,9 +19,11 @@ ghost use Rattle.audit_model.specs.declared.said.Said.{Said};
 ghost use Rattle.audit_model.specs.Printed.{Staged, Printed, IsLawful, IsOfPrint, all_prints, IsLawfulPrint};
 ghost use Rattle.audit_model.specs.Audit.{ArePrinted};
 ghost use Rattle.audit_runs.specs.Alike.{AreSameButCut, DifferInCuts, AreStagedSo};
+ghost use Rattle.audit_runs.specs.Kept.{IsKeptBeside};
 
 use layout_flow::light_cuts;
 use layout_roles::smaller_sizes;
+use store_anchors::promises_are_kept;
 
 /// A printed layout that is lawful for what is staged, its cut whatever light one, has the greatest partition size; and a layout
 /// that is given as it was printed is one that is computed, with another cut perhaps.
@@ -51,4 +53,14 @@ pub fn printed_turns_are_played()
         ArePrinted events (all_prints events saids) turns → AreStagedSo (all_prints events saids) start turns → (others : List Turn) × (DifferInCuts turns others × ArePlayed others) }
 {
     lawful_prints_are_greatest();
+}
+
+/// And what is promised of replays holds of it: at each moment of the replay beside it, whose states are its own, and of its
+/// records.
+pub fn printed_turns_keep_promises()
+    ensures { (events : List Numbered) (saids : List Said) (turns : List Turn) → AreScheduled events → AllByRecursion IsLawfulPrint (all_prints events saids) →
+        ArePrinted events (all_prints events saids) turns → AreStagedSo (all_prints events saids) start turns → IsKeptBeside turns }
+{
+    printed_turns_are_played();
+    promises_are_kept();
 }
