@@ -4,3 +4,5 @@ pub mod Prints
 pub mod Lawful
 pub mod Fit
 pub mod Promises
+pub mod Frames
+pub mod Staging

@@ -12,14 +12,15 @@ ghost use Rattle.cluster_machine.specs.declared.applied.Applied.{Applied};
 ghost use Rattle.cluster_machine.specs.Choices.{IsBest};
 ghost use Rattle.store_model.specs.declared.event.Numbered.{Numbered};
 ghost use Rattle.store_model.specs.Run.{State, start};
-ghost use Rattle.store_model.specs.Events.{Turn, events_of, run};
+ghost use Rattle.store_model.specs.Events.{Turn, outcome_of, after, events_of, run};
 ghost use Rattle.store_model.specs.Turns.{AreLawful};
 ghost use Rattle.text_model.specs.Played.{AllGoOn, ArePlayed, AreScheduled};
 ghost use Rattle.audit_model.specs.declared.said.Said.{Said};
 ghost use Rattle.audit_model.specs.Printed.{Staged, Printed, IsLawful, IsOfPrint, all_prints, IsLawfulPrint};
 ghost use Rattle.audit_model.specs.Audit.{ArePrinted};
-ghost use Rattle.audit_runs.specs.Alike.{AreSameButCut, DifferInCuts, AreStagedSo};
+ghost use Rattle.audit_runs.specs.Alike.{AreSameButCut, DifferInCuts, staged_in, AreStagedSo};
 ghost use Rattle.audit_runs.specs.Kept.{IsKeptBeside};
+ghost use Rattle.audit_runs.specs.Told.{stages_by, AscendFrom, TellTurns};
 
 use layout_flow::light_cuts;
 use layout_roles::smaller_sizes;
@@ -63,4 +64,19 @@ pub fn printed_turns_keep_promises()
 {
     printed_turns_are_played();
     promises_are_kept();
+}
+
+/// What is staged after an event of any run is told by what was staged before, the event, and whether it was refused: roles,
+/// redundancies and `trio` alone change it.
+pub fn events_stage_what_they_say()
+    ensures { (s : State) (t : Turn) → staged_in (after s t) ≡ stages_by (staged_in s) t.numbered.event (outcome_of s t).refused }
+{}
+
+/// Where lines say of each event in its turn whether it was accepted, what they say was staged when a layout is printed is what
+/// is staged in the run.
+pub fn lines_say_what_is_staged()
+    ensures { (turns : List Turn) (saids : List Said) (line : ℕ) → AscendFrom line (events_of turns) → TellTurns start turns saids →
+        AreStagedSo (all_prints (events_of turns) saids) start turns }
+{
+    events_stage_what_they_say();
 }
