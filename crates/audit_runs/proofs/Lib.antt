@@ -6,3 +6,5 @@ pub mod Fit
 pub mod Promises
 pub mod Frames
 pub mod Staging
+pub mod Ascend
+pub mod Audited

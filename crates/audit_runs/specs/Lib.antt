@@ -1,3 +1,4 @@
 pub mod Alike
 pub mod Kept
 pub mod Told
+pub mod Audited

@@ -17,13 +17,16 @@ ghost use Rattle.store_model.specs.Turns.{AreLawful};
 ghost use Rattle.text_model.specs.Played.{AllGoOn, ArePlayed, AreScheduled};
 ghost use Rattle.audit_model.specs.declared.said.Said.{Said};
 ghost use Rattle.audit_model.specs.Printed.{Staged, Printed, IsLawful, IsOfPrint, all_prints, IsLawfulPrint};
-ghost use Rattle.audit_model.specs.Audit.{ArePrinted};
+ghost use Rattle.audit_model.specs.Audit.{ArePrinted, ok, Finds};
+ghost use Rattle.text_model.specs.Reading.{IsSchedule};
 ghost use Rattle.audit_runs.specs.Alike.{AreSameButCut, DifferInCuts, staged_in, AreStagedSo};
 ghost use Rattle.audit_runs.specs.Kept.{IsKeptBeside};
+ghost use Rattle.audit_runs.specs.Audited.{IsAudited};
 ghost use Rattle.audit_runs.specs.Told.{stages_by, AscendFrom, TellTurns};
 
 use layout_flow::light_cuts;
 use layout_roles::smaller_sizes;
+use limit_laws::schedules_are_within_limits;
 use store_anchors::promises_are_kept;
 
 /// A printed layout that is lawful for what is staged, its cut whatever light one, has the greatest partition size; and a layout
@@ -79,4 +82,21 @@ pub fn lines_say_what_is_staged()
         AreStagedSo (all_prints (events_of turns) saids) start turns }
 {
     events_stage_what_they_say();
+}
+
+/// The events of a schedule stand in lines that ascend.
+pub fn schedules_ascend()
+    ensures { (input : List ℕ) (events : List Numbered) → IsSchedule input events → AscendFrom 0 events }
+{}
+
+/// Where it is found of a schedule's transcript that all is well, it is the text of turns that are given the layouts which it
+/// prints, and its account is fresh; and where its lines say of each event whether it was accepted, what is promised of a replay
+/// holds beside these turns.
+pub fn audited_transcripts_keep_promises()
+    ensures { (input text : List ℕ) (events : List Numbered) (pairs : ℕ) → IsSchedule input events → Finds events text (ok pairs) → IsAudited events text pairs }
+{
+    schedules_are_within_limits();
+    schedules_ascend();
+    lines_say_what_is_staged();
+    printed_turns_keep_promises();
 }

@@ -1,0 +1,51 @@
+-- What it says that all is well with a transcript.
+use Rattle.std.proofs.Common.{◌≡◌, ℕ, List, refl, sym, subst}
+use Rattle.std.specs.Prelude.{⊤}
+use Rattle.std.specs.List.{AllByRecursion}
+use Rattle.store_model.specs.declared.event.Numbered.{Numbered}
+use Rattle.store_model.specs.Run.{start}
+use Rattle.store_model.specs.Events.{Turn, events_of}
+use Rattle.text_model.specs.Played.{AreScheduled}
+use Rattle.audit_model.specs.declared.said.Said.{Said}
+use Rattle.audit_model.specs.Printed.{all_prints, IsLawfulPrint}
+use Rattle.audit_model.specs.Audit.{ArePrinted, Finding, unreadable, stale, unlawful, differs, too_much, ok, Finds, not_read, not_fresh, not_lawful, other_text, other_before, past_limit, all_well}
+use Rattle.audit_runs.specs.Alike.{AreStagedSo}
+use Rattle.audit_runs.specs.Kept.{IsKeptBeside}
+use Rattle.audit_runs.specs.Told.{AscendFrom, TellTurns}
+use Rattle.audit_runs.specs.Audited.{IsAudited}
+
+-- lines that tell turns say what is staged
+abbrev SaySo : Type 0
+SaySo = (turns : List Turn) (saids : List Said) (line : ℕ) → AscendFrom line (events_of turns) → TellTurns start turns saids → AreStagedSo (all_prints (events_of turns) saids) start turns
+
+-- what is promised of replays holds beside turns that are given lawful layouts
+abbrev KeepBeside : Type 0
+KeepBeside = (events : List Numbered) (saids : List Said) (turns : List Turn) → AreScheduled events → AllByRecursion IsLawfulPrint (all_prints events saids) →
+    ArePrinted events (all_prints events saids) turns → AreStagedSo (all_prints events saids) start turns → IsKeptBeside turns
+
+module _ (say : SaySo) (keep : KeepBeside) (events : List Numbered) (scheduled : AreScheduled events) (up : AscendFrom 0 events) (text : List ℕ) where
+  -- what is said by the finding that all is well
+  abbrev OfFinding : Finding → Type 0
+  OfFinding (ok pairs) = IsAudited events text pairs
+  OfFinding other = ⊤
+
+  pub of_finding : {f : Finding} → Finds events text f → OfFinding f
+  of_finding (not_read k is) = tt
+  of_finding (not_fresh saids h q readable is) = tt
+  of_finding (not_lawful saids h k readable fresh is) = tt
+  of_finding (other_text saids h turns k readable fresh lawful printed differ) = tt
+  of_finding (other_before saids h before k readable fresh lawful cut differ within) = tt
+  of_finding (past_limit saids h before more readable fresh lawful cut same) = tt
+  of_finding (all_well saids h turns readable fresh lawful printed same) = record {
+    saids = saids;
+    history = h;
+    turns = turns;
+    readable = readable;
+    fresh = fresh;
+    pairs_are = refl;
+    printed = printed;
+    same_lines = same;
+    kept = λ told.
+        keep events saids turns scheduled lawful printed
+        (subst (λ es. AreStagedSo (all_prints es saids) start turns) printed.events_are (say turns saids 0 (subst (AscendFrom 0) (sym printed.events_are) up) told));
+  }
