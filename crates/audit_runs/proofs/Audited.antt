@@ -5,6 +5,10 @@ use Rattle.std.specs.List.{AllByRecursion}
 use Rattle.store_model.specs.declared.event.Numbered.{Numbered}
 use Rattle.store_model.specs.Run.{start}
 use Rattle.store_model.specs.Events.{Turn, events_of}
+use Rattle.history_model.specs.declared.record.Record.{Record}
+use Rattle.text_model.specs.Grammar.{lines_of}
+use Rattle.text_model.specs.Transcript.{transcript}
+use Rattle.audit_model.specs.Heard.{AreReadable}
 use Rattle.text_model.specs.Played.{AreScheduled}
 use Rattle.audit_model.specs.declared.said.Said.{Said}
 use Rattle.audit_model.specs.Printed.{all_prints, IsLawfulPrint}
@@ -12,6 +16,7 @@ use Rattle.audit_model.specs.Audit.{ArePrinted, Finding, unreadable, stale, unla
 use Rattle.audit_runs.specs.Alike.{AreStagedSo}
 use Rattle.audit_runs.specs.Kept.{IsKeptBeside}
 use Rattle.audit_runs.specs.Told.{AscendFrom, TellTurns}
+use Rattle.audit_runs.specs.Whole.{AreNumbered, TellUnbroken}
 use Rattle.audit_runs.specs.Audited.{IsAudited}
 
 -- lines that tell turns say what is staged
@@ -23,7 +28,12 @@ abbrev KeepBeside : Type 0
 KeepBeside = (events : List Numbered) (saids : List Said) (turns : List Turn) → AreScheduled events → AllByRecursion IsLawfulPrint (all_prints events saids) →
     ArePrinted events (all_prints events saids) turns → AreStagedSo (all_prints events saids) start turns → IsKeptBeside turns
 
-module _ (say : SaySo) (keep : KeepBeside) (events : List Numbered) (scheduled : AreScheduled events) (up : AscendFrom 0 events) (text : List ℕ) where
+-- the lines of turns' own text tell them
+abbrev TextsTell : Type 0
+TextsTell = (events : List Numbered) (turns : List Turn) (saids : List Said) (history : List Record) → AreNumbered (events_of turns) → TellUnbroken start turns →
+    AreReadable events (lines_of (transcript turns)) saids history → TellTurns start turns saids
+
+module _ (tell : TextsTell) (say : SaySo) (keep : KeepBeside) (events : List Numbered) (scheduled : AreScheduled events) (up : AscendFrom 0 events) (text : List ℕ) where
   -- what is said by the finding that all is well
   abbrev OfFinding : Finding → Type 0
   OfFinding (ok pairs) = IsAudited events text pairs
@@ -45,7 +55,9 @@ module _ (say : SaySo) (keep : KeepBeside) (events : List Numbered) (scheduled :
     pairs_are = refl;
     printed = printed;
     same_lines = same;
-    kept = λ told.
+    kept = λ small unbroken.
+        let told : TellTurns start turns saids =
+        tell events turns saids h (subst AreNumbered (sym printed.events_are) small) unbroken (subst (λ ls. AreReadable events ls saids h) same readable) in
         keep events saids turns scheduled lawful printed
         (subst (λ es. AreStagedSo (all_prints es saids) start turns) printed.events_are (say turns saids 0 (subst (AscendFrom 0) (sym printed.events_are) up) told));
   }

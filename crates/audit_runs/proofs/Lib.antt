@@ -8,3 +8,7 @@ pub mod Frames
 pub mod Staging
 pub mod Ascend
 pub mod Audited
+pub mod Lines
+pub mod Texts
+pub mod Tails
+pub mod Tellings

@@ -2,3 +2,4 @@ pub mod Alike
 pub mod Kept
 pub mod Told
 pub mod Audited
+pub mod Whole

@@ -3,12 +3,14 @@
 #![tactic(auto)]
 
 ghost use Rattle.std.specs.Prelude.{◌≡◌, ◌<◌, ℕ, IsTrue, List, take};
+ghost use Rattle.history_model.specs.declared.record.Record.{Record};
 ghost use Rattle.std.specs.List.{AllByRecursion};
 ghost use Rattle.layout_roles.specs.declared.layout.Layout.{Layout};
 ghost use Rattle.layout_roles.specs.Zones.{nodes_ascend};
 ghost use Rattle.layout_roles.specs.Fits.{NoneFits, IsGreatest};
 ghost use Rattle.layout_roles.specs.Certificates.{IsRedundancy, zones_wanted};
 ghost use Rattle.cluster_machine.specs.declared.applied.Applied.{Applied};
+ghost use Rattle.cluster_machine.specs.declared.line.Line.{Line};
 ghost use Rattle.cluster_machine.specs.Choices.{IsBest};
 ghost use Rattle.store_model.specs.declared.event.Numbered.{Numbered};
 ghost use Rattle.store_model.specs.Run.{State, start};
@@ -18,11 +20,15 @@ ghost use Rattle.text_model.specs.Played.{AllGoOn, ArePlayed, AreScheduled};
 ghost use Rattle.audit_model.specs.declared.said.Said.{Said};
 ghost use Rattle.audit_model.specs.Printed.{Staged, Printed, IsLawful, IsOfPrint, all_prints, IsLawfulPrint};
 ghost use Rattle.audit_model.specs.Audit.{ArePrinted, ok, Finds};
+ghost use Rattle.audit_model.specs.Heard.{AreReadable};
+ghost use Rattle.text_model.specs.Grammar.{lines_of};
+ghost use Rattle.text_model.specs.Transcript.{line_text, transcript};
 ghost use Rattle.text_model.specs.Reading.{IsSchedule};
 ghost use Rattle.audit_runs.specs.Alike.{AreSameButCut, DifferInCuts, staged_in, AreStagedSo};
 ghost use Rattle.audit_runs.specs.Kept.{IsKeptBeside};
 ghost use Rattle.audit_runs.specs.Audited.{IsAudited};
 ghost use Rattle.audit_runs.specs.Told.{stages_by, AscendFrom, TellTurns};
+ghost use Rattle.audit_runs.specs.Whole.{IsOtherLines, AreNumbered, IsUnbroken, TellUnbroken};
 
 use layout_flow::light_cuts;
 use layout_roles::smaller_sizes;
@@ -84,19 +90,35 @@ pub fn lines_say_what_is_staged()
     events_stage_what_they_say();
 }
 
+/// What a run tells beside its events' own lines, layouts with their cuts among it, is whole lines that begin with no digit, where
+/// no key and no zone's name holds a line feed.
+pub fn other_lines_are_whole()
+    ensures { (l : Line Applied) → IsUnbroken l → IsOtherLines (line_text l) }
+{}
+
+/// Where the lines of a run's own text can be read, and no key and no zone's name that it tells holds a line feed, what they say
+/// tells of each event in its turn whether it was accepted.
+pub fn texts_tell_turns()
+    ensures { (events : List Numbered) (turns : List Turn) (saids : List Said) (history : List Record) → AreNumbered (events_of turns) → TellUnbroken start turns →
+        AreReadable events (lines_of (transcript turns)) saids history → TellTurns start turns saids }
+{
+    other_lines_are_whole();
+}
+
 /// The events of a schedule stand in lines that ascend.
 pub fn schedules_ascend()
     ensures { (input : List ℕ) (events : List Numbered) → IsSchedule input events → AscendFrom 0 events }
 {}
 
 /// Where it is found of a schedule's transcript that all is well, it is the text of turns that are given the layouts which it
-/// prints, and its account is fresh; and where its lines say of each event whether it was accepted, what is promised of a replay
-/// holds beside these turns.
+/// prints, and its account is fresh; and where no key and no zone's name that they tell holds a line feed, what is promised of a
+/// replay holds beside these turns.
 pub fn audited_transcripts_keep_promises()
     ensures { (input text : List ℕ) (events : List Numbered) (pairs : ℕ) → IsSchedule input events → Finds events text (ok pairs) → IsAudited events text pairs }
 {
     schedules_are_within_limits();
     schedules_ascend();
+    texts_tell_turns();
     lines_say_what_is_staged();
     printed_turns_keep_promises();
 }
