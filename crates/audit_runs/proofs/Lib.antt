@@ -12,3 +12,4 @@ pub mod Lines
 pub mod Texts
 pub mod Tails
 pub mod Tellings
+pub mod Fixed

@@ -3,3 +3,4 @@ pub mod Kept
 pub mod Told
 pub mod Audited
 pub mod Whole
+pub mod Fixed

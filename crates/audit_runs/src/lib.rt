@@ -15,16 +15,16 @@ ghost use Rattle.cluster_machine.specs.Choices.{IsBest};
 ghost use Rattle.store_model.specs.declared.event.Numbered.{Numbered};
 ghost use Rattle.store_model.specs.Run.{State, start};
 ghost use Rattle.store_model.specs.Events.{Turn, outcome_of, after, events_of, run};
-ghost use Rattle.store_model.specs.Turns.{AreLawful};
 ghost use Rattle.text_model.specs.Played.{AllGoOn, ArePlayed, AreScheduled};
 ghost use Rattle.audit_model.specs.declared.said.Said.{Said};
-ghost use Rattle.audit_model.specs.Printed.{Staged, Printed, IsLawful, IsOfPrint, all_prints, IsLawfulPrint};
-ghost use Rattle.audit_model.specs.Audit.{ArePrinted, ok, Finds};
+ghost use Rattle.audit_model.specs.Printed.{Staged, Printed, IsLawful, IsOfPrint, Print, all_prints, IsLawfulPrint};
+ghost use Rattle.audit_model.specs.Audit.{AreGiven, ArePrinted, ok, Finds};
 ghost use Rattle.audit_model.specs.Heard.{AreReadable};
 ghost use Rattle.text_model.specs.Grammar.{lines_of};
-ghost use Rattle.text_model.specs.Transcript.{line_text, transcript};
+ghost use Rattle.text_model.specs.Transcript.{line_text, turns_text, transcript};
 ghost use Rattle.text_model.specs.Reading.{IsSchedule};
 ghost use Rattle.audit_runs.specs.Alike.{AreSameButCut, DifferInCuts, staged_in, AreStagedSo};
+ghost use Rattle.audit_runs.specs.Fixed.{HavePrints};
 ghost use Rattle.audit_runs.specs.Kept.{IsKeptBeside};
 ghost use Rattle.audit_runs.specs.Audited.{IsAudited};
 ghost use Rattle.audit_runs.specs.Told.{stages_by, AscendFrom, TellTurns};
@@ -74,6 +74,13 @@ pub fn printed_turns_keep_promises()
     printed_turns_are_played();
     promises_are_kept();
 }
+
+/// A printed layout is one that can be given: so runs of the same events that are given the same prints lead to one state and
+/// have one text, as long as each apply that comes to a layout has one printed.
+pub fn prints_fix_runs()
+    ensures { (ps : List Print) (s : State) (turns others : List Turn) → events_of turns ≡ events_of others → AreGiven ps s turns → AreGiven ps s others → HavePrints ps s turns →
+        (run s turns ≡ run s others) × (turns_text s turns ≡ turns_text s others) }
+{}
 
 /// What is staged after an event of any run is told by what was staged before, the event, and whether it was refused: roles,
 /// redundancies and `trio` alone change it.
