@@ -1,5 +1,5 @@
 -- The events of a schedule stand in lines that ascend.
-use Rattle.std.proofs.Common.{◌≡◌, ℕ, zero, suc, ◌-◌, true, false, if◌then◌else◌, Option, Some, None, List, [], ◌∷◌, subst, arith}
+use Rattle.std.proofs.Common.{ℕ, zero, suc, ◌-◌, true, false, if◌then◌else◌, Option, Some, None, List, [], ◌∷◌, subst, arith}
 use Rattle.std.specs.Prelude.{⊤}
 use Rattle.store_model.specs.declared.event.Event.{Event}
 use Rattle.store_model.specs.declared.event.Numbered.{Numbered}

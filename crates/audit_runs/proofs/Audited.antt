@@ -1,7 +1,6 @@
 -- What it says that all is well with a transcript.
-use Rattle.std.proofs.Common.{◌≡◌, ℕ, List, refl, sym, subst}
+use Rattle.std.proofs.Common.{ℕ, List, refl, sym, subst}
 use Rattle.std.specs.Prelude.{⊤}
-use Rattle.std.specs.List.{AllByRecursion}
 use Rattle.store_model.specs.declared.event.Numbered.{Numbered}
 use Rattle.store_model.specs.Run.{start}
 use Rattle.store_model.specs.Events.{Turn, events_of}
@@ -11,9 +10,10 @@ use Rattle.text_model.specs.Transcript.{transcript}
 use Rattle.audit_model.specs.Heard.{AreReadable}
 use Rattle.text_model.specs.Played.{AreScheduled}
 use Rattle.audit_model.specs.declared.said.Said.{Said}
-use Rattle.audit_model.specs.Printed.{all_prints, IsLawfulPrint}
-use Rattle.audit_model.specs.Audit.{ArePrinted, Finding, unreadable, stale, unlawful, differs, too_much, ok, Finds, not_read, not_fresh, not_lawful, other_text, other_before, past_limit, all_well}
+use Rattle.audit_model.specs.Printed.{all_prints}
+use Rattle.audit_model.specs.Audit.{Finding, ok, Finds, not_read, not_fresh, not_lawful, other_text, other_before, past_limit, all_well}
 use Rattle.audit_runs.specs.Alike.{AreStagedSo}
+use Rattle.audit_runs.specs.Given.{AreRightlyGiven}
 use Rattle.audit_runs.specs.Kept.{IsKeptBeside}
 use Rattle.audit_runs.specs.Told.{AscendFrom, TellTurns}
 use Rattle.audit_runs.specs.Whole.{AreNumbered, TellUnbroken}
@@ -25,8 +25,7 @@ SaySo = (turns : List Turn) (saids : List Said) (line : ℕ) → AscendFrom line
 
 -- what is promised of replays holds beside turns that are given lawful layouts
 abbrev KeepBeside : Type 0
-KeepBeside = (events : List Numbered) (saids : List Said) (turns : List Turn) → AreScheduled events → AllByRecursion IsLawfulPrint (all_prints events saids) →
-    ArePrinted events (all_prints events saids) turns → AreStagedSo (all_prints events saids) start turns → IsKeptBeside turns
+KeepBeside = (events : List Numbered) (saids : List Said) (turns : List Turn) → AreRightlyGiven events saids turns → IsKeptBeside turns
 
 -- the lines of turns' own text tell them
 abbrev TextsTell : Type 0
@@ -58,6 +57,6 @@ module _ (tell : TextsTell) (say : SaySo) (keep : KeepBeside) (events : List Num
     kept = λ small unbroken.
         let told : TellTurns start turns saids =
         tell events turns saids h (subst AreNumbered (sym printed.events_are) small) unbroken (subst (λ ls. AreReadable events ls saids h) same readable) in
-        keep events saids turns scheduled lawful printed
-        (subst (λ es. AreStagedSo (all_prints es saids) start turns) printed.events_are (say turns saids 0 (subst (AscendFrom 0) (sym printed.events_are) up) told));
+        let so = subst (λ es. AreStagedSo (all_prints es saids) start turns) printed.events_are (say turns saids 0 (subst (AscendFrom 0) (sym printed.events_are) up) told) in
+        keep events saids turns (record { scheduled = scheduled; lawful = lawful; printed = printed; staged = so });
   }

@@ -1,6 +1,5 @@
 -- Runs that differ in cuts alone have the same states, and go on together.
-use Rattle.std.proofs.Common.{◌≡◌, ℕ, zero, suc, Bool, true, false, not, ◌&&◌, leb, cond, IsTrue, List, [], ◌∷◌, ◌++◌, Some, take, refl, sym, ap, subst, ◌∙◌}
-use Rattle.std.specs.Prelude.{⊤}
+use Rattle.std.proofs.Common.{◌≡◌, ℕ, zero, suc, Bool, true, false, not, ◌&&◌, leb, cond, IsTrue, List, [], ◌∷◌, ◌++◌, Some, take, refl, ap, subst, ◌∙◌}
 use Rattle.std.specs.List.{AllByRecursion}
 use Rattle.crdt_rows.specs.declared.any_row.AnyRow.{AnyRow}
 use Rattle.crdt_rows.specs.AnyRow.{any_join}
@@ -19,7 +18,7 @@ use Rattle.store_model.specs.declared.event.Event.TheVariants.{Trio, Block, Buck
 use Rattle.store_model.specs.declared.event.Numbered.{Numbered}
 use Rattle.store_model.specs.Run.{World, Moving, State}
 use Rattle.store_model.specs.Events.{Turn, events_of, outcome, after, run}
-use Rattle.text_model.specs.Played.{Step, steps_of, HasSent, GoesOn, AllGoOn}
+use Rattle.text_model.specs.Played.{steps_of, GoesOn, AllGoOn}
 use Rattle.audit_runs.specs.Alike.{DifferInCut, DifferInCuts}
 
 module _ (w : World) (n : ℕ) (l : Layout) (a b : Applied) where

@@ -1,5 +1,5 @@
 -- One printed layout is one that can be given, so runs that are given the same prints are one run.
-use Rattle.std.proofs.Common.{◌≡◌, ℕ, suc, ◌+◌, Bool, true, false, not, ◌&&◌, leb, cond, Option, Some, None, List, [], ◌∷◌, ◌++◌, length, refl, sym, ap, subst, ◌∙◌}
+use Rattle.std.proofs.Common.{◌≡◌, ℕ, suc, Bool, true, false, not, ◌&&◌, leb, cond, Option, Some, None, List, [], ◌∷◌, ◌++◌, length, refl, sym, ap, subst, ◌∙◌}
 use Rattle.std.specs.Prelude.{⊤}
 use mathlib.Core.Bool.{Bool-set}
 use mathlib.Core.HLevel.{is_prop→PathP}
@@ -24,7 +24,7 @@ use Rattle.cluster_machine.specs.Worlds.{Done as Effect, newest_at, comes_to_lay
 use Rattle.store_model.specs.declared.event.Event.{Event}
 use Rattle.store_model.specs.declared.event.Event.TheVariants.{Trio, Block, Bucket, Role as Stage, Redundancy as Spread, Apply, Tick, Skew, Put, Get, Head, Delete, Copy, List as Keys, Deliver, Lose, Drain, Expire, Restart, Gossip, Ack, Sync, SyncAck, Clean, Work, Repair}
 use Rattle.store_model.specs.declared.event.Numbered.{Numbered}
-use Rattle.store_model.specs.Run.{World, Moving, State, Outcome}
+use Rattle.store_model.specs.Run.{World, Moving, State}
 use Rattle.store_model.specs.Events.{Turn, outcome, outcome_of, after, events_of, run}
 use Rattle.text_model.specs.Grammar.{name_of}
 use Rattle.text_model.specs.Transcript.{told_text, event_text, turns_text}
@@ -132,7 +132,6 @@ by_effect s n c d same = record {
 -- the turn of an event that is given this
 abbrev turned : Numbered → Decision → Turn
 turned e c = record { numbered = e; choice = c }
-
 
 event_fixed : (s : State) (line : ℕ) (e : Event) (c d : Decision) (o : Option Print) → IsGiven s (turned (record { line = line; event = e }) c) o → IsGiven s (turned (record { line = line; event = e }) d) o → HasPrint s e o → IsFixed s e c d
 event_fixed s line (Apply n) c d None h k has = by_effect s n c d (early s n c d has)

@@ -16,7 +16,7 @@ use Rattle.cluster_machine.specs.declared.step.Words.TheVariants.{One}
 use Rattle.cluster_machine.specs.declared.line.Line.TheVariants.{Ended as HasEnded}
 use Rattle.cluster_machine.specs.declared.line.EndWord.TheVariants.{Expired}
 use Rattle.cluster_machine.specs.declared.step.Refusal.{Refusal}
-use Rattle.cluster_machine.specs.declared.step.Refusal.TheVariants.{VersionTaken, VersionLimit, NotMember, NoSuchBucket, NoSuchMessage, Lost, NoSuchRequest, AlreadyEnded}
+use Rattle.cluster_machine.specs.declared.step.Refusal.TheVariants.{VersionTaken, VersionLimit, NotMember, NoSuchBucket, Lost, AlreadyEnded}
 use Rattle.cluster_machine.specs.Node.{Call, Ended}
 use Rattle.cluster_machine.specs.Acts.{Acted, acts}
 use Rattle.cluster_machine.specs.Receives.{receives}

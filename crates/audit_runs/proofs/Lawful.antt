@@ -1,5 +1,5 @@
 -- Turns that are given layouts as they are printed have turns beside them that are given what is computed.
-use Rattle.std.proofs.Common.{◌≡◌, ◌≤◌, ℕ, suc, Bool, true, false, cond, length, IsTrue, Option, Some, None, List, [], ◌∷◌, refl, sym, subst, arith}
+use Rattle.std.proofs.Common.{◌≡◌, ◌≤◌, ℕ, suc, true, false, cond, length, IsTrue, Option, Some, None, List, [], ◌∷◌, refl, sym, subst, arith}
 use Rattle.std.specs.Prelude.{⊤, IfSome}
 use Rattle.std.specs.List.{AllByRecursion}
 use Rattle.layout_roles.specs.declared.redundancy.Redundancy.TheVariants.{AtLeast, Maximum}
@@ -17,11 +17,12 @@ use Rattle.store_model.specs.Acts.{IsLawfulAct}
 use Rattle.store_model.specs.Events.{Turn, act_of, after, events_of}
 use Rattle.store_model.specs.Turns.{AreLawful}
 use Rattle.text_model.specs.Grammar.{IsAllowed, is_key}
-use Rattle.text_model.specs.Played.{AreAllowed, ArePlayed, AreScheduled}
+use Rattle.text_model.specs.Played.{AreAllowed, ArePlayed}
 use Rattle.audit_model.specs.Printed.{Staged, Printed, IsLawful, IsOfPrint, Print, print_at, all_prints, IsLawfulPrint}
 use Rattle.audit_model.specs.declared.said.Said.{Said}
-use Rattle.audit_model.specs.Audit.{IsOfPrinted, IsGiven, AreGiven, ArePrinted}
+use Rattle.audit_model.specs.Audit.{IsOfPrinted, IsGiven, AreGiven}
 use Rattle.audit_runs.specs.Alike.{AreSameButCut, DifferInCut, DifferInCuts, staged_in, IsStagedSo, AreStagedSo}
+use Rattle.audit_runs.specs.Given.{AreRightlyGiven}
 use Rattle.audit_runs.proofs.Cuts.{turn_alike, go_on_together}
 use Rattle.audit_runs.proofs.Prints.{print_at_is, prints_meant, both_of}
 
@@ -112,11 +113,10 @@ allowed_turns : (turns : List Turn) → AllByRecursion (λ (e : Numbered). IsAll
 allowed_turns [] h = tt
 allowed_turns (t ∷ ts) h = (h.0, allowed_turns ts h.1)
 
-pub printed_are_played : PrintsAreComputed → (events : List Numbered) (saids : List Said) (turns : List Turn) → AreScheduled events → AllByRecursion IsLawfulPrint (all_prints events saids) →
-    ArePrinted events (all_prints events saids) turns → AreStagedSo (all_prints events saids) start turns → (others : List Turn) × (DifferInCuts turns others × ArePlayed others)
-printed_are_played computed events saids turns scheduled lawful printed so =
+pub printed_are_played : PrintsAreComputed → (events : List Numbered) (saids : List Said) (turns : List Turn) → AreRightlyGiven events saids turns → (others : List Turn) × (DifferInCuts turns others × ArePlayed others)
+printed_are_played computed events saids turns h =
     let ps = all_prints events saids in
-    let fine = both_of IsLawfulPrint (λ (p : Print). IsRedundancy p.staged.wanted) ps lawful (prints_meant events saids scheduled.allowed) in
-    let allowed = allowed_turns turns (subst (λ es. AllByRecursion (λ (e : Numbered). IsAllowed e.event) es) (sym printed.events_are) scheduled.allowed) in
-    let found = have_lawful computed ps fine start turns allowed printed.given so in
-    (found.0, (found.1.0, record { lawful = found.1.1; go_on = go_on_together start turns found.0 found.1.0 printed.go_on }))
+    let fine = both_of IsLawfulPrint (λ (p : Print). IsRedundancy p.staged.wanted) ps h.lawful (prints_meant events saids h.scheduled.allowed) in
+    let allowed = allowed_turns turns (subst (λ es. AllByRecursion (λ (e : Numbered). IsAllowed e.event) es) (sym h.printed.events_are) h.scheduled.allowed) in
+    let found = have_lawful computed ps fine start turns allowed h.printed.given h.staged in
+    (found.0, (found.1.0, record { lawful = found.1.1; go_on = go_on_together start turns found.0 found.1.0 h.printed.go_on }))

@@ -1,6 +1,6 @@
 -- What is known of the layouts that a transcript prints: what its lines say was staged, and in which line of the schedule.
-use Rattle.std.proofs.Common.{◌≡◌, ◌≤◌, ℕ, suc, Bool, true, false, ◌==◌, ◌&&◌, if◌then◌else◌, Option, Some, None, List, [], ◌∷◌, ◌++◌, refl, sym, subst}
-use Rattle.std.specs.Prelude.{⊤, IfSome}
+use Rattle.std.proofs.Common.{◌≡◌, ℕ, suc, true, false, ◌==◌, ◌&&◌, if◌then◌else◌, Option, Some, None, List, [], ◌∷◌, ◌++◌, refl, sym, subst}
+use Rattle.std.specs.Prelude.{IfSome}
 use Rattle.std.specs.List.{AllByRecursion}
 use Rattle.history_model.specs.Record.{same_bytes}
 use Rattle.layout_roles.specs.declared.redundancy.Redundancy.TheVariants.{AtLeast, Maximum}
@@ -74,11 +74,11 @@ print_of_is s k line (Some (Apply node)) (Accepted (One number)) (said.Fresh pai
 print_of_is s k line (Some (Apply node)) (Accepted (One number)) (said.End events requests messages ∷ saids) = tt
 
 -- what is asked of each of two lists is asked of both
-all_both : (P : Print → Type 0) (ps qs : List Print) → AllByRecursion P ps → AllByRecursion P qs → AllByRecursion P (ps ++ qs)
+pub all_both : (P : Print → Type 0) (ps qs : List Print) → AllByRecursion P ps → AllByRecursion P qs → AllByRecursion P (ps ++ qs)
 all_both P [] qs h k = k
 all_both P (p ∷ ps) qs h k = (h.0, all_both P ps qs h.1 k)
 
-all_more : (P Q : Print → Type 0) (ps : List Print) → ((p : Print) → P p → Q p) → AllByRecursion P ps → AllByRecursion Q ps
+pub all_more : (P Q : Print → Type 0) (ps : List Print) → ((p : Print) → P p → Q p) → AllByRecursion P ps → AllByRecursion Q ps
 all_more P Q [] more h = tt
 all_more P Q (p ∷ ps) more h = (more p h.0, all_more P Q ps more h.1)
 

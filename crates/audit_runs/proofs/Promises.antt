@@ -5,7 +5,7 @@ use Rattle.store_model.specs.Run.{State, start}
 use Rattle.store_model.specs.Events.{Turn, acts_of, run}
 use Rattle.store_model.specs.Fresh.{NoClash}
 use Rattle.store_model.specs.Moments.{between}
-use Rattle.store_anchors.specs.Promises.{EveryRunKeepsPromises, WalksAreClear}
+use Rattle.store_anchors.specs.Promises.{EveryRunKeepsPromises}
 use Rattle.text_model.specs.Played.{ArePlayed}
 use Rattle.audit_runs.specs.Alike.{DifferInCuts}
 use Rattle.audit_runs.specs.Kept.{IsKeptBeside}

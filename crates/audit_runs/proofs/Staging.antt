@@ -1,7 +1,6 @@
 -- What lines say was staged, where they say of each event whether it was accepted.
-use Rattle.std.proofs.Common.{◌≡◌, ◌≢◌, ◌<◌, ◌≤◌, ℕ, suc, Bool, true, false, ◌==◌, ◌&&◌, if◌then◌else◌, Option, Some, None, List, [], ◌∷◌, ◌++◌, refl, sym, ap, subst, ◌∙◌, append_assoc, append-nil, arith, ne_eqb, eq-eqb}
+use Rattle.std.proofs.Common.{◌≡◌, ◌<◌, ◌≤◌, ℕ, suc, Bool, true, false, ◌==◌, ◌&&◌, if◌then◌else◌, Option, Some, None, List, [], ◌∷◌, ◌++◌, refl, sym, ap, subst, ◌∙◌, append_assoc, append-nil, arith, ne_eqb, eq-eqb}
 use Rattle.std.proofs.lemmas.Bool.{and_from}
-use Rattle.std.specs.Prelude.{⊤, IfSome}
 use Rattle.std.specs.List.{AllByRecursion}
 use Rattle.layout_roles.specs.declared.cut.Cut.{Cut}
 use Rattle.cluster_machine.specs.declared.step.Refusal.{Refusal}
@@ -16,10 +15,10 @@ use Rattle.audit_model.specs.declared.said.Told.TheVariants.{Accepted, Refused}
 use Rattle.audit_model.specs.declared.said.Said.{Said}
 use Rattle.audit_model.specs.declared.said.Said.TheVariants as said
 use Rattle.audit_model.specs.Heard.{event_at}
-use Rattle.audit_model.specs.Printed.{Staged, Print, stages_if, print_of, prints, print_at, nothing_staged, all_prints}
+use Rattle.audit_model.specs.Printed.{Staged, Print, stages_if, print_of, prints, print_at, all_prints}
 use Rattle.audit_runs.specs.Alike.{staged_in, IsStagedSo, AreStagedSo}
 use Rattle.audit_runs.specs.Told.{stages_by, IsOther, IsAnswerTo, TellsEvent, TellTurns, AscendFrom}
-use Rattle.audit_runs.proofs.Prints.{IsFrom, print_of_is}
+use Rattle.audit_runs.proofs.Prints.{IsFrom, all_both, all_more, print_of_is}
 
 -- what is staged after an event
 abbrev pub EventsStage : Type 0
@@ -80,16 +79,18 @@ found_behind : (e : Numbered) (events es : List Numbered) → AllByRecursion (Is
 found_behind e events [] h later = tt
 found_behind e events (f ∷ fs) h later =
     let lt = later.0 in
-    let other : (e.line == f.line) ≡ false = ne_eqb e.line f.line (λ is. omega arith) in
-    (if_not ((e.line == f.line) && same_bytes (name_of e.event) (name_of f.event)) (Some e.event) (event_at events f.line (name_of f.event)) (and_not (e.line == f.line) (same_bytes (name_of e.event) (name_of f.event)) other) ∙ h.0,
-    found_behind e events fs h.1 later.1)
+    let other : (e.line == f.line) ≡ false = ne_eqb e.line f.line (λ is. omega arith) in (
+      if_not ((e.line == f.line) && same_bytes (name_of e.event) (name_of f.event)) (Some e.event) (event_at events f.line (name_of f.event)) (and_not (e.line == f.line) (same_bytes (name_of e.event) (name_of f.event)) other) ∙ h.0,
+      found_behind e events fs h.1 later.1,
+    )
 
 all_found : (line : ℕ) (events : List Numbered) → AscendFrom line events → AllByRecursion (IsFound events) events
 all_found line [] up = tt
-all_found line (e ∷ es) up =
-    (if_so ((e.line == e.line) && same_bytes (name_of e.event) (name_of e.event)) (Some e.event) (event_at es e.line (name_of e.event))
-    (and_from (e.line == e.line) (same_bytes (name_of e.event) (name_of e.event)) (eq-eqb e.line e.line refl) (same_self (name_of e.event))),
-    found_behind e es es (all_found e.line es up.1) (all_later e.line es up.1 e.line (omega arith)))
+all_found line (e ∷ es) up = (
+  if_so ((e.line == e.line) && same_bytes (name_of e.event) (name_of e.event)) (Some e.event) (event_at es e.line (name_of e.event))
+      (and_from (e.line == e.line) (same_bytes (name_of e.event) (name_of e.event)) (eq-eqb e.line e.line refl) (same_self (name_of e.event))),
+  found_behind e es es (all_found e.line es up.1) (all_later e.line es up.1 e.line (omega arith)),
+)
 
 stage_told : (st : Staged) (e : Event) (r : Option (Refusal Cut)) (told : Told) → IsAnswerTo r told → stages_if st (Some e) told ≡ stages_by st e r
 stage_told st e None (Accepted words) h = refl
@@ -111,23 +112,21 @@ module _ (stage : EventsStage) (events : List Numbered) where
       let staged : stages_if st (event_at events line name) d.told ≡ staged_in next =
       ap (λ o. stages_if st o d.told) known.0 ∙ stage_told st t.numbered.event (outcome_of s t).refused d.told d.answers ∙ sym (stage s t) in
       let skip = skip_others events (staged_in next) (suc k) d.others rest d.are_other in
-      let first : List Print = print_of st k line (event_at events line name) d.told (d.others ++ rest) in
-      (first, (prints events (staged_in next) skip.0 rest,
-      (ap (λ x. prints events st k x) whole ∙ ap (λ ps. first ++ ps) (ap (λ x. prints events x (suc k) (d.others ++ rest)) staged ∙ skip.1),
-      (print_of_is st k line (event_at events line name) d.told (d.others ++ rest), of_turns next ts rest skip.0 known.1 h.1.1.1.1))))
+      let first : List Print = print_of st k line (event_at events line name) d.told (d.others ++ rest) in (
+        first,
+        (
+          prints events (staged_in next) skip.0 rest,
+          (
+            ap (λ x. prints events st k x) whole ∙ ap (λ ps. first ++ ps) (ap (λ x. prints events x (suc k) (d.others ++ rest)) staged ∙ skip.1),
+            (print_of_is st k line (event_at events line name) d.told (d.others ++ rest), of_turns next ts rest skip.0 known.1 h.1.1.1.1),
+          ),
+        ),
+      )
 
 -- a print for another line is none for this one
 pass_over : (line : ℕ) (ps qs : List Print) → AllByRecursion (λ (p : Print). p.line ≡ line → ⊥) ps → print_at (ps ++ qs) line ≡ print_at qs line
 pass_over line [] qs h = refl
 pass_over line (p ∷ ps) qs h = if_not (p.line == line) (Some p) (print_at (ps ++ qs) line) (ne_eqb p.line line h.0) ∙ pass_over line ps qs h.1
-
-all_so : (P Q : Print → Type 0) (ps : List Print) → ((p : Print) → P p → Q p) → AllByRecursion P ps → AllByRecursion Q ps
-all_so P Q [] so h = tt
-all_so P Q (p ∷ ps) so h = (so p h.0, all_so P Q ps so h.1)
-
-all_joined : (P : Print → Type 0) (ps qs : List Print) → AllByRecursion P ps → AllByRecursion P qs → AllByRecursion P (ps ++ qs)
-all_joined P [] qs h k = k
-all_joined P (p ∷ ps) qs h k = (h.0, all_joined P ps qs h.1 k)
 
 -- prints of later turns are none of this line
 none_later : (line above : ℕ) (s : State) (ts : List Turn) (ps : List Print) → line ≤ above → AscendFrom above (events_of ts) → AreOfTurns s ts ps → print_at ps line ≡ None
@@ -135,7 +134,7 @@ none_later line above s [] ps le up h = ap (λ x. print_at x line) h
 none_later line above s (t ∷ ts) ps le up h =
     let here = up.0 in
     ap (λ x. print_at x line) h.1.1.0
-    ∙ (pass_over line h.0 h.1.0 (all_so (IsFrom (staged_in s) t.numbered.line) (λ (p : Print). p.line ≡ line → ⊥) h.0 (λ p from is. let at = from.line_is in omega arith) h.1.1.1.0)
+    ∙ (pass_over line h.0 h.1.0 (all_more (IsFrom (staged_in s) t.numbered.line) (λ (p : Print). p.line ≡ line → ⊥) h.0 (λ p from is. let at = from.line_is in omega arith) h.1.1.1.0)
     ∙ none_later line t.numbered.line (after s t) ts h.1.0 (omega arith) up.1 h.1.1.1.1)
 
 -- the one of this turn's is of what is staged here
@@ -153,12 +152,12 @@ staged_so before line s (t ∷ ts) ps up early h =
     let first : List Print = h.0 in
     let rest : List Print = h.1.0 in
     let own = own_print s at first rest h.1.1.1.0 (none_later at at (after s t) ts rest (omega arith) up.1 h.1.1.1.1) in
-    let passed = pass_over at before (first ++ rest) (all_so (λ (p : Print). p.line ≤ line) (λ (p : Print). p.line ≡ at → ⊥) before (λ p le is. omega arith) early) in
+    let passed = pass_over at before (first ++ rest) (all_more (λ (p : Print). p.line ≤ line) (λ (p : Print). p.line ≡ at → ⊥) before (λ p le is. omega arith) early) in
     let all : List Print = before ++ (first ++ rest) in
     let later : AreStagedSo ((before ++ first) ++ rest) (after s t) ts =
     staged_so (before ++ first) at (after s t) ts rest up.1
-    (all_joined (λ (p : Print). p.line ≤ at) before first (all_so (λ (p : Print). p.line ≤ line) (λ (p : Print). p.line ≤ at) before (λ p le. omega arith) early)
-    (all_so (IsFrom (staged_in s) at) (λ (p : Print). p.line ≤ at) first (λ p from. let is = from.line_is in omega arith) h.1.1.1.0)) h.1.1.1.1 in
+    (all_both (λ (p : Print). p.line ≤ at) before first (all_more (λ (p : Print). p.line ≤ line) (λ (p : Print). p.line ≤ at) before (λ p le. omega arith) early)
+    (all_more (IsFrom (staged_in s) at) (λ (p : Print). p.line ≤ at) first (λ p from. let is = from.line_is in omega arith) h.1.1.1.0)) h.1.1.1.1 in
     subst (λ (x : List Print). AreStagedSo (before ++ x) s (t ∷ ts)) (sym h.1.1.0)
     (subst (IsStagedSo s) (sym passed) own, subst (λ (x : List Print). AreStagedSo x (after s t) ts) (append_assoc before first rest) later)
 

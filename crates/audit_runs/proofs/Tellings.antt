@@ -1,9 +1,8 @@
 -- What a run tells beside its events' own lines is whole lines that begin with no digit, where no key and no zone's name holds a line feed.
-use Rattle.std.proofs.Common.{◌≡◌, ℕ, zero, suc, ◌+◌, ◌-◌, Bool, true, false, not, ◌==◌, cond, if◌then◌else◌, nat_eq, Option, Some, None, List, [], ◌∷◌, ◌++◌, length, map, refl, arith}
+use Rattle.std.proofs.Common.{◌≡◌, ℕ, zero, suc, ◌+◌, ◌-◌, Bool, true, false, if◌then◌else◌, nat_eq, Option, Some, None, List, [], ◌∷◌, ◌++◌, length, map, refl, arith}
 use Rattle.std.specs.Prelude.{⊤, codes, decimal, flat_map, get_or}
 use Rattle.std.specs.Cmp.Lexicographic.{pointwise}
-use Rattle.std.specs.List.{AllByRecursion, list_all, filter, range_with_len}
-use Rattle.hex.specs.Hex.{encode_lower}
+use Rattle.std.specs.List.{AllByRecursion, filter, range_with_len}
 use Rattle.layout_roles.specs.declared.vertex.Vertex.{Vertex}
 use Rattle.layout_roles.specs.declared.vertex.Vertex.TheVariants.{Source, Up, Down, Zone, Node, Sink}
 use Rattle.layout_roles.specs.declared.cut.Cut.{Cut}

@@ -1,5 +1,5 @@
 -- What the lines of a run's text say, read back: of each event in its turn whether it was accepted.
-use Rattle.std.proofs.Common.{◌≡◌, ℕ, zero, suc, ◌<◌, ◌^◌, Bool, true, false, not, ◌==◌, Option, Some, None, List, [], ◌∷◌, ◌++◌, refl, sym, ap, subst, ◌∙◌, append_assoc, append-nil, arith, bytes_eq, get_or}
+use Rattle.std.proofs.Common.{◌≡◌, ℕ, ◌<◌, ◌^◌, Bool, true, false, not, ◌==◌, Option, Some, None, List, [], ◌∷◌, ◌++◌, refl, sym, ap, subst, ◌∙◌, append_assoc, append-nil, arith, bytes_eq}
 use Rattle.std.specs.Prelude.{⊤, codes, decimal, flat_map}
 use Rattle.std.specs.List.{AllByRecursion, All, list_all, slice_split, join_with_byte}
 use Rattle.std.proofs.lemmas.Bool.{and_parts}
@@ -17,7 +17,7 @@ use Rattle.cluster_machine.specs.declared.step.Words.TheVariants.{Empty, One, Id
 use Rattle.store_model.specs.declared.event.Event.{Event}
 use Rattle.store_model.specs.declared.event.Event.TheVariants as event
 use Rattle.store_model.specs.declared.event.Numbered.{Numbered}
-use Rattle.store_model.specs.Run.{State, Outcome, start}
+use Rattle.store_model.specs.Run.{State, Outcome}
 use Rattle.store_model.specs.Events.{Turn, outcome_of, events_of}
 use Rattle.text_model.specs.Grammar.{lines_of, name_of, first_word}
 use Rattle.text_model.specs.Reading.{is_number}
@@ -27,7 +27,7 @@ use Rattle.audit_model.specs.declared.said.Told.{Told}
 use Rattle.audit_model.specs.declared.said.Told.TheVariants.{Accepted, Refused}
 use Rattle.audit_model.specs.declared.said.Said.{Said}
 use Rattle.audit_model.specs.declared.said.Said.TheVariants as said
-use Rattle.audit_model.specs.Lines.{words_of, told_words, answer_words, refusal_words, IsInRange, Says}
+use Rattle.audit_model.specs.Lines.{words_of, told_words, IsInRange, Says}
 use Rattle.audit_model.specs.Heard.{Heard, Hears}
 use Rattle.audit_model.proofs.Read.{decimal_is_number}
 use Rattle.audit_model.proofs.Unique.{words_read}
@@ -127,11 +127,12 @@ own_words : (e : Numbered) (r : Option (Refusal Cut)) (words : Words) → (more 
 own_words e r words =
     let name : List ℕ = name_of e.event in
     let answer : List ℕ = answer_text r words in
-    let answers = answer_words_in r words in
-    (answers.0,
-    ap words_in (append_assoc (decimal e.line) (word name) (word answer))
-    ∙ (slice_split_at (λ b. is_space b) (decimal e.line) 32 (name ++ word answer) (no_spaces (decimal e.line) (decimal_free 32 e.line (omega arith))) refl
-    ∙ ap (λ ws. decimal e.line ∷ ws) (slice_split_at (λ b. is_space b) name 32 answer (no_spaces name (name_free e.event).0) refl ∙ ap (λ ws. name ∷ ws) answers.1)))
+    let answers = answer_words_in r words in (
+      answers.0,
+      ap words_in (append_assoc (decimal e.line) (word name) (word answer))
+          ∙ (slice_split_at (λ b. is_space b) (decimal e.line) 32 (name ++ word answer) (no_spaces (decimal e.line) (decimal_free 32 e.line (omega arith))) refl
+          ∙ ap (λ ws. decimal e.line ∷ ws) (slice_split_at (λ b. is_space b) name 32 answer (no_spaces name (name_free e.event).0) refl ∙ ap (λ ws. name ∷ ws) answers.1)),
+    )
 
 -- what says these words is what the event answered
 abbrev SaysOf : Numbered → Option (Refusal Cut) → Said → Type 0
@@ -274,11 +275,19 @@ module _ (tail : List ℕ) (ends : IsOtherLines tail) where
   turn_tells t o rest [] small h say = absurd say
   turn_tells t o rest (s ∷ saids) small h say =
       let own = own_says t.numbered o.refused o.words s small say.0 in
-      let p = say_parts h.lines rest saids say.1 in
-      (s ∷ p.0, (p.1.0, (ap (λ ss. s ∷ ss) p.1.1.0, (
-        record { told = own.0; others = p.0; saids_are = ap (λ x. x ∷ p.0) own.1.0; answers = own.1.1; are_other = others_are h.lines p.0 h.are_other p.1.1.1.0 },
-        p.1.1.1.1,
-      ))))
+      let p = say_parts h.lines rest saids say.1 in (
+        s ∷ p.0,
+        (
+          p.1.0,
+          (
+            ap (λ ss. s ∷ ss) p.1.1.0,
+            (
+              record { told = own.0; others = p.0; saids_are = ap (λ x. x ∷ p.0) own.1.0; answers = own.1.1; are_other = others_are h.lines p.0 h.are_other p.1.1.1.0 },
+              p.1.1.1.1,
+            ),
+          ),
+        ),
+      )
 
   pub text_tells : (s : State) (ts : List Turn) (saids : List Said) → AreNumbered (events_of ts) → TellOthers s ts → SayAll (lines_of (turns_text s ts ++ tail)) saids → TellTurns s ts saids
   text_tells s [] saids small other say =

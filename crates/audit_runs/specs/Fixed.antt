@@ -1,5 +1,5 @@
 -- Runs whose layouts are all printed.
-use Rattle.std.specs.Prelude.{◌≡◌, false, ⊤, Option, Some, None, List, [], ◌∷◌}
+use Rattle.std.specs.Prelude.{◌≡◌, false, ⊤, Option, None, List, [], ◌∷◌}
 use Rattle.cluster_machine.specs.Worlds.{comes_to_layout}
 use Rattle.store_model.specs.declared.event.Event.{Event}
 use Rattle.store_model.specs.declared.event.Event.TheVariants.{Apply}

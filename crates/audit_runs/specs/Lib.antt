@@ -4,3 +4,4 @@ pub mod Told
 pub mod Audited
 pub mod Whole
 pub mod Fixed
+pub mod Given

@@ -24,6 +24,7 @@ ghost use Rattle.text_model.specs.Grammar.{lines_of};
 ghost use Rattle.text_model.specs.Transcript.{line_text, turns_text, transcript};
 ghost use Rattle.text_model.specs.Reading.{IsSchedule};
 ghost use Rattle.audit_runs.specs.Alike.{AreSameButCut, DifferInCuts, staged_in, AreStagedSo};
+ghost use Rattle.audit_runs.specs.Given.{AreRightlyGiven};
 ghost use Rattle.audit_runs.specs.Fixed.{HavePrints};
 ghost use Rattle.audit_runs.specs.Kept.{IsKeptBeside};
 ghost use Rattle.audit_runs.specs.Audited.{IsAudited};
@@ -39,9 +40,11 @@ use store_anchors::promises_are_kept;
 /// that is given as it was printed is one that is computed, with another cut perhaps.
 pub fn lawful_prints_are_greatest()
     ensures greatest { (s : Staged) (p : Printed) → IsTrue (nodes_ascend s.roles) → IsRedundancy s.wanted → IsLawful s p →
-        IsGreatest s.roles (zones_wanted s.wanted s.roles) p.size p.sets × ((size : ℕ) → p.size < size → NoneFits s.roles (zones_wanted s.wanted s.roles) size) }
+        (let r = zones_wanted s.wanted s.roles in
+        IsGreatest s.roles r p.size p.sets × ((size : ℕ) → p.size < size → NoneFits s.roles r size)) }
     ensures computed { (s : Staged) (p : Printed) (version : ℕ) (l : Layout) (shown : Applied) → IsRedundancy s.wanted → IsLawful s p →
-        IsOfPrint s.roles s.wanted version p l shown → (best : Applied) × (AreSameButCut shown best × IsBest s.roles s.wanted version l best) }
+        IsOfPrint s.roles s.wanted version p l shown →
+        (best : Applied) × (AreSameButCut shown best × IsBest s.roles s.wanted version l best) }
 {
     light_cuts();
     smaller_sizes();
@@ -51,7 +54,8 @@ pub fn lawful_prints_are_greatest()
 /// each step of one of them, and no more was sent than may be, it is so of the other.
 pub fn cuts_change_no_run()
     ensures events { (turns others : List Turn) → DifferInCuts turns others → events_of turns ≡ events_of others }
-    ensures states { (s : State) (turns others : List Turn) → DifferInCuts turns others → (n : ℕ) → run s (take n turns) ≡ run s (take n others) }
+    ensures states { (s : State) (turns others : List Turn) → DifferInCuts turns others →
+        (n : ℕ) → run s (take n turns) ≡ run s (take n others) }
     ensures end { (s : State) (turns others : List Turn) → DifferInCuts turns others → run s turns ≡ run s others }
     ensures go_on { (s : State) (turns others : List Turn) → DifferInCuts turns others → AllGoOn s turns → AllGoOn s others }
 {}
@@ -59,8 +63,8 @@ pub fn cuts_change_no_run()
 /// Where each layout that a transcript prints is lawful, and the roles that its lines say were staged are those of the run, the
 /// run that is given these layouts differs from a replay in nothing but cuts.
 pub fn printed_turns_are_played()
-    ensures { (events : List Numbered) (saids : List Said) (turns : List Turn) → AreScheduled events → AllByRecursion IsLawfulPrint (all_prints events saids) →
-        ArePrinted events (all_prints events saids) turns → AreStagedSo (all_prints events saids) start turns → (others : List Turn) × (DifferInCuts turns others × ArePlayed others) }
+    ensures { (events : List Numbered) (saids : List Said) (turns : List Turn) → AreRightlyGiven events saids turns →
+        (others : List Turn) × (DifferInCuts turns others × ArePlayed others) }
 {
     lawful_prints_are_greatest();
 }
@@ -68,8 +72,7 @@ pub fn printed_turns_are_played()
 /// And what is promised of replays holds of it: at each moment of the replay beside it, whose states are its own, and of its
 /// records.
 pub fn printed_turns_keep_promises()
-    ensures { (events : List Numbered) (saids : List Said) (turns : List Turn) → AreScheduled events → AllByRecursion IsLawfulPrint (all_prints events saids) →
-        ArePrinted events (all_prints events saids) turns → AreStagedSo (all_prints events saids) start turns → IsKeptBeside turns }
+    ensures { (events : List Numbered) (saids : List Said) (turns : List Turn) → AreRightlyGiven events saids turns → IsKeptBeside turns }
 {
     printed_turns_are_played();
     promises_are_kept();
@@ -78,7 +81,8 @@ pub fn printed_turns_keep_promises()
 /// A printed layout is one that can be given: so runs of the same events that are given the same prints lead to one state and
 /// have one text, as long as each apply that comes to a layout has one printed.
 pub fn prints_fix_runs()
-    ensures { (ps : List Print) (s : State) (turns others : List Turn) → events_of turns ≡ events_of others → AreGiven ps s turns → AreGiven ps s others → HavePrints ps s turns →
+    ensures { (ps : List Print) (s : State) (turns others : List Turn) → events_of turns ≡ events_of others →
+        AreGiven ps s turns → AreGiven ps s others → HavePrints ps s turns →
         (run s turns ≡ run s others) × (turns_text s turns ≡ turns_text s others) }
 {}
 
@@ -106,8 +110,8 @@ pub fn other_lines_are_whole()
 /// Where the lines of a run's own text can be read, and no key and no zone's name that it tells holds a line feed, what they say
 /// tells of each event in its turn whether it was accepted.
 pub fn texts_tell_turns()
-    ensures { (events : List Numbered) (turns : List Turn) (saids : List Said) (history : List Record) → AreNumbered (events_of turns) → TellUnbroken start turns →
-        AreReadable events (lines_of (transcript turns)) saids history → TellTurns start turns saids }
+    ensures { (events : List Numbered) (turns : List Turn) (saids : List Said) (history : List Record) →
+        AreNumbered (events_of turns) → TellUnbroken start turns → AreReadable events (lines_of (transcript turns)) saids history → TellTurns start turns saids }
 {
     other_lines_are_whole();
 }
@@ -121,7 +125,8 @@ pub fn schedules_ascend()
 /// prints, and its account is fresh; and where no key and no zone's name that they tell holds a line feed, what is promised of a
 /// replay holds beside these turns.
 pub fn audited_transcripts_keep_promises()
-    ensures { (input text : List ℕ) (events : List Numbered) (pairs : ℕ) → IsSchedule input events → Finds events text (ok pairs) → IsAudited events text pairs }
+    ensures { (input text : List ℕ) (events : List Numbered) (pairs : ℕ) → IsSchedule input events →
+        Finds events text (ok pairs) → IsAudited events text pairs }
 {
     schedules_are_within_limits();
     schedules_ascend();

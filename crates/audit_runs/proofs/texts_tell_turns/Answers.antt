@@ -1,11 +1,8 @@
-use Rattle.std.specs.Prelude.{ℕ, List, length}
-use Rattle.history_model.specs.declared.record.Record.{Record}
-use Rattle.store_model.specs.declared.event.Numbered.{Numbered}
+use Rattle.std.specs.Prelude.{length}
 use Rattle.store_model.specs.Run.{start}
-use Rattle.store_model.specs.Events.{Turn, run}
+use Rattle.store_model.specs.Events.{run}
 use Rattle.text_model.specs.Grammar.{lines_of}
 use Rattle.text_model.specs.Transcript.{transcript, tail_text}
-use Rattle.audit_model.specs.declared.said.Said.{Said}
 use Rattle.audit_model.specs.Heard.{nothing_heard}
 use Rattle.audit_runs.proofs.Texts.{all_say, tell_others, text_tells}
 use Rattle.audit_runs.proofs.Tails.{tail_is}
