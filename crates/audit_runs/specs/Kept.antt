@@ -9,7 +9,7 @@ use Rattle.store_anchors.specs.Promises.{WalksAreClear, KeepsPromises}
 use Rattle.text_model.specs.Played.{ArePlayed}
 use Rattle.audit_runs.specs.Alike.{DifferInCuts}
 
--- turns of a replay differ from these in nothing but cuts, and have their states; at each moment of that replay, within drains too, all that is promised holds; and the records of these turns are fresh, where no digests of its walks or of buckets' names clash
+-- turns of a replay differ from these in nothing but cuts, so the states are theirs; at each moment of that replay, within drains too, all that is promised holds; and the records of these turns are fresh, where no digests of its walks or of buckets' names clash
 pub record IsKeptBeside (turns : List Turn) : Type 0 where
   pub others : List Turn
   pub differ : DifferInCuts turns others
