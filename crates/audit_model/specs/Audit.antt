@@ -45,6 +45,13 @@ pub record ArePrinted (events : List Numbered) (ps : List Print) (turns : List T
   pub given : AreGiven ps start turns
   pub go_on : AllGoOn start turns
 
+-- these turns are the first of the events, given the printed layouts, and after each of their steps a replay goes on
+pub record AreFirstPrinted (events : List Numbered) (ps : List Print) (turns : List Turn) : Type 0 where
+  pub given : AreGiven ps start turns
+  pub go_on : AllGoOn start turns
+  pub later : List Numbered
+  pub whole : events ≡ events_of turns ++ later
+
 -- these turns of the events are whole, and in the next one the first step after which a replay doesn't go on has sent too much
 pub record IsCutOff (events : List Numbered) (ps : List Print) (before : List Turn) : Type 0 where
   pub given : AreGiven ps start before
@@ -90,8 +97,8 @@ pub data Finds (events : List Numbered) (text : List ℕ) : Finding → Type 0 w
   not_lawful : (saids : List Said) (h : List Record) (k : ℕ) → AreReadable events (lines_of text) saids h → Fresh h → IsUnlawful (all_prints events saids) k → Finds events text (unlawful k)
   other_text : (saids : List Said) (h : List Record) (turns : List Turn) (k : ℕ) → AreReadable events (lines_of text) saids h → Fresh h → AllByRecursion IsLawfulPrint (all_prints events saids) →
       ArePrinted events (all_prints events saids) turns → DifferFirst (lines_of text) (lines_of (transcript turns)) k → Finds events text (differs k)
-  other_before : (saids : List Said) (h : List Record) (before : List Turn) (k : ℕ) → AreReadable events (lines_of text) saids h → Fresh h → AllByRecursion IsLawfulPrint (all_prints events saids) →
-      IsCutOff events (all_prints events saids) before → DifferFirst (lines_of text) (lines_of (turns_text start before)) k → k ≤ length (lines_of (turns_text start before)) → Finds events text (differs k)
+  other_before : (saids : List Said) (h : List Record) (turns : List Turn) (k : ℕ) → AreReadable events (lines_of text) saids h → Fresh h → AllByRecursion IsLawfulPrint (all_prints events saids) →
+      AreFirstPrinted events (all_prints events saids) turns → DifferFirst (lines_of text) (lines_of (turns_text start turns)) k → k ≤ length (lines_of (turns_text start turns)) → Finds events text (differs k)
   past_limit : (saids : List Said) (h : List Record) (before : List Turn) (more : List (List ℕ)) → AreReadable events (lines_of text) saids h → Fresh h → AllByRecursion IsLawfulPrint (all_prints events saids) →
       IsCutOff events (all_prints events saids) before → lines_of text ≡ lines_of (turns_text start before) ++ more → Finds events text too_much
   all_well : (saids : List Said) (h : List Record) (turns : List Turn) → AreReadable events (lines_of text) saids h → Fresh h → AllByRecursion IsLawfulPrint (all_prints events saids) →
