@@ -1,5 +1,5 @@
 -- What account of requests the lines of a transcript give, and the first line that can't be read.
-use Rattle.std.specs.Prelude.{◌≡◌, ◌&&◌, ◌==◌, ℕ, zero, suc, ◌-◌, Bool, true, false, if◌then◌else◌, cond, length, Option, Some, None, List, [], ◌∷◌, ◌++◌}
+use Rattle.std.specs.Prelude.{◌≡◌, ◌<◌, ◌&&◌, ◌==◌, ℕ, zero, suc, ◌-◌, Bool, true, false, if◌then◌else◌, cond, ⊤, length, Option, Some, None, List, [], ◌∷◌, ◌++◌}
 use Rattle.cluster_machine.specs.declared.line.DoneWord.{DoneWord}
 use Rattle.cluster_machine.specs.declared.line.DoneWord.TheVariants as done
 use Rattle.cluster_machine.specs.declared.line.EndWord.{EndWord}
@@ -52,6 +52,11 @@ asking_of event = None
 abbrev pub event_at : List Numbered → ℕ → List ℕ → Option Event
 event_at [] line name = None
 event_at (e ∷ es) line name = if (e.line == line) && same_bytes (name_of e.event) name then Some e.event else event_at es line name
+
+-- each event stands in a later line of the schedule than those before it, and than this line
+abbrev pub AscendFrom : ℕ → List Numbered → Type 0
+AscendFrom line [] = ⊤
+AscendFrom line (e ∷ es) = (line < e.line) × AscendFrom e.line es
 
 -- the words that an accepted event may answer with, but a request
 abbrev pub is_answer : Event → Words → Bool

@@ -5,7 +5,7 @@ use Rattle.store_model.specs.declared.event.Event.{Event}
 use Rattle.store_model.specs.declared.event.Numbered.{Numbered}
 use Rattle.text_model.specs.Grammar.{is_blank, lines_of}
 use Rattle.text_model.specs.Reading.{event_of, Reading, schedule, bad_line, too_many, events_limit, event_before, event_among, line_before, reading_from, IsSchedule}
-use Rattle.audit_runs.specs.Told.{AscendFrom}
+use Rattle.audit_model.specs.Heard.{AscendFrom}
 
 -- events that were read stand behind line m, and ascend
 abbrev Ascend : ℕ → Reading → Type 0

@@ -7,7 +7,7 @@ use Rattle.store_model.specs.Events.{Turn, events_of}
 use Rattle.history_model.specs.declared.record.Record.{Record}
 use Rattle.text_model.specs.Grammar.{lines_of}
 use Rattle.text_model.specs.Transcript.{transcript}
-use Rattle.audit_model.specs.Heard.{AreReadable}
+use Rattle.audit_model.specs.Heard.{AreReadable, AscendFrom}
 use Rattle.text_model.specs.Played.{AreScheduled}
 use Rattle.audit_model.specs.declared.said.Said.{Said}
 use Rattle.audit_model.specs.Printed.{all_prints}
@@ -15,7 +15,7 @@ use Rattle.audit_model.specs.Audit.{Finding, ok, Finds, not_read, not_fresh, not
 use Rattle.audit_runs.specs.Alike.{AreStagedSo}
 use Rattle.audit_runs.specs.Given.{AreRightlyGiven}
 use Rattle.audit_runs.specs.Kept.{IsKeptBeside}
-use Rattle.audit_runs.specs.Told.{AscendFrom, TellTurns}
+use Rattle.audit_runs.specs.Told.{TellTurns}
 use Rattle.audit_runs.specs.Whole.{AreNumbered, TellUnbroken}
 use Rattle.audit_runs.specs.Audited.{IsAudited}
 

@@ -14,10 +14,10 @@ use Rattle.audit_model.specs.declared.said.Told.{Told}
 use Rattle.audit_model.specs.declared.said.Told.TheVariants.{Accepted, Refused}
 use Rattle.audit_model.specs.declared.said.Said.{Said}
 use Rattle.audit_model.specs.declared.said.Said.TheVariants as said
-use Rattle.audit_model.specs.Heard.{event_at}
+use Rattle.audit_model.specs.Heard.{event_at, AscendFrom}
 use Rattle.audit_model.specs.Printed.{Staged, Print, stages_if, print_of, prints, print_at, all_prints}
 use Rattle.audit_runs.specs.Alike.{staged_in, IsStagedSo, AreStagedSo}
-use Rattle.audit_runs.specs.Told.{stages_by, IsOther, IsAnswerTo, TellsEvent, TellTurns, AscendFrom}
+use Rattle.audit_runs.specs.Told.{stages_by, IsOther, IsAnswerTo, TellsEvent, TellTurns}
 use Rattle.audit_runs.proofs.Prints.{IsFrom, all_both, all_more, print_of_is}
 
 -- what is staged after an event

@@ -1,5 +1,5 @@
 -- What the lines of a run say of its events, read back.
-use Rattle.std.specs.Prelude.{◌≡◌, ◌<◌, ℕ, ⊤, Option, Some, None, List, [], ◌∷◌, ◌++◌}
+use Rattle.std.specs.Prelude.{◌≡◌, ℕ, ⊤, Option, Some, None, List, [], ◌∷◌, ◌++◌}
 use Rattle.std.specs.List.{AllByRecursion}
 use Rattle.layout_roles.specs.declared.cut.Cut.{Cut}
 use Rattle.cluster_machine.specs.declared.step.Refusal.{Refusal}
@@ -43,8 +43,3 @@ abbrev pub TellTurns : State → List Turn → List Said → Type 0
 TellTurns s [] saids = AllByRecursion IsOther saids
 TellTurns s (t ∷ ts) saids =
     let o = outcome_of s t in (first : List Said) × ((rest : List Said) × ((saids ≡ first ++ rest) × (TellsEvent t.numbered o first × TellTurns o.state ts rest)))
-
--- each event stands in a later line of the schedule than those before it, and than this line
-abbrev pub AscendFrom : ℕ → List Numbered → Type 0
-AscendFrom line [] = ⊤
-AscendFrom line (e ∷ es) = (line < e.line) × AscendFrom e.line es

@@ -19,7 +19,7 @@ ghost use Rattle.text_model.specs.Played.{AllGoOn, ArePlayed, AreScheduled};
 ghost use Rattle.audit_model.specs.declared.said.Said.{Said};
 ghost use Rattle.audit_model.specs.Printed.{Staged, Printed, IsLawful, IsOfPrint, Print, all_prints, IsLawfulPrint};
 ghost use Rattle.audit_model.specs.Audit.{AreGiven, ArePrinted, ok, Finds};
-ghost use Rattle.audit_model.specs.Heard.{AreReadable};
+ghost use Rattle.audit_model.specs.Heard.{AscendFrom, AreReadable};
 ghost use Rattle.text_model.specs.Grammar.{lines_of};
 ghost use Rattle.text_model.specs.Transcript.{line_text, turns_text, transcript};
 ghost use Rattle.text_model.specs.Reading.{IsSchedule};
@@ -28,7 +28,7 @@ ghost use Rattle.audit_runs.specs.Given.{AreRightlyGiven};
 ghost use Rattle.audit_runs.specs.Fixed.{HavePrints};
 ghost use Rattle.audit_runs.specs.Kept.{IsKeptBeside};
 ghost use Rattle.audit_runs.specs.Audited.{IsAudited};
-ghost use Rattle.audit_runs.specs.Told.{stages_by, AscendFrom, TellTurns};
+ghost use Rattle.audit_runs.specs.Told.{stages_by, TellTurns};
 ghost use Rattle.audit_runs.specs.Whole.{IsOtherLines, AreNumbered, IsUnbroken, TellUnbroken};
 
 use layout_flow::light_cuts;
