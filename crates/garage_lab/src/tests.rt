@@ -5,7 +5,7 @@ use std::alloc::Global;
 use std::test::Fail;
 
 const USAGE: &[u8] =
-    b"usage: garage_lab layout | replay [--check] | k2v | workload N SEED | serve PORT COUNT\n";
+    b"usage: garage_lab layout | replay [--check] | audit | k2v | workload N SEED | serve PORT COUNT\n";
 
 /// The status and the bytes of a run with these words over this input, with no connection to come.
 fn answered(alloc: Global, words: &[&str], input: &[u8]) -> Result<(Status, Vec<u8>), Fail> {

@@ -12,4 +12,4 @@ pub data Ends (is : Status) (text : List ℕ) (result : Status) (old new : Optio
 
 -- the words that the programs know
 abbrev pub usage_line : List ℕ
-usage_line = codes "usage: garage_lab layout | replay [--check] | k2v | workload N SEED | serve PORT COUNT" ++ 10 ∷ []
+usage_line = codes "usage: garage_lab layout | replay [--check] | audit | k2v | workload N SEED | serve PORT COUNT" ++ 10 ∷ []

@@ -49,7 +49,7 @@ pub fn usage<O: Sink>(output: &mut O) -> Status
     ensures steady { (result ≡ Status.WriteFault) ⊎ (O.faults output.new ≡ O.faults output.old) }
 {
     let usage =
-        b"usage: garage_lab layout | replay [--check] | k2v | workload N SEED | serve PORT COUNT\n";
+        b"usage: garage_lab layout | replay [--check] | audit | k2v | workload N SEED | serve PORT COUNT\n";
     ends(output, usage, Status::Usage)
 }
 
