@@ -1,42 +1,14 @@
 //! The lines of a schedule over items, one by one.
-ghost use Rattle.std.specs.Prelude.{◌≡◌, ◌==◌, ◌<◌, ℕ, ◌∷◌, length, position, IfOk, OnOk};
-ghost use Rattle.text_model.specs.Grammar.{lines_of, is_blank};
+ghost use Rattle.std.specs.Prelude.{◌≡◌, ℕ, length, IfOk, OnOk};
+ghost use Rattle.text_model.specs.Grammar.{is_blank};
 ghost use Rattle.k2v_text.specs.Schedule.{IsSchedule, IsFirstBadLine, HasTooManyEvents};
 ghost use Rattle.k2v_lines.specs.Schedule.{AddsEvent, IsBad, IsOver};
 
 use crate::line::item_line;
 use crdt_core::List;
 use k2v_text::NumberedItemEvent;
-use schedule_text::{EVENTS_LIMIT, ScheduleFault};
+use schedule_text::{EVENTS_LIMIT, ScheduleFault, first_line, is_blank};
 use std::alloc::Global;
-
-fn line_feed(text: &[u8]) -> Option<usize>
-    ensures { result ≡ position (λ b. b == 10) text.now }
-{
-    text.iter().position(|byte| *byte == b'\n')
-}
-
-/// The first line, without its line feed, and what follows it.
-fn cut(text: &[u8]) -> (&[u8], &[u8])
-    requires { 0 < length text.now }
-    ensures lines { lines_of text.now ≡ result.0.now ∷ lines_of result.1.now }
-    ensures shorter { length result.1.now < length text.now }
-{
-    match line_feed(text) {
-        Some(end) => (&text[..end], &text[end + 1..]),
-        None => (text, &[]),
-    }
-}
-
-/// An empty line or a comment.
-fn is_blank(line: &[u8]) -> bool
-    ensures { result ≡ is_blank line.now }
-{
-    match line {
-        [] => true,
-        [first, ..] => *first == b'#',
-    }
-}
 
 /// Adds the event that a line spells, where it isn't blank and there is room.
 fn read_line(
@@ -73,7 +45,7 @@ pub fn parse_items(alloc: Global, text: &[u8]) -> Result<List<NumberedItemEvent>
     let mut rest = text;
     let mut number = 0;
     while !rest.is_empty() {
-        let (line, after) = cut(rest);
+        let (line, after) = first_line(rest);
         number += 1;
         read_line(alloc, number, line, &mut events)?;
         rest = after;

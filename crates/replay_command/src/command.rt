@@ -18,8 +18,8 @@ use replay_run::{Account, first_turns_go_further, lawful_turns_end_once, no_repl
 use std::alloc::Global;
 use store_anchors::promises_are_kept;
 
-/// What is said of the first line outside the grammar.
-fn bad_line(alloc: Global, line: u64) -> Result<Bytes, Memory>
+/// What is said of the first line outside the grammar, by its number.
+pub fn bad_line(alloc: Global, line: u64) -> Result<Bytes, Memory>
     ensures text { IfOk result (λ text. text ≡ bad_line_text line) }
     ensures want { OnlyWant result }
 {

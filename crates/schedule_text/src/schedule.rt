@@ -19,8 +19,8 @@ fn line_feed(text: &[u8]) -> Option<usize>
     text.iter().position(|byte| *byte == b'\n')
 }
 
-/// The first line, without its line feed, and what follows it.
-fn cut(text: &[u8]) -> (&[u8], &[u8])
+/// The first line of a text, without its line feed, and what follows it.
+pub fn first_line(text: &[u8]) -> (&[u8], &[u8])
     requires { 0 < length text.now }
     ensures lines { lines_of text.now ≡ result.0.now ∷ lines_of result.1.now }
     ensures shorter { length result.1.now < length text.now }
@@ -31,8 +31,8 @@ fn cut(text: &[u8]) -> (&[u8], &[u8])
     }
 }
 
-/// An empty line or a comment.
-fn is_blank(line: &[u8]) -> bool
+/// Whether a line is empty or a comment.
+pub fn is_blank(line: &[u8]) -> bool
     ensures { result ≡ is_blank line.now }
 {
     match line {
@@ -82,7 +82,7 @@ pub fn parse(alloc: Global, text: &[u8]) -> Result<List<Numbered>, ScheduleFault
     let mut rest = text;
     let mut number = 0;
     while !rest.is_empty() {
-        let (line, after) = cut(rest);
+        let (line, after) = first_line(rest);
         number += 1;
         read_line(alloc, number, line, &mut events)?;
         rest = after;

@@ -11,17 +11,17 @@ pub returns-in_err-read_line-clause-bad_line : goal.returns-in_err-read_line-cla
 returns-in_err-read_line-clause-bad_line c =
     let p = err_from_is_err_and c.from_residual.result c.from_residual.ensures.1 in
     λ n e.
-    bad_at c.args.text.now c.loop-rest.rest.now c.cut.result.0.now c.cut.result.1.now c.loop-rest.number c.loop-rest.events c.loop-rest.invariant c.cut.ensures.lines n (c.in_err-read_line.ensures.bad n (ap Err (same_fault c.from_residual.result p.0 c.in_err-read_line.field-0.0 _ p.1 p.2 e)))
+    bad_at c.args.text.now c.loop-rest.rest.now c.first_line.result.0.now c.first_line.result.1.now c.loop-rest.number c.loop-rest.events c.loop-rest.invariant c.first_line.ensures.lines n (c.in_err-read_line.ensures.bad n (ap Err (same_fault c.from_residual.result p.0 c.in_err-read_line.field-0.0 _ p.1 p.2 e)))
 
 pub returns-in_err-read_line-clause-too_many : goal.returns-in_err-read_line-clause-too_many
 returns-in_err-read_line-clause-too_many c =
     let p = err_from_is_err_and c.from_residual.result c.from_residual.ensures.1 in
     λ e.
-    over_at c.args.text.now c.loop-rest.rest.now c.cut.result.0.now c.cut.result.1.now c.loop-rest.number c.loop-rest.events c.loop-rest.invariant c.cut.ensures.lines (c.in_err-read_line.ensures.over (ap Err (same_fault c.from_residual.result p.0 c.in_err-read_line.field-0.0 _ p.1 p.2 e)))
+    over_at c.args.text.now c.loop-rest.rest.now c.first_line.result.0.now c.first_line.result.1.now c.loop-rest.number c.loop-rest.events c.loop-rest.invariant c.first_line.ensures.lines (c.in_err-read_line.ensures.over (ap Err (same_fault c.from_residual.result p.0 c.in_err-read_line.field-0.0 _ p.1 p.2 e)))
 
 pub loop-rest-preserved : goal.loop-rest-preserved
 loop-rest-preserved c =
-    reading_more c.args.text.now c.loop-rest.rest.now c.cut.result.0.now c.cut.result.1.now c.loop-rest.number c.loop-rest.events c.loop-rest.invariant c.cut.ensures.lines c.read_line.new.events c.cut.ensures.shorter c.in_ok-read_line.ensures.ok
+    reading_more c.args.text.now c.loop-rest.rest.now c.first_line.result.0.now c.first_line.result.1.now c.loop-rest.number c.loop-rest.events c.loop-rest.invariant c.first_line.ensures.lines c.read_line.new.events c.first_line.ensures.shorter c.in_ok-read_line.ensures.ok
 
 pub returns-clause-events : goal.returns-clause-events
 returns-clause-events c =

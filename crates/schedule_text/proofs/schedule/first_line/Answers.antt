@@ -1,7 +1,7 @@
 use Rattle.std.proofs.Common.{add-one}
 use Rattle.std.proofs.lemmas.List.{take_rest}
 use Rattle.schedule_text.proofs.FirstLine.{cut_some, cut_none}
-use Rattle.schedule_text.proofs.schedule.cut.Goals as goal
+use Rattle.schedule_text.proofs.schedule.first_line.Goals as goal
 
 pub returns-in-Some-clause-lines : goal.returns-in-Some-clause-lines
 returns-in-Some-clause-lines c =
