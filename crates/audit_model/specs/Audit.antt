@@ -19,9 +19,13 @@ use Rattle.text_model.specs.Transcript.{turns_text, transcript}
 use Rattle.text_model.specs.Played.{sent_limit, Step, steps_of, HasSent, GoesOn, AllGoOn}
 use Rattle.audit_model.specs.declared.said.Said.{Said}
 use Rattle.audit_model.specs.Heard.{AreReadable, IsUnreadable}
-use Rattle.audit_model.specs.Printed.{Print, all_prints, IsLawfulPrint, IsUnlawful, print_at, IsOfPrint}
+use Rattle.audit_model.specs.Printed.{Staged, Print, all_prints, IsLawfulPrint, IsUnlawful, print_at, IsOfPrint}
 
 -- ---- the run
+
+-- what is staged in a state
+abbrev pub staged_in : State → Staged
+staged_in s = record { roles = s.world.roles; wanted = s.world.redundancy }
 
 -- an apply in which a layout is computed is given the printed one, and another event nothing
 abbrev pub IsOfPrinted : State → Event → Decision → Print → Type 0
@@ -29,10 +33,15 @@ IsOfPrinted s (Apply n) (given l shown) p = cond (comes_to_layout s.world n) (Is
 IsOfPrinted s (Apply n) (none_given refusal) p = cond (comes_to_layout s.world n) ⊥ ⊤
 IsOfPrinted s event choice p = IsNone choice
 
--- an apply is given the layout that the transcript prints for it; where it prints none, what is computed from the staged roles
+-- an apply for which this layout is printed is given it, where it is of what is staged; else what is computed from the staged roles
+pub data IsGivenFor (s : State) (t : Turn) (p : Print) : Type 0 where
+  as_printed : p.staged ≡ staged_in s → IsOfPrinted s t.numbered.event t.choice p → IsGivenFor s t p
+  as_computed : (p.staged ≡ staged_in s → ⊥) → IsLawfulAct s (act_of_turn t) → IsGivenFor s t p
+
+-- an event is given what the transcript prints for it; where it prints nothing, what is computed
 abbrev pub IsGiven : State → Turn → Option Print → Type 0
 IsGiven s t None = IsLawfulAct s (act_of_turn t)
-IsGiven s t (Some p) = IsOfPrinted s t.numbered.event t.choice p
+IsGiven s t (Some p) = IsGivenFor s t p
 
 -- each of these events is given so
 abbrev pub AreGiven : List Print → State → List Turn → Type 0

@@ -5,7 +5,8 @@ use Rattle.cluster_machine.specs.Choices.{Decision}
 use Rattle.cluster_machine.specs.Step.{given, none_given}
 use Rattle.store_model.specs.Run.{State}
 use Rattle.store_model.specs.Events.{Turn, after}
-use Rattle.audit_model.specs.Printed.{Staged, Print, print_at}
+use Rattle.audit_model.specs.Printed.{Print, print_at}
+use Rattle.audit_model.specs.Audit.{staged_in}
 
 -- ---- cuts
 
@@ -29,10 +30,6 @@ DifferInCuts (t ∷ ts) (u ∷ us) = (t.numbered ≡ u.numbered) × DifferInCut 
 DifferInCuts turns others = ⊥
 
 -- ---- what is staged
-
--- what is staged in a state
-abbrev pub staged_in : State → Staged
-staged_in s = record { roles = s.world.roles; wanted = s.world.redundancy }
 
 -- where a layout is printed, what its lines say was staged is what is staged here
 abbrev pub IsStagedSo : State → Option Print → Type 0
