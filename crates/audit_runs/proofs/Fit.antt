@@ -30,7 +30,7 @@ drained_fit (suc n) s =
           fit_both s.world o.moves (drains n o.state).moves h.0.fits (subst (λ w. FitAll any_join words w (drains n o.state).moves) (sym (delivers_lead s m)) (drained_fit n o.state h.1))
     ]
 
-event_fits : (s : State) (event : Event) (choice : Decision) → AllByRecursion GoesOn (steps_of s event choice) → FitAll any_join words s.world (outcome s event choice).moves
+pub event_fits : (s : State) (event : Event) (choice : Decision) → AllByRecursion GoesOn (steps_of s event choice) → FitAll any_join words s.world (outcome s event choice).moves
 event_fits s (Drain n) choice h = drained_fit n s h
 event_fits s event choice h = h.0.fits
 

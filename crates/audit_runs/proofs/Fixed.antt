@@ -29,7 +29,7 @@ use Rattle.store_model.specs.Events.{Turn, outcome, outcome_of, after, events_of
 use Rattle.text_model.specs.Grammar.{name_of}
 use Rattle.text_model.specs.Transcript.{told_text, event_text, turns_text}
 use Rattle.audit_model.specs.Printed.{Printed, Print, IsOfPrint, print_at}
-use Rattle.audit_model.specs.Audit.{IsOfPrinted, IsGiven, AreGiven}
+use Rattle.audit_model.specs.Audit.{staged_in, IsOfPrinted, IsGivenFor, as_printed, as_computed, IsGiven, AreGiven}
 use Rattle.audit_runs.specs.Fixed.{HasPrint, HavePrints}
 
 same_roles : (a b : Roles) → a.list ≡ b.list → a ≡ b
@@ -133,9 +133,22 @@ by_effect s n c d same = record {
 abbrev turned : Numbered → Decision → Turn
 turned e c = record { numbered = e; choice = c }
 
+-- a layout that is printed for what is staged is given
+as_staged : (s : State) (t : Turn) (p : Print) → p.staged ≡ staged_in s → IsGivenFor s t p → IsOfPrinted s t.numbered.event t.choice p
+as_staged s t p so (as_printed same is) = is
+as_staged s t p so (as_computed other is) = absurd (other so)
+
+apply_fixed : (s : State) (line n : ℕ) (c d : Decision) (p : Print) → (let e : Numbered = record { line = line; event = Apply n } in IsGivenFor s (turned e c) p → IsGivenFor s (turned e d) p → HasPrint s (Apply n) (Some p) → IsFixed s (Apply n) c d)
+apply_fixed s line n c d p h k has =
+    let e : Numbered = record { line = line; event = Apply n } in
+    elim (comes_to_layout s.world n) as (λ b. comes_to_layout s.world n ≡ b → IsFixed s (Apply n) c d) [
+      | true ↦ λ comes. by_effect s n c d (effect_fixed s n c d p (as_staged s (turned e c) p (has comes) h) (as_staged s (turned e d) p (has comes) k))
+      | false ↦ λ early_on. by_effect s n c d (early s n c d early_on)
+    ] refl
+
 event_fixed : (s : State) (line : ℕ) (e : Event) (c d : Decision) (o : Option Print) → IsGiven s (turned (record { line = line; event = e }) c) o → IsGiven s (turned (record { line = line; event = e }) d) o → HasPrint s e o → IsFixed s e c d
 event_fixed s line (Apply n) c d None h k has = by_effect s n c d (early s n c d has)
-event_fixed s line (Apply n) c d (Some p) h k has = by_effect s n c d (effect_fixed s n c d p h k)
+event_fixed s line (Apply n) c d (Some p) h k has = apply_fixed s line n c d p h k has
 event_fixed s line Trio c d o h k has = record { state = refl; told = λ line name. refl }
 event_fixed s line (Block size) c d o h k has = record { state = refl; told = λ line name. refl }
 event_fixed s line (Bucket name) c d o h k has = record { state = refl; told = λ line name. refl }

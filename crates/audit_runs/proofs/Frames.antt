@@ -40,7 +40,7 @@ use Rattle.store_model.specs.Orders.{buckets_of}
 use Rattle.store_model.specs.Run.{State, Asked, Draw, Outcome, Moving, plainly, doing, silent, refusal, are_buckets, phases, opened, begins, draws_of, takes, follows, follow, goes_on, effect, delivers, then_drains, drains}
 use Rattle.store_model.specs.Events.{object_bytes, outcome}
 use Rattle.audit_model.specs.Printed.{Staged, stages}
-use Rattle.audit_runs.specs.Alike.{staged_in}
+use Rattle.audit_model.specs.Audit.{staged_in}
 use Rattle.audit_runs.specs.Told.{stages_by}
 
 -- the step stages nothing

@@ -1,5 +1,5 @@
 -- Turns that are given layouts as they are printed have turns beside them that are given what is computed.
-use Rattle.std.proofs.Common.{◌≡◌, ◌≤◌, ℕ, suc, true, false, cond, length, IsTrue, Option, Some, None, List, [], ◌∷◌, refl, sym, subst, arith}
+use Rattle.std.proofs.Common.{◌≡◌, ◌≤◌, ℕ, suc, true, false, cond, length, IsTrue, Option, Some, None, List, [], ◌∷◌, ◌++◌, append-nil, refl, sym, subst, ◌∙◌, arith}
 use Rattle.std.specs.Prelude.{⊤, IfSome}
 use Rattle.std.specs.List.{AllByRecursion}
 use Rattle.layout_roles.specs.declared.redundancy.Redundancy.TheVariants.{AtLeast, Maximum}
@@ -17,11 +17,11 @@ use Rattle.store_model.specs.Acts.{IsLawfulAct}
 use Rattle.store_model.specs.Events.{Turn, act_of, after, events_of}
 use Rattle.store_model.specs.Turns.{AreLawful}
 use Rattle.text_model.specs.Grammar.{IsAllowed, is_key}
-use Rattle.text_model.specs.Played.{AreAllowed, ArePlayed}
+use Rattle.text_model.specs.Played.{AreAllowed, ArePlayed, AreScheduled}
 use Rattle.audit_model.specs.Printed.{Staged, Printed, IsLawful, IsOfPrint, Print, print_at, all_prints, IsLawfulPrint}
 use Rattle.audit_model.specs.declared.said.Said.{Said}
-use Rattle.audit_model.specs.Audit.{IsOfPrinted, IsGiven, AreGiven}
-use Rattle.audit_runs.specs.Alike.{AreSameButCut, DifferInCut, DifferInCuts, staged_in, IsStagedSo, AreStagedSo}
+use Rattle.audit_model.specs.Audit.{staged_in, IsOfPrinted, as_printed, as_computed, IsGiven, AreGiven, ArePrinted, AreFirstPrinted}
+use Rattle.audit_runs.specs.Alike.{AreSameButCut, DifferInCut, DifferInCuts}
 use Rattle.audit_runs.specs.Given.{AreRightlyGiven}
 use Rattle.audit_runs.proofs.Cuts.{turn_alike, go_on_together}
 use Rattle.audit_runs.proofs.Prints.{print_at_is, prints_meant, both_of}
@@ -94,18 +94,19 @@ module _ (computed : PrintsAreComputed) where
   printed_lawful s (Work n) c p allowed is so fine = (c, (differ_in_none c, (tt, tt, tt)))
   printed_lawful s (Repair n) c p allowed is so fine = (c, (differ_in_none c, (tt, tt, tt)))
 
-  turn_lawful : (s : State) (t : Turn) (p : Option Print) → IsAllowed t.numbered.event → IsGiven s t p → IsStagedSo s p → IfSome p IsFine → HasLawful s t.numbered.event t.choice
-  turn_lawful s t None allowed is so fine = (t.choice, (differ_in_none t.choice, is))
-  turn_lawful s t (Some p) allowed is so fine = printed_lawful s t.numbered.event t.choice p allowed is so fine
+  turn_lawful : (s : State) (t : Turn) (p : Option Print) → IsAllowed t.numbered.event → IsGiven s t p → IfSome p IsFine → HasLawful s t.numbered.event t.choice
+  turn_lawful s t None allowed is fine = (t.choice, (differ_in_none t.choice, is))
+  turn_lawful s t (Some p) allowed (as_printed so is) fine = printed_lawful s t.numbered.event t.choice p allowed is so fine
+  turn_lawful s t (Some p) allowed (as_computed other is) fine = (t.choice, (differ_in_none t.choice, is))
 
   -- the same of turns one after the other
-  pub have_lawful : (ps : List Print) → AllByRecursion IsFine ps → (s : State) (turns : List Turn) → AreAllowed turns → AreGiven ps s turns → AreStagedSo ps s turns →
+  pub have_lawful : (ps : List Print) → AllByRecursion IsFine ps → (s : State) (turns : List Turn) → AreAllowed turns → AreGiven ps s turns →
       (others : List Turn) × (DifferInCuts turns others × AreLawful s others)
-  have_lawful ps fine s [] allowed is so = ([], (tt, tt))
-  have_lawful ps fine s (t ∷ ts) allowed is so =
-      let here = turn_lawful s t (print_at ps t.numbered.line) allowed.0 is.0 so.0 (print_at_is IsFine ps t.numbered.line fine) in
+  have_lawful ps fine s [] allowed is = ([], (tt, tt))
+  have_lawful ps fine s (t ∷ ts) allowed is =
+      let here = turn_lawful s t (print_at ps t.numbered.line) allowed.0 is.0 (print_at_is IsFine ps t.numbered.line fine) in
       let u : Turn = record { numbered = t.numbered; choice = here.0 } in
-      let rest = have_lawful ps fine (after s t) ts allowed.1 is.1 so.1 in
+      let rest = have_lawful ps fine (after s t) ts allowed.1 is.1 in
       (u ∷ rest.0, ((refl, here.1.0, rest.1.0), (here.1.1, subst (λ (x : State). AreLawful x rest.0) (turn_alike s t u refl here.1.0).0 rest.1.1)))
 
 -- the turns of events that are allowed are
@@ -113,10 +114,25 @@ allowed_turns : (turns : List Turn) → AllByRecursion (λ (e : Numbered). IsAll
 allowed_turns [] h = tt
 allowed_turns (t ∷ ts) h = (h.0, allowed_turns ts h.1)
 
-pub printed_are_played : PrintsAreComputed → (events : List Numbered) (saids : List Said) (turns : List Turn) → AreRightlyGiven events saids turns → (others : List Turn) × (DifferInCuts turns others × ArePlayed others)
-printed_are_played computed events saids turns h =
+-- those of the first of them are
+first_allowed : (es later : List Numbered) → AllByRecursion (λ (e : Numbered). IsAllowed e.event) (es ++ later) → AllByRecursion (λ (e : Numbered). IsAllowed e.event) es
+first_allowed [] later h = tt
+first_allowed (e ∷ es) later h = (h.0, first_allowed es later h.1)
+
+pub first_turns_allowed : (events : List Numbered) (turns : List Turn) (later : List Numbered) → AreScheduled events → events ≡ events_of turns ++ later → AreAllowed turns
+first_turns_allowed events turns later scheduled whole = allowed_turns turns (first_allowed (events_of turns) later (subst (λ es. AllByRecursion (λ (e : Numbered). IsAllowed e.event) es) whole scheduled.allowed))
+
+pub first_are_played : PrintsAreComputed → (events : List Numbered) (saids : List Said) (turns : List Turn) → AreScheduled events → AllByRecursion IsLawfulPrint (all_prints events saids) →
+    AreFirstPrinted events (all_prints events saids) turns → (others : List Turn) × (DifferInCuts turns others × ArePlayed others)
+first_are_played computed events saids turns scheduled lawful first =
     let ps = all_prints events saids in
-    let fine = both_of IsLawfulPrint (λ (p : Print). IsRedundancy p.staged.wanted) ps h.lawful (prints_meant events saids h.scheduled.allowed) in
-    let allowed = allowed_turns turns (subst (λ es. AllByRecursion (λ (e : Numbered). IsAllowed e.event) es) (sym h.printed.events_are) h.scheduled.allowed) in
-    let found = have_lawful computed ps fine start turns allowed h.printed.given h.staged in
-    (found.0, (found.1.0, record { lawful = found.1.1; go_on = go_on_together start turns found.0 found.1.0 h.printed.go_on }))
+    let fine = both_of IsLawfulPrint (λ (p : Print). IsRedundancy p.staged.wanted) ps lawful (prints_meant events saids scheduled.allowed) in
+    let found = have_lawful computed ps fine start turns (first_turns_allowed events turns first.later scheduled first.whole) first.given in
+    (found.0, (found.1.0, record { lawful = found.1.1; go_on = go_on_together start turns found.0 found.1.0 first.go_on }))
+
+-- turns of all events are the first of them
+pub all_first : (events : List Numbered) (ps : List Print) (turns : List Turn) → ArePrinted events ps turns → AreFirstPrinted events ps turns
+all_first events ps turns printed = record { given = printed.given; go_on = printed.go_on; later = []; whole = sym printed.events_are ∙ sym (append-nil (events_of turns)) }
+
+pub printed_are_played : PrintsAreComputed → (events : List Numbered) (saids : List Said) (turns : List Turn) → AreRightlyGiven events saids turns → (others : List Turn) × (DifferInCuts turns others × ArePlayed others)
+printed_are_played computed events saids turns h = first_are_played computed events saids turns h.scheduled h.lawful (all_first events (all_prints events saids) turns h.printed)

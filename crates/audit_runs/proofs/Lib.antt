@@ -13,3 +13,11 @@ pub mod Texts
 pub mod Tails
 pub mod Tellings
 pub mod Fixed
+pub mod Steps
+pub mod Zones
+pub mod Keys
+pub mod Unbroken
+pub mod Numbers
+pub mod Heads
+pub mod Walk
+pub mod First

@@ -22,56 +22,61 @@ pub record IsFrom (s : Staged) (line : ℕ) (p : Print) : Type 0 where
   pub staged : p.staged ≡ s
   pub line_is : p.line ≡ line
 
+-- the same, behind line k
+pub record IsBehind (s : Staged) (k line : ℕ) (p : Print) : Type 0 where
+  pub from : IsFrom s line p
+  pub place_is : p.place ≡ suc k
+
 -- what follows an event's line prints one layout at most, of what was staged
-pub print_of_is : (s : Staged) (k line : ℕ) (e : Option Event) (told : Told) (saids : List Said) → AllByRecursion (IsFrom s line) (print_of s k line e told saids)
-print_of_is s k line None told saids = tt
-print_of_is s k line (Some Trio) told saids = tt
-print_of_is s k line (Some (Block size)) told saids = tt
-print_of_is s k line (Some (Bucket name)) told saids = tt
-print_of_is s k line (Some (Role n role)) told saids = tt
-print_of_is s k line (Some (Redundancy wanted)) told saids = tt
-print_of_is s k line (Some (Tick ms)) told saids = tt
-print_of_is s k line (Some (Skew n ms)) told saids = tt
-print_of_is s k line (Some (Put n bucket key size fill)) told saids = tt
-print_of_is s k line (Some (Get n bucket key)) told saids = tt
-print_of_is s k line (Some (Head n bucket key)) told saids = tt
-print_of_is s k line (Some (Delete n bucket key)) told saids = tt
-print_of_is s k line (Some (Copy n from_bucket from_key bucket key)) told saids = tt
-print_of_is s k line (Some (Keys n bucket prefix)) told saids = tt
-print_of_is s k line (Some (Deliver m)) told saids = tt
-print_of_is s k line (Some (Lose m)) told saids = tt
-print_of_is s k line (Some (Drain n)) told saids = tt
-print_of_is s k line (Some (Expire q)) told saids = tt
-print_of_is s k line (Some (Restart n)) told saids = tt
-print_of_is s k line (Some (Gossip from to)) told saids = tt
-print_of_is s k line (Some (Ack n)) told saids = tt
-print_of_is s k line (Some (Sync n)) told saids = tt
-print_of_is s k line (Some (SyncAck n)) told saids = tt
-print_of_is s k line (Some (Clean n)) told saids = tt
-print_of_is s k line (Some (Work n)) told saids = tt
-print_of_is s k line (Some (Repair n)) told saids = tt
-print_of_is s k line (Some (Apply n)) (Refused refusal) saids = tt
-print_of_is s k line (Some (Apply n)) (Accepted Empty) saids = tt
-print_of_is s k line (Some (Apply n)) (Accepted (Idle a b)) saids = tt
-print_of_is s k line (Some (Apply n)) (Accepted (Two a b)) saids = tt
-print_of_is s k line (Some (Apply node)) (Accepted (One number)) [] = tt
-print_of_is s k line (Some (Apply node)) (Accepted (One number)) (said.Size size ∷ saids) = (record { staged = refl; line_is = refl }, tt)
-print_of_is s k line (Some (Apply node)) (Accepted (One number)) (said.Event other name told ∷ saids) = tt
-print_of_is s k line (Some (Apply node)) (Accepted (One number)) (said.Redundancy r ∷ saids) = tt
-print_of_is s k line (Some (Apply node)) (Accepted (One number)) (said.Sets first last set ∷ saids) = tt
-print_of_is s k line (Some (Apply node)) (Accepted (One number)) (said.Cut size weight ∷ saids) = tt
-print_of_is s k line (Some (Apply node)) (Accepted (One number)) (said.Side first last up down zones ∷ saids) = tt
-print_of_is s k line (Some (Apply node)) (Accepted (One number)) (said.Nodes nodes ∷ saids) = tt
-print_of_is s k line (Some (Apply node)) (Accepted (One number)) (said.Got m ∷ saids) = tt
-print_of_is s k line (Some (Apply node)) (Accepted (One number)) (said.Sent m kind from to ∷ saids) = tt
-print_of_is s k line (Some (Apply node)) (Accepted (One number)) (said.Synced n v ∷ saids) = tt
-print_of_is s k line (Some (Apply node)) (Accepted (One number)) (said.Done q word answer ∷ saids) = tt
-print_of_is s k line (Some (Apply node)) (Accepted (One number)) (said.Listed q count ∷ saids) = tt
-print_of_is s k line (Some (Apply node)) (Accepted (One number)) (said.Key key version size ∷ saids) = tt
-print_of_is s k line (Some (Apply node)) (Accepted (One number)) (said.Ended q word ∷ saids) = tt
-print_of_is s k line (Some (Apply node)) (Accepted (One number)) (said.Node n rows blocks top ∷ saids) = tt
-print_of_is s k line (Some (Apply node)) (Accepted (One number)) (said.Fresh pairs ∷ saids) = tt
-print_of_is s k line (Some (Apply node)) (Accepted (One number)) (said.End events requests messages ∷ saids) = tt
+pub print_is_behind : (s : Staged) (k line : ℕ) (e : Option Event) (told : Told) (saids : List Said) → AllByRecursion (IsBehind s k line) (print_of s k line e told saids)
+print_is_behind s k line None told saids = tt
+print_is_behind s k line (Some Trio) told saids = tt
+print_is_behind s k line (Some (Block size)) told saids = tt
+print_is_behind s k line (Some (Bucket name)) told saids = tt
+print_is_behind s k line (Some (Role n role)) told saids = tt
+print_is_behind s k line (Some (Redundancy wanted)) told saids = tt
+print_is_behind s k line (Some (Tick ms)) told saids = tt
+print_is_behind s k line (Some (Skew n ms)) told saids = tt
+print_is_behind s k line (Some (Put n bucket key size fill)) told saids = tt
+print_is_behind s k line (Some (Get n bucket key)) told saids = tt
+print_is_behind s k line (Some (Head n bucket key)) told saids = tt
+print_is_behind s k line (Some (Delete n bucket key)) told saids = tt
+print_is_behind s k line (Some (Copy n from_bucket from_key bucket key)) told saids = tt
+print_is_behind s k line (Some (Keys n bucket prefix)) told saids = tt
+print_is_behind s k line (Some (Deliver m)) told saids = tt
+print_is_behind s k line (Some (Lose m)) told saids = tt
+print_is_behind s k line (Some (Drain n)) told saids = tt
+print_is_behind s k line (Some (Expire q)) told saids = tt
+print_is_behind s k line (Some (Restart n)) told saids = tt
+print_is_behind s k line (Some (Gossip from to)) told saids = tt
+print_is_behind s k line (Some (Ack n)) told saids = tt
+print_is_behind s k line (Some (Sync n)) told saids = tt
+print_is_behind s k line (Some (SyncAck n)) told saids = tt
+print_is_behind s k line (Some (Clean n)) told saids = tt
+print_is_behind s k line (Some (Work n)) told saids = tt
+print_is_behind s k line (Some (Repair n)) told saids = tt
+print_is_behind s k line (Some (Apply n)) (Refused refusal) saids = tt
+print_is_behind s k line (Some (Apply n)) (Accepted Empty) saids = tt
+print_is_behind s k line (Some (Apply n)) (Accepted (Idle a b)) saids = tt
+print_is_behind s k line (Some (Apply n)) (Accepted (Two a b)) saids = tt
+print_is_behind s k line (Some (Apply node)) (Accepted (One number)) [] = tt
+print_is_behind s k line (Some (Apply node)) (Accepted (One number)) (said.Size size ∷ saids) = (record { from = record { staged = refl; line_is = refl }; place_is = refl }, tt)
+print_is_behind s k line (Some (Apply node)) (Accepted (One number)) (said.Event other name told ∷ saids) = tt
+print_is_behind s k line (Some (Apply node)) (Accepted (One number)) (said.Redundancy r ∷ saids) = tt
+print_is_behind s k line (Some (Apply node)) (Accepted (One number)) (said.Sets first last set ∷ saids) = tt
+print_is_behind s k line (Some (Apply node)) (Accepted (One number)) (said.Cut size weight ∷ saids) = tt
+print_is_behind s k line (Some (Apply node)) (Accepted (One number)) (said.Side first last up down zones ∷ saids) = tt
+print_is_behind s k line (Some (Apply node)) (Accepted (One number)) (said.Nodes nodes ∷ saids) = tt
+print_is_behind s k line (Some (Apply node)) (Accepted (One number)) (said.Got m ∷ saids) = tt
+print_is_behind s k line (Some (Apply node)) (Accepted (One number)) (said.Sent m kind from to ∷ saids) = tt
+print_is_behind s k line (Some (Apply node)) (Accepted (One number)) (said.Synced n v ∷ saids) = tt
+print_is_behind s k line (Some (Apply node)) (Accepted (One number)) (said.Done q word answer ∷ saids) = tt
+print_is_behind s k line (Some (Apply node)) (Accepted (One number)) (said.Listed q count ∷ saids) = tt
+print_is_behind s k line (Some (Apply node)) (Accepted (One number)) (said.Key key version size ∷ saids) = tt
+print_is_behind s k line (Some (Apply node)) (Accepted (One number)) (said.Ended q word ∷ saids) = tt
+print_is_behind s k line (Some (Apply node)) (Accepted (One number)) (said.Node n rows blocks top ∷ saids) = tt
+print_is_behind s k line (Some (Apply node)) (Accepted (One number)) (said.Fresh pairs ∷ saids) = tt
+print_is_behind s k line (Some (Apply node)) (Accepted (One number)) (said.End events requests messages ∷ saids) = tt
 
 -- what is asked of each of two lists is asked of both
 pub all_both : (P : Print → Type 0) (ps qs : List Print) → AllByRecursion P ps → AllByRecursion P qs → AllByRecursion P (ps ++ qs)
@@ -81,6 +86,9 @@ all_both P (p ∷ ps) qs h k = (h.0, all_both P ps qs h.1 k)
 pub all_more : (P Q : Print → Type 0) (ps : List Print) → ((p : Print) → P p → Q p) → AllByRecursion P ps → AllByRecursion Q ps
 all_more P Q [] more h = tt
 all_more P Q (p ∷ ps) more h = (more p h.0, all_more P Q ps more h.1)
+
+pub print_of_is : (s : Staged) (k line : ℕ) (e : Option Event) (told : Told) (saids : List Said) → AllByRecursion (IsFrom s line) (print_of s k line e told saids)
+print_of_is s k line e told saids = all_more (IsBehind s k line) (IsFrom s line) (print_of s k line e told saids) (λ p h. h.from) (print_is_behind s k line e told saids)
 
 -- an event that is found is one of the schedule
 event_found : (P : Event → Type 0) (events : List Numbered) → AllByRecursion (λ (e : Numbered). P e.event) events → (line : ℕ) (name : List ℕ) → IfSome (event_at events line name) P

@@ -1,5 +1,5 @@
 -- What lines say was staged, where they say of each event whether it was accepted.
-use Rattle.std.proofs.Common.{◌≡◌, ◌<◌, ◌≤◌, ℕ, suc, Bool, true, false, ◌==◌, ◌&&◌, if◌then◌else◌, Option, Some, None, List, [], ◌∷◌, ◌++◌, refl, sym, ap, subst, ◌∙◌, append_assoc, append-nil, arith, ne_eqb, eq-eqb}
+use Rattle.std.proofs.Common.{◌≡◌, ◌<◌, ◌≤◌, ◌+◌, ℕ, suc, length, Bool, true, false, ◌==◌, ◌&&◌, if◌then◌else◌, Option, Some, None, List, [], ◌∷◌, ◌++◌, refl, sym, ap, subst, ◌∙◌, append_assoc, append-nil, arith, ne_eqb, eq-eqb}
 use Rattle.std.proofs.lemmas.Bool.{and_from}
 use Rattle.std.specs.List.{AllByRecursion}
 use Rattle.layout_roles.specs.declared.cut.Cut.{Cut}
@@ -16,7 +16,8 @@ use Rattle.audit_model.specs.declared.said.Said.{Said}
 use Rattle.audit_model.specs.declared.said.Said.TheVariants as said
 use Rattle.audit_model.specs.Heard.{event_at, AscendFrom}
 use Rattle.audit_model.specs.Printed.{Staged, Print, stages_if, print_of, prints, print_at, all_prints}
-use Rattle.audit_runs.specs.Alike.{staged_in, IsStagedSo, AreStagedSo}
+use Rattle.audit_model.specs.Audit.{staged_in}
+use Rattle.audit_runs.specs.Alike.{IsStagedSo, AreStagedSo}
 use Rattle.audit_runs.specs.Told.{stages_by, IsOther, IsAnswerTo, TellsEvent, TellTurns}
 use Rattle.audit_runs.proofs.Prints.{IsFrom, all_both, all_more, print_of_is}
 
@@ -29,28 +30,34 @@ abbrev AreOfTurns : State → List Turn → List Print → Type 0
 AreOfTurns s [] ps = ps ≡ []
 AreOfTurns s (t ∷ ts) ps = (first : List Print) × ((rest : List Print) × ((ps ≡ first ++ rest) × (AllByRecursion (IsFrom (staged_in s) t.numbered.line) first × AreOfTurns (after s t) ts rest)))
 
--- other lines print nothing by themselves
-skip_others : (events : List Numbered) (st : Staged) (k : ℕ) (others rest : List Said) → AllByRecursion IsOther others → (j : ℕ) × (prints events st k (others ++ rest) ≡ prints events st j rest)
-skip_others events st k [] rest h = (k, refl)
-skip_others events st k (said.Event line name told ∷ others) rest h = absurd h.0
-skip_others events st k (said.Size size ∷ others) rest h = skip_others events st (suc k) others rest h.1
-skip_others events st k (said.Redundancy r ∷ others) rest h = skip_others events st (suc k) others rest h.1
-skip_others events st k (said.Sets first last set ∷ others) rest h = skip_others events st (suc k) others rest h.1
-skip_others events st k (said.Cut size weight ∷ others) rest h = skip_others events st (suc k) others rest h.1
-skip_others events st k (said.Side first last up down zones ∷ others) rest h = skip_others events st (suc k) others rest h.1
-skip_others events st k (said.Nodes nodes ∷ others) rest h = skip_others events st (suc k) others rest h.1
-skip_others events st k (said.Got m ∷ others) rest h = skip_others events st (suc k) others rest h.1
-skip_others events st k (said.Sent m kind from to ∷ others) rest h = skip_others events st (suc k) others rest h.1
-skip_others events st k (said.Synced n v ∷ others) rest h = skip_others events st (suc k) others rest h.1
-skip_others events st k (said.Done q word answer ∷ others) rest h = skip_others events st (suc k) others rest h.1
-skip_others events st k (said.Listed q count ∷ others) rest h = skip_others events st (suc k) others rest h.1
-skip_others events st k (said.Key key version size ∷ others) rest h = skip_others events st (suc k) others rest h.1
-skip_others events st k (said.Ended q word ∷ others) rest h = skip_others events st (suc k) others rest h.1
-skip_others events st k (said.Node n rows blocks top ∷ others) rest h = skip_others events st (suc k) others rest h.1
-skip_others events st k (said.Fresh pairs ∷ others) rest h = skip_others events st (suc k) others rest h.1
-skip_others events st k (said.End of_events requests messages ∷ others) rest h = skip_others events st (suc k) others rest h.1
+no_more : (k : ℕ) → k ≡ k + 0
+no_more k = omega arith
 
-if_so : {A : Type 0} (b : Bool) (x y : A) → b ≡ true → (if b then x else y) ≡ x
+one_more : (k n : ℕ) → suc k + n ≡ k + suc n
+one_more k n = omega arith
+
+-- other lines print nothing by themselves
+pub skip_others : (events : List Numbered) (st : Staged) (k : ℕ) (others rest : List Said) → AllByRecursion IsOther others → prints events st k (others ++ rest) ≡ prints events st (k + length others) rest
+skip_others events st k [] rest h = ap (λ j. prints events st j rest) (no_more k)
+skip_others events st k (said.Event line name told ∷ others) rest h = absurd h.0
+skip_others events st k (said.Size size ∷ others) rest h = skip_others events st (suc k) others rest h.1 ∙ ap (λ j. prints events st j rest) (one_more k (length others))
+skip_others events st k (said.Redundancy r ∷ others) rest h = skip_others events st (suc k) others rest h.1 ∙ ap (λ j. prints events st j rest) (one_more k (length others))
+skip_others events st k (said.Sets first last set ∷ others) rest h = skip_others events st (suc k) others rest h.1 ∙ ap (λ j. prints events st j rest) (one_more k (length others))
+skip_others events st k (said.Cut size weight ∷ others) rest h = skip_others events st (suc k) others rest h.1 ∙ ap (λ j. prints events st j rest) (one_more k (length others))
+skip_others events st k (said.Side first last up down zones ∷ others) rest h = skip_others events st (suc k) others rest h.1 ∙ ap (λ j. prints events st j rest) (one_more k (length others))
+skip_others events st k (said.Nodes nodes ∷ others) rest h = skip_others events st (suc k) others rest h.1 ∙ ap (λ j. prints events st j rest) (one_more k (length others))
+skip_others events st k (said.Got m ∷ others) rest h = skip_others events st (suc k) others rest h.1 ∙ ap (λ j. prints events st j rest) (one_more k (length others))
+skip_others events st k (said.Sent m kind from to ∷ others) rest h = skip_others events st (suc k) others rest h.1 ∙ ap (λ j. prints events st j rest) (one_more k (length others))
+skip_others events st k (said.Synced n v ∷ others) rest h = skip_others events st (suc k) others rest h.1 ∙ ap (λ j. prints events st j rest) (one_more k (length others))
+skip_others events st k (said.Done q word answer ∷ others) rest h = skip_others events st (suc k) others rest h.1 ∙ ap (λ j. prints events st j rest) (one_more k (length others))
+skip_others events st k (said.Listed q count ∷ others) rest h = skip_others events st (suc k) others rest h.1 ∙ ap (λ j. prints events st j rest) (one_more k (length others))
+skip_others events st k (said.Key key version size ∷ others) rest h = skip_others events st (suc k) others rest h.1 ∙ ap (λ j. prints events st j rest) (one_more k (length others))
+skip_others events st k (said.Ended q word ∷ others) rest h = skip_others events st (suc k) others rest h.1 ∙ ap (λ j. prints events st j rest) (one_more k (length others))
+skip_others events st k (said.Node n rows blocks top ∷ others) rest h = skip_others events st (suc k) others rest h.1 ∙ ap (λ j. prints events st j rest) (one_more k (length others))
+skip_others events st k (said.Fresh pairs ∷ others) rest h = skip_others events st (suc k) others rest h.1 ∙ ap (λ j. prints events st j rest) (one_more k (length others))
+skip_others events st k (said.End of_events requests messages ∷ others) rest h = skip_others events st (suc k) others rest h.1 ∙ ap (λ j. prints events st j rest) (one_more k (length others))
+
+pub if_so : {A : Type 0} (b : Bool) (x y : A) → b ≡ true → (if b then x else y) ≡ x
 if_so true x y is = refl
 if_so false x y is = cc
 
@@ -67,12 +74,12 @@ and_not true b is = cc
 and_not false b is = refl
 
 -- events that ascend stand in later lines
-all_later : (line : ℕ) (es : List Numbered) → AscendFrom line es → (low : ℕ) → low ≤ line → AllByRecursion (λ (e : Numbered). low < e.line) es
+pub all_later : (line : ℕ) (es : List Numbered) → AscendFrom line es → (low : ℕ) → low ≤ line → AllByRecursion (λ (e : Numbered). low < e.line) es
 all_later line [] up low le = tt
 all_later line (e ∷ es) up low le = let here = up.0 in (omega arith, all_later e.line es up.1 low (omega arith))
 
 -- the event is found by its line and its name
-abbrev IsFound : List Numbered → Numbered → Type 0
+abbrev pub IsFound : List Numbered → Numbered → Type 0
 IsFound events e = event_at events e.line (name_of e.event) ≡ Some e.event
 
 found_behind : (e : Numbered) (events es : List Numbered) → AllByRecursion (IsFound events) es → AllByRecursion (λ (f : Numbered). e.line < f.line) es → AllByRecursion (IsFound (e ∷ events)) es
@@ -84,7 +91,7 @@ found_behind e events (f ∷ fs) h later =
       found_behind e events fs h.1 later.1,
     )
 
-all_found : (line : ℕ) (events : List Numbered) → AscendFrom line events → AllByRecursion (IsFound events) events
+pub all_found : (line : ℕ) (events : List Numbered) → AscendFrom line events → AllByRecursion (IsFound events) events
 all_found line [] up = tt
 all_found line (e ∷ es) up = (
   if_so ((e.line == e.line) && same_bytes (name_of e.event) (name_of e.event)) (Some e.event) (event_at es e.line (name_of e.event))
@@ -92,7 +99,7 @@ all_found line (e ∷ es) up = (
   found_behind e es es (all_found e.line es up.1) (all_later e.line es up.1 e.line (omega arith)),
 )
 
-stage_told : (st : Staged) (e : Event) (r : Option (Refusal Cut)) (told : Told) → IsAnswerTo r told → stages_if st (Some e) told ≡ stages_by st e r
+pub stage_told : (st : Staged) (e : Event) (r : Option (Refusal Cut)) (told : Told) → IsAnswerTo r told → stages_if st (Some e) told ≡ stages_by st e r
 stage_told st e None (Accepted words) h = refl
 stage_told st e None (Refused refusal) h = absurd h
 stage_told st e (Some r) (Accepted words) h = absurd h
@@ -100,7 +107,7 @@ stage_told st e (Some r) (Refused refusal) h = refl
 
 module _ (stage : EventsStage) (events : List Numbered) where
   of_turns : (s : State) (ts : List Turn) (saids : List Said) (k : ℕ) → AllByRecursion (IsFound events) (events_of ts) → TellTurns s ts saids → AreOfTurns s ts (prints events (staged_in s) k saids)
-  of_turns s [] saids k known h = ap (λ x. prints events (staged_in s) k x) (sym (append-nil saids)) ∙ (skip_others events (staged_in s) k saids [] h).1
+  of_turns s [] saids k known h = ap (λ x. prints events (staged_in s) k x) (sym (append-nil saids)) ∙ skip_others events (staged_in s) k saids [] h
   of_turns s (t ∷ ts) saids k known h =
       let st : Staged = staged_in s in
       let rest : List Said = h.1.0 in
@@ -115,16 +122,16 @@ module _ (stage : EventsStage) (events : List Numbered) where
       let first : List Print = print_of st k line (event_at events line name) d.told (d.others ++ rest) in (
         first,
         (
-          prints events (staged_in next) skip.0 rest,
+          prints events (staged_in next) (suc k + length d.others) rest,
           (
-            ap (λ x. prints events st k x) whole ∙ ap (λ ps. first ++ ps) (ap (λ x. prints events x (suc k) (d.others ++ rest)) staged ∙ skip.1),
-            (print_of_is st k line (event_at events line name) d.told (d.others ++ rest), of_turns next ts rest skip.0 known.1 h.1.1.1.1),
+            ap (λ x. prints events st k x) whole ∙ ap (λ ps. first ++ ps) (ap (λ x. prints events x (suc k) (d.others ++ rest)) staged ∙ skip),
+            (print_of_is st k line (event_at events line name) d.told (d.others ++ rest), of_turns next ts rest (suc k + length d.others) known.1 h.1.1.1.1),
           ),
         ),
       )
 
 -- a print for another line is none for this one
-pass_over : (line : ℕ) (ps qs : List Print) → AllByRecursion (λ (p : Print). p.line ≡ line → ⊥) ps → print_at (ps ++ qs) line ≡ print_at qs line
+pub pass_over : (line : ℕ) (ps qs : List Print) → AllByRecursion (λ (p : Print). p.line ≡ line → ⊥) ps → print_at (ps ++ qs) line ≡ print_at qs line
 pass_over line [] qs h = refl
 pass_over line (p ∷ ps) qs h = if_not (p.line == line) (Some p) (print_at (ps ++ qs) line) (ne_eqb p.line line h.0) ∙ pass_over line ps qs h.1
 

@@ -96,7 +96,7 @@ name_free (event.Clean n) = (refl, refl)
 name_free (event.Work n) = (refl, refl)
 name_free (event.Repair n) = (refl, refl)
 
-no_spaces : (w : List ℕ) → Free 32 w → All (λ b. is_space b ≡ false) w
+pub no_spaces : (w : List ℕ) → Free 32 w → All (λ b. is_space b ≡ false) w
 no_spaces [] h = All-nil (λ b. is_space b ≡ false)
 no_spaces (b ∷ bs) h =
     let parts = and_parts (not (b == 32)) (list_all (λ x. not (x == 32)) bs) h in
@@ -120,7 +120,7 @@ answer_words_in None (Two a b) = (slice_split (λ b. is_space b) (decimal a ++ n
 answer_words_in (Some r) words = (slice_split (λ b. is_space b) (refusal_text r), slice_split_at (λ b. is_space b) (codes "refused") 32 (refusal_text r) (no_spaces (codes "refused") refl) refl)
 
 -- the line without its line feed
-abbrev own_line : Numbered → Option (Refusal Cut) → Words → List ℕ
+abbrev pub own_line : Numbered → Option (Refusal Cut) → Words → List ℕ
 own_line e r words = decimal e.line ++ word (name_of e.event) ++ word (answer_text r words)
 
 own_words : (e : Numbered) (r : Option (Refusal Cut)) (words : Words) → (more : List (List ℕ)) × (words_in (own_line e r words) ≡ decimal e.line ∷ name_of e.event ∷ answer_word r ∷ more)
@@ -134,6 +134,13 @@ own_words e r words =
           ∙ ap (λ ws. decimal e.line ∷ ws) (slice_split_at (λ b. is_space b) name 32 answer (no_spaces name (name_free e.event).0) refl ∙ ap (λ ws. name ∷ ws) answers.1)),
     )
 
+-- of an event that answers a number
+pub one_words : (e : Numbered) (n : ℕ) → words_in (own_line e None (One n)) ≡ decimal e.line ∷ name_of e.event ∷ codes "ok" ∷ decimal n ∷ []
+unfolding own_words answer_words_in
+one_words e n =
+    (own_words e None (One n)).1
+    ∙ ap (λ ws. decimal e.line ∷ name_of e.event ∷ codes "ok" ∷ ws) (slice_split_none (λ b. is_space b) (decimal n) (no_spaces (decimal n) (decimal_free 32 n (omega arith))))
+
 -- what says these words is what the event answered
 abbrev SaysOf : Numbered → Option (Refusal Cut) → Said → Type 0
 SaysOf e r s = (told : Told) × ((s ≡ said.Event e.line (name_of e.event) told) × IsAnswerTo r told)
@@ -144,7 +151,7 @@ answer_is None (Refused other) ws more is same = absurd (let no : bytes_eq (firs
 answer_is (Some r) (Refused other) ws more is same = tt
 answer_is (Some r) (Accepted words) ws more is same = absurd (let no : bytes_eq (first_word (told_words (Accepted words))) (codes "refused") ≡ true = ap (λ x. bytes_eq (first_word x) (codes "refused")) (sym is) ∙ same in let is_false : false ≡ true = no in cc)
 
-abbrev behind_first : List (List ℕ) → List (List ℕ)
+abbrev pub behind_first : List (List ℕ) → List (List ℕ)
 behind_first [] = []
 behind_first (w ∷ ws) = ws
 
@@ -175,7 +182,7 @@ says_own e r more (said.Node n rows blocks top) small h is = absurd (let no : fa
 says_own e r more (said.Fresh pairs) small h is = absurd (let no : false ≡ true = ap (λ ws. is_number (first_word ws)) is ∙ decimal_is_number e.line small in cc)
 says_own e r more (said.End of_events requests messages) small h is = absurd (let no : false ≡ true = ap (λ ws. is_number (first_word ws)) is ∙ decimal_is_number e.line small in cc)
 
-own_says : (e : Numbered) (r : Option (Refusal Cut)) (words : Words) (s : Said) → e.line < 2 ^ 64 → Says (own_line e r words) s → SaysOf e r s
+pub own_says : (e : Numbered) (r : Option (Refusal Cut)) (words : Words) (s : Said) → e.line < 2 ^ 64 → Says (own_line e r words) s → SaysOf e r s
 own_says e r words s small says =
     let own = own_words e r words in
     says_own e r own.0 s small says.in_range (sym (words_read s says.in_range) ∙ (ap words_in (sym says.spelled) ∙ own.1))
@@ -245,7 +252,7 @@ lines_then : (text rest : List ℕ) → (h : IsOtherLines text) → lines_of (te
 lines_then text rest h = ap (λ t. lines_of (t ++ rest)) h.text_is ∙ other_lines h.lines rest h.are_other
 
 -- the lines of an event, and what follows them
-event_then : (e : Numbered) (r : Option (Refusal Cut)) (words : Words) (body rest : List ℕ) → (h : IsOtherLines body) →
+pub event_then : (e : Numbered) (r : Option (Refusal Cut)) (words : Words) (body rest : List ℕ) → (h : IsOtherLines body) →
     lines_of (((own_line e r words ++ 10 ∷ []) ++ body) ++ rest) ≡ own_line e r words ∷ (h.lines ++ lines_of rest)
 event_then e r words body rest h =
     let own : List ℕ = own_line e r words in
@@ -253,7 +260,7 @@ event_then e r words body rest h =
     ∙ (first_line own (body ++ rest) (own_unbroken e r words) ∙ ap (λ ls. own ∷ ls) (lines_then body rest h))
 
 -- beside each event's own line a run tells such lines alone
-abbrev TellOthers : State → List Turn → Type 0
+abbrev pub TellOthers : State → List Turn → Type 0
 TellOthers s [] = ⊤
 TellOthers s (t ∷ ts) = AllByRecursion (λ l. IsOtherLines (line_text l)) (outcome_of s t).lines × TellOthers (outcome_of s t).state ts
 
@@ -269,26 +276,27 @@ pub tell_others : AreWhole → (s : State) (ts : List Turn) → TellUnbroken s t
 tell_others whole s [] h = tt
 tell_others whole s (t ∷ ts) h = (each_whole whole (outcome_of s t).lines h.0, tell_others whole (outcome_of s t).state ts h.1)
 
-module _ (tail : List ℕ) (ends : IsOtherLines tail) where
-  turn_tells : (t : Turn) (o : Outcome) (rest : List (List ℕ)) (saids : List Said) → t.numbered.line < 2 ^ 64 → (h : IsOtherLines (flat_map line_text o.lines)) →
-      SayAll (own_line t.numbered o.refused o.words ∷ (h.lines ++ rest)) saids → (first : List Said) × ((more : List Said) × ((saids ≡ first ++ more) × (TellsEvent t.numbered o first × SayAll rest more)))
-  turn_tells t o rest [] small h say = absurd say
-  turn_tells t o rest (s ∷ saids) small h say =
-      let own = own_says t.numbered o.refused o.words s small say.0 in
-      let p = say_parts h.lines rest saids say.1 in (
-        s ∷ p.0,
+-- what is said first by lines that begin with those of an event
+pub turn_tells : (t : Turn) (o : Outcome) (rest : List (List ℕ)) (saids : List Said) → t.numbered.line < 2 ^ 64 → (h : IsOtherLines (flat_map line_text o.lines)) →
+    SayAll (own_line t.numbered o.refused o.words ∷ (h.lines ++ rest)) saids → (first : List Said) × ((more : List Said) × ((saids ≡ first ++ more) × (TellsEvent t.numbered o first × SayAll rest more)))
+turn_tells t o rest [] small h say = absurd say
+turn_tells t o rest (s ∷ saids) small h say =
+    let own = own_says t.numbered o.refused o.words s small say.0 in
+    let p = say_parts h.lines rest saids say.1 in (
+      s ∷ p.0,
+      (
+        p.1.0,
         (
-          p.1.0,
+          ap (λ ss. s ∷ ss) p.1.1.0,
           (
-            ap (λ ss. s ∷ ss) p.1.1.0,
-            (
-              record { told = own.0; others = p.0; saids_are = ap (λ x. x ∷ p.0) own.1.0; answers = own.1.1; are_other = others_are h.lines p.0 h.are_other p.1.1.1.0 },
-              p.1.1.1.1,
-            ),
+            record { told = own.0; others = p.0; saids_are = ap (λ x. x ∷ p.0) own.1.0; answers = own.1.1; are_other = others_are h.lines p.0 h.are_other p.1.1.1.0 },
+            p.1.1.1.1,
           ),
         ),
-      )
+      ),
+    )
 
+module _ (tail : List ℕ) (ends : IsOtherLines tail) where
   pub text_tells : (s : State) (ts : List Turn) (saids : List Said) → AreNumbered (events_of ts) → TellOthers s ts → SayAll (lines_of (turns_text s ts ++ tail)) saids → TellTurns s ts saids
   text_tells s [] saids small other say =
       let is : lines_of tail ≡ ends.lines = ap lines_of (sym (append-nil tail)) ∙ (lines_then tail [] ends ∙ append-nil ends.lines) in

@@ -4,7 +4,6 @@ use Rattle.history_model.specs.declared.record.Record.{Record}
 use Rattle.history_model.specs.Fresh.{Fresh}
 use Rattle.history_model.specs.Pairs.{pair_count}
 use Rattle.store_model.specs.declared.event.Numbered.{Numbered}
-use Rattle.store_model.specs.Run.{start}
 use Rattle.store_model.specs.Events.{Turn}
 use Rattle.text_model.specs.Grammar.{lines_of}
 use Rattle.text_model.specs.Transcript.{transcript}
@@ -13,9 +12,8 @@ use Rattle.audit_model.specs.Heard.{AreReadable}
 use Rattle.audit_model.specs.Printed.{all_prints}
 use Rattle.audit_model.specs.Audit.{ArePrinted}
 use Rattle.audit_runs.specs.Kept.{IsKeptBeside}
-use Rattle.audit_runs.specs.Whole.{AreNumbered, TellUnbroken}
 
--- the text is the transcript of turns of these events that are given the layouts which it prints, the account that its lines give is fresh, with so many pairs to look at, and where the schedule's lines have numbers of the code, and no key and no zone's name that these turns tell holds a line feed, what is promised of a replay holds beside them
+-- the text is the transcript of turns of these events that are given the layouts which it prints, the account that its lines give is fresh, with so many pairs to look at, and what is promised of a replay holds beside them
 pub record IsAudited (events : List Numbered) (text : List ℕ) (pairs : ℕ) : Type 0 where
   pub saids : List Said
   pub history : List Record
@@ -25,4 +23,4 @@ pub record IsAudited (events : List Numbered) (text : List ℕ) (pairs : ℕ) : 
   pub pairs_are : pairs ≡ pair_count history
   pub printed : ArePrinted events (all_prints events saids) turns
   pub same_lines : lines_of text ≡ lines_of (transcript turns)
-  pub kept : AreNumbered events → TellUnbroken start turns → IsKeptBeside turns
+  pub kept : IsKeptBeside turns

@@ -5,3 +5,4 @@ pub mod Audited
 pub mod Whole
 pub mod Fixed
 pub mod Given
+pub mod First

@@ -1,5 +1,5 @@
 -- What the lines of a run say of its events, read back.
-use Rattle.std.specs.Prelude.{◌≡◌, ℕ, ⊤, Option, Some, None, List, [], ◌∷◌, ◌++◌}
+use Rattle.std.specs.Prelude.{◌≡◌, ⊤, Option, Some, None, List, [], ◌∷◌, ◌++◌}
 use Rattle.std.specs.List.{AllByRecursion}
 use Rattle.layout_roles.specs.declared.cut.Cut.{Cut}
 use Rattle.cluster_machine.specs.declared.step.Refusal.{Refusal}

@@ -2,7 +2,7 @@
 //! least ones. No body does more than name laws: each is called for its contract.
 #![tactic(auto)]
 
-ghost use Rattle.std.specs.Prelude.{◌≡◌, ◌<◌, ℕ, IsTrue, List, take};
+ghost use Rattle.std.specs.Prelude.{◌≡◌, ◌<◌, ◌^◌, ℕ, IsTrue, Some, List, ◌∷◌, length, take};
 ghost use Rattle.history_model.specs.declared.record.Record.{Record};
 ghost use Rattle.std.specs.List.{AllByRecursion};
 ghost use Rattle.layout_roles.specs.declared.layout.Layout.{Layout};
@@ -12,29 +12,36 @@ ghost use Rattle.layout_roles.specs.Certificates.{IsRedundancy, zones_wanted};
 ghost use Rattle.cluster_machine.specs.declared.applied.Applied.{Applied};
 ghost use Rattle.cluster_machine.specs.declared.line.Line.{Line};
 ghost use Rattle.cluster_machine.specs.Choices.{IsBest};
+ghost use Rattle.store_model.specs.declared.event.Event.TheVariants.{Apply};
 ghost use Rattle.store_model.specs.declared.event.Numbered.{Numbered};
 ghost use Rattle.store_model.specs.Run.{State, start};
 ghost use Rattle.store_model.specs.Events.{Turn, outcome_of, after, events_of, run};
-ghost use Rattle.text_model.specs.Played.{AllGoOn, ArePlayed, AreScheduled};
+ghost use Rattle.text_model.specs.Played.{AllGoOn, ArePlayed, AreAllowed, AreScheduled};
 ghost use Rattle.audit_model.specs.declared.said.Said.{Said};
-ghost use Rattle.audit_model.specs.Printed.{Staged, Printed, IsLawful, IsOfPrint, Print, all_prints, IsLawfulPrint};
-ghost use Rattle.audit_model.specs.Audit.{AreGiven, ArePrinted, ok, Finds};
+ghost use Rattle.audit_model.specs.Printed.{Staged, Printed, IsLawful, IsOfPrint, Print, print_at, all_prints, IsLawfulPrint};
+ghost use Rattle.audit_model.specs.Audit.{staged_in, AreGiven, AreFirstPrinted, ok, Finds};
 ghost use Rattle.audit_model.specs.Heard.{AscendFrom, AreReadable};
 ghost use Rattle.text_model.specs.Grammar.{lines_of};
 ghost use Rattle.text_model.specs.Transcript.{line_text, turns_text, transcript};
 ghost use Rattle.text_model.specs.Reading.{IsSchedule};
-ghost use Rattle.audit_runs.specs.Alike.{AreSameButCut, DifferInCuts, staged_in, AreStagedSo};
+ghost use Rattle.audit_runs.specs.Alike.{AreSameButCut, DifferInCuts, AreStagedSo};
 ghost use Rattle.audit_runs.specs.Given.{AreRightlyGiven};
 ghost use Rattle.audit_runs.specs.Fixed.{HavePrints};
 ghost use Rattle.audit_runs.specs.Kept.{IsKeptBeside};
 ghost use Rattle.audit_runs.specs.Audited.{IsAudited};
+ghost use Rattle.audit_runs.specs.First.{AreToldFirst, IsPrintedNext, BeginsWithLayout};
 ghost use Rattle.audit_runs.specs.Told.{stages_by, TellTurns};
 ghost use Rattle.audit_runs.specs.Whole.{IsOtherLines, AreNumbered, IsUnbroken, TellUnbroken};
 
 use layout_flow::light_cuts;
 use layout_roles::smaller_sizes;
 use limit_laws::schedules_are_within_limits;
+use object_schema::S3Schema;
 use store_anchors::promises_are_kept;
+use world_reads::{
+    every_installed_world_reads_what_was_kept, every_world_gives_windows,
+    every_world_has_kept_reads, every_world_is_sound, every_world_reads_stored_rows,
+};
 
 /// A printed layout that is lawful for what is staged, its cut whatever light one, has the greatest partition size; and a layout
 /// that is given as it was printed is one that is computed, with another cut perhaps.
@@ -60,8 +67,8 @@ pub fn cuts_change_no_run()
     ensures go_on { (s : State) (turns others : List Turn) → DifferInCuts turns others → AllGoOn s turns → AllGoOn s others }
 {}
 
-/// Where each layout that a transcript prints is lawful, and the roles that its lines say were staged are those of the run, the
-/// run that is given these layouts differs from a replay in nothing but cuts.
+/// Where each layout that a transcript prints is lawful, the run that is given these layouts, each where it is of what is staged,
+/// differs from a replay in nothing but cuts.
 pub fn printed_turns_are_played()
     ensures { (events : List Numbered) (saids : List Said) (turns : List Turn) → AreRightlyGiven events saids turns →
         (others : List Turn) × (DifferInCuts turns others × ArePlayed others) }
@@ -78,8 +85,21 @@ pub fn printed_turns_keep_promises()
     promises_are_kept();
 }
 
+/// So it is of the first turns of a schedule's events, after each step of which a replay goes on.
+pub fn first_turns_keep_promises()
+    ensures beside { (events : List Numbered) (saids : List Said) (turns : List Turn) → AreScheduled events →
+        AllByRecursion IsLawfulPrint (all_prints events saids) → AreFirstPrinted events (all_prints events saids) turns →
+        (others : List Turn) × (DifferInCuts turns others × ArePlayed others) }
+    ensures kept { (events : List Numbered) (saids : List Said) (turns : List Turn) → AreScheduled events →
+        AllByRecursion IsLawfulPrint (all_prints events saids) → AreFirstPrinted events (all_prints events saids) turns →
+        IsKeptBeside turns }
+{
+    lawful_prints_are_greatest();
+    promises_are_kept();
+}
+
 /// A printed layout is one that can be given: so runs of the same events that are given the same prints lead to one state and
-/// have one text, as long as each apply that comes to a layout has one printed.
+/// have one text, as long as each apply that comes to a layout has one printed, of what is staged.
 pub fn prints_fix_runs()
     ensures { (ps : List Print) (s : State) (turns others : List Turn) → events_of turns ≡ events_of others →
         AreGiven ps s turns → AreGiven ps s others → HavePrints ps s turns →
@@ -121,16 +141,61 @@ pub fn schedules_ascend()
     ensures { (input : List ℕ) (events : List Numbered) → IsSchedule input events → AscendFrom 0 events }
 {}
 
+/// And where the schedule is shorter than 2^64 bytes, in lines whose numbers are below 2^64.
+pub fn schedules_are_numbered()
+    ensures { (input : List ℕ) (events : List Numbered) → IsSchedule input events → length input < 2 ^ 64 → AreNumbered events }
+{}
+
+/// Turns that differ in nothing but cuts from a replay of events which the grammar allows tell no key and no zone's name with a
+/// line feed: each key of a list comes from a put or copy, and each zone from a role or from `trio`.
+pub fn turns_tell_unbroken()
+    ensures { (turns others : List Turn) → AreAllowed turns → DifferInCuts turns others → ArePlayed others → TellUnbroken start turns }
+{
+    events_stage_what_they_say();
+    every_world_is_sound::<S3Schema>();
+    every_world_has_kept_reads::<S3Schema>();
+    every_world_reads_stored_rows::<S3Schema>();
+    every_world_gives_windows::<S3Schema>();
+    every_installed_world_reads_what_was_kept::<S3Schema>();
+}
+
+/// So it is of the first turns of a schedule's events that are given lawful layouts which a transcript prints.
+pub fn first_turns_tell_unbroken()
+    ensures { (events : List Numbered) (saids : List Said) (turns : List Turn) → AreScheduled events →
+        AllByRecursion IsLawfulPrint (all_prints events saids) → AreFirstPrinted events (all_prints events saids) turns →
+        TellUnbroken start turns }
+{
+    first_turns_keep_promises();
+    turns_tell_unbroken();
+}
+
+/// Where the first lines of a transcript are those of the turns so far: a layout for the next event that is printed behind the line
+/// that comes next is of what is staged in the run; and where the two lines that come next are those with which an apply tells a
+/// layout, one is printed for it, of what is staged.
+pub fn printed_roles_are_staged()
+    ensures placed { (input text : List ℕ) (events : List Numbered) (saids : List Said) (turns : List Turn) →
+        (told : AreToldFirst input text events saids turns) → (next : Numbered) (rest : List Numbered) → told.first.later ≡ next ∷ rest →
+        (p : Print) → print_at (all_prints events saids) next.line ≡ Some p → IsPrintedNext turns p →
+        p.staged ≡ staged_in (run start turns) }
+    ensures agreed { (input text : List ℕ) (events : List Numbered) (saids : List Said) (turns : List Turn) →
+        (told : AreToldFirst input text events saids turns) → (next : Numbered) (rest : List Numbered) → told.first.later ≡ next ∷ rest →
+        (n version size : ℕ) → next.event ≡ Apply n → BeginsWithLayout told.more next version size →
+        (p : Print) × ((print_at (all_prints events saids) next.line ≡ Some p) × (p.staged ≡ staged_in (run start turns))) }
+{
+    schedules_are_within_limits();
+    schedules_ascend();
+    schedules_are_numbered();
+    events_stage_what_they_say();
+    other_lines_are_whole();
+    first_turns_tell_unbroken();
+}
+
 /// Where it is found of a schedule's transcript that all is well, it is the text of turns that are given the layouts which it
-/// prints, and its account is fresh; and where no key and no zone's name that they tell holds a line feed, what is promised of a
-/// replay holds beside these turns.
+/// prints, its account is fresh, and what is promised of a replay holds beside these turns.
 pub fn audited_transcripts_keep_promises()
     ensures { (input text : List ℕ) (events : List Numbered) (pairs : ℕ) → IsSchedule input events →
         Finds events text (ok pairs) → IsAudited events text pairs }
 {
     schedules_are_within_limits();
-    schedules_ascend();
-    texts_tell_turns();
-    lines_say_what_is_staged();
     printed_turns_keep_promises();
 }
