@@ -10,7 +10,7 @@ use Rattle.layout_roles.specs.declared.layout.Layout.{Layout}
 use Rattle.layout_roles.specs.Zones.{Name, zone_names, same_name}
 use Rattle.layout_roles.specs.Sets.{in_order}
 use Rattle.layout_roles.specs.Fits.{NodeSet, Fits}
-use Rattle.layout_roles.specs.Network.{network}
+use Rattle.layout_roles.specs.Network.{network, vertices}
 use Rattle.layout_roles.specs.Cuts.{IsCut, weight}
 use Rattle.layout_roles.specs.Certificates.{zones_wanted}
 use Rattle.side_model.specs.Sides.{set_of}
@@ -169,7 +169,7 @@ abbrev pub print_at : List Print → ℕ → Option Print
 print_at [] line = None
 print_at (p ∷ ps) line = if p.line == line then Some p else print_at ps line
 
--- the layout and what is shown of it are those that were printed, with the printed cut
+-- the layout and what is shown of it are those that were printed, with the printed cut, whose vertices are shown in order
 pub record IsOfPrint (roles : List Role) (wanted : Redundancy) (version : ℕ) (p : Printed) (l : Layout) (shown : Applied) : Type 0 where
   pub version_is : l.version ≡ version
   pub roles_are : l.roles.list ≡ roles
@@ -180,4 +180,4 @@ pub record IsOfPrint (roles : List Role) (wanted : Redundancy) (version : ℕ) (
   pub sets : (l.sets.sets ≡ p.sets) × (shown.certified.sets.sets ≡ p.sets)
   pub cut_size : shown.certified.cut.size ≡ p.size + 1
   pub cut_weight : shown.certified.cut.weight ≡ weight (network roles (zones_wanted wanted roles) (p.size + 1)) (set_of p.side)
-  pub cut_side : shown.certified.cut.side ≡ p.side
+  pub cut_side : shown.certified.cut.side ≡ filter (set_of p.side) (vertices roles)
