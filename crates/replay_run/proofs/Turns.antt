@@ -38,7 +38,7 @@ lawful_push : (s : State) (ts : List Turn) (t : Turn) → AreLawful s ts → IsL
 lawful_push s [] t h k = (k, tt)
 lawful_push s (x ∷ xs) t h k = (h.0, lawful_push (after s x) xs t h.1 k)
 
-go_on_push : (s : State) (ts : List Turn) (t : Turn) → AllGoOn s ts → AllByRecursion GoesOn (steps_of (run s ts) t.numbered.event t.choice) → AllGoOn s (ts ++ t ∷ [])
+pub go_on_push : (s : State) (ts : List Turn) (t : Turn) → AllGoOn s ts → AllByRecursion GoesOn (steps_of (run s ts) t.numbered.event t.choice) → AllGoOn s (ts ++ t ∷ [])
 go_on_push s [] t h k = (k, tt)
 go_on_push s (x ∷ xs) t h k = (h.0, go_on_push (after s x) xs t h.1 k)
 

@@ -8,6 +8,10 @@
 //!
 //! `steps` takes events step by step, `tail` has what is written after the last event, with `check` and `summary`, and
 //! `transcript` writes.
+//!
+//! `event_text` takes one event and `tail_text` has what follows the last one, for whoever plays events otherwise than `replay`
+//! does.
+//!
 //! `every_replay_ends` is the law that a replay of a schedule's events has a stated end, `lawful_turns_end_once` that for
 //! given lawful layouts it has one, `first_turns_go_further` that what is written of the first events is the first part of a
 //! text that is stated for all, and `no_replay_lacks_room` that it ends neither for lack of room nor with a node that can't be
@@ -27,5 +31,7 @@ pub use account::Account;
 pub use laws::{
     every_replay_ends, first_turns_go_further, lawful_turns_end_once, no_replay_lacks_room,
 };
+pub use steps::SENT_LIMIT;
 pub use stop::ReplayStop;
-pub use transcript::replay;
+pub use tail::tail_text;
+pub use transcript::{event_text, replay};

@@ -12,7 +12,7 @@ use s3_world::{Event, S3World, Told};
 use std::alloc::Global;
 
 /// How many bytes the messages may count that were ever sent.
-const SENT_LIMIT: u64 = 268_435_456;
+pub const SENT_LIMIT: u64 = 268_435_456;
 
 /// Takes one step, and looks at what was sent.
 fn one_step(store: &mut S3World, event: &Event) -> Result<Told, ReplayStop>

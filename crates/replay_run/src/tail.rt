@@ -14,7 +14,7 @@ use world_text::nodes_text;
 
 /// What is written after so many events: a summary's first lines, the lines of the nodes, the line of a check, and the last
 /// line.
-pub(crate) fn tail_text(
+pub fn tail_text(
     alloc: Global,
     account: Account,
     store: &S3World,

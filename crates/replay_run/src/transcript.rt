@@ -45,7 +45,7 @@ fn shown_text(
 }
 
 /// Takes the next event, and gives what is written of it.
-fn event_text(
+pub fn event_text(
     alloc: Global,
     account: Account,
     store: &mut S3World,
