@@ -1,3 +1,4 @@
 pub mod Tests
 pub mod Marks
 pub mod Weights
+pub mod Places

@@ -1,0 +1,7 @@
+mod Bounds
+mod Orders
+mod Fitting
+mod Given
+mod Named
+mod Parts
+mod Walks
