@@ -1,0 +1,10 @@
+pub mod Whole
+pub mod Parts
+pub mod Common
+pub mod Told
+pub mod Staging
+pub mod Printing
+pub mod Taking
+pub mod Places
+pub mod Following
+pub mod Ending
