@@ -1,0 +1,7 @@
+mod Marks
+mod Parted
+mod Closing
+mod Replies
+mod Finding
+mod Agreeing
+mod Audited
