@@ -1,7 +1,6 @@
 //! The command with its input and output.
-ghost use Rattle.std.specs.Prelude.{◌≡◌, ◌≤◌, ◌<◌, ◌+◌, ◌^◌, ◌⊎◌, ◌++◌, ◌∷◌, [], length, IsTrue, IfOk};
+ghost use Rattle.std.specs.Prelude.{◌≡◌, ◌⊎◌, ◌++◌, ◌∷◌, [], IsTrue, IfOk};
 ghost use Rattle.crdt_core.specs.Outcomes.{OnlyWant};
-ghost use Rattle.lab_main.specs.Limits.{input_limit};
 ghost use Rattle.lab_main.specs.Edges.{IsUnlinked, Writes};
 ghost use Rattle.text_model.specs.Grammar.{lines_of};
 ghost use Rattle.audit_play.specs.Parting.{IsWhole};
@@ -12,10 +11,11 @@ use crate::findings::found;
 use crate::parts::cut;
 use crate::reply::{Reply, plain};
 use audit_findings::one_finding;
-use audit_runs::audited_transcripts_keep_promises;
+use audit_runs::{audited_transcripts_keep_promises, schedules_ascend};
 use crdt_core::Memory;
 use lab_main::{ends, read_input, unread};
 use lab_outside::{Sink, Source, Status};
+use limit_laws::schedules_are_within_limits;
 use replay_command::{Stop, bad_line, schedule_of};
 use std::alloc::Global;
 
@@ -34,7 +34,6 @@ fn is_open(text: &[u8]) -> bool
 fn closed(mut input: Vec<u8>) -> Result<Vec<u8>, Memory>
     ensures lines { IfOk result (λ all. lines_of all.items ≡ lines_of input.items) }
     ensures whole { IfOk result (λ all. IsWhole all.items) }
-    ensures longer { IfOk result (λ all. length all.items ≤ length input.items + 1) }
     ensures want { OnlyWant result }
 {
     if !is_open(&input) {
@@ -62,10 +61,11 @@ fn no_schedule(alloc: Global, stop: Stop) -> Result<Reply, Memory>
 /// What is answered to whole lines.
 fn answer(alloc: Global, input: &[u8]) -> Result<Reply, Memory>
     requires whole { IsWhole input.now }
-    requires short { length input.now < 2 ^ 64 }
     ensures stated { IfOk result (λ reply. IsAnswer input.now reply.status reply.text) }
     ensures want { OnlyWant result }
 {
+    schedules_ascend();
+    schedules_are_within_limits();
     let parts = cut(input);
     let events = match schedule_of(alloc, parts.schedule) {
         Ok(events) => events,
@@ -79,7 +79,6 @@ fn answer(alloc: Global, input: &[u8]) -> Result<Reply, Memory>
 
 /// What is answered to an input.
 fn reply(alloc: Global, input: Vec<u8>) -> Result<Reply, Memory>
-    requires { length input.items ≤ input_limit }
     ensures stated { IfOk result (λ reply. IsAnswer input.items reply.status reply.text) }
     ensures want { OnlyWant result }
 {
@@ -89,7 +88,6 @@ fn reply(alloc: Global, input: Vec<u8>) -> Result<Reply, Memory>
 
 /// Writes what is answered to an input.
 fn audit<O: Sink>(alloc: Global, input: Vec<u8>, output: &mut O) -> Status
-    requires { length input.items ≤ input_limit }
     ensures writes { Writes O.Sink (IsAnswer input.items) result output.old output.new }
     ensures statuses { IsUnlinked result }
     ensures other { result ≡ Status.ReadFault → ⊥ }

@@ -1,17 +1,13 @@
 //! What an audit finds of a transcript, in the order in which findings come.
-ghost use Rattle.std.specs.Prelude.{List, IfOk};
-ghost use Rattle.std.specs.List.{AllByRecursion};
+ghost use Rattle.std.specs.Prelude.{IfOk};
 ghost use Rattle.crdt_core.specs.Outcomes.{OnlyWant};
-ghost use Rattle.audit_model.specs.declared.said.Said.{Said};
-ghost use Rattle.audit_play.specs.Comparing.{AreCompared};
 ghost use Rattle.audit_run.specs.Answer.{IsFound};
 ghost use Rattle.audit_run.specs.Judging.{IsToJudge, IsReadFresh, IsRead, IsComparedFresh};
 
 use crate::reply::{Reply, numbered, plain};
 use audit_play::{Compared, compare};
 use audit_prints::{Judged, Sheet, judge};
-use audit_reading::{Read, Reading, read};
-use audit_runs::schedules_ascend;
+use audit_reading::{Reading, Text, read};
 use crdt_core::Memory;
 use history_model::History;
 use lab_outside::Status;
@@ -52,7 +48,6 @@ fn judged(
     ensures found { IfOk result (λ reply. IsFound events.now text.now reply.status reply.text) }
     ensures want { OnlyWant result }
 {
-    schedules_ascend();
     match judge(alloc, events, reading.saids.as_slice())? {
         Judged::Unlawful(line) => numbered(alloc, Status::Refused, b"unlawful", line),
         Judged::Lawful(sheets) => {
@@ -84,9 +79,8 @@ pub fn found(alloc: Global, events: &[Numbered], text: &[u8]) -> Result<Reply, M
     ensures found { IfOk result (λ reply. IsFound events.now text.now reply.status reply.text) }
     ensures want { OnlyWant result }
 {
-    schedules_ascend();
     match read(alloc, events, text)? {
-        Read::Unreadable(line) => numbered(alloc, Status::Refused, b"unreadable", line),
-        Read::Whole(reading) => weighed(alloc, events, &reading, text),
+        Text::Unreadable(line) => numbered(alloc, Status::Refused, b"unreadable", line),
+        Text::Readable(reading) => weighed(alloc, events, &reading, text),
     }
 }

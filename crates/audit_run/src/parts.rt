@@ -1,5 +1,5 @@
 //! How an input is cut into a schedule and the transcript behind it.
-ghost use Rattle.std.specs.Prelude.{◌≡◌, ◌==◌, ◌≤◌, length, position, option_map, IfSome};
+ghost use Rattle.std.specs.Prelude.{◌≡◌, ◌==◌, position, option_map, IfSome};
 ghost use Rattle.audit_play.specs.Parting.{IsWhole};
 ghost use Rattle.audit_run.specs.Parts.{AreParts};
 ghost use Rattle.audit_run.specs.Scanned.{IsMark, IsScanned};
@@ -46,7 +46,6 @@ fn mark(text: &[u8]) -> Option<(usize, usize)>
 /// Cuts an input at its first line `---`.
 pub fn cut(input: &[u8]) -> Parts<'_>
     ensures parts { AreParts input.now result.schedule.now (option_map (λ t. t.now) result.transcript) }
-    ensures shorter { length result.schedule.now ≤ length input.now }
     ensures whole { IsWhole input.now → IfSome result.transcript (λ t. IsWhole t.now) }
 {
     match mark(input) {

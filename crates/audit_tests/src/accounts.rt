@@ -80,7 +80,7 @@ fn found(alloc: Global, transcript: &[u8]) -> Result<(Status, Vec<u8>), Fail> {
 fn audit_of_first_put_and_get(rt: HostRuntime) -> Result<(), Fail> {
     let (status, text) = found(rt.alloc(), FIRST_TRANSCRIPT)?;
     assert_eq!(rt; status, Status::Done);
-    assert_eq!(rt; text.as_slice(), b"audit ok 1\n");
+    assert_eq!(rt; text.as_slice(), b"audit ok 1\n".as_slice());
     Ok(())
 }
 
@@ -88,7 +88,7 @@ fn audit_of_first_put_and_get(rt: HostRuntime) -> Result<(), Fail> {
 fn last_line_without_its_line_feed(rt: HostRuntime) -> Result<(), Fail> {
     let (status, text) = found(rt.alloc(), &FIRST_TRANSCRIPT[..FIRST_TRANSCRIPT.len() - 1])?;
     assert_eq!(rt; status, Status::Done);
-    assert_eq!(rt; text.as_slice(), b"audit ok 1\n");
+    assert_eq!(rt; text.as_slice(), b"audit ok 1\n".as_slice());
     Ok(())
 }
 
@@ -97,7 +97,7 @@ fn stale_answer(rt: HostRuntime) -> Result<(), Fail> {
     let transcript = replaced(rt.alloc(), FIRST_TRANSCRIPT, ANSWER, b"done 2 get none")?;
     let (status, text) = found(rt.alloc(), &transcript)?;
     assert_eq!(rt; status, Status::Refused);
-    assert_eq!(rt; text.as_slice(), b"stale 2\n");
+    assert_eq!(rt; text.as_slice(), b"stale 2\n".as_slice());
     Ok(())
 }
 
@@ -106,7 +106,7 @@ fn missing_line(rt: HostRuntime) -> Result<(), Fail> {
     let transcript = repeated(rt.alloc(), FIRST_TRANSCRIPT, LAST_DELIVERY, 0)?;
     let (status, text) = found(rt.alloc(), &transcript)?;
     assert_eq!(rt; status, Status::Refused);
-    assert_eq!(rt; text.as_slice(), b"differs 45\n");
+    assert_eq!(rt; text.as_slice(), b"differs 45\n".as_slice());
     Ok(())
 }
 
@@ -156,11 +156,11 @@ fn lines_left_out_and_repeated(rt: HostRuntime) -> Result<(), Fail> {
 fn first_and_further_lines(rt: HostRuntime) -> Result<(), Fail> {
     let (status, text) = found(rt.alloc(), b"")?;
     assert_eq!(rt; status, Status::Refused);
-    assert_eq!(rt; text.as_slice(), b"differs 1\n");
+    assert_eq!(rt; text.as_slice(), b"differs 1\n".as_slice());
     let mut longer = FIRST_TRANSCRIPT.to_vec(rt.alloc())?;
     longer.extend_from_slice(b"got 18\n")?;
     let (status, text) = found(rt.alloc(), &longer)?;
     assert_eq!(rt; status, Status::Refused);
-    assert_eq!(rt; text.as_slice(), b"differs 50\n");
+    assert_eq!(rt; text.as_slice(), b"differs 50\n".as_slice());
     Ok(())
 }
