@@ -17,7 +17,7 @@ use Rattle.text_model.specs.Reading.{IsSchedule}
 use Rattle.audit_model.specs.Audit.{Finding, unreadable, stale, unlawful, differs, too_much, ok, Finds}
 use Rattle.audit_runs.specs.Audited.{IsAudited}
 use Rattle.audit_run.specs.Parts.{AreParts}
-use Rattle.audit_run.specs.Answer.{finding_line, finding_status, IsFound, IsOfParts, bad_line, many_events, judged, IsAnswer}
+use Rattle.audit_run.specs.Answer.{finding_line, finding_status, IsFound, IsJudged, IsOfParts, bad_line, many_events, judged, IsAnswer}
 use Rattle.audit_run.specs.Command.{IsWell, Audits}
 use Rattle.audit_run.proofs.Agreeing.{OneFinding, one_came}
 
@@ -25,33 +25,50 @@ use Rattle.audit_run.proofs.Agreeing.{OneFinding, one_came}
 abbrev pub EveryAudited : Type 0
 EveryAudited = (input text : List ℕ) (events : List Numbered) (pairs : ℕ) → IsSchedule input events → Finds events text (ok pairs) → IsAudited events text pairs
 
-module _ (kept : EveryAudited) (old new : Option (List ℕ)) (input text : List ℕ) (wrote : Wrote old new text) where
-  of_found : (schedule transcript : List ℕ) (events : List Numbered) → AreParts input schedule (Some transcript) → IsSchedule schedule events →
-      (f : Finding) → Finds events transcript f → Done ≡ finding_status f → text ≡ finding_line f → IsWell input old new
-  of_found schedule transcript events parts spells (unreadable k) finds e w = let no : Done ≡ Refused = e in cc
-  of_found schedule transcript events parts spells (stale q) finds e w = let no : Done ≡ Refused = e in cc
-  of_found schedule transcript events parts spells (unlawful k) finds e w = let no : Done ≡ Refused = e in cc
-  of_found schedule transcript events parts spells (differs k) finds e w = let no : Done ≡ Refused = e in cc
-  of_found schedule transcript events parts spells too_much finds e w = let no : Done ≡ Limit = e in cc
-  of_found schedule transcript events parts spells (ok pairs) finds e w = record {
-    schedule = schedule;
-    transcript = transcript;
-    cut = parts;
-    events = events;
-    spells = spells;
-    pairs = pairs;
-    audited = kept schedule transcript events pairs spells finds;
-    wrote = subst (Wrote old new) w wrote;
-  }
+-- Done goes with one finding alone
+done_is_ok : (f : Finding) → Done ≡ finding_status f → (pairs : ℕ) × (f ≡ ok pairs)
+done_is_ok (unreadable k) e = let no : Done ≡ Refused = e in cc
+done_is_ok (stale q) e = let no : Done ≡ Refused = e in cc
+done_is_ok (unlawful k) e = let no : Done ≡ Refused = e in cc
+done_is_ok (differs k) e = let no : Done ≡ Refused = e in cc
+done_is_ok too_much e = let no : Done ≡ Limit = e in cc
+done_is_ok (ok pairs) e = (pairs, refl)
 
-  of_parts : (schedule : List ℕ) (transcript : Option (List ℕ)) → AreParts input schedule transcript → IsOfParts schedule transcript Done text → IsWell input old new
-  of_parts schedule transcript parts (bad_line n bad e w) = let no : Done ≡ Refused = e in cc
-  of_parts schedule transcript parts (many_events many e w) = let no : Done ≡ Limit = e in cc
-  of_parts schedule None parts (judged events spells h) = let no : Done ≡ Refused = h.0 in cc
-  of_parts schedule (Some transcript) parts (judged events spells h) = of_found schedule transcript events parts spells h.finding h.finds h.status_is h.text_is
+-- what was found of the transcript with this text and Done
+record IsFoundWell (schedule : List ℕ) (transcript : Option (List ℕ)) (text : List ℕ) : Type 0 where
+  events : List Numbered
+  spells : IsSchedule schedule events
+  lines : List ℕ
+  is_some : transcript ≡ Some lines
+  found : IsFound events lines Done text
+
+found_in : (events : List Numbered) (transcript : Option (List ℕ)) (text : List ℕ) → IsJudged events transcript Done text → (lines : List ℕ) × ((transcript ≡ Some lines) × IsFound events lines Done text)
+found_in events None text h = let no : Done ≡ Refused = h.0 in cc
+found_in events (Some lines) text h = (lines, (refl, h))
+
+found_well : (schedule : List ℕ) (transcript : Option (List ℕ)) (text : List ℕ) → IsOfParts schedule transcript Done text → IsFoundWell schedule transcript text
+found_well schedule transcript text (bad_line n bad e w) = let no : Done ≡ Refused = e in cc
+found_well schedule transcript text (many_events many e w) = let no : Done ≡ Limit = e in cc
+found_well schedule transcript text (judged events spells h) =
+    let p = found_in events transcript text h in record { events = events; spells = spells; lines = p.0; is_some = p.1.0; found = p.1.1 }
+
+module _ (kept : EveryAudited) (old new : Option (List ℕ)) (input text : List ℕ) (wrote : Wrote old new text) where
+  of_found : (schedule : List ℕ) (transcript : Option (List ℕ)) → AreParts input schedule transcript → IsFoundWell schedule transcript text → IsWell input old new
+  of_found schedule transcript parts h =
+      let is = done_is_ok h.found.finding h.found.status_is in
+      record {
+        schedule = schedule;
+        transcript = h.lines;
+        cut = subst (AreParts input schedule) h.is_some parts;
+        events = h.events;
+        spells = h.spells;
+        pairs = is.0;
+        audited = kept schedule h.lines h.events is.0 h.spells (subst (λ (f : Finding). Finds h.events h.lines f) is.1 h.found.finds);
+        wrote = subst (Wrote old new) (h.found.text_is ∙ ap finding_line is.1) wrote;
+      }
 
 done_says : EveryAudited → (old new : Option (List ℕ)) (input text : List ℕ) → IsAnswer input Done text → Wrote old new text → IsWell input old new
-done_says kept old new input text h wrote = of_parts kept old new input text wrote h.schedule h.transcript h.parts h.stated
+done_says kept old new input text h wrote = of_found kept old new input text wrote h.schedule h.transcript h.parts (found_well h.schedule h.transcript text h.stated)
 
 -- ---- the statuses
 

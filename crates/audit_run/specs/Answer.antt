@@ -13,14 +13,18 @@ use Rattle.replay_command.specs.declared.stop.Stop.TheVariants.{BadLine, TooMany
 use Rattle.audit_run.specs.declared.reply.Reply.{Reply}
 use Rattle.audit_run.specs.Parts.{AreParts}
 
--- the line that says what was found; of pairs 2^64 - 1 where there are more
+-- all is well, with so many pairs, or 2^64 - 1 where there are more
+unfoldable pub ok_line : ℕ → List ℕ
+ok_line pairs = line (codes "audit ok" ++ number (min pairs (2 ^ 64 - 1)))
+
+-- the line that says what was found
 abbrev pub finding_line : Finding → List ℕ
 finding_line (unreadable k) = line (codes "unreadable" ++ number k)
 finding_line (stale request) = line (codes "stale" ++ number request)
 finding_line (unlawful k) = line (codes "unlawful" ++ number k)
 finding_line (differs k) = line (codes "differs" ++ number k)
 finding_line too_much = sent_line
-finding_line (ok pairs) = line (codes "audit ok" ++ number (min pairs (2 ^ 64 - 1)))
+finding_line (ok pairs) = ok_line pairs
 
 -- and the status that goes with it
 abbrev pub finding_status : Finding → Status
