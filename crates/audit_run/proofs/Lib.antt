@@ -4,4 +4,5 @@ mod Closing
 mod Replies
 mod Finding
 mod Agreeing
+mod Stated
 mod Audited

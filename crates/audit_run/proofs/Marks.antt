@@ -35,7 +35,7 @@ all_both : (a b : List (List ℕ)) → HaveNoMark a → HaveNoMark b → HaveNoM
 all_both [] b h k = k
 all_both (l ∷ ls) b h k = (h.0, all_both ls b h.1 k)
 
-abbrev is_feed : ℕ → Bool
+abbrev pub is_feed : ℕ → Bool
 is_feed b = b == 10
 
 -- up to the first line feed, with it, a text is one line

@@ -8,6 +8,7 @@ ghost use Rattle.audit_run.specs.Answer.{IsRefusedFor, IsAnswer};
 ghost use Rattle.audit_run.specs.Command.{Audits};
 
 use crate::findings::found;
+use crate::laws::some_audit_is_stated;
 use crate::parts::cut;
 use crate::reply::{Reply, plain};
 use audit_findings::one_finding;
@@ -110,6 +111,7 @@ pub fn run_audit<I: Source, O: Sink>(alloc: Global, input: &mut I, output: &mut 
 {
     audited_transcripts_keep_promises();
     one_finding();
+    some_audit_is_stated();
     match read_input(alloc, input) {
         Ok(bytes) => audit(alloc, bytes, output),
         Err(stop) => unread(output, stop),
