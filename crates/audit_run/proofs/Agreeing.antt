@@ -1,5 +1,5 @@
 -- One status and one line are stated for an input.
-use Rattle.std.proofs.Common.{◌≡◌, ℕ, zero, suc, ◌+◌, ◌<◌, ◌≤◌, ◌^◌, true, false, ◌==◌, if◌then◌else◌, ◌⊎◌, inl, inr, Option, Some, None, IfSome, List, [], ◌∷◌, ◌++◌, length, refl, sym, ap, ◌∙◌, subst, arith}
+use Rattle.std.proofs.Common.{◌≡◌, ℕ, suc, ◌+◌, ◌<◌, ◌≤◌, ◌^◌, true, false, ◌==◌, if◌then◌else◌, ◌⊎◌, inl, inr, Option, Some, None, IfSome, List, [], ◌∷◌, ◌++◌, length, refl, sym, ap, ◌∙◌, subst, arith}
 use Rattle.std.specs.Prelude.{⊤}
 use Rattle.lab_outside.specs.declared.exit.Status.{Status}
 use Rattle.lab_outside.specs.declared.exit.Status.TheVariants.{Memory as MemoryStatus}
@@ -13,9 +13,8 @@ use Rattle.store_model.specs.Run.{start}
 use Rattle.text_model.specs.Transcript.{turns_text, transcript}
 use Rattle.audit_model.specs.Heard.{AreReadable, IsUnreadable}
 use Rattle.audit_model.specs.Audit.{Finding, DifferFirst, Finds, not_read, not_fresh, not_lawful, other_text, other_before, past_limit, all_well}
-use Rattle.replay_command.specs.Answer.{bad_line_text}
-use Rattle.audit_run.specs.Parts.{mark, HaveNoMark, IsCut, AreParts}
-use Rattle.audit_run.specs.Answer.{finding_line, finding_status, IsFound, IsJudged, IsOfParts, bad_line, many_events, judged, IsAnswer}
+use Rattle.audit_run.specs.Parts.{mark, HaveNoMark, AreParts}
+use Rattle.audit_run.specs.Answer.{finding_status, IsJudged, IsOfParts, bad_line, many_events, judged, IsAnswer}
 
 -- ---- the lines tell the parts
 

@@ -1,5 +1,5 @@
 -- What Done of an audit says, and all that is said of the command.
-use Rattle.std.proofs.Common.{◌≡◌, ℕ, ◌<◌, ◌≤◌, ◌^◌, ◌⊎◌, inl, inr, Option, Some, None, List, length, refl, sym, ap, ◌∙◌, subst, arith}
+use Rattle.std.proofs.Common.{◌≡◌, ℕ, ◌<◌, ◌^◌, Option, Some, None, List, length, refl, sym, ap, ◌∙◌, subst}
 use Rattle.std.specs.Prelude.{⊤}
 use Rattle.lab_outside.specs.declared.ports.Source as source
 use Rattle.lab_outside.specs.declared.ports.Sink as sink
@@ -12,13 +12,21 @@ use Rattle.lab_main.specs.Input.{OfInput}
 use Rattle.lab_main.specs.Edges.{IsUnlinked, Edges}
 use Rattle.lab_main.proofs.Edges.{is_answered}
 use Rattle.lab_main.proofs.Stating.{of_done}
+use Rattle.std.specs.List.{AllByRecursion}
+use Rattle.history_model.specs.declared.record.Record.{Record}
 use Rattle.store_model.specs.declared.event.Numbered.{Numbered}
+use Rattle.store_model.specs.Events.{Turn}
+use Rattle.text_model.specs.Grammar.{lines_of}
+use Rattle.text_model.specs.Transcript.{transcript}
+use Rattle.audit_model.specs.declared.said.Said.{Said}
+use Rattle.audit_model.specs.Heard.{AreReadable}
+use Rattle.audit_model.specs.Printed.{all_prints, IsLawfulPrint}
 use Rattle.text_model.specs.Reading.{IsSchedule}
-use Rattle.audit_model.specs.Audit.{Finding, unreadable, stale, unlawful, differs, too_much, ok, Finds}
+use Rattle.audit_model.specs.Audit.{Finding, unreadable, stale, unlawful, differs, too_much, ok, Finds, ArePrinted}
 use Rattle.audit_runs.specs.Audited.{IsAudited}
 use Rattle.audit_run.specs.Parts.{AreParts}
 use Rattle.audit_run.specs.Answer.{finding_line, finding_status, IsFound, IsJudged, IsOfParts, bad_line, many_events, judged, IsAnswer}
-use Rattle.audit_run.specs.Command.{IsWell, Audits}
+use Rattle.audit_run.specs.Command.{IsWell, OwnTextsAreFresh, Audits}
 use Rattle.audit_run.proofs.Agreeing.{OneFinding, one_came}
 
 -- what is found well keeps what is promised
@@ -33,6 +41,14 @@ done_is_ok (unlawful k) e = let no : Done ≡ Refused = e in cc
 done_is_ok (differs k) e = let no : Done ≡ Refused = e in cc
 done_is_ok too_much e = let no : Done ≡ Limit = e in cc
 done_is_ok (ok pairs) e = (pairs, refl)
+
+-- the account of a run's own transcript
+module _ (Says : List Turn → List Said) (Told : List Turn → List Record)
+    (read : (schedule : List ℕ) (events : List Numbered) (saids : List Said) (turns : List Turn) → IsSchedule schedule events → length schedule < 2 ^ 64 → AllByRecursion IsLawfulPrint (all_prints events saids) →
+    ArePrinted events (all_prints events saids) turns → AreReadable events (lines_of (transcript turns)) (Says turns) (Told turns)) where
+  pub own_readable : (schedule : List ℕ) (events : List Numbered) (saids : List Said) (turns : List Turn) → IsSchedule schedule events → length schedule < 2 ^ 64 → AllByRecursion IsLawfulPrint (all_prints events saids) →
+      ArePrinted events (all_prints events saids) turns → (said : List Said) × ((h : List Record) × AreReadable events (lines_of (transcript turns)) said h)
+  own_readable schedule events saids turns spells short lawful printed = (Says turns, (Told turns, read schedule events saids turns spells short lawful printed))
 
 -- what was found of the transcript with this text and Done
 record IsFoundWell (schedule : List ℕ) (transcript : Option (List ℕ)) (text : List ℕ) : Type 0 where
@@ -128,12 +144,13 @@ no_link result h e = subst IsUnlinked e h
 
 -- all that is said of the command
 module _ {I O : Type 0} (i : source.Ghosts I) (o : sink.Ghosts O) (result : Status) (input input' : I) (output output' : O) where
-  pub audits : OneFinding → EveryAudited → Edges i o (OfInput IsAnswer (i.left input)) result input input' output output' → IsUnlinked result → Audits i o result input input' output output'
-  audits one kept edges statuses =
+  pub audits : OneFinding → EveryAudited → OwnTextsAreFresh → Edges i o (OfInput IsAnswer (i.left input)) result input input' output output' → IsUnlinked result → Audits i o result input input' output output'
+  audits one kept own edges statuses =
       let answered = is_answered i o (OfInput IsAnswer (i.left input)) input input' output output' result edges (no_link result statuses) in
       record {
         edges = edges;
         done = of_done IsAnswer (λ bytes. IsWell bytes (o.written output) (o.written output')) (o.written output) (o.written output') (done_says kept (o.written output) (o.written output')) (i.left input) result edges.writes.whole;
+        own = own;
         statuses = statuses;
         answered = answered;
         complete = one_came one (i.left input) result (o.written output) (o.written output') (Rose (i.faults input) (i.faults input') → ⊥) (Rose (o.faults output) (o.faults output') → ⊥) answered;

@@ -1,12 +1,10 @@
 -- What each step of an audit finds.
-use Rattle.std.proofs.Common.{◌≡◌, ℕ, Result, Ok, Err, IfOk, List, refl, sym, ap, ◌∙◌}
+use Rattle.std.proofs.Common.{◌≡◌, ℕ, Result, Ok, Err, IfOk, List, ap, ◌∙◌}
 use Rattle.std.specs.Prelude.{◌++◌, ◌-◌, ◌^◌, min, codes}
 use Rattle.crdt_core.specs.declared.memory.Memory.{Memory as Why}
-use Rattle.lab_outside.specs.declared.exit.Status.{Status}
-use Rattle.lab_outside.specs.declared.exit.Status.TheVariants.{Done, Refused, Limit}
 use Rattle.layout_roles.specs.Text.{line, number}
 use Rattle.store_model.specs.declared.event.Numbered.{Numbered}
-use Rattle.audit_model.specs.Audit.{Finding, unreadable, stale, unlawful, differs, too_much, ok, Finds}
+use Rattle.audit_model.specs.Audit.{Finding, Finds}
 use Rattle.audit_run.specs.declared.reply.Reply.{Reply}
 use Rattle.audit_run.specs.Answer.{ok_line, finding_line, finding_status, IsFound}
 

@@ -1,5 +1,5 @@
 -- An input is cut at its mark.
-use Rattle.std.proofs.Common.{◌≡◌, ℕ, ◌≤◌, List, ◌∷◌, ◌++◌, length, take, drop, sym, ap, ◌∙◌}
+use Rattle.std.proofs.Common.{◌≡◌, ℕ, List, ◌∷◌, ◌++◌, take, drop, ap, ◌∙◌}
 use Rattle.text_model.specs.Grammar.{lines_of}
 use Rattle.audit_play.specs.Parting.{IsWhole}
 use Rattle.audit_play.proofs.Whole.{is_whole}

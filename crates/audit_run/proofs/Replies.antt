@@ -1,5 +1,5 @@
 -- What is answered, by the parts of an input.
-use Rattle.std.proofs.Common.{◌≡◌, ℕ, Option, Some, None, Result, Ok, Err, IfOk, List, ◌++◌, [], ◌∷◌, refl, sym, ◌∙◌, subst, length, ◌<◌, ◌≤◌, ◌^◌, arith}
+use Rattle.std.proofs.Common.{◌≡◌, ℕ, Option, Some, None, Result, Ok, Err, IfOk, List, refl, sym, ◌∙◌, subst}
 use Rattle.crdt_core.specs.declared.memory.Memory.{Memory as Why}
 use Rattle.store_model.specs.declared.event.Numbered.{Numbered}
 use Rattle.text_model.specs.Grammar.{lines_of}
@@ -10,7 +10,7 @@ use Rattle.audit_run.specs.declared.reply.Reply.{Reply}
 use Rattle.audit_run.specs.Parts.{HaveNoMark, AreParts}
 use Rattle.lab_outside.specs.declared.exit.Status.TheVariants.{Refused}
 use Rattle.std.specs.Prelude.{option_map}
-use Rattle.audit_run.specs.Answer.{no_transcript_line, IsFound, IsJudged, IsOfParts, bad_line, many_events, judged, IsAnswer, IsRefusedFor}
+use Rattle.audit_run.specs.Answer.{no_transcript_line, IsFound, IsJudged, bad_line, many_events, judged, IsAnswer, IsRefusedFor}
 
 module _ (input schedule : List ℕ) (transcript : Option (List ℕ)) (parts : AreParts input schedule transcript) where
   refusal_answers : (stop : Stop) (reply : Reply) → ((n : ℕ) → stop ≡ BadLine n → IsFirstBadLine schedule n) → (stop ≡ TooManyEvents → HasTooManyEvents schedule) → IsRefusedFor stop reply → IsAnswer input reply.status reply.text

@@ -1,5 +1,5 @@
 -- For each input an answer is stated.
-use Rattle.std.proofs.Common.{◌≡◌, ℕ, zero, suc, ◌+◌, ◌<◌, ◌≤◌, Bool, true, false, ◌==◌, Option, Some, None, ◌⊎◌, inl, inr, List, length, take, drop, refl, sym, ◌∙◌, arith, position}
+use Rattle.std.proofs.Common.{◌≡◌, ℕ, zero, suc, ◌+◌, ◌<◌, ◌≤◌, Bool, true, false, ◌==◌, Option, Some, None, ◌⊎◌, inl, inr, List, length, take, drop, refl, arith, position}
 use Rattle.std.specs.Cmp.Lexicographic.{pointwise, same_text, other_text}
 use Rattle.std.proofs.lemmas.Bool.{cases_lt}
 use Rattle.lab_outside.specs.declared.exit.Status.{Status}
@@ -13,7 +13,7 @@ use Rattle.replay_command.specs.Answer.{events_line, bad_line_text}
 use Rattle.audit_run.specs.Parts.{mark, AreParts}
 use Rattle.audit_run.specs.Scanned.{IsScanned, IsMark}
 use Rattle.audit_run.specs.Answer.{finding_line, finding_status, no_transcript_line, IsJudged, IsOfParts, bad_line, many_events, judged, IsAnswer}
-use Rattle.audit_run.proofs.Marks.{is_feed, at_first, none_at_end, at_last, past_last, within, at_mark, goes_on}
+use Rattle.audit_run.proofs.Marks.{is_feed, at_first, none_at_end, at_last, past_last, at_mark, goes_on}
 use Rattle.audit_run.proofs.Parted.{is_cut}
 
 -- ---- each input has parts
@@ -30,23 +30,24 @@ module _ (text : List ℕ) where
   abbrev Found : Type 0
   Found = (o : Option (ℕ × ℕ)) × IsMark text o
 
-  mutual
-    search : (n place : ℕ) → IsScanned text place → length text ≤ n + place → Found
-    search zero place h le = (None, none_at_end text place h (omega arith))
-    search (suc n) place h le = elim (cases_lt place (length text)) [
-      | inl more ↦ by_line n place h le more (position is_feed (drop place text)) refl
-      | inr end ↦ (None, none_at_end text place h end)
-    ]
+  -- one line, and the search behind it
+  by_line : (n place : ℕ) (h : IsScanned text place) → length text ≤ suc n + place → place < length text → ((next : ℕ) → IsScanned text next → length text ≤ n + next → Found) →
+      (o : Option ℕ) → o ≡ position is_feed (drop place text) → Found
+  by_line n place h le more again None e = elim (is_mark_or_not (drop place text)) [
+    | inl is ↦ (Some (place, length text), at_last text place h e more is)
+    | inr not ↦ (None, past_last text place h e more not)
+  ]
+  by_line n place h le more again (Some end) e = elim (is_mark_or_not (take end (drop place text))) [
+    | inl is ↦ (Some (place, place + end + 1), at_mark text place h end e is)
+    | inr not ↦ again (place + end + 1) (goes_on text place h end e not) (omega arith)
+  ]
 
-    by_line : (n place : ℕ) (h : IsScanned text place) → length text ≤ suc n + place → place < length text → (o : Option ℕ) → o ≡ position is_feed (drop place text) → Found
-    by_line n place h le more None e = elim (is_mark_or_not (drop place text)) [
-      | inl is ↦ (Some (place, length text), at_last text place h e more is)
-      | inr not ↦ (None, past_last text place h e more not)
-    ]
-    by_line n place h le more (Some end) e = elim (is_mark_or_not (take end (drop place text))) [
-      | inl is ↦ (Some (place, place + end + 1), at_mark text place h end e is)
-      | inr not ↦ search n (place + end + 1) (goes_on text place h end e not) (omega arith)
-    ]
+  search : (n place : ℕ) → IsScanned text place → length text ≤ n + place → Found
+  search zero place h le = (None, none_at_end text place h (omega arith))
+  search (suc n) place h le = elim (cases_lt place (length text)) [
+    | inl more ↦ by_line n place h le more (λ next k l. search n next k l) (position is_feed (drop place text)) refl
+    | inr end ↦ (None, none_at_end text place h end)
+  ]
 
   found : Found
   found = search (length text) 0 (at_first text) (omega arith)

@@ -1,5 +1,5 @@
 -- What an audit of an input answers: the status and the line that are stated for its bytes.
-use Rattle.std.specs.Prelude.{◌≡◌, ◌-◌, ◌^◌, min, ℕ, Option, Some, None, List, [], ◌∷◌, ◌++◌, codes}
+use Rattle.std.specs.Prelude.{◌≡◌, ◌-◌, ◌^◌, min, ℕ, Option, Some, None, List, ◌++◌, codes}
 use Rattle.lab_outside.specs.declared.exit.Status.{Status}
 use Rattle.lab_outside.specs.declared.exit.Status.TheVariants.{Done, Refused, Limit}
 use Rattle.layout_roles.specs.Text.{line, number}

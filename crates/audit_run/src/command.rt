@@ -11,6 +11,7 @@ use crate::findings::found;
 use crate::laws::some_audit_is_stated;
 use crate::parts::cut;
 use crate::reply::{Reply, plain};
+use audit_accounts::printed_turns_give_their_history;
 use audit_findings::one_finding;
 use audit_runs::{audited_transcripts_keep_promises, schedules_ascend};
 use crdt_core::Memory;
@@ -111,6 +112,7 @@ pub fn run_audit<I: Source, O: Sink>(alloc: Global, input: &mut I, output: &mut 
 {
     audited_transcripts_keep_promises();
     one_finding();
+    printed_turns_give_their_history();
     some_audit_is_stated();
     match read_input(alloc, input) {
         Ok(bytes) => audit(alloc, bytes, output),

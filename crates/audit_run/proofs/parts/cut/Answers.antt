@@ -1,5 +1,5 @@
 use Rattle.std.proofs.lemmas.List.{take_rest}
-use Rattle.audit_run.proofs.Parted.{is_cut, behind_whole}
+use Rattle.audit_run.proofs.Parted.{is_cut}
 use Rattle.audit_run.proofs.parts.cut.Goals as goal
 
 pub returns-in-Some-clause-parts : goal.returns-in-Some-clause-parts

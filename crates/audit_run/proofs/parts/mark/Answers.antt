@@ -2,7 +2,7 @@ use Rattle.std.proofs.Common.{sym, ◌∙◌}
 use Rattle.std.specs.Cmp.Lexicographic.{same_text, other_text}
 use Rattle.std.proofs.lemmas.List.{take_rest}
 use Rattle.audit_run.specs.Parts.{mark}
-use Rattle.audit_run.proofs.Marks.{past_last, at_last, at_mark, goes_on, none_at_end}
+use Rattle.audit_run.proofs.Marks.{past_last, at_mark, goes_on}
 use Rattle.audit_run.proofs.parts.mark.Goals as goal
 
 pub returns-else-eq : goal.returns-else-eq
