@@ -11,7 +11,7 @@ use Rattle.lab_main.specs.Edges.{IsUnlinked}
 use Rattle.lab_main.proofs.Edges.{said_writes}
 use Rattle.workload_run.specs.Answer.{IsOfWorkload}
 use Rattle.garage_lab.specs.declared.command.Command.{Command}
-use Rattle.garage_lab.specs.declared.command.Command.TheVariants.{Layout, Moves, Replay, Check, Items, Workload, Serve}
+use Rattle.garage_lab.specs.declared.command.Command.TheVariants.{Layout, Moves, Replay, Check, Audit, Items, Workload, Serve}
 use Rattle.garage_lab.specs.Command.{AsksFor, IsInRange}
 use Rattle.garage_lab.specs.Run.{IsUsage, Does, TellsUsage}
 use Rattle.garage_lab.proofs.Words.{one_command}
@@ -42,6 +42,7 @@ asked_in_range words Layout asks = tt
 asked_in_range words Moves asks = tt
 asked_in_range words Replay asks = tt
 asked_in_range words Check asks = tt
+asked_in_range words Audit asks = tt
 asked_in_range words Items asks = tt
 asked_in_range words (Workload w) asks = asks.few
 asked_in_range words (Serve s) asks = tt

@@ -7,7 +7,7 @@ use Rattle.schedule_text.specs.Reads.{Finds}
 use Rattle.workload_run.specs.declared.command.Workload as workload_run
 use Rattle.serve_run.specs.declared.server.Server as serve_run
 use Rattle.garage_lab.specs.declared.command.Command.{Command}
-use Rattle.garage_lab.specs.declared.command.Command.TheVariants.{Layout, Moves, Replay, Check, Items, Workload, Serve}
+use Rattle.garage_lab.specs.declared.command.Command.TheVariants.{Layout, Moves, Replay, Check, Audit, Items, Workload, Serve}
 use Rattle.garage_lab.specs.Command.{Spells, AsksForWorkload, AsksForServer, AsksFor, AreRead}
 
 -- a word spells one number
@@ -54,6 +54,7 @@ one_command words Layout Layout h k = refl
 one_command words Layout Moves h k = unlike Layout Moves 1108 2108 (ap mark (sym h ∙ k)) (inl (omega arith))
 one_command words Layout Replay h k = unlike Layout Replay 1108 1114 (ap mark (sym h ∙ k)) (inl (omega arith))
 one_command words Layout Check h k = unlike Layout Check 1108 2114 (ap mark (sym h ∙ k)) (inl (omega arith))
+one_command words Layout Audit h k = unlike Layout Audit 1108 1097 (ap mark (sym h ∙ k)) (inr (omega arith))
 one_command words Layout Items h k = unlike Layout Items 1108 1107 (ap mark (sym h ∙ k)) (inr (omega arith))
 one_command words Layout (Workload w) h k = unlike Layout (Workload w) 1108 3119 (ap mark (sym h ∙ k.spelled)) (inl (omega arith))
 one_command words Layout (Serve t) h k = unlike Layout (Serve t) 1108 3115 (ap mark (sym h ∙ k.spelled)) (inl (omega arith))
@@ -61,6 +62,7 @@ one_command words Moves Layout h k = unlike Moves Layout 2108 1108 (ap mark (sym
 one_command words Moves Moves h k = refl
 one_command words Moves Replay h k = unlike Moves Replay 2108 1114 (ap mark (sym h ∙ k)) (inr (omega arith))
 one_command words Moves Check h k = unlike Moves Check 2108 2114 (ap mark (sym h ∙ k)) (inl (omega arith))
+one_command words Moves Audit h k = unlike Moves Audit 2108 1097 (ap mark (sym h ∙ k)) (inr (omega arith))
 one_command words Moves Items h k = unlike Moves Items 2108 1107 (ap mark (sym h ∙ k)) (inr (omega arith))
 one_command words Moves (Workload w) h k = unlike Moves (Workload w) 2108 3119 (ap mark (sym h ∙ k.spelled)) (inl (omega arith))
 one_command words Moves (Serve t) h k = unlike Moves (Serve t) 2108 3115 (ap mark (sym h ∙ k.spelled)) (inl (omega arith))
@@ -68,6 +70,7 @@ one_command words Replay Layout h k = unlike Replay Layout 1114 1108 (ap mark (s
 one_command words Replay Moves h k = unlike Replay Moves 1114 2108 (ap mark (sym h ∙ k)) (inl (omega arith))
 one_command words Replay Replay h k = refl
 one_command words Replay Check h k = unlike Replay Check 1114 2114 (ap mark (sym h ∙ k)) (inl (omega arith))
+one_command words Replay Audit h k = unlike Replay Audit 1114 1097 (ap mark (sym h ∙ k)) (inr (omega arith))
 one_command words Replay Items h k = unlike Replay Items 1114 1107 (ap mark (sym h ∙ k)) (inr (omega arith))
 one_command words Replay (Workload w) h k = unlike Replay (Workload w) 1114 3119 (ap mark (sym h ∙ k.spelled)) (inl (omega arith))
 one_command words Replay (Serve t) h k = unlike Replay (Serve t) 1114 3115 (ap mark (sym h ∙ k.spelled)) (inl (omega arith))
@@ -75,13 +78,23 @@ one_command words Check Layout h k = unlike Check Layout 2114 1108 (ap mark (sym
 one_command words Check Moves h k = unlike Check Moves 2114 2108 (ap mark (sym h ∙ k)) (inr (omega arith))
 one_command words Check Replay h k = unlike Check Replay 2114 1114 (ap mark (sym h ∙ k)) (inr (omega arith))
 one_command words Check Check h k = refl
+one_command words Check Audit h k = unlike Check Audit 2114 1097 (ap mark (sym h ∙ k)) (inr (omega arith))
 one_command words Check Items h k = unlike Check Items 2114 1107 (ap mark (sym h ∙ k)) (inr (omega arith))
 one_command words Check (Workload w) h k = unlike Check (Workload w) 2114 3119 (ap mark (sym h ∙ k.spelled)) (inl (omega arith))
 one_command words Check (Serve t) h k = unlike Check (Serve t) 2114 3115 (ap mark (sym h ∙ k.spelled)) (inl (omega arith))
+one_command words Audit Layout h k = unlike Audit Layout 1097 1108 (ap mark (sym h ∙ k)) (inl (omega arith))
+one_command words Audit Moves h k = unlike Audit Moves 1097 2108 (ap mark (sym h ∙ k)) (inl (omega arith))
+one_command words Audit Replay h k = unlike Audit Replay 1097 1114 (ap mark (sym h ∙ k)) (inl (omega arith))
+one_command words Audit Check h k = unlike Audit Check 1097 2114 (ap mark (sym h ∙ k)) (inl (omega arith))
+one_command words Audit Audit h k = refl
+one_command words Audit Items h k = unlike Audit Items 1097 1107 (ap mark (sym h ∙ k)) (inl (omega arith))
+one_command words Audit (Workload w) h k = unlike Audit (Workload w) 1097 3119 (ap mark (sym h ∙ k.spelled)) (inl (omega arith))
+one_command words Audit (Serve t) h k = unlike Audit (Serve t) 1097 3115 (ap mark (sym h ∙ k.spelled)) (inl (omega arith))
 one_command words Items Layout h k = unlike Items Layout 1107 1108 (ap mark (sym h ∙ k)) (inl (omega arith))
 one_command words Items Moves h k = unlike Items Moves 1107 2108 (ap mark (sym h ∙ k)) (inl (omega arith))
 one_command words Items Replay h k = unlike Items Replay 1107 1114 (ap mark (sym h ∙ k)) (inl (omega arith))
 one_command words Items Check h k = unlike Items Check 1107 2114 (ap mark (sym h ∙ k)) (inl (omega arith))
+one_command words Items Audit h k = unlike Items Audit 1107 1097 (ap mark (sym h ∙ k)) (inr (omega arith))
 one_command words Items Items h k = refl
 one_command words Items (Workload w) h k = unlike Items (Workload w) 1107 3119 (ap mark (sym h ∙ k.spelled)) (inl (omega arith))
 one_command words Items (Serve t) h k = unlike Items (Serve t) 1107 3115 (ap mark (sym h ∙ k.spelled)) (inl (omega arith))
@@ -89,6 +102,7 @@ one_command words (Workload v) Layout h k = unlike (Workload v) Layout 3119 1108
 one_command words (Workload v) Moves h k = unlike (Workload v) Moves 3119 2108 (ap mark (sym h.spelled ∙ k)) (inr (omega arith))
 one_command words (Workload v) Replay h k = unlike (Workload v) Replay 3119 1114 (ap mark (sym h.spelled ∙ k)) (inr (omega arith))
 one_command words (Workload v) Check h k = unlike (Workload v) Check 3119 2114 (ap mark (sym h.spelled ∙ k)) (inr (omega arith))
+one_command words (Workload v) Audit h k = unlike (Workload v) Audit 3119 1097 (ap mark (sym h.spelled ∙ k)) (inr (omega arith))
 one_command words (Workload v) Items h k = unlike (Workload v) Items 3119 1107 (ap mark (sym h.spelled ∙ k)) (inr (omega arith))
 one_command words (Workload v) (Workload w) h k = ap Workload (one_workload words v w h k)
 one_command words (Workload v) (Serve t) h k = unlike (Workload v) (Serve t) 3119 3115 (ap mark (sym h.spelled ∙ k.spelled)) (inr (omega arith))
@@ -96,24 +110,27 @@ one_command words (Serve s) Layout h k = unlike (Serve s) Layout 3115 1108 (ap m
 one_command words (Serve s) Moves h k = unlike (Serve s) Moves 3115 2108 (ap mark (sym h.spelled ∙ k)) (inr (omega arith))
 one_command words (Serve s) Replay h k = unlike (Serve s) Replay 3115 1114 (ap mark (sym h.spelled ∙ k)) (inr (omega arith))
 one_command words (Serve s) Check h k = unlike (Serve s) Check 3115 2114 (ap mark (sym h.spelled ∙ k)) (inr (omega arith))
+one_command words (Serve s) Audit h k = unlike (Serve s) Audit 3115 1097 (ap mark (sym h.spelled ∙ k)) (inr (omega arith))
 one_command words (Serve s) Items h k = unlike (Serve s) Items 3115 1107 (ap mark (sym h.spelled ∙ k)) (inr (omega arith))
 one_command words (Serve s) (Workload w) h k = unlike (Serve s) (Workload w) 3115 3119 (ap mark (sym h.spelled ∙ k.spelled)) (inl (omega arith))
 one_command words (Serve s) (Serve t) h k = ap Serve (one_server words s t h k)
 
 -- no command has one word but these
-pub none_of_one : (name : List ℕ) → (name ≡ codes "layout" → ⊥) → (name ≡ codes "replay" → ⊥) → (name ≡ codes "k2v" → ⊥) → (c : Command) → AsksFor (name ∷ []) c → ⊥
-none_of_one name layout replay items Layout h = layout (cc)
-none_of_one name layout replay items Replay h = replay (cc)
-none_of_one name layout replay items Items h = items (cc)
-none_of_one name layout replay items Moves h = cc
-none_of_one name layout replay items Check h = cc
-none_of_one name layout replay items (Workload w) h = let is = h.spelled in cc
-none_of_one name layout replay items (Serve s) h = let is = h.spelled in cc
+pub none_of_one : (name : List ℕ) → (name ≡ codes "layout" → ⊥) → (name ≡ codes "replay" → ⊥) → (name ≡ codes "audit" → ⊥) → (name ≡ codes "k2v" → ⊥) → (c : Command) → AsksFor (name ∷ []) c → ⊥
+none_of_one name layout replay audit items Layout h = layout (cc)
+none_of_one name layout replay audit items Replay h = replay (cc)
+none_of_one name layout replay audit items Audit h = audit (cc)
+none_of_one name layout replay audit items Items h = items (cc)
+none_of_one name layout replay audit items Moves h = cc
+none_of_one name layout replay audit items Check h = cc
+none_of_one name layout replay audit items (Workload w) h = let is = h.spelled in cc
+none_of_one name layout replay audit items (Serve s) h = let is = h.spelled in cc
 
 -- nor two words
 pub none_of_two : (name option : List ℕ) → (name ≡ codes "layout" → option ≡ codes "--moves" → ⊥) → (name ≡ codes "replay" → option ≡ codes "--check" → ⊥) → (c : Command) → AsksFor (name ∷ option ∷ []) c → ⊥
 none_of_two name option moves check Moves h = moves (cc) (cc)
 none_of_two name option moves check Check h = check (cc) (cc)
+none_of_two name option moves check Audit h = cc
 none_of_two name option moves check Items h = cc
 none_of_two name option moves check Layout h = cc
 none_of_two name option moves check Replay h = cc
@@ -128,6 +145,7 @@ none_of_three name first second no_workload no_server Layout h = cc
 none_of_three name first second no_workload no_server Moves h = cc
 none_of_three name first second no_workload no_server Replay h = cc
 none_of_three name first second no_workload no_server Check h = cc
+none_of_three name first second no_workload no_server Audit h = cc
 none_of_three name first second no_workload no_server Items h = cc
 
 -- nor any other number of words
@@ -136,6 +154,7 @@ none_of_none Layout h = cc
 none_of_none Moves h = cc
 none_of_none Replay h = cc
 none_of_none Check h = cc
+none_of_none Audit h = cc
 none_of_none Items h = cc
 none_of_none (Workload w) h = let is = h.spelled in cc
 none_of_none (Serve s) h = let is = h.spelled in cc
@@ -145,6 +164,7 @@ none_of_many a b x y more Layout h = cc
 none_of_many a b x y more Moves h = cc
 none_of_many a b x y more Replay h = cc
 none_of_many a b x y more Check h = cc
+none_of_many a b x y more Audit h = cc
 none_of_many a b x y more Items h = cc
 none_of_many a b x y more (Workload w) h = let is = h.spelled in cc
 none_of_many a b x y more (Serve s) h = let is = h.spelled in cc

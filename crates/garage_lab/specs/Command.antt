@@ -4,7 +4,7 @@ use Rattle.std.specs.declared.alloc.Global.{Global}
 use Rattle.workload_run.specs.declared.command.Workload as workload_run
 use Rattle.serve_run.specs.declared.server.Server as serve_run
 use Rattle.garage_lab.specs.declared.command.Command.{Command}
-use Rattle.garage_lab.specs.declared.command.Command.TheVariants.{Layout, Moves, Replay, Check, Items, Workload, Serve}
+use Rattle.garage_lab.specs.declared.command.Command.TheVariants.{Layout, Moves, Replay, Check, Audit, Items, Workload, Serve}
 
 -- the word is a number from 1 to a greatest one, in decimal digits without a leading zero
 abbrev pub Spells : List ℕ → ℕ → ℕ → Type 0
@@ -31,6 +31,7 @@ AsksFor words Layout = words ≡ codes "layout" ∷ []
 AsksFor words Moves = words ≡ codes "layout" ∷ codes "--moves" ∷ []
 AsksFor words Replay = words ≡ codes "replay" ∷ []
 AsksFor words Check = words ≡ codes "replay" ∷ codes "--check" ∷ []
+AsksFor words Audit = words ≡ codes "audit" ∷ []
 AsksFor words Items = words ≡ codes "k2v" ∷ []
 AsksFor words (Workload w) = AsksForWorkload words w
 AsksFor words (Serve s) = AsksForServer words s

@@ -13,11 +13,12 @@ use Rattle.replay_run.specs.declared.account.Account.TheVariants.{Transcript, Ch
 use Rattle.layout_command.specs.declared.command.Goal.TheVariants as goal
 use Rattle.layout_command.specs.Command.{LaysOut}
 use Rattle.replay_command.specs.Replay.{Replays}
+use Rattle.audit_run.specs.Command.{Audits}
 use Rattle.k2v_api.specs.Command.{ReplaysItems}
 use Rattle.workload_run.specs.Answer.{Summarizes}
 use Rattle.serve_run.specs.Command.{Serves}
 use Rattle.garage_lab.specs.declared.command.Command.{Command}
-use Rattle.garage_lab.specs.declared.command.Command.TheVariants.{Layout, Moves, Replay, Check, Items, Workload, Serve}
+use Rattle.garage_lab.specs.declared.command.Command.TheVariants.{Layout, Moves, Replay, Check, Audit, Items, Workload, Serve}
 
 -- the usage goes with its line
 abbrev pub IsUsage : Status → List ℕ → Type 0
@@ -29,6 +30,7 @@ Does i o l c Layout result input input' output output' link link' clock clock' =
 Does i o l c Moves result input input' output output' link link' clock clock' = LaysOut i o goal.Moves result input input' output output' × (link' ≡ link) × (clock' ≡ clock)
 Does i o l c Replay result input input' output output' link link' clock clock' = Replays i o Transcript result input input' output output' × (link' ≡ link) × (clock' ≡ clock)
 Does i o l c Check result input input' output output' link link' clock clock' = Replays i o Checked result input input' output output' × (link' ≡ link) × (clock' ≡ clock)
+Does i o l c Audit result input input' output output' link link' clock clock' = Audits i o result input input' output output' × (link' ≡ link) × (clock' ≡ clock)
 Does i o l c Items result input input' output output' link link' clock clock' = ReplaysItems i o result input input' output output' × (link' ≡ link) × (clock' ≡ clock)
 Does i o l c (Workload w) result input input' output output' link link' clock clock' = Summarizes o w.count w.seed result output output' × (input' ≡ input) × (link' ≡ link) × (clock' ≡ clock)
 Does i o l c (Serve s) result input input' output output' link link' clock clock' = (g : Grammar) → Serves i o l c g s.count result input input' output output' link link' clock clock'

@@ -28,6 +28,8 @@ pub enum Command {
     Replay,
     /// Prints the transcript of a schedule with a check of its reads.
     Check,
+    /// Judges a schedule and the transcript behind it.
+    Audit,
     /// Prints the transcript of a schedule over items.
     Items,
     /// Prints the summary of a generated workload.
@@ -52,6 +54,8 @@ fn of_one(name: &str) -> Option<Command>
         Some(Command::Layout)
     } else if name == "replay" {
         Some(Command::Replay)
+    } else if name == "audit" {
+        Some(Command::Audit)
     } else if name == "k2v" {
         Some(Command::Items)
     } else {

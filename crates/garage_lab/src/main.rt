@@ -3,7 +3,7 @@
 //!
 //! `run` is the program: it takes the words after the program's name, the outside as a source, a sink, a link and a clock, and
 //! answers the status with which the program ends. `command` tells the commands apart; each is a
-//! call of a library of its own: layout_command, replay_command, k2v_api, workload_run, serve_run. `main` makes the outside: standard
+//! call of a library of its own: layout_command, replay_command, audit_run, k2v_api, workload_run, serve_run. `main` makes the outside: standard
 //! input and output, the sockets of 127.0.0.1 and the clock.
 #![tactic(auto)]
 

@@ -4,6 +4,7 @@ ghost use Rattle.garage_lab.specs.Command.{IsInRange, Asks, AskNothing};
 ghost use Rattle.garage_lab.specs.Run.{Does, TellsUsage};
 
 use crate::command::{Command, asked_by};
+use audit_run::run_audit;
 use k2v_api::k2v;
 use lab_main::usage;
 use lab_outside::{Clock, Link, Sink, Source, Status};
@@ -33,6 +34,7 @@ fn run_command<I: Source, O: Sink, L: Link, C: Clock>(
         Command::Moves => run_layout(alloc, Goal::Moves, input, output),
         Command::Replay => run_replay(alloc, Account::Transcript, input, output),
         Command::Check => run_replay(alloc, Account::Checked, input, output),
+        Command::Audit => run_audit(alloc, input, output),
         Command::Items => k2v(alloc, input, output),
         Command::Workload(workload) => run_workload(alloc, workload, output),
         Command::Serve(server) => run_server(alloc, server, input, output, link, clock),
@@ -51,7 +53,7 @@ pub fn run<I: Source, O: Sink, L: Link, C: Clock>(
     requires absent { L.present link.old ≡ None }
 
     // Of each command all that is said of it: how it reads and what it writes (`Edges`), what its answers say and when they
-    // come (`LaysOut`, `Replays`, `ReplaysItems`, `Summarizes`, `Serves`).
+    // come (`LaysOut`, `Replays`, `Audits`, `ReplaysItems`, `Summarizes`, `Serves`).
     ensures does { (command : Command) → Asks words.now command → Does I.Source O.Sink L.Link C.Clock command result input.old input.new
         output.old output.new link.old link.new clock.old clock.new }
 

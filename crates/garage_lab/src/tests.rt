@@ -24,7 +24,7 @@ fn answered(alloc: Global, words: &[&str], input: &[u8]) -> Result<(Status, Vec<
 /// Words and inputs, with the answer and what its text begins with.
 #[test]
 fn words_of_each_command(rt: HostRuntime) -> Result<(), Fail> {
-    let rows: [(&[&str], &[u8], Status, &[u8]); 15] = [
+    let rows: [(&[&str], &[u8], Status, &[u8]); 16] = [
         (&[], b"", Status::Usage, USAGE),
         (&["replay", "x"], b"", Status::Usage, USAGE),
         (&["layouts"], b"", Status::Usage, USAGE),
@@ -47,6 +47,7 @@ fn words_of_each_command(rt: HostRuntime) -> Result<(), Fail> {
             Status::Done,
             b"fresh 0\nend 0 0 0\n",
         ),
+        (&["audit"], b"", Status::Refused, b"no transcript\n"),
         (&["k2v"], b"", Status::Done, b"end 0 0 0\n"),
         (
             &["workload", "5", "0"],

@@ -30,6 +30,12 @@ returns-in-Check-clause-does g c = rw c.in-Check.is (c.run_replay-in-Check.ensur
 pub returns-in-Check-clause-no_usage : goal.returns-in-Check-clause-no_usage
 returns-in-Check-clause-no_usage g c = unlinked_no_usage c.run_replay-in-Check.result c.run_replay-in-Check.ensures.statuses
 
+pub returns-in-Audit-clause-does : goal.returns-in-Audit-clause-does
+returns-in-Audit-clause-does g c = rw c.in-Audit.is (c.run_audit.ensures, refl, refl)
+
+pub returns-in-Audit-clause-no_usage : goal.returns-in-Audit-clause-no_usage
+returns-in-Audit-clause-no_usage g c = unlinked_no_usage c.run_audit.result c.run_audit.ensures.statuses
+
 pub returns-in-Items-clause-does : goal.returns-in-Items-clause-does
 returns-in-Items-clause-does g c = rw c.in-Items.is (c.k2v.ensures, refl, refl)
 

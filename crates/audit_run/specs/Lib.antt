@@ -1,0 +1,5 @@
+pub mod Parts
+pub mod Scanned
+pub mod Answer
+pub mod Judging
+pub mod Command
