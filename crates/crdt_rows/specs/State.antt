@@ -24,6 +24,12 @@ is_complete Uploading = false
 is_complete Aborted = false
 is_complete (Complete b) = true
 
+-- the upload was given up
+abbrev pub is_aborted : State → Bool
+is_aborted Uploading = false
+is_aborted Aborted = true
+is_aborted (Complete b) = false
+
 -- inline bytes are as many as their size says
 abbrev pub is_sized : State → Bool
 is_sized (Complete (Inline m d)) = m.size == length d

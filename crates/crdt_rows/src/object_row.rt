@@ -94,14 +94,17 @@ impl ObjectRow {
         }
     }
 
-    /// The greatest timestamp of the versions, or 0 where there are none.
+    /// The greatest timestamp of the versions that aren't aborted, or 0 where there are none. Takes no memory.
     pub fn greatest_ts(&self) -> u64
         ensures { result ≡ greatest_ts (map_entries self.now.versions) }
     {
-        match self.versions.as_slice().last() {
-            Some((version, _)) => version.ts,
-            None => 0,
+        let mut greatest = 0;
+        for (version, state) in self.versions.as_slice() {
+            if !state.0.is_aborted() {
+                greatest = version.ts.max(greatest);
+            }
         }
+        greatest
     }
 
     fn newest_version(&self) -> Option<Version>

@@ -2,7 +2,7 @@
 ghost use Rattle.std.specs.Prelude.{◌≡◌, refl};
 ghost use Rattle.std.specs.Cmp.{partial_equiv_from_equiv, partial_order_from_total, eq_by_cmp_equiv};
 ghost use Rattle.std.specs.Ordering.{eq_by_cmp, as_partial_cmp};
-ghost use Rattle.crdt_rows.specs.State.{stage, is_complete, is_sized, state_cmp};
+ghost use Rattle.crdt_rows.specs.State.{stage, is_complete, is_aborted, is_sized, state_cmp};
 ghost use Rattle.crdt_rows.specs.StateLaws.{state_total, state_identical};
 
 use crate::body::Body;
@@ -25,6 +25,12 @@ impl State {
         ensures { result ≡ is_complete self.now }
     {
         matches!(self, State::Complete(_))
+    }
+
+    pub fn is_aborted(&self) -> bool
+        ensures { result ≡ is_aborted self.now }
+    {
+        matches!(self, State::Aborted)
     }
 
     /// Inline bytes are as many as their size says; any other state passes.
