@@ -32,6 +32,8 @@ pub enum Answer {
 pub enum Cause {
     Expired,
     Restarted,
+    /// The client gave its upload up, and that it is aborted was stored.
+    Aborted,
     /// With the identifier of the deleted version row.
     Superseded(u64),
 }

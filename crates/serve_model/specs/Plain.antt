@@ -93,7 +93,7 @@ has_at P name = has_among P.entries name
 
 -- nothing changes, and the order ends so
 abbrev pub tells : Plain → FlowEnd → Carried Plain
-tells P end = record { state = P; end = Some end }
+tells P end = record { state = P; end = Some end; begun = None }
 
 -- the version that a write makes: by the clock, but after what is there, and with the number of the order
 abbrev pub version_of : Plain → Name → Version
@@ -113,7 +113,7 @@ meta_made (wish.Content c) = Some (meta_of c)
 abbrev pub writes : Plain → Name → Wish → Carried Plain
 writes P name wish =
     let version = version_of P name in
-    record { state = record P { entries = with_has P.entries name (made version P.block wish) }; end = Some (Stored version (meta_made wish)) }
+    record { state = record P { entries = with_has P.entries name (made version P.block wish) }; end = Some (Stored version (meta_made wish)); begun = None }
 
 -- something is done with the object that is there, if any
 abbrev pub with_object : Plain → Has → (Version → Content → Carried Plain) → Carried Plain
@@ -145,7 +145,7 @@ abbrev pub plain : Store Plain
 plain = record {
   carries = λ P time order.
       let now = at_time P time in
-      if are_buckets now.buckets (buckets_of order) then answered (counted now) order else record { state = now; end = None };
+      if are_buckets now.buckets (buckets_of order) then answered (counted now) order else record { state = now; end = None; begun = None };
 }
 
 -- ---- versions

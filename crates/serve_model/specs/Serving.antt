@@ -75,12 +75,12 @@ GivesUp overflows asks Kept = ⊥
 GivesUp overflows asks Number = overflows asks
 GivesUp overflows asks Memory = ⊤
 
--- what is stated of one request was written, each order that the store was asked fits, and store, clock and counts stand for what is served then; or it was cut off at one of its stops, as the count of faults rose; or it's stated that serving ends, as too many bytes were put or copied, and each order fits too; or it came to one of its stops, as memory was wanting or the order that the store was asked has no room
+-- what is stated of one request was written, each order that the store was asked fits, and store, clock and counts stand for what is served then; or it was cut off at one of its stops, as the count of faults rose; or it's stated that serving ends, as too many bytes were put or copied, and each order fits too; or it came to one of its stops or halts, as memory was wanting or the order that the store was asked has no room
 pub data Serves {S : Type 0} (t : Turn S) (holds : S → Type 0) (known : Known S) (times : Option (List ℕ)) (served : Served) (result : Result Bool ServeFault) (kept : List ℕ) (c d : Connection) : Type 0 where
   done : (on : Bool) → result ≡ Ok on → Wrote c.written d.written t.text → AllByRecursion known.fits t.asks → Stands holds times served t.serving → Continues t.next on kept d.left → c.faults ≤ d.faults → Serves t holds known times served result kept c d
   cut_off : result ≡ Ok false → Rose c.faults d.faults → OneOf (CutOffAt known.fits holds times served c d) t.stops → Serves t holds known times served result kept c d
   limited : result ≡ Err Kept → t.next ≡ exceeds → Wrote c.written d.written t.text → AllByRecursion known.fits t.asks → c.faults ≤ d.faults → Serves t holds known times served result kept c d
-  given_up : (e : ServeFault) → result ≡ Err e → GivesUp known.overflows t.asks e → OneOf (ComesTo known.fits c d) t.stops → c.faults ≤ d.faults → Serves t holds known times served result kept c d
+  given_up : (e : ServeFault) → result ≡ Err e → GivesUp known.overflows t.asks e → OneOf (ComesTo known.fits c d) (t.halts ++ t.stops) → c.faults ≤ d.faults → Serves t holds known times served result kept c d
 
 -- so it is of the bytes that are told to be left
 abbrev pub OnLeft : (List ℕ → Type 0) → Option (List ℕ) → Type 0

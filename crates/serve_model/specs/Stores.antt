@@ -1,13 +1,31 @@
 -- Stores that carry out orders, one after the other.
-use Rattle.std.specs.Prelude.{◌≡◌, ℕ, ⊤, Option, List, [], ◌∷◌}
+use Rattle.std.specs.Prelude.{◌≡◌, ℕ, ⊤, Option, Some, List, [], ◌∷◌}
 use Rattle.std.specs.List.{Contains}
+use Rattle.crdt_rows.specs.declared.version.Version.{Version}
+use Rattle.crdt_rows.specs.declared.body.Meta.{Meta}
 use Rattle.flow_model.specs.declared.order.Order.{Order}
 use Rattle.flow_model.specs.declared.flow.FlowEnd.{FlowEnd}
+use Rattle.flow_model.specs.declared.flow.FlowEnd.TheVariants.{Found}
 
--- the state after an order, and with what it ended; none where it didn't
+-- an object that a get found, and the first of its bytes
+pub record Given : Type 0 where
+  pub version : Version
+  pub meta : Meta
+  pub bytes : List ℕ
+
+-- the state after an order, and with what it ended, none where it didn't; and what a get without an answer had given
 pub record Carried (S : Type 0) : Type 0 where
   pub state : S
   pub end : Option FlowEnd
+  pub begun : Option Given
+
+-- what a get gives: the object with which it ended, or what it had given
+abbrev pub given_with : Option FlowEnd → Option Given → Option Given
+given_with (Some (Found version meta body)) begun = Some (record { version = version; meta = meta; bytes = body })
+given_with end begun = begun
+
+abbrev pub given : {S : Type 0} → Carried S → Option Given
+given c = given_with c.end c.begun
 
 -- what comes of an order that is carried out at a time, in milliseconds since 1970
 pub record Store (S : Type 0) : Type 0 where

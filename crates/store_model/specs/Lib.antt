@@ -2,6 +2,7 @@ pub mod Orders
 pub mod Answers
 pub mod Run
 pub mod Acts
+pub mod Gets
 pub mod Events
 pub mod Turns
 pub mod Fresh
