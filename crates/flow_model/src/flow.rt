@@ -2,7 +2,7 @@
 use block_bytes::Block;
 use crdt_core::{Bytes, List};
 use crdt_rows::{AnyRow, BlockRef, Meta, ObjectRow, Version};
-use object_bytes::ObjectBytes;
+use object_bytes::{ObjectBytes, Pieces};
 use wire_messages::Phase;
 
 /// An object's bucket and key.
@@ -81,7 +81,7 @@ pub enum Stage {
         meta: Meta,
         aim: Aim,
         left: List<BlockRef>,
-        body: Bytes,
+        body: Pieces,
     },
     /// A list asks for a window of rows. `rows` are those to be shown of the windows before it.
     Listing {
@@ -124,7 +124,7 @@ pub enum FlowEnd {
     Found {
         version: Version,
         meta: Meta,
-        body: Bytes,
+        body: Pieces,
     },
     /// A get, head or copy found no object.
     Nothing,

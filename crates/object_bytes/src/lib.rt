@@ -6,5 +6,7 @@
 #![tactic(auto)]
 
 mod body;
+mod pieces;
 
 pub use body::ObjectBytes;
+pub use pieces::Pieces;
