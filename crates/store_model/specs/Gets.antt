@@ -30,10 +30,10 @@ abbrev pub object_given : PhaseEnd AnyRow → Option (Version × Meta)
 object_given (Row value) = object_in (said_of value)
 object_given end = None
 
--- the object that the phases of request q gave
+-- the object that the phases of request q gave first
 abbrev pub object_seen : List Saw → ℕ → Option (Version × Meta)
 object_seen [] q = None
-object_seen (e ∷ es) q = if nat_eq e.request q then option_or (object_given e.end) (object_seen es q) else object_seen es q
+object_seen (e ∷ es) q = if nat_eq e.request q then option_or (object_seen es q) (object_given e.end) else object_seen es q
 
 -- what it waits for, while it does
 abbrev pub stage_of : Option Asked → Option Stage
