@@ -1,5 +1,4 @@
 mod Firsts
-mod Lasts
 mod ObjectFacts
 mod Older
 mod RowFacts
