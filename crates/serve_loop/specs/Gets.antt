@@ -1,5 +1,5 @@
 -- What is known of a get that is on its way.
-use Rattle.std.specs.Prelude.{◌≡◌, ⊤, ⊥, ℕ, List, [], ◌++◌, Option, Some, None}
+use Rattle.std.specs.Prelude.{◌≡◌, ⊤, ℕ, List, [], ◌++◌, Option, Some, None}
 use Rattle.crdt_rows.specs.declared.version.Version.{Version}
 use Rattle.crdt_rows.specs.declared.body.Meta.{Meta}
 use Rattle.flow_model.specs.declared.order.Order.{Order}
@@ -21,12 +21,6 @@ with_piece g piece = record g { bytes = g.bytes ++ piece }
 abbrev pub bytes_of : Option Given → List ℕ
 bytes_of None = []
 bytes_of (Some g) = g.bytes
-
--- what was given is the first of what is given in all
-abbrev pub IsFirstOf : Option Given → Option Given → Type 0
-IsFirstOf None all = ⊤
-IsFirstOf (Some g) None = ⊥
-IsFirstOf (Some g) (Some h) = (g.version ≡ h.version) × (g.meta ≡ h.meta) × ((rest : List ℕ) × (g.bytes ++ rest ≡ h.bytes))
 
 -- the end of a get that told of the bytes that weren't given before
 abbrev pub with_given : Option Given → Option FlowEnd → Option FlowEnd

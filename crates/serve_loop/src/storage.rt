@@ -4,9 +4,9 @@ ghost use Rattle.crdt_core.specs.Outcomes.{WantOr};
 ghost use Rattle.flow_model.specs.declared.order.Order.{Order as Asked};
 ghost use Rattle.flow_model.specs.declared.order.Order.TheVariants.{Get};
 ghost use Rattle.store_model.specs.Acts.{HasKey};
-ghost use Rattle.serve_model.specs.Stores.{Store, Given, given};
+ghost use Rattle.serve_model.specs.Stores.{Store, Given, given, IsFirstOf};
 ghost use Rattle.serve_model.specs.Serving.{HasState, CarriedOut};
-ghost use Rattle.serve_loop.specs.Gets.{IsFirstOf, GoesOn, Gives, IsOnItsWay};
+ghost use Rattle.serve_loop.specs.Gets.{GoesOn, Gives, IsOnItsWay};
 
 use block_bytes::Block;
 use crdt_core::{Bytes, Memory};

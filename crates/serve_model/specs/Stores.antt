@@ -1,5 +1,5 @@
 -- Stores that carry out orders, one after the other.
-use Rattle.std.specs.Prelude.{◌≡◌, ℕ, ⊤, Option, Some, List, [], ◌∷◌}
+use Rattle.std.specs.Prelude.{◌≡◌, ℕ, ⊤, Option, None, Some, List, [], ◌∷◌, ◌++◌}
 use Rattle.std.specs.List.{Contains}
 use Rattle.crdt_rows.specs.declared.version.Version.{Version}
 use Rattle.crdt_rows.specs.declared.body.Meta.{Meta}
@@ -26,6 +26,12 @@ given_with end begun = begun
 
 abbrev pub given : {S : Type 0} → Carried S → Option Given
 given c = given_with c.end c.begun
+
+-- what was given is the first of what is given in all
+abbrev pub IsFirstOf : Option Given → Option Given → Type 0
+IsFirstOf None all = ⊤
+IsFirstOf (Some g) None = ⊥
+IsFirstOf (Some g) (Some h) = (g.version ≡ h.version) × (g.meta ≡ h.meta) × ((rest : List ℕ) × (g.bytes ++ rest ≡ h.bytes))
 
 -- what comes of an order that is carried out at a time, in milliseconds since 1970
 pub record Store (S : Type 0) : Type 0 where
