@@ -224,17 +224,21 @@ module _ {S : Type 0} where
   end_turn r None begun p rest = given_turn r answer.Nothing begun p rest
   end_turn r (Some end) begun p rest = counting (counted_after r.ask end) p (λ q. given_turn r (answer_to r.ask end) begun q rest)
 
+  -- the get, in the middle of which serving may be given up, if the order is one
+  abbrev pub halts_of : Order → Request → Asking S → List (Halt S)
+  halts_of (order.Get bucket key) r a = record { text = []; asks = []; request = r; asking = a } ∷ []
+  halts_of o r a = []
+
   -- what a get is given is written while the store is still at work: serving may be given up in the middle of it
-  abbrev pub giving : Order → Request → Asking S → Turn S → Turn S
-  giving (order.Get bucket key) r a t = record t { halts = record { text = []; asks = []; request = r; asking = a } ∷ t.halts }
-  giving o r a t = t
+  abbrev pub giving : Request → Asking S → Turn S → Turn S
+  giving r a t = record t { halts = halts_of a.order r a ++ t.halts }
 
   -- the store carries out an order, unless it is cut off before
   abbrev pub order_turn : Store S → Request → Order → Serving S → List ℕ → Turn S
   order_turn store r o p rest =
-      let a = record { state = p.store; time = r.time; order = o } in
+      let a : Asking S = record { state = p.store; time = r.time; order = o } in
       let c = store.carries p.store r.time o in
-      passing p (giving o r a (having_asked a (end_turn r c.end c.begun (record p { store = c.state }) rest)))
+      passing p (giving r a (having_asked a (end_turn r c.end c.begun (record p { store = c.state }) rest)))
 
   module _ (store : Store S) (buckets : Buckets) where
     -- nothing refuses the request before the store is asked
