@@ -1,7 +1,9 @@
 -- A get that is opened, and what it gives in all.
-use Rattle.std.proofs.Common.{◌≡◌, ◌≤◌, ◌<◌, ℕ, suc, true, false, Option, Some, None, List, [], ◌∷◌, ◌++◌, length, if◌then◌else◌, refl, sym, ap, ◌∙◌, subst, arith, ne_eqb}
+use Rattle.std.proofs.Common.{◌≡◌, ◌≤◌, ◌<◌, ℕ, suc, true, false, Option, Some, None, List, [], ◌∷◌, ◌++◌, length, if◌then◌else◌, option_map, refl, sym, ap, ◌∙◌, subst, arith, ne_eqb}
 use Rattle.std.specs.List.{AllByRecursion}
 use Rattle.crdt_core.proofs.Each.{all_append}
+use Rattle.crdt_rows.specs.declared.version.Version.{Version}
+use Rattle.crdt_rows.specs.declared.body.Meta.{Meta}
 use Rattle.layout_roles.specs.declared.cut.Cut.{Cut}
 use Rattle.cluster_machine.specs.declared.step.Refusal.{Refusal}
 use Rattle.cluster_machine.specs.declared.step.Refusal.TheVariants.{NotMember, NoSuchBucket}
@@ -16,7 +18,7 @@ use Rattle.flow_model.specs.Flow.{started}
 use Rattle.store_model.specs.Orders.{buckets_of}
 use Rattle.store_model.specs.Run.{State, Asked, Saw, Outcome, refusal, plainly, are_buckets, new_request, opened, begins}
 use Rattle.store_model.specs.Acts.{Act, moves, drain, end_of, acted, after_acts, all_messages}
-use Rattle.store_model.specs.Gets.{object_seen}
+use Rattle.store_model.specs.Gets.{object_seen, found_by, gathered}
 use Rattle.serve_model.specs.Stores.{Given, IsFirstOf, given_with, given}
 use Rattle.serve_model.specs.Clusters.{Cluster, cluster, wait, asker, works, round, acts_to_end, begun_with, number_in, given_by, end_then, begun_then}
 use Rattle.get_laws.specs.OnTheWay.{KnowsRequests, LeavesEnd, IsLater, next_request, asked_for}
@@ -56,6 +58,17 @@ opened_gives s n bucket key known =
 pub goes_on_with : {q : ℕ} (s t u : State) → GivesOn None s q → IsLater q s t → IsLater q t u → IsFirstOf (given_by t q) (given_by u q)
 goes_on_with s t u h then_t then_u = gives_more u (later_gives t u then_u (gives_from t (later_gives s t then_t h)))
 
+-- what was found stays
+found_first : (found more : Option (Version × Meta)) (bytes all : List ℕ) →
+    IsFirstOf (option_map (λ (f : Version × Meta). record { version = f.0; meta = f.1; bytes = bytes }) found) (option_map (λ (f : Version × Meta). record { version = f.0; meta = f.1; bytes = all }) more) →
+    (f : Version × Meta) → found ≡ Some f → more ≡ Some f
+found_first None more bytes all first f is = cc
+found_first (Some x) None bytes all first f is = absurd first
+found_first (Some x) (Some y) bytes all first f is = (λ i. Some (sym first.0 i, sym first.1 i)) ∙ is
+
+pub finds_on : {q : ℕ} (s t u : State) (f : Version × Meta) → GivesOn None s q → IsLater q s t → IsLater q t u → found_by t q ≡ Some f → found_by u q ≡ Some f
+finds_on {q} s t u f h then_t then_u is = found_first (found_by t q) (found_by u q) (gathered t q) (gathered u q) (goes_on_with s t u h then_t then_u) f is
+
 -- ---- the get of a cluster
 
 -- what comes of asking where it isn't refused
@@ -86,13 +99,13 @@ by_equals : (end e : Option FlowEnd) (begun g : Option Given) → end ≡ e → 
 by_equals end e begun g ends gives is = (λ i. given_with (ends i) (begun_with (ends i) (gives i))) ∙ (is ∙ sym gives)
 
 module _ (c : Cluster) (time : ℕ) (bucket key : List ℕ) where
-  abbrev asked : Outcome
+  abbrev pub asked : Outcome
   asked = asked_for c time bucket key
 
-  abbrev number : ℕ
+  abbrev pub number : ℕ
   number = number_in asked.words
 
-  abbrev finished : State
+  abbrev pub finished : State
   finished = after_acts asked.state (acts_to_end c.members)
 
   -- what it gives in all, where it is refused so or not
