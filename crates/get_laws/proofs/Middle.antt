@@ -15,11 +15,11 @@ use Rattle.store_model.specs.Orders.{buckets_of}
 use Rattle.store_model.specs.Run.{State, Outcome, plainly, refusal, are_buckets, opened, begins, delivers, drains}
 use Rattle.store_model.specs.Acts.{Act, moves, asks, drain, acted, after_acts, all_messages}
 use Rattle.store_model.proofs.Drains.{drains_one, drains_none}
-use Rattle.serve_model.specs.Stores.{Given, IsFirstOf, given}
-use Rattle.serve_model.specs.Clusters.{Cluster, cluster, wait, asker, acts_to_ask, acts_to_end, number_in, given_by, GivesSoFar}
-use Rattle.get_laws.specs.OnTheWay.{KnowsRequests, LeavesEnd, IsLater}
+use Rattle.serve_model.specs.Stores.{Given, IsFirstOf}
+use Rattle.serve_model.specs.Clusters.{Cluster, wait, asker, acts_to_ask, acts_to_end, number_in, given_by, GivesSoFar}
+use Rattle.get_laws.specs.OnTheWay.{KnowsRequests, LeavesEnd, IsLater, asked_for, number_of, finished, given_in_all}
 use Rattle.get_laws.proofs.Firsts.{first_through}
-use Rattle.get_laws.proofs.Ending.{acts_leave, asked, number, finished, cluster_gives_first}
+use Rattle.get_laws.proofs.Ending.{acts_leave, cluster_gives_first}
 
 -- ---- deliveries in two parts
 
@@ -64,25 +64,31 @@ refused_number s n o reason is =
 -- ---- in the middle
 
 module _ (c : Cluster) (time : ℕ) (bucket key : List ℕ) (known : KnowsRequests c.run) where
-  abbrev outcome : Outcome
-  outcome = asked c time bucket key
+  abbrev o : Outcome
+  o = asked_for c time bucket key
+
+  abbrev q : ℕ
+  q = number_of c time bucket key
+
+  abbrev last : State
+  last = finished c time bucket key
+
+  abbrev all : Option Given
+  all = given_in_all c time bucket key
 
   -- the time went on
   abbrev ticked : State
   ticked = (acted c.run (moves (plainly (Tick (wait c time))))).state
 
-  abbrev q : ℕ
-  q = number c time bucket key
-
   -- what is done between asking and some deliveries
   module _ (between : List Act) (count : ℕ) (few : count ≤ all_messages) (later : List Act) (parts : acts_to_end c.members ≡ between ++ drain all_messages ∷ later) where
     abbrev reached : State
-    reached = after_acts outcome.state (between ++ drain count ∷ [])
+    reached = after_acts o.state (between ++ drain count ∷ [])
 
     leave : AllByRecursion (LeavesEnd q) (between ++ drain all_messages ∷ later)
     leave = subst (AllByRecursion (LeavesEnd q)) parts (acts_leave q c.members)
 
-    reached_later : IsLater q outcome.state reached
+    reached_later : IsLater q o.state reached
     reached_later = record {
       acts = between ++ drain count ∷ [];
       leave = all_append (LeavesEnd q) between (drain count ∷ []) (all_parts (LeavesEnd q) between (drain all_messages ∷ later) leave).0 (tt, tt);
@@ -90,28 +96,28 @@ module _ (c : Cluster) (time : ℕ) (bucket key : List ℕ) (known : KnowsReques
     }
 
     -- the deliveries that are left, and what follows
-    finished_is : finished c time bucket key ≡ after_acts reached (drain (all_messages - count) ∷ later)
-    finished_is =
-        let r : State = after_acts outcome.state between in
-        let all : count + (all_messages - count) ≡ all_messages = omega (arith, few) in
-        ap (after_acts outcome.state) parts ∙ (acts_parts outcome.state between (drain all_messages ∷ later)
-        ∙ (ap (λ k. after_acts (drains k r).state later) (sym all) ∙ (ap (λ (s : State). after_acts s later) (drains_parts count (all_messages - count) r)
-        ∙ ap (λ (s : State). after_acts s (drain (all_messages - count) ∷ later)) (sym (acts_parts outcome.state between (drain count ∷ []))))))
+    last_is : last ≡ after_acts reached (drain (all_messages - count) ∷ later)
+    last_is =
+        let r : State = after_acts o.state between in
+        let sum : count + (all_messages - count) ≡ all_messages = omega (arith, few) in
+        ap (after_acts o.state) parts ∙ (acts_parts o.state between (drain all_messages ∷ later)
+        ∙ (ap (λ k. after_acts (drains k r).state later) (sym sum) ∙ (ap (λ (s : State). after_acts s later) (drains_parts count (all_messages - count) r)
+        ∙ ap (λ (s : State). after_acts s (drain (all_messages - count) ∷ later)) (sym (acts_parts o.state between (drain count ∷ []))))))
 
-    finished_later : IsLater q reached (finished c time bucket key)
-    finished_later = record {
+    last_later : IsLater q reached last
+    last_later = record {
       acts = drain (all_messages - count) ∷ later;
       leave = (tt, (all_parts (LeavesEnd q) between (drain all_messages ∷ later) leave).1.1);
-      after = finished_is;
+      after = last_is;
     }
 
-    reached_first : (g : Given) (r : Option (Refusal Cut)) → outcome.refused ≡ r → IsFirstOf (Some g) (given_by reached q) → IsFirstOf (Some g) (given (cluster.carries c time (Get bucket key)))
-    reached_first g None taken first = first_through (Some g) (given_by reached q) (given (cluster.carries c time (Get bucket key))) first (cluster_gives_first c time bucket key known taken reached reached_later finished_later)
+    reached_first : (g : Given) (r : Option (Refusal Cut)) → o.refused ≡ r → IsFirstOf (Some g) (given_by reached q) → IsFirstOf (Some g) all
+    reached_first g None taken first = first_through (Some g) (given_by reached q) all first (cluster_gives_first c time bucket key known taken reached (reached_later, last_later))
     reached_first g (Some reason) refused first = absurd (subst (λ n. IsFirstOf (Some g) (given_by reached n)) (refused_number ticked (asker c.members) (Get bucket key) reason refused) first)
 
   -- whatever came before the deliveries
   by_before : (before : List Act) (count : ℕ) (later : List Act) (g : Given) → count ≤ all_messages → acts_to_ask c.members (wait c time) (Get bucket key) ++ acts_to_end c.members ≡ before ++ drain all_messages ∷ later →
-      IsFirstOf (Some g) (given_by (after_acts c.run (before ++ drain count ∷ [])) q) → IsFirstOf (Some g) (given (cluster.carries c time (Get bucket key)))
+      IsFirstOf (Some g) (given_by (after_acts c.run (before ++ drain count ∷ [])) q) → IsFirstOf (Some g) all
   by_before [] count later g few parts first = cc
   by_before (a ∷ []) count later g few parts first = cc
   by_before (a ∷ b ∷ between) count later g few parts first =
@@ -120,9 +126,9 @@ module _ (c : Cluster) (time : ℕ) (bucket key : List ℕ) (known : KnowsReques
       let a_is : a ≡ tick = cc in
       let b_is : b ≡ asking = cc in
       let rest_is : acts_to_end c.members ≡ between ++ drain all_messages ∷ later = cc in
-      reached_first between count few later rest_is g outcome.refused refl
+      reached_first between count few later rest_is g o.refused refl
       (subst (λ (x : Act). IsFirstOf (Some g) (given_by (after_acts c.run (tick ∷ x ∷ between ++ drain count ∷ [])) q)) b_is
       (subst (λ (x : Act). IsFirstOf (Some g) (given_by (after_acts c.run (x ∷ b ∷ between ++ drain count ∷ [])) q)) a_is first))
 
-  pub middle_gives_first : (g : Given) → GivesSoFar c time (Get bucket key) g → IsFirstOf (Some g) (given (cluster.carries c time (Get bucket key)))
+  pub middle_gives_first : (g : Given) → GivesSoFar c time (Get bucket key) g → IsFirstOf (Some g) all
   middle_gives_first g h = by_before h.before h.count h.later g h.few h.parts h.given

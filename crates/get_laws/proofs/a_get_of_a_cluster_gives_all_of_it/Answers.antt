@@ -6,7 +6,7 @@ pub returns-clause-all : goal.returns-clause-all
 returns-clause-all x c time bucket key known taken = cluster_gives_all c time bucket key known taken
 
 pub returns-clause-first : goal.returns-clause-first
-returns-clause-first x c time bucket key t known taken before later = cluster_gives_first c time bucket key known taken t before later
+returns-clause-first x c time bucket key t known taken way = cluster_gives_first c time bucket key known taken t way
 
 pub returns-clause-middle : goal.returns-clause-middle
 returns-clause-middle x c time bucket key g known gives = middle_gives_first c time bucket key known g gives
