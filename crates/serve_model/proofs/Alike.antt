@@ -25,9 +25,9 @@ use Rattle.serve_model.specs.Stores.{Given, Store, Asking}
 use Rattle.serve_model.specs.declared.served.ServeFault.{ServeFault}
 use Rattle.serve_model.specs.declared.served.ServeFault.TheVariants.{Kept, Number, Memory}
 use Rattle.serve_model.specs.Serving.{GivesUp}
-use Rattle.serve_model.specs.Connections.{IsPrefixOf, IsUpTo, IsInto, IsServed, exact, part, AreServed, EndsSo, too_many, begun, halted}
+use Rattle.serve_model.specs.Connections.{IsPrefixOf, IsUpTo, IsInto, exact, part, AreServed, EndsSo, too_many, begun, halted}
 use Rattle.serve_model.specs.Judging.{refusal_of, counted_before, order_of, reply_without, answer_to, counted_after}
-use Rattle.serve_model.specs.Talk.{request_limit, Grammar, Serving, kept_limit, first_of, later_of, time_from, Next, goes, closes, exceeds, Stop, Halt, Turn, request_of, clocked, counted, stop, behind, behind_halt, passing, having_asked, after, said, answer_turn, exceeded, counting, given_turn, end_turn, halts_of, giving, order_turn, plan_turn, judged_turn, whole_turn, body_turn, waiting_turn, request_turn, asked_turn, head_turn, cut_turn, turn, Talk, go_on, talk, interim, bad_head, head_refusal, path_shown, text_of, begun_text, given_text, closes_of}
+use Rattle.serve_model.specs.Talk.{request_limit, Grammar, Serving, kept_limit, first_of, later_of, time_from, Next, goes, closes, exceeds, Stop, Halt, Turn, request_of, clocked, counted, stop, behind, behind_halt, passing, having_asked, after, said, answer_turn, exceeded, counting, given_turn, end_turn, giving, order_turn, plan_turn, judged_turn, whole_turn, body_turn, waiting_turn, request_turn, asked_turn, head_turn, cut_turn, turn, Talk, go_on, talk, interim, bad_head, head_refusal, path_shown, text_of, begun_text, given_text, closes_of}
 use Rattle.serve_model.proofs.Ones.{one_weaker, one_left, one_right, one_mapped, all_mapped, one_at, at_one, at_all, all_under}
 
 -- all of the first of two lists, and of the second

@@ -1,5 +1,5 @@
 -- The stops of a connection lie within it.
-use Rattle.std.proofs.Common.{◌≡◌, ℕ, zero, suc, ◌+◌, ◌==◌, Bool, true, false, nat_le, nat_lt, if◌then◌else◌, Option, Some, None, Result, Ok, Err, List, [], ◌∷◌, ◌++◌, map, length, take, drop, codes, ◌∙◌, refl, sym, ap}
+use Rattle.std.proofs.Common.{ℕ, zero, suc, ◌+◌, ◌==◌, Bool, true, false, nat_le, nat_lt, if◌then◌else◌, Option, Some, None, Result, Ok, Err, List, [], ◌∷◌, ◌++◌, map, length, take, drop, codes, refl}
 use Rattle.std.specs.List.{AllByRecursion}
 use Rattle.crdt_core.proofs.Each.{all_append, all_weaker}
 use Rattle.flow_model.specs.declared.order.Order.{Order}
@@ -19,7 +19,7 @@ use Rattle.serve_model.specs.Admitting.{admitted}
 use Rattle.serve_model.specs.Stores.{Given, Store, Asking}
 use Rattle.serve_model.specs.Connections.{IsPrefixOf, LiesWithin}
 use Rattle.serve_model.specs.Judging.{refusal_of, counted_before, order_of, reply_without, answer_to, counted_after}
-use Rattle.serve_model.specs.Talk.{Grammar, Serving, kept_limit, Next, goes, closes, exceeds, Stop, Turn, request_of, clocked, counted, behind, passing, having_asked, after, said, answer_turn, exceeded, counting, given_turn, end_turn, giving, order_turn, plan_turn, judged_turn, whole_turn, body_turn, waiting_turn, request_turn, asked_turn, head_turn, cut_turn, turn, Talk, go_on, talk, interim, bad_head, head_refusal, path_shown, text_of, given_text, closes_of}
+use Rattle.serve_model.specs.Talk.{Grammar, Serving, kept_limit, Next, goes, closes, exceeds, Stop, Turn, request_of, clocked, counted, behind, passing, having_asked, said, answer_turn, exceeded, counting, given_turn, end_turn, giving, order_turn, plan_turn, judged_turn, whole_turn, body_turn, waiting_turn, request_turn, asked_turn, head_turn, cut_turn, turn, Talk, go_on, talk, interim, bad_head, head_refusal, path_shown, text_of, given_text, closes_of}
 use Rattle.serve_model.proofs.Giving.{prefix_all, prefix_more, prefix_behind}
 use Rattle.serve_model.proofs.Ones.{all_mapped}
 

@@ -29,6 +29,10 @@ IsPrefixOf {A} front all = (rest : List A) × (front ++ rest ≡ all)
 abbrev pub LiesWithin : {S : Type 0} → Talk S → Stop S → Type 0
 LiesWithin t stop = IsPrefixOf stop.text t.text × IsPrefixOf stop.asks t.asks
 
+-- a get in the middle of which serving may be given up lies within a connection: what may be written then is a first part of the connection's text, and the orders before it are the first of those that it asks
+abbrev pub GetLiesWithin : {S : Type 0} → Store S → Talk S → Halt S → Type 0
+GetLiesWithin store t halt = ((g : Given) → gives_asked store halt.asking g → IsPrefixOf (halt.text ++ begun_text halt.request (Some g)) t.text) × IsPrefixOf halt.asks t.asks
+
 module _ {S : Type 0} (store : Store S) (buckets : Buckets) (g : Grammar) where
   -- what is stated of a connection with these bytes
   abbrev pub stated : Serving S → List ℕ → Talk S
