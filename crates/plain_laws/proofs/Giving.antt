@@ -1,5 +1,5 @@
 -- A get in its middle: what it has given is a first part of what the map's get gives, as far as all fits.
-use Rattle.std.proofs.Common.{◌≡◌, ◌*◌, ℕ, true, false, Option, Some, None, List, [], ◌∷◌, ◌++◌, drop, refl, sym, ap, ◌∙◌, subst, inl, inr}
+use Rattle.std.proofs.Common.{◌≡◌, ◌*◌, ℕ, true, false, Option, Some, None, List, [], ◌∷◌, ◌++◌, take, drop, refl, sym, ap, ◌∙◌, subst, inl, inr, arith}
 use Rattle.std.specs.Prelude.{⊤}
 use Rattle.std.specs.List.{AllByRecursion, Contains}
 use Rattle.std.proofs.lemmas.List.{take-append-drop}
@@ -37,7 +37,7 @@ use Rattle.store_model.specs.Acts.{Act, moves, installs, asks, delivery, drain, 
 use Rattle.store_model.specs.Gets.{stage_of}
 use Rattle.serve_model.specs.Stores.{Given, Carried, IsFirstOf, given_with, given}
 use Rattle.serve_model.specs.Clusters.{Cluster, cluster, wait, acts_to_ask, works, round, acts_to_end, number_in, given_by, asking, GivesSoFar}
-use Rattle.serve_model.specs.Plain.{Has, never, deleted, object, Plain, has_at, at_time, counted, tells, with_object, answered, plain}
+use Rattle.serve_model.specs.Plain.{Has, never, deleted, object, Plain, has_at, row_of, at_time, counted, tells, with_object, answered, plain}
 use Rattle.get_laws.specs.OnTheWay.{LeavesEnd}
 use Rattle.get_laws.proofs.Firsts.{first_same, first_through}
 use Rattle.get_laws.proofs.Getting.{Seen, WaitsWith, EndsWith, IsAt, given_at}
@@ -235,7 +235,7 @@ module _ (c : Cluster) (P : Plain) (h : Holds c P) (time : ℕ) (bucket key : Li
     abbrev its_flow : Flow
     its_flow = looking q before.block name aim.Get
 
-    abbrev its_end : EndsAs its_flow _ after (answered after get)
+    abbrev its_end : EndsAs its_flow (row_of name (has_at P name)) after (answered after get)
     its_end = get_ends q before.block name after (has_at P name) in_row
 
     row_gives : GivesOnTheWay
@@ -255,7 +255,9 @@ module _ (c : Cluster) (P : Plain) (h : Holds c P) (time : ℕ) (bucket key : Li
 
     -- its first blocks, and the rest
     in_parts : (i : ℕ) → pieces block content.body 0 i ++ drop (i * block) content.body ≡ content.body
-    in_parts i = ap (λ bytes. bytes ++ drop (i * block) content.body) (cut block content.body 0 i) ∙ take-append-drop (i * block) content.body
+    in_parts i =
+        let none : 0 * block ≡ 0 = omega arith in
+        ap (λ bytes. bytes ++ drop (i * block) content.body) (cut block content.body 0 i ∙ ap (λ k. take (i * block) (drop k content.body)) none) ∙ take-append-drop (i * block) content.body
 
     waits_in : (flow : Flow) (phase : Phase AnyRow) → ItsCourse flow phase → IsPart flow
     waits_in flow phase (inl looks) = subst IsPart (sym looks.0) tt

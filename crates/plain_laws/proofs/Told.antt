@@ -1,5 +1,5 @@
 -- How orders end: the map answers each whose buckets are there, and where there is an answer nothing else was given.
-use Rattle.std.proofs.Common.{◌≡◌, ℕ, true, Option, Some, None, refl, sym, ◌∙◌, subst}
+use Rattle.std.proofs.Common.{◌≡◌, ℕ, true, false, Option, Some, None, refl, sym, ◌∙◌, subst}
 use Rattle.std.specs.Prelude.{if◌then◌else◌}
 use Rattle.crdt_rows.specs.declared.version.Version.{Version}
 use Rattle.layout_roles.specs.declared.cut.Cut.{Cut}
