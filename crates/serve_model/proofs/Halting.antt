@@ -18,12 +18,16 @@ use Rattle.serve_model.specs.declared.admitted.Admitted.{Admitted}
 use Rattle.serve_model.specs.declared.buckets.Buckets.{Buckets}
 use Rattle.serve_model.specs.declared.request.Request.{Request}
 use Rattle.serve_model.specs.Admitting.{admitted}
-use Rattle.serve_model.specs.Stores.{Given, Store, Asking, IsFirstOf, GivesFirst, given_with, gives_asked}
+use Rattle.serve_model.specs.Stores.{Given, Store, Asking, IsFirstOf, given, given_with, gives_asked}
 use Rattle.serve_model.specs.Connections.{IsPrefixOf, GetLiesWithin}
 use Rattle.serve_model.specs.Judging.{refusal_of, counted_before, order_of, answer_to, counted_after}
 use Rattle.serve_model.specs.Talk.{Grammar, Serving, kept_limit, Next, goes, closes, exceeds, Halt, Turn, request_of, clocked, counted, behind_halt, passing, having_asked, exceeded, counting, given_turn, end_turn, order_turn, plan_turn, judged_turn, whole_turn, answer_turn, body_turn, waiting_turn, request_turn, asked_turn, head_turn, cut_turn, turn, Talk, go_on, talk, interim, begun_text}
 use Rattle.serve_model.proofs.Giving.{prefix_more, prefix_behind, given_lies}
 use Rattle.serve_model.proofs.Ones.{all_mapped}
+
+-- what may be given in the middle of a get is the first of what is given in all
+abbrev GivesFirst : {S : Type 0} → Store S → Type 0
+GivesFirst {S} store = (s : S) (time : ℕ) (bucket key : List ℕ) (g : Given) → store.gives s time (order.Get bucket key) g → IsFirstOf (Some g) (given (store.carries s time (order.Get bucket key)))
 
 module _ {S : Type 0} (store : Store S) (first : GivesFirst store) where
   -- of a text and of orders
