@@ -150,7 +150,7 @@ ended_from buckets g p s P came gone bytes last fault h apart clear served ends 
       serving = k.serving;
       are_served = k.are_served;
       ends = ended_alike changing plain (HoldsSuch such hash apart clear) (MaySuch hash) (PutsSuch such hash apart clear) (answers such hash apart clear) buckets g (λ asks. ⊤) s k.serving bytes last fault k.alike k.meant.0
-          (ends_such hash buckets g (stated changing buckets g s bytes) last fault (λ asks. ⊤) (λ x a. others x (inl a)) ends);
+          (ends_such hash buckets g s bytes last fault (λ asks. ⊤) (λ x a. others x (inl a)) ends);
     }
 
 -- one request
