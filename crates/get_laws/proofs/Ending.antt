@@ -32,7 +32,7 @@ none_seen : (saw : List Saw) (n q : ℕ) → n < q → AllByRecursion (λ (e : S
 none_seen [] n q above h = refl
 none_seen (e ∷ es) n q above h = (let low = h.0 in rw (ne_eqb e.request q (λ same. omega (arith, same, low, above))) (none_seen es n q above h.1))
 
-none_ended : (ends : List (ℕ × FlowEnd)) (n q : ℕ) → n < q → AllByRecursion (λ (e : ℕ × FlowEnd). e.0 ≤ n) ends → end_of ends q ≡ None
+pub none_ended : (ends : List (ℕ × FlowEnd)) (n q : ℕ) → n < q → AllByRecursion (λ (e : ℕ × FlowEnd). e.0 ≤ n) ends → end_of ends q ≡ None
 none_ended [] n q above h = refl
 none_ended (e ∷ es) n q above h = (let low = h.0 in rw (ne_eqb e.0 q (λ same. omega (arith, same, low, above))) (none_ended es n q above h.1))
 
