@@ -3,16 +3,17 @@ use Rattle.std.specs.Prelude.{ℕ, zero, suc, ◌+◌, Bool, true, false, ◌||�
 use Rattle.flow_model.specs.declared.order.Order.{Order}
 use Rattle.flow_model.specs.declared.order.Order.TheVariants as order
 use Rattle.flow_model.specs.declared.flow.FlowEnd.{FlowEnd}
-use Rattle.flow_model.specs.declared.flow.FlowEnd.TheVariants.{Found}
 use Rattle.http_model.specs.declared.head.Head.{Head}
 use Rattle.http_model.specs.Cut.{Cut, ends, too_long, unfinished, cut}
 use Rattle.http_model.specs.Heads.{IsReading}
+use Rattle.s3_model.specs.declared.ask.Ask.{Ask}
+use Rattle.s3_model.specs.declared.ask.Ask.TheVariants as ask
 use Rattle.s3_model.specs.declared.fault.Code.{Code}
 use Rattle.s3_model.specs.declared.fault.Code.TheVariants.{InvalidRequest, IncompleteBody}
 use Rattle.s3_model.specs.declared.fault.S3Fault.{S3Fault}
 use Rattle.s3_model.specs.declared.reply.Reply.{Reply}
 use Rattle.s3_model.specs.declared.reply.Reply.TheVariants.{Refused}
-use Rattle.s3_model.specs.Answer.{answer_text}
+use Rattle.s3_model.specs.Answer.{found_text, answer_text}
 use Rattle.s3_model.specs.Asks.{is_method}
 use Rattle.s3_model.specs.Connections.{closes as closes_after_head, expects}
 use Rattle.s3_model.specs.Faults.{fault_of, closes_after}
@@ -83,11 +84,18 @@ pub record Stop (S : Type 0) : Type 0 where
   pub asks : List (Asking S)
   pub serving : Serving S
 
--- what comes of one request: what is written, where it may be cut off, where serving may be given up beside these places, what the store is asked, what is served from then on, and how the connection goes on
+-- a get in the middle of which serving may be given up: what was written and which orders the store was asked before it, the request, and what is asked
+pub record Halt (S : Type 0) : Type 0 where
+  pub text : List ℕ
+  pub asks : List (Asking S)
+  pub request : Request
+  pub asking : Asking S
+
+-- what comes of one request: what is written, where it may be cut off, in which gets serving may be given up, what the store is asked, what is served from then on, and how the connection goes on
 pub record Turn (S : Type 0) : Type 0 where
   pub text : List ℕ
   pub stops : List (Stop S)
-  pub halts : List (Stop S)
+  pub halts : List (Halt S)
   pub asks : List (Asking S)
   pub serving : Serving S
   pub next : Next
@@ -129,13 +137,20 @@ text_of r (answer.Reply reply) = answer_text (Some r.ask) reply r.time r.closes
 text_of r (answer.Refusal code) = answer_text (Some r.ask) (refusal r code) r.time (closes_with r code)
 text_of r answer.Nothing = []
 
+-- the answer to a get that found an object, of which these bytes are given; to any other ask nothing
+abbrev pub get_text : Ask → Given → ℕ → Bool → List ℕ
+get_text (ask.Get bucket key range) g now close = found_text range g.version g.meta g.bytes now close
+get_text _ g now close = []
+
 -- a get without an answer may have got a first part of one: the head, and those bytes of its range that had come
 abbrev pub begun_text : Request → Option Given → List ℕ
 begun_text r None = []
-begun_text r (Some b) = elim (answer_to r.ask (Found b.version b.meta b.bytes)) as (λ a. List ℕ) [
-  | answer.Reply reply ↦ answer_text (Some r.ask) reply r.time r.closes
-  | _ ↦ []
-]
+begun_text r (Some g) = get_text r.ask g r.time r.closes
+
+-- the bytes with which a request is answered, or those that it got without an answer
+abbrev pub given_text : Request → Answer → Option Given → List ℕ
+given_text r answer.Nothing begun = begun_text r begun
+given_text r a begun = text_of r a
 
 -- whether the connection closes after them; without an answer it does
 abbrev pub closes_of : Request → Answer → Bool
@@ -168,17 +183,21 @@ module _ {S : Type 0} where
   abbrev pub behind : List ℕ → List (Asking S) → Stop S → Stop S
   behind text asks s = record { text = text ++ s.text; asks = asks ++ s.asks; serving = s.serving }
 
+  -- a get before which this text was written and these orders were asked too
+  abbrev pub behind_halt : List ℕ → List (Asking S) → Halt S → Halt S
+  behind_halt text asks h = record h { text = text ++ h.text; asks = asks ++ h.asks }
+
   -- it may be cut off here already, with nothing written
   abbrev pub passing : Serving S → Turn S → Turn S
   passing p t = record t { stops = stop [] p ∷ t.stops }
 
   -- the store was asked this before
   abbrev pub having_asked : Asking S → Turn S → Turn S
-  having_asked a t = record t { stops = map (behind [] (a ∷ [])) t.stops; halts = map (behind [] (a ∷ [])) t.halts; asks = a ∷ t.asks }
+  having_asked a t = record t { stops = map (behind [] (a ∷ [])) t.stops; halts = map (behind_halt [] (a ∷ [])) t.halts; asks = a ∷ t.asks }
 
   -- something was written before
   abbrev pub after : List ℕ → Turn S → Turn S
-  after text t = record t { text = text ++ t.text; stops = map (behind text []) t.stops; halts = map (behind text []) t.halts }
+  after text t = record t { text = text ++ t.text; stops = map (behind text []) t.stops; halts = map (behind_halt text []) t.halts }
 
   -- something is written, in which it may be cut off, and then the connection closes or goes on with the rest
   abbrev pub said : List ℕ → Bool → Serving S → List ℕ → Turn S
@@ -198,24 +217,28 @@ module _ {S : Type 0} where
 
   -- a request is answered, or it isn't: then the connection closes, and a get may have got a first part of an answer
   abbrev pub given_turn : Request → Answer → Option Given → Serving S → List ℕ → Turn S
-  given_turn r answer.Nothing begun p rest = said (begun_text r begun) true p rest
-  given_turn r a begun p rest = answer_turn r a p rest
+  given_turn r a begun p rest = said (given_text r a begun) (closes_of r a) p rest
 
   -- the store has carried out what a request asks, which ended so; without an end there is no answer
   abbrev pub end_turn : Request → Option FlowEnd → Option Given → Serving S → List ℕ → Turn S
   end_turn r None begun p rest = given_turn r answer.Nothing begun p rest
   end_turn r (Some end) begun p rest = counting (counted_after r.ask end) p (λ q. given_turn r (answer_to r.ask end) begun q rest)
 
-  -- what a get is given is written while the store is still at work: a first part of it may be written when serving is given up
-  abbrev pub giving : Order → Serving S → Turn S → Turn S
-  giving (order.Get bucket key) p t = record t { halts = stop t.text p ∷ t.halts }
-  giving o p t = t
+  -- the get, in the middle of which serving may be given up, if the order is one
+  abbrev pub halts_of : Order → Request → Asking S → List (Halt S)
+  halts_of (order.Get bucket key) r a = record { text = []; asks = []; request = r; asking = a } ∷ []
+  halts_of o r a = []
+
+  -- what a get is given is written while the store is still at work: serving may be given up in the middle of it
+  abbrev pub giving : Request → Asking S → Turn S → Turn S
+  giving r a t = record t { halts = halts_of a.order r a ++ t.halts }
 
   -- the store carries out an order, unless it is cut off before
   abbrev pub order_turn : Store S → Request → Order → Serving S → List ℕ → Turn S
   order_turn store r o p rest =
+      let a : Asking S = record { state = p.store; time = r.time; order = o } in
       let c = store.carries p.store r.time o in
-      passing p (giving o p (having_asked (record { state = p.store; time = r.time; order = o }) (end_turn r c.end c.begun (record p { store = c.state }) rest)))
+      passing p (giving r a (having_asked a (end_turn r c.end c.begun (record p { store = c.state }) rest)))
 
   module _ (store : Store S) (buckets : Buckets) where
     -- nothing refuses the request before the store is asked
@@ -265,11 +288,11 @@ module _ {S : Type 0} where
       abbrev pub turn : Bool → Serving S → List ℕ → Turn S
       turn last p bytes = passing p (cut_turn last p (cut bytes))
 
--- what is written to a connection, where it may be cut off, where serving may be given up beside these places, what the store is asked, one order after the other, what is served then, and whether serving ends with it
+-- what is written to a connection, where it may be cut off, in which gets serving may be given up, what the store is asked, one order after the other, what is served then, and whether serving ends with it
 pub record Talk (S : Type 0) : Type 0 where
   pub text : List ℕ
   pub stops : List (Stop S)
-  pub halts : List (Stop S)
+  pub halts : List (Halt S)
   pub asks : List (Asking S)
   pub serving : Serving S
   pub is_over : Bool
@@ -282,7 +305,7 @@ module _ {S : Type 0} where
       record {
         text = t.text ++ u.text;
         stops = t.stops ++ map (behind t.text t.asks) u.stops;
-        halts = t.halts ++ map (behind t.text t.asks) u.halts;
+        halts = t.halts ++ map (behind_halt t.text t.asks) u.halts;
         asks = t.asks ++ u.asks;
         serving = u.serving;
         is_over = u.is_over;
