@@ -1,4 +1,3 @@
 pub mod Days
 pub mod Appends
 pub mod Phrases
-pub mod Portions

@@ -1,6 +1,0 @@
-pub mod Firsts
-pub mod Knowing
-pub mod Getting
-pub mod Acting
-pub mod Ending
-pub mod Middle
