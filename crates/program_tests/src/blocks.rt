@@ -1,5 +1,4 @@
-//! Gets of an object that is kept in three blocks: the answers are those that were worked out by hand from docs/S3.md,
-//! whatever the range.
+//! Gets of an object that is kept in three blocks: the answers are those that were worked out by hand from docs/S3.md.
 use crate::recorder::recorded;
 use crate::served::served_with;
 use lab_outside::Status;
@@ -39,12 +38,6 @@ const WHOLE: &[u8] = b"\
     Date: Tue, 14 Nov 2023 22:13:20 GMT\r\n\
     Content-Length: ";
 
-/// The same of a part.
-const PART: &[u8] = b"\
-    HTTP/1.1 206 Partial Content\r\n\
-    Date: Tue, 14 Nov 2023 22:13:20 GMT\r\n\
-    Content-Length: ";
-
 /// What follows the length.
 const SAID: &[u8] = b"\r\n\
     ETag: \"62eef9098248db26703241f9f7144599\"\r\n\
@@ -60,28 +53,6 @@ const NO_RANGE: &[u8] = b"\
     Content-Type: application/xml\r\n\r\n\
     <?xml version=\"1.0\" encoding=\"UTF-8\"?>\n\
     <Error><Code>InvalidRange</Code><Message>InvalidRange</Message><Resource>/pics/a</Resource></Error>";
-
-/// A range that is asked, the length and the place that the answer names, and the bytes from the first to before the last.
-type Range = (&'static [u8], &'static [u8], &'static [u8], usize, usize);
-
-/// Within a block, at its borders, across one and two of them, from the end, and past it.
-const RANGES: &[Range] = &[
-    (b"0-0", b"1", b"0-0", 0, 1),
-    (b"0-4095", b"4096", b"0-4095", 0, 4096),
-    (b"4095-4095", b"1", b"4095-4095", 4095, 4096),
-    (b"4095-4096", b"2", b"4095-4096", 4095, 4097),
-    (b"4096-4096", b"1", b"4096-4096", 4096, 4097),
-    (b"4096-8191", b"4096", b"4096-8191", 4096, 8192),
-    (b"100-8299", b"8200", b"100-8299", 100, 8300),
-    (b"8191-", b"1001", b"8191-9191", 8191, 9192),
-    (b"8192-9191", b"1000", b"8192-9191", 8192, 9192),
-    (b"9191-", b"1", b"9191-9191", 9191, 9192),
-    (b"9000-20000", b"192", b"9000-9191", 9000, 9192),
-    (b"-1", b"1", b"9191-9191", 9191, 9192),
-    (b"-1000", b"1000", b"8192-9191", 8192, 9192),
-    (b"-1001", b"1001", b"8191-9191", 8191, 9192),
-    (b"-20000", b"9192", b"0-9191", 0, 9192),
-];
 
 /// Texts, one after the other.
 fn joined(alloc: Global, texts: &[&[u8]]) -> Result<Vec<u8>, Fail> {
@@ -119,47 +90,6 @@ fn answer_to(alloc: Global, ask: &[u8]) -> Result<(Status, Vec<u8>), Fail> {
         None => return Err("the put".into()),
     };
     Ok((end.status, answer.to_vec(alloc)?))
-}
-
-/// What a get of this range is to be answered.
-fn part(
-    alloc: Global,
-    object: &[u8],
-    (_, length, place, from, to): Range,
-) -> Result<Vec<u8>, Fail> {
-    let bytes = match object.get(from..to) {
-        Some(bytes) => bytes,
-        None => return Err("a range of the object".into()),
-    };
-    joined(
-        alloc,
-        &[
-            PART,
-            length,
-            SAID,
-            b"Content-Range: bytes ",
-            place,
-            b"/9192\r\n\r\n",
-            bytes,
-        ],
-    )
-}
-
-#[test]
-fn ranges_across_blocks(rt: HostRuntime) -> Result<(), Fail> {
-    let alloc = rt.alloc();
-    let object = object(alloc)?;
-    for range in RANGES {
-        let (asked, ..) = *range;
-        let ask = joined(
-            alloc,
-            &[b"GET /pics/a HTTP/1.1\r\nRange: bytes=", asked, b"\r\n\r\n"],
-        )?;
-        let (status, answer) = answer_to(alloc, &ask)?;
-        assert_eq!(rt; status, Status::Done);
-        assert!(rt; answer == part(alloc, &object, *range)?, "{asked:?}");
-    }
-    Ok(())
 }
 
 /// The whole object, its head, and the object for a client that waits for the connection's end.
