@@ -32,11 +32,6 @@ opened_count w n m =
     let request : Request = record { coordinator = n; is_open = true } in
     rw m (length_push w.requests request ∙ add-one (length w.requests))
 
--- one more element that has what all have
-pub all_push : {A : Type 0} (P : A → Type 0) (xs : List A) (x : A) → AllByRecursion P xs → P x → AllByRecursion P (xs ++ x ∷ [])
-all_push P [] x all here = (here, tt)
-all_push P (y ∷ xs) x all here = (all.0, all_push P xs x all.1 here)
-
 module _ {F : Type 0} (old : Driver F) (node : ℕ) (order : Order) (block : ℕ) (mid : World S3Schema AnyRow) (report : Report AnyRow) (first : Steps any_join words old.world mid report (Open node)) where
   abbrev here : State → Model AnyRow
   here s = next any_join words s.world (plainly (Open node))

@@ -61,38 +61,35 @@ abbrev pub with_block : Option (List (List ℕ)) → List ℕ → Option (List (
 with_block None block = Some (block ∷ [])
 with_block (Some blocks) block = Some (blocks ++ block ∷ [])
 
--- the blocks that wait once a phase of a request that waits so gave this: a block that it gathers is one of them
-abbrev pub blocks_after : Option (List (List ℕ)) → Stage → PhaseEnd AnyRow → Option (List (List ℕ))
-blocks_after blocks (Gathering version meta aim left body) (Block bytes) = with_block blocks bytes
-blocks_after blocks stage end = blocks
+-- what a request of this kind found, once a phase of it gave this: only a get finds anything
+abbrev pub found_after : Kind → Option (Version × Meta) → PhaseEnd AnyRow → Option (Version × Meta)
+found_after Get found end = option_or found (object_given end)
+found_after kind found end = found
 
--- what is kept of a request of this kind once a phase of it gave this
-abbrev pub heard_as : Kind → Asked → Stage → PhaseEnd AnyRow → Asked
-heard_as Get a stage end = record a { found = option_or a.found (object_given end); blocks = blocks_after a.blocks stage end }
-heard_as kind a stage end = a
+-- the blocks that wait once a phase of a request that waited so gave this: what a get gathers is one of them
+abbrev pub blocks_after : Kind → Option (List (List ℕ)) → Stage → PhaseEnd AnyRow → Option (List (List ℕ))
+blocks_after Get blocks (Gathering version meta aim left body) (Block bytes) = with_block blocks bytes
+blocks_after kind blocks stage end = blocks
 
+-- what is kept of a request once a phase of it gave this
 abbrev pub heard : Asked → Stage → PhaseEnd AnyRow → Asked
-heard a stage end = heard_as a.kind a stage end
+heard a stage end = record a { found = found_after a.kind a.found end; blocks = blocks_after a.kind a.blocks stage end }
 
--- a get waits so
-abbrev pub IsGetStage : Stage → Type 0
-IsGetStage (Looking name aim.Get) = ⊤
-IsGetStage (Opening version meta aim.Get) = ⊤
-IsGetStage (Gathering version meta aim.Get left body) = ⊤
-IsGetStage stage = ⊥
+-- a get waits so; before it gathers no block came, and none of its bytes before the first
+abbrev pub IsWaitingGet : Option (List (List ℕ)) → Stage → Type 0
+IsWaitingGet blocks (Looking name aim.Get) = blocks ≡ None
+IsWaitingGet blocks (Opening version meta aim.Get) = blocks ≡ None
+IsWaitingGet blocks (Gathering version meta aim.Get left body) = blocks ≡ None → body ≡ []
+IsWaitingGet blocks stage = ⊥
 
--- while a get waits, no byte came before its first block
-abbrev pub IsReadingIn : Option (List (List ℕ)) → Option Flow → Type 0
-IsReadingIn blocks None = ⊤
-IsReadingIn blocks (Some flow) = IsGetStage flow.stage × (blocks ≡ None → gathered_at (Some flow.stage) ≡ [])
-
--- a get waits as gets do; of other requests no block waits to be handed out
-abbrev pub IsReadingAs : Kind → Asked → Type 0
-IsReadingAs Get a = IsReadingIn a.blocks a.flow
-IsReadingAs kind a = a.blocks ≡ None
+-- a get waits so, if it does; of other requests no block waits to be handed out
+abbrev pub IsReadingAs : Kind → Option (List (List ℕ)) → Option Flow → Type 0
+IsReadingAs Get blocks None = ⊤
+IsReadingAs Get blocks (Some flow) = IsWaitingGet blocks flow.stage
+IsReadingAs kind blocks flow = blocks ≡ None
 
 abbrev pub IsReading : Asked → Type 0
-IsReading a = IsReadingAs a.kind a
+IsReading a = IsReadingAs a.kind a.blocks a.flow
 
 -- a request that ended waits for nothing
 abbrev pub IsOver : Option Waiting → Type 0

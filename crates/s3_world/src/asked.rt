@@ -32,7 +32,7 @@ fn object_given(end: &PhaseEnd<AnyRow>) -> Result<Option<(Version, Meta)>, Memor
     let PhaseEnd::Row(Some(AnyRow::Object(row))) = end else {
         return Ok(None);
     };
-    match row.newest() {
+    match row.get().newest() {
         Some((version, Body::Inline(meta, _))) => Ok(Some((version, meta.copy()?))),
         Some((version, Body::Blocks(meta, _))) => Ok(Some((version, meta.copy()?))),
         Some((_, Body::Marker)) => Ok(None),
