@@ -1,5 +1,6 @@
 //! Bytes that came at once or piece by piece.
-ghost use Rattle.std.specs.Prelude.{◌≡◌, ◌++◌, [], length, OnOk, OnErr, IfOk};
+ghost use Rattle.std.specs.Prelude.{◌≡◌, ℕ, List, ◌++◌, [], length, OnOk, OnErr, IfOk};
+ghost use Rattle.std.specs.List.{concat};
 ghost use Rattle.md5.specs.Md5.{md5};
 ghost use Rattle.crdt_core.specs.Outcomes.{OnlyWant};
 
@@ -47,6 +48,22 @@ impl Pieces {
             whole,
             blocks,
             size,
+        }
+    }
+
+    /// What is left without its first bytes: these blocks, which have all the others. Takes no memory.
+    pub fn into_rest(self, rest: List<Block>) -> Pieces
+        requires { (first : List ℕ) × (first ++ concat rest ≡ self) }
+        ensures { result ≡ concat rest }
+    {
+        let mut gone = self.size;
+        for block in rest.as_slice() {
+            gone -= block.len();
+        }
+        Pieces {
+            whole: Bytes::new(rest.allocator()),
+            blocks: rest,
+            size: self.size - gone,
         }
     }
 
