@@ -6,6 +6,7 @@ pub mod Drains
 pub mod Ends
 pub mod Follows
 pub mod Getting
+pub mod Handing
 pub mod Keeping
 pub mod Listed
 pub mod Objects

@@ -1,5 +1,5 @@
 -- Requests that ended: each has one end, and waits for nothing.
-use Rattle.std.proofs.Common.{◌≡◌, ⊥, ℕ, ◌+◌, ◌==◌, Bool, true, false, cond, Option, Some, None, List, [], ◌∷◌, ◌++◌, length, refl, sym, ap, ◌∙◌, subst}
+use Rattle.std.proofs.Common.{◌≡◌, ℕ, ◌+◌, ◌==◌, Bool, true, false, cond, Option, Some, None, List, [], ◌∷◌, ◌++◌, length, refl, sym, ap, ◌∙◌, subst}
 use Rattle.std.specs.Prelude.{slice_get, slice_set}
 use Rattle.std.proofs.lemmas.Bool.{eqb-true, eqb-false, eq-eqb}
 use Rattle.flow_model.specs.declared.flow.Flow.{Flow}
@@ -66,6 +66,13 @@ others_without (e ∷ es) q p other =
     (λ not. ap (λ xs. end_of xs p) (without_past e es q not) ∙ by_number e.0 p (end_of (e ∷ without_end es q) p ≡ end_of (e ∷ es) p)
       (λ same. end_here e (without_end es q) p same ∙ sym (end_here e es p same))
       (λ no. end_past e (without_end es q) p no ∙ others_without es q p other ∙ sym (end_past e es p no)))
+
+-- nothing goes where no end is
+pub without_none : (es : List (ℕ × FlowEnd)) (q : ℕ) → end_of es q ≡ None → without_end es q ≡ es
+without_none [] q none = refl
+without_none (e ∷ es) q none =
+    let other = not_here e es q none in
+    without_past e es q other ∙ ap (λ xs. e ∷ xs) (without_none es q (sym (end_past e es q other) ∙ none))
 
 module _ (asked : List Waiting) where
   -- ---- requests that are over

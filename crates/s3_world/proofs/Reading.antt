@@ -1,5 +1,5 @@
 -- What is kept of what requests read, as requests begin, go on, end, and are done with.
-use Rattle.std.proofs.Common.{◌≡◌, ⊥, ℕ, suc, ◌+◌, ◌≤◌, nat_eq, ◌==◌, Bool, true, false, Option, Some, None, List, [], ◌∷◌, ◌++◌, length, refl, sym, ap, ◌∙◌, subst, arith, append_assoc, add-one}
+use Rattle.std.proofs.Common.{◌≡◌, ℕ, suc, ◌+◌, ◌≤◌, nat_eq, ◌==◌, Bool, true, false, Option, Some, None, List, [], ◌∷◌, ◌++◌, length, refl, sym, ap, ◌∙◌, subst, arith, append_assoc, add-one}
 use Rattle.std.specs.Prelude.{slice_get, slice_set, map, if◌then◌else◌}
 use Rattle.std.specs.Option.{option_or}
 use Rattle.std.specs.List.{AllByRecursion, concat}
@@ -27,6 +27,10 @@ use Rattle.s3_world.proofs.Places.{numbered_place, numbered_set, numbered_other,
 use Rattle.s3_world.proofs.Overs.{by_number, differs, end_pushed, end_of_others, others_without, waits_without_end, ended_is_over, over_pushed, over_without, taken_is_gone, over_set, over_more}
 use Rattle.s3_world.proofs.Getting.{found_of, gathered_of, gathered_then, flow_then, end_then, ends_then, there_then, gathered_is, found_nothing, found_next, left_next, reading_next}
 
+-- whatever was handed out
+pub whatever : (given : Handed) (requests : List Asked) (s : State) → AreRead given requests s → AreRead nothing_handed requests s
+whatever given requests s reads = record { found = reads.found; left = reads.left; handed = refl; reading = reads.reading; over = reads.over; seen = reads.seen; count = reads.count }
+
 -- ---- the world, the buckets, the size of blocks or the history change
 
 pub reads_moved : (given : Handed) (requests : List Asked) (s : State) (world : World) (buckets : List (List ℕ)) (block : ℕ) (history : List Record) → length world.requests ≡ length s.world.requests →
@@ -34,7 +38,7 @@ pub reads_moved : (given : Handed) (requests : List Asked) (s : State) (world : 
 reads_moved given requests s world buckets block history count reads = record {
   found = reads.found;
   left = reads.left;
-  given = reads.given;
+  handed = reads.handed;
   reading = reads.reading;
   over = reads.over;
   seen = reads.seen;
@@ -200,7 +204,7 @@ module _ (requests : List Asked) (s t : State) (i q : ℕ) (place : i + 1 ≡ q)
             (λ same. subst (λ p. found_in (numbered requests_now p) ≡ found_by t p) same (found_here over (reads.found q)))
             (λ other. found_there over p other (reads.found p));
         left = λ p. let h = reads.left p in (h.0, handed_next over reading (of p h.0) h.1);
-        given = handed_next over reading given reads.given;
+        handed = handed_next over reading given reads.handed;
         reading = let h = reads.left q in all_set IsReading requests i now_kept reads.reading (reading_now over reading h.0 h.1);
         over = over_now over;
         seen = subst (λ n. AllByRecursion (λ (e : Saw). e.request ≤ n) t.saw) (sym length_is) seen;
@@ -209,7 +213,7 @@ module _ (requests : List Asked) (s t : State) (i q : ℕ) (place : i + 1 ≡ q)
 
 -- ---- a request begins
 
-module _ (requests : List Asked) (s t : State) (a : Asked) (m : Waiting) (same_kind : a.kind ≡ m.kind) (none_found : a.found ≡ None) (no_block : a.blocks ≡ None) (reading : IsReading a) (f : Flow) (waits : m.flow ≡ Some f)
+module _ (requests : List Asked) (s t : State) (a : Asked) (m : Waiting) (same_kind : a.kind ≡ m.kind) (none_found : a.found ≡ None) (no_block : a.blocks ≡ None) (reading : IsReading a)
     (same_length : length requests ≡ length s.asked) (asked_is : t.asked ≡ s.asked ++ m ∷ []) (ends_are : t.ends ≡ s.ends) (saw_is : t.saw ≡ s.saw) (count_is : length t.world.requests ≡ suc (length s.world.requests)) where
   abbrev more : List Asked
   more = requests ++ a ∷ []
@@ -229,7 +233,7 @@ module _ (requests : List Asked) (s t : State) (a : Asked) (m : Waiting) (same_k
   before_code : (p : ℕ) → (suc (length s.asked) ≡ p → ⊥) → numbered more p ≡ numbered requests p
   before_code p other = numbered_before requests p a (λ e. other (sym (e ∙ ap suc same_length)))
 
-  begun_found : AreRead nothing_handed requests s → (p : ℕ) → found_in (numbered more p) ≡ found_by t p
+  begun_found : {given : Handed} → AreRead given requests s → (p : ℕ) → found_in (numbered more p) ≡ found_by t p
   begun_found reads p =
       by_number (suc (length s.asked)) p (found_in (numbered more p) ≡ found_by t p)
       (λ same. (
@@ -270,15 +274,21 @@ module _ (requests : List Asked) (s t : State) (a : Asked) (m : Waiting) (same_k
       ))
       (λ other. before_left given.request other given.bytes h)
 
-  begun_reads : (given : Handed) → AreRead nothing_handed requests s → IsHanded more t given → AreRead given more t
-  begun_reads given reads handed =
+  pub begun_reads : (given : Handed) → AreRead given requests s → AreRead given more t
+  begun_reads given reads =
       let length_is : length t.asked ≡ suc (length s.asked) = ap length asked_is ∙ length_push s.asked m ∙ add-one (length s.asked) in
       record {
         found = begun_found reads;
         left = λ p. let h = reads.left p in (h.0, begun_handed (of p h.0) h.1);
-        given = handed;
+        handed = begun_handed given reads.handed;
         reading = all_push IsReading requests a reads.reading reading;
         over = subst (λ es. AreOver t.asked es) (sym ends_are) (subst (λ xs. AreOver xs s.ends) (sym asked_is) (over_more s.asked s.ends m reads.over));
         seen = subst (λ saw. AllByRecursion (λ (e : Saw). e.request ≤ length t.asked) saw) (sym saw_is) (seen_within s.saw (length s.asked) (length t.asked) (omega (arith, length_is)) reads.seen);
         count = length_is ∙ ap suc reads.count ∙ sym count_is;
       }
+
+-- a number that no request has yet
+pub number_to_come : (requests : List Asked) (s : State) → length requests ≡ length s.asked → length s.asked ≡ length s.world.requests → IsHanded requests s (of (suc (length s.world.requests)) [])
+number_to_come requests s same_length count =
+    let nobody : numbered requests (suc (length s.world.requests)) ≡ None = subst (λ n. numbered requests (suc n) ≡ None) (same_length ∙ count) (numbered_past requests) in
+    subst (λ o. IsLeft (blocks_in o) [] (gathered s (suc (length s.world.requests)))) (sym nobody) refl

@@ -91,9 +91,9 @@ module _ {F : Type 0} where
   abbrev pub OverflowsIf : (State → Type 0) → Driver F → (State → Outcome) → Type 0
   OverflowsIf = doing.OverflowsIf IsDriven
 
-  -- whatever state it stood for, it did this step, which was given something lawful
+  -- whatever state it stood for, it did this step, which was given something lawful; nothing more was handed out
   abbrev pub PlaysStep : Driver F → Driver F → Told → Step AnyRow → Type 0
-  PlaysStep = doing.PlaysStep IsDriven
+  PlaysStep old new told st = (given : Handed) → doing.PlaysStep (IsHanding given) old new told st
 
   -- whatever state it stood for, this step would not fit
   abbrev pub OverflowsStep : Driver F → Step AnyRow → Type 0

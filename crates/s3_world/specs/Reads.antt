@@ -1,5 +1,5 @@
 -- What is kept of what gets have read: what they found, and the blocks that wait to be handed out.
-use Rattle.std.specs.Prelude.{◌≡◌, ◌≤◌, ℕ, ⊤, ⊥, true, Option, Some, None, List, [], ◌∷◌, ◌++◌, length}
+use Rattle.std.specs.Prelude.{◌≡◌, ◌≤◌, ℕ, ⊤, true, Option, Some, None, List, [], ◌∷◌, ◌++◌, length}
 use Rattle.std.specs.Option.{option_and_then, option_or}
 use Rattle.std.specs.List.{AllByRecursion, concat}
 use Rattle.crdt_rows.specs.declared.version.Version.{Version}
@@ -105,7 +105,7 @@ AreOver asked (e ∷ es) = IsOver (numbered asked e.0) × (end_of es e.0 ≡ Non
 pub record AreRead (given : Handed) (requests : List Asked) (s : State) : Type 0 where
   pub found : (q : ℕ) → found_in (numbered requests q) ≡ found_by s q
   pub left : (q : ℕ) → (bytes : List ℕ) × IsHanded requests s (of q bytes)
-  pub given : IsHanded requests s given
+  pub handed : IsHanded requests s given
   pub reading : AllByRecursion IsReading requests
   pub over : AreOver s.asked s.ends
   pub seen : AllByRecursion (λ (e : Saw). e.request ≤ length s.asked) s.saw

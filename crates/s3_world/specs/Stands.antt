@@ -114,6 +114,18 @@ Carries = doing.Carries IsStore
 abbrev pub Keeps : S3World → S3World → (State → Outcome) → Type 0
 Keeps old new f = (given : Handed) → doing.Carries (Holds given) old new f
 
+-- so it is of what it tells
+abbrev pub KeepsTold : S3World → S3World → Told → (State → Outcome) → Type 0
+KeepsTold old new told f = (given : Handed) → doing.Plays (Holds given) old new told f
+
+-- of the states with a property
+abbrev pub KeepsIf : (State → Type 0) → S3World → S3World → Told → (State → Outcome) → Type 0
+KeepsIf Has old new told f = (given : Handed) → doing.PlaysIf (Holds given) Has old new told f
+
+-- of a step, which was given something lawful
+abbrev pub KeepsStep : S3World → S3World → Told → Step AnyRow → Type 0
+KeepsStep old new told st = (given : Handed) → doing.PlaysStep (Holds given) old new told st
+
 -- an outcome opened a request with this number, or was refused so
 abbrev pub Answers : Result ℕ (Refusal Cut) → Outcome → Type 0
 Answers (Ok number) o = (o.refused ≡ None) × (o.words ≡ One number)
@@ -136,7 +148,7 @@ DoesEvent = doing.DoesEvent IsStore
 abbrev pub PlaysEvent : S3World → S3World → Told → Event → Type 0
 PlaysEvent = doing.PlaysEvent IsStore
 
--- the same, and what was handed out of a request stays so
+-- and what was handed out of a request stays so
 abbrev pub KeepsIn : S3World → S3World → Told → Event → Type 0
 KeepsIn old new told event = (given : Handed) → doing.PlaysEvent (Holds given) old new told event
 

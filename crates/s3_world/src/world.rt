@@ -66,7 +66,7 @@ fn copy_role(role: &Option<(Zone, RoleKind)>) -> Result<Option<(Zone, RoleKind)>
 }
 
 impl S3World {
-    ghost use Rattle.s3_world.specs.Stands.{IsStore, IsGiving, Holds, HasStore, Becomes, Carries, Keeps, KeepsIn, Starts, GivesNone, Plays, PlaysIf, PlaysStep, PlaysEvent, Overflows, OverflowsIf, OverflowsStep, OverflowsEvent};
+    ghost use Rattle.s3_world.specs.Stands.{IsStore, IsGiving, Holds, HasStore, Becomes, Carries, Keeps, KeepsTold, KeepsIf, KeepsStep, KeepsIn, Starts, GivesNone, Plays, PlaysIf, PlaysStep, PlaysEvent, Overflows, OverflowsIf, OverflowsStep, OverflowsEvent};
 
     /// Nothing has happened.
     pub fn new(alloc: Global) -> Result<S3World, Memory>
@@ -249,6 +249,16 @@ impl S3World {
         ensures keeps { IfOk result (λ told. IsCalm event.now → KeepsIn self.old self.new told event.now) }
         ensures causes { WantOr result (OverflowsEvent self.old event.now) }
     {
+        self.happens(event)
+    }
+
+    // The same.
+    fn happens(&mut self, event: &Event) -> Result<Told, Memory>
+        requires stands { HasStore self.old }
+        requires meant { IsMeantEvent event.now }
+        ensures keeps { IfOk result (λ told. KeepsIn self.old self.new told event.now) }
+        ensures causes { WantOr result (OverflowsEvent self.old event.now) }
+    {
         match event {
             Event::Trio => self.plain(Step::Trio),
             Event::Block(size) => Ok(self.cut(*size)),
@@ -328,7 +338,7 @@ impl S3World {
         requires meant { IsMeant step }
         requires stocked { StepBringsBlocks (blake2b 32) words step }
         requires quiet { IsQuiet step }
-        ensures plays { IfOk result (λ told. PlaysStep self.old self.new told step) }
+        ensures keeps { IfOk result (λ told. KeepsStep self.old self.new told step) }
         ensures causes { WantOr result (OverflowsStep self.old step) }
     {
         let report = self.driver.world.step(step)?;
@@ -342,14 +352,14 @@ impl S3World {
     // Later requests cut bytes into blocks of this size.
     fn cut(&mut self, size: u32) -> Told
         requires { 1 ≤ size }
-        ensures { Plays self.old self.new result (λ s. silent (record s { block = size })) }
+        ensures { KeepsTold self.old self.new result (λ s. silent (record s { block = size })) }
     {
         self.block = size;
         accepted(List::new(self.alloc))
     }
 
     fn add_bucket(&mut self, name: &Bytes) -> Result<Told, Memory>
-        ensures plays { IfOk result (λ told. Plays self.old self.new told (λ s. silent (record s { buckets = s.buckets ++ name.now ∷ [] }))) }
+        ensures keeps { IfOk result (λ told. KeepsTold self.old self.new told (λ s. silent (record s { buckets = s.buckets ++ name.now ∷ [] }))) }
         ensures want { OnlyWant result }
     {
         self.buckets.push(name.as_slice())?;
@@ -370,7 +380,7 @@ impl S3World {
     // Opens a request at a node, if it may be.
     fn begins(&mut self, node: u8, order: Order) -> Result<Told, Memory>
         requires stands { HasStore self.old }
-        ensures plays { IfOk result (λ told. Plays self.old self.new told (λ s. begins s node order)) }
+        ensures keeps { IfOk result (λ told. KeepsTold self.old self.new told (λ s. begins s node order)) }
         ensures causes { WantOr result (Overflows self.old (λ s. begins s node order)) }
     {
         if !self.driver.world.member(node) {
@@ -385,7 +395,7 @@ impl S3World {
     // A request begins at a member with its first phase.
     fn opened(&mut self, node: u8, order: Order) -> Result<Told, Memory>
         requires stands { HasStore self.old }
-        ensures plays { IfOk result (λ told. PlaysIf (λ s. is_member_at layouts s.world node ≡ true) self.old self.new told (λ s. opened s node order)) }
+        ensures keeps { IfOk result (λ told. KeepsIf (λ s. is_member_at layouts s.world node ≡ true) self.old self.new told (λ s. opened s node order)) }
         ensures causes { WantOr result (OverflowsIf (λ s. is_member_at layouts s.world node ≡ true) self.old (λ s. opened s node order)) }
     {
         self.driver.opened(node, order, self.block)
@@ -394,7 +404,7 @@ impl S3World {
     // Delivers a message.
     fn delivers(&mut self, message: u64) -> Result<Told, Memory>
         requires stands { HasStore self.old }
-        ensures plays { IfOk result (λ told. Plays self.old self.new told (λ s. delivers s message)) }
+        ensures keeps { IfOk result (λ told. KeepsTold self.old self.new told (λ s. delivers s message)) }
         ensures causes { WantOr result (Overflows self.old (λ s. delivers s message)) }
     {
         self.driver.delivers(message)
@@ -403,7 +413,7 @@ impl S3World {
     // Delivers the least message that was neither delivered nor lost, up to `count` times.
     fn drains(&mut self, count: u64) -> Result<Told, Memory>
         requires stands { HasStore self.old }
-        ensures plays { IfOk result (λ told. Plays self.old self.new told (λ s. drains count s)) }
+        ensures keeps { IfOk result (λ told. KeepsTold self.old self.new told (λ s. drains count s)) }
         ensures causes { WantOr result (Overflows self.old (λ s. drains count s)) }
     {
         self.driver.drains(count)
@@ -412,7 +422,7 @@ impl S3World {
     // Ends a request that is open.
     fn expire(&mut self, request: u64) -> Result<Told, Memory>
         requires stands { HasStore self.old }
-        ensures plays { IfOk result (λ told. PlaysStep self.old self.new told (step.Expire request)) }
+        ensures keeps { IfOk result (λ told. KeepsStep self.old self.new told (step.Expire request)) }
         ensures causes { WantOr result (OverflowsStep self.old (step.Expire request)) }
     {
         self.driver.expire(request)
@@ -421,7 +431,7 @@ impl S3World {
     // A node loses its open requests.
     fn restart(&mut self, node: u8) -> Result<Told, Memory>
         requires stands { HasStore self.old }
-        ensures plays { IfOk result (λ told. PlaysStep self.old self.new told (step.Restart node)) }
+        ensures keeps { IfOk result (λ told. KeepsStep self.old self.new told (step.Restart node)) }
         ensures causes { WantOr result (OverflowsStep self.old (step.Restart node)) }
     {
         self.driver.restart(node)
