@@ -1,5 +1,6 @@
 -- No step but one opens a request, so after any other there are as many as before.
-use Rattle.std.proofs.Common.{◌≡◌, ⊤, ℕ, ◌++◌, Bool, true, false, cond, leb, not, ◌&&◌, suc, Option, Some, None, [], length, refl, ap, ◌∙◌, append-nil}
+use Rattle.std.proofs.Common.{◌≡◌, ℕ, ◌++◌, Bool, true, false, cond, leb, not, ◌&&◌, suc, Option, Some, None, [], length, refl, ap, ◌∙◌, append-nil}
+use Rattle.std.specs.Prelude.{⊤}
 use Rattle.crdt_rows.specs.declared.any_row.AnyRow.{AnyRow}
 use Rattle.crdt_rows.specs.AnyRow.{any_join}
 use Rattle.object_schema.specs.Schema.{words}

@@ -54,6 +54,12 @@ module _ {F : Type 0} (old mid : Driver F) (m : ℕ) (report : Report AnyRow) (s
         fits = ((did.stands.fits, did.spelled), after.fits);
       }
 
+  pub delivered_overflows : Overflows mid (λ s. goes_on s (map ended report.ends)) → Overflows old (λ s. delivers s m)
+  delivered_overflows full s d fits =
+      let here : State = doing s (plainly (Deliver m)) in
+      let same : map ended report.ends ≡ (effect s (plainly (Deliver m))).ends = (steps s.world d.world).does.tells.ends in
+      full here (is_next s d) (subst (λ (es : List (Ended AnyRow)). FitsOutcome here (goes_on here es)) (sym same) (fits.0.1, fits.1))
+
 -- the request goes on whose phase ended first
 goes_first : (ends : List (ℕ × PhaseEnd AnyRow)) (e : ℕ × PhaseEnd AnyRow) → slice_get ends 0 ≡ Some e → (s : State) → goes_on s (map ended ends) ≡ follow s e.0 (numbered s.asked e.0) e.1
 goes_first [] e h s = absurd (cc)

@@ -38,12 +38,12 @@ use Rattle.world_core.specs.Stands.{StandsFor, Steps, Overflows as WorldOverflow
 use Rattle.s3_world.specs.declared.asked.Asked.{Asked}
 use Rattle.s3_world.specs.declared.driver.Driver.{Driver}
 use Rattle.s3_world.specs.Driven.{Known, known, kept, IsSized, IsHanding, IsDriven, HasRun, Does, Plays, Overflows, Finishes}
-use Rattle.s3_world.specs.Reads.{Handed, heard, AreRead}
+use Rattle.s3_world.specs.Reads.{Handed, heard, after_phase, AreRead}
 use Rattle.s3_world.proofs.Counts.{same_count}
 use Rattle.s3_world.proofs.Getting.{flow_then, ends_then}
 use Rattle.s3_world.proofs.Reading.{reads_next, whatever}
 use Rattle.s3_world.proofs.Phases.{IsGood, StepIsGood, next_is_good}
-use Rattle.s3_world.proofs.Places.{numbered_place, get_kept, get_none, set_twice, set_same, all_set, all_get}
+use Rattle.s3_world.proofs.Places.{numbered_place, get_kept, get_none, get_set, set_twice, set_same, all_set, all_get}
 
 -- whatever was handed out
 pub as_driven : {F : Type 0} (given : Handed) (driver : Driver F) (s : State) → IsHanding given driver s → IsDriven driver s
@@ -63,7 +63,7 @@ pub follow_nobody : {F : Type 0} (old : Driver F) (q : ℕ) (end : PhaseEnd AnyR
     Plays old old told (λ s. follow s q (numbered s.asked q) end)
 follow_nobody old q end told none says given s d =
     let P : Outcome → Type 0 = λ o. Does given old told s o in
-    let same : length old.requests ≡ length (map kept s.asked) = sym (length-map known old.requests) ∙ ap length d.requests in
+    let same : length old.requests ≡ length (map kept s.asked) = sym (length-map old.requests known) ∙ ap length d.requests in
     let nobody : numbered s.asked q ≡ None = get_none s.asked q (subst (λ n. (q ≡ 0) ⊎ (n < q)) same none) in
     subst P (sym (ap (λ o. follow s q o end) nobody)) (silent_plays old told says given s d)
 
@@ -78,12 +78,12 @@ module _ {F : Type 0} (old : Driver F) (i q : ℕ) (place : i + 1 ≡ q) (a : As
       ap (λ o. follow s q o end) (numbered_place s.asked i q place ∙ m.1) ∙ ap (λ (x : Known). follows s q m.0 end x.flow) m.2
 
   -- a request that has ended
-  pub follow_ended : (told : Told) (none : Option Flow) → a.flow ≡ None → none ≡ None → told ≡ record { refused = None; words = Empty; lines = [] } →
-      Plays old (record old { requests = slice_set old.requests i (record a { flow = none }) }) told (λ s. follow s q (numbered s.asked q) end)
-  follow_ended told none ended is_none says given s d =
+  pub follow_ended : (told : Told) (x : Asked) → a.flow ≡ None → x ≡ after_phase a a.flow end → told ≡ record { refused = None; words = Empty; lines = [] } →
+      Plays old (record old { requests = slice_set old.requests i x }) told (λ s. follow s q (numbered s.asked q) end)
+  follow_ended told x ended is says given s d =
       let m = waiting s d in
-      let here : a ≡ record a { flow = none } = ap (λ (f : Option Flow). record a { flow = f }) (ended ∙ sym is_none) in
-      let same : slice_set old.requests i (record a { flow = none }) ≡ old.requests = ap (slice_set old.requests i) (sym here) ∙ set_same old.requests i a at in
+      let here : x ≡ a = is ∙ ap (λ fl. after_phase a fl end) ended in
+      let same : slice_set old.requests i x ≡ old.requests = ap (slice_set old.requests i) here ∙ set_same old.requests i a at in
       let quiet : Does given old told s (silent s) = silent_plays old told says given s d in
       let whole : Does given old told s (follow s q (numbered s.asked q) end) = subst (λ (o : Outcome). Does given old told s o) (sym (followed s d ∙ ap (follows s q m.0 end) ended)) quiet in
       let P : List Asked → Type 0 = λ rs. Does given (record old { requests = rs }) told s (follow s q (numbered s.asked q) end) in
@@ -145,6 +145,19 @@ module _ {F : Type 0} (old : Driver F) (i q : ℕ) (place : i + 1 ≡ q) (a : As
             let m = waiting s d in
             reads_next old.requests s t i q place a at m.0 m.1 (ap (λ (x : Known). x.kind) (sym m.2)) f going (ap (λ (x : Known). x.flow) m.2 ∙ going) end now does is
             (asked ∙ asked_is s m.0 (flow_then does)) ends saw count given d.reads
+
+        -- it was heard, and then waits so
+        pub waited : (late new : Driver F) (x : Asked) (g : Flow) → x ≡ now_kept None → late.requests ≡ slice_set old.requests i x →
+            ((b : Asked) → slice_get late.requests i ≡ Some b → new ≡ record late { requests = slice_set late.requests i (record b { flow = Some g }) }) →
+            new ≡ record late { requests = slice_set old.requests i (now_kept (Some g)) }
+        waited late new x g is_heard requests waits =
+            let there : slice_get late.requests i ≡ Some x = ap (λ rs. slice_get rs i) requests ∙ get_set old.requests i a x at in
+            waits x there
+            ∙ ap (λ rs. record late { requests = rs }) (
+            ap (λ rs. slice_set rs i (record x { flow = Some g })) requests
+            ∙ set_twice old.requests i x (record x { flow = Some g })
+            ∙ ap (λ (z : Asked). slice_set old.requests i (record z { flow = Some g })) is_heard
+            )
 
         module _ (g : Flow) (phase : Phase AnyRow) (more : does ≡ More g phase) where
           pub next_phase : IsGood phase
@@ -214,9 +227,9 @@ module _ {F : Type 0} (old : Driver F) (i q : ℕ) (place : i + 1 ≡ q) (a : As
                 fits = tt;
               })
 
-        module _ (last : FlowEnd) (ends : does ≡ End last) where
+        module _ (last : FlowEnd) (ends : does ≡ End last) (x : Asked) (is_heard : x ≡ now_kept None) where
           abbrev mid : Driver F
-          mid = record old { requests = slice_set old.requests i (now_kept None) }
+          mid = record old { requests = slice_set old.requests i x }
 
           end_does : (new : Driver F) (told : Told) → Finishes mid new told q a.kind last → Plays old new told (λ s. follow s q (numbered s.asked q) end)
           end_does new told fin given s d =
@@ -224,7 +237,7 @@ module _ {F : Type 0} (old : Driver F) (i q : ℕ) (place : i + 1 ≡ q) (a : As
               let then = (fin.closes s.world d.world).does in
               let t : State = (finishes (seen s) q m.0 last).state in
               let P : Outcome → Type 0 = λ o. Does given new told s o in
-              let requests : new.requests ≡ slice_set old.requests i (now_kept None) = ap (λ (n : Driver F). n.requests) fin.rest in
+              let requests : new.requests ≡ slice_set old.requests i (now_kept None) = ap (λ (n : Driver F). n.requests) fin.rest ∙ ap (slice_set old.requests i) is_heard in
               let same_kind : a.kind ≡ m.0.kind = ap (λ (b : Known). b.kind) (sym m.2) in
               let read : AreRead given (slice_set old.requests i (now_kept None)) t =
               subst (λ fl. AreRead given (slice_set old.requests i (now_kept fl)) t) (ap flow_then ends)

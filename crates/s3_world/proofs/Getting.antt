@@ -1,6 +1,6 @@
 -- What is kept of what gets read, as requests begin, go on, end, and are done with.
-use Rattle.std.proofs.Common.{◌≡◌, ⊤, ℕ, zero, suc, ◌+◌, ◌-◌, ◌<◌, ◌≤◌, nat_eq, ◌==◌, Bool, true, false, cond, Option, Some, None, List, [], ◌∷◌, ◌++◌, length, refl, sym, ap, ◌∙◌, subst, arith, append-nil, append_assoc}
-use Rattle.std.specs.Prelude.{slice_get, slice_set, map, if◌then◌else◌}
+use Rattle.std.proofs.Common.{◌≡◌, ℕ, zero, suc, ◌+◌, ◌-◌, ◌<◌, ◌≤◌, nat_eq, ◌==◌, Bool, true, false, cond, Option, Some, None, List, [], ◌∷◌, ◌++◌, length, refl, sym, ap, ◌∙◌, subst, arith, append-nil, append_assoc}
+use Rattle.std.specs.Prelude.{⊤, if◌then◌else◌}
 use Rattle.std.specs.Option.{option_or}
 use Rattle.std.specs.List.{AllByRecursion, concat}
 use Rattle.std.proofs.lemmas.Bool.{eqb-true, eq-eqb}
@@ -64,8 +64,8 @@ module _ (id block : ℕ) (version : Version) (meta : Meta) where
 
   -- the bytes so far are given and the rest, and the next block is asked for or all came
   gathers_right : (blocks : Option (List (List ℕ))) (given body : List ℕ) → IsLeft blocks given body → (blocks ≡ None → body ≡ []) → (left : List BlockRef) → GoesRight blocks given (flow.gathers id block aim.Get version meta left body)
-  gathers_right blocks given body is_left none [] = (is_left, tt)
-  gathers_right blocks given body is_left none (b ∷ left) = (is_left, none)
+  gathers_right blocks given body is_left nothing [] = (is_left, tt)
+  gathers_right blocks given body is_left nothing (b ∷ left) = (is_left, nothing)
 
   opened_right : (blocks : Option (List (List ℕ))) (given : List ℕ) → blocks ≡ None → given ≡ [] → (named : Named) → GoesRight blocks given (flow.opened id block aim.Get version meta named)
   opened_right blocks given no_block none_given unnamed = (subst (λ b. IsLeft b given []) (sym no_block) none_given, no_block)
@@ -74,8 +74,8 @@ module _ (id block : ℕ) (version : Version) (meta : Meta) where
 
 -- one block more waits
 left_more : (blocks : Option (List (List ℕ))) (given body bytes : List ℕ) → IsLeft blocks given body → (blocks ≡ None → body ≡ []) → IsLeft (with_block blocks bytes) given (body ++ bytes)
-left_more None given body bytes is_left none = rw (is_left, none refl) (append-nil bytes)
-left_more (Some blocks) given body bytes is_left none =
+left_more None given body bytes is_left nothing = rw (is_left, nothing refl) (append-nil bytes)
+left_more (Some blocks) given body bytes is_left nothing =
     ap (given ++◌) (concat-append blocks (bytes ∷ []) ∙ ap (concat blocks ++◌) (append-nil bytes)) ∙ sym (append_assoc given (concat blocks) bytes) ∙ ap (λ bs. bs ++ bytes) is_left
 
 some_block : (blocks : Option (List (List ℕ))) (bytes : List ℕ) (body : List ℕ) → with_block blocks bytes ≡ None → body ≡ []
@@ -120,8 +120,8 @@ flow_then (Wait f) = Some f
 flow_then (End end) = None
 
 -- of a request that hands out nothing
-others_left : {bytes more : List ℕ} {given : List ℕ} (blocks : Option (List (List ℕ))) → blocks ≡ None → IsLeft blocks given bytes → IsLeft blocks given more
-others_left {bytes} {more} {given} blocks e is_left = subst (λ b. IsLeft b given more) (sym e) (none_left blocks given bytes e is_left)
+others_left : (bytes more given : List ℕ) (blocks : Option (List (List ℕ))) → blocks ≡ None → IsLeft blocks given bytes → IsLeft blocks given more
+others_left bytes more given blocks e is_left = subst (λ b. IsLeft b given more) (sym e) (none_left blocks given bytes e is_left)
 
 waiting_then : (blocks : Option (List (List ℕ))) (does : FlowStep) → IsWaitingThen blocks does → IsReadingAs Get blocks (flow_then does)
 waiting_then blocks (More f phase) h = h
@@ -172,14 +172,14 @@ gathered_is (Wait f) m = refl
 gathered_is (End end) m = refl
 
 module _ (m : Waiting) (f : Flow) (end : PhaseEnd AnyRow) (before : Option FlowEnd) where
-  pub found_next : (k : Kind) (found seen : Option (Version × Meta)) (then : Option Flow) (after : Option FlowEnd) → is_there (stage_of (Some (record m { flow = then }))) after ≡ true →
-      found ≡ found_of (Some (record m { kind = k; flow = Some f })) before seen → found_after k found end ≡ found_of (Some (record m { kind = k; flow = then })) after (option_or seen (object_given end))
-  found_next Get found seen then after there is = ap (λ o. option_or o (object_given end)) is ∙ (rw there refl)
-  found_next Put found seen then after there is = is
-  found_next Head found seen then after there is = is
-  found_next Delete found seen then after there is = is
-  found_next Copy found seen then after there is = is
-  found_next Keys found seen then after there is = is
+  pub found_next : (k : Kind) (found seen : Option (Version × Meta)) (next : Option Flow) (after : Option FlowEnd) → is_there (stage_of (Some (record m { flow = next }))) after ≡ true →
+      found ≡ found_of (Some (record m { kind = k; flow = Some f })) before seen → found_after k found end ≡ found_of (Some (record m { kind = k; flow = next })) after (option_or seen (object_given end))
+  found_next Get found seen next after there is = ap (λ o. option_or o (object_given end)) is ∙ (rw there refl)
+  found_next Put found seen next after there is = is
+  found_next Head found seen next after there is = is
+  found_next Delete found seen next after there is = is
+  found_next Copy found seen next after there is = is
+  found_next Keys found seen next after there is = is
 
 module _ (f : Flow) (end : PhaseEnd AnyRow) (now : ℕ) (given : List ℕ) where
   -- what it does
@@ -188,11 +188,11 @@ module _ (f : Flow) (end : PhaseEnd AnyRow) (now : ℕ) (given : List ℕ) where
 
   pub left_next : (k : Kind) (blocks : Option (List (List ℕ))) → IsReadingAs k blocks (Some f) → IsLeft blocks given (gathered_at (Some f.stage)) → IsLeft (blocks_after k blocks f.stage end) given (gathered_then does_next)
   left_next Get blocks reading is_left = (get_right f.id f.block blocks given f.stage end now reading is_left).0
-  left_next Put blocks reading is_left = others_left blocks reading is_left
-  left_next Head blocks reading is_left = others_left blocks reading is_left
-  left_next Delete blocks reading is_left = others_left blocks reading is_left
-  left_next Copy blocks reading is_left = others_left blocks reading is_left
-  left_next Keys blocks reading is_left = others_left blocks reading is_left
+  left_next Put blocks reading is_left = others_left (gathered_at (Some f.stage)) (gathered_then does_next) given blocks reading is_left
+  left_next Head blocks reading is_left = others_left (gathered_at (Some f.stage)) (gathered_then does_next) given blocks reading is_left
+  left_next Delete blocks reading is_left = others_left (gathered_at (Some f.stage)) (gathered_then does_next) given blocks reading is_left
+  left_next Copy blocks reading is_left = others_left (gathered_at (Some f.stage)) (gathered_then does_next) given blocks reading is_left
+  left_next Keys blocks reading is_left = others_left (gathered_at (Some f.stage)) (gathered_then does_next) given blocks reading is_left
 
   pub reading_next : (k : Kind) (blocks : Option (List (List ℕ))) → IsReadingAs k blocks (Some f) → IsLeft blocks given (gathered_at (Some f.stage)) → IsReadingAs k (blocks_after k blocks f.stage end) (flow_then does_next)
   reading_next Get blocks reading is_left = waiting_then (blocks_after Get blocks f.stage end) does_next (get_right f.id f.block blocks given f.stage end now reading is_left).1

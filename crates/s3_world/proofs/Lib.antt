@@ -17,4 +17,5 @@ pub mod Phases
 pub mod Places
 pub mod Played
 pub mod Reading
+pub mod Starting
 pub mod Storing

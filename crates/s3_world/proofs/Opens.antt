@@ -1,5 +1,5 @@
 -- A request begins: two steps of the world, and one more request with its record.
-use Rattle.std.proofs.Common.{◌≡◌, ℕ, suc, ◌<◌, true, None, Some, List, [], ◌∷◌, ◌++◌, length, ap, sym, ◌∙◌, subst, add-one}
+use Rattle.std.proofs.Common.{◌≡◌, ℕ, suc, ◌<◌, true, None, Some, List, [], ◌∷◌, ◌++◌, length, refl, ap, sym, ◌∙◌, subst, add-one}
 use Rattle.std.specs.Prelude.{map}
 use Rattle.std.specs.List.{AllByRecursion}
 use Rattle.std.proofs.lemmas.List.{length_push, length-map, map_push}
@@ -80,7 +80,7 @@ module _ {F : Type 0} (old : Driver F) (node : ℕ) (order : Order) (block : ℕ
         let t : State = (opened s node order).state in
         let first_flow : flow ≡ (started order q s.block).0 = ap (λ x. x.0) begins in
         let reading : IsReadingAs (kind_of order) None (Some flow) = subst (λ f. IsReadingAs (kind_of order) None (Some f)) (sym first_flow) (begun_reading order q s.block) in
-        let same_length : length old.requests ≡ length s.asked = sym (length-map known old.requests) ∙ (ap length d.requests ∙ length-map kept s.asked) in
+        let same_length : length old.requests ≡ length s.asked = sym (length-map old.requests known) ∙ (ap length d.requests ∙ length-map s.asked kept) in
         let count_is : length t.world.requests ≡ q = same_count (here s) (phases q (started order q s.block).1) tt ∙ opened_count s.world node m.0 in
         let read : AreRead given (old.requests ++ fresh ∷ []) t = begun_reads old.requests s t fresh (new_request node order (started order q s.block).0) refl refl refl reading same_length refl refl refl count_is given h.reads in
         let sized : IsSized (Some flow) = subst (λ b. 0 < b) (sym (ap (λ (x : Flow × Phase AnyRow). x.0.block) is_first ∙ (first_is_good order number block).0)) has_bytes in

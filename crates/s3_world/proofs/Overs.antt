@@ -82,7 +82,7 @@ module _ (asked : List Waiting) where
   waits_without_end [] q m f over at waits = refl
   waits_without_end (e ∷ es) q m f over at waits =
       let not_it : e.0 ≡ q → ⊥ = λ same. (let h : IsOver (Some m) = subst IsOver (ap (numbered asked) same ∙ at) over.0 in let no = sym waits ∙ h in absurd (cc)) in
-      end_past e es q not_it ∙ waits_without_end es q m f over.1.1 at waits
+      end_past e es q not_it ∙ waits_without_end es q m f over.2 at waits
 
   -- a request that has an end waits for nothing
   pub ended_is_over : (es : List (ℕ × FlowEnd)) (q : ℕ) (end : FlowEnd) → AreOver asked es → end_of es q ≡ Some end → IsOver (numbered asked q)
@@ -90,13 +90,13 @@ module _ (asked : List Waiting) where
   ended_is_over (e ∷ es) q end over is =
       by_number e.0 q (IsOver (numbered asked q))
       (λ same. subst (λ p. IsOver (numbered asked p)) same over.0)
-      (λ other. ended_is_over es q end over.1.1 (sym (end_past e es q other) ∙ is))
+      (λ other. ended_is_over es q end over.2 (sym (end_past e es q other) ∙ is))
 
   pub over_pushed : (es : List (ℕ × FlowEnd)) (q : ℕ) (end : FlowEnd) → AreOver asked es → IsOver (numbered asked q) → end_of es q ≡ None → AreOver asked (es ++ (q, end) ∷ [])
   over_pushed [] q end over here none = (here, refl, tt)
   over_pushed (e ∷ es) q end over here none =
       let other = not_here e es q none in
-      (over.0, end_of_others es q e.0 end (λ h. other (sym h)) ∙ over.1.0, over_pushed es q end over.1.1 here (sym (end_past e es q other) ∙ none))
+      (over.0, end_of_others es q e.0 end (λ h. other (sym h)) ∙ over.1, over_pushed es q end over.2 here (sym (end_past e es q other) ∙ none))
 
   none_without : (es : List (ℕ × FlowEnd)) (q p : ℕ) → end_of es p ≡ None → end_of (without_end es q) p ≡ None
   none_without [] q p none = refl
@@ -110,15 +110,15 @@ module _ (asked : List Waiting) where
   over_without [] q over = tt
   over_without (e ∷ es) q over =
       by_number e.0 q (AreOver asked (without_end (e ∷ es) q))
-      (λ same. subst (AreOver asked) (sym (without_here e es q same)) over.1.1)
-      (λ other. subst (AreOver asked) (sym (without_past e es q other)) (over.0, none_without es q e.0 over.1.0, over_without es q over.1.1))
+      (λ same. subst (AreOver asked) (sym (without_here e es q same)) over.2)
+      (λ other. subst (AreOver asked) (sym (without_past e es q other)) (over.0, none_without es q e.0 over.1, over_without es q over.2))
 
   pub taken_is_gone : (es : List (ℕ × FlowEnd)) (q : ℕ) → AreOver asked es → end_of (without_end es q) q ≡ None
   taken_is_gone [] q over = refl
   taken_is_gone (e ∷ es) q over =
       by_number e.0 q (end_of (without_end (e ∷ es) q) q ≡ None)
-      (λ same. ap (λ xs. end_of xs q) (without_here e es q same) ∙ ap (end_of es) (sym same) ∙ over.1.0)
-      (λ other. ap (λ xs. end_of xs q) (without_past e es q other) ∙ end_past e (without_end es q) q other ∙ taken_is_gone es q over.1.1)
+      (λ same. ap (λ xs. end_of xs q) (without_here e es q same) ∙ ap (end_of es) (sym same) ∙ over.1)
+      (λ other. ap (λ xs. end_of xs q) (without_past e es q other) ∙ end_past e (without_end es q) q other ∙ taken_is_gone es q over.2)
 
   -- ---- another request changes, or one more is asked
 
@@ -126,7 +126,7 @@ module _ (asked : List Waiting) where
   over_set [] i q m now f place at waits over = tt
   over_set (e ∷ es) i q m now f place at waits over =
       let not_it : q ≡ e.0 → ⊥ = λ same. (let h : IsOver (Some m) = subst IsOver (ap (numbered asked) (sym same) ∙ at) over.0 in let no = sym waits ∙ h in absurd (cc)) in
-      (subst IsOver (sym (numbered_other asked i q e.0 now place not_it)) over.0, over.1.0, over_set es i q m now f place at waits over.1.1)
+      (subst IsOver (sym (numbered_other asked i q e.0 now place not_it)) over.0, over.1, over_set es i q m now f place at waits over.2)
 
   pub over_more : (es : List (ℕ × FlowEnd)) (m : Waiting) → AreOver asked es → AreOver (asked ++ m ∷ []) es
   over_more [] m over = tt
@@ -136,6 +136,6 @@ module _ (asked : List Waiting) where
           | None ↦ λ is h. absurd h
           | Some x ↦ λ is h. subst IsOver (sym (numbered_push asked e.0 x m is)) h
         ] refl over.0,
-        over.1.0,
-        over_more es m over.1.1,
+        over.1,
+        over_more es m over.2,
       )

@@ -48,7 +48,7 @@ module _ {A : Type 0} where
   all_get P (x ∷ xs) zero a all h = let same : x ≡ a = cc in subst P same all.0
   all_get P (x ∷ xs) (suc i) a all h = all_get P xs i a all.1 h
 
-  get_set : (xs : List A) (i : ℕ) (x y : A) → slice_get xs i ≡ Some x → slice_get (slice_set xs i y) i ≡ Some y
+  pub get_set : (xs : List A) (i : ℕ) (x y : A) → slice_get xs i ≡ Some x → slice_get (slice_set xs i y) i ≡ Some y
   get_set [] i x y h = absurd (cc)
   get_set (z ∷ xs) zero x y h = refl
   get_set (z ∷ xs) (suc i) x y h = get_set xs i x y h

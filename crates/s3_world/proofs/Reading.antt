@@ -18,12 +18,13 @@ use Rattle.flow_model.specs.declared.flow.FlowStep.TheVariants.{More, Wait, End}
 use Rattle.flow_model.specs.declared.flow.FlowEnd.{FlowEnd}
 use Rattle.flow_model.specs.Next as flow
 use Rattle.cluster_machine.specs.World.{numbered}
-use Rattle.store_model.specs.Run.{World, State, Asked as Waiting, Saw}
+use Rattle.store_model.specs.Run.{World, Moving, State, Asked as Waiting, Saw, doing}
 use Rattle.store_model.specs.Acts.{end_of, without_end}
 use Rattle.store_model.specs.Gets.{object_given, object_seen, gathered_at, gathered, found_by}
 use Rattle.s3_world.specs.declared.asked.Asked.{Asked}
 use Rattle.s3_world.specs.Reads.{Handed, of, nothing_handed, found_in, blocks_in, IsLeft, IsHanded, found_after, blocks_after, heard, IsReadingAs, IsReading, IsOver, AreOver, AreRead}
 use Rattle.s3_world.proofs.Places.{numbered_place, numbered_set, numbered_other, numbered_push, numbered_last, numbered_before, numbered_past, numbered_within, all_set, all_get, all_push}
+use Rattle.s3_world.proofs.Counts.{OpensNone, same_count}
 use Rattle.s3_world.proofs.Overs.{by_number, differs, end_pushed, end_of_others, others_without, waits_without_end, ended_is_over, over_pushed, over_without, taken_is_gone, over_set, over_more}
 use Rattle.s3_world.proofs.Getting.{found_of, gathered_of, gathered_then, flow_then, end_then, ends_then, there_then, gathered_is, found_nothing, found_next, left_next, reading_next}
 
@@ -44,6 +45,10 @@ reads_moved given requests s world buckets block history count reads = record {
   seen = reads.seen;
   count = reads.count ∙ sym count;
 }
+
+-- after a step that opens no request
+pub reads_plain : (given : Handed) (requests : List Asked) (s : State) (m : Moving) (history : List Record) → OpensNone m.step → AreRead given requests s → AreRead given requests (record (doing s m) { history = history })
+reads_plain given requests s m history opens reads = reads_moved given requests s (doing s m).world s.buckets s.block history (same_count s.world m opens) reads
 
 -- ---- what phases gave
 

@@ -55,7 +55,7 @@ has_bytes c h = subst (λ b. 0 < b) (sym h.1.block) h.1.sized
 -- of a request that is to come nothing was handed out
 pub gives_none : (c : S3World) (s : State) → IsStore c s → IsGiving c s (suc (length s.world.requests)) []
 gives_none c s d =
-    let same_length : length c.driver.requests ≡ length s.asked = sym (length-map known c.driver.requests) ∙ (ap length d.requests ∙ length-map kept s.asked) in
+    let same_length : length c.driver.requests ≡ length s.asked = sym (length-map c.driver.requests known) ∙ (ap length d.requests ∙ length-map s.asked kept) in
     record {
       world = d.world;
       buckets = d.buckets;

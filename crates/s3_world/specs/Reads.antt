@@ -75,6 +75,11 @@ blocks_after kind blocks stage end = blocks
 abbrev pub heard : Asked → Stage → PhaseEnd AnyRow → Asked
 heard a stage end = record a { found = found_after a.kind a.found end; blocks = blocks_after a.kind a.blocks stage end }
 
+-- and what it waited for was taken from it
+abbrev pub after_phase : Asked → Option Flow → PhaseEnd AnyRow → Asked
+after_phase a None end = a
+after_phase a (Some flow) end = record (heard a flow.stage end) { flow = None }
+
 -- a get waits so; before it gathers no block came, and none of its bytes before the first
 abbrev pub IsWaitingGet : Option (List (List ℕ)) → Stage → Type 0
 IsWaitingGet blocks (Looking name aim.Get) = blocks ≡ None

@@ -68,8 +68,9 @@ IsCalm (Expire q) = ⊥
 IsCalm (Restart n) = ⊥
 IsCalm event = ⊤
 
--- the step ends no request
+-- the step opens no request and ends none
 abbrev pub IsQuiet : Step AnyRow → Type 0
+IsQuiet (step.Open n) = ⊥
 IsQuiet (step.Expire q) = ⊥
 IsQuiet (step.Restart n) = ⊥
 IsQuiet _ = ⊤

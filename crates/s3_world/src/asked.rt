@@ -2,7 +2,7 @@
 ghost use Rattle.std.specs.Prelude.{◌≡◌, ◌∷◌, ℕ, List as Listed, Some, None, OnOk, IfOk, IfSome, IfNone};
 ghost use Rattle.crdt_core.specs.Outcomes.{OnlyWant};
 ghost use Rattle.store_model.specs.Gets.{object_given as object_of_end};
-ghost use Rattle.s3_world.specs.Reads.{heard, with_block as one_more, HasNoBlock};
+ghost use Rattle.s3_world.specs.Reads.{heard, after_phase, with_block as one_more, HasNoBlock};
 
 use block_bytes::Block;
 use crdt_core::{List, Memory, Value};
@@ -71,9 +71,23 @@ impl Asked {
         }
     }
 
-    /// A phase of it gave this, while it waited so. Of a get the object is kept that it finds, and a block that it gathers.
-    pub fn hears(&mut self, alloc: Global, stage: &Stage, end: &PhaseEnd<AnyRow>) -> Result<(), Memory>
-        ensures ok { OnOk result (self.new ≡ heard self.old stage.now end.now) }
+    /// A phase of it gave this: what it waited for then, which is taken from it. None where it has ended. Of a get the
+    /// object is kept that it finds, and a block that it gathers.
+    pub fn hears(&mut self, alloc: Global, end: &PhaseEnd<AnyRow>) -> Result<Option<Flow>, Memory>
+        ensures flow { IfOk result (λ flow. flow ≡ self.old.flow) }
+        ensures keeps { OnOk result (self.new ≡ after_phase self.old self.old.flow end.now) }
+        ensures want { OnlyWant result }
+    {
+        let Some(flow) = self.flow.take() else {
+            return Ok(None);
+        };
+        self.reads(alloc, &flow.stage, end)?;
+        Ok(Some(flow))
+    }
+
+    // What is kept of it once a phase of it gave this, while it waited so.
+    fn reads(&mut self, alloc: Global, stage: &Stage, end: &PhaseEnd<AnyRow>) -> Result<(), Memory>
+        ensures keeps { OnOk result (self.new ≡ heard self.old stage.now end.now) }
         ensures want { OnlyWant result }
     {
         let Kind::Get = self.kind else {
@@ -88,6 +102,13 @@ impl Asked {
         Ok(())
     }
 
+    /// It waits so.
+    pub fn waits(&mut self, flow: Flow)
+        ensures { self.new ≡ record self.old { flow = Some flow } }
+    {
+        self.flow = Some(flow);
+    }
+
     /// Hands out the first of the blocks that wait.
     pub fn take_piece(&mut self) -> Option<Block>
         ensures piece { IfSome result (λ piece. (rest : Listed (Listed ℕ)) × (self.old.blocks ≡ Some (piece ∷ rest)) × (self.new ≡ record self.old { blocks = Some rest })) }
@@ -97,5 +118,14 @@ impl Asked {
             Some(blocks) if !blocks.is_empty() => Some(blocks.remove(0)),
             _ => None,
         }
+    }
+
+    /// Nothing more is kept of what it read: the blocks that wait.
+    pub fn take_blocks(&mut self) -> Option<List<Block>>
+        ensures blocks { result ≡ self.old.blocks }
+        ensures rest { self.new ≡ record self.old { found = None; blocks = None } }
+    {
+        self.found = None;
+        self.blocks.take()
     }
 }

@@ -1,5 +1,6 @@
 //! The driver of requests, over any flows: they are opened, taken from phase to phase, and ended, over a cluster.
 ghost use Rattle.std.specs.Prelude.{◌≡◌, [], ◌∷◌, ◌++◌, ◌<◌, ◌⊎◌, ◌+◌, ◌^◌, ℕ, List as Listed, length, map, option_map, slice_get, slice_set, OnOk, IfOk, IfErr, IfSome, IfNone, Some, None};
+ghost use Rattle.std.specs.Option.{option_copied};
 ghost use Rattle.crdt_core.specs.Outcomes.{OnlyWant, WantOr};
 ghost use Rattle.crdt_rows.specs.AnyRow.{any_join};
 ghost use Rattle.object_schema.specs.Schema.{words};
@@ -23,7 +24,7 @@ use cluster_machine::applied::Line;
 use cluster_machine::{Step, Words};
 use crdt_core::{List, Memory};
 use crdt_rows::{AnyRow, Meta, Version};
-use flow_model::{FlowEnd, FlowStep, Flows, Order};
+use flow_model::{Flow, FlowEnd, FlowStep, Flows, Order};
 use history_model::{Cause, History, Kind, Record};
 use object_bytes::Pieces;
 use object_schema::S3Schema;
@@ -108,7 +109,7 @@ fn push_lost(history: &mut List<Record>, lost: &[u64]) -> Result<(), Memory>
 
 impl<F: Flows> Driver<F> {
     ghost use Rattle.flow_model.specs.declared.flow.Flow.{Flow};
-    ghost use Rattle.s3_world.specs.declared.asked.Asked.{Asked};
+    ghost use Rattle.s3_world.specs.declared.asked.Asked.{Asked as Requested};
     ghost use Rattle.s3_world.specs.Driven.{IsDriven, IsHanding, HasRun, IsReady, Becomes, Plays, PlaysIf, PlaysStep, Overflows, OverflowsIf, OverflowsStep, Finishes};
 
     /// Nothing has happened.
@@ -137,6 +138,16 @@ impl<F: Flows> Driver<F> {
         }
     }
 
+    /// How a request ended by itself, as long as that isn't taken.
+    pub fn end(&self, request: u64) -> Option<&FlowEnd>
+        ensures { (s : State) → IsDriven self.now s → option_copied result ≡ end_of s.ends request }
+    {
+        match place_of(self.ends.as_slice(), request) {
+            Some(i) => Some(&self.ends.at(i).1),
+            None => None,
+        }
+    }
+
     /// Hands out the first block of a get that came and wasn't handed out. None where there is none. Takes no memory.
     pub fn take_piece(&mut self, request: u64) -> Option<Block>
         ensures piece { IfSome result (λ piece. (s : State) (bytes : Listed ℕ) → IsHanding (of request bytes) self.old s → IsHanding (of request (bytes ++ piece)) self.new s) }
@@ -154,11 +165,10 @@ impl<F: Flows> Driver<F> {
         ensures end { (s : State) (bytes : Listed ℕ) → IsHanding (of request bytes) self.old s → with_first bytes result ≡ end_of s.ends request }
         ensures taken { Becomes self.old self.new (λ s. acted s (takes request)) }
     {
-        let end = self.ends.remove(place_of(self.ends.as_slice(), request)?).1;
         let i = place(request, self.requests.len())?;
-        let asked = self.requests.at_mut(i);
-        asked.found = None;
-        Some(with_left(end, asked.blocks.take()))
+        let at = place_of(self.ends.as_slice(), request)?;
+        let end = self.ends.remove(at).1;
+        Some(with_left(end, self.requests.at_mut(i).take_blocks()))
     }
 
     /// A request begins at a member with its first phase, where blocks have this size in bytes.
@@ -184,6 +194,7 @@ impl<F: Flows> Driver<F> {
     }
 
     /// Ends a request that is open.
+    #[tactic(auto, using(crate::proofs::Reading::reads_plain))]
     pub fn expire(&mut self, request: u64) -> Result<Told, Memory>
         requires stands { HasRun self.old }
         ensures plays { IfOk result (λ told. PlaysStep self.old self.new told (step.Expire request)) }
@@ -204,6 +215,7 @@ impl<F: Flows> Driver<F> {
     }
 
     /// A node loses its open requests.
+    #[tactic(auto, using(crate::proofs::Reading::reads_plain))]
     pub fn restart(&mut self, node: u8) -> Result<Told, Memory>
         requires stands { HasRun self.old }
         ensures plays { IfOk result (λ told. PlaysStep self.old self.new told (step.Restart node)) }
@@ -244,24 +256,31 @@ impl<F: Flows> Driver<F> {
             return Ok(accepted(List::new(self.alloc)));
         };
         let asked = self.requests.at_mut(i);
-        let Some(flow) = asked.flow.take() else {
+        let (node, kind) = (asked.node, asked.kind);
+        let Some(flow) = asked.hears(self.alloc, &end)? else {
             return Ok(accepted(List::new(self.alloc)));
         };
-        asked.hears(self.alloc, &flow.stage, &end)?;
-        let (node, kind) = (asked.node, asked.kind);
         let now = self.world.clock(node);
         match self.flows.next(self.alloc, flow, end, now)? {
             FlowStep::More(flow, phase) => {
                 let report = self.world.step(Step::Phase(request, phase))?;
-                self.requests.at_mut(i).flow = Some(flow);
+                self.waits(i, flow);
                 Ok(accepted(report.lines))
             }
             FlowStep::Wait(flow) => {
-                self.requests.at_mut(i).flow = Some(flow);
+                self.waits(i, flow);
                 Ok(accepted(List::new(self.alloc)))
             }
             FlowStep::End(end) => self.finishes(request, kind, end),
         }
+    }
+
+    // The request at a place waits so.
+    fn waits(&mut self, i: usize, flow: Flow)
+        requires { i < length self.old.requests }
+        ensures { (a : Requested) → slice_get self.old.requests i ≡ Some a → self.new ≡ record self.old { requests = slice_set self.old.requests i (record a { flow = Some flow }) } }
+    {
+        self.requests.at_mut(i).waits(flow);
     }
 
     // What the request does whose phase ended, if one did.
