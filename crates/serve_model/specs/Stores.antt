@@ -5,7 +5,7 @@ use Rattle.crdt_rows.specs.declared.version.Version.{Version}
 use Rattle.crdt_rows.specs.declared.body.Meta.{Meta}
 use Rattle.flow_model.specs.declared.order.Order.{Order}
 use Rattle.flow_model.specs.declared.flow.FlowEnd.{FlowEnd}
-use Rattle.flow_model.specs.declared.flow.FlowEnd.TheVariants.{Found}
+use Rattle.flow_model.specs.declared.flow.FlowEnd.TheVariants.{Found, Nothing}
 
 -- an object that a get found, and the first of its bytes
 pub record Given : Type 0 where
@@ -19,9 +19,10 @@ pub record Carried (S : Type 0) : Type 0 where
   pub end : Option FlowEnd
   pub begun : Option Given
 
--- what a get gives: the object with which it ended, or what it had given
+-- what a get gives: the object with which it ended, nothing where there is none, or what it had given
 abbrev pub given_with : Option FlowEnd → Option Given → Option Given
 given_with (Some (Found version meta body)) begun = Some (record { version = version; meta = meta; bytes = body })
+given_with (Some Nothing) begun = None
 given_with end begun = begun
 
 abbrev pub given : {S : Type 0} → Carried S → Option Given

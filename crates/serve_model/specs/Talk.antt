@@ -3,16 +3,17 @@ use Rattle.std.specs.Prelude.{ℕ, zero, suc, ◌+◌, Bool, true, false, ◌||�
 use Rattle.flow_model.specs.declared.order.Order.{Order}
 use Rattle.flow_model.specs.declared.order.Order.TheVariants as order
 use Rattle.flow_model.specs.declared.flow.FlowEnd.{FlowEnd}
-use Rattle.flow_model.specs.declared.flow.FlowEnd.TheVariants.{Found}
 use Rattle.http_model.specs.declared.head.Head.{Head}
 use Rattle.http_model.specs.Cut.{Cut, ends, too_long, unfinished, cut}
 use Rattle.http_model.specs.Heads.{IsReading}
+use Rattle.s3_model.specs.declared.ask.Ask.{Ask}
+use Rattle.s3_model.specs.declared.ask.Ask.TheVariants as ask
 use Rattle.s3_model.specs.declared.fault.Code.{Code}
 use Rattle.s3_model.specs.declared.fault.Code.TheVariants.{InvalidRequest, IncompleteBody}
 use Rattle.s3_model.specs.declared.fault.S3Fault.{S3Fault}
 use Rattle.s3_model.specs.declared.reply.Reply.{Reply}
 use Rattle.s3_model.specs.declared.reply.Reply.TheVariants.{Refused}
-use Rattle.s3_model.specs.Answer.{answer_text}
+use Rattle.s3_model.specs.Answer.{found_text, answer_text}
 use Rattle.s3_model.specs.Asks.{is_method}
 use Rattle.s3_model.specs.Connections.{closes as closes_after_head, expects}
 use Rattle.s3_model.specs.Faults.{fault_of, closes_after}
@@ -129,13 +130,20 @@ text_of r (answer.Reply reply) = answer_text (Some r.ask) reply r.time r.closes
 text_of r (answer.Refusal code) = answer_text (Some r.ask) (refusal r code) r.time (closes_with r code)
 text_of r answer.Nothing = []
 
+-- the answer to a get that found an object, of which these bytes are given; to any other ask nothing
+abbrev pub get_text : Ask → Given → ℕ → Bool → List ℕ
+get_text (ask.Get bucket key range) g now close = found_text range g.version g.meta g.bytes now close
+get_text _ g now close = []
+
 -- a get without an answer may have got a first part of one: the head, and those bytes of its range that had come
 abbrev pub begun_text : Request → Option Given → List ℕ
 begun_text r None = []
-begun_text r (Some b) = elim (answer_to r.ask (Found b.version b.meta b.bytes)) as (λ a. List ℕ) [
-  | answer.Reply reply ↦ answer_text (Some r.ask) reply r.time r.closes
-  | _ ↦ []
-]
+begun_text r (Some g) = get_text r.ask g r.time r.closes
+
+-- the bytes with which a request is answered, or those that it got without an answer
+abbrev pub given_text : Request → Answer → Option Given → List ℕ
+given_text r answer.Nothing begun = begun_text r begun
+given_text r a begun = text_of r a
 
 -- whether the connection closes after them; without an answer it does
 abbrev pub closes_of : Request → Answer → Bool
@@ -198,8 +206,7 @@ module _ {S : Type 0} where
 
   -- a request is answered, or it isn't: then the connection closes, and a get may have got a first part of an answer
   abbrev pub given_turn : Request → Answer → Option Given → Serving S → List ℕ → Turn S
-  given_turn r answer.Nothing begun p rest = said (begun_text r begun) true p rest
-  given_turn r a begun p rest = answer_turn r a p rest
+  given_turn r a begun p rest = said (given_text r a begun) (closes_of r a) p rest
 
   -- the store has carried out what a request asks, which ended so; without an end there is no answer
   abbrev pub end_turn : Request → Option FlowEnd → Option Given → Serving S → List ℕ → Turn S
