@@ -5,7 +5,7 @@ use Rattle.crdt_rows.specs.declared.body.Meta.{Meta}
 use Rattle.flow_model.specs.declared.order.Order.{Order}
 use Rattle.flow_model.specs.declared.flow.FlowEnd.{FlowEnd}
 use Rattle.flow_model.specs.declared.flow.FlowEnd.TheVariants as flow
-use Rattle.serve_model.specs.Stores.{Given, Carried, given}
+use Rattle.serve_model.specs.Stores.{Given, Carried, Store, given}
 use Rattle.serve_loop.specs.declared.storage.Got.{Got}
 use Rattle.serve_loop.specs.declared.storage.Got.TheVariants.{Found, Piece, End}
 
@@ -31,6 +31,11 @@ with_given so_far end = end
 abbrev pub GaveAll : Option Given → Option Given → Option FlowEnd → Type 0
 GaveAll so_far all (Some (flow.Found version meta rest)) = ⊤
 GaveAll so_far all end = so_far ≡ all
+
+-- the store may give so much in the middle of an order
+abbrev pub MayGive : {S : Type 0} → Store S → S → ℕ → Order → Option Given → Type 0
+MayGive store s time order None = ⊤
+MayGive store s time order (Some g) = store.gives s time order g
 
 -- there is more to come
 abbrev pub GoesOn : Got → Type 0
