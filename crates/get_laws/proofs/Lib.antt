@@ -1,0 +1,5 @@
+pub mod Firsts
+pub mod Knowing
+pub mod Getting
+pub mod Acting
+pub mod Ending
