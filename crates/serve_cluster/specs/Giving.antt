@@ -1,5 +1,5 @@
 -- A get that is on its way.
-use Rattle.std.specs.Prelude.{◌≡◌, ◌≤◌, ◌+◌, ◌-◌, ◌⊎◌, ℕ, suc, Bool, true, false, if◌then◌else◌, List, [], ◌∷◌, Option, None, Some, max}
+use Rattle.std.specs.Prelude.{◌≡◌, ◌≤◌, ◌+◌, ◌-◌, ℕ, suc, ⊤, Bool, true, false, if◌then◌else◌, ◌^◌, option_map, List, [], ◌∷◌, Option, None, Some, max}
 use Rattle.std.specs.List.{AllByRecursion}
 use Rattle.crdt_rows.specs.declared.version.Version.{Version}
 use Rattle.crdt_rows.specs.declared.body.Meta.{Meta}
@@ -9,11 +9,12 @@ use Rattle.cluster_machine.specs.declared.step.Words.TheVariants.{One}
 use Rattle.flow_model.specs.declared.order.Order.{Order}
 use Rattle.flow_model.specs.declared.order.Order.TheVariants.{Get}
 use Rattle.flow_model.specs.declared.flow.FlowEnd.{FlowEnd}
+use Rattle.flow_model.specs.declared.flow.FlowEnd.TheVariants as flow
 use Rattle.store_model.specs.Run.{State, Outcome, opened}
 use Rattle.store_model.specs.Acts.{Act, drain, after_acts, end_of, all_messages, AreLawfulActs, ActsFit}
 use Rattle.store_model.specs.Gets.{found_by}
 use Rattle.s3_world.specs.declared.world.S3World.{S3World}
-use Rattle.s3_world.specs.Stands.{IsStore, IsGiving, has_object}
+use Rattle.s3_world.specs.Stands.{IsStore, IsGiving}
 use Rattle.serve_model.specs.Stores.{Given}
 use Rattle.serve_model.specs.Clusters.{Cluster as Model, acts_to_ask, acts_to_end, acts_opened, end_in, given_by, wait, asking, ActLacksRoom}
 use Rattle.get_laws.specs.OnTheWay.{KnowsRequests, LeavesEnd, next_request}
@@ -79,9 +80,14 @@ GivesMore on so_far (Found version meta) = (so_far ≡ None) × on (Some (found_
 GivesMore on so_far (Piece bytes) = (g : Given) × (so_far ≡ Some g) × on (Some (with_piece g bytes))
 GivesMore on so_far (End end) = ⊥
 
+-- it is an end with an object
+abbrev pub is_object : Option FlowEnd → Bool
+is_object (Some (flow.Found version meta body)) = true
+is_object end = false
+
 -- the request ended with an object, or what was given is all that it has found and got
 abbrev pub HasGivenAll : State → ℕ → Option Given → Type 0
-HasGivenAll s q so_far = (has_object (end_of s.ends q) ≡ true) ⊎ (so_far ≡ given_by s q)
+HasGivenAll s q so_far = GaveAll so_far (given_by s q) (end_of s.ends q)
 
 -- it gives more, or has given all that there is
 abbrev pub GivesOrHas : (Option Given → Type 0) → State → ℕ → Option Given → Option Got → Type 0
@@ -127,14 +133,28 @@ LacksGetting old members g = (s : State) (so_far : Option Given) → IsGetting o
 
 -- ---- in a cluster
 
+-- a get that was just opened as this request: nothing was delivered
+abbrev pub new_get : ℕ → Getting
+new_get q = record { request = q; told = false; worked = false; left = 2 ^ 64 - 1 }
+
+-- of a request that was asked for, none where it was refused
+abbrev pub begun_get : Option ℕ → Option Getting
+begun_get number = option_map new_get number
+
 -- a request was asked for: its number, or none where it was refused
 abbrev pub IsNumber : Option ℕ → Outcome → Type 0
 IsNumber None o = (reason : Refusal Cut) × (o.refused ≡ Some reason)
 IsNumber (Some q) o = (o.refused ≡ None) × (o.words ≡ One q)
 
+-- of the request nothing was handed out
+abbrev pub GivesNothing : S3World → State → Option ℕ → Type 0
+GivesNothing world s None = ⊤
+GivesNothing world s (Some q) = IsGiving world s q []
+
 -- an order was asked of a cluster at a time, and the code's cluster stands for it then
 pub record HasAsked (c : Cluster) (m : Model) (time : ℕ) (order : Order) (number : Option ℕ) : Type 0 where
   pub does : DoneActs c.world m.run (acts_to_ask m.members (wait m time) order)
+  pub gives : GivesNothing c.world (asking m.members m.run (wait m time) order).state number
   pub ticked : c.ticked ≡ max m.ticked time
   pub members : c.members ≡ m.members
   pub knows : KnowsRequests m.run

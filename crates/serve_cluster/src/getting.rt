@@ -1,15 +1,17 @@
 //! What a get gives, one after the other.
-ghost use Rattle.std.specs.Prelude.{◌≡◌, ◌<◌, ◌≤◌, ◌-◌, ◌^◌, ℕ, false, true, List, Option, IfOk, IfSome};
+ghost use Rattle.std.specs.Prelude.{◌≡◌, ◌<◌, ◌≤◌, ℕ, false, true, List, Option, IfOk, IfSome};
 ghost use Rattle.crdt_core.specs.Outcomes.{OnlyWant, WantOr};
 ghost use Rattle.store_model.specs.Run.{State};
-ghost use Rattle.store_model.specs.Acts.{all_messages};
+ghost use Rattle.store_model.specs.Acts.{end_of, all_messages};
+ghost use Rattle.s3_world.specs.Stands.{IsStore};
 ghost use Rattle.serve_model.specs.Clusters.{acts_opened, ActLacksRoom};
 ghost use Rattle.serve_model.specs.Stores.{Given};
 ghost use Rattle.serve_loop.specs.Gets.{GoesOn};
-ghost use Rattle.serve_cluster.specs.Giving.{Delivers, GivesNext, GivesOrEnds, HandsOut, HasDrainedGet, HasGot, IsDrainedGet, LacksDrain, LacksGetting, left_of};
+ghost use Rattle.serve_cluster.specs.Giving.{begun_get, Delivers, GivesNext, GivesOrEnds, HandsOut, is_object, HasDrainedGet, HasGot, IsDrainedGet, LacksDrain, LacksGetting, left_of};
 
 use crate::acts::{deliver, rounds, take};
 use crdt_core::{Memory, Value};
+use flow_model::FlowEnd;
 use s3_world::S3World;
 use serve_loop::Got;
 
@@ -26,18 +28,26 @@ pub(crate) struct Getting {
     left: u64,
 }
 
-impl Getting {
-    /// Nothing was delivered yet.
-    pub(crate) fn new(request: u64) -> Getting
-        ensures { result ≡ record { request = request; told = false; worked = false; left = 2 ^ 64 - 1 } }
-    {
-        Getting {
+/// The get that was opened with this number. None where it was refused.
+pub(crate) fn begun(number: Option<u64>) -> Option<Getting>
+    ensures { result ≡ begun_get number }
+{
+    match number {
+        Some(request) => Some(Getting {
             request,
             told: false,
             worked: false,
             left: u64::MAX,
-        }
+        }),
+        None => None,
     }
+}
+
+// The request ended with an object, which is to be had with its end.
+fn has_object(world: &S3World, request: u64) -> bool
+    ensures { (s : State) → IsStore world.now s → result ≡ is_object (end_of s.ends request) }
+{
+    matches!(world.end(request), Some(FlowEnd::Found { .. }))
 }
 
 // What was found, unless the get ended with it.
@@ -47,7 +57,7 @@ fn tell(world: &S3World, getting: &mut Getting) -> Result<Option<Got>, Memory>
     ensures hands { IfOk result (λ got. HandsOut world.now world.now getting.old getting.new got) }
     ensures want { OnlyWant result }
 {
-    if world.has_object(getting.request) {
+    if has_object(world, getting.request) {
         return Ok(None);
     }
     match world.found(getting.request) {
@@ -121,6 +131,7 @@ fn end(world: &mut S3World, getting: &mut Getting) -> Result<Got, Memory>
 fn count_and_end(world: &mut S3World, getting: &mut Getting) -> Result<Got, Memory>
     requires on_its_way { HasGot world.old getting.old }
     requires late { getting.old.worked ≡ true }
+    ensures same { getting.new.request ≡ getting.old.request }
     ensures fewer { IfOk result (λ got. GoesOn got → left_of getting.new < left_of getting.old) }
     ensures gives { IfOk result (λ got. (members : List ℕ) → GivesNext world.old world.new members getting.old getting.new got) }
     ensures causes { WantOr result ((members : List ℕ) → LacksGetting world.old members getting.old) }
@@ -139,6 +150,7 @@ fn work_and_end(
     getting: &mut Getting,
 ) -> Result<Got, Memory>
     requires on_its_way { HasDrainedGet world.old getting.old }
+    ensures same { getting.new.request ≡ getting.old.request }
     ensures fewer { IfOk result (λ got. GoesOn got → left_of getting.new ≤ all_messages) }
     ensures gives { IfOk result (λ got. (s : State) (so_far : Option Given) → IsDrainedGet world.old getting.old s so_far → GivesOrEnds world.new members.now getting.new s so_far got) }
     ensures causes { WantOr result ((s : State) (so_far : Option Given) → IsDrainedGet world.old getting.old s so_far → ActLacksRoom s (acts_opened members.now s getting.old.request)) }
@@ -161,6 +173,7 @@ pub(crate) fn go_on(
 ) -> Result<Got, Memory>
     requires { HasGot world.old getting.old }
     ensures fewer { IfOk result (λ got. GoesOn got → left_of getting.new < left_of getting.old) }
+    ensures same { getting.new.request ≡ getting.old.request }
     ensures gives { IfOk result (λ got. GivesNext world.old world.new members.now getting.old getting.new got) }
     ensures causes { WantOr result (LacksGetting world.old members.now getting.old) }
 {

@@ -14,6 +14,7 @@ mod acts;
 mod change;
 mod changing;
 mod cluster;
+mod getting;
 
 pub use crate::change::Change;
 pub use crate::changing::Changing;
