@@ -1,5 +1,5 @@
 -- Acts, one after the other.
-use Rattle.std.proofs.Common.{◌≡◌, ℕ, ◌-◌, ◌⊎◌, inl, inr, List, [], ◌∷◌, ◌++◌, Bool, Option, Some, None, Result, Ok, Err, OnOk, IfOk, is_some, length, get_or, take, drop, ◌==◌, arith, true, false, refl, sym, ◌∙◌, ap, subst, append_assoc}
+use Rattle.std.proofs.Common.{◌≡◌, ℕ, ◌-◌, ◌⊎◌, inl, inr, List, [], ◌∷◌, ◌++◌, Bool, Option, Some, None, Result, Ok, Err, OnOk, IfOk, is_some, length, get_or, take, drop, ◌==◌, arith, true, false, refl, sym, ◌∙◌, ap, subst, append_assoc, append-nil}
 use Rattle.std.proofs.lemmas.List.{map-append, take_all}
 use Rattle.layout_roles.specs.declared.cut.Cut.{Cut}
 use Rattle.crdt_core.specs.Outcomes.{WantOr}
@@ -84,6 +84,11 @@ one_worked old mid new members rest n later e w f =
       parts = append_assoc w.done (n ∷ []) later ∙ (ap (λ ns. w.done ++ ns) (sym e) ∙ w.parts);
       keeps = subst (KeepsActs old new) (sym (map-append (λ m. moves (plainly (Work m))) w.done (n ∷ []))) (keeps_more old mid new (works w.done) (works (n ∷ [])) w.keeps f);
     }
+
+-- none is left
+pub all_worked : (old new : S3World) (members rest : List ℕ) → true ≡ (length rest == 0) → Working old new members rest → KeepsActs old new (works members)
+all_worked old new members [] e w = subst (λ ns. KeepsActs old new (works ns)) (sym (append-nil w.done) ∙ w.parts) w.keeps
+all_worked old new members (n ∷ rest) e w = absurd (let no' : true ≡ false = e in cc)
 
 -- members that are left are a first one and those after it
 pub first_left : (ns : List ℕ) → false ≡ (length ns == 0) → ns ≡ get_or ns 0 0 ∷ take (length ns - 1) (drop 1 ns)

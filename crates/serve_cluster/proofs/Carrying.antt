@@ -51,7 +51,7 @@ started_as mid new n m order r x answer here is same starts gives =
     subst (λ k. StartedSo mid new answer k order) here (subst (λ a. StartedSo mid new a n order) same (subst P is both))
 
 -- the number of a request that was asked for
-number_of : Result ℕ (Refusal Cut) → Option ℕ
+abbrev pub number_of : Result ℕ (Refusal Cut) → Option ℕ
 number_of (Ok q) = Some q
 number_of (Err reason) = None
 
@@ -69,12 +69,13 @@ module _ (old : Cluster) (time : ℕ) (order : Order) (ms last : ℕ) (ms_is : m
       DoneActs new m.run (acts_to_ask ns k order) × IsNumber (number_of answer) (asking ns m.run k order) × GivesNothing new (asking ns m.run k order).state (number_of answer)
   asked_with new answer m st k ns same here h =
       let t : DoneActs mid m.run (moves (plainly (Tick k)) ∷ []) = subst (λ j. DoneActs mid m.run (moves (plainly (Tick j)) ∷ [])) (sym same) (ticks m.run st.world) in
-      (asked ns m.run k order mid new answer keyed t h.0, numbered_so mid new answer (asker ns) order (acted m.run (moves (plainly (Tick k)))).state t.stands h)
+      let n = numbered_so mid new answer (asker ns) order (acted m.run (moves (plainly (Tick k)))).state t.stands h in
+      (asked ns m.run k order mid new answer keyed t h.0, n.0, n.1)
 
   pub has_asked : (new : S3World) (answer : Result ℕ (Refusal Cut)) → StartedSo mid new answer (asker old.members) order → (m : Model) → StandsFor old m → HasAsked (asked_of new) m time order (number_of answer)
   has_asked new answer h m st =
       let x = asked_with new answer m st (wait m time) m.members (sym (ms_is ∙ ap (λ t. time - t) st.ticked)) (λ i. m.members) (subst (λ ns. StartedSo mid new answer (asker ns) order) st.members h) in
-      record { does = x.0; gives = x.1.1; ticked = last_is ∙ ap (λ t. max t time) st.ticked; members = st.members; knows = knows_requests old.world m.run st.world; number_is = x.1.0 }
+      record { does = x.0; gives = x.2; ticked = last_is ∙ ap (λ t. max t time) st.ticked; members = st.members; knows = knows_requests old.world m.run st.world; number_is = x.1 }
 
 module _ (c : Cluster) (m : Model) (time : ℕ) (order : Order) where
   abbrev asked_now : Outcome

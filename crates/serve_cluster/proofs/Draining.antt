@@ -34,7 +34,7 @@ parts_at m n s (Some i) e parts =
     ∙ (drains_one (m + n) i s e ∙ (ap (then_drains o) (parts o.state) ∙ (three_parts o (drains m o.state) (drains n (drains m o.state).state) ∙ sym (ap (λ (x : Outcome). then_drains x (drains n x.state)) (drains_one m i s e)))))
 
 pub drains_parts : (m n : ℕ) (s : State) → InParts m n s
-drains_parts zero n s = λ i. record (drains n s) { refused = drains_quietly n s i; words = drains_empty n s i }
+drains_parts zero n s = ap (λ k. drains k s) (omega arith) ∙ λ i. record (drains n s) { refused = drains_quietly n s i; words = drains_empty n s i }
 drains_parts (suc m) n s = parts_at m n s (undelivered s.world) refl (drains_parts m n)
 
 -- ---- what fits

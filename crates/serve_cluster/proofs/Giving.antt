@@ -8,6 +8,7 @@ use Rattle.crdt_rows.specs.AnyRow.{any_join}
 use Rattle.object_schema.specs.Schema.{words}
 use Rattle.cluster_machine.specs.World.{numbered, undelivered}
 use Rattle.cluster_machine.specs.Worlds.{FitAll}
+use Rattle.history_model.specs.declared.record.Kind.TheVariants as kind
 use Rattle.flow_model.specs.declared.order.Order.TheVariants.{Get}
 use Rattle.flow_model.specs.declared.flow.Name.{Name}
 use Rattle.flow_model.specs.declared.flow.Flow.{Flow}
@@ -24,7 +25,7 @@ use Rattle.s3_world.specs.Stands.{IsStore, IsGiving, Overflows}
 use Rattle.serve_model.specs.Stores.{Given, IsFirstOf}
 use Rattle.serve_model.specs.Clusters.{round, acts_to_end, acts_past_end, acts_opened, given_by, ActLacksRoom}
 use Rattle.get_laws.specs.OnTheWay.{LeavesEnd, IsLater}
-use Rattle.get_laws.proofs.Acting.{GivesOn, getting, stage_in, later_gives}
+use Rattle.get_laws.proofs.Acting.{GivesOn, stage_in, later_gives}
 use Rattle.get_laws.proofs.Getting.{Seen, IsAt}
 use Rattle.get_laws.proofs.Ending.{opened_gives, goes_on_with, acts_leave}
 use Rattle.serve_loop.specs.declared.storage.Got.{Got}
@@ -166,6 +167,10 @@ gave_with_object so_far all (Some (Stored version meta)) e = absurd (let no' : f
 gave_with_object so_far all (Some Nothing) e = absurd (let no' : false ≡ true = e in cc)
 gave_with_object so_far all (Some (Listed rows)) e = absurd (let no' : false ≡ true = e in cc)
 gave_with_object so_far all (Some (Superseded id)) e = absurd (let no' : false ≡ true = e in cc)
+
+-- a get, as it is asked for
+abbrev getting : ℕ → Name → Option Flow → Asked
+getting node name flow = record { node = node; kind = kind.Get; name = name; flow = flow }
 
 -- the bytes that came, of a request that was asked for so and ended so
 abbrev gathered_so : Option Asked → Option FlowEnd → List ℕ

@@ -3,6 +3,7 @@ pub mod Acting
 pub mod Carrying
 pub mod Draining
 pub mod Giving
+pub mod Nexts
 pub mod Begun
 pub mod Staging
 pub mod Unstaged
