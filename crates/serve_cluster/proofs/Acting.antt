@@ -1,5 +1,6 @@
 -- Acts, one after the other.
-use Rattle.std.proofs.Common.{◌≡◌, ℕ, ◌-◌, ◌⊎◌, inl, inr, List, [], ◌∷◌, ◌++◌, Bool, Option, Some, None, Result, Ok, Err, OnOk, IfOk, is_some, length, get_or, take, drop, ◌==◌, arith, true, false, refl, sym, ◌∙◌, ap, subst, append_assoc, append-nil}
+use Rattle.std.proofs.Common.{◌≡◌, ℕ, suc, ◌-◌, ◌⊎◌, inl, inr, List, [], ◌∷◌, ◌++◌, Bool, Option, Some, None, Result, Ok, Err, OnOk, IfOk, is_some, length, get_or, take, drop, ◌==◌, arith, true, false, refl, sym, ◌∙◌, ap, subst, append_assoc, append-nil}
+use Rattle.std.proofs.lemmas.Bool.{eqb-true}
 use Rattle.std.proofs.lemmas.List.{map-append, take_all}
 use Rattle.layout_roles.specs.declared.cut.Cut.{Cut}
 use Rattle.crdt_core.specs.Outcomes.{WantOr}
@@ -88,7 +89,7 @@ one_worked old mid new members rest n later e w f =
 -- none is left
 pub all_worked : (old new : S3World) (members rest : List ℕ) → true ≡ (length rest == 0) → Working old new members rest → KeepsActs old new (works members)
 all_worked old new members [] e w = subst (λ ns. KeepsActs old new (works ns)) (sym (append-nil w.done) ∙ w.parts) w.keeps
-all_worked old new members (n ∷ rest) e w = absurd (let no' : true ≡ false = e in cc)
+all_worked old new members (n ∷ rest) e w = absurd (let none : length (n ∷ rest) ≡ 0 = eqb-true (length (n ∷ rest)) 0 (sym e) in let some : length (n ∷ rest) ≡ suc (length rest) = refl in omega (arith, none, some))
 
 -- members that are left are a first one and those after it
 pub first_left : (ns : List ℕ) → false ≡ (length ns == 0) → ns ≡ get_or ns 0 0 ∷ take (length ns - 1) (drop 1 ns)
@@ -142,6 +143,10 @@ one_lacks old mid members rest n later e w f = λ s st.
 pub cause_more : {A B : Type 0} (e : Memory) → (A → B) → (e ≡ Want) ⊎ ((e ≡ Full) × A) → (e ≡ Want) ⊎ ((e ≡ Full) × B)
 cause_more e f (inl want) = inl want
 cause_more e f (inr full) = inr (full.0, f full.1)
+
+-- what a call answered, where its answer is known
+pub ok_as : {A : Type 0} (P : A → Type 0) (r : Result A Memory) (x y : A) → r ≡ Ok x → x ≡ y → IfOk r P → P y
+ok_as P r x y is same h = subst P same (subst (λ t. IfOk t P) is h)
 
 -- ---- what the next call answers is handed on
 

@@ -82,6 +82,10 @@ module _ (m : Model) (time : ℕ) (bucket key : List ℕ) where
     coming = coming c.world number h.knows h.number_is h.does.stands h.gives;
   }
 
+pub begins_so : (c : Cluster) (getting : Option Getting) (time : ℕ) (bucket key : List ℕ) (number : Option ℕ) (holds : Model → Type 0) → getting ≡ begun_get number → ((m : Model) → holds m → HasAsked c m time (Get bucket key) number) →
+    (m : Model) → holds m → IsOnItsWay (record c { getting = getting }) m time (Get bucket key) None
+begins_so c getting time bucket key number holds is asked m st = subst (λ x. IsOnItsWay (record c { getting = x }) m time (Get bucket key) None) (sym is) (begun m time bucket key c number (asked m st))
+
 -- ---- what it has given on its way
 
 -- the state to which its acts led so far, and the one to which all do, are later and later

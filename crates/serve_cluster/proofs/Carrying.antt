@@ -125,6 +125,10 @@ module _ (c : Cluster) (m : Model) (time : ℕ) (order : Order) where
 
 -- ---- a request that was asked for
 
+-- it was asked of a cluster, whatever the code's stood for
+abbrev pub AskedSo : Cluster → Cluster → ℕ → Order → Option ℕ → Type 0
+AskedSo old new time order number = (m : Model) → StandsFor old m → HasAsked new m time order number
+
 pub refused : (c : Cluster) (m : Model) (time : ℕ) (order : Order) → HasAsked c m time order None → CarriedOut cluster fits lacks (StandsFor c) m time order None
 refused c m time order h = came c m time order None h.ticked h.members (came_refused c m time order h.number_is h.does)
 

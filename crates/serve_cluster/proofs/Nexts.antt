@@ -1,5 +1,6 @@
 -- What a get gives next, call by call.
-use Rattle.std.proofs.Common.{◌≡◌, ◌≤◌, ◌<◌, ◌+◌, ◌-◌, ◌^◌, ℕ, suc, Bool, true, false, if◌then◌else◌, Option, Some, None, List, [], ◌∷◌, ◌++◌, refl, sym, ap, ◌∙◌, subst, arith}
+use Rattle.std.proofs.Common.{◌≡◌, ◌≤◌, ◌<◌, ◌+◌, ◌-◌, ◌^◌, ℕ, suc, Bool, true, false, if◌then◌else◌, Option, Some, None, Result, Ok, Err, IfOk, List, [], ◌∷◌, ◌++◌, refl, sym, ap, ◌∙◌, subst, arith}
+use Rattle.crdt_core.specs.declared.memory.Memory.{Memory}
 use Rattle.flow_model.specs.declared.flow.FlowEnd.{FlowEnd}
 use Rattle.store_model.specs.Run.{State}
 use Rattle.store_model.specs.Acts.{Act, drain, acted, after_acts, end_of, all_messages}
@@ -10,10 +11,10 @@ use Rattle.serve_model.specs.Stores.{Given}
 use Rattle.serve_model.specs.Clusters.{round, acts_to_end, acts_past_end, acts_opened, given_by, ActLacksRoom}
 use Rattle.serve_loop.specs.declared.storage.Got.{Got}
 use Rattle.serve_loop.specs.declared.storage.Got.TheVariants.{Found, Piece, End}
-use Rattle.serve_loop.specs.Gets.{GaveAll, bytes_of}
+use Rattle.serve_loop.specs.Gets.{GaveAll, GoesOn, bytes_of}
 use Rattle.serve_cluster.specs.declared.getting.Getting.{Getting}
 use Rattle.serve_cluster.specs.Acting.{KeepsActs, LacksRoom, IsDrained, TakesEnd}
-use Rattle.serve_cluster.specs.Giving.{HasGiven, acts_since, IsGetting, HasGot, IsDrainedGet, HasDrainedGet, GivesMore, HandsOut, GivesOrDrained, Delivers, LacksDrain, Ended, GivesOrEnds, GivesNext, LacksGetting}
+use Rattle.serve_cluster.specs.Giving.{HasGiven, acts_since, IsGetting, HasGot, IsDrainedGet, HasDrainedGet, GivesMore, HandsOut, GivesOrDrained, Delivers, LacksDrain, Ended, GivesOrEnds, GivesNext, LacksGetting, left_of}
 use Rattle.serve_cluster.proofs.Handing.{store_of}
 use Rattle.serve_cluster.proofs.Giving.{all_after, one_delivered, none_delivered, drain_full, hands_none, works_on, works_full, drains_full, ended, end_full, gives_as}
 
@@ -69,6 +70,9 @@ module _ (old mid : S3World) (g h : Getting) (same : IsSame g h) where
 
 -- ---- counted
 
+pub one_less : (a b : ℕ) → a ≡ b - 1 → a ≤ b
+one_less a b e = omega (arith, e)
+
 module _ (world : S3World) (g : Getting) (left : ℕ) (worked : g.worked ≡ true) (low : left ≤ g.left) where
   -- the same get, which goes on so often
   abbrev counted : Getting
@@ -105,6 +109,17 @@ module _ (old mid : S3World) (members : List ℕ) (g : Getting) (keeps : KeepsAc
 
   pub got_worked : HasDrainedGet old g → HasGot mid past
   got_worked h = (members, h.0, h.1, worked_get h.0 h.1 h.2)
+
+  pub worked_next : (new : S3World) (h : Getting) (r : Result Got Memory) → IfOk r (λ got. (ms : List ℕ) → GivesNext mid new ms past h got) → IfOk r (λ got. (s : State) (so_far : Option Given) → IsDrainedGet old g s so_far → GivesOrEnds new members h s so_far got)
+  worked_next new h (Ok got) f = λ s so_far x. f members s so_far (worked_get s so_far x)
+  worked_next new h (Err e) f = tt
+
+  pub worked_lacks : ((ms : List ℕ) → LacksGetting mid ms past) → (s : State) (so_far : Option Given) → IsDrainedGet old g s so_far → ActLacksRoom s (acts_opened members s g.request)
+  worked_lacks full s so_far x = full members s so_far (worked_get s so_far x)
+
+pub worked_fewer : (r : Result Got Memory) (h : Getting) → IfOk r (λ got. GoesOn got → left_of h < (2 ^ 64 - 1) + 0) → IfOk r (λ got. GoesOn got → left_of h ≤ all_messages)
+worked_fewer (Ok got) h f = λ on. (let low = f on in let e = all_of_them in omega (arith, low, e))
+worked_fewer (Err e) h f = tt
 
 pub work_lacks : (old : S3World) (members : List ℕ) (g : Getting) → LacksRoom old (λ _. round members ++ round members) → (s : State) (so_far : Option Given) → IsDrainedGet old g s so_far → ActLacksRoom s (acts_opened members s g.request)
 work_lacks old members g full s so_far h = works_full old members g.request g.told s so_far full h

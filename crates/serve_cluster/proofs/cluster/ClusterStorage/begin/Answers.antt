@@ -1,4 +1,6 @@
+use Rattle.serve_cluster.specs.Standing.{StandsFor}
+use Rattle.serve_cluster.proofs.Begun.{begins_so}
 use Rattle.serve_cluster.proofs.cluster.ClusterStorage.begin.Goals as goal
 
-pub returns-clause-begins : goal.returns-clause-begins
-returns-clause-begins c = ?
+pub returns-in-Ok-clause-begins : goal.returns-in-Ok-clause-begins
+returns-in-Ok-clause-begins c = begins_so c.ask.new.self c.begun.result c.args.time c.args.bucket c.args.key c.in-Ok.number (StandsFor c.args.self.now) c.begun.ensures c.in-Ok.ensures.asks
