@@ -1,6 +1,7 @@
 -- A get that is on its way in a cluster.
-use Rattle.std.proofs.Common.{◌≡◌, ◌≤◌, ◌<◌, ◌+◌, ◌-◌, ◌^◌, ℕ, Bool, true, false, Option, Some, None, List, [], ◌∷◌, ◌++◌, refl, sym, ap, ◌∙◌, subst, append_assoc, arith}
+use Rattle.std.proofs.Common.{◌≡◌, ◌≤◌, ◌<◌, ◌+◌, ◌-◌, ◌^◌, ℕ, Bool, true, false, Option, Some, None, Result, Ok, Err, IfOk, if◌then◌else◌, List, [], ◌∷◌, ◌++◌, refl, sym, ap, ◌∙◌, subst, append_assoc, arith}
 use Rattle.std.specs.List.{AllByRecursion}
+use Rattle.crdt_core.specs.declared.memory.Memory.{Memory}
 use Rattle.cluster_machine.specs.declared.step.Step.TheVariants.{Tick}
 use Rattle.flow_model.specs.declared.order.Order.{Order}
 use Rattle.flow_model.specs.declared.order.Order.TheVariants.{Get}
@@ -143,7 +144,7 @@ module _ (c : Cluster) (m : Model) (time : ℕ) (order : Order) (so_far : Option
       let P : Order → Type 0 = λ p. let a = asking m.members m.run (wait m time) p in
       a.refused ≡ None → IsLater (number_in a.words) a.state t → IsLater (number_in a.words) t (after_acts a.state (acts_to_end m.members)) → IsFirstOf (given_by t (number_in a.words)) (given (cluster.carries m time p)) in
       let Q : ℕ → Type 0 = λ n. IsLater n o.state t → IsLater n t (after_acts o.state (acts_to_end m.members)) → IsFirstOf (given_by t n) (given (cluster.carries m time order)) in
-      subst Q (ap number_in number.1) (of_get P (cluster_gives_first m time h.bucket h.key t h.knows) number.0) before later
+      subst Q (ap number_in number.1) (of_get P (λ taken. cluster_gives_first m time h.bucket h.key h.knows taken t) number.0) before later
 
   module _ (g : Getting) (number : IsNumber (Some g.request) o) (on : IsGetting c.world m.members g o.state so_far) where
     abbrev since : List Act
@@ -260,9 +261,14 @@ module _ (c : Cluster) where
     pub has_got : (m : Model) (time : ℕ) (order : Order) (so_far : Option Given) → On c m time order so_far → HasGot c.world g
     has_got m time order so_far h = (m.members, (o c m time order so_far h).state, so_far, (coming_as (Some g) is m time order so_far h).1)
 
-    pub next_some : (new : S3World) (next : Getting) (got : Got) → next.request ≡ g.request → GivesNext c.world new c.members g next got →
+    next_some : (new : S3World) (next : Getting) (got : Got) → next.request ≡ g.request → GivesNext c.world new c.members g next got →
         (m : Model) (time : ℕ) (order : Order) (so_far : Option Given) → On c m time order so_far → Gives (On (record c { world = new; getting = Some next }) m time order) (CarriedOut cluster fits lacks (StandsFor (record c { world = new; getting = Some next })) m time order) (cluster.carries m time order) so_far got
     next_some new next got same f m time order so_far h = let k = coming_as (Some g) is m time order so_far h in next_gives c m time order so_far h g k.0 k.1 new next same got f
+
+    pub next_ok : (new : S3World) (next : Getting) (r : Result Got Memory) → next.request ≡ g.request → IfOk r (λ got. GivesNext c.world new c.members g next got) →
+        IfOk r (λ got. (m : Model) (time : ℕ) (order : Order) (so_far : Option Given) → On c m time order so_far → Gives (On (record c { world = new; getting = Some next }) m time order) (CarriedOut cluster fits lacks (StandsFor (record c { world = new; getting = Some next })) m time order) (cluster.carries m time order) so_far got)
+    next_ok new next (Ok got) same f = next_some new next got same f
+    next_ok new next (Err e) same f = tt
 
     pub next_full : LacksGetting c.world c.members g → (m : Model) (time : ℕ) (order : Order) (so_far : Option Given) → On c m time order so_far → lacks m time order
     next_full full m time order so_far h = let k = coming_as (Some g) is m time order so_far h in next_lacks c m time order so_far h g k.0 k.1 full

@@ -126,6 +126,10 @@ work_lacks old members g full s so_far h = works_full old members g.request g.to
 
 -- ---- its deliveries
 
+-- the same get, with one message less to be delivered
+abbrev pub fewer : Getting → Getting
+fewer g = record g { left = g.left - 1 }
+
 -- some deliveries of a drain were done
 abbrev After : S3World → Getting → State → Option Given → Type 0
 After world g s so_far = HasGiven world g.request g.told (drain (all_messages - g.left) ∷ []) s so_far
@@ -172,11 +176,7 @@ module _ (first now : S3World) (f g : Getting) (d : Delivering first now f g) wh
         subst (λ k. HasGiven now g.request g.told (drain k ∷ []) s so_far) (let e = none in omega (arith, e)) (d.on s so_far (of_get first f early members s so_far on))
 
     module _ (mid : S3World) (keeps : KeepsActs now mid (drain 1 ∷ [])) (some : 0 < g.left) where
-      -- one message less
-      abbrev fewer : Getting
-      fewer = record g { left = g.left - 1 }
-
-      pub delivered : Delivering first mid f fewer
+      pub delivered : Delivering first mid f (fewer g)
       delivered = record {
         request = d.request;
         worked = d.worked;
