@@ -56,10 +56,6 @@ keeps_more old mid new xs ys f g = λ given s st. led_more (Holds given) s xs ys
 pub led_store : (given : Handed) (new : S3World) (s : State) (acts : List Act) → LedTo (Holds given new) s acts → DoneActs new s acts
 led_store given new s acts a = record { lawful = a.lawful; fit = a.fit; stands = store_of given new (after_acts s acts) a.stands }
 
--- what is kept is done
-pub does_so : (old new : S3World) (xs : List Act) → KeepsActs old new xs → DoesActs old new xs
-does_so old new xs f = f nothing_handed
-
 -- a world that acts led to stands for a state
 pub store_after : (old new : S3World) (xs : List Act) → HasStore old → DoesActs old new xs → HasStore new
 store_after old new xs h f = (after_acts h.0 xs, (f h.0 h.1).stands)

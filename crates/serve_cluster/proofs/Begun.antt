@@ -17,7 +17,7 @@ use Rattle.serve_model.specs.Serving.{CarriedOut}
 use Rattle.get_laws.specs.OnTheWay.{KnowsRequests, LeavesEnd, IsLater, next_request}
 use Rattle.get_laws.proofs.Firsts.{first_through}
 use Rattle.get_laws.proofs.Knowing.{act_knows}
-use Rattle.get_laws.proofs.Ending.{begun_is, acts_leave, refused_gives_none, cluster_gives_all, cluster_gives_first}
+use Rattle.get_laws.proofs.Ending.{begun_is, acts_leave, cluster_gives_all, cluster_gives_first}
 use Rattle.serve_loop.specs.declared.storage.Got.{Got}
 use Rattle.serve_loop.specs.declared.storage.Got.TheVariants.{Found, Piece, End}
 use Rattle.serve_loop.specs.Gets.{found_now, with_piece, with_given, GaveAll, Gives, MayGive}
@@ -27,7 +27,7 @@ use Rattle.serve_cluster.specs.Acting.{LedTo}
 use Rattle.serve_cluster.specs.Standing.{StandsFor}
 use Rattle.serve_cluster.specs.Giving.{IsOpened, HasGiven, acts_since, IsGetting, IsNumber, HasAsked, IsComing, IsOnItsWay, GivesOrEnds, GivesNext, LacksGetting, HasGot, GivesNothing, new_get, begun_get}
 use Rattle.serve_cluster.proofs.Acting.{acts_lawful, acts_fit}
-use Rattle.serve_cluster.proofs.Carrying.{came, came_refused, came_opened, lacks_opened}
+use Rattle.serve_cluster.proofs.Carrying.{came, came_opened, lacks_opened}
 use Rattle.serve_cluster.proofs.Draining.{drains_parts}
 use Rattle.serve_cluster.proofs.Giving.{given_first, gives_as}
 
@@ -124,13 +124,6 @@ module _ (c : Cluster) (m : Model) (time : ℕ) (order : Order) (so_far : Option
   -- what is known of orders is known of this get
   of_get : (P : Order → Type 0) → P get → P order
   of_get P x = subst P (sym h.is_get) x
-
-  as_get : (P : Order → Type 0) → P order → P get
-  as_get P x = subst P h.is_get x
-
-  refused_none : IsNumber None o → given (cluster.carries m time order) ≡ None
-  refused_none number =
-      of_get (λ p. (asking m.members m.run (wait m time) p).refused ≡ Some number.0 → given (cluster.carries m time p) ≡ None) (refused_gives_none m time h.bucket h.key number.0) number.1
 
   -- all that it gives
   gives_all : (q : ℕ) → IsNumber (Some q) o → given (cluster.carries m time order) ≡ given_by (after_acts o.state (acts_to_end m.members)) q
@@ -236,14 +229,6 @@ module _ (c : Cluster) (m : Model) (time : ℕ) (order : Order) (so_far : Option
   next_lacks : LacksGetting c.world c.members g → lacks m time order
   next_lacks full = lacks_opened c m time order g.request number h.lawful h.fit (subst (λ ms. LacksGetting c.world ms g) h.members full at.state so_far on)
 
--- it ends at once where it was refused
-refused_ends : (c : Cluster) (m : Model) (time : ℕ) (order : Order) (so_far : Option Given) (h : IsOnItsWay c m time order so_far) → IsComing c.world m.members None (o c m time order so_far h) so_far →
-    Gives (IsOnItsWay c m time order) (CarriedOut cluster fits lacks (StandsFor c) m time order) (cluster.carries m time order) so_far (End None)
-refused_ends c m time order so_far h k = (
-  came c m time order None h.ticked h.members (came_refused c m time order k.0 (record { lawful = h.lawful; fit = h.fit; stands = k.2 })),
-  k.1 ∙ sym (refused_none c m time order so_far h k.0),
-)
-
 -- ---- of any cluster
 
 -- what is on its way in a cluster of the code
@@ -253,9 +238,6 @@ On c m time order so_far = IsOnItsWay c m time order so_far
 module _ (c : Cluster) where
   coming_as : (getting : Option Getting) → c.getting ≡ getting → (m : Model) (time : ℕ) (order : Order) (so_far : Option Given) (h : On c m time order so_far) → IsComing c.world m.members getting (o c m time order so_far h) so_far
   coming_as getting is m time order so_far h = subst (λ x. IsComing c.world m.members x (o c m time order so_far h) so_far) is h.coming
-
-  pub next_none : c.getting ≡ None → (m : Model) (time : ℕ) (order : Order) (so_far : Option Given) → On c m time order so_far → Gives (On c m time order) (CarriedOut cluster fits lacks (StandsFor c) m time order) (cluster.carries m time order) so_far (End None)
-  next_none is m time order so_far h = refused_ends c m time order so_far h (coming_as None is m time order so_far h)
 
   module _ (g : Getting) (is : c.getting ≡ Some g) where
     pub has_got : (m : Model) (time : ℕ) (order : Order) (so_far : Option Given) → On c m time order so_far → HasGot c.world g

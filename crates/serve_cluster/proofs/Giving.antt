@@ -152,22 +152,6 @@ module _ (old new : S3World) (q : ℕ) (told : Bool) (s : State) (so_far : Optio
 
 -- ---- what is handed out
 
-gave_all : (so_far all : Option Given) (end : Option FlowEnd) → so_far ≡ all → GaveAll so_far all end
-gave_all so_far all None e = e
-gave_all so_far all (Some (Found version meta body)) e = tt
-gave_all so_far all (Some (Stored version meta)) e = e
-gave_all so_far all (Some Nothing) e = e
-gave_all so_far all (Some (Listed rows)) e = e
-gave_all so_far all (Some (Superseded id)) e = e
-
-gave_with_object : (so_far all : Option Given) (end : Option FlowEnd) → is_object end ≡ true → GaveAll so_far all end
-gave_with_object so_far all (Some (Found version meta body)) e = tt
-gave_with_object so_far all None e = absurd (let no' : false ≡ true = e in cc)
-gave_with_object so_far all (Some (Stored version meta)) e = absurd (let no' : false ≡ true = e in cc)
-gave_with_object so_far all (Some Nothing) e = absurd (let no' : false ≡ true = e in cc)
-gave_with_object so_far all (Some (Listed rows)) e = absurd (let no' : false ≡ true = e in cc)
-gave_with_object so_far all (Some (Superseded id)) e = absurd (let no' : false ≡ true = e in cc)
-
 -- a get, as it is asked for
 abbrev getting : ℕ → Name → Option Flow → Asked
 getting node name flow = record { node = node; kind = kind.Get; name = name; flow = flow }
@@ -195,41 +179,7 @@ given_whole node name None (Some (Superseded id)) seen g rest at all e = ap (λ 
 given_whole node name None (Some (Stored version meta)) seen g rest at all e = absurd at
 given_whole node name None (Some (Listed rows)) seen g rest at all e = absurd at
 
-module _ (old new : S3World) (q : ℕ) (acts : List Act) (s : State) (so_far : Option Given) where
-  pub tells_found : (version : Version) (meta : Meta) → found_by (after_acts s acts) q ≡ Some (version, meta) → HasGiven old q false acts s so_far → GivesMore (HasGiven old q true acts s) so_far (got.Found version meta)
-  tells_found version meta found h = (
-    h.told_is,
-    record {
-      opened = h.opened;
-      leaves = h.leaves;
-      led = subst (λ so. LedTo (λ t. IsGiving old t q (bytes_of so)) s acts) h.told_is h.led;
-      told_is = (found_now version meta, refl, found);
-    },
-  )
-
-  pub tells_nothing : found_by (after_acts s acts) q ≡ None → HasGiven old q false acts s so_far → GaveAll so_far (given_by (after_acts s acts) q) (end_of (after_acts s acts).ends q)
-  tells_nothing none h =
-      let t : State = after_acts s acts in
-      gave_all so_far (given_by t q) (end_of t.ends q) (h.told_is ∙ sym (ap (λ f. given_as f (gathered t q)) none))
-
-  pub tells_at_end : is_object (end_of (after_acts s acts).ends q) ≡ true → GaveAll so_far (given_by (after_acts s acts) q) (end_of (after_acts s acts).ends q)
-  tells_at_end e = gave_with_object so_far (given_by (after_acts s acts) q) (end_of (after_acts s acts).ends q) e
-
-  pub hands_piece : (piece : List ℕ) → ((t : State) (bytes : List ℕ) → IsGiving old t q bytes → IsGiving new t q (bytes ++ piece)) → HasGiven old q true acts s so_far → GivesMore (HasGiven new q true acts s) so_far (got.Piece piece)
-  hands_piece piece f h =
-      let g : Given = h.told_is.0 in
-      let e : so_far ≡ Some g = h.told_is.1 in
-      (
-        g,
-        e,
-        record {
-          opened = h.opened;
-          leaves = h.leaves;
-          led = record { lawful = h.led.lawful; fit = h.led.fit; stands = f (after_acts s acts) g.bytes (subst (λ so. IsGiving old (after_acts s acts) q (bytes_of so)) e h.led.stands) };
-          told_is = (with_piece g piece, refl, h.told_is.2);
-        },
-      )
-
+module _ (old : S3World) (q : ℕ) (acts : List Act) (s : State) (so_far : Option Given) where
   pub hands_none : ((t : State) (bytes : List ℕ) → IsGiving old t q bytes → HasAll t q bytes) → HasGiven old q true acts s so_far → GaveAll so_far (given_by (after_acts s acts) q) (end_of (after_acts s acts).ends q)
   hands_none f h =
       let t : State = after_acts s acts in

@@ -22,7 +22,7 @@ use Rattle.serve_cluster.proofs.Giving.{all_after, one_delivered, none_delivered
 
 pub hands_nothing : (old new : S3World) (g : Getting) → g.told ≡ true → new ≡ old → ((t : State) (bytes : List ℕ) → IsGiving old t g.request bytes → HasAll t g.request bytes) → HandsOut old new g g None
 hands_nothing old new g told same f = λ acts s so_far h.
-    (subst (λ w. HasGiven w g.request g.told acts s so_far) (sym same) h, hands_none old new g.request acts s so_far f (subst (λ b. HasGiven old g.request b acts s so_far) told h))
+    (subst (λ w. HasGiven w g.request g.told acts s so_far) (sym same) h, hands_none old g.request acts s so_far f (subst (λ b. HasGiven old g.request b acts s so_far) told h))
 
 -- ---- after the rounds of work
 
@@ -87,9 +87,6 @@ module _ (world : S3World) (g : Getting) (left : ℕ) (worked : g.worked ≡ tru
   pub got_counted : HasGot world g → HasGot world counted
   got_counted h = (h.0, h.1, h.2, recount h.0 h.1 h.2 h.3)
 
-  pub gives_counted : (new : S3World) (h : Getting) (got : Got) → ((members : List ℕ) → GivesNext world new members counted h got) → (members : List ℕ) → GivesNext world new members g h got
-  gives_counted new h got f members = λ s so_far on. f members s so_far (recount members s so_far on)
-
   pub lacks_counted : ((members : List ℕ) → LacksGetting world members counted) → (members : List ℕ) → LacksGetting world members g
   lacks_counted f members = λ s so_far on. f members s so_far (recount members s so_far on)
 
@@ -143,9 +140,6 @@ pub record Delivering (first now : S3World) (f g : Getting) : Type 0 where
   pub there : (s : State) × (so_far : Option Given) × After first f s so_far
   pub on : (s : State) (so_far : Option Given) → After first f s so_far → After now g s so_far
 
-after_store : (world : S3World) (g : Getting) (s : State) (so_far : Option Given) → After world g s so_far → HasStore world
-after_store world g s so_far h = (after_acts s (drain (all_messages - g.left) ∷ []), store_of (of g.request (bytes_of so_far)) world (after_acts s (drain (all_messages - g.left) ∷ [])) h.led.stands)
-
 module _ (world : S3World) (f : Getting) (early : f.worked ≡ false) where
   drained_so : (members : List ℕ) → acts_since members f ≡ drain (all_messages - f.left) ∷ []
   drained_so members = ap (λ b. if b then acts_to_end members else drain (all_messages - f.left) ∷ []) early
@@ -160,21 +154,10 @@ module _ (world : S3World) (f : Getting) (early : f.worked ≡ false) where
   delivering_none h = record { request = refl; worked = refl; low = omega arith; few = h.3.few; there = (h.1, h.2, of_get h.0 h.1 h.2 h.3); on = λ s so_far y. y }
 
 module _ (first now : S3World) (f g : Getting) (d : Delivering first now f g) where
-  pub delivering_store : HasStore now
-  delivering_store = after_store now g d.there.0 d.there.1 (d.on d.there.0 d.there.1 d.there.2)
-
   few_left : g.left ≤ all_messages
   few_left = (let low = d.low in let few = d.few in omega (arith, low, few))
 
-  -- but what it was told and how many may be delivered it is the same
-  pub same_but : g ≡ record f { told = g.told; left = g.left }
-  same_but = λ i. record g { request = d.request i; worked = d.worked i }
-
   module _ (early : f.worked ≡ false) where
-    pub all_delivered : g.left ≡ 0 → Delivers first now f g None
-    all_delivered none members s so_far on =
-        subst (λ k. HasGiven now g.request g.told (drain k ∷ []) s so_far) (let e = none in omega (arith, e)) (d.on s so_far (of_get first f early members s so_far on))
-
     module _ (mid : S3World) (keeps : KeepsActs now mid (drain 1 ∷ [])) (some : 0 < g.left) where
       pub delivered : Delivering first mid f (fewer g)
       delivered = record {
@@ -218,19 +201,8 @@ module _ (first now : S3World) (f g : Getting) (d : Delivering first now f g) wh
 
 -- ---- all of it
 
-module _ (old mid : S3World) (g h : Getting) where
-  pub delivers_more : (got : Got) → Delivers old mid g h (Some got) → (members : List ℕ) → GivesNext old mid members g h got
-  delivers_more got f members = λ s so_far on. gives_or_ends mid h members s so_far got (f members s so_far on)
-
-  module _ (members : List ℕ) (f : Delivers old mid g h None) where
-    pub drained_get : HasGot old g → HasDrainedGet mid h
-    drained_get x = (x.1, x.2, f x.0 x.1 x.2 x.3)
-
-    pub then_next : (new : S3World) (k : Getting) (got : Got) → ((s : State) (so_far : Option Given) → IsDrainedGet mid h s so_far → GivesOrEnds new members k s so_far got) → GivesNext old new members g k got
-    then_next new k got next = λ s so_far on. next s so_far (f members s so_far on)
-
-    pub then_lacks : h.request ≡ g.request → ((s : State) (so_far : Option Given) → IsDrainedGet mid h s so_far → ActLacksRoom s (acts_opened members s h.request)) → LacksGetting old members g
-    then_lacks same full = λ s so_far on. subst (λ q. ActLacksRoom s (acts_opened members s q)) same (full s so_far (f members s so_far on))
+pub drained_get : (old mid : S3World) (g h : Getting) → Delivers old mid g h None → HasGot old g → HasDrainedGet mid h
+drained_get old mid g h f x = (x.1, x.2, f x.0 x.1 x.2 x.3)
 
 pub drain_lacks_next : (old : S3World) (g : Getting) → LacksDrain old g → (members : List ℕ) → LacksGetting old members g
 drain_lacks_next old g full members = λ s so_far on. drains_full old members g.request g.told s so_far (full members s so_far on)
