@@ -13,13 +13,14 @@ use Rattle.store_model.specs.Events.{act_of, outcome}
 use Rattle.store_model.specs.Turns.{FitsOutcome}
 use Rattle.world_core.specs.Stands.{nothing_given}
 use Rattle.s3_world.specs.declared.world.S3World.{S3World}
-use Rattle.s3_world.specs.Stands.{Does, Plays, Overflows, PlaysStep, OverflowsStep, PlaysEvent, OverflowsEvent}
+use Rattle.s3_world.specs.Doing as doing
+use Rattle.s3_world.specs.Stands.{Holds, KeepsTold, KeepsStep, KeepsIn, Overflows, OverflowsStep, OverflowsEvent}
 use Rattle.s3_world.proofs.Causes.{Comes, same_causes}
 
 module _ (old new : S3World) (event : Event) (f : State → Outcome) (lawful : (s : State) → IsLawfulAct s (act_of event nothing_given)) (same : (s : State) → outcome s event nothing_given ≡ f s) where
-  pub event_plays : (r : Result Told Memory) → IfOk r (λ told. Plays old new told f) → IfOk r (λ told. PlaysEvent old new told event)
+  pub event_plays : (r : Result Told Memory) → IfOk r (λ told. KeepsTold old new told f) → IfOk r (λ told. KeepsIn old new told event)
   event_plays (Err e) h = tt
-  event_plays (Ok told) h = λ s d. record { choice = nothing_given; lawful = lawful s; does = subst (λ (o : Outcome). Does new told s o) (sym (same s)) (h s d) }
+  event_plays (Ok told) h = λ given s d. record { choice = nothing_given; lawful = lawful s; does = subst (λ (o : Outcome). doing.Does (Holds given) new told s o) (sym (same s)) (h given s d) }
 
   pub event_overflows : (r : Result Told Memory) → IfErr r (λ e. Comes e (Overflows old f)) → IfErr r (λ e. Comes e (OverflowsEvent old event))
   event_overflows r h = same_causes r (λ full s d. record { choice = nothing_given; lawful = lawful s; lacks = λ fits. full s d (subst (λ (o : Outcome). FitsOutcome s o) (same s) fits) }) h
@@ -32,7 +33,7 @@ module _ (old new : S3World) (event : Event) (node : ℕ) (o wanted : Order) (is
   same : (s : State) → outcome s event nothing_given ≡ begins s node o
   same s = ap (acted s) act ∙ ap (begins s node) (sym is)
 
-  pub order_plays : (r : Result Told Memory) → IfOk r (λ told. Plays old new told (λ s. begins s node o)) → IfOk r (λ told. PlaysEvent old new told event)
+  pub order_plays : (r : Result Told Memory) → IfOk r (λ told. KeepsTold old new told (λ s. begins s node o)) → IfOk r (λ told. KeepsIn old new told event)
   order_plays r h = event_plays old new event (λ s. begins s node o) lawful same r h
 
   pub order_overflows : (r : Result Told Memory) → IfErr r (λ e. Comes e (Overflows old (λ s. begins s node o))) → IfErr r (λ e. Comes e (OverflowsEvent old event))
@@ -40,9 +41,9 @@ module _ (old new : S3World) (event : Event) (node : ℕ) (o wanted : Order) (is
 
 -- an apply is given what its step was
 module _ (old new : S3World) (node : ℕ) (r : Result Told Memory) where
-  pub apply_plays : IfOk r (λ told. PlaysStep old new told (step.Apply node)) → IfOk r (λ told. PlaysEvent old new told (Apply node))
-  apply_plays h = elim r as (λ r. IfOk r (λ told. PlaysStep old new told (step.Apply node)) → IfOk r (λ told. PlaysEvent old new told (Apply node))) [
-    | Ok told ↦ λ h s d. let did = h s d in record { choice = did.choice; lawful = (tt, tt, did.lawful); does = did.does }
+  pub apply_plays : IfOk r (λ told. KeepsStep old new told (step.Apply node)) → IfOk r (λ told. KeepsIn old new told (Apply node))
+  apply_plays h = elim r as (λ r. IfOk r (λ told. KeepsStep old new told (step.Apply node)) → IfOk r (λ told. KeepsIn old new told (Apply node))) [
+    | Ok told ↦ λ h given s d. let did = h given s d in record { choice = did.choice; lawful = (tt, tt, did.lawful); does = did.does }
     | Err e ↦ λ h. tt
   ] h
 

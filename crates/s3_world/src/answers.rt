@@ -9,7 +9,7 @@ use crdt_core::{Bytes, List, Memory, Value};
 use crdt_rows::{Body, Meta, ObjectRow, Version};
 use flow_model::FlowEnd;
 use history_model::{Answer, Cause, Kind, Record};
-use md5::{Digest, Md5};
+use object_bytes::Pieces;
 use std::alloc::Global;
 
 // Appends the key of a row with its version, where a list shows it.
@@ -112,16 +112,12 @@ fn word_of(kind: Kind) -> DoneWord
 }
 
 // The line of a request that found this version: of a get with size and MD5 of the bytes, of a head with the size.
-fn found_line(request: u64, kind: Kind, version: Version, meta: &Meta, body: &Bytes) -> Line
+fn found_line(request: u64, kind: Kind, version: Version, meta: &Meta, body: &Pieces) -> Line
     ensures { result ≡ line_of_found request kind version meta.now body.now }
 {
     let (word, size, md5) = match kind {
         Kind::Head => (DoneWord::Head, meta.size, None),
-        _ => (
-            DoneWord::Get,
-            body.len() as u64,
-            Some(Md5::digest(body.as_slice())),
-        ),
+        _ => (DoneWord::Get, body.len() as u64, Some(body.md5())),
     };
     Line::Done {
         request,
