@@ -66,6 +66,10 @@ module _ {F : Type 0} (old : Driver F) (q : ℕ) where
       let same : s.ends ≡ without_end s.ends q = sym (ap (λ es. without_end es q) (sym d.ends) ∙ (placed q old.ends None at).1 ∙ d.ends) in
       subst (λ es. IsDriven old (record s { ends = es })) same d
 
+  -- the end at a place
+  pub end_at : (i : ℕ) (e : ℕ × FlowEnd) → Some i ≡ place_in old.ends q → slice_get old.ends i ≡ Some e → (s : State) → IsDriven old s → Some e.1 ≡ end_of s.ends q
+  end_at i e at there s d = sym (ap (λ es. end_of es q) (sym d.ends) ∙ ((placed q old.ends (Some i) at).1 ∙ ap (option_map (λ (e : ℕ × FlowEnd). e.1)) there))
+
   -- the number of no request
   pub nobody_there : (q ≡ 0) ⊎ (length old.requests < q) → (s : State) → IsDriven old s → numbered s.asked q ≡ None
   nobody_there none s d =

@@ -1,5 +1,6 @@
 //! The driver of requests, over any flows: they are opened, taken from phase to phase, and ended, over a cluster.
 ghost use Rattle.std.specs.Prelude.{◌≡◌, [], ◌∷◌, ◌++◌, ◌<◌, ◌⊎◌, ◌+◌, ◌^◌, ℕ, List as Listed, length, map, option_map, slice_get, slice_set, OnOk, IfOk, IfErr, IfSome, IfNone, Some, None};
+ghost use Rattle.std.specs.Option.{option_copied};
 ghost use Rattle.crdt_core.specs.Outcomes.{OnlyWant, WantOr};
 ghost use Rattle.crdt_rows.specs.AnyRow.{any_join};
 ghost use Rattle.object_schema.specs.Schema.{words};
@@ -133,6 +134,16 @@ impl<F: Flows> Driver<F> {
         let i = place(request, self.requests.len())?;
         match &self.requests.at(i).found {
             Some((version, meta)) => Some((*version, meta)),
+            None => None,
+        }
+    }
+
+    /// How a request ended by itself, as long as that isn't taken.
+    pub fn end(&self, request: u64) -> Option<&FlowEnd>
+        ensures { (s : State) → IsDriven self.now s → option_copied result ≡ end_of s.ends request }
+    {
+        match place_of(self.ends.as_slice(), request) {
+            Some(i) => Some(&self.ends.at(i).1),
             None => None,
         }
     }

@@ -1,5 +1,6 @@
 //! The state of a run as code, and its acts: the driver's instance for objects, with buckets and the size of blocks.
 ghost use Rattle.std.specs.Prelude.{◌≡◌, [], ◌∷◌, ◌++◌, ◌≤◌, length, option_map, true, OnOk, OnErr, IfOk, IfSome, IfNone, Some, None, IsTrue, is_some, ℕ, List as Listed};
+ghost use Rattle.std.specs.Option.{option_copied};
 ghost use Rattle.crdt_core.specs.Outcomes.{OnlyWant, WantOr};
 ghost use Rattle.blake2_hash.specs.Blake2b.{blake2b};
 ghost use Rattle.object_schema.specs.Schema.{words};
@@ -189,6 +190,14 @@ impl S3World {
         ensures { (s : State) → IsStore self.now s → option_map (λ found. (found.0, found.1.now)) result ≡ found_by s request }
     {
         self.driver.found(request)
+    }
+
+    /// How a request ended by itself, as long as that isn't taken. All bytes of its object are there, also those that were
+    /// handed out.
+    pub fn end(&self, request: u64) -> Option<&FlowEnd>
+        ensures { (s : State) → IsStore self.now s → option_copied result ≡ end_of s.ends request }
+    {
+        self.driver.end(request)
     }
 
     /// Hands out the first block of a get that came and wasn't handed out. None where there is none. Takes no memory.

@@ -21,7 +21,7 @@ store_of given c s h = record {
   history = h.history;
   sized = h.sized;
   flows = h.flows;
-  reads = record { found = h.reads.found; left = h.reads.left; given = refl; reading = h.reads.reading; over = h.reads.over; seen = h.reads.seen; count = h.reads.count };
+  reads = record { found = h.reads.found; left = h.reads.left; handed = refl; reading = h.reads.reading; over = h.reads.over; seen = h.reads.seen; count = h.reads.count };
 }
 
 -- something was handed out of each request, or nothing
@@ -38,7 +38,7 @@ some_given c s q h =
         history = h.history;
         sized = h.sized;
         flows = h.flows;
-        reads = record { found = h.reads.found; left = h.reads.left; given = left.1; reading = h.reads.reading; over = h.reads.over; seen = h.reads.seen; count = h.reads.count };
+        reads = record { found = h.reads.found; left = h.reads.left; handed = left.1; reading = h.reads.reading; over = h.reads.over; seen = h.reads.seen; count = h.reads.count };
       },
     )
 
@@ -64,4 +64,4 @@ rest_left (Some blocks) given bytes h = (concat blocks, h)
 
 -- what was handed out is the first of what came
 pub bytes_left : (c : S3World) (s : State) (q : ℕ) (given : List ℕ) → IsGiving c s q given → (rest : List ℕ) × (given ++ rest ≡ gathered s q)
-bytes_left c s q given h = rest_left (blocks_in (numbered c.driver.requests q)) given (gathered s q) h.reads.given
+bytes_left c s q given h = rest_left (blocks_in (numbered c.driver.requests q)) given (gathered s q) h.reads.handed
