@@ -154,6 +154,10 @@ pub keeps_next : {A : Type 0} (r : Result A Memory) (old mid new : S3World) (xs 
 keeps_next (Ok v) old mid new xs ys f g = keeps_more old mid new xs ys f g
 keeps_next (Err e) old mid new xs ys f g = tt
 
+pub does_kept : {A : Type 0} (r : Result A Memory) (old new : S3World) (xs : List Act) → OnOk r (KeepsActs old new xs) → OnOk r (DoesActs old new xs)
+does_kept (Ok v) old new xs f = f nothing_handed
+does_kept (Err e) old new xs f = tt
+
 pub causes_next : {A B C : Type 0} (r : Result A Memory) → (B → C) → WantOr r B → WantOr r C
 causes_next (Ok v) f h = tt
 causes_next (Err e) f h = cause_more e f h

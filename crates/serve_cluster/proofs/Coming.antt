@@ -24,7 +24,7 @@ use Rattle.serve_cluster.specs.Changes.{nodes_of, IsComputed, AreWithin, acts_wi
 use Rattle.serve_loop.specs.declared.storage.Got.{Got}
 use Rattle.serve_loop.specs.declared.storage.Got.TheVariants as got
 use Rattle.serve_loop.specs.Gets as gets
-use Rattle.serve_loop.specs.Gets.{GoesOn, Gives, with_given}
+use Rattle.serve_loop.specs.Gets.{GoesOn, Gives, MayGive, with_given}
 use Rattle.serve_cluster.specs.Giving.{IsOnItsWay}
 use Rattle.serve_cluster.specs.Standing.{StandsFor}
 use Rattle.serve_cluster.proofs.Making.{staged_after}
@@ -42,7 +42,7 @@ module _ (old : Cluster) (c : Change) (m : Model) (ch : ℕ × Later) (st : Stan
   acts_are = ap (λ ms. acts_with ms c m.run) st.members ∙ acts_same m.members c ch h m.run
 
   pub changes_so : (world : S3World) (newer : List ℕ) → newer ≡ nodes_of c.shown.roles.list → DoesIn old.world world (acts_with old.members c) →
-      AreLawfulActs m.run (acts_in m.run ch.1) × ActsFit m.run (acts_in m.run ch.1) × StandsFor (record { world = world; members = newer; ticked = old.ticked }) (changed m ch.1)
+      AreLawfulActs m.run (acts_in m.run ch.1) × ActsFit m.run (acts_in m.run ch.1) × StandsFor (record old { world = world; members = newer }) (changed m ch.1)
   changes_so world newer is f =
       let a = f m.run st.world in (
         subst (AreLawfulActs m.run) acts_are a.lawful,
@@ -229,3 +229,10 @@ module _ (old : Changing) (mid : Cluster) where
     get_lacks full m time order so_far h =
         let x = f m.cluster time order so_far h.cluster in
         then_lacks old.to_come mid m time order (with_given so_far end) h.staged h.to_come x.0 full
+
+pub get_may : (m : Models) (time : ℕ) (order : Order) (so_far : Option Given) → MayGive cluster m.cluster time order so_far → MayGive changing m time order so_far
+get_may m time order None h = tt
+get_may m time order (Some g) h = h
+
+pub get_order_lacks : (old : Changing) → ((s : Model) (time : ℕ) (order : Order) (so_far : Option Given) → IsOnItsWay old.cluster s time order so_far → lacks s time order) → (m : Models) (time : ℕ) (order : Order) (so_far : Option Given) → IsChangingGet old m time order so_far → changing_lacks m time order
+get_order_lacks old f m time order so_far h = inl (f m.cluster time order so_far h.cluster)

@@ -110,7 +110,8 @@ impl Storage for Changing {
                 Ok(()) => Ok(Got::End(end)),
                 Err(memory) => Err(memory),
             },
-            Ok(got) => Ok(got),
+            Ok(Got::Found(version, meta)) => Ok(Got::Found(version, meta)),
+            Ok(Got::Piece(piece)) => Ok(Got::Piece(piece)),
             Err(memory) => Err(memory),
         }
     }
