@@ -131,6 +131,13 @@ GivesNext old new members g h got = (s : State) (so_far : Option Given) → IsGe
 abbrev pub LacksGetting : S3World → List ℕ → Getting → Type 0
 LacksGetting old members g = (s : State) (so_far : Option Given) → IsGetting old members g s so_far → ActLacksRoom s (acts_opened members s g.request)
 
+-- the same, once all messages were delivered
+abbrev pub GivesRest : S3World → S3World → List ℕ → Getting → Getting → Got → Type 0
+GivesRest old new members g h got = (s : State) (so_far : Option Given) → IsDrainedGet old g s so_far → GivesOrEnds new members h s so_far got
+
+abbrev pub LacksRest : S3World → List ℕ → Getting → Type 0
+LacksRest old members g = (s : State) (so_far : Option Given) → IsDrainedGet old g s so_far → ActLacksRoom s (acts_opened members s g.request)
+
 -- ---- in a cluster
 
 -- a get that was just opened as this request: nothing was delivered

@@ -1,13 +1,12 @@
 //! What a get gives, one after the other.
-ghost use Rattle.std.specs.Prelude.{◌≡◌, ◌<◌, ◌≤◌, ℕ, false, true, List, Option, IfOk, IfSome};
+ghost use Rattle.std.specs.Prelude.{◌≡◌, ◌<◌, ◌≤◌, ℕ, false, true, List, IfOk, IfSome};
 ghost use Rattle.crdt_core.specs.Outcomes.{OnlyWant, WantOr};
 ghost use Rattle.store_model.specs.Run.{State};
 ghost use Rattle.store_model.specs.Acts.{end_of, all_messages};
 ghost use Rattle.s3_world.specs.Stands.{IsStore};
-ghost use Rattle.serve_model.specs.Clusters.{acts_opened, ActLacksRoom};
-ghost use Rattle.serve_model.specs.Stores.{Given};
 ghost use Rattle.serve_loop.specs.Gets.{GoesOn};
-ghost use Rattle.serve_cluster.specs.Giving.{begun_get, Delivers, GivesNext, GivesOrEnds, HandsOut, is_object, HasDrainedGet, HasGot, IsDrainedGet, LacksDrain, LacksGetting, left_of};
+ghost use Rattle.serve_cluster.specs.Giving.{begun_get, Delivers, GivesNext, GivesRest, HandsOut, HasDrainedGet, HasGot};
+ghost use Rattle.serve_cluster.specs.Giving.{is_object, LacksDrain, LacksGetting, LacksRest, left_of};
 
 use crate::acts::{deliver, rounds, take};
 use crdt_core::{Memory, Value};
@@ -152,8 +151,8 @@ fn work_and_end(
     requires on_its_way { HasDrainedGet world.old getting.old }
     ensures same { getting.new.request ≡ getting.old.request }
     ensures fewer { IfOk result (λ got. GoesOn got → left_of getting.new ≤ all_messages) }
-    ensures gives { IfOk result (λ got. (s : State) (so_far : Option Given) → IsDrainedGet world.old getting.old s so_far → GivesOrEnds world.new members.now getting.new s so_far got) }
-    ensures causes { WantOr result ((s : State) (so_far : Option Given) → IsDrainedGet world.old getting.old s so_far → ActLacksRoom s (acts_opened members.now s getting.old.request)) }
+    ensures gives { IfOk result (λ got. GivesRest world.old world.new members.now getting.old getting.new got) }
+    ensures causes { WantOr result (LacksRest world.old members.now getting.old) }
 {
     match rounds(world, members) {
         Ok(()) => {

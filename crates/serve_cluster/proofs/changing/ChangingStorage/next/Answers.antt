@@ -11,11 +11,11 @@ make_due-requires c = record {
       c.requires.on_its_way;
 }
 
-pub returns-in-Ok-make_due-clause-goes : goal.returns-in-Ok-make_due-clause-goes
-returns-in-Ok-make_due-clause-goes c =
+pub returns-in-Ok-clause-goes : goal.returns-in-Ok-clause-goes
+returns-in-Ok-clause-goes c =
     get_ends c.args.self.now c.next.new.self c.in-Ok-End.end
     (ok_as (Goes c.args.self.now.cluster c.next.new.self) c.next.result c.in-Ok-End.field-0 (got.End c.in-Ok-End.end) c.in-Ok-End.is c.in-Ok-End.field-0-is c.next.ensures.goes)
-    c.make_due.new.self c.in-Ok-make_due.ensures.does
+    c.make_due.new.self c.in-Ok.ensures.does
 
 pub returns-in-Err-make_due-clause-causes : goal.returns-in-Err-make_due-clause-causes
 returns-in-Err-make_due-clause-causes c =
@@ -37,11 +37,11 @@ returns-in-Ok-Piece-clause-goes c =
     get_goes_on c.args.self.now c.next.new.self (got.Piece c.in-Ok-Piece.piece) tt
     (ok_as (Goes c.args.self.now.cluster c.next.new.self) c.next.result c.in-Ok-Piece.field-0 (got.Piece c.in-Ok-Piece.piece) c.in-Ok-Piece.is c.in-Ok-Piece.field-0-is c.next.ensures.goes)
 
-pub returns-in-Ok-make_due-clause-first : goal.returns-in-Ok-make_due-clause-first
-returns-in-Ok-make_due-clause-first c = λ m time order so_far h. c.next.ensures.first m.cluster time order so_far h.cluster
+pub returns-in-Ok-clause-first : goal.returns-in-Ok-clause-first
+returns-in-Ok-clause-first c = λ m time order so_far h. c.next.ensures.first m.cluster time order so_far h.cluster
 
-pub returns-in-Ok-make_due-clause-so_far : goal.returns-in-Ok-make_due-clause-so_far
-returns-in-Ok-make_due-clause-so_far c = λ m time order so_far h. get_may m time order so_far (c.next.ensures.so_far m.cluster time order so_far h.cluster)
+pub returns-in-Ok-clause-so_far : goal.returns-in-Ok-clause-so_far
+returns-in-Ok-clause-so_far c = λ m time order so_far h. get_may m time order so_far (c.next.ensures.so_far m.cluster time order so_far h.cluster)
 
 pub returns-in-Err-make_due-clause-first : goal.returns-in-Err-make_due-clause-first
 returns-in-Err-make_due-clause-first c = λ m time order so_far h. c.next.ensures.first m.cluster time order so_far h.cluster
