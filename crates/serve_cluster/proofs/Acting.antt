@@ -16,14 +16,14 @@ use Rattle.flow_model.specs.declared.flow.FlowEnd.TheVariants.{Stored, Found, No
 use Rattle.store_model.specs.declared.event.Event.{Event}
 use Rattle.store_model.specs.declared.event.Told.{Told}
 use Rattle.store_model.specs.Run.{State, plainly}
-use Rattle.store_model.specs.Acts.{Act, moves, asks, drain, forgets, takes, acted, after_acts, end_of, all_messages, AreLawfulActs, ActsFit, IsLawfulAct, HasKey}
+use Rattle.store_model.specs.Acts.{Act, moves, asks, drain, forgets, takes, acted, after_acts, end_of, AreLawfulActs, ActsFit, IsLawfulAct, HasKey}
 use Rattle.store_model.specs.Events.{act_of}
 use Rattle.store_model.specs.Turns.{FitsOutcome}
 use Rattle.store_model.proofs.Acts.{acts_after}
 use Rattle.s3_world.specs.declared.world.S3World.{S3World}
 use Rattle.s3_world.specs.Reads.{Handed, of, nothing_handed, with_first}
 use Rattle.s3_world.specs.Stands.{IsStore, IsGiving, Holds, HasStore, Becomes, Keeps, Starts, Overflows, PlaysEvent, KeepsIn, OverflowsEvent, EventLacksRoom, DoesEvent}
-use Rattle.serve_model.specs.Clusters.{asker, acts_to_ask, acts_to_end, acts_past_end, acts_opened, acts_then, end_then, end_in, asking, acts_of_request, end_of_request, number_in, expiry, works, ActLacksRoom}
+use Rattle.serve_model.specs.Clusters.{asker, acts_to_ask, acts_to_end, acts_past_end, acts_then, end_in, asking, acts_of_request, number_in, expiry, works, ActLacksRoom}
 use Rattle.serve_cluster.specs.Acting.{LedTo, DoneActs, DoesActs, KeepsActs, LacksRoom, IsDrained, TakesEnd, Finishes}
 use Rattle.serve_cluster.proofs.Handing.{store_of, some_given}
 

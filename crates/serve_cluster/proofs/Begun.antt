@@ -1,20 +1,17 @@
 -- A get that is on its way in a cluster.
-use Rattle.std.proofs.Common.{◌≡◌, ◌≤◌, ◌<◌, ◌+◌, ◌-◌, ◌^◌, ℕ, Bool, true, false, Option, Some, None, Result, Ok, Err, IfOk, if◌then◌else◌, List, [], ◌∷◌, ◌++◌, refl, sym, ap, ◌∙◌, subst, append_assoc, arith}
-use Rattle.std.specs.List.{AllByRecursion}
+use Rattle.std.proofs.Common.{◌≡◌, ◌≤◌, ◌-◌, ◌^◌, ℕ, Bool, true, false, Option, Some, None, Result, Ok, Err, IfOk, if◌then◌else◌, List, [], ◌∷◌, ◌++◌, refl, sym, ap, ◌∙◌, subst, append_assoc, arith}
 use Rattle.crdt_core.specs.declared.memory.Memory.{Memory}
 use Rattle.cluster_machine.specs.declared.step.Step.TheVariants.{Tick}
 use Rattle.flow_model.specs.declared.order.Order.{Order}
 use Rattle.flow_model.specs.declared.order.Order.TheVariants.{Get}
-use Rattle.flow_model.specs.declared.flow.FlowEnd.{FlowEnd}
 use Rattle.store_model.specs.Run.{State, Outcome, plainly, drains}
 use Rattle.store_model.specs.Acts.{Act, moves, drain, acted, after_acts, all_messages, AreLawfulActs, ActsFit}
-use Rattle.store_model.proofs.Acts.{acts_after}
 use Rattle.s3_world.specs.declared.world.S3World.{S3World}
 use Rattle.s3_world.specs.Stands.{IsStore, IsGiving}
 use Rattle.serve_model.specs.Stores.{Given, IsFirstOf, given}
-use Rattle.serve_model.specs.Clusters.{Cluster as Model, asker, cluster, fits, lacks, wait, asking, number_in, works, round, acts_to_ask, acts_to_end, acts_opened, given_by, GivesSoFar, ActLacksRoom}
+use Rattle.serve_model.specs.Clusters.{Cluster as Model, asker, cluster, fits, lacks, wait, asking, number_in, works, round, acts_to_ask, acts_to_end, given_by, GivesSoFar}
 use Rattle.serve_model.specs.Serving.{CarriedOut}
-use Rattle.get_laws.specs.OnTheWay.{KnowsRequests, LeavesEnd, IsLater, next_request}
+use Rattle.get_laws.specs.OnTheWay.{KnowsRequests, IsLater}
 use Rattle.get_laws.proofs.Firsts.{first_through}
 use Rattle.get_laws.proofs.Knowing.{act_knows}
 use Rattle.get_laws.proofs.Ending.{begun_is, acts_leave, cluster_gives_all, cluster_gives_first}
@@ -23,13 +20,12 @@ use Rattle.serve_loop.specs.declared.storage.Got.TheVariants.{Found, Piece, End}
 use Rattle.serve_loop.specs.Gets.{found_now, with_piece, with_given, GaveAll, Gives, MayGive}
 use Rattle.serve_cluster.specs.declared.cluster.Cluster.{Cluster}
 use Rattle.serve_cluster.specs.declared.getting.Getting.{Getting}
-use Rattle.serve_cluster.specs.Acting.{LedTo}
 use Rattle.serve_cluster.specs.Standing.{StandsFor}
 use Rattle.serve_cluster.specs.Giving.{IsOpened, HasGiven, acts_since, IsGetting, IsNumber, HasAsked, IsComing, IsOnItsWay, GivesOrEnds, GivesNext, LacksGetting, HasGot, GivesNothing, new_get, begun_get}
 use Rattle.serve_cluster.proofs.Acting.{acts_lawful, acts_fit}
 use Rattle.serve_cluster.proofs.Carrying.{came, came_opened, lacks_opened}
 use Rattle.serve_cluster.proofs.Draining.{drains_parts}
-use Rattle.serve_cluster.proofs.Giving.{given_first, gives_as}
+use Rattle.serve_cluster.proofs.Giving.{given_first}
 
 -- ---- it begins
 

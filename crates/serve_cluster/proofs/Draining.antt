@@ -1,13 +1,12 @@
 -- A drain in parts.
-use Rattle.std.proofs.Common.{◌≡◌, ◌<◌, ◌^◌, ◌+◌, ℕ, zero, suc, Option, Some, None, List, [], ◌∷◌, ◌++◌, refl, sym, ap, ◌∙◌, subst, append_assoc, arith}
-use Rattle.std.specs.List.{AllByRecursion}
+use Rattle.std.proofs.Common.{◌≡◌, ◌<◌, ◌^◌, ◌+◌, ℕ, zero, suc, Option, Some, None, refl, sym, ap, ◌∙◌, subst, append_assoc, arith}
 use Rattle.crdt_rows.specs.declared.version.Version.{Version}
 use Rattle.crdt_rows.specs.AnyRow.{any_join}
 use Rattle.object_schema.specs.Schema.{words}
 use Rattle.cluster_machine.specs.World.{undelivered}
 use Rattle.cluster_machine.specs.Worlds.{FitAll, HaveRoom}
 use Rattle.store_model.specs.Run.{State, Outcome, silent, delivers, then_drains, drains}
-use Rattle.store_model.specs.Acts.{Act, drain, acted, all_messages}
+use Rattle.store_model.specs.Acts.{drain, acted, all_messages}
 use Rattle.store_model.specs.Turns.{FitsOutcome}
 use Rattle.store_model.proofs.Drains.{drains_quietly, drains_empty, drains_one, drains_none}
 use Rattle.store_model.proofs.Leads.{Leads, drains_lead}

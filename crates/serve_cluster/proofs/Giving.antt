@@ -6,7 +6,7 @@ use Rattle.crdt_rows.specs.declared.version.Version.{Version}
 use Rattle.crdt_rows.specs.declared.body.Meta.{Meta}
 use Rattle.crdt_rows.specs.AnyRow.{any_join}
 use Rattle.object_schema.specs.Schema.{words}
-use Rattle.cluster_machine.specs.World.{numbered, undelivered}
+use Rattle.cluster_machine.specs.World.{undelivered}
 use Rattle.cluster_machine.specs.Worlds.{FitAll}
 use Rattle.history_model.specs.declared.record.Kind.TheVariants as kind
 use Rattle.flow_model.specs.declared.order.Order.TheVariants.{Get}
@@ -32,7 +32,7 @@ use Rattle.serve_loop.specs.declared.storage.Got.{Got}
 use Rattle.serve_loop.specs.declared.storage.Got.TheVariants as got
 use Rattle.serve_loop.specs.Gets.{found_now, with_piece, bytes_of, with_given, GaveAll}
 use Rattle.serve_cluster.specs.Acting.{LedTo, KeepsActs, LacksRoom, IsDrained, TakesEnd}
-use Rattle.serve_cluster.specs.Giving.{IsOpened, HasTold, HasGiven, is_object, GivesMore, Ended}
+use Rattle.serve_cluster.specs.Giving.{IsOpened, HasTold, HasGiven, GivesMore, Ended}
 use Rattle.serve_cluster.proofs.Handing.{store_of, bytes_left}
 use Rattle.serve_cluster.proofs.Acting.{acts_lawful, acts_fit, led_more, led_store, lacks_act, lacks_first, lacks_after}
 use Rattle.serve_cluster.proofs.Draining.{drains_parts, fits_parts, fits_among}

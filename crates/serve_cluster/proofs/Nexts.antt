@@ -1,22 +1,21 @@
 -- What a get gives next, call by call.
-use Rattle.std.proofs.Common.{◌≡◌, ◌≤◌, ◌<◌, ◌+◌, ◌-◌, ◌^◌, ℕ, suc, Bool, true, false, if◌then◌else◌, Option, Some, None, Result, Ok, Err, IfOk, List, [], ◌∷◌, ◌++◌, refl, sym, ap, ◌∙◌, subst, arith}
+use Rattle.std.proofs.Common.{◌≡◌, ◌≤◌, ◌<◌, ◌+◌, ◌-◌, ◌^◌, ℕ, true, false, if◌then◌else◌, Option, Some, None, Result, Ok, Err, IfOk, List, [], ◌∷◌, ◌++◌, refl, sym, ap, ◌∙◌, subst, arith}
 use Rattle.crdt_core.specs.declared.memory.Memory.{Memory}
 use Rattle.flow_model.specs.declared.flow.FlowEnd.{FlowEnd}
 use Rattle.store_model.specs.Run.{State}
 use Rattle.store_model.specs.Acts.{Act, drain, acted, after_acts, end_of, all_messages}
 use Rattle.s3_world.specs.declared.world.S3World.{S3World}
-use Rattle.s3_world.specs.Reads.{of, HasAll}
-use Rattle.s3_world.specs.Stands.{HasStore, IsGiving, Overflows}
+use Rattle.s3_world.specs.Reads.{HasAll}
+use Rattle.s3_world.specs.Stands.{IsGiving, Overflows}
 use Rattle.serve_model.specs.Stores.{Given}
 use Rattle.serve_model.specs.Clusters.{round, acts_to_end, acts_past_end, acts_opened, given_by, ActLacksRoom}
 use Rattle.serve_loop.specs.declared.storage.Got.{Got}
 use Rattle.serve_loop.specs.declared.storage.Got.TheVariants.{Found, Piece, End}
-use Rattle.serve_loop.specs.Gets.{GaveAll, GoesOn, bytes_of}
+use Rattle.serve_loop.specs.Gets.{GaveAll, GoesOn}
 use Rattle.serve_cluster.specs.declared.getting.Getting.{Getting}
 use Rattle.serve_cluster.specs.Acting.{KeepsActs, LacksRoom, IsDrained, TakesEnd}
-use Rattle.serve_cluster.specs.Giving.{HasGiven, acts_since, IsGetting, HasGot, IsDrainedGet, HasDrainedGet, GivesMore, HandsOut, GivesOrDrained, Delivers, LacksDrain, Ended, GivesOrEnds, GivesNext, LacksGetting, left_of}
-use Rattle.serve_cluster.proofs.Handing.{store_of}
-use Rattle.serve_cluster.proofs.Giving.{all_after, one_delivered, none_delivered, drain_full, hands_none, works_on, works_full, drains_full, ended, end_full, gives_as}
+use Rattle.serve_cluster.specs.Giving.{HasGiven, acts_since, IsGetting, HasGot, IsDrainedGet, HasDrainedGet, GivesMore, HandsOut, Delivers, LacksDrain, GivesOrEnds, GivesNext, LacksGetting, left_of}
+use Rattle.serve_cluster.proofs.Giving.{one_delivered, none_delivered, drain_full, hands_none, works_on, works_full, drains_full, ended, end_full, gives_as}
 
 -- ---- what is handed out
 

@@ -143,11 +143,7 @@ fn count_and_end(world: &mut S3World, getting: &mut Getting) -> Result<Got, Memo
 }
 
 // All messages were delivered: the members work twice, and then it gives the rest.
-fn work_and_end(
-    world: &mut S3World,
-    members: &[u8],
-    getting: &mut Getting,
-) -> Result<Got, Memory>
+fn work_and_end(world: &mut S3World, members: &[u8], getting: &mut Getting) -> Result<Got, Memory>
     requires on_its_way { HasDrainedGet world.old getting.old }
     ensures same { getting.new.request ≡ getting.old.request }
     ensures fewer { IfOk result (λ got. GoesOn got → left_of getting.new ≤ all_messages) }

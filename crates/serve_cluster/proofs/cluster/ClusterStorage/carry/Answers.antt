@@ -1,8 +1,7 @@
 use Rattle.std.proofs.Common.{Some, None, IfOk, subst}
-use Rattle.serve_model.specs.Clusters.{Cluster as Model, acts_opened}
+use Rattle.serve_model.specs.Clusters.{acts_opened}
 use Rattle.serve_cluster.specs.Acting.{LacksRoom, Finishes}
 use Rattle.serve_cluster.specs.Standing.{StandsFor}
-use Rattle.serve_cluster.specs.Giving.{HasAsked}
 use Rattle.serve_cluster.proofs.Acting.{ok_as, causes_next}
 use Rattle.serve_cluster.proofs.Carrying.{AskedSo, refused, opened_full, opened_next}
 use Rattle.serve_cluster.proofs.cluster.ClusterStorage.carry.Goals as goal
