@@ -1,5 +1,5 @@
 -- Each act keeps what is known of a get that is on its way, which gives more and more.
-use Rattle.std.proofs.Common.{◌≡◌, ◌⊎◌, inl, inr, ◌≤◌, ℕ, zero, suc, ◌-◌, Bool, true, false, ◌==◌, cond, Option, Some, None, List, [], ◌∷◌, ◌++◌, length, slice_set, nat_eq, if◌then◌else◌, option_map, refl, sym, ap, ◌∙◌, subst, arith}
+use Rattle.std.proofs.Common.{◌≡◌, inl, inr, ℕ, zero, suc, ◌-◌, true, false, ◌==◌, cond, Option, Some, None, List, [], ◌∷◌, ◌++◌, slice_set, if◌then◌else◌, option_map, refl, sym, ap, ◌∙◌, subst}
 use Rattle.std.specs.List.{AllByRecursion}
 use Rattle.std.specs.Option.{option_or, option_and_then}
 use Rattle.std.proofs.lemmas.Bool.{eqb-true, eqb-false, eq-eqb, ne_eqb}
@@ -13,7 +13,6 @@ use Rattle.cluster_machine.specs.Layouts.{layouts}
 use Rattle.cluster_machine.specs.Node.{Ended}
 use Rattle.cluster_machine.specs.World.{clock, is_member_at, numbered, undelivered}
 use Rattle.machine_origins.proofs.Places.{numbered_append, numbered_set, numbered_set_here}
-use Rattle.history_model.specs.declared.record.Kind.{Kind}
 use Rattle.history_model.specs.declared.record.Kind.TheVariants as kind
 use Rattle.flow_model.specs.declared.order.Order.{Order}
 use Rattle.flow_model.specs.declared.flow.Name.{Name}
@@ -24,7 +23,7 @@ use Rattle.flow_model.specs.declared.flow.FlowStep.TheVariants.{More, Wait, End}
 use Rattle.flow_model.specs.declared.flow.FlowEnd.{FlowEnd}
 use Rattle.flow_model.specs.Next.{next}
 use Rattle.store_model.specs.Orders.{buckets_of}
-use Rattle.store_model.specs.Run.{Moving, State, Asked, Draw, Saw, Outcome, silent, refusal, plainly, effect, doing, are_buckets, opened, begins, draws_of, takes, follows, follow, goes_on, delivers, then_drains, drains}
+use Rattle.store_model.specs.Run.{Moving, State, Asked, Draw, Outcome, silent, refusal, plainly, effect, doing, are_buckets, opened, begins, draws_of, takes, follows, follow, goes_on, delivers, then_drains, drains}
 use Rattle.store_model.specs.Acts.{Act, moves, installs, asks, delivery, drain, forgets, takes as takes_end, end_of, without_end, adds, cuts, acted, after_acts}
 use Rattle.store_model.specs.Gets.{object_seen, object_given, stage_of, is_get, is_there, gathered_at, body_of}
 use Rattle.serve_model.specs.Stores.{Given, IsFirstOf}

@@ -1,5 +1,5 @@
 -- What was given is the first of what is given in all.
-use Rattle.std.proofs.Common.{◌≡◌, ℕ, Option, Some, None, List, [], ◌++◌, refl, sym, ap, ◌∙◌, append-nil, append_assoc}
+use Rattle.std.proofs.Common.{ℕ, Option, Some, None, List, [], ◌++◌, refl, sym, ap, ◌∙◌, append-nil, append_assoc}
 use Rattle.serve_model.specs.Stores.{Given, IsFirstOf}
 
 pub first_same : (all : Option Given) → IsFirstOf all all

@@ -3,3 +3,4 @@ pub mod Knowing
 pub mod Getting
 pub mod Acting
 pub mod Ending
+pub mod Middle
