@@ -133,7 +133,7 @@ module _ (c : Cluster) (m : Model) (time : ℕ) (order : Order) (so_far : Option
       let P : Order → Type 0 = λ p. let a = asking m.members m.run (wait m time) p in
       a.refused ≡ None → IsLater (number_in a.words) a.state t → IsLater (number_in a.words) t (after_acts a.state (acts_to_end m.members)) → IsFirstOf (given_by t (number_in a.words)) (given (cluster.carries m time p)) in
       let Q : ℕ → Type 0 = λ n. IsLater n o.state t → IsLater n t (after_acts o.state (acts_to_end m.members)) → IsFirstOf (given_by t n) (given (cluster.carries m time order)) in
-      subst Q (ap number_in number.1) (of_get P (λ taken. cluster_gives_first m time h.bucket h.key h.knows taken t) number.0) before later
+      subst Q (ap number_in number.1) (of_get P (λ taken before later. cluster_gives_first m time h.bucket h.key h.knows taken t (before, later)) number.0) before later
 
   module _ (g : Getting) (number : IsNumber (Some g.request) o) (on : IsGetting c.world m.members g o.state so_far) where
     abbrev since : List Act
@@ -163,17 +163,18 @@ module _ (c : Cluster) (m : Model) (time : ℕ) (order : Order) (so_far : Option
 record IsCut (to_ask members' : List Act) (since : List Act) : Type 0 where
   before : List Act
   count : ℕ
+  few : count ≤ all_messages
   later : List Act
   parts : to_ask ++ members' ≡ before ++ drain all_messages ∷ later
   done : before ++ drain count ∷ [] ≡ to_ask ++ since
 
 cut_since : (to_ask : List Act) (members : List ℕ) (left : ℕ) (worked : Bool) → IsCut to_ask (acts_to_end members) (if worked then acts_to_end members else drain (all_messages - left) ∷ [])
-cut_since to_ask members left false = record { before = to_ask; count = all_messages - left; later = round members ++ round members; parts = refl; done = refl }
+cut_since to_ask members left false = record { before = to_ask; count = all_messages - left; few = omega arith; later = round members ++ round members; parts = refl; done = refl }
 cut_since to_ask members left true =
     let first : List Act = drain all_messages ∷ round members ++ works members in
     let last : List Act = drain all_messages ∷ [] in
     let parts : to_ask ++ acts_to_end members ≡ (to_ask ++ first) ++ last = ap (λ rest. to_ask ++ drain all_messages ∷ rest) (sym (append_assoc (round members) (works members) last)) ∙ sym (append_assoc to_ask first last) in
-    record { before = to_ask ++ first; count = all_messages; later = []; parts = parts; done = sym parts }
+    record { before = to_ask ++ first; count = all_messages; few = omega arith; later = []; parts = parts; done = sym parts }
 
 module _ (c : Cluster) (m : Model) (time : ℕ) (order : Order) (so_far : Option Given) (h : IsOnItsWay c m time order so_far) (g : Getting) (number : IsNumber (Some g.request) (o c m time order so_far h)) (on : IsGetting c.world m.members g (o c m time order so_far h).state so_far) where
   abbrev at : Outcome
@@ -191,6 +192,7 @@ module _ (c : Cluster) (m : Model) (time : ℕ) (order : Order) (so_far : Option
       record {
         before = cut.before;
         count = cut.count;
+        few = cut.few;
         later = cut.later;
         parts = cut.parts;
         lawful = subst (AreLawfulActs m.run) (sym cut.done) (acts_lawful m.run to_ask since h.lawful on.given.led.lawful);

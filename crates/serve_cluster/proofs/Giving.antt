@@ -27,7 +27,7 @@ use Rattle.serve_model.specs.Clusters.{round, acts_to_end, acts_past_end, acts_o
 use Rattle.get_laws.specs.OnTheWay.{LeavesEnd, IsLater}
 use Rattle.get_laws.proofs.Acting.{GivesOn, stage_in, later_gives}
 use Rattle.get_laws.proofs.Getting.{Seen, IsAt}
-use Rattle.get_laws.proofs.Ending.{opened_gives, goes_on_with, acts_leave}
+use Rattle.get_laws.proofs.Ending.{opened_gives, finds_on, acts_leave}
 use Rattle.serve_loop.specs.declared.storage.Got.{Got}
 use Rattle.serve_loop.specs.declared.storage.Got.TheVariants as got
 use Rattle.serve_loop.specs.Gets.{found_now, with_piece, bytes_of, with_given, GaveAll}
@@ -49,24 +49,18 @@ module _ (s : State) (q : ℕ) (o : IsOpened s q) where
   gives_after : (acts : List Act) → AllByRecursion (LeavesEnd q) acts → GivesOn None (after_acts s acts) q
   gives_after acts leaves = later_gives s (after_acts s acts) (later_by acts leaves) gives_first
 
-  pub first_after : (acts more : List Act) → AllByRecursion (LeavesEnd q) acts → AllByRecursion (LeavesEnd q) more → IsFirstOf (given_by (after_acts s acts) q) (given_by (after_acts s (acts ++ more)) q)
-  first_after acts more leaves then =
-      goes_on_with s (after_acts s acts) (after_acts s (acts ++ more)) gives_first (later_by acts leaves) (record { acts = more; leave = then; after = acts_after s acts more })
+  told_after : (acts more : List Act) → AllByRecursion (LeavesEnd q) acts → AllByRecursion (LeavesEnd q) more → (told : Bool) (so_far : Option Given) →
+      HasTold told (found_by (after_acts s acts) q) so_far → HasTold told (found_by (after_acts s (acts ++ more)) q) so_far
+  told_after acts more leaves then false so_far h = h
+  told_after acts more leaves then true so_far h =
+      let later : IsLater q (after_acts s acts) (after_acts s (acts ++ more)) = record { acts = more; leave = then; after = acts_after s acts more } in
+      (h.0, h.1, finds_on s (after_acts s acts) (after_acts s (acts ++ more)) (h.0.version, h.0.meta) gives_first (later_by acts leaves) later h.2)
 
 -- ---- what was told
 
 -- what was found, with the bytes that came
 abbrev given_as : Option (Version × Meta) → List ℕ → Option Given
 given_as found bytes = option_map (λ (f : Version × Meta). record { version = f.0; meta = f.1; bytes = bytes }) found
-
-found_on : (f g : Option (Version × Meta)) (b c : List ℕ) (x : Version × Meta) → f ≡ Some x → IsFirstOf (given_as f b) (given_as g c) → g ≡ Some x
-found_on None g b c x e first = absurd (let no' : None ≡ Some x = e in cc)
-found_on (Some y) None b c x e first = absurd first
-found_on (Some y) (Some z) b c x e first = (λ i. Some (sym first.0 i, sym first.1 i)) ∙ e
-
-told_on : (told : Bool) (f g : Option (Version × Meta)) (b c : List ℕ) (so_far : Option Given) → HasTold told f so_far → IsFirstOf (given_as f b) (given_as g c) → HasTold told g so_far
-told_on false f g b c so_far h first = h
-told_on true f g b c so_far h first = (h.0, h.1, found_on f g b c (h.0.version, h.0.meta) h.2 first)
 
 -- what was told and handed out is a first part of what came
 told_first : (told : Bool) (f : Option (Version × Meta)) (b : List ℕ) (so_far : Option Given) → HasTold told f so_far → (rest : List ℕ) → bytes_of so_far ++ rest ≡ b → IsFirstOf so_far (given_as f b)
@@ -85,13 +79,11 @@ module _ (world : S3World) (q : ℕ) (told : Bool) (acts : List Act) (s : State)
 
   pub given_more : (new : S3World) (more : List Act) → AllByRecursion (LeavesEnd q) more → KeepsActs world new more → HasGiven new q told (acts ++ more) s so_far
   given_more new more leaves keeps =
-      let t : State = after_acts s acts in
-      let u : State = after_acts s (acts ++ more) in
       record {
         opened = h.opened;
         leaves = all_append (LeavesEnd q) acts more h.leaves leaves;
         led = led_more (λ c v. IsGiving c v q (bytes_of so_far)) s acts more world new h.led (keeps (of q (bytes_of so_far)));
-        told_is = told_on told (found_by t q) (found_by u q) (gathered t q) (gathered u q) so_far h.told_is (first_after s q h.opened acts more h.leaves leaves);
+        told_is = told_after s q h.opened acts more h.leaves leaves told so_far h.told_is;
       }
 
   -- other acts that lead to the same state
