@@ -64,8 +64,8 @@ others_without (e ∷ es) q p other =
     by_number e.0 q (end_of (without_end (e ∷ es) q) p ≡ end_of (e ∷ es) p)
     (λ same. ap (λ xs. end_of xs p) (without_here e es q same) ∙ sym (end_past e es p (λ h. other (sym same ∙ h))))
     (λ not. ap (λ xs. end_of xs p) (without_past e es q not) ∙ by_number e.0 p (end_of (e ∷ without_end es q) p ≡ end_of (e ∷ es) p)
-    (λ same. end_here e (without_end es q) p same ∙ sym (end_here e es p same))
-    (λ no. end_past e (without_end es q) p no ∙ others_without es q p other ∙ sym (end_past e es p no)))
+      (λ same. end_here e (without_end es q) p same ∙ sym (end_here e es p same))
+      (λ no. end_past e (without_end es q) p no ∙ others_without es q p other ∙ sym (end_past e es p no)))
 
 -- nothing goes where no end is
 pub without_none : (es : List (ℕ × FlowEnd)) (q : ℕ) → end_of es q ≡ None → without_end es q ≡ es
@@ -130,11 +130,12 @@ module _ (asked : List Waiting) where
 
   pub over_more : (es : List (ℕ × FlowEnd)) (m : Waiting) → AreOver asked es → AreOver (asked ++ m ∷ []) es
   over_more [] m over = tt
-  over_more (e ∷ es) m over = (
-    elim (numbered asked e.0) as (λ o. numbered asked e.0 ≡ o → IsOver o → IsOver (numbered (asked ++ m ∷ []) e.0)) [
-      | None ↦ λ is h. absurd h
-      | Some x ↦ λ is h. subst IsOver (sym (numbered_push asked e.0 x m is)) h
-    ] refl over.0,
-    over.1.0,
-    over_more es m over.1.1,
-  )
+  over_more (e ∷ es) m over =
+      (
+        elim (numbered asked e.0) as (λ o. numbered asked e.0 ≡ o → IsOver o → IsOver (numbered (asked ++ m ∷ []) e.0)) [
+          | None ↦ λ is h. absurd h
+          | Some x ↦ λ is h. subst IsOver (sym (numbered_push asked e.0 x m is)) h
+        ] refl over.0,
+        over.1.0,
+        over_more es m over.1.1,
+      )

@@ -158,8 +158,8 @@ module _ (requests : List Asked) (s t : State) (i q : ℕ) (place : i + 1 ≡ q)
       handed_next given h =
           by_number q given.request (IsHanded requests_now t given)
           (λ same. (
-          let P : ℕ → Type 0 = λ p. IsLeft (blocks_in (numbered requests p)) given.bytes (gathered s p) → IsLeft (blocks_in (numbered requests_now p)) given.bytes (gathered t p) in
-          subst P same (left_here given.bytes) h
+            let P : ℕ → Type 0 = λ p. IsLeft (blocks_in (numbered requests p)) given.bytes (gathered s p) → IsLeft (blocks_in (numbered requests_now p)) given.bytes (gathered t p) in
+            subst P same (left_here given.bytes) h
           ))
           (λ other. left_there given.request other given.bytes h)
 
@@ -237,20 +237,20 @@ module _ (requests : List Asked) (s t : State) (a : Asked) (m : Waiting) (same_k
   begun_found reads p =
       by_number (suc (length s.asked)) p (found_in (numbered more p) ≡ found_by t p)
       (λ same. (
-      let here : found_in (numbered more (suc (length s.asked))) ≡ found_by t (suc (length s.asked)) =
-      ap found_in begun_code ∙ none_found
-      ∙ sym (ap (λ o. found_of o (end_of t.ends (suc (length s.asked))) (object_seen t.saw (suc (length s.asked)))) begun_model
-      ∙ ap (found_of (Some m) (end_of t.ends (suc (length s.asked)))) (begun_seen reads.seen)
-      ∙ found_nothing (Some m) (end_of t.ends (suc (length s.asked))))
-      in
-      subst (λ p. found_in (numbered more p) ≡ found_by t p) same here
+        let here : found_in (numbered more (suc (length s.asked))) ≡ found_by t (suc (length s.asked)) =
+        ap found_in begun_code ∙ none_found
+        ∙ sym (ap (λ o. found_of o (end_of t.ends (suc (length s.asked))) (object_seen t.saw (suc (length s.asked)))) begun_model
+          ∙ ap (found_of (Some m) (end_of t.ends (suc (length s.asked)))) (begun_seen reads.seen)
+          ∙ found_nothing (Some m) (end_of t.ends (suc (length s.asked))))
+        in
+        subst (λ p. found_in (numbered more p) ≡ found_by t p) same here
       ))
       (λ other. (
-      ap found_in (before_code p other)
-      ∙ reads.found p
-      ∙ ap (λ o. found_of o (end_of s.ends p) (object_seen s.saw p)) (sym (before_model p other))
-      ∙ ap (λ e. found_of (numbered t.asked p) e (object_seen s.saw p)) (sym (ap (λ es. end_of es p) ends_are))
-      ∙ ap (λ saw. found_of (numbered t.asked p) (end_of t.ends p) (object_seen saw p)) (sym saw_is)
+        ap found_in (before_code p other)
+        ∙ reads.found p
+        ∙ ap (λ o. found_of o (end_of s.ends p) (object_seen s.saw p)) (sym (before_model p other))
+        ∙ ap (λ e. found_of (numbered t.asked p) e (object_seen s.saw p)) (sym (ap (λ es. end_of es p) ends_are))
+        ∙ ap (λ saw. found_of (numbered t.asked p) (end_of t.ends p) (object_seen saw p)) (sym saw_is)
       ))
 
   -- nothing is handed out of it
@@ -267,10 +267,10 @@ module _ (requests : List Asked) (s t : State) (a : Asked) (m : Waiting) (same_k
   begun_handed given h =
       by_number (suc (length s.asked)) given.request (IsHanded more t given)
       (λ same. (
-      let nobody : numbered requests given.request ≡ None = subst (λ p. numbered requests p ≡ None) same (subst (λ n. numbered requests (suc n) ≡ None) same_length (numbered_past requests)) in
-      let none : given.bytes ≡ [] = (let z : IsLeft None given.bytes (gathered s given.request) = subst (λ o. IsLeft (blocks_in o) given.bytes (gathered s given.request)) nobody h in z) in
-      let here : IsLeft (blocks_in (numbered more given.request)) [] (gathered t given.request) = subst (λ p. IsLeft (blocks_in (numbered more p)) [] (gathered t p)) same begun_left in
-      subst (λ bytes. IsLeft (blocks_in (numbered more given.request)) bytes (gathered t given.request)) (sym none) here
+        let nobody : numbered requests given.request ≡ None = subst (λ p. numbered requests p ≡ None) same (subst (λ n. numbered requests (suc n) ≡ None) same_length (numbered_past requests)) in
+        let none : given.bytes ≡ [] = (let z : IsLeft None given.bytes (gathered s given.request) = subst (λ o. IsLeft (blocks_in o) given.bytes (gathered s given.request)) nobody h in z) in
+        let here : IsLeft (blocks_in (numbered more given.request)) [] (gathered t given.request) = subst (λ p. IsLeft (blocks_in (numbered more p)) [] (gathered t p)) same begun_left in
+        subst (λ bytes. IsLeft (blocks_in (numbered more given.request)) bytes (gathered t given.request)) (sym none) here
       ))
       (λ other. before_left given.request other given.bytes h)
 

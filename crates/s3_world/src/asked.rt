@@ -72,12 +72,7 @@ impl Asked {
     }
 
     /// A phase of it gave this, while it waited so. Of a get the object is kept that it finds, and a block that it gathers.
-    pub fn hears(
-        &mut self,
-        alloc: Global,
-        stage: &Stage,
-        end: &PhaseEnd<AnyRow>,
-    ) -> Result<(), Memory>
+    pub fn hears(&mut self, alloc: Global, stage: &Stage, end: &PhaseEnd<AnyRow>) -> Result<(), Memory>
         ensures ok { OnOk result (self.new ≡ heard self.old stage.now end.now) }
         ensures want { OnlyWant result }
     {

@@ -66,14 +66,7 @@ fn with_left(end: FlowEnd, blocks: Option<List<Block>>) -> FlowEnd
     ensures { (bytes : Listed ℕ) → IsLeft blocks bytes (body_of (Some end)) → with_first bytes (Some result) ≡ Some end }
 {
     match (end, blocks) {
-        (
-            FlowEnd::Found {
-                version,
-                meta,
-                body,
-            },
-            Some(blocks),
-        ) => FlowEnd::Found {
+        (FlowEnd::Found { version, meta, body }, Some(blocks)) => FlowEnd::Found {
             version,
             meta,
             body: body.into_rest(blocks),
