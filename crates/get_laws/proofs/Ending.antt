@@ -72,7 +72,7 @@ finds_on {q} s t u f h then_t then_u is = found_first (found_by t q) (found_by u
 -- ---- the get of a cluster
 
 -- what comes of asking where it isn't refused
-begun_is : (s : State) (n : ℕ) (o : Order) → (begins s n o).refused ≡ None → begins s n o ≡ opened s n o
+pub begun_is : (s : State) (n : ℕ) (o : Order) → (begins s n o).refused ≡ None → begins s n o ≡ opened s n o
 begun_is s n o none =
     elim (is_member_at layouts s.world n) as (λ b. (if b then (if are_buckets s.buckets (buckets_of o) then opened s n o else refusal s NoSuchBucket) else refusal s NotMember).refused ≡ None →
     (if b then (if are_buckets s.buckets (buckets_of o) then opened s n o else refusal s NoSuchBucket) else refusal s NotMember) ≡ opened s n o) [

@@ -23,4 +23,4 @@ mod storage;
 
 pub use crate::request::serve_request;
 pub use crate::service::{ServeStop, serve};
-pub use crate::storage::Storage;
+pub use crate::storage::{Got, Storage};
