@@ -1,11 +1,11 @@
 -- What is known of a get that is on its way.
-use Rattle.std.specs.Prelude.{◌≡◌, ⊤, ⊥, ℕ, List, [], ◌++◌, Option, Some, None}
+use Rattle.std.specs.Prelude.{◌≡◌, ⊤, ℕ, List, [], ◌++◌, Option, Some, None}
 use Rattle.crdt_rows.specs.declared.version.Version.{Version}
 use Rattle.crdt_rows.specs.declared.body.Meta.{Meta}
 use Rattle.flow_model.specs.declared.order.Order.{Order}
 use Rattle.flow_model.specs.declared.flow.FlowEnd.{FlowEnd}
 use Rattle.flow_model.specs.declared.flow.FlowEnd.TheVariants as flow
-use Rattle.serve_model.specs.Stores.{Given, Carried, given}
+use Rattle.serve_model.specs.Stores.{Given, Carried, Store, given}
 use Rattle.serve_loop.specs.declared.storage.Got.{Got}
 use Rattle.serve_loop.specs.declared.storage.Got.TheVariants.{Found, Piece, End}
 
@@ -22,12 +22,6 @@ abbrev pub bytes_of : Option Given → List ℕ
 bytes_of None = []
 bytes_of (Some g) = g.bytes
 
--- what was given is the first of what is given in all
-abbrev pub IsFirstOf : Option Given → Option Given → Type 0
-IsFirstOf None all = ⊤
-IsFirstOf (Some g) None = ⊥
-IsFirstOf (Some g) (Some h) = (g.version ≡ h.version) × (g.meta ≡ h.meta) × ((rest : List ℕ) × (g.bytes ++ rest ≡ h.bytes))
-
 -- the end of a get that told of the bytes that weren't given before
 abbrev pub with_given : Option Given → Option FlowEnd → Option FlowEnd
 with_given so_far (Some (flow.Found version meta rest)) = Some (flow.Found version meta (bytes_of so_far ++ rest))
@@ -37,6 +31,11 @@ with_given so_far end = end
 abbrev pub GaveAll : Option Given → Option Given → Option FlowEnd → Type 0
 GaveAll so_far all (Some (flow.Found version meta rest)) = ⊤
 GaveAll so_far all end = so_far ≡ all
+
+-- the store may give so much in the middle of an order
+abbrev pub MayGive : {S : Type 0} → Store S → S → ℕ → Order → Option Given → Type 0
+MayGive store s time order None = ⊤
+MayGive store s time order (Some g) = store.gives s time order g
 
 -- there is more to come
 abbrev pub GoesOn : Got → Type 0

@@ -4,9 +4,9 @@ ghost use Rattle.crdt_core.specs.Outcomes.{WantOr};
 ghost use Rattle.flow_model.specs.declared.order.Order.{Order as Asked};
 ghost use Rattle.flow_model.specs.declared.order.Order.TheVariants.{Get};
 ghost use Rattle.store_model.specs.Acts.{HasKey};
-ghost use Rattle.serve_model.specs.Stores.{Store, Given, given};
+ghost use Rattle.serve_model.specs.Stores.{Store, Given, given, IsFirstOf};
 ghost use Rattle.serve_model.specs.Serving.{HasState, CarriedOut};
-ghost use Rattle.serve_loop.specs.Gets.{IsFirstOf, GoesOn, Gives, IsOnItsWay};
+ghost use Rattle.serve_loop.specs.Gets.{MayGive, GoesOn, Gives, IsOnItsWay};
 
 use block_bytes::Block;
 use crdt_core::{Bytes, Memory};
@@ -69,5 +69,6 @@ pub trait Storage {
             Gives (gives self.new s time order) (CarriedOut model fits lacks (stands self.new) s time order) (model.carries s time order) so_far got) }
         ensures fewer { IfOk result (λ got. GoesOn got → left self.new < left self.old) }
         ensures first { (s : State) (time : ℕ) (order : Asked) (so_far : Option Given) → gives self.old s time order so_far → IsFirstOf so_far (given (model.carries s time order)) }
+        ensures so_far { (s : State) (time : ℕ) (order : Asked) (so_far : Option Given) → gives self.old s time order so_far → MayGive model s time order so_far }
         ensures causes { WantOr result ((s : State) (time : ℕ) (order : Asked) (so_far : Option Given) → gives self.old s time order so_far → lacks s time order) };
 }

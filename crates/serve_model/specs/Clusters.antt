@@ -15,7 +15,7 @@ use Rattle.store_model.specs.Run.{State, Outcome, plainly}
 use Rattle.store_model.specs.Acts.{Act, moves, asks, drain, forgets, takes, acted, after_acts, end_of, all_messages, AreLawfulActs, ActsFit, IsLawfulAct}
 use Rattle.store_model.specs.Turns.{FitsOutcome}
 use Rattle.store_model.specs.Gets.{found_by, gathered}
-use Rattle.serve_model.specs.Stores.{Given, Store}
+use Rattle.serve_model.specs.Stores.{Given, Store, IsFirstOf}
 
 -- ---- the acts of a request
 
@@ -124,6 +124,16 @@ wait c time = time - c.ticked
 abbrev pub acts_at : Cluster → ℕ → Order → List Act
 acts_at c time order = acts_of_request c.members c.run (wait c time) order
 
+-- in the middle of a get, when these of its acts are done, the last of them perhaps some deliveries alone, so much of an object has come, or more; as far as that all is lawful and fits
+pub record GivesSoFar (c : Cluster) (time : ℕ) (order : Order) (g : Given) : Type 0 where
+  pub before : List Act
+  pub count : ℕ
+  pub later : List Act
+  pub parts : acts_to_ask c.members (wait c time) order ++ acts_to_end c.members ≡ before ++ drain all_messages ∷ later
+  pub lawful : AreLawfulActs c.run (before ++ drain count ∷ [])
+  pub fit : ActsFit c.run (before ++ drain count ∷ [])
+  pub given : IsFirstOf (Some g) (given_by (after_acts c.run (before ++ drain count ∷ [])) (number_in (asking c.members c.run (wait c time) order).words))
+
 -- the cluster carries out orders
 abbrev pub cluster : Store Cluster
 cluster = record {
@@ -133,6 +143,7 @@ cluster = record {
         end = end_of_request c.members c.run (wait c time) order;
         begun = begun_of_request c.members c.run (wait c time) order;
       };
+  gives = GivesSoFar;
 }
 
 -- the acts of the request are lawful, and every number fits

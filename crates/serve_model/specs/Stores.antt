@@ -1,9 +1,10 @@
 -- Stores that carry out orders, one after the other.
-use Rattle.std.specs.Prelude.{◌≡◌, ℕ, ⊤, Option, Some, None, List, [], ◌∷◌}
+use Rattle.std.specs.Prelude.{◌≡◌, ℕ, ⊤, Option, Some, None, List, [], ◌∷◌, ◌++◌}
 use Rattle.std.specs.List.{Contains}
 use Rattle.crdt_rows.specs.declared.version.Version.{Version}
 use Rattle.crdt_rows.specs.declared.body.Meta.{Meta}
 use Rattle.flow_model.specs.declared.order.Order.{Order}
+use Rattle.flow_model.specs.declared.order.Order.TheVariants.{Get}
 use Rattle.flow_model.specs.declared.flow.FlowEnd.{FlowEnd}
 use Rattle.flow_model.specs.declared.flow.FlowEnd.TheVariants.{Found, Nothing}
 
@@ -28,9 +29,16 @@ given_with end begun = begun
 abbrev pub given : {S : Type 0} → Carried S → Option Given
 given c = given_with c.end c.begun
 
--- what comes of an order that is carried out at a time, in milliseconds since 1970
-pub record Store (S : Type 0) : Type 0 where
+-- what was given is the first of what is given in all
+abbrev pub IsFirstOf : Option Given → Option Given → Type 0
+IsFirstOf None all = ⊤
+IsFirstOf (Some g) None = ⊥
+IsFirstOf (Some g) (Some h) = (g.version ≡ h.version) × (g.meta ≡ h.meta) × ((rest : List ℕ) × (g.bytes ++ rest ≡ h.bytes))
+
+-- what comes of an order that is carried out at a time, in milliseconds since 1970; and that a get may give so much in the middle of it, as far as all fits
+pub record Store (S : Type 0) : Type 1 where
   pub carries : S → ℕ → Order → Carried S
+  pub gives : S → ℕ → Order → Given → Type 0
 
 -- an order that a store is asked: in which state, at what time
 pub record Asking (S : Type 0) : Type 0 where
@@ -42,12 +50,21 @@ pub record Asking (S : Type 0) : Type 0 where
 abbrev pub fits_asking : {S : Type 0} → (S → ℕ → Order → Type 0) → Asking S → Type 0
 fits_asking fits a = fits a.state a.time a.order
 
--- what is known of the orders that a store is asked: that one fits, and that among several one has no room
+-- what is known of the orders that a store is asked: that one fits, that one may give so much in the middle of it, and that among several one has no room
 pub record Known (S : Type 0) : Type 1 where
   pub fits : Asking S → Type 0
+  pub gives : Asking S → Given → Type 0
   pub overflows : List (Asking S) → Type 0
 
 module _ {S : Type 0} (store : Store S) where
+  -- what may be given in the middle of a get is the first of what is given in all
+  abbrev pub GivesFirst : Type 0
+  GivesFirst = (s : S) (time : ℕ) (bucket key : List ℕ) (g : Given) → store.gives s time (Get bucket key) g → IsFirstOf (Some g) (given (store.carries s time (Get bucket key)))
+
+  -- an order that is asked may give so much in the middle of it
+  abbrev pub gives_asked : Asking S → Given → Type 0
+  gives_asked a g = store.gives a.state a.time a.order g
+
   -- the state after orders, each with its time
   abbrev pub after_orders : S → List (ℕ × Order) → S
   after_orders s [] = s
@@ -77,4 +94,4 @@ module _ {S : Type 0} (store : Store S) where
 
   -- what is known of orders that are asked once others led from a state to where they are
   abbrev pub known_from : (fits lacks : S → ℕ → Order → Type 0) → S → Known S
-  known_from fits lacks s = record { fits = fits_asking fits; overflows = OverflowsAmong fits lacks s }
+  known_from fits lacks s = record { fits = fits_asking fits; gives = gives_asked; overflows = OverflowsAmong fits lacks s }

@@ -84,11 +84,18 @@ pub record Stop (S : Type 0) : Type 0 where
   pub asks : List (Asking S)
   pub serving : Serving S
 
--- what comes of one request: what is written, where it may be cut off, where serving may be given up beside these places, what the store is asked, what is served from then on, and how the connection goes on
+-- a get in the middle of which serving may be given up: what was written and which orders the store was asked before it, the request, and what is asked
+pub record Halt (S : Type 0) : Type 0 where
+  pub text : List ℕ
+  pub asks : List (Asking S)
+  pub request : Request
+  pub asking : Asking S
+
+-- what comes of one request: what is written, where it may be cut off, in which gets serving may be given up, what the store is asked, what is served from then on, and how the connection goes on
 pub record Turn (S : Type 0) : Type 0 where
   pub text : List ℕ
   pub stops : List (Stop S)
-  pub halts : List (Stop S)
+  pub halts : List (Halt S)
   pub asks : List (Asking S)
   pub serving : Serving S
   pub next : Next
@@ -176,17 +183,21 @@ module _ {S : Type 0} where
   abbrev pub behind : List ℕ → List (Asking S) → Stop S → Stop S
   behind text asks s = record { text = text ++ s.text; asks = asks ++ s.asks; serving = s.serving }
 
+  -- a get before which this text was written and these orders were asked too
+  abbrev pub behind_halt : List ℕ → List (Asking S) → Halt S → Halt S
+  behind_halt text asks h = record h { text = text ++ h.text; asks = asks ++ h.asks }
+
   -- it may be cut off here already, with nothing written
   abbrev pub passing : Serving S → Turn S → Turn S
   passing p t = record t { stops = stop [] p ∷ t.stops }
 
   -- the store was asked this before
   abbrev pub having_asked : Asking S → Turn S → Turn S
-  having_asked a t = record t { stops = map (behind [] (a ∷ [])) t.stops; halts = map (behind [] (a ∷ [])) t.halts; asks = a ∷ t.asks }
+  having_asked a t = record t { stops = map (behind [] (a ∷ [])) t.stops; halts = map (behind_halt [] (a ∷ [])) t.halts; asks = a ∷ t.asks }
 
   -- something was written before
   abbrev pub after : List ℕ → Turn S → Turn S
-  after text t = record t { text = text ++ t.text; stops = map (behind text []) t.stops; halts = map (behind text []) t.halts }
+  after text t = record t { text = text ++ t.text; stops = map (behind text []) t.stops; halts = map (behind_halt text []) t.halts }
 
   -- something is written, in which it may be cut off, and then the connection closes or goes on with the rest
   abbrev pub said : List ℕ → Bool → Serving S → List ℕ → Turn S
@@ -213,16 +224,21 @@ module _ {S : Type 0} where
   end_turn r None begun p rest = given_turn r answer.Nothing begun p rest
   end_turn r (Some end) begun p rest = counting (counted_after r.ask end) p (λ q. given_turn r (answer_to r.ask end) begun q rest)
 
-  -- what a get is given is written while the store is still at work: a first part of it may be written when serving is given up
-  abbrev pub giving : Order → Serving S → Turn S → Turn S
-  giving (order.Get bucket key) p t = record t { halts = stop t.text p ∷ t.halts }
-  giving o p t = t
+  -- the get, in the middle of which serving may be given up, if the order is one
+  abbrev pub halts_of : Order → Request → Asking S → List (Halt S)
+  halts_of (order.Get bucket key) r a = record { text = []; asks = []; request = r; asking = a } ∷ []
+  halts_of o r a = []
+
+  -- what a get is given is written while the store is still at work: serving may be given up in the middle of it
+  abbrev pub giving : Request → Asking S → Turn S → Turn S
+  giving r a t = record t { halts = halts_of a.order r a ++ t.halts }
 
   -- the store carries out an order, unless it is cut off before
   abbrev pub order_turn : Store S → Request → Order → Serving S → List ℕ → Turn S
   order_turn store r o p rest =
+      let a : Asking S = record { state = p.store; time = r.time; order = o } in
       let c = store.carries p.store r.time o in
-      passing p (giving o p (having_asked (record { state = p.store; time = r.time; order = o }) (end_turn r c.end c.begun (record p { store = c.state }) rest)))
+      passing p (giving r a (having_asked a (end_turn r c.end c.begun (record p { store = c.state }) rest)))
 
   module _ (store : Store S) (buckets : Buckets) where
     -- nothing refuses the request before the store is asked
@@ -272,11 +288,11 @@ module _ {S : Type 0} where
       abbrev pub turn : Bool → Serving S → List ℕ → Turn S
       turn last p bytes = passing p (cut_turn last p (cut bytes))
 
--- what is written to a connection, where it may be cut off, where serving may be given up beside these places, what the store is asked, one order after the other, what is served then, and whether serving ends with it
+-- what is written to a connection, where it may be cut off, in which gets serving may be given up, what the store is asked, one order after the other, what is served then, and whether serving ends with it
 pub record Talk (S : Type 0) : Type 0 where
   pub text : List ℕ
   pub stops : List (Stop S)
-  pub halts : List (Stop S)
+  pub halts : List (Halt S)
   pub asks : List (Asking S)
   pub serving : Serving S
   pub is_over : Bool
@@ -289,7 +305,7 @@ module _ {S : Type 0} where
       record {
         text = t.text ++ u.text;
         stops = t.stops ++ map (behind t.text t.asks) u.stops;
-        halts = t.halts ++ map (behind t.text t.asks) u.halts;
+        halts = t.halts ++ map (behind_halt t.text t.asks) u.halts;
         asks = t.asks ++ u.asks;
         serving = u.serving;
         is_over = u.is_over;
