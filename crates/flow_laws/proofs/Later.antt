@@ -1,5 +1,5 @@
 -- A version that is drawn is later than the one that the row says.
-use Rattle.std.proofs.Common.{◌≡◌, ℕ, max, ◌<◌, ◌≤◌, Bool, true, false, cond, Option, Some, None, List, [], ◌∷◌, ap, arith}
+use Rattle.std.proofs.Common.{◌≡◌, ℕ, max, ◌<◌, ◌≤◌, cond, Option, Some, None, List, [], ◌∷◌, ap, arith}
 use Rattle.std.specs.declared.cmp.Ordering.{Ordering}
 use Rattle.std.specs.declared.cmp.Ordering.TheVariants.{Less, Equal, Greater}
 use Rattle.crdt_core.specs.declared.max.Max.{Max}
@@ -12,7 +12,7 @@ use Rattle.crdt_rows.specs.declared.state.State.TheVariants.{Uploading, Aborted,
 use Rattle.crdt_rows.specs.declared.object_row.ObjectRow.{ObjectRow}
 use Rattle.crdt_rows.specs.declared.any_row.AnyRow.{AnyRow}
 use Rattle.crdt_rows.specs.declared.any_row.AnyRow.TheVariants as rows
-use Rattle.crdt_rows.specs.State.{is_complete}
+use Rattle.crdt_rows.specs.State.{is_complete, is_aborted}
 use Rattle.crdt_rows.specs.Version.{version_cmp}
 use Rattle.crdt_rows.specs.Newest.{later}
 use Rattle.crdt_rows.specs.Versions.{newest_version, greatest_ts as greatest_of}
@@ -35,13 +35,15 @@ later_at_most None b m n h k = omega arith
 later_at_most (Some a) None m n h k = omega arith
 later_at_most (Some a) (Some b) m n h k = let e = either (version_cmp a b) a b in omega arith
 
-own_at_most : (b : Bool) (v : Version) → ts_of (cond b (Some v) None) ≤ v.ts
-own_at_most true v = omega arith
-own_at_most false v = omega arith
+-- one version more, in its state
+one_more : (s : State) (v : Version) (newest : Option Version) (m : ℕ) → ts_of newest ≤ m → ts_of (later version_cmp (cond (is_complete s) (Some v) None) newest) ≤ cond (is_aborted s) m (max v.ts m)
+one_more Uploading v newest m h = later_at_most None newest v.ts m (omega arith) h
+one_more Aborted v newest m h = h
+one_more (Complete b) v newest m h = later_at_most (Some v) newest v.ts m (omega arith) h
 
 at_most : (es : List (Version × Max State)) → ts_of (newest_version es) ≤ greatest_of es
 at_most [] = omega arith
-at_most (e ∷ es) = later_at_most (cond (is_complete e.1.0) (Some e.0) None) (newest_version es) e.0.ts (greatest_of es) (own_at_most (is_complete e.1.0) e.0) (at_most es)
+at_most (e ∷ es) = one_more e.1.0 e.0 (newest_version es) (greatest_of es) (at_most es)
 
 the_marked : (v before : Version) (s : Option State) → of_state v s ≡ marked before → v ≡ before
 the_marked v before None e = cc

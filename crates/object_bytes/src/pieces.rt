@@ -1,32 +1,33 @@
-//! Bytes that came piece by piece, each of which has other owners too.
-ghost use Rattle.std.specs.Prelude.{◌≡◌, ◌++◌, [], length, take, OnOk, OnErr, IfOk};
-ghost use Rattle.blake2_hash.specs.Hash.{digest_of};
+//! Bytes that came at once or piece by piece.
+ghost use Rattle.std.specs.Prelude.{◌≡◌, ℕ, List, ◌++◌, [], length, OnOk, OnErr, IfOk};
+ghost use Rattle.std.specs.List.{concat};
 ghost use Rattle.md5.specs.Md5.{md5};
 ghost use Rattle.crdt_core.specs.Outcomes.{OnlyWant};
 
-use blake2_hash::{Hash32, blake2b_256};
 use block_bytes::Block;
 use crdt_core::{Bytes, List, Memory};
 use md5::{Digest, Md5};
 use std::alloc::Global;
 use std::marker::Model;
 
-/// Bytes in pieces, one after the other. A piece is a block that others own too, so no byte is copied.
+/// Bytes that came at once, and after them blocks, one after the other. Others own these blocks too, so none of their
+/// bytes is copied.
 #[derive(Drop)]
 pub struct Pieces {
-    pieces: List<Block>,
+    whole: Bytes,
+    blocks: List<Block>,
     size: usize,
 }
 
 impl Model for Pieces {
-    ghost use Rattle.std.specs.Prelude.{List, ℕ, ◌≡◌, length};
+    ghost use Rattle.std.specs.Prelude.{List, ℕ, ◌≡◌, ◌++◌, length};
     ghost use Rattle.std.specs.List.{concat};
 
     ghost Value = { List ℕ };
 
-    ghost view = { λ p. concat p.pieces };
+    ghost view = { λ p. p.whole ++ concat p.blocks };
 
-    ghost invariant = { λ p. p.size ≡ length (concat p.pieces) };
+    ghost invariant = { λ p. p.size ≡ length (p.whole ++ concat p.blocks) };
 }
 
 impl Pieces {
@@ -34,10 +35,48 @@ impl Pieces {
     pub fn new(alloc: Global) -> Pieces
         ensures { result ≡ [] }
     {
+        Pieces::from_bytes(Bytes::new(alloc))
+    }
+
+    /// Bytes that came at once. Takes no memory, and hashes nothing.
+    pub fn from_bytes(whole: Bytes) -> Pieces
+        ensures { result ≡ whole }
+    {
+        let blocks = List::new(whole.allocator());
+        let size = whole.len();
         Pieces {
-            pieces: List::new(alloc),
-            size: 0,
+            whole,
+            blocks,
+            size,
         }
+    }
+
+    /// What is left without its first bytes: these blocks, which have all the others. Takes no memory.
+    pub fn into_rest(self, rest: List<Block>) -> Pieces
+        requires { (first : List ℕ) × (first ++ concat rest ≡ self) }
+        ensures { result ≡ concat rest }
+    {
+        let mut gone = self.size;
+        for block in rest.as_slice() {
+            gone -= block.len();
+        }
+        Pieces {
+            whole: Bytes::new(rest.allocator()),
+            blocks: rest,
+            size: self.size - gone,
+        }
+    }
+
+    /// All the bytes in one place. Copies none where they came at once, and takes no memory then.
+    pub fn into_bytes(self) -> Result<Bytes, Memory>
+        ensures same { IfOk result (λ bytes. bytes ≡ self) }
+        ensures want { OnlyWant result }
+    {
+        let mut bytes = self.whole;
+        for block in self.blocks.as_slice() {
+            bytes.extend_from_slice(block.as_slice())?;
+        }
+        Ok(bytes)
     }
 
     pub fn len(&self) -> usize
@@ -46,16 +85,16 @@ impl Pieces {
         self.size
     }
 
-    /// The next piece comes. More bytes than can be counted are never had, and count as want of memory.
-    pub fn push(&mut self, piece: Block) -> Result<(), Memory>
-        ensures ok { OnOk result (self.new ≡ self.old ++ piece) }
+    /// The next block comes. More bytes than can be counted are never had, and count as want of memory.
+    pub fn push(&mut self, block: Block) -> Result<(), Memory>
+        ensures ok { OnOk result (self.new ≡ self.old ++ block) }
         ensures same { OnErr result (self.new ≡ self.old) }
         ensures want { OnlyWant result }
     {
-        let Some(size) = self.size.checked_add(piece.len()) else {
+        let Some(size) = self.size.checked_add(block.len()) else {
             return Err(Memory::Want);
         };
-        self.pieces.push(piece)?;
+        self.blocks.push(block)?;
         self.size = size;
         Ok(())
     }
@@ -65,44 +104,10 @@ impl Pieces {
         ensures { result ≡ md5 self.now }
     {
         let mut hasher = Md5::new();
-        for piece in self.pieces.as_slice() {
-            hasher.update(piece.as_slice());
+        hasher.update(self.whole.as_slice());
+        for block in self.blocks.as_slice() {
+            hasher.update(block.as_slice());
         }
         hasher.finalize()
-    }
-
-    /// All the bytes, copied into one place.
-    pub fn copy_whole(&self, alloc: Global) -> Result<Bytes, Memory>
-        ensures same { IfOk result (λ bytes. bytes ≡ self.now) }
-        ensures want { OnlyWant result }
-    {
-        let mut bytes = Bytes::new(alloc);
-        for piece in self.pieces.as_slice() {
-            bytes.extend_from_slice(piece.as_slice())?;
-        }
-        Ok(bytes)
-    }
-
-    /// The hash of the first `size` bytes, or of all where there are fewer. Hashes nothing where the first piece is just
-    /// these, as with blocks of this size.
-    pub fn first_hash(&self, alloc: Global, size: u32) -> Result<Hash32, Memory>
-        ensures is { IfOk result (λ hash. hash ≡ digest_of (take size self.now)) }
-        ensures want { OnlyWant result }
-    {
-        match self.pieces.as_slice() {
-            [first, ..] if first.len() == size as usize => Ok(*first.hash()),
-            [only] if only.len() <= size as usize => Ok(*only.hash()),
-            _ => self.joined_hash(alloc, size),
-        }
-    }
-
-    // The same of any pieces.
-    fn joined_hash(&self, alloc: Global, size: u32) -> Result<Hash32, Memory>
-        ensures is { IfOk result (λ hash. hash ≡ digest_of (take size self.now)) }
-        ensures want { OnlyWant result }
-    {
-        let bytes = self.copy_whole(alloc)?;
-        let count = bytes.len().min(size as usize);
-        Ok(blake2b_256(&bytes.as_slice()[..count]))
     }
 }
