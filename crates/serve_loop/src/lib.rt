@@ -14,6 +14,7 @@ mod admitting;
 mod answers;
 mod connection;
 mod counting;
+mod giving;
 mod judging;
 mod orders;
 mod request;
@@ -23,4 +24,4 @@ mod storage;
 
 pub use crate::request::serve_request;
 pub use crate::service::{ServeStop, serve};
-pub use crate::storage::Storage;
+pub use crate::storage::{Got, Storage};
