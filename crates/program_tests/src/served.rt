@@ -349,9 +349,21 @@ pub struct Session {
 pub fn served_over<L: Link>(alloc: Global, port: u16, link: &mut L) -> Result<Ended, Fail>
     requires { L.present link.old ≡ None }
 {
+    served_with(alloc, THREE_NODES, port, link)
+}
+
+/// The same with this configuration.
+pub fn served_with<L: Link>(
+    alloc: Global,
+    configuration: &[u8],
+    port: u16,
+    link: &mut L,
+) -> Result<Ended, Fail>
+    requires { L.present link.old ≡ None }
+{
     let server = Server { port, count: 1 };
     let mut clock = MemClock::new([1_700_000_000_000].to_vec(alloc)?);
-    let mut source = MemSource::new(THREE_NODES.to_vec(alloc)?, Vec::new(alloc));
+    let mut source = MemSource::new(configuration.to_vec(alloc)?, Vec::new(alloc));
     let mut sink = MemSink::new(alloc, Vec::new(alloc));
     let status = run_server(alloc, server, &mut source, &mut sink, link, &mut clock);
     Ok(Ended {

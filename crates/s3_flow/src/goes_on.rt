@@ -98,7 +98,7 @@ pub fn after_block(
             left,
             mut body,
         } => {
-            body.extend_from_slice(block.as_slice())?;
+            body.push(block)?;
             gathers(alloc, request, aim, version, meta, left, body)
         }
         other => Ok(request.waits(other)),

@@ -10,8 +10,8 @@
 //! deletes, copies and lists. They fail for want of memory; `next` answers `Full` exactly where a write would draw a
 //! timestamp of 2^64. After an error the flow is gone.
 //!
-//! The bytes of a body are moved from the order to the row, or to the copy that is written of it. A block is copied out
-//! of the body that it is a piece of, an inline body into and out of its row.
+//! The bytes of a put are moved from the order to the row. A block is copied out of the body that it is a piece of, an
+//! inline body into and out of its row. A get keeps the blocks that it reads, with their other owners; a copy joins them.
 #![tactic(auto)]
 
 mod begins;

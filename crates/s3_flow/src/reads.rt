@@ -12,7 +12,7 @@ use block_bytes::Block;
 use crdt_core::{Bytes, List, Memory, Value};
 use crdt_rows::{AnyRow, BlockRef, Meta, ObjectRow, Version};
 use flow_model::{Aim, Content, FlowEnd, FlowStep, Stage, Wish};
-use object_bytes::ObjectBytes;
+use object_bytes::{ObjectBytes, Pieces};
 use std::alloc::Global;
 use wire_messages::Phase;
 
@@ -23,7 +23,7 @@ fn found(
     aim: Aim,
     version: Version,
     meta: Meta,
-    body: Bytes,
+    body: Pieces,
 ) -> Result<FlowStep, Memory>
     ensures is { IfOk result (λ step. step ≡ found request.id request.block aim version meta body) }
     ensures want { OnlyWant result }
@@ -37,11 +37,11 @@ fn found(
         Aim::Head => Ok(FlowStep::End(FlowEnd::Found {
             version,
             meta,
-            body: Bytes::new(alloc),
+            body: Pieces::new(alloc),
         })),
         Aim::Copy { name, headers } => {
             let headers = headers.unwrap_or(meta.headers);
-            let body = ObjectBytes::new(body);
+            let body = ObjectBytes::new(body.into_bytes()?);
             let wish = Wish::Content(Content { body, headers });
             let phase = asks_for(alloc, &name)?;
             Ok(request.more(Stage::Drawing { name, wish }, phase))
@@ -61,7 +61,7 @@ fn reads_on(
     ensures want { OnlyWant result }
 {
     if let Aim::Head = aim {
-        return found(alloc, request, aim, version, meta, Bytes::new(alloc));
+        return found(alloc, request, aim, version, meta, Pieces::new(alloc));
     }
     let phase = opens(alloc, version)?;
     let stage = Stage::Opening { version, meta, aim };
@@ -82,9 +82,9 @@ fn reads_inline(
 {
     let meta = meta.copy()?;
     if let Aim::Head = aim {
-        return found(alloc, request, aim, version, meta, Bytes::new(alloc));
+        return found(alloc, request, aim, version, meta, Pieces::new(alloc));
     }
-    let body = body.copy()?;
+    let body = Pieces::from_bytes(body.copy()?);
     found(alloc, request, aim, version, meta, body)
 }
 
@@ -116,7 +116,7 @@ pub fn gathers(
     version: Version,
     meta: Meta,
     mut left: List<BlockRef>,
-    body: Bytes,
+    body: Pieces,
 ) -> Result<FlowStep, Memory>
     ensures is { IfOk result (λ step. step ≡ gathers request.id request.block aim version meta left body) }
     ensures want { OnlyWant result }
@@ -151,7 +151,7 @@ pub fn opened(
     match named_by(alloc, value, meta.size)? {
         Named::Unnamed => Ok(request.waits(Stage::Opening { version, meta, aim })),
         Named::Whole(blocks) => {
-            let body = Bytes::new(alloc);
+            let body = Pieces::new(alloc);
             gathers(alloc, request, aim, version, meta, blocks, body)
         }
         Named::Deleted => Ok(FlowStep::End(FlowEnd::Superseded(version.id))),
