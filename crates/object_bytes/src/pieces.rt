@@ -79,13 +79,6 @@ impl Pieces {
         Ok(bytes)
     }
 
-    /// The bytes that came at once, and the blocks after them.
-    pub fn parts(&self) -> (&[u8], &[Block])
-        ensures { result.0.now ++ concat result.1.now ≡ self.now }
-    {
-        (self.whole.as_slice(), self.blocks.as_slice())
-    }
-
     pub fn len(&self) -> usize
         ensures { result ≡ length self.now }
     {

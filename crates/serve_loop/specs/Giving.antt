@@ -1,5 +1,5 @@
 -- How far the answer to a get on its way is written.
-use Rattle.std.specs.Prelude.{◌≡◌, ⊥, ℕ, ◌≤◌, List, ◌++◌, Option, Some, None, Result, Ok, Err}
+use Rattle.std.specs.Prelude.{◌≡◌, ⊤, ⊥, ℕ, ◌≤◌, Bool, List, ◌++◌, Option, Some, None, Result, Ok, Err}
 use Rattle.lab_outside.specs.declared.ports.Failed.{Failed as LinkFailed}
 use Rattle.lab_outside.specs.Connection.{Connection, WritesWhole}
 use Rattle.lab_outside.specs.Rose.{Rose}
@@ -15,8 +15,10 @@ use Rattle.serve_model.specs.declared.answer.Answer.{Answer}
 use Rattle.serve_model.specs.declared.answer.Answer.TheVariants as answer
 use Rattle.serve_model.specs.declared.request.Request.{Request}
 use Rattle.serve_model.specs.Stores.{Given, IsFirstOf, given_with}
+use Rattle.serve_model.specs.declared.served.ServeFault.{ServeFault}
+use Rattle.serve_model.specs.declared.served.ServeFault.TheVariants.{Memory}
 use Rattle.serve_model.specs.Judging.{answer_to}
-use Rattle.serve_model.specs.Talk.{given_text, closes_of}
+use Rattle.serve_model.specs.Serving.{Says}
 use Rattle.serve_loop.specs.declared.giving.Progress.{Progress}
 use Rattle.serve_loop.specs.declared.giving.Progress.TheVariants.{Waiting, Refused, Writing, Failed}
 use Rattle.serve_loop.specs.Gets.{with_piece, with_given, GaveAll}
@@ -34,7 +36,7 @@ range_of _ = None
 -- the ask isn't a get
 abbrev pub IsNoGet : Ask → Type 0
 IsNoGet (ask.Get bucket key range) = ⊥
-IsNoGet _ = Unit
+IsNoGet _ = ⊤
 
 -- bytes were sent, and then an answer goes on with a portion of those to come; or a first part of them was, and no more
 data pub Sends (portion : Portion) (bytes : List ℕ) (progress : Progress) (c d : Connection) : Type 0 where
@@ -86,3 +88,8 @@ answer_at r (Some end) = answer_to r.ask end
 pub record ToldAll (so_far begun : Option Given) (end : Option FlowEnd) : Type 0 where
   pub first : IsFirstOf so_far (given_with (with_given so_far end) begun)
   pub all : GaveAll so_far (given_with (with_given so_far end) begun) end
+
+-- an answer was written, or not whole, as the link failed; or a first part of it is all, as memory was wanting
+pub data EndsWith (text : List ℕ) (close : Bool) (result : Result Bool ServeFault) (c d : Connection) : Type 0 where
+  says : Says text close result c d → EndsWith text close result c d
+  stops : result ≡ Err Memory → WrotePrefix c.written d.written text → c.faults ≤ d.faults → EndsWith text close result c d

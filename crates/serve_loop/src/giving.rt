@@ -8,9 +8,9 @@ ghost use Rattle.serve_model.specs.declared.served.Served.{Served};
 ghost use Rattle.serve_model.specs.declared.served.ServeFault.TheVariants.{Memory as Wanting};
 ghost use Rattle.serve_model.specs.Stores.{Given, known_from};
 ghost use Rattle.serve_model.specs.Talk.{Serving, kept_limit, given_text, closes_of, order_turn};
-ghost use Rattle.serve_model.specs.Serving.{HasState, Reached, Goes, Stands, SaysOn, ServesOn};
+ghost use Rattle.serve_model.specs.Serving.{HasState, Reached, Goes, Stands, ServesOn};
 ghost use Rattle.serve_loop.specs.Gets.{found_now, with_piece, with_given};
-ghost use Rattle.serve_loop.specs.Giving.{IsGetOf, Sends, IsAt, ToldAll, answer_at};
+ghost use Rattle.serve_loop.specs.Giving.{IsGetOf, Sends, HasWritten, IsAt, ToldAll, EndsWith, text_with, answer_at};
 
 use crate::saying::answer_end;
 use crate::storage::{Got, Storage};
@@ -92,20 +92,28 @@ fn write_piece<L: Link>(link: &mut L, progress: Progress, piece: &[u8]) -> Progr
     }
 }
 
-// The same of several pieces.
-fn write_pieces<L: Link>(link: &mut L, progress: Progress, pieces: &Pieces) -> Progress
+// Writes the rest of an object, and says whether the connection goes on.
+fn end_object<L: Link>(
+    link: &mut L,
+    request: &Request,
+    portion: Portion,
+    rest: Pieces,
+) -> Result<bool, ServeFault>
     requires { IsSome (L.present link.old) }
     ensures present { IsSome (L.present link.new) }
-    ensures written { (r : Asked) (range : Option AskedRange) (g : Given) (start : Option Connection) → OnPresent (IsAt r range progress (Some g)) start (L.present link.old) →
-        OnPresent (IsAt r range result (Some (with_piece g pieces.now))) start (L.present link.new) }
+    ensures ends { (range : Option AskedRange) (g : Given) (start : Option Connection) → OnPresent (HasWritten request.now range g portion) start (L.present link.old) →
+        OnPresent (EndsWith (text_with request.now range (with_piece g rest)) request.now.closes result) start (L.present link.new) }
+    ensures cause { IfErr result (λ e. e ≡ Wanting) }
     ensures stays { Stays (L.coming link.old) (L.coming link.new) (L.past link.old) (L.past link.new) (L.faults link.old) (L.faults link.new) }
 {
-    let (whole, blocks) = pieces.parts();
-    let mut progress = write_piece(link, progress, whole);
-    for block in blocks {
-        progress = write_piece(link, progress, block.as_slice());
+    let rest = match rest.into_bytes() {
+        Ok(rest) => rest,
+        Err(_) => return Err(ServeFault::Memory),
+    };
+    match write_piece(link, Progress::Writing(portion), rest.as_slice()) {
+        Progress::Writing(_) => Ok(!request.closes),
+        _ => Ok(false),
     }
-    progress
 }
 
 // Writes what is left of an answer whose get ended so, and says whether the connection goes on.
@@ -118,8 +126,8 @@ fn end_answer<L: Link>(
 ) -> Result<bool, ServeFault>
     requires { IsSome (L.present link.old) }
     ensures present { IsSome (L.present link.new) }
-    ensures says { (range : Option AskedRange) (so_far begun : Option Given) (start : Option Connection) → IsGetOf range request.now.ask → ToldAll so_far begun end → OnPresent (IsAt request.now range progress so_far) start (L.present link.old) →
-        (let a = answer_at request.now (with_given so_far end) in SaysOn (given_text request.now a begun) (closes_of request.now a) result start (L.present link.new)) }
+    ensures ends { (range : Option AskedRange) (so_far begun : Option Given) (start : Option Connection) → IsGetOf range request.now.ask → ToldAll so_far begun end → OnPresent (IsAt request.now range progress so_far) start (L.present link.old) →
+        (let a = answer_at request.now (with_given so_far end) in OnPresent (EndsWith (given_text request.now a begun) (closes_of request.now a) result) start (L.present link.new)) }
     ensures cause { IfErr result (λ e. e ≡ Wanting) }
     ensures stays { Stays (L.coming link.old) (L.coming link.new) (L.past link.old) (L.past link.new) (L.faults link.old) (L.faults link.new) }
 {
@@ -128,11 +136,8 @@ fn end_answer<L: Link>(
             Some(end) => answer_end(alloc, link, request, end),
             None => Ok(false),
         },
-        Progress::Writing(_) => match end {
-            Some(FlowEnd::Found { body, .. }) => match write_pieces(link, progress, &body) {
-                Progress::Writing(_) => Ok(!request.closes),
-                _ => Ok(false),
-            },
+        Progress::Writing(portion) => match end {
+            Some(FlowEnd::Found { body, .. }) => end_object(link, request, portion, body),
             _ => Ok(false),
         },
         Progress::Failed => Ok(false),
