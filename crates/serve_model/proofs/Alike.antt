@@ -35,7 +35,7 @@ split : {A : Type 0} (P : A → Type 0) (xs ys : List A) → AllByRecursion P (x
 split P [] ys h = (tt, h)
 split P (x ∷ xs) ys h = let k = split P xs ys h.1 in ((h.0, k.0), k.1)
 
-any : {A : Type 0} (xs : List A) → AllByRecursion (λ x. ⊤) xs
+pub any : {A : Type 0} (xs : List A) → AllByRecursion (λ x. ⊤) xs
 any [] = tt
 any (x ∷ xs) = (tt, any xs)
 
@@ -413,7 +413,7 @@ module _ {S T : Type 0} (one : Store S) (other : Store T) (Alike : S → T → T
           subst (λ (o : Order). other.gives k.asking.state k.asking.time o x) (sym a.other_asked) (answers.gives h.asking.state k.asking.state k.asking.time a.bucket a.key x a.store here)
 
       -- what is written in the middle of a get is what is written in the middle of one that is alike
-      into_alike : (d : Connection) (h : Halt S) (k : Halt T) → Halts h k → IsInto one buckets g May d h → IsInto other buckets g (λ a. ⊤) d k
+      pub into_alike : (d : Connection) (h : Halt S) (k : Halt T) → Halts h k → IsInto one buckets g May d h → IsInto other buckets g (λ a. ⊤) d k
       into_alike d h k a (x, gives, wrote, fit) = (
         x,
         gives_alike h k a x gives,

@@ -18,17 +18,21 @@ use Rattle.serve_model.specs.declared.admitted.Admitted.{Admitted}
 use Rattle.serve_model.specs.declared.buckets.Buckets.{Buckets}
 use Rattle.serve_model.specs.declared.request.Request.{Request}
 use Rattle.serve_model.specs.Admitting.{admitted}
-use Rattle.serve_model.specs.Stores.{Given, Store, Asking, IsFirstOf, GivesFirst, given_with, gives_asked}
+use Rattle.serve_model.specs.Stores.{Given, Store, Asking, IsFirstOf, given, given_with, gives_asked}
 use Rattle.serve_model.specs.Connections.{IsPrefixOf, GetLiesWithin}
 use Rattle.serve_model.specs.Judging.{refusal_of, counted_before, order_of, answer_to, counted_after}
 use Rattle.serve_model.specs.Talk.{Grammar, Serving, kept_limit, Next, goes, closes, exceeds, Halt, Turn, request_of, clocked, counted, behind_halt, passing, having_asked, exceeded, counting, given_turn, end_turn, order_turn, plan_turn, judged_turn, whole_turn, answer_turn, body_turn, waiting_turn, request_turn, asked_turn, head_turn, cut_turn, turn, Talk, go_on, talk, interim, begun_text}
 use Rattle.serve_model.proofs.Giving.{prefix_more, prefix_behind, given_lies}
 use Rattle.serve_model.proofs.Ones.{all_mapped}
 
-module _ {S : Type 0} (store : Store S) (first : GivesFirst store) where
-  -- of a text and of orders
-  abbrev Within : List ℕ → List (Asking S) → Halt S → Type 0
-  Within text asks h = ((g : Given) → gives_asked store h.asking g → IsPrefixOf (h.text ++ begun_text h.request (Some g)) text) × IsPrefixOf h.asks asks
+-- what may be given in the middle of a get is the first of what is given in all
+abbrev GivesFirst : {S : Type 0} → Store S → Type 0
+GivesFirst {S} store = (s : S) (time : ℕ) (bucket key : List ℕ) (g : Given) → store.gives s time (order.Get bucket key) g → IsFirstOf (Some g) (given (store.carries s time (order.Get bucket key)))
+
+module _ {S : Type 0} (store : Store S) where
+  -- of a text, where the store gives so, and of orders
+  abbrev pub Within : List ℕ → List (Asking S) → Halt S → Type 0
+  Within text asks h = (GivesFirst store → (g : Given) → gives_asked store h.asking g → IsPrefixOf (h.text ++ begun_text h.request (Some g)) text) × IsPrefixOf h.asks asks
 
   abbrev AllWithin : Turn S → Type 0
   AllWithin t = AllByRecursion (Within t.text t.asks) t.halts
@@ -41,8 +45,8 @@ module _ {S : Type 0} (store : Store S) (first : GivesFirst store) where
   behind_within text text' asks asks' halts h =
       all_mapped (Within text' asks') (Within (text ++ text') (asks ++ asks')) (behind_halt text asks)
       (λ x k. (
-        λ g gives.
-            subst (λ (front : List ℕ). IsPrefixOf front (text ++ text')) (sym (append_assoc text x.text (begun_text x.request (Some g)))) (prefix_behind text (x.text ++ begun_text x.request (Some g)) text' (k.0 g gives)),
+        λ first g gives.
+            subst (λ (front : List ℕ). IsPrefixOf front (text ++ text')) (sym (append_assoc text x.text (begun_text x.request (Some g)))) (prefix_behind text (x.text ++ begun_text x.request (Some g)) text' (k.0 first g gives)),
         prefix_behind asks x.asks asks' k.1,
       )) halts h
 
@@ -97,7 +101,7 @@ module _ {S : Type 0} (store : Store S) (first : GivesFirst store) where
     order_within : (o : Order) → AllWithin (order_turn store r o p rest)
     order_within (order.Get bucket key) =
         let c = store.carries p.store r.time (order.Get bucket key) in (
-          (λ g gives. lies_in_end r c.begun (record p { store = c.state }) rest may g r.ask c.end (first p.store r.time bucket key g gives), (asked (order.Get bucket key) ∷ (ended (order.Get bucket key)).asks, refl)),
+          (λ first g gives. lies_in_end r c.begun (record p { store = c.state }) rest may g r.ask c.end (first p.store r.time bucket key g gives), (asked (order.Get bucket key) ∷ (ended (order.Get bucket key)).asks, refl)),
           before (order.Get bucket key),
         )
     order_within (order.Put bucket key body headers) = before (order.Put bucket key body headers)
@@ -146,18 +150,26 @@ module _ {S : Type 0} (store : Store S) (first : GivesFirst store) where
       turn_within : (last : Bool) (p : Serving S) (bytes : List ℕ) → AllWithin (turn store buckets g last p bytes)
       turn_within last p bytes = cut_within last p (cut bytes)
 
-      go_on_within : (f : Serving S → List ℕ → Talk S) (t : Turn S) (n : Next) → AllWithin t → ((rest : List ℕ) → AllByRecursion (GetLiesWithin store (f t.serving rest)) (f t.serving rest).halts) → AllByRecursion (GetLiesWithin store (go_on f t n)) (go_on f t n).halts
+      abbrev AllIn : Talk S → Type 0
+      AllIn t = AllByRecursion (Within t.text t.asks) t.halts
+
+      go_on_within : (f : Serving S → List ℕ → Talk S) (t : Turn S) (n : Next) → AllWithin t → ((rest : List ℕ) → AllIn (f t.serving rest)) → AllIn (go_on f t n)
       go_on_within f t (goes rest) h later =
           let u = f t.serving rest in
           all_append (Within (t.text ++ u.text) (t.asks ++ u.asks)) t.halts (map (behind_halt t.text t.asks) u.halts)
-          (all_weaker (Within t.text t.asks) (Within (t.text ++ u.text) (t.asks ++ u.asks)) (λ s k. (λ g gives. prefix_more (s.text ++ begun_text s.request (Some g)) t.text u.text (k.0 g gives), prefix_more s.asks t.asks u.asks k.1)) t.halts h)
+          (all_weaker (Within t.text t.asks) (Within (t.text ++ u.text) (t.asks ++ u.asks)) (λ s k. (λ first g gives. prefix_more (s.text ++ begun_text s.request (Some g)) t.text u.text (k.0 first g gives), prefix_more s.asks t.asks u.asks k.1)) t.halts h)
           (behind_within t.text u.text t.asks u.asks u.halts (later rest))
       go_on_within f t closes h later = h
       go_on_within f t exceeds h later = h
 
-      pub talk_within : (count : ℕ) (p : Serving S) (bytes : List ℕ) → AllByRecursion (GetLiesWithin store (talk store buckets g count p bytes)) (talk store buckets g count p bytes).halts
+      pub talk_within : (count : ℕ) (p : Serving S) (bytes : List ℕ) → AllIn (talk store buckets g count p bytes)
       unfolding talk
       talk_within zero p bytes = tt
       talk_within (suc more) p bytes =
           let t = turn store buckets g (more == 0) p bytes in
           go_on_within (talk store buckets g more) t t.next (turn_within (more == 0) p bytes) (λ rest. talk_within more t.serving rest)
+
+      -- so it is over a store that gives in the middle of a get the first of what it gives in all
+      pub gets_within : GivesFirst store → (count : ℕ) (p : Serving S) (bytes : List ℕ) → (let t = talk store buckets g count p bytes in AllByRecursion (GetLiesWithin store t) t.halts)
+      gets_within first count p bytes =
+          let t = talk store buckets g count p bytes in all_weaker (Within t.text t.asks) (GetLiesWithin store t) (λ h k. (k.0 first, k.1)) t.halts (talk_within count p bytes)

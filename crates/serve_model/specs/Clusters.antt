@@ -1,5 +1,5 @@
 -- The cluster as a store: a request is a list of acts.
-use Rattle.std.specs.Prelude.{◌≡◌, ℕ, ◌-◌, max, Option, Some, None, List, [], ◌∷◌, ◌++◌, map}
+use Rattle.std.specs.Prelude.{◌≡◌, ◌≤◌, ℕ, ◌-◌, max, Option, Some, None, List, [], ◌∷◌, ◌++◌, map}
 use Rattle.std.specs.Option.{option_map}
 use Rattle.crdt_rows.specs.declared.version.Version.{Version}
 use Rattle.crdt_rows.specs.declared.body.Meta.{Meta}
@@ -128,6 +128,7 @@ acts_at c time order = acts_of_request c.members c.run (wait c time) order
 pub record GivesSoFar (c : Cluster) (time : ℕ) (order : Order) (g : Given) : Type 0 where
   pub before : List Act
   pub count : ℕ
+  pub few : count ≤ all_messages
   pub later : List Act
   pub parts : acts_to_ask c.members (wait c time) order ++ acts_to_end c.members ≡ before ++ drain all_messages ∷ later
   pub lawful : AreLawfulActs c.run (before ++ drain count ∷ [])

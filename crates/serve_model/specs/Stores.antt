@@ -4,7 +4,6 @@ use Rattle.std.specs.List.{Contains}
 use Rattle.crdt_rows.specs.declared.version.Version.{Version}
 use Rattle.crdt_rows.specs.declared.body.Meta.{Meta}
 use Rattle.flow_model.specs.declared.order.Order.{Order}
-use Rattle.flow_model.specs.declared.order.Order.TheVariants.{Get}
 use Rattle.flow_model.specs.declared.flow.FlowEnd.{FlowEnd}
 use Rattle.flow_model.specs.declared.flow.FlowEnd.TheVariants.{Found, Nothing}
 
@@ -57,10 +56,6 @@ pub record Known (S : Type 0) : Type 1 where
   pub overflows : List (Asking S) → Type 0
 
 module _ {S : Type 0} (store : Store S) where
-  -- what may be given in the middle of a get is the first of what is given in all
-  abbrev pub GivesFirst : Type 0
-  GivesFirst = (s : S) (time : ℕ) (bucket key : List ℕ) (g : Given) → store.gives s time (Get bucket key) g → IsFirstOf (Some g) (given (store.carries s time (Get bucket key)))
-
   -- an order that is asked may give so much in the middle of it
   abbrev pub gives_asked : Asking S → Given → Type 0
   gives_asked a g = store.gives a.state a.time a.order g

@@ -42,6 +42,24 @@ fn marker_below_upload(rt: HostRuntime) -> Result<(), Fail> {
     Ok(())
 }
 
+#[test]
+fn aborted_versions_have_no_timestamp(rt: HostRuntime) -> Result<(), Fail> {
+    let aborted = Made::Object(b"a", 9, 4, Shape::Aborted);
+    for (first, others, count, greatest) in [
+        (aborted, &[INLINE][..], 2, 6),
+        (aborted, &[UPLOAD], 2, 5),
+        (aborted, &[UPLOAD, MARKER], 3, 5),
+        (aborted, &[Made::Object(b"a", 7, 5, Shape::Aborted)], 2, 0),
+    ] {
+        let AnyRow::Object(row) = merged(rt.alloc(), first, others)? else {
+            return Err("no object".into());
+        };
+        assert_eq!(rt; row.get().versions.len(), count);
+        assert_eq!(rt; row.get().greatest_ts(), greatest);
+    }
+    Ok(())
+}
+
 // Whether the three are the last one, merged in this order and in the opposite one.
 fn merge_to(
     alloc: Global,
