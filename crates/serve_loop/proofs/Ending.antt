@@ -29,7 +29,7 @@ use Rattle.serve_loop.specs.declared.giving.Progress.{Progress}
 use Rattle.serve_loop.specs.declared.giving.Progress.TheVariants.{Waiting, Refused, Writing, Failed}
 use Rattle.serve_loop.specs.Gets.{with_piece, with_given}
 use Rattle.serve_loop.specs.Giving.{IsGetOf, text_with, HasRefused, HasWritten, HasFailed, IsAt, EndsWith, answer_at, ToldAll}
-use Rattle.serve_loop.proofs.Giving.{longer}
+use Rattle.serve_loop.proofs.Writing.{longer}
 
 -- ---- with what a get is answered
 

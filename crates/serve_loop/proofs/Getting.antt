@@ -14,14 +14,14 @@ use Rattle.serve_model.specs.declared.request.Request.{Request}
 use Rattle.serve_model.specs.declared.served.Served.{Served}
 use Rattle.serve_model.specs.declared.served.ServeFault.{ServeFault}
 use Rattle.serve_model.specs.Faults.{fault_of}
-use Rattle.serve_model.specs.Stores.{Given, Store, Asking, known_from, OverflowsAmong}
+use Rattle.serve_model.specs.Stores.{Given, Store, Asking, IsFirstOf, given, given_with, known_from, OverflowsAmong}
 use Rattle.serve_model.specs.Judging.{counted_after}
 use Rattle.serve_model.specs.Talk.{Serving, begun_text, given_text, closes_of, kept_limit, order_turn}
 use Rattle.serve_model.specs.Serving.{CarriedOut, Reached, GivesUp, Stands, given_up, halted, Serves, ServesOn, OnLeft}
 use Rattle.serve_loop.specs.declared.giving.Progress.{Progress}
 use Rattle.serve_loop.specs.declared.giving.Progress.TheVariants.{Waiting, Refused, Writing, Failed}
-use Rattle.serve_loop.specs.Gets.{MayGive}
-use Rattle.serve_loop.specs.Giving.{IsGetOf, IsAt, EndsWith, text_with, answer_at}
+use Rattle.serve_loop.specs.Gets.{MayGive, with_given, GaveAll}
+use Rattle.serve_loop.specs.Giving.{IsGetOf, IsAt, EndsWith, ToldAll, text_with, answer_at}
 use Rattle.serve_loop.proofs.Serving.{on_left}
 use Rattle.serve_loop.proofs.Carrying.{carried_unanswered, carried_answered, gives_asked}
 use Rattle.serve_loop.proofs.Ending.{begun_is}
@@ -55,6 +55,26 @@ module _ {S : Type 0} (store : Store S) (fits lacks : S → ℕ → Order → Ty
       let none : 0 ≡ counted_after r.ask end = sym (ap (λ a. counted_after a end) asked.2) in
       carried_answered store fits lacks holds holds' r (Get bucket key) times kept p served st served result o n end 0 f none (omega arith) refl (omega (arith, within)) ends
 
+  -- what it gave and told is all that it gives
+  told_all : (so_far : Option Given) (end : Option FlowEnd) → with_given so_far end ≡ (store.carries p.store r.time (Get bucket key)).end → IsFirstOf so_far (given (store.carries p.store r.time (Get bucket key))) → GaveAll so_far (given (store.carries p.store r.time (Get bucket key))) end
+      → ToldAll so_far (store.carries p.store r.time (Get bucket key)).begun end
+  told_all so_far end same first all =
+      let c = store.carries p.store r.time (Get bucket key) in
+      let P : Option FlowEnd → Type 0 = λ x. IsFirstOf so_far (given_with x c.begun) in
+      let Q : Option FlowEnd → Type 0 = λ x. GaveAll so_far (given_with x c.begun) end in
+      record { first = subst P (sym same) first; all = subst Q (sym same) all }
+
+  -- it ended, and what was left of its answer was written
+  pub got_end : (within : served.kept ≤ kept_limit) (result : Result Bool ServeFault) (o m n : Option Connection) (progress : Progress) (so_far : Option Given) (end : Option FlowEnd)
+      → ((s : S) → holds s → CarriedOut store fits lacks holds' s r.time (Get bucket key) (with_given so_far end) × GaveAll so_far (given (store.carries s r.time (Get bucket key))) end)
+      → IsFirstOf so_far (given (store.carries p.store r.time (Get bucket key))) → OnPresent (IsAt r range progress so_far) o m
+      → ((range : Option Range) (so_far begun : Option Given) (start : Option Connection) → IsGetOf range r.ask → ToldAll so_far begun end → OnPresent (IsAt r range progress so_far) start m
+          → (let a = answer_at r (with_given so_far end) in OnPresent (EndsWith (given_text r a begun) (closes_of r a) result) start n))
+      → ServesOn (λ left. order_turn store r (Get bucket key) p (kept ++ left)) (Reached store fits lacks holds' p.store) (known_from store fits lacks p.store) times served result kept o n
+  got_end within result o m n progress so_far end gives first at ends =
+      let here = gives p.store st.store in
+      got_answered within result o n (with_given so_far end) (λ s st. (gives s st).0) (ends range so_far (store.carries p.store r.time (Get bucket key)).begun o asked (told_all so_far end here.0.end_is first here.1) at)
+
   -- serving is given up in it
   gives_up_at : (e : ServeFault) (progress : Progress) (so_far : Option Given) (left : List ℕ) (c d : Connection) → GivesUp (OverflowsAmong store fits lacks p.store) (order_turn store r (Get bucket key) p (kept ++ left)).asks e
       → MayGive store p.store r.time (Get bucket key) so_far → IsAt r range progress so_far c d
@@ -75,6 +95,6 @@ module _ {S : Type 0} (store : Store S) (fits lacks : S → ℕ → Order → Ty
 
 -- ---- why a call gave up
 
-because : (m : Wanting) (P Q : Type 0) → (P → Q) → (m ≡ Want) ⊎ ((m ≡ Full) × P) → (m ≡ Want) ⊎ ((m ≡ Full) × Q)
+pub because : (m : Wanting) (P Q : Type 0) → (P → Q) → (m ≡ Want) ⊎ ((m ≡ Full) × P) → (m ≡ Want) ⊎ ((m ≡ Full) × Q)
 because m P Q f (inl e) = inl e
 because m P Q f (inr h) = inr (h.0, f h.1)

@@ -4,7 +4,7 @@ pub mod Bodies
 pub mod Heads
 pub mod Keys
 pub mod Carrying
-pub mod Giving
+pub mod Writing
 pub mod Ending
 pub mod Getting
 pub mod Talking
