@@ -36,7 +36,7 @@ use Rattle.store_model.specs.Run.{State, Outcome, Asked, plainly, are_buckets, d
 use Rattle.store_model.specs.Acts.{Act, moves, installs, asks, delivery, drain, forgets, takes, adds, cuts, ActsFit, acted, after_acts, end_of, all_messages}
 use Rattle.store_model.specs.Gets.{stage_of}
 use Rattle.serve_model.specs.Stores.{Given, Carried, IsFirstOf, given_with, given}
-use Rattle.serve_model.specs.Clusters.{Cluster, cluster, wait, acts_to_ask, works, round, acts_to_end, number_in, given_by, asking, GivesSoFar}
+use Rattle.serve_model.specs.Clusters.{Cluster, cluster, wait, works, round, number_in, given_by}
 use Rattle.serve_model.specs.Plain.{Has, never, deleted, object, Plain, has_at, row_of, at_time, counted, tells, with_object, answered, plain}
 use Rattle.get_laws.specs.OnTheWay.{LeavesEnd}
 use Rattle.get_laws.proofs.Firsts.{first_same, first_through}

@@ -13,7 +13,7 @@ use Rattle.serve_model.specs.Talk.{Grammar, Serving, Next, goes, closes, exceeds
 use Rattle.serve_model.specs.Connections.{IsPrefixOf, LiesWithin, GetLiesWithin, IsUpTo, IsInto, EndsSo, too_many, begun, halted, AreServed, stated}
 use Rattle.serve_model.proofs.Alike.{any, AnswerAlike, Serves, Halts, AllMeant, talk_alike, into_alike, served_alike}
 use Rattle.serve_model.proofs.Giving.{prefix_all}
-use Rattle.serve_model.proofs.Halting.{talk_within}
+use Rattle.serve_model.proofs.Halting.{gets_within}
 use Rattle.serve_model.proofs.Within.{talk_within as stops_within}
 use Rattle.serve_model.proofs.Ones.{one_at, at_all}
 
@@ -97,7 +97,7 @@ module _ {S : Type 0} (store : Store S) (Such : S → Type 0) (May : Asking S �
           let k = at_all (λ (x : Halt S). AllByRecursion May x.asks → OneOf (Halts store (in_whole store) Same May Any answers x) u.halts) t.halts at.0 at.1.0 alike at.1.1.3 in
           let to = one_at (Halts store (in_whole store) Same May Any answers at.0) u.halts k in
           let there = into_alike store (in_whole store) Same May Any answers buckets g d at.0 to.0 to.1.1 at.1.1 in
-          let lies = at_all (GetLiesWithin (in_whole store) u) u.halts to.0 to.1.0 (talk_within (in_whole store) (λ s time bucket key g h. h) buckets g request_limit p bytes) in
+          let lies = at_all (GetLiesWithin (in_whole store) u) u.halts to.0 to.1.0 (gets_within (in_whole store) buckets g (λ s time bucket key g h. h) request_limit p bytes) in
           subst IsPart (ap (λ (x : Talk S). x.text) (same_talk request_limit p bytes)) (part_through (to.0.text ++ begun_text to.0.request (Some there.0)) u.text (lies.0 there.0 there.1) there.2)
 
       pub ended_in_part : (fault : ServeFault) → EndsSo store buckets g May overflows t d fault → IsPart t.text

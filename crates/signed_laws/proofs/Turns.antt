@@ -1,6 +1,6 @@
 -- What is asked and written for one request where keys are configured.
-use Rattle.std.proofs.Common.{◌≡◌, ◌≤◌, ◌<◌, ◌⊎◌, inl, inr, ℕ, ◌+◌, Bool, true, false, nat_le, nat_lt, if◌then◌else◌, Option, Some, None, Result, Ok, Err, List, [], ◌∷◌, ◌++◌, length, take, drop, codes, refl, sym, ap, ◌∙◌, subst, append-nil}
-use Rattle.std.proofs.lemmas.Bool.{ltb-true, leb-true}
+use Rattle.std.proofs.Common.{◌≡◌, ◌≤◌, ℕ, ◌+◌, Bool, true, false, nat_le, nat_lt, if◌then◌else◌, Option, Some, None, Result, Ok, Err, List, [], ◌∷◌, ◌++◌, length, take, drop, codes, refl, sym, ap, ◌∙◌, append-nil}
+use Rattle.std.proofs.lemmas.Bool.{leb-true}
 use Rattle.std.specs.List.{AllByRecursion}
 use Rattle.flow_model.specs.declared.order.Order.{Order}
 use Rattle.flow_model.specs.declared.order.Order.TheVariants as order
@@ -22,7 +22,7 @@ use Rattle.serve_model.specs.declared.request.Request.{Request}
 use Rattle.serve_model.specs.Admitting.{admitted}
 use Rattle.serve_model.specs.Stores.{Given, Store, Asking}
 use Rattle.serve_model.specs.Judging.{refusal_of, counted_before, order_of, reply_without, answer_to, counted_after}
-use Rattle.serve_model.specs.Talk.{Grammar, Serving, kept_limit, Halt, Turn, request_of, path_shown, clocked, counted, counting, exceeded, interim, text_of, begun_text, head_refusal, answer_turn, given_turn, end_turn, behind_halt, having_asked, halts_of, order_turn, plan_turn, judged_turn, whole_turn, body_turn, waiting_turn, request_turn, asked_turn, head_turn, cut_turn, turn}
+use Rattle.serve_model.specs.Talk.{Grammar, Serving, kept_limit, Halt, Turn, request_of, path_shown, clocked, counted, counting, exceeded, interim, text_of, begun_text, answer_turn, given_turn, end_turn, behind_halt, having_asked, halts_of, plan_turn, judged_turn, whole_turn, body_turn, waiting_turn, request_turn, asked_turn, head_turn, cut_turn, turn}
 use Rattle.signed_laws.specs.Allowed.{IsAllowed, IsAdmitted, IsRequest, IsAsked, IsSaid, nothing, head_refused, unanswered, refused, replied, got, IsGot}
 use Rattle.serve_model.proofs.Ones.{all_mapped}
 use Rattle.signed_laws.proofs.Admitted.{allowed}
