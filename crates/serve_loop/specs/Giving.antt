@@ -39,7 +39,7 @@ IsNoGet (ask.Get bucket key range) = ⊥
 IsNoGet _ = ⊤
 
 -- bytes were sent, and then an answer goes on with a portion of those to come; or a first part of them was, and no more
-data pub Sends (portion : Portion) (bytes : List ℕ) (progress : Progress) (c d : Connection) : Type 0 where
+pub data Sends (portion : Portion) (bytes : List ℕ) (progress : Progress) (c d : Connection) : Type 0 where
   sent : progress ≡ Writing portion → WritesWhole {E = LinkFailed} (Ok tt) bytes c d → Sends portion bytes progress c d
   unsent : (failed : LinkFailed) → progress ≡ Failed → WritesWhole (Err failed) bytes c d → Sends portion bytes progress c d
 
