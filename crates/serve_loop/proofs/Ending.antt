@@ -1,5 +1,5 @@
 -- What is written when a get has ended.
-use Rattle.std.proofs.Common.{◌≡◌, ℕ, Bool, true, false, Option, Some, None, option_map, List, [], ◌++◌, Result, Ok, Err, refl, sym, ap, ◌∙◌, subst, arith}
+use Rattle.std.proofs.Common.{◌≡◌, ◌⊎◌, inl, inr, ℕ, Bool, true, false, Option, Some, None, option_map, List, [], ◌++◌, Result, Ok, Err, refl, sym, ap, ◌∙◌, subst, arith}
 use Rattle.lab_outside.specs.Connection.{Connection, OnPresent}
 use Rattle.lab_outside.specs.Bytes.{Wrote}
 use Rattle.lab_outside.proofs.Bytes.{wrote_none}
@@ -33,19 +33,32 @@ use Rattle.serve_loop.proofs.Writing.{longer}
 
 -- ---- with what a get is answered
 
+-- the portion of a span
+abbrev portion_at : Option (ℕ × ℕ) → Option Portion
+portion_at o = option_map (λ (span : ℕ × ℕ). record { skip = span.0; count = Some (count_of span) }) o
+
 -- an object whose range isn't one of it is refused
-none_refused : (o : Option (ℕ × ℕ)) (version : Version) (meta : Meta) (body : List ℕ) → option_map (λ (span : ℕ × ℕ). record { skip = span.0; count = Some (count_of span) }) o ≡ None {A = Portion}
+none_refused : (o : Option (ℕ × ℕ)) (version : Version) (meta : Meta) (body : List ℕ) → portion_at o ≡ None
     → elim o as (λ o. Answer) [ None ↦ answer.Refusal InvalidRange | Some span ↦ answer.Reply (reply.Found version meta body) ] ≡ answer.Refusal InvalidRange
 none_refused None version meta body e = refl
-none_refused (Some span) version meta body e = absurd cc
+none_refused (Some span) version meta body e = absurd (some_is_none (record { skip = span.0; count = Some (count_of span) }) e)
+  where
+    some_is_none : (p : Portion) → Some p ≡ None → ⊥
+    some_is_none p e = cc
 
-some_found : (o : Option (ℕ × ℕ)) (p : Portion) (version : Version) (meta : Meta) (body : List ℕ) → option_map (λ (span : ℕ × ℕ). record { skip = span.0; count = Some (count_of span) }) o ≡ Some p
+some_found : (o : Option (ℕ × ℕ)) (p : Portion) (version : Version) (meta : Meta) (body : List ℕ) → portion_at o ≡ Some p
     → elim o as (λ o. Answer) [ None ↦ answer.Refusal InvalidRange | Some span ↦ answer.Reply (reply.Found version meta body) ] ≡ answer.Reply (reply.Found version meta body)
-some_found None p version meta body e = absurd cc
+some_found None p version meta body e = absurd (none_is_some p e)
+  where
+    none_is_some : (p : Portion) → None ≡ Some p → ⊥
+    none_is_some p e = cc
 some_found (Some span) p version meta body e = refl
 
 is_refused : (range : Option Range) (version : Version) (meta : Meta) (body : List ℕ) → portion_of range meta.size ≡ None → found range version meta body ≡ answer.Refusal InvalidRange
-is_refused None version meta body e = absurd cc
+is_refused None version meta body e = absurd (some_is_none (record { skip = 0; count = None }) e)
+  where
+    some_is_none : (p : Portion) → Some p ≡ None → ⊥
+    some_is_none p e = cc
 is_refused (Some range) version meta body e = none_refused (span_of range meta.size) version meta body e
 
 is_found : (range : Option Range) (p : Portion) (version : Version) (meta : Meta) (body : List ℕ) → portion_of range meta.size ≡ Some p → found range version meta body ≡ answer.Reply (reply.Found version meta body)
@@ -61,9 +74,9 @@ on_present_two A B T (Some c) (Some d) None f h k = absurd k
 on_present_two A B T (Some c) (Some d) (Some e) f h k = f c d e h k
 
 on_never : (A T : Connection → Connection → Type 0) (o m n : Option Connection) → ((c d : Connection) → A c d → ⊥) → OnPresent A o m → OnPresent T o n
-on_never A T None m n no h = tt
-on_never A T (Some c) None n no h = absurd h
-on_never A T (Some c) (Some d) n no h = absurd (no c d h)
+on_never A T None m n never h = tt
+on_never A T (Some c) None n never h = absurd h
+on_never A T (Some c) (Some d) n never h = absurd (never c d h)
 
 -- ---- an answer
 
@@ -119,7 +132,7 @@ module _ (r : Request) (range : Option Range) (asked : IsGetOf range r.ask) wher
     waited (Listed rows) c d told says = let a = answer_to r.ask (Listed rows) in replied had result c d a (ap (given_text r a) (sym told.all) ∙ none_given r a) says
     waited (Superseded id) c d told says = let a = answer_to r.ask (Superseded id) in replied had result c d a (ap (given_text r a) (sym told.all) ∙ none_given r a) says
 
-    pub waiting_says : (so_far : Option Given) (end : FlowEnd) (c d f : Connection) → ToldAll so_far had (Some end) → IsAt r range Waiting so_far c d → Replies had result d f (answer_to r.ask end)
+    waiting_says : (so_far : Option Given) (end : FlowEnd) (c d f : Connection) → ToldAll so_far had (Some end) → IsAt r range Waiting so_far c d → Replies had result d f (answer_to r.ask end)
         → Answers had result c f (answer_at r (with_given so_far (Some end)))
     waiting_says None end c d f told at says = let P : Connection → Type 0 = λ x. Replies had result x f (answer_to r.ask end) in waited end c f told (subst P at says)
     waiting_says (Some g) end c d f told at says = absurd at
@@ -144,31 +157,41 @@ module _ (r : Request) (range : Option Range) (asked : IsGetOf range r.ask) wher
     refused g (Listed rows) c d told none says = silent g (answer_to r.ask (Listed rows)) c d told.all (answer_is (Listed rows)) none says
     refused g (Superseded id) c d told none says = silent g (answer_to r.ask (Superseded id)) c d told.all (answer_is (Superseded id)) none says
 
-    pub refused_says : (so_far : Option Given) (end : FlowEnd) (c d f : Connection) → ToldAll so_far had (Some end) → IsAt r range Refused so_far c d → Replies had result d f (answer_to r.ask end)
+    refused_says : (so_far : Option Given) (end : FlowEnd) (c d f : Connection) → ToldAll so_far had (Some end) → IsAt r range Refused so_far c d → Replies had result d f (answer_to r.ask end)
         → Answers had result c f (answer_at r (with_given so_far (Some end)))
     refused_says None end c d f told at says = absurd at
     refused_says (Some g) end c d f told at says =
         let P : Connection → Type 0 = λ x. Replies had result x f (answer_to r.ask end) in
         refused g end c f told at.none (subst P at.unwritten says)
 
+    -- nothing was written before it ended
+    waiting_ends : (so_far : Option Given) (end : Option FlowEnd) (c d f : Connection) → ToldAll so_far had end → IsAt r range Waiting so_far c d → Replies had result d f (answer_at r end) → Answers had result c f (answer_at r (with_given so_far end))
+    waiting_ends so_far (Some end) c d f told at says = waiting_says so_far end c d f told at says
+    waiting_ends None None c d f told at says =
+        let P : Connection → Type 0 = λ x. Replies had result x f answer.Nothing in
+        replied had result c f answer.Nothing (ap (begun_text r) (sym told.all)) (subst P at says)
+    waiting_ends (Some g) None c d f told at says = absurd at
+
+    refused_ends : (so_far : Option Given) (end : Option FlowEnd) (c d f : Connection) → ToldAll so_far had end → IsAt r range Refused so_far c d → Replies had result d f (answer_at r end) → Answers had result c f (answer_at r (with_given so_far end))
+    refused_ends so_far (Some end) c d f told at says = refused_says so_far end c d f told at says
+    refused_ends None None c d f told at says = absurd at
+    refused_ends (Some g) None c d f told at says =
+        let P : Connection → Type 0 = λ x. Replies had result x f answer.Nothing in
+        silent g answer.Nothing c f told.all refl at.none (subst P at.unwritten says)
+
+    pub unwritten_ends : (progress : Progress) (so_far : Option Given) (end : Option FlowEnd) (c d f : Connection) → (progress ≡ Waiting) ⊎ (progress ≡ Refused) → ToldAll so_far had end → IsAt r range progress so_far c d → Replies had result d f (answer_at r end)
+        → Answers had result c f (answer_at r (with_given so_far end))
+    unwritten_ends Waiting so_far end c d f which told at says = waiting_ends so_far end c d f told at says
+    unwritten_ends Refused so_far end c d f which told at says = refused_ends so_far end c d f told at says
+    unwritten_ends (Writing portion) so_far end c d f (inl e) told at says = cc
+    unwritten_ends (Writing portion) so_far end c d f (inr e) told at says = cc
+    unwritten_ends Failed so_far end c d f (inl e) told at says = cc
+    unwritten_ends Failed so_far end c d f (inr e) told at says = cc
+
   module _ (had : Option Given) where
     -- the same, or a first part of it as memory was wanting
     abbrev pub Ends : Result Bool ServeFault → Connection → Connection → Answer → Type 0
     Ends result c d a = EndsWith (given_text r a had) (closes_of r a) result c d
-
-    nothing_said : (c d : Connection) → d ≡ c → Says [] true (Ok false) c d
-    nothing_said c d same = let P : Connection → Type 0 = λ x. Says [] true (Ok false) c x in subst P (sym same) (said refl (wrote_none c.written) refl (omega arith))
-
-    -- it didn't end
-    pub waiting_silent : (so_far : Option Given) (c d : Connection) → ToldAll so_far had None → IsAt r range Waiting so_far c d → Answers had (Ok false) c d answer.Nothing
-    waiting_silent None c d told at =
-        let P : List ℕ → Type 0 = λ text. Says text true (Ok false) c d in
-        subst P (ap (begun_text r) told.all) (nothing_said c d at)
-    waiting_silent (Some g) c d told at = absurd at
-
-    pub refused_silent : (so_far : Option Given) (c d : Connection) → ToldAll so_far had None → IsAt r range Refused so_far c d → Answers had (Ok false) c d answer.Nothing
-    refused_silent None c d told at = absurd at
-    refused_silent (Some g) c d told at = silent had (Ok false) g answer.Nothing c d told.all refl at.none (nothing_said c d at.unwritten)
 
     -- what was written is all that it gave
     written_silent : (g : Given) (portion : Portion) (a : Answer) (c d : Connection) → Some g ≡ had → a ≡ answer.Nothing → HasWritten r range g portion c d → Answers had (Ok false) c d a

@@ -19,6 +19,7 @@ use Rattle.serve_model.specs.declared.served.ServeFault.TheVariants.{Memory}
 use Rattle.serve_model.specs.Serving.{said, cut_short}
 use Rattle.serve_model.proofs.Giving.{first_got}
 use Rattle.serve_loop.specs.declared.giving.Progress.{Progress}
+use Rattle.serve_loop.specs.declared.giving.Progress.TheVariants.{Waiting, Refused, Writing, Failed}
 use Rattle.serve_loop.specs.Gets.{found_now, with_piece}
 use Rattle.serve_loop.specs.Giving.{Sends, sent, unsent, text_with, HasRefused, HasWritten, HasFailed, IsAt, EndsWith, says, stops}
 
@@ -93,11 +94,18 @@ module _ (r : Request) (range : Option Range) where
         })
 
     -- nothing more is written
-    pub still_refused : (c d : Connection) → HasRefused r range g c d → HasRefused r range (with_piece g piece) c d
+    still_refused : (c d : Connection) → HasRefused r range g c d → HasRefused r range (with_piece g piece) c d
     still_refused c d h = record { none = h.none; unwritten = h.unwritten }
 
-    pub still_failed : (c d : Connection) → HasFailed r range g c d → HasFailed r range (with_piece g piece) c d
+    still_failed : (c d : Connection) → HasFailed r range g c d → HasFailed r range (with_piece g piece) c d
     still_failed c d h = record { part = longer c.written d.written (text_with r range g) (text_with r range (with_piece g piece)) (text_more g piece) h.part; rose = h.rose; counted = h.counted }
+
+    -- so it is in each case but one
+    pub still : (progress : Progress) (c d : Connection) → ((portion : Portion) → progress ≡ Writing portion → ⊥) → IsAt r range progress (Some g) c d → IsAt r range progress (Some (with_piece g piece)) c d
+    still Waiting c d other at = absurd at
+    still Refused c d other at = still_refused c d at
+    still (Writing portion) c d other at = absurd (other portion refl)
+    still Failed c d other at = still_failed c d at
 
   -- ---- the rest of an object
 
@@ -109,12 +117,19 @@ module _ (r : Request) (range : Option Range) where
     pub rest_written : (later : Portion) (close : Bool) (c d : Connection) → HasWritten r range (with_piece g rest) later c d → EndsWith (text_with r range (with_piece g rest)) close (Ok (not close)) c d
     rest_written later close c d w = says (said refl w.wrote w.unread w.counted)
 
-    pub rest_failed : (close : Bool) (c d : Connection) → HasFailed r range (with_piece g rest) c d → EndsWith (text_with r range (with_piece g rest)) close (Ok false) c d
+    rest_failed : (close : Bool) (c d : Connection) → HasFailed r range (with_piece g rest) c d → EndsWith (text_with r range (with_piece g rest)) close (Ok false) c d
     rest_failed close c d h = says (cut_short refl h.part h.rose)
 
     -- a range is one of the object or it isn't
-    pub not_both : (T : Type 0) (c d f : Connection) → HasWritten r range g portion c d → HasRefused r range (with_piece g rest) c f → T
+    not_both : (T : Type 0) (c d f : Connection) → HasWritten r range g portion c d → HasRefused r range (with_piece g rest) c f → T
     not_both T c d f w h = absurd (some_is_none w.whole (sym w.some ∙ h.none))
       where
         some_is_none : (p : Portion) → Some p ≡ None → ⊥
         some_is_none p e = cc
+
+    pub rest_unwritten : (progress : Progress) (close : Bool) (c d f : Connection) → ((later : Portion) → progress ≡ Writing later → ⊥) → HasWritten r range g portion c d → IsAt r range progress (Some (with_piece g rest)) c f
+        → EndsWith (text_with r range (with_piece g rest)) close (Ok false) c f
+    rest_unwritten Waiting close c d f other w at = absurd at
+    rest_unwritten Refused close c d f other w at = not_both (EndsWith (text_with r range (with_piece g rest)) close (Ok false) c f) c d f w at
+    rest_unwritten (Writing later) close c d f other w at = absurd (other later refl)
+    rest_unwritten Failed close c d f other w at = rest_failed close c f at

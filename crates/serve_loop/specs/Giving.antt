@@ -1,5 +1,5 @@
 -- How far the answer to a get on its way is written.
-use Rattle.std.specs.Prelude.{◌≡◌, ⊤, ⊥, ℕ, ◌≤◌, Bool, List, ◌++◌, Option, Some, None, Result, Ok, Err}
+use Rattle.std.specs.Prelude.{◌≡◌, ⊤, ℕ, ◌≤◌, Bool, List, ◌++◌, Option, Some, None, Result, Ok, Err}
 use Rattle.lab_outside.specs.declared.ports.Failed.{Failed as LinkFailed}
 use Rattle.lab_outside.specs.Connection.{Connection, WritesWhole}
 use Rattle.lab_outside.specs.Rose.{Rose}

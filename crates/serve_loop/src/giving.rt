@@ -7,8 +7,8 @@ ghost use Rattle.serve_model.specs.declared.request.Request.{Request as Asked};
 ghost use Rattle.serve_model.specs.declared.served.Served.{Served};
 ghost use Rattle.serve_model.specs.declared.served.ServeFault.TheVariants.{Memory as Wanting};
 ghost use Rattle.serve_model.specs.Stores.{Given, known_from};
-ghost use Rattle.serve_model.specs.Talk.{Serving, kept_limit, given_text, closes_of, order_turn};
-ghost use Rattle.serve_model.specs.Serving.{HasState, Reached, Goes, Stands, ServesOn};
+ghost use Rattle.serve_model.specs.Talk.{Serving, kept_limit, text_of, given_text, closes_of, order_turn};
+ghost use Rattle.serve_model.specs.Serving.{HasState, Reached, Goes, Stands, SaysOn, ServesOn};
 ghost use Rattle.serve_loop.specs.Gets.{found_now, with_piece, with_given};
 ghost use Rattle.serve_loop.specs.Giving.{IsGetOf, Sends, HasWritten, IsAt, ToldAll, EndsWith, text_with, answer_at};
 
@@ -116,6 +116,45 @@ fn end_object<L: Link>(
     }
 }
 
+// Writes what is left of an answer that was begun, and says whether the connection goes on.
+fn end_begun<L: Link>(
+    link: &mut L,
+    request: &Request,
+    portion: Portion,
+    end: Option<FlowEnd>,
+) -> Result<bool, ServeFault>
+    requires { IsSome (L.present link.old) }
+    ensures present { IsSome (L.present link.new) }
+    ensures ends { (range : Option AskedRange) (so_far begun : Option Given) (start : Option Connection) → IsGetOf range request.now.ask → ToldAll so_far begun end → OnPresent (IsAt request.now range (Progress.Writing portion) so_far) start (L.present link.old) →
+        (let a = answer_at request.now (with_given so_far end) in OnPresent (EndsWith (given_text request.now a begun) (closes_of request.now a) result) start (L.present link.new)) }
+    ensures cause { IfErr result (λ e. e ≡ Wanting) }
+    ensures stays { Stays (L.coming link.old) (L.coming link.new) (L.past link.old) (L.past link.new) (L.faults link.old) (L.faults link.new) }
+{
+    match end {
+        Some(FlowEnd::Found { body, .. }) => end_object(link, request, portion, body),
+        _ => Ok(false),
+    }
+}
+
+// Answers where nothing was written before the end, and says whether the connection goes on.
+fn answer_at_end<L: Link>(
+    alloc: Global,
+    link: &mut L,
+    request: &Request,
+    end: Option<FlowEnd>,
+) -> Result<bool, ServeFault>
+    requires { IsSome (L.present link.old) }
+    ensures present { IsSome (L.present link.new) }
+    ensures says { SaysOn (text_of request.now (answer_at request.now end)) (closes_of request.now (answer_at request.now end)) result (L.present link.old) (L.present link.new) }
+    ensures cause { IfErr result (λ e. e ≡ Wanting) }
+    ensures stays { Stays (L.coming link.old) (L.coming link.new) (L.past link.old) (L.past link.new) (L.faults link.old) (L.faults link.new) }
+{
+    match end {
+        Some(end) => answer_end(alloc, link, request, end),
+        None => Ok(false),
+    }
+}
+
 // Writes what is left of an answer whose get ended so, and says whether the connection goes on.
 fn end_answer<L: Link>(
     alloc: Global,
@@ -132,14 +171,8 @@ fn end_answer<L: Link>(
     ensures stays { Stays (L.coming link.old) (L.coming link.new) (L.past link.old) (L.past link.new) (L.faults link.old) (L.faults link.new) }
 {
     match progress {
-        Progress::Waiting | Progress::Refused => match end {
-            Some(end) => answer_end(alloc, link, request, end),
-            None => Ok(false),
-        },
-        Progress::Writing(portion) => match end {
-            Some(FlowEnd::Found { body, .. }) => end_object(link, request, portion, body),
-            _ => Ok(false),
-        },
+        Progress::Waiting | Progress::Refused => answer_at_end(alloc, link, request, end),
+        Progress::Writing(portion) => end_begun(link, request, portion, end),
         Progress::Failed => Ok(false),
     }
 }
