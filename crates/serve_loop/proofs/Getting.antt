@@ -5,7 +5,7 @@ use Rattle.crdt_core.specs.declared.memory.Memory.TheVariants.{Want, Full}
 use Rattle.lab_outside.specs.Connection.{Connection, OnPresent}
 use Rattle.lab_outside.specs.Bytes.{WrotePrefix}
 use Rattle.lab_outside.proofs.Bytes.{wrote_none, wrote_prefix_whole}
-use Rattle.lab_outside.proofs.Present.{on_present}
+use Rattle.lab_outside.proofs.Present.{on_present, on_present_then}
 use Rattle.flow_model.specs.declared.order.Order.{Order}
 use Rattle.flow_model.specs.declared.order.Order.TheVariants.{Get}
 use Rattle.flow_model.specs.declared.flow.FlowEnd.{FlowEnd}
@@ -20,7 +20,7 @@ use Rattle.serve_model.specs.Talk.{Serving, begun_text, given_text, closes_of, k
 use Rattle.serve_model.specs.Serving.{CarriedOut, Reached, GivesUp, Stands, given_up, halted, Serves, ServesOn, OnLeft}
 use Rattle.serve_loop.specs.declared.giving.Progress.{Progress}
 use Rattle.serve_loop.specs.declared.giving.Progress.TheVariants.{Waiting, Refused, Writing, Failed}
-use Rattle.serve_loop.specs.Gets.{MayGive, with_given, GaveAll}
+use Rattle.serve_loop.specs.Gets.{MayGive, with_piece, with_given, GaveAll}
 use Rattle.serve_loop.specs.Giving.{IsGetOf, IsAt, EndsWith, ToldAll, text_with, answer_at}
 use Rattle.serve_loop.proofs.Serving.{on_left}
 use Rattle.serve_loop.proofs.Carrying.{carried_unanswered, carried_answered, gives_asked}
@@ -98,3 +98,19 @@ module _ {S : Type 0} (store : Store S) (fits lacks : S → ℕ → Order → Ty
 pub because : (m : Wanting) (P Q : Type 0) → (P → Q) → (m ≡ Want) ⊎ ((m ≡ Full) × P) → (m ≡ Want) ⊎ ((m ≡ Full) × Q)
 because m P Q f (inl e) = inl e
 because m P Q f (inr h) = inr (h.0, f h.1)
+
+-- ---- one thing more was given
+
+-- the object that was found
+pub found_on : (r : Request) (range : Option Range) (progress later : Progress) (so_far : Option Given) (g : Given) (o m n : Option Connection) → so_far ≡ None → OnPresent (IsAt r range progress so_far) o m → OnPresent (IsAt r range later (Some g)) m n → OnPresent (IsAt r range later (Some g)) o n
+found_on r range progress later so_far g o m n none at more =
+    let P : Option Given → Type 0 = λ x. OnPresent (IsAt r range progress x) o m in
+    on_present_then (IsAt r range progress None) (IsAt r range later (Some g)) (IsAt r range later (Some g)) o m n
+    (λ c d f first next. let Q : Connection → Type 0 = λ x. IsAt r range later (Some g) x f in subst Q (nothing_written r range progress c d first) next) (subst P none at) more
+
+same_given : (so_far : Option Given) (g h : Given) → so_far ≡ Some g → so_far ≡ Some h → h ≡ g
+same_given so_far g h e k = cc
+
+-- a piece: whatever the store stood for, it goes on from the same
+pub piece_goes : {S : Type 0} (On : S → Option Given → Type 0) (so_far : Option Given) (g : Given) (piece : List ℕ) → so_far ≡ Some g → (s : S) → ((h : Given) × (so_far ≡ Some h) × On s (Some (with_piece h piece))) → On s (Some (with_piece g piece))
+piece_goes On so_far g piece e s on = let P : Given → Type 0 = λ x. On s (Some (with_piece x piece)) in subst P (same_given so_far g on.0 e on.1) on.2
