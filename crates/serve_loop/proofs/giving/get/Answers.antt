@@ -68,7 +68,7 @@ returns-in-Err-next-clause-serves g c = λ p times served kept st within.
     let m = c.in-Err-next.memory in
     let P : ServeFault → Type 0 = λ e. ServesOn (λ left. order_turn model r order p (kept ++ left)) (Reached model fits lacks new p.store) (known_from model fits lacks p.store) times served (Err e) kept o n in
     let why = because m _ _ (λ lack s s_st. lack s r.time order i.0 (i.1 s s_st)) c.in-Err-next.ensures.causes in
-    subst P (sym c.from-2.ensures)
+    subst P (sym c.from-in-Err-next.ensures)
     (got_given_up model fits lacks old new r c.args.bucket c.args.key c.args.range c.requires.asked times kept p served st _ c.pieces.progress i.0 o n
     (λ later. gives_asked model fits lacks old new r order times kept p served st m later why) (c.next.ensures.so_far p.store r.time order i.0 (i.1 p.store st.store)) i.2)
 
@@ -82,7 +82,7 @@ returns-in-Err-next-clause-goes g c =
     let m = c.in-Err-next.memory in
     let P : ServeFault → Type 0 = λ e. Goes g.S.Storage.model g.S.Storage.fits g.S.Storage.lacks {A = Bool} old new (Err e) in
     let why = because m _ _ (λ lack s s_st. lack s r.time order i.0 (i.1 s s_st)) c.in-Err-next.ensures.causes in
-    subst P (sym c.from-2.ensures) (gives_goes g.S.Storage.model g.S.Storage.fits g.S.Storage.lacks old new r order Bool m why)
+    subst P (sym c.from-in-Err-next.ensures) (gives_goes g.S.Storage.model g.S.Storage.fits g.S.Storage.lacks old new r order Bool m why)
 
 pub returns-in-Err-begin_answer-clause-serves : goal.returns-in-Err-begin_answer-clause-serves
 returns-in-Err-begin_answer-clause-serves g c = λ p times served kept st within.

@@ -10,7 +10,7 @@ abbrev pub invariant-pieces : goal.invariant-pieces
 invariant-pieces g l =
     record {
       present : IsSome (g.L.Link.present l.link);
-      gives : (so_far : Option Given) × ((s : g.S.Storage.State) → g.S.Storage.stands l.fn.store s → g.S.Storage.gives l.store s l.request.time (Get l.bucket l.key) so_far)
+      gives : (so_far : Option Given) × ((s : g.S.Storage.State) → g.S.Storage.stands l.fn.store s → g.S.Storage.gives l.store s l.request.time (Get l.fn.bucket l.fn.key) so_far)
           × OnPresent (IsAt l.request l.range l.progress so_far) (g.L.Link.present l.fn.link) (g.L.Link.present l.link);
       stays : Stays (g.L.Link.coming l.fn.link) (g.L.Link.coming l.link) (g.L.Link.past l.fn.link) (g.L.Link.past l.link) (g.L.Link.faults l.fn.link) (g.L.Link.faults l.link);
     }
