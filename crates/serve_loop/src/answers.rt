@@ -4,9 +4,10 @@ ghost use Rattle.crdt_core.specs.Outcomes.{OnlyWant};
 ghost use Rattle.flow_model.specs.declared.flow.FlowEnd.TheVariants.{Found as WasFound};
 ghost use Rattle.serve_model.specs.Judging.{found as found_of, answer_to_read, answer_to_put, answer_to_copy, answer_to_delete, answer_to_list, answer_to};
 
-use crdt_core::{Bytes, Memory};
+use crdt_core::Memory;
 use crdt_rows::{Meta, Version};
 use flow_model::FlowEnd;
+use object_bytes::Pieces;
 use s3_list::page;
 use s3_model::{Ask, Code, ListAsk, Range, Reply};
 use s3_request::span;
@@ -14,21 +15,33 @@ use serve_model::Answer;
 use std::alloc::Global;
 
 // An object, unless the range isn't one of it.
-fn found(range: Option<Range>, version: Version, meta: Meta, body: Bytes) -> Answer
-    ensures { result ≡ found_of range version meta body }
+fn found(
+    range: Option<Range>,
+    version: Version,
+    meta: Meta,
+    body: Pieces,
+) -> Result<Answer, Memory>
+    ensures same { IfOk result (λ answer. answer ≡ found_of range version meta body) }
+    ensures want { OnlyWant result }
 {
     match range {
-        Some(range) if span(range, meta.size).is_none() => Answer::Refusal(Code::InvalidRange),
-        _ => Answer::Reply(Reply::Found {
-            version,
-            meta,
-            body,
-        }),
+        Some(range) if span(range, meta.size).is_none() => {
+            Ok(Answer::Refusal(Code::InvalidRange))
+        }
+        _ => {
+            let body = body.into_bytes()?;
+            Ok(Answer::Reply(Reply::Found {
+                version,
+                meta,
+                body,
+            }))
+        }
     }
 }
 
-fn to_read(range: Option<Range>, end: FlowEnd) -> Answer
-    ensures { result ≡ answer_to_read range end }
+fn to_read(range: Option<Range>, end: FlowEnd) -> Result<Answer, Memory>
+    ensures same { IfOk result (λ answer. answer ≡ answer_to_read range end) }
+    ensures want { OnlyWant result }
 {
     match end {
         FlowEnd::Found {
@@ -36,8 +49,8 @@ fn to_read(range: Option<Range>, end: FlowEnd) -> Answer
             meta,
             body,
         } => found(range, version, meta, body),
-        FlowEnd::Nothing => Answer::Refusal(Code::NoSuchKey),
-        _ => Answer::Nothing,
+        FlowEnd::Nothing => Ok(Answer::Refusal(Code::NoSuchKey)),
+        _ => Ok(Answer::Nothing),
     }
 }
 
@@ -95,7 +108,7 @@ pub(crate) fn answer_for(alloc: Global, ask: &Ask, end: FlowEnd) -> Result<Answe
 {
     match ask {
         Ask::List { ask: list, .. } => to_list(alloc, list, end),
-        Ask::Get { range, .. } | Ask::Head { range, .. } => Ok(to_read(*range, end)),
+        Ask::Get { range, .. } | Ask::Head { range, .. } => to_read(*range, end),
         Ask::Delete { .. } => Ok(to_delete(end)),
         Ask::Put { .. } => Ok(to_put(end)),
         Ask::Copy { .. } => Ok(to_copy(end)),
