@@ -51,7 +51,7 @@ pub next-requires : goal.next-requires
 next-requires g c =
     let i = c.pieces.invariant.gives in
     let s = c.requires.state in
-    (s.0, c.args.request.now.time, Get c.args.bucket c.args.key, i.0, i.1 s.0 s.1)
+    record { on_its_way = (s.0, c.args.request.now.time, Get c.args.bucket c.args.key, i.0, i.1 s.0 s.1) }
 
 pub returns-in-Err-next-clause-serves : goal.returns-in-Err-next-clause-serves
 returns-in-Err-next-clause-serves g c = λ p times served kept st within.
