@@ -180,7 +180,7 @@ fn whole_objects(rt: HostRuntime) -> Result<(), Fail> {
     let head = joined(alloc, &[WHOLE, b"9192", SAID, b"\r\n"])?;
     let closed = joined(
         alloc,
-        &[WHOLE, b"9192\r\nConnection: close", SAID, b"\r\n", &object],
+        &[WHOLE, b"9192", SAID, b"Connection: close\r\n\r\n", &object],
     )?;
     let rows: [(&[u8], Vec<u8>); 3] = [
         (b"GET /pics/a HTTP/1.1\r\n\r\n", whole),
