@@ -140,18 +140,12 @@ fn part(
         Some(bytes) => bytes,
         None => return Err("a range of the object".into()),
     };
-    joined(
+    let mut answer = joined(
         alloc,
-        &[
-            PART,
-            length,
-            SAID,
-            b"Content-Range: bytes ",
-            place,
-            b"/9192\r\n\r\n",
-            bytes,
-        ],
-    )
+        &[PART, length, SAID, b"Content-Range: bytes ", place, b"/9192\r\n\r\n"],
+    )?;
+    answer.extend_from_slice(bytes)?;
+    Ok(answer)
 }
 
 #[test]

@@ -14,7 +14,10 @@ const MARKER: Made = Made::Object(b"a", 4, 2, Shape::Marker);
 
 const INLINE: Made = Made::Object(b"a", 6, 3, Shape::Inline);
 
-// How many versions the merged rows of an object have, the greatest timestamp, and the newest complete version.
+const ABORTED: Made = Made::Object(b"a", 9, 4, Shape::Aborted);
+
+// How many versions the merged rows of an object have, the greatest timestamp of those that aren't aborted, and the newest
+// complete version.
 fn versions(
     alloc: Global,
     first: Made,
@@ -44,19 +47,11 @@ fn marker_below_upload(rt: HostRuntime) -> Result<(), Fail> {
 
 #[test]
 fn aborted_versions_have_no_timestamp(rt: HostRuntime) -> Result<(), Fail> {
-    let aborted = Made::Object(b"a", 9, 4, Shape::Aborted);
-    for (first, others, count, greatest) in [
-        (aborted, &[INLINE][..], 2, 6),
-        (aborted, &[UPLOAD], 2, 5),
-        (aborted, &[UPLOAD, MARKER], 3, 5),
-        (aborted, &[Made::Object(b"a", 7, 5, Shape::Aborted)], 2, 0),
-    ] {
-        let AnyRow::Object(row) = merged(rt.alloc(), first, others)? else {
-            return Err("no object".into());
-        };
-        assert_eq!(rt; row.get().versions.len(), count);
-        assert_eq!(rt; row.get().greatest_ts(), greatest);
-    }
+    let newest = Some(Version { ts: 6, id: 3 });
+    let earlier = Made::Object(b"a", 7, 5, Shape::Aborted);
+    assert!(rt; versions(rt.alloc(), ABORTED, INLINE)? == (2, 6, newest));
+    assert!(rt; versions(rt.alloc(), ABORTED, UPLOAD)? == (2, 5, None));
+    assert!(rt; versions(rt.alloc(), ABORTED, earlier)? == (2, 0, None));
     Ok(())
 }
 
