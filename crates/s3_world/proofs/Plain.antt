@@ -8,7 +8,15 @@ use Rattle.object_schema.specs.Schema.{words}
 use Rattle.cluster_machine.specs.declared.step.Step.{Step}
 use Rattle.cluster_machine.specs.declared.step.Step.TheVariants as step
 use Rattle.cluster_machine.specs.Choices.{Decision}
-use Rattle.cluster_machine.specs.Worlds.{Model, does}
+use Rattle.cluster_machine.specs.Worlds.{Model, Done, does}
+use Rattle.cluster_machine.specs.declared.step.Refusal.{Refusal}
+use Rattle.cluster_machine.specs.declared.step.Refusal.TheVariants.{AlreadyEnded}
+use Rattle.cluster_machine.specs.declared.applied.Applied.{Applied}
+use Rattle.cluster_machine.specs.World.{Request, numbered}
+use Rattle.cluster_machine.specs.Step.{expires}
+use Rattle.layout_roles.specs.declared.cut.Cut.{Cut}
+use Rattle.history_model.specs.declared.record.Cause.TheVariants.{Expired}
+use Rattle.history_model.specs.declared.record.Record.TheVariants.{Ended}
 use Rattle.history_model.specs.declared.record.Record.{Record}
 use Rattle.store_model.specs.declared.event.Told.{Told}
 use Rattle.store_model.specs.Run.{Moving, State}
@@ -48,6 +56,54 @@ quiet_opens (step.Repair n) q = tt
 quiet_opens (step.Open n) q = absurd q
 quiet_opens (step.Phase r phase) q = tt
 quiet_opens (step.Close r) q = tt
+
+-- such a step adds nothing to the history
+endings_none : (st : Step AnyRow) → IsQuiet st → (e : Done AnyRow) → endings st e ≡ []
+endings_none step.Trio q e = refl
+endings_none (step.Role n role) q e = refl
+endings_none (step.Redundancy r) q e = refl
+endings_none (step.Apply n) q e = refl
+endings_none (step.Tick ms) q e = refl
+endings_none (step.Skew n ms) q e = refl
+endings_none (step.Deliver m) q e = refl
+endings_none (step.Lose m) q e = refl
+endings_none (step.Expire r) q e = absurd q
+endings_none (step.Restart n) q e = absurd q
+endings_none (step.Gossip from to) q e = refl
+endings_none (step.Ack n) q e = refl
+endings_none (step.Sync n) q e = refl
+endings_none (step.SyncAck n) q e = refl
+endings_none (step.Clean n) q e = refl
+endings_none (step.Work n) q e = refl
+endings_none (step.Repair n) q e = refl
+endings_none (step.Open n) q e = refl
+endings_none (step.Phase r phase) q e = refl
+endings_none (step.Close r) q e = refl
+
+pub same_history : (history : List Record) (st : Step AnyRow) → IsQuiet st → (e : Done AnyRow) → history ≡ history ++ endings st e
+same_history history st q e = sym (ap (history ++◌) (endings_none st q e) ∙ append-nil history)
+
+-- which request expires
+closes_one : (w : Model AnyRow) (q : ℕ) (r : Option Request) → (expires {A = Applied} {C = Cut} w q r).refused ≡ None → (expires {A = Applied} {C = Cut} w q r).closes ≡ q ∷ []
+closes_one w q None h = absurd (cc)
+closes_one w q (Some r) h = elim r.is_open as (λ b. r.is_open ≡ b → (expires {A = Applied} {C = Cut} w q (Some r)).refused ≡ None → (expires {A = Applied} {C = Cut} w q (Some r)).closes ≡ q ∷ []) [
+  | true ↦ λ is h. rw is refl
+  | false ↦ λ is h. (let no : Some AlreadyEnded ≡ None = rw is at h in absurd (cc))
+] refl h
+
+closes_none : (w : Model AnyRow) (q : ℕ) (r : Option Request) (why : Refusal Cut) → (expires {A = Applied} {C = Cut} w q r).refused ≡ Some why → (expires {A = Applied} {C = Cut} w q r).closes ≡ []
+closes_none w q None why h = refl
+closes_none w q (Some r) why h = elim r.is_open as (λ b. r.is_open ≡ b → (expires {A = Applied} {C = Cut} w q (Some r)).refused ≡ Some why → (expires {A = Applied} {C = Cut} w q (Some r)).closes ≡ []) [
+  | true ↦ λ is h. (let no : None ≡ Some why = rw is at h in absurd (cc))
+  | false ↦ λ is h. rw is refl
+] refl h
+
+-- what an expiry adds to the history
+pub expired_history : (old now : List Record) (w : Model AnyRow) (q : ℕ) (choice : Decision) → (does any_join words w (moving (step.Expire q) choice)).refused ≡ None → now ≡ old ++ Ended q Expired ∷ [] → now ≡ old ++ endings (step.Expire q) (does any_join words w (moving (step.Expire q) choice))
+expired_history old now w q choice none is = is ∙ ap (λ qs. old ++ map (λ q. Ended q Expired) qs) (sym (closes_one w q (numbered w.requests q) none))
+
+pub refused_history : (old now : List Record) (w : Model AnyRow) (q : ℕ) (choice : Decision) (why : Refusal Cut) → (does any_join words w (moving (step.Expire q) choice)).refused ≡ Some why → now ≡ old → now ≡ old ++ endings (step.Expire q) (does any_join words w (moving (step.Expire q) choice))
+refused_history old now w q choice why some is = is ∙ sym (ap (λ qs. old ++ map (λ q. Ended q Expired) qs) (closes_none w q (numbered w.requests q) why some) ∙ append-nil old)
 
 module _ {F : Type 0} (old new : Driver F) (st : Step AnyRow) (report : Report AnyRow) (steps : Steps any_join words old.world new.world report st) (opens : OpensNone st) (requests : new.requests ≡ old.requests) (ends : new.ends ≡ old.ends)
     (history : (w : Model AnyRow) (choice : Decision) → Tells report (does any_join words w (moving st choice)) → new.history.0 ≡ old.history.0 ++ endings st (does any_join words w (moving st choice))) where
