@@ -197,6 +197,14 @@ module _ {F : Type 0} (old : Driver F) (i q : ℕ) (place : i + 1 ≡ q) (a : As
                 fits = ((then.stands.fits, then.spelled), tt);
               })
 
+          pub more_waits : (late new : Driver F) (x : Asked) (report : Report AnyRow) (told : Told) → x ≡ now_kept None → late.requests ≡ slice_set old.requests i x →
+              ((b : Asked) → slice_get late.requests i ≡ Some b → new ≡ record late { requests = slice_set late.requests i (record b { flow = Some g }) }) →
+              Steps any_join words old.world late.world report (step.Phase q phase) → late.ends ≡ old.ends → late.history ≡ old.history → told ≡ record { refused = None; words = Empty; lines = report.lines } →
+              Plays old new told (λ s. follow s q (numbered s.asked q) end)
+          more_waits late new x report told is_heard requests waits steps ends history says =
+              subst (λ (n : Driver F). Plays old n told (λ s. follow s q (numbered s.asked q) end)) (sym (waited late new x g is_heard requests waits))
+              (more_plays (record late { requests = slice_set old.requests i (now_kept (Some g)) }) report told steps ends history refl says)
+
           pub more_overflows : WorldOverflows any_join words old.world (step.Phase q phase) → Overflows old (λ s. follow s q (numbered s.asked q) end)
           more_overflows full s d fits =
               let m = waiting s d in
@@ -226,6 +234,12 @@ module _ {F : Type 0} (old : Driver F) (i q : ℕ) (place : i + 1 ≡ q) (a : As
                 tells = record { refused = ap (λ (t : Told). t.refused) says; words = ap (λ (t : Told). t.words) says; lines = ap (λ (t : Told). t.lines) says };
                 fits = tt;
               })
+
+          pub wait_waits : (new : Driver F) (x : Asked) (told : Told) → x ≡ now_kept None →
+              ((b : Asked) → slice_get (slice_set old.requests i x) i ≡ Some b → new ≡ record old { requests = slice_set (slice_set old.requests i x) i (record b { flow = Some g }) }) →
+              told ≡ record { refused = None; words = Empty; lines = [] } → Plays old new told (λ s. follow s q (numbered s.asked q) end)
+          wait_waits new x told is_heard waits says =
+              subst (λ (n : Driver F). Plays old n told (λ s. follow s q (numbered s.asked q) end)) (sym (waited (record old { requests = slice_set old.requests i x }) new x g is_heard refl waits)) (wait_plays told says)
 
         module _ (last : FlowEnd) (ends : does ≡ End last) (x : Asked) (is_heard : x ≡ now_kept None) where
           abbrev mid : Driver F

@@ -54,7 +54,7 @@ IsWaitingThen blocks (End end) = ⊤
 abbrev pub GoesRight : Option (List (List ℕ)) → List ℕ → FlowStep → Type 0
 GoesRight blocks given does = IsLeft blocks given (gathered_then does) × IsWaitingThen blocks does
 
-module _ (id block : ℕ) (version : Version) (meta : Meta) where
+module _ (id block : ℕ) where
   -- no byte came, and its row was read
   looked_right : (blocks : Option (List (List ℕ))) (given : List ℕ) → blocks ≡ None → given ≡ [] → (said : Said) → GoesRight blocks given (flow.looked id block aim.Get said)
   looked_right blocks given no_block none_given none = (subst (λ b. IsLeft b given []) (sym no_block) none_given, tt)
@@ -62,6 +62,7 @@ module _ (id block : ℕ) (version : Version) (meta : Meta) where
   looked_right blocks given no_block none_given (inline v m body) = (subst (λ b. IsLeft b given body) (sym no_block) none_given, tt)
   looked_right blocks given no_block none_given (in_blocks v m first) = (subst (λ b. IsLeft b given []) (sym no_block) none_given, no_block)
 
+module _ (id block : ℕ) (version : Version) (meta : Meta) where
   -- the bytes so far are given and the rest, and the next block is asked for or all came
   gathers_right : (blocks : Option (List (List ℕ))) (given body : List ℕ) → IsLeft blocks given body → (blocks ≡ None → body ≡ []) → (left : List BlockRef) → GoesRight blocks given (flow.gathers id block aim.Get version meta left body)
   gathers_right blocks given body is_left nothing [] = (is_left, tt)

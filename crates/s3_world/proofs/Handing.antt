@@ -125,7 +125,10 @@ nobody_all requests s q nobody bytes get ended = let no = sym (ap is_get nobody)
 
 -- ---- an end is taken
 
-either_way : (b : Bool) → (if b then None {Version × Meta} else None) ≡ None
+abbrev no_object : Option (Version × Meta)
+no_object = None
+
+either_way : (b : Bool) → (if b then no_object else no_object) ≡ no_object
 either_way true = refl
 either_way false = refl
 

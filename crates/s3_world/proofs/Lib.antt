@@ -15,7 +15,9 @@ pub mod Overs
 pub mod Parts
 pub mod Phases
 pub mod Places
+pub mod Plain
 pub mod Played
 pub mod Reading
 pub mod Starting
 pub mod Storing
+pub mod Taking

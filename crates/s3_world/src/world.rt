@@ -170,6 +170,7 @@ impl S3World {
     }
 
     /// Opens a request at a node and gives its number, or says why not.
+    #[tactic(auto, using(crate::proofs::Starting::has_number))]
     pub fn start(&mut self, node: u8, order: Order) -> Result<Result<u64, Refusal>, Memory>
         requires stands { HasStore self.old }
         requires keyed { HasKey order }
