@@ -1,6 +1,6 @@
 -- A step of the world that concerns no requests but those that it ends.
 use Rattle.std.proofs.Common.{◌≡◌, ℕ, true, false, Option, Some, None, List, [], ◌∷◌, ◌++◌, length, Result, Ok, Err, IfOk, refl, sym, ap, ◌∙◌, subst, append-nil}
-use Rattle.std.specs.Prelude.{map}
+use Rattle.std.specs.Prelude.{Bool, not, is_some, map}
 use Rattle.std.specs.List.{AllByRecursion}
 use Rattle.crdt_rows.specs.declared.any_row.AnyRow.{AnyRow}
 use Rattle.crdt_rows.specs.AnyRow.{any_join}
@@ -82,6 +82,17 @@ endings_none (step.Close r) q e = refl
 
 pub same_history : (history : List Record) (st : Step AnyRow) → IsQuiet st → (e : Done AnyRow) → history ≡ history ++ endings st e
 same_history history st q e = sym (ap (history ++◌) (endings_none st q e) ∙ append-nil history)
+
+-- a test of an option
+pub none_is : {A : Type 0} (o : Option A) (b : Bool) → not b ≡ is_some o → b ≡ true → o ≡ None
+none_is None b e h = refl
+none_is (Some x) true e h = absurd (cc)
+none_is (Some x) false e h = absurd (cc)
+
+pub some_is : {A : Type 0} (o : Option A) (b : Bool) → not b ≡ is_some o → b ≡ false → (x : A) × (o ≡ Some x)
+some_is None true e h = absurd (cc)
+some_is None false e h = absurd (cc)
+some_is (Some x) b e h = (x, refl)
 
 -- which request expires
 closes_one : (w : Model AnyRow) (q : ℕ) (r : Option Request) → (expires {A = Applied} {C = Cut} w q r).refused ≡ None → (expires {A = Applied} {C = Cut} w q r).closes ≡ q ∷ []

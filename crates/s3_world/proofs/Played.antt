@@ -2,13 +2,16 @@
 use Rattle.std.proofs.Common.{◌≡◌, ℕ, Result, Ok, Err, IfOk, sym, ap, ◌∙◌, subst}
 use Rattle.std.specs.Prelude.{IfErr}
 use Rattle.crdt_core.specs.declared.memory.Memory.{Memory}
+use Rattle.crdt_rows.specs.declared.any_row.AnyRow.{AnyRow}
+use Rattle.cluster_machine.specs.declared.step.Step.{Step}
 use Rattle.cluster_machine.specs.declared.step.Step.TheVariants as step
+use Rattle.cluster_machine.specs.Choices.{Decision}
 use Rattle.flow_model.specs.declared.order.Order.{Order}
 use Rattle.store_model.specs.declared.event.Event.{Event}
 use Rattle.store_model.specs.declared.event.Event.TheVariants.{Apply}
 use Rattle.store_model.specs.declared.event.Told.{Told}
-use Rattle.store_model.specs.Run.{State, Outcome, begins}
-use Rattle.store_model.specs.Acts.{asks, acted, HasKey, IsLawfulAct}
+use Rattle.store_model.specs.Run.{State, Outcome, plainly, begins}
+use Rattle.store_model.specs.Acts.{asks, moves, plain, acted, HasKey, IsLawfulAct}
 use Rattle.store_model.specs.Events.{act_of, outcome}
 use Rattle.store_model.specs.Turns.{FitsOutcome}
 use Rattle.world_core.specs.Stands.{nothing_given}
@@ -38,6 +41,19 @@ module _ (old new : S3World) (event : Event) (node : ℕ) (o wanted : Order) (is
 
   pub order_overflows : (r : Result Told Memory) → IfErr r (λ e. Comes e (Overflows old (λ s. begins s node o))) → IfErr r (λ e. Comes e (OverflowsEvent old event))
   order_overflows r h = event_overflows old new event (λ s. begins s node o) lawful same r h
+
+-- an event that is one step of the world, which is given nothing
+module _ (old new : S3World) (event : Event) (st : Step AnyRow) (act : (choice : Decision) → act_of event choice ≡ moves (plainly st)) (same : (s : State) (choice : Decision) → plain s (record { step = st; choice = choice }) ≡ plain s (plainly st))
+    (may : (s : State) → IsLawfulAct s (moves (plainly st))) where
+  pub plain_keeps : (r : Result Told Memory) → IfOk r (λ told. KeepsStep old new told st) → IfOk r (λ told. KeepsIn old new told event)
+  plain_keeps (Err e) h = tt
+  plain_keeps (Ok told) h = λ given s d.
+      let did = h given s d in
+      record {
+        choice = did.choice;
+        lawful = subst (IsLawfulAct s) (sym (act did.choice)) (may s);
+        does = subst (λ (o : Outcome). doing.Does (Holds given) new told s o) (same s did.choice ∙ ap (acted s) (sym (act did.choice))) did.does;
+      }
 
 -- an apply is given what its step was
 module _ (old new : S3World) (node : ℕ) (r : Result Told Memory) where

@@ -194,7 +194,6 @@ impl<F: Flows> Driver<F> {
     }
 
     /// Ends a request that is open.
-    #[tactic(auto, using(crate::proofs::Reading::reads_plain))]
     pub fn expire(&mut self, request: u64) -> Result<Told, Memory>
         requires stands { HasRun self.old }
         ensures plays { IfOk result (λ told. PlaysStep self.old self.new told (step.Expire request)) }
@@ -215,7 +214,6 @@ impl<F: Flows> Driver<F> {
     }
 
     /// A node loses its open requests.
-    #[tactic(auto, using(crate::proofs::Reading::reads_plain))]
     pub fn restart(&mut self, node: u8) -> Result<Told, Memory>
         requires stands { HasRun self.old }
         ensures plays { IfOk result (λ told. PlaysStep self.old self.new told (step.Restart node)) }

@@ -170,7 +170,6 @@ impl S3World {
     }
 
     /// Opens a request at a node and gives its number, or says why not.
-    #[tactic(auto, using(crate::proofs::Starting::has_number))]
     pub fn start(&mut self, node: u8, order: Order) -> Result<Result<u64, Refusal>, Memory>
         requires stands { HasStore self.old }
         requires keyed { HasKey order }
@@ -178,12 +177,14 @@ impl S3World {
         ensures gives { IfOk result (λ answer. GivesNone self.old self.new answer node order) }
         ensures causes { WantOr result (Overflows self.old (λ s. acted s (asks node order))) }
     {
-        let told = self.begins(node, order)?;
-        match (told.refused, told.words) {
-            (Some(reason), _) => Ok(Err(reason)),
-            (None, Words::One(number)) => Ok(Ok(number)),
-            (None, _) => unreachable!(),
+        let Told { refused, words, .. } = self.begins(node, order)?;
+        if let Some(reason) = refused {
+            return Ok(Err(reason));
         }
+        let Words::One(number) = words else {
+            unreachable!()
+        };
+        Ok(Ok(number))
     }
 
     /// The object that a get has found, until its end is taken. None of other requests.
