@@ -1,28 +1,51 @@
 -- What a call of its driver is to the store.
-use Rattle.std.proofs.Common.{◌≡◌, ℕ, ◌<◌, true, Result, Ok, Err, IfOk, refl, sym, ◌∙◌, subst}
+use Rattle.std.proofs.Common.{◌≡◌, ℕ, suc, ◌<◌, ◌≤◌, true, Option, Some, None, List, [], ◌∷◌, ◌++◌, length, Result, Ok, Err, IfOk, refl, sym, ap, ◌∙◌, subst, arith}
+use Rattle.std.specs.Prelude.{IfSome, IfNone}
+use Rattle.std.proofs.lemmas.List.{length-map}
 use Rattle.crdt_core.specs.declared.memory.Memory.{Memory}
 use Rattle.crdt_rows.specs.declared.any_row.AnyRow.{AnyRow}
 use Rattle.cluster_machine.specs.declared.step.Step.{Step}
+use Rattle.cluster_machine.specs.declared.step.Words.TheVariants.{Empty}
 use Rattle.cluster_machine.specs.World.{is_member_at}
 use Rattle.cluster_machine.specs.Layouts.{layouts}
 use Rattle.flow_model.specs.declared.order.Order.{Order}
 use Rattle.s3_flow.specs.declared.objects.ObjectFlows.{ObjectFlows}
 use Rattle.store_model.specs.declared.event.Told.{Told}
-use Rattle.store_model.specs.Run.{State, Outcome, opened}
+use Rattle.store_model.specs.Run.{State, Outcome, silent, opened}
 use Rattle.store_model.specs.Acts.{plain}
 use Rattle.s3_world.specs.declared.driver.Driver.{Driver}
 use Rattle.s3_world.specs.declared.world.S3World.{S3World}
 use Rattle.s3_world.specs.Driven as driven
-use Rattle.s3_world.specs.Driven.{IsReady, IsDriven, HasRun}
-use Rattle.s3_world.specs.Stands.{IsStore, HasStore, Does, Becomes, Plays, PlaysIf, PlaysStep, Overflows, OverflowsIf, OverflowsStep}
+use Rattle.s3_world.specs.Driven.{known, kept, IsReady, IsHanding, IsDriven, HasRun}
+use Rattle.s3_world.specs.Reads.{Handed, of, HasAll}
+use Rattle.s3_world.specs.Doing as doing
+use Rattle.s3_world.specs.Stands.{Holds, IsStore, IsGiving, HasStore, Becomes, KeepsTold, KeepsIf, KeepsStep, Overflows, OverflowsIf, OverflowsStep}
 use Rattle.s3_world.proofs.Keeping.{Keeps}
+use Rattle.s3_world.proofs.Reading.{whatever, reads_moved, number_to_come}
 
 abbrev IsMember : ℕ → State → Type 0
 IsMember n s = is_member_at layouts s.world n ≡ true
 
 -- the store's driver is its state's
+pub is_handing : {given : Handed} (c : S3World) (s : State) → Holds given c s → IsHanding given c.driver s
+is_handing c s d = record { world = d.world; requests = d.requests; ends = d.ends; history = d.history; flows = d.flows; reads = d.reads }
+
 pub is_driven : (c : S3World) (s : State) → IsStore c s → IsDriven c.driver s
-is_driven c s d = record { world = d.world; requests = d.requests; ends = d.ends; history = d.history; flows = d.flows }
+is_driven c s d = is_handing c s d
+
+-- whatever was handed out
+pub as_store : {given : Handed} (c : S3World) (s : State) → Holds given c s → IsStore c s
+as_store {given} c s d = record {
+  world = d.world;
+  buckets = d.buckets;
+  block = d.block;
+  requests = d.requests;
+  ends = d.ends;
+  history = d.history;
+  sized = d.sized;
+  flows = d.flows;
+  reads = whatever given c.driver.requests s d.reads;
+}
 
 pub has_run : (c : S3World) → HasStore c → HasRun c.driver
 has_run c h = (h.0, is_driven c h.0 h.1)
@@ -31,12 +54,36 @@ has_run c h = (h.0, is_driven c h.0 h.1)
 pub has_bytes : (c : S3World) → HasStore c → 0 < c.block
 has_bytes c h = subst (λ b. 0 < b) (sym h.1.block) h.1.sized
 
+-- of a request that is to come nothing was handed out
+pub gives_none : (c : S3World) (s : State) → IsStore c s → IsGiving c s (suc (length s.world.requests)) []
+gives_none c s d =
+    let same_length : length c.driver.requests ≡ length s.asked = sym (length-map c.driver.requests known) ∙ (ap length d.requests ∙ length-map s.asked kept) in
+    record {
+      world = d.world;
+      buckets = d.buckets;
+      block = d.block;
+      requests = d.requests;
+      ends = d.ends;
+      history = d.history;
+      sized = d.sized;
+      flows = d.flows;
+      reads = record {
+        found = d.reads.found;
+        left = d.reads.left;
+        handed = number_to_come c.driver.requests s same_length d.reads.count;
+        reading = d.reads.reading;
+        over = d.reads.over;
+        seen = d.reads.seen;
+        count = d.reads.count;
+      };
+    }
+
 module _ (old : S3World) (new : Driver ObjectFlows) where
   -- the store after the call
   abbrev after : S3World
   after = record old { driver = new }
 
-  is_store : (s t : State) → IsStore old s → Keeps s t → IsDriven new t → IsStore after t
+  is_store : {before given : Handed} (s t : State) → Holds before old s → Keeps s t → IsHanding given new t → Holds given after t
   is_store s t d keeps h = record {
     world = h.world;
     buckets = d.buckets ∙ sym keeps.0;
@@ -46,31 +93,86 @@ module _ (old : S3World) (new : Driver ObjectFlows) where
     history = h.history;
     sized = subst (λ b. 0 < b) (sym keeps.1) d.sized;
     flows = h.flows;
+    reads = h.reads;
   }
 
-  does : (told : Told) (s : State) (o : Outcome) → IsStore old s → Keeps s o.state → driven.Does new told s o → Does after told s o
+  does : {given : Handed} (told : Told) (s : State) (o : Outcome) → Holds given old s → Keeps s o.state → driven.Does given new told s o → doing.Does (Holds given) after told s o
   does told s o d keeps h = record { stands = is_store s o.state d keeps h.stands; tells = h.tells; fits = h.fits }
+
+  -- a block was handed out, or none
+  pub piece_given : (q : ℕ) (r : Option (List ℕ)) → IfSome r (λ piece. (s : State) (bytes : List ℕ) → IsHanding (of q bytes) old.driver s → IsHanding (of q (bytes ++ piece)) new s) →
+      IfSome r (λ piece. (s : State) (bytes : List ℕ) → IsGiving old s q bytes → IsGiving after s q (bytes ++ piece))
+  piece_given q None h = tt
+  piece_given q (Some piece) h = λ s bytes d. is_store s s d (refl, refl) (h s bytes (is_handing old s d))
+
+  pub none_given : (r : Option (List ℕ)) → IfNone r (new ≡ old.driver) → IfNone r (after ≡ old)
+  none_given None h = ap (λ driver. record old { driver = driver }) h
+  none_given (Some piece) h = tt
 
   module _ (f : State → Outcome) (keeps : (s : State) → Keeps s (f s).state) where
     pub becomes : driven.Becomes old.driver new f → Becomes old after f
     becomes h s d = is_store s (f s).state d (keeps s) (h s (is_driven old s d))
 
-    pub plays : (r : Result Told Memory) → IfOk r (λ told. driven.Plays old.driver new told f) → IfOk r (λ told. Plays old after told f)
+    pub plays : (r : Result Told Memory) → IfOk r (λ told. driven.Plays old.driver new told f) → IfOk r (λ told. KeepsTold old after told f)
     plays (Err e) h = tt
-    plays (Ok told) h = λ s d. does told s (f s) d (keeps s) (h s (is_driven old s d))
+    plays (Ok told) h = λ given s d. does told s (f s) d (keeps s) (h given s (is_handing old s d))
 
   pub opened_plays : (n : ℕ) (order : Order) (r : Result Told Memory) → IfOk r (λ told. driven.PlaysIf (IsReady n old.block) old.driver new told (λ s. opened s n order)) →
-      IfOk r (λ told. PlaysIf (IsMember n) old after told (λ s. opened s n order))
+      IfOk r (λ told. KeepsIf (IsMember n) old after told (λ s. opened s n order))
   opened_plays n order (Err e) h = tt
-  opened_plays n order (Ok told) h = λ s d member. does told s (opened s n order) d (refl, refl) (h s (is_driven old s d) (member, sym d.block))
+  opened_plays n order (Ok told) h = λ given s d member. does told s (opened s n order) d (refl, refl) (h given s (is_handing old s d) (member, sym d.block))
 
-  pub step_plays : (st : Step AnyRow) (r : Result Told Memory) → IfOk r (λ told. driven.PlaysStep old.driver new told st) → IfOk r (λ told. PlaysStep old after told st)
+  pub step_plays : (st : Step AnyRow) (r : Result Told Memory) → IfOk r (λ told. driven.PlaysStep old.driver new told st) → IfOk r (λ told. KeepsStep old after told st)
   step_plays st (Err e) h = tt
-  step_plays st (Ok told) h = λ s d.
-      let did = h s (is_driven old s d) in
+  step_plays st (Ok told) h = λ given s d.
+      let did = h given s (is_handing old s d) in
       record { choice = did.choice; lawful = did.lawful; does = does told s (plain s (record { step = st; choice = did.choice })) d (refl, refl) did.does }
 
 module _ (old : S3World) where
+  pub all_given : (q : ℕ) (r : Option (List ℕ)) → IfNone r ((s : State) (bytes : List ℕ) → IsHanding (of q bytes) old.driver s → HasAll s q bytes) → IfNone r ((s : State) (bytes : List ℕ) → IsGiving old s q bytes → HasAll s q bytes)
+  all_given q None h = λ s bytes d. h s bytes (is_handing old s d)
+  all_given q (Some piece) h = tt
+
+  -- later requests cut bytes into blocks of another size, or one more bucket is there
+  module _ (told : Told) (says : told ≡ record { refused = None; words = Empty; lines = [] }) where
+    pub cut_keeps : (size : ℕ) → 1 ≤ size → KeepsTold old (record old { block = size }) told (λ s. silent (record s { block = size }))
+    cut_keeps size some given s d = record {
+      stands = record {
+        world = d.world;
+        buckets = d.buckets;
+        block = refl;
+        requests = d.requests;
+        ends = d.ends;
+        history = d.history;
+        sized = omega arith;
+        flows = d.flows;
+        reads = reads_moved given old.driver.requests s s.world s.buckets size s.history refl d.reads;
+      };
+      tells = record { refused = ap (λ (t : Told). t.refused) says; words = ap (λ (t : Told). t.words) says; lines = ap (λ (t : Told). t.lines) says };
+      fits = tt;
+    }
+
+    pub bucket_keeps : (name : List ℕ) (new : S3World) → new ≡ record old { buckets = old.buckets ++ name ∷ [] } → KeepsTold old new told (λ s. silent (record s { buckets = s.buckets ++ name ∷ [] }))
+    bucket_keeps name new is given s d =
+        let more : S3World = record old { buckets = old.buckets ++ name ∷ [] } in
+        let t : State = record s { buckets = s.buckets ++ name ∷ [] } in
+        let stands : Holds given more t = record {
+          world = d.world;
+          buckets = ap (λ bs. bs ++ name ∷ []) d.buckets;
+          block = d.block;
+          requests = d.requests;
+          ends = d.ends;
+          history = d.history;
+          sized = d.sized;
+          flows = d.flows;
+          reads = reads_moved given old.driver.requests s s.world t.buckets s.block s.history refl d.reads;
+        } in
+        record {
+          stands = subst (λ c. Holds given c t) (sym is) stands;
+          tells = record { refused = ap (λ (t : Told). t.refused) says; words = ap (λ (t : Told). t.words) says; lines = ap (λ (t : Told). t.lines) says };
+          fits = tt;
+        }
+
   pub overflows : (f : State → Outcome) → driven.Overflows old.driver f → Overflows old f
   overflows f full s d = full s (is_driven old s d)
 

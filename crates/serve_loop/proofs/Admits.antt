@@ -1,5 +1,5 @@
 -- What is admitted of a head that asks nothing that is served.
-use Rattle.std.proofs.Common.{◌≡◌, ℕ, Err, ap}
+use Rattle.std.proofs.Common.{ℕ, Err, ap}
 use Rattle.layout_text.specs.declared.keys.Access.{Access}
 use Rattle.http_model.specs.declared.head.Head.{Head}
 use Rattle.s3_model.specs.declared.fault.AskFault.{AskFault}

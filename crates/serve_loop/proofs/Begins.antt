@@ -1,5 +1,5 @@
 -- Each turn may be cut off before the store is asked.
-use Rattle.std.proofs.Common.{◌≡◌, ℕ, nat_lt, ◌+◌, Bool, true, false, if◌then◌else◌, List, [], ◌∷◌, ◌++◌, Option, Some, None, Result, Ok, Err, refl, ap, ◌∙◌, inl}
+use Rattle.std.proofs.Common.{◌≡◌, ℕ, nat_lt, ◌+◌, Bool, true, false, if◌then◌else◌, List, [], Option, Some, None, Result, Ok, Err, refl, inl}
 use Rattle.flow_model.specs.declared.order.Order.{Order}
 use Rattle.http_model.specs.declared.head.Head.{Head}
 use Rattle.s3_model.specs.declared.fault.Code.{Code}
@@ -9,7 +9,7 @@ use Rattle.serve_model.specs.Admitting.{admitted}
 use Rattle.serve_model.specs.declared.buckets.Buckets.{Buckets}
 use Rattle.serve_model.specs.declared.request.Request.{Request}
 use Rattle.serve_model.specs.Judging.{refusal_of, counted_before, order_of}
-use Rattle.serve_model.specs.Stores.{Store, Asking}
+use Rattle.serve_model.specs.Stores.{Store}
 use Rattle.serve_model.specs.Talk.{Grammar, Serving, Stop, Turn, behind, kept_limit, exceeded, counted, counting, order_turn, plan_turn, judged_turn, whole_turn, body_turn, waiting_turn, interim, request_of, request_turn, asked_turn, head_turn, turn}
 use Rattle.serve_model.proofs.Ones.{one_weaker, one_mapped}
 use Rattle.serve_loop.proofs.Serving.{Begins, BeginsWith}

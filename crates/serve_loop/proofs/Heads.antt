@@ -1,5 +1,5 @@
 -- How a request is served whose head was looked for.
-use Rattle.std.proofs.Common.{◌≡◌, ℕ, List, [], ◌∷◌, Option, Some, None, Bool, true, refl, ◌∙◌, ap, subst, arith}
+use Rattle.std.proofs.Common.{◌≡◌, ℕ, List, [], ◌∷◌, Option, Some, None, Bool, true, refl, ◌∙◌, ap, subst}
 use Rattle.lab_outside.specs.Times.{GivesTime}
 use Rattle.http_model.specs.declared.head.Head.{Head}
 use Rattle.http_model.specs.Cut.{ends, too_long, unfinished, cut}

@@ -38,7 +38,8 @@ pub fn serve<S: Storage, L: Link, C: Clock>(
 
     // What was written to each connection is what is stated of its bytes, from what the connections before it left, or a
     // first part of that, up to a stop, where its count of faults rose; and those behind it are served from there. Where
-    // serving ended early it's so for all connections but the last, which came to one of its stops, or was written whole.
+    // serving ended early it's so for all connections but the last, which came to one of its stops or into the middle of one
+    // of its gets, or was written whole.
     ensures served { (g : Grammar) (p : Serving S.State) → Stands (S.stands store.old) (C.times clock.old) served.old p → IfSome (L.coming link.old) (λ coming.
         Ends S.model buckets.now g p (Reached S.model S.fits S.lacks (S.stands store.new) p.store) (known_from S.model S.fits S.lacks p.store) (C.times clock.new) served.new result coming (L.coming link.new) (L.past link.old) (L.past link.new)) }
 

@@ -1,5 +1,5 @@
 -- All that is said of the command.
-use Rattle.std.proofs.Common.{◌≡◌, ◌⊎◌, ℕ, List, [], Option, inl, inr, refl, subst}
+use Rattle.std.proofs.Common.{◌≡◌, ◌⊎◌, ℕ, List, [], Option, None, inl, inr, refl, subst}
 use Rattle.lab_outside.specs.declared.ports.Source as source
 use Rattle.lab_outside.specs.declared.ports.Sink as sink
 use Rattle.lab_outside.specs.declared.ports.Link as ports
@@ -45,9 +45,10 @@ module _ {I O L C : Type 0} (i : source.Ghosts I) (o : sink.Ghosts O) (l : ports
       (result ≡ status.WriteFault → AnswersPrefix (IsEnd g count (i.left input) t) (o.written output) (o.written output')) → (IsSilent result → Wrote (o.written output) (o.written output') []) → (result ≡ status.Memory → WantsMemory g (i.left input) t) →
       (result ≡ status.Usage → ⊥) → (result ≡ status.ReadFault → output' ≡ output) → ((result ≡ status.Refused) ⊎ (result ≡ status.ReadFault) → (link' ≡ link) × (clock' ≡ clock)) → (IsTooLong (i.left input) → (link' ≡ link) × (clock' ≡ clock)) →
       (result ≡ status.WriteFault → Rose (o.faults output) (o.faults output')) → ((result ≡ status.WriteFault) ⊎ (o.faults output' ≡ o.faults output)) → (result ≡ status.LinkFault → Rose (l.faults link) (l.faults link')) →
+      l.present link' ≡ None →
       OnlySignedIsServed g →
       ServesSo i o l g count result input input' output output' link link' clock clock' t
-  serves reads answers prefix silent wants no_usage unwritten untouched unopened write_fault write_told link_fault signed =
+  serves reads answers prefix silent wants no_usage unwritten untouched unopened write_fault write_told link_fault absent signed =
       let as_done : Status → Type 0 = λ s. IsStated s → Answers (IsEnd g count (i.left input) t) s (o.written output) (o.written output') in
       record {
         edges = record {
@@ -73,5 +74,6 @@ module _ {I O L C : Type 0} (i : source.Ghosts I) (o : sink.Ghosts O) (l : ports
           | inr (inr long) ↦ unopened long
         ];
         link_fault = link_fault;
+        absent = absent;
         signed = signed;
       }

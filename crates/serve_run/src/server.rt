@@ -20,6 +20,7 @@ use crate::stop::Stop;
 use crate::tail::tail_text;
 use change_deeds::nodes_of;
 use crdt_core::{Bytes, List, Memory, Value};
+use get_laws::{a_get_of_a_cluster_gives_all_of_it, states_know_their_requests};
 use lab_main::ends;
 use lab_outside::{Clock, Link, Sink, Source, Status};
 use layout_roles::{Assignment, smaller_sizes};
@@ -66,12 +67,15 @@ fn served<L: Link, C: Clock>(
     ensures how { (g : Grammar) → HowServed g plan server.count (told (C.times clock.old) (C.times clock.new) (L.coming link.old) (L.coming link.new) (L.past link.old) (L.past link.new)) result }
     ensures causes { IfErr result IsOfServing }
     ensures fault { result ≡ Err Stop.Link → Rose (L.faults link.old) (L.faults link.new) }
+    ensures absent { L.present link.new ≡ None }
 {
     promises_are_kept();
     a_first_layout_stands_with_the_empty_map();
     computed_changes_may_come();
     members_of_both_are_all();
     connections_are_served_through_changes();
+    states_know_their_requests();
+    a_get_of_a_cluster_gives_all_of_it();
     let members = nodes_of(alloc, plan.config.roles.list.as_slice())?;
     let mut later = sets_of(alloc, plan.changes.as_slice())?;
     let world = installed(alloc, &plan)?;
@@ -119,6 +123,7 @@ fn read_and_served<I: Source, L: Link, C: Clock>(
     ensures read_fault { result ≡ Err Stop.Read → Rose (I.faults input.old) (I.faults input.new) }
     ensures read_told { (result ≡ Err Stop.Read) ⊎ (I.faults input.new ≡ I.faults input.old) }
     ensures link_fault { result ≡ Err Stop.Link → Rose (L.faults link.old) (L.faults link.new) }
+    ensures absent { L.present link.new ≡ None }
 {
     let plan = read_plan(alloc, input)?;
     let text = served(alloc, plan, server, link, clock)?;
@@ -169,6 +174,7 @@ fn serve_and_tell<I: Source, O: Sink, L: Link, C: Clock>(
     ensures read_told { (result ≡ Status.ReadFault) ⊎ (I.faults input.new ≡ I.faults input.old) }
     ensures write_told { (result ≡ Status.WriteFault) ⊎ (O.faults output.new ≡ O.faults output.old) }
     ensures link_fault { result ≡ Status.LinkFault → Rose (L.faults link.old) (L.faults link.new) }
+    ensures absent { L.present link.new ≡ None }
 {
     match read_and_served(alloc, server, input, link, clock) {
         Ok(text) => ends(output, text.as_slice(), Status::Done),
@@ -194,7 +200,8 @@ fn serve_and_tell<I: Source, O: Sink, L: Link, C: Clock>(
 /// After LinkFault, and where too many bytes were put or copied or a number had no room, serving up to there is stated as after
 /// Done, and of the last connection, with which serving ended, that its text is that of the map too, or a first part. After
 /// Memory no connection was served, or they were served as after Done, or all but the last one, with which serving ended: what
-/// was written to it is a first part of what is stated of its bytes, and of the map's text.
+/// was written to it is a first part of what is stated of its bytes, and of the map's text. However it ends, no connection is
+/// present then.
 ///
 /// Where keys are configured, nothing is carried out, and nothing is answered but by a refusal, that no key signed which may
 /// ask it.

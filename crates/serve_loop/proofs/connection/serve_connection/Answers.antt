@@ -1,6 +1,6 @@
 use Rattle.std.proofs.Common.{ℕ, ◌-◌, ◌==◌, ◌++◌, Bool, true, false, Ok, Err, refl, subst, arith}
 use Rattle.lab_outside.proofs.Present.{on_present, on_present_same, stays_none, stays_more}
-use Rattle.serve_model.specs.Stores.{fits_asking, OverflowsAmong, known_from}
+use Rattle.serve_model.specs.Stores.{fits_asking, known_from}
 use Rattle.serve_model.specs.Talk.{Serving, turn, talk, request_limit}
 use Rattle.serve_model.specs.Serving.{Reached, Stands, ServesOn, OnLeft}
 use Rattle.serve_model.specs.Connections.{Talks}

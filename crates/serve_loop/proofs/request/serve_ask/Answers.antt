@@ -1,7 +1,7 @@
 use Rattle.std.proofs.Common.{◌++◌, subst, sym}
 use Rattle.serve_model.specs.declared.request.Request.{Request}
 use Rattle.serve_model.specs.declared.served.ServeFault.TheVariants.{Memory}
-use Rattle.serve_model.specs.Stores.{OverflowsAmong, known_from}
+use Rattle.serve_model.specs.Stores.{known_from}
 use Rattle.serve_model.specs.Talk.{request_of, request_turn}
 use Rattle.serve_model.specs.Serving.{Reached, ServesOn}
 use Rattle.serve_model.specs.Judging.{IsKeyed}

@@ -5,7 +5,7 @@ use Rattle.http_wire.specs.declared.head.HeadEnd.TheVariants.{Closed, Failed, Me
 use Rattle.http_wire.specs.Reading.{ReadsBody, IsBodyOf, OnAll}
 use Rattle.s3_model.specs.declared.fault.Code.TheVariants.{IncompleteBody}
 use Rattle.serve_model.specs.declared.answer.Answer.TheVariants.{Refusal}
-use Rattle.serve_model.specs.Stores.{OverflowsAmong, known_from}
+use Rattle.serve_model.specs.Stores.{known_from}
 use Rattle.serve_model.specs.Talk.{text_of, closes_of, passing, answer_turn, whole_turn, body_turn}
 use Rattle.serve_model.specs.Serving.{Reached}
 use Rattle.serve_loop.proofs.Serving.{IsQuiet, IsFailed, on_present_both, read_then, read_fails, read_wants, passing_serves, says_serves, stands_here, goes_here}

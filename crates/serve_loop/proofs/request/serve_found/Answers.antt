@@ -1,5 +1,5 @@
 use Rattle.std.proofs.Common.{ℕ, ◌++◌, ◌∙◌, Some, subst}
-use Rattle.serve_model.specs.Stores.{OverflowsAmong, known_from}
+use Rattle.serve_model.specs.Stores.{known_from}
 use Rattle.serve_model.specs.Talk.{clocked, head_turn}
 use Rattle.serve_model.specs.Serving.{Reached, ServesOn}
 use Rattle.serve_loop.proofs.Heads.{stands_clocked}

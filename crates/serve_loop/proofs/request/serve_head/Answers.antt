@@ -7,7 +7,7 @@ use Rattle.layout_text.specs.declared.keys.Access.{Access}
 use Rattle.s3_model.specs.Asks.{is_method}
 use Rattle.serve_model.specs.declared.served.ServeFault.TheVariants.{Memory}
 use Rattle.serve_model.specs.Admitting.{admitted, Admits}
-use Rattle.serve_model.specs.Stores.{OverflowsAmong, known_from}
+use Rattle.serve_model.specs.Stores.{known_from}
 use Rattle.serve_model.specs.Talk.{request_of, head_refusal, path_shown, said, request_turn, asked_turn, head_turn}
 use Rattle.serve_model.specs.Serving.{Reached}
 use Rattle.serve_loop.proofs.Serving.{serves_same, says_serves, stands_here, goes_here, gives_up}

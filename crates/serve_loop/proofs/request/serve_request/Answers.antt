@@ -3,7 +3,7 @@ use Rattle.lab_outside.specs.Connection.{Connection}
 use Rattle.lab_outside.proofs.Present.{on_present, on_present_same}
 use Rattle.http_wire.specs.declared.head.HeadEnd.TheVariants.{Closed, TooLong, Bad, Failed, Memory as Wanting}
 use Rattle.http_wire.specs.Reading.{ReadsHead, IsHeadOf, OnAll}
-use Rattle.serve_model.specs.Stores.{OverflowsAmong, known_from}
+use Rattle.serve_model.specs.Stores.{known_from}
 use Rattle.serve_model.specs.Talk.{clocked, passing, said, bad_head, head_turn, turn}
 use Rattle.serve_model.specs.Serving.{Reached, Says, SaysOn}
 use Rattle.serve_loop.proofs.Serving.{IsQuiet, IsFailed, on_present_both, read_then, read_fails, read_wants, passing_serves, says_serves, silence_says, stands_here, goes_here}

@@ -1,6 +1,6 @@
 use Rattle.std.proofs.Common.{ℕ, ◌++◌, Err, subst}
 use Rattle.serve_model.specs.declared.served.ServeFault.TheVariants.{Kept}
-use Rattle.serve_model.specs.Stores.{OverflowsAmong, known_from}
+use Rattle.serve_model.specs.Stores.{known_from}
 use Rattle.serve_model.specs.Talk.{counted, counting, waiting_turn}
 use Rattle.serve_model.specs.Serving.{Reached, ServesOn}
 use Rattle.serve_loop.proofs.Serving.{counting_serves, counting_limits, stands_counted, limits_here}

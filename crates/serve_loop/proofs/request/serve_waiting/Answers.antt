@@ -1,7 +1,7 @@
 use Rattle.std.proofs.Common.{ℕ, ◌++◌, Ok, Err, List, subst}
 use Rattle.lab_outside.specs.declared.ports.Failed.{Failed}
 use Rattle.lab_outside.specs.Connection.{OnPresent, WritesWhole}
-use Rattle.serve_model.specs.Stores.{OverflowsAmong, known_from}
+use Rattle.serve_model.specs.Stores.{known_from}
 use Rattle.serve_model.specs.Talk.{interim as interim_of, body_turn}
 use Rattle.serve_model.specs.Serving.{Reached}
 use Rattle.serve_loop.proofs.Serving.{after_serves, part_serves, stands_here}

@@ -1,7 +1,7 @@
 use Rattle.std.proofs.Common.{◌++◌, ◌∙◌, sym, ap}
 use Rattle.serve_model.specs.declared.answer.Answer.TheVariants.{Refusal}
 use Rattle.serve_model.specs.declared.served.ServeFault.TheVariants.{Memory}
-use Rattle.serve_model.specs.Stores.{OverflowsAmong, known_from}
+use Rattle.serve_model.specs.Stores.{known_from}
 use Rattle.serve_model.specs.Talk.{text_of, closes_of, answer_turn, plan_turn, judged_turn, whole_turn}
 use Rattle.serve_model.specs.Judging.{order_of, refusal_of}
 use Rattle.serve_model.specs.Serving.{Reached}
