@@ -3,12 +3,15 @@ use Rattle.std.specs.Prelude.{◌≡◌, ℕ, List, [], ◌∷◌, ◌++◌}
 use Rattle.std.specs.List.{AllByRecursion}
 use Rattle.std.proofs.Common.{subst, inl, inr}
 use Rattle.crdt_core.specs.Members.{OneOf}
+use Rattle.crdt_core.proofs.Each.{all_weaker}
 use Rattle.lab_outside.specs.Connection.{Connection}
 use Rattle.serve_model.specs.declared.buckets.Buckets.{Buckets}
 use Rattle.serve_model.specs.Stores.{Asking, fits_asking}
 use Rattle.serve_model.specs.declared.served.ServeFault.{ServeFault}
-use Rattle.serve_model.specs.Talk.{Grammar, Serving, Stop, Talk}
-use Rattle.serve_model.specs.Connections.{stated, IsUpTo, IsServed, exact, part, AreServed, EndsSo, too_many, begun}
+use Rattle.serve_model.specs.Talk.{Grammar, Serving, Stop, Halt, request_limit}
+use Rattle.serve_model.specs.Connections.{IsPrefixOf, stated, IsUpTo, IsInto, IsServed, exact, part, AreServed, EndsSo, too_many, begun, halted}
+use Rattle.serve_model.proofs.Ones.{one_left}
+use Rattle.serve_model.proofs.Halting.{Within, talk_within}
 use Rattle.serve_changes.specs.Changing.{Changing, changing, changing_fits}
 use Rattle.plain_changes.specs.Changing.{HashesAfter, SomeAfter, IsServedHash}
 
@@ -71,6 +74,19 @@ module _ (IsHash : List ℕ → Type 0) where
         let behind = served_such rest ds came gone served.0 s served.2 (λ x h. f x (behind_it p bytes d served.0 (came ++ rest) (gone ++ ds) one x h)) in
         record { served = (served.0, one_served p bytes d served.0 one (λ x h. f x (inl h)), behind.served); others = behind.others }
 
-    pub ends_such : (t : Talk Changing) (d : Connection) (fault : ServeFault) (overflows : List (Asking Changing) → Type 0) → ((x : List ℕ) → SomeAfter x t.asks t.stops → IsHash x) → EndsSo changing buckets g (fits_asking changing_fits) overflows t d fault → EndsSo changing buckets g MaySuch overflows t d fault
-    ends_such t d fault overflows f (too_many over text fit) = too_many over text (all_may t.asks fit (λ x h. f x (inl h)))
-    ends_such t d fault overflows f (begun e gives one) = begun e gives (up_to_stop d t.stops (λ x h. f x (inr h)) one)
+    -- so it is of the orders before a get in the middle of which serving is given up, which are the first of all
+    into_get : (d : Connection) (asks : List (Asking Changing)) (halts : List (Halt Changing)) → ((x : List ℕ) → OneOf (HashesAfter x) asks → IsHash x) → AllByRecursion (λ (h : Halt Changing). IsPrefixOf h.asks asks) halts →
+        OneOf (IsInto changing buckets g (fits_asking changing_fits) d) halts → OneOf (IsInto changing buckets g MaySuch d) halts
+    into_get d asks [] f first h = absurd h
+    into_get d asks (halt ∷ halts) f first h = elim h [
+      | inl here ↦ inl (here.0, here.1, here.2, all_may halt.asks here.3 (λ x g. f x (subst (OneOf (HashesAfter x)) first.0.1 (one_left (HashesAfter x) halt.asks first.0.0 g))))
+      | inr there ↦ inr (into_get d asks halts f first.1 there)
+    ]
+
+    pub ends_such : (p : Serving Changing) (bytes : List ℕ) (d : Connection) (fault : ServeFault) (overflows : List (Asking Changing) → Type 0) → (let t = stated changing buckets g p bytes in
+        ((x : List ℕ) → SomeAfter x t.asks t.stops → IsHash x) → EndsSo changing buckets g (fits_asking changing_fits) overflows t d fault → EndsSo changing buckets g MaySuch overflows t d fault)
+    ends_such p bytes d fault overflows f (too_many over text fit) = too_many over text (all_may (stated changing buckets g p bytes).asks fit (λ x h. f x (inl h)))
+    ends_such p bytes d fault overflows f (begun e gives one) = begun e gives (up_to_stop d (stated changing buckets g p bytes).stops (λ x h. f x (inr h)) one)
+    ends_such p bytes d fault overflows f (halted e gives one) =
+        let t = stated changing buckets g p bytes in
+        halted e gives (into_get d t.asks t.halts (λ x h. f x (inl h)) (all_weaker (Within changing t.text t.asks) (λ (h : Halt Changing). IsPrefixOf h.asks t.asks) (λ h k. k.1) t.halts (talk_within changing buckets g request_limit p bytes)) one)

@@ -253,7 +253,7 @@ module _ (c : Cluster) (P : Plain) (h : Holds c P) (new : Layout) (part : List �
         versions = λ n id later low. nothing n 2 (eight id) (λ o. h.fresh.versions o id later low);
         references = λ n id bytes later low size. nothing n 3 (bytes ++ eight id) (λ o. h.fresh.references o id bytes later low size);
       };
-      ends = h.ends;
+      knows = record { lengths = h.asked ∙ sym (at_end (λ u. length u.requests ≡ P.asked) (ap length time.requests ∙ h.requests)); saw = h.knows.saw; ends = h.knows.ends };
     }
 
     pub holds_at : holds_on.layout ≡ new

@@ -13,9 +13,10 @@ use Rattle.serve_model.specs.declared.served.ServeFault.{ServeFault}
 use Rattle.serve_model.specs.Talk.{Grammar, Serving, Stop, turn, talk, request_limit}
 use Rattle.serve_model.specs.Connections.{stated, AreServed, SomeAsked, EndsSo}
 use Rattle.serve_model.specs.Plain.{Plain, has_at, plain, IsPiece, PutsBlock, AreApart}
-use Rattle.serve_model.proofs.Alike.{Serves, Stops, TurnsSo, turn_alike, AllMeant, ServedAlike, served_alike, ended_alike}
+use Rattle.serve_model.proofs.Alike.{AnswerAlike, Serves, Stops, TurnsSo, turn_alike, AllMeant, ServedAlike, served_alike, ended_alike}
 use Rattle.serve_model.proofs.Ones.{one_weaker}
 use Rattle.plain_laws.specs.Blocks.{IsKept, body_in, body_written, IsBlockAt, IsOfMap}
+use Rattle.plain_laws.proofs.Giving.{gives_as_the_map}
 use Rattle.plain_laws.proofs.Stores.{written_or_put, carries_grow, order_follows}
 use Rattle.serve_model.specs.Clusters.{cluster}
 use Rattle.serve_changes.specs.Changing.{Changing, changing, changing_fits}
@@ -56,7 +57,7 @@ module _ (IsSuch IsHash : List ℕ → Type 0) (apart : AreApart IsSuch) (clear 
           | inr e ↦ written_is_such bytes (subst (λ body. IsPiece P.block body bytes) e p)
         ]
 
-    agrees : ((changing.carries c time order).end ≡ (plain.carries P time order).end) × HoldsSuch (changing.carries c time order).state (plain.carries P time order).state
+    agrees : ((changing.carries c time order).end ≡ (plain.carries P time order).end) × ((changing.carries c time order).begun ≡ (plain.carries P time order).begun) × HoldsSuch (changing.carries c time order).state (plain.carries P time order).state
     agrees =
         let here : AreApart (IsBlockAt c.cluster P order) = λ a b x y e. apart a b (here_is_such a x) (here_is_such b y) e in
         let f = order_follows c.cluster P time order h.map.stands.holds h.map.clash h.map.some here fit.0.0 in
@@ -65,12 +66,17 @@ module _ (IsSuch IsHash : List ℕ → Type 0) (apart : AreApart IsSuch) (clear 
         let due = due_so (cluster.carries c.cluster time order).state (plain.carries P time order).state h.map.layout now c.to_come h.map.may fit.0.1
         (record { apart = λ x y a b e. clear.apart x y (fit.1 x a) (fit.1 y b) e; some = λ x a. clear.some x (fit.1 x a) }) in (
           f.agrees.end,
+          f.agrees.begun,
           record {
             map = record { layout = due.layout; stands = due.stands; may = due.may; clash = subst NoClash (sym g.buckets) h.map.clash; some = subst (λ b. 1 ≤ b) (sym g.block) h.map.some };
             kept = λ bytes k. here_is_such bytes (f.keeps bytes (due.kept bytes k));
             of_map = later_is_such;
           },
         )
+
+  -- the cluster answers as the map does, and gives as it does in the middle of a get
+  answers : AnswerAlike changing plain HoldsSuch (MaySuch IsHash) PutsSuch
+  answers = record { answers = agrees; gives = λ c P time bucket key g h gives. gives_as_the_map c.cluster P time bucket key g h.map.stands.holds gives }
 
   module _ (buckets : Buckets) (g : Grammar) where
     -- orders whose blocks are such put such blocks
@@ -85,7 +91,7 @@ module _ (IsSuch IsHash : List ℕ → Type 0) (apart : AreApart IsSuch) (clear 
     each_such Such So one (r ∷ stops) f = (one r.serving (λ bytes h. f bytes (inl h)), each_such Such So one stops (λ bytes h. f bytes (inr h)))
 
     -- connections whose blocks are such put such blocks, wherever they were cut off
-    all_meant : (came : List (List ℕ)) (gone : List Connection) (q : Serving Plain) → ((bytes : List ℕ) → SomeAsked plain buckets g (PutsBlock bytes) q came gone → IsSuch bytes) → AllMeant changing plain HoldsSuch (MaySuch IsHash) PutsSuch agrees buckets g q came gone
+    all_meant : (came : List (List ℕ)) (gone : List Connection) (q : Serving Plain) → ((bytes : List ℕ) → SomeAsked plain buckets g (PutsBlock bytes) q came gone → IsSuch bytes) → AllMeant changing plain HoldsSuch (MaySuch IsHash) PutsSuch answers buckets g q came gone
     all_meant [] gone q f = tt
     all_meant (x ∷ came) [] q f = tt
     all_meant (x ∷ came) (d ∷ gone) q f =
@@ -93,13 +99,13 @@ module _ (IsSuch IsHash : List ℕ → Type 0) (apart : AreApart IsSuch) (clear 
           all_such t.asks (λ bytes h. f bytes (inl h)),
           all_meant came gone t.serving (λ bytes h. f bytes (inr (inl h))),
           λ rose.
-              each_such (λ bytes r. SomeAsked plain buckets g (PutsBlock bytes) r came gone) (λ r. AllMeant changing plain HoldsSuch (MaySuch IsHash) PutsSuch agrees buckets g r came gone) (λ r k. all_meant came gone r k) t.stops
+              each_such (λ bytes r. SomeAsked plain buckets g (PutsBlock bytes) r came gone) (λ r. AllMeant changing plain HoldsSuch (MaySuch IsHash) PutsSuch answers buckets g r came gone) (λ r k. all_meant came gone r k) t.stops
               (λ bytes h. f bytes (inr (inr (rose, h)))),
         )
 
   -- what is served at first is alike
   module _ (p : Serving Changing) (P : Plain) (h : StandsWith p.store P) (kept : (bytes : List ℕ) → IsKept p.store.cluster.run.world bytes → IsSuch bytes) (of_map : (bytes : List ℕ) → IsOfMap P bytes → IsSuch bytes) where
-    begins : Serves changing plain HoldsSuch (MaySuch IsHash) PutsSuch agrees p (over_map P p)
+    begins : Serves changing plain HoldsSuch (MaySuch IsHash) PutsSuch answers p (over_map P p)
     begins = record {
       store = record { map = h; kept = kept; of_map = of_map };
       times = refl;
@@ -119,9 +125,9 @@ module _ (buckets : Buckets) (g : Grammar) (p s : Serving Changing) (P : Plain) 
   such : AreSuch IsHash buckets g p s came rest gone ds
   such = served_such IsHash buckets g rest ds came gone p s served (λ x h. h)
 
-  behind : ServedAlike changing plain (HoldsSuch IsSuch IsHash apart clear) (MaySuch IsHash) (PutsSuch IsSuch IsHash apart clear) (agrees IsSuch IsHash apart clear) buckets g (over_map P p) came rest gone ds s
+  behind : ServedAlike changing plain (HoldsSuch IsSuch IsHash apart clear) (MaySuch IsHash) (PutsSuch IsSuch IsHash apart clear) (answers IsSuch IsHash apart clear) buckets g (over_map P p) came rest gone ds s
   behind =
-      served_alike changing plain (HoldsSuch IsSuch IsHash apart clear) (MaySuch IsHash) (PutsSuch IsSuch IsHash apart clear) (agrees IsSuch IsHash apart clear) buckets g rest ds came gone p s (over_map P p)
+      served_alike changing plain (HoldsSuch IsSuch IsHash apart clear) (MaySuch IsHash) (PutsSuch IsSuch IsHash apart clear) (answers IsSuch IsHash apart clear) buckets g rest ds came gone p s (over_map P p)
       (begins IsSuch IsHash apart clear p P h (λ bytes k. inl k) (λ bytes m. inr (inl m))) (all_meant IsSuch IsHash apart clear buckets g (came ++ rest) (gone ++ ds) (over_map P p) (λ bytes k. inr (inr k))) such.served
 
 pub served_from : (buckets : Buckets) (g : Grammar) (p s : Serving Changing) (P : Plain) (came : List (List ℕ)) (gone : List Connection) → StandsWith p.store P → AreApart (IsServedBlock buckets g p P came gone) → NoWalkClash (IsServedHash buckets g p came gone) →
@@ -143,8 +149,8 @@ ended_from buckets g p s P came gone bytes last fault h apart clear served ends 
     record {
       serving = k.serving;
       are_served = k.are_served;
-      ends = ended_alike changing plain (HoldsSuch such hash apart clear) (MaySuch hash) (PutsSuch such hash apart clear) (agrees such hash apart clear) buckets g (λ asks. ⊤) s k.serving bytes last fault k.alike k.meant.0
-          (ends_such hash buckets g (stated changing buckets g s bytes) last fault (λ asks. ⊤) (λ x a. others x (inl a)) ends);
+      ends = ended_alike changing plain (HoldsSuch such hash apart clear) (MaySuch hash) (PutsSuch such hash apart clear) (answers such hash apart clear) buckets g (λ asks. ⊤) s k.serving bytes last fault k.alike k.meant.0
+          (ends_such hash buckets g s bytes last fault (λ asks. ⊤) (λ x a. others x (inl a)) ends);
     }
 
 -- one request
@@ -158,8 +164,8 @@ module _ (buckets : Buckets) (g : Grammar) (last : Bool) (p : Serving Changing) 
   turn_meant : AllByRecursion (PutsSuch IsOne Hash apart clear) (turn plain buckets g last (over_map P p) request).asks
   turn_meant = all_such IsOne Hash apart clear buckets g (turn plain buckets g last (over_map P p) request).asks (λ bytes k. inr (inr k))
 
-  turns : TurnsSo changing plain (HoldsSuch IsOne Hash apart clear) (MaySuch Hash) (PutsSuch IsOne Hash apart clear) (agrees IsOne Hash apart clear) (turn changing buckets g last p request) (turn plain buckets g last (over_map P p) request)
-  turns = turn_alike changing plain (HoldsSuch IsOne Hash apart clear) (MaySuch Hash) (PutsSuch IsOne Hash apart clear) (agrees IsOne Hash apart clear) buckets g last p (over_map P p) request (begins IsOne Hash apart clear p P h (λ bytes k. inl k) (λ bytes m. inr (inl m)))
+  turns : TurnsSo changing plain (HoldsSuch IsOne Hash apart clear) (MaySuch Hash) (PutsSuch IsOne Hash apart clear) (answers IsOne Hash apart clear) (turn changing buckets g last p request) (turn plain buckets g last (over_map P p) request)
+  turns = turn_alike changing plain (HoldsSuch IsOne Hash apart clear) (MaySuch Hash) (PutsSuch IsOne Hash apart clear) (answers IsOne Hash apart clear) buckets g last p (over_map P p) request (begins IsOne Hash apart clear p P h (λ bytes k. inl k) (λ bytes m. inr (inl m)))
 
   pub turned_from : AllByRecursion (fits_asking changing_fits) (turn changing buckets g last p request).asks → IsTurnFrom P buckets g last p request
   turned_from fit = let t = turns.whole (all_may Hash (turn changing buckets g last p request).asks fit (λ x h. inl h)) turn_meant in record { text = t.text; next = t.next; stands = t.serving.store.map }
@@ -168,12 +174,12 @@ module _ (buckets : Buckets) (g : Grammar) (last : Bool) (p : Serving Changing) 
   stopped_from = each_stop (turn changing buckets g last p request).stops (λ x h. inr h) (turns.stops turn_meant)
     where
       each_stop : (stops : List (Stop Changing)) → ((x : List ℕ) → OneOf (λ (stop : Stop Changing). OneOf (HashesAfter x) stop.asks) stops → IsTurnHash buckets g last p request x) →
-          AllByRecursion (λ (s : Stop Changing). AllByRecursion (MaySuch Hash) s.asks → OneOf (Stops changing plain (HoldsSuch IsOne Hash apart clear) (MaySuch Hash) (PutsSuch IsOne Hash apart clear) (agrees IsOne Hash apart clear) s) (turn plain buckets g last (over_map P p) request).stops) stops →
+          AllByRecursion (λ (s : Stop Changing). AllByRecursion (MaySuch Hash) s.asks → OneOf (Stops changing plain (HoldsSuch IsOne Hash apart clear) (MaySuch Hash) (PutsSuch IsOne Hash apart clear) (answers IsOne Hash apart clear) s) (turn plain buckets g last (over_map P p) request).stops) stops →
           AllByRecursion (λ (s : Stop Changing). AllByRecursion (fits_asking changing_fits) s.asks → IsAtMapStop P buckets g last p request s) stops
       each_stop [] f h = tt
       each_stop (s ∷ stops) f h = (
         (λ fit.
-            one_weaker (Stops changing plain (HoldsSuch IsOne Hash apart clear) (MaySuch Hash) (PutsSuch IsOne Hash apart clear) (agrees IsOne Hash apart clear) s) (λ (r : Stop Plain). (s.text ≡ r.text) × StandsWith s.serving.store r.serving.store) (λ r a. (a.text, a.serving.store.map)) (turn plain buckets g last (over_map P p) request).stops
+            one_weaker (Stops changing plain (HoldsSuch IsOne Hash apart clear) (MaySuch Hash) (PutsSuch IsOne Hash apart clear) (answers IsOne Hash apart clear) s) (λ (r : Stop Plain). (s.text ≡ r.text) × StandsWith s.serving.store r.serving.store) (λ r a. (a.text, a.serving.store.map)) (turn plain buckets g last (over_map P p) request).stops
             (h.0 (all_may Hash s.asks fit (λ x g. f x (inl g))))),
         each_stop stops (λ x g. f x (inr g)) h.1,
       )

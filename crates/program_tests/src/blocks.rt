@@ -1,6 +1,8 @@
-//! Gets of an object that is kept in three blocks: the answers are those that were worked out by hand from docs/S3.md.
+//! Gets of an object that is kept in three blocks, which are written as they come: the answers are those that were worked
+//! out by hand from docs/S3.md, whatever the range, and the cluster ends up the same wherever the link fails.
+use crate::faulty::{Fault, FaultyLink};
 use crate::recorder::recorded;
-use crate::served::served_with;
+use crate::served::{Ended, served_with};
 use lab_outside::Status;
 use std::alloc::Global;
 use std::test::Fail;
@@ -38,6 +40,12 @@ const WHOLE: &[u8] = b"\
     Date: Tue, 14 Nov 2023 22:13:20 GMT\r\n\
     Content-Length: ";
 
+/// The same of a part.
+const PART: &[u8] = b"\
+    HTTP/1.1 206 Partial Content\r\n\
+    Date: Tue, 14 Nov 2023 22:13:20 GMT\r\n\
+    Content-Length: ";
+
 /// What follows the length.
 const SAID: &[u8] = b"\r\n\
     ETag: \"62eef9098248db26703241f9f7144599\"\r\n\
@@ -53,6 +61,28 @@ const NO_RANGE: &[u8] = b"\
     Content-Type: application/xml\r\n\r\n\
     <?xml version=\"1.0\" encoding=\"UTF-8\"?>\n\
     <Error><Code>InvalidRange</Code><Message>InvalidRange</Message><Resource>/pics/a</Resource></Error>";
+
+/// A range that is asked, the length and the place that the answer names, and the bytes from the first to before the last.
+type Range = (&'static [u8], &'static [u8], &'static [u8], usize, usize);
+
+/// Within a block, at its borders, across one and two of them, from the end, and past it.
+const RANGES: &[Range] = &[
+    (b"0-0", b"1", b"0-0", 0, 1),
+    (b"0-4095", b"4096", b"0-4095", 0, 4096),
+    (b"4095-4095", b"1", b"4095-4095", 4095, 4096),
+    (b"4095-4096", b"2", b"4095-4096", 4095, 4097),
+    (b"4096-4096", b"1", b"4096-4096", 4096, 4097),
+    (b"4096-8191", b"4096", b"4096-8191", 4096, 8192),
+    (b"100-8299", b"8200", b"100-8299", 100, 8300),
+    (b"8191-", b"1001", b"8191-9191", 8191, 9192),
+    (b"8192-9191", b"1000", b"8192-9191", 8192, 9192),
+    (b"9191-", b"1", b"9191-9191", 9191, 9192),
+    (b"9000-20000", b"192", b"9000-9191", 9000, 9192),
+    (b"-1", b"1", b"9191-9191", 9191, 9192),
+    (b"-1000", b"1000", b"8192-9191", 8192, 9192),
+    (b"-1001", b"1001", b"8191-9191", 8191, 9192),
+    (b"-20000", b"9192", b"0-9191", 0, 9192),
+];
 
 /// Texts, one after the other.
 fn joined(alloc: Global, texts: &[&[u8]]) -> Result<Vec<u8>, Fail> {
@@ -92,6 +122,49 @@ fn answer_to(alloc: Global, ask: &[u8]) -> Result<(Status, Vec<u8>), Fail> {
     Ok((end.status, answer.to_vec(alloc)?))
 }
 
+/// A server over a connection of whose writes one fails, which gets the object: how it ended, and how many writes were tried.
+fn write_fails(alloc: Global, number: u64) -> Result<(Ended, u64), Fail> {
+    let bytes = asked(alloc, &object(alloc)?, b"GET /pics/a HTTP/1.1\r\n\r\n")?;
+    let mut link = FaultyLink::new(alloc, bytes, Fault::Write(number));
+    let end = served_with(alloc, SMALL_BLOCKS, 3900, &mut link)?;
+    Ok((end, link.writes()))
+}
+
+/// What a get of this range is to be answered.
+fn part(
+    alloc: Global,
+    object: &[u8],
+    (_, length, place, from, to): Range,
+) -> Result<Vec<u8>, Fail> {
+    let bytes = match object.get(from..to) {
+        Some(bytes) => bytes,
+        None => return Err("a range of the object".into()),
+    };
+    let mut answer = joined(
+        alloc,
+        &[PART, length, SAID, b"Content-Range: bytes ", place, b"/9192\r\n\r\n"],
+    )?;
+    answer.extend_from_slice(bytes)?;
+    Ok(answer)
+}
+
+#[test]
+fn ranges_across_blocks(rt: HostRuntime) -> Result<(), Fail> {
+    let alloc = rt.alloc();
+    let object = object(alloc)?;
+    for range in RANGES {
+        let (asked, ..) = *range;
+        let ask = joined(
+            alloc,
+            &[b"GET /pics/a HTTP/1.1\r\nRange: bytes=", asked, b"\r\n\r\n"],
+        )?;
+        let (status, answer) = answer_to(alloc, &ask)?;
+        assert_eq!(rt; status, Status::Done);
+        assert!(rt; answer == part(alloc, &object, *range)?, "{asked:?}");
+    }
+    Ok(())
+}
+
 /// The whole object, its head, and the object for a client that waits for the connection's end.
 #[test]
 fn whole_objects(rt: HostRuntime) -> Result<(), Fail> {
@@ -127,6 +200,20 @@ fn ranges_of_no_byte(rt: HostRuntime) -> Result<(), Fail> {
         let (status, answer) = answer_to(rt.alloc(), &ask)?;
         assert_eq!(rt; status, Status::Done);
         assert_eq!(rt; answer.as_slice(), NO_RANGE, "{range:?}");
+    }
+    Ok(())
+}
+
+/// Whichever write of the get fails, that of its head or of a block, it is the last one that is tried, and the nodes and the
+/// numbers at the end are those of the get that is written whole: it went on to its end.
+#[test]
+fn each_write_of_a_get_fails(rt: HostRuntime) -> Result<(), Fail> {
+    let (whole, writes) = write_fails(rt.alloc(), 0)?;
+    assert_eq!(rt; (whole.status, writes), (Status::Done, 5));
+    for number in 2..=5 {
+        let (end, tried) = write_fails(rt.alloc(), number)?;
+        assert_eq!(rt; (end.status, tried), (Status::Done, number));
+        assert!(rt; end.output == whole.output, "at write {number}");
     }
     Ok(())
 }

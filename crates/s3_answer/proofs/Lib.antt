@@ -1,3 +1,4 @@
 pub mod Days
 pub mod Appends
 pub mod Phrases
+pub mod Portions

@@ -4,7 +4,7 @@ ghost use Rattle.crdt_core.specs.Outcomes.{OnlyWant};
 ghost use Rattle.s3_model.specs.Answer as answers;
 
 use crate::bodies::{buckets_body, copied_body, error_body};
-use crate::found::found;
+use crate::found::{found, object_head};
 use crate::lines::{append_etag, append_length, finish, start, xml_answer};
 use crate::list::{Listing, list_body};
 use crdt_core::{Bytes, Memory};
@@ -140,8 +140,8 @@ fn object(
     ensures want { OnlyWant result }
 {
     match ask {
-        Some(Ask::Get { range, .. }) => found(alloc, range, version, meta, body, now, close),
-        Some(Ask::Head { range, .. }) => found(alloc, range, version, meta, &[], now, close),
+        Some(Ask::Get { range, .. }) => found(alloc, *range, version, meta, body, now, close),
+        Some(Ask::Head { range, .. }) => object_head(alloc, *range, version, meta, now, close),
         _ => Ok(Bytes::new(alloc)),
     }
 }

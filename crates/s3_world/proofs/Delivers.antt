@@ -16,17 +16,23 @@ use Rattle.world_core.specs.declared.report.Report.{Report}
 use Rattle.world_core.specs.Stands.{Steps, ended}
 use Rattle.s3_world.specs.declared.asked.Asked.{Asked}
 use Rattle.s3_world.specs.declared.driver.Driver.{Driver}
-use Rattle.s3_world.specs.Driven.{IsSized, IsDriven, HasRun, Does, Plays, Overflows}
+use Rattle.s3_world.specs.Driven.{known, IsSized, IsHanding, IsDriven, HasRun, Does, Plays, Overflows}
+use Rattle.s3_world.specs.Reads.{Handed, nothing_handed, AreRead}
+use Rattle.s3_world.proofs.Counts.{same_count}
+use Rattle.s3_world.proofs.Reading.{reads_moved}
 
 module _ {F : Type 0} (old mid : Driver F) (m : ℕ) (report : Report AnyRow) (steps : Steps any_join words old.world mid.world report (Deliver m))
     (requests : mid.requests ≡ old.requests) (ends : mid.ends ≡ old.ends) (history : mid.history ≡ old.history) where
-  is_next : (s : State) → IsDriven old s → IsDriven mid (doing s (plainly (Deliver m)))
-  is_next s d = record {
+  is_next : {given : Handed} (s : State) → IsHanding given old s → IsHanding given mid (doing s (plainly (Deliver m)))
+  is_next {given} s d = record {
     world = (steps s.world d.world).does.stands;
-    requests = requests ∙ d.requests;
+    requests = ap (map known) requests ∙ d.requests;
     ends = ends ∙ d.ends;
     history = ap (λ h. h.0) history ∙ d.history;
     flows = subst (AllByRecursion (λ (a : Asked). IsSized a.flow)) (sym requests) d.flows;
+    reads =
+        let t : State = doing s (plainly (Deliver m)) in
+        subst (λ rs. AreRead given rs t) (sym requests) (reads_moved given old.requests s t.world s.buckets s.block s.history (same_count s.world (plainly (Deliver m)) tt) d.reads);
   }
 
   pub has_next : HasRun old → HasRun mid
@@ -34,12 +40,12 @@ module _ {F : Type 0} (old mid : Driver F) (m : ℕ) (report : Report AnyRow) (s
 
   pub delivered_plays : (new : Driver F) (more : Told) → Plays mid new more (λ s. goes_on s (map ended report.ends)) →
       Plays old new (record { refused = report.refused; words = report.words; lines = report.lines ++ more.lines }) (λ s. delivers s m)
-  delivered_plays new more plays s d =
+  delivered_plays new more plays given s d =
       let here : State = doing s (plainly (Deliver m)) in
       let did = (steps s.world d.world).does in
-      let after : Does new more here (goes_on here (effect s (plainly (Deliver m))).ends) = subst (λ (es : List (Ended AnyRow)). Does new more here (goes_on here es)) did.tells.ends (plays here (is_next s d)) in
+      let after : Does given new more here (goes_on here (effect s (plainly (Deliver m))).ends) = subst (λ (es : List (Ended AnyRow)). Does given new more here (goes_on here es)) did.tells.ends (plays given here (is_next s d)) in
       record {
-        stands = record { world = after.stands.world; requests = after.stands.requests; ends = after.stands.ends; history = after.stands.history; flows = after.stands.flows };
+        stands = record { world = after.stands.world; requests = after.stands.requests; ends = after.stands.ends; history = after.stands.history; flows = after.stands.flows; reads = after.stands.reads };
         tells = record {
           refused = did.tells.refused;
           words = did.tells.words;
@@ -47,6 +53,12 @@ module _ {F : Type 0} (old mid : Driver F) (m : ℕ) (report : Report AnyRow) (s
         };
         fits = ((did.stands.fits, did.spelled), after.fits);
       }
+
+  pub delivered_overflows : Overflows mid (λ s. goes_on s (map ended report.ends)) → Overflows old (λ s. delivers s m)
+  delivered_overflows full s d fits =
+      let here : State = doing s (plainly (Deliver m)) in
+      let same : map ended report.ends ≡ (effect s (plainly (Deliver m))).ends = (steps s.world d.world).does.tells.ends in
+      full here (is_next s d) (subst (λ (es : List (Ended AnyRow)). FitsOutcome here (goes_on here es)) (sym same) (fits.0.1, fits.1))
 
 -- the request goes on whose phase ended first
 goes_first : (ends : List (ℕ × PhaseEnd AnyRow)) (e : ℕ × PhaseEnd AnyRow) → slice_get ends 0 ≡ Some e → (s : State) → goes_on s (map ended ends) ≡ follow s e.0 (numbered s.asked e.0) e.1

@@ -12,7 +12,9 @@ use Rattle.store_model.specs.declared.event.Told.{Told}
 use Rattle.store_model.specs.Run.{Moving, State, Outcome, silent, delivers, then_drains, drains}
 use Rattle.store_model.specs.Turns.{FitsOutcome}
 use Rattle.s3_world.specs.declared.driver.Driver.{Driver}
-use Rattle.s3_world.specs.Driven.{IsDriven, HasRun, Does, Plays, Overflows}
+use Rattle.s3_world.specs.Driven.{IsHanding, IsDriven, HasRun, Does, Plays, Overflows}
+use Rattle.s3_world.specs.Reads.{Handed, nothing_handed}
+use Rattle.s3_world.proofs.Follows.{as_driven}
 use Rattle.store_model.proofs.Drains.{drains_quietly, drains_empty, drains_one, drains_none}
 use Rattle.store_model.proofs.Leads.{delivers_lead, run_more}
 use Rattle.s3_world.proofs.Parts.{fit_more, room_first, room_rest, all_first, all_rest}
@@ -22,9 +24,9 @@ abbrev after_these : List Moving → List Version → List (Line Applied) → Ou
 after_these moves versions lines o = record { state = o.state; moves = moves ++ o.moves; new_versions = versions ++ o.new_versions; refused = None; words = Empty; lines = lines ++ o.lines }
 
 -- the driver came to some state, and what was done with up to so many deliveries from there is all
-pub record Drained {F : Type 0} (driver : Driver F) (lines : List (Line Applied)) (left : ℕ) (s : State) (whole : Outcome) : Type 0 where
+pub record Drained {F : Type 0} (given : Handed) (driver : Driver F) (lines : List (Line Applied)) (left : ℕ) (s : State) (whole : Outcome) : Type 0 where
   pub state : State
-  pub stands : IsDriven driver state
+  pub stands : IsHanding given driver state
   pub moves : List Moving
   pub versions : List Version
   pub fits : FitAll any_join words s.world moves
@@ -34,12 +36,12 @@ pub record Drained {F : Type 0} (driver : Driver F) (lines : List (Line Applied)
 -- whatever state the first driver stood for
 pub record Draining {F : Type 0} (first now : Driver F) (lines : List (Line Applied)) (left count : ℕ) : Type 0 where
   pub held : HasRun now
-  pub drained : (s : State) → IsDriven first s → Drained now lines left s (drains count s)
+  pub drained : (given : Handed) (s : State) → IsHanding given first s → Drained given now lines left s (drains count s)
 
 pub draining_none : {F : Type 0} (driver : Driver F) (count : ℕ) → HasRun driver → Draining driver driver [] count count
 draining_none driver count has = record {
   held = has;
-  drained = λ s d. record {
+  drained = λ given s d. record {
     state = s;
     stands = d;
     moves = [];
@@ -54,11 +56,11 @@ module _ {F : Type 0} (first now : Driver F) (lines : List (Line Applied)) (left
   one_left : (s : State) → IsDriven now s → drains left s ≡ then_drains (delivers s m) (drains rest (delivers s m).state)
   one_left s d = ap (λ k. drains k s) e ∙ drains_one rest m s (sym (least s d))
 
-  draining_more : (new : Driver F) (told : Told) → Plays now new told (λ s. delivers s m) → (s : State) → IsDriven first s → Drained new (lines ++ told.lines) rest s (drains count s)
-  draining_more new told plays s d =
-      let h = so_far.drained s d in
+  draining_more : (new : Driver F) (told : Told) → Plays now new told (λ s. delivers s m) → (given : Handed) (s : State) → IsHanding given first s → Drained given new (lines ++ told.lines) rest s (drains count s)
+  draining_more new told plays given s d =
+      let h = so_far.drained given s d in
       let o : Outcome = delivers h.state m in
-      let does : Does new told h.state o = plays h.state h.stands in
+      let does : Does given new told h.state o = plays given h.state h.stands in
       let then : Outcome = drains rest o.state in
       record {
         state = o.state;
@@ -69,7 +71,7 @@ module _ {F : Type 0} (first now : Driver F) (lines : List (Line Applied)) (left
         leads = run_more s.world h.moves o.moves ∙ ap (λ w. run any_join words w o.moves) h.leads ∙ delivers_lead h.state m;
         all =
             h.all
-            ∙ ap (after_these h.moves h.versions lines) (one_left h.state h.stands)
+            ∙ ap (after_these h.moves h.versions lines) (one_left h.state (as_driven given now h.state h.stands))
             ∙ (λ i. record (after_these [] [] [] then) {
               moves = sym (append_assoc h.moves o.moves then.moves) i;
               new_versions = sym (append_assoc h.versions o.new_versions then.new_versions) i;
@@ -78,11 +80,11 @@ module _ {F : Type 0} (first now : Driver F) (lines : List (Line Applied)) (left
       }
 
   pub draining_on : (new : Driver F) (told : Told) → Plays now new told (λ s. delivers s m) → Draining first new (lines ++ told.lines) rest count
-  draining_on new told plays = record { held = ((delivers so_far.held.0 m).state, (plays so_far.held.0 so_far.held.1).stands); drained = draining_more new told plays }
+  draining_on new told plays = record { held = ((delivers so_far.held.0 m).state, (plays nothing_handed so_far.held.0 so_far.held.1).stands); drained = draining_more new told plays }
 
   pub drain_overflows : Overflows now (λ s. delivers s m) → Overflows first (λ s. drains count s)
   drain_overflows full s d fits =
-      let h = so_far.drained s d in
+      let h = so_far.drained nothing_handed s d in
       let o : Outcome = delivers h.state m in
       let then : Outcome = drains rest o.state in
       let here : FitsOutcome s (after_these h.moves h.versions lines (then_drains o then)) = subst (λ (o : Outcome). FitsOutcome s o) (h.all ∙ ap (after_these h.moves h.versions lines) (one_left h.state h.stands)) fits in
@@ -93,14 +95,14 @@ module _ {F : Type 0} (first now : Driver F) (lines : List (Line Applied)) (left
 
 module _ {F : Type 0} (first now : Driver F) (lines : List (Line Applied)) (left count : ℕ) (so_far : Draining first now lines left count) where
   drained_plays : ((s : State) → IsDriven now s → drains left s ≡ silent s) → Plays first now (record { refused = None; words = Empty; lines = lines }) (λ s. drains count s)
-  drained_plays ends s d =
-      let h = so_far.drained s d in
+  drained_plays ends given s d =
+      let h = so_far.drained given s d in
       let is : drains count s ≡ record { state = h.state; moves = h.moves; new_versions = h.versions; refused = None; words = Empty; lines = lines } =
       h.all
-      ∙ ap (after_these h.moves h.versions lines) (ends h.state h.stands)
+      ∙ ap (after_these h.moves h.versions lines) (ends h.state (as_driven given now h.state h.stands))
       ∙ (λ i. record (silent h.state) { moves = append-nil h.moves i; new_versions = append-nil h.versions i; lines = append-nil lines i })
       in
-      subst (λ (o : Outcome). Does now (record { refused = None; words = Empty; lines = lines }) s o) (sym is) (record {
+      subst (λ (o : Outcome). Does given now (record { refused = None; words = Empty; lines = lines }) s o) (sym is) (record {
         stands = h.stands;
         tells = record { refused = refl; words = refl; lines = refl };
         fits = h.fits;

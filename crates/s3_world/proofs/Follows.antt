@@ -1,8 +1,9 @@
 -- What a request does whose phase ended, case by case.
 use Rattle.std.proofs.Common.{◌≡◌, ℕ, ◌+◌, ◌-◌, ◌^◌, ◌<◌, true, false, Option, Some, None, Result, Ok, Err, IfOk, List, [], ◌∷◌, ◌++◌, length, refl, sym, ap, ◌∙◌, subst, arith, ◌⊎◌}
-use Rattle.std.specs.Prelude.{slice_get, slice_set, map}
+use Rattle.std.specs.Prelude.{slice_get, slice_set, map, option_map}
+use Rattle.std.proofs.lemmas.Option.{slice_get-map}
 use Rattle.std.specs.List.{AllByRecursion}
-use Rattle.std.proofs.lemmas.List.{map-set}
+use Rattle.std.proofs.lemmas.List.{map-set, length-map}
 use Rattle.crdt_core.specs.declared.memory.Memory.{Memory}
 use Rattle.crdt_rows.specs.declared.version.Version.{Version}
 use Rattle.crdt_rows.specs.declared.any_row.AnyRow.{AnyRow}
@@ -30,20 +31,28 @@ use Rattle.flow_model.specs.Next as flow
 use Rattle.flow_model.specs.Overdrawn.{IsOverdrawn}
 use Rattle.store_model.specs.declared.event.Told.{Told}
 use Rattle.store_model.specs.Answers.{record_of, line_of}
-use Rattle.store_model.specs.Run.{State, Asked as Waiting, Draw, Outcome, silent, takes, goes, finishes, follows, follow, draws_of, versions_drawn}
+use Rattle.store_model.specs.Run.{State, Asked as Waiting, Draw, Outcome, silent, plainly, phases, takes, goes, finishes, follows, follow, draws_of, versions_drawn}
 use Rattle.store_model.specs.Turns.{FitsOutcome}
 use Rattle.world_core.specs.declared.report.Report.{Report}
 use Rattle.world_core.specs.Stands.{StandsFor, Steps, Overflows as WorldOverflows}
 use Rattle.s3_world.specs.declared.asked.Asked.{Asked}
 use Rattle.s3_world.specs.declared.driver.Driver.{Driver}
-use Rattle.s3_world.specs.Driven.{kept, IsSized, IsDriven, HasRun, Does, Plays, Overflows, Finishes}
+use Rattle.s3_world.specs.Driven.{Known, known, kept, IsSized, IsHanding, IsDriven, HasRun, Does, Plays, Overflows, Finishes}
+use Rattle.s3_world.specs.Reads.{Handed, heard, after_phase, AreRead}
+use Rattle.s3_world.proofs.Counts.{same_count}
+use Rattle.s3_world.proofs.Getting.{flow_then, ends_then}
+use Rattle.s3_world.proofs.Reading.{reads_next, whatever}
 use Rattle.s3_world.proofs.Phases.{IsGood, StepIsGood, next_is_good}
-use Rattle.s3_world.proofs.Places.{numbered_place, get_kept, get_none, set_twice, set_same, all_set, all_get}
+use Rattle.s3_world.proofs.Places.{numbered_place, get_kept, get_none, get_set, set_twice, set_same, all_set, all_get}
+
+-- whatever was handed out
+pub as_driven : {F : Type 0} (given : Handed) (driver : Driver F) (s : State) → IsHanding given driver s → IsDriven driver s
+as_driven given driver s d = record { world = d.world; requests = d.requests; ends = d.ends; history = d.history; flows = d.flows; reads = whatever given driver.requests s d.reads }
 
 -- ---- nothing
 
 pub silent_plays : {F : Type 0} (old : Driver F) (told : Told) → told ≡ record { refused = None; words = Empty; lines = [] } → Plays old old told silent
-silent_plays old told says s d = record {
+silent_plays old told says given s d = record {
   stands = d;
   tells = record { refused = ap (λ (t : Told). t.refused) says; words = ap (λ (t : Told). t.words) says; lines = ap (λ (t : Told). t.lines) says };
   fits = tt;
@@ -52,31 +61,32 @@ silent_plays old told says s d = record {
 -- nobody asked under this number
 pub follow_nobody : {F : Type 0} (old : Driver F) (q : ℕ) (end : PhaseEnd AnyRow) (told : Told) → (q ≡ 0) ⊎ (length old.requests < q) → told ≡ record { refused = None; words = Empty; lines = [] } →
     Plays old old told (λ s. follow s q (numbered s.asked q) end)
-follow_nobody old q end told none says s d =
-    let P : Outcome → Type 0 = λ o. Does old told s o in
-    let nobody : numbered s.asked q ≡ None = get_none s.asked q (subst (λ (rs : List Asked). (q ≡ 0) ⊎ (length rs < q)) d.requests none) in
-    subst P (sym (ap (λ o. follow s q o end) nobody)) (silent_plays old told says s d)
+follow_nobody old q end told none says given s d =
+    let P : Outcome → Type 0 = λ o. Does given old told s o in
+    let same : length old.requests ≡ length (map kept s.asked) = sym (length-map old.requests known) ∙ ap length d.requests in
+    let nobody : numbered s.asked q ≡ None = get_none s.asked q (subst (λ n. (q ≡ 0) ⊎ (n < q)) same none) in
+    subst P (sym (ap (λ o. follow s q o end) nobody)) (silent_plays old told says given s d)
 
 module _ {F : Type 0} (old : Driver F) (i q : ℕ) (place : i + 1 ≡ q) (a : Asked) (at : slice_get old.requests i ≡ Some a) (end : PhaseEnd AnyRow) where
   -- the model's request
-  abbrev waiting : (s : State) → IsDriven old s → (m : Waiting) × (slice_get s.asked i ≡ Some m) × (kept m ≡ a)
-  waiting s d = get_kept s.asked i a (sym (ap (λ rs. slice_get rs i) d.requests) ∙ at)
+  abbrev waiting : {given : Handed} (s : State) → IsHanding given old s → (m : Waiting) × (slice_get s.asked i ≡ Some m) × (kept m ≡ known a)
+  waiting s d = get_kept s.asked i (known a) (sym (ap (λ rs. slice_get rs i) d.requests) ∙ (slice_get-map known old.requests i ∙ ap (option_map known) at))
 
-  followed : (s : State) (d : IsDriven old s) → follow s q (numbered s.asked q) end ≡ follows s q (waiting s d).0 end a.flow
+  followed : {given : Handed} (s : State) (d : IsHanding given old s) → follow s q (numbered s.asked q) end ≡ follows s q (waiting s d).0 end a.flow
   followed s d =
       let m = waiting s d in
-      ap (λ o. follow s q o end) (numbered_place s.asked i q place ∙ m.1) ∙ ap (λ (x : Asked). follows s q m.0 end x.flow) m.2
+      ap (λ o. follow s q o end) (numbered_place s.asked i q place ∙ m.1) ∙ ap (λ (x : Known). follows s q m.0 end x.flow) m.2
 
   -- a request that has ended
-  pub follow_ended : (told : Told) (none : Option Flow) → a.flow ≡ None → none ≡ None → told ≡ record { refused = None; words = Empty; lines = [] } →
-      Plays old (record old { requests = slice_set old.requests i (record a { flow = none }) }) told (λ s. follow s q (numbered s.asked q) end)
-  follow_ended told none ended is_none says s d =
+  pub follow_ended : (told : Told) (x : Asked) → a.flow ≡ None → x ≡ after_phase a a.flow end → told ≡ record { refused = None; words = Empty; lines = [] } →
+      Plays old (record old { requests = slice_set old.requests i x }) told (λ s. follow s q (numbered s.asked q) end)
+  follow_ended told x ended is says given s d =
       let m = waiting s d in
-      let here : a ≡ record a { flow = none } = ap (λ (f : Option Flow). record a { flow = f }) (ended ∙ sym is_none) in
-      let same : slice_set old.requests i (record a { flow = none }) ≡ old.requests = ap (slice_set old.requests i) (sym here) ∙ set_same old.requests i a at in
-      let quiet : Does old told s (silent s) = silent_plays old told says s d in
-      let whole : Does old told s (follow s q (numbered s.asked q) end) = subst (λ (o : Outcome). Does old told s o) (sym (followed s d ∙ ap (follows s q m.0 end) ended)) quiet in
-      let P : List Asked → Type 0 = λ rs. Does (record old { requests = rs }) told s (follow s q (numbered s.asked q) end) in
+      let here : x ≡ a = is ∙ ap (λ fl. after_phase a fl end) ended in
+      let same : slice_set old.requests i x ≡ old.requests = ap (slice_set old.requests i) here ∙ set_same old.requests i a at in
+      let quiet : Does given old told s (silent s) = silent_plays old told says given s d in
+      let whole : Does given old told s (follow s q (numbered s.asked q) end) = subst (λ (o : Outcome). Does given old told s o) (sym (followed s d ∙ ap (follows s q m.0 end) ended)) quiet in
+      let P : List Asked → Type 0 = λ rs. Does given (record old { requests = rs }) told s (follow s q (numbered s.asked q) end) in
       subst P (sym same) whole
 
   module _ (f : Flow) (going : a.flow ≡ Some f) where
@@ -87,35 +97,67 @@ module _ {F : Type 0} (old : Driver F) (i q : ℕ) (place : i + 1 ≡ q) (a : As
     seen s = record s { saw = record { request = q; end = end } ∷ s.saw }
 
     -- what it draws
-    abbrev drawn : (s : State) → IsDriven old s → List Draw
+    abbrev drawn : {given : Handed} (s : State) → IsHanding given old s → List Draw
     drawn s d = draws_of s q f.block f.stage end (clock s.world (waiting s d).0.node)
 
     module _ (now : ℕ) (is_now : (w : Model AnyRow) → StandsFor any_join words old.world w → now ≡ clock w a.node) where
-      time : (s : State) (d : IsDriven old s) → clock s.world (waiting s d).0.node ≡ now
-      time s d = ap (λ (x : Asked). clock s.world x.node) (waiting s d).2 ∙ sym (is_now s.world d.world)
+      time : {given : Handed} (s : State) (d : IsHanding given old s) → clock s.world (waiting s d).0.node ≡ now
+      time s d = ap (λ (x : Known). clock s.world x.node) (waiting s d).2 ∙ sym (is_now s.world d.world)
 
-      taken : (s : State) (d : IsDriven old s) → follow s q (numbered s.asked q) end ≡ takes (seen s) q (waiting s d).0 (drawn s d) (flow.next f end now)
+      taken : {given : Handed} (s : State) (d : IsHanding given old s) → follow s q (numbered s.asked q) end ≡ takes (seen s) q (waiting s d).0 (drawn s d) (flow.next f end now)
       taken s d = followed s d ∙ ap (follows s q (waiting s d).0 end) going ∙ ap (λ t. takes (seen s) q (waiting s d).0 (drawn s d) (flow.next f end t)) (time s d)
 
       module _ (does : FlowStep) (is : does ≡ flow.next f end now) where
-        done : (s : State) (d : IsDriven old s) → follow s q (numbered s.asked q) end ≡ takes (seen s) q (waiting s d).0 (drawn s d) does
+        done : {given : Handed} (s : State) (d : IsHanding given old s) → follow s q (numbered s.asked q) end ≡ takes (seen s) q (waiting s d).0 (drawn s d) does
         done s d = taken s d ∙ ap (takes (seen s) q (waiting s d).0 (drawn s d)) (sym is)
 
         good : StepIsGood f.block does
         good = subst (StepIsGood f.block) (sym is) (next_is_good f end now)
 
-        -- the requests after this one waits for something else
-        asked_now : (s : State) (d : IsDriven old s) (x y : Asked) (then : Option Flow) → y ≡ record a { flow = then } →
-            slice_set (slice_set old.requests i x) i y ≡ map kept (slice_set s.asked (q - 1) (record (waiting s d).0 { flow = then }))
-        asked_now s d x y then is_y =
-            let m = waiting s d in
-            let at_place : i ≡ q - 1 = omega arith in
-            let now_kept : y ≡ kept (record m.0 { flow = then }) = is_y ∙ ap (λ (b : Asked). record b { flow = then }) (sym m.2) in
-            set_twice old.requests i x y ∙ ap (λ rs. slice_set rs i y) d.requests ∙ ap (slice_set (map kept s.asked) i) now_kept
-            ∙ sym (map-set kept s.asked i (record m.0 { flow = then })) ∙ ap (λ n. map kept (slice_set s.asked n (record m.0 { flow = then }))) at_place
+        -- the request now
+        abbrev pub now_kept : Option Flow → Asked
+        now_kept then = record (heard a f.stage end) { flow = then }
 
-        sized_now : (s : State) (d : IsDriven old s) (x y : Asked) → IsSized x.flow → IsSized y.flow → AllByRecursion (λ (b : Asked). IsSized b.flow) (slice_set (slice_set old.requests i x) i y)
-        sized_now s d x y has_x has_y = let P : Asked → Type 0 = λ b. IsSized b.flow in all_set P (slice_set old.requests i x) i y (all_set P old.requests i x d.flows has_x) has_y
+        at_place : i ≡ q - 1
+        at_place = omega arith
+
+        asked_is : (s : State) (m : Waiting) (then : Option Flow) → slice_set s.asked (q - 1) (record m { flow = then }) ≡ slice_set s.asked i (record m { flow = then })
+        asked_is s m then = ap (λ n. slice_set s.asked n (record m { flow = then })) (sym at_place)
+
+        -- what is known of the requests
+        known_now : {given : Handed} (s : State) (d : IsHanding given old s) (then : Option Flow) →
+            map known (slice_set old.requests i (now_kept then)) ≡ map kept (slice_set s.asked (q - 1) (record (waiting s d).0 { flow = then }))
+        known_now s d then =
+            let m = waiting s d in
+            map-set known old.requests i (now_kept then)
+            ∙ ap (λ rs. slice_set rs i (known (now_kept then))) d.requests
+            ∙ ap (λ (x : Known). slice_set (map kept s.asked) i (record x { flow = then })) (sym m.2)
+            ∙ sym (map-set kept s.asked i (record m.0 { flow = then }))
+            ∙ ap (map kept) (sym (asked_is s m.0 then))
+
+        sized_now : {given : Handed} (s : State) (d : IsHanding given old s) (then : Option Flow) → IsSized then → AllByRecursion (λ (b : Asked). IsSized b.flow) (slice_set old.requests i (now_kept then))
+        sized_now s d then has = all_set (λ (b : Asked). IsSized b.flow) old.requests i (now_kept then) d.flows has
+
+        -- what was read
+        reads_now : {given : Handed} (s t : State) (d : IsHanding given old s) → t.asked ≡ slice_set s.asked (q - 1) (record (waiting s d).0 { flow = flow_then does }) → t.ends ≡ ends_then s.ends q does →
+            t.saw ≡ record { request = q; end = end } ∷ s.saw → length t.world.requests ≡ length s.world.requests → AreRead given (slice_set old.requests i (now_kept (flow_then does))) t
+        reads_now {given} s t d asked ends saw count =
+            let m = waiting s d in
+            reads_next old.requests s t i q place a at m.0 m.1 (ap (λ (x : Known). x.kind) (sym m.2)) f going (ap (λ (x : Known). x.flow) m.2 ∙ going) end now does is
+            (asked ∙ asked_is s m.0 (flow_then does)) ends saw count given d.reads
+
+        -- it was heard, and then waits so
+        pub waited : (late new : Driver F) (x : Asked) (g : Flow) → x ≡ now_kept None → late.requests ≡ slice_set old.requests i x →
+            ((b : Asked) → slice_get late.requests i ≡ Some b → new ≡ record late { requests = slice_set late.requests i (record b { flow = Some g }) }) →
+            new ≡ record late { requests = slice_set old.requests i (now_kept (Some g)) }
+        waited late new x g is_heard requests waits =
+            let there : slice_get late.requests i ≡ Some x = ap (λ rs. slice_get rs i) requests ∙ get_set old.requests i a x at in
+            waits x there
+            ∙ ap (λ rs. record late { requests = rs }) (
+            ap (λ rs. slice_set rs i (record x { flow = Some g })) requests
+            ∙ set_twice old.requests i x (record x { flow = Some g })
+            ∙ ap (λ (z : Asked). slice_set old.requests i (record z { flow = Some g })) is_heard
+            )
 
         module _ (g : Flow) (phase : Phase AnyRow) (more : does ≡ More g phase) where
           pub next_phase : IsGood phase
@@ -124,22 +166,28 @@ module _ {F : Type 0} (old : Driver F) (i q : ℕ) (place : i + 1 ≡ q) (a : As
           same_block : g.block ≡ f.block
           same_block = let h : StepIsGood f.block (More g phase) = subst (StepIsGood f.block) more good in h.0
 
-          pub more_plays : (new : Driver F) (x : Asked) (report : Report AnyRow) (told : Told) → Steps any_join words old.world new.world report (step.Phase q phase) → x.flow ≡ None →
+          pub more_plays : (new : Driver F) (report : Report AnyRow) (told : Told) → Steps any_join words old.world new.world report (step.Phase q phase) →
               new.ends ≡ old.ends → new.history ≡ old.history →
-              new.requests ≡ slice_set (slice_set old.requests i x) i (record a { flow = Some g }) → told ≡ record { refused = None; words = Empty; lines = report.lines } →
+              new.requests ≡ slice_set old.requests i (now_kept (Some g)) → told ≡ record { refused = None; words = Empty; lines = report.lines } →
               Plays old new told (λ s. follow s q (numbered s.asked q) end)
-          more_plays new x report told steps none ends history requests says s d =
+          more_plays new report told steps ends history requests says given s d =
               let m = waiting s d in
               let then = (steps s.world d.world).does in
-              let P : Outcome → Type 0 = λ o. Does new told s o in
-              let has_block : 0 < g.block = subst (λ b. 0 < b) (sym same_block) (sized (s, d)) in
+              let t : State = (goes (seen s) q m.0 (drawn s d) g phase).state in
+              let P : Outcome → Type 0 = λ o. Does given new told s o in
+              let has_block : 0 < g.block = subst (λ b. 0 < b) (sym same_block) (sized (s, as_driven given old s d)) in
+              let read : AreRead given (slice_set old.requests i (now_kept (Some g))) t =
+              subst (λ fl. AreRead given (slice_set old.requests i (now_kept fl)) t) (ap flow_then more)
+              (reads_now s t d (ap (λ fl. slice_set s.asked (q - 1) (record m.0 { flow = fl })) (sym (ap flow_then more))) (sym (ap (ends_then s.ends q) more)) refl (same_count s.world (phases q phase) tt))
+              in
               subst P (sym (done s d ∙ ap (takes (seen s) q m.0 (drawn s d)) more)) (record {
                 stands = record {
                   world = then.stands;
-                  requests = requests ∙ asked_now s d x (record a { flow = Some g }) (Some g) refl;
+                  requests = ap (map known) requests ∙ known_now s d (Some g);
                   ends = ends ∙ d.ends;
                   history = ap (λ h. h.0) history ∙ d.history;
-                  flows = subst (AllByRecursion (λ (b : Asked). IsSized b.flow)) (sym requests) (sized_now s d x (record a { flow = Some g }) (subst IsSized (sym none) tt) has_block);
+                  flows = subst (AllByRecursion (λ (b : Asked). IsSized b.flow)) (sym requests) (sized_now s d (Some g) has_block);
+                  reads = subst (λ rs. AreRead given rs t) (sym requests) read;
                 };
                 tells = record {
                   refused = ap (λ (t : Told). t.refused) says;
@@ -149,6 +197,14 @@ module _ {F : Type 0} (old : Driver F) (i q : ℕ) (place : i + 1 ≡ q) (a : As
                 fits = ((then.stands.fits, then.spelled), tt);
               })
 
+          pub more_waits : (late new : Driver F) (x : Asked) (report : Report AnyRow) (told : Told) → x ≡ now_kept None → late.requests ≡ slice_set old.requests i x →
+              ((b : Asked) → slice_get late.requests i ≡ Some b → new ≡ record late { requests = slice_set late.requests i (record b { flow = Some g }) }) →
+              Steps any_join words old.world late.world report (step.Phase q phase) → late.ends ≡ old.ends → late.history ≡ old.history → told ≡ record { refused = None; words = Empty; lines = report.lines } →
+              Plays old new told (λ s. follow s q (numbered s.asked q) end)
+          more_waits late new x report told is_heard requests waits steps ends history says =
+              subst (λ (n : Driver F). Plays old n told (λ s. follow s q (numbered s.asked q) end)) (sym (waited late new x g is_heard requests waits))
+              (more_plays (record late { requests = slice_set old.requests i (now_kept (Some g)) }) report told steps ends history refl says)
+
           pub more_overflows : WorldOverflows any_join words old.world (step.Phase q phase) → Overflows old (λ s. follow s q (numbered s.asked q) end)
           more_overflows full s d fits =
               let m = waiting s d in
@@ -156,51 +212,59 @@ module _ {F : Type 0} (old : Driver F) (i q : ℕ) (place : i + 1 ≡ q) (a : As
               (full s.world d.world).lacks here.0.0
 
         module _ (g : Flow) (wait : does ≡ Wait g) where
-          pub wait_plays : (x : Asked) (told : Told) → x.flow ≡ None → told ≡ record { refused = None; words = Empty; lines = [] } →
-              Plays old (record old { requests = slice_set (slice_set old.requests i x) i (record a { flow = Some g }) }) told (λ s. follow s q (numbered s.asked q) end)
-          wait_plays x told none says s d =
+          pub wait_plays : (told : Told) → told ≡ record { refused = None; words = Empty; lines = [] } →
+              Plays old (record old { requests = slice_set old.requests i (now_kept (Some g)) }) told (λ s. follow s q (numbered s.asked q) end)
+          wait_plays told says given s d =
               let m = waiting s d in
-              let new : Driver F = record old { requests = slice_set (slice_set old.requests i x) i (record a { flow = Some g }) } in
-              let P : Outcome → Type 0 = λ o. Does new told s o in
+              let new : Driver F = record old { requests = slice_set old.requests i (now_kept (Some g)) } in
+              let t : State = record (seen s) { asked = slice_set s.asked (q - 1) (record m.0 { flow = Some g }) } in
+              let P : Outcome → Type 0 = λ o. Does given new told s o in
               let same : g.block ≡ f.block = (let h : StepIsGood f.block (Wait g) = subst (StepIsGood f.block) wait good in h) in
-              let has_block : 0 < g.block = subst (λ b. 0 < b) (sym same) (sized (s, d)) in
+              let has_block : 0 < g.block = subst (λ b. 0 < b) (sym same) (sized (s, as_driven given old s d)) in
               subst P (sym (done s d ∙ ap (takes (seen s) q m.0 (drawn s d)) wait)) (record {
                 stands = record {
                   world = d.world;
-                  requests = asked_now s d x (record a { flow = Some g }) (Some g) refl;
+                  requests = known_now s d (Some g);
                   ends = d.ends;
                   history = d.history;
-                  flows = sized_now s d x (record a { flow = Some g }) (subst IsSized (sym none) tt) has_block;
+                  flows = sized_now s d (Some g) has_block;
+                  reads = subst (λ fl. AreRead given (slice_set old.requests i (now_kept fl)) t) (ap flow_then wait)
+                      (reads_now s t d (ap (λ fl. slice_set s.asked (q - 1) (record m.0 { flow = fl })) (sym (ap flow_then wait))) (sym (ap (ends_then s.ends q) wait)) refl refl);
                 };
                 tells = record { refused = ap (λ (t : Told). t.refused) says; words = ap (λ (t : Told). t.words) says; lines = ap (λ (t : Told). t.lines) says };
                 fits = tt;
               })
 
-        module _ (last : FlowEnd) (ends : does ≡ End last) (none : Option Flow) (is_none : none ≡ None) where
+          pub wait_waits : (new : Driver F) (x : Asked) (told : Told) → x ≡ now_kept None →
+              ((b : Asked) → slice_get (slice_set old.requests i x) i ≡ Some b → new ≡ record old { requests = slice_set (slice_set old.requests i x) i (record b { flow = Some g }) }) →
+              told ≡ record { refused = None; words = Empty; lines = [] } → Plays old new told (λ s. follow s q (numbered s.asked q) end)
+          wait_waits new x told is_heard waits says =
+              subst (λ (n : Driver F). Plays old n told (λ s. follow s q (numbered s.asked q) end)) (sym (waited (record old { requests = slice_set old.requests i x }) new x g is_heard refl waits)) (wait_plays told says)
+
+        module _ (last : FlowEnd) (ends : does ≡ End last) (x : Asked) (is_heard : x ≡ now_kept None) where
           abbrev mid : Driver F
-          mid = record old { requests = slice_set old.requests i (record a { flow = none }) }
+          mid = record old { requests = slice_set old.requests i x }
 
           end_does : (new : Driver F) (told : Told) → Finishes mid new told q a.kind last → Plays old new told (λ s. follow s q (numbered s.asked q) end)
-          end_does new told fin s d =
+          end_does new told fin given s d =
               let m = waiting s d in
               let then = (fin.closes s.world d.world).does in
-              let P : Outcome → Type 0 = λ o. Does new told s o in
-              let gone : Asked = record a { flow = none } in
-              let requests : new.requests ≡ slice_set old.requests i gone = ap (λ (n : Driver F). n.requests) fin.rest in
-              let now_kept : gone ≡ kept (record m.0 { flow = None }) = ap (λ (o : Option Flow). record a { flow = o }) is_none ∙ ap (λ (b : Asked). record b { flow = None }) (sym m.2) in
-              let at_place : i ≡ q - 1 = omega arith in
-              let same_kind : a.kind ≡ m.0.kind = ap (λ (b : Asked). b.kind) (sym m.2) in
+              let t : State = (finishes (seen s) q m.0 last).state in
+              let P : Outcome → Type 0 = λ o. Does given new told s o in
+              let requests : new.requests ≡ slice_set old.requests i (now_kept None) = ap (λ (n : Driver F). n.requests) fin.rest ∙ ap (slice_set old.requests i) is_heard in
+              let same_kind : a.kind ≡ m.0.kind = ap (λ (b : Known). b.kind) (sym m.2) in
+              let read : AreRead given (slice_set old.requests i (now_kept None)) t =
+              subst (λ fl. AreRead given (slice_set old.requests i (now_kept fl)) t) (ap flow_then ends)
+              (reads_now s t d (ap (λ fl. slice_set s.asked (q - 1) (record m.0 { flow = fl })) (sym (ap flow_then ends))) (sym (ap (ends_then s.ends q) ends)) refl (same_count s.world (plainly (step.Close q)) tt))
+              in
               subst P (sym (done s d ∙ ap (takes (seen s) q m.0 (drawn s d)) ends)) (record {
                 stands = record {
                   world = then.stands;
-                  requests =
-                      requests ∙ ap (λ rs. slice_set rs i gone) d.requests ∙ ap (slice_set (map kept s.asked) i) now_kept
-                      ∙ sym (map-set kept s.asked i (record m.0 { flow = None })) ∙ ap (λ n. map kept (slice_set s.asked n (record m.0 { flow = None }))) at_place;
+                  requests = ap (map known) requests ∙ known_now s d None;
                   ends = ap (λ (n : Driver F). n.ends) fin.rest ∙ ap (λ es. es ++ (q, last) ∷ []) d.ends;
                   history = ap (λ (n : Driver F). n.history.0) fin.rest ∙ ap (λ h. h ++ record_of q last ∷ []) d.history;
-                  flows =
-                      let Q : Asked → Type 0 = λ b. IsSized b.flow in
-                      subst (AllByRecursion Q) (sym requests) (all_set Q old.requests i gone d.flows (subst IsSized (sym is_none) tt));
+                  flows = subst (AllByRecursion (λ (b : Asked). IsSized b.flow)) (sym requests) (sized_now s d None tt);
+                  reads = subst (λ rs. AreRead given rs t) (sym requests) read;
                 };
                 tells = record {
                   refused = ap (λ (t : Told). t.refused) fin.tells;

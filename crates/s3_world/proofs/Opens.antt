@@ -1,8 +1,8 @@
 -- A request begins: two steps of the world, and one more request with its record.
-use Rattle.std.proofs.Common.{◌≡◌, ℕ, suc, ◌<◌, true, None, Some, List, [], ◌∷◌, ◌++◌, length, ap, sym, ◌∙◌, subst, add-one}
+use Rattle.std.proofs.Common.{◌≡◌, ℕ, suc, ◌<◌, true, None, Some, List, [], ◌∷◌, ◌++◌, length, refl, ap, sym, ◌∙◌, subst, add-one}
 use Rattle.std.specs.Prelude.{map}
 use Rattle.std.specs.List.{AllByRecursion}
-use Rattle.std.proofs.lemmas.List.{length_push, map_push}
+use Rattle.std.proofs.lemmas.List.{length_push, length-map, map_push}
 use Rattle.crdt_rows.specs.declared.any_row.AnyRow.{AnyRow}
 use Rattle.crdt_rows.specs.AnyRow.{any_join}
 use Rattle.object_schema.specs.declared.schema.S3Schema.{S3Schema}
@@ -14,28 +14,38 @@ use Rattle.cluster_machine.specs.World.{Request, is_member_at}
 use Rattle.cluster_machine.specs.Layouts.{layouts}
 use Rattle.cluster_machine.specs.Worlds.{Model, next}
 use Rattle.flow_model.specs.declared.order.Order.{Order}
+use Rattle.flow_model.specs.declared.order.Order.TheVariants as order
 use Rattle.flow_model.specs.declared.flow.Flow.{Flow}
 use Rattle.flow_model.specs.Flow.{started}
 use Rattle.store_model.specs.declared.event.Told.{Told}
 use Rattle.store_model.specs.Orders.{kind_of}
-use Rattle.store_model.specs.Run.{State, plainly, opened, new_request, began_with}
+use Rattle.store_model.specs.Run.{State, plainly, phases, opened, new_request, began_with}
 use Rattle.world_core.specs.declared.world.World.{World}
 use Rattle.world_core.specs.declared.report.Report.{Report}
 use Rattle.world_core.specs.Stands.{StandsFor, IsWorld, Steps, Overflows as WorldOverflows}
 use Rattle.s3_world.specs.declared.asked.Asked.{Asked}
 use Rattle.s3_world.specs.declared.driver.Driver.{Driver}
-use Rattle.s3_world.specs.Driven.{kept, IsSized, IsReady, IsDriven, HasRun, PlaysIf, OverflowsIf}
+use Rattle.s3_world.specs.Driven.{known, kept, IsSized, IsReady, IsHanding, IsDriven, HasRun, PlaysIf, OverflowsIf}
+use Rattle.s3_world.specs.Reads.{IsReadingAs, AreRead}
 use Rattle.s3_world.proofs.Phases.{IsGood, first_is_good}
+use Rattle.s3_world.proofs.Places.{all_push}
+use Rattle.s3_world.proofs.Counts.{same_count}
+use Rattle.s3_world.proofs.Reading.{begun_reads, whatever}
+use Rattle.s3_world.proofs.Follows.{as_driven}
 
 opened_count : (w : Model AnyRow) (n : ℕ) → is_member_at layouts w n ≡ true → length (next any_join words w (plainly (Open n))).requests ≡ suc (length w.requests)
 opened_count w n m =
     let request : Request = record { coordinator = n; is_open = true } in
     rw m (length_push w.requests request ∙ add-one (length w.requests))
 
--- one more element that has what all have
-pub all_push : {A : Type 0} (P : A → Type 0) (xs : List A) (x : A) → AllByRecursion P xs → P x → AllByRecursion P (xs ++ x ∷ [])
-all_push P [] x all here = (here, tt)
-all_push P (y ∷ xs) x all here = (all.0, all_push P xs x all.1 here)
+-- a request waits as its kind does
+begun_reading : (o : Order) (id block : ℕ) → IsReadingAs (kind_of o) None (Some (started o id block).0)
+begun_reading (order.Put bucket key body headers) id block = refl
+begun_reading (order.Get bucket key) id block = refl
+begun_reading (order.Head bucket key) id block = refl
+begun_reading (order.Delete bucket key) id block = refl
+begun_reading (order.Copy from_bucket from_key bucket key headers) id block = refl
+begun_reading (order.List bucket prefix) id block = refl
 
 module _ {F : Type 0} (old : Driver F) (node : ℕ) (order : Order) (block : ℕ) (mid : World S3Schema AnyRow) (report : Report AnyRow) (first : Steps any_join words old.world mid report (Open node)) where
   abbrev here : State → Model AnyRow
@@ -55,9 +65,10 @@ module _ {F : Type 0} (old : Driver F) (node : ℕ) (order : Order) (block : ℕ
     begun s d m = is_first ∙ ap (λ q. started order q block) (the_number s d m) ∙ ap (started order (suc (length s.world.requests))) (sym m.1)
 
     pub opened_plays : (new : Driver F) (more : Report AnyRow) (told : Told) → Steps any_join words mid new.world more (Begin number phase) → new.ends ≡ old.ends →
-        new.requests ≡ old.requests ++ record { node = node; kind = kind_of order; flow = Some flow } ∷ [] → new.history.0 ≡ old.history.0 ++ began_with number node order ∷ [] →
+        new.requests ≡ old.requests ++ record { node = node; kind = kind_of order; flow = Some flow; found = None; blocks = None } ∷ [] → new.history.0 ≡ old.history.0 ++ began_with number node order ∷ [] →
         told.refused ≡ None → told.words ≡ One number → told.lines ≡ more.lines → PlaysIf (IsReady node block) old new told (λ s. opened s node order)
-    opened_plays new more told second ends requests history refused words_are lines s d m =
+    opened_plays new more told second ends requests history refused words_are lines given s h m =
+        let d : IsDriven old s = as_driven given old s h in
         let q = suc (length s.world.requests) in
         let count = the_number s d m in
         let begins = begun s d m in
@@ -65,18 +76,25 @@ module _ {F : Type 0} (old : Driver F) (node : ℕ) (order : Order) (block : ℕ
         let P : ℕ → Type 0 = λ q. Steps any_join words mid new.world more (Begin q (started order (suc (length s.world.requests)) s.block).1) in
         let one = (first s.world d.world).does in
         let two = (subst P count (subst Q (ap (λ x. x.1) begins) second) (here s) (stands s d)).does in
-        let fresh : Asked = record { node = node; kind = kind_of order; flow = Some flow } in
+        let fresh : Asked = record { node = node; kind = kind_of order; flow = Some flow; found = None; blocks = None } in
+        let t : State = (opened s node order).state in
+        let first_flow : flow ≡ (started order q s.block).0 = ap (λ x. x.0) begins in
+        let reading : IsReadingAs (kind_of order) None (Some flow) = subst (λ f. IsReadingAs (kind_of order) None (Some f)) (sym first_flow) (begun_reading order q s.block) in
+        let same_length : length old.requests ≡ length s.asked = sym (length-map old.requests known) ∙ (ap length d.requests ∙ length-map s.asked kept) in
+        let count_is : length t.world.requests ≡ q = same_count (here s) (phases q (started order q s.block).1) tt ∙ opened_count s.world node m.0 in
+        let read : AreRead given (old.requests ++ fresh ∷ []) t = begun_reads old.requests s t fresh (new_request node order (started order q s.block).0) refl refl refl reading same_length refl refl refl count_is given h.reads in
         let sized : IsSized (Some flow) = subst (λ b. 0 < b) (sym (ap (λ (x : Flow × Phase AnyRow). x.0.block) is_first ∙ (first_is_good order number block).0)) has_bytes in
         record {
           stands = record {
             world = two.stands;
             requests =
-                requests ∙ ap (λ rs. rs ++ fresh ∷ []) d.requests
-                ∙ ap (λ (f : Flow). map kept s.asked ++ record { node = node; kind = kind_of order; flow = Some f } ∷ []) (ap (λ x. x.0) begins)
+                ap (map known) requests ∙ map_push known old.requests fresh ∙ ap (λ rs. rs ++ known fresh ∷ []) d.requests
+                ∙ ap (λ (f : Flow). map kept s.asked ++ record { node = node; kind = kind_of order; flow = Some f } ∷ []) first_flow
                 ∙ sym (map_push kept s.asked (new_request node order (started order q s.block).0));
             ends = ends ∙ d.ends;
             history = history ∙ ap (λ n. old.history.0 ++ began_with n node order ∷ []) count ∙ ap (λ h. h ++ began_with q node order ∷ []) d.history;
             flows = subst (AllByRecursion (λ (a : Asked). IsSized a.flow)) (sym requests) (all_push (λ (a : Asked). IsSized a.flow) old.requests fresh d.flows sized);
+            reads = subst (λ rs. AreRead given rs t) (sym requests) read;
           };
           tells = record { refused = refused; words = words_are ∙ ap One count; lines = lines ∙ two.tells.lines };
           fits = ((one.stands.fits, one.spelled), ((two.stands.fits, two.spelled), tt));

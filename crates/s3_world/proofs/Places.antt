@@ -1,18 +1,17 @@
 -- Requests by their places and numbers.
-use Rattle.std.proofs.Common.{◌≡◌, ℕ, zero, suc, ◌+◌, ◌<◌, Some, None, List, [], ◌∷◌, length, refl, ap, subst, arith, ◌⊎◌, inl, inr}
+use Rattle.std.proofs.Common.{◌≡◌, ℕ, zero, suc, ◌+◌, ◌<◌, ◌≤◌, Some, None, List, [], ◌∷◌, ◌++◌, length, refl, ap, ◌∙◌, subst, arith, ◌⊎◌, inl, inr}
 use Rattle.std.specs.Prelude.{slice_get, slice_set, map}
 use Rattle.std.specs.List.{AllByRecursion}
 use Rattle.cluster_machine.specs.World.{numbered}
 use Rattle.store_model.specs.Run.{Asked as Waiting}
-use Rattle.s3_world.specs.declared.asked.Asked.{Asked}
-use Rattle.s3_world.specs.Driven.{kept}
+use Rattle.s3_world.specs.Driven.{Known, kept}
 
-pub numbered_place : (xs : List Waiting) (i q : ℕ) → i + 1 ≡ q → numbered xs q ≡ slice_get xs i
+pub numbered_place : {A : Type 0} (xs : List A) (i q : ℕ) → i + 1 ≡ q → numbered xs q ≡ slice_get xs i
 numbered_place xs i zero e = absurd (omega arith)
 numbered_place xs i (suc q) e = let same : q ≡ i = omega arith in ap (slice_get xs) same
 
--- the model's request whose code's is this
-pub get_kept : (xs : List Waiting) (i : ℕ) (a : Asked) → slice_get (map kept xs) i ≡ Some a → (m : Waiting) × (slice_get xs i ≡ Some m) × (kept m ≡ a)
+-- the model's request of which this is known
+pub get_kept : (xs : List Waiting) (i : ℕ) (a : Known) → slice_get (map kept xs) i ≡ Some a → (m : Waiting) × (slice_get xs i ≡ Some m) × (kept m ≡ a)
 get_kept [] i a h = absurd (cc)
 get_kept (m ∷ xs) zero a h = (m, refl, cc)
 get_kept (m ∷ xs) (suc i) a h = get_kept xs i a h
@@ -48,3 +47,56 @@ module _ {A : Type 0} where
   all_get P [] i a all h = absurd (cc)
   all_get P (x ∷ xs) zero a all h = let same : x ≡ a = cc in subst P same all.0
   all_get P (x ∷ xs) (suc i) a all h = all_get P xs i a all.1 h
+
+  pub get_set : (xs : List A) (i : ℕ) (x y : A) → slice_get xs i ≡ Some x → slice_get (slice_set xs i y) i ≡ Some y
+  get_set [] i x y h = absurd (cc)
+  get_set (z ∷ xs) zero x y h = refl
+  get_set (z ∷ xs) (suc i) x y h = get_set xs i x y h
+
+  get_other : (xs : List A) (i j : ℕ) (y : A) → (i ≡ j → ⊥) → slice_get (slice_set xs i y) j ≡ slice_get xs j
+  get_other [] i j y other = refl
+  get_other (z ∷ xs) zero zero y other = absurd (other refl)
+  get_other (z ∷ xs) zero (suc j) y other = refl
+  get_other (z ∷ xs) (suc i) zero y other = refl
+  get_other (z ∷ xs) (suc i) (suc j) y other = get_other xs i j y (λ e. other (ap suc e))
+
+  -- a place that is written, and another one
+  pub numbered_set : (xs : List A) (i q : ℕ) (x y : A) → i + 1 ≡ q → slice_get xs i ≡ Some x → numbered (slice_set xs i y) q ≡ Some y
+  numbered_set xs i q x y place at = numbered_place (slice_set xs i y) i q place ∙ get_set xs i x y at
+
+  pub numbered_other : (xs : List A) (i q p : ℕ) (y : A) → i + 1 ≡ q → (q ≡ p → ⊥) → numbered (slice_set xs i y) p ≡ numbered xs p
+  numbered_other xs i q zero y place other = refl
+  numbered_other xs i q (suc p) y place other = get_other xs i p y (λ e. other (omega arith))
+
+  -- one more
+  pub numbered_push : (xs : List A) (q : ℕ) (x y : A) → numbered xs q ≡ Some x → numbered (xs ++ y ∷ []) q ≡ Some x
+  numbered_push xs zero x y h = absurd (cc)
+  numbered_push [] (suc q) x y h = absurd (cc)
+  numbered_push (z ∷ xs) (suc zero) x y h = h
+  numbered_push (z ∷ xs) (suc (suc q)) x y h = numbered_push xs (suc q) x y h
+
+  pub numbered_last : (xs : List A) (y : A) → numbered (xs ++ y ∷ []) (suc (length xs)) ≡ Some y
+  numbered_last [] y = refl
+  numbered_last (z ∷ xs) y = numbered_last xs y
+
+  pub numbered_before : (xs : List A) (q : ℕ) (y : A) → (q ≡ suc (length xs) → ⊥) → numbered (xs ++ y ∷ []) q ≡ numbered xs q
+  numbered_before xs zero y other = refl
+  numbered_before [] (suc zero) y other = absurd (other refl)
+  numbered_before [] (suc (suc q)) y other = refl
+  numbered_before (z ∷ xs) (suc zero) y other = refl
+  numbered_before (z ∷ xs) (suc (suc q)) y other = numbered_before xs (suc q) y (λ e. other (ap suc e))
+
+  pub numbered_within : (xs : List A) (q : ℕ) (x : A) → numbered xs q ≡ Some x → q ≤ length xs
+  numbered_within xs zero x h = omega arith
+  numbered_within [] (suc q) x h = absurd (cc)
+  numbered_within (z ∷ xs) (suc zero) x h = omega arith
+  numbered_within (z ∷ xs) (suc (suc q)) x h = let less : suc q ≤ length xs = numbered_within xs (suc q) x h in omega arith
+
+  pub numbered_past : (xs : List A) → numbered xs (suc (length xs)) ≡ None
+  numbered_past [] = refl
+  numbered_past (z ∷ xs) = numbered_past xs
+
+  -- one more element that has what all have
+  pub all_push : (P : A → Type 0) (xs : List A) (x : A) → AllByRecursion P xs → P x → AllByRecursion P (xs ++ x ∷ [])
+  all_push P [] x all here = (here, tt)
+  all_push P (y ∷ xs) x all here = (all.0, all_push P xs x all.1 here)

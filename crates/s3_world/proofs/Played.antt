@@ -2,24 +2,28 @@
 use Rattle.std.proofs.Common.{◌≡◌, ℕ, Result, Ok, Err, IfOk, sym, ap, ◌∙◌, subst}
 use Rattle.std.specs.Prelude.{IfErr}
 use Rattle.crdt_core.specs.declared.memory.Memory.{Memory}
+use Rattle.crdt_rows.specs.declared.any_row.AnyRow.{AnyRow}
+use Rattle.cluster_machine.specs.declared.step.Step.{Step}
 use Rattle.cluster_machine.specs.declared.step.Step.TheVariants as step
+use Rattle.cluster_machine.specs.Choices.{Decision}
 use Rattle.flow_model.specs.declared.order.Order.{Order}
 use Rattle.store_model.specs.declared.event.Event.{Event}
 use Rattle.store_model.specs.declared.event.Event.TheVariants.{Apply}
 use Rattle.store_model.specs.declared.event.Told.{Told}
-use Rattle.store_model.specs.Run.{State, Outcome, begins}
-use Rattle.store_model.specs.Acts.{asks, acted, HasKey, IsLawfulAct}
+use Rattle.store_model.specs.Run.{State, Outcome, plainly, begins}
+use Rattle.store_model.specs.Acts.{asks, moves, plain, acted, HasKey, IsLawfulAct}
 use Rattle.store_model.specs.Events.{act_of, outcome}
 use Rattle.store_model.specs.Turns.{FitsOutcome}
 use Rattle.world_core.specs.Stands.{nothing_given}
 use Rattle.s3_world.specs.declared.world.S3World.{S3World}
-use Rattle.s3_world.specs.Stands.{Does, Plays, Overflows, PlaysStep, OverflowsStep, PlaysEvent, OverflowsEvent}
+use Rattle.s3_world.specs.Doing as doing
+use Rattle.s3_world.specs.Stands.{Holds, KeepsTold, KeepsStep, KeepsIn, Overflows, OverflowsStep, OverflowsEvent}
 use Rattle.s3_world.proofs.Causes.{Comes, same_causes}
 
 module _ (old new : S3World) (event : Event) (f : State → Outcome) (lawful : (s : State) → IsLawfulAct s (act_of event nothing_given)) (same : (s : State) → outcome s event nothing_given ≡ f s) where
-  pub event_plays : (r : Result Told Memory) → IfOk r (λ told. Plays old new told f) → IfOk r (λ told. PlaysEvent old new told event)
+  pub event_plays : (r : Result Told Memory) → IfOk r (λ told. KeepsTold old new told f) → IfOk r (λ told. KeepsIn old new told event)
   event_plays (Err e) h = tt
-  event_plays (Ok told) h = λ s d. record { choice = nothing_given; lawful = lawful s; does = subst (λ (o : Outcome). Does new told s o) (sym (same s)) (h s d) }
+  event_plays (Ok told) h = λ given s d. record { choice = nothing_given; lawful = lawful s; does = subst (λ (o : Outcome). doing.Does (Holds given) new told s o) (sym (same s)) (h given s d) }
 
   pub event_overflows : (r : Result Told Memory) → IfErr r (λ e. Comes e (Overflows old f)) → IfErr r (λ e. Comes e (OverflowsEvent old event))
   event_overflows r h = same_causes r (λ full s d. record { choice = nothing_given; lawful = lawful s; lacks = λ fits. full s d (subst (λ (o : Outcome). FitsOutcome s o) (same s) fits) }) h
@@ -32,17 +36,30 @@ module _ (old new : S3World) (event : Event) (node : ℕ) (o wanted : Order) (is
   same : (s : State) → outcome s event nothing_given ≡ begins s node o
   same s = ap (acted s) act ∙ ap (begins s node) (sym is)
 
-  pub order_plays : (r : Result Told Memory) → IfOk r (λ told. Plays old new told (λ s. begins s node o)) → IfOk r (λ told. PlaysEvent old new told event)
+  pub order_plays : (r : Result Told Memory) → IfOk r (λ told. KeepsTold old new told (λ s. begins s node o)) → IfOk r (λ told. KeepsIn old new told event)
   order_plays r h = event_plays old new event (λ s. begins s node o) lawful same r h
 
   pub order_overflows : (r : Result Told Memory) → IfErr r (λ e. Comes e (Overflows old (λ s. begins s node o))) → IfErr r (λ e. Comes e (OverflowsEvent old event))
   order_overflows r h = event_overflows old new event (λ s. begins s node o) lawful same r h
 
+-- an event that is one step of the world, which is given nothing
+module _ (old new : S3World) (event : Event) (st : Step AnyRow) (act : (choice : Decision) → act_of event choice ≡ moves (plainly st)) (same : (s : State) (choice : Decision) → plain s (record { step = st; choice = choice }) ≡ plain s (plainly st))
+    (may : (s : State) → IsLawfulAct s (moves (plainly st))) where
+  pub plain_keeps : (r : Result Told Memory) → IfOk r (λ told. KeepsStep old new told st) → IfOk r (λ told. KeepsIn old new told event)
+  plain_keeps (Err e) h = tt
+  plain_keeps (Ok told) h = λ given s d.
+      let did = h given s d in
+      record {
+        choice = did.choice;
+        lawful = subst (IsLawfulAct s) (sym (act did.choice)) (may s);
+        does = subst (λ (o : Outcome). doing.Does (Holds given) new told s o) (same s did.choice ∙ ap (acted s) (sym (act did.choice))) did.does;
+      }
+
 -- an apply is given what its step was
 module _ (old new : S3World) (node : ℕ) (r : Result Told Memory) where
-  pub apply_plays : IfOk r (λ told. PlaysStep old new told (step.Apply node)) → IfOk r (λ told. PlaysEvent old new told (Apply node))
-  apply_plays h = elim r as (λ r. IfOk r (λ told. PlaysStep old new told (step.Apply node)) → IfOk r (λ told. PlaysEvent old new told (Apply node))) [
-    | Ok told ↦ λ h s d. let did = h s d in record { choice = did.choice; lawful = (tt, tt, did.lawful); does = did.does }
+  pub apply_plays : IfOk r (λ told. KeepsStep old new told (step.Apply node)) → IfOk r (λ told. KeepsIn old new told (Apply node))
+  apply_plays h = elim r as (λ r. IfOk r (λ told. KeepsStep old new told (step.Apply node)) → IfOk r (λ told. KeepsIn old new told (Apply node))) [
+    | Ok told ↦ λ h given s d. let did = h given s d in record { choice = did.choice; lawful = (tt, tt, did.lawful); does = did.does }
     | Err e ↦ λ h. tt
   ] h
 

@@ -7,9 +7,11 @@ use Rattle.cluster_machine.specs.Ties as ties
 use Rattle.cluster_machine.specs.declared.step.Step.{Step}
 use Rattle.cluster_machine.specs.Choices.{Decision}
 use Rattle.cluster_machine.specs.Worlds.{IsLawfulStep, FitAll}
+use Rattle.store_model.specs.declared.event.Event.{Event}
 use Rattle.store_model.specs.declared.event.Told.{Told}
 use Rattle.store_model.specs.Run.{State, Outcome}
-use Rattle.store_model.specs.Acts.{plain}
+use Rattle.store_model.specs.Acts.{plain, IsLawfulAct}
+use Rattle.store_model.specs.Events.{act_of, outcome}
 use Rattle.store_model.specs.Turns.{FitsOutcome}
 
 -- the code tells what the model tells
@@ -64,3 +66,17 @@ module _ {V : Type 0} (IsTied : V → State → Type 0) where
   -- whatever state it stood for, this step would not fit
   abbrev pub OverflowsStep : V → Step AnyRow → Type 0
   OverflowsStep old st = ties.Steps IsTied old (λ s. LacksRoom s st)
+
+  -- from old to new the code did what this outcome says, whatever state old stood for, and tells nothing
+  abbrev pub Carries : V → V → (State → Outcome) → Type 0
+  Carries old new f = ties.Steps IsTied old (λ s. IsTied new (f s).state × FitAll any_join words s.world (f s).moves)
+
+  -- the code did this event, which was given something lawful
+  pub record DoesEvent (new : V) (told : Told) (s : State) (event : Event) : Type 0 where
+    pub choice : Decision
+    pub lawful : IsLawfulAct s (act_of event choice)
+    pub does : Does new told s (outcome s event choice)
+
+  -- whatever state it stood for, it did this event
+  abbrev pub PlaysEvent : V → V → Told → Event → Type 0
+  PlaysEvent old new told event = ties.Steps IsTied old (λ s. DoesEvent new told s event)

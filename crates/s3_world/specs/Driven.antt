@@ -19,10 +19,21 @@ use Rattle.world_core.specs.declared.report.Report.{Report}
 use Rattle.world_core.specs.Stands.{StandsFor, Steps}
 use Rattle.s3_world.specs.declared.asked.Asked.{Asked}
 use Rattle.s3_world.specs.declared.driver.Driver.{Driver}
+use Rattle.s3_world.specs.Reads.{Handed, nothing_handed, AreRead}
 use Rattle.s3_world.specs.Doing as doing
 
--- what the code keeps of a request
-abbrev pub kept : Waiting → Asked
+-- where a request is, what it does, and what it waits for
+pub record Known : Type 0 where
+  pub node : ℕ
+  pub kind : Kind
+  pub flow : Option Flow
+
+-- of a request of the code
+abbrev pub known : Asked → Known
+known a = record { node = a.node; kind = a.kind; flow = a.flow }
+
+-- of a request of the model
+abbrev pub kept : Waiting → Known
 kept m = record { node = m.node; kind = m.kind; flow = m.flow }
 
 -- the place of the end of a request among the ends
@@ -39,33 +50,38 @@ abbrev pub IsReady : ℕ → ℕ → State → Type 0
 IsReady n size s = (is_member_at layouts s.world n ≡ true) × (s.block ≡ size)
 
 module _ {F : Type 0} where
-  -- the driver's world, requests, ends and history are those of this state
-  pub record IsDriven (d : Driver F) (s : State) : Type 0 where
+  -- the driver's world, requests, ends and history are those of this state, and these bytes were handed out
+  pub record IsHanding (given : Handed) (d : Driver F) (s : State) : Type 0 where
     pub world : StandsFor any_join words d.world s.world
-    pub requests : d.requests ≡ map kept s.asked
+    pub requests : map known d.requests ≡ map kept s.asked
     pub ends : d.ends ≡ s.ends
     pub history : d.history.0 ≡ s.history
     pub flows : AllByRecursion (λ (a : Asked). IsSized a.flow) d.requests
+    pub reads : AreRead given d.requests s
+
+  -- the driver stands for this state, whatever was handed out
+  abbrev pub IsDriven : Driver F → State → Type 0
+  IsDriven = IsHanding nothing_handed
 
   -- the driver stands for some state: it was not given up
   abbrev pub HasRun : Driver F → Type 0
   HasRun d = (s : State) × IsDriven d s
 
   -- the driver stands for the state after this outcome, and tells it; after each of its steps every number fits
-  abbrev pub Does : Driver F → Told → State → Outcome → Type 0
-  Does = doing.Does IsDriven
+  abbrev pub Does : Handed → Driver F → Told → State → Outcome → Type 0
+  Does given = doing.Does (IsHanding given)
 
-  -- from old to new the driver did what this outcome says, whatever state old stood for, and tells it
+  -- from old to new the driver did what this outcome says, whatever state old stood for, and tells it; nothing more was handed out
   abbrev pub Plays : Driver F → Driver F → Told → (State → Outcome) → Type 0
-  Plays = doing.Plays IsDriven
+  Plays old new told f = (given : Handed) → doing.Plays (IsHanding given) old new told f
 
-  -- the same of an outcome without steps of the world
+  -- the same, of the states with a property
+  abbrev pub PlaysIf : (State → Type 0) → Driver F → Driver F → Told → (State → Outcome) → Type 0
+  PlaysIf Has old new told f = (given : Handed) → doing.PlaysIf (IsHanding given) Has old new told f
+
+  -- the same as Plays of an outcome without steps of the world, but that something may be handed out
   abbrev pub Becomes : Driver F → Driver F → (State → Outcome) → Type 0
   Becomes = doing.Becomes IsDriven
-
-  -- the same as Plays, of the states with a property
-  abbrev pub PlaysIf : (State → Type 0) → Driver F → Driver F → Told → (State → Outcome) → Type 0
-  PlaysIf = doing.PlaysIf IsDriven
 
   -- some number or row after this outcome would not fit
   abbrev pub Overflows : Driver F → (State → Outcome) → Type 0
@@ -75,9 +91,9 @@ module _ {F : Type 0} where
   abbrev pub OverflowsIf : (State → Type 0) → Driver F → (State → Outcome) → Type 0
   OverflowsIf = doing.OverflowsIf IsDriven
 
-  -- whatever state it stood for, it did this step, which was given something lawful
+  -- whatever state it stood for, it did this step, which was given something lawful; nothing more was handed out
   abbrev pub PlaysStep : Driver F → Driver F → Told → Step AnyRow → Type 0
-  PlaysStep = doing.PlaysStep IsDriven
+  PlaysStep old new told st = (given : Handed) → doing.PlaysStep (IsHanding given) old new told st
 
   -- whatever state it stood for, this step would not fit
   abbrev pub OverflowsStep : Driver F → Step AnyRow → Type 0

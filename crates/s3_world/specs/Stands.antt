@@ -1,5 +1,5 @@
 -- When the code's store stands for a state of the model, and what an act does to it.
-use Rattle.std.specs.Prelude.{◌≡◌, ◌<◌, ◌≤◌, ℕ, ⊤, Some, None, Result, Ok, Err, length, map}
+use Rattle.std.specs.Prelude.{◌≡◌, ◌<◌, ◌≤◌, ℕ, ⊤, Some, None, List, [], Result, Ok, Err, length, map}
 use Rattle.std.specs.List.{AllByRecursion}
 use Rattle.crdt_rows.specs.declared.any_row.AnyRow.{AnyRow}
 use Rattle.crdt_rows.specs.AnyRow.{any_join}
@@ -14,7 +14,7 @@ use Rattle.cluster_machine.specs.Choices.{Decision}
 use Rattle.cluster_machine.specs.Worlds.{IsMeant, FitAll}
 use Rattle.flow_model.specs.declared.order.Order.{Order}
 use Rattle.store_model.specs.declared.event.Event.{Event}
-use Rattle.store_model.specs.declared.event.Event.TheVariants.{Block, Role, Redundancy, Put, Delete, Copy}
+use Rattle.store_model.specs.declared.event.Event.TheVariants.{Block, Role, Redundancy, Put, Delete, Copy, Expire, Restart}
 use Rattle.store_model.specs.declared.event.Told.{Told}
 use Rattle.store_model.specs.Run.{State, Outcome}
 use Rattle.store_model.specs.Acts.{asks, acted, IsLawfulAct}
@@ -23,20 +23,30 @@ use Rattle.store_model.specs.Turns.{FitsOutcome}
 use Rattle.world_core.specs.Stands.{StandsFor}
 use Rattle.s3_world.specs.declared.asked.Asked.{Asked}
 use Rattle.s3_world.specs.declared.world.S3World.{S3World}
-use Rattle.s3_world.specs.Driven.{kept, IsSized}
+use Rattle.s3_world.specs.Driven.{known, kept, IsSized}
+use Rattle.s3_world.specs.Reads.{Handed, of, nothing_handed, AreRead}
 use Rattle.s3_world.specs.Doing as doing
 pub use Rattle.s3_world.specs.Doing.{Tells}
 
--- the code's store is this state of the model: its driver is, and its buckets and size of blocks are the state's
-pub record IsStore (c : S3World) (s : State) : Type 0 where
+-- the code's store is this state of the model: its driver is, and its buckets and size of blocks are the state's; and these bytes were handed out
+pub record Holds (given : Handed) (c : S3World) (s : State) : Type 0 where
   pub world : StandsFor any_join words c.driver.world s.world
   pub buckets : c.buckets ≡ s.buckets
   pub block : c.block ≡ s.block
-  pub requests : c.driver.requests ≡ map kept s.asked
+  pub requests : map known c.driver.requests ≡ map kept s.asked
   pub ends : c.driver.ends ≡ s.ends
   pub history : c.driver.history.0 ≡ s.history
   pub sized : 0 < s.block
   pub flows : AllByRecursion (λ (a : Asked). IsSized a.flow) c.driver.requests
+  pub reads : AreRead given c.driver.requests s
+
+-- the code's store is this state of the model, whatever was handed out
+abbrev pub IsStore : S3World → State → Type 0
+IsStore = Holds nothing_handed
+
+-- and of request q just these bytes were handed out
+abbrev pub IsGiving : S3World → State → ℕ → List ℕ → Type 0
+IsGiving c s q bytes = Holds (of q bytes) c s
 
 -- the store stands for some state: it was not given up
 abbrev pub HasStore : S3World → Type 0
@@ -52,8 +62,15 @@ IsMeantEvent (Delete n bucket key) = 1 ≤ length key
 IsMeantEvent (Copy n from_bucket from_key bucket key) = 1 ≤ length key
 IsMeantEvent _ = ⊤
 
--- the step ends no request
+-- the event ends no request
+abbrev pub IsCalm : Event → Type 0
+IsCalm (Expire q) = ⊥
+IsCalm (Restart n) = ⊥
+IsCalm event = ⊤
+
+-- the step opens no request and ends none
 abbrev pub IsQuiet : Step AnyRow → Type 0
+IsQuiet (step.Open n) = ⊥
 IsQuiet (step.Expire q) = ⊥
 IsQuiet (step.Restart n) = ⊥
 IsQuiet _ = ⊤
@@ -92,7 +109,23 @@ OverflowsStep = doing.OverflowsStep IsStore
 
 -- from old to new the store did what this outcome says, whatever state old stood for, and tells nothing
 abbrev pub Carries : S3World → S3World → (State → Outcome) → Type 0
-Carries old new f = ties.Steps IsStore old (λ s. IsStore new (f s).state × FitAll any_join words s.world (f s).moves)
+Carries = doing.Carries IsStore
+
+-- the same, and what was handed out of a request stays so
+abbrev pub Keeps : S3World → S3World → (State → Outcome) → Type 0
+Keeps old new f = (given : Handed) → doing.Carries (Holds given) old new f
+
+-- so it is of what it tells
+abbrev pub KeepsTold : S3World → S3World → Told → (State → Outcome) → Type 0
+KeepsTold old new told f = (given : Handed) → doing.Plays (Holds given) old new told f
+
+-- of the states with a property
+abbrev pub KeepsIf : (State → Type 0) → S3World → S3World → Told → (State → Outcome) → Type 0
+KeepsIf Has old new told f = (given : Handed) → doing.PlaysIf (Holds given) Has old new told f
+
+-- of a step, which was given something lawful
+abbrev pub KeepsStep : S3World → S3World → Told → Step AnyRow → Type 0
+KeepsStep old new told st = (given : Handed) → doing.PlaysStep (Holds given) old new told st
 
 -- an outcome opened a request with this number, or was refused so
 abbrev pub Answers : Result ℕ (Refusal Cut) → Outcome → Type 0
@@ -103,15 +136,22 @@ Answers (Err reason) o = o.refused ≡ Some reason
 abbrev pub Starts : S3World → S3World → Result ℕ (Refusal Cut) → ℕ → Order → Type 0
 Starts old new answer node order = ties.Steps IsStore old (λ s. let o = acted s (asks node order) in IsStore new o.state × FitAll any_join words s.world o.moves × Answers answer o)
 
+-- of a request that was begun nothing was handed out
+abbrev pub GivesNone : S3World → S3World → Result ℕ (Refusal Cut) → ℕ → Order → Type 0
+GivesNone old new (Ok number) node order = ties.Steps IsStore old (λ s. IsGiving new (acted s (asks node order)).state number [])
+GivesNone old new (Err reason) node order = ⊤
+
 -- the code did this event, which was given something lawful
-pub record DoesEvent (new : S3World) (told : Told) (s : State) (event : Event) : Type 0 where
-  pub choice : Decision
-  pub lawful : IsLawfulAct s (act_of event choice)
-  pub does : Does new told s (outcome s event choice)
+abbrev pub DoesEvent : S3World → Told → State → Event → Type 0
+DoesEvent = doing.DoesEvent IsStore
 
 -- whatever state it stood for, it did this event
 abbrev pub PlaysEvent : S3World → S3World → Told → Event → Type 0
-PlaysEvent old new told event = ties.Steps IsStore old (λ s. DoesEvent new told s event)
+PlaysEvent = doing.PlaysEvent IsStore
+
+-- and what was handed out of a request stays so
+abbrev pub KeepsIn : S3World → S3World → Told → Event → Type 0
+KeepsIn old new told event = (given : Handed) → doing.PlaysEvent (Holds given) old new told event
 
 -- with something lawful given there is no room after the event
 pub record EventLacksRoom (s : State) (event : Event) : Type 0 where

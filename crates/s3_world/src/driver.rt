@@ -1,5 +1,6 @@
 //! The driver of requests, over any flows: they are opened, taken from phase to phase, and ended, over a cluster.
-ghost use Rattle.std.specs.Prelude.{◌≡◌, [], ◌∷◌, ◌++◌, ◌<◌, ◌⊎◌, ◌+◌, ◌^◌, length, map, slice_get, slice_set, OnOk, IfOk, IfErr, IfSome, IfNone, Some, None};
+ghost use Rattle.std.specs.Prelude.{◌≡◌, [], ◌∷◌, ◌++◌, ◌<◌, ◌⊎◌, ◌+◌, ◌^◌, ℕ, List as Listed, length, map, option_map, slice_get, slice_set, OnOk, IfOk, IfErr, IfSome, IfNone, Some, None};
+ghost use Rattle.std.specs.Option.{option_copied};
 ghost use Rattle.crdt_core.specs.Outcomes.{OnlyWant, WantOr};
 ghost use Rattle.crdt_rows.specs.AnyRow.{any_join};
 ghost use Rattle.object_schema.specs.Schema.{words};
@@ -11,17 +12,21 @@ ghost use Rattle.history_model.specs.declared.record.Record.TheVariants.{Ended a
 ghost use Rattle.world_core.specs.Stands.{ended, IsWorld, Overflows as WorldOverflows};
 ghost use Rattle.store_model.specs.Run.{State, start as nothing_yet, opened, follow, goes_on, delivers, drains};
 ghost use Rattle.store_model.specs.Acts.{acted, takes, end_of, without_end};
+ghost use Rattle.store_model.specs.Gets.{found_by, body_of};
 ghost use Rattle.s3_world.specs.Driven.{place_in};
+ghost use Rattle.s3_world.specs.Reads.{IsLeft, HasAll, with_first, of};
 
 use crate::answers::{line_of, record_of};
 use crate::asked::Asked;
 use crate::orders::{began_with, kind_of};
+use block_bytes::Block;
 use cluster_machine::applied::Line;
 use cluster_machine::{Step, Words};
 use crdt_core::{List, Memory};
-use crdt_rows::AnyRow;
-use flow_model::{FlowEnd, FlowStep, Flows, Order};
+use crdt_rows::{AnyRow, Meta, Version};
+use flow_model::{Flow, FlowEnd, FlowStep, Flows, Order};
 use history_model::{Cause, History, Kind, Record};
+use object_bytes::Pieces;
 use object_schema::S3Schema;
 use std::alloc::Global;
 use store_model::Told;
@@ -52,6 +57,21 @@ fn place(number: u64, count: usize) -> Option<usize>
         Some((number - 1) as usize)
     } else {
         None
+    }
+}
+
+// The end of a request, with the bytes that wait to be handed out in place of all bytes, where blocks of them came.
+fn with_left(end: FlowEnd, blocks: Option<List<Block>>) -> FlowEnd
+    requires { (bytes : Listed ℕ) × IsLeft blocks bytes (body_of (Some end)) }
+    ensures { (bytes : Listed ℕ) → IsLeft blocks bytes (body_of (Some end)) → with_first bytes (Some result) ≡ Some end }
+{
+    match (end, blocks) {
+        (FlowEnd::Found { version, meta, body }, Some(blocks)) => FlowEnd::Found {
+            version,
+            meta,
+            body: body.into_rest(blocks),
+        },
+        (end, _) => end,
     }
 }
 
@@ -89,8 +109,8 @@ fn push_lost(history: &mut List<Record>, lost: &[u64]) -> Result<(), Memory>
 
 impl<F: Flows> Driver<F> {
     ghost use Rattle.flow_model.specs.declared.flow.Flow.{Flow};
-    ghost use Rattle.s3_world.specs.declared.asked.Asked.{Asked};
-    ghost use Rattle.s3_world.specs.Driven.{IsDriven, HasRun, IsReady, Becomes, Plays, PlaysIf, PlaysStep, Overflows, OverflowsIf, OverflowsStep, Finishes};
+    ghost use Rattle.s3_world.specs.declared.asked.Asked.{Asked as Requested};
+    ghost use Rattle.s3_world.specs.Driven.{IsDriven, IsHanding, HasRun, IsReady, Becomes, Plays, PlaysIf, PlaysStep, Overflows, OverflowsIf, OverflowsStep, Finishes};
 
     /// Nothing has happened.
     pub fn new(alloc: Global, flows: F) -> Result<Driver<F>, Memory>
@@ -107,16 +127,48 @@ impl<F: Flows> Driver<F> {
         })
     }
 
-    /// How a request ended by itself. None where it never began, is open, was expired or lost by a restart, or its end was
-    /// taken.
-    pub fn take_end(&mut self, request: u64) -> Option<FlowEnd>
-        ensures end { (s : State) → IsDriven self.old s → result ≡ end_of s.ends request }
-        ensures taken { Becomes self.old self.new (λ s. acted s (takes request)) }
+    /// The object that a get has found, until its end is taken. None of other requests.
+    pub fn found(&self, request: u64) -> Option<(Version, &Meta)>
+        ensures { (s : State) → IsDriven self.now s → option_map (λ found. (found.0, found.1.now)) result ≡ found_by s request }
     {
-        match place_of(self.ends.as_slice(), request) {
-            Some(i) => Some(self.ends.remove(i).1),
+        let i = place(request, self.requests.len())?;
+        match &self.requests.at(i).found {
+            Some((version, meta)) => Some((*version, meta)),
             None => None,
         }
+    }
+
+    /// How a request ended by itself, as long as that isn't taken.
+    pub fn end(&self, request: u64) -> Option<&FlowEnd>
+        ensures { (s : State) → IsDriven self.now s → option_copied result ≡ end_of s.ends request }
+    {
+        match place_of(self.ends.as_slice(), request) {
+            Some(i) => Some(&self.ends.at(i).1),
+            None => None,
+        }
+    }
+
+    /// Hands out the first block of a get that came and wasn't handed out. None where there is none. Takes no memory.
+    pub fn take_piece(&mut self, request: u64) -> Option<Block>
+        ensures piece { IfSome result (λ piece. (s : State) (bytes : Listed ℕ) → IsHanding (of request bytes) self.old s → IsHanding (of request (bytes ++ piece)) self.new s) }
+        ensures none { IfNone result (self.new ≡ self.old) }
+        ensures all { IfNone result ((s : State) (bytes : Listed ℕ) → IsHanding (of request bytes) self.old s → HasAll s request bytes) }
+    {
+        let i = place(request, self.requests.len())?;
+        self.requests.at_mut(i).take_piece()
+    }
+
+    /// How a request ended by itself. None where it never began, is open, was expired or lost by a restart, or its end was
+    /// taken. The object that a get found has those of its bytes that weren't handed out.
+    pub fn take_end(&mut self, request: u64) -> Option<FlowEnd>
+        requires stands { HasRun self.old }
+        ensures end { (s : State) (bytes : Listed ℕ) → IsHanding (of request bytes) self.old s → with_first bytes result ≡ end_of s.ends request }
+        ensures taken { Becomes self.old self.new (λ s. acted s (takes request)) }
+    {
+        let i = place(request, self.requests.len())?;
+        let at = place_of(self.ends.as_slice(), request)?;
+        let end = self.ends.remove(at).1;
+        Some(with_left(end, self.requests.at_mut(i).take_blocks()))
     }
 
     /// A request begins at a member with its first phase, where blocks have this size in bytes.
@@ -132,11 +184,7 @@ impl<F: Flows> Driver<F> {
         let began = began_with(number, node, &order)?;
         let (flow, phase) = self.flows.start(self.alloc, order, number, block)?;
         let report = self.world.step(Step::Phase(number, phase))?;
-        self.requests.push(Asked {
-            node,
-            kind,
-            flow: Some(flow),
-        })?;
+        self.requests.push(Asked::new(node, kind, flow))?;
         self.history.0.push(began)?;
         Ok(Told {
             refused: None,
@@ -206,25 +254,31 @@ impl<F: Flows> Driver<F> {
             return Ok(accepted(List::new(self.alloc)));
         };
         let asked = self.requests.at_mut(i);
-        let Some(flow) = asked.flow.take() else {
+        let (node, kind) = (asked.node, asked.kind);
+        let Some(flow) = asked.hears(self.alloc, &end)? else {
             return Ok(accepted(List::new(self.alloc)));
         };
-        let (node, kind) = (asked.node, asked.kind);
         let now = self.world.clock(node);
         match self.flows.next(self.alloc, flow, end, now)? {
             FlowStep::More(flow, phase) => {
                 let report = self.world.step(Step::Phase(request, phase))?;
-                let flow = Some(flow);
-                self.requests.set(i, Asked { node, kind, flow });
+                self.waits(i, flow);
                 Ok(accepted(report.lines))
             }
             FlowStep::Wait(flow) => {
-                let flow = Some(flow);
-                self.requests.set(i, Asked { node, kind, flow });
+                self.waits(i, flow);
                 Ok(accepted(List::new(self.alloc)))
             }
             FlowStep::End(end) => self.finishes(request, kind, end),
         }
+    }
+
+    // The request at a place waits so.
+    fn waits(&mut self, i: usize, flow: Flow)
+        requires { i < length self.old.requests }
+        ensures { (a : Requested) → slice_get self.old.requests i ≡ Some a → self.new ≡ record self.old { requests = slice_set self.old.requests i (record a { flow = Some flow }) } }
+    {
+        self.requests.at_mut(i).waits(flow);
     }
 
     // What the request does whose phase ended, if one did.

@@ -1,5 +1,6 @@
 //! The state of a run as code, and its acts: the driver's instance for objects, with buckets and the size of blocks.
-ghost use Rattle.std.specs.Prelude.{◌≡◌, [], ◌∷◌, ◌++◌, ◌≤◌, length, option_map, true, OnOk, OnErr, IfOk, Some, None, IsTrue};
+ghost use Rattle.std.specs.Prelude.{◌≡◌, [], ◌∷◌, ◌++◌, ◌≤◌, length, option_map, true, OnOk, OnErr, IfOk, IfSome, IfNone, Some, None, IsTrue, is_some, ℕ, List as Listed};
+ghost use Rattle.std.specs.Option.{option_copied};
 ghost use Rattle.crdt_core.specs.Outcomes.{OnlyWant, WantOr};
 ghost use Rattle.blake2_hash.specs.Blake2b.{blake2b};
 ghost use Rattle.object_schema.specs.Schema.{words};
@@ -20,15 +21,18 @@ ghost use Rattle.change_model.specs.Given.{applying};
 ghost use Rattle.world_core.specs.Nodes.{shown_line};
 ghost use Rattle.store_model.specs.Run.{State, start as nothing_yet, begins, opened, delivers, drains, silent};
 ghost use Rattle.store_model.specs.Acts.{HasKey, acted, moves, installs, asks, drain, forgets, takes, end_of, all_messages};
-ghost use Rattle.s3_world.specs.Stands.{IsMeantEvent, IsQuiet};
+ghost use Rattle.store_model.specs.Gets.{found_by};
+ghost use Rattle.s3_world.specs.Stands.{IsMeantEvent, IsCalm, IsQuiet};
+ghost use Rattle.s3_world.specs.Reads.{HasAll, with_first};
 
 use crate::driver::{Driver, accepted};
 use crate::events::{copy, delete, get, head, list, put};
 use crate::orders::are_buckets;
+use block_bytes::Block;
 use cluster_machine::applied::{Applied, Refusal};
 use cluster_machine::{Step, Words};
 use crdt_core::{Bytes, List, Memory, Value};
-use crdt_rows::AnyRow;
+use crdt_rows::{AnyRow, Meta, Version};
 use flow_model::{FlowEnd, Order};
 use history_model::History;
 use layout_roles::{Kind as RoleKind, Layout, Redundancy, Roles, Zone};
@@ -63,7 +67,7 @@ fn copy_role(role: &Option<(Zone, RoleKind)>) -> Result<Option<(Zone, RoleKind)>
 }
 
 impl S3World {
-    ghost use Rattle.s3_world.specs.Stands.{IsStore, HasStore, Becomes, Carries, Starts, Plays, PlaysIf, PlaysStep, PlaysEvent, Overflows, OverflowsIf, OverflowsStep, OverflowsEvent};
+    ghost use Rattle.s3_world.specs.Stands.{IsStore, IsGiving, Holds, HasStore, Becomes, Carries, Keeps, KeepsTold, KeepsIf, KeepsStep, KeepsIn, Starts, GivesNone, Plays, PlaysIf, PlaysStep, PlaysEvent, Overflows, OverflowsIf, OverflowsStep, OverflowsEvent};
 
     /// Nothing has happened.
     pub fn new(alloc: Global) -> Result<S3World, Memory>
@@ -170,29 +174,70 @@ impl S3World {
         requires stands { HasStore self.old }
         requires keyed { HasKey order }
         ensures starts { IfOk result (λ answer. Starts self.old self.new answer node order) }
+        ensures gives { IfOk result (λ answer. GivesNone self.old self.new answer node order) }
         ensures causes { WantOr result (Overflows self.old (λ s. acted s (asks node order))) }
     {
-        let told = self.begins(node, order)?;
-        match (told.refused, told.words) {
-            (Some(reason), _) => Ok(Err(reason)),
-            (None, Words::One(number)) => Ok(Ok(number)),
-            (None, _) => unreachable!(),
+        let Told { refused, words, .. } = self.begins(node, order)?;
+        if let Some(reason) = refused {
+            return Ok(Err(reason));
         }
+        let Words::One(number) = words else {
+            unreachable!()
+        };
+        Ok(Ok(number))
+    }
+
+    /// The object that a get has found, until its end is taken. None of other requests.
+    pub fn found(&self, request: u64) -> Option<(Version, &Meta)>
+        ensures { (s : State) → IsStore self.now s → option_map (λ found. (found.0, found.1.now)) result ≡ found_by s request }
+    {
+        self.driver.found(request)
+    }
+
+    /// How a request ended by itself, as long as that isn't taken. All bytes of its object are there, also those that were
+    /// handed out.
+    pub fn end(&self, request: u64) -> Option<&FlowEnd>
+        ensures { (s : State) → IsStore self.now s → option_copied result ≡ end_of s.ends request }
+    {
+        self.driver.end(request)
+    }
+
+    /// Hands out the first block of a get that came and wasn't handed out. None where there is none. Takes no memory.
+    pub fn take_piece(&mut self, request: u64) -> Option<Block>
+        ensures piece { IfSome result (λ piece. (s : State) (bytes : Listed ℕ) → IsGiving self.old s request bytes → IsGiving self.new s request (bytes ++ piece)) }
+        ensures none { IfNone result (self.new ≡ self.old) }
+        ensures all { IfNone result ((s : State) (bytes : Listed ℕ) → IsGiving self.old s request bytes → HasAll s request bytes) }
+    {
+        self.driver.take_piece(request)
     }
 
     /// How a request ended by itself. None where it never began, is open, was expired or lost by a restart, or its end was
-    /// taken.
+    /// taken. The object that a get found has those of its bytes that weren't handed out.
     pub fn take_end(&mut self, request: u64) -> Option<FlowEnd>
-        ensures end { (s : State) → IsStore self.old s → result ≡ end_of s.ends request }
+        requires stands { HasStore self.old }
+        ensures end { (s : State) (bytes : Listed ℕ) → IsGiving self.old s request bytes → with_first bytes result ≡ end_of s.ends request }
         ensures taken { Becomes self.old self.new (λ s. acted s (takes request)) }
     {
         self.driver.take_end(request)
+    }
+
+    /// Delivers the least message that was neither delivered nor lost. False where there is none.
+    pub fn deliver_next(&mut self) -> Result<bool, Memory>
+        requires stands { HasStore self.old }
+        ensures some { IfOk result (λ some. (s : State) → IsStore self.old s → some ≡ is_some (undelivered s.world)) }
+        ensures drained { OnOk result (Keeps self.old self.new (λ s. acted s (drain 1))) }
+        ensures causes { WantOr result (Overflows self.old (λ s. acted s (drain 1))) }
+    {
+        let some = self.undelivered().is_some();
+        let _ = self.drains(1)?;
+        Ok(some)
     }
 
     /// Delivers the least message that was neither delivered nor lost, until none is left.
     pub fn drain_all(&mut self) -> Result<(), Memory>
         requires stands { HasStore self.old }
         ensures drained { OnOk result (Carries self.old self.new (λ s. acted s (drain all_messages))) }
+        ensures keeps { OnOk result (Keeps self.old self.new (λ s. acted s (drain all_messages))) }
         ensures causes { WantOr result (Overflows self.old (λ s. acted s (drain all_messages))) }
     {
         let _ = self.drains(u64::MAX)?;
@@ -212,6 +257,17 @@ impl S3World {
         requires stands { HasStore self.old }
         requires meant { IsMeantEvent event.now }
         ensures plays { IfOk result (λ told. PlaysEvent self.old self.new told event.now) }
+        ensures keeps { IfOk result (λ told. IsCalm event.now → KeepsIn self.old self.new told event.now) }
+        ensures causes { WantOr result (OverflowsEvent self.old event.now) }
+    {
+        self.happens(event)
+    }
+
+    // The same.
+    fn happens(&mut self, event: &Event) -> Result<Told, Memory>
+        requires stands { HasStore self.old }
+        requires meant { IsMeantEvent event.now }
+        ensures keeps { IfOk result (λ told. KeepsIn self.old self.new told event.now) }
         ensures causes { WantOr result (OverflowsEvent self.old event.now) }
     {
         match event {
@@ -293,7 +349,7 @@ impl S3World {
         requires meant { IsMeant step }
         requires stocked { StepBringsBlocks (blake2b 32) words step }
         requires quiet { IsQuiet step }
-        ensures plays { IfOk result (λ told. PlaysStep self.old self.new told step) }
+        ensures keeps { IfOk result (λ told. KeepsStep self.old self.new told step) }
         ensures causes { WantOr result (OverflowsStep self.old step) }
     {
         let report = self.driver.world.step(step)?;
@@ -307,14 +363,14 @@ impl S3World {
     // Later requests cut bytes into blocks of this size.
     fn cut(&mut self, size: u32) -> Told
         requires { 1 ≤ size }
-        ensures { Plays self.old self.new result (λ s. silent (record s { block = size })) }
+        ensures { KeepsTold self.old self.new result (λ s. silent (record s { block = size })) }
     {
         self.block = size;
         accepted(List::new(self.alloc))
     }
 
     fn add_bucket(&mut self, name: &Bytes) -> Result<Told, Memory>
-        ensures plays { IfOk result (λ told. Plays self.old self.new told (λ s. silent (record s { buckets = s.buckets ++ name.now ∷ [] }))) }
+        ensures keeps { IfOk result (λ told. KeepsTold self.old self.new told (λ s. silent (record s { buckets = s.buckets ++ name.now ∷ [] }))) }
         ensures want { OnlyWant result }
     {
         self.buckets.push(name.as_slice())?;
@@ -335,7 +391,7 @@ impl S3World {
     // Opens a request at a node, if it may be.
     fn begins(&mut self, node: u8, order: Order) -> Result<Told, Memory>
         requires stands { HasStore self.old }
-        ensures plays { IfOk result (λ told. Plays self.old self.new told (λ s. begins s node order)) }
+        ensures keeps { IfOk result (λ told. KeepsTold self.old self.new told (λ s. begins s node order)) }
         ensures causes { WantOr result (Overflows self.old (λ s. begins s node order)) }
     {
         if !self.driver.world.member(node) {
@@ -350,7 +406,7 @@ impl S3World {
     // A request begins at a member with its first phase.
     fn opened(&mut self, node: u8, order: Order) -> Result<Told, Memory>
         requires stands { HasStore self.old }
-        ensures plays { IfOk result (λ told. PlaysIf (λ s. is_member_at layouts s.world node ≡ true) self.old self.new told (λ s. opened s node order)) }
+        ensures keeps { IfOk result (λ told. KeepsIf (λ s. is_member_at layouts s.world node ≡ true) self.old self.new told (λ s. opened s node order)) }
         ensures causes { WantOr result (OverflowsIf (λ s. is_member_at layouts s.world node ≡ true) self.old (λ s. opened s node order)) }
     {
         self.driver.opened(node, order, self.block)
@@ -359,7 +415,7 @@ impl S3World {
     // Delivers a message.
     fn delivers(&mut self, message: u64) -> Result<Told, Memory>
         requires stands { HasStore self.old }
-        ensures plays { IfOk result (λ told. Plays self.old self.new told (λ s. delivers s message)) }
+        ensures keeps { IfOk result (λ told. KeepsTold self.old self.new told (λ s. delivers s message)) }
         ensures causes { WantOr result (Overflows self.old (λ s. delivers s message)) }
     {
         self.driver.delivers(message)
@@ -368,7 +424,7 @@ impl S3World {
     // Delivers the least message that was neither delivered nor lost, up to `count` times.
     fn drains(&mut self, count: u64) -> Result<Told, Memory>
         requires stands { HasStore self.old }
-        ensures plays { IfOk result (λ told. Plays self.old self.new told (λ s. drains count s)) }
+        ensures keeps { IfOk result (λ told. KeepsTold self.old self.new told (λ s. drains count s)) }
         ensures causes { WantOr result (Overflows self.old (λ s. drains count s)) }
     {
         self.driver.drains(count)
@@ -377,7 +433,7 @@ impl S3World {
     // Ends a request that is open.
     fn expire(&mut self, request: u64) -> Result<Told, Memory>
         requires stands { HasStore self.old }
-        ensures plays { IfOk result (λ told. PlaysStep self.old self.new told (step.Expire request)) }
+        ensures keeps { IfOk result (λ told. KeepsStep self.old self.new told (step.Expire request)) }
         ensures causes { WantOr result (OverflowsStep self.old (step.Expire request)) }
     {
         self.driver.expire(request)
@@ -386,7 +442,7 @@ impl S3World {
     // A node loses its open requests.
     fn restart(&mut self, node: u8) -> Result<Told, Memory>
         requires stands { HasStore self.old }
-        ensures plays { IfOk result (λ told. PlaysStep self.old self.new told (step.Restart node)) }
+        ensures keeps { IfOk result (λ told. KeepsStep self.old self.new told (step.Restart node)) }
         ensures causes { WantOr result (OverflowsStep self.old (step.Restart node)) }
     {
         self.driver.restart(node)

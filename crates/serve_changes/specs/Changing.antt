@@ -52,7 +52,8 @@ with_change c (ch ∷ chs) = cond (length c.run.world.requests == ch.0) (record 
 -- the cluster carries out an order, and the change that it was to wait for
 abbrev pub changing : Store Changing
 changing = record {
-  carries = λ c time order. let carried = cluster.carries c.cluster time order in record { state = with_change carried.state c.to_come; end = carried.end };
+  carries = λ c time order. let carried = cluster.carries c.cluster time order in record { state = with_change carried.state c.to_come; end = carried.end; begun = carried.begun };
+  gives = λ c time order g. cluster.gives c.cluster time order g;
 }
 
 -- the acts of the change that is made, if any

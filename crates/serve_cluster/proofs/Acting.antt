@@ -1,25 +1,31 @@
 -- Acts, one after the other.
-use Rattle.std.proofs.Common.{◌≡◌, ℕ, ◌-◌, ◌⊎◌, inl, inr, List, [], ◌∷◌, ◌++◌, Option, Some, None, Result, Ok, Err, OnOk, IfOk, is_some, length, get_or, take, drop, ◌==◌, arith, true, false, refl, sym, ◌∙◌, ap, subst, append_assoc}
+use Rattle.std.proofs.Common.{◌≡◌, ℕ, suc, ◌-◌, ◌⊎◌, inl, inr, List, [], ◌∷◌, ◌++◌, Bool, Option, Some, None, Result, Ok, Err, OnOk, IfOk, is_some, length, get_or, take, drop, ◌==◌, arith, true, false, refl, sym, ◌∙◌, ap, subst, append_assoc, append-nil}
+use Rattle.std.proofs.lemmas.Bool.{eqb-true}
 use Rattle.std.proofs.lemmas.List.{map-append, take_all}
 use Rattle.layout_roles.specs.declared.cut.Cut.{Cut}
 use Rattle.crdt_core.specs.Outcomes.{WantOr}
 use Rattle.crdt_core.specs.declared.memory.Memory.{Memory}
 use Rattle.crdt_core.specs.declared.memory.Memory.TheVariants.{Want, Full}
+use Rattle.cluster_machine.specs.Ties as ties
+use Rattle.cluster_machine.specs.World.{undelivered}
 use Rattle.cluster_machine.specs.declared.step.Refusal.{Refusal}
 use Rattle.cluster_machine.specs.declared.step.Step.TheVariants.{Tick, Work}
 use Rattle.flow_model.specs.declared.order.Order.{Order}
 use Rattle.flow_model.specs.declared.flow.FlowEnd.{FlowEnd}
+use Rattle.flow_model.specs.declared.flow.FlowEnd.TheVariants.{Stored, Found, Nothing, Listed, Superseded}
 use Rattle.store_model.specs.declared.event.Event.{Event}
 use Rattle.store_model.specs.declared.event.Told.{Told}
 use Rattle.store_model.specs.Run.{State, plainly}
-use Rattle.store_model.specs.Acts.{Act, moves, asks, drain, forgets, takes, acted, after_acts, end_of, all_messages, AreLawfulActs, ActsFit, IsLawfulAct, HasKey}
+use Rattle.store_model.specs.Acts.{Act, moves, asks, drain, forgets, takes, acted, after_acts, end_of, AreLawfulActs, ActsFit, IsLawfulAct, HasKey}
 use Rattle.store_model.specs.Events.{act_of}
 use Rattle.store_model.specs.Turns.{FitsOutcome}
 use Rattle.store_model.proofs.Acts.{acts_after}
 use Rattle.s3_world.specs.declared.world.S3World.{S3World}
-use Rattle.s3_world.specs.Stands.{IsStore, HasStore, Becomes, Carries, Starts, Overflows, PlaysEvent, OverflowsEvent, EventLacksRoom, DoesEvent}
-use Rattle.serve_model.specs.Clusters.{asker, acts_to_ask, acts_to_end, acts_past_end, acts_opened, acts_then, end_then, end_in, asking, acts_of_request, end_of_request, number_in, expiry, works, ActLacksRoom}
-use Rattle.serve_cluster.specs.Acting.{DoneActs, DoesActs, LacksRoom, TakesEnd, Finishes}
+use Rattle.s3_world.specs.Reads.{Handed, of, nothing_handed, with_first}
+use Rattle.s3_world.specs.Stands.{IsStore, IsGiving, Holds, HasStore, Becomes, Keeps, Starts, Overflows, PlaysEvent, KeepsIn, OverflowsEvent, EventLacksRoom, DoesEvent}
+use Rattle.serve_model.specs.Clusters.{asker, acts_to_ask, acts_to_end, acts_past_end, acts_then, end_in, asking, acts_of_request, number_in, expiry, works, ActLacksRoom}
+use Rattle.serve_cluster.specs.Acting.{LedTo, DoneActs, DoesActs, KeepsActs, LacksRoom, IsDrained, TakesEnd, Finishes}
+use Rattle.serve_cluster.proofs.Handing.{store_of, some_given}
 
 pub acts_lawful : (s : State) (xs ys : List Act) → AreLawfulActs s xs → AreLawfulActs (after_acts s xs) ys → AreLawfulActs s (xs ++ ys)
 acts_lawful s [] ys h k = k
@@ -31,17 +37,31 @@ acts_fit s (x ∷ xs) ys h k = (h.0, acts_fit (acted s x).state xs ys h.1 k)
 
 -- ---- acts that are done
 
+module _ (IsTied : S3World → State → Type 0) where
+  pub led_more : (s : State) (xs ys : List Act) (mid new : S3World) → LedTo (IsTied mid) s xs → ties.Steps IsTied mid (λ t. LedTo (IsTied new) t ys) → LedTo (IsTied new) s (xs ++ ys)
+  led_more s xs ys mid new a f =
+      let b = f (after_acts s xs) a.stands in
+      record { lawful = acts_lawful s xs ys a.lawful b.lawful; fit = acts_fit s xs ys a.fit b.fit; stands = subst (λ t. IsTied new t) (sym (acts_after s xs ys)) b.stands }
+
 done_more : (s : State) (xs ys : List Act) (mid new : S3World) → DoneActs mid s xs → DoesActs mid new ys → DoneActs new s (xs ++ ys)
-done_more s xs ys mid new a f =
-    let b = f (after_acts s xs) a.stands in
-    record { lawful = acts_lawful s xs ys a.lawful b.lawful; fit = acts_fit s xs ys a.fit b.fit; stands = subst (λ t. IsStore new t) (sym (acts_after s xs ys)) b.stands }
+done_more = led_more IsStore
 
 pub does_more : (old mid new : S3World) (xs ys : List Act) → DoesActs old mid xs → DoesActs mid new ys → DoesActs old new (xs ++ ys)
 does_more old mid new xs ys f g = λ s st. done_more s xs ys mid new (f s st) g
 
+pub keeps_more : (old mid new : S3World) (xs ys : List Act) → KeepsActs old mid xs → KeepsActs mid new ys → KeepsActs old new (xs ++ ys)
+keeps_more old mid new xs ys f g = λ given s st. led_more (Holds given) s xs ys mid new (f given s st) (g given)
+
+-- what was handed out aside
+pub led_store : (given : Handed) (new : S3World) (s : State) (acts : List Act) → LedTo (Holds given new) s acts → DoneActs new s acts
+led_store given new s acts a = record { lawful = a.lawful; fit = a.fit; stands = store_of given new (after_acts s acts) a.stands }
+
 -- a world that acts led to stands for a state
 pub store_after : (old new : S3World) (xs : List Act) → HasStore old → DoesActs old new xs → HasStore new
 store_after old new xs h f = (after_acts h.0 xs, (f h.0 h.1).stands)
+
+pub store_kept : (old new : S3World) (xs : List Act) → HasStore old → KeepsActs old new xs → HasStore new
+store_kept old new xs h f = store_after old new xs h (f nothing_handed)
 
 pub taken_store : (old new : S3World) (q : ℕ) → HasStore old → Becomes old new (λ s. acted s (takes q)) → HasStore new
 taken_store old new q h f = ((acted h.0 (takes q)).state, f h.0 h.1)
@@ -52,15 +72,20 @@ taken_store old new q h f = ((acted h.0 (takes q)).state, f h.0 h.1)
 pub record Working (old new : S3World) (members rest : List ℕ) : Type 0 where
   pub done : List ℕ
   pub parts : done ++ rest ≡ members
-  pub does : DoesActs old new (works done)
+  pub keeps : KeepsActs old new (works done)
 
-pub one_worked : (old mid new : S3World) (members rest : List ℕ) (n : ℕ) (later : List ℕ) → rest ≡ n ∷ later → Working old mid members rest → DoesActs mid new (works (n ∷ [])) → Working old new members later
+pub one_worked : (old mid new : S3World) (members rest : List ℕ) (n : ℕ) (later : List ℕ) → rest ≡ n ∷ later → Working old mid members rest → KeepsActs mid new (works (n ∷ [])) → Working old new members later
 one_worked old mid new members rest n later e w f =
     record {
       done = w.done ++ n ∷ [];
       parts = append_assoc w.done (n ∷ []) later ∙ (ap (λ ns. w.done ++ ns) (sym e) ∙ w.parts);
-      does = subst (DoesActs old new) (sym (map-append (λ m. moves (plainly (Work m))) w.done (n ∷ []))) (does_more old mid new (works w.done) (works (n ∷ [])) w.does f);
+      keeps = subst (KeepsActs old new) (sym (map-append (λ m. moves (plainly (Work m))) w.done (n ∷ []))) (keeps_more old mid new (works w.done) (works (n ∷ [])) w.keeps f);
     }
+
+-- none is left
+pub all_worked : (old new : S3World) (members rest : List ℕ) → true ≡ (length rest == 0) → Working old new members rest → KeepsActs old new (works members)
+all_worked old new members [] e w = subst (λ ns. KeepsActs old new (works ns)) (sym (append-nil w.done) ∙ w.parts) w.keeps
+all_worked old new members (n ∷ rest) e w = absurd (let none : length (n ∷ rest) ≡ 0 = eqb-true (length (n ∷ rest)) 0 (sym e) in let some : length (n ∷ rest) ≡ suc (length rest) = refl in omega (arith, none, some))
 
 -- members that are left are a first one and those after it
 pub first_left : (ns : List ℕ) → false ≡ (length ns == 0) → ns ≡ get_or ns 0 0 ∷ take (length ns - 1) (drop 1 ns)
@@ -74,19 +99,22 @@ pub lacks_first : (s : State) (xs ys : List Act) → ActLacksRoom s xs → ActLa
 lacks_first s xs ys l = record { before = l.before; act = l.act; later = l.later ++ ys; parts = ap (λ as'. as' ++ ys) l.parts ∙ append_assoc l.before (l.act ∷ l.later) ys; lawful = l.lawful; fit = l.fit; may = l.may; lacks = l.lacks }
 
 -- acts were done before
-pub lacks_after : (s : State) (xs ys : List Act) (mid : S3World) → DoneActs mid s xs → ActLacksRoom (after_acts s xs) ys → ActLacksRoom s (xs ++ ys)
-lacks_after s xs ys mid a l =
+pub lacks_past : (s : State) (xs ys : List Act) → AreLawfulActs s xs → ActsFit s xs → ActLacksRoom (after_acts s xs) ys → ActLacksRoom s (xs ++ ys)
+lacks_past s xs ys lawful fit l =
     let e = acts_after s xs l.before in
     record {
       before = xs ++ l.before;
       act = l.act;
       later = l.later;
       parts = ap (λ as'. xs ++ as') l.parts ∙ sym (append_assoc xs l.before (l.act ∷ l.later));
-      lawful = acts_lawful s xs l.before a.lawful l.lawful;
-      fit = acts_fit s xs l.before a.fit l.fit;
+      lawful = acts_lawful s xs l.before lawful l.lawful;
+      fit = acts_fit s xs l.before fit l.fit;
       may = subst (λ t. IsLawfulAct t l.act) (sym e) l.may;
       lacks = subst (λ t. FitsOutcome t (acted t l.act) → ⊥) (sym e) l.lacks;
     }
+
+pub lacks_after : (s : State) (xs ys : List Act) (mid : S3World) → DoneActs mid s xs → ActLacksRoom (after_acts s xs) ys → ActLacksRoom s (xs ++ ys)
+lacks_after s xs ys mid a l = lacks_past s xs ys a.lawful a.fit l
 
 pub lacks_then : (old : S3World) (xs ys : State → List Act) → LacksRoom old xs → LacksRoom old (λ s. xs s ++ ys s)
 lacks_then old xs ys f = λ s st. lacks_first s (xs s) (ys s) (f s st)
@@ -94,13 +122,16 @@ lacks_then old xs ys f = λ s st. lacks_first s (xs s) (ys s) (f s st)
 pub lacks_more : (old mid : S3World) (xs : List Act) (ys : State → List Act) → DoesActs old mid xs → LacksRoom mid ys → LacksRoom old (λ s. xs ++ ys (after_acts s xs))
 lacks_more old mid xs ys f g = λ s st. lacks_after s xs (ys (after_acts s xs)) mid (f s st) (g (after_acts s xs) (f s st).stands)
 
-lacks_act : (s : State) (a : Act) → IsLawfulAct s a → (FitsOutcome s (acted s a) → ⊥) → ActLacksRoom s (a ∷ [])
+pub lacks_kept : (old mid : S3World) (xs : List Act) (ys : State → List Act) → KeepsActs old mid xs → LacksRoom mid ys → LacksRoom old (λ s. xs ++ ys (after_acts s xs))
+lacks_kept old mid xs ys f g = lacks_more old mid xs ys (f nothing_handed) g
+
+pub lacks_act : (s : State) (a : Act) → IsLawfulAct s a → (FitsOutcome s (acted s a) → ⊥) → ActLacksRoom s (a ∷ [])
 lacks_act s a may full = record { before = []; act = a; later = []; parts = refl; lawful = tt; fit = tt; may = may; lacks = full }
 
 -- the next of the members that are left has no room to work
 pub one_lacks : (old mid : S3World) (members rest : List ℕ) (n : ℕ) (later : List ℕ) → rest ≡ n ∷ later → Working old mid members rest → LacksRoom mid (λ _. works (n ∷ [])) → LacksRoom old (λ _. works members)
 one_lacks old mid members rest n later e w f = λ s st.
-    let l = lacks_more old mid (works w.done) (λ _. works (n ∷ later)) w.does (lacks_then mid (λ _. works (n ∷ [])) (λ _. works later) f) s st in
+    let l = lacks_more old mid (works w.done) (λ _. works (n ∷ later)) (w.keeps nothing_handed) (lacks_then mid (λ _. works (n ∷ [])) (λ _. works later) f) s st in
     let P : List ℕ → Type 0 = λ ns. ActLacksRoom s (works ns) in
     subst P (ap (λ ns. w.done ++ ns) (sym e) ∙ w.parts) (subst (ActLacksRoom s) (sym (map-append (λ m. moves (plainly (Work m))) w.done (n ∷ later))) l)
 
@@ -109,11 +140,23 @@ pub cause_more : {A B : Type 0} (e : Memory) → (A → B) → (e ≡ Want) ⊎ 
 cause_more e f (inl want) = inl want
 cause_more e f (inr full) = inr (full.0, f full.1)
 
+-- what a call answered, where its answer is known
+pub ok_as : {A : Type 0} (P : A → Type 0) (r : Result A Memory) (x y : A) → r ≡ Ok x → x ≡ y → IfOk r P → P y
+ok_as P r x y is same h = subst P same (subst (λ t. IfOk t P) is h)
+
 -- ---- what the next call answers is handed on
 
 pub does_next : {A : Type 0} (r : Result A Memory) (old mid new : S3World) (xs ys : List Act) → DoesActs old mid xs → OnOk r (DoesActs mid new ys) → OnOk r (DoesActs old new (xs ++ ys))
 does_next (Ok v) old mid new xs ys f g = does_more old mid new xs ys f g
 does_next (Err e) old mid new xs ys f g = tt
+
+pub keeps_next : {A : Type 0} (r : Result A Memory) (old mid new : S3World) (xs ys : List Act) → KeepsActs old mid xs → OnOk r (KeepsActs mid new ys) → OnOk r (KeepsActs old new (xs ++ ys))
+keeps_next (Ok v) old mid new xs ys f g = keeps_more old mid new xs ys f g
+keeps_next (Err e) old mid new xs ys f g = tt
+
+pub does_kept : {A : Type 0} (r : Result A Memory) (old new : S3World) (xs : List Act) → OnOk r (KeepsActs old new xs) → OnOk r (DoesActs old new xs)
+does_kept (Ok v) old new xs f = f nothing_handed
+does_kept (Err e) old new xs f = tt
 
 pub causes_next : {A B C : Type 0} (r : Result A Memory) → (B → C) → WantOr r B → WantOr r C
 causes_next (Ok v) f h = tt
@@ -127,8 +170,8 @@ does_event new told s event h = record { lawful = (h.lawful, tt); fit = (h.does.
 pub ticked : (old new : S3World) (told : Told) (ms : ℕ) → PlaysEvent old new told (Event.Tick ms) → DoesActs old new (moves (plainly (Tick ms)) ∷ [])
 ticked old new told ms h = λ s st. does_event new told s (Event.Tick ms) (h s st)
 
-pub worked : (old new : S3World) (told : Told) (n : ℕ) → PlaysEvent old new told (Event.Work n) → DoesActs old new (works (n ∷ []))
-worked old new told n h = λ s st. does_event new told s (Event.Work n) (h s st)
+pub worked : (old new : S3World) (told : Told) (n : ℕ) → KeepsIn old new told (Event.Work n) → KeepsActs old new (works (n ∷ []))
+worked old new told n h = λ given s st. let x = h given s st in record { lawful = (x.lawful, tt); fit = (x.does.fits, tt); stands = x.does.stands }
 
 pub expired : (old new : S3World) (told : Told) (q : ℕ) → PlaysEvent old new told (Event.Expire q) → DoesActs old new (expiry q None)
 expired old new told q h = λ s st. does_event new told s (Event.Expire q) (h s st)
@@ -153,11 +196,19 @@ pub expire_lacks : (old : S3World) (q : ℕ) (end : Option FlowEnd) → is_some 
 expire_lacks old q None e h = expiry_lacks old q h
 expire_lacks old q (Some end) e h = absurd (let no' : true ≡ false = e in cc)
 
-pub drained : (old new : S3World) → Carries old new (λ s. acted s (drain all_messages)) → DoesActs old new (drain all_messages ∷ [])
-drained old new h = λ s st. let x = h s st in record { lawful = (tt, tt); fit = (x.1, tt); stands = x.0 }
+pub drained : (old new : S3World) (n : ℕ) → Keeps old new (λ s. acted s (drain n)) → KeepsActs old new (drain n ∷ [])
+drained old new n h = λ given s st. let x = h given s st in record { lawful = (tt, tt); fit = (x.1, tt); stands = x.0 }
 
-pub drain_lacks : (old : S3World) → Overflows old (λ s. acted s (drain all_messages)) → LacksRoom old (λ _. drain all_messages ∷ [])
-drain_lacks old h = λ s st. lacks_act s (drain all_messages) tt (h s st)
+pub drain_lacks : (old : S3World) (n : ℕ) → Overflows old (λ s. acted s (drain n)) → LacksRoom old (λ _. drain n ∷ [])
+drain_lacks old n h = λ s st. lacks_act s (drain n) tt (h s st)
+
+is_none : {A : Type 0} (o : Option A) → is_some o ≡ false → o ≡ None
+is_none None e = refl
+is_none (Some x) e = absurd (let no' : true ≡ false = e in cc)
+
+-- no message was left where none was delivered
+pub none_left : (old : S3World) (some : Bool) → ((s : State) → IsStore old s → some ≡ is_some (undelivered s.world)) → some ≡ false → IsDrained old
+none_left old some h = λ none s st. is_none (undelivered s.world) (sym (h s st) ∙ none)
 
 pub ask_lacks : (old : S3World) (n : ℕ) (order : Order) → HasKey order → Overflows old (λ s. acted s (asks n order)) → LacksRoom old (λ _. asks n order ∷ [])
 ask_lacks old n order keyed h = λ s st. lacks_act s (asks n order) keyed (h s st)
@@ -168,34 +219,64 @@ taken old new q h = λ s st. record { lawful = (tt, tt); fit = (tt, tt); stands 
 pub forgot : (old new : S3World) → Becomes old new (λ s. acted s forgets) → DoesActs old new (forgets ∷ [])
 forgot old new h = λ s st. record { lawful = (tt, tt); fit = (tt, tt); stands = h s st }
 
-pub took_end : (old mid late new : S3World) (q : ℕ) (end : Option FlowEnd) → ((s : State) → IsStore old s → end ≡ end_of s.ends q) → Becomes old mid (λ s. acted s (takes q)) → DoesActs mid late (expiry q end) → Becomes late new (λ s. acted s forgets) → TakesEnd old new q end
-took_end old mid late new q end is take expires forget = λ s st.
+-- an end is there whatever was handed out
+expiry_of : (q : ℕ) (given : List ℕ) (end : Option FlowEnd) → expiry q (with_first given end) ≡ expiry q end
+expiry_of q given None = refl
+expiry_of q given (Some (Found version meta body)) = refl
+expiry_of q given (Some (Stored version meta)) = refl
+expiry_of q given (Some Nothing) = refl
+expiry_of q given (Some (Listed rows)) = refl
+expiry_of q given (Some (Superseded id)) = refl
+
+-- the end of the request as it was taken
+abbrev IsEnd : S3World → ℕ → Option FlowEnd → Type 0
+IsEnd old q end = (s : State) (given : List ℕ) → IsGiving old s q given → with_first given end ≡ end_of s.ends q
+
+pub took_end : (old mid late new : S3World) (q : ℕ) (end : Option FlowEnd) → IsEnd old q end → Becomes old mid (λ s. acted s (takes q)) → DoesActs mid late (expiry q end) → Becomes late new (λ s. acted s forgets) → TakesEnd old new q end
+took_end old mid late new q end is take expires forget = λ given s st.
+    let same : expiry q end ≡ expiry q (end_of s.ends q) = sym (expiry_of q given end) ∙ ap (expiry q) (is s given st) in
+    let past : DoesActs mid new (expiry q end ++ forgets ∷ []) = does_more mid late new (expiry q end) (forgets ∷ []) expires (forgot late new forget) in
     record {
-      end_is = is s st;
-      does = does_more old mid new (takes q ∷ []) (expiry q end ++ forgets ∷ []) (taken old mid q take) (does_more mid late new (expiry q end) (forgets ∷ []) expires (forgot late new forget)) s st;
+      end_is = is s given st;
+      does = does_more old mid new (takes q ∷ []) (expiry q (end_of s.ends q) ++ forgets ∷ []) (taken old mid q take) (subst (λ (acts : List Act). DoesActs mid new (acts ++ forgets ∷ [])) same past) s (store_of (of q given) old s st);
     }
 
-pub take_lacks : (old mid : S3World) (q : ℕ) (end : Option FlowEnd) → ((s : State) → IsStore old s → end ≡ end_of s.ends q) → Becomes old mid (λ s. acted s (takes q)) → LacksRoom mid (λ _. expiry q end) → LacksRoom old (λ s. acts_past_end q (end_of s.ends q))
+pub take_lacks : (old mid : S3World) (q : ℕ) (end : Option FlowEnd) → IsEnd old q end → Becomes old mid (λ s. acted s (takes q)) → LacksRoom mid (λ _. expiry q end) → LacksRoom old (λ s. acts_past_end q (end_of s.ends q))
 take_lacks old mid q end is take h = λ s st.
-    let P : Option FlowEnd → Type 0 = λ e. ActLacksRoom s (acts_past_end q e) in
-    subst P (is s st) (lacks_more old mid (takes q ∷ []) (λ _. expiry q end ++ forgets ∷ []) (taken old mid q take) (lacks_then mid (λ _. expiry q end) (λ _. forgets ∷ []) h) s st)
+    let some = some_given old s q st in
+    let same : expiry q end ≡ expiry q (end_of s.ends q) = sym (expiry_of q some.0 end) ∙ ap (expiry q) (is s some.0 some.1) in
+    let P : List Act → Type 0 = λ acts. ActLacksRoom s (takes q ∷ acts ++ forgets ∷ []) in
+    subst P same (lacks_more old mid (takes q ∷ []) (λ _. expiry q end ++ forgets ∷ []) (taken old mid q take) (lacks_then mid (λ _. expiry q end) (λ _. forgets ∷ []) h) s st)
 
-pub finished : (old mid new : S3World) (members : List ℕ) (q : ℕ) (end : Option FlowEnd) → DoesActs old mid (acts_to_end members) → TakesEnd mid new q end → Finishes old new members q end
+-- where nothing was handed out the end is all of it
+with_nothing : (end : Option FlowEnd) → with_first [] end ≡ end
+with_nothing None = refl
+with_nothing (Some (Found version meta body)) = refl
+with_nothing (Some (Stored version meta)) = refl
+with_nothing (Some Nothing) = refl
+with_nothing (Some (Listed rows)) = refl
+with_nothing (Some (Superseded id)) = refl
+
+finished : (old mid new : S3World) (members : List ℕ) (q : ℕ) (end : Option FlowEnd) → KeepsActs old mid (acts_to_end members) → TakesEnd mid new q end → Finishes old new members q end
 finished old mid new members q end f g = λ s st.
-    let a = f s st in
-    let b = g (after_acts s (acts_to_end members)) a.stands in
-    let P : Option FlowEnd → Type 0 = λ e. DoneActs new s (acts_to_end members ++ acts_past_end q e) in
-    let last : DoesActs mid new (acts_past_end q end) = λ t st'. (g t st').does in
-    record { end_is = b.end_is; does = subst P b.end_is (done_more s (acts_to_end members) (acts_past_end q end) mid new a last) }
+    let to : List Act = acts_to_end members in
+    let a = f (of q []) s st in
+    let b = g [] (after_acts s to) a.stands in
+    let past : List Act = acts_past_end q (end_in members s q) in
+    record {
+      end_is = sym (with_nothing end) ∙ b.end_is;
+      does = record {
+        lawful = acts_lawful s to past a.lawful b.does.lawful;
+        fit = acts_fit s to past a.fit b.does.fit;
+        stands = subst (λ t. IsStore new t) (sym (acts_after s to past)) b.does.stands;
+      };
+    }
 
-pub finish_next : (r : Result (Option FlowEnd) Memory) (old mid new : S3World) (members : List ℕ) (q : ℕ) → DoesActs old mid (acts_to_end members) → IfOk r (λ end. TakesEnd mid new q end) → IfOk r (λ end. Finishes old new members q end)
+pub finish_next : (r : Result (Option FlowEnd) Memory) (old mid new : S3World) (members : List ℕ) (q : ℕ) → KeepsActs old mid (acts_to_end members) → IfOk r (λ end. TakesEnd mid new q end) → IfOk r (λ end. Finishes old new members q end)
 finish_next (Ok end) old mid new members q f g = finished old mid new members q end f g
 finish_next (Err e) old mid new members q f g = tt
 
 -- ---- a request
-
-pub started_store : (mid new : S3World) (answer : Result ℕ (Refusal Cut)) (n : ℕ) (order : Order) → HasStore mid → Starts mid new answer n order → HasStore new
-started_store mid new answer n order h f = ((acted h.0 (asks n order)).state, (f h.0 h.1).0)
 
 module _ (members : List ℕ) (s : State) (ms : ℕ) (order : Order) where
   pub asked : (mid new : S3World) (answer : Result ℕ (Refusal Cut)) → HasKey order → DoneActs mid s (moves (plainly (Tick ms)) ∷ []) → Starts mid new answer (asker members) order → DoneActs new s (acts_to_ask members ms order)
@@ -203,50 +284,6 @@ module _ (members : List ℕ) (s : State) (ms : ℕ) (order : Order) where
       let t = (acted s (moves (plainly (Tick ms)))).state in
       let x = h t a.stands in
       record { lawful = (a.lawful.0, (keyed, tt)); fit = (a.fit.0, (x.1, tt)); stands = x.0 }
-
-  -- what is known of a request that was carried out
-  pub record RequestDone (new : S3World) (end : Option FlowEnd) : Type 0 where
-    pub end_is : end ≡ end_of_request members s ms order
-    pub does : DoneActs new s (acts_of_request members s ms order)
-
-  pub opened_done : (mid late new : S3World) (q : ℕ) (end : Option FlowEnd) → HasKey order → DoneActs mid s (moves (plainly (Tick ms)) ∷ []) → Starts mid late (Ok q) (asker members) order → Finishes late new members q end → RequestDone new end
-  opened_done mid late new q end keyed a h f =
-      let o = asking members s ms order in
-      let x = h (acted s (moves (plainly (Tick ms)))).state a.stands in
-      let done = asked mid late (Ok q) keyed a h in
-      let fin = f o.state x.0 in
-      let number : q ≡ number_in o.words = sym (ap number_in x.2.1) in
-      let P : Option (Refusal Cut) → Type 0 = λ r. end ≡ end_then members o.state (number_in o.words) r in
-      let Q : Option (Refusal Cut) → Type 0 = λ r. DoneActs new s (acts_to_ask members ms order ++ acts_then members o.state (number_in o.words) r) in
-      let R : ℕ → Type 0 = λ n. DoneActs new s (acts_to_ask members ms order ++ acts_opened members o.state n) in
-      let last : DoneActs new s (acts_to_ask members ms order ++ acts_opened members o.state q) =
-      record {
-        lawful = acts_lawful s (acts_to_ask members ms order) (acts_opened members o.state q) done.lawful fin.does.lawful;
-        fit = acts_fit s (acts_to_ask members ms order) (acts_opened members o.state q) done.fit fin.does.fit;
-        stands = subst (λ t. IsStore new t) (sym (acts_after s (acts_to_ask members ms order) (acts_opened members o.state q))) fin.does.stands;
-      } in
-      record {
-        end_is = subst P (sym x.2.0) (fin.end_is ∙ ap (end_in members o.state) number);
-        does = subst Q (sym x.2.0) (subst R number last);
-      }
-
-  pub refused_done : (mid new : S3World) (reason : Refusal Cut) → HasKey order → DoneActs mid s (moves (plainly (Tick ms)) ∷ []) → Starts mid new (Err reason) (asker members) order → RequestDone new None
-  refused_done mid new reason keyed a h =
-      let o = asking members s ms order in
-      let x = h (acted s (moves (plainly (Tick ms)))).state a.stands in
-      let P : Option (Refusal Cut) → Type 0 = λ r. None ≡ end_then members o.state (number_in o.words) r in
-      let Q : Option (Refusal Cut) → Type 0 = λ r. DoneActs new s (acts_to_ask members ms order ++ acts_then members o.state (number_in o.words) r) in
-      record { end_is = subst P (sym x.2) refl; does = subst Q (sym x.2) (asked mid new (Err reason) keyed a h) }
-
-  -- one of the acts after the request was opened has no room
-  pub opened_lacks : (mid late : S3World) (q : ℕ) → HasKey order → DoneActs mid s (moves (plainly (Tick ms)) ∷ []) → Starts mid late (Ok q) (asker members) order → LacksRoom late (λ t. acts_opened members t q) → ActLacksRoom s (acts_of_request members s ms order)
-  opened_lacks mid late q keyed a h f =
-      let o = asking members s ms order in
-      let x = h (acted s (moves (plainly (Tick ms)))).state a.stands in
-      let done = asked mid late (Ok q) keyed a h in
-      let Q : Option (Refusal Cut) → Type 0 = λ r. ActLacksRoom s (acts_to_ask members ms order ++ acts_then members o.state (number_in o.words) r) in
-      let R : ℕ → Type 0 = λ n. ActLacksRoom s (acts_to_ask members ms order ++ acts_opened members o.state n) in
-      subst Q (sym x.2.0) (subst R (sym (ap number_in x.2.1)) (lacks_after s (acts_to_ask members ms order) (acts_opened members o.state q) late done (f o.state x.0)))
 
 -- the first act of a request has no room: its time goes on
 pub ticking_lacks : (old : S3World) (members : List ℕ) (ms : ℕ) (order : Order) → LacksRoom old (λ _. moves (plainly (Tick ms)) ∷ []) → LacksRoom old (λ s. acts_of_request members s ms order)

@@ -11,6 +11,7 @@ use Rattle.store_model.specs.Run.{State}
 use Rattle.store_model.specs.Acts.{Act, after_acts, AreLawfulActs, ActsFit}
 use Rattle.s3_world.specs.declared.world.S3World.{S3World}
 use Rattle.s3_world.specs.Stands.{IsStore}
+use Rattle.serve_model.specs.Stores.{Given}
 use Rattle.serve_model.specs.Clusters.{Cluster as Model, cluster, fits, lacks, ActLacksRoom}
 use Rattle.serve_model.specs.Serving.{HasState, CarriedOut}
 use Rattle.serve_changes.specs.Acts.{change_acts}
@@ -19,7 +20,12 @@ use Rattle.serve_cluster.specs.declared.change.Change.{Change}
 use Rattle.serve_cluster.specs.declared.changing.Changing.{Changing}
 use Rattle.serve_cluster.specs.declared.cluster.Cluster.{Cluster}
 use Rattle.serve_cluster.specs.Acting.{LacksRoom}
-use Rattle.serve_cluster.specs.Changes.{nodes_of, IsComputed, AreWithin, acts_with, DoesIn, IsChange, AreChanges, IsChanging, is_due}
+use Rattle.serve_cluster.specs.Changes.{nodes_of, IsComputed, AreWithin, acts_with, DoesIn, IsChange, AreChanges, IsChanging, is_due, IsChangingGet}
+use Rattle.serve_loop.specs.declared.storage.Got.{Got}
+use Rattle.serve_loop.specs.declared.storage.Got.TheVariants as got
+use Rattle.serve_loop.specs.Gets as gets
+use Rattle.serve_loop.specs.Gets.{GoesOn, Gives, MayGive, with_given}
+use Rattle.serve_cluster.specs.Giving.{IsOnItsWay}
 use Rattle.serve_cluster.specs.Standing.{StandsFor}
 use Rattle.serve_cluster.proofs.Making.{staged_after}
 use Rattle.serve_cluster.proofs.Unstaged.{order_leaves}
@@ -36,7 +42,7 @@ module _ (old : Cluster) (c : Change) (m : Model) (ch : ℕ × Later) (st : Stan
   acts_are = ap (λ ms. acts_with ms c m.run) st.members ∙ acts_same m.members c ch h m.run
 
   pub changes_so : (world : S3World) (newer : List ℕ) → newer ≡ nodes_of c.shown.roles.list → DoesIn old.world world (acts_with old.members c) →
-      AreLawfulActs m.run (acts_in m.run ch.1) × ActsFit m.run (acts_in m.run ch.1) × StandsFor (record { world = world; members = newer; ticked = old.ticked }) (changed m ch.1)
+      AreLawfulActs m.run (acts_in m.run ch.1) × ActsFit m.run (acts_in m.run ch.1) × StandsFor (record old { world = world; members = newer }) (changed m ch.1)
   changes_so world newer is f =
       let a = f m.run st.world in (
         subst (AreLawfulActs m.run) acts_are a.lawful,
@@ -156,25 +162,77 @@ as_many members (c ∷ cs) (ch ∷ chs) h = ap suc (as_many (nodes_of c.shown.ro
 abbrev pub Carries : Cluster → Cluster → ℕ → Order → Option FlowEnd → Type 0
 Carries old new time order end = (s : Model) → StandsFor old s → CarriedOut cluster fits lacks (StandsFor new) s time order end
 
+-- the change that is due is made
+abbrev pub MakesDue : Cluster → List Change → Changing → Type 0
+MakesDue mid to_come new = (m : Models) → IsChanging (record { cluster = mid; to_come = to_come }) m → ChangeFits m.cluster m.to_come × IsChanging new (with_change m.cluster m.to_come)
+
+-- or it has no room
+abbrev pub DueLacks : Cluster → List Change → Type 0
+DueLacks mid to_come = (m : Models) → IsChanging (record { cluster = mid; to_come = to_come }) m → ActLacksRoom m.cluster.run (acts_due m.cluster m.to_come)
+
+module _ (to_come : List Change) (mid : Cluster) (m : Models) (time : ℕ) (order : Order) (end : Option FlowEnd) (staged : AreWithin m.cluster.run.world.roles) (are : AreChanges m.cluster.members to_come m.to_come) (carried : CarriedOut cluster fits lacks (StandsFor mid) m.cluster time order end) where
+  abbrev then : Models
+  then = record { cluster = (cluster.carries m.cluster time order).state; to_come = m.to_come }
+
+  stands_mid : IsChanging (record { cluster = mid; to_come = to_come }) then
+  stands_mid = record { cluster = carried.stands; staged = subst AreWithin (sym (order_leaves m.cluster time order)) staged; to_come = are }
+
+  then_made : (new : Changing) → MakesDue mid to_come new → CarriedOut changing changing_fits changing_lacks (IsChanging new) m time order end
+  then_made new f = let d = f then stands_mid in record { end_is = carried.end_is; fit = (carried.fit, d.0); stands = d.1 }
+
+  then_lacks : DueLacks mid to_come → changing_lacks m time order
+  then_lacks f = inr (carried.fit, f then stands_mid)
+
 module _ (old : Changing) (time : ℕ) (order : Order) (mid : Cluster) (end : Option FlowEnd) (carried : Carries old.cluster mid time order end) where
-  abbrev then : Models → Models
-  then m = record { cluster = (cluster.carries m.cluster time order).state; to_come = m.to_come }
-
-  pub stands_mid : (m : Models) → IsChanging old m → IsChanging (record { cluster = mid; to_come = old.to_come }) (then m)
-  stands_mid m h = record { cluster = (carried m.cluster h.cluster).stands; staged = subst AreWithin (sym (order_leaves m.cluster time order)) h.staged; to_come = h.to_come }
-
   pub mid_state : HasState (IsChanging old) → HasState (IsChanging (record { cluster = mid; to_come = old.to_come }))
-  mid_state h = (then h.0, stands_mid h.0 h.1)
+  mid_state h = let m = h.0 in (then old.to_come mid m time order end h.1.staged h.1.to_come (carried m.cluster h.1.cluster), stands_mid old.to_come mid m time order end h.1.staged h.1.to_come (carried m.cluster h.1.cluster))
 
-  pub carried_all : (new : Changing) → ((m : Models) → IsChanging (record { cluster = mid; to_come = old.to_come }) m → ChangeFits m.cluster m.to_come × IsChanging new (with_change m.cluster m.to_come)) →
-      (m : Models) → IsChanging old m → CarriedOut changing changing_fits changing_lacks (IsChanging new) m time order end
-  carried_all new f m h =
-      let a = carried m.cluster h.cluster in
-      let d = f (then m) (stands_mid m h) in
-      record { end_is = a.end_is; fit = (a.fit, d.0); stands = d.1 }
+  pub carried_all : (new : Changing) → MakesDue mid old.to_come new → (m : Models) → IsChanging old m → CarriedOut changing changing_fits changing_lacks (IsChanging new) m time order end
+  carried_all new f m h = then_made old.to_come mid m time order end h.staged h.to_come (carried m.cluster h.cluster) new f
 
-  pub carried_lacks : ((m : Models) → IsChanging (record { cluster = mid; to_come = old.to_come }) m → ActLacksRoom m.cluster.run (acts_due m.cluster m.to_come)) → (m : Models) → IsChanging old m → changing_lacks m time order
-  carried_lacks f m h = inr ((carried m.cluster h.cluster).fit, f (then m) (stands_mid m h))
+  pub carried_lacks : DueLacks mid old.to_come → (m : Models) → IsChanging old m → changing_lacks m time order
+  carried_lacks f m h = then_lacks old.to_come mid m time order end h.staged h.to_come (carried m.cluster h.cluster) f
 
 pub order_lacks : (old : Changing) (time : ℕ) (order : Order) → ((s : Model) → StandsFor old.cluster s → lacks s time order) → (m : Models) → IsChanging old m → changing_lacks m time order
 order_lacks old time order f m h = inl (f m.cluster h.cluster)
+
+-- ---- a get, and the change after it
+
+-- what the cluster gives next, whatever is on its way in it
+abbrev pub Goes : Cluster → Cluster → Got → Type 0
+Goes old new got = (s : Model) (time : ℕ) (order : Order) (so_far : Option Given) → IsOnItsWay old s time order so_far → Gives (IsOnItsWay new s time order) (CarriedOut cluster fits lacks (StandsFor new) s time order) (cluster.carries s time order) so_far got
+
+module _ (old : Changing) (mid : Cluster) where
+  abbrev left : Changing
+  left = record { cluster = mid; to_come = old.to_come }
+
+  pub get_begins : (time : ℕ) (order : Order) → ((s : Model) → StandsFor old.cluster s → IsOnItsWay mid s time order None) → (m : Models) → IsChanging old m → IsChangingGet left m time order None
+  get_begins time order f m h = record { cluster = f m.cluster h.cluster; staged = h.staged; to_come = h.to_come }
+
+  pub get_goes_on : (g : Got) → GoesOn g → Goes old.cluster mid g → (m : Models) (time : ℕ) (order : Order) (so_far : Option Given) → IsChangingGet old m time order so_far →
+      Gives (IsChangingGet left m time order) (CarriedOut changing changing_fits changing_lacks (IsChanging left) m time order) (changing.carries m time order) so_far g
+  get_goes_on (got.Found version meta) on f m time order so_far h = let x = f m.cluster time order so_far h.cluster in (x.0, record { cluster = x.1; staged = h.staged; to_come = h.to_come })
+  get_goes_on (got.Piece bytes) on f m time order so_far h = let x = f m.cluster time order so_far h.cluster in (x.0, x.1, record { cluster = x.2; staged = h.staged; to_come = h.to_come })
+  get_goes_on (got.End end) on f m time order so_far h = absurd on
+
+  module _ (end : Option FlowEnd) (f : Goes old.cluster mid (got.End end)) where
+    pub get_mid : gets.IsOnItsWay (IsChangingGet old) → HasState (IsChanging left)
+    get_mid h = let x = f h.0.cluster h.1 h.2 h.3 h.4.cluster in (then old.to_come mid h.0 h.1 h.2 (with_given h.3 end) h.4.staged h.4.to_come x.0, stands_mid old.to_come mid h.0 h.1 h.2 (with_given h.3 end) h.4.staged h.4.to_come x.0)
+
+    pub get_ends : (new : Changing) → MakesDue mid old.to_come new → (m : Models) (time : ℕ) (order : Order) (so_far : Option Given) → IsChangingGet old m time order so_far →
+        Gives (IsChangingGet new m time order) (CarriedOut changing changing_fits changing_lacks (IsChanging new) m time order) (changing.carries m time order) so_far (got.End end)
+    get_ends new made m time order so_far h =
+        let x = f m.cluster time order so_far h.cluster in
+        (then_made old.to_come mid m time order (with_given so_far end) h.staged h.to_come x.0 new made, x.1)
+
+    pub get_lacks : DueLacks mid old.to_come → (m : Models) (time : ℕ) (order : Order) (so_far : Option Given) → IsChangingGet old m time order so_far → changing_lacks m time order
+    get_lacks full m time order so_far h =
+        let x = f m.cluster time order so_far h.cluster in
+        then_lacks old.to_come mid m time order (with_given so_far end) h.staged h.to_come x.0 full
+
+pub get_may : (m : Models) (time : ℕ) (order : Order) (so_far : Option Given) → MayGive cluster m.cluster time order so_far → MayGive changing m time order so_far
+get_may m time order None h = tt
+get_may m time order (Some g) h = h
+
+pub get_order_lacks : (old : Changing) → ((s : Model) (time : ℕ) (order : Order) (so_far : Option Given) → IsOnItsWay old.cluster s time order so_far → lacks s time order) → (m : Models) (time : ℕ) (order : Order) (so_far : Option Given) → IsChangingGet old m time order so_far → changing_lacks m time order
+get_order_lacks old f m time order so_far h = inl (f m.cluster time order so_far h.cluster)

@@ -1,5 +1,10 @@
+pub mod Handing
 pub mod Acting
 pub mod Carrying
+pub mod Draining
+pub mod Giving
+pub mod Nexts
+pub mod Begun
 pub mod Staging
 pub mod Unstaged
 pub mod Going

@@ -1,5 +1,5 @@
 -- A layout change of the code, as acts.
-use Rattle.std.specs.Prelude.{◌≡◌, ◌==◌, ◌≤◌, ℕ, Bool, false, ⊤, List, [], ◌∷◌, ◌++◌, map, length}
+use Rattle.std.specs.Prelude.{◌≡◌, ◌==◌, ◌≤◌, ℕ, Bool, false, ⊤, Option, List, [], ◌∷◌, ◌++◌, map, length}
 use Rattle.std.specs.List.{AllByRecursion}
 use Rattle.layout_roles.specs.declared.role.Role.{Role}
 use Rattle.layout_roles.specs.Fits.{IsGreatest}
@@ -9,10 +9,12 @@ use Rattle.cluster_machine.specs.Layouts.{layouts}
 use Rattle.cluster_machine.specs.Phases.{in_order}
 use Rattle.cluster_machine.specs.Ties as ties
 use Rattle.change_model.specs.Given.{applying, IsFor}
+use Rattle.flow_model.specs.declared.order.Order.{Order}
 use Rattle.store_model.specs.Run.{State}
 use Rattle.store_model.specs.Acts.{Act, moves, after_acts}
 use Rattle.s3_world.specs.declared.world.S3World.{S3World}
 use Rattle.s3_world.specs.Stands.{IsStore}
+use Rattle.serve_model.specs.Stores.{Given}
 use Rattle.serve_model.specs.Clusters.{Cluster, asker, ActLacksRoom}
 use Rattle.serve_changes.specs.Acts.{stages_of}
 use Rattle.serve_changes.specs.Changing.{Change as Model, Changing as Models}
@@ -20,6 +22,7 @@ use Rattle.serve_cluster.specs.declared.change.Change.{Change}
 use Rattle.serve_cluster.specs.declared.changing.Changing.{Changing}
 use Rattle.serve_cluster.specs.Acting.{DoneActs}
 use Rattle.change_deeds.specs.Deeds.{acts_past_apply}
+use Rattle.serve_cluster.specs.Giving.{IsOnItsWay, left_in}
 use Rattle.serve_cluster.specs.Standing.{StandsFor}
 
 -- the nodes of these roles
@@ -94,3 +97,15 @@ pub record IsChanging (c : Changing) (m : Models) : Type 0 where
   pub cluster : StandsFor c.cluster m.cluster
   pub staged : AreWithin m.cluster.run.world.roles
   pub to_come : AreChanges m.cluster.members c.to_come m.to_come
+
+-- ---- a get on its way
+
+-- a get is on its way in the cluster, and has given so much; then come the changes
+pub record IsChangingGet (c : Changing) (m : Models) (time : ℕ) (order : Order) (so_far : Option Given) : Type 0 where
+  pub cluster : IsOnItsWay c.cluster m.cluster time order so_far
+  pub staged : AreWithin m.cluster.run.world.roles
+  pub to_come : AreChanges m.cluster.members c.to_come m.to_come
+
+-- more than how often it goes on
+abbrev pub left_then : Changing → ℕ
+left_then c = left_in c.cluster

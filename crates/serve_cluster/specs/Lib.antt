@@ -1,3 +1,4 @@
 pub mod Acting
 pub mod Standing
+pub mod Giving
 pub mod Changes

@@ -1,12 +1,12 @@
 //! The acts of a request, on a world.
-ghost use Rattle.std.specs.Prelude.{◌≡◌, [], ◌∷◌, ◌++◌, OnOk, IfOk};
+ghost use Rattle.std.specs.Prelude.{◌≡◌, false, [], ◌∷◌, ◌++◌, OnOk, IfOk};
 ghost use Rattle.crdt_core.specs.Outcomes.{WantOr};
 ghost use Rattle.cluster_machine.specs.declared.step.Step.TheVariants.{Tick, Expire};
 ghost use Rattle.store_model.specs.Run.{plainly};
-ghost use Rattle.store_model.specs.Acts.{moves, drain, forgets, takes, end_of, all_messages};
-ghost use Rattle.s3_world.specs.Stands.{HasStore};
+ghost use Rattle.store_model.specs.Acts.{moves, drain, acted, end_of, all_messages};
+ghost use Rattle.s3_world.specs.Stands.{HasStore, Overflows};
 ghost use Rattle.serve_model.specs.Clusters.{works, round as round_of, acts_to_end, acts_past_end, acts_opened, expiry};
-ghost use Rattle.serve_cluster.specs.Acting.{DoesActs, LacksRoom, TakesEnd, Finishes};
+ghost use Rattle.serve_cluster.specs.Acting.{DoesActs, KeepsActs, LacksRoom, IsDrained, TakesEnd, Finishes};
 
 use crdt_core::Memory;
 use flow_model::FlowEnd;
@@ -27,7 +27,7 @@ pub(crate) fn tick(world: &mut S3World, ms: u64) -> Result<(), Memory>
 /// All messages are delivered.
 pub(crate) fn drain_all(world: &mut S3World) -> Result<(), Memory>
     requires { HasStore world.old }
-    ensures does { OnOk result (DoesActs world.old world.new (drain all_messages ∷ [])) }
+    ensures keeps { OnOk result (KeepsActs world.old world.new (drain all_messages ∷ [])) }
     ensures causes { WantOr result (LacksRoom world.old (λ _. drain all_messages ∷ [])) }
 {
     match world.drain_all() {
@@ -36,10 +36,23 @@ pub(crate) fn drain_all(world: &mut S3World) -> Result<(), Memory>
     }
 }
 
+/// The next message is delivered. False where none was left.
+pub(crate) fn deliver(world: &mut S3World) -> Result<bool, Memory>
+    requires { HasStore world.old }
+    ensures keeps { OnOk result (KeepsActs world.old world.new (drain 1 ∷ [])) }
+    ensures last { IfOk result (λ more. more ≡ false → IsDrained world.old) }
+    ensures causes { WantOr result (Overflows world.old (λ s. acted s (drain 1))) }
+{
+    match world.deliver_next() {
+        Ok(more) => Ok(more),
+        Err(memory) => Err(memory),
+    }
+}
+
 // One member works off what waits at it.
 fn work(world: &mut S3World, member: u8) -> Result<(), Memory>
     requires { HasStore world.old }
-    ensures does { OnOk result (DoesActs world.old world.new (works (member ∷ []))) }
+    ensures keeps { OnOk result (KeepsActs world.old world.new (works (member ∷ []))) }
     ensures causes { WantOr result (LacksRoom world.old (λ _. works (member ∷ []))) }
 {
     match world.step(&Event::Work(member)) {
@@ -51,7 +64,7 @@ fn work(world: &mut S3World, member: u8) -> Result<(), Memory>
 // Each member works off what waits at it.
 fn work_all(world: &mut S3World, members: &[u8]) -> Result<(), Memory>
     requires { HasStore world.old }
-    ensures does { OnOk result (DoesActs world.old world.new (works members.now)) }
+    ensures keeps { OnOk result (KeepsActs world.old world.new (works members.now)) }
     ensures causes { WantOr result (LacksRoom world.old (λ _. works members.now)) }
 {
     let mut rest = members;
@@ -67,7 +80,7 @@ fn work_all(world: &mut S3World, members: &[u8]) -> Result<(), Memory>
 // Each member works, and all messages are delivered.
 fn round(world: &mut S3World, members: &[u8]) -> Result<(), Memory>
     requires { HasStore world.old }
-    ensures does { OnOk result (DoesActs world.old world.new (round_of members.now)) }
+    ensures keeps { OnOk result (KeepsActs world.old world.new (round_of members.now)) }
     ensures causes { WantOr result (LacksRoom world.old (λ _. round_of members.now)) }
 {
     match work_all(world, members) {
@@ -76,10 +89,10 @@ fn round(world: &mut S3World, members: &[u8]) -> Result<(), Memory>
     }
 }
 
-// Two rounds.
-fn rounds(world: &mut S3World, members: &[u8]) -> Result<(), Memory>
+/// Two rounds.
+pub(crate) fn rounds(world: &mut S3World, members: &[u8]) -> Result<(), Memory>
     requires { HasStore world.old }
-    ensures does { OnOk result (DoesActs world.old world.new (round_of members.now ++ round_of members.now)) }
+    ensures keeps { OnOk result (KeepsActs world.old world.new (round_of members.now ++ round_of members.now)) }
     ensures causes { WantOr result (LacksRoom world.old (λ _. round_of members.now ++ round_of members.now)) }
 {
     match round(world, members) {
@@ -91,7 +104,7 @@ fn rounds(world: &mut S3World, members: &[u8]) -> Result<(), Memory>
 // A request that was asked comes to its end.
 fn to_end(world: &mut S3World, members: &[u8]) -> Result<(), Memory>
     requires { HasStore world.old }
-    ensures does { OnOk result (DoesActs world.old world.new (acts_to_end members.now)) }
+    ensures keeps { OnOk result (KeepsActs world.old world.new (acts_to_end members.now)) }
     ensures causes { WantOr result (LacksRoom world.old (λ _. acts_to_end members.now)) }
 {
     match drain_all(world) {
@@ -115,8 +128,8 @@ fn expire(world: &mut S3World, request: u64, end: &Option<FlowEnd>) -> Result<()
     }
 }
 
-// The end is taken, and delivered messages are forgotten.
-fn take(world: &mut S3World, request: u64) -> Result<Option<FlowEnd>, Memory>
+/// The end is taken, and delivered messages are forgotten.
+pub(crate) fn take(world: &mut S3World, request: u64) -> Result<Option<FlowEnd>, Memory>
     requires { HasStore world.old }
     ensures does { IfOk result (λ end. TakesEnd world.old world.new request end) }
     ensures causes { WantOr result (LacksRoom world.old (λ s. acts_past_end request (end_of s.ends request))) }

@@ -6,10 +6,10 @@ ghost use Rattle.serve_changes.specs.Changing.{Changing as Modelled, with_change
 
 use crate::change::Change;
 use crate::cluster::Cluster;
-use crdt_core::{List, Memory};
+use crdt_core::{Bytes, List, Memory};
 use flow_model::{FlowEnd, Order};
 use s3_world::S3World;
-use serve_loop::Storage;
+use serve_loop::{Got, Storage};
 
 /// A cluster, and the changes of its layout that are to come, in order.
 #[derive(Drop)]
@@ -71,7 +71,7 @@ impl Changing {
 
 impl Storage for Changing {
     ghost use Rattle.serve_changes.specs.Changing.{Changing as Modelled, changing, changing_fits, changing_lacks};
-    ghost use Rattle.serve_cluster.specs.Changes.{IsChanging};
+    ghost use Rattle.serve_cluster.specs.Changes.{IsChanging, IsChangingGet, left_then};
 
     ghost State = { Modelled };
 
@@ -83,12 +83,35 @@ impl Storage for Changing {
 
     ghost lacks = { changing_lacks };
 
+    ghost gives = { IsChangingGet };
+
+    ghost left = { left_then };
+
     fn carry(&mut self, time: u64, order: Order) -> Result<Option<FlowEnd>, Memory> {
         match self.cluster.carry(time, order) {
             Ok(end) => match self.make_due() {
                 Ok(()) => Ok(end),
                 Err(memory) => Err(memory),
             },
+            Err(memory) => Err(memory),
+        }
+    }
+
+    fn begin(&mut self, time: u64, bucket: Bytes, key: Bytes) -> Result<(), Memory> {
+        match self.cluster.begin(time, bucket, key) {
+            Ok(()) => Ok(()),
+            Err(memory) => Err(memory),
+        }
+    }
+
+    fn next(&mut self) -> Result<Got, Memory> {
+        match self.cluster.next() {
+            Ok(Got::End(end)) => match self.make_due() {
+                Ok(()) => Ok(Got::End(end)),
+                Err(memory) => Err(memory),
+            },
+            Ok(Got::Found(version, meta)) => Ok(Got::Found(version, meta)),
+            Ok(Got::Piece(piece)) => Ok(Got::Piece(piece)),
             Err(memory) => Err(memory),
         }
     }

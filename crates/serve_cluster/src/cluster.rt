@@ -1,8 +1,8 @@
 //! A world with its members.
-ghost use Rattle.std.specs.Prelude.{◌≡◌, ℕ, OnOk};
+ghost use Rattle.std.specs.Prelude.{◌≡◌, ℕ, OnOk, IfOk};
 ghost use Rattle.crdt_core.specs.Outcomes.{WantOr};
 ghost use Rattle.store_model.specs.Run.{State};
-ghost use Rattle.store_model.specs.Acts.{AreLawfulActs, ActsFit};
+ghost use Rattle.store_model.specs.Acts.{AreLawfulActs, ActsFit, HasKey};
 ghost use Rattle.serve_model.specs.Clusters.{Cluster as Modelled, asker as asker_of, cluster, fits as fits_of, lacks as lacks_of};
 ghost use Rattle.serve_model.specs.Clusters.{ActLacksRoom};
 ghost use Rattle.serve_changes.specs.Changing.{Change as Model, acts_in, changed};
@@ -10,10 +10,11 @@ ghost use Rattle.s3_world.specs.Stands.{IsStore};
 
 use crate::acts::{finish, tick};
 use crate::change::{Change, make};
-use crdt_core::{List, Memory};
+use crate::getting::{Getting, begun, go_on};
+use crdt_core::{Bytes, List, Memory};
 use flow_model::{FlowEnd, Order};
 use s3_world::S3World;
-use serve_loop::Storage;
+use serve_loop::{Got, Storage};
 
 /// A world, the members of its layout in order, and to which time it was brought, in milliseconds since 1970.
 #[derive(Drop)]
@@ -21,6 +22,8 @@ pub struct Cluster {
     world: S3World,
     members: List<u8>,
     ticked: u64,
+    /// The get that is on its way. None where it was refused, or none is.
+    getting: Option<Getting>,
 }
 
 /// The first of the members.
@@ -35,6 +38,7 @@ pub(crate) fn asker(members: &[u8]) -> u8
 
 impl Cluster {
     ghost use Rattle.serve_model.specs.Serving.{HasState};
+    ghost use Rattle.serve_cluster.specs.Giving.{HasAsked};
     ghost use Rattle.serve_cluster.specs.Standing.{StandsFor};
     ghost use Rattle.serve_cluster.specs.Changes.{IsComputed, AreWithin, IsChange};
 
@@ -46,6 +50,7 @@ impl Cluster {
             world,
             members,
             ticked: 0,
+            getting: None,
         }
     }
 
@@ -54,6 +59,25 @@ impl Cluster {
         ensures { (c : Modelled) → StandsFor self.now c → IsStore result.now c.run }
     {
         &self.world
+    }
+
+    // Asks for something at a time, and gives the number of the request. None where it was refused.
+    fn ask(&mut self, time: u64, order: Order) -> Result<Option<u64>, Memory>
+        requires state { HasState (StandsFor self.old) }
+        requires keyed { HasKey order }
+        ensures asks { IfOk result (λ number. (m : Modelled) → StandsFor self.old m → HasAsked self.new m time order number) }
+        ensures causes { WantOr result ((m : Modelled) → StandsFor self.old m → lacks_of m time order) }
+    {
+        let ms = time.saturating_sub(self.ticked);
+        match tick(&mut self.world, ms) {
+            Ok(()) => self.ticked = self.ticked.max(time),
+            Err(memory) => return Err(memory),
+        }
+        match self.world.start(asker(self.members.as_slice()), order) {
+            Ok(Ok(number)) => Ok(Some(number)),
+            Ok(Err(_)) => Ok(None),
+            Err(memory) => Err(memory),
+        }
     }
 
     /// Carries a change out: the members are those of the newer layout then.
@@ -76,6 +100,7 @@ impl Cluster {
 
 impl Storage for Cluster {
     ghost use Rattle.serve_model.specs.Clusters.{Cluster as Modelled, cluster, fits as fits_of, lacks as lacks_of};
+    ghost use Rattle.serve_cluster.specs.Giving.{IsOnItsWay, left_in};
     ghost use Rattle.serve_cluster.specs.Standing.{StandsFor};
 
     ghost State = { Modelled };
@@ -88,16 +113,32 @@ impl Storage for Cluster {
 
     ghost lacks = { lacks_of };
 
+    ghost gives = { IsOnItsWay };
+
+    ghost left = { left_in };
+
     fn carry(&mut self, time: u64, order: Order) -> Result<Option<FlowEnd>, Memory> {
-        let ms = time.saturating_sub(self.ticked);
-        match tick(&mut self.world, ms) {
-            Ok(()) => self.ticked = self.ticked.max(time),
-            Err(memory) => return Err(memory),
-        }
-        match self.world.start(asker(self.members.as_slice()), order) {
-            Ok(Ok(number)) => finish(&mut self.world, self.members.as_slice(), number),
-            Ok(Err(_)) => Ok(None),
+        match self.ask(time, order) {
+            Ok(Some(number)) => finish(&mut self.world, self.members.as_slice(), number),
+            Ok(None) => Ok(None),
             Err(memory) => Err(memory),
+        }
+    }
+
+    fn begin(&mut self, time: u64, bucket: Bytes, key: Bytes) -> Result<(), Memory> {
+        match self.ask(time, Order::Get { bucket, key }) {
+            Ok(number) => {
+                self.getting = begun(number);
+                Ok(())
+            }
+            Err(memory) => Err(memory),
+        }
+    }
+
+    fn next(&mut self) -> Result<Got, Memory> {
+        match &mut self.getting {
+            Some(getting) => go_on(&mut self.world, self.members.as_slice(), getting),
+            None => Ok(Got::End(None)),
         }
     }
 }

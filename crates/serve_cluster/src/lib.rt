@@ -3,7 +3,8 @@
 //! A `Cluster` is a world (s3_world) with the members of its one layout version. It carries out an order by the acts that
 //! serve_model lists: the world's time goes on, the first member asks, all messages are delivered, all members work twice,
 //! the end is taken, and delivered messages are forgotten. So a server over it (serve_loop) goes through states of a run,
-//! and what is proved of every list of acts holds of what it does.
+//! and what is proved of every list of acts holds of what it does. A get may be taken piece by piece, by the same acts: its
+//! messages are delivered one after the other, and what it finds and its blocks are handed out as they come (`getting`).
 //!
 //! A `Changing` is a cluster with layout changes to come: once so many requests have reached it, the next change is made,
 //! after the order. Its acts are those of serve_changes: its roles are staged, and the layout that was computed before is
@@ -14,6 +15,7 @@ mod acts;
 mod change;
 mod changing;
 mod cluster;
+mod getting;
 
 pub use crate::change::Change;
 pub use crate::changing::Changing;

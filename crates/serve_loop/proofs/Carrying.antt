@@ -3,24 +3,53 @@ use Rattle.std.proofs.Common.{◌≡◌, ℕ, ◌+◌, ◌<◌, ◌≤◌, ◌�
 use Rattle.std.proofs.lemmas.List.Elements.{Contains-append_right}
 use Rattle.crdt_core.specs.declared.memory.Memory.{Memory as Wanting}
 use Rattle.crdt_core.specs.declared.memory.Memory.TheVariants.{Want, Full}
-use Rattle.lab_outside.specs.Connection.{Connection}
-use Rattle.lab_outside.proofs.Present.{on_present_same}
+use Rattle.lab_outside.specs.Connection.{Connection, OnPresent}
+use Rattle.lab_outside.proofs.Present.{on_present, on_present_same}
 use Rattle.flow_model.specs.declared.order.Order.{Order}
 use Rattle.flow_model.specs.declared.flow.FlowEnd.{FlowEnd}
-use Rattle.serve_model.specs.declared.answer.Answer.TheVariants.{Nothing}
+use Rattle.s3_model.specs.declared.ask.Ask.{Ask}
+use Rattle.s3_model.specs.declared.ask.Ask.TheVariants as ask
+use Rattle.serve_model.specs.declared.answer.Answer.{Answer}
+use Rattle.serve_model.specs.declared.answer.Answer.TheVariants.{Nothing, Reply, Refusal}
 use Rattle.serve_model.specs.declared.request.Request.{Request}
 use Rattle.serve_model.specs.declared.served.Served.{Served}
 use Rattle.serve_model.specs.declared.served.ServeFault.{ServeFault}
 use Rattle.serve_model.specs.declared.served.ServeFault.TheVariants.{Kept}
 use Rattle.serve_model.specs.Faults.{fault_of}
-use Rattle.serve_model.specs.Stores.{Store, Asking, OverflowsAmong, known_from}
+use Rattle.serve_model.specs.Stores.{Given, Store, Asking, OverflowsAmong, known_from}
 use Rattle.serve_model.specs.Judging.{answer_to, counted_after}
-use Rattle.serve_model.specs.Talk.{Serving, Turn, text_of, closes_of, counted, counting, kept_limit, passing, having_asked, answer_turn, end_turn, order_turn}
+use Rattle.serve_model.specs.Talk.{Serving, Turn, text_of, get_text, begun_text, given_text, closes_of, counted, counting, kept_limit, passing, having_asked, giving, given_turn, end_turn, order_turn}
 use Rattle.serve_model.specs.Serving.{CarriedOut, Reached, Goes, GivesUp, Says, Stands, SaysOn, ServesOn}
-use Rattle.serve_loop.proofs.Serving.{silence_says, says_serves, serves_same, passing_serves, asked_serves, leads_none, counting_serves, counting_limits, stands_counted, carried_reached}
+use Rattle.serve_loop.specs.Giving.{IsNoGet, EndsWith, says}
+use Rattle.serve_loop.proofs.Serving.{silence_says, ends_serves, serves_same, passing_serves, giving_serves, asked_serves, leads_none, counting_serves, counting_limits, stands_counted, carried_reached}
 
 full_is_no_want : Full ≡ Want → ⊥
 full_is_no_want e = cc
+
+-- ---- an ask that is no get is written nothing without an answer
+
+no_get_text : (a : Ask) (g : Given) (now : ℕ) (close : Bool) → IsNoGet a → get_text a g now close ≡ []
+no_get_text (ask.Get bucket key range) g now close h = absurd h
+no_get_text ask.ListBuckets g now close h = refl
+no_get_text (ask.HeadBucket bucket) g now close h = refl
+no_get_text (ask.List bucket list delimiter url token start) g now close h = refl
+no_get_text (ask.BadList bucket) g now close h = refl
+no_get_text (ask.Head bucket key range) g now close h = refl
+no_get_text (ask.Delete bucket key) g now close h = refl
+no_get_text (ask.Put bucket key size md5 headers) g now close h = refl
+no_get_text (ask.Copy from bucket key headers) g now close h = refl
+
+module _ (r : Request) (no_get : IsNoGet r.ask) where
+  none_begun : (had : Option Given) → begun_text r had ≡ []
+  none_begun None = refl
+  none_begun (Some g) = no_get_text r.ask g r.time r.closes no_get
+
+  said_of_no_get : (a : Answer) (had : Option Given) → given_text r a had ≡ text_of r a
+  said_of_no_get Nothing had = none_begun had
+  said_of_no_get (Reply reply) had = refl
+  said_of_no_get (Refusal code) had = refl
+
+-- ---- the store was asked
 
 module _ {S : Type 0} (store : Store S) (fits lacks : S → ℕ → Order → Type 0) (holds holds' : S → Type 0) (r : Request) (order : Order) where
   -- the store gave up
@@ -46,46 +75,74 @@ module _ {S : Type 0} (store : Store S) (fits lacks : S → ℕ → Order → Ty
     gives_asked Full later (inl e) = absurd (full_is_no_want e)
     gives_asked Full later (inr h) = record { at = record { asking = asking; leads = leads_none store fits lacks p.store; overflows = h.1 p.store st.store }; is_asked = (0, omega arith, refl) }
 
-    turn_then : (end : Option FlowEnd) → ((s : S) → holds s → CarriedOut store fits lacks holds' s r.time order end) → (left : List ℕ) → order_turn store r order p (kept ++ left) ≡ passing p (having_asked asking (end_turn r end (record p { store = (store.carries p.store r.time order).state }) (kept ++ left)))
-    turn_then end f left = ap (λ e. passing p (having_asked asking (end_turn r e (record p { store = (store.carries p.store r.time order).state }) (kept ++ left)))) (sym (f p.store st.store).end_is)
+    -- what a get that didn't answer had given
+    abbrev pub had : Option Given
+    had = (store.carries p.store r.time order).begun
+
+    -- what is served after it
+    abbrev pub served_then : Serving S
+    served_then = record p { store = (store.carries p.store r.time order).state }
+
+    turn_then : (end : Option FlowEnd) → ((s : S) → holds s → CarriedOut store fits lacks holds' s r.time order end) → (left : List ℕ) → order_turn store r order p (kept ++ left) ≡ passing p (giving r asking (having_asked asking (end_turn r end had served_then (kept ++ left))))
+    turn_then end f left = ap (λ e. passing p (giving r asking (having_asked asking (end_turn r e had served_then (kept ++ left))))) (sym (f p.store st.store).end_is)
+
+    -- it was carried out, and its end is served so
+    carried_so : (served' : Served) (result : Result Bool ServeFault) (o n : Option Connection) (end : Option FlowEnd) → ((s : S) → holds s → CarriedOut store fits lacks holds' s r.time order end)
+        → ServesOn (λ left. end_turn r end had served_then (kept ++ left)) (Reached store fits lacks holds' p.store) (known_from store fits lacks p.store) times served' result kept o n
+        → ServesOn (λ left. order_turn store r order p (kept ++ left)) (Reached store fits lacks holds' p.store) (known_from store fits lacks p.store) times served' result kept o n
+    carried_so served' result o n end f h =
+        let H = Reached store fits lacks holds' p.store in
+        let O = known_from store fits lacks p.store in
+        let t : List ℕ → Turn S = λ left. end_turn r end had served_then (kept ++ left) in
+        serves_same H O times served' (λ left. passing p (giving r asking (having_asked asking (t left)))) (λ left. order_turn store r order p (kept ++ left)) result kept o n (turn_then end f)
+        (passing_serves H O times served' result kept o n p (λ left. giving r asking (having_asked asking (t left)))
+        (giving_serves H O times served' result kept o n r asking (λ left. having_asked asking (t left))
+        (asked_serves H O times served' result kept o n asking t (f p.store st.store).fit asks_more h)))
 
     -- it didn't end
-    pub carried_none : (o : Option Connection) → ((s : S) → holds s → CarriedOut store fits lacks holds' s r.time order None) → ServesOn (λ left. order_turn store r order p (kept ++ left)) (Reached store fits lacks holds' p.store) (known_from store fits lacks p.store) times served (Ok false) kept o o
-    carried_none o f =
-        let p' : Serving S = record p { store = (store.carries p.store r.time order).state } in
-        serves_same (Reached store fits lacks holds' p.store) (known_from store fits lacks p.store) times served (λ left. passing p (having_asked asking (answer_turn r Nothing p' (kept ++ left)))) (λ left. order_turn store r order p (kept ++ left)) (Ok false) kept o o (turn_then None f)
-        (passing_serves (Reached store fits lacks holds' p.store) (known_from store fits lacks p.store) times served (Ok false) kept o o p (λ left. having_asked asking (answer_turn r Nothing p' (kept ++ left)))
-        (asked_serves (Reached store fits lacks holds' p.store) (known_from store fits lacks p.store) times served (Ok false) kept o o asking (λ left. answer_turn r Nothing p' (kept ++ left)) (f p.store st.store).fit asks_more
-        (says_serves (Reached store fits lacks holds' p.store) (known_from store fits lacks p.store) times served (Ok false) kept o o [] true p' (stands_then None f) (on_present_same (Says [] true (Ok false)) o silence_says))))
+    pub carried_unanswered : (result : Result Bool ServeFault) (o n : Option Connection) → ((s : S) → holds s → CarriedOut store fits lacks holds' s r.time order None) → OnPresent (EndsWith (begun_text r had) true result) o n
+        → ServesOn (λ left. order_turn store r order p (kept ++ left)) (Reached store fits lacks holds' p.store) (known_from store fits lacks p.store) times served result kept o n
+    carried_unanswered result o n f ends =
+        carried_so served result o n None f (ends_serves (Reached store fits lacks holds' p.store) (known_from store fits lacks p.store) times served result kept o n (begun_text r had) true served_then (stands_then None f) ends)
+
+    -- it ended, and that was answered
+    pub carried_answered : (served' : Served) (result : Result Bool ServeFault) (o n : Option Connection) (end : FlowEnd) (size : ℕ) → ((s : S) → holds s → CarriedOut store fits lacks holds' s r.time order (Some end)) → size ≡ counted_after r.ask end
+        → served'.kept ≡ served.kept + size → served'.time ≡ served.time → served.kept + size ≤ kept_limit → OnPresent (EndsWith (given_text r (answer_to r.ask end) had) (closes_of r (answer_to r.ask end)) result) o n
+        → ServesOn (λ left. order_turn store r order p (kept ++ left)) (Reached store fits lacks holds' p.store) (known_from store fits lacks p.store) times served' result kept o n
+    carried_answered served' result o n end size f same more time le ends =
+        let H = Reached store fits lacks holds' p.store in
+        let O = known_from store fits lacks p.store in
+        let a = answer_to r.ask end in
+        let P : ℕ → Type 0 = λ k. ServesOn (λ left. counting k served_then (λ q. given_turn r a had q (kept ++ left))) H O times served' result kept o n in
+        carried_so served' result o n (Some end) f
+        (subst P same
+        (counting_serves H O times size served_then (λ left q. given_turn r a had q (kept ++ left)) kept served' served result o n st.kept le
+        (ends_serves H O times served' result kept o n (given_text r a had) (closes_of r a) (counted size served_then) (stands_counted H times served served' size served_then more time (stands_then (Some end) f)) ends)))
 
     -- it ended, and too many bytes were copied
     pub carried_limits : (served' : Served) (o : Option Connection) (end : FlowEnd) (size : ℕ) → ((s : S) → holds s → CarriedOut store fits lacks holds' s r.time order (Some end)) → size ≡ counted_after r.ask end → kept_limit < served.kept + size
         → ServesOn (λ left. order_turn store r order p (kept ++ left)) (Reached store fits lacks holds' p.store) (known_from store fits lacks p.store) times served' (Err Kept) kept o o
     carried_limits served' o end size f same lt =
-        let p' : Serving S = record p { store = (store.carries p.store r.time order).state } in
-        let H = Reached store fits lacks holds' p.store in
-        let O = known_from store fits lacks p.store in
-        let P : ℕ → Type 0 = λ n. ServesOn (λ left. counting n p' (λ q. answer_turn r (answer_to r.ask end) q (kept ++ left))) H O times served' (Err Kept) kept o o in
-        let t : List ℕ → Turn S = λ left. counting (counted_after r.ask end) p' (λ q. answer_turn r (answer_to r.ask end) q (kept ++ left)) in
-        serves_same H O times served' (λ left. passing p (having_asked asking (t left))) (λ left. order_turn store r order p (kept ++ left)) (Err Kept) kept o o (turn_then (Some end) f)
-        (passing_serves H O times served' (Err Kept) kept o o p (λ left. having_asked asking (t left))
-        (asked_serves H O times served' (Err Kept) kept o o asking t (f p.store st.store).fit asks_more
-        (subst P same (counting_limits H O times size p' (λ left q. answer_turn r (answer_to r.ask end) q (kept ++ left)) kept served' served o st.kept lt))))
-
-    -- it ended, and that was answered
-    pub carried_said : (served' : Served) (result : Result Bool ServeFault) (o n : Option Connection) (end : FlowEnd) (size : ℕ) → ((s : S) → holds s → CarriedOut store fits lacks holds' s r.time order (Some end)) → size ≡ counted_after r.ask end
-        → served'.kept ≡ served.kept + size → served'.time ≡ served.time → served.kept + size ≤ kept_limit → SaysOn (text_of r (answer_to r.ask end)) (closes_of r (answer_to r.ask end)) result o n
-        → ServesOn (λ left. order_turn store r order p (kept ++ left)) (Reached store fits lacks holds' p.store) (known_from store fits lacks p.store) times served' result kept o n
-    carried_said served' result o n end size f same more time le says =
-        let p' : Serving S = record p { store = (store.carries p.store r.time order).state } in
         let H = Reached store fits lacks holds' p.store in
         let O = known_from store fits lacks p.store in
         let a = answer_to r.ask end in
-        let P : ℕ → Type 0 = λ k. ServesOn (λ left. counting k p' (λ q. answer_turn r a q (kept ++ left))) H O times served' result kept o n in
-        let t : List ℕ → Turn S = λ left. counting (counted_after r.ask end) p' (λ q. answer_turn r a q (kept ++ left)) in
-        serves_same H O times served' (λ left. passing p (having_asked asking (t left))) (λ left. order_turn store r order p (kept ++ left)) result kept o n (turn_then (Some end) f)
-        (passing_serves H O times served' result kept o n p (λ left. having_asked asking (t left))
-        (asked_serves H O times served' result kept o n asking t (f p.store st.store).fit asks_more
-        (subst P same
-        (counting_serves H O times size p' (λ left q. answer_turn r a q (kept ++ left)) kept served' served result o n st.kept le
-        (says_serves H O times served' result kept o n (text_of r a) (closes_of r a) (counted size p') (stands_counted H times served served' size p' more time (stands_then (Some end) f)) says)))))
+        let P : ℕ → Type 0 = λ k. ServesOn (λ left. counting k served_then (λ q. given_turn r a had q (kept ++ left))) H O times served' (Err Kept) kept o o in
+        carried_so served' (Err Kept) o o (Some end) f
+        (subst P same (counting_limits H O times size served_then (λ left q. given_turn r a had q (kept ++ left)) kept served' served o st.kept lt))
+
+    module _ (no_get : IsNoGet r.ask) where
+      -- it is no get, and didn't end
+      pub carried_none : (o : Option Connection) → ((s : S) → holds s → CarriedOut store fits lacks holds' s r.time order None)
+          → ServesOn (λ left. order_turn store r order p (kept ++ left)) (Reached store fits lacks holds' p.store) (known_from store fits lacks p.store) times served (Ok false) kept o o
+      carried_none o f =
+          let P : List ℕ → Type 0 = λ text. OnPresent (EndsWith text true (Ok false)) o o in
+          carried_unanswered (Ok false) o o f (subst P (sym (none_begun r no_get had)) (on_present_same (EndsWith [] true (Ok false)) o (λ c. says (silence_says c))))
+
+      -- it is no get, and its end was answered
+      pub carried_said : (served' : Served) (result : Result Bool ServeFault) (o n : Option Connection) (end : FlowEnd) (size : ℕ) → ((s : S) → holds s → CarriedOut store fits lacks holds' s r.time order (Some end)) → size ≡ counted_after r.ask end
+          → served'.kept ≡ served.kept + size → served'.time ≡ served.time → served.kept + size ≤ kept_limit → SaysOn (text_of r (answer_to r.ask end)) (closes_of r (answer_to r.ask end)) result o n
+          → ServesOn (λ left. order_turn store r order p (kept ++ left)) (Reached store fits lacks holds' p.store) (known_from store fits lacks p.store) times served' result kept o n
+      carried_said served' result o n end size f same more time le said =
+          let a = answer_to r.ask end in
+          let P : List ℕ → Type 0 = λ text. OnPresent (EndsWith text (closes_of r a) result) o n in
+          carried_answered served' result o n end size f same more time le (subst P (sym (said_of_no_get r no_get a had)) (on_present (Says (text_of r a) (closes_of r a) result) (EndsWith (text_of r a) (closes_of r a) result) o n (λ c d h. says h) said))

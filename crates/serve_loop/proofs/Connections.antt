@@ -8,10 +8,10 @@ use Rattle.serve_model.specs.declared.buckets.Buckets.{Buckets}
 use Rattle.serve_model.specs.declared.served.Served.{Served}
 use Rattle.serve_model.specs.declared.served.ServeFault.{ServeFault}
 use Rattle.serve_model.specs.declared.served.ServeFault.TheVariants.{Kept}
-use Rattle.serve_model.specs.Stores.{Store, Asking, fits_asking, Known, OverflowsAmong, known_from}
-use Rattle.serve_model.specs.Talk.{Grammar, Serving, Stop, talk, request_limit}
-use Rattle.serve_model.specs.Serving.{Reached, ComesTo, CutOffAt, GivesUp, Stands, OnLeft}
-use Rattle.serve_model.specs.Connections.{Talks, whole, cut_off, limited, given_up, IsPrefixOf, IsUpTo, IsServed, exact, part, AreServed, ServesAll, EndsSo, too_many, begun, ServesAllButLast}
+use Rattle.serve_model.specs.Stores.{Given, Store, Asking, fits_asking, gives_asked, Known, OverflowsAmong, known_from}
+use Rattle.serve_model.specs.Talk.{Grammar, Serving, Stop, Halt, begun_text, talk, request_limit}
+use Rattle.serve_model.specs.Serving.{Reached, ComesTo, ComesInto, CutOffAt, GivesUp, Stands, OnLeft}
+use Rattle.serve_model.specs.Connections.{Talks, whole, cut_off, limited, given_up, halted, IsPrefixOf, IsUpTo, IsInto, IsServed, exact, part, AreServed, ServesAll, EndsSo, too_many, begun, halted as halts, ServesAllButLast}
 use Rattle.serve_model.proofs.Ones.{one_weaker, one_at, at_one}
 use Rattle.serve_loop.proofs.Serving.{at_left, gives_up_for}
 use Rattle.serve_loop.proofs.Talking.{stands_more, stands_plain, among_more}
@@ -62,19 +62,28 @@ module _ {S : Type 0} (store : Store S) (buckets : Buckets) (g : Grammar) (known
         }
     served_once (limited err over w asked n) = absurd (ok_is_no_error (Ok tt) Kept refl err)
     served_once (given_up e err why at n) = absurd (ok_is_no_error (Ok tt) e refl err)
+    served_once (halted e err why at n) = absurd (ok_is_no_error (Ok tt) e refl err)
+
+    -- what was written in the middle of a get
+    into : ((a : Asking S) (given : Given) → known.gives a given → gives_asked store a given) → (halt : Halt S) → ComesInto known c d halt → IsInto store buckets g known.fits d halt
+    into may halt h = (h.0, may halt.asking h.0 h.1, prefix_is c.written d.written (halt.text ++ begun_text halt.request (Some h.0)) fresh.unwritten h.2, h.3)
 
     -- where serving ends with it, for a reason that holds of what was served before it too
-    ends_so : (before : List (Asking S) → Type 0) → (known.overflows (talk store buckets g request_limit p bytes).asks → before (talk store buckets g request_limit p bytes).asks) → (e : ServeFault) → Talks (talk store buckets g request_limit p bytes) holds known times served (Err e) c d
+    ends_so : (before : List (Asking S) → Type 0) → ((a : Asking S) (given : Given) → known.gives a given → gives_asked store a given) → (known.overflows (talk store buckets g request_limit p bytes).asks → before (talk store buckets g request_limit p bytes).asks) → (e : ServeFault) → Talks (talk store buckets g request_limit p bytes) holds known times served (Err e) c d
         → EndsSo store buckets g known.fits before (talk store buckets g request_limit p bytes) d e
-    ends_so before f e (whole ok over w asked st n) = absurd (ok_is_no_error (Err e) e ok refl)
-    ends_so before f e (cut_off ok n at) = absurd (ok_is_no_error (Err e) e ok refl)
-    ends_so before f e (limited err over w asked n) =
+    ends_so before may f e (whole ok over w asked st n) = absurd (ok_is_no_error (Err e) e ok refl)
+    ends_so before may f e (cut_off ok n at) = absurd (ok_is_no_error (Err e) e ok refl)
+    ends_so before may f e (limited err over w asked n) =
         let P : ServeFault → Type 0 = EndsSo store buckets g known.fits before (talk store buckets g request_limit p bytes) d in
         subst P (sym (same_fault (Err e) e Kept refl err)) (too_many over (written_is c.written d.written (talk store buckets g request_limit p bytes).text fresh.unwritten w) asked)
-    ends_so before f e (given_up m err why at n) =
+    ends_so before may f e (given_up m err why at n) =
         let asks = (talk store buckets g request_limit p bytes).asks in
         let Q : ServeFault → Type 0 = GivesUp before asks in
         begun e (subst Q (sym (same_fault (Err e) e m refl err)) (gives_up_for m known.overflows before asks asks f why)) (one_weaker (ComesTo known.fits c d) (IsUpTo store buckets g known.fits d) up_to (talk store buckets g request_limit p bytes).stops at)
+    ends_so before may f e (halted m err why at n) =
+        let asks = (talk store buckets g request_limit p bytes).asks in
+        let Q : ServeFault → Type 0 = GivesUp before asks in
+        halts e (subst Q (sym (same_fault (Err e) e m refl err)) (gives_up_for m known.overflows before asks asks f why)) (one_weaker (ComesInto known c d) (IsInto store buckets g known.fits d) (into may) (talk store buckets g request_limit p bytes).halts at)
 
   -- ---- one connection more
 
@@ -141,7 +150,7 @@ module _ {S : Type 0} (store : Store S) (fits lacks : S → ℕ → Order → Ty
           goes = goes ∙ ap (λ x. x ++ d ∷ []) a.goes;
           serving = a.serving;
           are_served = a.are_served;
-          ends = ends_so store buckets g (known_from store fits lacks a.serving.store) a.serving k.bytes (Reached store fits lacks holds' a.serving.store) times' served' c d fresh (OverflowsAmong store fits lacks p.store)
+          ends = ends_so store buckets g (known_from store fits lacks a.serving.store) a.serving k.bytes (Reached store fits lacks holds' a.serving.store) times' served' c d fresh (OverflowsAmong store fits lacks p.store) (λ a given h. h)
               (let asks = (talk store buckets g request_limit a.serving k.bytes).asks in among_more store fits lacks p.store a.serving.store asks asks a.stands.store.1 (λ x h. h)) e (one_talk (Err e) k talks);
         }
 

@@ -1,5 +1,5 @@
 -- What is written has a key: the path of an object names one of a byte at least.
-use Rattle.std.proofs.Common.{◌≡◌, ℕ, ◌≤◌, List, [], ◌∷◌, Option, Some, None, Bool, true, false, length, if◌then◌else◌, Result, Ok, Err, sym, subst, arith}
+use Rattle.std.proofs.Common.{◌≡◌, ℕ, ◌≤◌, List, [], ◌∷◌, Option, Some, None, Bool, true, false, length, if◌then◌else◌, Result, Ok, Err, refl, sym, subst, arith}
 use Rattle.std.specs.List.{before_first, after_first}
 use Rattle.percent_encoding.specs.Percent.{percent_decode}
 use Rattle.flow_model.specs.declared.order.Order.{Order}
@@ -27,6 +27,7 @@ use Rattle.serve_model.specs.declared.admitted.Signer.{Signer}
 use Rattle.serve_model.specs.Keys.{may}
 use Rattle.serve_model.specs.Admitting.{unless_long, if_signed, if_asked, signer, admitted}
 use Rattle.serve_model.specs.Judging.{IsKeyed, order_of}
+use Rattle.serve_loop.specs.Giving.{IsGetOf, IsNoGet, range_of}
 
 -- ---- an order has the key of its ask
 
@@ -51,6 +52,42 @@ orders_keyed (ask.Copy from bucket key headers) body k = copy_keyed bucket key h
 
 pub order_keyed : (a : Ask) (body : List ℕ) (o : Order) → IsKeyed a → Some o ≡ order_of a body → HasKey o
 order_keyed a body o k e = subst OrderKeyed (sym e) (orders_keyed a body k)
+
+-- ---- which asks are gets
+
+none_is_no_get : (bucket key : List ℕ) → Some (order.Get bucket key) ≡ None → ⊥
+none_is_no_get bucket key e = cc
+
+copy_is_no_get : (bucket key b k : List ℕ) (headers : Option (List (List ℕ × List ℕ))) (source : Option (List ℕ × List ℕ)) → Some (order.Get b k) ≡ option_map (λ (s : List ℕ × List ℕ). order.Copy s.0 s.1 bucket key headers) source → ⊥
+copy_is_no_get bucket key b k headers None e = none_is_no_get b k e
+copy_is_no_get bucket key b k headers (Some s) e = cc
+
+-- where a get is asked of the store, a get was asked
+pub get_asked : (a : Ask) (body bucket key : List ℕ) → Some (order.Get bucket key) ≡ order_of a body → IsGetOf (range_of a) a
+get_asked (ask.Get b k range) body bucket key e = (b, k, refl)
+get_asked ask.ListBuckets body bucket key e = absurd (none_is_no_get bucket key e)
+get_asked (ask.HeadBucket b) body bucket key e = absurd (none_is_no_get bucket key e)
+get_asked (ask.List b list delimiter url token start) body bucket key e = cc
+get_asked (ask.BadList b) body bucket key e = absurd (none_is_no_get bucket key e)
+get_asked (ask.Head b k range) body bucket key e = cc
+get_asked (ask.Delete b k) body bucket key e = cc
+get_asked (ask.Put b k size md5 headers) body bucket key e = cc
+get_asked (ask.Copy from b k headers) body bucket key e = absurd (copy_is_no_get b k bucket key headers (source_of from) e)
+
+same_order : (o p : Order) → Some o ≡ Some p → o ≡ p
+same_order o p e = cc
+
+-- and where another order is, none was
+pub no_get_asked : (a : Ask) (body : List ℕ) (o : Order) → ((bucket key : List ℕ) → o ≡ order.Get bucket key → ⊥) → Some o ≡ order_of a body → IsNoGet a
+no_get_asked (ask.Get b k range) body o other e = absurd (other b k (same_order o (order.Get b k) e))
+no_get_asked ask.ListBuckets body o other e = tt
+no_get_asked (ask.HeadBucket b) body o other e = tt
+no_get_asked (ask.List b list delimiter url token start) body o other e = tt
+no_get_asked (ask.BadList b) body o other e = tt
+no_get_asked (ask.Head b k range) body o other e = tt
+no_get_asked (ask.Delete b k) body o other e = tt
+no_get_asked (ask.Put b k size md5 headers) body o other e = tt
+no_get_asked (ask.Copy from b k headers) body o other e = tt
 
 -- ---- an ask has the key of its path
 

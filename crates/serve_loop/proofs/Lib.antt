@@ -4,6 +4,9 @@ pub mod Bodies
 pub mod Heads
 pub mod Keys
 pub mod Carrying
+pub mod Writing
+pub mod Ending
+pub mod Getting
 pub mod Talking
 pub mod Connections
 pub mod Admits

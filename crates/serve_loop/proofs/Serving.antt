@@ -1,5 +1,5 @@
 -- What is shown of a request on the connection that is present.
-use Rattle.std.proofs.Common.{◌≡◌, ℕ, suc, ◌+◌, ◌≤◌, ◌<◌, List, [], ◌∷◌, ◌++◌, map, Option, Some, None, Bool, true, false, not, Result, Ok, Err, IfErr, refl, sym, ◌∙◌, ap, subst, arith, nat_lt, inl, inr}
+use Rattle.std.proofs.Common.{◌≡◌, ℕ, suc, ◌+◌, ◌≤◌, ◌<◌, List, [], ◌∷◌, ◌++◌, map, Option, Some, None, Bool, true, false, not, Result, Ok, Err, IfErr, refl, sym, ◌∙◌, ap, subst, append_assoc, arith, nat_lt, inl, inr}
 use Rattle.std.specs.List.{AllByRecursion}
 use Rattle.crdt_core.specs.Members.{OneOf}
 use Rattle.std.proofs.lemmas.Bool.{lt-ltb, le-ltb, cond-true, cond-false}
@@ -15,10 +15,12 @@ use Rattle.flow_model.specs.declared.flow.FlowEnd.{FlowEnd}
 use Rattle.serve_model.specs.declared.served.Served.{Served}
 use Rattle.serve_model.specs.declared.served.ServeFault.{ServeFault}
 use Rattle.serve_model.specs.declared.served.ServeFault.TheVariants.{Kept, Number, Memory}
+use Rattle.serve_model.specs.declared.request.Request.{Request}
 use Rattle.serve_model.specs.Stores.{Store, Asking, Leads, Known}
-use Rattle.serve_model.specs.Talk.{Serving, goes, exceeds, unless_closed, Stop, Turn, behind, passing, having_asked, after, said, exceeded, counted, counting, kept_limit}
-use Rattle.serve_model.specs.Serving.{CarriedOut, Reached, Goes, Says, said as was_said, cut_short, unsaid, Stands, Continues, ComesTo, CutOffAt, GivesUp, Serves, done, cut_off, limited, given_up, OnLeft, SaysOn, ServesOn}
-use Rattle.serve_model.proofs.Ones.{one_weaker, one_mapped}
+use Rattle.serve_model.specs.Talk.{Serving, goes, exceeds, unless_closed, Stop, Halt, Turn, behind, behind_halt, passing, having_asked, giving, halts_of, begun_text, after, said, exceeded, counted, counting, kept_limit}
+use Rattle.serve_model.specs.Serving.{CarriedOut, Reached, Goes, Says, said as was_said, cut_short, unsaid, Stands, Continues, ComesTo, ComesInto, CutOffAt, GivesUp, Serves, done, cut_off, limited, given_up, halted, OnLeft, SaysOn, ServesOn}
+use Rattle.serve_model.proofs.Ones.{one_weaker, one_mapped, one_right}
+use Rattle.serve_loop.specs.Giving.{EndsWith, says, stops}
 
 -- ---- bytes that are told to be left
 
@@ -130,6 +132,14 @@ module _ {S : Type 0} (holds : S → Type 0) (known : Known S) (times : Option (
   passing_one p t r kept c d (cut_off ok n at) = cut_off ok n (inr at)
   passing_one p t r kept c d (limited err is w all n) = limited err is w all n
   passing_one p t r kept c d (given_up e err why at n) = given_up e err why (inr at) n
+  passing_one p t r kept c d (halted e err why at n) = halted e err why at n
+
+  giving_one : (q : Request) (a : Asking S) (t : Turn S) (r : Result Bool ServeFault) (kept : List ℕ) (c d : Connection) → Serves t holds known times served r kept c d → Serves (giving q a t) holds known times served r kept c d
+  giving_one q a t r kept c d (done on ok w all st go n) = done on ok w all st go n
+  giving_one q a t r kept c d (cut_off ok n at) = cut_off ok n at
+  giving_one q a t r kept c d (limited err is w all n) = limited err is w all n
+  giving_one q a t r kept c d (given_up e err why at n) = given_up e err why at n
+  giving_one q a t r kept c d (halted e err why at n) = halted e err why (one_right (ComesInto known c d) (halts_of a.order q a) t.halts at) n
 
   asked_one : (a : Asking S) (t : Turn S) (r : Result Bool ServeFault) (kept : List ℕ) (c d : Connection) → known.fits a → (known.overflows t.asks → known.overflows (a ∷ t.asks)) → Serves t holds known times served r kept c d → Serves (having_asked a t) holds known times served r kept c d
   asked_one a t r kept c d fit f (done on ok w all st go n) = done on ok w (fit, all) st go n
@@ -138,6 +148,15 @@ module _ {S : Type 0} (holds : S → Type 0) (known : Known S) (times : Option (
   asked_one a t r kept c d fit f (limited err is w all n) = limited err is w (fit, all) n
   asked_one a t r kept c d fit f (given_up e err why at n) =
       given_up e err (gives_up_for e known.overflows known.overflows t.asks (a ∷ t.asks) f why) (one_mapped (ComesTo known.fits c d) (ComesTo known.fits c d) (behind [] (a ∷ [])) (λ stop h. (h.0, (fit, h.1))) t.stops at) n
+  asked_one a t r kept c d fit f (halted e err why at n) =
+      halted e err (gives_up_for e known.overflows known.overflows t.asks (a ∷ t.asks) f why) (one_mapped (ComesInto known c d) (ComesInto known c d) (behind_halt [] (a ∷ [])) (λ halt h. (h.0, h.1, h.2, (fit, h.3))) t.halts at) n
+
+  -- a text was written before a get
+  into_after : (text : List ℕ) (c d f : Connection) → Wrote c.written d.written text → (halt : Halt S) → ComesInto known d f halt → ComesInto known c f (behind_halt text [] halt)
+  into_after text c d f first halt h =
+      let more = begun_text halt.request (Some h.0) in
+      let P : List ℕ → Type 0 = WrotePrefix c.written f.written in
+      (h.0, h.1, subst P (sym (append_assoc text halt.text more)) (wrote_prefix_after c.written d.written f.written text (halt.text ++ more) first h.2), h.3)
 
   after_one : (text : List ℕ) (t : Turn S) (r : Result Bool ServeFault) (kept : List ℕ) (c d f : Connection) → Wrote c.written d.written text → c.faults ≤ d.faults → Serves t holds known times served r kept d f → Serves (after text t) holds known times served r kept c f
   after_one text t r kept c d f first le (done on ok w all st go n) = done on ok (wrote_more c.written d.written f.written text t.text first w) all st go (omega (arith, le, n))
@@ -147,6 +166,8 @@ module _ {S : Type 0} (holds : S → Type 0) (known : Known S) (times : Option (
   after_one text t r kept c d f first le (limited err is w all n) = limited err is (wrote_more c.written d.written f.written text t.text first w) all (omega (arith, le, n))
   after_one text t r kept c d f first le (given_up e err why at n) =
       given_up e err why (one_mapped (ComesTo known.fits d f) (ComesTo known.fits c f) (behind text []) (comes_after known.fits holds times served text c d f first) t.stops at) (omega (arith, le, n))
+  after_one text t r kept c d f first le (halted e err why at n) =
+      halted e err why (one_mapped (ComesInto known d f) (ComesInto known c f) (behind_halt text []) (into_after text c d f first) t.halts at) (omega (arith, le, n))
 
   says_one : (text : List ℕ) (close : Bool) (p : Serving S) (kept left : List ℕ) (r : Result Bool ServeFault) (c d : Connection) → c.left ≡ Some left → Stands holds times served p → Says text close r c d → Serves (said text close p (kept ++ left)) holds known times served r kept c d
   says_one text close p kept left r c d told st (was_said ok w l n) = done (not close) ok w tt st (continues close kept left d.left (l ∙ told)) n
@@ -155,6 +176,10 @@ module _ {S : Type 0} (holds : S → Type 0) (known : Known S) (times : Option (
       let P : Connection → Type 0 = λ x. WrotePrefix c.written x.written text in
       given_up Memory err tt (inl (subst P (sym same) (nothing_written c.written text), tt)) (let Q : Connection → Type 0 = λ x. c.faults ≤ x.faults in subst Q (sym same) (omega arith))
 
+  ends_one : (text : List ℕ) (close : Bool) (p : Serving S) (kept left : List ℕ) (r : Result Bool ServeFault) (c d : Connection) → c.left ≡ Some left → Stands holds times served p → EndsWith text close r c d → Serves (said text close p (kept ++ left)) holds known times served r kept c d
+  ends_one text close p kept left r c d told st (says h) = says_one text close p kept left r c d told st h
+  ends_one text close p kept left r c d told st (stops err part le) = given_up Memory err tt (inl (part, tt)) le
+
   module _ (r : Result Bool ServeFault) (kept : List ℕ) (o n : Option Connection) where
     -- an answer was written
     pub says_serves : (text : List ℕ) (close : Bool) (p : Serving S) → Stands holds times served p → SaysOn text close r o n → ServesOn (λ left. said text close p (kept ++ left)) holds known times served r kept o n
@@ -162,9 +187,19 @@ module _ {S : Type 0} (holds : S → Type 0) (known : Known S) (times : Option (
         on_present (Says text close r) (λ c d. OnLeft (λ left. Serves (said text close p (kept ++ left)) holds known times served r kept c d) c.left) o n
         (λ c d s. on_left (λ left. Serves (said text close p (kept ++ left)) holds known times served r kept c d) c.left (λ left e. says_one text close p kept left r c d e st s)) h
 
+    -- the same, or a first part of it, as memory was wanting
+    pub ends_serves : (text : List ℕ) (close : Bool) (p : Serving S) → Stands holds times served p → OnPresent (EndsWith text close r) o n → ServesOn (λ left. said text close p (kept ++ left)) holds known times served r kept o n
+    ends_serves text close p st h =
+        on_present (EndsWith text close r) (λ c d. OnLeft (λ left. Serves (said text close p (kept ++ left)) holds known times served r kept c d) c.left) o n
+        (λ c d s. on_left (λ left. Serves (said text close p (kept ++ left)) holds known times served r kept c d) c.left (λ left e. ends_one text close p kept left r c d e st s)) h
+
     -- a stop more
     pub passing_serves : (p : Serving S) (t : List ℕ → Turn S) → ServesOn t holds known times served r kept o n → ServesOn (λ left. passing p (t left)) holds known times served r kept o n
     passing_serves p t h = turn_for_turn t (λ left. passing p (t left)) r kept o n (λ left c d s. passing_one p (t left) r kept c d s) h
+
+    -- a get more in which serving may be given up
+    pub giving_serves : (q : Request) (a : Asking S) (t : List ℕ → Turn S) → ServesOn t holds known times served r kept o n → ServesOn (λ left. giving q a (t left)) holds known times served r kept o n
+    giving_serves q a t h = turn_for_turn t (λ left. giving q a (t left)) r kept o n (λ left c d s. giving_one q a (t left) r kept c d s) h
 
     -- the store was asked this before
     pub asked_serves : (a : Asking S) (t : List ℕ → Turn S) → known.fits a → ((asks : List (Asking S)) → known.overflows asks → known.overflows (a ∷ asks)) → ServesOn t holds known times served r kept o n → ServesOn (λ left. having_asked a (t left)) holds known times served r kept o n
@@ -216,6 +251,11 @@ module _ {S : Type 0} (holds : S → Type 0) (known : Known S) (times : Option (
       let Q : Option (List ℕ) → Type 0 = λ x. Wrote c.written x [] in
       (wrote_prefix_after c.written d.written f.written [] stop.text (subst Q (sym q.unwritten) (wrote_none c.written)) h.0, h.1)
 
+  quiet_into : (c d f : Connection) → IsQuiet c d → (halt : Halt S) → ComesInto known d f halt → ComesInto known c f halt
+  quiet_into c d f q halt h =
+      let Q : Option (List ℕ) → Type 0 = λ x. Wrote c.written x [] in
+      (h.0, h.1, wrote_prefix_after c.written d.written f.written [] (halt.text ++ begun_text halt.request (Some h.0)) (subst Q (sym q.unwritten) (wrote_none c.written)) h.2, h.3)
+
   quiet_wrote : (c d f : Connection) (text : List ℕ) → IsQuiet c d → Wrote d.written f.written text → Wrote c.written f.written text
   quiet_wrote c d f text q w =
       let Q : Option (List ℕ) → Type 0 = λ x. Wrote c.written x [] in
@@ -227,6 +267,7 @@ module _ {S : Type 0} (holds : S → Type 0) (known : Known S) (times : Option (
       cut_off ok (rose_after c.faults d.faults f.faults q.counted n) (one_weaker (CutOffAt known.fits holds times served d f) (CutOffAt known.fits holds times served c f) (λ stop h. (quiet_comes c d f q stop h.0, h.1)) t.stops at)
   quiet_one t c d f q (limited err is w all n) = limited err is (quiet_wrote c d f t.text q w) all (omega (arith, q.counted, n))
   quiet_one t c d f q (given_up e err why at n) = given_up e err why (one_weaker (ComesTo known.fits d f) (ComesTo known.fits c f) (quiet_comes c d f q) t.stops at) (omega (arith, q.counted, n))
+  quiet_one t c d f q (halted e err why at n) = halted e err why (one_weaker (ComesInto known d f) (ComesInto known c f) (quiet_into c d f q) t.halts at) (omega (arith, q.counted, n))
 
   -- bytes were read, and what is stated of all of them is what is stated so of the rest, which was served
   pub read_then : (P : List ℕ → List ℕ → Type 0) (t u : List ℕ → Turn S) → OnPresent (λ c d. IsQuiet c d × OnAll P kept kept' c d) o m → ((all rest : List ℕ) → P all rest → t all ≡ u rest)

@@ -4,7 +4,7 @@ use Rattle.std.proofs.lemmas.List.Elements.{Contains-append_left, Contains-appen
 use Rattle.std.specs.List.{AllByRecursion, Contains}
 use Rattle.crdt_core.specs.Members.{OneOf}
 use Rattle.lab_outside.specs.Connection.{Connection, OnPresent}
-use Rattle.lab_outside.specs.Bytes.{Wrote}
+use Rattle.lab_outside.specs.Bytes.{Wrote, WrotePrefix}
 use Rattle.lab_outside.proofs.Bytes.{wrote_none, wrote_more, wrote_prefix_after}
 use Rattle.lab_outside.proofs.Rose.{rose_after}
 use Rattle.flow_model.specs.declared.order.Order.{Order}
@@ -13,9 +13,9 @@ use Rattle.serve_model.specs.declared.served.Served.{Served}
 use Rattle.serve_model.specs.declared.served.ServeFault.{ServeFault}
 use Rattle.serve_model.specs.declared.served.ServeFault.TheVariants.{Kept, Number, Memory}
 use Rattle.serve_model.specs.Stores.{Store, Asking, after_orders, OrdersFit, Leads, Overflows, fits_asking, Known, OverflowsAmong, known_from}
-use Rattle.serve_model.specs.Talk.{Grammar, Serving, Next, goes, closes, exceeds, Stop, behind, Turn, turn, Talk, go_on, talk}
-use Rattle.serve_model.specs.Serving.{HasState, Reached, Goes, Stands, Continues, ComesTo, CutOffAt, GivesUp, Serves, done, cut_off, limited, given_up, OnLeft, ServesOn}
-use Rattle.serve_model.specs.Connections.{Talks, whole, cut_off as talk_cut, limited as talk_limited, given_up as talk_given_up}
+use Rattle.serve_model.specs.Talk.{Grammar, Serving, Next, goes, closes, exceeds, Stop, behind, Halt, behind_halt, begun_text, Turn, turn, Talk, go_on, talk}
+use Rattle.serve_model.specs.Serving.{HasState, Reached, Goes, Stands, Continues, ComesTo, ComesInto, CutOffAt, GivesUp, Serves, done, cut_off, limited, given_up, halted, OnLeft, ServesOn}
+use Rattle.serve_model.specs.Connections.{Talks, whole, cut_off as talk_cut, limited as talk_limited, given_up as talk_given_up, halted as talk_halted}
 use Rattle.serve_model.proofs.Ones.{one_left, one_right, one_mapped}
 use Rattle.serve_loop.proofs.Serving.{on_left, at_left, gives_up_for}
 
@@ -84,30 +84,42 @@ all_append : {A : Type 0} (Q : A → Type 0) (xs ys : List A) → AllByRecursion
 all_append Q [] ys h k = k
 all_append Q (x ∷ xs) ys h k = (h.0, all_append Q xs ys h.1 k)
 
--- a text, stops and what the store was asked come before a talk
-abbrev pub prefixed : {S : Type 0} → List ℕ → List (Stop S) → List (Asking S) → Talk S → Talk S
-prefixed text stops asks u = record { text = text ++ u.text; stops = stops ++ map (behind text asks) u.stops; asks = asks ++ u.asks; serving = u.serving; is_over = u.is_over }
+-- a text, stops, halts and what the store was asked come before a talk
+abbrev pub prefixed : {S : Type 0} → List ℕ → List (Stop S) → List (Halt S) → List (Asking S) → Talk S → Talk S
+prefixed text stops halts asks u =
+    record { text = text ++ u.text; stops = stops ++ map (behind text asks) u.stops; halts = halts ++ map (behind_halt text asks) u.halts; asks = asks ++ u.asks; serving = u.serving; is_over = u.is_over }
 
-module _ {S : Type 0} (text : List ℕ) (asks : List (Asking S)) where
-  stops_append : (xs ys : List (Stop S)) → map (behind text asks) (xs ++ ys) ≡ map (behind text asks) xs ++ map (behind text asks) ys
-  stops_append [] ys = refl
-  stops_append (x ∷ xs) ys = ap (λ zs. behind text asks x ∷ zs) (stops_append xs ys)
+-- what is put before each of two lists in turn is put before both
+module _ {X : Type 0} where
+  map_append : (f : X → X) (xs ys : List X) → map f (xs ++ ys) ≡ map f xs ++ map f ys
+  map_append f [] ys = refl
+  map_append f (x ∷ xs) ys = ap (λ zs. f x ∷ zs) (map_append f xs ys)
 
-  behind_twice : (text' : List ℕ) (asks' : List (Asking S)) (xs : List (Stop S)) → map (behind text asks) (map (behind text' asks') xs) ≡ map (behind (text ++ text') (asks ++ asks')) xs
-  behind_twice text' asks' [] = refl
-  behind_twice text' asks' (x ∷ xs) =
-      let one : behind text asks (behind text' asks' x) ≡ behind (text ++ text') (asks ++ asks') x = ap₂ (λ t a. record { text = t; asks = a; serving = x.serving }) (sym (append_assoc text text' x.text)) (sym (append_assoc asks asks' x.asks)) in
-      ap₂ (λ y ys. y ∷ ys) one (behind_twice text' asks' xs)
+  map_twice : (f g h : X → X) → ((x : X) → f (g x) ≡ h x) → (xs : List X) → map f (map g xs) ≡ map h xs
+  map_twice f g h one [] = refl
+  map_twice f g h one (x ∷ xs) = ap₂ (λ y ys. y ∷ ys) (one x) (map_twice f g h one xs)
+
+  twice_behind : (f g h : X → X) → ((x : X) → f (g x) ≡ h x) → (xs ys zs : List X) → xs ++ map f (ys ++ map g zs) ≡ (xs ++ map f ys) ++ map h zs
+  twice_behind f g h one xs ys zs =
+      ap (λ (x : List X). xs ++ x) (map_append f ys (map g zs) ∙ ap (λ (x : List X). map f ys ++ x) (map_twice f g h one zs)) ∙ sym (append_assoc xs (map f ys) (map h zs))
+
+module _ {S : Type 0} (text : List ℕ) (asks : List (Asking S)) (text' : List ℕ) (asks' : List (Asking S)) where
+  stop_twice : (x : Stop S) → behind text asks (behind text' asks' x) ≡ behind (text ++ text') (asks ++ asks') x
+  stop_twice x = ap₂ (λ t a. record { text = t; asks = a; serving = x.serving }) (sym (append_assoc text text' x.text)) (sym (append_assoc asks asks' x.asks))
+
+  halt_twice : (x : Halt S) → behind_halt text asks (behind_halt text' asks' x) ≡ behind_halt (text ++ text') (asks ++ asks') x
+  halt_twice x = ap₂ (λ t a. record { text = t; asks = a; request = x.request; asking = x.asking }) (sym (append_assoc text text' x.text)) (sym (append_assoc asks asks' x.asks))
 
   -- and before what comes before it
-  prefixed_twice : (stops : List (Stop S)) (text' : List ℕ) (stops' : List (Stop S)) (asks' : List (Asking S)) (u : Talk S) →
-      prefixed text stops asks (prefixed text' stops' asks' u) ≡ prefixed (text ++ text') (stops ++ map (behind text asks) stops') (asks ++ asks') u
-  prefixed_twice stops text' stops' asks' u =
-      let at : stops ++ map (behind text asks) (stops' ++ map (behind text' asks') u.stops) ≡ (stops ++ map (behind text asks) stops') ++ map (behind (text ++ text') (asks ++ asks')) u.stops =
-      ap (λ x. stops ++ x) (stops_append stops' (map (behind text' asks') u.stops) ∙ ap (λ x. map (behind text asks) stops' ++ x) (behind_twice text' asks' u.stops)) ∙ sym (append_assoc stops (map (behind text asks) stops') (map (behind (text ++ text') (asks ++ asks')) u.stops)) in
-      ap (λ x. record { text = x; stops = stops ++ map (behind text asks) (stops' ++ map (behind text' asks') u.stops); asks = asks ++ (asks' ++ u.asks); serving = u.serving; is_over = u.is_over }) (sym (append_assoc text text' u.text))
-      ∙ ap (λ x. record { text = (text ++ text') ++ u.text; stops = x; asks = asks ++ (asks' ++ u.asks); serving = u.serving; is_over = u.is_over }) at
-      ∙ ap (λ x. record { text = (text ++ text') ++ u.text; stops = (stops ++ map (behind text asks) stops') ++ map (behind (text ++ text') (asks ++ asks')) u.stops; asks = x; serving = u.serving; is_over = u.is_over }) (sym (append_assoc asks asks' u.asks))
+  prefixed_twice : (stops : List (Stop S)) (halts : List (Halt S)) (stops' : List (Stop S)) (halts' : List (Halt S)) (u : Talk S) →
+      prefixed text stops halts asks (prefixed text' stops' halts' asks' u)
+      ≡ prefixed (text ++ text') (stops ++ map (behind text asks) stops') (halts ++ map (behind_halt text asks) halts') (asks ++ asks') u
+  prefixed_twice stops halts stops' halts' u =
+      let stops'' = twice_behind (behind text asks) (behind text' asks') (behind (text ++ text') (asks ++ asks')) stop_twice stops stops' u.stops in
+      let halts'' = twice_behind (behind_halt text asks) (behind_halt text' asks') (behind_halt (text ++ text') (asks ++ asks')) halt_twice halts halts' u.halts in
+      ap₂ (λ t a. record { text = t; stops = stops ++ map (behind text asks) (stops' ++ map (behind text' asks') u.stops); halts = halts ++ map (behind_halt text asks) (halts' ++ map (behind_halt text' asks') u.halts); asks = a; serving = u.serving; is_over = u.is_over })
+      (sym (append_assoc text text' u.text)) (sym (append_assoc asks asks' u.asks))
+      ∙ ap₂ (λ x y. record { text = (text ++ text') ++ u.text; stops = x; halts = y; asks = (asks ++ asks') ++ u.asks; serving = u.serving; is_over = u.is_over }) stops'' halts''
 
 -- ---- one more turn
 
@@ -145,7 +157,7 @@ ok_is_no_error : (r : Result Bool ServeFault) (a : Bool) (e : ServeFault) → r 
 ok_is_no_error r a e h k = cc
 
 module _ {S : Type 0} (store : Store S) (buckets : Buckets) (g : Grammar) where
-  talk_none : (p : Serving S) (bytes : List ℕ) → talk store buckets g 0 p bytes ≡ record { text = []; stops = []; asks = []; serving = p; is_over = false }
+  talk_none : (p : Serving S) (bytes : List ℕ) → talk store buckets g 0 p bytes ≡ record { text = []; stops = []; halts = []; asks = []; serving = p; is_over = false }
   unfolding talk
   talk_none p bytes = refl
 
@@ -168,6 +180,17 @@ module _ {S : Type 0} (store : Store S) (buckets : Buckets) (g : Grammar) where
       let Q : Talk S → Type 0 = λ u. OneOf P u.stops in
       subst Q (sym (talk_next more p bytes)) (go_on_stops P more (turn store buckets g (more == 0) p bytes) (turn store buckets g (more == 0) p bytes).next h)
 
+  -- and its halts
+  go_on_halts : (P : Halt S → Type 0) (more : ℕ) (t : Turn S) (next : Next) → OneOf P t.halts → OneOf P (go_on (talk store buckets g more) t next).halts
+  go_on_halts P more t (goes rest) h = one_left P t.halts (map (behind_halt t.text t.asks) (talk store buckets g more t.serving rest).halts) h
+  go_on_halts P more t closes h = h
+  go_on_halts P more t exceeds h = h
+
+  turn_halts : (P : Halt S → Type 0) (more : ℕ) (p : Serving S) (bytes : List ℕ) → OneOf P (turn store buckets g (more == 0) p bytes).halts → OneOf P (talk store buckets g (suc more) p bytes).halts
+  turn_halts P more p bytes h =
+      let Q : Talk S → Type 0 = λ u. OneOf P u.halts in
+      subst Q (sym (talk_next more p bytes)) (go_on_halts P more (turn store buckets g (more == 0) p bytes) (turn store buckets g (more == 0) p bytes).next h)
+
   -- what the turn asks, the talk asks
   go_on_asks : (more : ℕ) (t : Turn S) (next : Next) (x : Asking S) → Contains t.asks x → Contains (go_on (talk store buckets g more) t next).asks x
   go_on_asks more t (goes rest) x h = Contains-append_left t.asks (talk store buckets g more t.serving rest).asks x h
@@ -185,6 +208,7 @@ module _ {S : Type 0} (store : Store S) (buckets : Buckets) (g : Grammar) where
 pub record InTalk {S : Type 0} (store : Store S) (FitsIt : Asking S → Type 0) (buckets : Buckets) (g : Grammar) (all : Talk S) (holds : S → Type 0) (times : Option (List ℕ)) (served : Served) (more : ℕ) (kept : List ℕ) (c d : Connection) : Type 0 where
   pub text : List ℕ
   pub stops : List (Stop S)
+  pub halts : List (Halt S)
   pub asks : List (Asking S)
   pub serving : Serving S
   pub left : List ℕ
@@ -193,14 +217,14 @@ pub record InTalk {S : Type 0} (store : Store S) (FitsIt : Asking S → Type 0) 
   pub fit : AllByRecursion FitsIt asks
   pub stands : Stands holds times served serving
   pub counted : c.faults ≤ d.faults
-  pub is : all ≡ prefixed text stops asks (talk store buckets g more serving (kept ++ left))
+  pub is : all ≡ prefixed text stops halts asks (talk store buckets g more serving (kept ++ left))
 
-none_behind : {S : Type 0} (xs : List (Stop S)) → map (behind [] []) xs ≡ xs
-none_behind [] = refl
-none_behind (x ∷ xs) = ap (λ ys. x ∷ ys) (none_behind xs)
+map_none : {X : Type 0} (f : X → X) → ((x : X) → f x ≡ x) → (xs : List X) → map f xs ≡ xs
+map_none f one [] = refl
+map_none f one (x ∷ xs) = ap₂ (λ y ys. y ∷ ys) (one x) (map_none f one xs)
 
-prefixed_none : {S : Type 0} (u : Talk S) → prefixed [] [] [] u ≡ u
-prefixed_none u = ap (λ x. record u { stops = x }) (none_behind u.stops)
+prefixed_none : {S : Type 0} (u : Talk S) → prefixed [] [] [] [] u ≡ u
+prefixed_none u = ap₂ (λ x y. record u { stops = x; halts = y }) (map_none (behind [] []) (λ x. refl) u.stops) (map_none (behind_halt [] []) (λ x. refl) u.halts)
 
 module _ {S : Type 0} (store : Store S) (FitsIt : Asking S → Type 0) (buckets : Buckets) (g : Grammar) where
   pub talk_begins : (limit more : ℕ) (p : Serving S) (bytes : List ℕ) (holds : S → Type 0) (times : Option (List ℕ)) (served : Served) (kept : List ℕ) (c : Connection) → c.left ≡ Some bytes → kept ≡ [] → more ≡ limit → Stands holds times served p → InTalk store FitsIt buckets g (talk store buckets g limit p bytes) holds times served more kept c c
@@ -208,6 +232,7 @@ module _ {S : Type 0} (store : Store S) (FitsIt : Asking S → Type 0) (buckets 
       record {
         text = [];
         stops = [];
+        halts = [];
         asks = [];
         serving = p;
         left = bytes;
@@ -230,10 +255,11 @@ module _ {S : Type 0} (store : Store S) (fits lacks : S → ℕ → Order → Ty
       let t = turn store buckets g (more == 0) i.serving (kept ++ i.left) in
       let o = goes_on t.next kept' f.left on (same_ok (Ok true) true on refl ok) go in
       let u = talk store buckets g more t.serving (kept' ++ o.left) in
-      let next : talk store buckets g (suc more) i.serving (kept ++ i.left) ≡ prefixed t.text t.stops t.asks u = talk_with store buckets g more i.serving (kept ++ i.left) (goes (kept' ++ o.left)) o.next_is in
+      let next : talk store buckets g (suc more) i.serving (kept ++ i.left) ≡ prefixed t.text t.stops t.halts t.asks u = talk_with store buckets g more i.serving (kept ++ i.left) (goes (kept' ++ o.left)) o.next_is in
       record {
         text = i.text ++ t.text;
         stops = i.stops ++ map (behind i.text i.asks) t.stops;
+        halts = i.halts ++ map (behind_halt i.text i.asks) t.halts;
         asks = i.asks ++ t.asks;
         serving = t.serving;
         left = o.left;
@@ -242,7 +268,7 @@ module _ {S : Type 0} (store : Store S) (fits lacks : S → ℕ → Order → Ty
         fit = all_append (fits_asking fits) i.asks t.asks i.fit asked;
         stands = stands_more store fits lacks holds' times' served' start i.serving.store t.serving i.stands.store.1 st;
         counted = omega (arith, i.counted, n);
-        is = i.is ∙ ap (prefixed i.text i.stops i.asks) next ∙ prefixed_twice i.text i.asks i.stops t.text t.stops t.asks u;
+        is = i.is ∙ ap (prefixed i.text i.stops i.halts i.asks) next ∙ prefixed_twice i.text i.asks t.text t.asks i.stops i.halts t.stops t.halts u;
       }
   talk_goes_on (cut_off err n at) = absurd (true_is_false (same_ok (Ok true) true false refl err))
     where
@@ -250,6 +276,7 @@ module _ {S : Type 0} (store : Store S) (fits lacks : S → ℕ → Order → Ty
       true_is_false e = cc
   talk_goes_on (limited err next w asked n) = absurd (ok_is_no_error (Ok true) true Kept refl err)
   talk_goes_on (given_up m err why at n) = absurd (ok_is_no_error (Ok true) true m refl err)
+  talk_goes_on (halted m err why at n) = absurd (ok_is_no_error (Ok true) true m refl err)
 
   -- the turn's stops are stops of all
   stops_of_all : (P Q : Stop S → Type 0) → ((stop : Stop S) → P stop → Q (behind i.text i.asks stop)) → OneOf P (turn store buckets g (more == 0) i.serving (kept ++ i.left)).stops → OneOf Q all.stops
@@ -257,6 +284,18 @@ module _ {S : Type 0} (store : Store S) (fits lacks : S → ℕ → Order → Ty
       let v = talk store buckets g (suc more) i.serving (kept ++ i.left) in
       let R : Talk S → Type 0 = λ u. OneOf Q u.stops in
       subst R (sym i.is) (one_right Q i.stops (map (behind i.text i.asks) v.stops) (one_mapped P Q (behind i.text i.asks) f v.stops (turn_stops store buckets g P more i.serving (kept ++ i.left) h)))
+
+  halts_of_all : (P Q : Halt S → Type 0) → ((halt : Halt S) → P halt → Q (behind_halt i.text i.asks halt)) → OneOf P (turn store buckets g (more == 0) i.serving (kept ++ i.left)).halts → OneOf Q all.halts
+  halts_of_all P Q f h =
+      let v = talk store buckets g (suc more) i.serving (kept ++ i.left) in
+      let R : Talk S → Type 0 = λ u. OneOf Q u.halts in
+      subst R (sym i.is) (one_right Q i.halts (map (behind_halt i.text i.asks) v.halts) (one_mapped P Q (behind_halt i.text i.asks) f v.halts (turn_halts store buckets g P more i.serving (kept ++ i.left) h)))
+
+  into_so_far : (halt : Halt S) → ComesInto (known_from store fits lacks i.serving.store) d f halt → ComesInto (known_from store fits lacks start) c f (behind_halt i.text i.asks halt)
+  into_so_far halt h =
+      let more = begun_text halt.request (Some h.0) in
+      let P : List ℕ → Type 0 = WrotePrefix c.written f.written in
+      (h.0, h.1, subst P (sym (append_assoc i.text halt.text more)) (wrote_prefix_after c.written d.written f.written i.text (halt.text ++ more) i.wrote h.2), all_append (fits_asking fits) i.asks halt.asks i.fit h.3)
 
   comes_so_far : (stop : Stop S) → ComesTo (fits_asking fits) d f stop → ComesTo (fits_asking fits) c f (behind i.text i.asks stop)
   comes_so_far stop h = (wrote_prefix_after c.written d.written f.written i.text stop.text i.wrote h.0, all_append (fits_asking fits) i.asks stop.asks i.fit h.1)
@@ -280,8 +319,8 @@ module _ {S : Type 0} (store : Store S) (fits lacks : S → ℕ → Order → Ty
   pub talk_ends : Follows (Ok false) → Talks all (Reached store fits lacks holds' start) (known_from store fits lacks start) times' served' (Ok tt) c f
   talk_ends (done on ok w asked st go n) =
       let t = turn store buckets g (more == 0) i.serving (kept ++ i.left) in
-      let off : talk store buckets g (suc more) i.serving (kept ++ i.left) ≡ record { text = t.text; stops = t.stops; asks = t.asks; serving = t.serving; is_over = false } = talk_with store buckets g more i.serving (kept ++ i.left) closes (ends_here t.next kept' f.left on (same_ok (Ok false) false on refl ok) go) in
-      let is : all ≡ record { text = i.text ++ t.text; stops = i.stops ++ map (behind i.text i.asks) t.stops; asks = i.asks ++ t.asks; serving = t.serving; is_over = false } = i.is ∙ ap (prefixed i.text i.stops i.asks) off in
+      let off : talk store buckets g (suc more) i.serving (kept ++ i.left) ≡ record { text = t.text; stops = t.stops; halts = t.halts; asks = t.asks; serving = t.serving; is_over = false } = talk_with store buckets g more i.serving (kept ++ i.left) closes (ends_here t.next kept' f.left on (same_ok (Ok false) false on refl ok) go) in
+      let is : all ≡ record { text = i.text ++ t.text; stops = i.stops ++ map (behind i.text i.asks) t.stops; halts = i.halts ++ map (behind_halt i.text i.asks) t.halts; asks = i.asks ++ t.asks; serving = t.serving; is_over = false } = i.is ∙ ap (prefixed i.text i.stops i.halts i.asks) off in
       let P : Talk S → Type 0 = λ x. Talks x (Reached store fits lacks holds' start) (known_from store fits lacks start) times' served' (Ok tt) c f in
       subst P (sym is) (whole refl refl (wrote_more c.written d.written f.written i.text t.text i.wrote w) (all_append (fits_asking fits) i.asks t.asks i.fit asked) (stands_more store fits lacks holds' times' served' start i.serving.store t.serving i.stands.store.1 st) (omega (arith, i.counted, n)))
   talk_ends (cut_off ok n at) =
@@ -289,6 +328,7 @@ module _ {S : Type 0} (store : Store S) (fits lacks : S → ℕ → Order → Ty
       (stops_of_all (CutOffAt (fits_asking fits) (Reached store fits lacks holds' i.serving.store) times' served' d f) (CutOffAt (fits_asking fits) (Reached store fits lacks holds' start) times' served' c f) cut_off_there at)
   talk_ends (limited err next w asked n) = absurd (ok_is_no_error (Ok false) false Kept refl err)
   talk_ends (given_up m err why at n) = absurd (ok_is_no_error (Ok false) false m refl err)
+  talk_ends (halted m err why at n) = absurd (ok_is_no_error (Ok false) false m refl err)
 
   -- serving ends in it
   pub talk_stops : (e : ServeFault) → Follows (Err e) → Talks all (Reached store fits lacks holds' start) (known_from store fits lacks start) times' served' (Err e) c f
@@ -296,21 +336,25 @@ module _ {S : Type 0} (store : Store S) (fits lacks : S → ℕ → Order → Ty
   talk_stops e (cut_off ok n at) = absurd (ok_is_no_error (Err e) false e ok refl)
   talk_stops e (limited err next w asked n) =
       let t = turn store buckets g (more == 0) i.serving (kept ++ i.left) in
-      let over : talk store buckets g (suc more) i.serving (kept ++ i.left) ≡ record { text = t.text; stops = t.stops; asks = t.asks; serving = t.serving; is_over = true } = talk_with store buckets g more i.serving (kept ++ i.left) exceeds next in
-      let is : all ≡ record { text = i.text ++ t.text; stops = i.stops ++ map (behind i.text i.asks) t.stops; asks = i.asks ++ t.asks; serving = t.serving; is_over = true } = i.is ∙ ap (prefixed i.text i.stops i.asks) over in
+      let over : talk store buckets g (suc more) i.serving (kept ++ i.left) ≡ record { text = t.text; stops = t.stops; halts = t.halts; asks = t.asks; serving = t.serving; is_over = true } = talk_with store buckets g more i.serving (kept ++ i.left) exceeds next in
+      let is : all ≡ record { text = i.text ++ t.text; stops = i.stops ++ map (behind i.text i.asks) t.stops; halts = i.halts ++ map (behind_halt i.text i.asks) t.halts; asks = i.asks ++ t.asks; serving = t.serving; is_over = true } = i.is ∙ ap (prefixed i.text i.stops i.halts i.asks) over in
       let P : Talk S → Type 0 = λ x. Talks x (Reached store fits lacks holds' start) (known_from store fits lacks start) times' served' (Err e) c f in
       subst P (sym is) (talk_limited (ap Err (same_err (Err e) e Kept refl err)) refl (wrote_more c.written d.written f.written i.text t.text i.wrote w) (all_append (fits_asking fits) i.asks t.asks i.fit asked) (omega (arith, i.counted, n)))
   talk_stops e (given_up m err why at n) =
       let same : e ≡ m = same_err (Err e) e m refl err in
       let Q : ServeFault → Type 0 = GivesUp (OverflowsAmong store fits lacks start) all.asks in
       talk_given_up e refl (subst Q (sym same) (why_of_all m why)) (stops_of_all (ComesTo (fits_asking fits) d f) (ComesTo (fits_asking fits) c f) comes_so_far at) (omega (arith, i.counted, n))
+  talk_stops e (halted m err why at n) =
+      let same : e ≡ m = same_err (Err e) e m refl err in
+      let Q : ServeFault → Type 0 = GivesUp (OverflowsAmong store fits lacks start) all.asks in
+      talk_halted e refl (subst Q (sym same) (why_of_all m why)) (halts_of_all (ComesInto (known_from store fits lacks i.serving.store) d f) (ComesInto (known_from store fits lacks start) c f) into_so_far at) (omega (arith, i.counted, n))
 
 -- as many requests were answered as one connection may have
 module _ {S : Type 0} (store : Store S) (buckets : Buckets) (g : Grammar) where
   pub talk_is_over : (all : Talk S) (more : ℕ) (kept : List ℕ) (holds : S → Type 0) (known : Known S) (times : Option (List ℕ)) (served : Served) (c d : Connection) → more ≡ 0 → InTalk store known.fits buckets g all holds times served more kept c d → Talks all holds known times served (Ok tt) c d
   talk_is_over all more kept holds known times served c d over i =
-      let rest : talk store buckets g more i.serving (kept ++ i.left) ≡ record { text = []; stops = []; asks = []; serving = i.serving; is_over = false } = ap (λ n. talk store buckets g n i.serving (kept ++ i.left)) over ∙ talk_none store buckets g i.serving (kept ++ i.left) in
-      let is : all ≡ record { text = i.text ++ []; stops = i.stops ++ []; asks = i.asks ++ []; serving = i.serving; is_over = false } = i.is ∙ ap (prefixed i.text i.stops i.asks) rest in
+      let rest : talk store buckets g more i.serving (kept ++ i.left) ≡ record { text = []; stops = []; halts = []; asks = []; serving = i.serving; is_over = false } = ap (λ n. talk store buckets g n i.serving (kept ++ i.left)) over ∙ talk_none store buckets g i.serving (kept ++ i.left) in
+      let is : all ≡ record { text = i.text ++ []; stops = i.stops ++ []; halts = i.halts ++ []; asks = i.asks ++ []; serving = i.serving; is_over = false } = i.is ∙ ap (prefixed i.text i.stops i.halts i.asks) rest in
       let P : Talk S → Type 0 = λ x. Talks x holds known times served (Ok tt) c d in
       let Q : List ℕ → Type 0 = Wrote c.written d.written in
       subst P (sym is) (whole refl refl (subst Q (sym (append-nil i.text)) i.wrote) (all_append known.fits i.asks [] i.fit tt) i.stands i.counted)

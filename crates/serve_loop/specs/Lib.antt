@@ -1,1 +1,3 @@
+pub mod Gets
+pub mod Giving
 pub mod Service

@@ -15,7 +15,12 @@ use serve_model::Answer;
 use std::alloc::Global;
 
 // An object, unless the range isn't one of it.
-fn found(range: Option<Range>, version: Version, meta: Meta, body: Pieces) -> Result<Answer, Memory>
+fn found(
+    range: Option<Range>,
+    version: Version,
+    meta: Meta,
+    body: Pieces,
+) -> Result<Answer, Memory>
     ensures same { IfOk result (λ answer. answer ≡ found_of range version meta body) }
     ensures want { OnlyWant result }
 {

@@ -4,11 +4,12 @@ ghost use Rattle.crdt_core.specs.Outcomes.{OnlyWant};
 ghost use Rattle.s3_model.specs.Sources.{is_long_key};
 ghost use Rattle.serve_model.specs.Keys.{has_bucket as has_bucket_of};
 ghost use Rattle.serve_model.specs.Judging.{bucket_of, key_of, is_missing as missing_of, has_wrong_digest as wrong_digest, has_bad_argument as bad_argument, source_bucket, differs as other_body, is_denied as denied, refusal_of};
+ghost use Rattle.serve_loop.specs.Giving.{range_of};
 
 use crate::admitting::may_read;
 use crdt_core::{Bytes, List, Memory};
 use layout_text::Access;
-use s3_model::{Ask, Code};
+use s3_model::{Ask, Code, Range};
 use s3_request::{copy_source, is_digest};
 use serve_model::{Buckets, Request};
 use sig_v4::is_body_of;
@@ -45,6 +46,16 @@ pub(crate) fn key(ask: &Ask) -> &[u8]
         | Ask::Delete { key, .. }
         | Ask::Put { key, .. }
         | Ask::Copy { key, .. } => key.as_slice(),
+    }
+}
+
+/// The range that is asked.
+pub(crate) fn range(ask: &Ask) -> Option<Range>
+    ensures { result ≡ range_of ask.now }
+{
+    match ask {
+        Ask::Get { range, .. } | Ask::Head { range, .. } => *range,
+        _ => None,
     }
 }
 

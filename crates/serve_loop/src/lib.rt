@@ -3,17 +3,18 @@
 //!
 //! What is written to a connection is a function of its bytes (serve_model), over the states that the store goes
 //! through. `serve_request` serves one request of the connection that is present, `serve` all connections. A `Storage`
-//! is what both need of a store: one call, which carries out an order at a time.
+//! is what both need of a store: a call that carries out an order at a time, and two by which a get is taken piece by piece.
 //!
 //! Inside, `admitting` says what a head asks and who asks it, or which refusal of it comes first; `judging` says which
 //! refusal comes first once a body was read, what the store is asked, and what its end is answered with; `saying` writes
-//! answers; `request`, `connection` and `service` are the three layers of serving.
+//! answers, and `giving` those to gets, as their bytes come; `request`, `connection` and `service` are the three layers of serving.
 #![tactic(auto)]
 
 mod admitting;
 mod answers;
 mod connection;
 mod counting;
+mod giving;
 mod judging;
 mod orders;
 mod request;
@@ -23,4 +24,4 @@ mod storage;
 
 pub use crate::request::serve_request;
 pub use crate::service::{ServeStop, serve};
-pub use crate::storage::Storage;
+pub use crate::storage::{Got, Storage};

@@ -1,24 +1,25 @@
 //! One request, served.
-ghost use Rattle.std.specs.Prelude.{◌≡◌, ℕ, List, ◌++◌, ◌||◌, max, min, true, codes, Option, Some, Ok, IsSome, IfOk, IfErr};
+ghost use Rattle.std.specs.Prelude.{◌≡◌, ◌≤◌, ℕ, List, ◌++◌, ◌||◌, max, min, true, codes, Option, Some, Ok, IsSome, IfOk, IfErr};
 ghost use Rattle.crdt_core.specs.Outcomes.{OnlyWant};
 ghost use Rattle.lab_outside.specs.Connection.{OnPresent, Stays};
 ghost use Rattle.store_model.specs.Acts.{HasKey};
 ghost use Rattle.s3_model.specs.Asks.{is_method};
 ghost use Rattle.serve_model.specs.declared.served.ServeFault.TheVariants.{Memory as Wanting};
-ghost use Rattle.serve_model.specs.Judging.{IsKeyed, order_of, reply_without, answer_to};
+ghost use Rattle.serve_model.specs.Judging.{IsKeyed, order_of, reply_without};
 ghost use Rattle.serve_model.specs.Stores.{known_from};
-ghost use Rattle.serve_model.specs.Talk.{Grammar, Serving, first_of, later_of, time_from, request_of, path_shown as path_of_refusal, interim as interim_of, bad_head, head_refusal, text_of, closes_of, clocked, order_turn, plan_turn, whole_turn, body_turn, waiting_turn, request_turn, head_turn, turn};
+ghost use Rattle.serve_model.specs.Talk.{Grammar, Serving, kept_limit, first_of, later_of, time_from, request_of, path_shown as path_of_refusal, interim as interim_of, bad_head, head_refusal, text_of, closes_of, clocked, order_turn, plan_turn, whole_turn, body_turn, waiting_turn, request_turn, head_turn, turn};
 ghost use Rattle.serve_model.specs.Serving.{HasState, Reached, Goes, Stands, SaysOn, ServesOn};
+ghost use Rattle.serve_loop.specs.Giving.{IsNoGet};
 
 use crate::admitting::admit;
-use crate::answers::answer_for;
 use crate::counting::{count, counts_after, counts_before};
-use crate::judging::refusal;
+use crate::giving::get;
+use crate::judging::{range, refusal};
 use crate::orders::{order, reply};
-use crate::saying::{answer_request, refuse_head};
+use crate::saying::{answer_end, answer_request, refuse_head};
 use crate::storage::Storage;
 use crdt_core::{Bytes, Memory, Value};
-use flow_model::{FlowEnd, Order};
+use flow_model::Order;
 use http_wire::{Head, HeadEnd, Kept, read_body, read_head};
 use lab_outside::{Clock, Link, send_whole};
 use s3_model::{AskFault, Code, S3Fault};
@@ -29,7 +30,7 @@ use std::alloc::Global;
 /// The greatest time of a request, in milliseconds since 1970.
 const TIME_LIMIT: u64 = 253_402_000_000_000;
 
-// Has the store carry out an order, and answers with its end.
+// Has the store carry out an order that is no get, and answers with its end.
 fn carry<S: Storage, L: Link>(
     alloc: Global,
     store: &mut S,
@@ -40,6 +41,7 @@ fn carry<S: Storage, L: Link>(
 ) -> Result<bool, ServeFault>
     requires state { HasState (S.stands store.old) }
     requires keyed { HasKey order }
+    requires no_get { IsNoGet request.now.ask }
     requires present { IsSome (L.present link.old) }
     ensures present { IsSome (L.present link.new) }
     ensures serves { (p : Serving S.State) (times : Option (List ℕ)) (kept : List ℕ) → Stands (S.stands store.old) times served.old p →
@@ -59,25 +61,6 @@ fn carry<S: Storage, L: Link>(
     }
 }
 
-// Answers with the end of a request.
-fn answer_end<L: Link>(
-    alloc: Global,
-    link: &mut L,
-    request: &Request,
-    end: FlowEnd,
-) -> Result<bool, ServeFault>
-    requires { IsSome (L.present link.old) }
-    ensures present { IsSome (L.present link.new) }
-    ensures says { SaysOn (text_of request.now (answer_to request.now.ask end)) (closes_of request.now (answer_to request.now.ask end)) result (L.present link.old) (L.present link.new) }
-    ensures cause { IfErr result (λ e. e ≡ Wanting) }
-    ensures stays { Stays (L.coming link.old) (L.coming link.new) (L.past link.old) (L.past link.new) (L.faults link.old) (L.faults link.new) }
-{
-    match answer_for(alloc, &request.ask, end) {
-        Ok(answer) => answer_request(alloc, link, request, answer),
-        Err(_) => Err(ServeFault::Memory),
-    }
-}
-
 // Serves a request whose body was read.
 fn serve_whole<S: Storage, L: Link>(
     alloc: Global,
@@ -90,6 +73,7 @@ fn serve_whole<S: Storage, L: Link>(
 ) -> Result<bool, ServeFault>
     requires state { HasState (S.stands store.old) }
     requires keyed { IsKeyed request.now.ask }
+    requires within { served.old.kept ≤ kept_limit }
     requires present { IsSome (L.present link.old) }
     ensures present { IsSome (L.present link.new) }
     ensures serves { (p : Serving S.State) (times : Option (List ℕ)) (kept : List ℕ) → Stands (S.stands store.old) times served.old p →
@@ -116,6 +100,7 @@ fn serve_judged<S: Storage, L: Link>(
 ) -> Result<bool, ServeFault>
     requires state { HasState (S.stands store.old) }
     requires keyed { IsKeyed request.now.ask }
+    requires within { served.old.kept ≤ kept_limit }
     requires present { IsSome (L.present link.old) }
     ensures present { IsSome (L.present link.new) }
     ensures serves { (p : Serving S.State) (times : Option (List ℕ)) (kept : List ℕ) → Stands (S.stands store.old) times served.old p →
@@ -124,6 +109,10 @@ fn serve_judged<S: Storage, L: Link>(
     ensures stays { Stays (L.coming link.old) (L.coming link.new) (L.past link.old) (L.past link.new) (L.faults link.old) (L.faults link.new) }
 {
     match order(&request.ask, body) {
+        Ok(Some(Order::Get { bucket, key })) => {
+            let range = range(&request.ask);
+            get(alloc, store, link, request, range, bucket, key)
+        }
         Ok(Some(order)) => carry(alloc, store, link, served, request, order),
         Ok(None) => answer_without(alloc, link, buckets, request),
         Err(_) => Err(ServeFault::Memory),
@@ -161,6 +150,7 @@ fn serve_body<S: Storage, L: Link>(
 ) -> Result<bool, ServeFault>
     requires state { HasState (S.stands store.old) }
     requires keyed { IsKeyed request.now.ask }
+    requires within { served.old.kept ≤ kept_limit }
     requires present { IsSome (L.present link.old) }
     ensures present { IsSome (L.present link.new) }
     ensures serves { (p : Serving S.State) (times : Option (List ℕ)) → Stands (S.stands store.old) times served.old p →
@@ -203,6 +193,7 @@ fn serve_waiting<S: Storage, L: Link>(
 ) -> Result<bool, ServeFault>
     requires state { HasState (S.stands store.old) }
     requires keyed { IsKeyed request.now.ask }
+    requires within { served.old.kept ≤ kept_limit }
     requires present { IsSome (L.present link.old) }
     ensures present { IsSome (L.present link.new) }
     ensures serves { (p : Serving S.State) (times : Option (List ℕ)) → Stands (S.stands store.old) times served.old p →

@@ -3,10 +3,13 @@ ghost use Rattle.std.specs.Prelude.{◌≡◌, ◌≤◌, Ok, None, IsSome, IfEr
 ghost use Rattle.lab_outside.specs.Connection.{OnPresent, Stays};
 ghost use Rattle.s3_model.specs.Answer.{answer_text};
 ghost use Rattle.serve_model.specs.declared.served.ServeFault.TheVariants.{Memory as Wanting};
+ghost use Rattle.serve_model.specs.Judging.{answer_to};
 ghost use Rattle.serve_model.specs.Talk.{text_of, closes_of, head_refusal};
 ghost use Rattle.serve_model.specs.Serving.{SaysOn};
 
+use crate::answers::answer_for;
 use crdt_core::{Bytes, Value};
+use flow_model::FlowEnd;
 use lab_outside::{Link, send_whole};
 use s3_answer::answer;
 use s3_model::{Ask, Code, Reply, S3Fault};
@@ -102,6 +105,25 @@ pub(crate) fn answer_request<L: Link>(
         ),
         Answer::Refusal(code) => refuse(alloc, link, request, code),
         Answer::Nothing => Ok(false),
+    }
+}
+
+/// Answers with the end of a request.
+pub(crate) fn answer_end<L: Link>(
+    alloc: Global,
+    link: &mut L,
+    request: &Request,
+    end: FlowEnd,
+) -> Result<bool, ServeFault>
+    requires { IsSome (L.present link.old) }
+    ensures present { IsSome (L.present link.new) }
+    ensures says { SaysOn (text_of request.now (answer_to request.now.ask end)) (closes_of request.now (answer_to request.now.ask end)) result (L.present link.old) (L.present link.new) }
+    ensures cause { IfErr result (λ e. e ≡ Wanting) }
+    ensures stays { Stays (L.coming link.old) (L.coming link.new) (L.past link.old) (L.past link.new) (L.faults link.old) (L.faults link.new) }
+{
+    match answer_for(alloc, &request.ask, end) {
+        Ok(answer) => answer_request(alloc, link, request, answer),
+        Err(_) => Err(ServeFault::Memory),
     }
 }
 

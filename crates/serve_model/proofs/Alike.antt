@@ -7,6 +7,7 @@ use Rattle.crdt_core.proofs.Each.{all_append, all_weaker}
 use Rattle.lab_outside.specs.Connection.{Connection}
 use Rattle.lab_outside.specs.Rose.{Rose}
 use Rattle.flow_model.specs.declared.order.Order.{Order}
+use Rattle.flow_model.specs.declared.order.Order.TheVariants as order
 use Rattle.flow_model.specs.declared.flow.FlowEnd.{FlowEnd}
 use Rattle.http_model.specs.declared.head.Head.{Head}
 use Rattle.http_model.specs.Cut.{Cut, ends, too_long, unfinished, cut}
@@ -20,13 +21,13 @@ use Rattle.serve_model.specs.declared.admitted.Admitted.{Admitted}
 use Rattle.serve_model.specs.declared.buckets.Buckets.{Buckets}
 use Rattle.serve_model.specs.declared.request.Request.{Request}
 use Rattle.serve_model.specs.Admitting.{admitted}
-use Rattle.serve_model.specs.Stores.{Store, Asking}
+use Rattle.serve_model.specs.Stores.{Given, Store, Asking}
 use Rattle.serve_model.specs.declared.served.ServeFault.{ServeFault}
 use Rattle.serve_model.specs.declared.served.ServeFault.TheVariants.{Kept, Number, Memory}
 use Rattle.serve_model.specs.Serving.{GivesUp}
-use Rattle.serve_model.specs.Connections.{IsPrefixOf, IsUpTo, IsServed, exact, part, AreServed, EndsSo, too_many, begun}
+use Rattle.serve_model.specs.Connections.{IsPrefixOf, IsUpTo, IsInto, exact, part, AreServed, EndsSo, too_many, begun, halted}
 use Rattle.serve_model.specs.Judging.{refusal_of, counted_before, order_of, reply_without, answer_to, counted_after}
-use Rattle.serve_model.specs.Talk.{request_limit, Grammar, Serving, kept_limit, first_of, later_of, time_from, Next, goes, closes, exceeds, Stop, Turn, request_of, clocked, counted, stop, behind, passing, having_asked, after, said, answer_turn, exceeded, counting, end_turn, order_turn, plan_turn, judged_turn, whole_turn, body_turn, waiting_turn, request_turn, asked_turn, head_turn, cut_turn, turn, Talk, go_on, talk, interim, bad_head, head_refusal, path_shown, text_of, closes_of}
+use Rattle.serve_model.specs.Talk.{request_limit, Grammar, Serving, kept_limit, first_of, later_of, time_from, Next, goes, closes, exceeds, Stop, Halt, Turn, request_of, clocked, counted, stop, behind, behind_halt, passing, having_asked, after, said, answer_turn, exceeded, counting, given_turn, end_turn, giving, order_turn, plan_turn, judged_turn, whole_turn, body_turn, waiting_turn, request_turn, asked_turn, head_turn, cut_turn, turn, Talk, go_on, talk, interim, bad_head, head_refusal, path_shown, text_of, begun_text, given_text, closes_of}
 use Rattle.serve_model.proofs.Ones.{one_weaker, one_left, one_right, one_mapped, all_mapped, one_at, at_one, at_all, all_under}
 
 -- all of the first of two lists, and of the second
@@ -34,13 +35,17 @@ split : {A : Type 0} (P : A → Type 0) (xs ys : List A) → AllByRecursion P (x
 split P [] ys h = (tt, h)
 split P (x ∷ xs) ys h = let k = split P xs ys h.1 in ((h.0, k.0), k.1)
 
-any : {A : Type 0} (xs : List A) → AllByRecursion (λ x. ⊤) xs
+pub any : {A : Type 0} (xs : List A) → AllByRecursion (λ x. ⊤) xs
 any [] = tt
 any (x ∷ xs) = (tt, any xs)
 
-module _ {S T : Type 0} (one : Store S) (other : Store T) (Alike : S → T → Type 0) (May : Asking S → Type 0) (Should : Asking T → Type 0)
-    (answers : (s : S) (t : T) (time : ℕ) (order : Order) → Alike s t → May (record { state = s; time = time; order = order }) → Should (record { state = t; time = time; order = order }) →
-    ((one.carries s time order).end ≡ (other.carries t time order).end) × Alike (one.carries s time order).state (other.carries t time order).state) where
+-- two stores answer alike: from states that are alike, what one may and the other should be asked ends alike, and leads to states that are alike; and what one may give in the middle of a get the other may
+pub record AnswerAlike {S T : Type 0} (one : Store S) (other : Store T) (Alike : S → T → Type 0) (May : Asking S → Type 0) (Should : Asking T → Type 0) : Type 0 where
+  pub answers : (s : S) (t : T) (time : ℕ) (order : Order) → Alike s t → May (record { state = s; time = time; order = order }) → Should (record { state = t; time = time; order = order }) →
+      ((one.carries s time order).end ≡ (other.carries t time order).end) × ((one.carries s time order).begun ≡ (other.carries t time order).begun) × Alike (one.carries s time order).state (other.carries t time order).state
+  pub gives : (s : S) (t : T) (time : ℕ) (bucket key : List ℕ) (g : Given) → Alike s t → one.gives s time (order.Get bucket key) g → other.gives t time (order.Get bucket key) g
+
+module _ {S T : Type 0} (one : Store S) (other : Store T) (Alike : S → T → Type 0) (May : Asking S → Type 0) (Should : Asking T → Type 0) (answers : AnswerAlike one other Alike May Should) where
   -- what is served is alike
   pub record Serves (p : Serving S) (q : Serving T) : Type 0 where
     pub store : Alike p.store q.store
@@ -59,9 +64,32 @@ module _ {S T : Type 0} (one : Store S) (other : Store T) (Alike : S → T → T
     pub text : s.text ≡ r.text
     pub serving : Serves s.serving r.serving
 
-  -- of these stops each one before which all that is asked may be asked has one alike among those
-  abbrev pub Follow : List (Stop S) → List (Stop T) → Type 0
-  Follow ss rs = AllByRecursion (λ (s : Stop S). Fit s.asks → OneOf (Stops s) rs) ss
+  -- what is written before a halt is alike, and the get in the middle of which it is
+  pub record Halts (h : Halt S) (k : Halt T) : Type 0 where
+    pub text : h.text ≡ k.text
+    pub request : h.request ≡ k.request
+    pub bucket : List ℕ
+    pub key : List ℕ
+    pub asked : h.asking.order ≡ order.Get bucket key
+    pub other_asked : k.asking.order ≡ order.Get bucket key
+    pub time : h.asking.time ≡ k.asking.time
+    pub store : Alike h.asking.state k.asking.state
+
+  -- of these places each one before which all that is asked may be asked has one alike among those
+  abbrev pub Follow : {X Y : Type 0} → (X → List (Asking S)) → (X → Y → Type 0) → List X → List Y → Type 0
+  Follow asks Like xs ys = AllByRecursion (λ x. Fit (asks x) → OneOf (Like x) ys) xs
+
+  abbrev pub asks_of : Stop S → List (Asking S)
+  asks_of s = s.asks
+
+  abbrev pub asks_before : Halt S → List (Asking S)
+  asks_before h = h.asks
+
+  abbrev pub StopsFollow : List (Stop S) → List (Stop T) → Type 0
+  StopsFollow = Follow asks_of Stops
+
+  abbrev pub HaltsFollow : List (Halt S) → List (Halt T) → Type 0
+  HaltsFollow = Follow asks_before Halts
 
   -- what comes of a request is alike
   pub record Turns (t : Turn S) (u : Turn T) : Type 0 where
@@ -69,10 +97,11 @@ module _ {S T : Type 0} (one : Store S) (other : Store T) (Alike : S → T → T
     pub serving : Serves t.serving u.serving
     pub next : t.next ≡ u.next
 
-  -- the same, where all that is asked may be asked; and so it is at its stops
+  -- the same, where all that is asked may be asked; and so it is at its stops and halts
   pub record TurnsSo (t : Turn S) (u : Turn T) : Type 0 where
     pub whole : Fit t.asks → Meant u.asks → Turns t u
-    pub stops : Meant u.asks → Follow t.stops u.stops
+    pub stops : Meant u.asks → StopsFollow t.stops u.stops
+    pub halts : Meant u.asks → HaltsFollow t.halts u.halts
 
   either : (b c : Bool) → b ≡ c → (t v : Turn S) (u w : Turn T) → TurnsSo t u → TurnsSo v w → TurnsSo (if b then t else v) (if c then u else w)
   either true true e t v u w h k = h
@@ -80,16 +109,33 @@ module _ {S T : Type 0} (one : Store S) (other : Store T) (Alike : S → T → T
   either true false e t v u w h k = cc
   either false true e t v u w h k = cc
 
-  -- one stop more, and all stops behind it
-  first_of_more : (s : Stop S) (r : Stop T) (ss : List (Stop S)) (rs : List (Stop T)) → Stops s r → Follow ss rs → Follow (s ∷ ss) (r ∷ rs)
-  first_of_more s r ss rs h f =
-      ((λ fit. inl h), all_weaker (λ (x : Stop S). Fit x.asks → OneOf (Stops x) rs) (λ (x : Stop S). Fit x.asks → OneOf (Stops x) (r ∷ rs)) (λ x k fit. inr (k fit)) ss f)
+  module _ {X Y : Type 0} (asks : X → List (Asking S)) (Like : X → Y → Type 0) where
+    -- one place more, and all places behind it
+    one_more : (x : X) (y : Y) (xs : List X) (ys : List Y) → Like x y → Follow asks Like xs ys → Follow asks Like (x ∷ xs) (y ∷ ys)
+    one_more x y xs ys h f = ((λ fit. inl h), all_weaker (λ (x : X). Fit (asks x) → OneOf (Like x) ys) (λ (x : X). Fit (asks x) → OneOf (Like x) (y ∷ ys)) (λ x k fit. inr (k fit)) xs f)
+
+    -- before all places comes something that fits under a premise
+    placed_behind : (Premise : Type 0) (f : X → X) (ys zs : List Y) (xs : List X) → ((x : X) → Fit (asks (f x)) → Premise × Fit (asks x)) → (Premise → (x : X) → OneOf (Like x) ys → OneOf (Like (f x)) zs) → (Premise → Follow asks Like xs ys) → Follow asks Like (map f xs) zs
+    placed_behind Premise f ys zs xs parts into h =
+        all_mapped (λ (x : X). Premise → Fit (asks x) → OneOf (Like x) ys) (λ (x : X). Fit (asks x) → OneOf (Like x) zs) f (λ x k fit. let p = parts x fit in into p.0 x (k p.0 p.1)) xs
+        (all_under Premise (λ (x : X). Fit (asks x) → OneOf (Like x) ys) xs h)
+
+  -- the same comes before both
+  module _ (text text' : List ℕ) (asks : List (Asking S)) (asks' : List (Asking T)) (same : text ≡ text') where
+    stops_behind : (s : Stop S) (rs : List (Stop T)) → OneOf (Stops s) rs → OneOf (Stops (behind text asks s)) (map (behind text' asks') rs)
+    stops_behind s rs = one_mapped (Stops s) (Stops (behind text asks s)) (behind text' asks') (λ r a. record { text = ap₂ (λ x y. x ++ y) same a.text; serving = a.serving }) rs
+
+    halts_behind : (h : Halt S) (ks : List (Halt T)) → OneOf (Halts h) ks → OneOf (Halts (behind_halt text asks h)) (map (behind_halt text' asks') ks)
+    halts_behind h ks =
+        one_mapped (Halts h) (Halts (behind_halt text asks h)) (behind_halt text' asks')
+        (λ k a. record { text = ap₂ (λ x y. x ++ y) same a.text; request = a.request; bucket = a.bucket; key = a.key; asked = a.asked; other_asked = a.other_asked; time = a.time; store = a.store }) ks
 
   passing_alike : (p : Serving S) (q : Serving T) (t : Turn S) (u : Turn T) → Serves p q → TurnsSo t u → TurnsSo (passing p t) (passing q u)
   passing_alike p q t u l h =
       record {
         whole = λ fit meant. let k = h.whole fit meant in record { text = k.text; serving = k.serving; next = k.next };
-        stops = λ meant. first_of_more (stop [] p) (stop [] q) t.stops u.stops (record { text = refl; serving = l }) (h.stops meant);
+        stops = λ meant. one_more asks_of Stops (stop [] p) (stop [] q) t.stops u.stops (record { text = refl; serving = l }) (h.stops meant);
+        halts = h.halts;
       }
 
   after_alike : (text : List ℕ) (t : Turn S) (u : Turn T) → TurnsSo t u → TurnsSo (after text t) (after text u)
@@ -97,8 +143,9 @@ module _ {S T : Type 0} (one : Store S) (other : Store T) (Alike : S → T → T
       record {
         whole = λ fit meant. let k = h.whole fit meant in record { text = ap (λ x. text ++ x) k.text; serving = k.serving; next = k.next };
         stops = λ meant.
-            all_mapped (λ (s : Stop S). Fit s.asks → OneOf (Stops s) u.stops) (λ (s : Stop S). Fit s.asks → OneOf (Stops s) (map (behind text []) u.stops)) (behind text [])
-            (λ s k fit. one_mapped (Stops s) (Stops (behind text [] s)) (behind text []) (λ r a. record { text = ap (λ x. text ++ x) a.text; serving = a.serving }) u.stops (k fit)) t.stops (h.stops meant);
+            placed_behind asks_of Stops ⊤ (behind text []) u.stops (map (behind text []) u.stops) t.stops (λ s fit. (tt, fit)) (λ here s. stops_behind text text [] [] refl s u.stops) (λ here. h.stops meant);
+        halts = λ meant.
+            placed_behind asks_before Halts ⊤ (behind_halt text []) u.halts (map (behind_halt text []) u.halts) t.halts (λ k fit. (tt, fit)) (λ here k. halts_behind text text [] [] refl k u.halts) (λ here. h.halts meant);
       }
 
   asked_before : (a : Asking S) (b : Asking T) (t : Turn S) (u : Turn T) → (May a → Should b → TurnsSo t u) → TurnsSo (having_asked a t) (having_asked b u)
@@ -106,14 +153,35 @@ module _ {S T : Type 0} (one : Store S) (other : Store T) (Alike : S → T → T
       record {
         whole = λ fit meant. let k = (h fit.0 meant.0).whole fit.1 meant.1 in record { text = k.text; serving = k.serving; next = k.next };
         stops = λ meant.
-            all_mapped (λ (s : Stop S). May a → Fit s.asks → OneOf (Stops s) u.stops) (λ (s : Stop S). Fit s.asks → OneOf (Stops s) (map (behind [] (b ∷ [])) u.stops)) (behind [] (a ∷ []))
-            (λ s k fit. one_mapped (Stops s) (Stops (behind [] (a ∷ []) s)) (behind [] (b ∷ [])) (λ r x. record { text = x.text; serving = x.serving }) u.stops (k fit.0 fit.1)) t.stops
-            (all_under (May a) (λ (s : Stop S). Fit s.asks → OneOf (Stops s) u.stops) t.stops (λ may. (h may meant.0).stops meant.1));
+            placed_behind asks_of Stops (May a) (behind [] (a ∷ [])) u.stops (map (behind [] (b ∷ [])) u.stops) t.stops (λ s fit. fit) (λ may s. stops_behind [] [] (a ∷ []) (b ∷ []) refl s u.stops)
+            (λ may. (h may meant.0).stops meant.1);
+        halts = λ meant.
+            placed_behind asks_before Halts (May a) (behind_halt [] (a ∷ [])) u.halts (map (behind_halt [] (b ∷ [])) u.halts) t.halts (λ k fit. fit) (λ may k. halts_behind [] [] (a ∷ []) (b ∷ []) refl k u.halts)
+            (λ may. (h may meant.0).halts meant.1);
       }
+
+  -- a get may be given up in the middle of it, of both
+  giving_alike : (r : Request) (o : Order) (time : ℕ) (x : S) (y : T) (t : Turn S) (u : Turn T) → Alike x y → TurnsSo t u →
+      TurnsSo (giving r (record { state = x; time = time; order = o }) t) (giving r (record { state = y; time = time; order = o }) u)
+  giving_alike r (order.Get bucket key) time x y t u l h =
+      let a : Asking S = record { state = x; time = time; order = order.Get bucket key } in
+      let b : Asking T = record { state = y; time = time; order = order.Get bucket key } in
+      record {
+        whole = λ fit meant. let k = h.whole fit meant in record { text = k.text; serving = k.serving; next = k.next };
+        stops = h.stops;
+        halts = λ meant.
+            one_more asks_before Halts (record { text = []; asks = []; request = r; asking = a }) (record { text = []; asks = []; request = r; asking = b }) t.halts u.halts
+            (record { text = refl; request = refl; bucket = bucket; key = key; asked = refl; other_asked = refl; time = refl; store = l }) (h.halts meant);
+      }
+  giving_alike r (order.Put bucket key body headers) time x y t u l h = record { whole = h.whole; stops = h.stops; halts = h.halts }
+  giving_alike r (order.Head bucket key) time x y t u l h = record { whole = h.whole; stops = h.stops; halts = h.halts }
+  giving_alike r (order.Delete bucket key) time x y t u l h = record { whole = h.whole; stops = h.stops; halts = h.halts }
+  giving_alike r (order.Copy from_bucket from_key bucket key headers) time x y t u l h = record { whole = h.whole; stops = h.stops; halts = h.halts }
+  giving_alike r (order.List bucket prefix) time x y t u l h = record { whole = h.whole; stops = h.stops; halts = h.halts }
 
   said_alike : (text : List ℕ) (close : Bool) (p : Serving S) (q : Serving T) (rest : List ℕ) → Serves p q → TurnsSo (said text close p rest) (said text close q rest)
   said_alike text close p q rest l =
-      record { whole = λ fit meant. record { text = refl; serving = l; next = refl }; stops = λ meant. ((λ fit. inl (record { text = refl; serving = l })), tt) }
+      record { whole = λ fit meant. record { text = refl; serving = l; next = refl }; stops = λ meant. ((λ fit. inl (record { text = refl; serving = l })), tt); halts = λ meant. tt }
 
   counted_alike : (size : ℕ) (p : Serving S) (q : Serving T) → Serves p q → Serves (counted size p) (counted size q)
   counted_alike size p q l = record { store = l.store; times = l.times; time = l.time; kept = ap (λ n. n + size) l.kept }
@@ -124,33 +192,38 @@ module _ {S T : Type 0} (one : Store S) (other : Store T) (Alike : S → T → T
   counting_alike size p q l f g h =
       let m = counted_alike size p q l in
       either (nat_lt kept_limit (p.kept + size)) (nat_lt kept_limit (q.kept + size)) (ap (λ n. nat_lt kept_limit (n + size)) l.kept) (exceeded (counted size p)) (f (counted size p)) (exceeded (counted size q)) (g (counted size q))
-      (record { whole = λ fit meant. record { text = refl; serving = m; next = refl }; stops = λ meant. ((λ fit. inl (record { text = refl; serving = m })), tt) }) (h m)
+      (record { whole = λ fit meant. record { text = refl; serving = m; next = refl }; stops = λ meant. ((λ fit. inl (record { text = refl; serving = m })), tt); halts = λ meant. tt }) (h m)
 
   answer_alike : (r : Request) (a : Answer) (p : Serving S) (q : Serving T) (rest : List ℕ) → Serves p q → TurnsSo (answer_turn r a p rest) (answer_turn r a q rest)
   answer_alike r a p q rest l = said_alike (text_of r a) (closes_of r a) p q rest l
 
-  end_alike : (r : Request) (a b : Option FlowEnd) → a ≡ b → (p : Serving S) (q : Serving T) (rest : List ℕ) → Serves p q → TurnsSo (end_turn r a p rest) (end_turn r b q rest)
-  end_alike r None None e p q rest l = answer_alike r answer.Nothing p q rest l
-  end_alike r (Some end) (Some other) e p q rest l =
-      let same : end ≡ other = cc in
-      subst (λ (x : FlowEnd). TurnsSo (end_turn r (Some end) p rest) (end_turn r (Some x) q rest)) same
-      (counting_alike (counted_after r.ask end) p q l (λ v. answer_turn r (answer_to r.ask end) v rest) (λ v. answer_turn r (answer_to r.ask end) v rest) (λ m. answer_alike r (answer_to r.ask end) (counted (counted_after r.ask end) p) (counted (counted_after r.ask end) q) rest m))
-  end_alike r None (Some end) e p q rest l = cc
-  end_alike r (Some end) None e p q rest l = cc
+  given_alike : (r : Request) (a : Answer) (had : Option Given) (p : Serving S) (q : Serving T) (rest : List ℕ) → Serves p q → TurnsSo (given_turn r a had p rest) (given_turn r a had q rest)
+  given_alike r a had p q rest l = said_alike (given_text r a had) (closes_of r a) p q rest l
 
-  order_alike : (r : Request) (order : Order) (p : Serving S) (q : Serving T) (rest : List ℕ) → Serves p q → TurnsSo (order_turn one r order p rest) (order_turn other r order q rest)
-  order_alike r order p q rest l =
-      let c = one.carries p.store r.time order in
-      let d = other.carries q.store r.time order in
-      let t = end_turn r c.end (record p { store = c.state }) rest in
-      let u = end_turn r d.end (record q { store = d.state }) rest in
-      let a : Asking S = record { state = p.store; time = r.time; order = order } in
-      let b : Asking T = record { state = q.store; time = r.time; order = order } in
-      passing_alike p q (having_asked a t) (having_asked b u) l
+  end_alike : (r : Request) (end : Option FlowEnd) (had : Option Given) (p : Serving S) (q : Serving T) (rest : List ℕ) → Serves p q → TurnsSo (end_turn r end had p rest) (end_turn r end had q rest)
+  end_alike r None had p q rest l = given_alike r answer.Nothing had p q rest l
+  end_alike r (Some end) had p q rest l =
+      counting_alike (counted_after r.ask end) p q l (λ v. given_turn r (answer_to r.ask end) had v rest) (λ v. given_turn r (answer_to r.ask end) had v rest)
+      (λ m. given_alike r (answer_to r.ask end) had (counted (counted_after r.ask end) p) (counted (counted_after r.ask end) q) rest m)
+
+  order_alike : (r : Request) (o : Order) (p : Serving S) (q : Serving T) (rest : List ℕ) → Serves p q → TurnsSo (order_turn one r o p rest) (order_turn other r o q rest)
+  order_alike r o p q rest l =
+      let c = one.carries p.store r.time o in
+      let d = other.carries q.store r.time o in
+      let after_one : Serving S = record p { store = c.state } in
+      let after_other : Serving T = record q { store = d.state } in
+      let t = end_turn r c.end c.begun after_one rest in
+      let u = end_turn r d.end d.begun after_other rest in
+      let a : Asking S = record { state = p.store; time = r.time; order = o } in
+      let b : Asking T = record { state = q.store; time = r.time; order = o } in
+      passing_alike p q (giving r a (having_asked a t)) (giving r b (having_asked b u)) l
+      (giving_alike r o r.time p.store q.store (having_asked a t) (having_asked b u) l.store
       (asked_before a b t u
       (λ fit meant.
-      let k = answers p.store q.store r.time order l.store fit meant in
-      end_alike r c.end d.end k.0 (record p { store = c.state }) (record q { store = d.state }) rest (record { store = k.1; times = l.times; time = l.time; kept = l.kept })))
+      let k = answers.answers p.store q.store r.time o l.store fit meant in
+      subst (λ (end : Option FlowEnd). TurnsSo t (end_turn r end d.begun after_other rest)) k.0
+      (subst (λ (had : Option Given). TurnsSo t (end_turn r c.end had after_other rest)) k.1
+      (end_alike r c.end c.begun after_one after_other rest (record { store = k.2; times = l.times; time = l.time; kept = l.kept }))))))
 
   module _ (buckets : Buckets) where
     plan_alike : (r : Request) (o : Option Order) (p : Serving S) (q : Serving T) (rest : List ℕ) → Serves p q → TurnsSo (plan_turn one buckets r o p rest) (plan_turn other buckets r o q rest)
@@ -206,10 +279,11 @@ module _ {S T : Type 0} (one : Store S) (other : Store T) (Alike : S → T → T
         pub serving : Serves t.serving u.serving
         pub is_over : t.is_over ≡ u.is_over
 
-      -- the same, where all that is asked may be asked; and so it is at its stops
+      -- the same, where all that is asked may be asked; and so it is at its stops and halts
       pub record TalksSo (t : Talk S) (u : Talk T) : Type 0 where
         pub whole : Fit t.asks → Meant u.asks → Talks t u
-        pub stops : Meant u.asks → Follow t.stops u.stops
+        pub stops : Meant u.asks → StopsFollow t.stops u.stops
+        pub halts : Meant u.asks → HaltsFollow t.halts u.halts
 
       first_fit : (f : Serving S → List ℕ → Talk S) (t : Turn S) (n : Next) → Fit (go_on f t n).asks → Fit t.asks
       first_fit f t (goes rest) fit = (split May t.asks (f t.serving rest).asks fit).0
@@ -221,11 +295,16 @@ module _ {S T : Type 0} (one : Store S) (other : Store T) (Alike : S → T → T
       first_meant h u closes meant = meant
       first_meant h u exceeds meant = meant
 
-      -- a turn's stops are the talk's
+      -- a turn's stops are the talk's, and so are its halts
       first_stops : (h : Serving T → List ℕ → Talk T) (u : Turn T) (n : Next) (s : Stop S) → OneOf (Stops s) u.stops → OneOf (Stops s) (go_on h u n).stops
       first_stops h u (goes rest) s k = one_left (Stops s) u.stops (map (behind u.text u.asks) (h u.serving rest).stops) k
       first_stops h u closes s k = k
       first_stops h u exceeds s k = k
+
+      first_halts : (h : Serving T → List ℕ → Talk T) (u : Turn T) (n : Next) (s : Halt S) → OneOf (Halts s) u.halts → OneOf (Halts s) (go_on h u n).halts
+      first_halts h u (goes rest) s k = one_left (Halts s) u.halts (map (behind_halt u.text u.asks) (h u.serving rest).halts) k
+      first_halts h u closes s k = k
+      first_halts h u exceeds s k = k
 
       module _ (f : Serving S → List ℕ → Talk S) (h : Serving T → List ℕ → Talk T) (t : Turn S) (u : Turn T) (so : TurnsSo t u) (later : (rest : List ℕ) → Serves t.serving u.serving → TalksSo (f t.serving rest) (h u.serving rest)) where
         go_on_alike : (m n : Next) → m ≡ n → Fit t.asks → Meant u.asks → Fit (go_on f t m).asks → Meant (go_on h u n).asks → Talks (go_on f t m) (go_on h u n)
@@ -245,36 +324,61 @@ module _ {S T : Type 0} (one : Store S) (other : Store T) (Alike : S → T → T
         go_on_alike exceeds (goes rest) e first second fit meant = cc
         go_on_alike exceeds closes e first second fit meant = cc
 
-        -- what is alike to a stop behind the turn
-        later_stops : (rest : List ℕ) (n : Next) → goes rest ≡ n → Fit t.asks → Meant (go_on h u n).asks → AllByRecursion (λ (s : Stop S). Fit s.asks → OneOf (Stops (behind t.text t.asks s)) (go_on h u n).stops) (f t.serving rest).stops
-        later_stops rest (goes others) e first meant =
-            let same : rest ≡ others = cc in
-            let both = split Should u.asks (h u.serving others).asks meant in
-            let k = so.whole first both.0 in
-            let v = h u.serving others in
-            let l : Follow (f t.serving rest).stops v.stops = subst (λ (x : List ℕ). Meant (h u.serving x).asks → Follow (f t.serving rest).stops (h u.serving x).stops) same (later rest k.serving).stops both.1 in
-            all_weaker (λ (s : Stop S). Fit s.asks → OneOf (Stops s) v.stops) (λ (s : Stop S). Fit s.asks → OneOf (Stops (behind t.text t.asks s)) (u.stops ++ map (behind u.text u.asks) v.stops))
-            (λ s y fit.
-            one_right (Stops (behind t.text t.asks s)) u.stops (map (behind u.text u.asks) v.stops)
-            (one_mapped (Stops s) (Stops (behind t.text t.asks s)) (behind u.text u.asks) (λ r a. record { text = ap₂ (λ x y. x ++ y) k.text a.text; serving = a.serving }) v.stops (y fit))) (f t.serving rest).stops l
-        later_stops rest closes e first meant = cc
-        later_stops rest exceeds e first meant = cc
-
-        turn_stops : (n : Next) → Meant (go_on h u n).asks → Follow t.stops (go_on h u n).stops
+        -- the turn's stops and halts
+        turn_stops : (n : Next) → Meant (go_on h u n).asks → StopsFollow t.stops (go_on h u n).stops
         turn_stops n meant = all_weaker (λ (s : Stop S). Fit s.asks → OneOf (Stops s) u.stops) (λ (s : Stop S). Fit s.asks → OneOf (Stops s) (go_on h u n).stops) (λ s k fit. first_stops h u n s (k fit)) t.stops (so.stops (first_meant h u n meant))
 
-        go_on_stops : (m n : Next) → (Fit t.asks → m ≡ n) → Meant (go_on h u n).asks → Follow (go_on f t m).stops (go_on h u n).stops
+        turn_halts : (n : Next) → Meant (go_on h u n).asks → HaltsFollow t.halts (go_on h u n).halts
+        turn_halts n meant = all_weaker (λ (s : Halt S). Fit s.asks → OneOf (Halts s) u.halts) (λ (s : Halt S). Fit s.asks → OneOf (Halts s) (go_on h u n).halts) (λ s k fit. first_halts h u n s (k fit)) t.halts (so.halts (first_meant h u n meant))
+
+        -- those behind the turn, which goes on with these bytes
+        module _ (rest : List ℕ) (n : Next) (e : Fit t.asks → goes rest ≡ n) (meant : Meant (go_on h u n).asks) where
+          abbrev one_later : Talk S
+          one_later = f t.serving rest
+
+          abbrev other_later : Talk T
+          other_later = h u.serving rest
+
+          so_far : Fit t.asks → Turns t u
+          so_far first = so.whole first (first_meant h u n meant)
+
+          so_later : Fit t.asks → TalksSo one_later other_later
+          so_later first = later rest (so_far first).serving
+
+          meant_later : Fit t.asks → Meant other_later.asks
+          meant_later first = (split Should u.asks other_later.asks (subst (λ (n : Next). Meant (go_on h u n).asks) (sym (e first)) meant)).1
+
+          later_stops : StopsFollow (map (behind t.text t.asks) one_later.stops) (go_on h u n).stops
+          later_stops =
+              placed_behind asks_of Stops (Fit t.asks) (behind t.text t.asks) other_later.stops (go_on h u n).stops one_later.stops (λ s fit. split May t.asks s.asks fit)
+              (λ first s k.
+              subst (λ (n : Next). OneOf (Stops (behind t.text t.asks s)) (go_on h u n).stops) (e first)
+              (one_right (Stops (behind t.text t.asks s)) u.stops (map (behind u.text u.asks) other_later.stops) (stops_behind t.text u.text t.asks u.asks (so_far first).text s other_later.stops k)))
+              (λ first. (so_later first).stops (meant_later first))
+
+          later_halts : HaltsFollow (map (behind_halt t.text t.asks) one_later.halts) (go_on h u n).halts
+          later_halts =
+              placed_behind asks_before Halts (Fit t.asks) (behind_halt t.text t.asks) other_later.halts (go_on h u n).halts one_later.halts (λ s fit. split May t.asks s.asks fit)
+              (λ first s k.
+              subst (λ (n : Next). OneOf (Halts (behind_halt t.text t.asks s)) (go_on h u n).halts) (e first)
+              (one_right (Halts (behind_halt t.text t.asks s)) u.halts (map (behind_halt u.text u.asks) other_later.halts) (halts_behind t.text u.text t.asks u.asks (so_far first).text s other_later.halts k)))
+              (λ first. (so_later first).halts (meant_later first))
+
+        go_on_stops : (m n : Next) → (Fit t.asks → m ≡ n) → Meant (go_on h u n).asks → StopsFollow (go_on f t m).stops (go_on h u n).stops
         go_on_stops (goes rest) n e meant =
-            let P : Stop S → Type 0 = λ s. Fit s.asks → OneOf (Stops (behind t.text t.asks s)) (go_on h u n).stops in
-            all_append (λ (s : Stop S). Fit s.asks → OneOf (Stops s) (go_on h u n).stops) t.stops (map (behind t.text t.asks) (f t.serving rest).stops) (turn_stops n meant)
-            (all_mapped (λ (s : Stop S). Fit t.asks → P s) (λ (s : Stop S). Fit s.asks → OneOf (Stops s) (go_on h u n).stops) (behind t.text t.asks) (λ s k fit. let both = split May t.asks s.asks fit in k both.0 both.1) (f t.serving rest).stops
-            (all_under (Fit t.asks) P (f t.serving rest).stops (λ first. later_stops rest n (e first) first meant)))
+            all_append (λ (s : Stop S). Fit s.asks → OneOf (Stops s) (go_on h u n).stops) t.stops (map (behind t.text t.asks) (f t.serving rest).stops) (turn_stops n meant) (later_stops rest n e meant)
         go_on_stops closes n e meant = turn_stops n meant
         go_on_stops exceeds n e meant = turn_stops n meant
 
+        go_on_halts : (m n : Next) → (Fit t.asks → m ≡ n) → Meant (go_on h u n).asks → HaltsFollow (go_on f t m).halts (go_on h u n).halts
+        go_on_halts (goes rest) n e meant =
+            all_append (λ (s : Halt S). Fit s.asks → OneOf (Halts s) (go_on h u n).halts) t.halts (map (behind_halt t.text t.asks) (f t.serving rest).halts) (turn_halts n meant) (later_halts rest n e meant)
+        go_on_halts closes n e meant = turn_halts n meant
+        go_on_halts exceeds n e meant = turn_halts n meant
+
       pub talk_alike : (count : ℕ) (p : Serving S) (q : Serving T) (bytes : List ℕ) → Serves p q → TalksSo (talk one buckets g count p bytes) (talk other buckets g count q bytes)
       unfolding talk
-      talk_alike zero p q bytes l = record { whole = λ fit meant. record { text = refl; serving = l; is_over = refl }; stops = λ meant. tt }
+      talk_alike zero p q bytes l = record { whole = λ fit meant. record { text = refl; serving = l; is_over = refl }; stops = λ meant. tt; halts = λ meant. tt }
       talk_alike (suc more) p q bytes l =
           let t = turn one buckets g (more == 0) p bytes in
           let u = turn other buckets g (more == 0) q bytes in
@@ -288,6 +392,7 @@ module _ {S T : Type 0} (one : Store S) (other : Store T) (Alike : S → T → T
                 let second = first_meant h u u.next meant in
                 go_on_alike f h t u so later t.next u.next (so.whole first second).next first second fit meant;
             stops = λ meant. go_on_stops f h t u so later t.next u.next (λ first. (so.whole first (first_meant h u u.next meant)).next) meant;
+            halts = λ meant. go_on_halts f h t u so later t.next u.next (λ first. (so.whole first (first_meant h u u.next meant)).next) meant;
           }
 
       -- each order that these connections ask, one after the other, is as it should be, wherever one whose count of faults rose was cut off
@@ -300,6 +405,21 @@ module _ {S T : Type 0} (one : Store S) (other : Store T) (Alike : S → T → T
       -- what is written up to a stop is what is written up to one that is alike
       up_to_alike : (d : Connection) (s : Stop S) (r : Stop T) → Stops s r → IsUpTo one buckets g May d s → IsUpTo other buckets g (λ a. ⊤) d r
       up_to_alike d s r a h = (subst (λ (text : List ℕ). IfSome d.written (λ w. IsPrefixOf w text)) a.text h.0, any r.asks)
+
+      -- what one may give in the middle of a get the other may
+      gives_alike : (h : Halt S) (k : Halt T) → Halts h k → (x : Given) → one.gives h.asking.state h.asking.time h.asking.order x → other.gives k.asking.state k.asking.time k.asking.order x
+      gives_alike h k a x gives =
+          let here : one.gives h.asking.state k.asking.time (order.Get a.bucket a.key) x = subst (λ (n : ℕ). one.gives h.asking.state n (order.Get a.bucket a.key) x) a.time (subst (λ (o : Order). one.gives h.asking.state h.asking.time o x) a.asked gives) in
+          subst (λ (o : Order). other.gives k.asking.state k.asking.time o x) (sym a.other_asked) (answers.gives h.asking.state k.asking.state k.asking.time a.bucket a.key x a.store here)
+
+      -- what is written in the middle of a get is what is written in the middle of one that is alike
+      pub into_alike : (d : Connection) (h : Halt S) (k : Halt T) → Halts h k → IsInto one buckets g May d h → IsInto other buckets g (λ a. ⊤) d k
+      into_alike d h k a (x, gives, wrote, fit) = (
+        x,
+        gives_alike h k a x gives,
+        subst (λ (text : List ℕ). IfSome d.written (λ w. IsPrefixOf w (text ++ begun_text k.request (Some x)))) a.text (subst (λ (r : Request). IfSome d.written (λ w. IsPrefixOf w (h.text ++ begun_text r (Some x)))) a.request wrote),
+        any k.asks,
+      )
 
       -- connections were served alike
       pub record ServedAlike (q : Serving T) (came rest : List (List ℕ)) (gone ds : List Connection) (s : Serving S) : Type 0 where
@@ -354,3 +474,9 @@ module _ {S T : Type 0} (one : Store S) (other : Store T) (Alike : S → T → T
           let at = one_at (IsUpTo one buckets g May d) t.stops stops in
           let k = at_all (λ (x : Stop S). Fit x.asks → OneOf (Stops x) u.stops) t.stops at.0 at.1.0 ((talk_alike request_limit p q bytes l).stops meant) at.1.1.1 in
           begun f (any_cause overflows t.asks u.asks f why) (one_weaker (Stops at.0) (IsUpTo other buckets g (λ a. ⊤) d) (λ r a. up_to_alike d at.0 r a at.1.1) u.stops k)
+      ended_alike overflows p q bytes d e l meant (halted f why halts) =
+          let t = talk one buckets g request_limit p bytes in
+          let u = talk other buckets g request_limit q bytes in
+          let at = one_at (IsInto one buckets g May d) t.halts halts in
+          let k = at_all (λ (x : Halt S). Fit x.asks → OneOf (Halts x) u.halts) t.halts at.0 at.1.0 ((talk_alike request_limit p q bytes l).halts meant) at.1.1.3 in
+          halted f (any_cause overflows t.asks u.asks f why) (one_weaker (Halts at.0) (IsInto other buckets g (λ a. ⊤) d) (λ r a. into_alike d at.0 r a at.1.1) u.halts k)

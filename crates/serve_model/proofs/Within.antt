@@ -1,5 +1,5 @@
 -- The stops of a connection lie within it.
-use Rattle.std.proofs.Common.{◌≡◌, ℕ, zero, suc, ◌+◌, ◌==◌, Bool, true, false, nat_le, nat_lt, if◌then◌else◌, Option, Some, None, Result, Ok, Err, List, [], ◌∷◌, ◌++◌, map, length, take, drop, codes, ◌∙◌, refl, sym, ap, append_assoc, append-nil}
+use Rattle.std.proofs.Common.{ℕ, zero, suc, ◌+◌, ◌==◌, Bool, true, false, nat_le, nat_lt, if◌then◌else◌, Option, Some, None, Result, Ok, Err, List, [], ◌∷◌, ◌++◌, map, length, take, drop, codes, refl}
 use Rattle.std.specs.List.{AllByRecursion}
 use Rattle.crdt_core.proofs.Each.{all_append, all_weaker}
 use Rattle.flow_model.specs.declared.order.Order.{Order}
@@ -16,23 +16,12 @@ use Rattle.serve_model.specs.declared.admitted.Admitted.{Admitted}
 use Rattle.serve_model.specs.declared.buckets.Buckets.{Buckets}
 use Rattle.serve_model.specs.declared.request.Request.{Request}
 use Rattle.serve_model.specs.Admitting.{admitted}
-use Rattle.serve_model.specs.Stores.{Store, Asking}
+use Rattle.serve_model.specs.Stores.{Given, Store, Asking}
 use Rattle.serve_model.specs.Connections.{IsPrefixOf, LiesWithin}
 use Rattle.serve_model.specs.Judging.{refusal_of, counted_before, order_of, reply_without, answer_to, counted_after}
-use Rattle.serve_model.specs.Talk.{Grammar, Serving, kept_limit, Next, goes, closes, exceeds, Stop, Turn, request_of, clocked, counted, behind, passing, having_asked, after, said, answer_turn, exceeded, counting, end_turn, order_turn, plan_turn, judged_turn, whole_turn, body_turn, waiting_turn, request_turn, asked_turn, head_turn, cut_turn, turn, Talk, go_on, talk, interim, bad_head, head_refusal, path_shown, text_of, closes_of}
+use Rattle.serve_model.specs.Talk.{Grammar, Serving, kept_limit, Next, goes, closes, exceeds, Stop, Turn, request_of, clocked, counted, behind, passing, having_asked, said, answer_turn, exceeded, counting, given_turn, end_turn, giving, order_turn, plan_turn, judged_turn, whole_turn, body_turn, waiting_turn, request_turn, asked_turn, head_turn, cut_turn, turn, Talk, go_on, talk, interim, bad_head, head_refusal, path_shown, text_of, given_text, closes_of}
+use Rattle.serve_model.proofs.Giving.{prefix_all, prefix_more, prefix_behind}
 use Rattle.serve_model.proofs.Ones.{all_mapped}
-
-module _ {A : Type 0} where
-  -- all is a first part of itself, and of itself with more
-  prefix_all : (xs : List A) → IsPrefixOf xs xs
-  prefix_all xs = ([], append-nil xs)
-
-  prefix_more : (front xs ys : List A) → IsPrefixOf front xs → IsPrefixOf front (xs ++ ys)
-  prefix_more front xs ys h = (h.0 ++ ys, sym (append_assoc front h.0 ys) ∙ ap (λ x. x ++ ys) h.1)
-
-  -- the same comes before both
-  prefix_behind : (xs front ys : List A) → IsPrefixOf front ys → IsPrefixOf (xs ++ front) (xs ++ ys)
-  prefix_behind xs front ys h = (h.0, append_assoc xs front h.0 ∙ ap (λ x. xs ++ x) h.1)
 
 module _ {S : Type 0} where
   -- of a text and of orders
@@ -63,17 +52,20 @@ module _ {S : Type 0} where
   answer_within : (r : Request) (a : Answer) (p : Serving S) (rest : List ℕ) → AllWithin (answer_turn r a p rest)
   answer_within r a p rest = said_within (text_of r a) (closes_of r a) p rest
 
-  end_within : (r : Request) (end : Option FlowEnd) (p : Serving S) (rest : List ℕ) → AllWithin (end_turn r end p rest)
-  end_within r None p rest = answer_within r answer.Nothing p rest
-  end_within r (Some end) p rest = counting_within (counted_after r.ask end) p (λ q. answer_turn r (answer_to r.ask end) q rest) (λ q. answer_within r (answer_to r.ask end) q rest)
+  given_within : (r : Request) (a : Answer) (had : Option Given) (p : Serving S) (rest : List ℕ) → AllWithin (given_turn r a had p rest)
+  given_within r a had p rest = said_within (given_text r a had) (closes_of r a) p rest
+
+  end_within : (r : Request) (end : Option FlowEnd) (had : Option Given) (p : Serving S) (rest : List ℕ) → AllWithin (end_turn r end had p rest)
+  end_within r None had p rest = given_within r answer.Nothing had p rest
+  end_within r (Some end) had p rest = counting_within (counted_after r.ask end) p (λ q. given_turn r (answer_to r.ask end) had q rest) (λ q. given_within r (answer_to r.ask end) had q rest)
 
   module _ (store : Store S) where
     order_within : (r : Request) (order : Order) (p : Serving S) (rest : List ℕ) → AllWithin (order_turn store r order p rest)
     order_within r order p rest =
         let c = store.carries p.store r.time order in
         let a : Asking S = record { state = p.store; time = r.time; order = order } in
-        let t = end_turn r c.end (record p { store = c.state }) rest in
-        passing_within p (having_asked a t) (behind_within [] t.text (a ∷ []) t.asks t.stops (end_within r c.end (record p { store = c.state }) rest))
+        let t = end_turn r c.end c.begun (record p { store = c.state }) rest in
+        passing_within p (giving r a (having_asked a t)) (behind_within [] t.text (a ∷ []) t.asks t.stops (end_within r c.end c.begun (record p { store = c.state }) rest))
 
     module _ (buckets : Buckets) where
       plan_within : (r : Request) (o : Option Order) (p : Serving S) (rest : List ℕ) → AllWithin (plan_turn store buckets r o p rest)

@@ -1,5 +1,5 @@
 -- Who asks, where keys are configured, and for what a head is refused.
-use Rattle.std.specs.Prelude.{◌≡◌, ⊤, ℕ, List, Option, Some, None, Result, Ok, Err, if◌then◌else◌}
+use Rattle.std.specs.Prelude.{◌≡◌, ⊤, ℕ, Option, Some, None, Result, Ok, Err, if◌then◌else◌}
 use Rattle.layout_text.specs.declared.keys.Access.{Access}
 use Rattle.http_model.specs.declared.head.Head.{Head}
 use Rattle.s3_model.specs.declared.ask.Ask.{Ask}

@@ -1,5 +1,8 @@
 -- The cluster as a store: a request is a list of acts.
-use Rattle.std.specs.Prelude.{◌≡◌, ℕ, ◌-◌, max, Option, Some, None, List, [], ◌∷◌, ◌++◌, map}
+use Rattle.std.specs.Prelude.{◌≡◌, ◌≤◌, ℕ, ◌-◌, max, Option, Some, None, List, [], ◌∷◌, ◌++◌, map}
+use Rattle.std.specs.Option.{option_map}
+use Rattle.crdt_rows.specs.declared.version.Version.{Version}
+use Rattle.crdt_rows.specs.declared.body.Meta.{Meta}
 use Rattle.layout_roles.specs.declared.cut.Cut.{Cut}
 use Rattle.cluster_machine.specs.declared.step.Refusal.{Refusal}
 use Rattle.cluster_machine.specs.declared.step.Words.{Words}
@@ -7,10 +10,12 @@ use Rattle.cluster_machine.specs.declared.step.Words.TheVariants.{One}
 use Rattle.cluster_machine.specs.declared.step.Step.TheVariants.{Tick, Work, Expire}
 use Rattle.flow_model.specs.declared.order.Order.{Order}
 use Rattle.flow_model.specs.declared.flow.FlowEnd.{FlowEnd}
+use Rattle.flow_model.specs.declared.flow.FlowEnd.TheVariants.{Superseded}
 use Rattle.store_model.specs.Run.{State, Outcome, plainly}
 use Rattle.store_model.specs.Acts.{Act, moves, asks, drain, forgets, takes, acted, after_acts, end_of, all_messages, AreLawfulActs, ActsFit, IsLawfulAct}
 use Rattle.store_model.specs.Turns.{FitsOutcome}
-use Rattle.serve_model.specs.Stores.{Store}
+use Rattle.store_model.specs.Gets.{found_by, gathered}
+use Rattle.serve_model.specs.Stores.{Given, Store, IsFirstOf}
 
 -- ---- the acts of a request
 
@@ -44,15 +49,29 @@ expiry q (Some end) = []
 abbrev pub acts_past_end : ℕ → Option FlowEnd → List Act
 acts_past_end q end = takes q ∷ expiry q end ++ forgets ∷ []
 
+-- what a get had given, where it has no answer
+abbrev pub begun_with : Option FlowEnd → Option Given → Option Given
+begun_with None begun = begun
+begun_with (Some (Superseded id)) begun = begun
+begun_with (Some end) begun = None
+
 -- the number that a request was given
 abbrev pub number_in : Words → ℕ
 number_in (One q) = q
 number_in _ = 0
 
+-- what request q found, if it is a get, and which bytes of it have come
+abbrev pub given_by : State → ℕ → Option Given
+given_by s q = option_map (λ (found : Version × Meta). record { version = found.0; meta = found.1; bytes = gathered s q }) (found_by s q)
+
 module _ (members : List ℕ) where
   -- how request q, which was opened, ends
   abbrev pub end_in : State → ℕ → Option FlowEnd
   end_in s q = end_of (after_acts s (acts_to_end members)).ends q
+
+  -- what it had given, where it is a get without an answer
+  abbrev pub begun_in : State → ℕ → Option Given
+  begun_in s q = begun_with (end_in s q) (given_by (after_acts s (acts_to_end members)) q)
 
   -- the acts that follow until the request has ended
   abbrev pub acts_opened : State → ℕ → List Act
@@ -68,6 +87,11 @@ module _ (members : List ℕ) where
   end_then s q (Some reason) = None
   end_then s q None = end_in s q
 
+  -- what it had given, where it is a get without an answer
+  abbrev pub begun_then : State → ℕ → Option (Refusal Cut) → Option Given
+  begun_then s q (Some reason) = None
+  begun_then s q None = begun_in s q
+
   -- what comes of asking, once the time went on
   abbrev pub asking : State → ℕ → Order → Outcome
   asking s ms order = acted (acted s (moves (plainly (Tick ms)))).state (asks (asker members) order)
@@ -79,6 +103,10 @@ module _ (members : List ℕ) where
   -- how a request ends
   abbrev pub end_of_request : State → ℕ → Order → Option FlowEnd
   end_of_request s ms order = let o = asking s ms order in end_then o.state (number_in o.words) o.refused
+
+  -- what a get without an answer had given
+  abbrev pub begun_of_request : State → ℕ → Order → Option Given
+  begun_of_request s ms order = let o = asking s ms order in begun_then o.state (number_in o.words) o.refused
 
 -- ---- the store
 
@@ -96,6 +124,17 @@ wait c time = time - c.ticked
 abbrev pub acts_at : Cluster → ℕ → Order → List Act
 acts_at c time order = acts_of_request c.members c.run (wait c time) order
 
+-- in the middle of a get, when these of its acts are done, the last of them perhaps some deliveries alone, so much of an object has come, or more; as far as that all is lawful and fits
+pub record GivesSoFar (c : Cluster) (time : ℕ) (order : Order) (g : Given) : Type 0 where
+  pub before : List Act
+  pub count : ℕ
+  pub few : count ≤ all_messages
+  pub later : List Act
+  pub parts : acts_to_ask c.members (wait c time) order ++ acts_to_end c.members ≡ before ++ drain all_messages ∷ later
+  pub lawful : AreLawfulActs c.run (before ++ drain count ∷ [])
+  pub fit : ActsFit c.run (before ++ drain count ∷ [])
+  pub given : IsFirstOf (Some g) (given_by (after_acts c.run (before ++ drain count ∷ [])) (number_in (asking c.members c.run (wait c time) order).words))
+
 -- the cluster carries out orders
 abbrev pub cluster : Store Cluster
 cluster = record {
@@ -103,7 +142,9 @@ cluster = record {
       record {
         state = record { run = after_acts c.run (acts_at c time order); ticked = max c.ticked time; members = c.members };
         end = end_of_request c.members c.run (wait c time) order;
+        begun = begun_of_request c.members c.run (wait c time) order;
       };
+  gives = GivesSoFar;
 }
 
 -- the acts of the request are lawful, and every number fits

@@ -9,16 +9,17 @@ use Rattle.serve_model.specs.declared.buckets.Buckets.{Buckets}
 use Rattle.serve_model.specs.declared.served.Served.{Served}
 use Rattle.serve_model.specs.declared.served.ServeFault.{ServeFault}
 use Rattle.serve_model.specs.declared.served.ServeFault.TheVariants.{Kept}
-use Rattle.serve_model.specs.Stores.{Store, Asking, Known}
-use Rattle.serve_model.specs.Talk.{Grammar, Serving, Stop, Talk, talk, request_limit}
-use Rattle.serve_model.specs.Serving.{Stands, ComesTo, CutOffAt, GivesUp}
+use Rattle.serve_model.specs.Stores.{Given, Store, Asking, Known, gives_asked}
+use Rattle.serve_model.specs.Talk.{Grammar, Serving, Stop, Halt, Talk, talk, begun_text, request_limit}
+use Rattle.serve_model.specs.Serving.{Stands, ComesTo, ComesInto, CutOffAt, GivesUp}
 
--- what is stated of a connection was written, each order that the store was asked fits, and store, clock and counts stand for what is served then; or it was cut off at one of its stops, as the count of faults rose; or serving ends with it, as too many bytes were put or copied, and each order fits too; or it came to one of its stops, as memory was wanting or one of the orders that the store is asked has no room
+-- what is stated of a connection was written, each order that the store was asked fits, and store, clock and counts stand for what is served then; or it was cut off at one of its stops, as the count of faults rose; or serving ends with it, as too many bytes were put or copied, and each order fits too; or, as memory was wanting or one of the orders that the store is asked has no room, it came to one of its stops, or into the middle of one of its gets
 pub data Talks {S : Type 0} (t : Talk S) (holds : S → Type 0) (known : Known S) (times : Option (List ℕ)) (served : Served) (result : Result Unit ServeFault) (c d : Connection) : Type 0 where
   whole : result ≡ Ok tt → t.is_over ≡ false → Wrote c.written d.written t.text → AllByRecursion known.fits t.asks → Stands holds times served t.serving → c.faults ≤ d.faults → Talks t holds known times served result c d
   cut_off : result ≡ Ok tt → Rose c.faults d.faults → OneOf (CutOffAt known.fits holds times served c d) t.stops → Talks t holds known times served result c d
   limited : result ≡ Err Kept → t.is_over ≡ true → Wrote c.written d.written t.text → AllByRecursion known.fits t.asks → c.faults ≤ d.faults → Talks t holds known times served result c d
   given_up : (e : ServeFault) → result ≡ Err e → GivesUp known.overflows t.asks e → OneOf (ComesTo known.fits c d) t.stops → c.faults ≤ d.faults → Talks t holds known times served result c d
+  halted : (e : ServeFault) → result ≡ Err e → GivesUp known.overflows t.asks e → OneOf (ComesInto known c d) t.halts → c.faults ≤ d.faults → Talks t holds known times served result c d
 
 -- these are the first of those, or all of them
 abbrev pub IsPrefixOf : {A : Type 0} → List A → List A → Type 0
@@ -27,6 +28,10 @@ IsPrefixOf {A} front all = (rest : List A) × (front ++ rest ≡ all)
 -- a stop lies within a connection: its text is a first part of the connection's, and its orders are the first of those that it asks
 abbrev pub LiesWithin : {S : Type 0} → Talk S → Stop S → Type 0
 LiesWithin t stop = IsPrefixOf stop.text t.text × IsPrefixOf stop.asks t.asks
+
+-- a get in the middle of which serving may be given up lies within a connection: what may be written then is a first part of the connection's text, and the orders before it are the first of those that it asks
+abbrev pub GetLiesWithin : {S : Type 0} → Store S → Talk S → Halt S → Type 0
+GetLiesWithin store t halt = ((g : Given) → gives_asked store halt.asking g → IsPrefixOf (halt.text ++ begun_text halt.request (Some g)) t.text) × IsPrefixOf halt.asks t.asks
 
 module _ {S : Type 0} (store : Store S) (buckets : Buckets) (g : Grammar) where
   -- what is stated of a connection with these bytes
@@ -45,10 +50,15 @@ module _ {S : Type 0} (store : Store S) (buckets : Buckets) (g : Grammar) where
     abbrev pub IsUpTo : Connection → Stop S → Type 0
     IsUpTo d stop = IfSome d.written (λ written. IsPrefixOf written stop.text) × AllByRecursion fits stop.asks
 
-    -- what is stated of a connection was written and ends serving, and each order that the store was asked fits; or it came to one of its stops, as memory was wanting or one of the orders that the store is asked has no room
+    -- a connection came into the middle of a get: a first part of what the get may give until then was written to it, and each order that the store was asked before it fits
+    abbrev pub IsInto : Connection → Halt S → Type 0
+    IsInto d halt = (g : Given) × gives_asked store halt.asking g × IfSome d.written (λ written. IsPrefixOf written (halt.text ++ begun_text halt.request (Some g))) × AllByRecursion fits halt.asks
+
+    -- what is stated of a connection was written and ends serving, and each order that the store was asked fits; or, as memory was wanting or one of the orders that the store is asked has no room, it came to one of its stops, or into the middle of one of its gets
     pub data EndsSo (overflows : List (Asking S) → Type 0) (t : Talk S) (d : Connection) : ServeFault → Type 0 where
       too_many : t.is_over ≡ true → IfSome d.written (λ written. written ≡ t.text) → AllByRecursion fits t.asks → EndsSo overflows t d Kept
       begun : (e : ServeFault) → GivesUp overflows t.asks e → OneOf (IsUpTo d) t.stops → EndsSo overflows t d e
+      halted : (e : ServeFault) → GivesUp overflows t.asks e → OneOf (IsInto d) t.halts → EndsSo overflows t d e
 
     -- what is stated of a connection's bytes was written to it, and each order that the store was asked fits; or it was cut off at one of its stops, as its count of faults rose; and what is served after it
     pub data IsServed (p : Serving S) (bytes : List ℕ) (d : Connection) (q : Serving S) : Type 0 where

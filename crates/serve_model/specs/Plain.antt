@@ -21,7 +21,7 @@ use Rattle.flow_model.specs.Rows.{meta_of, complete}
 use Rattle.flow_model.specs.Says.{shown_rows}
 use Rattle.store_model.specs.Orders.{buckets_of}
 use Rattle.store_model.specs.Run.{are_buckets}
-use Rattle.serve_model.specs.Stores.{Carried, Store, Asking}
+use Rattle.serve_model.specs.Stores.{Carried, Store, Asking, IsFirstOf, given}
 
 -- what the map has under a name
 pub data Has : Type 0 where
@@ -93,7 +93,7 @@ has_at P name = has_among P.entries name
 
 -- nothing changes, and the order ends so
 abbrev pub tells : Plain → FlowEnd → Carried Plain
-tells P end = record { state = P; end = Some end }
+tells P end = record { state = P; end = Some end; begun = None }
 
 -- the version that a write makes: by the clock, but after what is there, and with the number of the order
 abbrev pub version_of : Plain → Name → Version
@@ -113,7 +113,7 @@ meta_made (wish.Content c) = Some (meta_of c)
 abbrev pub writes : Plain → Name → Wish → Carried Plain
 writes P name wish =
     let version = version_of P name in
-    record { state = record P { entries = with_has P.entries name (made version P.block wish) }; end = Some (Stored version (meta_made wish)) }
+    record { state = record P { entries = with_has P.entries name (made version P.block wish) }; end = Some (Stored version (meta_made wish)); begun = None }
 
 -- something is done with the object that is there, if any
 abbrev pub with_object : Plain → Has → (Version → Content → Carried Plain) → Carried Plain
@@ -140,13 +140,15 @@ at_time P time = record P { clock = P.clock + (time - P.ticked); ticked = max P.
 abbrev pub counted : Plain → Plain
 counted P = record P { asked = suc P.asked }
 
--- the plain store: an order that names a bucket that is not there is not carried out
+-- what comes of an order; one that names a bucket that is not there is not carried out
+abbrev pub carried_by : Plain → ℕ → Order → Carried Plain
+carried_by P time order =
+    let now = at_time P time in
+    if are_buckets now.buckets (buckets_of order) then answered (counted now) order else record { state = now; end = None; begun = None }
+
+-- the plain store: in the middle of a get it may give a first part of the object
 abbrev pub plain : Store Plain
-plain = record {
-  carries = λ P time order.
-      let now = at_time P time in
-      if are_buckets now.buckets (buckets_of order) then answered (counted now) order else record { state = now; end = None };
-}
+plain = record { carries = carried_by; gives = λ P time order g. IsFirstOf (Some g) (given (carried_by P time order)) }
 
 -- ---- versions
 

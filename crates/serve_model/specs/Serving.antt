@@ -10,8 +10,8 @@ use Rattle.flow_model.specs.declared.flow.FlowEnd.{FlowEnd}
 use Rattle.serve_model.specs.declared.served.Served.{Served}
 use Rattle.serve_model.specs.declared.served.ServeFault.{ServeFault}
 use Rattle.serve_model.specs.declared.served.ServeFault.TheVariants.{Kept, Number, Memory}
-use Rattle.serve_model.specs.Stores.{Store, Asking, Known, Leads, Overflows}
-use Rattle.serve_model.specs.Talk.{Serving, Next, goes, closes, exceeds, Stop, Turn}
+use Rattle.serve_model.specs.Stores.{Given, Store, Asking, Known, Leads, Overflows}
+use Rattle.serve_model.specs.Talk.{Serving, Next, goes, closes, exceeds, Stop, Halt, Turn, begun_text}
 
 -- ---- a store of the code
 
@@ -69,18 +69,24 @@ ComesTo fits c d stop = WrotePrefix c.written d.written stop.text × AllByRecurs
 abbrev pub CutOffAt : {S : Type 0} → (Asking S → Type 0) → (S → Type 0) → Option (List ℕ) → Served → Connection → Connection → Stop S → Type 0
 CutOffAt fits holds times served c d stop = ComesTo fits c d stop × Stands holds times served stop.serving
 
+-- it came into the middle of a get: a first part was written of what the get may give until then, and each order that the store was asked before it fits
+abbrev pub ComesInto : {S : Type 0} → Known S → Connection → Connection → Halt S → Type 0
+ComesInto known c d halt =
+    (g : Given) × known.gives halt.asking g × WrotePrefix c.written d.written (halt.text ++ begun_text halt.request (Some g)) × AllByRecursion known.fits halt.asks
+
 -- serving is given up, since one of these orders has no room, or since memory was wanting
 abbrev pub GivesUp : {S : Type 0} → (List (Asking S) → Type 0) → List (Asking S) → ServeFault → Type 0
 GivesUp overflows asks Kept = ⊥
 GivesUp overflows asks Number = overflows asks
 GivesUp overflows asks Memory = ⊤
 
--- what is stated of one request was written, each order that the store was asked fits, and store, clock and counts stand for what is served then; or it was cut off at one of its stops, as the count of faults rose; or it's stated that serving ends, as too many bytes were put or copied, and each order fits too; or it came to one of its stops, as memory was wanting or the order that the store was asked has no room
+-- what is stated of one request was written, each order that the store was asked fits, and store, clock and counts stand for what is served then; or it was cut off at one of its stops, as the count of faults rose; or it's stated that serving ends, as too many bytes were put or copied, and each order fits too; or, as memory was wanting or the order that the store was asked has no room, it came to one of its stops, or into the middle of its get
 pub data Serves {S : Type 0} (t : Turn S) (holds : S → Type 0) (known : Known S) (times : Option (List ℕ)) (served : Served) (result : Result Bool ServeFault) (kept : List ℕ) (c d : Connection) : Type 0 where
   done : (on : Bool) → result ≡ Ok on → Wrote c.written d.written t.text → AllByRecursion known.fits t.asks → Stands holds times served t.serving → Continues t.next on kept d.left → c.faults ≤ d.faults → Serves t holds known times served result kept c d
   cut_off : result ≡ Ok false → Rose c.faults d.faults → OneOf (CutOffAt known.fits holds times served c d) t.stops → Serves t holds known times served result kept c d
   limited : result ≡ Err Kept → t.next ≡ exceeds → Wrote c.written d.written t.text → AllByRecursion known.fits t.asks → c.faults ≤ d.faults → Serves t holds known times served result kept c d
   given_up : (e : ServeFault) → result ≡ Err e → GivesUp known.overflows t.asks e → OneOf (ComesTo known.fits c d) t.stops → c.faults ≤ d.faults → Serves t holds known times served result kept c d
+  halted : (e : ServeFault) → result ≡ Err e → GivesUp known.overflows t.asks e → OneOf (ComesInto known c d) t.halts → c.faults ≤ d.faults → Serves t holds known times served result kept c d
 
 -- so it is of the bytes that are told to be left
 abbrev pub OnLeft : (List ℕ → Type 0) → Option (List ℕ) → Type 0

@@ -1,16 +1,19 @@
 -- What is written to a connection: a function of its bytes, over a store, the times that a clock still gives, and what was counted.
 use Rattle.std.specs.Prelude.{ℕ, zero, suc, ◌+◌, Bool, true, false, ◌||◌, ◌&&◌, ◌==◌, nat_le, nat_lt, min, max, List, [], ◌∷◌, ◌++◌, map, length, take, drop, codes, Option, Some, None, Result, Ok, Err, if◌then◌else◌}
 use Rattle.flow_model.specs.declared.order.Order.{Order}
+use Rattle.flow_model.specs.declared.order.Order.TheVariants as order
 use Rattle.flow_model.specs.declared.flow.FlowEnd.{FlowEnd}
 use Rattle.http_model.specs.declared.head.Head.{Head}
 use Rattle.http_model.specs.Cut.{Cut, ends, too_long, unfinished, cut}
 use Rattle.http_model.specs.Heads.{IsReading}
+use Rattle.s3_model.specs.declared.ask.Ask.{Ask}
+use Rattle.s3_model.specs.declared.ask.Ask.TheVariants as ask
 use Rattle.s3_model.specs.declared.fault.Code.{Code}
 use Rattle.s3_model.specs.declared.fault.Code.TheVariants.{InvalidRequest, IncompleteBody}
 use Rattle.s3_model.specs.declared.fault.S3Fault.{S3Fault}
 use Rattle.s3_model.specs.declared.reply.Reply.{Reply}
 use Rattle.s3_model.specs.declared.reply.Reply.TheVariants.{Refused}
-use Rattle.s3_model.specs.Answer.{answer_text}
+use Rattle.s3_model.specs.Answer.{found_text, answer_text}
 use Rattle.s3_model.specs.Asks.{is_method}
 use Rattle.s3_model.specs.Connections.{closes as closes_after_head, expects}
 use Rattle.s3_model.specs.Faults.{fault_of, closes_after}
@@ -21,7 +24,7 @@ use Rattle.serve_model.specs.declared.answer.Answer.{Answer}
 use Rattle.serve_model.specs.declared.answer.Answer.TheVariants as answer
 use Rattle.serve_model.specs.declared.buckets.Buckets.{Buckets}
 use Rattle.serve_model.specs.declared.request.Request.{Request}
-use Rattle.serve_model.specs.Stores.{Store, Asking}
+use Rattle.serve_model.specs.Stores.{Given, Store, Asking}
 use Rattle.serve_model.specs.Admitting.{admitted}
 use Rattle.serve_model.specs.Judging.{refusal_of, counted_before, order_of, reply_without, answer_to, counted_after}
 
@@ -81,10 +84,18 @@ pub record Stop (S : Type 0) : Type 0 where
   pub asks : List (Asking S)
   pub serving : Serving S
 
--- what comes of one request: what is written, where it may be cut off, what the store is asked, what is served from then on, and how the connection goes on
+-- a get in the middle of which serving may be given up: what was written and which orders the store was asked before it, the request, and what is asked
+pub record Halt (S : Type 0) : Type 0 where
+  pub text : List ℕ
+  pub asks : List (Asking S)
+  pub request : Request
+  pub asking : Asking S
+
+-- what comes of one request: what is written, where it may be cut off, in which gets serving may be given up, what the store is asked, what is served from then on, and how the connection goes on
 pub record Turn (S : Type 0) : Type 0 where
   pub text : List ℕ
   pub stops : List (Stop S)
+  pub halts : List (Halt S)
   pub asks : List (Asking S)
   pub serving : Serving S
   pub next : Next
@@ -126,6 +137,21 @@ text_of r (answer.Reply reply) = answer_text (Some r.ask) reply r.time r.closes
 text_of r (answer.Refusal code) = answer_text (Some r.ask) (refusal r code) r.time (closes_with r code)
 text_of r answer.Nothing = []
 
+-- the answer to a get that found an object, of which these bytes are given; to any other ask nothing
+abbrev pub get_text : Ask → Given → ℕ → Bool → List ℕ
+get_text (ask.Get bucket key range) g now close = found_text range g.version g.meta g.bytes now close
+get_text _ g now close = []
+
+-- a get without an answer may have got a first part of one: the head, and those bytes of its range that had come
+abbrev pub begun_text : Request → Option Given → List ℕ
+begun_text r None = []
+begun_text r (Some g) = get_text r.ask g r.time r.closes
+
+-- the bytes with which a request is answered, or those that it got without an answer
+abbrev pub given_text : Request → Answer → Option Given → List ℕ
+given_text r answer.Nothing begun = begun_text r begun
+given_text r a begun = text_of r a
+
 -- whether the connection closes after them; without an answer it does
 abbrev pub closes_of : Request → Answer → Bool
 closes_of r (answer.Reply reply) = r.closes
@@ -157,21 +183,25 @@ module _ {S : Type 0} where
   abbrev pub behind : List ℕ → List (Asking S) → Stop S → Stop S
   behind text asks s = record { text = text ++ s.text; asks = asks ++ s.asks; serving = s.serving }
 
+  -- a get before which this text was written and these orders were asked too
+  abbrev pub behind_halt : List ℕ → List (Asking S) → Halt S → Halt S
+  behind_halt text asks h = record h { text = text ++ h.text; asks = asks ++ h.asks }
+
   -- it may be cut off here already, with nothing written
   abbrev pub passing : Serving S → Turn S → Turn S
   passing p t = record t { stops = stop [] p ∷ t.stops }
 
   -- the store was asked this before
   abbrev pub having_asked : Asking S → Turn S → Turn S
-  having_asked a t = record t { stops = map (behind [] (a ∷ [])) t.stops; asks = a ∷ t.asks }
+  having_asked a t = record t { stops = map (behind [] (a ∷ [])) t.stops; halts = map (behind_halt [] (a ∷ [])) t.halts; asks = a ∷ t.asks }
 
   -- something was written before
   abbrev pub after : List ℕ → Turn S → Turn S
-  after text t = record t { text = text ++ t.text; stops = map (behind text []) t.stops }
+  after text t = record t { text = text ++ t.text; stops = map (behind text []) t.stops; halts = map (behind_halt text []) t.halts }
 
   -- something is written, in which it may be cut off, and then the connection closes or goes on with the rest
   abbrev pub said : List ℕ → Bool → Serving S → List ℕ → Turn S
-  said text close p rest = record { text = text; stops = stop text p ∷ []; asks = []; serving = p; next = unless_closed close rest }
+  said text close p rest = record { text = text; stops = stop text p ∷ []; halts = []; asks = []; serving = p; next = unless_closed close rest }
 
   -- a request is answered
   abbrev pub answer_turn : Request → Answer → Serving S → List ℕ → Turn S
@@ -179,27 +209,41 @@ module _ {S : Type 0} where
 
   -- too many bytes were put or copied
   abbrev pub exceeded : Serving S → Turn S
-  exceeded p = record { text = []; stops = stop [] p ∷ []; asks = []; serving = p; next = exceeds }
+  exceeded p = record { text = []; stops = stop [] p ∷ []; halts = []; asks = []; serving = p; next = exceeds }
 
   -- so many bytes more are put or copied, and if they aren't too many, it goes on so
   unfoldable pub counting : ℕ → Serving S → (Serving S → Turn S) → Turn S
   counting size p go = if nat_lt kept_limit (p.kept + size) then exceeded (counted size p) else go (counted size p)
 
+  -- a request is answered, or it isn't: then the connection closes, and a get may have got a first part of an answer
+  abbrev pub given_turn : Request → Answer → Option Given → Serving S → List ℕ → Turn S
+  given_turn r a begun p rest = said (given_text r a begun) (closes_of r a) p rest
+
   -- the store has carried out what a request asks, which ended so; without an end there is no answer
-  abbrev pub end_turn : Request → Option FlowEnd → Serving S → List ℕ → Turn S
-  end_turn r None p rest = answer_turn r answer.Nothing p rest
-  end_turn r (Some end) p rest = counting (counted_after r.ask end) p (λ q. answer_turn r (answer_to r.ask end) q rest)
+  abbrev pub end_turn : Request → Option FlowEnd → Option Given → Serving S → List ℕ → Turn S
+  end_turn r None begun p rest = given_turn r answer.Nothing begun p rest
+  end_turn r (Some end) begun p rest = counting (counted_after r.ask end) p (λ q. given_turn r (answer_to r.ask end) begun q rest)
+
+  -- the get, in the middle of which serving may be given up, if the order is one
+  abbrev pub halts_of : Order → Request → Asking S → List (Halt S)
+  halts_of (order.Get bucket key) r a = record { text = []; asks = []; request = r; asking = a } ∷ []
+  halts_of o r a = []
+
+  -- what a get is given is written while the store is still at work: serving may be given up in the middle of it
+  abbrev pub giving : Request → Asking S → Turn S → Turn S
+  giving r a t = record t { halts = halts_of a.order r a ++ t.halts }
 
   -- the store carries out an order, unless it is cut off before
   abbrev pub order_turn : Store S → Request → Order → Serving S → List ℕ → Turn S
-  order_turn store r order p rest =
-      let c = store.carries p.store r.time order in
-      passing p (having_asked (record { state = p.store; time = r.time; order = order }) (end_turn r c.end (record p { store = c.state }) rest))
+  order_turn store r o p rest =
+      let a : Asking S = record { state = p.store; time = r.time; order = o } in
+      let c = store.carries p.store r.time o in
+      passing p (giving r a (having_asked a (end_turn r c.end c.begun (record p { store = c.state }) rest)))
 
   module _ (store : Store S) (buckets : Buckets) where
     -- nothing refuses the request before the store is asked
     abbrev pub plan_turn : Request → Option Order → Serving S → List ℕ → Turn S
-    plan_turn r (Some order) p rest = order_turn store r order p rest
+    plan_turn r (Some o) p rest = order_turn store r o p rest
     plan_turn r None p rest = answer_turn r (answer.Reply (reply_without buckets r.who r.ask)) p rest
 
     -- a request whose body was read is refused, or isn't
@@ -244,10 +288,11 @@ module _ {S : Type 0} where
       abbrev pub turn : Bool → Serving S → List ℕ → Turn S
       turn last p bytes = passing p (cut_turn last p (cut bytes))
 
--- what is written to a connection, where it may be cut off, what the store is asked, one order after the other, what is served then, and whether serving ends with it
+-- what is written to a connection, where it may be cut off, in which gets serving may be given up, what the store is asked, one order after the other, what is served then, and whether serving ends with it
 pub record Talk (S : Type 0) : Type 0 where
   pub text : List ℕ
   pub stops : List (Stop S)
+  pub halts : List (Halt S)
   pub asks : List (Asking S)
   pub serving : Serving S
   pub is_over : Bool
@@ -257,11 +302,18 @@ module _ {S : Type 0} where
   abbrev pub go_on : (Serving S → List ℕ → Talk S) → Turn S → Next → Talk S
   go_on talk t (goes rest) =
       let u = talk t.serving rest in
-      record { text = t.text ++ u.text; stops = t.stops ++ map (behind t.text t.asks) u.stops; asks = t.asks ++ u.asks; serving = u.serving; is_over = u.is_over }
-  go_on talk t closes = record { text = t.text; stops = t.stops; asks = t.asks; serving = t.serving; is_over = false }
-  go_on talk t exceeds = record { text = t.text; stops = t.stops; asks = t.asks; serving = t.serving; is_over = true }
+      record {
+        text = t.text ++ u.text;
+        stops = t.stops ++ map (behind t.text t.asks) u.stops;
+        halts = t.halts ++ map (behind_halt t.text t.asks) u.halts;
+        asks = t.asks ++ u.asks;
+        serving = u.serving;
+        is_over = u.is_over;
+      }
+  go_on talk t closes = record { text = t.text; stops = t.stops; halts = t.halts; asks = t.asks; serving = t.serving; is_over = false }
+  go_on talk t exceeds = record { text = t.text; stops = t.stops; halts = t.halts; asks = t.asks; serving = t.serving; is_over = true }
 
   -- a connection with these bytes, on which so many requests are answered at most
   unfoldable pub talk : Store S → Buckets → Grammar → ℕ → Serving S → List ℕ → Talk S
-  talk store buckets g zero p bytes = record { text = []; stops = []; asks = []; serving = p; is_over = false }
+  talk store buckets g zero p bytes = record { text = []; stops = []; halts = []; asks = []; serving = p; is_over = false }
   talk store buckets g (suc more) p bytes = let t = turn store buckets g (more == 0) p bytes in go_on (talk store buckets g more) t t.next

@@ -12,6 +12,7 @@
 mod admitted;
 mod answer;
 mod buckets;
+mod gets;
 mod grammar;
 mod request;
 mod served;
@@ -19,6 +20,7 @@ mod served;
 pub use crate::admitted::{Admitted, Signer};
 pub use crate::answer::Answer;
 pub use crate::buckets::Buckets;
+pub use crate::gets::gets_lie_within_their_connection;
 pub use crate::grammar::{grammar_is_one, grammar_is_there};
 pub use crate::request::Request;
 pub use crate::served::{ServeFault, Served};

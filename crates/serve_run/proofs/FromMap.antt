@@ -18,7 +18,7 @@ use Rattle.serve_model.specs.Stores.{Store, Asking, fits_asking}
 use Rattle.serve_changes.specs.Changing.{Change, Changing, changing, changing_fits}
 use Rattle.serve_model.specs.Talk.{Grammar, Serving, Stop, Talk, talk, request_limit}
 use Rattle.serve_model.specs.Serving.{GivesUp}
-use Rattle.serve_model.specs.Connections.{stated, IsServed, AreServed, SomeAsked, EndsSo, too_many, begun as has_begun, ServesAllButLast}
+use Rattle.serve_model.specs.Connections.{stated, IsServed, AreServed, SomeAsked, EndsSo, too_many, begun as has_begun, halted, ServesAllButLast}
 use Rattle.serve_model.proofs.Ones.{one_weaker}
 use Rattle.serve_model.specs.Plain.{Plain as Map, plain, PutsBlock, AreApart}
 use Rattle.plain_laws.specs.Blocks.{IsKept, IsOfMap}
@@ -74,6 +74,7 @@ module _ {S : Type 0} (store : Store S) (buckets : Buckets) (g : Grammar) (FitsI
   ends_anyhow : (fault : ServeFault) → EndsSo store buckets g FitsIt overflows t d fault → EndsSo store buckets g FitsIt (λ asks. ⊤) t d fault
   ends_anyhow fault (too_many over wrote fit) = too_many over wrote fit
   ends_anyhow fault (has_begun e why stops) = has_begun e (any_order e why) stops
+  ends_anyhow fault (halted e why halts) = halted e (any_order e why) halts
 
 begun_stands : FirstStands → (p : Plan) (first : Layout) → IsOf p first → IsFirst first → NoClash p.config.buckets → 1 ≤ p.config.block_size → MayCome first (to_come_from first p.changes) → StandsWith (begun p first) (empty_map p)
 begun_stands law p first of is clash sized may =

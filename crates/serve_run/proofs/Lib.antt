@@ -5,6 +5,7 @@ pub mod Input
 pub mod Sized
 pub mod Opening
 pub mod Requests
+pub mod InPart
 pub mod Serving
 pub mod FromMap
 pub mod Ending

@@ -42,12 +42,13 @@ use Rattle.serve_run.specs.Start.{preparing, opening, opened, IsOf, IsOpened}
 use Rattle.serve_run.specs.Told.{Told, told}
 use Rattle.serve_run.specs.FromMap.{AreFromMap, AreFromMapButLast}
 use Rattle.serve_run.specs.Begun.{nodes_of, to_come_from, begun, serving}
-use Rattle.serve_run.specs.Served.{all_nodes, state_after, left_after, tail, versions_of, tail_of, HasServed, HasBrokenOff}
+use Rattle.serve_run.specs.Served.{all_nodes, state_after, left_after, tail, versions_of, tail_of, HasServed, IsInPart, HasBrokenOff}
 use Rattle.serve_run.specs.Stop.{stop_of_memory, stop_of_serving}
 use Rattle.serve_run.specs.Answer.{IsUnshown, LacksRoom, for_order, at_first, afterwards, within, HasStopped, HowServed}
 use Rattle.serve_run.proofs.Opening.{after_last, world_kept}
 use Rattle.serve_run.proofs.Requests.{run_is, all_kept}
 use Rattle.serve_run.proofs.ToCome.{MayComeSo, TakeAllSo, are_changes, plan_may_come}
+use Rattle.serve_run.proofs.InPart.{GetLaws, in_part}
 use Rattle.serve_run.proofs.FromMap.{FirstStands, ServedFrom, EndedFrom, installs_first, are_from_map, end_from_map}
 
 -- connections were served, and the code's cluster stands for one with the state after the orders
@@ -233,13 +234,14 @@ module _ (keeps : EveryRunKeepsPromises) (first_stands : FirstStands) (served_fr
   abbrev ButLast : ServeFault → List ℕ → List (List ℕ) → Type 0
   ButLast fault ts cs = ServesAllButLast changing p.buckets g (fits_asking changing_fits) (OverflowsAmong changing changing_fits changing_lacks (begun p b.first)) (serving p b.first ts) fault cs past past'
 
-  broken_off : EndedFrom → (fault : ServeFault) → Where (ButLast fault) times coming → HasBrokenOff g p fault (told times times' coming coming' past past')
-  broken_off ended_from fault all =
+  broken_off : EndedFrom → GetLaws → (fault : ServeFault) → Where (ButLast fault) times coming → HasBrokenOff g p fault (told times times' coming coming' past past')
+  broken_off ended_from gets fault all =
       record {
         first = b.first;
         is_of = b.is_of;
         kept = all_kept p b.first keeps b.lawful b.fit;
         served = some_told (ButLast fault) times coming all;
+        in_part = some_told (IsInPart g p b.first fault past past') times coming (λ ts e. where_some (ButLast fault ts) (IsInPart g p b.first fault past past' ts) coming (λ cs a. in_part gets g p b.first b.lawful fault past past' ts cs) (all ts e));
         from_map = λ clash. some_told (AreFromMap g p b.first p.buckets 1 past past') times coming (λ ts e. where_some (ButLast fault ts) (AreFromMap g p b.first p.buckets 1 past past' ts) coming (λ cs a. from_here clash ts cs 1 a.came (a.bytes ∷ a.to_come) a.gone (a.last ∷ []) a.serving a.are_served a.comes (a.goes ∙ append_assoc past a.gone (a.last ∷ [])) (omega arith)) (all ts e));
         ends_from_map = λ clash.
             some_told (AreFromMapButLast g p b.first p.buckets fault past past') times coming
@@ -261,13 +263,13 @@ module _ (keeps : EveryRunKeepsPromises) (first_stands : FirstStands) (served_fr
   left number goes served = left_where number times coming (goes (begun p b.first) b.stands) (says_so (Ok number) served)
 
   -- serving stopped early
-  has_stopped : EndedFrom → (stop : ServeStop) → Leaves changing changing_fits changing_lacks holds0 holds (Err stop) → Says (Err stop) → HasStopped g p (told times times' coming coming' past past') (stop_of_serving stop)
+  has_stopped : EndedFrom → GetLaws → (stop : ServeStop) → Leaves changing changing_fits changing_lacks holds0 holds (Err stop) → Says (Err stop) → HasStopped g p (told times times' coming coming' past past') (stop_of_serving stop)
   unfolding broken_off
-  has_stopped ended_from ended.Link goes served = left_early times coming (goes (begun p b.first) b.stands) (says_so (Err ended.Link) served)
-  has_stopped ended_from (ended.Fault fault.Kept) goes served = broken_off ended_from fault.Kept (says_so (Err (ended.Fault fault.Kept)) served)
-  has_stopped ended_from (ended.Fault fault.Number) goes served = for_order (broken_off ended_from fault.Number (says_so (Err (ended.Fault fault.Number)) served)) (goes (begun p b.first) b.stands)
-  has_stopped ended_from (ended.Fault fault.Memory) goes served = within (broken_off ended_from fault.Memory (says_so (Err (ended.Fault fault.Memory)) served))
+  has_stopped ended_from gets ended.Link goes served = left_early times coming (goes (begun p b.first) b.stands) (says_so (Err ended.Link) served)
+  has_stopped ended_from gets (ended.Fault fault.Kept) goes served = broken_off ended_from gets fault.Kept (says_so (Err (ended.Fault fault.Kept)) served)
+  has_stopped ended_from gets (ended.Fault fault.Number) goes served = for_order (broken_off ended_from gets fault.Number (says_so (Err (ended.Fault fault.Number)) served)) (goes (begun p b.first) b.stands)
+  has_stopped ended_from gets (ended.Fault fault.Memory) goes served = within (broken_off ended_from gets fault.Memory (says_so (Err (ended.Fault fault.Memory)) served))
 
-  pub how_stopped : EndedFrom → (count : ℕ) (r : Result (List ℕ) Stop) (stop : ServeStop) → IsErrAnd r (λ e. e ≡ stop_of_serving stop) → Leaves changing changing_fits changing_lacks holds0 holds (Err stop) → Says (Err stop) → HowServed g p count (told times times' coming coming' past past') r
-  how_stopped ended_from count (Ok text) stop is goes served = absurd is
-  how_stopped ended_from count (Err e) stop is goes served = subst (HasStopped g p (told times times' coming coming' past past')) (sym is) (has_stopped ended_from stop goes served)
+  pub how_stopped : EndedFrom → GetLaws → (count : ℕ) (r : Result (List ℕ) Stop) (stop : ServeStop) → IsErrAnd r (λ e. e ≡ stop_of_serving stop) → Leaves changing changing_fits changing_lacks holds0 holds (Err stop) → Says (Err stop) → HowServed g p count (told times times' coming coming' past past') r
+  how_stopped ended_from gets count (Ok text) stop is goes served = absurd is
+  how_stopped ended_from gets count (Err e) stop is goes served = subst (HasStopped g p (told times times' coming coming' past past')) (sym is) (has_stopped ended_from gets stop goes served)

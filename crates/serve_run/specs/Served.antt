@@ -1,6 +1,7 @@
 -- What a server did: the acts of its requests, what is promised of them, and what was written to its connections.
-use Rattle.std.specs.Prelude.{◌≡◌, ℕ, ◌-◌, List, ◌∷◌, ◌++◌, map, flat_map, length, take}
+use Rattle.std.specs.Prelude.{◌≡◌, ℕ, ◌-◌, List, ◌∷◌, ◌++◌, map, flat_map, length, take, IfSome}
 use Rattle.std.specs.List.{range_with_len}
+use Rattle.lab_outside.specs.Connection.{Connection}
 use Rattle.layout_roles.specs.declared.layout.Layout.{Layout}
 use Rattle.layout_roles.specs.Fits.{NodeSet}
 use Rattle.layout_roles.specs.Text.{set_lines}
@@ -15,7 +16,7 @@ use Rattle.serve_model.specs.declared.served.ServeFault.{ServeFault}
 use Rattle.serve_model.specs.Stores.{fits_asking, after_orders, OrdersFit, OverflowsAmong}
 use Rattle.serve_changes.specs.Changing.{Change, changing, changing_fits, changing_lacks, acts_through}
 use Rattle.serve_model.specs.Talk.{Grammar}
-use Rattle.serve_model.specs.Connections.{ServesAll, ServesAllButLast}
+use Rattle.serve_model.specs.Connections.{IsPrefixOf, ServesAll, ServesAllButLast, stated}
 use Rattle.serve_run.specs.declared.plan.Plan.{Plan}
 use Rattle.serve_run.specs.Start.{opening, IsOf}
 use Rattle.serve_run.specs.Begun.{begun, serving}
@@ -72,11 +73,18 @@ pub record HasServed (g : Grammar) (p : Plan) (number : ℕ) (t : Told) : Type 0
   pub served : WhereTold t (λ times coming. ServesAll changing p.buckets g (fits_asking changing_fits) (serving p first times) number (λ c. (c.cluster.run ≡ state_after p first orders) × (c.to_come ≡ left_after p first orders)) t.times_after counts coming t.coming_after t.past t.past_after)
   pub from_map : IsFromMap g p first p.buckets 0 t
 
+-- however connections were served of which serving ended with the last one, what was written to it is what is stated of its bytes, or a first part
+abbrev pub IsInPart : Grammar → Plan → Layout → ServeFault → List Connection → List Connection → List ℕ → List (List ℕ) → Type 0
+IsInPart g p first fault past past_after times coming =
+    (a : ServesAllButLast changing p.buckets g (fits_asking changing_fits) (OverflowsAmong changing changing_fits changing_lacks (begun p first)) (serving p first times) fault coming past past_after) →
+    IfSome a.last.written (λ written. IsPrefixOf written (stated changing p.buckets g a.serving a.bytes).text)
+
 -- serving ended with a connection, for this fault; where clock and link tell, all connections before it were served as it is stated, and what was written to it is what is stated of it, or a first part; and whatever orders can be carried out from the opened cluster on keep what is promised; and the connections are served, and serving ends with the last one, as by a server that is one map
 pub record HasBrokenOff (g : Grammar) (p : Plan) (fault : ServeFault) (t : Told) : Type 0 where
   pub first : Layout
   pub is_of : IsOf p first
   pub kept : (orders : List (ℕ × Order)) → OrdersFit changing changing_fits (begun p first) orders → AreKept (all_acts p first orders)
   pub served : WhereTold t (λ times coming. ServesAllButLast changing p.buckets g (fits_asking changing_fits) (OverflowsAmong changing changing_fits changing_lacks (begun p first)) (serving p first times) fault coming t.past t.past_after)
+  pub in_part : WhereTold t (IsInPart g p first fault t.past t.past_after)
   pub from_map : IsFromMap g p first p.buckets 1 t
   pub ends_from_map : EndsFromMap g p first p.buckets fault t

@@ -20,6 +20,7 @@ use crate::stop::Stop;
 use crate::tail::tail_text;
 use change_deeds::nodes_of;
 use crdt_core::{Bytes, List, Memory, Value};
+use get_laws::{a_get_of_a_cluster_gives_all_of_it, states_know_their_requests};
 use lab_main::ends;
 use lab_outside::{Clock, Link, Sink, Source, Status};
 use layout_roles::{Assignment, smaller_sizes};
@@ -72,6 +73,8 @@ fn served<L: Link, C: Clock>(
     computed_changes_may_come();
     members_of_both_are_all();
     connections_are_served_through_changes();
+    states_know_their_requests();
+    a_get_of_a_cluster_gives_all_of_it();
     let members = nodes_of(alloc, plan.config.roles.list.as_slice())?;
     let mut later = sets_of(alloc, plan.changes.as_slice())?;
     let world = installed(alloc, &plan)?;

@@ -1,5 +1,5 @@
 -- What is admitted where keys are configured is allowed.
-use Rattle.std.proofs.Common.{◌≡◌, ℕ, Bool, true, false, if◌then◌else◌, Option, Some, None, Result, Ok, Err, refl, sym, ap, ◌∙◌, subst}
+use Rattle.std.proofs.Common.{◌≡◌, ℕ, Bool, true, false, if◌then◌else◌, Option, Some, None, Result, Ok, Err, refl, subst}
 use Rattle.std.proofs.lemmas.Bool.{cond-false}
 use Rattle.layout_text.specs.declared.keys.Access.{Access}
 use Rattle.http_model.specs.declared.head.Head.{Head}
@@ -15,7 +15,7 @@ use Rattle.sig_v4.specs.Checks.{checked}
 use Rattle.serve_model.specs.declared.admitted.Admitted.{Admitted}
 use Rattle.serve_model.specs.declared.admitted.Signer.{Signer}
 use Rattle.serve_model.specs.Keys.{may}
-use Rattle.serve_model.specs.Admitting.{anyone, signer_of, signer, unless_long, if_allowed, if_signed, if_asked, admitted}
+use Rattle.serve_model.specs.Admitting.{anyone, signer_of, signer, unless_long, if_signed, if_asked, admitted}
 use Rattle.signed_laws.specs.Allowed.{IsAllowed}
 
 module _ (access : Access) (now : ℕ) (head : Head) (a : Admitted) where

@@ -17,7 +17,7 @@ use Rattle.sig_v4.specs.Checks.{checked}
 use Rattle.serve_model.specs.declared.admitted.Admitted.{Admitted}
 use Rattle.serve_model.specs.declared.admitted.Signer.{Signer}
 use Rattle.serve_model.specs.Keys.{may}
-use Rattle.serve_model.specs.Admitting.{anyone, signer_of, signer, unless_long, if_allowed, if_signed, if_asked, admitted}
+use Rattle.serve_model.specs.Admitting.{anyone, signer_of, signer, unless_long, if_signed, if_asked, admitted}
 use Rattle.signed_laws.specs.Allowed.{IsOfCode}
 
 -- if there is a refusal, it has the status of its code

@@ -18,8 +18,8 @@ use Rattle.serve_model.specs.declared.buckets.Buckets.{Buckets}
 use Rattle.serve_model.specs.declared.request.Request.{Request}
 use Rattle.serve_model.specs.Keys.{may}
 use Rattle.serve_model.specs.Judging.{refusal_of, order_of}
-use Rattle.serve_model.specs.Stores.{Store}
-use Rattle.serve_model.specs.Talk.{Grammar, Serving, request_of, interim, text_of, head_refusal, clocked, turn}
+use Rattle.serve_model.specs.Stores.{Given, Store}
+use Rattle.serve_model.specs.Talk.{Grammar, Serving, Halt, request_of, interim, text_of, begun_text, head_refusal, clocked, turn}
 
 -- a key signed the head at this time, it may ask what the head asks, and the length is in order
 pub record IsAllowed (access : Access) (now : ℕ) (head : Head) (a : Admitted) : Type 0 where
@@ -60,19 +60,28 @@ pub record IsAsked (buckets : Buckets) (g : Grammar) (last : Bool) (now : ℕ) (
 abbrev pub IsOfCode : S3Fault → Type 0
 IsOfCode fault = fault.status ≡ status_of fault.code
 
--- what is written for the first request in these bytes: nothing, a refusal of its head, the interim line and a refusal or no more behind a head that is allowed, or the reply to such a request
+-- what is written for the first request in these bytes: nothing, a refusal of its head, the interim line and a refusal or no more behind a head that is allowed, or the reply to such a request, or what a get got of one without an answer
 pub data IsSaid (buckets : Buckets) (g : Grammar) (last : Bool) (now : ℕ) (bytes text : List ℕ) : Type 0 where
   nothing : text ≡ [] → IsSaid buckets g last now bytes text
   head_refused : (fault : S3Fault) (path : List ℕ) (is_head : Bool) → IsOfCode fault → text ≡ head_refusal fault path is_head now → IsSaid buckets g last now bytes text
   unanswered : (r : Request) (rest : List ℕ) → IsAdmitted buckets g last now bytes r rest → text ≡ interim r → IsSaid buckets g last now bytes text
   refused : (r : Request) (rest : List ℕ) (code : Code) → IsAdmitted buckets g last now bytes r rest → text ≡ interim r ++ text_of r (answer.Refusal code) → IsSaid buckets g last now bytes text
   replied : (r : Request) (body : List ℕ) (reply : Reply) → IsRequest buckets g last now bytes r body → text ≡ interim r ++ text_of r (answer.Reply reply) → IsSaid buckets g last now bytes text
+  got : (r : Request) (body : List ℕ) (given : Given) → IsRequest buckets g last now bytes r body → text ≡ interim r ++ begun_text r (Some given) → IsSaid buckets g last now bytes text
+
+-- a get in the middle of which serving may be given up is such a request, before which no more is written than the interim line
+pub record IsGot {S : Type 0} (buckets : Buckets) (g : Grammar) (last : Bool) (now : ℕ) (bytes : List ℕ) (halt : Halt S) : Type 0 where
+  pub body : List ℕ
+  pub is_request : IsRequest buckets g last now bytes halt.request body
+  pub text : halt.text ≡ interim halt.request
 
 module _ {S : Type 0} (store : Store S) (buckets : Buckets) (g : Grammar) where
   -- whatever is served, with whatever bytes to come: the store is asked only what such a request asks
   abbrev pub OnlySignedIsCarriedOut : Type 0
   OnlySignedIsCarriedOut = (last : Bool) (p : Serving S) (bytes : List ℕ) → AllByRecursion (λ a. IsAsked buckets g last (clocked p).time bytes a.order) (turn store buckets g last p bytes).asks
 
-  -- and only such a request is answered otherwise than by a refusal
+  -- and only such a request is answered otherwise than by a refusal, also where serving is given up in the middle of a get
   abbrev pub OnlyAllowedIsAnswered : Type 0
-  OnlyAllowedIsAnswered = (last : Bool) (p : Serving S) (bytes : List ℕ) → IsSaid buckets g last (clocked p).time bytes (turn store buckets g last p bytes).text
+  OnlyAllowedIsAnswered =
+      (last : Bool) (p : Serving S) (bytes : List ℕ) →
+      IsSaid buckets g last (clocked p).time bytes (turn store buckets g last p bytes).text × AllByRecursion (IsGot buckets g last (clocked p).time bytes) (turn store buckets g last p bytes).halts

@@ -30,7 +30,8 @@ pub fn only_signed_requests_are_carried_out()
 
 /// Where keys are configured, what is admitted is allowed: a key signed it that may ask it (`admitted`). What is written for
 /// a request is a refusal, whose status is 400 or more (`statuses`), or the reply to such a request whose body nothing
-/// refuses (`of_map`, `of_cluster`, `of_changing`); and the list of all buckets shows those that the key reads (`shown`).
+/// refuses, or what a get got of one without an answer; and a get in the middle of which serving may be given up is such a
+/// request (`of_map`, `of_cluster`, `of_changing`); and the list of all buckets shows those that the key reads (`shown`).
 pub fn what_is_admitted_is_allowed()
     ensures admitted { (access : Access) (now : ℕ) (head : Head) (a : Admitted) → is_empty access.keys ≡ false → admitted access now head ≡ Ok a → IsAllowed access now head a }
     ensures of_map { (buckets : Buckets) (g : Grammar) → is_empty buckets.access.keys ≡ false → OnlyAllowedIsAnswered plain buckets g }

@@ -1,4 +1,4 @@
-use Rattle.std.proofs.Common.{◌≡◌, ◌≤◌, ℕ, Bool, true, false, cond, List, [], ◌∷◌, refl, arith}
+use Rattle.std.proofs.Common.{◌≡◌, ◌≤◌, Bool, true, false, cond, List, [], ◌∷◌, refl, arith}
 use Rattle.std.specs.List.{AllByRecursion, filter}
 use Rattle.s3_model.specs.declared.fault.Code.{Code}
 use Rattle.s3_model.specs.declared.fault.Code.TheVariants as code
@@ -43,13 +43,13 @@ pub returns-clause-admitted : goal.returns-clause-admitted
 returns-clause-admitted c access now head a some h = allowed access now head a some h
 
 pub returns-clause-of_map : goal.returns-clause-of_map
-returns-clause-of_map c buckets g some last p bytes = (turn_is plain buckets some g last bytes p).1
+returns-clause-of_map c buckets g some last p bytes = let h = turn_is plain buckets some g last bytes p in (h.1, h.2)
 
 pub returns-clause-of_cluster : goal.returns-clause-of_cluster
-returns-clause-of_cluster c buckets g some last p bytes = (turn_is cluster buckets some g last bytes p).1
+returns-clause-of_cluster c buckets g some last p bytes = let h = turn_is cluster buckets some g last bytes p in (h.1, h.2)
 
 pub returns-clause-of_changing : goal.returns-clause-of_changing
-returns-clause-of_changing c buckets g some last p bytes = (turn_is changing buckets some g last bytes p).1
+returns-clause-of_changing c buckets g some last p bytes = let h = turn_is changing buckets some g last bytes p in (h.1, h.2)
 
 pub returns-clause-statuses : goal.returns-clause-statuses
 returns-clause-statuses c x = many x

@@ -10,7 +10,7 @@ use Rattle.serve_loop.proofs.request.carry.Goals as goal
 
 pub returns-in-Ok-None-clause-serves : goal.returns-in-Ok-None-clause-serves
 returns-in-Ok-None-clause-serves g c = λ p times kept st.
-    carried_none g.S.Storage.model g.S.Storage.fits g.S.Storage.lacks (g.S.Storage.stands c.args.store.now) (g.S.Storage.stands c.carry.new.self) c.args.request.now c.args.order times kept p c.args.served.now st (g.L.Link.present c.args.link.now) (rw c.in-Ok-None.field-0-is at c.in-Ok-None.ensures.carries)
+    carried_none g.S.Storage.model g.S.Storage.fits g.S.Storage.lacks (g.S.Storage.stands c.args.store.now) (g.S.Storage.stands c.carry.new.self) c.args.request.now c.args.order times kept p c.args.served.now st c.requires.no_get (g.L.Link.present c.args.link.now) (rw c.in-Ok-None.field-0-is at c.in-Ok-None.ensures.carries)
 
 pub returns-in-Ok-None-clause-goes : goal.returns-in-Ok-None-clause-goes
 returns-in-Ok-None-clause-goes g c =
@@ -33,7 +33,7 @@ returns-in-Err-clause-goes g c =
 
 pub returns-in-Ok-clause-serves : goal.returns-in-Ok-clause-serves
 returns-in-Ok-clause-serves g c = λ p times kept st.
-    carried_said g.S.Storage.model g.S.Storage.fits g.S.Storage.lacks (g.S.Storage.stands c.args.store.now) (g.S.Storage.stands c.carry.new.self) c.args.request.now c.args.order times kept p c.args.served.now st c.count.new.served c.answer_end.result
+    carried_said g.S.Storage.model g.S.Storage.fits g.S.Storage.lacks (g.S.Storage.stands c.args.store.now) (g.S.Storage.stands c.carry.new.self) c.args.request.now c.args.order times kept p c.args.served.now st c.requires.no_get c.count.new.served c.answer_end.result
     (g.L.Link.present c.args.link.now) (g.L.Link.present c.answer_end.new.link) c.in-Ok-Some.end c.counts_after-size.result (rw c.in-Ok-Some.field-0-is at c.in-Ok-Some.ensures.carries) c.counts_after-size.ensures c.in-Ok.ensures.kept c.in-Ok.ensures.time c.in-Ok.ensures.within c.answer_end.ensures.says
 
 pub returns-in-Ok-clause-goes : goal.returns-in-Ok-clause-goes

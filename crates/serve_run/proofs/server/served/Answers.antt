@@ -25,7 +25,7 @@ returns-in_err-count-clause-how g c = λ g'.
     c.new-cluster.ensures in
     how_stopped c.promises_are_kept.ensures c.a_first_layout_stands_with_the_empty_map.ensures c.connections_are_served_through_changes.ensures.served g' p c.requires.plan.sized (IsChanging c.new-cluster.result) b (IsChanging c.serve.new.store) c.serve.new.served
     (g.C.Clock.times c.args.clock.now) (g.C.Clock.times c.serve.new.clock) (g.L.Link.coming c.args.link.now) (g.L.Link.coming c.serve.new.link) (g.L.Link.past c.args.link.now) (g.L.Link.past c.serve.new.link)
-    c.connections_are_served_through_changes.ensures.ended c.args.server.count c.from_residual-in_err-count.result c.in_err-count.field-0.0 c.from_residual-in_err-count.ensures.1 c.in_err-count.ensures.goes (c.in_err-count.ensures.served g')
+    c.connections_are_served_through_changes.ensures.ended (record { begins = c.states_know_their_requests.ensures.begins; keeps = c.states_know_their_requests.ensures.keeps; middle = c.a_get_of_a_cluster_gives_all_of_it.ensures.middle }) c.args.server.count c.from_residual-in_err-count.result c.in_err-count.field-0.0 c.from_residual-in_err-count.ensures.1 c.in_err-count.ensures.goes (c.in_err-count.ensures.served g')
 
 pub returns-in_err-text-clause-how : goal.returns-in_err-text-clause-how
 returns-in_err-text-clause-how g c = λ g'.

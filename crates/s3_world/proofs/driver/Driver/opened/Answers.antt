@@ -1,4 +1,4 @@
-use Rattle.std.proofs.Common.{refl, [], ◌∷◌, ◌++◌, Some, ap, ◌∙◌}
+use Rattle.std.proofs.Common.{refl, [], ◌∷◌, ◌++◌, Some, None, ap, ◌∙◌}
 use Rattle.s3_world.proofs.Causes.{handed_on}
 use Rattle.s3_world.proofs.Opens.{opened_stands, opened_overflows, opened_plays, first_phase}
 use Rattle.s3_world.proofs.driver.Driver.opened.Goals as goal
@@ -22,5 +22,5 @@ pub returns-clause-plays : goal.returns-clause-plays
 returns-clause-plays g c =
     opened_plays c.args.self.now c.args.node c.args.order c.args.block c.step.new.self c.in_ok-step.field-0 c.in_ok-step.ensures.steps c.requests-number.result c.in_ok-flow.flow c.in_ok-flow.phase c.requires.sized c.in_ok-flow.ensures.is c.requests-number.ensures
     _ c.in_ok-report.report _ c.in_ok-report.ensures.steps refl
-    (c.in_ok-push.ensures.ok ∙ ap (λ kind. c.args.self.now.requests ++ (record { node = c.args.node; kind = kind; flow = Some c.in_ok-flow.flow }) ∷ []) c.kind_of-kind.ensures)
+    (c.in_ok-push.ensures.ok ∙ ap (λ a. c.args.self.now.requests ++ a ∷ []) c.new.ensures ∙ ap (λ kind. c.args.self.now.requests ++ (record { node = c.args.node; kind = kind; flow = Some c.in_ok-flow.flow; found = None; blocks = None }) ∷ []) c.kind_of-kind.ensures)
     (c.in_ok-push-2.ensures.ok ∙ ap (λ r. c.args.self.now.history.0 ++ r ∷ []) c.in_ok-began.ensures.is) refl refl refl

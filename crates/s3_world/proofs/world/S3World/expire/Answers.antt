@@ -6,8 +6,8 @@ use Rattle.s3_world.proofs.world.S3World.expire.Goals as goal
 pub expire-requires : goal.expire-requires
 expire-requires c = record { stands = has_run c.args.self.now c.requires.stands }
 
-pub returns-clause-plays : goal.returns-clause-plays
-returns-clause-plays c = step_plays c.args.self.now c.expire.new.self (Expire c.args.request) c.expire.result c.expire.ensures.plays
+pub returns-clause-keeps : goal.returns-clause-keeps
+returns-clause-keeps c = step_plays c.args.self.now c.expire.new.self (Expire c.args.request) c.expire.result c.expire.ensures.plays
 
 pub returns-clause-causes : goal.returns-clause-causes
 returns-clause-causes c = same_causes c.expire.result (step_overflows c.args.self.now (Expire c.args.request)) c.expire.ensures.causes

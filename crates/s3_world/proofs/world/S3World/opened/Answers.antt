@@ -8,8 +8,8 @@ opened-requires-clause-stands c = has_run c.args.self.now c.requires.stands
 pub opened-requires-clause-sized : goal.opened-requires-clause-sized
 opened-requires-clause-sized c = has_bytes c.args.self.now c.requires.stands
 
-pub returns-clause-plays : goal.returns-clause-plays
-returns-clause-plays c = opened_plays c.args.self.now c.opened.new.self c.args.node c.args.order c.opened.result c.opened.ensures.plays
+pub returns-clause-keeps : goal.returns-clause-keeps
+returns-clause-keeps c = opened_plays c.args.self.now c.opened.new.self c.args.node c.args.order c.opened.result c.opened.ensures.plays
 
 pub returns-clause-causes : goal.returns-clause-causes
 returns-clause-causes c = same_causes c.opened.result (opened_overflows c.args.self.now c.args.node c.args.order) c.opened.ensures.causes

@@ -1,0 +1,6 @@
+pub mod Firsts
+pub mod Knowing
+pub mod Getting
+pub mod Acting
+pub mod Ending
+pub mod Middle

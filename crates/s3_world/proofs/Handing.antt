@@ -1,0 +1,206 @@
+-- Blocks are handed out, and ends are taken.
+use Rattle.std.proofs.Common.{◌≡◌, ℕ, suc, ◌+◌, Bool, true, false, Option, Some, None, List, [], ◌∷◌, ◌++◌, length, refl, sym, ap, ◌∙◌, subst, append_assoc, append-nil}
+use Rattle.std.specs.Prelude.{slice_get, slice_set, if◌then◌else◌}
+use Rattle.std.specs.List.{concat}
+use Rattle.crdt_rows.specs.declared.version.Version.{Version}
+use Rattle.crdt_rows.specs.declared.body.Meta.{Meta}
+use Rattle.history_model.specs.declared.record.Kind.{Kind}
+use Rattle.history_model.specs.declared.record.Kind.TheVariants.{Put, Get, Head, Delete, Copy, List as Keys}
+use Rattle.flow_model.specs.declared.flow.Aim.TheVariants as aim
+use Rattle.flow_model.specs.declared.flow.Stage.{Stage}
+use Rattle.flow_model.specs.declared.flow.Stage.TheVariants.{Drawing, Uploading, Completing, Looking, Opening, Gathering, Listing}
+use Rattle.flow_model.specs.declared.flow.Flow.{Flow}
+use Rattle.flow_model.specs.declared.flow.FlowEnd.{FlowEnd}
+use Rattle.cluster_machine.specs.World.{numbered}
+use Rattle.store_model.specs.Run.{State, Asked as Waiting}
+use Rattle.store_model.specs.Acts.{end_of, without_end}
+use Rattle.store_model.specs.Gets.{object_seen, is_get, is_there, stage_of, gathered_at, body_of, gathered, found_by}
+use Rattle.s3_world.specs.declared.asked.Asked.{Asked}
+use Rattle.s3_world.specs.Reads.{Handed, of, nothing_handed, found_in, blocks_in, IsLeft, IsHanded, HasNoBlock, IsWaitingGet, IsReadingAs, IsReading, IsOver, AreRead, HasAll}
+use Rattle.s3_world.proofs.Places.{numbered_place, numbered_set, numbered_other, all_set, all_get}
+use Rattle.s3_world.proofs.Overs.{by_number, others_without, ended_is_over, over_without, taken_is_gone}
+use Rattle.s3_world.proofs.Getting.{found_of, gathered_of, found_nothing}
+
+-- ---- the first block that waits is handed out
+
+waits_still : (stage : Stage) (blocks rest : List (List ℕ)) → IsWaitingGet (Some blocks) stage → IsWaitingGet (Some rest) stage
+waits_still (Looking name aim.Get) blocks rest h = absurd (cc)
+waits_still (Looking name aim.Head) blocks rest h = h
+waits_still (Looking name (aim.Copy other headers)) blocks rest h = h
+waits_still (Opening version meta aim.Get) blocks rest h = absurd (cc)
+waits_still (Opening version meta aim.Head) blocks rest h = h
+waits_still (Opening version meta (aim.Copy other headers)) blocks rest h = h
+waits_still (Gathering version meta aim.Get left body) blocks rest h = λ e. absurd (cc)
+waits_still (Gathering version meta aim.Head left body) blocks rest h = h
+waits_still (Gathering version meta (aim.Copy other headers) left body) blocks rest h = h
+waits_still (Drawing name wish) blocks rest h = h
+waits_still (Uploading name version content stored) blocks rest h = h
+waits_still (Completing version meta) blocks rest h = h
+waits_still (Listing bucket prefix rows) blocks rest h = h
+
+reads_still : (k : Kind) (flow : Option Flow) (blocks rest : List (List ℕ)) → IsReadingAs k (Some blocks) flow → IsReadingAs k (Some rest) flow
+reads_still Get None blocks rest h = tt
+reads_still Get (Some f) blocks rest h = waits_still f.stage blocks rest h
+reads_still Put flow blocks rest h = absurd (cc)
+reads_still Head flow blocks rest h = absurd (cc)
+reads_still Delete flow blocks rest h = absurd (cc)
+reads_still Copy flow blocks rest h = absurd (cc)
+reads_still Keys flow blocks rest h = absurd (cc)
+
+module _ (requests : List Asked) (s : State) (i q : ℕ) (place : i + 1 ≡ q) (a : Asked) (at : slice_get requests i ≡ Some a) (piece : List ℕ) (rest : List (List ℕ)) (waits : a.blocks ≡ Some (piece ∷ rest)) where
+  abbrev less : Asked
+  less = record a { blocks = Some rest }
+
+  abbrev requests_less : List Asked
+  requests_less = slice_set requests i less
+
+  less_here : numbered requests_less q ≡ Some less
+  less_here = numbered_set requests i q a less place at
+
+  less_there : (p : ℕ) → (q ≡ p → ⊥) → numbered requests_less p ≡ numbered requests p
+  less_there p other = numbered_other requests i q p less place other
+
+  one_less : (bytes all : List ℕ) → IsLeft (blocks_in (numbered requests q)) bytes all → IsLeft (blocks_in (numbered requests_less q)) (bytes ++ piece) all
+  one_less bytes all h =
+      let before : bytes ++ (piece ++ concat rest) ≡ all = (let z : IsLeft (Some (piece ∷ rest)) bytes all = subst (λ o. IsLeft o bytes all) (ap blocks_in (numbered_place requests i q place ∙ at) ∙ waits) h in z) in
+      subst (λ o. IsLeft (blocks_in o) (bytes ++ piece) all) (sym less_here) (append_assoc bytes piece (concat rest) ∙ before)
+
+  left_less : (p : ℕ) (bytes all : List ℕ) → (q ≡ p → ⊥) → IsLeft (blocks_in (numbered requests p)) bytes all → IsLeft (blocks_in (numbered requests_less p)) bytes all
+  left_less p bytes all other h = subst (λ o. IsLeft (blocks_in o) bytes all) (sym (less_there p other)) h
+
+  pub piece_handed : (bytes : List ℕ) → AreRead (of q bytes) requests s → AreRead (of q (bytes ++ piece)) requests_less s
+  piece_handed bytes reads = record {
+    found = λ p. by_number q p (found_in (numbered requests_less p) ≡ found_by s p)
+        (λ same. subst (λ p. found_in (numbered requests_less p) ≡ found_by s p) same (ap found_in less_here ∙ (sym (ap found_in (numbered_place requests i q place ∙ at)) ∙ reads.found q)))
+        (λ other. ap found_in (less_there p other) ∙ reads.found p);
+    left = λ p. by_number q p ((bytes : List ℕ) × IsHanded requests_less s (of p bytes))
+        (λ same. subst (λ p. (bytes : List ℕ) × IsHanded requests_less s (of p bytes)) same (let h = reads.left q in (h.0 ++ piece, one_less h.0 (gathered s q) h.1)))
+        (λ other. let h = reads.left p in (h.0, left_less p h.0 (gathered s p) other h.1));
+    handed = one_less bytes (gathered s q) reads.handed;
+    reading = all_set IsReading requests i less reads.reading (reads_still a.kind a.flow (piece ∷ rest) rest (subst (λ b. IsReadingAs a.kind b a.flow) waits (all_get IsReading requests i a reads.reading at)));
+    over = reads.over;
+    seen = reads.seen;
+    count = reads.count;
+  }
+
+-- ---- no block waits
+
+none_waits : (blocks : Option (List (List ℕ))) (bytes all : List ℕ) → HasNoBlock blocks → (blocks ≡ None → all ≡ []) → IsLeft blocks bytes all → bytes ≡ all
+none_waits None bytes all none nothing is_left = is_left ∙ sym (nothing refl)
+none_waits (Some blocks) bytes all none nothing is_left = sym (append-nil bytes) ∙ ap (λ bs. bytes ++ concat bs) (sym none) ∙ is_left
+
+-- before the first block no byte came
+nothing_in : (blocks : Option (List (List ℕ))) (stage : Stage) → IsWaitingGet blocks stage → blocks ≡ None → gathered_at (Some stage) ≡ []
+nothing_in blocks (Looking name aim) h e = refl
+nothing_in blocks (Opening version meta aim) h e = refl
+nothing_in blocks (Gathering version meta aim.Get left body) h e = h e
+nothing_in blocks (Gathering version meta aim.Head left body) h e = absurd h
+nothing_in blocks (Gathering version meta (aim.Copy other headers) left body) h e = absurd h
+nothing_in blocks (Drawing name wish) h e = refl
+nothing_in blocks (Uploading name version content stored) h e = refl
+nothing_in blocks (Completing version meta) h e = refl
+nothing_in blocks (Listing bucket prefix rows) h e = refl
+
+nothing_yet : (m : Waiting) (k : Kind) (blocks : Option (List (List ℕ))) (flow : Option Flow) → IsReadingAs k blocks flow → is_get (Some (record m { kind = k; flow = flow })) ≡ true → blocks ≡ None → gathered_of (Some (record m { kind = k; flow = flow })) None ≡ []
+nothing_yet m Get blocks None reading get e = refl
+nothing_yet m Get blocks (Some f) reading get e = nothing_in blocks f.stage reading e
+nothing_yet m Put blocks flow reading get e = absurd (cc)
+nothing_yet m Head blocks flow reading get e = absurd (cc)
+nothing_yet m Delete blocks flow reading get e = absurd (cc)
+nothing_yet m Copy blocks flow reading get e = absurd (cc)
+nothing_yet m Keys blocks flow reading get e = absurd (cc)
+
+pub all_handed : (requests : List Asked) (s : State) (i q : ℕ) → i + 1 ≡ q → (a : Asked) → slice_get requests i ≡ Some a → (m : Waiting) → slice_get s.asked i ≡ Some m → a.kind ≡ m.kind → a.flow ≡ m.flow → HasNoBlock a.blocks →
+    (bytes : List ℕ) → AreRead (of q bytes) requests s → HasAll s q bytes
+all_handed requests s i q place a at m model_at same_kind same_flow none bytes reads get ended =
+    let code : numbered requests q ≡ Some a = numbered_place requests i q place ∙ at in
+    let now : Waiting = record m { kind = a.kind; flow = a.flow } in
+    let model : numbered s.asked q ≡ Some now = numbered_place s.asked i q place ∙ model_at ∙ (λ j. Some (record m { kind = sym same_kind j; flow = sym same_flow j })) in
+    let came : gathered s q ≡ gathered_of (Some now) None = ap (λ o. gathered_of o (end_of s.ends q)) model ∙ ap (gathered_of (Some now)) ended in
+    let is_left : IsLeft a.blocks bytes (gathered s q) = subst (λ o. IsLeft (blocks_in o) bytes (gathered s q)) code reads.handed in
+    none_waits a.blocks bytes (gathered s q) none (λ e. came ∙ nothing_yet m a.kind a.blocks a.flow (all_get IsReading requests i a reads.reading at) (sym (ap is_get model) ∙ get) e) is_left
+
+pub nobody_all : (requests : List Asked) (s : State) (q : ℕ) → numbered s.asked q ≡ None → (bytes : List ℕ) → HasAll s q bytes
+nobody_all requests s q nobody bytes get ended = let no = sym (ap is_get nobody) ∙ get in absurd (cc)
+
+-- ---- an end is taken
+
+abbrev no_object : Option (Version × Meta)
+no_object = None
+
+either_way : (b : Bool) → (if b then no_object else no_object) ≡ no_object
+either_way true = refl
+either_way false = refl
+
+not_there : (m : Waiting) (end : Option FlowEnd) (seen : Option (Version × Meta)) → m.flow ≡ None → end ≡ None → found_of (Some m) end seen ≡ None
+not_there m end seen over none =
+    let is : is_there (stage_of (Some m)) end ≡ false = ap (λ fl. is_there (stage_of (Some (record m { flow = fl }))) end) over ∙ ap (is_there None) none in
+    ap (λ b. if is_get (Some m) then (if b then seen else None) else None) is ∙ either_way (is_get (Some m))
+
+module _ (requests : List Asked) (s : State) (i q : ℕ) (place : i + 1 ≡ q) (a : Asked) (at : slice_get requests i ≡ Some a) (m : Waiting) (model_at : slice_get s.asked i ≡ Some m) (same_flow : a.flow ≡ m.flow) (end : FlowEnd) (ended : end_of s.ends q ≡ Some end) where
+  abbrev done : Asked
+  done = record a { found = None; blocks = None }
+
+  abbrev requests_done : List Asked
+  requests_done = slice_set requests i done
+
+  abbrev without : State
+  without = record s { ends = without_end s.ends q }
+
+  model_here : numbered s.asked q ≡ Some m
+  model_here = numbered_place s.asked i q place ∙ model_at
+
+  done_here : numbered requests_done q ≡ Some done
+  done_here = numbered_set requests i q a done place at
+
+  done_there : (p : ℕ) → (q ≡ p → ⊥) → numbered requests_done p ≡ numbered requests p
+  done_there p other = numbered_other requests i q p done place other
+
+  module _ {given : Handed} (reads : AreRead given requests s) where
+    over_here : m.flow ≡ None
+    over_here = let h : IsOver (Some m) = subst IsOver model_here (ended_is_over s.asked s.ends q end reads.over ended) in h
+
+    -- the bytes of its object are what came of it
+    came_with : gathered s q ≡ body_of (Some end)
+    came_with = ap (λ o. gathered_of o (end_of s.ends q)) model_here ∙ (ap (λ fl. gathered_of (Some (record m { flow = fl })) (end_of s.ends q)) over_here ∙ ap body_of ended)
+
+    pub left_with_end : (bytes : List ℕ) → IsHanded requests s (of q bytes) → IsLeft a.blocks bytes (body_of (Some end))
+    left_with_end bytes h = subst (IsLeft a.blocks bytes) came_with (subst (λ o. IsLeft (blocks_in o) bytes (gathered s q)) (numbered_place requests i q place ∙ at) h)
+
+    pub some_left_with_end : (bytes : List ℕ) × IsLeft a.blocks bytes (body_of (Some end))
+    some_left_with_end = let h = reads.left q in (h.0, left_with_end h.0 h.1)
+
+    gathered_still : (p : ℕ) → (q ≡ p → ⊥) → gathered without p ≡ gathered s p
+    gathered_still p other = ap (gathered_of (numbered s.asked p)) (others_without s.ends q p other)
+
+    done_reading : (k : Kind) (flow : Option Flow) → flow ≡ None → IsReadingAs k None flow
+    done_reading Get flow e = subst (IsReadingAs Get None) (sym e) tt
+    done_reading Put flow e = refl
+    done_reading Head flow e = refl
+    done_reading Delete flow e = refl
+    done_reading Copy flow e = refl
+    done_reading Keys flow e = refl
+
+    pub end_taken : AreRead nothing_handed requests_done without
+    end_taken = record {
+      found = λ p. by_number q p (found_in (numbered requests_done p) ≡ found_by without p)
+          (λ same. (
+            let here : found_in (numbered requests_done q) ≡ found_by without q =
+            ap found_in done_here
+            ∙ sym (ap (λ o. found_of o (end_of (without_end s.ends q) q) (object_seen s.saw q)) model_here ∙ not_there m (end_of (without_end s.ends q) q) (object_seen s.saw q) over_here (taken_is_gone s.asked s.ends q reads.over))
+            in
+            subst (λ p. found_in (numbered requests_done p) ≡ found_by without p) same here
+          ))
+          (λ other. ap found_in (done_there p other) ∙ reads.found p ∙ ap (λ e. found_of (numbered s.asked p) e (object_seen s.saw p)) (sym (others_without s.ends q p other)));
+      left = λ p. by_number q p ((bytes : List ℕ) × IsHanded requests_done without (of p bytes))
+          (λ same. subst (λ p. (bytes : List ℕ) × IsHanded requests_done without (of p bytes)) same ([], subst (λ o. IsLeft (blocks_in o) [] (gathered without q)) (sym done_here) refl))
+          (λ other. (
+            let h = reads.left p in
+            (h.0, subst (λ o. IsLeft (blocks_in o) h.0 (gathered without p)) (sym (done_there p other)) (subst (IsLeft (blocks_in (numbered requests p)) h.0) (sym (gathered_still p other)) h.1))
+          ));
+      handed = refl;
+      reading = all_set IsReading requests i done reads.reading (done_reading a.kind a.flow (same_flow ∙ over_here));
+      over = over_without s.asked s.ends q reads.over;
+      seen = reads.seen;
+      count = reads.count;
+    }
