@@ -1,8 +1,9 @@
 //! Collections of delete markers, with ample memory: which nodes are waited for, and where answers lead.
 use crdt_core::Bytes;
+use gc_model::GcEnd;
 use std::alloc::Global;
 use std::test::Fail;
-use table_gc::{Collections, GcEnd};
+use table_gc::Collections;
 
 // A list with one collection by node 1, whose newest layout version is 5.
 fn with_one(alloc: Global) -> Result<Collections, Fail> {

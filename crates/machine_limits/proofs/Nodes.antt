@@ -18,7 +18,7 @@ use Rattle.quorum_model.specs.Window.{Window}
 use Rattle.wire_messages.specs.Size.{plus, block_length, stored_length, size}
 use Rattle.walk_model.specs.Walking.{is_open}
 use Rattle.wire_messages.specs.declared.message.Message.{Message}
-use Rattle.wire_messages.specs.declared.message.Message.TheVariants.{Get, Row, Range, Rows, Store, Stored, Behind, NotHere, BlockGet, Block, NoBlock, Walk as AsksValue, Same as HasSame, Differ}
+use Rattle.wire_messages.specs.declared.message.Message.TheVariants.{Get, Row, Range, Rows, Store, Stored, Behind, NotHere, BlockGet, Block, NoBlock, Walk as AsksValue, Same as HasSame, Differ, Tomb, Tombed, Forget}
 use Rattle.wire_messages.specs.declared.message.Tag.{Tag}
 use Rattle.wire_messages.specs.declared.message.Tag.TheVariants.{Call as ForCall, Round as ForRound, Item as ForItem}
 use Rattle.wire_messages.specs.declared.phase.Phase.{Phase}
@@ -68,11 +68,15 @@ module _ {R : Type 0} (join : R → R → R) (s : Words R) (weight : R → ℕ) 
     pub rounds : x.rounds ≤ t
     pub phases : AllByRecursion (λ (c : Call R). c.phases ≤ t) x.calls
     pub blocks : AllByRecursion (λ (b : machine.Block). IsShort b.bytes) x.blocks
+    pub uncollected : x.gc.begun ≡ 0  -- small steps are no collections
     pub round : RoundFits x.round
 
--- a message has short blocks beside the rows that it asks to store
+-- a message has short blocks beside the rows that it asks to store, and is about no collection
 abbrev pub MessageBeside : {R : Type 0} → Message R → Type 0
 MessageBeside (Store tag named p rows) = AllByRecursion (λ (b : List ℕ × Option (List ℕ)). IsShortBlock b.1) rows
+MessageBeside (Tomb number round row) = ⊥
+MessageBeside (Tombed number round named) = ⊥
+MessageBeside (Forget table key hash) = ⊥
 MessageBeside _ = ⊤
 
 abbrev pub PacketBeside : {R : Type 0} → Packet R Layout → Type 0
@@ -99,6 +103,7 @@ module _ {R : Type 0} {join : R → R → R} {s : Words R} {weight : R → ℕ} 
         rounds = omega arith;
         phases = all_weaker (λ (c : Call R). c.phases ≤ t) (λ (c : Call R). c.phases ≤ u) (λ c low. omega arith) x.calls f.phases;
         blocks = f.blocks;
+        uncollected = f.uncollected;
         round = f.round;
       }
 
@@ -211,6 +216,7 @@ module _ {R : Type 0} {join : R → R → R} {s : Words R} {P : R → Type 0} {w
           rounds = f.rounds;
           phases = f.phases;
           blocks = blocks_short x.blocks (block_of join s after) given f.blocks short;
+          uncollected = f.uncollected;
           round = f.round;
         }
 
@@ -251,14 +257,14 @@ module _ {R : Type 0} {join : R → R → R} {s : Words R} {P : R → Type 0} {w
         let low = dropped_counts bounded (λ p. is_given layouts view n p) x.accepted i.accepted in
         let was : load join s weight x.accepted + x.queued ≤ k = f.counted in
         elim (leb (oldest layouts.reading view) (oldest layouts.reading x.view)) as (λ b. NodeFits join s weight t k (cond b new (drops join s layouts n now new))) [
-          | true ↦ record { counted = f.counted; listed = f.listed; small = f.small; rounds = f.rounds; phases = f.phases; blocks = f.blocks; round = closes (oldest layouts.reading view) x.round f.round }
-          | false ↦ record { counted = omega arith; listed = f.listed; small = f.small; rounds = f.rounds; phases = f.phases; blocks = f.blocks; round = closes (oldest layouts.reading view) x.round f.round }
+          | true ↦ record { counted = f.counted; listed = f.listed; small = f.small; rounds = f.rounds; phases = f.phases; blocks = f.blocks; uncollected = f.uncollected; round = closes (oldest layouts.reading view) x.round f.round }
+          | false ↦ record { counted = omega arith; listed = f.listed; small = f.small; rounds = f.rounds; phases = f.phases; blocks = f.blocks; uncollected = f.uncollected; round = closes (oldest layouts.reading view) x.round f.round }
         ]
 
     goes_fits : (k : ℕ) (u : ℕ) (x : Machine R) (round : Round) → ArePartsOf 0 round.parts → NodeFits join s weight u k x → NodeFits join s weight u k (goes_on join s layouts n x round)
     goes_fits k u x round parts f = elim (is_complete round) as (λ b. NodeFits join s weight u k (cond b (synced join s layouts n x round) (record x { round = Some round }))) [
-      | true ↦ record { counted = f.counted; listed = f.listed; small = f.small; rounds = f.rounds; phases = f.phases; blocks = f.blocks; round = tt }
-      | false ↦ record { counted = f.counted; listed = f.listed; small = f.small; rounds = f.rounds; phases = f.phases; blocks = f.blocks; round = parts }
+      | true ↦ record { counted = f.counted; listed = f.listed; small = f.small; rounds = f.rounds; phases = f.phases; blocks = f.blocks; uncollected = f.uncollected; round = tt }
+      | false ↦ record { counted = f.counted; listed = f.listed; small = f.small; rounds = f.rounds; phases = f.phases; blocks = f.blocks; uncollected = f.uncollected; round = parts }
     ]
 
     -- ---- what a node does
@@ -300,6 +306,7 @@ module _ {R : Type 0} {join : R → R → R} {s : Words R} {P : R → Type 0} {w
         rounds = now_fits.rounds;
         phases = phases_with (suc t) (record c { present = p }) x.calls (omega arith) now_fits.phases;
         blocks = f.blocks;
+        uncollected = f.uncollected;
         round = f.round;
       }
 
@@ -432,9 +439,9 @@ module _ {R : Type 0} {join : R → R → R} {s : Words R} {P : R → Type 0} {w
       late_fits : (from number p table : ℕ) (prefix : List ℕ) (answer : Option (List (ℕ × Hash32))) → Fits (late_came join s layouts x from number p table prefix answer)
       late_fits from number p table prefix answer =
           mending_fits (with_lasting join s layouts x) _
-          (λ mending. record { counted = now_fits.counted; listed = now_fits.listed; small = f.small; rounds = now_fits.rounds; phases = now_fits.phases; blocks = f.blocks; round = f.round })
+          (λ mending. record { counted = now_fits.counted; listed = now_fits.listed; small = f.small; rounds = now_fits.rounds; phases = now_fits.phases; blocks = f.blocks; uncollected = f.uncollected; round = f.round })
           (mending_fits (with_mending join s layouts x) (quiet x)
-          (λ mending. record { counted = now_fits.counted; listed = now_fits.listed; small = f.small; rounds = now_fits.rounds; phases = now_fits.phases; blocks = f.blocks; round = f.round })
+          (λ mending. record { counted = now_fits.counted; listed = now_fits.listed; small = f.small; rounds = now_fits.rounds; phases = now_fits.phases; blocks = f.blocks; uncollected = f.uncollected; round = f.round })
           rests from number p table prefix answer x.mending)
           from number p table prefix answer x.lasting
 
@@ -446,7 +453,7 @@ module _ {R : Type 0} {join : R → R → R} {s : Words R} {P : R → Type 0} {w
           walked (cond (found_same later) (goes_on join s layouts n x there) (record x { round = Some now })) round.number w table prefix answer
           (elim (found_same later) as (λ b. NodeFits join s weight (suc t) m (cond b (goes_on join s layouts n x there) (record x { round = Some now }))) [
             | true ↦ goes_fits m (suc t) x there h now_fits
-            | false ↦ record { counted = now_fits.counted; listed = now_fits.listed; small = f.small; rounds = now_fits.rounds; phases = now_fits.phases; blocks = f.blocks; round = h }
+            | false ↦ record { counted = now_fits.counted; listed = now_fits.listed; small = f.small; rounds = now_fits.rounds; phases = now_fits.phases; blocks = f.blocks; uncollected = f.uncollected; round = h }
           ])
 
       answer_fits : (from number p table : ℕ) (prefix : List ℕ) (answer : Option (List (ℕ × Hash32))) (o : Option Round) → RoundFits o → Fits (answer_came join s layouts n x from number p table prefix answer o)
@@ -480,7 +487,7 @@ module _ {R : Type 0} {join : R → R → R} {s : Words R} {P : R → Type 0} {w
           let fewer = is.1 in
           let listed : length x.items ≤ x.queued = f.listed in
           quiets (record x { items = item_came join s layouts x.view from number x.items })
-          (record { counted = now_fits.counted; listed = omega arith; small = is.0; rounds = now_fits.rounds; phases = now_fits.phases; blocks = f.blocks; round = f.round })
+          (record { counted = now_fits.counted; listed = omega arith; small = is.0; rounds = now_fits.rounds; phases = now_fits.phases; blocks = f.blocks; uncollected = f.uncollected; round = f.round })
 
       hears_fits : (now from : ℕ) (msg : Message R) → IsMessage join s P Short g from n msg → MessageBeside msg → ((b : ℕ) → size s msg ≡ Some b → k + b ≤ m) → Fits (hears join s layouts n now x from msg)
       hears_fits now from (Get request phase at table key) is beside room = here from request phase at _ (gives_row_fits from request phase table key (row_at join s x.accepted table key) refl (row_found (rules_of bounded) x.accepted table key i.accepted))
@@ -500,6 +507,9 @@ module _ {R : Type 0} {join : R → R → R} {s : Words R} {P : R → Type 0} {w
       hears_fits now from (AsksValue tag named p table prefix hash) is beside room = let low = room (64 + (length prefix + 32)) refl in compares_fits from tag named p table prefix hash (omega (arith, low))
       hears_fits now from (HasSame tag table prefix) is beside room = walks_fit from tag table prefix None
       hears_fits now from (Differ tag table prefix pairs) is beside room = walks_fit from tag table prefix (Some pairs)
+      hears_fits now from (Tomb number round row) is beside room = absurd beside
+      hears_fits now from (Tombed number round named) is beside room = absurd beside
+      hears_fits now from (Forget table key hash) is beside room = absurd beside
 
       -- a packet comes
       pub receives_fits : (now from : ℕ) (p : Packet R Layout) → IsPacket join s P Short g from n p → PacketBeside p → ((b : ℕ) → packet_size s p ≡ Some b → k + b ≤ m) → Fits (receives join s layouts n now x from p)
@@ -529,7 +539,7 @@ module _ {R : Type 0} {join : R → R → R} {s : Words R} {P : R → Type 0} {w
           let round : Round = record { number = suc x.rounds; target = suc at; parts = parts; confirmed = map (λ (part : Part). record { partition = part.partition; node = n }) parts; walks = walks_of join s x (other_nodes join s layouts n) parts } in
           let are : ArePartsOf 0 parts = parts_are join s n x (layout_at layouts.reading x.view at) (layout_at layouts.reading x.view (suc at)) (layout_fits x.view at views) (layout_fits x.view (suc at) views) in
           let rounds = f.rounds in
-          let more : NodeFits join s weight (suc t) m (record x { rounds = suc x.rounds; lasting = None }) = record { counted = now_fits.counted; listed = f.listed; small = f.small; rounds = omega arith; phases = now_fits.phases; blocks = f.blocks; round = f.round } in
+          let more : NodeFits join s weight (suc t) m (record x { rounds = suc x.rounds; lasting = None }) = record { counted = now_fits.counted; listed = f.listed; small = f.small; rounds = omega arith; phases = now_fits.phases; blocks = f.blocks; uncollected = f.uncollected; round = f.round } in
           parts_did (goes_on join s layouts n (record x { rounds = suc x.rounds; lasting = None }) round) (suc x.rounds) (other_nodes join s layouts n) parts (goes_fits m (suc t) (record x { rounds = suc x.rounds; lasting = None }) round are more) are (λ part low. let a = filter_fewer (λ m. not (m == n)) part.set in omega arith)
 
       syncs_fit : (o : Option Round) → RoundFits o → Fits (syncs join s layouts n x o).did
@@ -543,7 +553,7 @@ module _ {R : Type 0} {join : R → R → R} {s : Words R} {P : R → Type 0} {w
           by_test false how other = rests
 
       viewed : (view : View Layout) → Fits (quiet (record x { view = view }))
-      viewed view = quiets (record x { view = view }) (record { counted = now_fits.counted; listed = f.listed; small = f.small; rounds = now_fits.rounds; phases = now_fits.phases; blocks = f.blocks; round = f.round })
+      viewed view = quiets (record x { view = view }) (record { counted = now_fits.counted; listed = f.listed; small = f.small; rounds = now_fits.rounds; phases = now_fits.phases; blocks = f.blocks; uncollected = f.uncollected; round = f.round })
 
       -- a node does something by itself
       pub acts_fit : (now : ℕ) (action : Action) → Fits (acts join s layouts n now x action).did
@@ -555,7 +565,7 @@ module _ {R : Type 0} {join : R → R → R} {s : Words R} {P : R → Type 0} {w
           let listed : length x.items ≤ x.queued = f.listed in
           let was : load join s weight x.accepted + x.queued ≤ k = f.counted in
           record {
-            node = record { counted = now_fits.counted; listed = f.listed; small = f.small; rounds = now_fits.rounds; phases = now_fits.phases; blocks = all_filter (λ (b : machine.Block). IsShort b.bytes) _ x.blocks f.blocks; round = f.round };
+            node = record { counted = now_fits.counted; listed = f.listed; small = f.small; rounds = now_fits.rounds; phases = now_fits.phases; blocks = all_filter (λ (b : machine.Block). IsShort b.bytes) _ x.blocks f.blocks; uncollected = f.uncollected; round = f.round };
             spelled = items_spelled bounded x.items i.items;
             cost = costs_more _ (38400 * length x.items) mail_limit (items_cost bounded x.view x.items views i.items f.small) (omega arith);
             beside = items_beside x.view x.items;
@@ -565,7 +575,7 @@ module _ {R : Type 0} {join : R → R → R} {s : Words R} {P : R → Type 0} {w
           let h = layout_fits x.view (newest layouts.reading x.view) views in
           let rounds = f.rounds in
           parts_did (record x { rounds = suc x.rounds; mending = Some (record { number = suc x.rounds; walks = walks_of join s x (other_nodes join s layouts n) (parts_of join s layouts n x l l) }) }) (suc x.rounds) (other_nodes join s layouts n) (parts_of join s layouts n x l l)
-          (record { counted = now_fits.counted; listed = f.listed; small = f.small; rounds = omega arith; phases = now_fits.phases; blocks = f.blocks; round = f.round }) (parts_are join s n x l l h h) (λ part low. let a = filter_fewer (λ m. not (m == n)) part.set in omega arith)
+          (record { counted = now_fits.counted; listed = f.listed; small = f.small; rounds = omega arith; phases = now_fits.phases; blocks = f.blocks; uncollected = f.uncollected; round = f.round }) (parts_are join s n x l l h h) (λ part low. let a = filter_fewer (λ m. not (m == n)) part.set in omega arith)
 
       -- ---- phases
 
@@ -605,6 +615,7 @@ module _ {R : Type 0} {join : R → R → R} {s : Words R} {P : R → Type 0} {w
         rounds = now_fits.rounds;
         phases = phases_with (suc t) (record c { phases = suc c.phases; present = p }) x.calls (omega arith) now_fits.phases;
         blocks = f.blocks;
+        uncollected = f.uncollected;
         round = f.round;
       }
 

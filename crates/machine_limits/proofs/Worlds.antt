@@ -17,7 +17,7 @@ use Rattle.wire_messages.specs.Size.{plus, carried}
 use Rattle.wire_messages.specs.declared.phase.Phase.{Phase}
 use Rattle.cluster_machine.specs.declared.applied.Applied.{Applied}
 use Rattle.cluster_machine.specs.declared.step.Step.{Step}
-use Rattle.cluster_machine.specs.declared.step.Step.TheVariants.{Trio, Role as Stage, Redundancy as Spread, Apply, Tick, Skew, Deliver, Lose, Expire, Restart, Gossip, Ack, Sync as Syncs, SyncAck, Clean, Work, Repair, Open, Phase as Begin, Close}
+use Rattle.cluster_machine.specs.declared.step.Step.TheVariants.{Trio, Role as Stage, Redundancy as Spread, Apply, Tick, Skew, Deliver, Lose, Expire, Restart, Gossip, Ack, Sync as Syncs, SyncAck, Clean, Work, Repair, Collect, Open, Phase as Begin, Close}
 use Rattle.cluster_machine.specs.declared.step.Action.{Action}
 use Rattle.cluster_machine.specs.declared.step.Action.TheVariants.{Ack as RaiseAck, Sync as GoOn, SyncAck as RaiseSyncAck, Clean as CleanUp, Work as WorkOff, Repair as Mend}
 use Rattle.cluster_machine.specs.declared.step.Refusal.{Refusal}
@@ -237,17 +237,17 @@ module _ {R : Type 0} {join : R → R → R} {s : Words R} {P : R → Type 0} {w
     closed_node : (n q : ℕ) → NodeFits join s weight (suc t) m (closed q (w.nodes n))
     closed_node n q =
         let h = still_fits n in
-        record { counted = h.counted; listed = h.listed; small = h.small; rounds = h.rounds; phases = all_filter (λ (c : Call R). c.phases ≤ suc t) (λ (c : Call R). cond (c.request == q) false true) (w.nodes n).calls h.phases; blocks = h.blocks; round = h.round }
+        record { counted = h.counted; listed = h.listed; small = h.small; rounds = h.rounds; phases = all_filter (λ (c : Call R). c.phases ≤ suc t) (λ (c : Call R). cond (c.request == q) false true) (w.nodes n).calls h.phases; blocks = h.blocks; uncollected = h.uncollected; round = h.round }
 
     appended_node : (n : ℕ) (l : Layout) → NodeFits join s weight (suc t) m (appends layouts (w.nodes n) l)
-    appended_node n l = let h = still_fits n in record { counted = h.counted; listed = h.listed; small = h.small; rounds = h.rounds; phases = h.phases; blocks = h.blocks; round = h.round }
+    appended_node n l = let h = still_fits n in record { counted = h.counted; listed = h.listed; small = h.small; rounds = h.rounds; phases = h.phases; blocks = h.blocks; uncollected = h.uncollected; round = h.round }
 
     restarted_node : (n : ℕ) → NodeFits join s weight (suc t) m (restarts (w.nodes n))
     restarted_node n =
         let h = still_fits n in
         let listed : length (w.nodes n).items ≤ (w.nodes n).queued = h.listed in
         let same = unconfirmed_length (w.nodes n).items in
-        record { counted = h.counted; listed = omega arith; small = unconfirmed_all (w.nodes n).items h.small; rounds = h.rounds; phases = tt; blocks = h.blocks; round = tt }
+        record { counted = h.counted; listed = omega arith; small = unconfirmed_all (w.nodes n).items h.small; rounds = h.rounds; phases = tt; blocks = h.blocks; uncollected = h.uncollected; round = tt }
       where
         unconfirmed_all : (items : List (Item R)) → AllByRecursion (λ (item : Item R). weight item.row ≤ 64) items → AllByRecursion (λ (item : Item R). weight item.row ≤ 64) (map unconfirmed items)
         unconfirmed_all [] a = tt
@@ -258,7 +258,7 @@ module _ {R : Type 0} {join : R → R → R} {s : Words R} {P : R → Type 0} {w
         unconfirmed_length (item ∷ items) = ap suc (unconfirmed_length items)
 
     opened_node : (n q start : ℕ) → NodeFits join s weight (suc t) m (opened q start (w.nodes n))
-    opened_node n q start = let h = still_fits n in record { counted = h.counted; listed = h.listed; small = h.small; rounds = h.rounds; phases = (omega arith, h.phases); blocks = h.blocks; round = h.round }
+    opened_node n q start = let h = still_fits n in record { counted = h.counted; listed = h.listed; small = h.small; rounds = h.rounds; phases = (omega arith, h.phases); blocks = h.blocks; uncollected = h.uncollected; round = h.round }
 
     trio_good : w.applied < 1 → StepGood (trio_applies join s layouts trio stage_trio w)
     trio_good low =
@@ -340,6 +340,7 @@ module _ {R : Type 0} {join : R → R → R} {s : Words R} {P : R → Type 0} {w
     step_good (Clean n) choice h room = acting_good n (has_none layouts (w.nodes n).view) CleanUp
     step_good (Work n) choice h room = acting_good n (has_none layouts (w.nodes n).view) WorkOff
     step_good (Repair n) choice h room = acting_good n (not (is_member layouts (w.nodes n).view n)) Mend
+    step_good (Collect n) choice h room = absurd h
     step_good (Open n) choice h room = opening_good n
     step_good (Begin q phase) choice h room = beginning_good q phase (numbered w.requests q) h
     step_good (Close q) choice h room = closing_good q (numbered w.requests q)
@@ -401,6 +402,7 @@ module _ {R : Type 0} {join : R → R → R} {s : Words R} {P : R → Type 0} {w
               spelled = All-from_recursion (λ (item : Item R). IsTrue (is_spelled s item.row)) (w.nodes n).items (all_weaker (λ (item : Item R). P item.row) (λ (item : Item R). IsTrue (is_spelled s item.row)) (λ item h. spelled_so bounded item.row h) (w.nodes n).items (fits.rows.nodes n).items);
               queued = omega arith;
               rounds = omega arith;
+              collections = (let none = x.uncollected in omega arith);
               phases = all_weaker (λ (c : Call R). c.phases ≤ t) (λ (c : Call R). c.phases < 2 ^ 32) (λ c h. omega arith) (w.nodes n).calls x.phases;
             },
       )

@@ -6,8 +6,8 @@ use Rattle.std.specs.Option.{is_some}
 use Rattle.std.proofs.lemmas.Option.{same_Some}
 use Rattle.numbered_list.specs.Numbers.{Rises}
 use Rattle.numbered_list.proofs.Numbering.{NoneHas, above_item, apart_above}
-use Rattle.table_gc.specs.Collecting.{number_of, told, after_answer, has_confirmed}
-use Rattle.table_gc.specs.declared.collection.Collection.{Collection}
+use Rattle.gc_model.specs.Collecting.{number_of, told, after_answer, has_confirmed}
+use Rattle.gc_model.specs.declared.collection.Collection.{Collection}
 
 -- a fact holds at an error too
 pub on_err : {T E P : Type 0} (r : Result T E) → P → OnErr r P

@@ -1,11 +1,12 @@
 //! The open collections.
 ghost use Rattle.std.specs.Prelude.{◌≡◌, ◌+◌, [], IsTrue, IfOk, IfErr, OnOk, OnErr, option_copied};
 ghost use Rattle.crdt_core.specs.Outcomes.{OnlyWant};
-ghost use Rattle.table_gc.specs.Collecting.{IsNumbered, none_open, begun_with, keyed, numbered, missing_in, is_ready, in_second, changed, closed, answer_end, answered};
+ghost use Rattle.gc_model.specs.Collecting.{IsNumbered, none_open, begun_with, keyed, numbered, missing_in, is_ready, in_second, changed, closed, answer_end, answered};
 ghost use Rattle.numbered_list.specs.Numbers.{RefusesNumber};
 
-use crate::collection::{Collection, GcEnd};
+use crate::collection::{begin_second, end_of, is_closed, is_ready, missing, tell};
 use crdt_core::{Bytes, List, Memory};
+use gc_model::{Collection, GcEnd};
 use numbered_list::place_of;
 use std::alloc::Global;
 use std::marker::Model;
@@ -18,7 +19,7 @@ pub struct Collections {
 }
 
 impl Model for Collections {
-    ghost use Rattle.table_gc.specs.Collecting.{Open, IsNumbered};
+    ghost use Rattle.gc_model.specs.Collecting.{Open, IsNumbered};
 
     ghost Value = { Open };
 
@@ -93,7 +94,7 @@ impl Collections {
     {
         let alloc = self.list.allocator();
         match place_of(self.list.as_slice(), number) {
-            Some(i) => self.list.at(i).missing(alloc),
+            Some(i) => missing(self.list.at(i), alloc),
             None => Ok(Vec::new(alloc)),
         }
     }
@@ -104,7 +105,7 @@ impl Collections {
         ensures { result ≡ is_ready (numbered number self.now) }
     {
         match place_of(self.list.as_slice(), number) {
-            Some(i) => self.list.at(i).is_ready(),
+            Some(i) => is_ready(self.list.at(i)),
             None => false,
         }
     }
@@ -117,7 +118,7 @@ impl Collections {
         ensures want { OnlyWant result }
     {
         match place_of(self.list.as_slice(), number) {
-            Some(i) => self.list.at_mut(i).second(),
+            Some(i) => begin_second(self.list.at_mut(i)),
             None => Ok(()),
         }
     }
@@ -139,12 +140,12 @@ impl Collections {
     {
         match place_of(self.list.as_slice(), number) {
             Some(i) => {
-                let end = self.list.at(i).end_of(round, node, newest);
-                if end.is_closed() {
+                let end = end_of(self.list.at(i), round, node, newest);
+                if is_closed(end) {
                     let _ = self.list.remove(i);
                     return Ok(end);
                 }
-                self.list.at_mut(i).told(round, node, newest, now)?;
+                tell(self.list.at_mut(i), round, node, newest, now)?;
                 Ok(end)
             }
             None => Ok(GcEnd::Wait),

@@ -1,6 +1,6 @@
 use Rattle.std.proofs.Common.{refl}
 use Rattle.numbered_list.proofs.Numbering.{numbered_more}
-use Rattle.table_gc.specs.Collecting.{number_of}
+use Rattle.gc_model.specs.Collecting.{number_of}
 use Rattle.table_gc.proofs.collections.Collections.begin.Goals as goal
 
 pub invariant_of-self-2 : goal.invariant_of-self-2

@@ -1,6 +1,6 @@
 use Rattle.std.proofs.Common.{◌≡◌, List, ap, sym, ◌∙◌}
-use Rattle.table_gc.specs.Collecting.{Open, number_of}
-use Rattle.table_gc.specs.declared.collection.Collection.{Collection}
+use Rattle.gc_model.specs.Collecting.{Open, number_of}
+use Rattle.gc_model.specs.declared.collection.Collection.{Collection}
 use Rattle.numbered_list.proofs.Numbering.{one_left_out, none_left_out, numbered_left}
 use Rattle.table_gc.proofs.collections.Collections.close.Goals as goal
 

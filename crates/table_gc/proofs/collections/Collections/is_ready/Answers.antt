@@ -1,5 +1,5 @@
 use Rattle.std.proofs.Common.{◌≡◌, Some, None, ap, sym, ◌∙◌}
-use Rattle.table_gc.specs.Collecting.{numbered, is_ready}
+use Rattle.gc_model.specs.Collecting.{numbered, is_ready}
 use Rattle.table_gc.proofs.Numbering.{none_found, one_found}
 use Rattle.table_gc.proofs.collections.Collections.is_ready.Goals as goal
 

@@ -1,5 +1,5 @@
 use Rattle.std.proofs.Common.{◌≡◌, Some, None, IfOk, sym, ap, subst, ◌∙◌}
-use Rattle.table_gc.specs.Collecting.{numbered, missing_at}
+use Rattle.gc_model.specs.Collecting.{numbered, missing_at}
 use Rattle.table_gc.proofs.Numbering.{none_found, one_found}
 use Rattle.table_gc.proofs.collections.Collections.missing.Goals as goal
 

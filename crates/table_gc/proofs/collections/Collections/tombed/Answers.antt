@@ -1,8 +1,8 @@
 use Rattle.std.proofs.Common.{◌≡◌, List, Some, None, ap, sym, ◌∙◌}
 use Rattle.std.specs.Prelude.{slice_set}
-use Rattle.table_gc.specs.Rounds.{is_closed}
-use Rattle.table_gc.specs.Collecting.{Open, numbered, changed, closed, told, number_of}
-use Rattle.table_gc.specs.declared.collection.Collection.{Collection}
+use Rattle.gc_model.specs.Rounds.{is_closed}
+use Rattle.gc_model.specs.Collecting.{Open, numbered, changed, closed, told, number_of}
+use Rattle.gc_model.specs.declared.collection.Collection.{Collection}
 use Rattle.table_gc.proofs.Answering.{end_found, end_nowhere, answered_closed, answered_open}
 use Rattle.numbered_list.proofs.Numbering.{none_changed, one_changed, one_left_out, numbered_left, set_numbered, set_same}
 use Rattle.table_gc.proofs.Numbering.{none_found, one_found, told_number, on_err}
@@ -40,33 +40,33 @@ returns-then-is_closed-clause-ok c =
 
 -- ---- an answer that doesn't
 
-pub invariant_of-self-in_err-told-in-Some : goal.invariant_of-self-in_err-told-in-Some
-invariant_of-self-in_err-told-in-Some c =
-    set_numbered number_of c.self.inside.begun c.self.inside.list c.in-Some.i c.at_mut.result.now c.told.new.self c.at_mut.ensures.value (ap (λ k. k.number) c.in_err-told-in-Some.ensures.err) c.self.invariant
+pub invariant_of-self-in_err-tell-in-Some : goal.invariant_of-self-in_err-tell-in-Some
+invariant_of-self-in_err-tell-in-Some c =
+    set_numbered number_of c.self.inside.begun c.self.inside.list c.in-Some.i c.at_mut.result.now c.tell.new.collection c.at_mut.ensures.value (ap (λ k. k.number) c.in_err-tell-in-Some.ensures.err) c.self.invariant
 
-pub returns-in_err-told-in-Some-clause-err : goal.returns-in_err-told-in-Some-clause-err
-returns-in_err-told-in-Some-clause-err c =
+pub returns-in_err-tell-in-Some-clause-err : goal.returns-in_err-tell-in-Some-clause-err
+returns-in_err-tell-in-Some-clause-err c =
     let whole : List Collection → Open = λ cs. record { begun = c.self.inside.begun; collections = cs } in
-    let here : whole (slice_set c.self.inside.list c.in-Some.i c.told.new.self) ≡ c.args.self.now = rw (← c.self.view_is)
-    (ap whole (set_same c.self.inside.list c.in-Some.i c.at_mut.result.now c.told.new.self c.at_mut.ensures.value c.in_err-told-in-Some.ensures.err)) in
+    let here : whole (slice_set c.self.inside.list c.in-Some.i c.tell.new.collection) ≡ c.args.self.now = rw (← c.self.view_is)
+    (ap whole (set_same c.self.inside.list c.in-Some.i c.at_mut.result.now c.tell.new.collection c.at_mut.ensures.value c.in_err-tell-in-Some.ensures.err)) in
     on_err c.from_residual.result here
 
 pub invariant_of-self-in-Some : goal.invariant_of-self-in-Some
 invariant_of-self-in-Some c =
     let w = c.at_mut.result.now in
-    set_numbered number_of c.self.inside.begun c.self.inside.list c.in-Some.i w c.told.new.self c.at_mut.ensures.value
-    (ap (λ k. k.number) c.in_ok-told-in-Some.ensures.ok ∙ told_number c.args.round c.args.node c.args.newest c.args.now w) c.self.invariant
+    set_numbered number_of c.self.inside.begun c.self.inside.list c.in-Some.i w c.tell.new.collection c.at_mut.ensures.value
+    (ap (λ k. k.number) c.in_ok-tell-in-Some.ensures.ok ∙ told_number c.args.round c.args.node c.args.newest c.args.now w) c.self.invariant
 
-pub returns-in_ok-told-in-Some-clause-end : goal.returns-in_ok-told-in-Some-clause-end
-returns-in_ok-told-in-Some-clause-end c =
+pub returns-in_ok-tell-in-Some-clause-end : goal.returns-in_ok-tell-in-Some-clause-end
+returns-in_ok-tell-in-Some-clause-end c =
     let v = c.at.result.now in
     let is : v.number ≡ c.args.number = rw (c.as_slice.ensures, c.at.ensures) at c.in-Some.ensures.found in
     let found : numbered c.args.number c.args.self.now ≡ Some v = rw (← c.self.view_is) (one_found c.args.number 0 c.self.inside.list c.in-Some.i v c.self.invariant.rises c.at.ensures is) in
     let leads = c.end_of-end.ensures ∙ sym (end_found c.args.number c.args.round c.args.node c.args.newest c.args.self.now v found) in
     leads
 
-pub returns-in_ok-told-in-Some-clause-ok : goal.returns-in_ok-told-in-Some-clause-ok
-returns-in_ok-told-in-Some-clause-ok c =
+pub returns-in_ok-tell-in-Some-clause-ok : goal.returns-in_ok-tell-in-Some-clause-ok
+returns-in_ok-tell-in-Some-clause-ok c =
     let whole : List Collection → Open = λ cs. record { begun = c.self.inside.begun; collections = cs } in
     let v = c.at.result.now in
     let is : v.number ≡ c.args.number = rw (c.as_slice.ensures, c.at.ensures) at c.in-Some.ensures.found in
@@ -75,8 +75,8 @@ returns-in_ok-told-in-Some-clause-ok c =
     let w = c.at_mut.result.now in
     let is_w : w.number ≡ c.args.number = rw (c.as_slice.ensures, c.at_mut.ensures.value) at c.in-Some.ensures.found in
     let f = told c.args.round c.args.node c.args.newest c.args.now in
-    let here : whole (slice_set c.self.inside.list c.in-Some.i c.told.new.self) ≡ changed f c.args.number c.args.self.now = rw (← c.self.view_is)
-    (ap whole (one_changed number_of f c.args.number 0 c.self.inside.list c.in-Some.i w c.told.new.self c.self.invariant.rises c.at_mut.ensures.value is_w c.in_ok-told-in-Some.ensures.ok)) in
+    let here : whole (slice_set c.self.inside.list c.in-Some.i c.tell.new.collection) ≡ changed f c.args.number c.args.self.now = rw (← c.self.view_is)
+    (ap whole (one_changed number_of f c.args.number 0 c.self.inside.list c.in-Some.i w c.tell.new.collection c.self.invariant.rises c.at_mut.ensures.value is_w c.in_ok-tell-in-Some.ensures.ok)) in
     here ∙ sym (answered_open c.args.number c.args.round c.args.node c.args.newest c.args.now c.args.self.now (ap is_closed (sym leads) ∙ (sym c.is_closed.ensures ∙ c.if-is_closed.false)))
 
 -- ---- an answer for no open collection
