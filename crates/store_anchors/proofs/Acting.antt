@@ -87,9 +87,10 @@ use Rattle.store_anchors.proofs.Laid.{HasUploaded, Stores, past, IsLaidIn}
 use Rattle.store_anchors.proofs.Steps.{HasPut, HasGot}
 use Rattle.store_anchors.proofs.Going.{asks_laid, opens_laid, scans_laid, fetches_laid, uploading_laid, completes_laid, block_laid, waits_laid, finishes_laid}
 use Rattle.store_laws.proofs.Hashing.{FitIn}
+use Rattle.store_laws.proofs.Deeds.{Deed}
 
 -- what an outcome of this state comes to after these steps: the invariant holds, its lines tell of whole versions, and copies took what was written
-abbrev pub OutcomeLaid : (List ℕ → Type 0) → List Moving → State → Outcome → Type 0
+abbrev pub OutcomeLaid : (Deed → Type 0) → List Moving → State → Outcome → Type 0
 OutcomeLaid H ms s o = IsLaidIn H (ms ++ o.moves) o.state × Tells (past (ms ++ o.moves) o.state.world o.state.draws) o.lines × FollowsCopies ms s o
 
 -- this is what was written as the version: what is stored beside the bytes, and these, if they aren't in blocks or no two of the blocks have one digest
@@ -130,7 +131,7 @@ parts_same x y xs ys e = (cc, cc)
 none_more : {A : Type 0} (x : A) (xs : List A) → [] ≡ x ∷ xs → ⊥
 none_more x xs e = cc
 
-module _ {H : List ℕ → Type 0} where
+module _ {H : Deed → Type 0} where
   module _ (cited : Cited H) (moves : List Moving) (s : State) (q : ℕ) (a : Asked) (at : numbered s.asked q ≡ Some a) (rests : Rests s q) (block : ℕ) (laid : IsLaidIn H moves s) where
     -- what there is
     abbrev pub here : Past
@@ -366,11 +367,11 @@ abbrev pub HasReadIf : State → ℕ → PhaseEnd AnyRow → Type 0
 HasReadIf s q (Answered value) = HasRead s.asked s.history s.world.reads q value
 HasReadIf s q _ = ⊤
 
-pub read_of : (H : List ℕ → Type 0) (s : State) (q : ℕ) (end : PhaseEnd AnyRow) → IsEnd H s.asked s.draws s.history s.saw s.world.kept s.world.reads q end → HasReadIf s q end
+pub read_of : (H : Deed → Type 0) (s : State) (q : ℕ) (end : PhaseEnd AnyRow) → IsEnd H s.asked s.draws s.history s.saw s.world.kept s.world.reads q end → HasReadIf s q end
 read_of H s q (Answered value) h = h
 read_of H s q _ h = tt
 
-module _ {H : List ℕ → Type 0} where
+module _ {H : Deed → Type 0} where
   module _ (cited : Cited H) (moves : List Moving) (s : State) (q : ℕ) (a : Asked) (at : numbered s.asked q ≡ Some a) (rests : Rests s q) (block : ℕ) (sound : IsSound H s) (apart : AreApart s.draws) (laid : IsLaidIn H moves s) where
     -- what a request does that waits so when its phase ends so
     abbrev pub StageLaid : ℕ → Stage → PhaseEnd AnyRow → Type 0

@@ -49,6 +49,7 @@ use Rattle.store_anchors.proofs.Reading.{each_stored}
 use Rattle.store_anchors.proofs.Told.{above_of, complete_drawn, drawn_as, AreApart, drawn_there, are_drawn, none_aborted}
 use Rattle.store_laws.proofs.Hashing.{ActsIn}
 use Rattle.cluster_machine.specs.Hashes.{NoClash, RunHashes}
+use Rattle.store_laws.proofs.Deeds.{Deed}
 
 -- a block of this hash is there, with bytes of this digest
 block_there : (g : List ℕ → List ℕ) (blocks : List Block) (hash : List ℕ) → HasBlock g blocks hash → (bytes : List ℕ) × Contains blocks (record { hash = hash; bytes = bytes }) × (g bytes ≡ hash)
@@ -72,7 +73,7 @@ References = (digest : List ℕ → List ℕ) (k : Layouts Layout) (trio : Layou
     ¬ (Newer (stored_in moves) key v) → ¬ (WasStored (stored_in moves) key v Aborted) →
     AreTwo (Anchors digest (machine_run any_join words k trio trio_roles empty moves) r)
 
-module _ {H : List ℕ → Type 0} where
+module _ {H : Deed → Type 0} where
   module _ (cited : Cited H) (references : References) (acts : List Act) (lawful : AreLawfulActs start acts) (fit : ActsIn H start acts) where
     abbrev s : State
     s = after_acts start acts
@@ -123,7 +124,7 @@ module _ {H : List ℕ → Type 0} where
       anchored_at d c i drawn has fresh =
           let r : RefRow = record { hash = piece_hash d.block c.body i; id = d.version.id; deleted = record { 0 = false } } in
           let v : World = run any_join words reached.begin reached.moves in
-          let ends : IsEndOf (IsStepOf ms) v = reached_end cited.every cited.clear s.world reached (still_of ms step.Trio tt refl refl) in
+          let ends : IsEndOf (IsStepOf ms) v = reached_end cited.every cited.clear.apart s.world reached (still_of ms step.Trio tt refl refl) in
           let stored : List AnyRow = stored_in ends.moves in
           let each : (r : AnyRow) → Contains stored r → IsRowOf p r = λ r c. every_stored r (come_from ends r c) in
           let two : AreTwo (Anchors named v r) =

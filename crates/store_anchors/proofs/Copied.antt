@@ -25,6 +25,7 @@ use Rattle.store_anchors.proofs.Acts.{IsHeld, acts_held, start_held}
 use Rattle.store_anchors.proofs.Cited.{Cited}
 use Rattle.store_anchors.proofs.Taking.{AreTaken, IsFollowedIn, Knows, none_taken, followed_joined, taken_of}
 use Rattle.store_laws.proofs.Hashing.{ActsIn, acts_in_parts}
+use Rattle.store_laws.proofs.Deeds.{Deed}
 
 -- ---- acts before others
 
@@ -35,7 +36,7 @@ moves_after s (a ∷ before) after =
 
 -- ---- a copy begins
 
-module _ {H : List ℕ → Type 0} where
+module _ {H : Deed → Type 0} where
   -- no request has the number of the next one, so it drew nothing
   next_is_new : (s : State) → IsSound H s → (d : Draw) → Contains s.draws d → ¬ (d.request ≡ suc (length s.world.requests))
   next_is_new s sound d c e =
@@ -73,7 +74,7 @@ number_is p q e = cc
 no_number : (q : ℕ) → Empty ≡ One q → ⊥
 no_number q e = cc
 
-module _ {H : List ℕ → Type 0} where
+module _ {H : Deed → Type 0} where
   begins_follows : (ms : List Moving) (s : State) (n : ℕ) (copy : Copying) (name : Name) → IsSound H s → s.history ≡ copy.history → (let o = begins s n (order_of copy name) in o.words ≡ One copy.request → IsFollowedIn (ms ++ o.moves) o.state copy)
   begins_follows ms s n copy name sound past =
       let o : Order = order_of copy name in
@@ -88,7 +89,7 @@ module _ {H : List ℕ → Type 0} where
 
 -- ---- the law
 
-module _ {H : List ℕ → Type 0} where
+module _ {H : Deed → Type 0} where
   module _ (cited : Cited H) where
     asked_copies : (copy : Copying) (before : List Act) (node : ℕ) (name : Name) (after : List Act) → (after_acts start before).history ≡ copy.history → (let acts = before ++ asks node (order_of copy name) ∷ after in AreLawfulActs start acts → ActsIn H start acts →
         (acted (after_acts start before) (asks node (order_of copy name))).words ≡ One copy.request → IsFollowedIn (moves_in start acts) (after_acts start acts) copy)

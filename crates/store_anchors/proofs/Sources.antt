@@ -32,8 +32,9 @@ use Rattle.store_laws.proofs.Values.{given_good, says_row}
 use Rattle.store_anchors.proofs.Cited.{Cited}
 use Rattle.store_anchors.proofs.Laid.{IsLaidIn}
 use Rattle.store_anchors.proofs.Reading.{gave}
+use Rattle.store_laws.proofs.Deeds.{Deed}
 
-module _ {H : List ℕ → Type 0} where
+module _ {H : Deed → Type 0} where
   module _ (cited : Cited H) (moves : List Moving) (s : State) (sound : IsSound H s) (laid : IsLaidIn H moves s) (q : ℕ) (a : Asked) (at : numbered s.asked q ≡ Some a) (block : ℕ) (name : Name) (aim : Aim) (flow_is : a.flow ≡ Some (flow_of q block (Looking name aim))) (value : Option AnyRow) (h : HasRead s.asked s.history s.world.reads q value) where
     -- the row that it asked for is the object's
     asks : AsksRow name h.question

@@ -51,6 +51,7 @@ use Rattle.store_anchors.proofs.Cited.{Cited}
 use Rattle.store_anchors.proofs.Laid.{digest, Holds, Stores, Asks, Gets, Awaits, AreRows, IsFit, past, past_after, after_grows, blocks_old, IsLaid, IsLaidIn, IsApt, IsStepOf, still_of, holds_later, fit_later, fit_continues, laid_step, laid_told, Scans}
 use Rattle.store_anchors.proofs.Phases.{phase_begun}
 use Rattle.store_laws.proofs.Hashing.{FitIn}
+use Rattle.store_laws.proofs.Deeds.{Deed}
 
 -- ---- a phase that ended
 
@@ -122,7 +123,7 @@ module _ (asked : List Asked) (old new : Past) (more : Grows old new) (keeps : L
 
 -- ---- a step in which no phase begins
 
-module _ {H : List ℕ → Type 0} where
+module _ {H : Deed → Type 0} where
   module _ (cited : Cited H) (moves : List Moving) (s : State) (m : Moving) (lawful : IsLawfulRun any_join words s.world (m ∷ [])) (calm : IsCalm s.world (effect s m)) (laid : IsLaidIn H moves s) where
     abbrev now : Past
     now = past_after moves s m
@@ -137,7 +138,7 @@ module _ {H : List ℕ → Type 0} where
         let r = laid.reached in
         let v : World = run any_join words r.begin r.moves in
         let like : StepsAlike s.world v m = reached_alike s.world m r lawful in
-        let ends : IsEndOf (IsStepOf moves) v = reached_end cited.every cited.clear s.world r (still_of moves step.Trio tt refl refl) in
+        let ends : IsEndOf (IsStepOf moves) v = reached_end cited.every cited.clear.apart s.world r (still_of moves step.Trio tt refl refl) in
         let v_there : Contains (machine_does any_join words layouts ends.first ends.roles v like.move).ends e =
         subst (λ es. Contains es e) (like.ends ∙ ap (λ (x : Effect AnyRow). x.ends) (ends.same like.move)) c in
         let there : Contains (machine_does any_join words layouts ends.first ends.roles (machine_run any_join words layouts ends.first ends.roles empty ends.moves) like.move).ends e =

@@ -37,8 +37,8 @@ use Rattle.store_laws.proofs.Every.{EveryWorld}
 use Rattle.store_laws.proofs.Sound.{IsSound}
 use Rattle.store_laws.proofs.Starting.{start_sound}
 use Rattle.store_laws.proofs.Acts.{act_keeps}
-use Rattle.store_laws.specs.Hashed.{ActsHash}
 use Rattle.store_laws.proofs.Hashing.{fit_in}
+use Rattle.store_laws.proofs.Deeds.{Deed, ActsDo}
 
 -- a request that waits so has drawn
 abbrev pub IsPast : Stage → Type 0
@@ -195,7 +195,7 @@ drains_once (suc n) s once =
       | Some m ↦ drains_once n (delivers s m).state (delivers_once s m once)
     ]
 
-module _ {H : List ℕ → Type 0} where
+module _ {H : Deed → Type 0} where
   -- a request more has drawn nothing
   opened_once : (s : State) (n : ℕ) (o : Order) → IsSound H s → IsOnceIn s → IsOnceIn (opens_request s n o).state
   opened_once s n o sound once = record {
@@ -231,15 +231,15 @@ module _ {H : List ℕ → Type 0} where
 pub start_once : IsOnceIn start
 start_once = record { one = λ d e c k same. absurd (none_in d c); past = λ d a f c there is. absurd (none_in d c) }
 
-module _ {H : List ℕ → Type 0} where
+module _ {H : Deed → Type 0} where
   module _ (every : EveryWorld H) where
-    pub acts_once : (s : State) (as' : List Act) → AreLawfulActs s as' → ActsFit s as' → ((x : List ℕ) → ActsHash s as' x → H x) → IsSound H s → IsOnceIn s → IsSound H (after_acts s as') × IsOnceIn (after_acts s as')
+    pub acts_once : (s : State) (as' : List Act) → AreLawfulActs s as' → ActsFit s as' → ((d : Deed) → ActsDo s as' d → H d) → IsSound H s → IsOnceIn s → IsSound H (after_acts s as') × IsOnceIn (after_acts s as')
     acts_once s [] lawful fit all sound once = (sound, once)
     acts_once s (a ∷ as') lawful fit all sound once =
         acts_once (acted s a).state as' lawful.1 fit.1 (λ x h. all x (inr h)) (act_keeps every s a lawful.0 (fit_in H s.world (acted s a).moves fit.0 (λ x h. all x (inl h))) sound) (act_once s a sound once)
 
     -- no two draws have one version
-    pub draws_differ : (as' : List Act) → AreLawfulActs start as' → ActsFit start as' → ((x : List ℕ) → ActsHash start as' x → H x) → AreDrawnOnce (after_acts start as').draws
+    pub draws_differ : (as' : List Act) → AreLawfulActs start as' → ActsFit start as' → ((d : Deed) → ActsDo start as' d → H d) → AreDrawnOnce (after_acts start as').draws
     draws_differ as' lawful fit all d e c k same =
         let both = acts_once start as' lawful fit all start_sound start_once in
         both.1.one d e c k (sym (both.0.drawn d c).id_is ∙ (ap (λ (v : Version). v.id) same ∙ (both.0.drawn e k).id_is))
