@@ -87,11 +87,11 @@ use Rattle.store_anchors.proofs.Laid.{HasUploaded, Stores, past, IsLaidIn}
 use Rattle.store_anchors.proofs.Steps.{HasPut, HasGot}
 use Rattle.store_anchors.proofs.Going.{asks_laid, opens_laid, scans_laid, fetches_laid, uploading_laid, completes_laid, block_laid, waits_laid, finishes_laid}
 use Rattle.store_laws.proofs.Hashing.{FitIn}
-use Rattle.store_laws.proofs.Deeds.{Deed}
+use Rattle.store_laws.proofs.Deeds.{Deed, collects}
 
 -- what an outcome of this state comes to after these steps: the invariant holds, its lines tell of whole versions, and copies took what was written
 abbrev pub OutcomeLaid : (Deed → Type 0) → List Moving → State → Outcome → Type 0
-OutcomeLaid H ms s o = IsLaidIn H (ms ++ o.moves) o.state × Tells (past (ms ++ o.moves) o.state.world o.state.draws) o.lines × FollowsCopies ms s o
+OutcomeLaid H ms s o = IsLaidIn H (ms ++ o.moves) o.state × Tells (past (ms ++ o.moves) o.state.world o.state.draws) o.lines × FollowsCopies (¬ H collects) ms s o
 
 -- this is what was written as the version: what is stored beside the bytes, and these, if they aren't in blocks or no two of the blocks have one digest
 pub record IsBodyOf (blocks : List (List ℕ)) (draws : List Draw) (v : Version) (meta : Meta) (body : List ℕ) : Type 0 where
@@ -143,7 +143,7 @@ module _ {H : Deed → Type 0} where
 
     -- the request is this copy
     abbrev pub IsIt : Copying → Type 0
-    IsIt copy = (copy.request ≡ q) × IsFollowedIn moves s copy
+    IsIt copy = (copy.request ≡ q) × IsFollowedIn (¬ H collects) moves s copy
 
     -- what the request knows where it is a copy
     know : (stage : Stage) → a.flow ≡ Some (flow_of q block stage) → (copy : Copying) → IsIt copy → Knows (blocks_of moves) s.draws copy stage
@@ -151,7 +151,7 @@ module _ {H : Deed → Type 0} where
 
     -- a copy follows where the request goes
     follows : (ds : List Draw) (flow : Option Flow) (rest : List Moving) → AllByRecursion (λ (d : Draw). d.request ≡ q) ds → ((copy : Copying) → IsIt copy → KnowsOn (blocks_of moves) s.draws s.asked s.history q a at ds flow copy) →
-        (copy : Copying) → IsFollowedIn moves s copy → IsFollowed (blocks_of (moves ++ rest)) (ds ++ s.draws) (set_flow s q a flow) s.history copy
+        (copy : Copying) → IsFollowedIn (¬ H collects) moves s copy → IsFollowed (¬ H collects) (blocks_of (moves ++ rest)) (ds ++ s.draws) (set_flow s q a flow) s.history copy
     follows ds flow rest own knows copy h =
         followed_first moves rest (ds ++ s.draws) (set_flow s q a flow) s.history copy
         (followed_set (blocks_of moves) s.draws s.asked s.history q a at ds flow own (λ copy request it. knows copy (request, it)) copy h)
@@ -396,7 +396,7 @@ module _ {H : Deed → Type 0} where
           let cut : s.history ≡ copy.history ++ began q b.node b.kind b.name ∷ b.after = subst (λ (r : ℕ). s.history ≡ copy.history ++ began r b.node b.kind b.name ∷ b.after) it.0 b.cut in (
             subst (λ (n : Name). FoundIn s.draws n v) k.0 f,
             k.1,
-            λ w ack. not_below cited moves s sound laid q a at block name aim flow_is value end copy.history b.after b.node b.kind b.name cut said v e one w (subst (λ (n : Name). WasAcknowledged copy.history n w) (sym k.0) ack),
+            λ w ack. not_below cited moves s sound laid q a at block name aim flow_is value end it.1.holds copy.history b.after b.node b.kind b.name cut said v e one w (subst (λ (n : Name). WasAcknowledged copy.history n w) (sym k.0) ack),
           )
 
       read_source : (said : Said) → said_of value ≡ said → SaysSource cited moves s q a at rests block laid said aim

@@ -77,7 +77,7 @@ use Rattle.store_anchors.proofs.Steps.{HasGot, calm_got, calm_now, calm_laid, be
 use Rattle.store_anchors.proofs.Going.{BeginsSo, read_begins, range_begins}
 use Rattle.store_anchors.proofs.Acting.{OutcomeLaid, stage_laid, read_of}
 use Rattle.store_laws.proofs.Hashing.{FitIn, ActsIn, in_parts}
-use Rattle.store_laws.proofs.Deeds.{Deed}
+use Rattle.store_laws.proofs.Deeds.{Deed, collects}
 
 -- what holds after acts
 pub record IsHeld (H : Deed → Type 0) (ms : List Moving) (s : State) : Type 0 where
@@ -287,7 +287,7 @@ module _ {H : Deed → Type 0} where
     ActsHeld ms s as' =
         let end : State = after_acts s as' in
         IsHeld H (ms ++ moves_in s as') end × Tells (past (ms ++ moves_in s as') end.world end.draws) (lines_told s as') ×
-        ((copy : Copying) → IsFollowedIn ms s copy → IsFollowedIn (ms ++ moves_in s as') end copy)
+        ((copy : Copying) → IsFollowedIn (¬ H collects) ms s copy → IsFollowedIn (¬ H collects) (ms ++ moves_in s as') end copy)
 
     pub acts_held : (ms : List Moving) (s : State) (as' : List Act) → AreLawfulActs s as' → ActsIn H s as' → IsHeld H ms s → ActsHeld ms s as'
     acts_held ms s [] lawful fit h =

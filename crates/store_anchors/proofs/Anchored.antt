@@ -124,7 +124,7 @@ module _ {H : Deed → Type 0} where
       anchored_at d c i drawn has fresh =
           let r : RefRow = record { hash = piece_hash d.block c.body i; id = d.version.id; deleted = record { 0 = false } } in
           let v : World = run any_join words reached.begin reached.moves in
-          let ends : IsEndOf (IsStepOf ms) v = reached_end cited.every cited.clear.apart s.world reached (still_of ms step.Trio tt refl refl) in
+          let ends : IsEndOf (IsStepOf ms) v = reached_end cited.every cited.clear s.world reached (still_of ms step.Trio tt refl refl) in
           let stored : List AnyRow = stored_in ends.moves in
           let each : (r : AnyRow) → Contains stored r → IsRowOf p r = λ r c. every_stored r (come_from ends r c) in
           let two : AreTwo (Anchors named v r) =

@@ -53,7 +53,8 @@ use Rattle.flow_laws.proofs.Merged.{are_named}
 use Rattle.store_model.specs.Run.{Moving, State, Draw}
 use Rattle.store_laws.proofs.Objects.{Below as IsBelow, members_below}
 use Rattle.store_laws.proofs.Sound.{IsSound}
-use Rattle.store_laws.proofs.Reached.{reached_kept}
+use Rattle.store_laws.proofs.Reached.{reached_joined, reached_objects}
+use Rattle.anchor_laws.proofs.References.{none_at}
 use Rattle.store_anchors.proofs.Cited.{Cited}
 use Rattle.store_anchors.proofs.Kept.{Past, IsLong, IsRowOf, announces, completes, names, refers, IsFound, IsPassed}
 use Rattle.store_anchors.proofs.Laid.{past, IsLaidIn}
@@ -223,10 +224,14 @@ module _ {H : Deed → Type 0} where
 
       over : (value : Option AnyRow) → Contains s.world.reads (read question value) → IsOver any_join words value (row_at any_join words question.kept 2 (eight id))
       over value c =
-          let keeps = reached_kept cited.every s.world laid.reached cited.clear in
+          let keeps = reached_joined cited.every s.world laid.reached cited.clear (read question value) c in
+          let none : row_at any_join words s.world.collected question.table question.key ≡ None =
+          none_at question.table question.key s.world.collected (λ one. apart 1 2 (lit< tt) (sym one ∙ table)) (reached_objects cited.every s.world laid.reached) in
+          let given : IsOver any_join words value (row_at any_join words question.kept question.table question.key) =
+          subst (λ (o : Option AnyRow). IsOver any_join words (option_join any_join o value) (row_at any_join words question.kept question.table question.key)) none keeps in
           let key_is : question.key ≡ eight id = key ∙ ap (λ (x : Version). eight x.id) (sym found.version_is) in
           subst (λ (i : List ℕ). IsOver any_join words value (row_at any_join words question.kept 2 i)) key_is
-          (subst (λ (t : ℕ). IsOver any_join words value (row_at any_join words question.kept t question.key)) table (keeps (read question value) c))
+          (subst (λ (t : ℕ). IsOver any_join words value (row_at any_join words question.kept t question.key)) table given)
 
       rows_there : (i : ℕ) → i ≤ found.last → AtMost (option_join any_join) (Some (version_row id found.draw.block found.content.body i)) (row_at any_join words question.kept 2 (eight id))
       rows_there i le =

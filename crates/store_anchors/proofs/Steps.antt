@@ -138,7 +138,7 @@ module _ {H : Deed → Type 0} where
         let r = laid.reached in
         let v : World = run any_join words r.begin r.moves in
         let like : StepsAlike s.world v m = reached_alike s.world m r lawful in
-        let ends : IsEndOf (IsStepOf moves) v = reached_end cited.every cited.clear.apart s.world r (still_of moves step.Trio tt refl refl) in
+        let ends : IsEndOf (IsStepOf moves) v = reached_end cited.every cited.clear s.world r (still_of moves step.Trio tt refl refl) in
         let v_there : Contains (machine_does any_join words layouts ends.first ends.roles v like.move).ends e =
         subst (λ es. Contains es e) (like.ends ∙ ap (λ (x : Effect AnyRow). x.ends) (ends.same like.move)) c in
         let there : Contains (machine_does any_join words layouts ends.first ends.roles (machine_run any_join words layouts ends.first ends.roles empty ends.moves) like.move).ends e =

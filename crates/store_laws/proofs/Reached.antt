@@ -147,7 +147,11 @@ module _ {H : Deed → Type 0} where
     reached_none : ¬ H collects → w.collected ≡ []
     reached_none never = ap (λ (u : World). u.collected) r.alike.is ∙ from.nothing_collected never r.moves r.lawful r.done_before r.done
 
-    -- so then reads gave what was kept
+    -- what was collected are object rows
+    pub reached_objects : (row : AnyRow) → Contains w.collected row → words.table row ≡ 1
+    reached_objects row c = (from.collected_objects r.moves r.lawful row (subst (λ (u : World). Contains u.collected row) r.alike.is c)).0
+
+    -- then reads gave what was kept
     pub reached_kept : IsClear H → (reading : Reading AnyRow) → Contains w.reads reading → GaveKept any_join words [] reading
     reached_kept clear reading c = subst (λ (collected : List AnyRow). GaveKept any_join words collected reading) (reached_none clear.never) (reached_joined clear.apart reading c)
 

@@ -15,13 +15,14 @@ returns c acts lawful fit clear never =
     let then = c.every_installed_world_reads_what_was_kept.ensures in
     let none = c.nothing_is_collected_without_collect.ensures in
     let objects = c.every_world_collects_stored_objects.ensures in
+    let clear_then = deeds_clear start acts clear never in
     let cited : Cited (ActsDo start acts) = record {
       every = every_world (ActsDo start acts) c.every_world_has_kept_reads.ensures c.every_world_reads_stored_rows.ensures c.every_world_is_sound.ensures c.every_world_gives_windows.ensures then.kept then.stored then.sound then.windows none.from_empty none.from_installed objects.from_empty objects.from_installed;
-      clear = deeds_clear start acts clear never;
+      clear = clear_then.apart;
       gives = λ digest trio roles moves m is_run brings. c.every_block_phase_gives_its_block.ensures digest any_join words layouts trio roles 256 moves m schema_laws is_run brings;
       shows = c.rows_show_what_was_stored.ensures;
       overwritten = c.gone_versions_were_overwritten.ensures;
       deleted = c.version_rows_join_as_facts.ensures.deleted;
       id = c.version_rows_join_as_facts.ensures.key;
     } in
-    copies cited acts lawful (acts_in (ActsDo start acts) start acts fit (λ d h. h))
+    copies cited clear_then.never acts lawful (acts_in (ActsDo start acts) start acts fit (λ d h. h))

@@ -10,9 +10,9 @@ returns c acts lawful fit moment is =
       kept = λ clear. c.phases_read_what_was_kept.ensures.kept moment run.0 run.1 clear;
       fresh = λ clear never. c.fresh_reads.ensures moment run.0 run.1 clear never;
       recorded = λ clear never. c.records_are_fresh.ensures moment run.0 run.1 clear never;
-      whole = λ clear never. c.gets_read_whole_versions.ensures.bytes moment run.0 run.1 clear never;
+      whole = λ clear. c.gets_read_whole_versions.ensures.bytes moment run.0 run.1 clear;
       copied = λ clear never. c.copies_take_what_was_written.ensures moment run.0 run.1 clear never;
-      superseded = λ clear never. c.gets_read_whole_versions.ensures.superseded moment run.0 run.1 clear never;
-      goes_on = λ clear never. c.gets_read_whole_versions.ensures.goes_on moment run.0 run.1 clear never;
-      anchored = λ clear never. c.acknowledged_blocks_are_anchored.ensures moment run.0 run.1 clear never;
+      superseded = λ clear. c.gets_read_whole_versions.ensures.superseded moment run.0 run.1 clear;
+      goes_on = λ clear. c.gets_read_whole_versions.ensures.goes_on moment run.0 run.1 clear;
+      anchored = λ clear. c.acknowledged_blocks_are_anchored.ensures moment run.0 run.1 clear;
     }
