@@ -25,6 +25,10 @@ use Rattle.flow_model.specs.Next.{next as flow_next}
 use Rattle.store_model.specs.Orders.{buckets_of}
 use Rattle.store_model.specs.Run.{World, Moving, State, Asked, Draw, Outcome, silent, refusal, plainly, doing, effect, are_buckets, opened, begins, takes, follows, follow, goes_on, delivers, then_drains, drains}
 use Rattle.store_model.specs.Acts.{Act, moves, installs, asks, delivery, drain, forgets, takes as takes_end, adds, cuts, acted}
+use Rattle.store_model.specs.declared.event.Event.{Event}
+use Rattle.store_model.specs.declared.event.Event.TheVariants as event
+use Rattle.store_model.specs.Events.{Turn, act_of, acts_of}
+use Rattle.cluster_machine.specs.Choices.{Decision}
 use Rattle.store_model.specs.Moments.{IsMoment, between, within}
 use Rattle.world_reads.proofs.Installed.{clear_within}
 use Rattle.store_laws.specs.Hashed.{StepsHash, ActsHash, IsOtherAct, NeverCollect}
@@ -172,3 +176,13 @@ never_last (b ∷ before) after a h is = (h.0, never_last before after a h.1 is)
 pub never_by_then : (acts moment : List Act) → IsMoment acts moment → NeverCollect acts → NeverCollect moment
 never_by_then acts moment (between before after is) h = never_first before after (subst NeverCollect is h)
 never_by_then acts moment (within before after n k is low) h = never_last before (drain n ∷ after) (drain k) (subst NeverCollect is h) tt
+
+-- ---- schedules: no event is `collect`
+
+event_other : (e : Event) (choice : Decision) → IsOtherAct (act_of e choice)
+event_other event.Trio choice = tt
+event_other _ choice = tt
+
+pub turns_never_collect : (turns : List Turn) → NeverCollect (acts_of turns)
+turns_never_collect [] = tt
+turns_never_collect (t ∷ turns) = (event_other t.numbered.event t.choice, turns_never_collect turns)
