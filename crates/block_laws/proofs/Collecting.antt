@@ -4,6 +4,7 @@ use Rattle.std.specs.Cmp.Lexicographic.{pointwise}
 use Rattle.std.specs.Ordering.{is_eq}
 use Rattle.std.proofs.Common.{ap, sym, subst}
 use Rattle.crdt_core.proofs.Each.{all_append}
+use Rattle.blake2_hash.specs.Blake2b.{blake2b}
 use Rattle.view_model.specs.View.{newest}
 use Rattle.table_schema.specs.Words.{Words, partition_of}
 use Rattle.table_schema.specs.Laws.{Laws}
@@ -12,7 +13,7 @@ use Rattle.gc_model.specs.declared.collection.Collection.{Collection}
 use Rattle.gc_model.specs.declared.collection.GcEnd.{GcEnd}
 use Rattle.gc_model.specs.declared.collection.GcEnd.TheVariants.{Wait, Closed, Complete}
 use Rattle.gc_model.specs.Collecting.{Open, numbered, keyed, opened, begun_with, changed, closed, answer_end, answered, in_second, missing_of}
-use Rattle.wire_messages.specs.declared.message.Message.TheVariants.{Tomb}
+use Rattle.wire_messages.specs.declared.message.Message.TheVariants.{Tomb, Forget}
 use Rattle.cluster_machine.specs.Layouts.{Layouts, is_given}
 use Rattle.cluster_machine.specs.Node.{Node, Post, Did, quiet}
 use Rattle.cluster_machine.specs.Rows.{accepts}
@@ -74,7 +75,7 @@ module _ (digest : List ℕ → List ℕ) {R : Type 0} {join : R → R → R} {s
 
   drops : (o : Open) (c : Collection) (row : Option R) → HaveRows Bare o → Stocks (drops_row join s n (record x { gc = o }) c row)
   drops o c None a = with_gc o a
-  drops o c (Some r) a = record { node = dropped 1 c.key o a; posts = each_post digest laws k (others n) _ tt }
+  drops o c (Some r) a = record { node = dropped 1 c.key o a; posts = each_post digest laws k (others n) (Forget 1 c.key (record { 0 = blake2b 32 (bytes_of s r) })) tt }
 
   ends : (o : Option Collection) → Stocks (finishes join s k n x o)
   ends None = rests

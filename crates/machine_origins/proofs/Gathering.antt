@@ -4,6 +4,7 @@ use Rattle.std.specs.List.{AllByRecursion}
 use Rattle.std.specs.Cmp.Lexicographic.{pointwise}
 use Rattle.std.proofs.Common.{sym, subst, ◌∙◌}
 use Rattle.crdt_core.proofs.Each.{all_append}
+use Rattle.blake2_hash.specs.Blake2b.{blake2b}
 use Rattle.view_model.specs.View.{newest}
 use Rattle.table_schema.specs.Words.{Words, partition_of}
 use Rattle.table_model.specs.Rows.{is_at, row_at, rows}
@@ -12,7 +13,7 @@ use Rattle.gc_model.specs.declared.collection.GcEnd.{GcEnd}
 use Rattle.gc_model.specs.declared.collection.GcEnd.TheVariants.{Wait, Closed, Complete}
 use Rattle.gc_model.specs.Rounds.{is_closed}
 use Rattle.gc_model.specs.Collecting.{Open, has_confirmed, numbered, keyed, opened, begun_with, changed, closed, after_answer, told, answer_end, answered, in_second, missing_of}
-use Rattle.wire_messages.specs.declared.message.Message.TheVariants.{Tomb}
+use Rattle.wire_messages.specs.declared.message.Message.TheVariants.{Tomb, Forget}
 use Rattle.cluster_machine.specs.Layouts.{Layouts, is_given}
 use Rattle.cluster_machine.specs.Node.{Node, Post, Did, quiet}
 use Rattle.cluster_machine.specs.Rows.{accepts}
@@ -96,7 +97,7 @@ module _ {R : Type 0} {join : R → R → R} {s : Words R} {P : R → Type 0} (r
   -- a collection comes to its end, or its node has one more answer
   drops_done : (o : Open) (c : Collection) (row : Option R) → HaveRows Reads o → IsFound s P 1 c.key row → Done (drops_row join s n (record x { gc = o }) c row)
   drops_done o c None a found = gc_done o a
-  drops_done o c (Some r) a found = record { node = dropped_node 1 c.key o a; posts = λ e. each_post rules Q k g n (others n) _ (λ to. refl); reads = tt; ends = tt; collects = ((found.good, found.table_is), tt) }
+  drops_done o c (Some r) a found = record { node = dropped_node 1 c.key o a; posts = λ e. each_post rules Q k g n (others n) (Forget 1 c.key (record { 0 = blake2b 32 (bytes_of s r) })) (λ to. refl); reads = tt; ends = tt; collects = ((found.good, found.table_is), tt) }
 
   finishes_done : (o : Option Collection) → Done (finishes join s k n x o)
   finishes_done None = rests
