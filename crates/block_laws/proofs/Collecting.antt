@@ -117,7 +117,7 @@ module _ (digest : List ℕ → List ℕ) {R : Type 0} {join : R → R → R} {s
   going_cond true t u h f = h
   going_cond false t u h f = f
 
-  more : (t : Progress R L) (nodes : List ℕ) (number round : ℕ) (row : List ℕ) → Posts t.posts → Bare row → Posts (t.posts ++ to_each nodes (Tomb {R = R} number round row))
+  more : (t : Progress R L) (nodes : List ℕ) (number round : ℕ) (row : List ℕ) → Posts t.posts → Bare row → Posts (t.posts ++ to_each nodes (Tomb number round row))
   more t nodes number round row a bare = all_append _ t.posts (to_each nodes (Tomb number round row)) a (each_post digest laws k nodes (Tomb number round row) bare)
 
   -- a tombstone needs no block, and nor does what its bytes are read as
@@ -129,7 +129,7 @@ module _ (digest : List ℕ → List ℕ) {R : Type 0} {join : R → R → R} {s
 
   begins : (now version : ℕ) (r : R) (t : Progress R L) → Going t → (spelled aged : Bool) → is_spelled s r ≡ spelled → is_aged now (s.marker r) ≡ aged → Going (cond (spelled && aged) (record {
     gc = begun_with t.gc (s.key r) (bytes_of s r) n version;
-    posts = t.posts ++ to_each (others n) (Tomb {R = R} (t.gc.begun + 1) 1 (bytes_of s r));
+    posts = t.posts ++ to_each (others n) (Tomb (t.gc.begun + 1) 1 (bytes_of s r));
     begun = t.begun + 1;
   }) t)
   begins now version r t a false aged e f = a

@@ -88,7 +88,7 @@ module _ {R L : Type 0} (join : R → R → R) (s : Words R) (x : Node R L) wher
     posts_cond true t u h i = h
     posts_cond false t u h i = i
 
-    more_posts : (t : Progress R L) (nodes : List ℕ) (number round : ℕ) (row : List ℕ) → ArePosts t.posts → ArePosts (t.posts ++ to_each nodes (Tomb {R = R} number round row))
+    more_posts : (t : Progress R L) (nodes : List ℕ) (number round : ℕ) (row : List ℕ) → ArePosts t.posts → ArePosts (t.posts ++ to_each nodes (Tomb number round row))
     more_posts t nodes number round row h = all_append _ t.posts (to_each nodes (Tomb number round row)) h (posts_to_each L nodes (Tomb number round row))
 
     going_posts : (now : ℕ) (c : Collection) (ready : Option ℕ) (t : Progress R L) → ArePosts t.posts → ArePosts (goes_on_with join s k now c ready t).posts

@@ -143,12 +143,12 @@ module _ {R : Type 0} {join : R → R → R} {s : Words R} {P : R → Type 0} (r
   going_cond true t u h f = h
   going_cond false t u h f = f
 
-  more : (t : Progress R L) (nodes : List ℕ) (number round : ℕ) (row : List ℕ) → Posts t.posts → Reads row → Posts (t.posts ++ to_each nodes (Tomb {R = R} number round row))
+  more : (t : Progress R L) (nodes : List ℕ) (number round : ℕ) (row : List ℕ) → Posts t.posts → Reads row → Posts (t.posts ++ to_each nodes (Tomb number round row))
   more t nodes number round row a reads = all_append _ t.posts (to_each nodes (Tomb number round row)) a (each_post rules Q k g n nodes (Tomb number round row) (λ to. reads))
 
   begins : (now version : ℕ) (r : R) (t : Progress R L) → P r → Going t → (b : Bool) → is_spelled s r ≡ b → Going (cond (b && is_aged now (s.marker r)) (record {
     gc = begun_with t.gc (s.key r) (bytes_of s r) n version;
-    posts = t.posts ++ to_each (others n) (Tomb {R = R} (t.gc.begun + 1) 1 (bytes_of s r));
+    posts = t.posts ++ to_each (others n) (Tomb (t.gc.begun + 1) 1 (bytes_of s r));
     begun = t.begun + 1;
   }) t)
   begins now version r t has a false e = a
