@@ -120,6 +120,9 @@ module _ {R : Type 0} {join : R → R → R} {s : Words R} {weight : R → ℕ} 
       let low = f.collections in
       record { counted = f.counted; listed = f.listed; small = f.small; rounds = f.rounds; phases = f.phases; blocks = f.blocks; collections = omega (arith, h, low); round = f.round }
 
+itself : (n : ℕ) → n ≤ n
+itself n = omega arith
+
 -- the property that blocks have where they are asked for
 abbrev pub Short : List ℕ → List ℕ → Type 0
 Short hash bytes = IsShort bytes
@@ -578,14 +581,17 @@ module _ {R : Type 0} {join : R → R → R} {s : Words R} {P : R → Type 0} {w
           let rs = object_rows join s x in
           let good : AllByRecursion (IsGood s P) rs = all_filter (IsGood s P) (λ (r : R). s.table r == 1) all (rows_good (rules_of bounded) x.accepted i.accepted) in
           let start : Progress R Layout = record { gc = with_rows join s layouts x x.gc; posts = []; begun = 0 } in
-          let end = goes_all bounded (λ (p : Mail R). PacketBeside p.packet) (λ to number round row. tt) n now (newest layouts.reading x.view) x.gc.begun 0 rs start good (record { begun = omega arith; cost = costs_nothing (128 * 0); each = tt }) in
+          let none : x.gc.begun ≤ 0 + x.gc.begun = omega arith in
+          let end = goes_all bounded (λ (p : Mail R). PacketBeside p.packet) (λ to number round row. tt) n now (newest layouts.reading x.view) x.gc.begun 0 rs start good (record { begun = none; cost = costs_nothing (128 * 0); each = tt }) in
           let few = total_filter weight (λ (r : R). s.table r == 1) all in
           let was : load join s weight x.accepted + x.queued ≤ k = f.counted in
           let before = f.collections in
-          let begun = end.begun in
+          let o = (progress join s layouts n now x).gc in
+          let more = length (progress join s layouts n now x).posts in
+          let begun : o.begun ≤ more + x.gc.begun = end.begun in
           record {
-            after = length (progress join s layouts n now x).posts + sent;
-            low = omega arith;
+            after = more + sent;
+            low = itself (more + sent);
             node = record { counted = now_fits.counted; listed = f.listed; small = f.small; rounds = now_fits.rounds; phases = now_fits.phases; blocks = f.blocks; collections = omega (arith, begun, before); round = f.round };
             spelled = all_spelled bounded (looked_at join s layouts now x) (all_filter (IsGood s P) _ rs good);
             cost = costs_more _ (128 * (total weight rs + 0)) mail_limit end.cost (omega (arith, few, was, grows, top));

@@ -205,11 +205,12 @@ module _ {R : Type 0} {join : R → R → R} {s : Words R} {P : R → Type 0} {w
 
     did_good : (n : ℕ) (d : Did R Layout) → DidFits join s weight (suc t) m (length w.messages) d → StepGood (did w n d)
     did_good n d h =
-        let sent = length (sent_by w n d.posts) + length w.messages in
         let same = sent_length w n d.posts in
         let low = h.low in
+        let after : h.after ≤ length (sent_by w n d.posts) + length w.messages = omega (arith, same, low) in
+        let more : length w.messages ≤ length (sent_by w n d.posts) + length w.messages = omega arith in
         record {
-          nodes = one_fits sent n d.node (omega arith) (node_more (suc t) m h.after sent d.node (omega (arith, same, low)) h.node);
+          nodes = one_fits (length (sent_by w n d.posts) + length w.messages) n d.node more (node_more (suc t) m h.after (length (sent_by w n d.posts) + length w.messages) d.node after h.node);
           spelled = h.spelled;
           bytes = h.cost.bytes;
           cost = mail_sent s w n d.posts ∙ h.cost.is;
