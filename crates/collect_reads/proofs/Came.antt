@@ -66,8 +66,8 @@ module _ {R L : Type 0} (messages : List (Sent R L)) where
 
   -- what a phase has got
   abbrev pub Holds : ℕ → Present R → Type 0
-  Holds request (asking q answers) = AllByRecursion (λ (a : ℕ × Option R). CameAnswer request a.1) answers
-  Holds request (scanning q answers) = AllByRecursion (λ (a : ℕ × RangeAnswer R). CameRows request a.1) answers
+  Holds request (asking q as') = AllByRecursion (λ (a : ℕ × Option R). CameAnswer request a.1) as'
+  Holds request (scanning q as') = AllByRecursion (λ (a : ℕ × RangeAnswer R). CameRows request a.1) as'
   Holds request _ = ⊤
 
   -- an open request, of a number from 1

@@ -20,11 +20,11 @@ use Rattle.cluster_machine.specs.Run.{Move, IsLayout, IsRun, does, run}
 use Rattle.machine_origins.proofs.Good.{IsGood, IsFound, IsObject, Rules, any_rules, found_joined, rows_good, range_good, window_has}
 use Rattle.machine_origins.proofs.Sound.{IsAnswer}
 use Rattle.machine_collects.specs.Versions.{Version, Versions, VersionLaws, hour}
-use Rattle.machine_collects.specs.Prompt.{IsPrompt}
+use Rattle.machine_collects.specs.Prompt.{EndInTime, IsPrompt, moments_over}
 use Rattle.machine_collects.specs.Carried.{Carries}
 use Rattle.machine_collects.proofs.Leads.{all_has}
 use Rattle.machine_collects.proofs.Laws.{ends_at, message_clean}
-use Rattle.collect_reads.specs.Ends.{moments_over, EndInTime, IsNotBelow, GaveNotBelow}
+use Rattle.collect_reads.specs.Clean.{IsNotBelow, GaveNotBelow}
 use Rattle.collect_reads.proofs.Came.{AnyRow, AnyBlock, CameRow, CameAnswer, CameRows, HasEnded, Gives, GivesRow, GivesRows}
 use Rattle.collect_reads.proofs.Stepping.{numbered_some, IsSinceAny, answered, IsAt, from_empty, step_good}
 

@@ -35,8 +35,7 @@ use Rattle.machine_origins.proofs.Good.{any_rules}
 use Rattle.machine_origins.proofs.Sound.{Asks, IsPacket, IsSent}
 use Rattle.machine_origins.proofs.Sound as origin
 use Rattle.machine_origins.proofs.Steps.{Stands, empty_stands, stands_next}
-use Rattle.machine_collects.specs.Prompt.{moments_after}
-use Rattle.collect_reads.specs.Ends.{moments_over}
+use Rattle.machine_collects.specs.Prompt.{moments_after, moments_over}
 use Rattle.collect_reads.proofs.Came.{AnyRow, AnyBlock, CameAnswer, Holds, HoldsSent, Gives, IsTraced, begins_traced, acts_traced, receives_traced}
 
 -- ---- lists

@@ -14,8 +14,8 @@ ghost use Rattle.cluster_machine.specs.Layouts.{Layouts};
 ghost use Rattle.cluster_machine.specs.World.{empty};
 ghost use Rattle.cluster_machine.specs.Run.{Move, IsLayout, IsRun, does, run};
 ghost use Rattle.machine_collects.specs.Versions.{Version, Versions, VersionLaws};
-ghost use Rattle.machine_collects.specs.Prompt.{IsPrompt};
-ghost use Rattle.collect_reads.specs.Ends.{moments_over, EndInTime, GaveNotBelow};
+ghost use Rattle.machine_collects.specs.Prompt.{EndInTime, IsPrompt, moments_over};
+ghost use Rattle.collect_reads.specs.Clean.{GaveNotBelow};
 
 /// From the moment at which a delete marker was collected, in every prompt run of the cluster's machine: no read or
 /// range phase gives a row of its key with a version below it, where phases end within an hour of their requests. The
