@@ -33,7 +33,7 @@ one_other id a b ns apart = by_tests (a == id) (b == id) refl refl
     by_tests true true e f = absurd (apart (eqb-true a id e ∙ sym (eqb-true b id f)))
 
 others_some : (id : ℕ) → 1 ≤ length (others id)
-others_some id = one_other id 1 2 (3 ∷ 4 ∷ 5 ∷ 6 ∷ 7 ∷ 8 ∷ 9 ∷ 10 ∷ 11 ∷ 12 ∷ 13 ∷ 14 ∷ 15 ∷ 16 ∷ []) (λ e. cc)
+others_some id = one_other id 1 2 (3 ∷ 4 ∷ 5 ∷ 6 ∷ 7 ∷ 8 ∷ 9 ∷ 10 ∷ 11 ∷ 12 ∷ 13 ∷ 14 ∷ 15 ∷ 16 ∷ []) (λ e. omega (arith, e))
 
 pub others_few : (id : ℕ) → length (others id) ≤ 16
 others_few id = filter_fewer (λ n. not (n == id)) all_nodes
@@ -123,4 +123,5 @@ module _ {R : Type 0} {join : R → R → R} {s : Words R} {P : R → Type 0} {w
   goes_all spent [] t a g = g
   goes_all spent (r ∷ rs) t a g =
       let o = keyed (s.key r) t.gc in
-      wider (total weight rs + (weight r + spent)) (total weight (r ∷ rs) + spent) _ (omega arith) (goes_all (weight r + spent) rs (about join s layouts id now version r o t) a.1 (goes_about spent r o t a.0.has g))
+      let whole : total weight (r ∷ rs) ≡ weight r + total weight rs = refl in
+      wider (total weight rs + (weight r + spent)) (total weight (r ∷ rs) + spent) _ (omega (arith, whole)) (goes_all (weight r + spent) rs (about join s layouts id now version r o t) a.1 (goes_about spent r o t a.0.has g))
