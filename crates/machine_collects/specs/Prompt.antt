@@ -13,7 +13,7 @@ use Rattle.wire_messages.specs.declared.message.Message.TheVariants.{Forget}
 use Rattle.cluster_machine.specs.declared.step.Step.{Step}
 use Rattle.cluster_machine.specs.declared.step.Step.TheVariants.{Skew, Deliver, Collect, Phase as Begin}
 use Rattle.cluster_machine.specs.Layouts.{Layouts}
-use Rattle.cluster_machine.specs.Node.{Packet, says, shows}
+use Rattle.cluster_machine.specs.Node.{Packet, says, shows, Ended}
 use Rattle.cluster_machine.specs.Collects.{all_nodes}
 use Rattle.cluster_machine.specs.World.{Sent, Mark, Request, World, numbered, empty}
 use Rattle.cluster_machine.specs.Step.{Effects}
@@ -28,6 +28,10 @@ DrawsLate s v began _ = ⊤
 -- the moments of requests, in order of their numbers, after a step that opens one, or none
 abbrev pub moments_after : {R L A C : Type 0} → List ℕ → World R L → Effects R L A C → List ℕ
 moments_after moments w e = moments ++ map (λ r. w.time) e.opens
+
+-- phases end at this time within an hour of their requests, which began at these moments
+abbrev pub EndInTime : {R : Type 0} → List ℕ → ℕ → List (Ended R) → Type 0
+EndInTime moments time ends = AllByRecursion (λ e. (began : ℕ) → numbered moments e.request ≡ Some began → time ≤ began + hour) ends
 
 module _ {R L : Type 0} (join : R → R → R) (s : Words R) (v : Versions R) where
   -- the row that a forget may drop has the bytes of the collected one, if it has their digest
@@ -57,6 +61,12 @@ module _ {R L : Type 0} (join : R → R → R) (s : Words R) (v : Versions R) wh
   IsPromptStep moments w (Skew n ms) = ms ≤ hour
   IsPromptStep moments w (Collect n) = Has all_nodes n
   IsPromptStep moments w _ = ⊤
+
+module _ {R L A C : Type 0} (join : R → R → R) (s : Words R) (k : Layouts L) (trio : L) (trio_roles : List Role → List Role) where
+  -- the moments of requests after these steps, where requests began at these before
+  abbrev pub moments_over : List ℕ → World R L → List (Move R L A C) → List ℕ
+  moments_over moments w [] = moments
+  moments_over moments w (m ∷ ms) = moments_over (moments_after moments w (does join s k trio trio_roles w m)) (next join s k trio trio_roles w m) ms
 
 module _ {R L A C : Type 0} (join : R → R → R) (s : Words R) (v : Versions R) (k : Layouts L) (trio : L) (trio_roles : List Role → List Role) where
   -- each step is prompt when it comes, where requests began at these moments before the first

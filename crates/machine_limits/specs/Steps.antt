@@ -7,7 +7,7 @@ use Rattle.table_schema.specs.Words.{Words}
 use Rattle.wire_messages.specs.declared.phase.Phase.{Phase}
 use Rattle.wire_messages.specs.declared.phase.Phase.TheVariants.{Read, Range, Store, Block}
 use Rattle.cluster_machine.specs.declared.step.Step.{Step}
-use Rattle.cluster_machine.specs.declared.step.Step.TheVariants.{Tick, Skew, Deliver, Collect, Phase as Begin}
+use Rattle.cluster_machine.specs.declared.step.Step.TheVariants.{Tick, Skew, Deliver, Phase as Begin}
 use Rattle.cluster_machine.specs.World.{Sent, numbered, packet_size}
 use Rattle.cluster_machine.specs.Worlds.{Model}
 
@@ -33,11 +33,10 @@ module _ {R : Type 0} (P : R → Type 0) (weight : R → ℕ) where
   PhaseFits (Store rows) = (length rows ≤ 2) × AllByRecursion StoredFits rows
   PhaseFits (Block hash) = ⊤
 
-  -- a tick is of a day at most and a skew of an hour, nothing is collected, and phases ask for little
+  -- a tick is of a day at most and a skew of an hour, and phases ask for little
   abbrev pub StepFits : Step R → Type 0
   StepFits (Tick ms) = ms ≤ 86400000
   StepFits (Skew n ms) = ms ≤ 3600000
-  StepFits (Collect n) = ⊥
   StepFits (Begin q phase) = PhaseFits phase
   StepFits _ = ⊤
 
