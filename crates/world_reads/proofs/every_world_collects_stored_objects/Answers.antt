@@ -21,5 +21,5 @@ returns-clause-from_installed g c before first after is h r there =
     let s = g.S.Schema.words in
     let sound = c.empty_world_is_sound.ensures in
     let is_so = c.collected_rows_are_stored_objects.ensures join s layouts first (λ roles. roles) 256 (whole join s first before after sound is) g.met.S.Schema.laws (whole_is_run join s first before after sound is h) r
-        (subst (λ w. Contains w.collected r) (sym (whole_same join s first before after sound is)) there) in
+    (subst (λ w. Contains w.collected r) (sym (whole_same join s first before after sound is)) there) in
     (is_so.0, subst (λ rows. ComesFrom join s rows r) (stored_without before after) is_so.1)
