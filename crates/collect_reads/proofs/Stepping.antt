@@ -97,33 +97,34 @@ since_later moments more moment (Some request) i =
     record { begun = omega (arith, sum, low); since = λ began e. i.since began (sym (numbered_front moments more request i.begun) ∙ e) }
 
 -- what is answered was asked of a request that began
-module _ {R L : Type 0} (join : R → R → R) (s : Words R) (g : Asks) (count : ℕ) (later : (n request phase : ℕ) → count < request → g n request phase ≡ None) where
+module _ {R : Type 0} (join : R → R → R) (s : Words R) (g : Asks) (count : ℕ) (later : (n request phase : ℕ) → count < request → g n request phase ≡ None) where
   was_asked : (n request phase : ℕ) (a : origin.Asked) → g n request phase ≡ Some a → request ≤ count
   was_asked n request phase a e = elim (cases_lt count request) [
     | inl late ↦ (let both : Some a ≡ None = sym e ∙ later n request phase late in absurd cc)
     | inr low ↦ low
   ]
 
-  answered_low : (from to : ℕ) (p : Packet R L) (request : ℕ) → answered p ≡ Some request → IsPacket join s AnyRow AnyBlock g from to p → request ≤ count
-  answered_low from to (says (Get q phase at table key)) request e i = absurd cc
-  answered_low from to (says (Row q phase None)) request e i = absurd cc
-  answered_low from to (says (Row q phase (Some r))) request e i = (let same : q ≡ request = ap (λ (o : Option ℕ). unwrap_or o q) e in subst (λ z. z ≤ count) same (was_asked to q phase _ i.0))
-  answered_low from to (says (Range q phase at bucket prefix after)) request e i = absurd cc
-  answered_low from to (says (Rows q phase rows more)) request e i = (let same : q ≡ request = ap (λ (o : Option ℕ). unwrap_or o q) e in subst (λ z. z ≤ count) same (was_asked to q phase _ i.is))
-  answered_low from to (says (Store tag named p rows)) request e i = absurd cc
-  answered_low from to (says (Stored tag)) request e i = absurd cc
-  answered_low from to (says (Behind tag v)) request e i = absurd cc
-  answered_low from to (says (NotHere tag)) request e i = absurd cc
-  answered_low from to (says (BlockGet q phase at hash)) request e i = absurd cc
-  answered_low from to (says (Block q phase bytes)) request e i = absurd cc
-  answered_low from to (says (NoBlock q phase)) request e i = absurd cc
-  answered_low from to (says (AsksValue tag named p table prefix hash)) request e i = absurd cc
-  answered_low from to (says (HasSame tag table prefix)) request e i = absurd cc
-  answered_low from to (says (Differ tag table prefix pairs)) request e i = absurd cc
-  answered_low from to (says (Tomb number round row)) request e i = absurd cc
-  answered_low from to (says (Tombed number round named)) request e i = absurd cc
-  answered_low from to (says (Forget table key hash)) request e i = absurd cc
-  answered_low from to (shows v) request e i = absurd cc
+  module _ {L : Type 0} where
+    answered_low : (from to : ℕ) (p : Packet R L) (request : ℕ) → answered p ≡ Some request → IsPacket join s AnyRow AnyBlock g from to p → request ≤ count
+    answered_low from to (says (Get q phase at table key)) request e i = absurd cc
+    answered_low from to (says (Row q phase None)) request e i = absurd cc
+    answered_low from to (says (Row q phase (Some r))) request e i = (let same : q ≡ request = ap (λ (o : Option ℕ). unwrap_or o q) e in subst (λ z. z ≤ count) same (was_asked to q phase _ i.0))
+    answered_low from to (says (Range q phase at bucket prefix after)) request e i = absurd cc
+    answered_low from to (says (Rows q phase rows more)) request e i = (let same : q ≡ request = ap (λ (o : Option ℕ). unwrap_or o q) e in subst (λ z. z ≤ count) same (was_asked to q phase _ i.is))
+    answered_low from to (says (Store tag named p rows)) request e i = absurd cc
+    answered_low from to (says (Stored tag)) request e i = absurd cc
+    answered_low from to (says (Behind tag v)) request e i = absurd cc
+    answered_low from to (says (NotHere tag)) request e i = absurd cc
+    answered_low from to (says (BlockGet q phase at hash)) request e i = absurd cc
+    answered_low from to (says (Block q phase bytes)) request e i = absurd cc
+    answered_low from to (says (NoBlock q phase)) request e i = absurd cc
+    answered_low from to (says (AsksValue tag named p table prefix hash)) request e i = absurd cc
+    answered_low from to (says (HasSame tag table prefix)) request e i = absurd cc
+    answered_low from to (says (Differ tag table prefix pairs)) request e i = absurd cc
+    answered_low from to (says (Tomb number round row)) request e i = absurd cc
+    answered_low from to (says (Tombed number round named)) request e i = absurd cc
+    answered_low from to (says (Forget table key hash)) request e i = absurd cc
+    answered_low from to (shows v) request e i = absurd cc
 
 -- ---- steps
 
@@ -132,6 +133,13 @@ sent_now w n [] = tt
 sent_now w n (p ∷ posts) = (refl, sent_now w n posts)
 
 module _ {R L : Type 0} (join : R → R → R) (s : Words R) (k : Layouts L) (trio : L) (trio_roles : List Role → List Role) where
+  module _ (w : World R L) (held : (n : ℕ) → AllByRecursion (HoldsSent w.messages) (w.nodes n).calls) where
+    one_held : (n : ℕ) (x : Node R L) → AllByRecursion (HoldsSent w.messages) x.calls → (i : ℕ) → AllByRecursion (HoldsSent w.messages) (unwrap_or (only n x i) (w.nodes i)).calls
+    one_held n x h i = elim (i == n) as (λ b. AllByRecursion (HoldsSent w.messages) (unwrap_or (cond b (Some x) None) (w.nodes i)).calls) [ true ↦ h | false ↦ held i ]
+
+    closed_held : (n q : ℕ) → AllByRecursion (HoldsSent w.messages) (closed q (w.nodes n)).calls
+    closed_held n q = all_filter (HoldsSent w.messages) (λ (c : Call R). cond (c.request == q) false true) (w.nodes n).calls (held n)
+
   module _ {A C : Type 0} (g : Asks) (w : World R L) (sound : origin.IsSound join s AnyRow AnyBlock g w) (held : (n : ℕ) → AllByRecursion (HoldsSent w.messages) (w.nodes n).calls) where
     -- after these effects requests hold, and phases gave, what came; and messages are of now
     pub record IsGood (e : Effects R L A C) : Type 0 where
@@ -147,11 +155,8 @@ module _ {R L : Type 0} (join : R → R → R) (s : Words R) (k : Layouts L) (tr
     nodes_good : (e : Effects R L A C) → ((n : ℕ) → AllByRecursion (HoldsSent w.messages) (changed e.nodes w.nodes n).calls) → e.reads ≡ [] → e.sends ≡ [] → IsGood e
     nodes_good e calls reads sends = record { calls = calls; reads = subst (AllByRecursion (Gives w.messages join s e.ends)) (sym reads) tt; sends = subst (AllByRecursion (λ (x : Sent R L). x.moment ≡ w.time)) (sym sends) tt }
 
-    one_held : (n : ℕ) (x : Node R L) → AllByRecursion (HoldsSent w.messages) x.calls → (i : ℕ) → AllByRecursion (HoldsSent w.messages) (unwrap_or (only n x i) (w.nodes i)).calls
-    one_held n x h i = elim (i == n) as (λ b. AllByRecursion (HoldsSent w.messages) (unwrap_or (cond b (Some x) None) (w.nodes i)).calls) [ true ↦ h | false ↦ held i ]
-
     one_good : (e : Effects R L A C) (n : ℕ) (x : Node R L) → AllByRecursion (HoldsSent w.messages) x.calls → e.nodes ≡ only n x → e.reads ≡ [] → e.sends ≡ [] → IsGood e
-    one_good e n x h nodes = nodes_good e (λ i. subst (λ (f : ℕ → Option (Node R L)). AllByRecursion (HoldsSent w.messages) (unwrap_or (f i) (w.nodes i)).calls) (sym nodes) (one_held n x h i))
+    one_good e n x h nodes = nodes_good e (λ i. subst (λ (f : ℕ → Option (Node R L)). AllByRecursion (HoldsSent w.messages) (unwrap_or (f i) (w.nodes i)).calls) (sym nodes) (one_held w held n x h i))
 
     refused : (r : Refusal C) → IsGood (refusal w r)
     refused r = nodes_good (refusal w r) held refl refl
@@ -160,7 +165,7 @@ module _ {R L : Type 0} (join : R → R → R) (s : Words R) (k : Layouts L) (tr
     nothing_good = nodes_good (nothing w) held refl refl
 
     did_good : (n : ℕ) (d : Did R L) → IsTraced w.messages join s d → IsGood (did w n d)
-    did_good n d h = record { calls = one_held n d.node h.calls; reads = h.reads; sends = sent_now w n d.posts }
+    did_good n d h = record { calls = one_held w held n d.node h.calls; reads = h.reads; sends = sent_now w n d.posts }
 
     received_good : (m : ℕ) (e : Effects R L A C) → IsGood e → IsGood (received m e)
     received_good m e h = record { calls = h.calls; reads = h.reads; sends = h.sends }
@@ -178,16 +183,13 @@ module _ {R L : Type 0} (join : R → R → R) (s : Words R) (k : Layouts L) (tr
     message_good f (Some x) None h = refused NoSuchMessage
     message_good f (Some x) (Some mark) h = by_test mark.is_lost (refusal w Lost) (f x) (refused Lost) (h x refl)
 
-    closed_held : (n q : ℕ) → AllByRecursion (HoldsSent w.messages) (closed q (w.nodes n)).calls
-    closed_held n q = all_filter (HoldsSent w.messages) (λ (c : Call R). cond (c.request == q) false true) (w.nodes n).calls (held n)
-
     expires_good : (q : ℕ) (o : Option Request) → IsGood (expires w q o)
     expires_good q None = refused NoSuchRequest
-    expires_good q (Some r) = by_test r.is_open _ (refusal w AlreadyEnded) (one_good _ r.coordinator (closed q (w.nodes r.coordinator)) (closed_held r.coordinator q) refl refl refl) (refused AlreadyEnded)
+    expires_good q (Some r) = by_test r.is_open _ (refusal w AlreadyEnded) (one_good _ r.coordinator (closed q (w.nodes r.coordinator)) (closed_held w held r.coordinator q) refl refl refl) (refused AlreadyEnded)
 
     closing_good : (q : ℕ) (o : Option Request) → IsGood (closing w q o)
     closing_good q None = nothing_good
-    closing_good q (Some r) = by_test r.is_open _ (nothing w) (one_good _ r.coordinator (closed q (w.nodes r.coordinator)) (closed_held r.coordinator q) refl refl refl) nothing_good
+    closing_good q (Some r) = by_test r.is_open _ (nothing w) (one_good _ r.coordinator (closed q (w.nodes r.coordinator)) (closed_held w held r.coordinator q) refl refl refl) nothing_good
 
     opening_good : (n : ℕ) → IsGood (opening join s k trio trio_roles w n)
     opening_good n =

@@ -106,8 +106,8 @@ module _ {R L : Type 0} (join : R → R → R) (s : Words R) (laws : Laws join s
           given = (let here : p ≡ partition = sym h.0 ∙ one r of in given_after join s laws v k partitions some key partition m w g sound t e goes n y (own_node join s laws v k partitions some key partition m w g sound t e n d is) (ap (λ (z : View L). is_given k z n partition) view ∙ (ap (λ q. is_given k x.view n q) (sym here) ∙ given)));
         } in
         let took : Takes join s laws v versions k partitions some key partition mid n y (takes_all join s laws v versions k partitions some key partition n moment (rows_read s bs)) =
-            take_all join s laws v versions k partitions some key partition now mid n moment x bs (record { row = (t.nodes n).row; proper = (t.nodes n).proper; items = (t.nodes n).items })
-            (all_weaker _ _ (λ r h. h.1) (rows_read s bs) means) (all_weaker _ _ bring (rows_read s bs) means) in
+        take_all join s laws v versions k partitions some key partition now mid n moment x bs (record { row = (t.nodes n).row; proper = (t.nodes n).proper; items = (t.nodes n).items })
+        (all_weaker _ _ (λ r h. h.1) (rows_read s bs) means) (all_weaker _ _ bring (rows_read s bs) means) in
         let more = takes_all join s laws v versions k partitions some key partition n moment (rows_read s bs) in
         acts_lead goes n d is w.row (λ i d. refl) (stay_all goes n d is low) more g (later_self g) (λ i d. same_self g i) took.happens took.calm (λ i apart. took.took.others i apart)
         (with_rows w (run S w (acts_with goes w.row more)) g n x y (grew_run join s v k partitions key partition (acts_with goes w.row more) w) (t.nodes n) (accepts_gc join s laws v versions k partitions some key partition now bs x) took.rows)
@@ -210,7 +210,7 @@ module _ {R L : Type 0} (join : R → R → R) (s : Words R) (laws : Laws join s
   stores_mean w' g collected n moment z request phase slot (r ∷ rs) h a =
       let both = Rattle.std.proofs.lemmas.Bool.and_parts (is_spelled s r.0) (list_all (λ (r : R × Option (List ℕ)). is_spelled s r.0) rs) h in
       let one : AllByRecursion (IsStored join s v k partitions key partition w' moment (partition_of s r.0)) (rows_read s ((bytes_of s r.0, r.1) ∷ [])) =
-          subst (λ o. AllByRecursion (IsStored join s v k partitions key partition w' moment (partition_of s r.0)) (with_read s o [])) (sym (read_spelled join s laws v k partitions key partition r.0 both.0)) ((refl, λ of. inr (a.0 of)), tt) in
+      subst (λ o. AllByRecursion (IsStored join s v k partitions key partition w' moment (partition_of s r.0)) (with_read s o [])) (sym (read_spelled join s laws v k partitions key partition r.0 both.0)) ((refl, λ of. inr (a.0 of)), tt) in
       all_append _ (to_each (nodes_of (stored_sets k z (partition_of s r.0))) (Store (ForCall request phase slot) (newest k.reading z) (partition_of s r.0) ((bytes_of s r.0, r.1) ∷ []))) (stores s k z request phase (suc slot) rs)
       (means_each join s laws v k partitions key partition w' g collected n moment (nodes_of (stored_sets k z (partition_of s r.0))) _ (λ to. one))
       (stores_mean w' g collected n moment z request phase (suc slot) rs both.1 a.1)

@@ -110,18 +110,18 @@ module _ {R L : Type 0} (join : R → R → R) (s : Words R) (laws : Laws join s
         let o = changed_in f number x.gc in
         let d : Did R L = quiet (record x { gc = o }) in
         let open_all : AllByRecursion (IsOpen join s v k partitions key partition new g n) o.collections =
-            all_changed (IsOpen join s v k partitions key partition w g n) (IsOpen join s v k partitions key partition new g n) f number x.gc.collections (t.nodes n).collections
-            (λ c there h apart. open_stays join s v k partitions key partition w new grew g g n c (same_for_at g g n c.number (same_self g n)) h)
-            (λ c there h at.
-                let sc = told_same round from named now c in
-                record {
-                  low = (let l : c.number ≤ g.last n = h.low in let q : (f c).number ≡ c.number = sc.number in omega arith);
-                  own = sc.own ∙ h.own;
-                  mine = λ is_key. told_mine join s laws v versions k partitions some key partition w new g n from round named now c grew (h.mine (sym sc.key ∙ is_key)) means.asked
-                      (λ b issued. (let P : ℕ → Type 0 = λ q. HasTombed join s v k partitions key partition w g n q round from named b in subst P (sym at) (means.means b (ap (g.begun n) (sym at) ∙ issued))))
-                      (same c there at) (completes c there at);
-                  other = λ apart. ap (g.begun n) sc.number ∙ h.other (λ is_key. apart (sc.key ∙ is_key));
-                }) in
+        all_changed (IsOpen join s v k partitions key partition w g n) (IsOpen join s v k partitions key partition new g n) f number x.gc.collections (t.nodes n).collections
+        (λ c there h apart. open_stays join s v k partitions key partition w new grew g g n c (same_for_at g g n c.number (same_self g n)) h)
+        (λ c there h at.
+        let sc = told_same round from named now c in
+        record {
+          low = (let l : c.number ≤ g.last n = h.low in let q : (f c).number ≡ c.number = sc.number in omega arith);
+          own = sc.own ∙ h.own;
+          mine = λ is_key. told_mine join s laws v versions k partitions some key partition w new g n from round named now c grew (h.mine (sym sc.key ∙ is_key)) means.asked
+              (λ b issued. (let P : ℕ → Type 0 = λ q. HasTombed join s v k partitions key partition w g n q round from named b in subst P (sym at) (means.means b (ap (g.begun n) (sym at) ∙ issued))))
+              (same c there at) (completes c there at);
+          other = λ apart. ap (g.begun n) sc.number ∙ h.other (λ is_key. apart (sc.key ∙ is_key));
+        }) in
         acts_lead join s laws v versions k partitions some key partition m w g sound t e goes n d is w.row (λ i apart. refl) (stay_all join s laws v versions k partitions some key partition m w g sound t e goes n d is (omega arith)) more g (later_self g) (λ i apart. same_self g i) happens calm (λ i apart. rows i)
         (with_collections new grew n o (rows n) refl open_all (changed_different (λ c. cond (c.number == number) (f c) c) x.gc.collections (λ c. elim (c.number == number) as (λ b. (cond b (f c) c).number ≡ c.number) [ true ↦ (told_same round from named now c).number | false ↦ refl ]) (t.nodes n).different))
         tt tt
@@ -179,19 +179,21 @@ module _ {R L : Type 0} (join : R → R → R) (s : Words R) (laws : Laws join s
             let all16 : length answers ≡ 16 = (let l : length answers ≡ suc (length c.first) = length_last c.first (from, named) in omega arith) in
             let skew : m.skew_of n ≤ hour = t.skews n in
             let same_time : w.time ≡ m.time = t.time in
-            told_leads goes n from number round named means is (act.completes mine.begun us now ∷ [])
-            (record {
-              began = mine.there;
-              each = λ i h. all_named join s laws v versions k partitions some key partition answers different (all_append _ c.first ((from, named) ∷ []) mine.among (means.asked, tt)) all16 i h;
-              witnesses = λ u h. (let found = map_has witness answers u h in subst (IsWitness S w mine.begun) found.1.1 (all_has (λ (a : ℕ × ℕ). IsWitness S w mine.begun (witness a)) answers found.0 witnesses found.1.0));
-              behind = omega arith;
-              ahead = omega arith;
-            }, tt) (tt, tt) (λ i. refl) not_second
+            told_leads goes n from number round named means is (act.completes mine.begun us now ∷ []) (
+              record {
+                began = mine.there;
+                each = λ i h. all_named join s laws v versions k partitions some key partition answers different (all_append _ c.first ((from, named) ∷ []) mine.among (means.asked, tt)) all16 i h;
+                witnesses = λ u h. (let found = map_has witness answers u h in subst (IsWitness S w mine.begun) found.1.1 (all_has (λ (a : ℕ × ℕ). IsWitness S w mine.begun (witness a)) answers found.0 witnesses found.1.0));
+                behind = omega arith;
+                ahead = omega arith;
+              },
+              tt,
+            ) (tt, tt) (λ i. refl) not_second
             (λ d h e other d_one d_round d_none d_full.
-                let same : c ≡ d = one_is d h e in
-                let P : Collection → Type 0 = λ d. (other : Mine w g n d) → ◌≡◌ {A = Ready R Version} (record { begun = mine.begun; first = us; clock = now }) (record { begun = other.begun; first = map witness (d.first ++ (from, named) ∷ []); clock = now }) in
-                let here : P c = λ other. (let b : mine.begun ≡ other.begun = some_is (g.begun n c.number) mine.begun other.begun mine.issued other.issued in λ i. record { begun = b i; first = us; clock = now }) in
-                inl (subst P same here other))
+            let same : c ≡ d = one_is d h e in
+            let P : Collection → Type 0 = λ d. (other : Mine w g n d) → ◌≡◌ {A = Ready R Version} (record { begun = mine.begun; first = us; clock = now }) (record { begun = other.begun; first = map witness (d.first ++ (from, named) ∷ []); clock = now }) in
+            let here : P c = λ other. (let b : mine.begun ≡ other.begun = some_is (g.begun n c.number) mine.begun other.begun mine.issued other.issued in λ i. record { begun = b i; first = us; clock = now }) in
+            inl (subst P same here other))
 
         by_key : (b : Bool) → same_bytes c.key key ≡ b → Leads join s v k partitions some key partition m w g e
         by_key true f = of_mine (open_c.mine (same_are c.key key f))

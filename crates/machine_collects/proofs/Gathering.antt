@@ -320,7 +320,7 @@ module _ {R L : Type 0} (join : R → R → R) (s : Words R) (laws : Laws join s
         let at_node : mine.begun.node ≡ n = mine.at_node in
         let begun_is : rd.ready.begun ≡ mine.begun = rd.of_it in
         let same_newest : S.control.newest z.control rd.ready.begun.node ≡ rd.ready.begun.newest =
-            ap (λ (b : Begun R Version). S.control.newest z.control b.node) begun_is ∙ (ap (S.control.newest z.control) at_node ∙ (ap (λ q. S.control.newest q n) a.same_control ∙ (control ∙ (known ∙ (sym mine.newest ∙ ap (λ (b : Begun R Version). b.newest) (sym begun_is)))))) in
+        ap (λ (b : Begun R Version). S.control.newest z.control b.node) begun_is ∙ (ap (S.control.newest z.control) at_node ∙ (ap (λ q. S.control.newest q n) a.same_control ∙ (control ∙ (known ∙ (sym mine.newest ∙ ap (λ (b : Begun R Version). b.newest) (sym begun_is)))))) in
         let in_new : IsOpen join s v k partitions key partition new h n (in_second c) = record {
           low = open_c.low;
           own = open_c.own;

@@ -184,10 +184,10 @@ module _ {R L : Type 0} (join : R → R → R) (s : Words R) (laws : Laws join s
       let now : Round = record round { walks = walks_after later round.walks } in
       let there : Round = record now { confirmed = now.confirmed ++ record { partition = u.state.partition; node = u.node } ∷ [] } in
       let c : CalmNode x (cond (found_same later) (goes_on join s k id x there) (record x { round = Some now })) =
-          elim (found_same later) as (λ b. CalmNode x (cond b (goes_on join s k id x there) (record x { round = Some now }))) [
-            | true ↦ calm_goes_on id x x there refl refl refl refl
-            | false ↦ (record { accepted = refl; items = λ i. i; gc = inl refl }, itself (oldest k.reading x.view))
-          ] in
+      elim (found_same later) as (λ b. CalmNode x (cond b (goes_on join s k id x there) (record x { round = Some now }))) [
+        | true ↦ calm_goes_on id x x there refl refl refl refl
+        | false ↦ (record { accepted = refl; items = λ i. i; gc = inl refl }, itself (oldest k.reading x.view))
+      ] in
       record {
         did = record { calm = c.0; low = c.1; collects = refl };
         posts = λ spelled w g collected n moment proper shown. walk_sends join s laws v k partitions key partition w g collected n moment x proper shown round.number later table (asked_after join s x u.state.partition table prefix answer) spelled;

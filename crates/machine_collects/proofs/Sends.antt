@@ -84,9 +84,9 @@ module _ {R L : Type 0} (join : R → R → R) (s : Words R) (laws : Laws join s
       let all_proper : All (λ r. IsTrue (s.is_proper r)) contents = All-from_recursion (λ r. IsTrue (s.is_proper r)) contents proper in
       all_weaker (λ r. find_row s (s.table r) (s.key r) (rows join s contents) ≡ Some r) (λ r. Of r → row_at join s contents 1 key ≡ Some r)
       (λ r e of.
-          let P : ℕ → Type 0 = λ table. row_at join s contents table (s.key r) ≡ Some r in
-          let Q : List ℕ → Type 0 = λ its. row_at join s contents 1 its ≡ Some r in
-          subst Q of.key_is (subst P of.table (sym (row_found laws contents (s.table r) (s.key r) all_proper) ∙ e)))
+      let P : ℕ → Type 0 = λ table. row_at join s contents table (s.key r) ≡ Some r in
+      let Q : List ℕ → Type 0 = λ its. row_at join s contents 1 its ≡ Some r in
+      subst Q of.key_is (subst P of.table (sym (row_found laws contents (s.table r) (s.key r) all_proper) ∙ e)))
       (rows join s contents) (found_itself s (rows join s contents) (rows_ascend laws contents all_proper))
 
   pub range_own : (contents : List R) → AllByRecursion (λ r. IsTrue (s.is_proper r)) contents → (table : ℕ) (prefix after : List ℕ) (limit : ℕ) → AllByRecursion (λ r. Of r → row_at join s contents 1 key ≡ Some r) (range s table prefix after limit (rows join s contents)).0
