@@ -120,7 +120,7 @@ module _ {R : Type 0} {join : R → R → R} {s : Words R} {P : R → Type 0} {w
       by_same false e = closes spent (weight r) c.number t g
 
   pub goes_all : (spent : ℕ) (rs : List R) (t : Progress R Layout) → AllByRecursion (IsGood s P) rs → Going spent t → Going (total weight rs + spent) (about_all join s layouts id now version rs t)
-  goes_all spent [] t a g = g
+  goes_all spent [] t a g = wider spent (total weight [] + spent) t (omega arith) g
   goes_all spent (r ∷ rs) t a g =
       let o = keyed (s.key r) t.gc in
       let whole : total weight (r ∷ rs) ≡ weight r + total weight rs = refl in
