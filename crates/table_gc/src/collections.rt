@@ -5,10 +5,12 @@ ghost use Rattle.gc_model.specs.Collecting.{IsNumbered, none_open, begun_with, k
 ghost use Rattle.numbered_list.specs.Numbers.{RefusesNumber};
 
 use crate::collection::{begin_second, end_of, is_closed, is_ready, missing, tell};
+use crate::keys::{Keys, add, first, remove};
 use crdt_core::{Bytes, List, Memory};
 use gc_model::{Collection, GcEnd};
 use numbered_list::place_of;
 use std::alloc::Global;
+use std::collections::BTreeMap;
 use std::marker::Model;
 
 /// The collections of a node that are open.
@@ -16,16 +18,18 @@ use std::marker::Model;
 pub struct Collections {
     begun: u64,
     list: List<Collection>,
+    keys: Keys,
 }
 
 impl Model for Collections {
-    ghost use Rattle.gc_model.specs.Collecting.{Open, IsNumbered};
+    ghost use Rattle.gc_model.specs.Collecting.{Open};
+    ghost use Rattle.table_gc.specs.Keys.{AreOpen};
 
     ghost Value = { Open };
 
     ghost view = { λ c. record { begun = c.begun; collections = c.list } };
 
-    ghost invariant = { λ c. IsNumbered c.begun c.list };
+    ghost invariant = { λ c. AreOpen c.begun c.list c.keys };
 }
 
 impl Collections {
@@ -35,6 +39,7 @@ impl Collections {
         Collections {
             begun: 0,
             list: List::new(alloc),
+            keys: BTreeMap::new(alloc),
         }
     }
 
@@ -51,6 +56,7 @@ impl Collections {
         }
         let number = self.begun + 1;
         let alloc = self.list.allocator();
+        let indexed = Vec::from_slice(alloc, key.as_slice())?;
         let mut first = List::new(alloc);
         first.push((own, newest))?;
         let again = List::new(alloc);
@@ -65,6 +71,10 @@ impl Collections {
             first,
             again,
         })?;
+        if let Err(fault) = add(alloc, &mut self.keys, indexed, number) {
+            let _ = self.list.pop();
+            return Err(fault);
+        }
         self.begun = number;
         Ok(number)
     }
@@ -73,10 +83,17 @@ impl Collections {
     pub fn of(&self, key: &[u8]) -> Option<&Collection>
         ensures { option_copied result ≡ keyed key.now self.now }
     {
-        self.list
-            .as_slice()
-            .iter()
-            .find(|collection| collection.key.as_slice() == key)
+        let number = first(&self.keys, key)?;
+        let i = place_of(self.list.as_slice(), number)?;
+        Some(self.list.at(i))
+    }
+
+    /// The open collection with this number.
+    pub fn numbered(&self, number: u64) -> Option<&Collection>
+        ensures { option_copied result ≡ numbered number self.now }
+    {
+        let i = place_of(self.list.as_slice(), number)?;
+        Some(self.list.at(i))
     }
 
     /// The open collections in order of their numbers.
@@ -142,7 +159,8 @@ impl Collections {
             Some(i) => {
                 let end = end_of(self.list.at(i), round, node, newest);
                 if is_closed(end) {
-                    let _ = self.list.remove(i);
+                    let closed = self.list.remove(i);
+                    remove(&mut self.keys, closed.key.as_slice(), number);
                     return Ok(end);
                 }
                 tell(self.list.at_mut(i), round, node, newest, now)?;
@@ -158,7 +176,8 @@ impl Collections {
     {
         match place_of(self.list.as_slice(), number) {
             Some(i) => {
-                let _ = self.list.remove(i);
+                let closed = self.list.remove(i);
+                remove(&mut self.keys, closed.key.as_slice(), number);
             }
             None => {}
         }
@@ -169,5 +188,6 @@ impl Collections {
         ensures { self.new ≡ record self.old { collections = [] } }
     {
         self.list.truncate(0);
+        self.keys.clear();
     }
 }

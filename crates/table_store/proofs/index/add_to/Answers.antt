@@ -1,7 +1,7 @@
 use Rattle.std.proofs.Common.{ap, ◌∙◌}
 use Rattle.table_store.specs.Index.{has_key}
 use Rattle.table_store.proofs.Entries.{has_more}
-use Rattle.table_store.proofs.index.add_waiting.Goals as goal
+use Rattle.table_store.proofs.index.add_to.Goals as goal
 
 pub returns-clause-others : goal.returns-clause-others
 returns-clause-others c other had =

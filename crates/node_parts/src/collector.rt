@@ -1,0 +1,237 @@
+//! How a node collects its delete markers.
+ghost use Rattle.std.specs.Prelude.{◌≡◌, ◌⊎◌, ◌+◌, ◌^◌, ◌≤◌, Some, None, [], IfOk, OnOk};
+ghost use Rattle.crdt_core.specs.Outcomes.{OnlyWant, WantOr};
+ghost use Rattle.cluster_machine.specs.Collects.{is_aged, others};
+ghost use Rattle.node_parts.specs.Collects.{Abouts, CannotAbout, Begins, GoesOnWith, ClosesGone, Looks, Collects, CannotCollect};
+
+use crate::contents::Contents;
+use crate::packet::Envelope;
+use crate::posts::send_each;
+use crdt_core::{Bytes, Memory, Value};
+use std::alloc::Global;
+use std::collections::BTreeSet;
+use table_gc::Collections;
+use table_schema::Schema;
+use wire_messages::Message;
+
+/// So long ago, in milliseconds, a delete marker's timestamp has to be for its row to be collected.
+const AGE: u64 = 86_400_000;
+
+/// So long after round 1 was complete, in milliseconds, round 2 begins.
+const PAUSE: u64 = 10_800_000;
+
+/// Who collects.
+#[derive(Clone, Copy)]
+pub struct Collector {
+    pub node: u8,
+    /// Its newest layout version.
+    pub newest: u32,
+    /// Its clock, in milliseconds.
+    pub now: u64,
+    pub alloc: Global,
+}
+
+/// The nodes from 1 to 16 other than this one.
+pub fn others(alloc: Global, node: u8) -> Result<Vec<u8>, Memory>
+    ensures are { IfOk result (λ nodes. nodes.items ≡ others node) }
+    ensures want { OnlyWant result }
+{
+    let nodes = [1, 2, 3, 4, 5, 6, 7, 8, 9, 10, 11, 12, 13, 14, 15, 16];
+    let others = nodes.iter().filter(|other| **other != node);
+    Ok(others.map(|other| *other).collect(alloc)?)
+}
+
+impl Collector {
+    /// Begins collections of the tombstones that are old enough, goes on with those that are open, and closes those
+    /// whose row is another or is gone; how many began. `Full` where a row that it looks at can't be written, or where
+    /// a number would be 2^64.
+    pub fn collect<S: Schema>(
+        self,
+        contents: &Contents<S>,
+        gc: &mut Collections,
+        out: &mut Vec<Envelope<S::Row>>,
+    ) -> Result<u64, Memory>
+        ensures collects { IfOk result (λ begun. Collects S.Row.join S.words self contents.now gc.old gc.new out.old.items out.new.items begun) }
+        ensures causes { WantOr result (CannotCollect S.Row.join S.words self contents.now gc.old) }
+    {
+        self.close_gone(contents, gc)?;
+        let keys = self.keys(contents, gc)?;
+        let mut begun = 0;
+        for key in &keys {
+            if self.collect_at(contents, gc, key.as_slice(), out)? {
+                begun += 1;
+            }
+        }
+        Ok(begun)
+    }
+
+    // Closes the collections whose row is gone.
+    fn close_gone<S: Schema>(
+        self,
+        contents: &Contents<S>,
+        gc: &mut Collections,
+    ) -> Result<(), Memory>
+        ensures closes { OnOk result (ClosesGone S.words contents.now gc.old gc.new) }
+        ensures want { OnlyWant result }
+    {
+        let mut gone = Vec::new(self.alloc);
+        for collection in gc.all() {
+            if contents.table.get(1, collection.key.as_slice()).is_none() {
+                gone.push(collection.number)?;
+            }
+        }
+        for number in &gone {
+            gc.close(*number);
+        }
+        Ok(())
+    }
+
+    // The keys of the rows that are looked at: those with an open collection, and tombstones that are old enough.
+    fn keys<S: Schema>(
+        self,
+        contents: &Contents<S>,
+        gc: &Collections,
+    ) -> Result<BTreeSet<Vec<u8>>, Memory>
+        ensures are { IfOk result (λ keys. Looks S.words self.now contents.now gc.now keys) }
+        ensures want { OnlyWant result }
+    {
+        let mut keys = BTreeSet::new(self.alloc);
+        if self.now >= AGE {
+            contents.table.add_marked(self.now - AGE, &mut keys)?;
+        }
+        for collection in gc.all() {
+            let key = Vec::from_slice(self.alloc, collection.key.as_slice())?;
+            let _ = keys.insert(key)?;
+        }
+        Ok(keys)
+    }
+
+    // What is done about the row at a key; whether a collection of it began.
+    fn collect_at<S: Schema>(
+        self,
+        contents: &Contents<S>,
+        gc: &mut Collections,
+        key: &[u8],
+        out: &mut Vec<Envelope<S::Row>>,
+    ) -> Result<bool, Memory>
+    {
+        match contents.table.get(1, key) {
+            Some(row) => self.about::<S>(gc, row, out),
+            None => Ok(false),
+        }
+    }
+
+    // What is done about a row; whether a collection of it began.
+    fn about<S: Schema>(
+        self,
+        gc: &mut Collections,
+        row: &S::Row,
+        out: &mut Vec<Envelope<S::Row>>,
+    ) -> Result<bool, Memory>
+        ensures about { IfOk result (λ began. Abouts S.words self row.now gc.old gc.new out.old.items out.new.items began) }
+        ensures causes { WantOr result (CannotAbout S.words self row.now gc.old) }
+    {
+        let bytes = S::row_bytes(self.alloc, row)?;
+        let key = S::key(self.alloc, row)?;
+        match gc.of(key.as_slice()) {
+            None => {
+                if !self.is_aged(S::marker(row)) {
+                    return Ok(false);
+                }
+                self.begin(gc, key, bytes, out)?;
+                Ok(true)
+            }
+            Some(collection) => {
+                let number = collection.number;
+                if collection.newest != self.newest || collection.row != bytes {
+                    gc.close(number);
+                    return Ok(false);
+                }
+                let (round, ready) = (collection.round, collection.ready);
+                self.go_on(gc, number, round, ready, bytes, out)?;
+                Ok(false)
+            }
+        }
+    }
+
+    // The delete marker lies far enough back.
+    fn is_aged(self, marker: Option<(u64, u64)>) -> bool
+        ensures { result ≡ is_aged self.now marker }
+    {
+        match marker {
+            Some(version) => self.now >= AGE && version.0 <= self.now - AGE,
+            None => false,
+        }
+    }
+
+    // Begins a collection of a row.
+    fn begin<R: Drop>(
+        self,
+        gc: &mut Collections,
+        key: Bytes,
+        row: Bytes,
+        out: &mut Vec<Envelope<R>>,
+    ) -> Result<(), Memory>
+        ensures begins { OnOk result (Begins self key row gc.old gc.new out.old.items out.new.items) }
+        ensures causes { WantOr result (2 ^ 64 ≤ gc.old.begun + 1) }
+    {
+        let sent = row.copy()?;
+        let number = gc.begin(key, row, self.node, self.newest)?;
+        let others = others(self.alloc, self.node)?;
+        ask(out, self.node, others.as_slice(), number, 1, sent)
+    }
+
+    // Asks who has not confirmed the open round, or begins round 2.
+    fn go_on<R: Drop>(
+        self,
+        gc: &mut Collections,
+        number: u64,
+        round: u8,
+        ready: Option<u64>,
+        row: Bytes,
+        out: &mut Vec<Envelope<R>>,
+    ) -> Result<(), Memory>
+    {
+        let Some(ready) = ready else {
+            let missing = gc.missing(number)?;
+            return ask(out, self.node, missing.as_slice(), number, 1, row);
+        };
+        if self.waits(ready) {
+            return Ok(());
+        }
+        if round == 1 {
+            gc.second(number)?;
+        }
+        let missing = gc.missing(number)?;
+        ask(out, self.node, missing.as_slice(), number, 2, row)
+    }
+
+    // Round 1 was complete too short a time ago.
+    fn waits(self, ready: u64) -> bool
+    {
+        match ready.checked_add(PAUSE) {
+            Some(end) => self.now < end,
+            None => true,
+        }
+    }
+}
+
+// Asks nodes to confirm a round of a collection.
+fn ask<R: Drop>(
+    out: &mut Vec<Envelope<R>>,
+    node: u8,
+    nodes: &[u8],
+    collection: u64,
+    round: u8,
+    row: Bytes,
+) -> Result<(), Memory>
+    ensures asks { OnOk result (Posts node out.old.items out.new.items (to_each nodes.now (Tomb collection round row))) }
+    ensures want { OnlyWant result }
+{
+    let message = Message::Tomb {
+        collection,
+        round,
+        row,
+    };
+    send_each(out, node, nodes, message)
+}
