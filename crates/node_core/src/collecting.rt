@@ -1,28 +1,40 @@
 //! How a node collects delete markers, and helps others to.
-ghost use Rattle.std.specs.Prelude.{◌≡◌, ◌⊎◌, ◌≤◌, ℕ, List, None, IfOk, OnOk};
+ghost use Rattle.std.specs.Prelude.{◌≡◌, ◌⊎◌, List, None, IfOk, OnOk};
 ghost use Rattle.crdt_core.specs.Outcomes.{OnlyWant, WantOr};
-ghost use Rattle.blake2_hash.specs.Blake2b.{blake2b};
-ghost use Rattle.layout_roles.specs.declared.layout.Layout.{Layout};
+ghost use Rattle.view_model.specs.Layouts.{reading};
+ghost use Rattle.view_model.specs.View.{newest};
 ghost use Rattle.cluster_machine.specs.Layouts.{layouts};
-ghost use Rattle.cluster_machine.specs.Node.{Node as Model};
 ghost use Rattle.cluster_machine.specs.Blocks.{NeedsNone};
 ghost use Rattle.cluster_machine.specs.Collects.{takes_tomb, tomb_came, forgets, finishes};
 ghost use Rattle.cluster_machine.specs.Acts.{acts};
 ghost use Rattle.cluster_machine.specs.declared.step.Action.TheVariants.{Collect as Gather};
 ghost use Rattle.gc_model.specs.Collecting.{numbered};
+ghost use Rattle.node_parts.specs.declared.packet.Envelope.{Envelope};
 ghost use Rattle.node_core.specs.Stands.{view_of};
 
 use crate::node::Node;
-use blake2_hash::{Hash32, blake2b_256};
+use blake2_hash::Hash32;
 use cluster_machine::LocalEnd;
-use crdt_core::{Bytes, Memory, Value};
+use crdt_core::{Bytes, Memory};
 use gc_model::GcEnd;
-use node_parts::{Collector, Envelope, others, send, send_each};
+use node_parts::{Collector, Envelope, send};
 use table_schema::Schema;
 use wire_messages::Message;
 
 impl<S: Schema> Node<S> {
-    ghost use Rattle.node_core.specs.Stands.{StandsFor, Does, Drops, Acts, Overflows};
+    ghost use Rattle.node_core.specs.Stands.{Does, Drops, Acts, Overflows};
+
+    // Who collects.
+    fn collector(&self, now: u64) -> Collector
+        ensures { result ≡ record { node = self.now.id; newest = newest reading (view_of self.now); now = now; alloc = self.now.alloc } }
+    {
+        Collector {
+            node: self.id,
+            newest: self.view.newest(),
+            now,
+            alloc: self.alloc,
+        }
+    }
 
     /// A node asks to merge a tombstone and to confirm a round of its collection.
     pub(crate) fn take_tomb(
@@ -64,7 +76,7 @@ impl<S: Schema> Node<S> {
         match self.gc.tombed(collection, round, from, named, now)? {
             GcEnd::Complete => {
                 if round == 2 {
-                    return self.finish(collection, out);
+                    return self.finish(collection, now, out);
                 }
                 Ok(None)
             }
@@ -76,41 +88,18 @@ impl<S: Schema> Node<S> {
     fn finish(
         &mut self,
         collection: u64,
+        now: u64,
         out: &mut Vec<Envelope<S::Row>>,
     ) -> Result<Option<(u64, u64)>, Memory>
         ensures finishes { IfOk result (λ dropped. Drops S.Row.join S.words self.old self.new out.old.items out.new.items dropped (λ id x. finishes S.Row.join S.words layouts id x (numbered collection x.gc))) }
         ensures want { OnlyWant result }
     {
-        let dropped = self.drop_collected(collection, out)?;
+        let collector = self.collector(now);
+        let Some(ended) = self.gc.numbered(collection) else {
+            return Ok(None);
+        };
+        let dropped = collector.end(&mut self.contents, ended, out)?;
         self.gc.close(collection);
-        Ok(dropped)
-    }
-
-    // Drops the row of a collection and tells the others, where neither it nor the newest version has changed.
-    fn drop_collected(
-        &mut self,
-        collection: u64,
-        out: &mut Vec<Envelope<S::Row>>,
-    ) -> Result<Option<(u64, u64)>, Memory>
-    {
-        let Some(open) = self.gc.numbered(collection) else {
-            return Ok(None);
-        };
-        if self.view.newest() != open.newest {
-            return Ok(None);
-        }
-        let key = open.key.as_slice();
-        if !self.contents.has_bytes(key, open.row.as_slice())? {
-            return Ok(None);
-        }
-        let dropped = self.contents.drop_row(1, key)?;
-        let message = Message::Forget {
-            table: 1,
-            key: open.key.copy()?,
-            hash: blake2b_256(open.row.as_slice()),
-        };
-        let others = others(self.alloc, self.id)?;
-        send_each(out, self.id, others.as_slice(), message)?;
         Ok(dropped)
     }
 
@@ -136,12 +125,7 @@ impl<S: Schema> Node<S> {
         ensures collects { IfOk result (λ how. Acts S.Row.join S.words self.old self.new out.old.items out.new.items how (λ id x. acts S.Row.join S.words layouts id now x Gather)) }
         ensures causes { WantOr result (Overflows S.Row.join S.words self.old (λ id x. (acts S.Row.join S.words layouts id now x Gather).did)) }
     {
-        let collector = Collector {
-            node: self.id,
-            newest: self.view.newest(),
-            now,
-            alloc: self.alloc,
-        };
+        let collector = self.collector(now);
         let begun = collector.collect(&self.contents, &mut self.gc, out)?;
         let left = self.gc.all().len() as u64;
         Ok(LocalEnd::Collected { begun, left })

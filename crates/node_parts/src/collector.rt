@@ -1,13 +1,19 @@
 //! How a node collects its delete markers.
-ghost use Rattle.std.specs.Prelude.{◌≡◌, ◌⊎◌, ◌+◌, ◌^◌, ◌≤◌, Some, None, [], IfOk, OnOk};
+ghost use Rattle.std.specs.Prelude.{◌≡◌, ◌⊎◌, ◌+◌, ◌^◌, ◌≤◌, nat_lt, Some, None, IfOk, OnOk};
 ghost use Rattle.crdt_core.specs.Outcomes.{OnlyWant, WantOr};
-ghost use Rattle.cluster_machine.specs.Collects.{is_aged, others};
-ghost use Rattle.node_parts.specs.Collects.{Abouts, CannotAbout, Begins, GoesOnWith, ClosesGone, Looks, Collects, CannotCollect};
+ghost use Rattle.wire_messages.specs.declared.message.Message.TheVariants.{Tomb};
+ghost use Rattle.cluster_machine.specs.Collects.{collection_pause, is_aged, others};
+ghost use Rattle.cluster_machine.specs.Phases.{to_each};
+ghost use Rattle.node_parts.specs.Posts.{Posts};
+ghost use Rattle.node_parts.specs.Collects.{Abouts, CannotAbout, AboutAt, CannotAboutAt, AboutKeys, CannotAboutKeys, Begins, IsOpen, GoesOn, Ends, ClosesGone, Looks, Collects, CannotCollect};
+ghost use Rattle.table_model.specs.Rows.{find_row};
 
 use crate::contents::Contents;
 use crate::packet::Envelope;
 use crate::posts::send_each;
+use blake2_hash::blake2b_256;
 use crdt_core::{Bytes, Memory, Value};
+use gc_model::Collection;
 use std::alloc::Global;
 use std::collections::BTreeSet;
 use table_gc::Collections;
@@ -31,8 +37,8 @@ pub struct Collector {
     pub alloc: Global,
 }
 
-/// The nodes from 1 to 16 other than this one.
-pub fn others(alloc: Global, node: u8) -> Result<Vec<u8>, Memory>
+// The nodes from 1 to 16 other than this one.
+fn others(alloc: Global, node: u8) -> Result<Vec<u8>, Memory>
     ensures are { IfOk result (λ nodes. nodes.items ≡ others node) }
     ensures want { OnlyWant result }
 {
@@ -56,13 +62,53 @@ impl Collector {
     {
         self.close_gone(contents, gc)?;
         let keys = self.keys(contents, gc)?;
+        self.about_all(contents, gc, &keys, out)
+    }
+
+    // What is done about the rows at these keys, one after the other; how many collections began.
+    fn about_all<S: Schema>(
+        self,
+        contents: &Contents<S>,
+        gc: &mut Collections,
+        keys: &BTreeSet<Vec<u8>>,
+        out: &mut Vec<Envelope<S::Row>>,
+    ) -> Result<u64, Memory>
+        ensures about { IfOk result (λ begun. AboutKeys S.Row.join S.words self contents.now.table keys.now.keys gc.old gc.new out.old.items out.new.items begun) }
+        ensures causes { WantOr result (CannotAboutKeys S.Row.join S.words self contents.now.table keys.now.keys gc.old) }
+    {
         let mut begun = 0;
-        for key in &keys {
-            if self.collect_at(contents, gc, key.as_slice(), out)? {
+        for key in keys {
+            if self.about_key(contents, gc, key.as_slice(), out)? {
                 begun += 1;
             }
         }
         Ok(begun)
+    }
+
+    /// Drops the row of a collection that has come to its end, and tells the others, where neither the row nor the newest
+    /// layout version has changed; its delete marker.
+    pub fn end<S: Schema>(
+        self,
+        contents: &mut Contents<S>,
+        ended: &Collection,
+        out: &mut Vec<Envelope<S::Row>>,
+    ) -> Result<Option<(u64, u64)>, Memory>
+        ensures ends { IfOk result (λ dropped. Ends S.Row.join S.words self ended.now contents.old contents.new out.old.items out.new.items dropped) }
+        ensures want { OnlyWant result }
+    {
+        let key = ended.key.as_slice();
+        if self.newest != ended.newest || !contents.has_bytes(key, ended.row.as_slice())? {
+            return Ok(None);
+        }
+        let dropped = contents.drop_row(1, key)?;
+        let message = Message::Forget {
+            table: 1,
+            key: ended.key.copy()?,
+            hash: blake2b_256(ended.row.as_slice()),
+        };
+        let others = others(self.alloc, self.node)?;
+        send_each(out, self.node, others.as_slice(), message)?;
+        Ok(dropped)
     }
 
     // Closes the collections whose row is gone.
@@ -71,7 +117,7 @@ impl Collector {
         contents: &Contents<S>,
         gc: &mut Collections,
     ) -> Result<(), Memory>
-        ensures closes { OnOk result (ClosesGone S.words contents.now gc.old gc.new) }
+        ensures closes { OnOk result (ClosesGone S.Row.join S.words contents.now gc.old gc.new) }
         ensures want { OnlyWant result }
     {
         let mut gone = Vec::new(self.alloc);
@@ -92,7 +138,7 @@ impl Collector {
         contents: &Contents<S>,
         gc: &Collections,
     ) -> Result<BTreeSet<Vec<u8>>, Memory>
-        ensures are { IfOk result (λ keys. Looks S.words self.now contents.now gc.now keys) }
+        ensures are { IfOk result (λ keys. Looks S.Row.join S.words self.now contents.now gc.now keys) }
         ensures want { OnlyWant result }
     {
         let mut keys = BTreeSet::new(self.alloc);
@@ -107,13 +153,15 @@ impl Collector {
     }
 
     // What is done about the row at a key; whether a collection of it began.
-    fn collect_at<S: Schema>(
+    fn about_key<S: Schema>(
         self,
         contents: &Contents<S>,
         gc: &mut Collections,
         key: &[u8],
         out: &mut Vec<Envelope<S::Row>>,
     ) -> Result<bool, Memory>
+        ensures about { IfOk result (λ began. AboutAt S.Row.join S.words self (find_row S.words 1 key.now contents.now.table) gc.old gc.new out.old.items out.new.items began) }
+        ensures causes { WantOr result (CannotAboutAt S.Row.join S.words self (find_row S.words 1 key.now contents.now.table) gc.old) }
     {
         match contents.table.get(1, key) {
             Some(row) => self.about::<S>(gc, row, out),
@@ -128,8 +176,8 @@ impl Collector {
         row: &S::Row,
         out: &mut Vec<Envelope<S::Row>>,
     ) -> Result<bool, Memory>
-        ensures about { IfOk result (λ began. Abouts S.words self row.now gc.old gc.new out.old.items out.new.items began) }
-        ensures causes { WantOr result (CannotAbout S.words self row.now gc.old) }
+        ensures about { IfOk result (λ began. Abouts S.Row.join S.words self row.now gc.old gc.new out.old.items out.new.items began) }
+        ensures causes { WantOr result (CannotAbout S.Row.join S.words self row.now gc.old) }
     {
         let bytes = S::row_bytes(self.alloc, row)?;
         let key = S::key(self.alloc, row)?;
@@ -148,7 +196,7 @@ impl Collector {
                     return Ok(false);
                 }
                 let (round, ready) = (collection.round, collection.ready);
-                self.go_on(gc, number, round, ready, bytes, out)?;
+                self.go_on::<S>(gc, number, round, ready, bytes, out)?;
                 Ok(false)
             }
         }
@@ -182,15 +230,18 @@ impl Collector {
     }
 
     // Asks who has not confirmed the open round, or begins round 2.
-    fn go_on<R: Drop>(
+    fn go_on<S: Schema>(
         self,
         gc: &mut Collections,
         number: u64,
         round: u8,
         ready: Option<u64>,
         row: Bytes,
-        out: &mut Vec<Envelope<R>>,
+        out: &mut Vec<Envelope<S::Row>>,
     ) -> Result<(), Memory>
+        requires there { IsOpen number round ready row gc.old }
+        ensures goes_on { OnOk result (GoesOn S.Row.join S.words self number gc.old gc.new out.old.items out.new.items) }
+        ensures want { OnlyWant result }
     {
         let Some(ready) = ready else {
             let missing = gc.missing(number)?;
@@ -208,6 +259,7 @@ impl Collector {
 
     // Round 1 was complete too short a time ago.
     fn waits(self, ready: u64) -> bool
+        ensures { result ≡ nat_lt self.now (ready + collection_pause) }
     {
         match ready.checked_add(PAUSE) {
             Some(end) => self.now < end,

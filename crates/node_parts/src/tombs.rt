@@ -1,11 +1,12 @@
 //! Tombstones at a node: how they are merged, compared and dropped.
-ghost use Rattle.std.specs.Prelude.{◌≡◌, ◌⊎◌, IfOk, OnOk};
+ghost use Rattle.std.specs.Prelude.{◌≡◌, ◌⊎◌, is_some, IfOk, OnOk};
+ghost use Rattle.std.specs.Option.{option_and_then};
 ghost use Rattle.crdt_core.specs.Outcomes.{OnlyWant, WantOr};
 ghost use Rattle.table_model.specs.Rows.{find_row};
 ghost use Rattle.cluster_machine.specs.Blocks.{NeedsNone};
 ghost use Rattle.cluster_machine.specs.Collects.{has_bytes, without_row};
 ghost use Rattle.node_parts.specs.Contents.{Turns};
-ghost use Rattle.node_parts.specs.Collects.{Merges, CannotMerge, Forgets, is_forgotten, marker_of};
+ghost use Rattle.node_parts.specs.Collects.{Merges, CannotMerge, Forgets, marker_of};
 
 use crate::contents::Contents;
 use crate::sets::is_given;
@@ -35,7 +36,7 @@ impl<S: Schema> Contents<S> {
 
     /// The row of table 1 at a key has these bytes.
     pub fn has_bytes(&self, key: &[u8], bytes: &[u8]) -> Result<bool, Memory>
-        ensures is { IfOk result (λ has. has ≡ has_bytes S.words bytes.now (find_row S.words 1 key.now self.now.table)) }
+        ensures is { IfOk result (λ has. has ≡ has_bytes S.Row.join S.words bytes.now (find_row S.words 1 key.now self.now.table)) }
         ensures want { OnlyWant result }
     {
         match self.bytes_at(1, key)? {
@@ -81,7 +82,7 @@ impl<S: Schema> Contents<S> {
     /// Drops the row of a table and key; its delete marker, if it had nothing else. Tombstones need no block. Another row
     /// that does, whose bytes have the digest of a tombstone's, is not dropped: no memory has room for two such rows.
     pub fn drop_row(&mut self, table: u8, key: &[u8]) -> Result<Option<(u64, u64)>, Memory>
-        ensures drops { OnOk result (Turns S.Row.join S.words self.old self.new (λ x. without_row S.words x table key.now)) }
+        ensures drops { OnOk result (Turns S.Row.join S.words self.old self.new (λ x. without_row S.Row.join S.words x table key.now)) }
         ensures marker { IfOk result (λ marker. marker ≡ marker_of S.words (find_row S.words table key.now self.old.table)) }
         ensures want { OnlyWant result }
     {

@@ -1,5 +1,5 @@
 //! The open collections.
-ghost use Rattle.std.specs.Prelude.{◌≡◌, ◌+◌, [], IsTrue, IfOk, IfErr, OnOk, OnErr, option_copied};
+ghost use Rattle.std.specs.Prelude.{◌≡◌, ◌+◌, [], Some, IsTrue, IfOk, IfErr, IfSome, OnOk, OnErr, option_copied};
 ghost use Rattle.crdt_core.specs.Outcomes.{OnlyWant};
 ghost use Rattle.gc_model.specs.Collecting.{IsNumbered, none_open, begun_with, keyed, numbered, missing_in, is_ready, in_second, changed, closed, answer_end, answered};
 ghost use Rattle.numbered_list.specs.Numbers.{RefusesNumber};
@@ -81,7 +81,8 @@ impl Collections {
 
     /// The first open collection of the row with this key.
     pub fn of(&self, key: &[u8]) -> Option<&Collection>
-        ensures { option_copied result ≡ keyed key.now self.now }
+        ensures is { option_copied result ≡ keyed key.now self.now }
+        ensures numbered { IfSome result (λ c. numbered c.now.number self.now ≡ Some c.now) }
     {
         let number = first(&self.keys, key)?;
         let i = place_of(self.list.as_slice(), number)?;
