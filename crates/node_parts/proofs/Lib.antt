@@ -25,3 +25,5 @@ pub mod Answering
 pub mod Spelled
 pub mod MovedParts
 pub mod Emptying
+pub mod KeyedRows
+pub mod Looking

@@ -39,10 +39,17 @@ pub fn add(alloc: Global, keys: &mut Keys, key: Vec<u8>, number: u64) -> Result<
 pub fn remove(keys: &mut Keys, key: &[u8], number: u64)
     ensures { Removes key.now number keys.old keys.new }
 {
+    take_at(keys, key, number);
+    drop_empty(keys, key);
+}
+
+// The same, where the key stays.
+fn take_at(keys: &mut Keys, key: &[u8], number: u64)
+    ensures { Removes key.now number keys.old keys.new }
+{
     if let Some(numbers) = keys.get_mut(key) {
         take_out(numbers, number);
     }
-    drop_empty(keys, key);
 }
 
 fn take_out(numbers: &mut Vec<u64>, number: u64)

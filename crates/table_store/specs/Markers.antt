@@ -1,10 +1,9 @@
 -- The keys of rows with nothing but a delete marker, by the markers' timestamps.
-use Rattle.std.specs.Prelude.{◌≡◌, ℕ, ◌==◌, ◌&&◌, leb, nat_eq, Bool, true, false, List, Option, Some, None, Vec}
-use Rattle.std.specs.Global.{Global}
+use Rattle.std.specs.Prelude.{◌≡◌, ℕ, ◌==◌, ◌&&◌, leb, Bool, true, false, List, Option, Some, None, Vec}
 use Rattle.std.specs.BTreeMap.{BTreeMap, get}
 use Rattle.std.specs.BTreeSet.{BTreeSet}
-use Rattle.std.specs.Ordering.{nat_cmp}
-use Rattle.std.specs.Cmp.Lexicographic.{pointwise}
+use Rattle.std.specs.Ordering.{nat_cmp, is_eq}
+use Rattle.std.specs.Cmp.Lexicographic.{slice_cmp}
 use Rattle.table_schema.specs.Words.{Words}
 use Rattle.table_store.specs.declared.shelf.Placed.{Placed}
 use Rattle.table_store.specs.Index.{Key, has_key}
@@ -29,11 +28,11 @@ AllStay old new = (ts : ℕ) (key : List ℕ) → marked_at ts key old ≡ true 
 
 -- the same of all keys but this one
 abbrev pub OthersStay : List ℕ → Markers → Markers → Type 0
-OthersStay key old new = (ts : ℕ) (other : List ℕ) → pointwise nat_eq key other ≡ false → marked_at ts other old ≡ true → marked_at ts other new ≡ true
+OthersStay key old new = (ts : ℕ) (other : List ℕ) → is_eq (slice_cmp nat_cmp key other) ≡ false → marked_at ts other old ≡ true → marked_at ts other new ≡ true
 
 -- the same of all notes but that of this key at this timestamp
 abbrev pub RestStays : ℕ → List ℕ → Markers → Markers → Type 0
-RestStays ts key old new = (t : ℕ) (other : List ℕ) → ((ts == t) && pointwise nat_eq key other) ≡ false → marked_at t other old ≡ true → marked_at t other new ≡ true
+RestStays ts key old new = (t : ℕ) (other : List ℕ) → ((ts == t) && is_eq (slice_cmp nat_cmp key other)) ≡ false → marked_at t other old ≡ true → marked_at t other new ≡ true
 
 module _ {R : Type 0} (s : Words R) where
   -- each row with nothing but a delete marker is noted at its timestamp

@@ -1,9 +1,9 @@
 //! What one table has of each partition beside its rows: their keys, their trie, and which of them changed since.
-ghost use Rattle.std.specs.Prelude.{◌≡◌, ◌||◌, ℕ, nat_eq, List, true, IsTrue, OnOk, OnErr, None, Some};
-ghost use Rattle.std.specs.Cmp.Lexicographic.{pointwise};
+ghost use Rattle.std.specs.Prelude.{◌≡◌, ◌||◌, ℕ, List, true, IsTrue, OnOk, OnErr, None, Some};
+ghost use Rattle.std.specs.Cmp.Lexicographic.{slice_cmp};
 ghost use Rattle.std.specs.Map.{keys_of};
 ghost use Rattle.std.specs.BTreeMap.{get};
-ghost use Rattle.std.specs.Ordering.{nat_cmp};
+ghost use Rattle.std.specs.Ordering.{nat_cmp, is_eq};
 ghost use Rattle.crdt_core.specs.Outcomes.{OnlyWant};
 ghost use Rattle.blake2_hash.specs.Blake2b.{blake2b};
 ghost use Rattle.blake2_hash.specs.declared.digest.Hash32.{Hash32};
@@ -96,7 +96,7 @@ fn add_key(alloc: Global, pairs: &mut Pairs, key: &[u8]) -> Result<(), Memory>
 pub fn add_to(alloc: Global, keys: &mut BTreeSet<Vec<u8>>, key: &[u8]) -> Result<(), Memory>
     ensures others { (other : List ℕ) → has_key other keys.old.keys ≡ true → has_key other keys.new.keys ≡ true }
     ensures has { OnOk result (IsTrue (has_key key.now keys.new.keys)) }
-    ensures no_more { (other : List ℕ) → has_key other keys.new.keys ≡ true → (has_key other keys.old.keys || pointwise nat_eq key.now other) ≡ true }
+    ensures adds { OnOk result ((other : List ℕ) → has_key other keys.new.keys ≡ (has_key other keys.old.keys || is_eq (slice_cmp nat_cmp other key.now))) }
     ensures want { OnlyWant result }
 {
     if keys.contains(key) {

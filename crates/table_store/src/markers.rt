@@ -36,10 +36,17 @@ fn mark(alloc: Global, markers: &mut Markers, ts: u64, key: &[u8]) -> Result<(),
 pub fn unmark(markers: &mut Markers, ts: u64, key: &[u8])
     ensures { RestStays ts key.now markers.old markers.new }
 {
+    unmark_at(markers, ts, key);
+    drop_empty(markers, ts);
+}
+
+// The same, where the timestamp stays.
+fn unmark_at(markers: &mut Markers, ts: u64, key: &[u8])
+    ensures { RestStays ts key.now markers.old markers.new }
+{
     if let Some(keys) = markers.get_mut(&ts) {
         let _ = keys.remove(key);
     }
-    drop_empty(markers, ts);
 }
 
 // Forgets a timestamp without keys.
@@ -74,15 +81,43 @@ pub fn change_marker(
     ensures stay { OnErr result (AllStay markers.old markers.new) }
     ensures want { OnlyWant result }
 {
-    if let Some(version) = new {
-        mark(alloc, markers, version.0, key)?;
+    mark_new(alloc, markers, key, new)?;
+    unmark_old(markers, key, old, new);
+    Ok(())
+}
+
+// The row at a key will have nothing but this delete marker.
+fn mark_new(
+    alloc: Global,
+    markers: &mut Markers,
+    key: &[u8],
+    new: Option<(u64, u64)>,
+) -> Result<(), Memory>
+    ensures stay { AllStay markers.old markers.new }
+    ensures marked { OnOk result ((version : ℕ × ℕ) → new ≡ Some version → marked_at version.0 key.now markers.new ≡ true) }
+    ensures want { OnlyWant result }
+{
+    match new {
+        Some(version) => mark(alloc, markers, version.0, key),
+        None => Ok(()),
     }
+}
+
+// The row at a key had nothing but the delete marker `old`. What is noted for `new` stays.
+fn unmark_old(
+    markers: &mut Markers,
+    key: &[u8],
+    old: Option<(u64, u64)>,
+    new: Option<(u64, u64)>,
+)
+    ensures others { OthersStay key.now markers.old markers.new }
+    ensures kept { (version : ℕ × ℕ) → new ≡ Some version → marked_at version.0 key.now markers.old ≡ true → marked_at version.0 key.now markers.new ≡ true }
+{
     if let Some(version) = old {
         if !is_at(new, version.0) {
             unmark(markers, version.0, key);
         }
     }
-    Ok(())
 }
 
 // There is a delete marker, and this is its timestamp.
