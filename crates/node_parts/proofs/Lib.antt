@@ -27,3 +27,5 @@ pub mod MovedParts
 pub mod Emptying
 pub mod KeyedRows
 pub mod Looking
+pub mod Gathering
+pub mod Tombs

@@ -1,0 +1,82 @@
+-- A row that is dropped as if none had been accepted at its place.
+use Rattle.std.specs.Prelude.{◌≡◌, ℕ, ◌+◌, ◌==◌, ◌&&◌, not, Bool, true, false, cond, count_by, is_some, IsTrue, List, [], ◌∷◌, Option, Some, None, refl}
+use Rattle.std.proofs.Common.{ap, sym, ◌∙◌, subst, arith}
+use Rattle.std.specs.List.{AllByRecursion, filter, find}
+use Rattle.std.specs.Ordering.{is_eq}
+use Rattle.std.specs.Cmp.{Equal-is}
+use Rattle.std.proofs.lemmas.List.Elements.{recursion_from_All, All-from_recursion}
+use Rattle.blake2_hash.specs.declared.digest.Hash32.{Hash32}
+use Rattle.layout_roles.specs.declared.layout.Layout.{Layout}
+use Rattle.table_schema.specs.Words.{Words}
+use Rattle.table_schema.specs.Laws.{Laws, Same}
+use Rattle.table_model.specs.Rows.{AllProper, find_row, is_at, place, place_cmp, rows}
+use Rattle.table_model.proofs.RowLaws.{Above, Ascends, place_identical, rows_ascend, rows_filter}
+use Rattle.cluster_machine.specs.Node.{Node}
+use Rattle.cluster_machine.specs.Rows.{count_of, is_block}
+use Rattle.cluster_machine.specs.Collects.{without_row}
+use Rattle.node_parts.specs.declared.contents.Contents.{Contents}
+use Rattle.node_parts.specs.Contents.{AreBlocks, IsContents, Became}
+use Rattle.node_parts.proofs.Counting.{count_cons, needs, one}
+
+-- the same node
+pub became_same : {S R : Type 0} {join : R → R → R} {s : Words R} (c : Contents S R) (x : Node R Layout) → IsContents join s c x → Became join s c x x
+became_same c x is = record { contents = is; rest = record { view = refl; calls = refl; round = refl; rounds = refl; mending = refl; lasting = refl; gc = refl } }
+
+module _ {R : Type 0} (join : R → R → R) (s : Words R) (table : ℕ) (key : List ℕ) where
+  -- all rows but the one of a table and key
+  abbrev others_of : List R → List R
+  others_of xs = filter (λ r. not (is_at s table key r)) xs
+
+  stay_above : (xs : List R) → Above s (table, key) xs → others_of xs ≡ xs
+  stay_above [] above = refl
+  stay_above (x ∷ xs) above = ap (λ o. cond (not (is_eq o)) (x ∷ others_of xs) (others_of xs)) above.0 ∙ ap (λ l. x ∷ l) (stay_above xs above.1)
+
+  -- where the row needs no block as many need one without it
+  counts_without : (hash : List ℕ) (xs : List R) → Ascends s xs → ((r : R) → find_row s table key xs ≡ Some r → s.live_block r ≡ None) → count_by (needs join s hash) (others_of xs) ≡ count_by (needs join s hash) xs
+  counts_without hash [] a none = refl
+  counts_without hash (x ∷ xs) a none = count_at (is_at s table key x) refl
+    where
+      count_at : (b : Bool) → is_at s table key x ≡ b → count_by (needs join s hash) (cond (not b) (x ∷ others_of xs) (others_of xs)) ≡ count_by (needs join s hash) (x ∷ xs)
+      count_at true h =
+          let at : (table, key) ≡ place s x = place_identical (table, key) (place s x) ((Equal-is _).0 h) in
+          let same : others_of xs ≡ xs = stay_above xs (subst (λ q. Above s q xs) (sym at) a.0) in
+          let live : s.live_block x ≡ None = none x (ap (λ b. cond b (Some x) (find_row s table key xs)) h) in
+          let here : one (needs join s hash x) ≡ 0 = ap (λ o. one (is_block hash o)) live in
+          ap (count_by (needs join s hash)) same ∙ omega (arith, here, count_cons (needs join s hash) x xs)
+      count_at false h =
+          let rest = counts_without hash xs a.1 (λ r found. none r (ap (λ b. cond b (Some x) (find_row s table key xs)) h ∙ found)) in
+          omega (arith, rest, count_cons (needs join s hash) x xs, count_cons (needs join s hash) x (others_of xs))
+
+  all_others : (xs : List R) → AllByRecursion (λ r. IsTrue (s.is_proper r)) xs → AllByRecursion (λ r. IsTrue (s.is_proper r)) (others_of xs)
+  all_others [] all = tt
+  all_others (x ∷ xs) all =
+      elim (is_at s table key x) as (λ b. AllByRecursion (λ r. IsTrue (s.is_proper r)) (cond (not b) (x ∷ others_of xs) (others_of xs))) [ true ↦ all_others xs all.1 | false ↦ (all.0, all_others xs all.1) ]
+
+  -- two rows at one place are both at it, or neither is
+  alike : (a b : R) → Same s a b → not (is_at s table key a) ≡ not (is_at s table key b)
+  alike a b same = λ i. not (is_eq (place_cmp (table, key) (same.table i, same.key i)))
+
+module _ {S R : Type 0} {join : R → R → R} {s : Words R} (laws : Laws join s) where
+  -- the contents without the row of a table and key, which needs no block
+  pub dropped_row : (c d : Contents S R) (x : Node R Layout) (table : ℕ) (key : List ℕ) → IsContents join s c x → ((r : R) → find_row s table key c.table ≡ Some r → s.live_block r ≡ None) →
+      d.table ≡ filter (λ r. not (is_at s table key r)) c.table → d.outbox ≡ c.outbox → d.blocks ≡ c.blocks → Became join s d x (without_row join s x table key)
+  dropped_row c d x table key is none rows-are outbox blocks =
+      let stays = rows_filter laws (λ r. not (is_at s table key r)) (alike join s table key) x.accepted is.proper in
+      record {
+        contents = record {
+          proper = All-from_recursion (λ r. IsTrue (s.is_proper r)) (others_of join s table key x.accepted) (all_others join s table key x.accepted (recursion_from_All (λ r. IsTrue (s.is_proper r)) x.accepted is.proper));
+          table = rows-are ∙ (ap (others_of join s table key) is.table ∙ sym stays);
+          items = rw outbox is.items;
+          queued = rw outbox is.queued;
+          blocks = rw blocks (record {
+            bytes = is.blocks.bytes;
+            counts = λ h.
+                is.blocks.counts h
+                ∙ (sym (counts_without join s table key h.0 (rows join s x.accepted) (rows_ascend laws x.accepted is.proper) (λ r found. none r (ap (find_row s table key) is.table ∙ found)))
+                ∙ ap (count_by (needs join s h.0)) (sym stays));
+            notes = is.blocks.notes;
+            number = is.blocks.number;
+          });
+        };
+        rest = record { view = refl; calls = refl; round = refl; rounds = refl; mending = refl; lasting = refl; gc = refl };
+      }
