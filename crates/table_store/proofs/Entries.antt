@@ -162,6 +162,17 @@ module _ {Z : Type 0} where
   has_insert other k [] = or_false (at other k)
   has_insert other k (x ∷ ks) = one_by other k x ks (has_insert other k ks) (vec_cmp k x) refl
 
+  again_by : (key other : List ℕ) (ks : List (Vec ℕ Z)) → has_key key ks ≡ true → (b : Bool) → is_eq (slice_cmp nat_cmp other key) ≡ b → has_key other ks ≡ (has_key other ks || b)
+  again_by key other ks has true h =
+      let one : other ≡ key = slice_identical nat_identical other key ((Equal-is _).0 h) in
+      let there : has_key other ks ≡ true = ap (λ k. has_key k ks) one ∙ has in
+      there ∙ sym (or_true (has_key other ks))
+  again_by key other ks has false h = sym (or_false (has_key other ks))
+
+  -- a key that is there adds nothing
+  pub has_again : (key other : List ℕ) (ks : List (Vec ℕ Z)) → has_key key ks ≡ true → has_key other ks ≡ (has_key other ks || is_eq (slice_cmp nat_cmp other key))
+  has_again key other ks has = again_by key other ks has (is_eq (slice_cmp nat_cmp other key)) refl
+
   -- without a key the others are there
   less_by : (key other : List ℕ) (x : Vec ℕ Z) (ks : List (Vec ℕ Z)) → is_eq (slice_cmp nat_cmp key other) ≡ false → has_key other (remove_key (at key) ks) ≡ has_key other ks →
       (b : Bool) → at key x ≡ b → has_key other (cond b ks (x ∷ remove_key (at key) ks)) ≡ has_key other (x ∷ ks)

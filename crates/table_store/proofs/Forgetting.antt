@@ -1,26 +1,32 @@
 -- What the tries of a table have of its rows after the row at a key went.
-use Rattle.std.specs.Prelude.{◌≡◌, ◌⊎◌, ℕ, ◌==◌, ◌&&◌, Bool, true, false, cond, not, is_some, List, [], ◌∷◌, Option, Some, None, Vec, filter, refl}
-use Rattle.std.proofs.Common.{ap, sym, ◌∙◌, subst, inl, inr}
+use Rattle.std.specs.Prelude.{◌≡◌, ◌⊎◌, ℕ, ◌==◌, ◌&&◌, Bool, true, false, cond, not, is_some, List, [], ◌∷◌, Option, Some, None, Vec, filter, length, refl}
+use Rattle.std.proofs.Common.{ap, sym, ◌∙◌, subst, inl, inr, arith}
 use Rattle.std.proofs.lemmas.Bool.{eqb-true, both_ways, and_parts}
 use Rattle.std.proofs.lemmas.Cmp.{nat_cmp_total, tied_itself}
 use Rattle.std.proofs.lemmas.Map.Keys.{sorted_head, sorted_tail}
 use Rattle.std.specs.List.{list_all}
 use Rattle.std.specs.List.Sorted.{IsStrictlySortedBy}
-use Rattle.std.specs.Map.{keys_of}
-use Rattle.std.specs.BTreeMap.{BTreeMap, get}
+use Rattle.std.specs.Map.{keys_of, lookup, remove_entry}
+use Rattle.std.specs.BTreeMap.{BTreeMap, get, is_at}
 use Rattle.std.specs.Ordering.{nat_cmp, is_eq}
 use Rattle.std.specs.Cmp.{Equal-is}
 use Rattle.std.specs.Cmp.Lexicographic.{slice_cmp}
 use Rattle.crdt_core.specs.IdentityLaws.{slice_identical, nat_identical}
 use Rattle.blake2_hash.specs.Blake2b.{blake2b}
+use Rattle.blake2_hash.specs.DigestLaws.{length-blake2b}
 use Rattle.blake2_hash.specs.declared.digest.Hash32.{Hash32}
 use Rattle.table_schema.specs.Words.{Words}
+use Rattle.table_model.specs.Root.{Pair}
+use Rattle.walk_model.specs.Sets.{removed}
+use Rattle.merkle_trie.specs.declared.trie.Trie.{Trie}
+use Rattle.merkle_trie.specs.Keeping.{Keeps, queued}
 use Rattle.table_store.specs.declared.shelf.Placed.{Placed}
 use Rattle.table_store.specs.declared.index.Part.{Part}
-use Rattle.table_store.specs.Index.{Forgets, ForgetsAt, Stays, StaysAt, Turns, entries_in, has_key, keys_under, pair_at}
+use Rattle.table_store.specs.Index.{Entry, Forgets, ForgetsAt, IsKept, Stays, StaysAt, Turns, TurnsAt, entries_in, has_key, keys_under, known, pair_at}
 use Rattle.table_store.specs.Shelf.{given, is_indexed, placed_at, row_in, vec_cmp, without_key}
 use Rattle.table_store.specs.Settled.{AllFit, Fits, IsFollowed, IsTaken}
-use Rattle.table_store.proofs.Entries.{at, lookup_left}
+use Rattle.table_store.proofs.Alike.{keeps_set}
+use Rattle.table_store.proofs.Entries.{at, known_left, lookup_left, removed_same}
 use Rattle.table_store.proofs.Partitions.{Above}
 use Rattle.table_store.proofs.Fitting.{fits_same}
 
@@ -47,6 +53,15 @@ module _ {R Z : Type 0} where
   without_is key [] sorted = refl
   without_is key (e ∷ es) sorted = without_by key e es (sorted_head vec_cmp e.0 (keys_of es) sorted) (without_is key es (sorted_tail vec_cmp e.0 (keys_of es) sorted)) (at key e.0) refl
 
+  none_stays : (key : List ℕ) (e : Vec ℕ Z × Placed R) (es : List (Vec ℕ Z × Placed R)) → (placed_at key es ≡ None → without_key key es ≡ es) → (b : Bool) → cond b (Some e.1) (placed_at key es) ≡ None → cond b es (e ∷ without_key key es) ≡ e ∷ es
+  none_stays key e es rest true none = cc
+  none_stays key e es rest false none = ap (λ l. e ∷ l) (rest none)
+
+  -- where none stands at the key all stay
+  pub without_none : (key : List ℕ) (es : List (Vec ℕ Z × Placed R)) → placed_at key es ≡ None → without_key key es ≡ es
+  without_none key [] none = refl
+  without_none key (e ∷ es) none = none_stays key e es (without_none key es) (at key e.0) none
+
   filtered_by : (key : List ℕ) (e : Vec ℕ Z × Placed R) (es : List (Vec ℕ Z × Placed R)) → placed_at key (filter (λ d. not (at key d.0)) es) ≡ None → (b : Bool) → at key e.0 ≡ b →
       placed_at key (cond (not b) (e ∷ filter (λ d. not (at key d.0)) es) (filter (λ d. not (at key d.0)) es)) ≡ None
   filtered_by key e es rest true h = rest
@@ -66,6 +81,36 @@ module _ {R Z : Type 0} where
     others = λ other apart. ap (placed_at other) is ∙ lookup_left key other old apart;
     gone = ap (placed_at key) (is ∙ without_is key old sorted) ∙ filtered_out key old;
   }
+
+-- ---- what a trie keeps
+
+module _ {H B : Type 0} (trie mid later : Trie H B) (key : List ℕ) (es : List Entry) (settled : queued mid ≡ 0)
+    (on : (held : List Pair) → Keeps (blake2b 32) trie held → Keeps (blake2b 32) mid held)
+    (told : (pair : Hash32 × Hash32) → pair_at key es ≡ Some pair → pair.0.0 ≡ blake2b 32 key) (kept : IsKept trie es) where
+  none_by : (o : Option (Option (Hash32 × Hash32))) → lookup (at key) es ≡ o → known o ≡ None → (lookup (at key) es ≡ None) ⊎ (lookup (at key) es ≡ Some None)
+  none_by None is none = inl is
+  none_by (Some None) is none = inr is
+  none_by (Some (Some pair)) is none = cc
+
+  some_by : (pair : Hash32 × Hash32) (o : Option (Option (Hash32 × Hash32))) → lookup (at key) es ≡ o → known o ≡ Some pair → lookup (at key) es ≡ Some (Some pair)
+  some_by pair None is some = cc
+  some_by pair (Some o) is some = is ∙ ap Some some
+
+  kept_by : (o : Option (Hash32 × Hash32)) → pair_at key es ≡ o → ((pair : Hash32 × Hash32) → o ≡ Some pair → (held : List Pair) → Keeps (blake2b 32) mid held → Keeps (blake2b 32) later (removed pair.0.0 held)) → (o ≡ None → later ≡ mid) → IsKept later (remove_entry (at key) es)
+  kept_by None is removes nothing = record {
+    held = kept.held;
+    keeps = subst (λ t. Keeps (blake2b 32) t kept.held) (sym (nothing refl)) (on kept.held kept.keeps);
+    same = λ test. kept.same test ∙ ap (λ pairs. length (filter test pairs)) (sym (known_left key es (none_by (lookup (at key) es) refl is)));
+  }
+  kept_by (Some pair) is removes nothing = record {
+    held = removed pair.0.0 kept.held;
+    keeps = removes pair refl kept.held (on kept.held kept.keeps);
+    same = removed_same pair.0.0 [] kept.held es key (ap length (told pair is) ∙ length-blake2b 32 key (omega arith)) (keeps_set (blake2b 32) mid kept.held settled (on kept.held kept.keeps)) kept.same pair (some_by pair (lookup (at key) es) refl is) refl;
+  }
+
+  -- a trie that let the pair of a key go keeps those of the others
+  pub kept_forgotten : (o : Option (Hash32 × Hash32)) → o ≡ pair_at key es → ((pair : Hash32 × Hash32) → o ≡ Some pair → (held : List Pair) → Keeps (blake2b 32) mid held → Keeps (blake2b 32) later (removed pair.0.0 held)) → (o ≡ None → later ≡ mid) → IsKept later (remove_entry (at key) es)
+  kept_forgotten o is removes nothing = kept_by o (sym is) removes nothing
 
 -- ---- tries
 
@@ -160,6 +205,21 @@ module _ {R Z : Type 0} (s : Words R) (key : List ℕ) (old new : List (Vec ℕ 
     -- the tries fit the rows that are left
     pub fit_forgotten : AllFit s later new
     fit_forgotten q part there = fit_by q part there (is_eq (nat_cmp placed.partition q)) refl
+
+-- ---- one partition changed
+
+module _ {After : Part → Part → Type 0} (index later : BTreeMap ℕ Part) (p : ℕ) where
+  pub turns_at : (was is : Part) → get nat_cmp index p ≡ Some was → ((q : ℕ) → get nat_cmp later q ≡ cond (is_at (nat_cmp p) q) (Some is) (get nat_cmp index q)) → After was is → TurnsAt After p index later
+  turns_at was is there puts after = record {
+    here = subst (λ o. Turns After o (get nat_cmp later p)) (sym there) (subst (Turns After (Some was)) (sym (puts p ∙ ap (λ o. cond (is_eq o) (Some is) (get nat_cmp index p)) (tied_itself nat_cmp_total p))) after);
+    others = λ q apart. puts q ∙ ap (λ b. cond b (Some is) (get nat_cmp index q)) apart;
+  }
+
+  pub turns_none : get nat_cmp index p ≡ None → later ≡ index → TurnsAt After p index later
+  turns_none none same = record {
+    here = subst (λ o. Turns After o (get nat_cmp later p)) (sym none) (ap (λ m. get nat_cmp m p) same ∙ none);
+    others = λ q apart. ap (λ m. get nat_cmp m q) same;
+  }
 
 -- ---- where there was no room
 

@@ -19,6 +19,7 @@ rows_at p shelf = shelf_rows (filter (in_partition p) shelf.rows.entries)
 -- a shelf before and after its tries took in rows that changed
 pub record Settles {R : Type 0} (s : Words R) (old new : Shelf R) : Type 0 where
   pub rows : new.rows.entries ≡ old.rows.entries
+  pub markers : new.markers ≡ old.markers
   pub fits : AllFit s new.index new.rows.entries
 
 -- the three shelves hold the rows of their tables with tries that fit, and there is a trie of no row

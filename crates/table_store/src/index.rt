@@ -7,6 +7,9 @@ ghost use Rattle.std.specs.Ordering.{nat_cmp, is_eq};
 ghost use Rattle.crdt_core.specs.Outcomes.{OnlyWant};
 ghost use Rattle.blake2_hash.specs.Blake2b.{blake2b};
 ghost use Rattle.blake2_hash.specs.declared.digest.Hash32.{Hash32};
+ghost use Rattle.table_model.specs.Root.{Pair as Held};
+ghost use Rattle.walk_model.specs.Sets.{removed};
+ghost use Rattle.merkle_trie.specs.Keeping.{Keeps, IsUnchanged};
 ghost use Rattle.table_store.specs.declared.index.Part.{Part};
 ghost use Rattle.table_store.specs.Index.{has_key, keys_under, pair_at, waits, waits_in, Extends, Grows, Forgets, Stays, ForgetsAt, StaysAt};
 
@@ -61,13 +64,26 @@ impl Part {
         ensures stays { OnErr result (Stays self.old self.new) }
         ensures want { OnlyWant result }
     {
-        self.trie.settle(&mut Blake::new())?;
-        if let Some(pair) = known(&self.pairs, key) {
-            self.trie.remove(&pair.0)?;
-        }
+        let mut hasher = Blake::new();
+        self.trie.settle(&mut hasher)?;
+        let pair = known(&self.pairs, key);
+        drop_pair(&mut self.trie, pair)?;
         let _ = self.pairs.remove(key);
         let _ = self.waiting.remove(key);
         Ok(())
+    }
+}
+
+// Takes the pair of a row out of a trie, if it has one.
+fn drop_pair(trie: &mut Trie, pair: Option<Pair>) -> Result<(), Memory>
+    ensures removed { OnOk result ((known : Hash32 × Hash32) → pair ≡ Some known → (held : List Held) → Keeps (blake2b 32) trie.old held → Keeps (blake2b 32) trie.new (removed known.0.0 held)) }
+    ensures nothing { OnOk result (pair ≡ None → trie.new ≡ trie.old) }
+    ensures err { OnErr result (IsUnchanged trie.old trie.new) }
+    ensures want { OnlyWant result }
+{
+    match pair {
+        Some(pair) => trie.remove(&pair.0),
+        None => Ok(()),
     }
 }
 

@@ -9,7 +9,7 @@ ghost use Rattle.std.specs.Global.{Vec};
 ghost use Rattle.std.specs.Map.{keys_of};
 ghost use Rattle.table_schema.specs.Words.{Words};
 ghost use Rattle.table_store.specs.Index.{has_key};
-ghost use Rattle.table_store.specs.Shelf.{shelf_rows, AllPlaced, shelf_find, in_partition, row_in, has_key_of, is_indexed, vec_cmp, without_key};
+ghost use Rattle.table_store.specs.Shelf.{shelf_rows, AllPlaced, shelf_find, in_partition, row_in, has_key_of, is_indexed, vec_cmp, others_at, without_key};
 ghost use Rattle.table_store.specs.Settled.{AllFit};
 ghost use Rattle.table_store.specs.Markers.{AllMarked, AllStay, OthersStay, marked_at};
 
@@ -275,10 +275,17 @@ fn take_row<S: Schema>(
 {
     are_in_order(rows);
     let placed = rows.remove(key)?;
-    if let Some(version) = S::marker(&placed.row) {
+    unmark_row::<S>(markers, key, &placed.row);
+    Some(placed.row)
+}
+
+// Takes back the note of a row's delete marker, if it had nothing else.
+fn unmark_row<S: Schema>(markers: &mut Markers, key: &[u8], row: &S::Row)
+    ensures { OthersStay key.now markers.old markers.new }
+{
+    if let Some(version) = S::marker(row) {
         unmark(markers, version.0, key);
     }
-    Some(placed.row)
 }
 
 /// Takes the row at a key out, and out of its partition's trie.
@@ -287,7 +294,7 @@ pub fn take_out<S: Schema>(
     key: &[u8],
 ) -> Result<Option<S::Row>, Memory>
     ensures row { IfOk result (λ row. row ≡ shelf_find key.now shelf.old.rows.entries) }
-    ensures rows { OnOk result (shelf.new.rows.entries ≡ without_key key.now shelf.old.rows.entries) }
+    ensures rows { OnOk result (shelf.new.rows.entries ≡ others_at key.now shelf.old.rows.entries) }
     ensures fits { AllFit S.words shelf.old.index shelf.old.rows.entries → AllFit S.words shelf.new.index shelf.new.rows.entries }
     ensures marked { AllMarked S.words shelf.old.markers shelf.old.rows.entries → AllMarked S.words shelf.new.markers shelf.new.rows.entries }
     ensures unchanged { OnErr result (shelf.new.rows.entries ≡ shelf.old.rows.entries) }

@@ -208,9 +208,18 @@ impl<S: Schema> Table<S> {
         ensures want { OnlyWant result }
     {
         match table {
-            1 => take_out::<S>(&mut self.first, key),
-            2 => take_out::<S>(&mut self.second, key),
-            3 => take_out::<S>(&mut self.third, key),
+            1 => {
+                let row = take_out::<S>(&mut self.first, key)?;
+                Ok(row)
+            }
+            2 => {
+                let row = take_out::<S>(&mut self.second, key)?;
+                Ok(row)
+            }
+            3 => {
+                let row = take_out::<S>(&mut self.third, key)?;
+                Ok(row)
+            }
             _ => Ok(None),
         }
     }
