@@ -11,7 +11,7 @@ use Rattle.gc_model.specs.declared.collection.Collection.{Collection}
 use Rattle.gc_model.specs.Collecting.{Open, closed, numbered}
 use Rattle.cluster_machine.specs.Layouts.{layouts}
 use Rattle.cluster_machine.specs.Node.{Node as Model, Did, quiet}
-use Rattle.cluster_machine.specs.Collects.{drops_row, finishes, has_bytes}
+use Rattle.cluster_machine.specs.Collects.{drops_row, finishes, forgets_row, has_bytes, without_row}
 use Rattle.node_parts.specs.declared.contents.Contents.{Contents}
 use Rattle.node_parts.specs.declared.collector.Collector.{Collector}
 use Rattle.node_parts.specs.declared.packet.Envelope.{Envelope}
@@ -20,7 +20,7 @@ use Rattle.node_parts.specs.Posts.{Posts}
 use Rattle.node_parts.specs.Collects.{ends_row}
 use Rattle.node_core.specs.declared.node.Node.{Node}
 use Rattle.node_core.specs.Stands.{StandsFor, Done}
-use Rattle.node_core.proofs.Nodes.{with_contents}
+use Rattle.node_core.proofs.Nodes.{nothing_sent, silent, with_contents}
 
 -- contents have nothing to do with the collections
 pub other_collections : {S R : Type 0} {join : R → R → R} {s : Words R} {c : Contents S R} (x : Model R Layout) (gc : Open) → IsContents join s c x → IsContents join s c (record x { gc = gc })
@@ -82,3 +82,21 @@ module _ {S R : Type 0} (join : R → R → R) (s : Words R) (node : Node S R) (
         },
         same ∙ sym ended.3,
       )
+
+-- ---- a row that another node has collected
+
+module _ {S R : Type 0} (join : R → R → R) (s : Words R) (node : Node S R) (id : ℕ) (x : Model R Layout) (is : StandsFor join s node id x) (contents : Contents S R) (out : List (Envelope R)) where
+  forgot_by : (table : ℕ) (key : List ℕ) (r : R) (b : Bool) → Became join s contents x (cond b (record (quiet (without_row join s x table key)) { collects = r ∷ []; dropped = s.marker r }) (quiet x)).node →
+      Done join s (record node { contents = contents }) id out out None (cond b (record (quiet (without_row join s x table key)) { collects = r ∷ []; dropped = s.marker r }) (quiet x))
+  forgot_by table key r true became = record {
+    stands = with_contents node id x (without_row join s x table key) contents is became;
+    posts = nothing_sent id out;
+    ends = refl;
+    spelled = λ sized. refl;
+  }
+  forgot_by table key r false became = silent (record node { contents = contents }) id x out (with_contents node id x x contents is became)
+
+  -- the row went, or it is another one
+  pub forgot : (table : ℕ) (key : List ℕ) (test : R → Bool) (o : Option R) → Became join s contents x (forgets_row join s x table key test o).node → Done join s (record node { contents = contents }) id out out None (forgets_row join s x table key test o)
+  forgot table key test None became = silent (record node { contents = contents }) id x out (with_contents node id x x contents is became)
+  forgot table key test (Some r) became = forgot_by table key r (test r) became

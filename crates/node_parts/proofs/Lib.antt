@@ -29,3 +29,5 @@ pub mod KeyedRows
 pub mod Looking
 pub mod Gathering
 pub mod Tombs
+pub mod ClosedAll
+pub mod GoingOn

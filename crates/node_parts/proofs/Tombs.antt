@@ -2,6 +2,7 @@
 use Rattle.std.specs.Prelude.{◌≡◌, ℕ, ◌+◌, ◌==◌, ◌&&◌, not, Bool, true, false, cond, count_by, is_some, IsTrue, List, [], ◌∷◌, Option, Some, None, refl}
 use Rattle.std.proofs.Common.{ap, sym, ◌∙◌, subst, arith}
 use Rattle.std.specs.List.{AllByRecursion, filter, find}
+use Rattle.std.specs.Option.{option_and_then}
 use Rattle.std.specs.Ordering.{is_eq}
 use Rattle.std.specs.Cmp.{Equal-is}
 use Rattle.std.proofs.lemmas.List.Elements.{recursion_from_All, All-from_recursion}
@@ -80,3 +81,11 @@ module _ {S R : Type 0} {join : R → R → R} {s : Words R} (laws : Laws join s
         };
         rest = record { view = refl; calls = refl; round = refl; rounds = refl; mending = refl; lasting = refl; gc = refl };
       }
+
+-- where the row that is found needs no block
+pub none_needed : {R : Type 0} (s : Words R) (table : ℕ) (key : List ℕ) (xs : List R) → is_some (option_and_then s.live_block (find_row s table key xs)) ≡ false → (r : R) → find_row s table key xs ≡ Some r → s.live_block r ≡ None
+none_needed s table key xs none r found = none_by (s.live_block r) (ap (λ o. is_some (option_and_then s.live_block o)) (sym found) ∙ none)
+  where
+    none_by : (o : Option (List ℕ)) → is_some o ≡ false → o ≡ None
+    none_by None h = refl
+    none_by (Some hash) h = cc

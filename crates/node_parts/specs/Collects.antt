@@ -1,5 +1,5 @@
 -- What a node does about tombstones, and about its collections of delete markers.
-use Rattle.std.specs.Prelude.{◌≡◌, ◌<◌, ◌^◌, ℕ, ◌+◌, ◌==◌, ◌&&◌, ◌||◌, Bool, true, cond, not, List, [], Option, Some, None}
+use Rattle.std.specs.Prelude.{◌≡◌, ◌<◌, ◌^◌, ℕ, ◌+◌, ◌==◌, ◌&&◌, ◌||◌, Bool, true, cond, not, map, List, [], ◌∷◌, Option, Some, None}
 use Rattle.std.specs.List.{filter, filter_map, list_all}
 use Rattle.std.specs.Option.{is_some}
 use Rattle.std.specs.BTreeSet.{BTreeSet, IsOrdered}
@@ -13,7 +13,7 @@ use Rattle.table_store.specs.Index.{Key, has_key}
 use Rattle.table_store.specs.Shelf.{vec_cmp}
 use Rattle.wire_messages.specs.declared.message.Message.TheVariants.{Tomb}
 use Rattle.gc_model.specs.declared.collection.Collection.{Collection}
-use Rattle.gc_model.specs.Collecting.{Open, begun_with, keyed, numbered}
+use Rattle.gc_model.specs.Collecting.{Open, begun_with, closed, keyed, number_of, numbered}
 use Rattle.cluster_machine.specs.Layouts.{layouts}
 use Rattle.cluster_machine.specs.Node.{Node, Did, quiet}
 use Rattle.cluster_machine.specs.Ties as ties
@@ -33,13 +33,20 @@ marker_of s (Some r) = s.marker r
 -- ---- tombstones
 
 module _ {S R : Type 0} (join : R → R → R) (s : Words R) where
-  -- the row with these bytes was merged, where the view gives the node its partition
-  abbrev pub Merges : Contents S R → Contents S R → View → ℕ → ℕ → List ℕ → Type 0
-  Merges old new view node now bytes = (x : Node R Layout) → known view ≡ x.view → IsContents join s old x → Became join s new x (merges join s layouts node now x (s.read bytes))
+  -- the row was merged, if there is one, where the view gives the node its partition
+  abbrev pub MergesRow : Contents S R → Contents S R → View → ℕ → ℕ → Option R → Type 0
+  MergesRow old new view node now row = (x : Node R Layout) → known view ≡ x.view → IsContents join s old x → Became join s new x (merges join s layouts node now x row)
 
   -- the contents can't take it
+  abbrev pub CannotMergeRow : Contents S R → View → ℕ → ℕ → Option R → Type 0
+  CannotMergeRow old view node now row = (x : Node R Layout) → known view ≡ x.view → IsContents join s old x → Holds s (merges join s layouts node now x row) → ⊥
+
+  -- the same of the row with these bytes
+  abbrev pub Merges : Contents S R → Contents S R → View → ℕ → ℕ → List ℕ → Type 0
+  Merges old new view node now bytes = MergesRow old new view node now (s.read bytes)
+
   abbrev pub CannotMerge : Contents S R → View → ℕ → ℕ → List ℕ → Type 0
-  CannotMerge old view node now bytes = (x : Node R Layout) → known view ≡ x.view → IsContents join s old x → Holds s (merges join s layouts node now x (s.read bytes)) → ⊥
+  CannotMerge old view node now bytes = CannotMergeRow old view node now (s.read bytes)
 
   -- the row of a table and key was dropped, where its bytes have this digest; and this is its delete marker
   abbrev pub Forgets : Contents S R → Contents S R → ℕ → List ℕ → Hash32 → Option (ℕ × ℕ) → Type 0
@@ -52,11 +59,15 @@ module _ {S R : Type 0} (join : R → R → R) (s : Words R) where
 abbrev pub from_here : {R : Type 0} → Open → Progress R Layout
 from_here gc = record { gc = gc; posts = []; begun = 0 }
 
--- the collections are those that t has, t's messages were sent, and so many collections began
-pub record IsDone {R : Type 0} (node : ℕ) (gc : Open) (old new : List (Envelope R)) (begun : ℕ) (t : Progress R Layout) : Type 0 where
+-- the collections are those that t has, and t's messages were sent
+pub record IsDone {R : Type 0} (node : ℕ) (gc : Open) (old new : List (Envelope R)) (t : Progress R Layout) : Type 0 where
   pub gc_is : gc ≡ t.gc
   pub posts : Posts node old new t.posts
-  pub begun_is : begun ≡ t.begun
+
+-- the collections with these numbers were closed
+abbrev pub closed_all : List ℕ → Open → Open
+closed_all [] gc = gc
+closed_all (n ∷ ns) gc = closed_all ns (closed n gc)
 
 -- the collection with this number is open, in this round, with this row, and its round 1 was complete then
 pub record IsOpen (number round : ℕ) (ready : Option ℕ) (row : List ℕ) (gc : Open) : Type 0 where
@@ -78,15 +89,15 @@ module _ {R : Type 0} (join : R → R → R) (s : Words R) where
 
   -- it was done about the one with this number
   abbrev pub GoesOn : Collector → ℕ → Open → Open → List (Envelope R) → List (Envelope R) → Type 0
-  GoesOn c number old new old_out new_out = (o : Collection) → numbered number old ≡ Some o → IsDone c.node new old_out new_out 0 (going_on c o old)
+  GoesOn c number old new old_out new_out = (o : Collection) → numbered number old ≡ Some o → IsDone c.node new old_out new_out (going_on c o old)
 
   -- this is done about a row
   abbrev pub about_row : Collector → R → Open → Progress R Layout
   about_row c r gc = about join s layouts c.node c.now c.newest r (keyed (s.key r) gc) (from_here gc)
 
-  -- it was done, and whether a collection began
-  pub record Abouts (c : Collector) (r : R) (old new : Open) (old_out new_out : List (Envelope R)) (began : Bool) : Type 0 where
-    pub done : IsDone c.node new old_out new_out (cond began 1 0) (about_row c r old)
+  -- it was done
+  pub record Abouts (c : Collector) (r : R) (old new : Open) (old_out new_out : List (Envelope R)) : Type 0 where
+    pub done : IsDone c.node new old_out new_out (about_row c r old)
     pub spelled : is_spelled s r ≡ true
 
   -- the row can't be written, or a collection's number would be 2 ^ 64
@@ -94,9 +105,9 @@ module _ {R : Type 0} (join : R → R → R) (s : Words R) where
   CannotAbout c r gc = is_spelled s r ≡ true → (about_row c r gc).gc.begun < 2 ^ 64 → ⊥
 
   -- the same of the row, if there is one
-  abbrev pub AboutAt : Collector → Option R → Open → Open → List (Envelope R) → List (Envelope R) → Bool → Type 0
-  AboutAt c None old new old_out new_out began = IsDone c.node new old_out new_out (cond began 1 0) (from_here old)
-  AboutAt c (Some r) old new old_out new_out began = Abouts c r old new old_out new_out began
+  abbrev pub AboutAt : Collector → Option R → Open → Open → List (Envelope R) → List (Envelope R) → Type 0
+  AboutAt c None old new old_out new_out = IsDone c.node new old_out new_out (from_here old)
+  AboutAt c (Some r) old new old_out new_out = Abouts c r old new old_out new_out
 
   abbrev pub CannotAboutAt : Collector → Option R → Open → Type 0
   CannotAboutAt c None gc = ⊥
@@ -111,8 +122,8 @@ module _ {R : Type 0} (join : R → R → R) (s : Words R) where
   rows_at rows keys = filter_map (λ key. find_row s 1 key.items rows) keys
 
   -- it was done about the rows at these keys, one after the other
-  pub record AboutKeys (c : Collector) (rows : List R) (keys : List Key) (old new : Open) (old_out new_out : List (Envelope R)) (begun : ℕ) : Type 0 where
-    pub done : IsDone c.node new old_out new_out begun (about_rows c (rows_at rows keys) old)
+  pub record AboutKeys (c : Collector) (rows : List R) (keys : List Key) (old new : Open) (old_out new_out : List (Envelope R)) : Type 0 where
+    pub done : IsDone c.node new old_out new_out (about_rows c (rows_at rows keys) old)
     pub spelled : list_all (is_spelled s) (rows_at rows keys) ≡ true
 
   -- one of them can't be written, or a collection's number would be 2 ^ 64
@@ -135,6 +146,10 @@ module _ {R : Type 0} (join : R → R → R) (s : Words R) where
     abbrev pub ClosesGone : Contents S R → Open → Open → Type 0
     ClosesGone c old new = new ≡ record old { collections = filter (λ o. is_some (find_row s 1 o.key c.table)) old.collections }
 
+    -- the numbers of these
+    abbrev pub gone_from : Contents S R → List Collection → List ℕ
+    gone_from c cs = map number_of (filter (λ o. not (is_some (find_row s 1 o.key c.table))) cs)
+
     -- the row is looked at: there is a collection of it, or it is a tombstone that is old enough
     abbrev pub is_looked_at : ℕ → Open → R → Bool
     is_looked_at now gc r = is_some (keyed (s.key r) gc) || is_aged now (s.marker r)
@@ -144,9 +159,10 @@ module _ {R : Type 0} (join : R → R → R) (s : Words R) where
       pub each : (key : List ℕ) → has_key key keys.keys ≡ (is_some (keyed key gc) || is_aged now (marker_of s (find_row s 1 key c.table)))
       pub ordered : IsOrdered vec_cmp keys
 
-    -- all was done that the node does about its rows
+    -- all was done that the node does about its rows, and so many collections began
     pub record Collected (x : Node R Layout) (c : Collector) (new : Open) (old_out new_out : List (Envelope R)) (begun : ℕ) : Type 0 where
-      pub done : IsDone c.node new old_out new_out begun (about_rows c (object_rows join s x) (with_rows join s x x.gc))
+      pub done : IsDone c.node new old_out new_out (about_rows c (object_rows join s x) (with_rows join s x x.gc))
+      pub begun_is : begun ≡ (about_rows c (object_rows join s x) (with_rows join s x x.gc)).begun
       pub spelled : list_all (is_spelled s) (looked_at join s layouts c.now x) ≡ true
 
     abbrev pub Collects : Collector → Contents S R → Open → Open → List (Envelope R) → List (Envelope R) → ℕ → Type 0

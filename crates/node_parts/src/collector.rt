@@ -2,10 +2,11 @@
 ghost use Rattle.std.specs.Prelude.{◌≡◌, ◌⊎◌, ◌+◌, ◌^◌, ◌≤◌, nat_lt, Some, None, IfOk, OnOk};
 ghost use Rattle.crdt_core.specs.Outcomes.{OnlyWant, WantOr};
 ghost use Rattle.wire_messages.specs.declared.message.Message.TheVariants.{Tomb};
+ghost use Rattle.gc_model.specs.Collecting.{IsNumbered};
 ghost use Rattle.cluster_machine.specs.Collects.{collection_pause, is_aged, others};
 ghost use Rattle.cluster_machine.specs.Phases.{to_each};
 ghost use Rattle.node_parts.specs.Posts.{Posts};
-ghost use Rattle.node_parts.specs.Collects.{Abouts, CannotAbout, AboutAt, CannotAboutAt, AboutKeys, CannotAboutKeys, Begins, IsOpen, GoesOn, Ends, ClosesGone, Looks, Collects, CannotCollect};
+ghost use Rattle.node_parts.specs.Collects.{Abouts, CannotAbout, AboutAt, CannotAboutAt, AboutKeys, CannotAboutKeys, Begins, IsOpen, GoesOn, Ends, gone_from, closed_all, ClosesGone, Looks, Collects, CannotCollect};
 ghost use Rattle.table_model.specs.Rows.{find_row};
 
 use crate::contents::Contents;
@@ -60,29 +61,28 @@ impl Collector {
         ensures collects { IfOk result (λ begun. Collects S.Row.join S.words self contents.now gc.old gc.new out.old.items out.new.items begun) }
         ensures causes { WantOr result (CannotCollect S.Row.join S.words self contents.now gc.old) }
     {
+        let before = gc.begun();
         self.close_gone(contents, gc)?;
         let keys = self.keys(contents, gc)?;
-        self.about_all(contents, gc, &keys, out)
+        self.about_all(contents, gc, &keys, out)?;
+        Ok(gc.begun() - before)
     }
 
-    // What is done about the rows at these keys, one after the other; how many collections began.
+    // What is done about the rows at these keys, one after the other.
     fn about_all<S: Schema>(
         self,
         contents: &Contents<S>,
         gc: &mut Collections,
         keys: &BTreeSet<Vec<u8>>,
         out: &mut Vec<Envelope<S::Row>>,
-    ) -> Result<u64, Memory>
-        ensures about { IfOk result (λ begun. AboutKeys S.Row.join S.words self contents.now.table keys.now.keys gc.old gc.new out.old.items out.new.items begun) }
+    ) -> Result<(), Memory>
+        ensures about { OnOk result (AboutKeys S.Row.join S.words self contents.now.table keys.now.keys gc.old gc.new out.old.items out.new.items) }
         ensures causes { WantOr result (CannotAboutKeys S.Row.join S.words self contents.now.table keys.now.keys gc.old) }
     {
-        let mut begun = 0;
         for key in keys {
-            if self.about_key(contents, gc, key.as_slice(), out)? {
-                begun += 1;
-            }
+            self.about_key(contents, gc, key.as_slice(), out)?;
         }
-        Ok(begun)
+        Ok(())
     }
 
     /// Drops the row of a collection that has come to its end, and tells the others, where neither the row nor the newest
@@ -120,16 +120,28 @@ impl Collector {
         ensures closes { OnOk result (ClosesGone S.Row.join S.words contents.now gc.old gc.new) }
         ensures want { OnlyWant result }
     {
+        let gone = self.gone(contents, gc)?;
+        close_all(gc, gone.as_slice());
+        Ok(())
+    }
+
+    // The numbers of the collections whose row is gone.
+    fn gone<S: Schema>(
+        self,
+        contents: &Contents<S>,
+        gc: &Collections,
+    ) -> Result<Vec<u64>, Memory>
+        ensures are { IfOk result (λ gone. gone.items ≡ gone_from S.Row.join S.words contents.now gc.now.collections) }
+        ensures numbered { IsNumbered gc.now.begun gc.now.collections }
+        ensures want { OnlyWant result }
+    {
         let mut gone = Vec::new(self.alloc);
         for collection in gc.all() {
             if contents.table.get(1, collection.key.as_slice()).is_none() {
                 gone.push(collection.number)?;
             }
         }
-        for number in &gone {
-            gc.close(*number);
-        }
-        Ok(())
+        Ok(gone)
     }
 
     // The keys of the rows that are looked at: those with an open collection, and tombstones that are old enough.
@@ -152,31 +164,31 @@ impl Collector {
         Ok(keys)
     }
 
-    // What is done about the row at a key; whether a collection of it began.
+    // What is done about the row at a key.
     fn about_key<S: Schema>(
         self,
         contents: &Contents<S>,
         gc: &mut Collections,
         key: &[u8],
         out: &mut Vec<Envelope<S::Row>>,
-    ) -> Result<bool, Memory>
-        ensures about { IfOk result (λ began. AboutAt S.Row.join S.words self (find_row S.words 1 key.now contents.now.table) gc.old gc.new out.old.items out.new.items began) }
+    ) -> Result<(), Memory>
+        ensures about { OnOk result (AboutAt S.Row.join S.words self (find_row S.words 1 key.now contents.now.table) gc.old gc.new out.old.items out.new.items) }
         ensures causes { WantOr result (CannotAboutAt S.Row.join S.words self (find_row S.words 1 key.now contents.now.table) gc.old) }
     {
         match contents.table.get(1, key) {
             Some(row) => self.about::<S>(gc, row, out),
-            None => Ok(false),
+            None => Ok(()),
         }
     }
 
-    // What is done about a row; whether a collection of it began.
+    // What is done about a row.
     fn about<S: Schema>(
         self,
         gc: &mut Collections,
         row: &S::Row,
         out: &mut Vec<Envelope<S::Row>>,
-    ) -> Result<bool, Memory>
-        ensures about { IfOk result (λ began. Abouts S.Row.join S.words self row.now gc.old gc.new out.old.items out.new.items began) }
+    ) -> Result<(), Memory>
+        ensures about { OnOk result (Abouts S.Row.join S.words self row.now gc.old gc.new out.old.items out.new.items) }
         ensures causes { WantOr result (CannotAbout S.Row.join S.words self row.now gc.old) }
     {
         let bytes = S::row_bytes(self.alloc, row)?;
@@ -184,20 +196,20 @@ impl Collector {
         match gc.of(key.as_slice()) {
             None => {
                 if !self.is_aged(S::marker(row)) {
-                    return Ok(false);
+                    return Ok(());
                 }
                 self.begin(gc, key, bytes, out)?;
-                Ok(true)
+                Ok(())
             }
             Some(collection) => {
                 let number = collection.number;
                 if collection.newest != self.newest || collection.row != bytes {
                     gc.close(number);
-                    return Ok(false);
+                    return Ok(());
                 }
                 let (round, ready) = (collection.round, collection.ready);
                 self.go_on::<S>(gc, number, round, ready, bytes, out)?;
-                Ok(false)
+                Ok(())
             }
         }
     }
@@ -265,6 +277,15 @@ impl Collector {
             Some(end) => self.now < end,
             None => true,
         }
+    }
+}
+
+// Closes the collections with these numbers.
+fn close_all(gc: &mut Collections, numbers: &[u64])
+    ensures { gc.new ≡ closed_all numbers.now gc.old }
+{
+    for number in numbers {
+        gc.close(*number);
     }
 }
 

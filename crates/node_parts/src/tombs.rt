@@ -1,12 +1,12 @@
 //! Tombstones at a node: how they are merged, compared and dropped.
-ghost use Rattle.std.specs.Prelude.{◌≡◌, ◌⊎◌, is_some, IfOk, OnOk};
+ghost use Rattle.std.specs.Prelude.{◌≡◌, ◌⊎◌, Some, None, is_some, IsTrue, IfOk, OnOk};
 ghost use Rattle.std.specs.Option.{option_and_then};
 ghost use Rattle.crdt_core.specs.Outcomes.{OnlyWant, WantOr};
 ghost use Rattle.table_model.specs.Rows.{find_row};
 ghost use Rattle.cluster_machine.specs.Blocks.{NeedsNone};
 ghost use Rattle.cluster_machine.specs.Collects.{has_bytes, without_row};
 ghost use Rattle.node_parts.specs.Contents.{Turns};
-ghost use Rattle.node_parts.specs.Collects.{Merges, CannotMerge, Forgets, marker_of};
+ghost use Rattle.node_parts.specs.Collects.{Merges, MergesRow, CannotMerge, CannotMergeRow, Forgets, marker_of};
 
 use crate::contents::Contents;
 use crate::sets::is_given;
@@ -23,14 +23,24 @@ impl<S: Schema> Contents<S> {
         ensures merges { OnOk result (Merges S.Row.join S.words self.old self.new view.now node now bytes.now) }
         ensures causes { WantOr result (CannotMerge S.Row.join S.words self.old view.now node now bytes.now) }
     {
-        let row = match S::row_from(self.alloc, bytes.as_slice()) {
-            Ok(row) => row,
-            Err(RowFault::NotARow) => return Ok(()),
-            Err(RowFault::Memory) => return Err(Memory::Want),
-        };
-        if is_given(view, node, partition::<S>(&row)) {
-            self.accept(row, &None, now)?;
+        match S::row_from(self.alloc, bytes.as_slice()) {
+            Ok(row) => self.merge_row(view, node, row, now),
+            Err(RowFault::NotARow) => Ok(()),
+            Err(RowFault::Memory) => Err(Memory::Want),
         }
+    }
+
+    // Merges a row in that needs no block, where some set of the view gives the node its partition.
+    fn merge_row(&mut self, view: &View, node: u8, row: S::Row, now: u64) -> Result<(), Memory>
+        requires proper { IsTrue (S.words.is_proper row) }
+        requires needs_none { S.words.live_block row ≡ None }
+        ensures merges { OnOk result (MergesRow S.Row.join S.words self.old self.new view.now node now (Some row)) }
+        ensures causes { WantOr result (CannotMergeRow S.Row.join S.words self.old view.now node now (Some row)) }
+    {
+        if !is_given(view, node, partition::<S>(&row)) {
+            return Ok(());
+        }
+        self.accept(row, &None, now)?;
         Ok(())
     }
 

@@ -43,6 +43,13 @@ impl Collections {
         }
     }
 
+    /// How many collections ever began, which is the number of the last one.
+    pub fn begun(&self) -> u64
+        ensures { result ≡ self.now.begun }
+    {
+        self.begun
+    }
+
     /// Begins a collection of the row with this key and these bytes at the node `own`, whose newest layout version
     /// is `newest`, and answers its number. The node itself has confirmed round 1.
     pub fn begin(&mut self, key: Bytes, row: Bytes, own: u8, newest: u32) -> Result<u64, Memory>
