@@ -31,3 +31,6 @@ pub mod Gathering
 pub mod Tombs
 pub mod ClosedAll
 pub mod GoingOn
+pub mod GoesOn
+pub mod AboutOne
+pub mod LookedAt

@@ -1,12 +1,14 @@
 //! How a node collects its delete markers.
-ghost use Rattle.std.specs.Prelude.{◌≡◌, ◌⊎◌, ◌+◌, ◌^◌, ◌≤◌, nat_lt, Some, None, IfOk, OnOk};
+ghost use Rattle.std.specs.Prelude.{◌≡◌, ◌⊎◌, ◌+◌, ◌^◌, ◌≤◌, ◌==◌, ◌&&◌, ◌||◌, ℕ, List, true, cond, is_some, nat_lt, Some, None, IsTrue, IfOk, OnOk};
 ghost use Rattle.crdt_core.specs.Outcomes.{OnlyWant, WantOr};
 ghost use Rattle.wire_messages.specs.declared.message.Message.TheVariants.{Tomb};
-ghost use Rattle.gc_model.specs.Collecting.{IsNumbered};
+ghost use Rattle.gc_model.specs.Collecting.{IsNumbered, changed, in_second, is_ready, keyed, numbered};
 ghost use Rattle.cluster_machine.specs.Collects.{collection_pause, is_aged, others};
 ghost use Rattle.cluster_machine.specs.Phases.{to_each};
+ghost use Rattle.cluster_machine.specs.Rows.{same_bytes};
 ghost use Rattle.node_parts.specs.Posts.{Posts};
-ghost use Rattle.node_parts.specs.Collects.{Abouts, CannotAbout, AboutAt, CannotAboutAt, AboutKeys, CannotAboutKeys, Begins, IsOpen, GoesOn, Ends, gone_from, closed_all, ClosesGone, Looks, Collects, CannotCollect};
+ghost use Rattle.node_parts.specs.Collects.{Abouts, CannotAbout, AboutAt, CannotAboutAt, AboutKeys, CannotAboutKeys, Begins, IsOpen, GoesOn, Ends, gone_from, closed_all, ClosesGone, Looks, Collects, CannotCollect, marker_of};
+ghost use Rattle.table_store.specs.Index.{has_key};
 ghost use Rattle.table_model.specs.Rows.{find_row};
 
 use crate::contents::Contents;
@@ -153,14 +155,22 @@ impl Collector {
         ensures are { IfOk result (λ keys. Looks S.Row.join S.words self.now contents.now gc.now keys) }
         ensures want { OnlyWant result }
     {
+        let mut keys = self.aged(contents)?;
+        add_open(self.alloc, gc, &mut keys)?;
+        let _ = keys.len();
+        Ok(keys)
+    }
+
+    // The keys of the tombstones that are old enough.
+    fn aged<S: Schema>(self, contents: &Contents<S>) -> Result<BTreeSet<Vec<u8>>, Memory>
+        ensures are { IfOk result (λ keys. (key : List ℕ) → has_key key keys.keys ≡ is_aged self.now (marker_of S.words (find_row S.words 1 key contents.now.table))) }
+        ensures want { OnlyWant result }
+    {
         let mut keys = BTreeSet::new(self.alloc);
-        if self.now >= AGE {
-            contents.table.add_marked(self.now - AGE, &mut keys)?;
+        if self.now < AGE {
+            return Ok(keys);
         }
-        for collection in gc.all() {
-            let key = Vec::from_slice(self.alloc, collection.key.as_slice())?;
-            let _ = keys.insert(key)?;
-        }
+        contents.table.add_marked(self.now - AGE, &mut keys)?;
         Ok(keys)
     }
 
@@ -203,7 +213,7 @@ impl Collector {
             }
             Some(collection) => {
                 let number = collection.number;
-                if collection.newest != self.newest || collection.row != bytes {
+                if !self.is_same(collection, bytes.as_slice()) {
                     gc.close(number);
                     return Ok(());
                 }
@@ -212,6 +222,13 @@ impl Collector {
                 Ok(())
             }
         }
+    }
+
+    // Neither the row nor the node's newest layout version has changed since the collection began.
+    fn is_same(self, begun: &Collection, row: &[u8]) -> bool
+        ensures { result ≡ (same_bytes row.now begun.now.row && (self.newest == begun.now.newest)) }
+    {
+        row == begun.row.as_slice() && self.newest == begun.newest
     }
 
     // The delete marker lies far enough back.
@@ -262,9 +279,7 @@ impl Collector {
         if self.waits(ready) {
             return Ok(());
         }
-        if round == 1 {
-            gc.second(number)?;
-        }
+        to_second(gc, number, round)?;
         let missing = gc.missing(number)?;
         ask(out, self.node, missing.as_slice(), number, 2, row)
     }
@@ -278,6 +293,34 @@ impl Collector {
             None => true,
         }
     }
+}
+
+// Adds the keys of the open collections.
+fn add_open(
+    alloc: Global,
+    gc: &Collections,
+    keys: &mut BTreeSet<Vec<u8>>,
+) -> Result<(), Memory>
+    ensures adds { OnOk result ((key : List ℕ) → has_key key keys.new.keys ≡ (has_key key keys.old.keys || is_some (keyed key gc.now))) }
+    ensures want { OnlyWant result }
+{
+    for collection in gc.all() {
+        let key = Vec::from_slice(alloc, collection.key.as_slice())?;
+        let _ = keys.insert(key)?;
+    }
+    Ok(())
+}
+
+// Begins round 2 of a collection, where it hasn't begun.
+fn to_second(gc: &mut Collections, number: u64, round: u8) -> Result<(), Memory>
+    requires ready { (round == 1) ≡ true → IsTrue (is_ready (numbered number gc.old)) }
+    ensures ok { OnOk result (gc.new ≡ cond (round == 1) (changed in_second number gc.old) gc.old) }
+    ensures want { OnlyWant result }
+{
+    if round == 1 {
+        return gc.second(number);
+    }
+    Ok(())
 }
 
 // Closes the collections with these numbers.
