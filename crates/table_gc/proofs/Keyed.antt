@@ -1,6 +1,6 @@
 -- The numbers of open collections by the keys of their rows, as collections come, change and go.
-use Rattle.std.proofs.Common.{◌≡◌, ◌<◌, ℕ, zero, suc, true, false, ◌==◌, not, cond, Bool, List, [], ◌∷◌, ◌++◌, Option, Some, None, map, refl, ap, sym, ◌∙◌, arith, eq-eqb, subst}
-use Rattle.std.specs.Prelude.{nat_eq, slice_get, slice_set, remove}
+use Rattle.std.proofs.Common.{◌≡◌, ◌<◌, ℕ, zero, suc, true, false, ◌==◌, not, cond, Bool, List, [], ◌∷◌, ◌++◌, Option, Some, None, map, Result, Ok, Err, refl, ap, sym, ◌∙◌, arith, eq-eqb, subst}
+use Rattle.std.specs.Prelude.{nat_eq, slice_get, slice_set, remove, OnOk, OnErr}
 use Rattle.std.specs.Global.{Vec}
 use Rattle.std.specs.List.{filter, find}
 use Rattle.std.specs.Option.{is_some}
@@ -152,6 +152,11 @@ keyed_set i v y cs keys at_i number-is key-is are key = are key ∙ sym (set_by 
           | true ↦ ap (λ ns. x.number ∷ ns) (set_by xs i at_i)
           | false ↦ set_by xs i at_i
         ]
+
+-- changed or not, it has its key
+pub either_key : {U E : Type 0} (r : Result U E) (f : Collection → Collection) (v y : Collection) → (f v).key ≡ v.key → OnOk r (y ≡ f v) → OnErr r (y ≡ v) → y.key ≡ v.key
+either_key (Ok u) f v y same ok err = ap (λ c. c.key) ok ∙ same
+either_key (Err e) f v y same ok err = ap (λ c. c.key) err
 
 -- ---- the first collection of a key
 

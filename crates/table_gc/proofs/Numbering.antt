@@ -40,3 +40,17 @@ told_number round node newest now c =
       | true ↦ answer_number node newest now c
       | false ↦ refl
     ]
+
+answer_key : (node newest now : ℕ) (c : Collection) → (after_answer node newest now c).key ≡ c.key
+answer_key node newest now c =
+    elim (has_confirmed node c) as (λ b. (if b then c else if c.round == 1 then record c { first = c.first ++ (node, newest) ∷ []; ready = (if length c.first + 1 == 16 then Some now else c.ready) } else record c { again = c.again ++ node ∷ [] }).key ≡ c.key) [
+      | true ↦ refl
+      | false ↦ elim (c.round == 1) as (λ b. (if b then record c { first = c.first ++ (node, newest) ∷ []; ready = (if length c.first + 1 == 16 then Some now else c.ready) } else record c { again = c.again ++ node ∷ [] }).key ≡ c.key) [ true ↦ refl | false ↦ refl ]
+    ]
+
+pub told_key : (round node newest now : ℕ) (c : Collection) → (told round node newest now c).key ≡ c.key
+told_key round node newest now c =
+    elim (round == c.round) as (λ b. (if b then after_answer node newest now c else c).key ≡ c.key) [
+      | true ↦ answer_key node newest now c
+      | false ↦ refl
+    ]

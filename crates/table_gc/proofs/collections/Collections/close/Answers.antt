@@ -1,15 +1,22 @@
-use Rattle.std.proofs.Common.{◌≡◌, List, ap, sym, ◌∙◌}
+use Rattle.std.proofs.Common.{◌≡◌, List, ap, sym, subst, ◌∙◌}
 use Rattle.gc_model.specs.Collecting.{Open, number_of}
 use Rattle.gc_model.specs.declared.collection.Collection.{Collection}
 use Rattle.numbered_list.proofs.Numbering.{one_left_out, none_left_out, numbered_left}
+use Rattle.table_gc.specs.Keys.{AreKeyed, Removes}
+use Rattle.table_gc.proofs.Keyed.{keyed_left}
 use Rattle.table_gc.proofs.collections.Collections.close.Goals as goal
 
 pub invariant_of-self : goal.invariant_of-self
 invariant_of-self c =
     let v = c.remove.result in
     let is : v.number ≡ c.args.number = rw (c.as_slice.ensures, c.remove.ensures.value) at c.in-Some.ensures.found in
-    rw (c.remove.ensures.rest ∙ one_left_out number_of c.args.number 0 c.self.inside.list c.in-Some.i v c.self.invariant.rises c.remove.ensures.value is)
-    (numbered_left number_of c.args.number c.self.inside.begun c.self.inside.list c.self.invariant)
+    let left = c.remove.ensures.rest ∙ one_left_out number_of c.args.number 0 c.self.inside.list c.in-Some.i v c.self.invariant.numbered.rises c.remove.ensures.value is in
+    record {
+      numbered = rw left (numbered_left number_of c.args.number c.self.inside.begun c.self.inside.list c.self.invariant.numbered);
+      keyed = subst (AreKeyed c.remove-2.new.keys) (sym left)
+          (keyed_left c.args.number c.in-Some.i v c.self.inside.list c.self.inside.keys c.remove-2.new.keys c.self.invariant.numbered.rises c.remove.ensures.value is
+          (subst (λ key. Removes key c.args.number c.self.inside.keys c.remove-2.new.keys) c.as_slice-2.ensures c.remove-2.ensures) c.self.invariant.keyed);
+    }
 
 pub returns-in-Some : goal.returns-in-Some
 returns-in-Some c =
@@ -17,7 +24,7 @@ returns-in-Some c =
     let v = c.remove.result in
     let is : v.number ≡ c.args.number = rw (c.as_slice.ensures, c.remove.ensures.value) at c.in-Some.ensures.found in
     rw (← c.self.view_is)
-    (ap whole (c.remove.ensures.rest ∙ one_left_out number_of c.args.number 0 c.self.inside.list c.in-Some.i v c.self.invariant.rises c.remove.ensures.value is))
+    (ap whole (c.remove.ensures.rest ∙ one_left_out number_of c.args.number 0 c.self.inside.list c.in-Some.i v c.self.invariant.numbered.rises c.remove.ensures.value is))
 
 pub returns-in-None : goal.returns-in-None
 returns-in-None c =
