@@ -16,7 +16,7 @@ use Rattle.std.proofs.lemmas.Map.Text.{is_eq-slice_cmp}
 use Rattle.std.proofs.lemmas.Option.{same_Some}
 use Rattle.crdt_core.specs.IdentityLaws.{slice_identical, nat_identical}
 use Rattle.numbered_list.specs.Numbers.{Rises}
-use Rattle.numbered_list.proofs.Numbering.{NoneHas, above_item, left_of, one_left_out}
+use Rattle.numbered_list.proofs.Numbering.{apart_above, left_of, one_left_out}
 use Rattle.gc_model.specs.Collecting.{number_of}
 use Rattle.gc_model.specs.declared.collection.Collection.{Collection}
 use Rattle.table_gc.specs.Keys.{Keys, numbers_in, numbers_at, Adds, Removes, is_of, AreKeyed}
@@ -68,14 +68,13 @@ module _ (key : List ℕ) (old new : Keys) (w : Option (Vec ℕ)) (updates : Upd
   pub numbers_changed : (f : List ℕ → List ℕ) → numbers_in w ≡ f (numbers_at key old) → (other : List ℕ) → numbers_at other new ≡ cond (pointwise nat_eq key other) (f (numbers_at other old)) (numbers_at other old)
   numbers_changed f is other = numbers_after other ∙ changed_by f is other (pointwise nat_eq key other) refl
 
--- the same number was at each key
-pub same_or_same : {X : Type 0} (b : Bool) (x : X) → cond b x x ≡ x
-same_or_same true x = refl
-same_or_same false x = refl
+  either_same : (b : Bool) (ns : List ℕ) → cond b ns ns ≡ ns
+  either_same true ns = refl
+  either_same false ns = refl
 
-pub cond_same : {X : Type 0} (b : Bool) (x y : X) → x ≡ y → cond b x y ≡ y
-cond_same true x y e = e
-cond_same false x y e = refl
+  -- the same, where it wasn't
+  pub numbers_same : numbers_in w ≡ numbers_at key old → (other : List ℕ) → numbers_at other new ≡ numbers_at other old
+  numbers_same is other = numbers_changed (λ ns. ns) is other ∙ either_same (pointwise nat_eq key other) (numbers_at other old)
 
 -- ---- collections
 
@@ -168,33 +167,16 @@ first_above key n low (x ∷ xs) rises is = above_by (is_of key x) is
     above_by true is = let here : x.number ≡ n = same_Some x.number n is in omega (arith, rises.0, here)
     above_by false is = let later = first_above key n x.number xs rises.1 is in omega (arith, rises.0, later)
 
-pub first_is : (key : List ℕ) (n low : ℕ) (cs : List Collection) (i : ℕ) (v : Collection) → Rises low (map number_of cs) → slice_get (numbers key cs) 0 ≡ Some n → slice_get cs i ≡ Some v → v.number ≡ n → find (is_of key) cs ≡ Some v
-first_is key n low [] i v rises is at_i number-is = absurd (let no : false ≡ true = ap is_some at_i in cc)
-first_is key n low (x ∷ xs) zero v rises is at_i number-is = here_by (is_of key x) is
+-- a key's first number is that of its first collection
+pub first_keyed : (key : List ℕ) (n low : ℕ) (cs : List Collection) → Rises low (map number_of cs) → slice_get (numbers key cs) 0 ≡ Some n → find (λ c. c.number == n) cs ≡ find (is_of key) cs
+first_keyed key n low [] rises is = refl
+first_keyed key n low (x ∷ xs) rises is = keyed_by (is_of key x) is
   where
-    here_by : (b : Bool) → slice_get (map number_of (cond b (x ∷ filter (is_of key) xs) (filter (is_of key) xs))) 0 ≡ Some n → cond b (Some x) (find (is_of key) xs) ≡ Some v
-    here_by true is = at_i
-    here_by false is =
+    keyed_by : (b : Bool) → slice_get (map number_of (cond b (x ∷ filter (is_of key) xs) (filter (is_of key) xs))) 0 ≡ Some n → cond (x.number == n) (Some x) (find (λ c. c.number == n) xs) ≡ cond b (Some x) (find (is_of key) xs)
+    keyed_by true is = ap (λ b. cond b (Some x) (find (λ c. c.number == n) xs)) (eq-eqb x.number n (same_Some x.number n is))
+    keyed_by false is =
         let later = first_above key n x.number xs rises.1 is in
-        let here : x.number ≡ n = ap number_of (same_Some x v at_i) ∙ number-is in
-        absurd (omega (arith, later, here))
-first_is key n low (x ∷ xs) (suc i) v rises is at_i number-is = later_by (is_of key x) is
-  where
-    later_by : (b : Bool) → slice_get (map number_of (cond b (x ∷ filter (is_of key) xs) (filter (is_of key) xs))) 0 ≡ Some n → cond b (Some x) (find (is_of key) xs) ≡ Some v
-    later_by true is =
-        let above = above_item number_of n x.number xs i v rises.1 at_i number-is in
-        let here : x.number ≡ n = same_Some x.number n is in
-        absurd (omega (arith, above, here))
-    later_by false is = first_is key n x.number xs i v rises.1 is at_i number-is
-
--- a number at a key is that of a collection
-pub first_there : (key : List ℕ) (n : ℕ) (cs : List Collection) → slice_get (numbers key cs) 0 ≡ Some n → NoneHas number_of n cs → ⊥
-first_there key n [] is none = let no : false ≡ true = ap is_some is in cc
-first_there key n (x ∷ xs) is none = there_by (is_of key x) is
-  where
-    there_by : (b : Bool) → slice_get (map number_of (cond b (x ∷ filter (is_of key) xs) (filter (is_of key) xs))) 0 ≡ Some n → ⊥
-    there_by true is = both_ways (x.number == n) none.0 (eq-eqb x.number n (same_Some x.number n is))
-    there_by false is = first_there key n xs is none.1
+        ap (λ b. cond b (Some x) (find (λ c. c.number == n) xs)) (apart_above x.number n later) ∙ first_keyed key n x.number xs rises.1 is
 
 -- a key without numbers has no collection
 pub none_of : (key : List ℕ) (cs : List Collection) → slice_get (numbers key cs) 0 ≡ None → find (is_of key) cs ≡ None

@@ -67,6 +67,7 @@ impl Collections {
         let mut first = List::new(alloc);
         first.push((own, newest))?;
         let again = List::new(alloc);
+        let count = self.list.len();
         self.list.push(Collection {
             number,
             key,
@@ -79,7 +80,7 @@ impl Collections {
             again,
         })?;
         if let Err(fault) = add(alloc, &mut self.keys, indexed, number) {
-            let _ = self.list.pop();
+            self.list.truncate(count);
             return Err(fault);
         }
         self.begun = number;
@@ -91,17 +92,20 @@ impl Collections {
         ensures is { option_copied result ≡ keyed key.now self.now }
         ensures numbered { IfSome result (λ c. numbered c.now.number self.now ≡ Some c.now) }
     {
-        let number = first(&self.keys, key)?;
-        let i = place_of(self.list.as_slice(), number)?;
-        Some(self.list.at(i))
+        match first(&self.keys, key) {
+            Some(number) => self.numbered(number),
+            None => None,
+        }
     }
 
     /// The open collection with this number.
     pub fn numbered(&self, number: u64) -> Option<&Collection>
         ensures { option_copied result ≡ numbered number self.now }
     {
-        let i = place_of(self.list.as_slice(), number)?;
-        Some(self.list.at(i))
+        match place_of(self.list.as_slice(), number) {
+            Some(i) => Some(self.list.at(i)),
+            None => None,
+        }
     }
 
     /// The open collections in order of their numbers.

@@ -15,8 +15,10 @@ pub type Keys = BTreeMap<Vec<u8>, Vec<u64>>;
 pub fn first(keys: &Keys, key: &[u8]) -> Option<u64>
     ensures { result ≡ slice_get (numbers_at key.now keys.now) 0 }
 {
-    let numbers = keys.get(key)?;
-    Some(*numbers.first()?)
+    match keys.get(key) {
+        Some(numbers) => numbers.first().copied(),
+        None => None,
+    }
 }
 
 /// Adds a number at a key, behind those that are there.
