@@ -32,14 +32,14 @@ use Rattle.table_store.proofs.Fitting.{fits_same}
 
 -- ---- rows without the one at a key
 
+above_same : {Z : Type 0} (a b : List ℕ) (keys : List (Vec ℕ Z)) → a ≡ b → Above b keys → Above a keys
+above_same a b keys e all = subst (λ key. Above key keys) (sym e) all
+
 module _ {R Z : Type 0} where
   all_stay : (key : List ℕ) (es : List (Vec ℕ Z × Placed R)) → Above key (keys_of es) → filter (λ e. not (at key e.0)) es ≡ es
   all_stay key [] all = refl
   all_stay key (e ∷ es) all =
       ap (λ o. cond (not (is_eq o)) (e ∷ filter (λ d. not (at key d.0)) es) (filter (λ d. not (at key d.0)) es)) all.0 ∙ ap (λ l. e ∷ l) (all_stay key es all.1)
-
-  above_same : (a b : List ℕ) (keys : List (Vec ℕ Z)) → a ≡ b → Above b keys → Above a keys
-  above_same a b keys e all = subst (λ key. Above key keys) (sym e) all
 
   without_by : (key : List ℕ) (e : Vec ℕ Z × Placed R) (es : List (Vec ℕ Z × Placed R)) → Above e.0.items (keys_of es) → without_key key es ≡ filter (λ d. not (at key d.0)) es →
       (b : Bool) → at key e.0 ≡ b → cond b es (e ∷ without_key key es) ≡ cond (not b) (e ∷ filter (λ d. not (at key d.0)) es) (filter (λ d. not (at key d.0)) es)
@@ -264,13 +264,14 @@ pub stays_under : (index later : BTreeMap ℕ Part) (p : ℕ) → StaysAt p inde
 stays_under index later p stays q other had =
     under_by {After = Stays} index later p other other (λ was is same. ap (λ es. has_key other (keys_of es)) same.pairs) stays.here stays.others q (is_eq (nat_cmp p q)) refl ∙ had
 
-module _ {R Z : Type 0} (index later : BTreeMap ℕ Part) (p : ℕ) (key : List ℕ) (forgets : ForgetsAt p key index later) where
+module _ (index later : BTreeMap ℕ Part) (p : ℕ) (key : List ℕ) (forgets : ForgetsAt p key index later) where
   left_under : (q : ℕ) (other : List ℕ) → is_eq (slice_cmp nat_cmp key other) ≡ false → has_key other (keys_under later q) ≡ has_key other (keys_under index q)
   left_under q other apart = under_by {After = Forgets key} index later p key other (λ was is f. f.keys other apart) forgets.here forgets.others q (is_eq (nat_cmp p q)) refl
 
+module _ {R Z : Type 0} (index later : BTreeMap ℕ Part) (p : ℕ) (key : List ℕ) (forgets : ForgetsAt p key index later) where
   left_by : (e : Vec ℕ Z × Placed R) (rest : List (Vec ℕ Z × Placed R)) → is_indexed index e ≡ true → list_all (is_indexed later) rest ≡ true → (b : Bool) → at key e.0 ≡ b → list_all (is_indexed later) (cond (not b) (e ∷ rest) rest) ≡ true
   left_by e rest here all true h = all
-  left_by e rest here all false h = (λ i. (left_under e.1.partition e.0.items h ∙ here) i && all i)
+  left_by e rest here all false h = (λ i. (left_under index later p key forgets e.1.partition e.0.items h ∙ here) i && all i)
 
   left_all : (es : List (Vec ℕ Z × Placed R)) → list_all (is_indexed index) es ≡ true → list_all (is_indexed later) (filter (λ e. not (at key e.0)) es) ≡ true
   left_all [] all = refl

@@ -58,6 +58,10 @@ module _ (old new : Markers) (ts : ℕ) (w : Option (BTreeSet Key)) (updates : (
   pub rest_stays : (key : List ℕ) → ((other : List ℕ) → is_eq (slice_cmp nat_cmp key other) ≡ false → marked_at ts other old ≡ true → has_key_in other w ≡ true) → RestStays ts key old new
   rest_stays key more t other apart had = marked_after t other ∙ rest_by key more t other apart had (is_eq (nat_cmp ts t)) refl
 
+-- where nothing changed
+pub same_stay : (old new : Markers) → new.entries ≡ old.entries → AllStay old new
+same_stay old new same t key had = ap (λ es. has_key_in key (lookup (is_at (nat_cmp t)) es)) same ∙ had
+
 -- ---- one change after the other
 
 pub all_then_rest : (ts : ℕ) (key : List ℕ) (a b c : Markers) → AllStay a b → RestStays ts key b c → RestStays ts key a c

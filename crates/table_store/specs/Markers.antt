@@ -1,5 +1,5 @@
 -- The keys of rows with nothing but a delete marker, by the markers' timestamps.
-use Rattle.std.specs.Prelude.{◌≡◌, ℕ, ◌==◌, ◌&&◌, leb, Bool, true, false, List, Option, Some, None, Vec}
+use Rattle.std.specs.Prelude.{◌≡◌, ℕ, ◌==◌, ◌&&◌, ◌||◌, leb, Bool, true, false, List, Option, Some, None, Vec}
 use Rattle.std.specs.BTreeMap.{BTreeMap, get}
 use Rattle.std.specs.BTreeSet.{BTreeSet}
 use Rattle.std.specs.Ordering.{nat_cmp, is_eq}
@@ -7,7 +7,7 @@ use Rattle.std.specs.Cmp.Lexicographic.{slice_cmp}
 use Rattle.table_schema.specs.Words.{Words}
 use Rattle.table_store.specs.declared.shelf.Placed.{Placed}
 use Rattle.table_store.specs.Index.{Key, has_key}
-use Rattle.table_store.specs.Shelf.{placed_at}
+use Rattle.table_store.specs.Shelf.{placed_at, shelf_find}
 
 -- keys by timestamps
 abbrev pub Markers : Type 0
@@ -48,3 +48,15 @@ module _ {R : Type 0} (s : Words R) where
   abbrev pub is_marked : ℕ → Option R → Bool
   is_marked limit None = false
   is_marked limit (Some row) = is_by limit (s.marker row)
+
+  -- the same of the row at a key
+  abbrev pub is_marked_at : {Z : Type 0} → ℕ → List (Vec ℕ Z × Placed R) → List ℕ → Bool
+  is_marked_at limit rows key = is_marked limit (shelf_find key rows)
+
+-- it is this key, and passes
+abbrev pub only_at : List ℕ → (List ℕ → Bool) → List ℕ → Bool
+only_at key test other = is_eq (slice_cmp nat_cmp other key) && test other
+
+-- the keys that pass were added, and no others
+abbrev pub AddsWhere : (List ℕ → Bool) → BTreeSet Key → BTreeSet Key → Type 0
+AddsWhere test old new = (key : List ℕ) → has_key key new.keys ≡ (has_key key old.keys || test key)

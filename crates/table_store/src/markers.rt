@@ -1,9 +1,9 @@
 //! The keys of rows with nothing but a delete marker, by the markers' timestamps.
-ghost use Rattle.std.specs.Prelude.{◌≡◌, ◌||◌, ℕ, List, true, None, Some, OnOk, OnErr};
+ghost use Rattle.std.specs.Prelude.{◌≡◌, ◌&&◌, ◌==◌, ◌×◌, ℕ, List, true, false, Some, OnOk, OnErr};
 ghost use Rattle.crdt_core.specs.Outcomes.{OnlyWant};
 ghost use Rattle.table_store.specs.Index.{has_key};
 ghost use Rattle.table_store.specs.Shelf.{shelf_find};
-ghost use Rattle.table_store.specs.Markers.{AllMarked, AllStay, OthersStay, RestStays, is_marked, marked_at};
+ghost use Rattle.table_store.specs.Markers.{AddsWhere, AllMarked, AllStay, OthersStay, RestStays, is_by, is_marked, is_marked_at, marked_at, only_at};
 
 use crate::index::add_to;
 use crate::shelf::{Rows, Shelf, find};
@@ -111,7 +111,8 @@ fn unmark_old(
     new: Option<(u64, u64)>,
 )
     ensures others { OthersStay key.now markers.old markers.new }
-    ensures kept { (version : ℕ × ℕ) → new ≡ Some version → marked_at version.0 key.now markers.old ≡ true → marked_at version.0 key.now markers.new ≡ true }
+    ensures kept { (version : ℕ × ℕ) → new ≡ Some version →
+        marked_at version.0 key.now markers.old ≡ true → marked_at version.0 key.now markers.new ≡ true }
 {
     if let Some(version) = old {
         if !is_at(new, version.0) {
@@ -138,7 +139,7 @@ pub fn add_marked<S: Schema>(
     keys: &mut BTreeSet<Vec<u8>>,
 ) -> Result<(), Memory>
     requires marked { AllMarked S.words shelf.now.markers shelf.now.rows.entries }
-    ensures adds { OnOk result ((key : List ℕ) → has_key key keys.new.keys ≡ (has_key key keys.old.keys || is_marked S.words limit (shelf_find key shelf.now.rows.entries))) }
+    ensures adds { OnOk result (AddsWhere (is_marked_at S.words limit shelf.now.rows.entries) keys.old keys.new) }
     ensures want { OnlyWant result }
 {
     let aged = (Bound::Unbounded, Bound::Included(limit));
@@ -148,7 +149,7 @@ pub fn add_marked<S: Schema>(
     Ok(())
 }
 
-// The same of the keys that are noted at one timestamp.
+// The same of those among the keys that are noted at one timestamp.
 fn add_noted<S: Schema>(
     alloc: Global,
     shelf: &Shelf<S::Row>,
@@ -156,15 +157,30 @@ fn add_noted<S: Schema>(
     limit: u64,
     keys: &mut BTreeSet<Vec<u8>>,
 ) -> Result<(), Memory>
-    ensures adds { OnOk result ((key : List ℕ) → has_key key keys.new.keys ≡ (has_key key keys.old.keys || (has_key key noted.now.keys && is_marked S.words limit (shelf_find key shelf.now.rows.entries)))) }
+    ensures adds { OnOk result (AddsWhere (λ key. has_key key noted.now.keys && is_marked_at S.words limit shelf.now.rows.entries key) keys.old keys.new) }
     ensures want { OnlyWant result }
 {
     for key in noted {
-        if is_marked::<S>(shelf, key.as_slice(), limit) {
-            add_to(alloc, keys, key.as_slice())?;
-        }
+        add_one::<S>(alloc, shelf, key.as_slice(), limit, keys)?;
     }
     Ok(())
+}
+
+// The same of one key.
+fn add_one<S: Schema>(
+    alloc: Global,
+    shelf: &Shelf<S::Row>,
+    key: &[u8],
+    limit: u64,
+    keys: &mut BTreeSet<Vec<u8>>,
+) -> Result<(), Memory>
+    ensures adds { OnOk result (AddsWhere (only_at key.now (is_marked_at S.words limit shelf.now.rows.entries)) keys.old keys.new) }
+    ensures want { OnlyWant result }
+{
+    if !is_marked::<S>(shelf, key, limit) {
+        return Ok(());
+    }
+    add_to(alloc, keys, key)
 }
 
 fn is_marked<S: Schema>(shelf: &Shelf<S::Row>, key: &[u8], limit: u64) -> bool
