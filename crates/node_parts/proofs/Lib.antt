@@ -30,6 +30,7 @@ pub mod Looking
 pub mod Gathering
 pub mod Tombs
 pub mod ClosedAll
+pub mod Collected
 pub mod GoingOn
 pub mod GoesOn
 pub mod AboutOne

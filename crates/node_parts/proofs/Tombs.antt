@@ -6,16 +6,19 @@ use Rattle.std.specs.Option.{option_and_then}
 use Rattle.std.specs.Ordering.{is_eq}
 use Rattle.std.specs.Cmp.{Equal-is}
 use Rattle.std.proofs.lemmas.List.Elements.{recursion_from_All, All-from_recursion}
+use Rattle.blake2_hash.specs.Blake2b.{blake2b}
 use Rattle.blake2_hash.specs.declared.digest.Hash32.{Hash32}
 use Rattle.layout_roles.specs.declared.layout.Layout.{Layout}
 use Rattle.table_schema.specs.Words.{Words}
 use Rattle.table_schema.specs.Laws.{Laws, Same}
-use Rattle.table_model.specs.Rows.{AllProper, find_row, is_at, place, place_cmp, rows}
-use Rattle.table_model.proofs.RowLaws.{Above, Ascends, place_identical, rows_ascend, rows_filter}
-use Rattle.cluster_machine.specs.Node.{Node}
-use Rattle.cluster_machine.specs.Rows.{count_of, is_block}
-use Rattle.cluster_machine.specs.Collects.{without_row}
+use Rattle.table_model.specs.Rows.{AllProper, find_row, is_at, place, place_cmp, row_at, rows}
+use Rattle.table_model.proofs.RowLaws.{Above, Ascends, place_identical, row_found, rows_ascend, rows_filter}
+use Rattle.cluster_machine.specs.Node.{Node, Did, quiet}
+use Rattle.cluster_machine.specs.Phases.{spelled as bytes_in}
+use Rattle.cluster_machine.specs.Rows.{count_of, is_block, same_bytes}
+use Rattle.cluster_machine.specs.Collects.{forgets_row, has_bytes, has_digest, without_row}
 use Rattle.node_parts.specs.declared.contents.Contents.{Contents}
+use Rattle.node_parts.specs.Collects.{marker_of}
 use Rattle.node_parts.specs.Contents.{AreBlocks, IsContents, Became}
 use Rattle.node_parts.proofs.Counting.{count_cons, needs, one}
 
@@ -89,3 +92,45 @@ none_needed s table key xs none r found = none_by (s.live_block r) (ap (λ o. is
     none_by : (o : Option (List ℕ)) → is_some o ≡ false → o ≡ None
     none_by None h = refl
     none_by (Some hash) h = cc
+
+-- ---- a row's bytes
+
+-- the bytes of a row that may be there
+pub has_is : {R : Type 0} (join : R → R → R) (s : Words R) (bytes : List ℕ) (o : Option R) (b : Option (List ℕ)) → b ≡ option_and_then s.spelling o → has_bytes join s bytes o ≡ (is_some b && same_bytes (bytes_in b) bytes)
+has_is join s bytes None b is = ap (λ p. is_some p && same_bytes (bytes_in p) bytes) (sym is)
+has_is join s bytes (Some r) b is = ap (λ p. is_some p && same_bytes (bytes_in p) bytes) (sym is)
+
+module _ {S R : Type 0} {join : R → R → R} {s : Words R} (laws : Laws join s) (c : Contents S R) (x : Node R Layout) (is : IsContents join s c x) (table : ℕ) (key hash : List ℕ) where
+  abbrev row : Option R
+  row = row_at join s x.accepted table key
+
+  abbrev forgotten : Option R → Did R Layout
+  forgotten o = forgets_row join s x table key (has_digest join s hash) o
+
+  -- the row that is found is the node's
+  pub found_is : find_row s table key c.table ≡ row
+  found_is = ap (find_row s table key) is.table ∙ row_found laws x.accepted table key is.proper
+
+  none_by : (b : Option (List ℕ)) → (is_some b && same_bytes (blake2b 32 (bytes_in b)) hash) ≡ false → (o : Option R) → b ≡ option_and_then s.spelling o → Became join s c x (forgotten o).node × (None ≡ (forgotten o).dropped)
+  none_by b other None are = (became_same c x is, refl)
+  none_by b other (Some r) are =
+      let fails : has_digest join s hash r ≡ false = ap (λ p. is_some p && same_bytes (blake2b 32 (bytes_in p)) hash) (sym are) ∙ other in
+      let d : Bool → Did R Layout = λ t. cond t (record (quiet (without_row join s x table key)) { collects = r ∷ []; dropped = s.marker r }) (quiet x) in
+      subst (λ t. Became join s c x (d t).node × (None ≡ (d t).dropped)) (sym fails) (became_same c x is, refl)
+
+  -- no row whose bytes have the digest is there
+  pub forgets_none : (b : Option (List ℕ)) → b ≡ option_and_then s.spelling (find_row s table key c.table) → (is_some b && same_bytes (blake2b 32 (bytes_in b)) hash) ≡ false → Became join s c x (forgotten row).node × (None ≡ (forgotten row).dropped)
+  forgets_none b are other = none_by b other row (are ∙ ap (option_and_then s.spelling) found_is)
+
+  it_by : (d : Contents S R) (marker : Option (ℕ × ℕ)) (bytes : List ℕ) → same_bytes (blake2b 32 bytes) hash ≡ true → Became join s d x (without_row join s x table key) → (o : Option R) → Some bytes ≡ option_and_then s.spelling o → marker ≡ marker_of s o →
+      Became join s d x (forgotten o).node × (marker ≡ (forgotten o).dropped)
+  it_by d marker bytes same drops None are is-marker = absurd (let no : Some bytes ≡ None = are in cc)
+  it_by d marker bytes same drops (Some r) are is-marker =
+      let passes : has_digest join s hash r ≡ true = ap (λ p. is_some p && same_bytes (blake2b 32 (bytes_in p)) hash) (sym are) ∙ same in
+      let e : Bool → Did R Layout = λ t. cond t (record (quiet (without_row join s x table key)) { collects = r ∷ []; dropped = s.marker r }) (quiet x) in
+      subst (λ t. Became join s d x (e t).node × (marker ≡ (e t).dropped)) (sym passes) (drops, is-marker)
+
+  -- one is, and was dropped
+  pub forgets_it : (d : Contents S R) (marker : Option (ℕ × ℕ)) (bytes : List ℕ) → Some bytes ≡ option_and_then s.spelling (find_row s table key c.table) → same_bytes (blake2b 32 bytes) hash ≡ true →
+      Became join s d x (without_row join s x table key) → marker ≡ marker_of s (find_row s table key c.table) → Became join s d x (forgotten row).node × (marker ≡ (forgotten row).dropped)
+  forgets_it d marker bytes are same drops is-marker = it_by d marker bytes same drops row (are ∙ ap (option_and_then s.spelling) found_is) (is-marker ∙ ap (marker_of s) found_is)

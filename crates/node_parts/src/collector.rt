@@ -3,7 +3,7 @@ ghost use Rattle.std.specs.Prelude.{◌≡◌, ◌⊎◌, ◌+◌, ◌^◌, ◌�
 ghost use Rattle.crdt_core.specs.Outcomes.{OnlyWant, WantOr};
 ghost use Rattle.wire_messages.specs.declared.message.Message.TheVariants.{Tomb};
 ghost use Rattle.gc_model.specs.Collecting.{IsNumbered, changed, in_second, is_ready, keyed, numbered};
-ghost use Rattle.cluster_machine.specs.Collects.{collection_pause, is_aged, others};
+ghost use Rattle.cluster_machine.specs.Collects.{collection_pause, has_bytes, is_aged, others};
 ghost use Rattle.cluster_machine.specs.Phases.{to_each};
 ghost use Rattle.cluster_machine.specs.Rows.{same_bytes};
 ghost use Rattle.node_parts.specs.Posts.{Posts};
@@ -98,11 +98,10 @@ impl Collector {
         ensures ends { IfOk result (λ dropped. Ends S.Row.join S.words self ended.now contents.old contents.new out.old.items out.new.items dropped) }
         ensures want { OnlyWant result }
     {
-        let key = ended.key.as_slice();
-        if self.newest != ended.newest || !contents.has_bytes(key, ended.row.as_slice())? {
+        if !self.still_stands(contents, ended)? {
             return Ok(None);
         }
-        let dropped = contents.drop_row(1, key)?;
+        let dropped = contents.drop_row(1, ended.key.as_slice())?;
         let message = Message::Forget {
             table: 1,
             key: ended.key.copy()?,
@@ -111,6 +110,21 @@ impl Collector {
         let others = others(self.alloc, self.node)?;
         send_each(out, self.node, others.as_slice(), message)?;
         Ok(dropped)
+    }
+
+    // Neither the collection's row nor the newest layout version has changed.
+    fn still_stands<S: Schema>(
+        self,
+        contents: &Contents<S>,
+        ended: &Collection,
+    ) -> Result<bool, Memory>
+        ensures is { IfOk result (λ stands. stands ≡ ((self.newest == ended.now.newest) && has_bytes S.Row.join S.words ended.now.row (find_row S.words 1 ended.now.key contents.now.table))) }
+        ensures want { OnlyWant result }
+    {
+        if self.newest != ended.newest {
+            return Ok(false);
+        }
+        contents.has_bytes(ended.key.as_slice(), ended.row.as_slice())
     }
 
     // Closes the collections whose row is gone.

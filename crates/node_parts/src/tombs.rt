@@ -3,8 +3,10 @@ ghost use Rattle.std.specs.Prelude.{◌≡◌, ◌⊎◌, Some, None, is_some, I
 ghost use Rattle.std.specs.Option.{option_and_then};
 ghost use Rattle.crdt_core.specs.Outcomes.{OnlyWant, WantOr};
 ghost use Rattle.table_model.specs.Rows.{find_row};
+ghost use Rattle.blake2_hash.specs.Blake2b.{blake2b};
 ghost use Rattle.cluster_machine.specs.Blocks.{NeedsNone};
 ghost use Rattle.cluster_machine.specs.Collects.{has_bytes, without_row};
+ghost use Rattle.cluster_machine.specs.Rows.{same_bytes};
 ghost use Rattle.node_parts.specs.Contents.{Turns};
 ghost use Rattle.node_parts.specs.Collects.{Merges, MergesRow, CannotMerge, CannotMergeRow, Forgets, marker_of};
 
@@ -83,10 +85,11 @@ impl<S: Schema> Contents<S> {
         let Some(bytes) = self.bytes_at(table, key)? else {
             return Ok(None);
         };
-        if blake2b_256(bytes.as_slice()).0 != hash.0 {
+        if !is_digest(bytes.as_slice(), hash) {
             return Ok(None);
         }
-        self.drop_row(table, key)
+        let dropped = self.drop_row(table, key)?;
+        Ok(dropped)
     }
 
     /// Drops the row of a table and key; its delete marker, if it had nothing else. Tombstones need no block. Another row
@@ -114,4 +117,11 @@ impl<S: Schema> Contents<S> {
             None => false,
         }
     }
+}
+
+// The bytes have this digest.
+fn is_digest(bytes: &[u8], hash: &Hash32) -> bool
+    ensures { result ≡ same_bytes (blake2b 32 bytes.now) hash.now.0 }
+{
+    blake2b_256(bytes).0 == hash.0
 }

@@ -16,7 +16,7 @@ returns-in-None-clause-drops g c x is =
     (none_needed g.S.Schema.words c.args.table c.args.key.now self.table (sym c.needs_block.ensures ∙ c.if-needs_block.false)) c.in_ok-remove.ensures.rows refl refl
 
 pub returns-in-Some-clause-marker : goal.returns-in-Some-clause-marker
-returns-in-Some-clause-marker g c = c.marker.ensures ∙ ap (marker_of g.S.Schema.words) (c.in_ok-remove.ensures.row)
+returns-in-Some-clause-marker g c = c.marker.ensures ∙ ap (marker_of g.S.Schema.words) (sym c.in-Some.is ∙ c.in_ok-remove.ensures.row)
 
 pub returns-in-None-clause-marker : goal.returns-in-None-clause-marker
-returns-in-None-clause-marker g c = ap (marker_of g.S.Schema.words) (c.in_ok-remove.ensures.row)
+returns-in-None-clause-marker g c = ap (marker_of g.S.Schema.words) (sym c.in-None.is ∙ c.in_ok-remove.ensures.row)
