@@ -1,6 +1,10 @@
 use Rattle.std.specs.Prelude.{◌≡◌, ◌++◌, ◌∷◌, ℕ, List, [], Some, is_some}
+use Rattle.std.specs.Global.{Vec}
+use Rattle.std.specs.Map.{lookup}
+use Rattle.std.specs.BTreeMap.{is_at}
+use Rattle.std.specs.Ordering.{nat_cmp}
+use Rattle.std.specs.Cmp.Lexicographic.{slice_cmp}
 use Rattle.std.proofs.Common.{ap, sym, subst, ◌∙◌}
-use Rattle.std.proofs.lemmas.Result.{on_err_weaker}
 use Rattle.table_gc.specs.Keys.{Adds, numbers_in, numbers_at}
 use Rattle.table_gc.proofs.Numbering.{on_err}
 use Rattle.table_gc.proofs.Keyed.{numbers_changed, numbers_same}
@@ -19,7 +23,7 @@ pub returns-in-Some-clause-ok : goal.returns-in-Some-clause-ok
 returns-in-Some-clause-ok c =
     let there = sym c.in-Some.ensures.value in
     let later = c.get_mut.follows.lender c.push.new.self in
-    subst (λ key. Adds key c.args.number c.args.keys.now later) c.as_slice.ensures
+    subst (λ key. Adds key c.args.number c.args.keys.now later) c.as_slice.ensures.value
     (numbers_changed c.as_slice.result.now c.args.keys.now later (Some c.push.new.self) ((c.get_mut.follows.holds c.push.new.self).3 (ap is_some there))
     (λ ns. ns ++ c.args.number ∷ []) (c.in_ok-push-in-Some.ensures.items ∙ ap (λ o. numbers_in o ++ c.args.number ∷ []) (sym there)))
 
@@ -30,12 +34,12 @@ returns-in_err-push-2-clause-err c = on_err _ (λ (other : List ℕ). ap (number
 
 pub returns-in_err-insert-clause-err : goal.returns-in_err-insert-clause-err
 returns-in_err-insert-clause-err c =
-    on_err _ (λ (other : List ℕ). ap (λ es. numbers_at other (record { entries = es })) c.in_err-insert.ensures.err ∙ ap (numbers_at other) c.get_mut.follows.holds-at-none)
+    on_err _ (λ (other : List ℕ). ap (λ es. numbers_in (lookup (is_at (λ (k : Vec ℕ). slice_cmp nat_cmp other k.items)) es)) c.in_err-insert.ensures.err ∙ ap (numbers_at other) c.get_mut.follows.holds-at-none)
 
 pub returns-clause-ok : goal.returns-clause-ok
 returns-clause-ok c =
     let mid = c.get_mut.follows.lender-at-none in
-    let none : numbers_at c.args.key.items c.args.keys.now ≡ [] = ap numbers_in (sym (rw c.as_slice.ensures at c.in_default.ensures.value)) in
+    let none : numbers_at c.args.key.items c.args.keys.now ≡ [] = ap numbers_in (sym (rw c.as_slice.ensures.value at c.in_default.ensures.value)) in
     let none_yet : numbers_at c.args.key.items mid ≡ [] = ap (numbers_at c.args.key.items) c.get_mut.follows.holds-at-none ∙ none in
     subst (λ m. Adds c.args.key.items c.args.number m c.insert.new.self) c.get_mut.follows.holds-at-none
     (numbers_changed c.args.key.items mid c.insert.new.self (Some c.push-2.new.self) c.in_ok-insert.ensures.updates

@@ -13,7 +13,7 @@ loop-key-preserved g c other =
     let had = has_key other c.loop-key.keys.keys in
     let rest = has_key other c.next.new.self in
     let here = is_eq (slice_cmp nat_cmp other c.in-Some.key.now.items) in
-    ap (λ b. b || (rest && test)) (c.in_ok-add_one.ensures.adds other ∙ ap (λ k. had || (is_eq (slice_cmp nat_cmp other k) && test)) c.as_slice.ensures)
+    ap (λ b. b || (rest && test)) (c.in_ok-add_one.ensures.adds other ∙ ap (λ k. had || (is_eq (slice_cmp nat_cmp other k) && test)) c.as_slice.ensures.value)
     ∙ (walk_on had here rest test
     ∙ (ap (λ ks. had || (has_key other ks && test)) (sym c.in-Some.ensures.steps)
     ∙ c.loop-key.invariant other))
