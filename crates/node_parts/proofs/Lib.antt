@@ -27,6 +27,7 @@ pub mod MovedParts
 pub mod Emptying
 pub mod KeyedRows
 pub mod Looking
+pub mod Gathered
 pub mod Gathering
 pub mod Tombs
 pub mod ClosedAll

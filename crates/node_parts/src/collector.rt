@@ -167,8 +167,10 @@ impl Collector {
         gc: &Collections,
     ) -> Result<BTreeSet<Vec<u8>>, Memory>
         ensures are { IfOk result (λ keys. Looks S.Row.join S.words self.now contents.now gc.now keys) }
+        ensures numbered { IsNumbered gc.now.begun gc.now.collections }
         ensures want { OnlyWant result }
     {
+        let _ = gc.all();
         let mut keys = self.aged(contents)?;
         add_open(self.alloc, gc, &mut keys)?;
         let _ = keys.len();
@@ -316,6 +318,7 @@ fn add_open(
     keys: &mut BTreeSet<Vec<u8>>,
 ) -> Result<(), Memory>
     ensures adds { OnOk result ((key : List ℕ) → has_key key keys.new.keys ≡ (has_key key keys.old.keys || is_some (keyed key gc.now))) }
+    ensures numbered { IsNumbered gc.now.begun gc.now.collections }
     ensures want { OnlyWant result }
 {
     for collection in gc.all() {
