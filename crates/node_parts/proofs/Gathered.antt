@@ -1,5 +1,5 @@
 -- What is done about the rows at the keys that were gathered is what the machine does about all rows.
-use Rattle.std.specs.Prelude.{◌≡◌, ◌<◌, ◌^◌, ℕ, ◌+◌, true, List, refl}
+use Rattle.std.specs.Prelude.{◌≡◌, ◌≤◌, ◌<◌, ◌^◌, ℕ, ◌+◌, true, List, refl}
 use Rattle.std.proofs.Common.{ap, sym, ◌∙◌, subst, arith}
 use Rattle.std.specs.List.{filter, list_all}
 use Rattle.std.specs.BTreeSet.{BTreeSet}
@@ -20,6 +20,15 @@ use Rattle.node_parts.specs.Collects.{AboutKeys, CannotAboutKeys, ClosesGone, Co
 use Rattle.node_parts.proofs.GoingOn.{rows_count}
 use Rattle.node_parts.proofs.Looking.{is_looked_at}
 use Rattle.node_parts.proofs.Gathering.{about_keys_is, closed_is, looked_is, rows_looked}
+
+-- the count of collections doesn't fall
+pub risen : {S R : Type 0} (join : R → R → R) (s : Words R) (contents : Contents S R) (c : Collector) (old left new : Open) (keys : List Key) (out later : List (Envelope R)) → ClosesGone join s contents old left →
+    AboutKeys join s c contents.table keys left new out later → old.begun ≤ new.begun
+risen join s contents c old left new keys out later closes about =
+    let count = rows_count join s c contents.table (rows_at join s contents.table keys) left in
+    let ended = ap (λ o. o.begun) about.done.gc_is in
+    let began = ap (λ o. o.begun) closes in
+    omega (arith, ended, count, began)
 
 module _ {S R : Type 0} {join : R → R → R} {s : Words R} (laws : Laws join s) (contents : Contents S R) (x : Node R Layout) (is : IsContents join s contents x)
     (c : Collector) (old left : Open) (same : old ≡ x.gc) (closes : ClosesGone join s contents old left) (keys : BTreeSet Key) (looks : Looks join s c.now contents left keys) (numbered : IsNumbered left.begun left.collections) where
