@@ -1,5 +1,7 @@
 -- A node whose collections change, and a collection that has come to its end.
-use Rattle.std.specs.Prelude.{◌≡◌, ℕ, ◌==◌, ◌&&◌, not, Bool, true, false, cond, List, [], ◌∷◌, Option, Some, None, map, refl}
+use Rattle.std.specs.Prelude.{◌≡◌, ℕ, ◌+◌, ◌==◌, ◌&&◌, ◌++◌, not, Bool, true, false, cond, length, List, [], ◌∷◌, Option, Some, None, map, refl}
+use Rattle.std.specs.List.{filter, find}
+use Rattle.std.specs.Option.{option_map}
 use Rattle.std.proofs.Common.{ap, sym, ◌∙◌, subst}
 use Rattle.layout_roles.specs.declared.layout.Layout.{Layout}
 use Rattle.layout_history.specs.Views.{known}
@@ -8,10 +10,18 @@ use Rattle.view_model.specs.View.{newest}
 use Rattle.table_schema.specs.Words.{Words}
 use Rattle.table_model.specs.Rows.{row_at}
 use Rattle.gc_model.specs.declared.collection.Collection.{Collection}
-use Rattle.gc_model.specs.Collecting.{Open, closed, numbered}
+use Rattle.gc_model.specs.declared.collection.GcEnd.{GcEnd}
+use Rattle.gc_model.specs.declared.collection.GcEnd.TheVariants.{Wait, Closed, Complete}
+use Rattle.gc_model.specs.Rounds.{is_closed}
+use Rattle.gc_model.specs.Collecting.{Open, after_answer, answer_end, answered, changed, closed, end_at, has_confirmed, numbered, told}
+use Rattle.table_gc.proofs.Answering.{answered_open}
+use Rattle.table_gc.proofs.Numbering.{found_number}
+use Rattle.wire_messages.specs.declared.message.Message.TheVariants.{Forget}
+use Rattle.blake2_hash.specs.Blake2b.{blake2b}
 use Rattle.cluster_machine.specs.Layouts.{layouts}
+use Rattle.cluster_machine.specs.Phases.{bytes_of, to_each}
 use Rattle.cluster_machine.specs.Node.{Node as Model, Did, quiet}
-use Rattle.cluster_machine.specs.Collects.{drops_row, finishes, forgets_row, has_bytes, without_row}
+use Rattle.cluster_machine.specs.Collects.{answered_to, drops_row, finishes, others, forgets_row, has_bytes, tomb_came, without_row}
 use Rattle.node_parts.specs.declared.contents.Contents.{Contents}
 use Rattle.node_parts.specs.declared.collector.Collector.{Collector}
 use Rattle.node_parts.specs.declared.packet.Envelope.{Envelope}
@@ -100,3 +110,95 @@ module _ {S R : Type 0} (join : R → R → R) (s : Words R) (node : Node S R) (
   pub forgot : (table : ℕ) (key : List ℕ) (test : R → Bool) (o : Option R) → Became join s contents x (forgets_row join s x table key test o).node → Done join s (record node { contents = contents }) id out out None (forgets_row join s x table key test o)
   forgot table key test None became = silent (record node { contents = contents }) id x out (with_contents node id x x contents is became)
   forgot table key test (Some r) became = forgot_by table key r (test r) became
+
+-- ---- an answer that ends a collection
+
+-- an answer changes neither what a collection is of nor its number
+abbrev Keeps : Collection → Collection → Type 0
+Keeps c d = (d.number ≡ c.number) × (d.key ≡ c.key) × (d.row ≡ c.row) × (d.newest ≡ c.newest)
+
+answer_keeps : (node newest now : ℕ) (c : Collection) → Keeps c (after_answer node newest now c)
+answer_keeps node newest now c =
+    elim (has_confirmed node c) as (λ b. Keeps c (cond b c (cond (c.round == 1) (record c { first = c.first ++ (node, newest) ∷ []; ready = cond (length c.first + 1 == 16) (Some now) c.ready }) (record c { again = c.again ++ node ∷ [] })))) [
+      | true ↦ (refl, refl, refl, refl)
+      | false ↦ elim (c.round == 1) as (λ b. Keeps c (cond b (record c { first = c.first ++ (node, newest) ∷ []; ready = cond (length c.first + 1 == 16) (Some now) c.ready }) (record c { again = c.again ++ node ∷ [] }))) [ true ↦ (refl, refl, refl, refl) | false ↦ (refl, refl, refl, refl) ]
+    ]
+
+told_keeps : (round node newest now : ℕ) (c : Collection) → Keeps c (told round node newest now c)
+told_keeps round node newest now c = elim (round == c.round) as (λ b. Keeps c (cond b (after_answer node newest now c) c)) [ true ↦ answer_keeps node newest now c | false ↦ (refl, refl, refl, refl) ]
+
+module _ (f : Collection → Collection) (keeps : (c : Collection) → (f c).number ≡ c.number) (n : ℕ) where
+  abbrev altered : List Collection → List Collection
+  altered cs = map (λ c. cond (c.number == n) (f c) c) cs
+
+  found_told : (cs : List Collection) → find (λ c. c.number == n) (altered cs) ≡ option_map f (find (λ c. c.number == n) cs)
+  found_told [] = refl
+  found_told (c ∷ cs) = by (c.number == n) refl
+    where
+      by : (b : Bool) → (c.number == n) ≡ b → cond ((cond b (f c) c).number == n) (Some (cond b (f c) c)) (find (λ d. d.number == n) (altered cs)) ≡ option_map f (cond b (Some c) (find (λ d. d.number == n) cs))
+      by true h = ap (λ b. cond b (Some (f c)) (find (λ d. d.number == n) (altered cs))) (ap (λ m. m == n) (keeps c) ∙ h)
+      by false h = ap (λ b. cond b (Some c) (find (λ d. d.number == n) (altered cs))) h ∙ found_told cs
+
+  closed_told : (cs : List Collection) → filter (λ c. not (c.number == n)) (altered cs) ≡ filter (λ c. not (c.number == n)) cs
+  closed_told [] = refl
+  closed_told (c ∷ cs) = by (c.number == n) refl
+    where
+      by : (b : Bool) → (c.number == n) ≡ b → cond (not ((cond b (f c) c).number == n)) (cond b (f c) c ∷ filter (λ d. not (d.number == n)) (altered cs)) (filter (λ d. not (d.number == n)) (altered cs)) ≡ cond (not b) (c ∷ filter (λ d. not (d.number == n)) cs) (filter (λ d. not (d.number == n)) cs)
+      by true h = ap (λ b. cond (not b) (f c ∷ filter (λ d. not (d.number == n)) (altered cs)) (filter (λ d. not (d.number == n)) (altered cs))) (ap (λ m. m == n) (keeps c) ∙ h) ∙ closed_told cs
+      by false h = ap (λ b. cond (not b) (c ∷ filter (λ d. not (d.number == n)) (altered cs)) (filter (λ d. not (d.number == n)) (altered cs))) h ∙ ap (λ cs. c ∷ cs) (closed_told cs)
+
+module _ {R : Type 0} (join : R → R → R) (s : Words R) (id : ℕ) (x : Model R Layout) where
+  -- the row with this key is dropped, if it is there
+  abbrev drops_at : Open → List ℕ → Option R → Did R Layout
+  drops_at gc key None = quiet (record x { gc = gc })
+  drops_at gc key (Some r) = record (quiet (without_row join s (record x { gc = gc }) 1 key)) {
+    posts = to_each (others id) (Forget 1 key (record { 0 = blake2b 32 (bytes_of s r) }));
+    collects = r ∷ [];
+    dropped = s.marker r;
+  }
+
+  drops_is : (gc : Open) (o : Collection) (row : Option R) → drops_row join s id (record x { gc = gc }) o row ≡ drops_at gc o.key row
+  drops_is gc o None = refl
+  drops_is gc o (Some r) = refl
+
+  -- the same ends of two collections that differ in nothing but their confirmations
+  same_end : (o p : Collection) (gc : Open) → Keeps o p → closed p.number gc ≡ closed o.number x.gc → finishes join s layouts id (record x { gc = gc }) (Some p) ≡ finishes join s layouts id x (Some o)
+  same_end o p gc keeps left =
+      let end : Open → Collection → Did R Layout = λ g c. cond ((newest reading x.view == c.newest) && has_bytes join s c.row (row_at join s x.accepted 1 c.key)) (drops_at g c.key (row_at join s x.accepted 1 c.key)) (quiet (record x { gc = g })) in
+      let is : (g : Open) (c : Collection) → cond ((newest reading x.view == c.newest) && has_bytes join s c.row (row_at join s x.accepted 1 c.key)) (drops_row join s id (record x { gc = g }) c (row_at join s x.accepted 1 c.key)) (quiet (record x { gc = g })) ≡ end g c =
+          λ g c. ap (λ d. cond ((newest reading x.view == c.newest) && has_bytes join s c.row (row_at join s x.accepted 1 c.key)) d (quiet (record x { gc = g }))) (drops_is g c (row_at join s x.accepted 1 c.key)) in
+      is (closed p.number gc) p
+      ∙ ((λ i. cond ((newest reading x.view == keeps.3 i) && has_bytes join s (keeps.2 i) (row_at join s x.accepted 1 (keeps.1 i))) (drops_at (left i) (keeps.1 i) (row_at join s x.accepted 1 (keeps.1 i))) (quiet (record x { gc = left i })))
+      ∙ sym (is (closed o.number x.gc) o))
+
+  module _ (n round from named now : ℕ) (ends : answer_end n round from named x.gc ≡ Complete) where
+    after : Open
+    after = answered n round from named now x.gc
+
+    is_told : after ≡ changed (told round from named now) n x.gc
+    is_told = answered_open n round from named now x.gc (ap is_closed ends)
+
+    came_by : (o : Option Collection) → numbered n x.gc ≡ o → end_at round from named o ≡ Complete → finishes join s layouts id (record x { gc = after }) (numbered n after) ≡ finishes join s layouts id x o
+    came_by None found leads = absurd (let no : Wait ≡ Complete = leads in cc)
+    came_by (Some o) found leads =
+        let f = told round from named now in
+        let number : (c : Collection) → (f c).number ≡ c.number = λ c. (told_keeps round from named now c).0 in
+        let it : numbered n after ≡ Some (f o) = ap (numbered n) is_told ∙ (found_told f number n x.gc.collections ∙ ap (option_map f) found) in
+        let o-is : o.number ≡ n = found_number n x.gc.collections o found in
+        let left : closed (f o).number after ≡ closed o.number x.gc =
+            (λ i. closed ((number o ∙ o-is) i) (is_told i)) ∙ (ap (λ cs. record x.gc { collections = cs }) (closed_told f number n x.gc.collections) ∙ ap (λ m. closed m x.gc) (sym o-is)) in
+        ap (finishes join s layouts id (record x { gc = after })) it ∙ same_end o (f o) after (told_keeps round from named now o) left
+
+    -- a node that has taken the answer finishes as one that hasn't
+    pub came_last : (round == 2) ≡ true → finishes join s layouts id (record x { gc = after }) (numbered n after) ≡ tomb_came join s layouts id now x from n round named
+    came_last second =
+        came_by (numbered n x.gc) refl ends
+        ∙ sym (ap (λ e. answered_to join s layouts id x n round after e) ends ∙ ap (λ b. cond b (finishes join s layouts id x (numbered n x.gc)) (quiet (record x { gc = after }))) second)
+
+  -- an answer that doesn't end the collection
+  pub came_on : (n round from named now : ℕ) (e : GcEnd) → answer_end n round from named x.gc ≡ e → (e ≡ Complete → (round == 2) ≡ false) → tomb_came join s layouts id now x from n round named ≡ quiet (record x { gc = answered n round from named now x.gc })
+  came_on n round from named now Wait is other = ap (λ e. answered_to join s layouts id x n round (answered n round from named now x.gc) e) is
+  came_on n round from named now Closed is other = ap (λ e. answered_to join s layouts id x n round (answered n round from named now x.gc) e) is
+  came_on n round from named now Complete is other =
+      ap (λ e. answered_to join s layouts id x n round (answered n round from named now x.gc) e) is
+      ∙ ap (λ b. cond b (finishes join s layouts id x (numbered n x.gc)) (quiet (record x { gc = answered n round from named now x.gc }))) (other refl)

@@ -1,5 +1,5 @@
 //! How a node collects delete markers, and helps others to.
-ghost use Rattle.std.specs.Prelude.{◌≡◌, ◌⊎◌, List, None, IfOk, OnOk};
+ghost use Rattle.std.specs.Prelude.{◌≡◌, ◌⊎◌, ◌×◌, ◌==◌, true, false, List, None, IfOk, OnOk};
 ghost use Rattle.crdt_core.specs.Outcomes.{OnlyWant, WantOr};
 ghost use Rattle.view_model.specs.Layouts.{reading};
 ghost use Rattle.view_model.specs.View.{newest};
@@ -8,6 +8,7 @@ ghost use Rattle.cluster_machine.specs.Blocks.{NeedsNone};
 ghost use Rattle.cluster_machine.specs.Collects.{takes_tomb, tomb_came, forgets, finishes};
 ghost use Rattle.cluster_machine.specs.Acts.{acts};
 ghost use Rattle.cluster_machine.specs.declared.step.Action.TheVariants.{Collect as Gather};
+ghost use Rattle.gc_model.specs.declared.collection.GcEnd.TheVariants.{Complete};
 ghost use Rattle.gc_model.specs.Collecting.{numbered};
 ghost use Rattle.node_parts.specs.declared.packet.Envelope.{Envelope};
 ghost use Rattle.node_core.specs.Stands.{view_of};
@@ -73,15 +74,11 @@ impl<S: Schema> Node<S> {
         ensures comes { IfOk result (λ dropped. Drops S.Row.join S.words self.old self.new out.old.items out.new.items dropped (λ id x. tomb_came S.Row.join S.words layouts id now x from collection round named)) }
         ensures want { OnlyWant result }
     {
-        match self.gc.tombed(collection, round, from, named, now)? {
-            GcEnd::Complete => {
-                if round == 2 {
-                    return self.finish(collection, now, out);
-                }
-                Ok(None)
-            }
-            GcEnd::Wait | GcEnd::Closed => Ok(None),
+        let end = self.gc.tombed(collection, round, from, named, now)?;
+        if !is_last(end, round) {
+            return Ok(None);
         }
+        self.finish(collection, now, out)
     }
 
     // A collection has come to its end. Its row is dropped where neither that nor the newest version has changed.
@@ -129,5 +126,16 @@ impl<S: Schema> Node<S> {
         let begun = collector.collect(&self.contents, &mut self.gc, out)?;
         let left = self.gc.all().len() as u64;
         Ok(LocalEnd::Collected { begun, left })
+    }
+}
+
+// The answer completes round 2.
+fn is_last(end: GcEnd, round: u8) -> bool
+    ensures last { result ≡ true → (end ≡ Complete) × ((round == 2) ≡ true) }
+    ensures goes_on { result ≡ false → end ≡ Complete → (round == 2) ≡ false }
+{
+    match end {
+        GcEnd::Complete => round == 2,
+        GcEnd::Wait | GcEnd::Closed => false,
     }
 }
