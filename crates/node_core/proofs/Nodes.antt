@@ -223,3 +223,15 @@ pub put_back : {S R : Type 0} {join : R → R → R} {s : Words R} (c : Node S R
 put_back c id x m there is =
     with_rounds c id x (record c.rounds { round = Some m }) x.round x.rounds x.mending x.lasting is
     (record { is_open = subst (λ o. IsOpen id o x.round) there is.rounds.is_open; begun = is.rounds.begun; mending_is = is.rounds.mending_is; lasting_is = is.rounds.lasting_is })
+
+-- a delete marker that is to be handed out has nothing to do with the node's state
+pub with_dropped : {S R : Type 0} {join : R → R → R} {s : Words R} (c : Node S R) (id : ℕ) (x : Model R Layout) (dropped : Option (ℕ × ℕ)) → StandsFor join s c id x → StandsFor join s (record c { dropped = dropped }) id x
+with_dropped c id x dropped is = record {
+  id_is = is.id_is;
+  view = is.view;
+  contents = is.contents;
+  calls = is.calls;
+  rounds = is.rounds;
+  gc = is.gc;
+  has_version = is.has_version;
+}
