@@ -1,5 +1,5 @@
 //! How a node collects its delete markers.
-ghost use Rattle.std.specs.Prelude.{◌≡◌, ◌⊎◌, ◌+◌, ◌^◌, ◌≤◌, ◌==◌, ◌&&◌, ◌||◌, ℕ, List, true, cond, is_some, nat_lt, Some, None, IsTrue, IfOk, OnOk};
+ghost use Rattle.std.specs.Prelude.{◌≡◌, ◌⊎◌, ◌+◌, ◌^◌, ◌≤◌, ◌==◌, ◌&&◌, ◌||◌, ◌++◌, ◌∷◌, [], ℕ, List, true, cond, is_some, nat_lt, Some, None, IsTrue, IfOk, OnOk};
 ghost use Rattle.crdt_core.specs.Outcomes.{OnlyWant, WantOr};
 ghost use Rattle.wire_messages.specs.declared.message.Message.TheVariants.{Tomb};
 ghost use Rattle.gc_model.specs.Collecting.{IsNumbered, changed, in_second, is_ready, keyed, numbered};
@@ -151,11 +151,10 @@ impl Collector {
         ensures numbered { IsNumbered gc.now.begun gc.now.collections }
         ensures want { OnlyWant result }
     {
+        let all = gc.all();
         let mut gone = Vec::new(self.alloc);
-        for collection in gc.all() {
-            if contents.table.get(1, collection.key.as_slice()).is_none() {
-                gone.push(collection.number)?;
-            }
+        for collection in all {
+            add_gone(contents, collection, &mut gone)?;
         }
         Ok(gone)
     }
@@ -321,10 +320,27 @@ fn add_open(
     ensures numbered { IsNumbered gc.now.begun gc.now.collections }
     ensures want { OnlyWant result }
 {
-    for collection in gc.all() {
+    let all = gc.all();
+    for collection in all {
         let key = Vec::from_slice(alloc, collection.key.as_slice())?;
         let _ = keys.insert(key)?;
     }
+    Ok(())
+}
+
+// Adds the number of a collection whose row is gone.
+fn add_gone<S: Schema>(
+    contents: &Contents<S>,
+    collection: &Collection,
+    gone: &mut Vec<u64>,
+) -> Result<(), Memory>
+    ensures adds { OnOk result (gone.new.items ≡ gone.old.items ++ gone_from S.Row.join S.words contents.now (collection.now ∷ [])) }
+    ensures want { OnlyWant result }
+{
+    if contents.table.get(1, collection.key.as_slice()).is_some() {
+        return Ok(());
+    }
+    gone.push(collection.number)?;
     Ok(())
 }
 
