@@ -52,7 +52,7 @@ impl<S: Schema> Contents<S> {
         ensures want { OnlyWant result }
     {
         match self.bytes_at(1, key)? {
-            Some(row) => Ok(row.as_slice() == bytes),
+            Some(row) => Ok(is_same(row.as_slice(), bytes)),
             None => Ok(false),
         }
     }
@@ -124,4 +124,10 @@ fn is_digest(bytes: &[u8], hash: &Hash32) -> bool
     ensures { result ≡ same_bytes (blake2b 32 bytes.now) hash.now.0 }
 {
     blake2b_256(bytes).0 == hash.0
+}
+
+fn is_same(bytes: &[u8], other: &[u8]) -> bool
+    ensures { result ≡ same_bytes bytes.now other.now }
+{
+    bytes == other
 }

@@ -16,7 +16,7 @@ returns-then-waits-clause-goes_on g c o found =
     waits_on g.S.Row.Crdt.join g.S.Schema.words c.args.self c.args.number c.args.round c.args.ready c.args.row c.args.gc.now c.requires o found c.args.out.now.items c.in-Some.ready c.in-Some.is (sym c.waits.ensures ∙ c.if-waits.true) (posts_none c.args.self.node c.args.out.now.items)
 
 pub returns-clause-goes_on : goal.returns-clause-goes_on
-returns-clause-goes_on g c = on_ok_weaker c.ask.result (λ asks o found.
-    asks_second g.S.Row.Crdt.join g.S.Schema.words c.args.self c.args.number c.args.round c.args.ready c.args.row c.args.gc.now c.requires o found c.args.out.now.items c.ask.new.out.items c.in-Some.ready c.in-Some.is (sym c.waits.ensures ∙ c.if-waits.false)
+returns-clause-goes_on g c = on_ok_weaker c.ask-2.result (λ asks o found.
+    asks_second g.S.Row.Crdt.join g.S.Schema.words c.args.self c.args.number c.args.round c.args.ready c.args.row c.args.gc.now c.requires o found c.args.out.now.items c.ask-2.new.out.items c.in-Some.ready c.in-Some.is (sym c.waits.ensures ∙ c.if-waits.false)
     c.to_second.new.gc c.in_ok-to_second.ensures.ok
-    (subst (λ ns. Posts c.args.self.node c.args.out.now.items c.ask.new.out.items (to_each ns (Tomb c.args.number 2 c.args.row))) (c.as_slice.ensures.value ∙ c.in_ok-missing.ensures.nodes) asks)) c.ask.ensures.asks
+    (subst (λ ns. Posts c.args.self.node c.args.out.now.items c.ask-2.new.out.items (to_each ns (Tomb c.args.number 2 c.args.row))) (c.as_slice-2.ensures.value ∙ c.in_ok-missing-2.ensures.nodes) asks)) c.ask-2.ensures.asks
