@@ -1,6 +1,6 @@
 -- A node whose collections change, and a collection that has come to its end.
 use Rattle.std.specs.Prelude.{◌≡◌, ℕ, ◌+◌, ◌==◌, ◌&&◌, ◌++◌, not, Bool, true, false, cond, length, List, [], ◌∷◌, Option, Some, None, map, refl}
-use Rattle.std.specs.List.{filter, find}
+use Rattle.std.specs.List.{filter}
 use Rattle.std.specs.Option.{option_map}
 use Rattle.std.proofs.Common.{ap, sym, ◌∙◌, subst}
 use Rattle.layout_roles.specs.declared.layout.Layout.{Layout}
@@ -28,6 +28,7 @@ use Rattle.node_parts.specs.declared.packet.Envelope.{Envelope}
 use Rattle.node_parts.specs.Contents.{IsContents, Became}
 use Rattle.node_parts.specs.Posts.{Posts}
 use Rattle.node_parts.specs.Collects.{ends_row}
+use Rattle.node_parts.proofs.GoesOn.{find_changed}
 use Rattle.node_core.specs.declared.node.Node.{Node}
 use Rattle.node_core.specs.Stands.{StandsFor, Done}
 use Rattle.node_core.proofs.Nodes.{nothing_sent, silent, with_contents}
@@ -131,14 +132,6 @@ module _ (f : Collection → Collection) (keeps : (c : Collection) → (f c).num
   abbrev altered : List Collection → List Collection
   altered cs = map (λ c. cond (c.number == n) (f c) c) cs
 
-  found_told : (cs : List Collection) → find (λ c. c.number == n) (altered cs) ≡ option_map f (find (λ c. c.number == n) cs)
-  found_told [] = refl
-  found_told (c ∷ cs) = by (c.number == n) refl
-    where
-      by : (b : Bool) → (c.number == n) ≡ b → cond ((cond b (f c) c).number == n) (Some (cond b (f c) c)) (find (λ d. d.number == n) (altered cs)) ≡ option_map f (cond b (Some c) (find (λ d. d.number == n) cs))
-      by true h = ap (λ b. cond b (Some (f c)) (find (λ d. d.number == n) (altered cs))) (ap (λ m. m == n) (keeps c) ∙ h)
-      by false h = ap (λ b. cond b (Some c) (find (λ d. d.number == n) (altered cs))) h ∙ found_told cs
-
   closed_told : (cs : List Collection) → filter (λ c. not (c.number == n)) (altered cs) ≡ filter (λ c. not (c.number == n)) cs
   closed_told [] = refl
   closed_told (c ∷ cs) = by (c.number == n) refl
@@ -183,7 +176,7 @@ module _ {R : Type 0} (join : R → R → R) (s : Words R) (id : ℕ) (x : Model
     came_by (Some o) found leads =
         let f = told round from named now in
         let number : (c : Collection) → (f c).number ≡ c.number = λ c. (told_keeps round from named now c).0 in
-        let it : numbered n after ≡ Some (f o) = ap (numbered n) is_told ∙ (found_told f number n x.gc.collections ∙ ap (option_map f) found) in
+        let it : numbered n after ≡ Some (f o) = ap (numbered n) is_told ∙ (find_changed f number n x.gc.collections ∙ ap (option_map f) found) in
         let o-is : o.number ≡ n = found_number n x.gc.collections o found in
         let left : closed (f o).number after ≡ closed o.number x.gc =
             (λ i. closed ((number o ∙ o-is) i) (is_told i)) ∙ (ap (λ cs. record x.gc { collections = cs }) (closed_told f number n x.gc.collections) ∙ ap (λ m. closed m x.gc) (sym o-is)) in

@@ -3,11 +3,11 @@ use Rattle.std.specs.Prelude.{◌≡◌, ℕ, ◌+◌, ◌==◌, ◌&&◌, nat_l
 use Rattle.std.proofs.Common.{ap, sym, ◌∙◌, subst}
 use Rattle.std.specs.List.{find}
 use Rattle.std.specs.Option.{is_some}
-use Rattle.std.proofs.lemmas.Bool.{eqb-true}
 use Rattle.std.proofs.lemmas.Option.{same_Some}
 use Rattle.layout_roles.specs.declared.layout.Layout.{Layout}
 use Rattle.gc_model.specs.declared.collection.Collection.{Collection}
 use Rattle.gc_model.specs.Collecting.{Open, changed, in_second, is_ready, missing_at, missing_in, missing_of, numbered}
+use Rattle.table_gc.proofs.Numbering.{found_number}
 use Rattle.table_schema.specs.Words.{Words}
 use Rattle.wire_messages.specs.declared.message.Message.TheVariants.{Tomb}
 use Rattle.cluster_machine.specs.Layouts.{layouts}
@@ -21,20 +21,12 @@ use Rattle.node_parts.specs.Collects.{IsDone, IsOpen, from_here, going_on}
 
 -- ---- the collection with a number
 
-number_by : (n : ℕ) (x c : Collection) (b : Bool) → (x.number == n) ≡ b → (o : Option Collection) → (o ≡ Some c → c.number ≡ n) → cond b (Some x) o ≡ Some c → c.number ≡ n
-number_by n x c true h o rest is = sym (ap (λ k. k.number) (same_Some x c is)) ∙ eqb-true x.number n h
-number_by n x c false h o rest is = rest is
-
-pub find_number : (n : ℕ) (cs : List Collection) (c : Collection) → find (λ x. x.number == n) cs ≡ Some c → c.number ≡ n
-find_number n [] c is = let no : {P : Type 0} → None ≡ Some c → P = λ e. cc in no is
-find_number n (x ∷ xs) c is = number_by n x c (x.number == n) refl (find (λ y. y.number == n) xs) (find_number n xs c) is
-
 change_by : (f : Collection → Collection) (n : ℕ) (x : Collection) (rest : Option Collection) → (f x).number ≡ x.number → (b : Bool) → (x.number == n) ≡ b → (later : Option Collection) → later ≡ option_map f rest →
     cond ((cond b (f x) x).number == n) (Some (cond b (f x) x)) later ≡ option_map f (cond b (Some x) rest)
 change_by f n x rest keeps true h later is = ap (λ b. cond b (Some (f x)) later) (ap (λ m. m == n) keeps ∙ h)
 change_by f n x rest keeps false h later is = ap (λ b. cond b (Some x) later) h ∙ is
 
-find_changed : (f : Collection → Collection) → ((c : Collection) → (f c).number ≡ c.number) → (n : ℕ) (cs : List Collection) → find (λ x. x.number == n) (map (λ c. cond (c.number == n) (f c) c) cs) ≡ option_map f (find (λ x. x.number == n) cs)
+pub find_changed : (f : Collection → Collection) → ((c : Collection) → (f c).number ≡ c.number) → (n : ℕ) (cs : List Collection) → find (λ x. x.number == n) (map (λ c. cond (c.number == n) (f c) c) cs) ≡ option_map f (find (λ x. x.number == n) cs)
 find_changed f keeps n [] = refl
 find_changed f keeps n (x ∷ xs) = change_by f n x (find (λ y. y.number == n) xs) (keeps x) (x.number == n) refl (find (λ y. y.number == n) (map (λ c. cond (c.number == n) (f c) c) xs)) (find_changed f keeps n xs)
 
@@ -45,7 +37,7 @@ module _ {R : Type 0} (join : R → R → R) (s : Words R) (c : Collector) (numb
   same = same_Some is.it o (sym is.found ∙ found)
 
   number_is : o.number ≡ number
-  number_is = find_number number gc.collections o found
+  number_is = found_number number gc.collections o found
 
   row_is : row ≡ o.row
   row_is = sym is.row_is ∙ ap (λ k. k.row) same
