@@ -1,9 +1,9 @@
 //! How a node collects its delete markers.
-ghost use Rattle.std.specs.Prelude.{◌≡◌, ◌⊎◌, ◌+◌, ◌^◌, ◌≤◌, ◌==◌, ◌&&◌, ◌||◌, ◌++◌, ◌∷◌, [], ℕ, List, true, cond, is_some, nat_lt, Some, None, IsTrue, IfOk, OnOk};
+ghost use Rattle.std.specs.Prelude.{◌≡◌, ◌⊎◌, ◌×◌, ◌+◌, ◌-◌, ◌^◌, ◌≤◌, ◌<◌, ◌==◌, ◌&&◌, ◌||◌, ◌++◌, ◌∷◌, [], ℕ, List, true, cond, is_some, nat_lt, Some, None, IsTrue, IfOk, IfSome, IfNone, OnOk};
 ghost use Rattle.crdt_core.specs.Outcomes.{OnlyWant, WantOr};
 ghost use Rattle.wire_messages.specs.declared.message.Message.TheVariants.{Tomb};
 ghost use Rattle.gc_model.specs.Collecting.{IsNumbered, changed, in_second, is_ready, keyed, numbered};
-ghost use Rattle.cluster_machine.specs.Collects.{collection_pause, has_bytes, is_aged, others};
+ghost use Rattle.cluster_machine.specs.Collects.{collection_age, collection_pause, has_bytes, is_aged, others};
 ghost use Rattle.cluster_machine.specs.Phases.{to_each};
 ghost use Rattle.cluster_machine.specs.Rows.{same_bytes};
 ghost use Rattle.node_parts.specs.Posts.{Posts};
@@ -182,11 +182,19 @@ impl Collector {
         ensures want { OnlyWant result }
     {
         let mut keys = BTreeSet::new(self.alloc);
-        if self.now < AGE {
+        let Some(limit) = self.limit() else {
             return Ok(keys);
-        }
-        contents.table.add_marked(self.now - AGE, &mut keys)?;
+        };
+        contents.table.add_marked(limit, &mut keys)?;
         Ok(keys)
+    }
+
+    // The timestamp that a delete marker has at most to be old enough.
+    fn limit(self) -> Option<u64>
+        ensures some { IfSome result (λ limit. (collection_age ≤ self.now) × (limit ≡ self.now - collection_age)) }
+        ensures none { IfNone result (self.now < collection_age) }
+    {
+        self.now.checked_sub(AGE)
     }
 
     // What is done about the row at a key.
@@ -250,9 +258,9 @@ impl Collector {
     fn is_aged(self, marker: Option<(u64, u64)>) -> bool
         ensures { result ≡ is_aged self.now marker }
     {
-        match marker {
-            Some(version) => self.now >= AGE && version.0 <= self.now - AGE,
-            None => false,
+        match (marker, self.limit()) {
+            (Some(version), Some(limit)) => version.0 <= limit,
+            _ => false,
         }
     }
 
