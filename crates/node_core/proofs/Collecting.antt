@@ -81,10 +81,9 @@ module _ {S R : Type 0} (join : R → R → R) (s : Words R) (node : Node S R) (
       let e = cond b (drops_row join s c.node (record x { gc = closed o.number x.gc }) o row) (quiet (record x { gc = closed o.number x.gc })) in
       let ended = ends_ended join s c x o (closed o.number x.gc) b row in
       let stands : StandsFor join s (record node { contents = contents; gc = gc }) id (record d.node { gc = closed o.number x.gc }) =
-          with_collections (record node { contents = contents }) id d.node gc (closed o.number x.gc) (with_contents node id x d.node contents is became) closes in
+      with_collections (record node { contents = contents }) id d.node gc (closed o.number x.gc) (with_contents node id x d.node contents is became) closes in
       let e-is : e ≡ finishes join s layouts id x (Some o) = λ i. cond ((newest_is i == o.newest) && has_bytes join s o.row row) (drops_row join s (node_is i) (record x { gc = closed o.number x.gc }) o row) (quiet (record x { gc = closed o.number x.gc })) in
-      subst (λ f. Done join s (record node { contents = contents; gc = gc }) id out later None f × (dropped ≡ f.dropped)) e-is
-      (
+      subst (λ f. Done join s (record node { contents = contents; gc = gc }) id out later None f × (dropped ≡ f.dropped)) e-is (
         record {
           stands = subst (StandsFor join s (record node { contents = contents; gc = gc }) id) (sym ended.0) stands;
           posts = subst (λ n. Posts n out later e.posts) node_is (subst (Posts c.node out later) (sym ended.1) posts);
@@ -159,13 +158,13 @@ module _ {R : Type 0} (join : R → R → R) (s : Words R) (id : ℕ) (x : Model
   same_end o p gc keeps left =
       let end : Open → Collection → Did R Layout = λ g c. cond ((newest reading x.view == c.newest) && has_bytes join s c.row (row_at join s x.accepted 1 c.key)) (drops_at g c.key (row_at join s x.accepted 1 c.key)) (quiet (record x { gc = g })) in
       let is : (g : Open) (c : Collection) → cond ((newest reading x.view == c.newest) && has_bytes join s c.row (row_at join s x.accepted 1 c.key)) (drops_row join s id (record x { gc = g }) c (row_at join s x.accepted 1 c.key)) (quiet (record x { gc = g })) ≡ end g c =
-          λ g c. ap (λ d. cond ((newest reading x.view == c.newest) && has_bytes join s c.row (row_at join s x.accepted 1 c.key)) d (quiet (record x { gc = g }))) (drops_is g c (row_at join s x.accepted 1 c.key)) in
+      λ g c. ap (λ d. cond ((newest reading x.view == c.newest) && has_bytes join s c.row (row_at join s x.accepted 1 c.key)) d (quiet (record x { gc = g }))) (drops_is g c (row_at join s x.accepted 1 c.key)) in
       is (closed p.number gc) p
       ∙ ((λ i. cond ((newest reading x.view == keeps.3 i) && has_bytes join s (keeps.2 i) (row_at join s x.accepted 1 (keeps.1 i))) (drops_at (left i) (keeps.1 i) (row_at join s x.accepted 1 (keeps.1 i))) (quiet (record x { gc = left i })))
       ∙ sym (is (closed o.number x.gc) o))
 
   module _ (n round from named now : ℕ) (ends : answer_end n round from named x.gc ≡ Complete) where
-    after : Open
+    abbrev after : Open
     after = answered n round from named now x.gc
 
     is_told : after ≡ changed (told round from named now) n x.gc
@@ -179,7 +178,7 @@ module _ {R : Type 0} (join : R → R → R) (s : Words R) (id : ℕ) (x : Model
         let it : numbered n after ≡ Some (f o) = ap (numbered n) is_told ∙ (find_changed f number n x.gc.collections ∙ ap (option_map f) found) in
         let o-is : o.number ≡ n = found_number n x.gc.collections o found in
         let left : closed (f o).number after ≡ closed o.number x.gc =
-            (λ i. closed ((number o ∙ o-is) i) (is_told i)) ∙ (ap (λ cs. record x.gc { collections = cs }) (closed_told f number n x.gc.collections) ∙ ap (λ m. closed m x.gc) (sym o-is)) in
+        (λ i. closed ((number o ∙ o-is) i) (is_told i)) ∙ (ap (λ cs. record x.gc { collections = cs }) (closed_told f number n x.gc.collections) ∙ ap (λ m. closed m x.gc) (sym o-is)) in
         ap (finishes join s layouts id (record x { gc = after })) it ∙ same_end o (f o) after (told_keeps round from named now o) left
 
     -- a node that has taken the answer finishes as one that hasn't

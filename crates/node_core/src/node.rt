@@ -489,7 +489,9 @@ impl<S: Schema> Node<S> {
                 self.take_answer(from, *tag, *table, prefix, Some(pairs.as_slice()), out)?;
                 Ok(drops_none(None))
             }
-            Message::Behind(_, _) | Message::NotHere(_) | Message::NoBlock { .. } => Ok(drops_none(None)),
+            Message::Behind(_, _) | Message::NotHere(_) | Message::NoBlock { .. } => Ok(drops_none(
+                None,
+            )),
             Message::BlockGet {
                 request,
                 phase,

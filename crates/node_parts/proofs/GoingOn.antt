@@ -129,8 +129,8 @@ module _ {R : Type 0} (join : R → R → R) (s : Words R) (c : Collector) (rows
     next_by new later (Some r) is done =
         let u = about_row join s c r gc in
         let all : after (k ∷ rest) gc ≡ joined u (after rest new) =
-            ap (λ f. about_rows join s c (cons_option f (rows_at join s rows rest)) gc) is
-            ∙ (all_joined join s c.node c.now c.newest (rows_at join s rows rest) u ∙ ap (λ g. joined u (after rest g)) (sym done.done.gc_is)) in
+        ap (λ f. about_rows join s c (cons_option f (rows_at join s rows rest)) gc) is
+        ∙ (all_joined join s c.node c.now c.newest (rows_at join s rows rest) u ∙ ap (λ g. joined u (after rest g)) (sym done.done.gc_is)) in
         record {
           so_far = going.so_far ++ u.posts;
           posts = posts_more c.node start out later going.so_far u.posts going.posts done.done.posts;

@@ -78,8 +78,7 @@ only_one q key low (x ∷ xs) c rises is apart = one_by (is_of q x) refl is
     one_by : (b : Bool) → is_of q x ≡ b → cond b (Some x) (find (is_of q) xs) ≡ Some c → (is_of key x ≡ true → not (x.number == c.number) ≡ true) × AllByRecursion (λ d. is_of key d ≡ true → not (d.number == c.number) ≡ true) xs
     one_by true h is =
         let one = same_Some x c is in
-        let key-is : q ≡ x.key = sym (same_key x.key q h) in
-        (
+        let key-is : q ≡ x.key = sym (same_key x.key q h) in (
           (λ of_key. absurd (both_ways (pointwise nat_eq x.key key) (ap (λ k. pointwise nat_eq k key) (sym key-is) ∙ apart) of_key)),
           subst (λ n. AllByRecursion (λ d. is_of key d ≡ true → not (d.number == n) ≡ true) xs) (ap number_of one) (none_with key x.number xs (none_past number_of x.number x.number xs (omega arith) rises.1)),
         )

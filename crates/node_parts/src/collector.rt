@@ -142,11 +142,7 @@ impl Collector {
     }
 
     // The numbers of the collections whose row is gone.
-    fn gone<S: Schema>(
-        self,
-        contents: &Contents<S>,
-        gc: &Collections,
-    ) -> Result<Vec<u64>, Memory>
+    fn gone<S: Schema>(self, contents: &Contents<S>, gc: &Collections) -> Result<Vec<u64>, Memory>
         ensures are { IfOk result (λ gone. gone.items ≡ gone_from S.Row.join S.words contents.now gc.now.collections) }
         ensures numbered { IsNumbered gc.now.begun gc.now.collections }
         ensures want { OnlyWant result }
@@ -319,11 +315,7 @@ impl Collector {
 }
 
 // Adds the keys of the open collections.
-fn add_open(
-    alloc: Global,
-    gc: &Collections,
-    keys: &mut BTreeSet<Vec<u8>>,
-) -> Result<(), Memory>
+fn add_open(alloc: Global, gc: &Collections, keys: &mut BTreeSet<Vec<u8>>) -> Result<(), Memory>
     ensures adds { OnOk result ((key : List ℕ) → has_key key keys.new.keys ≡ (has_key key keys.old.keys || is_some (keyed key gc.now))) }
     ensures numbered { IsNumbered gc.now.begun gc.now.collections }
     ensures want { OnlyWant result }

@@ -104,12 +104,7 @@ fn mark_new(
 }
 
 // The row at a key had nothing but the delete marker `old`. What is noted for `new` stays.
-fn unmark_old(
-    markers: &mut Markers,
-    key: &[u8],
-    old: Option<(u64, u64)>,
-    new: Option<(u64, u64)>,
-)
+fn unmark_old(markers: &mut Markers, key: &[u8], old: Option<(u64, u64)>, new: Option<(u64, u64)>)
     ensures others { OthersStay key.now markers.old markers.new }
     ensures kept { (version : ℕ × ℕ) → new ≡ Some version →
         marked_at version.0 key.now markers.old ≡ true → marked_at version.0 key.now markers.new ≡ true }

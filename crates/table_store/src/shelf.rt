@@ -264,11 +264,7 @@ fn drop_row<S: Schema>(rows: &mut Rows<S::Row>, markers: &mut Markers, p: u8, ke
 }
 
 // Takes the row at a key, and the note of its delete marker.
-fn take_row<S: Schema>(
-    rows: &mut Rows<S::Row>,
-    markers: &mut Markers,
-    key: &[u8],
-) -> Option<S::Row>
+fn take_row<S: Schema>(rows: &mut Rows<S::Row>, markers: &mut Markers, key: &[u8]) -> Option<S::Row>
     ensures row { result ≡ shelf_find key.now rows.old.entries }
     ensures rows { rows.new.entries ≡ without_key key.now rows.old.entries }
     ensures marked { AllMarked S.words markers.old rows.old.entries → AllMarked S.words markers.new rows.new.entries }
@@ -289,10 +285,7 @@ fn unmark_row<S: Schema>(markers: &mut Markers, key: &[u8], row: &S::Row)
 }
 
 /// Takes the row at a key out, and out of its partition's trie.
-pub fn take_out<S: Schema>(
-    shelf: &mut Shelf<S::Row>,
-    key: &[u8],
-) -> Result<Option<S::Row>, Memory>
+pub fn take_out<S: Schema>(shelf: &mut Shelf<S::Row>, key: &[u8]) -> Result<Option<S::Row>, Memory>
     ensures row { IfOk result (λ row. row ≡ shelf_find key.now shelf.old.rows.entries) }
     ensures rows { OnOk result (shelf.new.rows.entries ≡ others_at key.now shelf.old.rows.entries) }
     ensures fits { AllFit S.words shelf.old.index shelf.old.rows.entries → AllFit S.words shelf.new.index shelf.new.rows.entries }

@@ -30,7 +30,7 @@ returns-in_err-settle_rows-in-Some-clause-settles g c =
 pub returns-in-None-clause-settles : goal.returns-in-None-clause-settles
 returns-in-None-clause-settles g c = record {
   rows = refl;
-      markers = refl;
+  markers = refl;
   fits = subst (λ index. AllFit g.S.Schema.words index c.args.shelf.now.rows.entries) (sym c.get_mut.follows.holds-at-none) c.requires;
 }
 

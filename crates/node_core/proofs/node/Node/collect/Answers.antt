@@ -18,8 +18,7 @@ returns-clause-collects g c id x is =
     let here : Collector = record { node = id; newest = newest reading x.view; now = c.args.now; alloc = self.alloc } in
     let same : c.collector.result ≡ here = c.collector.ensures ∙ (λ i. record { node = is.id_is i; newest = newest reading (is.view i); now = c.args.now; alloc = self.alloc }) in
     let all = subst (λ k. Collected join s x k c.collect.new.gc c.args.out.now.items c.collect.new.out.items c.in_ok-begun.begun) same (c.in_ok-begun.ensures.collects x is.contents is.gc) in
-    let t = progress join s layouts id c.args.now x in
-    (
+    let t = progress join s layouts id c.args.now x in (
       record {
         stands = with_collections self id x c.collect.new.gc t.gc is all.done.gc_is;
         posts = all.done.posts;

@@ -32,5 +32,9 @@ returns-in_err-settle-clause-stays c = at_err c.from_residual.result _ (record {
 
 pub returns-in_err-drop_pair-clause-stays : goal.returns-in_err-drop_pair-clause-stays
 returns-in_err-drop_pair-clause-stays c = at_err c.from_residual-in_err-drop_pair.result _
-    (record { pairs = refl; waiting = refl; kept = λ kept. kept_on c.settle.new.self c.drop_pair.new.trie c.args.self.now.pairs.entries (unchanged_keeps c.settle.new.self c.drop_pair.new.trie c.in_err-drop_pair.ensures.err)
-    (kept_on c.args.self.now.trie c.settle.new.self c.args.self.now.pairs.entries c.settle.ensures.kept kept) })
+    (record {
+      pairs = refl;
+      waiting = refl;
+      kept = λ kept. kept_on c.settle.new.self c.drop_pair.new.trie c.args.self.now.pairs.entries (unchanged_keeps c.settle.new.self c.drop_pair.new.trie c.in_err-drop_pair.ensures.err)
+          (kept_on c.args.self.now.trie c.settle.new.self c.args.self.now.pairs.entries c.settle.ensures.kept kept);
+    })
