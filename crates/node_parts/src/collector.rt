@@ -121,10 +121,8 @@ impl Collector {
         ensures is { IfOk result (λ stands. stands ≡ ((self.newest == ended.now.newest) && has_bytes S.Row.join S.words ended.now.row (find_row S.words 1 ended.now.key contents.now.table))) }
         ensures want { OnlyWant result }
     {
-        if self.newest != ended.newest {
-            return Ok(false);
-        }
-        contents.has_bytes(ended.key.as_slice(), ended.row.as_slice())
+        let same = contents.has_bytes(ended.key.as_slice(), ended.row.as_slice())?;
+        Ok(self.newest == ended.newest && same)
     }
 
     // Closes the collections whose row is gone.
